@@ -1,0 +1,15 @@
+pub mod WordPlaces
+pub mod PlaceLemmas
+pub mod NameLemmas
+pub mod Reading
+pub mod Leaving
+pub mod Colons
+pub mod Readings
+pub mod TermSteps
+pub mod Depths
+pub mod Bindings
+pub mod BindLemmas
+pub mod Numbered
+pub mod Bareness
+pub mod Solving
+pub mod Lines

@@ -1,0 +1,25 @@
+-- An index whose keys stand for names.
+use Rattle.std.proofs.Common.{◌≡◌, ℕ, ◌+◌, List, [], ◌∷◌, ◌++◌, Bool, true, false, ◌||◌, if◌then◌else◌, cond, not, map, length, Option, Some, None, nat_lt, refl, sym, ◌∙◌, ap, ap₂}
+use Rattle.std.specs.Prelude.{position}
+use Rattle.std.specs.List.{list_any, prefix_len, position_or_len}
+use Rattle.std.proofs.lemmas.List.{length-map, map-append}
+
+module _ {K A : Type 0} (name : K → A) (e : K → Bool) (p : A → Bool) (same : (k : K) → e k ≡ p (name k)) where
+  pub list_any-names : (ks : List K) → list_any e ks ≡ list_any p (map name ks)
+  list_any-names [] = refl
+  list_any-names (k ∷ ks) = ap₂ (λ a b. a || b) (same k) (list_any-names ks)
+
+  position_or_len-names : (ks : List K) → position_or_len e ks ≡ position_or_len p (map name ks)
+  position_or_len-names [] = refl
+  position_or_len-names (k ∷ ks) = ap₂ (λ b n. cond (not b) (1 + n) 0) (same k) (position_or_len-names ks)
+
+  pub position-names : (ks : List K) → position e ks ≡ position p (map name ks)
+  position-names ks =
+      ap₂ (λ i n. cond (nat_lt i n) (Some i) None) (position_or_len-names ks) (sym (length-map ks name))
+
+  pub insert-names : (ks : List K) (k : K) → map name (if list_any e ks then ks else ks ++ k ∷ []) ≡ (if list_any p (map name ks) then map name ks else map name ks ++ name k ∷ [])
+  insert-names ks k = by (list_any e ks) (list_any p (map name ks)) (list_any-names ks)
+    where
+      by : (a b : Bool) → a ≡ b → map name (cond a ks (ks ++ k ∷ [])) ≡ cond b (map name ks) (map name ks ++ name k ∷ [])
+      by true b h = ap (λ d. cond d (map name ks) (map name ks ++ name k ∷ [])) h
+      by false b h = map-append name ks (k ∷ []) ∙ ap (λ d. cond d (map name ks) (map name ks ++ name k ∷ [])) h

@@ -1,0 +1,53 @@
+//! Writing the solutions of a match.
+ghost use Rattle.std.specs.Prelude.{◌≡◌, ◌++◌, ◌<◌, ◌≤◌, length, take, OnOk};
+ghost use Rattle.mau_terms.specs.Subst.{variables};
+ghost use Rattle.mau_terms.specs.View.{tree_of};
+ghost use Rattle.mau_terms.specs.Bare.{IsBare};
+ghost use Rattle.mau_session.specs.Terms.{signature_of};
+ghost use Rattle.mau_session.specs.Matching.{IsNumbered, numbered_from};
+ghost use Rattle.mau_session.specs.Bound.{trees_at};
+ghost use Rattle.mau_session.specs.Answers.{value_line, value_lines, substitution_lines};
+ghost use Rattle.mau_session.specs.Gains.{GainsListing};
+
+use crate::matching::solve;
+use crate::module::Module;
+use crate::show::{show, write_text, write_variable};
+use mau_terms::{Bare, NoMemory, VarId, Vars};
+use std::alloc::Global;
+
+/// Writes the line of a variable and its value.
+fn write_value(
+    out: &mut Vec<u8>,
+    module: &Module,
+    vars: &Vars,
+    variable: VarId,
+    value: &Bare,
+) -> Result<(), NoMemory>
+    ensures { OnOk result (out.new.items ≡ out.old.items ++ value_line module.now vars.now (variable.index, variable.sort) (tree_of value.now)) }
+{
+    write_variable(out, module, vars, variable)?;
+    write_text(out, " --> ")?;
+    show(out, module, vars, value)?;
+    write_text(out, "\n")?;
+    Ok(())
+}
+
+/// Writes a line for each of these values, which are those of the first variables.
+fn write_values(
+    out: &mut Vec<u8>,
+    module: &Module,
+    vars: &Vars,
+    values: &[&Bare],
+) -> Result<(), NoMemory>
+    requires few { length values.now ≤ length vars.now }
+    requires small { length vars.now < 4294967296 }
+    ensures { OnOk result (out.new.items ≡ out.old.items ++ value_lines module.now vars.now (numbered_from 0 (take (length values.now) vars.now)) (trees_at values.now)) }
+{
+    for i in 0..values.len() {
+        match vars.variable(i as u32) {
+            Some(variable) => write_value(out, module, vars, variable, values[i])?,
+            None => unreachable!(),
+        }
+    }
+    Ok(())
+}

@@ -1,0 +1,95 @@
+//! Why an item is refused.
+ghost use Rattle.std.specs.Prelude.{◌≡◌, ◌++◌, ◌<◌, codes, decimal, length, OnOk};
+ghost use Rattle.mau_session.specs.Words.{place_at};
+ghost use Rattle.mau_session.specs.Refused.{word_of_refusal};
+ghost use Rattle.mau_session.specs.Answers.{item_head, refusal_line, fault_line};
+
+use crate::show::{write_number, write_text};
+use crate::words::Words;
+use mau_terms::NoMemory;
+use mau_tokens::TokenFault;
+
+/// Why an item is refused, with the number of the word that it is about.
+#[derive(Clone, Copy, Debug, PartialEq, Eq)]
+pub enum Refusal {
+    /// The item that begins there has no end.
+    Unended(usize),
+    /// The word is the first that leaves the grammar which is built so far.
+    NotBuilt(usize),
+    /// The term that begins there has no tree.
+    NoParse(usize),
+}
+
+impl Refusal {
+    ghost use Rattle.std.specs.Prelude.{◌≡◌, ◌++◌, ◌<◌, length, OnOk};
+    ghost use Rattle.mau_session.specs.Refused.{word_of_refusal};
+    ghost use Rattle.mau_session.specs.Answers.{shown_refusal};
+
+    /// Writes the name of the refusal, the word where it has one, and its place.
+    fn write(self, out: &mut Vec<u8>, words: &Words) -> Result<(), NoMemory>
+        requires { word_of_refusal self < length words.now }
+        ensures { OnOk result (out.new.items ≡ out.old.items ++ shown_refusal words.now self) }
+    {
+        match self {
+            Refusal::Unended(word) => write_place(out, "Unended ", words, word),
+            Refusal::NoParse(word) => write_place(out, "NoParse ", words, word),
+            Refusal::NotBuilt(word) => {
+                write_text(out, "NotBuilt ")?;
+                write_text(out, words.text(word))?;
+                write_place(out, " ", words, word)
+            }
+        }
+    }
+}
+
+/// Writes a text and the place of a word.
+fn write_place(out: &mut Vec<u8>, text: &str, words: &Words, word: usize) -> Result<(), NoMemory>
+    requires { word < length words.now }
+    ensures { OnOk result (out.new.items ≡ out.old.items ++ text.now ++ decimal (place_at words.now word)) }
+{
+    write_text(out, text)?;
+    write_number(out, u128::from(words.place(word)))
+}
+
+/// Writes what the answer of the item with this number begins with.
+pub fn write_head(out: &mut Vec<u8>, number: usize) -> Result<(), NoMemory>
+    ensures { OnOk result (out.new.items ≡ out.old.items ++ item_head number) }
+{
+    write_text(out, "[")?;
+    write_number(out, number as u128)?;
+    write_text(out, "] ")
+}
+
+/// Writes the answer of a refused item.
+pub fn write_refusal(out: &mut Vec<u8>, words: &Words, number: usize, refusal: Refusal) -> Result<(), NoMemory>
+    requires { word_of_refusal refusal < length words.now }
+    ensures { OnOk result (out.new.items ≡ out.old.items ++ refusal_line number words.now refusal) }
+{
+    write_head(out, number)?;
+    write_text(out, "refused: ")?;
+    refusal.write(out, words)?;
+    write_text(out, "\n")
+}
+
+/// Writes the answer of a text that has a token fault.
+pub fn write_fault(out: &mut Vec<u8>, fault: TokenFault) -> Result<(), NoMemory>
+    ensures { OnOk result (out.new.items ≡ out.old.items ++ fault_line fault) }
+{
+    write_text(out, "refused: ")?;
+    match fault {
+        TokenFault::NotUtf8(at) => write_at(out, "NotUtf8 ", at)?,
+        TokenFault::OpenComment(at) => write_at(out, "OpenComment ", at)?,
+        TokenFault::OpenString(at) => write_at(out, "OpenString ", at)?,
+        TokenFault::TokenTooLong(at) => write_at(out, "TokenTooLong ", at)?,
+        TokenFault::NoMemory => (),
+    }
+    write_text(out, "\n")
+}
+
+/// Writes a text and a place.
+fn write_at(out: &mut Vec<u8>, text: &str, at: u32) -> Result<(), NoMemory>
+    ensures { OnOk result (out.new.items ≡ out.old.items ++ text.now ++ decimal at) }
+{
+    write_text(out, text)?;
+    write_number(out, u128::from(at))
+}

@@ -1,0 +1,30 @@
+-- The proofs of the laws, and of what the code does, lowest first.
+
+-- induction over trees, orders, sorted lists, pieces of lists
+pub mod Orders
+pub mod Sorting
+pub mod Sorted
+pub mod Pieces
+pub mod Induction
+-- normal forms, and that uses of axioms keep them
+pub mod Normal
+pub mod Steps
+-- chains of uses of axioms that lead to the normal form, and the law of equality
+pub mod Chains
+pub mod Leads
+pub mod Nested
+pub mod Readings
+pub mod Law
+pub mod Plain
+pub mod Wholes
+-- solutions, their order, finiteness; what a subject can take
+pub mod Variables
+pub mod Finite
+pub mod Solutions
+pub mod Ties
+pub mod Taken
+-- terms of the code, and the variables of an item
+pub mod Views
+pub mod Pairs
+-- computed cases of the definitions
+pub mod Examples

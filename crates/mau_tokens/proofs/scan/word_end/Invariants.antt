@@ -1,0 +1,8 @@
+use Rattle.std.proofs.Common.{◌≡◌, ◌+◌, ◌<◌, ◌≤◌, ℕ, false}
+use Rattle.mau_tokens.specs.Lexeme.{word}
+use Rattle.mau_tokens.specs.Ending.{may_end}
+use Rattle.mau_tokens.proofs.scan.word_end.Given as goal
+
+-- no end so far
+abbrev pub invariant-loop-end : goal.invariant-loop-end
+invariant-loop-end l = (m : ℕ) → l.start + 1 ≤ m → m < l.end → may_end l.bytes word l.start m ≡ false

@@ -1,0 +1,5 @@
+pub mod Code
+pub mod Ending
+pub mod Lexeme
+pub mod Spans
+pub mod TokensOf
