@@ -9,16 +9,17 @@ use std::alloc::Global;
 /// How many bytes are asked for at once.
 const PIECE: usize = 4096;
 
-/// All bytes that are left in a source, to the end of the input, if they are at most `limit`, which is at
-/// most 16,777,216.
+/// All bytes that are left in a source, to the end of the input, if they are at most `limit`, which
+/// is at most 16,777,216.
 ///
-/// `ReadEnd::Fault` comes only where a read failed, and the bytes before it are gone; `ReadEnd::TooLong`
-/// exactly where `limit + 1` bytes were taken, and no more is read then; `ReadEnd::NoMemory` where a buffer
-/// could not grow.
+/// `ReadEnd::Fault` comes only where a read failed, and the bytes before it are gone;
+/// `ReadEnd::TooLong` exactly where `limit + 1` bytes were taken, and no more is read then;
+/// `ReadEnd::NoMemory` where a buffer could not grow.
 pub fn read_all<S: Source>(alloc: Global, source: &mut S, limit: usize) -> Result<Vec<u8>, ReadEnd>
     requires { limit ≤ 16777216 }
 
-    ensures all { IfOk result (λ bytes. S.left source.old ≡ prepend_known bytes.items (S.left source.new)) }
+    ensures all { IfOk result (λ bytes.
+        S.left source.old ≡ prepend_known bytes.items (S.left source.new)) }
     ensures end { OnOk result (IsAtEnd (S.left source.new)) }
     ensures within { IfOk result (λ bytes. length bytes.items ≤ limit) }
 
@@ -28,7 +29,8 @@ pub fn read_all<S: Source>(alloc: Global, source: &mut S, limit: usize) -> Resul
         × (length bytes ≤ limit + 1)
         × ((e ≡ ReadEnd.TooLong) ↔ (length bytes ≡ limit + 1))) }
 
-    ensures fault { IsErrOf result ReadEnd.Fault → Rose (S.faults source.old) (S.faults source.new) }
+    ensures fault { IsErrOf result ReadEnd.Fault
+        → Rose (S.faults source.old) (S.faults source.new) }
     ensures counted { S.faults source.old ≤ S.faults source.new }
 {
     let mut bytes = Vec::new(alloc);
@@ -48,8 +50,8 @@ pub fn read_all<S: Source>(alloc: Global, source: &mut S, limit: usize) -> Resul
     }
 }
 
-/// Writes all of `bytes`. After `Failed`, which comes only where a write failed, a prefix of them is out. It
-/// takes no memory.
+/// Writes all of `bytes`. After `Failed`, which comes only where a write failed, a prefix of them is
+/// out. It takes no memory.
 pub fn write_all<K: Sink>(sink: &mut K, bytes: &[u8]) -> Result<(), Failed>
     ensures all { OnOk result (K.written sink.new ≡ append_known (K.written sink.old) bytes.now) }
     ensures prefix { OnErr result ((n : ℕ) × (n ≤ length bytes.now)

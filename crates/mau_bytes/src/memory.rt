@@ -6,7 +6,8 @@ use crate::{Failed, NoMemory, Sink, Source};
 use std::alloc::Global;
 use std::marker::Model;
 
-/// The bytes of a vector as a source, which tells them. A call gives as many bytes as there is room for.
+/// The bytes of a vector as a source, which tells them. A call gives as many bytes as there is room
+/// for.
 #[derive(Drop)]
 pub struct MemorySource {
     bytes: Vec<u8>,
@@ -33,10 +34,11 @@ impl Model for MemorySource {
 }
 
 impl MemorySource {
-    /// A source of these bytes. Its reads fail at the calls that are listed, counted from 1; the count of
-    /// calls stops at the greatest `u64`. It takes no memory.
+    /// A source of these bytes. Its reads fail at the calls that are listed, counted from 1; the count
+    /// of calls stops at the greatest `u64`. It takes no memory.
     pub fn new(bytes: Vec<u8>, failing: Vec<u64>) -> MemorySource
-        ensures { result ≡ record { left = bytes.items; failing = failing.items; calls = 0; faults = 0 } }
+        ensures { result
+            ≡ record { left = bytes.items; failing = failing.items; calls = 0; faults = 0 } }
     {
         MemorySource {
             bytes,
@@ -63,7 +65,8 @@ impl Source for MemorySource {
         ensures failed { OnErr result (Rose self.old.faults self.new.faults) }
         ensures kept { OnErr result (self.new.left ≡ self.old.left) }
         ensures counted { self.old.faults ≤ self.new.faults }
-        ensures counts { self.new.faults ≡ (if is_err result then next_count self.old.faults else self.old.faults) }
+        ensures counts { self.new.faults
+            ≡ (if is_err result then next_count self.old.faults else self.old.faults) }
         ensures called { self.new.calls ≡ next_count self.old.calls }
         ensures same { self.new.failing ≡ self.old.failing }
     {
@@ -80,7 +83,8 @@ impl Source for MemorySource {
     }
 }
 
-/// A sink that keeps what is written, up to a capacity, and tells it. A call takes as many bytes as fit.
+/// A sink that keeps what is written, up to a capacity, and tells it. A call takes as many bytes as
+/// fit.
 #[derive(Drop)]
 pub struct MemorySink {
     bytes: Vec<u8>,
@@ -108,11 +112,17 @@ impl Model for MemorySink {
 }
 
 impl MemorySink {
-    /// An empty sink with memory for `capacity` bytes. Its writes fail at the calls that are listed, counted
-    /// from 1, and those of at least one byte where the capacity is used up; the count of calls stops at the
-    /// greatest `u64`.
+    /// An empty sink with memory for `capacity` bytes. Its writes fail at the calls that are listed,
+    /// counted from 1, and those of at least one byte where the capacity is used up; the count of calls
+    /// stops at the greatest `u64`.
     pub fn new(alloc: Global, capacity: usize, failing: Vec<u64>) -> Result<MemorySink, NoMemory>
-        ensures { IfOk result (λ sink. sink ≡ record { written = []; capacity = capacity; failing = failing.items; calls = 0; faults = 0 }) }
+        ensures { IfOk result (λ sink. sink ≡ record {
+          written = [];
+          capacity = capacity;
+          failing = failing.items;
+          calls = 0;
+          faults = 0;
+        }) }
     {
         let bytes = Vec::with_capacity(alloc, capacity)?;
         Ok(MemorySink {
@@ -140,17 +150,21 @@ impl Sink for MemorySink {
     ghost faults = { λ sink. sink.faults };
 
     fn write(&mut self, bytes: &[u8]) -> Result<usize, Failed>
-        ensures within { IfOk result (λ n. n ≡ min (length bytes.now) (self.old.capacity - length self.old.written)) }
+        ensures within { IfOk result (λ n.
+            n ≡ min (length bytes.now) (self.old.capacity - length self.old.written)) }
         ensures some { IfOk result (λ n. 0 < length bytes.now → 0 < n) }
-        ensures appended { IfOk result (λ n. self.new.written ≡ self.old.written ++ take n bytes.now) }
+        ensures appended { IfOk result (λ n.
+            self.new.written ≡ self.old.written ++ take n bytes.now) }
         ensures fails { IsErr result ↔ (Contains self.old.failing (next_count self.old.calls)
             ⊎ ((self.old.capacity ≤ length self.old.written) × (0 < length bytes.now))) }
         ensures failed { OnErr result (Rose self.old.faults self.new.faults) }
         ensures kept { OnErr result (self.new.written ≡ self.old.written) }
         ensures counted { self.old.faults ≤ self.new.faults }
-        ensures counts { self.new.faults ≡ (if is_err result then next_count self.old.faults else self.old.faults) }
+        ensures counts { self.new.faults
+            ≡ (if is_err result then next_count self.old.faults else self.old.faults) }
         ensures called { self.new.calls ≡ next_count self.old.calls }
-        ensures same { (self.new.failing ≡ self.old.failing) × (self.new.capacity ≡ self.old.capacity) }
+        ensures same { (self.new.failing ≡ self.old.failing)
+            × (self.new.capacity ≡ self.old.capacity) }
     {
         self.calls = self.calls.saturating_add(1);
         let room = self.capacity - self.bytes.len();

@@ -39,11 +39,13 @@ impl<R: Read> Source for StdSource<R> {
 
     /// One read of the reader. Each error of its is a fault, an interrupted call too.
     fn read(&mut self, buf: &mut [u8]) -> Result<usize, Failed>
-        ensures bytes { ReadConsumes (R.remaining self.old.inner) (R.remaining self.new.inner) result buf.new }
+        ensures bytes { ReadConsumes (R.remaining self.old.inner) (R.remaining self.new.inner)
+            result buf.new }
         ensures within { IfOk result (λ n. n ≤ length buf.old) }
         ensures failed { OnErr result (Rose self.old.faults self.new.faults) }
         ensures counted { self.old.faults ≤ self.new.faults }
-        ensures counts { self.new.faults ≡ (if is_err result then next_count self.old.faults else self.old.faults) }
+        ensures counts { self.new.faults
+            ≡ (if is_err result then next_count self.old.faults else self.old.faults) }
     {
         match self.inner.read(buf) {
             Ok(count) => Ok(count),
@@ -88,12 +90,14 @@ impl<W: Write> Sink for StdSink<W> {
     /// One write of the writer. Each error of its is a fault, and so is a write of nothing where there
     /// was something to write.
     fn write(&mut self, bytes: &[u8]) -> Result<usize, Failed>
-        ensures bytes { IfOk result (λ n. Appends (W.contents self.old.inner) (W.contents self.new.inner) (take n bytes.now)) }
+        ensures bytes { IfOk result (λ n.
+            Appends (W.contents self.old.inner) (W.contents self.new.inner) (take n bytes.now)) }
         ensures within { IfOk result (λ n. n ≤ length bytes.now) }
         ensures some { IfOk result (λ n. 0 < length bytes.now → 0 < n) }
         ensures failed { OnErr result (Rose self.old.faults self.new.faults) }
         ensures counted { self.old.faults ≤ self.new.faults }
-        ensures counts { self.new.faults ≡ (if is_err result then next_count self.old.faults else self.old.faults) }
+        ensures counts { self.new.faults
+            ≡ (if is_err result then next_count self.old.faults else self.old.faults) }
     {
         match self.inner.write(bytes) {
             Ok(count) if count > 0 || bytes.is_empty() => Ok(count),

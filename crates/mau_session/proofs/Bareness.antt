@@ -1,18 +1,16 @@
 -- What words read as is a bare term over the module's signature.
-use Rattle.std.proofs.Common.{◌≡◌, ℕ, zero, suc, ◌<◌, ◌≤◌, ◌+◌, ◌^◌, List, [], ◌∷◌, length, map, Bool, true, false, nat_lt, if◌then◌else◌, cond, take, codes, Option, Some, None, slice_get, refl, sym, ◌∙◌, ap, subst, arith, add-one}
-use Rattle.std.specs.Prelude.{is_some, position}
+use Rattle.std.proofs.Common.{◌≡◌, ℕ, ◌<◌, ◌≤◌, ◌+◌, ◌^◌, List, [], length, map, true, nat_lt, if◌then◌else◌, take, Some, slice_get, sym, ◌∙◌, ap, subst, arith, add-one}
+use Rattle.std.specs.Prelude.{is_some}
 use Rattle.std.specs.Option.{option_map_or}
 use Rattle.std.proofs.lemmas.Bool.{lt-ltb}
 use Rattle.std.proofs.lemmas.List.Quantifiers.{position-Some}
 use Rattle.std.specs.Str.{bytes_eq}
-use Rattle.mau_terms.specs.Tree.{Tree, variable, apply, Trees, no_trees, tree}
+use Rattle.mau_terms.specs.Tree.{Tree, Trees, no_trees}
 use Rattle.mau_terms.specs.Bare.{IsBareIn, AreBareIn}
-use Rattle.mau_terms.specs.Vars.{place_of, with_pair}
 use Rattle.mau_session.specs.declared.module.Module.{Module}
 use Rattle.mau_session.specs.declared.module.Profile.{Profile}
 use Rattle.mau_session.specs.Words.{Word, text_at}
-use Rattle.mau_session.specs.Names.{number_of}
-use Rattle.mau_session.specs.Terms.{Pairs, signature_of, profile_of, sort_of, Reads, reads_constant, reads_application, reads_variable, ReadsArgument, reads_argument, ReadsList, list_ends, list_goes_on}
+use Rattle.mau_session.specs.Terms.{Pairs, signature_of, profile_of, Reads, reads_constant, reads_application, reads_variable, ReadsArgument, reads_argument, ReadsList, list_ends, list_goes_on}
 use Rattle.mau_session.proofs.Numbered.{place_within, with_pair_longer}
 
 below_both : (s n : ℕ) → s < n → nat_lt s (n + n) ≡ true

@@ -1,5 +1,5 @@
 -- Binding finds the one substitution that makes the pattern the subject, where there is one.
-use Rattle.std.proofs.Common.{◌≡◌, ◌≢◌, ℕ, zero, suc, ◌<◌, ◌≤◌, ◌+◌, ◌⊎◌, inl, inr, List, [], ◌∷◌, length, Bool, true, false, nat_eq, if◌then◌else◌, cond, Option, Some, None, slice_get, set, refl, sym, ◌∙◌, ap, ap₂, subst, arith, eqb-true, eq-eqb}
+use Rattle.std.proofs.Common.{◌≡◌, ℕ, zero, suc, ◌<◌, ◌⊎◌, inl, inr, [], ◌∷◌, length, Bool, true, false, nat_eq, if◌then◌else◌, Option, Some, None, slice_get, set, refl, sym, ◌∙◌, ap, ap₂, subst, arith, eqb-true, eq-eqb}
 use Rattle.std.specs.Prelude.{option_and_then}
 use Rattle.std.proofs.lemmas.Option.{slice_get_within, slice_get-get_or}
 use Rattle.std.proofs.lemmas.List.{length-set}
@@ -7,7 +7,7 @@ use Rattle.mau_terms.specs.Tree.{Tree, variable, numeral, apply, Trees, no_trees
 use Rattle.mau_terms.specs.Subst.{Variable, instance, instances, Occurs, OccursIn}
 use Rattle.mau_session.specs.declared.module.Module.{Module}
 use Rattle.mau_session.specs.Terms.{sort_of}
-use Rattle.mau_session.specs.Binding.{Bindings, same_tree, is_sort, has_sort, bound_to, bind, bind_all, bind_variable}
+use Rattle.mau_session.specs.Binding.{Bindings, same_tree, is_sort, has_sort, bound_to, bind, bind_all}
 use Rattle.mau_session.proofs.Bindings.{same_tree_is, same_tree_itself}
 
 -- the values g, by the variables' indices
@@ -89,11 +89,13 @@ module _ (m : Module) (g : ℕ → Tree) where
   bound_sound bs i t None e b k = absurd cc
   bound_sound bs i t (Some None) {cs = cs} e b k =
       let c : set bs i (Some t) ≡ cs = cc in
-      let there = subst (λ cs. slice_get cs i ≡ Some (Some t)) c (set_there bs i (Some t) (slice_get_within bs i None e)) in
-      (λ j u h. elim (same_place j i) [
-          inl s ↦ absurd (let q = ap (slice_get bs) s in cc)
-        | inr d ↦ k j u (subst (λ cs. slice_get cs j ≡ Some (Some u)) c (set_elsewhere bs i j (Some t) d ∙ h))
-        ], k i t there)
+      let there = subst (λ cs. slice_get cs i ≡ Some (Some t)) c (set_there bs i (Some t) (slice_get_within bs i None e)) in (
+        λ j u h. elim (same_place j i) [
+          | inl s ↦ absurd (let q = ap (slice_get bs) s in cc)
+          | inr d ↦ k j u (subst (λ cs. slice_get cs j ≡ Some (Some u)) c (set_elsewhere bs i j (Some t) d ∙ h))
+        ],
+        k i t there,
+      )
   bound_sound bs i t (Some (Some u)) {cs = cs} e b k =
       let p = tested (same_tree u t) b in
       let c : bs ≡ cs = cc in
@@ -134,9 +136,9 @@ module _ (m : Module) (g : ℕ → Tree) where
   keeps_more : (bs : Bindings) (i : ℕ) → i < length bs → Keeps g bs → Keeps g (set bs i (Some (g i)))
   keeps_more bs i h k j u e =
       elim (same_place j i) [
-          inl s ↦ ap g s ∙ (let q = ap (λ n. slice_get (set bs i (Some (g i))) n) s in let r = set_there bs i (Some (g i)) h in cc)
+        | inl s ↦ ap g s ∙ (let q = ap (λ n. slice_get (set bs i (Some (g i))) n) s in let r = set_there bs i (Some (g i)) h in cc)
         | inr d ↦ k j u (sym (set_elsewhere bs i j (Some (g i)) d) ∙ e)
-        ]
+      ]
 
   bound_complete : (bs : Bindings) (i : ℕ) → i < length bs → Keeps g bs → (o : Option (Option Tree)) → slice_get bs i ≡ o → (cs : Bindings) × (bound_to bs i (g i) o ≡ Some cs) × Keeps g cs × (length cs ≡ length bs)
   bound_complete bs i h k None e = absurd (let q = slice_get-get_or bs i None h in cc)
@@ -172,9 +174,9 @@ module _ (m : Module) where
   bound_stays bs i t (Some None) {cs = cs} e b j h =
       let c : set bs i (Some t) ≡ cs = cc in
       elim (same_place j i) [
-          inl s ↦ absurd (let q = ap (slice_get bs) s in let r = h.1 in cc)
+        | inl s ↦ absurd (let q = ap (slice_get bs) s in let r = h.1 in cc)
         | inr d ↦ (h.0, subst (λ cs. slice_get cs j ≡ Some (Some h.0)) c (set_elsewhere bs i j (Some t) d ∙ h.1))
-        ]
+      ]
   bound_stays bs i t (Some (Some u)) {cs = cs} e b j h =
       let p = tested (same_tree u t) b in
       let c : bs ≡ cs = cc in

@@ -1,9 +1,9 @@
 -- Binding one variable.
-use Rattle.std.proofs.Common.{◌≡◌, ◌↔◌, ℕ, ◌<◌, ◌≤◌, List, [], ◌∷◌, length, get_or, map, Bool, true, false, Option, Some, None, slice_get, option_map, if◌then◌else◌, cond, drop, suc, refl, sym, ◌∙◌, ap, ap₂, set, IsTrue, arith}
+use Rattle.std.proofs.Common.{◌≡◌, ◌↔◌, ℕ, ◌<◌, List, [], ◌∷◌, length, get_or, map, Bool, true, false, Option, Some, None, slice_get, option_map, if◌then◌else◌, drop, suc, refl, sym, ◌∙◌, ap, ap₂, set, IsTrue, arith}
 use Rattle.std.specs.declared.cmp.Ordering.{Ordering}
 use Rattle.std.specs.declared.cmp.Ordering.TheVariants.{Less, Equal, Greater}
 use Rattle.std.proofs.lemmas.Option.{slice_get-map, slice_get-get_or}
-use Rattle.std.specs.Prelude.{slice_set, option_and_then}
+use Rattle.std.specs.Prelude.{option_and_then}
 use Rattle.std.proofs.lemmas.Cmp.{tied_itself}
 use Rattle.std.proofs.Math.Seq.{drop-cons}
 use Rattle.std.proofs.lemmas.List.{map-set}
@@ -71,7 +71,7 @@ bind_all_lengths m bs (p ∷ ps) (t ∷ ts) h = by (bind m bs p t) (λ cs. bind_
 
 -- from one place to the next
 pub bind_all_next : (m : Module) (bs : Bindings) (ps ts : List Bare) (i : ℕ) (p t : Bare) → i < length ps → i < length ts → p ≡ get_or ps i p → t ≡ get_or ts i t
-  → bind_all m bs (trees_of (map tree_of (drop i ps))) (trees_of (map tree_of (drop i ts))) ≡ option_and_then (λ cs. bind_all m cs (trees_of (map tree_of (drop (suc i) ps))) (trees_of (map tree_of (drop (suc i) ts)))) (bind m bs (tree_of p) (tree_of t))
+    → bind_all m bs (trees_of (map tree_of (drop i ps))) (trees_of (map tree_of (drop i ts))) ≡ option_and_then (λ cs. bind_all m cs (trees_of (map tree_of (drop (suc i) ps))) (trees_of (map tree_of (drop (suc i) ts)))) (bind m bs (tree_of p) (tree_of t))
 bind_all_next m bs ps ts i p t h k e f =
     ap₂ (λ a b. bind_all m bs (trees_of (map tree_of a)) (trees_of (map tree_of b))) (drop-cons ps i p h) (drop-cons ts i t k)
     ∙ ap₂ (λ a b. option_and_then (λ cs. bind_all m cs (trees_of (map tree_of (drop (suc i) ps))) (trees_of (map tree_of (drop (suc i) ts)))) (bind m bs (tree_of a) (tree_of b))) (sym e) (sym f)

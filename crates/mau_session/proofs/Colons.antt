@@ -1,9 +1,8 @@
 -- The last colon of a word, and its cut there.
-use Rattle.std.proofs.Common.{◌≡◌, ◌≢◌, ℕ, ◌+◌, ◌<◌, ◌⊎◌, inl, inr, List, length, get_or, Option, Some, None, drop, sym, ◌∙◌, ap, subst, arith}
+use Rattle.std.proofs.Common.{◌≡◌, ◌≢◌, ℕ, ◌<◌, ◌⊎◌, inl, inr, List, length, get_or, Option, Some, None}
 use Rattle.std.specs.Prelude.{IfSome, IfNone, MatchOption}
 use Rattle.std.proofs.lemmas.Bool.{cases_order}
-use Rattle.mau_session.specs.Names.{number_of}
-use Rattle.mau_session.specs.Terms.{IsLastColon, IsVariable}
+use Rattle.mau_session.specs.Terms.{IsLastColon}
 
 pub found_colon : (w : List ℕ) (r : Option ℕ) → MatchOption r ((i : ℕ) → i < length w → get_or w i 0 ≢ 58) (λ k. (k < length w) × (get_or w k 0 ≡ 58) × ((i : ℕ) → k < i → i < length w → get_or w i 0 ≢ 58)) → IfSome r (IsLastColon w)
 found_colon w None h = tt

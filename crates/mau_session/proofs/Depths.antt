@@ -1,5 +1,5 @@
 -- No term of a list is deeper than all of them together.
-use Rattle.std.proofs.Common.{◌≡◌, ℕ, zero, suc, ◌<◌, ◌≤◌, ◌+◌, ◌*◌, List, [], ◌∷◌, length, get_or, map, take, drop, sym, ◌∙◌, ap, arith}
+use Rattle.std.proofs.Common.{◌≡◌, ℕ, zero, suc, ◌<◌, ◌≤◌, ◌+◌, ◌*◌, List, [], ◌∷◌, length, get_or, map, take, drop, ap, arith}
 use Rattle.mau_terms.specs.declared.bare.Bare.{Bare}
 use Rattle.mau_terms.specs.declared.bare.Bare.TheVariants.{App}
 use Rattle.mau_terms.specs.declared.ids.OpId.{OpId}

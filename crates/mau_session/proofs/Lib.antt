@@ -13,3 +13,7 @@ pub mod Numbered
 pub mod Bareness
 pub mod Solving
 pub mod Lines
+pub mod Sizes
+pub mod Extending
+pub mod Answering
+pub mod Spanned

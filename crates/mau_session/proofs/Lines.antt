@@ -1,10 +1,9 @@
 -- Lines that are written one after another.
-use Rattle.std.proofs.Common.{◌≡◌, ℕ, zero, suc, ◌<◌, ◌+◌, List, [], ◌∷◌, ◌++◌, length, get_or, map, take, drop, Some, slice_get, refl, sym, ◌∙◌, ap, ap₂, subst, arith, append_assoc, append-nil, add-zero, add-one}
+use Rattle.std.proofs.Common.{◌≡◌, ℕ, zero, suc, ◌<◌, ◌+◌, List, [], ◌∷◌, ◌++◌, length, get_or, take, drop, Some, slice_get, refl, sym, ◌∙◌, ap, ap₂, arith, append_assoc, add-zero, add-one}
 use Rattle.std.proofs.lemmas.List.{drop_all, length-map}
 use denote.Ref.{Bor}
 use Rattle.mau_terms.specs.declared.bare.Bare.{Bare}
 use Rattle.mau_terms.specs.declared.ids.VarId.{VarId}
-use Rattle.mau_terms.specs.Tree.{Tree}
 use Rattle.mau_terms.specs.View.{tree_of}
 use Rattle.mau_terms.specs.Vars.{IsGiven}
 use Rattle.mau_terms.specs.Subst.{Variable}
@@ -47,8 +46,8 @@ module _ (m : Module) (ns : Pairs) where
 module _ (m : Module) (ns : Pairs) (values : List (Bor Bare)) where
   -- one line more
   pub lines_next : (i : ℕ) (x : VarId) (v : Bor Bare) → x.index ≡ i → IsGiven ns x → i < length values → v ≡ get_or values i v
-    → value_lines m ns (drop i (numbered_from 0 (take (length values) ns))) (drop i (trees_at values))
-    ≡ value_line m ns (x.index, x.sort) (tree_of v.now) ++ value_lines m ns (drop (i + 1) (numbered_from 0 (take (length values) ns))) (drop (i + 1) (trees_at values))
+      → value_lines m ns (drop i (numbered_from 0 (take (length values) ns))) (drop i (trees_at values))
+      ≡ value_line m ns (x.index, x.sort) (tree_of v.now) ++ value_lines m ns (drop (i + 1) (numbered_from 0 (take (length values) ns))) (drop (i + 1) (trees_at values))
   lines_next i x v e g h w =
       let got : slice_get (take (length values) ns) i ≡ Some (g.0, x.sort) = got_front (length values) ns i h ∙ ap (slice_get ns) (sym e) ∙ g.1 in
       let z : 0 + i ≡ x.index = omega arith in

@@ -1,7 +1,7 @@
 -- An index whose keys stand for names.
-use Rattle.std.proofs.Common.{◌≡◌, ℕ, ◌+◌, List, [], ◌∷◌, ◌++◌, Bool, true, false, ◌||◌, if◌then◌else◌, cond, not, map, length, Option, Some, None, nat_lt, refl, sym, ◌∙◌, ap, ap₂}
+use Rattle.std.proofs.Common.{◌≡◌, ◌+◌, List, [], ◌∷◌, ◌++◌, Bool, true, false, ◌||◌, if◌then◌else◌, cond, not, map, Some, None, nat_lt, refl, sym, ◌∙◌, ap, ap₂}
 use Rattle.std.specs.Prelude.{position}
-use Rattle.std.specs.List.{list_any, prefix_len, position_or_len}
+use Rattle.std.specs.List.{list_any, position_or_len}
 use Rattle.std.proofs.lemmas.List.{length-map, map-append}
 
 module _ {K A : Type 0} (name : K → A) (e : K → Bool) (p : A → Bool) (same : (k : K) → e k ≡ p (name k)) where

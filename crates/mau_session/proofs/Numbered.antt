@@ -1,8 +1,8 @@
 -- The variables of a pattern that was read are numbered in the order of their first occurrences.
-use Rattle.std.proofs.Common.{◌≡◌, ◌≢◌, ℕ, zero, suc, ◌<◌, ◌≤◌, ◌+◌, List, [], ◌∷◌, ◌++◌, length, Bool, true, false, ◌&&◌, ◌||◌, not, nat_eq, if◌then◌else◌, cond, take, codes, Option, Some, None, slice_get, refl, sym, ◌∙◌, ap, ap₂, subst, arith, eqb-true, eq-eqb, length-append, add-zero, bytes_eq}
-use Rattle.std.specs.List.{list_any, position_or_len}
-use Rattle.mau_terms.specs.Tree.{Tree, variable, apply, Trees, no_trees, tree}
-use Rattle.mau_terms.specs.Subst.{Variable, same_variable, has_variable, add_variables, add_all_variables}
+use Rattle.std.proofs.Common.{◌≡◌, ℕ, suc, ◌<◌, ◌≤◌, ◌+◌, List, [], ◌∷◌, ◌++◌, length, Bool, true, false, ◌&&◌, ◌||◌, not, nat_eq, if◌then◌else◌, cond, take, refl, sym, ◌∙◌, ap, ap₂, arith, eqb-true, eq-eqb, length-append, add-zero, bytes_eq}
+use Rattle.std.specs.List.{list_any}
+use Rattle.mau_terms.specs.Tree.{Tree, Trees}
+use Rattle.mau_terms.specs.Subst.{same_variable, has_variable, add_variables, add_all_variables}
 use Rattle.mau_terms.specs.Vars.{same_pair, place_of, with_pair}
 use Rattle.mau_session.specs.declared.module.Module.{Module}
 use Rattle.mau_session.specs.Words.{Word, text_at}
@@ -27,7 +27,7 @@ has_numbered [] k x = refl
 has_numbered (y ∷ ns) k x = by (same_pair x y) refl (has_numbered ns (suc k) x)
   where
     by : (b : Bool) → same_pair x y ≡ b → has_variable (numbered_from (suc k) ns) (suc k + place_of ns x, x.1) ≡ list_any (same_pair x) ns
-      → (same_variable (k, y.1) (k + cond (not b) (1 + place_of ns x) 0, x.1) || has_variable (numbered_from (suc k) ns) (k + cond (not b) (1 + place_of ns x) 0, x.1)) ≡ (b || list_any (same_pair x) ns)
+        → (same_variable (k, y.1) (k + cond (not b) (1 + place_of ns x) 0, x.1) || has_variable (numbered_from (suc k) ns) (k + cond (not b) (1 + place_of ns x) 0, x.1)) ≡ (b || list_any (same_pair x) ns)
     by true e h =
         let s : nat_eq x.1 y.1 ≡ true = (both (bytes_eq x.0 y.0) (nat_eq x.1 y.1) e).1 in
         let q : nat_eq y.1 x.1 ≡ true = eq-eqb y.1 x.1 (sym (eqb-true x.1 y.1 s)) in
@@ -79,8 +79,9 @@ variable_added ns x = by (list_any (same_pair x) ns) refl
   where
     there : has_variable (numbered_from 0 ns) (place_of ns x, x.1) ≡ list_any (same_pair x) ns
     there = let z : 0 + place_of ns x ≡ place_of ns x = omega arith in ap (λ i. has_variable (numbered_from 0 ns) (i, x.1)) (sym z) ∙ has_numbered ns 0 x
+
     by : (b : Bool) → list_any (same_pair x) ns ≡ b
-      → (if has_variable (numbered_from 0 ns) (place_of ns x, x.1) then numbered_from 0 ns else numbered_from 0 ns ++ (place_of ns x, x.1) ∷ []) ≡ numbered_from 0 (with_pair ns x)
+        → (if has_variable (numbered_from 0 ns) (place_of ns x, x.1) then numbered_from 0 ns else numbered_from 0 ns ++ (place_of ns x, x.1) ∷ []) ≡ numbered_from 0 (with_pair ns x)
     by true e =
         ap (λ b. if b then numbered_from 0 ns else numbered_from 0 ns ++ (place_of ns x, x.1) ∷ []) (there ∙ e)
         ∙ ap (λ b. numbered_from 0 (if b then ns else ns ++ x ∷ [])) (sym e)

@@ -1,8 +1,8 @@
 -- Looking for a place: one place further.
-use Rattle.std.proofs.Common.{◌≡◌, ◌≢◌, ℕ, zero, suc, ◌+◌, ◌-◌, ◌<◌, ◌≤◌, ◌⊎◌, inl, inr, List, Bool, true, false, ◌&&◌, ◌||◌, nat_eq, cond, refl, sym, ◌∙◌, ap, subst, arith, eqb-true, below_more}
+use Rattle.std.proofs.Common.{◌≡◌, ◌≢◌, ℕ, suc, ◌+◌, ◌-◌, ◌≤◌, ◌⊎◌, inl, inr, List, Bool, true, false, ◌&&◌, nat_eq, cond, refl, ◌∙◌, ap, arith, eqb-true, below_more}
 use Rattle.mau_session.specs.declared.places.Sign.{Sign}
 use Rattle.mau_session.specs.Words.{Word, text_at}
-use Rattle.mau_session.specs.Places.{IsNowhere, IsFirst, depth_behind, depth_after, stands_outside, is_sign, opens, closes}
+use Rattle.mau_session.specs.Places.{IsNowhere, depth_behind, depth_after, stands_outside, is_sign, opens, closes}
 
 pub nowhere_more : (test : ℕ → Bool) (from i : ℕ) → IsNowhere test from i → test i ≡ false → IsNowhere test from (i + 1)
 nowhere_more test from i before here j l h =

@@ -1,5 +1,5 @@
 -- Reading declarations: one word further.
-use Rattle.std.proofs.Common.{◌≡◌, ℕ, ◌+◌, ◌<◌, ◌≤◌, List, [], ◌∷◌, ◌++◌, Bool, true, false, ◌&&◌, not, if◌then◌else◌, cond, nat_lt, Option, Some, Result, Ok, Err, refl, sym, ◌∙◌, ap, subst, codes}
+use Rattle.std.proofs.Common.{◌≡◌, ℕ, ◌<◌, ◌≤◌, List, Bool, true, false, ◌&&◌, nat_lt, Result, Ok, Err, refl, sym, ap, subst, codes}
 use Rattle.std.specs.Prelude.{IfOk, IfErr}
 use Rattle.std.proofs.lemmas.Bool.{le-ltb}
 use Rattle.mau_session.specs.declared.declarations.ReadFault.{ReadFault}
@@ -7,7 +7,7 @@ use Rattle.mau_session.specs.declared.declarations.ReadFault.TheVariants.{Leaves
 use Rattle.mau_session.specs.Words.{Word, text_at}
 use Rattle.mau_session.specs.Places.{is_word}
 use Rattle.mau_session.specs.Faults.{IfLeaves}
-use Rattle.mau_session.specs.Modules.{NamesRead, name_read, colon_read, no_name, is_new_name}
+use Rattle.mau_session.specs.Modules.{NamesRead, colon_read, no_name, is_new_name}
 
 pub and_false : (a b : Bool) → b ≡ false → (a && b) ≡ false
 and_false true b h = h

@@ -1,17 +1,17 @@
 -- The bindings of a pattern are its one solution, and where there are none there is no solution.
-use Rattle.std.proofs.Common.{◌≡◌, ◌≢◌, ℕ, zero, suc, ◌<◌, ◌≤◌, ◌+◌, ◌⊎◌, inl, inr, List, [], ◌∷◌, length, get_or, map, Bool, true, false, ◌&&◌, ◌||◌, ◌-◌, ◌++◌, append_assoc, length-append, add-zero, option_map, nat_eq, if◌then◌else◌, cond, Option, Some, None, slice_get, replicate, refl, sym, ◌∙◌, ap, ap₂, subst, arith, eqb-true, eq-eqb}
-use Rattle.std.proofs.lemmas.Option.{slice_get-get_or, slice_get_within, slice_get-map, get_or_from_slice_get}
+use Rattle.std.proofs.Common.{◌≡◌, ℕ, zero, suc, ◌<◌, ◌≤◌, ◌+◌, ◌⊎◌, inl, inr, List, [], ◌∷◌, length, get_or, map, Bool, true, false, ◌&&◌, ◌||◌, ◌-◌, ◌++◌, append_assoc, length-append, add-zero, option_map, nat_eq, if◌then◌else◌, Option, Some, None, slice_get, replicate, refl, sym, ◌∙◌, ap, ap₂, subst, arith, eqb-true}
+use Rattle.std.proofs.lemmas.Option.{slice_get-map, get_or_from_slice_get}
 use Rattle.std.proofs.lemmas.List.{length-replicate, length-map, ext_get_or}
 use Rattle.std.specs.Prelude.{All}
 use Rattle.mau_terms.specs.Norm.{norm}
 use Rattle.mau_terms.specs.Tree.{Tree, variable, numeral, apply, Trees, no_trees, tree}
 use Rattle.mau_terms.specs.Subst.{Variable, same_variable, has_variable, instance, instances, Occurs, OccursIn, add_variables, add_all_variables, variables, value_at, with_values}
 use Rattle.mau_terms.specs.Bare.{IsBare, EqualModulo, HasNoAxioms}
-use Rattle.mau_terms.specs.Solution.{Fits, HaveSorts, Solves}
+use Rattle.mau_terms.specs.Solution.{HaveSorts}
 use Rattle.mau_terms.proofs.Variables.{EachVar, occurring, variables_occur, same_itself}
 use Rattle.mau_terms.proofs.Plain.{plain_equal, same_equal, plain_norm}
 use Rattle.mau_session.specs.declared.module.Module.{Module}
-use Rattle.mau_session.specs.Terms.{Pairs, signature_of, sort_of, HasSort}
+use Rattle.mau_session.specs.Terms.{Pairs, signature_of, HasSort}
 use Rattle.mau_session.specs.Matching.{SolvesIn, numbered_from, IsListing, IsNumbered}
 use Rattle.mau_session.specs.Binding.{Bindings, bind}
 use Rattle.mau_session.proofs.BindLemmas.{by_index, Keeps, Within, AllWithin, Sorted, AllSorted, IsBoundIn, bind_sound, bind_complete, bind_binds, bind_length}
@@ -99,18 +99,18 @@ later_value : (v : Tree) (vs : List Tree) (k j : ℕ) → suc k ≤ j → get_or
 later_value v vs k j h = let n : j - k ≡ suc (j - suc k) = omega arith in ap (λ i. get_or (v ∷ vs) i (numeral 0)) n
 
 value_at-numbered : (ns : Pairs) (k : ℕ) (vs : List Tree) → length vs ≡ length ns → (j s : ℕ) → has_variable (numbered_from k ns) (j, s) ≡ true
-  → (k ≤ j) × (j < k + length ns) × (value_at (numbered_from k ns) vs (j, s) ≡ get_or vs (j - k) (numeral 0))
+    → (k ≤ j) × (j < k + length ns) × (value_at (numbered_from k ns) vs (j, s) ≡ get_or vs (j - k) (numeral 0))
 value_at-numbered [] k vs l j s e = absurd cc
 value_at-numbered (p ∷ ns) k [] l j s e = absurd cc
 value_at-numbered (p ∷ ns) k (v ∷ vs) l j s e =
     elim (first_or_later (nat_eq k j) (nat_eq p.1 s) (has_variable (numbered_from (suc k) ns) (j, s)) e) [
-      inl h ↦
-        (let q : k ≡ j = eqb-true k j h.0 in
-        let z : j - k ≡ 0 = omega arith in
-        (omega arith, omega arith, ap₂ (λ a b. if a && b then v else value_at (numbered_from (suc k) ns) vs (j, s)) h.0 h.1 ∙ sym (ap (λ i. get_or (v ∷ vs) i (numeral 0)) z)))
-    | inr h ↦
-        (let r = value_at-numbered ns (suc k) vs (let w : length vs ≡ length ns = cc in w) j s h.1 in
-        (omega (arith, r.0), omega (arith, r.1), ap (λ b. if b then v else value_at (numbered_from (suc k) ns) vs (j, s)) h.0 ∙ r.2 ∙ sym (later_value v vs k j r.0)))
+      | inl h ↦
+          (let q : k ≡ j = eqb-true k j h.0 in
+          let z : j - k ≡ 0 = omega arith in
+          (omega arith, omega arith, ap₂ (λ a b. if a && b then v else value_at (numbered_from (suc k) ns) vs (j, s)) h.0 h.1 ∙ sym (ap (λ i. get_or (v ∷ vs) i (numeral 0)) z)))
+      | inr h ↦
+          (let r = value_at-numbered ns (suc k) vs (let w : length vs ≡ length ns = cc in w) j s h.1 in
+          (omega (arith, r.0), omega (arith, r.1), ap (λ b. if b then v else value_at (numbered_from (suc k) ns) vs (j, s)) h.0 ∙ r.2 ∙ sym (later_value v vs k j r.0)))
     ]
 
 -- ---- sorts of values
@@ -120,13 +120,13 @@ sorts_at P [] k vs h j s e = absurd cc
 sorts_at P (p ∷ ns) k [] h j s e = absurd h
 sorts_at P (p ∷ ns) k (v ∷ vs) h j s e =
     elim (first_or_later (nat_eq k j) (nat_eq p.1 s) (has_variable (numbered_from (suc k) ns) (j, s)) e) [
-      inl q ↦
-        (let d : k ≡ j = eqb-true k j q.0 in
-        let z : 0 ≡ j - k = omega arith in
-        (omega arith, subst (λ i. P s (get_or (v ∷ vs) i (numeral 0))) z (subst (λ s. P s v) (eqb-true p.1 s q.1) h.0)))
-    | inr q ↦
-        (let r = sorts_at P ns (suc k) vs h.1 j s q.1 in
-        (omega (arith, r.0), subst (λ v. P s v) (sym (later_value v vs k j r.0)) r.1))
+      | inl q ↦
+          (let d : k ≡ j = eqb-true k j q.0 in
+          let z : 0 ≡ j - k = omega arith in
+          (omega arith, subst (λ i. P s (get_or (v ∷ vs) i (numeral 0))) z (subst (λ s. P s v) (eqb-true p.1 s q.1) h.0)))
+      | inr q ↦
+          (let r = sorts_at P ns (suc k) vs h.1 j s q.1 in
+          (omega (arith, r.0), subst (λ v. P s v) (sym (later_value v vs k j r.0)) r.1))
     ]
 
 at_seam : (pre : List Tree) (v : Tree) (vs : List Tree) (k : ℕ) → length pre ≡ k → value (pre ++ v ∷ vs) k ≡ v
@@ -137,10 +137,11 @@ at_seam (u ∷ pre) v vs (suc k) e = at_seam pre v vs k (let w : length pre ≡ 
 sorts_all : (m : Module) (ns : Pairs) (pre vs : List Tree) (k : ℕ) → length pre ≡ k → length vs ≡ length ns → EachVar (λ x. HasSort m x.1 (value (pre ++ vs) x.0)) (numbered_from k ns) → HaveSorts (HasSort m) (numbered_from k ns) vs
 sorts_all m [] pre vs k e l h = tt
 sorts_all m (p ∷ ns) pre [] k e l h = absurd cc
-sorts_all m (p ∷ ns) pre (v ∷ vs) k e l h =
-    (subst (λ v. HasSort m p.1 v) (at_seam pre v vs k e) h.0,
-    sorts_all m ns (pre ++ v ∷ []) vs (suc k) (omega (arith, length-append pre (v ∷ []))) (let w : length vs ≡ length ns = cc in w)
-    (subst (λ us. EachVar (λ x. HasSort m x.1 (value us x.0)) (numbered_from (suc k) ns)) (sym (append_assoc pre (v ∷ []) vs)) h.1))
+sorts_all m (p ∷ ns) pre (v ∷ vs) k e l h = (
+  subst (λ v. HasSort m p.1 v) (at_seam pre v vs k e) h.0,
+  sorts_all m ns (pre ++ v ∷ []) vs (suc k) (omega (arith, length-append pre (v ∷ []))) (let w : length vs ≡ length ns = cc in w)
+      (subst (λ us. EachVar (λ x. HasSort m x.1 (value us x.0)) (numbered_from (suc k) ns)) (sym (append_assoc pre (v ∷ []) vs)) h.1),
+)
 
 mutual
   sorted_at : (m : Module) (g : ℕ → Tree) (p : Tree) → Sorted m g p → (x : Variable) → Occurs x p → HasSort m x.1 (g x.0)
@@ -207,9 +208,10 @@ module _ (m : Module) (p t : Tree) (ns : Pairs) (numbered : variables p ≡ numb
   bound_solves b cs e vs l k =
       let s = bind_sound m (value vs) (unbound (length ns)) p t e k in
       let same : with_values p vs ≡ t = by_values vs l ∙ s.1 in
-      let each = occurring (λ x. HasSort m x.1 (value vs x.0)) p [] tt (sorted_at m (value vs) p s.2) in
-      (record { one_each = l ∙ sym (length-numbered ns 0) ∙ sym (ap length numbered); equal = subst (λ u. EqualModulo (signature_of m) u t) (sym same) (same_equal (signature_of m) t t b refl) },
-      subst (λ xs. HaveSorts (HasSort m) xs vs) (sym numbered) (sorts_all m ns [] vs 0 refl l (subst (EachVar (λ x. HasSort m x.1 (value vs x.0))) numbered each)))
+      let each = occurring (λ x. HasSort m x.1 (value vs x.0)) p [] tt (sorted_at m (value vs) p s.2) in (
+        record { one_each = l ∙ sym (length-numbered ns 0) ∙ sym (ap length numbered); equal = subst (λ u. EqualModulo (signature_of m) u t) (sym same) (same_equal (signature_of m) t t b refl) },
+        subst (λ xs. HaveSorts (HasSort m) xs vs) (sym numbered) (sorts_all m ns [] vs 0 refl l (subst (EachVar (λ x. HasSort m x.1 (value vs x.0))) numbered each)),
+      )
 
   pub solution_bound : (vs : List Tree) → SolvesIn m p t vs → (cs : Bindings) × (bind m (unbound (length ns)) p t ≡ Some cs) × Keeps (value vs) cs
   solution_bound vs h =
@@ -260,8 +262,8 @@ module _ (m : Module) (p t : Tree) (ns : Pairs) (numbered : variables p ≡ numb
       let k : Keeps (value us) cs = subst (Keeps (value us)) same b.2 in
       let n : length us ≡ length ns = h.0.one_each ∙ ap length numbered ∙ length-numbered ns 0 in
       ext_get_or (numeral 0) vs us (l ∙ sym n) (λ i w.
-        let r = all_bound cs e i (omega arith) in
-        keeps_values vs cs v i r.0 r.1 ∙ sym (k i r.0 r.1))
+      let r = all_bound cs e i (omega arith) in
+      keeps_values vs cs v i r.0 r.1 ∙ sym (k i r.0 r.1))
 
   pub one_listing : IsBare (signature_of m) t → (cs : Bindings) → bind m (unbound (length ns)) p t ≡ Some cs → (vs : List Tree) → map (λ v. Some v) vs ≡ cs → length vs ≡ length ns → IsListing m p t (vs ∷ [])
   one_listing b cs e vs v l = record {

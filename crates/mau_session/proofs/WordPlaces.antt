@@ -1,6 +1,6 @@
 -- The word at a place is what the token there reads.
-use Rattle.std.proofs.Common.{◌≡◌, ℕ, ◌<◌, List, length, map, refl, sym, slice_get, option_map, ap, ◌∙◌, get_or, [], arith}
-use Rattle.std.specs.Prelude.{slice_range, All}
+use Rattle.std.proofs.Common.{◌≡◌, ℕ, ◌<◌, List, length, sym, option_map, ap, ◌∙◌, get_or, [], arith}
+use Rattle.std.specs.Prelude.{slice_range}
 use Rattle.std.specs.Option.{option_map_or}
 use Rattle.std.proofs.lemmas.Option.{slice_get-map, slice_get-get_or}
 use Rattle.std.proofs.lemmas.List.{length-map}
@@ -13,9 +13,6 @@ length-words_of bs ts = length-map ts (word_of bs)
 -- a place among the words is one among the tokens
 pub place_of_token : (bs : List ℕ) (ts : List Token) (ws : List Word) (i : ℕ) → words_of bs ts ≡ ws → i < length ws → i < length ts
 place_of_token bs ts ws i e h = omega (arith, ap length e, length-words_of bs ts, h)
-
-
-
 
 pub text_at-words_of : (bs : List ℕ) (ts : List Token) (ws : List Word) (i : ℕ) (d : Token) → words_of bs ts ≡ ws → i < length ts → slice_range bs (get_or ts i d).start (get_or ts i d).end ≡ text_at ws i
 text_at-words_of bs ts ws i d e h =

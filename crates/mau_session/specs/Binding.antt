@@ -1,6 +1,5 @@
 -- How a matcher without axioms binds variables: a plain recursion on pattern and subject. That it finds the solutions is proved of it.
-use Rattle.std.specs.Prelude.{◌≡◌, ℕ, List, Bool, true, false, ◌&&◌, Option, Some, None, slice_get, slice_set, nat_eq, map, if◌then◌else◌, option_and_then}
-use Rattle.std.specs.Option.{option_map}
+use Rattle.std.specs.Prelude.{ℕ, List, Bool, true, false, Option, Some, None, slice_get, slice_set, nat_eq, if◌then◌else◌, option_and_then}
 use Rattle.std.specs.declared.cmp.Ordering.{Ordering}
 use Rattle.std.specs.declared.cmp.Ordering.TheVariants.{Less, Equal, Greater}
 use Rattle.mau_terms.specs.Tree.{Tree, variable, numeral, apply, Trees, no_trees, tree}

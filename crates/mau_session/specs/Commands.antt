@@ -1,5 +1,5 @@
 -- The parts of a match command.
-use Rattle.std.specs.Prelude.{◌≡◌, ℕ, suc, ◌+◌, ◌-◌, ◌<◌, ◌≤◌, List, [], ◌∷◌, length, Bool, true, false, ◌&&◌, ◌||◌, not, nat_eq, nat_lt, nat_le, Result, Ok, Err, codes, slice_index}
+use Rattle.std.specs.Prelude.{◌≡◌, ℕ, ◌+◌, ◌-◌, ◌<◌, List, length, Bool, true, false, ◌&&◌, ◌||◌, not, nat_eq, nat_lt, nat_le, Result, Ok, Err, codes, slice_index}
 use Rattle.std.specs.List.{list_all}
 use Rattle.std.specs.Char.{is_ascii_digit}
 use Rattle.mau_session.specs.declared.places.Sign.TheVariants.{Parts, Condition}
@@ -37,8 +37,8 @@ pub data CommandRead (ws : List Word) (p e : ℕ) : Result ℕ ℕ → Type 0 wh
   parts_missing : has_prefix ws p e ≡ false → IsNowhere (stands_outside ws Parts p) p e → CommandRead ws p e (Err e)
   pattern_leaves : (s : ℕ) → has_prefix ws p e ≡ false → IsFirst (stands_outside ws Parts p) p e s → is_no_term p s ≡ true → CommandRead ws p e (Err p)
   subject_leaves : (s t : ℕ) → has_prefix ws p e ≡ false → IsFirst (stands_outside ws Parts p) p e s → is_no_term p s ≡ false
-    → SubjectEnds ws (s + 1) e t → is_no_term (s + 1) t ≡ true → CommandRead ws p e (Err (s + 1))
+      → SubjectEnds ws (s + 1) e t → is_no_term (s + 1) t ≡ true → CommandRead ws p e (Err (s + 1))
   condition_leaves : (s t : ℕ) → has_prefix ws p e ≡ false → IsFirst (stands_outside ws Parts p) p e s → is_no_term p s ≡ false
-    → SubjectEnds ws (s + 1) e t → is_no_term (s + 1) t ≡ false → t < e → CommandRead ws p e (Err t)
+      → SubjectEnds ws (s + 1) e t → is_no_term (s + 1) t ≡ false → t < e → CommandRead ws p e (Err t)
   command_read : (s : ℕ) → has_prefix ws p e ≡ false → IsFirst (stands_outside ws Parts p) p e s → is_no_term p s ≡ false
-    → SubjectEnds ws (s + 1) e e → is_no_term (s + 1) e ≡ false → CommandRead ws p e (Ok s)
+      → SubjectEnds ws (s + 1) e e → is_no_term (s + 1) e ≡ false → CommandRead ws p e (Ok s)

@@ -8,10 +8,10 @@ use Rattle.mau_session.specs.Places.{is_word, stands_outside}
 -- the word that ends a module which begins with this word
 abbrev pub end_of_module : List ℕ → Option (List ℕ)
 end_of_module w =
-  if bytes_eq w (codes "fmod") then Some (codes "endfm")
-  else (if bytes_eq w (codes "mod") then Some (codes "endm")
-  else (if bytes_eq w (codes "smod") then Some (codes "endsm")
-  else None))
+    if bytes_eq w (codes "fmod") then Some (codes "endfm")
+    else (if bytes_eq w (codes "mod") then Some (codes "endm")
+    else (if bytes_eq w (codes "smod") then Some (codes "endsm")
+    else None))
 
 -- an item of one word, after which nothing is read
 abbrev pub is_quit : List ℕ → Bool
@@ -21,5 +21,5 @@ is_quit w = bytes_eq w (codes "quit") || bytes_eq w (codes "q") || bytes_eq w (c
 -- item at a full stop outside brackets
 abbrev pub may_end : List Word → ℕ → ℕ → Bool
 may_end ws i j =
-  if is_quit (text_at ws i) then nat_eq i j
-  else elim (end_of_module (text_at ws i)) [ Some w ↦ is_word ws w j | None ↦ stands_outside ws Stop i j ]
+    if is_quit (text_at ws i) then nat_eq i j
+    else elim (end_of_module (text_at ws i)) [ Some w ↦ is_word ws w j | None ↦ stands_outside ws Stop i j ]

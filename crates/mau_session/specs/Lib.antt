@@ -16,3 +16,6 @@ pub mod Answers
 pub mod Transcript
 pub mod Refused
 pub mod Gains
+pub mod Meanings
+pub mod Run
+pub mod Statuses

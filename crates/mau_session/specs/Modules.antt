@@ -1,5 +1,5 @@
 -- Functional modules of sorts and prefix operators without axioms, and the words that read as such a module.
-use Rattle.std.specs.Prelude.{◌≡◌, ℕ, zero, suc, ◌+◌, ◌-◌, ◌<◌, List, [], ◌∷◌, ◌++◌, length, Bool, true, false, ◌&&◌, ◌||◌, not, nat_eq, nat_lt, if◌then◌else◌, Option, Some, None, Result, Ok, Err, codes, slice_index, replicate}
+use Rattle.std.specs.Prelude.{◌≡◌, ℕ, zero, suc, ◌+◌, ◌-◌, ◌<◌, ◌≤◌, List, [], ◌∷◌, ◌++◌, length, Bool, true, false, ◌&&◌, ◌||◌, not, nat_eq, nat_lt, if◌then◌else◌, Some, None, Result, Ok, Err, codes, slice_index, replicate}
 use Rattle.std.specs.Str.{bytes_eq}
 use Rattle.std.specs.Char.{is_ascii_alphanumeric}
 use Rattle.std.specs.List.{list_any, list_all}
@@ -60,9 +60,9 @@ pub data DeclaresSorts (ws : List Word) (to : ℕ) : List (List ℕ) → ℕ →
   no_more_elements : (names : List (List ℕ)) (p : ℕ) → p ≡ to → DeclaresSorts ws to names p names
   no_stop_behind : (names : List (List ℕ)) (p : ℕ) → p < to → IsNowhere (is_stop ws p) p to → DeclaresSorts ws to names p names
   some_sorts : (names : List (List ℕ)) (p q : ℕ) (all : List (List ℕ)) → IsFirst (is_stop ws p) p to q → is_sort_keyword (text_at ws p) ≡ true
-    → DeclaresSorts ws to (with_sort_names ws names (p + 1) (q - (p + 1))) (q + 1) all → DeclaresSorts ws to names p all
+      → DeclaresSorts ws to (with_sort_names ws names (p + 1) (q - (p + 1))) (q + 1) all → DeclaresSorts ws to names p all
   no_sorts : (names : List (List ℕ)) (p q : ℕ) (all : List (List ℕ)) → IsFirst (is_stop ws p) p to q → is_sort_keyword (text_at ws p) ≡ false
-    → DeclaresSorts ws to names (q + 1) all → DeclaresSorts ws to names p all
+      → DeclaresSorts ws to names (q + 1) all → DeclaresSorts ws to names p all
 
 -- ---- what an element reads as: an Err holds the place of the first word that leaves the grammar
 
@@ -74,16 +74,16 @@ is_new_name names w = is_operator_name w && not (has_name names w)
 -- they begin at `first`, and the element ends at `last`. The result is all names and the place of the colon.
 pub data NamesRead (ws : List Word) (first limit last : ℕ) : List (List ℕ) → ℕ → Result (List (List ℕ) × ℕ) ℕ → Type 0 where
   name_read : (names : List (List ℕ)) (j : ℕ) (r : Result (List (List ℕ) × ℕ) ℕ) → j < limit → is_new_name names (text_at ws j) ≡ true
-    → NamesRead ws first limit last (names ++ text_at ws j ∷ []) (j + 1) r → NamesRead ws first limit last names j r
+      → NamesRead ws first limit last (names ++ text_at ws j ∷ []) (j + 1) r → NamesRead ws first limit last names j r
   colon_read : (names : List (List ℕ)) (j : ℕ) → first < j → j < last → is_word ws (codes ":") j ≡ true → NamesRead ws first limit last names j (Ok (names, j))
   no_name : (names : List (List ℕ)) (j : ℕ) → (nat_lt j limit && is_new_name names (text_at ws j)) ≡ false
-    → (nat_lt first j && nat_lt j last && is_word ws (codes ":") j) ≡ false → NamesRead ws first limit last names j (Err j)
+      → (nat_lt first j && nat_lt j last && is_word ws (codes ":") j) ≡ false → NamesRead ws first limit last names j (Err j)
 
 -- ArgumentsRead ws sorts last args j r: the words from j on name declared sorts up to the arrow. The result is their numbers, behind args, and the place of the arrow.
 pub data ArgumentsRead (ws : List Word) (sorts : List (List ℕ)) (last : ℕ) : List ℕ → ℕ → Result (List ℕ × ℕ) ℕ → Type 0 where
   arrow_read : (args : List ℕ) (j : ℕ) → j < last → is_word ws (codes "->") j ≡ true → ArgumentsRead ws sorts last args j (Ok (args, j))
   sort_read : (args : List ℕ) (j s : ℕ) (r : Result (List ℕ × ℕ) ℕ) → j < last → is_word ws (codes "->") j ≡ false → number_of sorts (text_at ws j) ≡ Some s
-    → ArgumentsRead ws sorts last (args ++ s ∷ []) (j + 1) r → ArgumentsRead ws sorts last args j r
+      → ArgumentsRead ws sorts last (args ++ s ∷ []) (j + 1) r → ArgumentsRead ws sorts last args j r
   no_sort : (args : List ℕ) (j : ℕ) → j < last → is_word ws (codes "->") j ≡ false → number_of sorts (text_at ws j) ≡ None → ArgumentsRead ws sorts last args j (Err j)
   no_arrow : (args : List ℕ) (j : ℕ) → j ≡ last → ArgumentsRead ws sorts last args j (Err j)
 
@@ -113,11 +113,11 @@ pub data ElementRead (ws : List Word) (sorts : List (List ℕ)) (p q : ℕ) (bef
   sorts_missing : is_sort_keyword (text_at ws p) ≡ true → p + 1 ≡ q → ElementRead ws sorts p q before (Err q)
   sorts_leave : (j : ℕ) → is_sort_keyword (text_at ws p) ≡ true → IsFirst (is_no_sort_name ws) (p + 1) q j → ElementRead ws sorts p q before (Err j)
   operators_read : (names : List (List ℕ)) (c : ℕ) (profile : Profile) → is_operator_keyword (text_at ws p) ≡ true
-    → NamesRead ws (p + 1) (names_limit ws p q) q before.names (p + 1) (Ok (names, c)) → ProfileRead ws sorts q (c + 1) (Ok profile)
-    → ElementRead ws sorts p q before (Ok (record { names = names; profiles = before.profiles ++ replicate (c - (p + 1)) profile }))
+      → NamesRead ws (p + 1) (names_limit ws p q) q before.names (p + 1) (Ok (names, c)) → ProfileRead ws sorts q (c + 1) (Ok profile)
+      → ElementRead ws sorts p q before (Ok (record { names = names; profiles = before.profiles ++ replicate (c - (p + 1)) profile }))
   names_leave : (j : ℕ) → is_operator_keyword (text_at ws p) ≡ true → NamesRead ws (p + 1) (names_limit ws p q) q before.names (p + 1) (Err j) → ElementRead ws sorts p q before (Err j)
   profile_leaves : (names : List (List ℕ)) (c j : ℕ) → is_operator_keyword (text_at ws p) ≡ true
-    → NamesRead ws (p + 1) (names_limit ws p q) q before.names (p + 1) (Ok (names, c)) → ProfileRead ws sorts q (c + 1) (Err j) → ElementRead ws sorts p q before (Err j)
+      → NamesRead ws (p + 1) (names_limit ws p q) q before.names (p + 1) (Ok (names, c)) → ProfileRead ws sorts q (c + 1) (Err j) → ElementRead ws sorts p q before (Err j)
   no_keyword : is_sort_keyword (text_at ws p) ≡ false → is_operator_keyword (text_at ws p) ≡ false → ElementRead ws sorts p q before (Err p)
 
 -- the elements from p on, up to the end word at `to`: one without a full stop leaves the grammar there
@@ -125,7 +125,7 @@ pub data ElementsRead (ws : List Word) (sorts : List (List ℕ)) (to : ℕ) : Op
   elements_end : (before : Operators) (p : ℕ) → p ≡ to → ElementsRead ws sorts to before p (Ok before)
   stop_missing : (before : Operators) (p : ℕ) → p < to → IsNowhere (is_stop ws p) p to → ElementsRead ws sorts to before p (Err to)
   element_read : (before after : Operators) (p q : ℕ) (r : Result Operators ℕ) → IsFirst (is_stop ws p) p to q → ElementRead ws sorts p q before (Ok after)
-    → ElementsRead ws sorts to after (q + 1) r → ElementsRead ws sorts to before p r
+      → ElementsRead ws sorts to after (q + 1) r → ElementsRead ws sorts to before p r
   element_leaves : (before : Operators) (p q j : ℕ) → IsFirst (is_stop ws p) p to q → ElementRead ws sorts p q before (Err j) → ElementsRead ws sorts to before p (Err j)
 
 -- ---- modules
@@ -147,8 +147,15 @@ pub data ModuleRead (ws : List Word) (from to : ℕ) : Result Module ℕ → Typ
   no_name_behind : is_named ws from to ≡ false → ModuleRead ws from to (Err (from + 1))
   no_is_behind : is_named ws from to ≡ true → has_is ws from to ≡ false → ModuleRead ws from to (Err (from + 2))
   module_read : (sorts : List (List ℕ)) (operators : Operators) → is_named ws from to ≡ true → has_is ws from to ≡ true
-    → DeclaresSorts ws to [] (from + 3) sorts → ElementsRead ws sorts to no_operators (from + 3) (Ok operators)
-    → ModuleRead ws from to (Ok (record { name = text_at ws (from + 1); sorts = sorts; operators = operators }))
+      → DeclaresSorts ws to [] (from + 3) sorts → ElementsRead ws sorts to no_operators (from + 3) (Ok operators)
+      → ModuleRead ws from to (Ok (record { name = text_at ws (from + 1); sorts = sorts; operators = operators }))
   elements_leave : (sorts : List (List ℕ)) (j : ℕ) → is_named ws from to ≡ true → has_is ws from to ≡ true
-    → DeclaresSorts ws to [] (from + 3) sorts → ElementsRead ws sorts to no_operators (from + 3) (Err j)
-    → ModuleRead ws from to (Err j)
+      → DeclaresSorts ws to [] (from + 3) sorts → ElementsRead ws sorts to no_operators (from + 3) (Err j)
+      → ModuleRead ws from to (Err j)
+
+-- ---- sizes
+
+-- a module of a text has fewer names than the text has bytes
+pub record IsSmall (m : Module) : Type 0 where
+  pub sorts : length m.sorts ≤ 16777216
+  pub operators : length m.operators.names ≤ 16777216

@@ -1,5 +1,5 @@
 -- How a term is printed: a constant by its name, an application in prefix form, a variable with its sort.
-use Rattle.std.specs.Prelude.{ℕ, zero, suc, List, [], ◌++◌, Option, slice_get, codes, decimal, nat_eq, if◌then◌else◌}
+use Rattle.std.specs.Prelude.{ℕ, zero, suc, List, [], ◌++◌, slice_get, codes, decimal, nat_eq, if◌then◌else◌}
 use Rattle.std.specs.Option.{option_map_or}
 use Rattle.mau_terms.specs.Tree.{Tree, variable, numeral, apply, Trees, no_trees, tree}
 use Rattle.mau_session.specs.declared.module.Module.{Module}

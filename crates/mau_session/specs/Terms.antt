@@ -73,21 +73,21 @@ pub record IsVariable (sorts : List (List ℕ)) (w : List ℕ) (k s : ℕ) : Typ
 mutual
   pub data Reads (m : Module) (ws : List Word) (to : ℕ) : Pairs → ℕ → Tree → ℕ → ℕ → Pairs → Type 0 where
     reads_constant : (ns : Pairs) (i f s : ℕ) → i < to → number_of m.operators.names (text_at ws i) ≡ Some f
-      → slice_get m.operators.profiles f ≡ Some (record { arguments = []; result = s })
-      → Reads m ws to ns i (apply (f + 1) no_trees) s (i + 1) ns
+        → slice_get m.operators.profiles f ≡ Some (record { arguments = []; result = s })
+        → Reads m ws to ns i (apply (f + 1) no_trees) s (i + 1) ns
     reads_application : (ns : Pairs) (i f k : ℕ) (ks : List ℕ) (s : ℕ) (ts : Trees) (j : ℕ) (ms : Pairs) → i < to → number_of m.operators.names (text_at ws i) ≡ Some f
-      → slice_get m.operators.profiles f ≡ Some (record { arguments = k ∷ ks; result = s })
-      → ReadsList m ws to ns (codes "(") (k ∷ ks) (i + 1) ts j ms → (nat_lt j to && is_word ws (codes ")") j) ≡ true
-      → Reads m ws to ns i (apply (f + 1) ts) s (j + 1) ms
+        → slice_get m.operators.profiles f ≡ Some (record { arguments = k ∷ ks; result = s })
+        → ReadsList m ws to ns (codes "(") (k ∷ ks) (i + 1) ts j ms → (nat_lt j to && is_word ws (codes ")") j) ≡ true
+        → Reads m ws to ns i (apply (f + 1) ts) s (j + 1) ms
     reads_variable : (ns : Pairs) (i k s : ℕ) → i < to → number_of m.operators.names (text_at ws i) ≡ None → IsVariable m.sorts (text_at ws i) k s
-      → Reads m ws to ns i (variable (place_of ns (take k (text_at ws i), s)) s) s (i + 1) (with_pair ns (take k (text_at ws i), s))
+        → Reads m ws to ns i (variable (place_of ns (take k (text_at ws i), s)) s) s (i + 1) (with_pair ns (take k (text_at ws i), s))
 
   pub data ReadsArgument (m : Module) (ws : List Word) (to : ℕ) : Pairs → List ℕ → ℕ → ℕ → Tree → ℕ → Pairs → Type 0 where
     reads_argument : (ns : Pairs) (w : List ℕ) (s i : ℕ) (t : Tree) (j : ℕ) (ms : Pairs) → i < to → is_word ws w i ≡ true → Reads m ws to ns (i + 1) t s j ms
-      → ReadsArgument m ws to ns w s i t j ms
+        → ReadsArgument m ws to ns w s i t j ms
 
   pub data ReadsList (m : Module) (ws : List Word) (to : ℕ) : Pairs → List ℕ → List ℕ → ℕ → Trees → ℕ → Pairs → Type 0 where
     list_ends : (ns : Pairs) (w : List ℕ) (i : ℕ) → ReadsList m ws to ns w [] i no_trees i ns
     list_goes_on : (ns : Pairs) (w : List ℕ) (s : ℕ) (ss : List ℕ) (i : ℕ) (t : Tree) (j : ℕ) (ms : Pairs) (ts : Trees) (l : ℕ) (os : Pairs)
-      → ReadsArgument m ws to ns w s i t j ms → ReadsList m ws to ms (codes ",") ss j ts l os
-      → ReadsList m ws to ns w (s ∷ ss) i (tree t ts) l os
+        → ReadsArgument m ws to ns w s i t j ms → ReadsList m ws to ms (codes ",") ss j ts l os
+        → ReadsList m ws to ns w (s ∷ ss) i (tree t ts) l os

@@ -1,5 +1,5 @@
 -- The transcript of a text: the answers of its items, one after another, each in the state after the items before.
-use Rattle.std.specs.Prelude.{◌≡◌, ℕ, ◌+◌, ◌-◌, ◌<◌, List, [], ◌∷◌, ◌++◌, length, Bool, true, false, ◌||◌, not, Option, Some, None, Result, Ok, Err, codes, filter, slice_get}
+use Rattle.std.specs.Prelude.{◌≡◌, ℕ, ◌+◌, ◌-◌, ◌<◌, List, [], ◌∷◌, ◌++◌, length, Bool, true, false, ◌||◌, not, Option, Some, None, Ok, Err, codes, filter, slice_get}
 use Rattle.std.specs.Str.{bytes_eq}
 use Rattle.mau_terms.specs.Tree.{Tree}
 use Rattle.mau_tokens.specs.declared.token.Token.{Token}
@@ -32,37 +32,37 @@ current ms = slice_get ms (length ms - 1)
 pub data TermsAnswer (ws : List Word) (m : Module) (k i s j : ℕ) : List ℕ → Bool → Type 0 where
   no_pattern : ((p : Tree) (sort : ℕ) (ns : Pairs) → Reads m ws s [] (i + 1) p sort s ns → ⊥) → TermsAnswer ws m k i s j (refusal_line k ws (NoParse (i + 1))) true
   no_subject : (p : Tree) (sort : ℕ) (ns : Pairs) → Reads m ws s [] (i + 1) p sort s ns
-    → ((t : Tree) (os : Pairs) → Reads m ws j ns (s + 1) t sort j os → ⊥) → TermsAnswer ws m k i s j (refusal_line k ws (NoParse (s + 1))) true
+      → ((t : Tree) (os : Pairs) → Reads m ws j ns (s + 1) t sort j os → ⊥) → TermsAnswer ws m k i s j (refusal_line k ws (NoParse (s + 1))) true
   listed : (p : Tree) (sort : ℕ) (ns : Pairs) (t : Tree) (os : Pairs) (found : List (List Tree)) → Reads m ws s [] (i + 1) p sort s ns → Reads m ws j ns (s + 1) t sort j os
-    → IsListing m p t found → TermsAnswer ws m k i s j (match_head k m ++ listing_lines m os p found) false
+      → IsListing m p t found → TermsAnswer ws m k i s j (match_head k m ++ listing_lines m os p found) false
 
 pub data MatchAnswer (ws : List Word) (ms : List Module) (k i j : ℕ) : List ℕ → Bool → Type 0 where
   no_module : current ms ≡ None → MatchAnswer ws ms k i j (refusal_line k ws (NotBuilt i)) true
   command_leaves : (m : Module) (l : ℕ) → current ms ≡ Some m → CommandRead ws (i + 1) j (Err l) → MatchAnswer ws ms k i j (refusal_line k ws (NotBuilt l)) true
   command_answered : (m : Module) (s : ℕ) (bytes : List ℕ) (refused : Bool) → current ms ≡ Some m → CommandRead ws (i + 1) j (Ok s)
-    → TermsAnswer ws m k i s j bytes refused → MatchAnswer ws ms k i j bytes refused
+      → TermsAnswer ws m k i s j bytes refused → MatchAnswer ws ms k i j bytes refused
 
 -- ---- the answer of the item that begins at i, which is the k-th: the place behind it, the state after it, its bytes, and whether it was refused
 
 pub data ItemAnswer (ws : List Word) (ms : List Module) (k i : ℕ) : ℕ → List Module → List ℕ → Bool → Type 0 where
   item_unended : IsNowhere (may_end ws i) i (length ws) → ItemAnswer ws ms k i (length ws) ms (refusal_line k ws (Unended i)) true
   module_accepted : (j : ℕ) (m : Module) → IsFirst (may_end ws i) i (length ws) j → is_word ws (codes "fmod") i ≡ true → ModuleRead ws i j (Ok m)
-    → ItemAnswer ws ms k i (j + 1) (accepted ms m) (module_line k m) false
+      → ItemAnswer ws ms k i (j + 1) (accepted ms m) (module_line k m) false
   module_refused : (j l : ℕ) → IsFirst (may_end ws i) i (length ws) j → is_word ws (codes "fmod") i ≡ true → ModuleRead ws i j (Err l)
-    → ItemAnswer ws ms k i (j + 1) ms (refusal_line k ws (NotBuilt l)) true
+      → ItemAnswer ws ms k i (j + 1) ms (refusal_line k ws (NotBuilt l)) true
   match_answered : (j : ℕ) (bytes : List ℕ) (refused : Bool) → IsFirst (may_end ws i) i (length ws) j → is_word ws (codes "match") i ≡ true
-    → MatchAnswer ws ms k i j bytes refused → ItemAnswer ws ms k i (j + 1) ms bytes refused
+      → MatchAnswer ws ms k i j bytes refused → ItemAnswer ws ms k i (j + 1) ms bytes refused
   item_not_built : (j : ℕ) → IsFirst (may_end ws i) i (length ws) j → is_word ws (codes "fmod") i ≡ false → is_word ws (codes "match") i ≡ false
-    → ItemAnswer ws ms k i (j + 1) ms (refusal_line k ws (NotBuilt i)) true
+      → ItemAnswer ws ms k i (j + 1) ms (refusal_line k ws (NotBuilt i)) true
 
 -- the answers of the items from i on, numbered from k, in this state: their bytes, and whether one of them was refused
 pub data ItemsAnswer (ws : List Word) : List Module → ℕ → ℕ → List ℕ → Bool → Type 0 where
   items_end : (ms : List Module) (k i : ℕ) → i ≡ length ws → ItemsAnswer ws ms k i [] false
   item_first : (ms ns : List Module) (k i j : ℕ) (bytes more : List ℕ) (refused later : Bool) → i < length ws → ItemAnswer ws ms k i j ns bytes refused
-    → ItemsAnswer ws ns (k + 1) j more later → ItemsAnswer ws ms k i (bytes ++ more) (refused || later)
+      → ItemsAnswer ws ns (k + 1) j more later → ItemsAnswer ws ms k i (bytes ++ more) (refused || later)
 
 -- the transcript of a text, and whether it was refused or one of its items
 pub data Transcript (text : List ℕ) : List ℕ → Bool → Type 0 where
   text_refused : (f : TokenFault) → TokensOf text (Err f) → Transcript text (fault_line f) true
   items_answered : (tokens : List Token) (bytes : List ℕ) (refused : Bool) → TokensOf text (Ok tokens) → ItemsAnswer (words_of text tokens) [] 1 0 bytes refused
-    → Transcript text bytes refused
+      → Transcript text bytes refused

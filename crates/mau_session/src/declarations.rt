@@ -24,6 +24,7 @@ pub enum ReadFault {
 impl From<NoMemory> for ReadFault {
     ghost use Rattle.std.specs.Prelude.{◌≡◌};
     ghost use Rattle.mau_session.specs.declared.declarations.ReadFault.TheVariants.{NoMemory as OutOfMemory};
+
     ghost from_gives = { λ _ e. e ≡ OutOfMemory };
 
     fn from(_: NoMemory) -> ReadFault {
@@ -34,6 +35,7 @@ impl From<NoMemory> for ReadFault {
 impl From<AllocError> for ReadFault {
     ghost use Rattle.std.specs.Prelude.{◌≡◌};
     ghost use Rattle.mau_session.specs.declared.declarations.ReadFault.TheVariants.{NoMemory as OutOfMemory};
+
     ghost from_gives = { λ _ e. e ≡ OutOfMemory };
 
     fn from(_: AllocError) -> ReadFault {
@@ -44,6 +46,7 @@ impl From<AllocError> for ReadFault {
 impl<T: Drop> From<AllocFailed<T>> for ReadFault {
     ghost use Rattle.std.specs.Prelude.{◌≡◌};
     ghost use Rattle.mau_session.specs.declared.declarations.ReadFault.TheVariants.{NoMemory as OutOfMemory};
+
     ghost from_gives = { λ _ e. e ≡ OutOfMemory };
 
     fn from(_: AllocFailed<T>) -> ReadFault {
@@ -69,14 +72,17 @@ fn is_module_name(word: &str) -> bool
 fn is_sort_name(word: &str) -> bool
     ensures { result ≡ Rattle.mau_session.specs.Modules.is_sort_name word.now }
 {
-    is_module_name(word) && !(word.as_bytes().contains(&b':') || word.as_bytes().last() == Some(&b'`'))
+    is_module_name(word)
+        && !(word.as_bytes().contains(&b':') || word.as_bytes().last() == Some(&b'`'))
 }
 
 /// Whether a word may name an operator.
 fn is_operator_name(word: &str) -> bool
     ensures { result ≡ Rattle.mau_session.specs.Modules.is_operator_name word.now }
 {
-    word.as_bytes().iter().all(|byte| byte.is_ascii_alphanumeric())
+    word.as_bytes()
+        .iter()
+        .all(|byte| byte.is_ascii_alphanumeric())
 }
 
 fn is_sort_keyword(word: &str) -> bool
@@ -423,7 +429,12 @@ fn has_is(words: &Words, from: usize, to: usize) -> bool
 }
 
 /// Reads the module whose words run from `from` to its end word at `to`.
-pub fn read_module(alloc: Global, words: &Words, from: usize, to: usize) -> Result<Module, ReadFault>
+pub fn read_module(
+    alloc: Global,
+    words: &Words,
+    from: usize,
+    to: usize,
+) -> Result<Module, ReadFault>
     requires ascends { from < to }
     requires within { to < length words.now }
     requires short { length words.now ≤ 16777216 }

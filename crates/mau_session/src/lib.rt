@@ -1,11 +1,13 @@
 //! Sessions: the items of a text, their answers, and the top call.
 #![tactic(auto)]
 
+mod answer;
 mod command;
 mod declarations;
 mod items;
 mod listing;
 mod matching;
+mod meaning;
 mod module;
 mod names;
 mod places;
@@ -13,4 +15,9 @@ mod refusal;
 mod show;
 mod state;
 mod terms;
+mod top;
+mod transcript;
+mod whole;
 mod words;
+
+pub use top::{Status, run};

@@ -1,5 +1,5 @@
 //! Writing the solutions of a match.
-ghost use Rattle.std.specs.Prelude.{◌≡◌, ◌++◌, ◌<◌, ◌≤◌, length, take, OnOk};
+ghost use Rattle.std.specs.Prelude.{◌≡◌, ◌++◌, ◌<◌, ◌≤◌, length, take, codes, decimal, OnOk};
 ghost use Rattle.mau_terms.specs.Subst.{variables};
 ghost use Rattle.mau_terms.specs.View.{tree_of};
 ghost use Rattle.mau_terms.specs.Bare.{IsBare};
@@ -11,7 +11,7 @@ ghost use Rattle.mau_session.specs.Gains.{GainsListing};
 
 use crate::matching::solve;
 use crate::module::Module;
-use crate::show::{show, write_text, write_variable};
+use crate::show::{show, write_number, write_text, write_variable};
 use mau_terms::{Bare, NoMemory, VarId, Vars};
 use std::alloc::Global;
 
@@ -50,4 +50,57 @@ fn write_values(
         }
     }
     Ok(())
+}
+
+/// Writes a substitution, which gives these values to the first variables.
+fn write_substitution(
+    out: &mut Vec<u8>,
+    module: &Module,
+    vars: &Vars,
+    values: &[&Bare],
+) -> Result<(), NoMemory>
+    requires few { length values.now ≤ length vars.now }
+    requires small { length vars.now < 4294967296 }
+    ensures { OnOk result (out.new.items ≡ out.old.items ++ substitution_lines module.now vars.now (numbered_from 0 (take (length values.now) vars.now)) (trees_at values.now)) }
+{
+    if values.is_empty() {
+        return write_text(out, "empty substitution\n");
+    }
+    write_values(out, module, vars, values)
+}
+
+/// Writes the line above a solution.
+fn write_matcher(out: &mut Vec<u8>, number: usize) -> Result<(), NoMemory>
+    ensures { OnOk result (out.new.items ≡ out.old.items ++ codes "Matcher " ++ decimal number ++ codes "\n") }
+{
+    write_text(out, "Matcher ")?;
+    write_number(out, number as u128)?;
+    write_text(out, "\n")
+}
+
+/// Writes the solutions of a pattern and a subject, numbered from 1, and the last line of the listing. The
+/// pattern's variables are the first `count` ones.
+pub fn write_listing(
+    out: &mut Vec<u8>,
+    alloc: Global,
+    module: &Module,
+    vars: &Vars,
+    count: usize,
+    pattern: &Bare,
+    subject: &Bare,
+) -> Result<(), NoMemory>
+    requires few { count ≤ length vars.now }
+    requires small { length vars.now < 4294967296 }
+    requires numbered { variables (tree_of pattern.now) ≡ numbered_from 0 (take count vars.now) }
+    requires bare { IsBare (signature_of module.now) (tree_of subject.now) }
+    ensures { OnOk result (GainsListing module.now vars.now (tree_of pattern.now) (tree_of subject.now) out.old.items out.new.items) }
+{
+    match solve(alloc, module, pattern, subject, count)? {
+        None => write_text(out, "No match.\n"),
+        Some(values) => {
+            write_matcher(out, 1)?;
+            write_substitution(out, module, vars, &values)?;
+            write_text(out, "No more matches.\n")
+        }
+    }
 }

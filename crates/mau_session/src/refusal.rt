@@ -61,7 +61,12 @@ pub fn write_head(out: &mut Vec<u8>, number: usize) -> Result<(), NoMemory>
 }
 
 /// Writes the answer of a refused item.
-pub fn write_refusal(out: &mut Vec<u8>, words: &Words, number: usize, refusal: Refusal) -> Result<(), NoMemory>
+pub fn write_refusal(
+    out: &mut Vec<u8>,
+    words: &Words,
+    number: usize,
+    refusal: Refusal,
+) -> Result<(), NoMemory>
     requires { word_of_refusal refusal < length words.now }
     ensures { OnOk result (out.new.items ≡ out.old.items ++ refusal_line number words.now refusal) }
 {

@@ -59,7 +59,12 @@ fn write_sort(out: &mut Vec<u8>, sorts: &Names, sort: u32) -> Result<(), NoMemor
 }
 
 /// Writes a variable with its sort.
-pub fn write_variable(out: &mut Vec<u8>, module: &Module, vars: &Vars, variable: VarId) -> Result<(), NoMemory>
+pub fn write_variable(
+    out: &mut Vec<u8>,
+    module: &Module,
+    vars: &Vars,
+    variable: VarId,
+) -> Result<(), NoMemory>
     ensures { OnOk result (out.new.items ≡ out.old.items ++ shown_variable module.now vars.now variable.index variable.sort) }
 {
     write_variable_name(out, vars, variable)?;
@@ -84,7 +89,12 @@ pub fn show(out: &mut Vec<u8>, module: &Module, vars: &Vars, term: &Bare) -> Res
 
 /// Writes the arguments of an application.
 #[cycle(show)]
-fn show_arguments(out: &mut Vec<u8>, module: &Module, vars: &Vars, arguments: &[Bare]) -> Result<(), NoMemory>
+fn show_arguments(
+    out: &mut Vec<u8>,
+    module: &Module,
+    vars: &Vars,
+    arguments: &[Bare],
+) -> Result<(), NoMemory>
     ensures { OnOk result (out.new.items ≡ out.old.items ++ shown_arguments module.now vars.now (trees_of (map tree_of arguments.now))) }
 {
     match arguments {

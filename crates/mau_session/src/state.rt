@@ -1,7 +1,8 @@
 //! The state of a session: the modules that were accepted.
-ghost use Rattle.std.specs.Prelude.{◌≡◌, [], OnOk, not};
+ghost use Rattle.std.specs.Prelude.{◌≡◌, [], OnOk, IfSome, not};
 ghost use Rattle.std.specs.Str.{bytes_eq};
 ghost use Rattle.std.specs.Option.{option_copied};
+ghost use Rattle.mau_session.specs.Modules.{IsSmall};
 ghost use Rattle.mau_session.specs.Transcript.{current};
 
 use crate::module::Module;
@@ -16,12 +17,15 @@ pub struct State {
 }
 
 impl Model for State {
-    ghost use Rattle.std.specs.Prelude.{List};
+    ghost use Rattle.std.specs.Prelude.{List, All};
     ghost use Rattle.mau_session.specs.declared.module.Module.{Module};
+    ghost use Rattle.mau_session.specs.Modules.{IsSmall};
 
     ghost Value = { List Module };
 
     ghost view = { λ s. s.modules.items };
+
+    ghost invariant = { λ s. All IsSmall s.modules.items };
 }
 
 /// Whether the module has another name than this one.
@@ -43,13 +47,15 @@ impl State {
 
     /// The current module, if a module was accepted.
     pub fn current(&self) -> Option<&Module>
-        ensures { option_copied result ≡ current self.now }
+        ensures last { option_copied result ≡ current self.now }
+        ensures small { IfSome result (λ m. IsSmall m.now) }
     {
         self.modules.last()
     }
 
     /// Accepts a module. It replaces one of its name, and is the current one.
     pub fn accept(&mut self, accepted: Module) -> Result<(), NoMemory>
+        requires { IsSmall accepted }
         ensures { OnOk result (self.new ≡ Rattle.mau_session.specs.Transcript.accepted self.old accepted) }
     {
         let name = accepted.name.as_str();

@@ -8,6 +8,7 @@ use mau_tokens::Token;
 use std::marker::Model;
 
 /// The words of a text, in order.
+#[derive(Drop)]
 pub struct Words<'a> {
     text: &'a str,
     tokens: &'a [Token],

@@ -1,7 +1,11 @@
+pub mod Alone
+pub mod Answer
 pub mod Boundaries
 pub mod Causes
+pub mod Companion
 pub mod Counting
 pub mod Depth
+pub mod Examples
 pub mod Least
 pub mod Prefix
 pub mod SpansLemmas

@@ -1,5 +1,5 @@
 -- The tokens of a text are spans of it.
-use Rattle.std.proofs.Common.{ℕ, ◌+◌, ◌<◌, ◌≤◌, List, [], ◌∷◌, length, Result, Ok, Err, arith, IsUtf8}
+use Rattle.std.proofs.Common.{◌≡◌, true, ℕ, ◌+◌, ◌<◌, ◌≤◌, List, [], ◌∷◌, length, Result, Ok, Err, arith, IsUtf8}
 use Rattle.std.specs.Prelude.{IfOk, All, AllPairs}
 use Rattle.std.specs.Str.{IsCharBoundary}
 use Rattle.std.proofs.lemmas.List.Elements.{All-nil, All-cons, All-weaker}
@@ -7,17 +7,24 @@ use Rattle.std.proofs.lemmas.List.Kept.{AllPairs-cons}
 use Rattle.std.proofs.lemmas.Str.{IsCharBoundary-start}
 use Rattle.mau_tokens.specs.declared.token.Token.{Token}
 use Rattle.mau_tokens.specs.declared.token.TokenFault.{TokenFault}
-use Rattle.mau_tokens.specs.TokensOf.{before, TokensFrom, text_ends, passes, takes, too_long, comment_open, string_open}
+use Rattle.mau_tokens.specs.Lexeme.{Lexeme, is_token}
+use Rattle.mau_tokens.specs.Ending.{IsPiece}
+use Rattle.mau_tokens.specs.TokensOf.{before, TokensFrom, text_ends, passes, takes, too_long, comment_open, string_open, TokensOf, not_utf8, utf8}
+use Rattle.mau_tokens.specs.Laws.{TokensAreSpans}
 use Rattle.mau_tokens.specs.Spans.{AreSpans}
 use Rattle.mau_tokens.proofs.Boundaries.{piece_ends, least_size_some}
 
--- a span of at most `limit` bytes
-record IsSpan (limit : ℕ) (bs : List ℕ) (t : Token) : Type 0 where
-  not_empty : t.start < t.end
-  within : t.end ≤ length bs
-  small : t.end ≤ t.start + limit
-  starts : IsCharBoundary bs t.start
-  ends : IsCharBoundary bs t.end
+-- a piece of at most `limit` bytes, between characters
+pub record IsSpan (limit : ℕ) (bs : List ℕ) (t : Token) : Type 0 where
+  pub lexeme : Lexeme
+  pub token : is_token lexeme ≡ true
+  pub piece : IsPiece bs lexeme t.start t.end
+  pub small : t.end ≤ t.start + limit
+  pub starts : IsCharBoundary bs t.start
+  pub ends : IsCharBoundary bs t.end
+
+not_empty : (limit : ℕ) (bs : List ℕ) (t : Token) → IsSpan limit bs t → t.start < t.end
+not_empty limit bs t span = omega (arith, span.piece.least, least_size_some span.lexeme)
 
 -- each is a span, from i on, and no later one begins before it ends
 record FromOn (limit : ℕ) (bs : List ℕ) (i : ℕ) (ts : List Token) : Type 0 where
@@ -43,7 +50,7 @@ one_more_on : (limit : ℕ) (bs : List ℕ) (t : Token) (ts : List Token) → Is
 one_more_on limit bs t ts span on =
     record {
       spans = All-cons (IsSpan limit bs) t ts span on.spans;
-      behind = All-cons (λ u. t.start ≤ u.start) t ts (omega arith) (All-weaker (λ u. t.end ≤ u.start) (λ u. t.start ≤ u.start) (λ u l. omega (arith, span.not_empty)) ts on.behind);
+      behind = All-cons (λ u. t.start ≤ u.start) t ts (omega arith) (All-weaker (λ u. t.end ≤ u.start) (λ u. t.start ≤ u.start) (λ u l. omega (arith, not_empty limit bs t span)) ts on.behind);
       ascending = AllPairs-cons (λ u v. u.end ≤ v.start) t ts on.behind on.ascending;
     }
 
@@ -61,18 +68,30 @@ from_on limit bs i r u b (passes l _ e _ t piece rest) = passed_on limit bs i e 
 from_on limit bs i r u b (takes l _ e q t piece short rest) =
     let ends = piece_ends bs l i e u piece in
     with_one limit bs (record { start = i; end = e }) q
-    (record { not_empty = omega (arith, piece.least, least_size_some l); within = piece.within; small = short; starts = b; ends = ends })
+    (record { lexeme = l; token = t; piece = piece; small = short; starts = b; ends = ends })
     (from_on limit bs e q u ends rest)
 from_on limit bs i r u b (too_long l _ e t piece long) = tt
 from_on limit bs i r u b (comment_open _ o) = tt
 from_on limit bs i r u b (string_open _ o) = tt
 
+-- the answer of a text with tokens
+in_utf8 : (bs : List ℕ) (r : Result (List Token) TokenFault) → IsUtf8 bs → TokensFrom 1024 bs 0 r → IfOk r (λ ts. IsUtf8 bs × TokensFrom 1024 bs 0 (Ok ts))
+in_utf8 bs (Ok ts) u from = (u, from)
+in_utf8 bs (Err f) u from = tt
+
+pub utf8_of : (bs : List ℕ) (r : Result (List Token) TokenFault) → TokensOf bs r → IfOk r (λ ts. IsUtf8 bs × TokensFrom 1024 bs 0 (Ok ts))
+utf8_of bs r (not_utf8 at valid) = tt
+utf8_of bs r (utf8 _ u from) = in_utf8 bs r u from
+
+pub each_is_span : (bs : List ℕ) (ts : List Token) → IsUtf8 bs → TokensFrom 1024 bs 0 (Ok ts) → All (IsSpan 1024 bs) ts
+each_is_span bs ts u from = (from_on 1024 bs 0 (Ok ts) u (IsCharBoundary-start bs u) from).spans
+
 pub spans_of : (limit : ℕ) (bs : List ℕ) (ts : List Token) → IsUtf8 bs → TokensFrom limit bs 0 (Ok ts) → AreSpans bs ts
 spans_of limit bs ts u from =
     let on = from_on limit bs 0 (Ok ts) u (IsCharBoundary-start bs u) from in
     record {
-      not_empty = All-weaker (IsSpan limit bs) (λ t. t.start < t.end) (λ t s. s.not_empty) ts on.spans;
-      within = All-weaker (IsSpan limit bs) (λ t. t.end ≤ length bs) (λ t s. s.within) ts on.spans;
+      not_empty = All-weaker (IsSpan limit bs) (λ t. t.start < t.end) (not_empty limit bs) ts on.spans;
+      within = All-weaker (IsSpan limit bs) (λ t. t.end ≤ length bs) (λ t s. s.piece.within) ts on.spans;
       starts = All-weaker (IsSpan limit bs) (λ t. IsCharBoundary bs t.start) (λ t s. s.starts) ts on.spans;
       ends = All-weaker (IsSpan limit bs) (λ t. IsCharBoundary bs t.end) (λ t s. s.ends) ts on.spans;
       ascending = on.ascending;
@@ -82,3 +101,8 @@ pub small_of : (limit : ℕ) (bs : List ℕ) (ts : List Token) → IsUtf8 bs →
 small_of limit bs ts u from =
     let on = from_on limit bs 0 (Ok ts) u (IsCharBoundary-start bs u) from in
     All-weaker (IsSpan limit bs) (λ t. t.end ≤ t.start + limit) (λ t s. s.small) ts on.spans
+
+pub tokens_are_spans : TokensAreSpans
+tokens_are_spans bs ts of =
+    let known = utf8_of bs (Ok ts) of in
+    (spans_of 1024 bs ts known.0 known.1, small_of 1024 bs ts known.0 known.1)

@@ -1,7 +1,7 @@
 -- What the scan's own types stand for.
 use Rattle.std.specs.Prelude.{◌≡◌, ℕ, List, true, false}
 use Rattle.mau_tokens.specs.declared.scan.Begins.{Begins}
-use Rattle.mau_tokens.specs.declared.scan.Begins.TheVariants.{Separator, LineComment, BlockComment, Str, Special, Word}
+use Rattle.mau_tokens.specs.declared.scan.Begins.TheVariants.{Separator, LineComment, BlockComment, String, Special, Word}
 use Rattle.mau_tokens.specs.declared.scan.Piece.{Piece}
 use Rattle.mau_tokens.specs.declared.scan.Piece.TheVariants.{Passed, Token}
 use Rattle.mau_tokens.specs.Ending.{IsPiece}
@@ -11,7 +11,7 @@ abbrev pub lexeme : Begins → Lexeme
 lexeme Separator = separator
 lexeme LineComment = line_comment
 lexeme BlockComment = block_comment
-lexeme Str = string
+lexeme String = string
 lexeme Special = special
 lexeme Word = word
 

@@ -7,18 +7,21 @@ use Rattle.mau_tokens.specs.Lexeme.{Lexeme, separator, line_comment, block_comme
 abbrev pub count_between : ℕ → List ℕ → ℕ → ℕ → ℕ
 count_between b bs i e = count_by (λ c. c == b) (take (e - i) (drop i bs))
 
--- a word ends between these bytes: before a separator, and before a special character with no backquote directly before it
+-- a word ends between these bytes: before a separator, and before a special character with no
+-- backquote directly before it
 abbrev pub parts_word : ℕ → ℕ → Bool
 parts_word last next = is_separator next || (is_special next && not (last == byte "`"))
 
--- Whether a piece that begins at i may end just before e. A line comment ends before a line feed, a block comment where as
--- many parentheses are closed as were opened, a string behind a quote with no backslash directly before it, and a word
--- as above. The end of the text ends a line comment and a word.
+-- Whether a piece that begins at i may end just before e. A line comment ends before a line feed, a
+-- block comment where as many parentheses are closed as were opened, a string behind a quote with
+-- no backslash directly before it, and a word as above. The end of the text ends a line comment
+-- and a word.
 abbrev pub may_end : List ℕ → Lexeme → ℕ → ℕ → Bool
 may_end bs separator i e = true
 may_end bs special i e = true
 may_end bs line_comment i e = e == length bs || byte_at bs e == 10
-may_end bs block_comment i e = count_between (byte "(") bs (i + 3) e == count_between (byte ")") bs (i + 3) e
+may_end bs block_comment i e =
+    count_between (byte "(") bs (i + 3) e == count_between (byte ")") bs (i + 3) e
 may_end bs string i e = byte_at bs (e - 1) == byte "\"" && not (byte_at bs (e - 2) == byte "\\")
 may_end bs word i e = e == length bs || parts_word (byte_at bs (e - 1)) (byte_at bs e)
 

@@ -32,15 +32,23 @@ is_special b = list_any (λ c. b == c) (codes "()[]{},")
 abbrev pub byte_at : List ℕ → ℕ → ℕ
 byte_at bs i = slice_index bs i
 
--- the piece that begins with the bytes a b c d: a comment begins with *** or ---, and a ( directly behind makes it a block
+-- *** or ---, with which a comment begins
+abbrev pub is_comment_sign : ℕ → ℕ → ℕ → Bool
+is_comment_sign a b c =
+    (a == byte "*" && b == byte "*" && c == byte "*")
+    || (a == byte "-" && b == byte "-" && c == byte "-")
+
+-- the piece that begins with the bytes a b c d: a comment is a block where ( stands directly
+-- behind its sign
 abbrev pub lexeme_of : ℕ → ℕ → ℕ → ℕ → Lexeme
 lexeme_of a b c d =
     if is_separator a then separator
-    else if (a == byte "*" && b == byte "*" && c == byte "*") || (a == byte "-" && b == byte "-" && c == byte "-") then (if d == byte "(" then block_comment else line_comment)
+    else if is_comment_sign a b c then (if d == byte "(" then block_comment else line_comment)
     else if a == byte "\"" then string
     else if is_special a then special
     else word
 
 -- the piece that begins at i, where no earlier piece goes on there
 abbrev pub lexeme_at : List ℕ → ℕ → Lexeme
-lexeme_at bs i = lexeme_of (byte_at bs i) (byte_at bs (i + 1)) (byte_at bs (i + 2)) (byte_at bs (i + 3))
+lexeme_at bs i =
+    lexeme_of (byte_at bs i) (byte_at bs (i + 1)) (byte_at bs (i + 2)) (byte_at bs (i + 3))

@@ -1,6 +1,6 @@
 //! The scan: one pass over the text, piece by piece.
-ghost use Rattle.std.specs.Prelude.{◌≡◌, ◌≢◌, ◌+◌, ◌-◌, ◌<◌, ◌≤◌, ℕ, Ok, Err, IfErr, IfOk, IfSome, IfNone, length, All};
-ghost use Rattle.std.specs.Str.{IsValidUpTo};
+ghost use Rattle.std.specs.Prelude.{◌≡◌, ◌≢◌, ◌+◌, ◌-◌, ◌<◌, ◌≤◌, ℕ, Ok, Err, IfErr, IfOk, OnOk, IfSome, IfNone, length, All};
+ghost use Rattle.std.specs.Str.{IsUtf8, IsValidUpTo};
 ghost use Rattle.mau_tokens.specs.Lexeme.{lexeme_of, lexeme_at, line_comment, block_comment, string, word};
 ghost use Rattle.mau_tokens.specs.Ending.{IsPiece, IsOpen, IsTooLong, parts_word};
 ghost use Rattle.mau_tokens.specs.TokensOf.{TokensFrom, TokensOf};
@@ -19,7 +19,7 @@ enum Begins {
     Separator,
     LineComment,
     BlockComment,
-    Str,
+    String,
     Special,
     Word,
 }
@@ -35,23 +35,30 @@ enum Piece {
 
 /// The tokens of a text of at most 16,777,216 bytes, in order, or its first fault.
 ///
-/// The text has to be UTF-8. Space, tab, carriage return, line feed and form feed separate tokens; each of
-/// `( ) [ ] { } ,` is a token of its own, unless a backquote stands directly before it inside a word. A
-/// comment or a string begins only where a token would begin: `***` and `---` begin a comment to the end of
-/// the line, with a `(` directly behind one to the matching `)`, and a `"` begins a string to the next `"`
-/// that has no backslash directly before it.
+/// The text has to be UTF-8. Space, tab, carriage return, line feed and form feed separate tokens;
+/// each of `( ) [ ] { } ,` is a token of its own, unless a backquote stands directly before it inside
+/// a word. A comment or a string begins only where a token would begin: `***` and `---` begin a
+/// comment to the end of the line, with a `(` directly behind one to the matching `)`, and a `"`
+/// begins a string to the next `"` that has no backslash directly before it.
 pub fn tokens(alloc: Global, bytes: &[u8]) -> Result<Vec<Token>, TokenFault>
     requires { length bytes.now ≤ 16777216 }
 
     ensures ok { IfOk result (λ found. TokensOf bytes.now (Ok found.items)) }
+    ensures utf8 { OnOk result (IsUtf8 bytes.now) }
     ensures spans { IfOk result (λ found. AreSpans bytes.now found.items) }
     ensures short { IfOk result (λ found. All (λ t. t.end ≤ t.start + 1024) found.items) }
 
-    ensures fault { IfErr result (λ fault. fault ≢ TokenFault.NoMemory → TokensOf bytes.now (Err fault)) }
-    ensures not_utf8 { (at : ℕ) → result ≡ Err (TokenFault.NotUtf8 at) → IsValidUpTo bytes.now at }
-    ensures open_comment { (at : ℕ) → result ≡ Err (TokenFault.OpenComment at) → IsOpen bytes.now block_comment at }
-    ensures open_string { (at : ℕ) → result ≡ Err (TokenFault.OpenString at) → IsOpen bytes.now string at }
-    ensures too_long { (at : ℕ) → result ≡ Err (TokenFault.TokenTooLong at) → IsTooLong bytes.now at }
+    // Each fault but want of memory is the first in the text; below is what stands at its place.
+    ensures fault { IfErr result (λ fault. fault ≢ TokenFault.NoMemory
+        → TokensOf bytes.now (Err fault)) }
+    ensures not_utf8 { (at : ℕ) → result ≡ Err (TokenFault.NotUtf8 at)
+        → IsValidUpTo bytes.now at }
+    ensures open_comment { (at : ℕ) → result ≡ Err (TokenFault.OpenComment at)
+        → IsOpen bytes.now block_comment at }
+    ensures open_string { (at : ℕ) → result ≡ Err (TokenFault.OpenString at)
+        → IsOpen bytes.now string at }
+    ensures too_long { (at : ℕ) → result ≡ Err (TokenFault.TokenTooLong at)
+        → IsTooLong bytes.now at }
 {
     match std::str::from_utf8(bytes) {
         Err(fault) => Err(TokenFault::NotUtf8(fault.valid_up_to() as u32)),
@@ -63,7 +70,8 @@ pub fn tokens(alloc: Global, bytes: &[u8]) -> Result<Vec<Token>, TokenFault>
 fn scan(alloc: Global, bytes: &[u8]) -> Result<Vec<Token>, TokenFault>
     requires size { length bytes.now ≤ 16777216 }
     ensures ok { IfOk result (λ found. TokensFrom 1024 bytes.now 0 (Ok found.items)) }
-    ensures fault { IfErr result (λ fault. fault ≢ TokenFault.NoMemory → TokensFrom 1024 bytes.now 0 (Err fault)) }
+    ensures fault { IfErr result (λ fault. fault ≢ TokenFault.NoMemory
+        → TokensFrom 1024 bytes.now 0 (Err fault)) }
 {
     let mut tokens = Vec::new(alloc);
     let mut start = 0;
@@ -100,7 +108,7 @@ fn piece_at(bytes: &[u8], start: usize) -> Result<Piece, TokenFault>
             Some(end) => Ok(Piece::Passed(end)),
             None => Err(TokenFault::OpenComment(start as u32)),
         },
-        Begins::Str => match string_end(bytes, start) {
+        Begins::String => match string_end(bytes, start) {
             Some(end) => Ok(Piece::Token(end)),
             None => Err(TokenFault::OpenString(start as u32)),
         },
@@ -138,7 +146,7 @@ fn begins_with(a: u8, b: u8, c: u8, d: u8) -> Begins
         };
     }
     if a == b'"' {
-        return Begins::Str;
+        return Begins::String;
     }
     if is_special(a) {
         Begins::Special
@@ -181,7 +189,8 @@ fn line_end(bytes: &[u8], start: usize) -> usize
     bytes.len()
 }
 
-/// The end of the block comment that begins at `start`: behind the parenthesis that closes its first one.
+/// The end of the block comment that begins at `start`: behind the parenthesis that closes its
+/// first one.
 fn comment_end(bytes: &[u8], start: usize) -> Option<usize>
     requires size { length bytes.now ≤ 16777216 }
     requires there { start < length bytes.now }

@@ -1,4 +1,4 @@
-use Rattle.std.proofs.Common.{◌≡◌, ◌+◌, sym, ◌∙◌, ap, subst, arith, false}
+use Rattle.std.proofs.Common.{◌≡◌, ◌+◌, sym, ◌∙◌, ap, subst, arith}
 use Rattle.mau_session.specs.Commands.{SubjectEnds, is_no_term, prefix_leaves, parts_missing, pattern_leaves, subject_leaves, condition_leaves, command_read}
 use Rattle.mau_session.proofs.command.read_command.Goals as goal
 

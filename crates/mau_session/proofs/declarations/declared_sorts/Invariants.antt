@@ -6,7 +6,7 @@ abbrev pub invariant-loop-p : goal.invariant-loop-p
 invariant-loop-p l = record {
   most : l.p ≤ l.to;
   few : length l.sorts ≤ l.p;
-  rest : (all : List (List ℕ)) → DeclaresSorts l.words l.to l.sorts l.p all → DeclaresSorts l.words l.to [] l.from all
+  rest : (all : List (List ℕ)) → DeclaresSorts l.words l.to l.sorts l.p all → DeclaresSorts l.words l.to [] l.from all;
 }
 
 abbrev pub decreases-loop-p : goal.decreases-loop-p

@@ -1,7 +1,6 @@
-use Rattle.std.proofs.Common.{◌≡◌, true, false, rules, sym, ap, ◌∙◌, arith}
+use Rattle.std.proofs.Common.{sym, ap, ◌∙◌, arith}
 use Rattle.std.proofs.lemmas.Grind.{common_steps}
 use Rattle.mau_session.specs.Modules.{is_sort_keyword, is_operator_keyword, sorts_read, sorts_missing, sorts_leave, no_keyword}
-use Rattle.mau_session.specs.Words.{text_at}
 use Rattle.mau_session.proofs.declarations.read_element.Goals as goal
 
 pub returns-then-p-q-clause-leaves : goal.returns-then-p-q-clause-leaves

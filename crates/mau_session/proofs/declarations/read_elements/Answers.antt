@@ -1,5 +1,5 @@
-use Rattle.std.proofs.Common.{◌≡◌, rules, sym, ap, ◌∙◌, subst, arith}
-use Rattle.mau_session.specs.Modules.{ElementsRead, elements_end, stop_missing, element_read, element_leaves}
+use Rattle.std.proofs.Common.{arith}
+use Rattle.mau_session.specs.Modules.{elements_end, stop_missing, element_read, element_leaves}
 use Rattle.mau_session.proofs.Leaving.{leaves_by}
 use Rattle.mau_session.proofs.declarations.read_elements.Goals as goal
 

@@ -1,4 +1,4 @@
-use Rattle.std.proofs.Common.{ℕ, ◌-◌, ◌≤◌, List, [], Result}
+use Rattle.std.proofs.Common.{ℕ, ◌-◌, ◌≤◌, Result}
 use Rattle.mau_session.specs.Operators.{Operators}
 use Rattle.mau_session.specs.Modules.{ElementsRead, no_operators}
 use Rattle.mau_session.proofs.declarations.read_elements.Given as goal
@@ -6,7 +6,7 @@ use Rattle.mau_session.proofs.declarations.read_elements.Given as goal
 abbrev pub invariant-loop-p : goal.invariant-loop-p
 invariant-loop-p l = record {
   most : l.p ≤ l.to;
-  rest : (r : Result Operators ℕ) → ElementsRead l.words l.sorts l.to l.operators l.p r → ElementsRead l.words l.sorts l.to no_operators l.from r
+  rest : (r : Result Operators ℕ) → ElementsRead l.words l.sorts l.to l.operators l.p r → ElementsRead l.words l.sorts l.to no_operators l.from r;
 }
 
 abbrev pub decreases-loop-p : goal.decreases-loop-p

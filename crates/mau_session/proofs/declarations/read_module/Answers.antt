@@ -1,5 +1,4 @@
-use Rattle.std.proofs.Common.{◌≡◌, ◌+◌, Ok, sym, ap, ◌∙◌, subst}
-use Rattle.mau_session.specs.Words.{text_at}
+use Rattle.std.proofs.Common.{Ok, sym, ◌∙◌, subst}
 use Rattle.mau_session.specs.Modules.{ModuleRead, no_name_behind, no_is_behind, module_read, elements_leave}
 use Rattle.mau_session.proofs.Leaving.{leaves_by}
 use Rattle.mau_session.proofs.declarations.read_module.Goals as goal

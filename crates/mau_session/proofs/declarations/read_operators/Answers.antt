@@ -1,7 +1,6 @@
-use Rattle.std.proofs.Common.{◌≡◌, ◌++◌, ◌-◌, ◌+◌, List, ℕ, Ok, Result, subst, sym, ap, ◌∙◌}
+use Rattle.std.proofs.Common.{◌≡◌, ◌++◌, ◌-◌, ◌+◌, Ok, subst, sym, ap, ◌∙◌}
 use Rattle.std.specs.Prelude.{replicate}
-use Rattle.mau_session.specs.declared.module.Profile.{Profile}
-use Rattle.mau_session.specs.Modules.{NamesRead, ElementRead, names_limit, operators_read, names_leave, profile_leaves}
+use Rattle.mau_session.specs.Modules.{ElementRead, operators_read, names_leave, profile_leaves}
 use Rattle.mau_session.proofs.Leaving.{leaves_by}
 use Rattle.mau_session.proofs.Reading.{names_along}
 use Rattle.mau_session.proofs.declarations.read_operators.Goals as goal

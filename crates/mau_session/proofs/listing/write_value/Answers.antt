@@ -1,4 +1,4 @@
-use Rattle.std.proofs.Common.{◌≡◌, ◌++◌, ◌∙◌, ap, sym, codes}
+use Rattle.std.proofs.Common.{◌++◌, ◌∙◌, ap, sym, codes}
 use Rattle.mau_terms.specs.View.{tree_of}
 use Rattle.mau_session.specs.Shown.{shown, shown_variable}
 use Rattle.mau_session.proofs.Solving.{plain_norm_in}

@@ -1,4 +1,4 @@
-use Rattle.std.proofs.Common.{◌≡◌, ◌++◌, ◌+◌, ◌∙◌, ap, sym, drop, take, length, append_assoc, append-nil, arith}
+use Rattle.std.proofs.Common.{◌++◌, ◌+◌, ◌∙◌, ap, sym, drop, take, length, append_assoc, append-nil, arith}
 use Rattle.mau_terms.specs.View.{tree_of}
 use Rattle.mau_session.specs.Bound.{trees_at}
 use Rattle.mau_session.specs.Answers.{value_line, value_lines}

@@ -1,5 +1,5 @@
-use Rattle.std.proofs.Common.{◌≡◌, ◌<◌, ◌*◌, ◌+◌, length, map, sym, ◌∙◌, ap, arith}
-use Rattle.mau_terms.specs.Depth.{depth, list_depth}
+use Rattle.std.proofs.Common.{map, sym, ◌∙◌, ap, arith}
+use Rattle.mau_terms.specs.Depth.{depth}
 use Rattle.mau_terms.specs.View.{tree_of}
 use Rattle.mau_session.proofs.Bindings.{bind_all_lengths}
 use Rattle.mau_session.proofs.Depths.{arguments_fall, at_most_list}

@@ -1,4 +1,4 @@
-use Rattle.std.proofs.Common.{◌≡◌, sym, ◌∙◌, refl, rules}
+use Rattle.std.proofs.Common.{sym, ◌∙◌, refl, rules}
 use Rattle.mau_session.proofs.Bindings.{same_tree-by, binds_same, binds_other, binds_new}
 use Rattle.mau_session.proofs.matching.match_variable.Goals as goal
 

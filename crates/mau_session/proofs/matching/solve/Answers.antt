@@ -1,9 +1,9 @@
-use Rattle.std.proofs.Common.{◌≡◌, Some, map, length, ◌<◌, option_map, sym, ◌∙◌, ap, subst}
+use Rattle.std.proofs.Common.{Some, ◌<◌, option_map, sym, ◌∙◌, ap, subst}
 use Rattle.std.proofs.lemmas.List.{length-map}
 use Rattle.mau_terms.specs.View.{tree_of}
 use Rattle.mau_session.specs.Binding.{bind}
-use Rattle.mau_session.specs.Bound.{bindings_of, trees_at}
-use Rattle.mau_session.proofs.Solving.{unbound, no_listing_of, one_listing_of, all_bound_of, values_each}
+use Rattle.mau_session.specs.Bound.{bindings_of}
+use Rattle.mau_session.proofs.Solving.{no_listing_of, one_listing_of, all_bound_of, values_each}
 use Rattle.mau_session.proofs.matching.solve.Goals as goal
 
 pub returns-then-not-match_term-clause-none : goal.returns-then-not-match_term-clause-none

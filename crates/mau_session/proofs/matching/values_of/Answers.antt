@@ -1,4 +1,4 @@
-use Rattle.std.proofs.Common.{◌≡◌, Some, option_map, sym, ◌∙◌, ap}
+use Rattle.std.proofs.Common.{Some, option_map, sym, ◌∙◌, ap}
 use Rattle.mau_session.proofs.Bindings.{binding_at}
 use Rattle.mau_terms.specs.View.{tree_of}
 use Rattle.mau_session.proofs.matching.values_of.Goals as goal

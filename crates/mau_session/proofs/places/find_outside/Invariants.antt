@@ -6,5 +6,5 @@ abbrev pub invariant-loop-i : goal.invariant-loop-i
 invariant-loop-i l = record {
   depth : l.depth ≡ depth_after l.words l.from (l.i - l.from);
   small : l.depth + l.from ≤ l.i;
-  none : (j : ℕ) → l.from ≤ j → j < l.i → stands_outside l.words l.sign l.from j ≡ false
+  none : (j : ℕ) → l.from ≤ j → j < l.i → stands_outside l.words l.sign l.from j ≡ false;
 }

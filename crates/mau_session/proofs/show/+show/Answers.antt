@@ -1,5 +1,5 @@
-use Rattle.std.proofs.Common.{◌≡◌, ◌≤◌, ap, arith}
-use Rattle.mau_terms.specs.Depth.{depth, list_depth}
+use Rattle.std.proofs.Common.{ap, arith}
+use Rattle.mau_terms.specs.Depth.{depth}
 use Rattle.mau_terms.specs.View.{tree_of}
 use Rattle.mau_session.proofs.Depths.{arguments_fall, behind_first}
 use Rattle.mau_session.proofs.show.+show.Goals as goal

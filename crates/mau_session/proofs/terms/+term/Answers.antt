@@ -1,17 +1,16 @@
-use Rattle.std.proofs.Common.{◌≡◌, ◌<◌, ◌≤◌, ◌+◌, ◌-◌, ◌++◌, ◌∷◌, [], ℕ, List, length, map, drop, get_or, codes, nat_lt, ◌&&◌, false, Some, None, suc, refl, sym, ◌∙◌, ap, subst, arith, append_assoc, append-nil, add-one, eqb-true}
-use Rattle.std.proofs.lemmas.Grind.{common_steps}
+use Rattle.std.proofs.Common.{◌≡◌, ◌<◌, ◌≤◌, ◌+◌, ◌-◌, ◌++◌, ◌∷◌, [], ℕ, length, map, drop, get_or, codes, nat_lt, ◌&&◌, false, None, suc, sym, ◌∙◌, ap, subst, arith, append_assoc, append-nil, add-one, eqb-true}
 use Rattle.std.proofs.Math.Seq.{drop-cons}
 use Rattle.std.proofs.lemmas.List.{map-append, length-drop}
 use Rattle.mau_terms.proofs.Pieces.{trees_of-list_of}
-use Rattle.mau_terms.specs.Tree.{Tree, Trees, no_trees, tree, trees_of, list_of, node}
+use Rattle.mau_terms.specs.Tree.{Trees, no_trees, tree, trees_of, list_of, node}
 use Rattle.mau_terms.specs.View.{tree_of}
 use Rattle.mau_session.specs.Words.{text_at}
 use Rattle.mau_session.specs.Places.{is_word}
 use Rattle.mau_session.specs.Names.{number_of}
 use Rattle.mau_session.specs.Mark.{mark_text}
-use Rattle.mau_session.specs.Terms.{Pairs, Reads, ReadsArgument, ReadsList, list_ends, reads_argument}
+use Rattle.mau_session.specs.Terms.{Reads, ReadsArgument, ReadsList, list_ends, reads_argument}
 use Rattle.mau_session.proofs.Readings.{reads_once, list_once}
-use Rattle.mau_session.proofs.TermSteps.{constant_read, application_read, no_profile, no_list, variable_read, no_variable, ends_before, argument_parts, list_parts, list_behind, list_with, nil_by_length, some_by_test}
+use Rattle.mau_session.proofs.TermSteps.{constant_read, application_read, no_list, variable_read, no_variable, argument_parts, list_parts, list_behind, list_with, nil_by_length, some_by_test}
 use Rattle.mau_session.proofs.terms.+term.Goals as goal
 
 pub read_application-returns-then-is_empty-clause-some : goal.read_application-returns-then-is_empty-clause-some
@@ -23,10 +22,10 @@ pub read_application-returns-then-not-is_close-clause-none : goal.read_applicati
 read_application-returns-then-not-is_close-clause-none t c u s j ms h =
     let some : 0 < length c.items-sorts.result.now = some_by_test _ (sym c.is_empty.ensures ∙ c.if-is_empty.false) in
     no_list c.args.module.now c.args.words.now c.args.to c.args.vars.now c.args.from c.args.number c.requires.ascends c.requires.number c.in-Some.profile.now (sym c.in-Some.ensures) (subst (λ ss. 0 < length ss) c.items-sorts.ensures some) (λ ts l os x o.
-      let r = rw c.in-Some-2.is at c.in_ok-read_list.ensures.some in
-      let one = list_once c.args.module.now c.args.words.now c.args.to (subst (λ ss. ReadsList c.args.module.now c.args.words.now c.args.to c.args.vars.now (codes "(") ss (c.args.from + 1) (trees_of (map tree_of c.in-Some-2.arguments.items)) c.in-Some-2.end c.read_list.new.vars) c.items-sorts.ensures r) x in
-      let no : (nat_lt l c.args.to && is_word c.args.words.now (codes ")") l) ≡ false = ap (λ j. nat_lt j c.args.to && is_word c.args.words.now (codes ")") j) (sym one.end) ∙ sym c.is_close.ensures ∙ c.if-not-is_close.true in
-      cc) h
+    let r = rw c.in-Some-2.is at c.in_ok-read_list.ensures.some in
+    let one = list_once c.args.module.now c.args.words.now c.args.to (subst (λ ss. ReadsList c.args.module.now c.args.words.now c.args.to c.args.vars.now (codes "(") ss (c.args.from + 1) (trees_of (map tree_of c.in-Some-2.arguments.items)) c.in-Some-2.end c.read_list.new.vars) c.items-sorts.ensures r) x in
+    let no : (nat_lt l c.args.to && is_word c.args.words.now (codes ")") l) ≡ false = ap (λ j. nat_lt j c.args.to && is_word c.args.words.now (codes ")") j) (sym one.end) ∙ sym c.is_close.ensures ∙ c.if-not-is_close.true in
+    cc) h
 
 pub read_application-returns-else-not-is_close-clause-some : goal.read_application-returns-else-not-is_close-clause-some
 read_application-returns-else-not-is_close-clause-some t c =
@@ -46,7 +45,6 @@ read_argument-returns-then-reading-sort-clause-none t c u j ms h =
 
 pub read_argument-returns-else-reading-sort-clause-some : goal.read_argument-returns-else-reading-sort-clause-some
 read_argument-returns-else-reading-sort-clause-some t c =
-    
     let r = rw c.in-Some.is at c.in_ok-read_term.ensures.some in
     reads_argument _ _ _ _ _ _ _ (omega arith) (ap (λ w. is_word c.args.words.now w c.args.at) (sym c.text.ensures) ∙ sym c.is.ensures ∙ c.if-not-is.false)
     (subst (λ s. Reads c.args.module.now c.args.words.now c.args.to c.args.vars.now (c.args.at + 1) (tree_of c.in-Some.reading.term) s c.in-Some.reading.end c.read_term.new.vars) c.if-reading-sort.false r)
@@ -88,14 +86,14 @@ read_list-loop-sort-preserved t c = record {
   most = omega (arith, end c);
   room = omega (arith, room c);
   rest = λ ts j ms h.
-    subst (λ us. ReadsList c.args.module.now c.args.words.now c.args.to c.args.vars.now (codes "(") c.args.sorts.now c.args.from (trees_of us) j ms) (sym (pushed c ts))
-    (c.loop-sort.invariant.rest (tree (tree_of c.in-Some.argument) ts) j ms
-    (list_with c.args.module.now c.args.words.now c.args.to _ (drop (suc c.loop-sort.sort-index) c.args.sorts.now) (drop-cons c.args.sorts.now c.loop-sort.sort-index 0 c.loop-sort-test.true) (read c)
-    (subst (λ n. ReadsList c.args.module.now c.args.words.now c.args.to c.read_argument.new.vars (codes ",") (drop n c.args.sorts.now) c.in-Some.end ts j ms) (add-one c.loop-sort.sort-index) h)));
+      subst (λ us. ReadsList c.args.module.now c.args.words.now c.args.to c.args.vars.now (codes "(") c.args.sorts.now c.args.from (trees_of us) j ms) (sym (pushed c ts))
+      (c.loop-sort.invariant.rest (tree (tree_of c.in-Some.argument) ts) j ms
+      (list_with c.args.module.now c.args.words.now c.args.to _ (drop (suc c.loop-sort.sort-index) c.args.sorts.now) (drop-cons c.args.sorts.now c.loop-sort.sort-index 0 c.loop-sort-test.true) (read c)
+      (subst (λ n. ReadsList c.args.module.now c.args.words.now c.args.to c.read_argument.new.vars (codes ",") (drop n c.args.sorts.now) c.in-Some.end ts j ms) (add-one c.loop-sort.sort-index) h)));
   back = λ ts j ms h.
-    let b = c.loop-sort.invariant.back ts j ms h in
-    let r = list_behind c.args.module.now c.args.words.now c.args.to _ (drop (suc c.loop-sort.sort-index) c.args.sorts.now) (drop-cons c.args.sorts.now c.loop-sort.sort-index 0 c.loop-sort-test.true) (read c) b.1 in
-    (r.0, subst (λ n. ReadsList c.args.module.now c.args.words.now c.args.to c.read_argument.new.vars (codes ",") (drop n c.args.sorts.now) c.in-Some.end r.0 j ms) (sym (add-one c.loop-sort.sort-index)) r.1);
+      let b = c.loop-sort.invariant.back ts j ms h in
+      let r = list_behind c.args.module.now c.args.words.now c.args.to _ (drop (suc c.loop-sort.sort-index) c.args.sorts.now) (drop-cons c.args.sorts.now c.loop-sort.sort-index 0 c.loop-sort-test.true) (read c) b.1 in
+      (r.0, subst (λ n. ReadsList c.args.module.now c.args.words.now c.args.to c.read_argument.new.vars (codes ",") (drop n c.args.sorts.now) c.in-Some.end r.0 j ms) (sym (add-one c.loop-sort.sort-index)) r.1);
 }
 
 pub read_list-returns-clause-some : goal.read_list-returns-clause-some

@@ -1,4 +1,4 @@
-use Rattle.std.proofs.Common.{◌≡◌, ◌<◌, ◌≤◌, ◌+◌, ◌-◌, ◌*◌, ◌++◌, ℕ, length, codes, map, drop}
+use Rattle.std.proofs.Common.{◌≤◌, ◌+◌, ◌-◌, ◌*◌, ◌++◌, ℕ, length, codes, map, drop}
 use Rattle.mau_terms.specs.Tree.{Trees, trees_of, list_of}
 use Rattle.mau_terms.specs.View.{tree_of}
 use Rattle.mau_session.specs.Mark.{mark_text}
@@ -23,7 +23,7 @@ invariant-read_list-loop-sort l = record {
   most : l.at ≤ l.to;
   room : length l.vars + (l.to - l.at) ≤ length l.fn.vars + (l.to - l.from);
   rest : (ts : Trees) (j : ℕ) (ms : Pairs) → ReadsList l.module l.words l.to l.vars (mark_text l.mark) (drop l.sort-index l.sorts) l.at ts j ms
-    → ReadsList l.module l.words l.to l.fn.vars (codes "(") l.sorts l.from (trees_of (map tree_of l.arguments.items ++ list_of ts)) j ms;
+      → ReadsList l.module l.words l.to l.fn.vars (codes "(") l.sorts l.from (trees_of (map tree_of l.arguments.items ++ list_of ts)) j ms;
   back : (ts : Trees) (j : ℕ) (ms : Pairs) → ReadsList l.module l.words l.to l.fn.vars (codes "(") l.sorts l.from ts j ms
-    → (us : Trees) × ReadsList l.module l.words l.to l.vars (mark_text l.mark) (drop l.sort-index l.sorts) l.at us j ms
+      → (us : Trees) × ReadsList l.module l.words l.to l.vars (mark_text l.mark) (drop l.sort-index l.sorts) l.at us j ms;
 }

@@ -1,4 +1,4 @@
-use Rattle.std.proofs.Common.{◌≡◌, ap, sym, ◌∙◌, refl, not, map}
+use Rattle.std.proofs.Common.{ap, ◌∙◌, refl, not, map}
 use Rattle.std.specs.Prelude.{string_bytes, bytes_eq}
 use Rattle.mau_session.specs.Names.{has_name, with_name}
 use Rattle.mau_session.proofs.NameLemmas.{list_any-names, insert-names}

@@ -1,0 +1,10 @@
+pub mod Bits
+pub mod Chains
+pub mod Closures
+pub mod FirstSorts
+pub mod LabelLemmas
+pub mod Least
+pub mod Lists
+pub mod Numbering
+pub mod Orders
+pub mod Readers

@@ -1,0 +1,111 @@
+//! The top call.
+ghost use Rattle.std.specs.Prelude.{◌≡◌, ◌≤◌, ◌↔◌, ◌⊎◌, ℕ, List, length, true, false};
+ghost use Rattle.std.specs.Io.KnownBytes.{prepend_known};
+ghost use Rattle.mau_bytes.specs.Faults.{Rose};
+ghost use Rattle.mau_session.specs.Meanings.{has_meaning};
+ghost use Rattle.mau_session.specs.Run.{IsAnswered, IsCut};
+
+use crate::meaning::have_meaning;
+use crate::transcript::transcript;
+use mau_bytes::{ReadEnd, Sink, Source, read_all, write_all};
+use mau_terms::Text;
+use std::alloc::Global;
+
+/// How a run ended.
+#[derive(Clone, Copy, Debug, PartialEq, Eq)]
+pub enum Status {
+    /// The transcript is out, and nothing in it is a refusal.
+    Done,
+    /// The transcript is out, and something in it is a refusal.
+    Refused,
+    /// The words of the command line have no meaning.
+    Usage,
+    /// A read failed.
+    ReadFault,
+    /// A write failed.
+    WriteFault,
+    /// There was not enough memory.
+    NoMemory,
+    /// The text has more than 16,777,216 bytes.
+    InputTooLong,
+}
+
+impl Status {
+    ghost use Rattle.std.specs.Prelude.{◌≡◌};
+    ghost use Rattle.mau_session.specs.Statuses.{number_of_status};
+
+    /// The number that the program ends with, from 0 to 6.
+    pub fn number(self) -> u8
+        ensures { result ≡ number_of_status self }
+    {
+        match self {
+            Status::Done => 0,
+            Status::Refused => 1,
+            Status::Usage => 2,
+            Status::ReadFault => 3,
+            Status::WriteFault => 4,
+            Status::NoMemory => 5,
+            Status::InputTooLong => 6,
+        }
+    }
+}
+
+/// Does all that the program does. `words` are those of the command line without the program's name. The text is
+/// read to its end, its transcript is made whole, and then it is written.
+///
+/// `Status::Usage` comes exactly where the words have no meaning, before anything is read or written;
+/// `ReadFault` and `WriteFault` only where a read or a write failed; `InputTooLong` exactly where more than
+/// 16,777,216 bytes were read; `NoMemory` where memory was wanting, and then nothing is written.
+pub fn run<S: Source, K: Sink>(
+    alloc: Global,
+    words: &[Text],
+    source: &mut S,
+    sink: &mut K,
+) -> Status
+    ensures usage { (result ≡ Status.Usage) ↔ (has_meaning words.now ≡ false) }
+    ensures unread { result ≡ Status.Usage → S.left source.new ≡ S.left source.old }
+
+    ensures read_fault { result ≡ Status.ReadFault → Rose (S.faults source.old) (S.faults source.new) }
+    ensures write_fault { result ≡ Status.WriteFault → Rose (K.faults sink.old) (K.faults sink.new) }
+    ensures too_long { result ≡ Status.InputTooLong → (bytes : List ℕ)
+        × (S.left source.old ≡ prepend_known bytes (S.left source.new)) × (length bytes ≡ 16777217) }
+
+    // Nothing is out unless all is, or a write failed.
+    ensures unwritten { (result ≡ Status.Usage) ⊎ (result ≡ Status.ReadFault) ⊎ (result ≡ Status.NoMemory) ⊎ (result ≡ Status.InputTooLong)
+        → K.written sink.new ≡ K.written sink.old }
+
+    // All of a text is read, and its transcript is out; a refusal in it is told by the status.
+    ensures done { result ≡ Status.Done → IsAnswered (S.left source.old) (S.left source.new) (K.written sink.old) (K.written sink.new) false }
+    ensures refused { result ≡ Status.Refused → IsAnswered (S.left source.old) (S.left source.new) (K.written sink.old) (K.written sink.new) true }
+
+    // A failed write leaves the first bytes of the transcript out.
+    ensures prefix { result ≡ Status.WriteFault → IsCut (S.left source.old) (S.left source.new) (K.written sink.old) (K.written sink.new) }
+
+    // Where the words have a meaning, no fault rises and the text isn't too long, the whole transcript is out, or memory was wanting.
+    ensures complete { has_meaning words.now ≡ true → (Rose (S.faults source.old) (S.faults source.new) → ⊥) → (Rose (K.faults sink.old) (K.faults sink.new) → ⊥)
+        → ((bytes : List ℕ) → S.left source.old ≡ prepend_known bytes (S.left source.new) → length bytes ≤ 16777216)
+        → (result ≡ Status.Done) ⊎ (result ≡ Status.Refused) ⊎ (result ≡ Status.NoMemory) }
+{
+    if !have_meaning(words) {
+        return Status::Usage;
+    }
+    let text = match read_all(alloc, source, 16_777_216) {
+        Ok(text) => text,
+        Err(ReadEnd::Fault) => return Status::ReadFault,
+        Err(ReadEnd::TooLong) => return Status::InputTooLong,
+        Err(ReadEnd::NoMemory) => return Status::NoMemory,
+    };
+    match transcript(alloc, &text) {
+        Err(_) => Status::NoMemory,
+        Ok((bytes, is_refused)) => match write_all(sink, &bytes) {
+            Err(_) => Status::WriteFault,
+            Ok(()) => {
+                if is_refused {
+                    Status::Refused
+                } else {
+                    Status::Done
+                }
+            }
+        },
+    }
+}
