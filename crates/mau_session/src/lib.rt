@@ -15,6 +15,8 @@ mod refusal;
 mod show;
 mod state;
 mod terms;
+#[cfg(test)]
+mod tests;
 mod top;
 mod transcript;
 mod whole;

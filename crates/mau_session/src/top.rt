@@ -67,8 +67,9 @@ pub fn run<S: Source, K: Sink>(
 
     ensures read_fault { result ≡ Status.ReadFault → Rose (S.faults source.old) (S.faults source.new) }
     ensures write_fault { result ≡ Status.WriteFault → Rose (K.faults sink.old) (K.faults sink.new) }
-    ensures too_long { result ≡ Status.InputTooLong → (bytes : List ℕ)
-        × (S.left source.old ≡ prepend_known bytes (S.left source.new)) × (length bytes ≡ 16777217) }
+    // What was read: one byte more than the limit exactly where the text is too long.
+    ensures taken { (bytes : List ℕ) × (S.left source.old ≡ prepend_known bytes (S.left source.new)) × (length bytes ≤ 16777217)
+        × ((result ≡ Status.InputTooLong) ↔ (length bytes ≡ 16777217)) }
 
     // Nothing is out unless all is, or a write failed.
     ensures unwritten { (result ≡ Status.Usage) ⊎ (result ≡ Status.ReadFault) ⊎ (result ≡ Status.NoMemory) ⊎ (result ≡ Status.InputTooLong)

@@ -3,33 +3,40 @@
 
 use mau_bytes::{StdSink, StdSource};
 use mau_session::{Status, run};
-use mau_terms::{NoMemory, Text};
+use mau_terms::Text;
 use std::alloc::Global;
-use std::env;
 use std::process::ExitCode;
 use std::rt::Env;
+use std::{env, io};
 
 fn main(rt: HostRuntime) -> ExitCode {
-    let Ok(words) = words(&rt) else {
-        return ExitCode::from(Status::NoMemory.number());
-    };
     let mut source = StdSource::new(rt.stdin());
     let mut sink = StdSink::new(rt.stdout());
-    let status = run(rt.alloc(), &words, &mut source, &mut sink);
+    let status = match words(&rt) {
+        Ok(words) => run(rt.alloc(), &words, &mut source, &mut sink),
+        Err(status) => status,
+    };
     if status == Status::Usage {
         let _ = eprintln!(rt; "usage: mrew run [--limit N] | prove [--limit N] | check | make N");
     }
     ExitCode::from(status.number())
 }
 
-/// The command line without the program's name.
-fn words(rt: &(impl Env + Alloc<A = Global>)) -> Result<Vec<Text>, NoMemory> {
-    let mut words = Vec::new(rt.alloc());
-    let Ok(args) = env::args(rt) else {
-        return Err(NoMemory);
+/// The command line without the program's name. A word that is not UTF-8 makes it a faulty one.
+fn words(rt: &(impl Env + Alloc<A = Global>)) -> Result<Vec<Text>, Status> {
+    let args = match env::args(rt) {
+        Ok(args) => args,
+        Err(error) if error.kind() == io::ErrorKind::OutOfMemory => return Err(Status::NoMemory),
+        Err(_) => return Err(Status::Usage),
     };
+    let mut words = Vec::new(rt.alloc());
     for arg in args.skip(1) {
-        words.push(Text::new(rt.alloc(), arg.as_str())?)?;
+        let Ok(word) = Text::new(rt.alloc(), arg.as_str()) else {
+            return Err(Status::NoMemory);
+        };
+        if words.push(word).is_err() {
+            return Err(Status::NoMemory);
+        }
     }
     Ok(words)
 }

@@ -1,0 +1,216 @@
+use crate::{Status, run};
+use mau_bytes::{MemorySink, MemorySource};
+use mau_terms::Text;
+use std::alloc::Global;
+use std::test::Fail;
+
+const F: &str = "fmod F is sorts S T . ops a b : -> S . op f : S S -> T . endfm\n";
+
+/// The words of a command line.
+fn texts(alloc: Global, words: &[&str]) -> Result<Vec<Text>, Fail> {
+    let mut texts = Vec::new(alloc);
+    for word in words {
+        texts.push(Text::new(alloc, word)?)?;
+    }
+    Ok(texts)
+}
+
+/// Runs the program's words over a text. Gives what is out, and the status.
+fn answer(alloc: Global, words: &[&str], text: &str) -> Result<(Vec<u8>, Status), Fail> {
+    let given = texts(alloc, words)?;
+    let mut source = MemorySource::new(text.as_bytes().to_vec(alloc)?, Vec::new(alloc));
+    let mut sink = MemorySink::new(alloc, 100_000, Vec::new(alloc))?;
+    let status = run(alloc, &given, &mut source, &mut sink);
+    Ok((sink.bytes().to_vec(alloc)?, status))
+}
+
+#[test]
+fn answers_matches_over_a_module(rt: HostRuntime) -> Result<(), Fail> {
+    let rows = [
+        (
+            "match f(X:S, b) <=? f(a, b) .",
+            "Matcher 1\nX:S --> a\nNo more matches.\n",
+        ),
+        ("match f(X:S, X:S) <=? f(a, b) .", "No match.\n"),
+        (
+            "match f(X:S, a) <=? f(Y:S, a) .",
+            "Matcher 1\nX:S --> Y:S\nNo more matches.\n",
+        ),
+        (
+            "match f(X:S, Y:S) <=? f(Y:S, X:S) .",
+            "Matcher 1\nX:S --> Y:S\nY:S --> X:S\nNo more matches.\n",
+        ),
+        (
+            "match f(a, b) <=? f(a, b) .",
+            "Matcher 1\nempty substitution\nNo more matches.\n",
+        ),
+        (
+            "match X:T <=? f(a, Y:S) .",
+            "Matcher 1\nX:T --> f(a, Y:S)\nNo more matches.\n",
+        ),
+        ("match a <=? X:S .", "No match.\n"),
+    ];
+    for (command, listing) in rows {
+        let text = format!(in rt.alloc(); "{F}{command}")?;
+        let wanted = format!(in rt.alloc(); "[1] module F\n[2] match in F\n{listing}")?;
+        let (bytes, status) = answer(rt.alloc(), &["run"], &text)?;
+        assert_eq!(rt; bytes.as_slice(), wanted.as_bytes());
+        assert_eq!(rt; status, Status::Done);
+    }
+    Ok(())
+}
+
+#[test]
+fn refuses_by_name_and_place(rt: HostRuntime) -> Result<(), Fail> {
+    let rows = [
+        (
+            "fmod G is sort S . op a : -> S [ctor] . endfm",
+            "[1] refused: NotBuilt [ 31\n",
+        ),
+        ("fmod A is sort S .", "[1] refused: Unended 0\n"),
+        ("match a <=? a .", "[1] refused: NotBuilt match 0\n"),
+        (
+            "fmod A is op a : -> T . endfm",
+            "[1] refused: NotBuilt T 20\n",
+        ),
+        (
+            "fmod A is sort S . ops a a : -> S . endfm",
+            "[1] refused: NotBuilt a 25\n",
+        ),
+        (
+            "fmod A is sort S . op a b : -> S . endfm",
+            "[1] refused: NotBuilt b 24\n",
+        ),
+        (
+            "fmod A is sort S . op a : -> S endfm",
+            "[1] refused: NotBuilt endfm 31\n",
+        ),
+        ("reduce a .", "[1] refused: NotBuilt reduce 0\n"),
+        ("***(", "refused: OpenComment 0\n"),
+        ("fmod \"A", "refused: OpenString 5\n"),
+    ];
+    for (text, wanted) in rows {
+        let (bytes, status) = answer(rt.alloc(), &["run"], text)?;
+        assert_eq!(rt; bytes.as_slice(), wanted.as_bytes());
+        assert_eq!(rt; status, Status::Refused);
+    }
+    let rows = [
+        ("match f(a, b) <=? g(a) .", "NoParse 81"),
+        ("match g(a) <=? f(a, b) .", "NoParse 69"),
+        ("match f(a, b) <=? a .", "NoParse 81"),
+        ("match f(a) <=? f(a, b) .", "NoParse 69"),
+        ("match f(X:S, f(a, b)) <=? f(a, b) .", "NoParse 69"),
+        ("match [1] a <=? a .", "NotBuilt [ 69"),
+        ("match in F : a <=? a .", "NotBuilt in 69"),
+        ("match a .", "NotBuilt . 71"),
+        ("match <=? a .", "NotBuilt <=? 69"),
+        ("match a <=? .", "NotBuilt . 75"),
+        ("match a <=? a such that a = a .", "NotBuilt such 77"),
+        ("match a <=? a s.t. a = a .", "NotBuilt s.t. 77"),
+        ("match a <=? a", "Unended 63"),
+    ];
+    for (command, refusal) in rows {
+        let text = format!(in rt.alloc(); "{F}{command}")?;
+        let wanted = format!(in rt.alloc(); "[1] module F\n[2] refused: {refusal}\n")?;
+        let (bytes, status) = answer(rt.alloc(), &["run"], &text)?;
+        assert_eq!(rt; bytes.as_slice(), wanted.as_bytes());
+        assert_eq!(rt; status, Status::Refused);
+    }
+    Ok(())
+}
+
+#[test]
+fn keeps_the_accepted_modules(rt: HostRuntime) -> Result<(), Fail> {
+    let (bytes, status) = answer(rt.alloc(), &["run"], "")?;
+    assert!(rt; bytes.is_empty(), "no items have no answers");
+    assert_eq!(rt; status, Status::Done);
+
+    let (bytes, status) = answer(
+        rt.alloc(),
+        &["run"],
+        "fmod A is sort S . op a : -> S . endfm fmod B is sort S . op b : -> T . endfm match X:S <=? a . \
+         fmod C is sort S . op c : -> S . endfm match X:S <=? c . fmod A is sort S . op d : -> S . endfm match X:S <=? d .",
+    )?;
+    assert_eq!(rt;
+        bytes.as_slice(),
+        b"[1] module A\n[2] refused: NotBuilt T 68\n[3] match in A\nMatcher 1\nX:S --> a\nNo more matches.\n\
+          [4] module C\n[5] match in C\nMatcher 1\nX:S --> c\nNo more matches.\n\
+          [6] module A\n[7] match in A\nMatcher 1\nX:S --> d\nNo more matches.\n"
+            .as_slice()
+    );
+    assert_eq!(rt; status, Status::Refused);
+    Ok(())
+}
+
+#[test]
+fn has_a_cause_for_each_status(rt: HostRuntime) -> Result<(), Fail> {
+    let (bytes, status) = answer(rt.alloc(), &["run", "x"], F)?;
+    assert!(rt; bytes.is_empty(), "nothing is written");
+    assert_eq!(rt; status, Status::Usage);
+    let (bytes, status) = answer(rt.alloc(), &[], F)?;
+    assert!(rt; bytes.is_empty(), "nothing is written");
+    assert_eq!(rt; status, Status::Usage);
+    let (bytes, status) = answer(rt.alloc(), &["RUN"], F)?;
+    assert!(rt; bytes.is_empty(), "nothing is written");
+    assert_eq!(rt; status, Status::Usage);
+
+    let words = texts(rt.alloc(), &["run"])?;
+    let text = format!(in rt.alloc(); "{F}match f(X:S, b) <=? f(a, b) .")?;
+    let wanted = b"[1] module F\n[2] match in F\nMatcher 1\nX:S --> a\nNo more matches.\n";
+
+    let bytes = text.as_bytes().to_vec(rt.alloc())?;
+    let failing = [2u64].to_vec(rt.alloc())?;
+    let mut source = MemorySource::new(bytes, failing);
+    let mut sink = MemorySink::new(rt.alloc(), 1000, Vec::new(rt.alloc()))?;
+    assert_eq!(rt;
+        run(rt.alloc(), &words, &mut source, &mut sink),
+        Status::ReadFault
+    );
+    assert!(rt; sink.bytes().is_empty(), "a read that fails writes nothing");
+
+    let bytes = text.as_bytes().to_vec(rt.alloc())?;
+    let failing = [1u64].to_vec(rt.alloc())?;
+    let mut source = MemorySource::new(bytes, Vec::new(rt.alloc()));
+    let mut sink = MemorySink::new(rt.alloc(), 1000, failing)?;
+    assert_eq!(rt;
+        run(rt.alloc(), &words, &mut source, &mut sink),
+        Status::WriteFault
+    );
+    assert!(rt; sink.bytes().is_empty(), "the first write fails");
+
+    let bytes = text.as_bytes().to_vec(rt.alloc())?;
+    let mut source = MemorySource::new(bytes, Vec::new(rt.alloc()));
+    let mut sink = MemorySink::new(rt.alloc(), wanted.len() - 1, Vec::new(rt.alloc()))?;
+    assert_eq!(rt;
+        run(rt.alloc(), &words, &mut source, &mut sink),
+        Status::WriteFault
+    );
+    assert_eq!(rt; sink.bytes(), &wanted[..wanted.len() - 1]);
+    Ok(())
+}
+
+#[test]
+fn reads_texts_up_to_the_limit(rt: HostRuntime) -> Result<(), Fail> {
+    let mut spaces = Vec::with_capacity(rt.alloc(), 16_777_217)?;
+    for _i in 0..4096 {
+        spaces.extend_from_slice(&[b' '; 4096])?;
+    }
+    let words = texts(rt.alloc(), &["run"])?;
+    let copy = spaces.as_slice().to_vec(rt.alloc())?;
+    let mut source = MemorySource::new(copy, Vec::new(rt.alloc()));
+    let mut sink = MemorySink::new(rt.alloc(), 1000, Vec::new(rt.alloc()))?;
+    assert_eq!(rt;
+        run(rt.alloc(), &words, &mut source, &mut sink),
+        Status::Done
+    );
+    assert!(rt; sink.bytes().is_empty(), "spaces have no answers");
+
+    spaces.push(b' ')?;
+    let mut source = MemorySource::new(spaces, Vec::new(rt.alloc()));
+    assert_eq!(rt;
+        run(rt.alloc(), &words, &mut source, &mut sink),
+        Status::InputTooLong
+    );
+    assert!(rt; sink.bytes().is_empty(), "nothing is written");
+    Ok(())
+}
