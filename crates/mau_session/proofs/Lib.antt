@@ -17,3 +17,5 @@ pub mod Sizes
 pub mod Extending
 pub mod Answering
 pub mod Spanned
+pub mod OneModule
+pub mod OneTranscript

@@ -272,6 +272,19 @@ module _ (m : Module) (p t : Tree) (ns : Pairs) (numbered : variables p ≡ numb
     ascending = λ i j d a b. absurd (omega arith);
   }
 
+  -- two solutions are one
+  pub solution_once : (vs us : List Tree) → SolvesIn m p t vs → SolvesIn m p t us → vs ≡ us
+  solution_once vs us h k =
+      let b = solution_bound vs h in
+      let c = solution_bound us k in
+      let same : c.0 ≡ b.0 = (let q = sym b.1 ∙ c.1 in cc) in
+      let keeps : Keeps (value us) b.0 = subst (Keeps (value us)) same c.2 in
+      let n : length vs ≡ length us = h.0.one_each ∙ sym k.0.one_each in
+      let l : length vs ≡ length ns = h.0.one_each ∙ ap length numbered ∙ length-numbered ns 0 in
+      ext_get_or (numeral 0) vs us n (λ i w.
+      let r = all_bound b.0 b.1 i (omega arith) in
+      b.2 i r.0 r.1 ∙ sym (keeps i r.0 r.1))
+
 -- ---- the same by the number of variables
 
 pub no_listing_of : (m : Module) (p t : Tree) (n : ℕ) → IsNumbered n p → bind m (unbound n) p t ≡ None → IsListing m p t []

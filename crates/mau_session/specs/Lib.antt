@@ -19,3 +19,4 @@ pub mod Gains
 pub mod Meanings
 pub mod Run
 pub mod Statuses
+pub mod Laws

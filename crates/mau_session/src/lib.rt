@@ -1,10 +1,11 @@
-//! Sessions: the items of a text, their answers, and the top call.
+//! Sessions: the items of a text, their answers, and the top call. [`laws`] has what holds of transcripts.
 #![tactic(auto)]
 
 mod answer;
 mod command;
 mod declarations;
 mod items;
+pub mod laws;
 mod listing;
 mod matching;
 mod meaning;
