@@ -16,9 +16,6 @@ use Rattle.mau_session.specs.Answers.{value_line, value_lines}
 pub four_parts : (o a b c d : List ℕ) → (((o ++ a) ++ b) ++ c) ++ d ≡ o ++ (((a ++ b) ++ c) ++ d)
 four_parts o a b c d = simp append_assoc
 
-pub three_parts : (o a b c : List ℕ) → ((o ++ a) ++ b) ++ c ≡ o ++ ((a ++ b) ++ c)
-three_parts o a b c = simp append_assoc
-
 numbered_at : (ns : Pairs) (k i : ℕ) (p : List ℕ × ℕ) → slice_get ns i ≡ Some p → drop i (numbered_from k ns) ≡ (k + i, p.1) ∷ drop (suc i) (numbered_from k ns)
 numbered_at [] k i p e = absurd cc
 numbered_at (n ∷ ns) k zero p e =

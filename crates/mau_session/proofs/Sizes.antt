@@ -1,6 +1,7 @@
 -- How many names a module has, and where it leaves the grammar.
 use Rattle.std.proofs.Common.{◌≡◌, ℕ, suc, zero, ◌+◌, ◌-◌, ◌<◌, ◌≤◌, List, [], ◌∷◌, ◌++◌, Bool, true, false, ◌&&◌, cond, length, nat_lt, Result, Ok, Err, IfOk, IfErr, codes, refl, sym, ◌∙◌, ap, arith, ◌⊎◌, inl, inr}
 use Rattle.std.proofs.lemmas.List.{length-append}
+use Rattle.std.proofs.lemmas.Result.{IfOk-weaker}
 use Rattle.std.specs.Str.{bytes_eq}
 use Rattle.std.proofs.lemmas.Slice.Eq.{bytes_eq-Decides}
 use Rattle.std.proofs.lemmas.Bool.Decides.{Decides-ltb}
@@ -12,14 +13,6 @@ use Rattle.mau_session.specs.Words.{Word, text_at}
 use Rattle.mau_session.specs.Names.{has_name, with_name}
 use Rattle.mau_session.specs.Places.{IsFirst, is_word}
 use Rattle.mau_session.specs.Modules.{DeclaresSorts, no_more_elements, no_stop_behind, some_sorts, no_sorts, with_sort_name, with_sort_names, is_sort_name, is_stop, is_operator_keyword, names_limit, NamesRead, name_read, colon_read, no_name, ArgumentsRead, arrow_read, sort_read, no_sort, no_arrow, ResultRead, result_read, no_result, result_unknown, more_words, ProfileRead, profile_read, arguments_leave, result_leaves, ElementRead, sorts_read, sorts_missing, sorts_leave, operators_read, names_leave, profile_leaves, no_keyword, ElementsRead, elements_end, stop_missing, element_read, element_leaves, ModuleRead, no_name_behind, no_is_behind, module_read, elements_leave, is_named, has_is, is_module_name, IsSmall}
-
-ok_by : {T E : Type 0} {P Q : T → Type 0} (r : Result T E) → ((x : T) → P x → Q x) → IfOk r P → IfOk r Q
-ok_by (Ok x) f h = f x h
-ok_by (Err e) f h = tt
-
-err_by : {T E : Type 0} {P Q : E → Type 0} (r : Result T E) → ((e : E) → P e → Q e) → IfErr r P → IfErr r Q
-err_by (Ok x) f h = tt
-err_by (Err e) f h = f e h
 
 -- ---- the full stop of a declaration
 
@@ -83,7 +76,7 @@ names_left (no_name names j a b) l h = h
 
 names_counted : {ws : List Word} {first limit last : ℕ} {names : List (List ℕ)} {j : ℕ} {r : Result (List (List ℕ) × ℕ) ℕ} → NamesRead ws first limit last names j r → IfOk r (λ x. (length x.0 + j ≡ length names + x.1) × (x.1 < last))
 names_counted {ws} (name_read names j r b n more) =
-    ok_by r (λ x h. (omega (arith, h.0, length-append names (text_at ws j ∷ [])), h.1)) (names_counted more)
+    IfOk-weaker r _ _ (λ x h. (omega (arith, h.0, length-append names (text_at ws j ∷ [])), h.1)) (names_counted more)
 names_counted (colon_read names j a b w) = (refl, b)
 names_counted (no_name names j a b) = tt
 
@@ -138,7 +131,7 @@ elements_few : {ws : List Word} {sorts : List (List ℕ)} {to : ℕ} {before : O
 elements_few (elements_end before p e) h = omega arith
 elements_few (stop_missing before p b n) h = tt
 elements_few (element_read before after p q r f x more) h =
-    ok_by r (λ all a. omega (arith, a, element_few x f.least, f.below, f.least)) (elements_few more (omega (arith, f.below)))
+    IfOk-weaker r _ _ (λ all a. omega (arith, a, element_few x f.least, f.below, f.least)) (elements_few more (omega (arith, f.below)))
 elements_few (element_leaves before p q j f x) h = tt
 
 -- ---- modules
