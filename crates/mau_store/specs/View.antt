@@ -1,0 +1,24 @@
+-- What nodes of the code stand for in definitions.
+use Rattle.std.specs.Prelude.{ℕ, List, map}
+use Rattle.mau_terms.specs.declared.ids.TermId.{TermId}
+use Rattle.mau_store.specs.Node.{Node, numeral_node, variable_node, operator_node}
+use Rattle.mau_store.specs.declared.node.NodeView.{NodeView}
+use Rattle.mau_store.specs.declared.node.NodeView.TheVariants.{Num, Var, App}
+use Rattle.mau_store.specs.declared.node.StoredNode.{StoredNode}
+use Rattle.mau_store.specs.declared.node.StoredNode.TheVariants.{Num as StoredNum, Var as StoredVar, App as StoredApp}
+
+-- the numbers in a list of ids
+abbrev pub numbers : List TermId → List ℕ
+numbers ids = map (λ id. id.0) ids
+
+-- a node as it is read
+abbrev pub node_of : NodeView → Node
+node_of (Num n) = numeral_node n
+node_of (Var v) = variable_node v.index v.sort
+node_of (App op ids) = operator_node op.0 (numbers ids.now)
+
+-- a node as it is stored
+abbrev pub stored_node : StoredNode → Node
+stored_node (StoredNum n) = numeral_node n
+stored_node (StoredVar v) = variable_node v.index v.sort
+stored_node (StoredApp op ids) = operator_node op.0 (numbers ids.items)
