@@ -1,9 +1,9 @@
 //! The top call.
-ghost use Rattle.std.specs.Prelude.{◌≡◌, ◌≤◌, ◌↔◌, ◌⊎◌, ℕ, List, length, true, false};
-ghost use Rattle.std.specs.Io.KnownBytes.{prepend_known};
+ghost use Rattle.std.specs.Prelude.{◌≡◌, ◌≤◌, ◌↔◌, ◌⊎◌, ℕ, List, length, take, true, false, IfOk, IfErr, IsErrOf};
+ghost use Rattle.std.specs.Io.KnownBytes.{prepend_known, append_known};
 ghost use Rattle.mau_bytes.specs.Faults.{Rose};
 ghost use Rattle.mau_session.specs.Meanings.{has_meaning};
-ghost use Rattle.mau_session.specs.Run.{IsAnswered, IsCut};
+ghost use Rattle.mau_session.specs.Run.{IsRead, IsAnswered, IsCut};
 
 use crate::meaning::have_meaning;
 use crate::transcript::transcript;
@@ -90,23 +90,47 @@ pub fn run<S: Source, K: Sink>(
     if !have_meaning(words) {
         return Status::Usage;
     }
-    let text = match read_all(alloc, source, 16_777_216) {
-        Ok(text) => text,
-        Err(ReadEnd::Fault) => return Status::ReadFault,
-        Err(ReadEnd::TooLong) => return Status::InputTooLong,
-        Err(ReadEnd::NoMemory) => return Status::NoMemory,
-    };
-    match transcript(alloc, &text) {
-        Err(_) => Status::NoMemory,
-        Ok((bytes, is_refused)) => match write_all(sink, &bytes) {
-            Err(_) => Status::WriteFault,
-            Ok(()) => {
-                if is_refused {
-                    Status::Refused
-                } else {
-                    Status::Done
-                }
-            }
+    match read_text(alloc, source) {
+        Err(status) => status,
+        Ok(text) => match transcript(alloc, &text) {
+            Err(_) => Status::NoMemory,
+            Ok((bytes, is_refused)) => write_answers(sink, &bytes, is_refused),
         },
+    }
+}
+
+/// Reads the whole text.
+fn read_text<S: Source>(alloc: Global, source: &mut S) -> Result<Vec<u8>, Status>
+    ensures read { IfOk result (λ text. IsRead (S.left source.old) (S.left source.new) text.items) }
+    ensures causes { IfErr result (λ s. (s ≡ Status.ReadFault) ⊎ (s ≡ Status.InputTooLong) ⊎ (s ≡ Status.NoMemory)) }
+    ensures fault { IsErrOf result Status.ReadFault → Rose (S.faults source.old) (S.faults source.new) }
+    ensures taken { IfErr result (λ s. (bytes : List ℕ) × (S.left source.old ≡ prepend_known bytes (S.left source.new)) × (length bytes ≤ 16777217)
+        × ((s ≡ Status.InputTooLong) ↔ (length bytes ≡ 16777217))) }
+{
+    match read_all(alloc, source, 16_777_216) {
+        Ok(text) => Ok(text),
+        Err(ReadEnd::Fault) => Err(Status::ReadFault),
+        Err(ReadEnd::TooLong) => Err(Status::InputTooLong),
+        Err(ReadEnd::NoMemory) => Err(Status::NoMemory),
+    }
+}
+
+/// Writes all answers.
+fn write_answers<K: Sink>(sink: &mut K, bytes: &[u8], is_refused: bool) -> Status
+    ensures causes { (result ≡ Status.Done) ⊎ (result ≡ Status.Refused) ⊎ (result ≡ Status.WriteFault) }
+    ensures done { result ≡ Status.Done → (is_refused ≡ false) × (K.written sink.new ≡ append_known (K.written sink.old) bytes.now) }
+    ensures refused { result ≡ Status.Refused → (is_refused ≡ true) × (K.written sink.new ≡ append_known (K.written sink.old) bytes.now) }
+    ensures fault { result ≡ Status.WriteFault → Rose (K.faults sink.old) (K.faults sink.new) }
+    ensures prefix { result ≡ Status.WriteFault → (n : ℕ) × (n ≤ length bytes.now) × (K.written sink.new ≡ append_known (K.written sink.old) (take n bytes.now)) }
+{
+    match write_all(sink, bytes) {
+        Err(_) => Status::WriteFault,
+        Ok(()) => {
+            if is_refused {
+                Status::Refused
+            } else {
+                Status::Done
+            }
+        }
     }
 }
