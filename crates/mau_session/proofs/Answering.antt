@@ -3,16 +3,16 @@ use Rattle.std.proofs.Common.{Vec, Global, ◌≡◌, ℕ, ◌<◌, ◌+◌, Lis
 use Rattle.std.proofs.Math.Nat.{eq-or-lt_of_le}
 use Rattle.mau_terms.specs.Tree.{Tree}
 use Rattle.mau_terms.specs.Subst.{Variable, variables}
-use Rattle.mau_session.specs.declared.module.Module.{Module}
+use Rattle.mau_reader.specs.declared.module.Module.{Module}
 use Rattle.mau_session.specs.declared.refusal.Refusal.TheVariants.{Unended, NotBuilt}
-use Rattle.mau_session.specs.Words.{Word, text_at}
-use Rattle.mau_session.specs.Places.{IsFirst, IsNowhere, is_word}
-use Rattle.mau_session.specs.Items.{may_end, is_quit, end_of_module}
+use Rattle.mau_reader.specs.Words.{Word, text_at}
+use Rattle.mau_reader.specs.Places.{IsFirst, IsNowhere, is_word}
+use Rattle.mau_reader.specs.Items.{may_end, is_quit, end_of_module}
 use Rattle.mau_session.specs.Terms.{Pairs}
 use Rattle.mau_session.specs.Transcript.{ItemsAnswer, items_end, item_first, item_unended, module_accepted, module_refused, match_answered, item_not_built}
 use Rattle.mau_session.specs.Gains.{GainsItem, GainsModule, gains_accepted, gains_refused, GainsMatch}
 use Rattle.mau_session.specs.Answers.{refusal_line, substitution_lines, listing_lines}
-use Rattle.mau_session.proofs.Sizes.{and_last, eq_bytes}
+use Rattle.mau_reader.proofs.Sizes.{and_last, eq_bytes}
 
 -- a refusal that was written answers an item
 pub refused_with : {E A : Type 0} (P : Bool → Type 0) (r : Result Bool E) → OnOk r A → IfOk r (λ b. b ≡ true) → (A → P true) → IfOk r P

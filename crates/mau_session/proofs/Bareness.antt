@@ -7,9 +7,9 @@ use Rattle.std.proofs.lemmas.List.Quantifiers.{position-Some}
 use Rattle.std.specs.Str.{bytes_eq}
 use Rattle.mau_terms.specs.Tree.{Tree, Trees, no_trees}
 use Rattle.mau_terms.specs.Bare.{IsBareIn, AreBareIn}
-use Rattle.mau_session.specs.declared.module.Module.{Module}
-use Rattle.mau_session.specs.declared.module.Profile.{Profile}
-use Rattle.mau_session.specs.Words.{Word, text_at}
+use Rattle.mau_reader.specs.declared.module.Module.{Module}
+use Rattle.mau_reader.specs.declared.module.Profile.{Profile}
+use Rattle.mau_reader.specs.Words.{Word, text_at}
 use Rattle.mau_session.specs.Terms.{Pairs, signature_of, profile_of, Reads, reads_constant, reads_application, reads_variable, ReadsArgument, reads_argument, ReadsList, list_ends, list_goes_on}
 use Rattle.mau_session.proofs.Numbered.{place_within, with_pair_longer}
 

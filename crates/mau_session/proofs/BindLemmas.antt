@@ -5,7 +5,7 @@ use Rattle.std.proofs.lemmas.Option.{slice_get_within, slice_get-get_or}
 use Rattle.std.proofs.lemmas.List.{length-set}
 use Rattle.mau_terms.specs.Tree.{Tree, variable, numeral, apply, Trees, no_trees, tree}
 use Rattle.mau_terms.specs.Subst.{Variable, instance, instances, Occurs, OccursIn}
-use Rattle.mau_session.specs.declared.module.Module.{Module}
+use Rattle.mau_reader.specs.declared.module.Module.{Module}
 use Rattle.mau_session.specs.Terms.{sort_of}
 use Rattle.mau_session.specs.Binding.{Bindings, same_tree, is_sort, has_sort, bound_to, bind, bind_all}
 use Rattle.mau_session.proofs.Bindings.{same_tree_is, same_tree_itself}

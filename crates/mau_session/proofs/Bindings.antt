@@ -13,7 +13,7 @@ use Rattle.mau_terms.specs.Tree.{Tree, trees_of}
 use Rattle.mau_terms.specs.Order.{tree_cmp}
 use Rattle.mau_terms.specs.View.{tree_of}
 use Rattle.mau_terms.proofs.Orders.{tree_total, tree_tied}
-use Rattle.mau_session.specs.declared.module.Module.{Module}
+use Rattle.mau_reader.specs.declared.module.Module.{Module}
 use Rattle.mau_session.specs.Binding.{Bindings, same_tree, is_tie, has_sort, bound_to, bind, bind_all, bind_variable}
 use Rattle.mau_session.specs.Bound.{bindings_of}
 

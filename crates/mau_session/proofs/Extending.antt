@@ -4,8 +4,8 @@ use Rattle.std.proofs.lemmas.List.{take_at}
 use Rattle.std.specs.List.{list_any}
 use Rattle.mau_terms.specs.Tree.{Tree, Trees}
 use Rattle.mau_terms.specs.Vars.{same_pair, with_pair}
-use Rattle.mau_session.specs.declared.module.Module.{Module}
-use Rattle.mau_session.specs.Words.{Word, text_at}
+use Rattle.mau_reader.specs.declared.module.Module.{Module}
+use Rattle.mau_reader.specs.Words.{Word, text_at}
 use Rattle.mau_session.specs.Terms.{Pairs, Reads, reads_constant, reads_application, reads_variable, ReadsArgument, reads_argument, ReadsList, list_ends, list_goes_on}
 
 record Extends (ns ms : Pairs) : Type 0 where

@@ -7,7 +7,7 @@ use Rattle.mau_terms.specs.declared.ids.VarId.{VarId}
 use Rattle.mau_terms.specs.View.{tree_of}
 use Rattle.mau_terms.specs.Vars.{IsGiven}
 use Rattle.mau_terms.specs.Subst.{Variable}
-use Rattle.mau_session.specs.declared.module.Module.{Module}
+use Rattle.mau_reader.specs.declared.module.Module.{Module}
 use Rattle.mau_session.specs.Terms.{Pairs}
 use Rattle.mau_session.specs.Bound.{trees_at}
 use Rattle.mau_session.specs.Matching.{numbered_from}

@@ -7,13 +7,13 @@ use Rattle.mau_terms.specs.Tree.{Tree}
 use Rattle.mau_terms.specs.Subst.{variables}
 use Rattle.mau_terms.specs.Solution.{solution_cmp}
 use Rattle.mau_terms.specs.declared.theory.Theory.{Theory}
-use Rattle.mau_session.specs.declared.module.Module.{Module}
-use Rattle.mau_session.specs.declared.places.Sign.TheVariants.{Parts, Condition}
+use Rattle.mau_reader.specs.declared.module.Module.{Module}
+use Rattle.mau_reader.specs.declared.places.Sign.TheVariants.{Parts, Condition}
 use Rattle.mau_session.specs.declared.refusal.Refusal.TheVariants.{NotBuilt}
-use Rattle.mau_session.specs.Words.{Word, text_at, words_of}
-use Rattle.mau_session.specs.Places.{IsFirst, IsNowhere, stands_outside}
-use Rattle.mau_session.specs.Items.{may_end}
-use Rattle.mau_session.specs.Modules.{ModuleRead}
+use Rattle.mau_reader.specs.Words.{Word, text_at, words_of}
+use Rattle.mau_reader.specs.Places.{IsFirst, IsNowhere, stands_outside}
+use Rattle.mau_reader.specs.Items.{may_end}
+use Rattle.mau_reader.specs.Modules.{ModuleRead}
 use Rattle.mau_session.specs.Terms.{Pairs, Reads, signature_of}
 use Rattle.mau_session.specs.Matching.{numbered_from, IsListing}
 use Rattle.mau_session.specs.Commands.{CommandRead, prefix_leaves, parts_missing, pattern_leaves, subject_leaves, condition_leaves, command_read, SubjectEnds, at_condition, at_stop, is_no_term}
@@ -24,8 +24,8 @@ use Rattle.mau_terms.proofs.Solutions.{solutions_are_ordered}
 use Rattle.mau_session.proofs.Readings.{reads_once}
 use Rattle.mau_session.proofs.Numbered.{reads_numbered}
 use Rattle.mau_session.proofs.Solving.{solution_once}
-use Rattle.mau_session.proofs.Sizes.{eq_bytes}
-use Rattle.mau_session.proofs.OneModule.{first_once, first_somewhere, yes_no, module_once}
+use Rattle.mau_reader.proofs.Sizes.{eq_bytes}
+use Rattle.mau_reader.proofs.OneModule.{first_once, first_somewhere, yes_no, module_once}
 
 -- ---- commands
 

@@ -2,10 +2,10 @@
 use Rattle.std.proofs.Common.{◌≡◌, ℕ, ◌+◌, List, codes, take, drop, Option, Some, refl, sym, ◌∙◌, ap, ap₂, subst, slice_get}
 use Rattle.mau_terms.specs.Tree.{Tree, variable, apply, Trees, no_trees, tree}
 use Rattle.mau_terms.specs.Vars.{place_of, with_pair}
-use Rattle.mau_session.specs.declared.module.Module.{Module}
-use Rattle.mau_session.specs.declared.module.Profile.{Profile}
-use Rattle.mau_session.specs.Words.{Word, text_at}
-use Rattle.mau_session.specs.Names.{number_of}
+use Rattle.mau_reader.specs.declared.module.Module.{Module}
+use Rattle.mau_reader.specs.declared.module.Profile.{Profile}
+use Rattle.mau_reader.specs.Words.{Word, text_at}
+use Rattle.mau_reader.specs.Names.{number_of}
 use Rattle.mau_session.specs.Terms.{Pairs, Reads, reads_constant, reads_application, reads_variable, ReadsArgument, reads_argument, ReadsList, list_ends, list_goes_on}
 use Rattle.mau_session.proofs.Colons.{one_last_colon}
 

@@ -10,7 +10,7 @@ use Rattle.mau_terms.specs.Bare.{IsBare, EqualModulo, HasNoAxioms}
 use Rattle.mau_terms.specs.Solution.{HaveSorts}
 use Rattle.mau_terms.proofs.Variables.{EachVar, occurring, variables_occur, same_itself}
 use Rattle.mau_terms.proofs.Plain.{plain_equal, same_equal, plain_norm}
-use Rattle.mau_session.specs.declared.module.Module.{Module}
+use Rattle.mau_reader.specs.declared.module.Module.{Module}
 use Rattle.mau_session.specs.Terms.{Pairs, signature_of, HasSort}
 use Rattle.mau_session.specs.Matching.{SolvesIn, numbered_from, IsListing, IsNumbered}
 use Rattle.mau_session.specs.Binding.{Bindings, bind}

@@ -2,11 +2,11 @@
 use Rattle.std.proofs.Common.{◌≡◌, ℕ, ◌+◌, ◌<◌, List, [], ◌∷◌, length, true, false, ◌&&◌, nat_lt, nat_eq, codes, take, Some, None, refl, sym, ◌∙◌, ap, subst, slice_get, arith}
 use Rattle.mau_terms.specs.Tree.{Tree, variable, Trees, tree, trees_of, node}
 use Rattle.mau_terms.specs.Vars.{place_of, with_pair}
-use Rattle.mau_session.specs.declared.module.Module.{Module}
-use Rattle.mau_session.specs.declared.module.Profile.{Profile}
-use Rattle.mau_session.specs.Words.{Word, text_at}
-use Rattle.mau_session.specs.Places.{is_word}
-use Rattle.mau_session.specs.Names.{number_of}
+use Rattle.mau_reader.specs.declared.module.Module.{Module}
+use Rattle.mau_reader.specs.declared.module.Profile.{Profile}
+use Rattle.mau_reader.specs.Words.{Word, text_at}
+use Rattle.mau_reader.specs.Places.{is_word}
+use Rattle.mau_reader.specs.Names.{number_of}
 use Rattle.mau_session.specs.Terms.{Pairs, IsVariable, Reads, reads_constant, reads_application, reads_variable, ReadsArgument, reads_argument, ReadsList, list_ends, list_goes_on}
 use Rattle.mau_session.proofs.Readings.{argument_once, one_number, one_profile}
 

@@ -5,10 +5,10 @@ use Rattle.mau_terms.specs.Norm.{norm}
 use Rattle.mau_terms.specs.Subst.{Variable, variables}
 use Rattle.mau_tokens.specs.declared.token.TokenFault.{TokenFault}
 use Rattle.mau_tokens.specs.declared.token.TokenFault.TheVariants.{NotUtf8, OpenComment, OpenString, TokenTooLong, NoMemory}
-use Rattle.mau_session.specs.declared.module.Module.{Module}
+use Rattle.mau_reader.specs.declared.module.Module.{Module}
 use Rattle.mau_session.specs.declared.refusal.Refusal.{Refusal}
 use Rattle.mau_session.specs.declared.refusal.Refusal.TheVariants.{Unended, NotBuilt, NoParse}
-use Rattle.mau_session.specs.Words.{Word, text_at, place_at}
+use Rattle.mau_reader.specs.Words.{Word, text_at, place_at}
 use Rattle.mau_session.specs.Terms.{Pairs, signature_of}
 use Rattle.mau_session.specs.Shown.{shown, shown_variable}
 

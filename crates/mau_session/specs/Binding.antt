@@ -4,7 +4,7 @@ use Rattle.std.specs.declared.cmp.Ordering.{Ordering}
 use Rattle.std.specs.declared.cmp.Ordering.TheVariants.{Less, Equal, Greater}
 use Rattle.mau_terms.specs.Tree.{Tree, variable, numeral, apply, Trees, no_trees, tree}
 use Rattle.mau_terms.specs.Order.{tree_cmp}
-use Rattle.mau_session.specs.declared.module.Module.{Module}
+use Rattle.mau_reader.specs.declared.module.Module.{Module}
 use Rattle.mau_session.specs.Terms.{sort_of}
 
 -- the value of each variable, by its index, as far as it is known

@@ -2,9 +2,9 @@
 use Rattle.std.specs.Prelude.{◌≡◌, ℕ, ◌+◌, ◌-◌, ◌<◌, List, length, Bool, true, false, ◌&&◌, ◌||◌, not, nat_eq, nat_lt, nat_le, Result, Ok, Err, codes, slice_index}
 use Rattle.std.specs.List.{list_all}
 use Rattle.std.specs.Char.{is_ascii_digit}
-use Rattle.mau_session.specs.declared.places.Sign.TheVariants.{Parts, Condition}
-use Rattle.mau_session.specs.Words.{Word, text_at}
-use Rattle.mau_session.specs.Places.{IsFirst, IsNowhere, is_word, stands_outside}
+use Rattle.mau_reader.specs.declared.places.Sign.TheVariants.{Parts, Condition}
+use Rattle.mau_reader.specs.Words.{Word, text_at}
+use Rattle.mau_reader.specs.Places.{IsFirst, IsNowhere, is_word, stands_outside}
 
 -- decimal digits without a leading zero, or 0
 abbrev pub is_numeral : List ℕ → Bool

@@ -1,10 +1,10 @@
 -- What an answer adds to the bytes so far.
 use Rattle.std.specs.Prelude.{◌≡◌, ℕ, List, ◌++◌, Bool, true, false, Ok, Err}
 use Rattle.mau_terms.specs.Tree.{Tree}
-use Rattle.mau_session.specs.declared.module.Module.{Module}
+use Rattle.mau_reader.specs.declared.module.Module.{Module}
 use Rattle.mau_session.specs.declared.refusal.Refusal.TheVariants.{NotBuilt}
-use Rattle.mau_session.specs.Words.{Word}
-use Rattle.mau_session.specs.Modules.{ModuleRead}
+use Rattle.mau_reader.specs.Words.{Word}
+use Rattle.mau_reader.specs.Modules.{ModuleRead}
 use Rattle.mau_session.specs.Terms.{Pairs}
 use Rattle.mau_session.specs.Matching.{IsListing}
 use Rattle.mau_session.specs.Answers.{listing_lines, module_line, refusal_line}

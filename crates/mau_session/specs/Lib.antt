@@ -1,10 +1,3 @@
-pub mod Words
-pub mod Places
-pub mod Items
-pub mod Names
-pub mod Operators
-pub mod Modules
-pub mod Faults
 pub mod Terms
 pub mod Mark
 pub mod Shown

@@ -5,7 +5,7 @@ use Rattle.mau_terms.specs.Tree.{Tree}
 use Rattle.mau_terms.specs.Norm.{norm}
 use Rattle.mau_terms.specs.Subst.{Variable, variables}
 use Rattle.mau_terms.specs.Solution.{Solves, solution_cmp}
-use Rattle.mau_session.specs.declared.module.Module.{Module}
+use Rattle.mau_reader.specs.declared.module.Module.{Module}
 use Rattle.mau_session.specs.Terms.{Pairs, signature_of, HasSort}
 
 -- the values vs of p's variables, by first occurrence, have their variables' sorts and make p equal to t

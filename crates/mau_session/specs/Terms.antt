@@ -6,12 +6,12 @@ use Rattle.mau_terms.specs.Tree.{Tree, variable, numeral, apply, Trees, no_trees
 use Rattle.mau_terms.specs.Bare.{TermSignature}
 use Rattle.mau_terms.specs.declared.theory.Theory.{Theory}
 use Rattle.mau_terms.specs.Vars.{place_of, with_pair}
-use Rattle.mau_session.specs.declared.module.Module.{Module}
-use Rattle.mau_session.specs.declared.module.Profile.{Profile}
-use Rattle.mau_session.specs.Words.{Word, text_at}
-use Rattle.mau_session.specs.Places.{is_word}
-use Rattle.mau_session.specs.Names.{number_of}
-use Rattle.mau_session.specs.Modules.{is_string}
+use Rattle.mau_reader.specs.declared.module.Module.{Module}
+use Rattle.mau_reader.specs.declared.module.Profile.{Profile}
+use Rattle.mau_reader.specs.Words.{Word, text_at}
+use Rattle.mau_reader.specs.Places.{is_word}
+use Rattle.mau_reader.specs.Names.{number_of}
+use Rattle.mau_reader.specs.Modules.{is_string}
 
 -- the variables of a command: their names and sorts, by first occurrence
 abbrev pub Pairs : Type 0

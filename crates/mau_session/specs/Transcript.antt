@@ -5,12 +5,12 @@ use Rattle.mau_terms.specs.Tree.{Tree}
 use Rattle.mau_tokens.specs.declared.token.Token.{Token}
 use Rattle.mau_tokens.specs.declared.token.TokenFault.{TokenFault}
 use Rattle.mau_tokens.specs.TokensOf.{TokensOf}
-use Rattle.mau_session.specs.declared.module.Module.{Module}
+use Rattle.mau_reader.specs.declared.module.Module.{Module}
 use Rattle.mau_session.specs.declared.refusal.Refusal.TheVariants.{Unended, NotBuilt, NoParse}
-use Rattle.mau_session.specs.Words.{Word, words_of}
-use Rattle.mau_session.specs.Places.{IsFirst, IsNowhere, is_word}
-use Rattle.mau_session.specs.Items.{may_end}
-use Rattle.mau_session.specs.Modules.{ModuleRead}
+use Rattle.mau_reader.specs.Words.{Word, words_of}
+use Rattle.mau_reader.specs.Places.{IsFirst, IsNowhere, is_word}
+use Rattle.mau_reader.specs.Items.{may_end}
+use Rattle.mau_reader.specs.Modules.{ModuleRead}
 use Rattle.mau_session.specs.Terms.{Pairs, Reads}
 use Rattle.mau_session.specs.Matching.{IsListing}
 use Rattle.mau_session.specs.Commands.{CommandRead}

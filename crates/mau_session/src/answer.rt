@@ -1,22 +1,19 @@
 //! The answers of items.
 ghost use Rattle.std.specs.Prelude.{◌≡◌, ◌<◌, ◌≤◌, ◌+◌, ◌++◌, [], length, true, OnOk, IfOk};
-ghost use Rattle.mau_session.specs.Modules.{IsSmall};
-ghost use Rattle.mau_session.specs.Places.{is_word};
+ghost use Rattle.mau_reader.specs.Modules.{IsSmall};
+ghost use Rattle.mau_reader.specs.Places.{is_word};
 ghost use Rattle.mau_session.specs.Refused.{word_of_refusal};
 ghost use Rattle.mau_session.specs.Answers.{module_line, match_head, refusal_line};
 ghost use Rattle.mau_session.specs.Transcript.{ItemsAnswer};
 ghost use Rattle.mau_session.specs.Gains.{GainsTerms, GainsMatch, GainsModule, GainsItem};
 
 use crate::command::read_command;
-use crate::declarations::{ReadFault, read_module};
-use crate::items::end_of_item;
 use crate::listing::write_listing;
-use crate::module::Module;
 use crate::refusal::{Refusal, write_head, write_refusal};
 use crate::show::write_text;
 use crate::state::State;
 use crate::whole::{read_whole, read_whole_of};
-use crate::words::Words;
+use mau_reader::{Module, ReadFault, Words, end_of_item, read_module};
 use mau_terms::{NoMemory, Vars};
 use std::alloc::Global;
 

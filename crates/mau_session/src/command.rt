@@ -4,8 +4,7 @@ ghost use Rattle.std.specs.Char.{is_ascii_digit};
 ghost use Rattle.std.specs.List.{list_all};
 ghost use Rattle.mau_session.specs.Commands.{CommandRead, SubjectEnds};
 
-use crate::places::{Sign, find_outside};
-use crate::words::Words;
+use mau_reader::{Sign, Words, find_outside};
 
 /// Whether a word of more than one byte begins with a zero.
 fn has_leading_zero(word: &str) -> bool

@@ -3,15 +3,10 @@
 
 mod answer;
 mod command;
-mod declarations;
-mod items;
 pub mod laws;
 mod listing;
 mod matching;
 mod meaning;
-mod module;
-mod names;
-mod places;
 mod refusal;
 mod show;
 mod state;
@@ -21,6 +16,5 @@ mod tests;
 mod top;
 mod transcript;
 mod whole;
-mod words;
 
 pub use top::{Status, run};

@@ -10,8 +10,8 @@ ghost use Rattle.mau_session.specs.Answers.{value_line, value_lines, substitutio
 ghost use Rattle.mau_session.specs.Gains.{GainsListing};
 
 use crate::matching::solve;
-use crate::module::Module;
 use crate::show::{show, write_number, write_text, write_variable};
+use mau_reader::Module;
 use mau_terms::{Bare, NoMemory, VarId, Vars};
 use std::alloc::Global;
 

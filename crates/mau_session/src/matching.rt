@@ -8,7 +8,7 @@ ghost use Rattle.mau_session.specs.Bound.{bindings_of, trees_at};
 ghost use Rattle.mau_session.specs.Matching.{IsListing, IsNumbered};
 ghost use Rattle.mau_session.specs.Terms.{signature_of};
 
-use crate::module::Module;
+use mau_reader::Module;
 use mau_terms::{Bare, NoMemory, VarId};
 use std::alloc::Global;
 

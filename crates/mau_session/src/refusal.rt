@@ -1,11 +1,11 @@
 //! Why an item is refused.
 ghost use Rattle.std.specs.Prelude.{◌≡◌, ◌++◌, ◌<◌, codes, decimal, length, OnOk};
-ghost use Rattle.mau_session.specs.Words.{place_at};
+ghost use Rattle.mau_reader.specs.Words.{place_at};
 ghost use Rattle.mau_session.specs.Refused.{word_of_refusal};
 ghost use Rattle.mau_session.specs.Answers.{item_head, refusal_line, fault_line};
 
 use crate::show::{write_number, write_text};
-use crate::words::Words;
+use mau_reader::Words;
 use mau_terms::NoMemory;
 use mau_tokens::TokenFault;
 

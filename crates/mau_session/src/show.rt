@@ -4,9 +4,8 @@ ghost use Rattle.mau_terms.specs.Tree.{trees_of};
 ghost use Rattle.mau_terms.specs.View.{tree_of};
 ghost use Rattle.mau_session.specs.Shown.{operator_name, name_at, variable_name, shown_variable, shown, shown_arguments};
 
-use crate::module::Module;
-use crate::names::Names;
 use itoa::Buffer;
+use mau_reader::{Module, Names};
 use mau_terms::{Bare, NoMemory, OpId, VarId, Vars};
 
 /// Writes a text.

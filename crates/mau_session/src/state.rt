@@ -2,10 +2,10 @@
 ghost use Rattle.std.specs.Prelude.{◌≡◌, [], OnOk, IfSome, not};
 ghost use Rattle.std.specs.Str.{bytes_eq};
 ghost use Rattle.std.specs.Option.{option_copied};
-ghost use Rattle.mau_session.specs.Modules.{IsSmall};
+ghost use Rattle.mau_reader.specs.Modules.{IsSmall};
 ghost use Rattle.mau_session.specs.Transcript.{current};
 
-use crate::module::Module;
+use mau_reader::Module;
 use mau_terms::NoMemory;
 use std::alloc::Global;
 use std::marker::Model;
@@ -18,8 +18,8 @@ pub struct State {
 
 impl Model for State {
     ghost use Rattle.std.specs.Prelude.{List, All};
-    ghost use Rattle.mau_session.specs.declared.module.Module.{Module};
-    ghost use Rattle.mau_session.specs.Modules.{IsSmall};
+    ghost use Rattle.mau_reader.specs.declared.module.Module.{Module};
+    ghost use Rattle.mau_reader.specs.Modules.{IsSmall};
 
     ghost Value = { List Module };
 

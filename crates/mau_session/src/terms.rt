@@ -3,15 +3,13 @@ ghost use Rattle.std.specs.Prelude.{◌≡◌, ◌<◌, ◌≤◌, ◌+◌, ◌-
 ghost use Rattle.mau_terms.specs.Tree.{Tree, Trees, trees_of, variable};
 ghost use Rattle.mau_terms.specs.View.{tree_of};
 ghost use Rattle.mau_terms.specs.Vars.{place_of, with_pair};
-ghost use Rattle.mau_session.specs.Words.{text_at};
-ghost use Rattle.mau_session.specs.Places.{is_word};
-ghost use Rattle.mau_session.specs.Names.{number_of};
+ghost use Rattle.mau_reader.specs.Words.{text_at};
+ghost use Rattle.mau_reader.specs.Places.{is_word};
+ghost use Rattle.mau_reader.specs.Names.{number_of};
 ghost use Rattle.mau_session.specs.Mark.{mark_text};
 ghost use Rattle.mau_session.specs.Terms.{IsLastColon, IsVariable, Pairs, Reads, ReadsList, ReadsArgument};
 
-use crate::module::Module;
-use crate::names::Names;
-use crate::words::Words;
+use mau_reader::{Module, Names, Words};
 use mau_terms::{Args, Bare, NoMemory, OpId, Vars};
 use std::alloc::Global;
 

@@ -4,7 +4,7 @@ ghost use Rattle.mau_session.specs.Transcript.{Transcript};
 
 use crate::answer::answer_items;
 use crate::refusal::write_fault;
-use crate::words::Words;
+use mau_reader::Words;
 use mau_terms::NoMemory;
 use mau_tokens::{Token, TokenFault, tokens};
 use std::alloc::Global;

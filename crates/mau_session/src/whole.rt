@@ -4,9 +4,8 @@ ghost use Rattle.mau_terms.specs.Tree.{Tree};
 ghost use Rattle.mau_terms.specs.View.{tree_of};
 ghost use Rattle.mau_session.specs.Terms.{Pairs, Reads};
 
-use crate::module::Module;
 use crate::terms::read_term;
-use crate::words::Words;
+use mau_reader::{Module, Words};
 use mau_terms::{Bare, NoMemory, Vars};
 use std::alloc::Global;
 

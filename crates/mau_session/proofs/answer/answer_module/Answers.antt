@@ -1,6 +1,6 @@
 use Rattle.std.proofs.Common.{arith, sym, subst, false}
 use Rattle.mau_session.specs.Gains.{GainsModule, gains_accepted, gains_refused}
-use Rattle.mau_session.proofs.Sizes.{module_left, module_small}
+use Rattle.mau_reader.proofs.Sizes.{module_left, module_small}
 use Rattle.mau_session.proofs.Answering.{refused_with}
 use Rattle.mau_session.proofs.answer.answer_module.Goals as goal
 

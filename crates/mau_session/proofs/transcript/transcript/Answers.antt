@@ -1,9 +1,9 @@
 use Rattle.std.proofs.Common.{◌++◌, [], length, true, arith, sym, ◌∙◌, ap, subst}
 use Rattle.std.proofs.lemmas.Result.{IfOk-weaker}
-use Rattle.mau_session.specs.Words.{words_of}
+use Rattle.mau_reader.specs.Words.{words_of}
 use Rattle.mau_session.specs.Answers.{fault_line}
 use Rattle.mau_session.specs.Transcript.{Transcript, ItemsAnswer, text_refused, items_answered}
-use Rattle.mau_session.proofs.WordPlaces.{length-words_of}
+use Rattle.mau_reader.proofs.WordPlaces.{length-words_of}
 use Rattle.mau_session.proofs.Spanned.{few_tokens}
 use Rattle.mau_session.proofs.transcript.transcript.Goals as goal
 

@@ -3,8 +3,8 @@ use Rattle.std.specs.Prelude.{filter}
 use Rattle.std.specs.Str.{bytes_eq}
 use Rattle.std.proofs.lemmas.Fn.{filter_same}
 use Rattle.std.proofs.lemmas.List.Elements.{All-filter, All-push}
-use Rattle.mau_session.specs.Modules.{IsSmall}
-use Rattle.mau_session.specs.declared.module.Module.{Module}
+use Rattle.mau_reader.specs.Modules.{IsSmall}
+use Rattle.mau_reader.specs.declared.module.Module.{Module}
 use Rattle.mau_session.proofs.state.State.accept.Goals as goal
 
 pub returns : goal.returns
