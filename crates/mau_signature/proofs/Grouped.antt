@@ -8,9 +8,11 @@ use Rattle.mau_poset.specs.Order.{Hierarchy, kind_of}
 use Rattle.mau_signature.specs.declared.decl.Decl.{Decl}
 use Rattle.mau_signature.specs.Names.{Operator, operator_of, same_operator, with_operator, operators_of, declarations_of, place_of}
 use Rattle.mau_signature.specs.Distinct.{AreDistinct}
-use Rattle.mau_signature.specs.Faults.{Given, HasSorts, IsFaultless, no_declaration, one_more, fault_among, fault_of, has_other_kind, has_wrong_arity}
+use Rattle.mau_signature.specs.Faults.{Given, HasSorts, IsFaultless, no_declaration, one_more, has_other_kind, has_wrong_arity}
 use Rattle.mau_signature.specs.declared.fault.SigFault.{SigFault}
 use Rattle.mau_signature.specs.declared.fault.SigFault.TheVariants.{KindMismatch, Arity}
+use Rattle.mau_signature.specs.Judged.{fault_among, fault_of}
+use Rattle.mau_signature.proofs.Causes.{not_at_fault}
 use Rattle.mau_signature.proofs.KindLemmas.{HaveOneKind-end}
 use Rattle.mau_signature.specs.Kinds.{HaveOneKind}
 use Rattle.mau_signature.proofs.Same.{same_operator-is, same_operator_itself, same_operator_back, either_false}
@@ -26,10 +28,10 @@ pub record IsGrouped (g : Given) (fs : List Operator) (done : List Decl) (held :
 
 -- ---- one declaration more
 
-passes : {X : Type 0} (p : X → Bool) (xs : List X) (x : X) → p x ≡ true → filter p (xs ++ x ∷ []) ≡ filter p xs ++ x ∷ []
+pub passes : {X : Type 0} (p : X → Bool) (xs : List X) (x : X) → p x ≡ true → filter p (xs ++ x ∷ []) ≡ filter p xs ++ x ∷ []
 passes p xs x h = filter-append p xs (x ∷ []) ∙ ap (λ b. filter p xs ++ (if b then x ∷ [] else [])) h
 
-fails : {X : Type 0} (p : X → Bool) (xs : List X) (x : X) → p x ≡ false → filter p (xs ++ x ∷ []) ≡ filter p xs
+pub fails : {X : Type 0} (p : X → Bool) (xs : List X) (x : X) → p x ≡ false → filter p (xs ++ x ∷ []) ≡ filter p xs
 fails p xs x h = filter-append p xs (x ∷ []) ∙ ap (λ b. filter p xs ++ (if b then x ∷ [] else [])) h ∙ append-nil (filter p xs)
 
 others_stay : (h : Hierarchy) (done : List Decl) (d : Decl) (fs : List Operator) → list_any (same_operator (operator_of h d)) fs ≡ false → map (declarations_of h (done ++ d ∷ [])) fs ≡ map (declarations_of h done) fs
@@ -119,17 +121,21 @@ position-is p xs i e = by (nat_lt (position_or_len p xs) (length xs)) e
 
 -- ---- what holds of the group of a declaration
 
-pub group_at : (h : Hierarchy) (done : List Decl) (f : Operator) (fs : List Operator) (x : List Decl) → list_any (same_operator f) fs ≡ true → get_or (map (declarations_of h done) fs) (position_or_len (same_operator f) fs) x ≡ declarations_of h done f
-group_at h done f [] x e = cc
-group_at h done f (g ∷ fs) x e = by (same_operator f g) refl (group_at h done f fs x)
+-- what a function gives at the place of the operator f is what it gives at f
+pub value_at : {Y : Type 0} (D : Operator → Y) (f : Operator) (fs : List Operator) (x : Y) → list_any (same_operator f) fs ≡ true → get_or (map D fs) (position_or_len (same_operator f) fs) x ≡ D f
+value_at D f [] x e = cc
+value_at {Y} D f (g ∷ fs) x e = by (same_operator f g) refl (value_at D f fs x)
   where
-    by : (b : Bool) → same_operator f g ≡ b → (list_any (same_operator f) fs ≡ true → get_or (map (declarations_of h done) fs) (position_or_len (same_operator f) fs) x ≡ declarations_of h done f) →
-        get_or (map (declarations_of h done) (g ∷ fs)) (cond (not b) (1 + position_or_len (same_operator f) fs) 0) x ≡ declarations_of h done f
-    by true k ih = ap (declarations_of h done) (sym (same_operator-is f g k))
+    by : (b : Bool) → same_operator f g ≡ b → (list_any (same_operator f) fs ≡ true → get_or (map D fs) (position_or_len (same_operator f) fs) x ≡ D f) →
+        get_or (map D (g ∷ fs)) (cond (not b) (1 + position_or_len (same_operator f) fs) 0) x ≡ D f
+    by true k ih = ap D (sym (same_operator-is f g k))
     by false k ih =
         let later : list_any (same_operator f) fs ≡ true = sym (ap (λ b. b || list_any (same_operator f) fs) k) ∙ e in
         let next : 1 + position_or_len (same_operator f) fs ≡ suc (position_or_len (same_operator f) fs) = omega arith in
-        ap (λ i. get_or (map (declarations_of h done) (g ∷ fs)) i x) next ∙ ih later
+        ap (λ i. get_or (map D (g ∷ fs)) i x) next ∙ ih later
+
+pub group_at : (h : Hierarchy) (done : List Decl) (f : Operator) (fs : List Operator) (x : List Decl) → list_any (same_operator f) fs ≡ true → get_or (map (declarations_of h done) fs) (position_or_len (same_operator f) fs) x ≡ declarations_of h done f
+group_at h done f fs x e = value_at (declarations_of h done) f fs x e
 
 pub held_within : (g : Given) (fs : List Operator) (done : List Decl) (held : List (List Decl)) (count : ℕ) (rest : List Decl) (i : ℕ) → IsGrouped g fs done held count rest → i < length fs → i < length held
 held_within g fs done held count rest i inv lt =
@@ -185,7 +191,7 @@ one_grouped g fs done held count rest later d f i x y inv distinct fs_are sorts 
     record {
       whole = whole ∙ sym (append_assoc done (d ∷ []) later);
       groups = ap (set held i) y_is ∙ ap₂ (λ zs j. set zs j (x ++ d ∷ [])) inv.groups place ∙ sym (goes_to_its_group h done d fs distinct among_d x own);
-      faultless = one_more d inv.faultless (judged g fs done held count rest d x None inv fs_are own faultless);
+      faultless = one_more d inv.faultless (not_at_fault g (declarations_of h done (operator_of h d)) d (length done) (judged g fs done held count rest d x None inv fs_are own faultless));
       one_kind = All-set (HaveOneKind h) held i y
           (subst (HaveOneKind h) (sym y_is) (HaveOneKind-end h x d (at_group (HaveOneKind h) held i x inv.one_kind within x_at) (no_other_kind h fs g.numerals x d count faultless))) inv.one_kind;
       sorts = All-set (All (HasSorts h)) held i y

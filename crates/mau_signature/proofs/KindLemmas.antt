@@ -6,7 +6,7 @@ use Rattle.mau_signature.specs.declared.decl.Decl.{Decl}
 use Rattle.mau_signature.specs.Faults.{has_other_kind}
 use Rattle.mau_signature.specs.Kinds.{HaveOneKind}
 
-not_false : (a : Bool) → not a ≡ false → a ≡ true
+pub not_false : (a : Bool) → not a ≡ false → a ≡ true
 not_false true e = refl
 not_false false e = cc
 

@@ -1,8 +1,12 @@
 pub mod Same
-pub mod Keyed
 pub mod United
 pub mod KindLemmas
 pub mod Entered
+pub mod Causes
+pub mod FirstFaults
 pub mod Grouped
 pub mod Whole
 pub mod Lows
+pub mod Alike
+pub mod Settled
+pub mod Lawful

@@ -36,7 +36,7 @@ same_piece-Decides (Word v) (Word w) =
 pub same_form-Decides : (f g : List Piece) → Decides (same_form f g) (f ≡ g)
 same_form-Decides f g = slice_eq-Decides same_piece-Decides f g (same_form f g) refl
 
-numbers-Decides : (xs ys : List ℕ) → Decides (pointwise nat_eq xs ys) (xs ≡ ys)
+pub numbers-Decides : (xs ys : List ℕ) → Decides (pointwise nat_eq xs ys) (xs ≡ ys)
 numbers-Decides xs ys = slice_eq-Decides Decides-eqb xs ys (pointwise nat_eq xs ys) refl
 
 option-Decides : (x y : Option ℕ) → Decides (option_eq nat_eq x y) (x ≡ y)

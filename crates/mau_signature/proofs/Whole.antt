@@ -7,31 +7,27 @@ use Rattle.std.proofs.lemmas.Bool.Decides.{nat_tests}
 use Rattle.std.proofs.lemmas.List.Elements.{All-map, All-nil, All-push, All-same, All-filter, All-weaker, All-head, All-tail}
 use Rattle.mau_poset.specs.Order.{Hierarchy}
 use Rattle.mau_signature.specs.declared.decl.Decl.{Decl}
-use Rattle.mau_signature.specs.declared.fault.SigFault.{SigFault}
-use Rattle.mau_signature.specs.declared.fault.SigFault.TheVariants.{Arity}
 use Rattle.mau_signature.specs.declared.operator.Entry.{Entry}
 use Rattle.mau_signature.specs.Attributes.{with_united}
 use Rattle.mau_signature.specs.Names.{Operator, operator_of, same_operator, with_operator, operators_of, declarations_of}
-use Rattle.mau_signature.specs.Faults.{Given, HasSorts, IsSort, AreNumerals, IsFaultless, no_declaration, one_more, has_wrong_arity}
+use Rattle.mau_signature.specs.Faults.{Given, HasSorts, IsSort, AreNumerals, IsFaultless, no_declaration, one_more, has_wrong_arity, is_at_fault}
 use Rattle.mau_signature.specs.Built.{HasZero, declarations_in}
 use Rattle.mau_signature.proofs.Same.{same_operator_itself, either_false}
 
-abbrev HasFewArguments : Decl → Type 0
+abbrev pub HasFewArguments : Decl → Type 0
 HasFewArguments d = length d.args ≤ 16
 
 not_more : (n : ℕ) → nat_lt 16 n ≡ false → n ≤ 16
 not_more n e = grind (arith, nat_tests)
 
-no_wrong_arity : (d : Decl) (i : ℕ) (last : Option SigFault) → (if has_wrong_arity d then Some (Arity i) else last) ≡ None → HasFewArguments d
-no_wrong_arity d i last e = by (has_wrong_arity d) refl e
-  where
-    by : (b : Bool) → has_wrong_arity d ≡ b → (if b then Some (Arity i) else last) ≡ None → HasFewArguments d
-    by true k f = cc
-    by false k f = not_more (length d.args) ((either_false (nat_lt 16 (length d.args)) _ k).0)
+no_wrong_arity : (g : Given) (earlier : List Decl) (d : Decl) → is_at_fault g earlier d ≡ false → HasFewArguments d
+no_wrong_arity g earlier d e =
+    let right : has_wrong_arity d ≡ false = (either_false (has_wrong_arity d) _ e).0 in
+    not_more (length d.args) ((either_false (nat_lt 16 (length d.args)) _ right).0)
 
-few_arguments : (g : Given) (ds : List Decl) → IsFaultless g ds → All HasFewArguments ds
+pub few_arguments : (g : Given) (ds : List Decl) → IsFaultless g ds → All HasFewArguments ds
 few_arguments g _ no_declaration = All-nil HasFewArguments
-few_arguments g _ (one_more {ds} d before e) = All-push HasFewArguments ds d (few_arguments g ds before) (no_wrong_arity d (length ds) _ e)
+few_arguments g _ (one_more {ds} d before e) = All-push HasFewArguments ds d (few_arguments g ds before) (no_wrong_arity g (declarations_of g.hierarchy ds (operator_of g.hierarchy d)) d e)
 
 in_groups : (h : Hierarchy) (ds : List Decl) (fs : List Operator) (groups : List (List Decl)) (P : Decl → Type 0) → groups ≡ map (declarations_of h ds) fs → All P ds → All (All P) groups
 in_groups h ds fs groups P e a =
@@ -55,7 +51,7 @@ any_at p (x ∷ xs) (suc k) d lt e = by (p x) (any_at p xs k d (omega arith) e)
     by true ih = refl
     by false ih = ih
 
-some_kept : {X : Type 0} (p : X → Bool) (xs : List X) → list_any p xs ≡ true → filter p xs ≢ []
+pub some_kept : {X : Type 0} (p : X → Bool) (xs : List X) → list_any p xs ≡ true → filter p xs ≢ []
 some_kept p [] e = cc
 some_kept p (x ∷ xs) e = by (p x) refl (some_kept p xs)
   where
@@ -63,7 +59,7 @@ some_kept p (x ∷ xs) e = by (p x) refl (some_kept p xs)
     by true k ih = λ h. cc
     by false k ih = ih (sym (ap (λ b. b || list_any p xs) k) ∙ e)
 
-abbrev IsDeclared : Hierarchy → List Decl → Operator → Type 0
+abbrev pub IsDeclared : Hierarchy → List Decl → Operator → Type 0
 IsDeclared h ds f = list_any (λ d. same_operator f (operator_of h d)) ds ≡ true
 
 with_declared : (h : Hierarchy) (ds : List Decl) (fs : List Operator) (f : Operator) → All (IsDeclared h ds) fs → IsDeclared h ds f → All (IsDeclared h ds) (with_operator fs f)
@@ -80,7 +76,7 @@ fold_declared h ds (e ∷ es) fs a b =
     (with_declared h ds fs (operator_of h e) a (All-head (λ d. IsDeclared h ds (operator_of h d)) e es b))
     (All-tail (λ d. IsDeclared h ds (operator_of h d)) e es b)
 
-all_declared : (h : Hierarchy) (ds : List Decl) → All (IsDeclared h ds) (operators_of h ds)
+pub all_declared : (h : Hierarchy) (ds : List Decl) → All (IsDeclared h ds) (operators_of h ds)
 all_declared h ds =
     fold_declared h ds ds [] (All-nil (IsDeclared h ds))
     (λ k d lt. any_at (λ e. same_operator (operator_of h (get_or ds k d)) (operator_of h e)) ds k d lt (same_operator_itself (operator_of h (get_or ds k d))))
@@ -97,6 +93,14 @@ group_some h ds fs groups e n =
 pub map-map : {X Y Z : Type 0} (f : Y → Z) (g : X → Y) (xs : List X) → map f (map g xs) ≡ map (λ x. f (g x)) xs
 map-map f g [] = refl
 map-map f g (x ∷ xs) = ap (λ ys. f (g x) ∷ ys) (map-map f g xs)
+
+-- the names and the entries are those of all declarations
+pub entered_are : (h : Hierarchy) (ds read : List Decl) (names : List Operator) (groups : List (List Decl)) (entries : List Entry) →
+    read ≡ ds → names ≡ operators_of h read → groups ≡ map (declarations_of h ds) names → map declarations_in entries ≡ map with_united groups →
+    (names ≡ operators_of h ds) × (map declarations_in entries ≡ map (λ f. with_united (declarations_of h ds f)) (operators_of h ds))
+entered_are h ds read names groups entries r n g e =
+    let names_are : names ≡ operators_of h ds = n ∙ ap (operators_of h) r in
+    (names_are, e ∙ ap (map with_united) g ∙ map-map with_united (declarations_of h ds) names ∙ ap (map (λ f. with_united (declarations_of h ds f))) names_are)
 
 pub as_many : (entries : List Entry) (ds : List (List Decl)) (fs : List Operator) (D : Operator → List Decl) → map declarations_in entries ≡ map with_united ds → ds ≡ map D fs → length entries ≡ length fs
 as_many entries ds fs D e k =

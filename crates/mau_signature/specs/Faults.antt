@@ -22,6 +22,9 @@ pub record Given : Type 0 where
   -- the sort of 0 and the sort of all other numerals
   pub numerals : Option (ℕ × ℕ)
 
+abbrev pub given : Hierarchy → List Decl → Option (ℕ × ℕ) → Given
+given h ds numerals = record { hierarchy = h; declarations = ds; numerals = numerals }
+
 -- a is the number of a sort or of a kind
 abbrev pub IsSort : Hierarchy → ℕ → Type 0
 IsSort h a = a < h.sorts + kinds h
@@ -111,36 +114,85 @@ is_identity_in h fs numerals k None = true
 is_identity_in h fs numerals k (Some (Const form)) = list_any (same_operator (constant_of form k)) fs
 is_identity_in h fs numerals k (Some (Num n)) = is_kind_of_numerals h numerals k
 
--- The first fault of the declaration d, which has the number i. `earlier` are the declarations of its operator before it. A
--- declaration is judged with the attributes that were united up to it.
-abbrev pub fault_among : Hierarchy → List Operator → Option (ℕ × ℕ) → List Decl → Decl → ℕ → Option SigFault
-fault_among h fs numerals earlier d i =
-    let a = unite (united earlier) d.attrs in
-    if has_wrong_arity d then Some (Arity i)
-    else (if has_other_kind h earlier (kind_of h d.result) then Some (KindMismatch i)
-    else (if has_two_values (united earlier) d.attrs || not (attributes_suit h a d) then Some (AttrConflict i)
-    else (if not (strategy_suits a.assoc (length d.args) a.strat) then Some (BadStrat i)
-    else (if not (is_identity_in h fs numerals (kind_of h d.result) a.id) then Some (IdNotConstant i)
-    else None))))
+-- ---- the faults of a declaration d, where `earlier` are the declarations of its operator before it
 
--- the first fault of the declaration d, which stands after those of `before`
-abbrev pub fault_of : Given → List Decl → Decl → Option SigFault
-fault_of g before d =
-    fault_among g.hierarchy (operators_of g.hierarchy g.declarations) g.numerals
-    (declarations_of g.hierarchy before (operator_of g.hierarchy d)) d (length before)
+-- the attributes that are united up to d; it is judged with these
+abbrev pub attributes_up_to : List Decl → Decl → Attrs
+attributes_up_to earlier d = unite (united earlier) d.attrs
+
+-- an earlier declaration of the operator has its result in another kind
+abbrev pub mismatches_kind : Given → List Decl → Decl → Bool
+mismatches_kind g earlier d = has_other_kind g.hierarchy earlier (kind_of g.hierarchy d.result)
+
+-- two values of one attribute, or one that does not suit the declaration
+abbrev pub conflicts : Given → List Decl → Decl → Bool
+conflicts g earlier d = has_two_values (united earlier) d.attrs || not (attributes_suit g.hierarchy (attributes_up_to earlier d) d)
+
+abbrev pub has_bad_strategy : List Decl → Decl → Bool
+has_bad_strategy earlier d = let a = attributes_up_to earlier d in not (strategy_suits a.assoc (length d.args) a.strat)
+
+abbrev pub lacks_identity : Given → List Decl → Decl → Bool
+lacks_identity g earlier d = not (is_identity_in g.hierarchy (operators_of g.hierarchy g.declarations) g.numerals (kind_of g.hierarchy d.result) (attributes_up_to earlier d).id)
+
+abbrev pub is_at_fault : Given → List Decl → Decl → Bool
+is_at_fault g earlier d =
+    has_wrong_arity d || (mismatches_kind g earlier d || (conflicts g earlier d || (has_bad_strategy earlier d || lacks_identity g earlier d)))
+
+-- ---- the cause of each fault, in the order in which they are tried
+
+abbrev pub HasWrongArity : List Decl → Decl → Type 0
+HasWrongArity earlier d = has_wrong_arity d ≡ true
+
+abbrev pub MismatchesKind : Given → List Decl → Decl → Type 0
+MismatchesKind g earlier d = (has_wrong_arity d ≡ false) × (mismatches_kind g earlier d ≡ true)
+
+abbrev pub Conflicts : Given → List Decl → Decl → Type 0
+Conflicts g earlier d = (has_wrong_arity d ≡ false) × (mismatches_kind g earlier d ≡ false) × (conflicts g earlier d ≡ true)
+
+abbrev pub HasBadStrategy : Given → List Decl → Decl → Type 0
+HasBadStrategy g earlier d =
+    (has_wrong_arity d ≡ false) × (mismatches_kind g earlier d ≡ false) × (conflicts g earlier d ≡ false) × (has_bad_strategy earlier d ≡ true)
+
+abbrev pub LacksIdentity : Given → List Decl → Decl → Type 0
+LacksIdentity g earlier d =
+    (has_wrong_arity d ≡ false) × (mismatches_kind g earlier d ≡ false) × (conflicts g earlier d ≡ false) × (has_bad_strategy earlier d ≡ false)
+    × (lacks_identity g earlier d ≡ true)
 
 -- ---- the first declaration at fault
 
 -- no declaration of a list is at fault: it is empty, or one without a fault stands after such a list
 pub data IsFaultless (g : Given) : List Decl → Type 0 where
   no_declaration : IsFaultless g []
-  one_more : {ds : List Decl} (d : Decl) → IsFaultless g ds → fault_of g ds d ≡ None → IsFaultless g (ds ++ d ∷ [])
+  one_more : {ds : List Decl} (d : Decl) → IsFaultless g ds → is_at_fault g (declarations_of g.hierarchy ds (operator_of g.hierarchy d)) d ≡ false → IsFaultless g (ds ++ d ∷ [])
 
--- the first declaration at fault, with its first fault
-pub record IsFirstFault (g : Given) (fault : SigFault) : Type 0 where
+-- the declaration with the number i, counted from 0, is the first one at fault, and has this cause
+pub record IsFirstAtFault (g : Given) (Cause : List Decl → Decl → Type 0) (i : ℕ) : Type 0 where
   pub before : List Decl
   pub declaration : Decl
   pub after : List Decl
   pub declared : g.declarations ≡ before ++ declaration ∷ after
+  pub number : length before ≡ i
   pub faultless : IsFaultless g before
-  pub first : fault_of g before declaration ≡ Some fault
+  pub cause : Cause (declarations_of g.hierarchy before (operator_of g.hierarchy declaration)) declaration
+
+-- ---- a fact for the declaration that a refusal names
+
+abbrev pub IfArity : (ℕ → Type 0) → SigFault → Type 0
+IfArity P (Arity i) = P i
+IfArity P _ = Unit {0}
+
+abbrev pub IfKindMismatch : (ℕ → Type 0) → SigFault → Type 0
+IfKindMismatch P (KindMismatch i) = P i
+IfKindMismatch P _ = Unit {0}
+
+abbrev pub IfAttrConflict : (ℕ → Type 0) → SigFault → Type 0
+IfAttrConflict P (AttrConflict i) = P i
+IfAttrConflict P _ = Unit {0}
+
+abbrev pub IfBadStrat : (ℕ → Type 0) → SigFault → Type 0
+IfBadStrat P (BadStrat i) = P i
+IfBadStrat P _ = Unit {0}
+
+abbrev pub IfIdNotConstant : (ℕ → Type 0) → SigFault → Type 0
+IfIdNotConstant P (IdNotConstant i) = P i
+IfIdNotConstant P _ = Unit {0}

@@ -2,9 +2,11 @@ pub mod Form
 pub mod Names
 pub mod Attributes
 pub mod Faults
+pub mod Judged
 pub mod Keys
 pub mod Distinct
 pub mod Kinds
 pub mod Signature
 pub mod Built
 pub mod Lowest
+pub mod Laws

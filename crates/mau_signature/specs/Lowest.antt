@@ -4,6 +4,10 @@ use Rattle.mau_poset.specs.Order.{Hierarchy, IsAtOrBelow}
 use Rattle.mau_signature.specs.declared.decl.Decl.{Decl}
 use Rattle.mau_signature.specs.Signature.{IsResult, IsLeastResult, AppliesNone}
 
+-- r is at or below each result
+abbrev pub IsBelowResults : Hierarchy → List Decl → List ℕ → ℕ → Type 0
+IsBelowResults h ds sorts r = (q : ℕ) → IsResult h ds sorts q → IsAtOrBelow h r q
+
 -- r is a result, and at or below the least result, if there is one
 pub record IsLow (h : Hierarchy) (ds : List Decl) (sorts : List ℕ) (r : ℕ) : Type 0 where
   pub one : IsResult h ds sorts r

@@ -50,6 +50,13 @@ abbrev pub attributes_of : List Decl → Attrs
 attributes_of [] = no_attributes
 attributes_of (d ∷ ds) = d.attrs
 
+-- d has the form, the attributes, and the kinds of arguments and result that the first of these declarations has
+pub record IsAlike (h : Hierarchy) (ds : List Decl) (d : Decl) : Type 0 where
+  pub form : d.form ≡ form_of ds
+  pub arguments : map (kind_of h) d.args ≡ map (kind_of h) (arguments_of ds)
+  pub result : kind_of h d.result ≡ kind_of h (result_of ds)
+  pub attributes : d.attrs ≡ attributes_of ds
+
 -- the operator at a place that is counted from 0, as an identity
 abbrev pub constant_at : ℕ → Identity
 constant_at i = Constant (record { 0 = i + 1 })

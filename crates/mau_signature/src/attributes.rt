@@ -1,5 +1,5 @@
 //! The attributes of an operator.
-ghost use Rattle.std.specs.Prelude.{◌≡◌, IfOk, nat_eq, bytes_eq};
+ghost use Rattle.std.specs.Prelude.{◌≡◌, ◌||◌, IfOk, nat_eq, bytes_eq};
 ghost use Rattle.std.specs.Cmp.Lexicographic.{pointwise};
 ghost use Rattle.mau_signature.specs.Attributes.{no_attributes, first_given, unite, differ, same_identity, same_gather, has_two_values};
 
@@ -111,6 +111,13 @@ fn first_or_copy_numbers(
     }
 }
 
+// Whether one of two declarations gives an attribute.
+fn is_given(first: bool, second: bool) -> bool
+    ensures { result ≡ (first || second) }
+{
+    first || second
+}
+
 fn first_precedence(first: Option<u8>, second: Option<u8>) -> Option<u8>
     ensures { result ≡ first_given first second }
 {
@@ -203,8 +210,8 @@ impl Attrs {
         ensures { IfOk result (λ a. a ≡ unite self other.now) }
     {
         Ok(Attrs {
-            assoc: self.assoc || other.assoc,
-            comm: self.comm || other.comm,
+            assoc: is_given(self.assoc, other.assoc),
+            comm: is_given(self.comm, other.comm),
             id: first_or_copy(alloc, self.id, &other.id)?,
             prec: first_precedence(self.prec, other.prec),
             gather: first_or_copy(alloc, self.gather, &other.gather)?,

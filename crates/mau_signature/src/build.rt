@@ -2,7 +2,8 @@
 ghost use Rattle.std.specs.Prelude.{◌≡◌, ◌≢◌, ◌++◌, ◌∷◌, ◌<◌, ◌≤◌, ◌⊎◌, [], length, map, replicate, All, IfOk, OnOk, IfErr};
 ghost use Rattle.mau_signature.specs.Names.{operators_of, declarations_of};
 ghost use Rattle.mau_signature.specs.Attributes.{with_united};
-ghost use Rattle.mau_signature.specs.Faults.{HasSorts, IsFaultless, IsFirstFault};
+ghost use Rattle.mau_signature.specs.Faults.{HasSorts, given, IsFaultless};
+ghost use Rattle.mau_signature.specs.Judged.{IsFirstFault};
 ghost use Rattle.mau_signature.specs.Built.{HasZero, IsEntry, declarations_in};
 
 use crate::group::Group;
@@ -51,8 +52,8 @@ pub fn group_all(
     requires names { names.now ≡ operators_of poset.now decls.items }
     requires zero { HasZero poset.now numerals }
     ensures ok { IfOk result (λ groups. groups.items ≡ map (declarations_of poset.now decls.items) names.now) }
-    ensures faultless { OnOk result (IsFaultless (record { hierarchy = poset.now; declarations = decls.items; numerals = numerals }) decls.items) }
-    ensures fault { IfErr result (λ fault. (fault ≡ SigFault.NoMemory) ⊎ IsFirstFault (record { hierarchy = poset.now; declarations = decls.items; numerals = numerals }) fault) }
+    ensures faultless { OnOk result (IsFaultless (given poset.now decls.items numerals) decls.items) }
+    ensures fault { IfErr result (λ fault. (fault ≡ SigFault.NoMemory) ⊎ IsFirstFault (given poset.now decls.items numerals) fault) }
 {
     let mut groups = empty_groups(alloc, names.len())?;
     let mut number = 0;

@@ -8,6 +8,7 @@ mod fault;
 mod form;
 mod group;
 mod judge;
+pub mod laws;
 mod names;
 mod operator;
 mod results;
@@ -25,3 +26,6 @@ pub const MAX_DECLARATIONS: usize = 1_100_000;
 
 /// The greatest number of arguments of an operator.
 pub const MAX_ARITY: usize = 16;
+
+#[cfg(test)]
+mod tests;

@@ -3,6 +3,7 @@ ghost use Rattle.std.specs.Prelude.{◌≡◌, ◌≢◌, ◌+◌, ◌≤◌, �
 ghost use Rattle.mau_poset.specs.Order.{kind_of};
 ghost use Rattle.mau_signature.specs.Attributes.{with_united, strategy_or_all, numbers_to};
 ghost use Rattle.mau_signature.specs.Faults.{HasSorts, IsSort, is_text};
+ghost use Rattle.mau_signature.specs.Built.{IsWithinNumerals};
 ghost use Rattle.mau_signature.specs.Signature.{theory_of, strategy_of, identity_in};
 
 use crate::names::{Key, Names};
@@ -37,7 +38,8 @@ fn identity_in(
     id: &Option<IdSpec>,
 ) -> Result<Option<Identity>, NoMemory>
     requires { length names.now ≤ MAX_DECLARATIONS }
-    ensures { IfOk result (λ i. i ≡ identity_in names.now kind id.now) }
+    ensures value { IfOk result (λ i. i ≡ identity_in names.now kind id.now) }
+    ensures numeral { IfOk result IsWithinNumerals }
 {
     match id {
         Some(IdSpec::Const(form)) => {
@@ -62,7 +64,8 @@ pub fn theory_of(
     requires few { length names.now ≤ MAX_DECLARATIONS }
     requires sorts { All (HasSorts poset.now) decls.now }
     requires some { decls.now ≢ [] }
-    ensures { IfOk result (λ theory. theory ≡ theory_of poset.now names.now decls.now) }
+    ensures value { IfOk result (λ theory. theory ≡ theory_of poset.now names.now decls.now) }
+    ensures numeral { IfOk result (λ theory. IsWithinNumerals theory.id) }
 {
     match decls.first() {
         Some(decl) => Ok(Theory {

@@ -1,9 +1,9 @@
 //! The results of declarations that apply to sorts.
 ghost use Rattle.std.specs.Prelude.{◌≡◌, ◌≤◌, ◌↔◌, length, All, IfSome, IfNone, IsTrue};
-ghost use Rattle.mau_poset.specs.Order.{IsPoset};
+ghost use Rattle.mau_poset.specs.Order.{IsPoset, IsAtOrBelow};
 ghost use Rattle.mau_signature.specs.Faults.{HasSorts, IsSort};
 ghost use Rattle.mau_signature.specs.Signature.{AreAtOrBelow, Applies, IsLeastResult, AppliesNone, swapped};
-ghost use Rattle.mau_signature.specs.Lowest.{IsLowestResult, IsLower};
+ghost use Rattle.mau_signature.specs.Lowest.{IsBelowResults, IsLowestResult, IsLower};
 
 use crate::Decl;
 use mau_poset::Poset;
@@ -55,6 +55,7 @@ pub fn lowest_result(poset: &Poset, decls: &[Decl], sorts: &[u32]) -> Option<u32
     requires decls { All (HasSorts poset.now) decls.now }
     requires sorts { All (IsSort poset.now) sorts.now }
     ensures lowest { IsLowestResult poset.now decls.now sorts.now result }
+    ensures sort { IfSome result (IsSort poset.now) }
     ensures poset { IsPoset poset.now }
 {
     let _ = poset.sorts();
@@ -77,4 +78,29 @@ fn lower(poset: &Poset, lowest: Option<u32>, sort: u32) -> u32
         Some(low) => { if poset.leq(sort, low) { sort } else { low } }
         None => sort,
     }
+}
+
+// Whether the sort is at or below the result of the declaration, if that applies.
+fn is_below_result(poset: &Poset, decl: &Decl, sorts: &[u32], low: u32) -> bool
+    requires decl { HasSorts poset.now decl.now }
+    requires sorts { All (IsSort poset.now) sorts.now }
+    requires low { IsSort poset.now low }
+    ensures { IsTrue result ↔ (Applies poset.now sorts.now decl.now → IsAtOrBelow poset.now low decl.now.result) }
+{
+    !applies(poset, decl, sorts) || poset.leq(low, decl.result)
+}
+
+/// Whether a sort is at or below each result of the declarations that apply.
+pub fn is_below_results(poset: &Poset, decls: &[Decl], sorts: &[u32], low: u32) -> bool
+    requires decls { All (HasSorts poset.now) decls.now }
+    requires sorts { All (IsSort poset.now) sorts.now }
+    requires low { IsSort poset.now low }
+    ensures { IsTrue result ↔ IsBelowResults poset.now decls.now sorts.now low }
+{
+    for decl in decls {
+        if !is_below_result(poset, decl, sorts, low) {
+            return false;
+        }
+    }
+    true
 }

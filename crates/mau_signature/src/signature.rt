@@ -1,14 +1,16 @@
 //! Signatures.
 ghost use Rattle.std.specs.Prelude.{◌≡◌, ◌+◌, ◌<◌, ◌≤◌, ◌≢◌, ◌⊎◌, [], length, All, IfSome, IfOk, OnOk, IfErr};
 ghost use Rattle.mau_poset.specs.Order.{kinds};
+ghost use Rattle.mau_terms.specs.Bare.{IsLawful};
 ghost use Rattle.mau_signature.specs.Attributes.{is_given_number};
-ghost use Rattle.mau_signature.specs.Faults.{IsSort, HasSorts, AreNumerals, IsFaultless, IsFirstFault};
-ghost use Rattle.mau_signature.specs.Signature.{IsOperator, declarations_at, form_of, theory_at, strategy_of, attributes_of, signature_of};
+ghost use Rattle.mau_signature.specs.Faults.{IsSort, HasSorts, AreNumerals, given, IsFaultless, IsFirstAtFault, HasWrongArity, MismatchesKind, Conflicts, HasBadStrategy, LacksIdentity, IfArity, IfKindMismatch, IfAttrConflict, IfBadStrat, IfIdNotConstant};
+ghost use Rattle.mau_signature.specs.Judged.{IsFirstFault};
+ghost use Rattle.mau_signature.specs.Signature.{IsOperator, declarations_at, form_of, theory_at, strategy_of, attributes_of, IsAlike, signature_of, terms_over};
 
 use crate::build::{enter_all, group_all, name_all};
 use crate::names::Names;
 use crate::operator::Entry;
-use crate::{Decl, Form, MAX_DECLARATIONS, SigFault};
+use crate::{Decl, Form, MAX_ARITY, MAX_DECLARATIONS, SigFault};
 use mau_poset::Poset;
 use mau_terms::{OpId, Theory};
 use std::alloc::Global;
@@ -41,6 +43,8 @@ impl Signature {
     /// The number of operators.
     pub fn operators(&self) -> u32
         ensures value { result ≡ length self.now.declarations }
+        ensures limit { result ≤ MAX_DECLARATIONS }
+        ensures lawful { IsLawful (terms_over self.now) }
     {
         self.entries.len() as u32
     }
@@ -50,6 +54,8 @@ impl Signature {
         requires { IsOperator self.now op.0 }
         ensures value { result.now ≡ declarations_at self.now op.0 }
         ensures some { result.now ≢ [] }
+        ensures alike { All (IsAlike self.now.hierarchy result.now) result.now }
+        ensures arity { All (λ d. length d.args ≤ MAX_ARITY) result.now }
         ensures sorts { All (HasSorts self.now.hierarchy) result.now }
     {
         &self.entries[op.0 as usize - 1].decls
@@ -70,6 +76,7 @@ impl Signature {
     pub fn theory(&self, op: OpId) -> &Theory
         requires { IsOperator self.now op.0 }
         ensures value { result.now ≡ theory_at self.now op.0 }
+        ensures lawful { IsLawful (terms_over self.now) }
     {
         &self.entries[op.0 as usize - 1].theory
     }
@@ -126,8 +133,31 @@ impl Signature {
         requires sorts { All (HasSorts poset) decls.items }
         requires numerals { AreNumerals poset decls.items numerals }
         ensures ok { IfOk result (λ s. s ≡ signature_of poset decls.items numerals) }
-        ensures faultless { OnOk result (IsFaultless (record { hierarchy = poset; declarations = decls.items; numerals = numerals }) decls.items) }
-        ensures fault { IfErr result (λ fault. (fault ≡ SigFault.NoMemory) ⊎ IsFirstFault (record { hierarchy = poset; declarations = decls.items; numerals = numerals }) fault) }
+        ensures lawful { IfOk result (λ s. IsLawful (terms_over s)) }
+        ensures faultless { OnOk result (IsFaultless (given poset decls.items numerals) decls.items) }
+        ensures arity { IfErr result (IfArity (IsFirstAtFault (given poset decls.items numerals) HasWrongArity)) }
+        ensures kind_mismatch { IfErr result (IfKindMismatch (IsFirstAtFault (given poset decls.items numerals) (MismatchesKind (given poset decls.items numerals)))) }
+        ensures attr_conflict { IfErr result (IfAttrConflict (IsFirstAtFault (given poset decls.items numerals) (Conflicts (given poset decls.items numerals)))) }
+        ensures bad_strat { IfErr result (IfBadStrat (IsFirstAtFault (given poset decls.items numerals) (HasBadStrategy (given poset decls.items numerals)))) }
+        ensures id_not_constant { IfErr result (IfIdNotConstant (IsFirstAtFault (given poset decls.items numerals) (LacksIdentity (given poset decls.items numerals)))) }
+    {
+        Signature::assemble(alloc, poset, decls, numerals)
+    }
+
+    // The signature of some declarations, or the first fault of the first one at fault.
+    fn assemble(
+        alloc: Global,
+        poset: Poset,
+        decls: Vec<Decl>,
+        numerals: Option<(u32, u32)>,
+    ) -> Result<Signature, SigFault>
+        requires few { length decls.items ≤ MAX_DECLARATIONS }
+        requires sorts { All (HasSorts poset) decls.items }
+        requires numerals { AreNumerals poset decls.items numerals }
+        ensures ok { IfOk result (λ s. s ≡ signature_of poset decls.items numerals) }
+        ensures lawful { IfOk result (λ s. IsLawful (terms_over s)) }
+        ensures faultless { OnOk result (IsFaultless (given poset decls.items numerals) decls.items) }
+        ensures fault { IfErr result (λ fault. (fault ≡ SigFault.NoMemory) ⊎ IsFirstFault (given poset decls.items numerals) fault) }
     {
         let names = name_all(alloc, &poset, &decls)?;
         let groups = group_all(alloc, &poset, &names, numerals, decls)?;

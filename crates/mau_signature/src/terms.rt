@@ -1,5 +1,5 @@
 //! What a signature says of terms: declared results and kinds.
-ghost use Rattle.std.specs.Prelude.{◌≡◌, ◌<◌, ◌≤◌, length, All};
+ghost use Rattle.std.specs.Prelude.{◌≡◌, ◌<◌, ◌≤◌, ◌↔◌, IsTrue, length, All};
 ghost use Rattle.mau_poset.specs.Order.{kind_of};
 ghost use Rattle.mau_terms.specs.Bare.{IsBare, IsBareIn};
 ghost use Rattle.mau_terms.specs.View.{tree_of};
@@ -7,7 +7,7 @@ ghost use Rattle.mau_signature.specs.Faults.{IsSort};
 ghost use Rattle.mau_signature.specs.Signature.{IsOperator, declarations_at, result_of, terms_over, HasLeastResult, IsDeclaredResult};
 
 use crate::Signature;
-use crate::results::lowest_result;
+use crate::results::{is_below_results, lowest_result};
 use mau_terms::{Bare, OpId};
 
 impl Signature {
@@ -23,6 +23,21 @@ impl Signature {
         match lowest_result(self.poset(), decls, sorts) {
             Some(result) => result,
             None => self.result_kind(op),
+        }
+    }
+
+    /// Whether the declarations that apply to these sorts or kinds have a least result, or none applies. It takes two steps
+    /// for each declaration.
+    pub fn has_least_result(&self, op: OpId, sorts: &[u32]) -> bool
+        requires operator { IsOperator self.now op.0 }
+        requires sorts { All (IsSort self.now.hierarchy) sorts.now }
+        ensures value { IsTrue result ↔ HasLeastResult self.now.hierarchy (declarations_at self.now op.0) sorts.now }
+    {
+        let decls = self.declarations(op);
+        let poset = self.poset();
+        match lowest_result(poset, decls, sorts) {
+            Some(low) => is_below_results(poset, decls, sorts, low),
+            None => true,
         }
     }
 

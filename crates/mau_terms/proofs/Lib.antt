@@ -23,7 +23,8 @@ pub mod Finite
 pub mod Solutions
 pub mod Ties
 pub mod Taken
--- terms of the code, and the variables of an item
+-- terms of the code, the variables of an item, and keys that stand for names
+pub mod Keyed
 pub mod Views
 pub mod Pairs
 -- computed cases of the definitions

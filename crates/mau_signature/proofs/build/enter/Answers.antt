@@ -11,8 +11,9 @@ strategy_of-requires-clause-arity c = arity-united c.args.group c.deref-2.result
 
 pub returns-clause-entry : goal.returns-clause-entry
 returns-clause-entry c = record {
-  theory = c.in_ok-theory.ensures ∙ ap (theory_of c.args.poset.now c.args.names.now) c.deref.ensures.value;
+  theory = c.in_ok-theory.ensures.value ∙ ap (theory_of c.args.poset.now c.args.names.now) c.deref.ensures.value;
   strategy = c.in_ok-strategy.ensures ∙ ap strategy_of c.deref-2.ensures.value;
   some = some-united c.args.group c.in_ok-decls.decls.items c.in_ok-decls.ensures c.requires.some;
   sorts = sorts-united c.args.poset.now c.args.group c.in_ok-decls.decls.items c.in_ok-decls.ensures c.requires.sorts;
+  numeral = c.in_ok-theory.ensures.numeral;
 }

@@ -3,7 +3,7 @@ use Rattle.mau_signature.specs.Names.{with_operator, same_operator}
 use Rattle.mau_signature.specs.Keys.{operator_of_key}
 use Rattle.mau_signature.specs.Distinct.{AreDistinct}
 use Rattle.mau_signature.proofs.Same.{same_key, AreDistinct-with}
-use Rattle.mau_signature.proofs.Keyed.{insert-keyed}
+use Rattle.mau_terms.proofs.Keyed.{insert-keyed}
 use Rattle.mau_signature.proofs.names.Names.add.Goals as goal
 
 -- the operators after the call

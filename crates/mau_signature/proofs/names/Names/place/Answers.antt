@@ -3,7 +3,7 @@ use Rattle.std.proofs.Common.{ap, ◌∙◌}
 use Rattle.mau_signature.specs.Names.{place_of, same_operator}
 use Rattle.mau_signature.specs.Keys.{operator_of_key}
 use Rattle.mau_signature.proofs.Same.{same_key}
-use Rattle.mau_signature.proofs.Keyed.{any-keyed, position-keyed}
+use Rattle.mau_terms.proofs.Keyed.{any-keyed, position-keyed}
 use Rattle.mau_signature.proofs.names.Names.place.Goals as goal
 
 pub returns-clause-value : goal.returns-clause-value
