@@ -1,7 +1,12 @@
 pub mod WordPlaces
 pub mod PlaceLemmas
-pub mod NameLemmas
-pub mod Reading
 pub mod Leaving
-pub mod Sizes
+pub mod Choosing
+pub mod Ranges
+pub mod FirstOnes
+pub mod Below
+pub mod Listed
+pub mod Refusing
+pub mod Named
+pub mod Signed
 pub mod OneModule

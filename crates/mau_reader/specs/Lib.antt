@@ -2,6 +2,11 @@ pub mod Words
 pub mod Places
 pub mod Items
 pub mod Names
-pub mod Operators
+pub mod Sorts
+pub mod Readings
+pub mod Elements
+pub mod Flattened
 pub mod Modules
+pub mod Kept
+pub mod Refusals
 pub mod Faults

@@ -16,6 +16,11 @@ pub record IsFirst (test : ℕ → Bool) (from to i : ℕ) : Type 0 where
 abbrev pub IsNowhere : (ℕ → Bool) → ℕ → ℕ → Type 0
 IsNowhere test from to = (j : ℕ) → from ≤ j → j < to → test j ≡ false
 
+-- i is the first such place, or `to` where there is none
+pub data IsFirstOrEnd (test : ℕ → Bool) (from to : ℕ) : ℕ → Type 0 where
+  first_there : (i : ℕ) → IsFirst test from to i → IsFirstOrEnd test from to i
+  nowhere_there : from ≤ to → IsNowhere test from to → IsFirstOrEnd test from to to
+
 -- the word at i is this one
 abbrev pub is_word : List Word → List ℕ → ℕ → Bool
 is_word ws w i = bytes_eq (text_at ws i) w

@@ -1,5 +1,5 @@
 //! Names, numbered in the order in which they were added.
-ghost use Rattle.std.specs.Prelude.{◌≡◌, ◌<◌, ◌≤◌, ◌+◌, [], length, not, slice_get, IfOk, OnOk, IfSome};
+ghost use Rattle.std.specs.Prelude.{◌≡◌, ◌<◌, ◌≤◌, ◌+◌, [], length, not, slice_get, IfOk, OnOk, OnErr, IfSome};
 ghost use Rattle.std.specs.Option.{option_copied};
 ghost use Rattle.mau_reader.specs.Names.{has_name, with_name, number_of};
 
@@ -41,11 +41,12 @@ impl Names {
         self.names.len()
     }
 
-    /// Adds a name at the end, unless it is there. Says whether it was new.
+    /// Adds a name at the end, unless it is there. Says whether it was new. Out of memory, the names stay as they were.
     pub fn add(&mut self, name: &str) -> Result<bool, NoMemory>
         ensures new { IfOk result (λ is_new. is_new ≡ not (has_name self.old name.now)) }
         ensures names { OnOk result (self.new ≡ with_name self.old name.now) }
         ensures few { OnOk result (length self.new ≤ length self.old + 1) }
+        ensures kept { OnErr result (self.new ≡ self.old) }
     {
         let name = String::from_str(self.alloc, name)?;
         let (_, is_new) = self.names.insert_full(name)?;

@@ -3,7 +3,7 @@ use Rattle.std.proofs.Common.{Vec, Global, ◌≡◌, ℕ, ◌<◌, ◌+◌, Lis
 use Rattle.std.proofs.Math.Nat.{eq-or-lt_of_le}
 use Rattle.mau_terms.specs.Tree.{Tree}
 use Rattle.mau_terms.specs.Subst.{Variable, variables}
-use Rattle.mau_reader.specs.declared.module.Module.{Module}
+use Rattle.mau_reader.specs.Modules.{ModuleOf}
 use Rattle.mau_session.specs.declared.refusal.Refusal.TheVariants.{Unended, NotBuilt}
 use Rattle.mau_reader.specs.Words.{Word, text_at}
 use Rattle.mau_reader.specs.Places.{IsFirst, IsNowhere, is_word}
@@ -12,7 +12,11 @@ use Rattle.mau_session.specs.Terms.{Pairs}
 use Rattle.mau_session.specs.Transcript.{ItemsAnswer, items_end, item_first, item_unended, module_accepted, module_refused, match_answered, item_not_built}
 use Rattle.mau_session.specs.Gains.{GainsItem, GainsModule, gains_accepted, gains_refused, GainsMatch}
 use Rattle.mau_session.specs.Answers.{refusal_line, substitution_lines, listing_lines}
-use Rattle.mau_reader.proofs.Sizes.{and_last, eq_bytes}
+use Rattle.mau_reader.proofs.OneModule.{eq_bytes}
+
+and_last : (a b : Bool) → (a && b) ≡ true → b ≡ true
+and_last true b e = e
+and_last false b e = absurd cc
 
 -- a refusal that was written answers an item
 pub refused_with : {E A : Type 0} (P : Bool → Type 0) (r : Result Bool E) → OnOk r A → IfOk r (λ b. b ≡ true) → (A → P true) → IfOk r P
@@ -23,7 +27,7 @@ matcher_parts : (o a d n s l : List ℕ) → o ++ a ++ d ++ n ++ s ++ l ≡ o ++
 matcher_parts o a d n s l = simp (append_assoc, append-nil)
 
 -- the lines of a listing of one solution
-pub one_matcher : (m : Module) (ns : Pairs) (p : Tree) (o a b n : List ℕ) (xs : List Variable) (vs : List Tree) → variables p ≡ xs
+pub one_matcher : (m : ModuleOf) (ns : Pairs) (p : Tree) (o a b n : List ℕ) (xs : List Variable) (vs : List Tree) → variables p ≡ xs
     → a ≡ o ++ codes "Matcher " ++ decimal 1 ++ codes "\n" → b ≡ a ++ substitution_lines m ns xs vs → n ≡ b ++ codes "No more matches.\n" → n ≡ o ++ listing_lines m ns p (vs ∷ [])
 one_matcher m ns p o a b n xs vs x ea eb en =
     let lines = substitution_lines m ns (variables p) vs in
@@ -74,7 +78,7 @@ or_nothing true = refl
 or_nothing false = refl
 
 module _ (ws : List Word) where
-  pub one_more : (ms ns : List Module) (k i j : ℕ) (o n : List ℕ) (r b s : Bool) → i < length ws → GainsItem ws ms k i j ns o n b → s ≡ (r || b)
+  pub one_more : (ms ns : List ModuleOf) (k i j : ℕ) (o n : List ℕ) (r b s : Bool) → i < length ws → GainsItem ws ms k i j ns o n b → s ≡ (r || b)
       → ((more : List ℕ) (later : Bool) → ItemsAnswer ws ms k i more later → ItemsAnswer ws [] 1 0 (o ++ more) (r || later))
       → (more : List ℕ) (later : Bool) → ItemsAnswer ws ns (k + 1) j more later → ItemsAnswer ws [] 1 0 (n ++ more) (s || later)
   one_more ms ns k i j o n r b s h g e rest more later a =
@@ -82,7 +86,7 @@ module _ (ws : List Word) where
       subst (λ x. ItemsAnswer ws [] 1 0 x (s || later)) (sym (append_assoc o g.bytes more) ∙ ap (λ x. x ++ more) (sym g.gained))
       (subst (λ x. ItemsAnswer ws [] 1 0 (o ++ (g.bytes ++ more)) x) (or_parts r b later ∙ ap (λ x. x || later) (sym e)) whole)
 
-  pub all_answered : (ms : List Module) (k i : ℕ) (o : List ℕ) (r : Bool) → i ≡ length ws
+  pub all_answered : (ms : List ModuleOf) (k i : ℕ) (o : List ℕ) (r : Bool) → i ≡ length ws
       → ((more : List ℕ) (later : Bool) → ItemsAnswer ws ms k i more later → ItemsAnswer ws [] 1 0 (o ++ more) (r || later)) → ItemsAnswer ws [] 1 0 o r
   all_answered ms k i o r e rest =
       subst (λ x. ItemsAnswer ws [] 1 0 x r) (append-nil o)
@@ -90,18 +94,18 @@ module _ (ws : List Word) where
 
 -- ---- one item
 
-module _ (ws : List Word) (ms : List Module) (k i : ℕ) (o : List ℕ) where
+module _ (ws : List Word) (ms : List ModuleOf) (k i : ℕ) (o : List ℕ) where
   pub gains_unended : (n : ℕ) (new : List ℕ) (b : Bool) → IsNowhere (may_end ws i) i (length ws) → n ≡ length ws → new ≡ o ++ refusal_line k ws (Unended i) → b ≡ true
       → GainsItem ws ms k i n ms o new b
   gains_unended n new b f e g r =
       subst (λ n. GainsItem ws ms k i n ms o new b) (sym e) (subst (GainsItem ws ms k i (length ws) ms o new) (sym r) (record { bytes = _; answer = item_unended f; gained = g }))
 
-  pub moved : (n : ℕ) {ns ns' : List Module} {v v' : Vec ℕ Global} {b b' : Bool} → ns' ≡ ns → v' ≡ v → b' ≡ b → GainsItem ws ms k i n ns o v.items b → GainsItem ws ms k i n ns' o v'.items b'
+  pub moved : (n : ℕ) {ns ns' : List ModuleOf} {v v' : Vec ℕ Global} {b b' : Bool} → ns' ≡ ns → v' ≡ v → b' ≡ b → GainsItem ws ms k i n ns o v.items b → GainsItem ws ms k i n ns' o v'.items b'
   moved n {ns} {ns'} {v} {v'} {b} {b'} e f g h =
       subst (λ x. GainsItem ws ms k i n x o v'.items b') (sym e) (subst (λ x. GainsItem ws ms k i n ns o x.items b') (sym f) (subst (GainsItem ws ms k i n ns o v.items) (sym g) h))
 
   module _ (j : ℕ) (f : IsFirst (may_end ws i) i (length ws) j) where
-    pub gains_module : (ns : List Module) (new : List ℕ) (b : Bool) → is_word ws (codes "fmod") i ≡ true → GainsModule ws k i j ms ns o new b → GainsItem ws ms k i (j + 1) ns o new b
+    pub gains_module : (ns : List ModuleOf) (new : List ℕ) (b : Bool) → is_word ws (codes "fmod") i ≡ true → GainsModule ws k i j ms ns o new b → GainsItem ws ms k i (j + 1) ns o new b
     gains_module ns new b w (gains_accepted m old new' r g) = record { bytes = _; answer = module_accepted j m f w r; gained = g }
     gains_module ns new b w (gains_refused l old new' r g) = record { bytes = _; answer = module_refused j l f w r; gained = g }
 

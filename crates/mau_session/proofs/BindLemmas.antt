@@ -5,9 +5,7 @@ use Rattle.std.proofs.lemmas.Option.{slice_get_within, slice_get-get_or}
 use Rattle.std.proofs.lemmas.List.{length-set}
 use Rattle.mau_terms.specs.Tree.{Tree, variable, numeral, apply, Trees, no_trees, tree}
 use Rattle.mau_terms.specs.Subst.{Variable, instance, instances, Occurs, OccursIn}
-use Rattle.mau_reader.specs.declared.module.Module.{Module}
-use Rattle.mau_session.specs.Terms.{sort_of}
-use Rattle.mau_session.specs.Binding.{Bindings, same_tree, is_sort, has_sort, bound_to, bind, bind_all}
+use Rattle.mau_session.specs.Binding.{Bindings, same_tree, bound_to, bind, bind_all}
 use Rattle.mau_session.proofs.Bindings.{same_tree_is, same_tree_itself}
 
 -- the values g, by the variables' indices
@@ -29,25 +27,7 @@ abbrev mutual
   AllWithin n no_trees = Unit {0}
   AllWithin n (tree t ts) = Within n t × AllWithin n ts
 
--- the values g have their variables' sorts
-abbrev mutual
-  pub Sorted : Module → (ℕ → Tree) → Tree → Type 0
-  Sorted m g (variable i s) = sort_of m (g i) ≡ Some s
-  Sorted m g (numeral a) = Unit {0}
-  Sorted m g (apply f ts) = AllSorted m g ts
-
-  pub AllSorted : Module → (ℕ → Tree) → Trees → Type 0
-  AllSorted m g no_trees = Unit {0}
-  AllSorted m g (tree t ts) = Sorted m g t × AllSorted m g ts
-
 -- ---- tests
-
-is_sort_is : (s : ℕ) (o : Option ℕ) → is_sort s o ≡ true → o ≡ Some s
-is_sort_is s None e = absurd cc
-is_sort_is s (Some r) e = ap Some (eqb-true r s e)
-
-is_sort_itself : (s : ℕ) (o : Option ℕ) → o ≡ Some s → is_sort s o ≡ true
-is_sort_itself s o e = ap (is_sort s) e ∙ eq-eqb s s refl
 
 -- what a test that came out says
 tested : (b : Bool) {o : Option Bindings} {cs : Bindings} → (if b then o else None) ≡ Some cs → (b ≡ true) × (o ≡ Some cs)
@@ -84,7 +64,7 @@ same_place j i = by (nat_eq j i) refl
 
 -- ---- what is bound makes the pattern the subject
 
-module _ (m : Module) (g : ℕ → Tree) where
+module _ (g : ℕ → Tree) where
   bound_sound : (bs : Bindings) (i : ℕ) (t : Tree) (o : Option (Option Tree)) {cs : Bindings} → slice_get bs i ≡ o → bound_to bs i t o ≡ Some cs → Keeps g cs → Keeps g bs × (g i ≡ t)
   bound_sound bs i t None e b k = absurd cc
   bound_sound bs i t (Some None) {cs = cs} e b k =
@@ -103,33 +83,30 @@ module _ (m : Module) (g : ℕ → Tree) where
       (keeps, keeps i u e ∙ same_tree_is u t p.0)
 
   mutual
-    pub bind_sound : (bs : Bindings) (p t : Tree) {cs : Bindings} → bind m bs p t ≡ Some cs → Keeps g cs → Keeps g bs × (instance (by_index g) p ≡ t) × Sorted m g p
-    bind_sound bs (variable i s) t e k =
-        let p = tested (has_sort m s t) e in
-        let q = bound_sound bs i t (slice_get bs i) refl p.1 k in
-        (q.0, q.1, ap (sort_of m) q.1 ∙ is_sort_is s (sort_of m t) p.0)
+    pub bind_sound : (bs : Bindings) (p t : Tree) {cs : Bindings} → bind bs p t ≡ Some cs → Keeps g cs → Keeps g bs × (instance (by_index g) p ≡ t)
+    bind_sound bs (variable i s) t e k = bound_sound bs i t (slice_get bs i) refl e k
     bind_sound bs (numeral a) (variable j r) e k = absurd cc
     bind_sound bs (numeral a) (numeral b) {cs = cs} e k =
         let p = tested (nat_eq a b) e in
         let c : bs ≡ cs = cc in
-        (subst (Keeps g) (sym c) k, ap numeral (eqb-true a b p.0), tt)
+        (subst (Keeps g) (sym c) k, ap numeral (eqb-true a b p.0))
     bind_sound bs (numeral a) (apply f ts) e k = absurd cc
     bind_sound bs (apply f ps) (variable j r) e k = absurd cc
     bind_sound bs (apply f ps) (numeral b) e k = absurd cc
     bind_sound bs (apply f ps) (apply h ts) e k =
         let p = tested (nat_eq f h) e in
         let q = bind_all_sound bs ps ts p.1 k in
-        (q.0, ap₂ (λ f ts. apply f ts) (eqb-true f h p.0) q.1, q.2)
+        (q.0, ap₂ (λ f ts. apply f ts) (eqb-true f h p.0) q.1)
 
-    pub bind_all_sound : (bs : Bindings) (ps ts : Trees) {cs : Bindings} → bind_all m bs ps ts ≡ Some cs → Keeps g cs → Keeps g bs × (instances (by_index g) ps ≡ ts) × AllSorted m g ps
-    bind_all_sound bs no_trees no_trees {cs = cs} e k = let c : bs ≡ cs = cc in (subst (Keeps g) (sym c) k, refl, tt)
+    pub bind_all_sound : (bs : Bindings) (ps ts : Trees) {cs : Bindings} → bind_all bs ps ts ≡ Some cs → Keeps g cs → Keeps g bs × (instances (by_index g) ps ≡ ts)
+    bind_all_sound bs no_trees no_trees {cs = cs} e k = let c : bs ≡ cs = cc in (subst (Keeps g) (sym c) k, refl)
     bind_all_sound bs no_trees (tree t ts) e k = absurd cc
     bind_all_sound bs (tree p ps) no_trees e k = absurd cc
     bind_all_sound bs (tree p ps) (tree t ts) e k =
-        let d = chained (λ cs. bind_all m cs ps ts) (bind m bs p t) e in
+        let d = chained (λ cs. bind_all cs ps ts) (bind bs p t) e in
         let r = bind_all_sound d.0 ps ts d.2 k in
         let q = bind_sound bs p t d.1 r.0 in
-        (q.0, ap₂ (λ t ts. tree t ts) q.1 r.1, (q.2, r.2))
+        (q.0, ap₂ (λ t ts. tree t ts) q.1 r.1)
 
   -- ---- values that make the pattern the subject are bound
 
@@ -147,25 +124,23 @@ module _ (m : Module) (g : ℕ → Tree) where
       (bs, ap (λ b. if b then Some bs else None) (ap (λ v. same_tree v (g i)) (sym (k i u e)) ∙ same_tree_itself (g i)), k, refl)
 
   mutual
-    pub bind_complete : (bs : Bindings) (p : Tree) → Within (length bs) p → Keeps g bs → Sorted m g p → (cs : Bindings) × (bind m bs p (instance (by_index g) p) ≡ Some cs) × Keeps g cs × (length cs ≡ length bs)
-    bind_complete bs (variable i s) w k o =
-        let q = bound_complete bs i w k (slice_get bs i) refl in
-        (q.0, ap (λ b. if b then bound_to bs i (g i) (slice_get bs i) else None) (is_sort_itself s (sort_of m (g i)) o) ∙ q.1, q.2, q.3)
-    bind_complete bs (numeral a) w k o = (bs, ap (λ b. if b then Some bs else None) (eq-eqb a a refl), k, refl)
-    bind_complete bs (apply f ps) w k o =
-        let q = bind_all_complete bs ps w k o in
-        (q.0, ap (λ b. if b then bind_all m bs ps (instances (by_index g) ps) else None) (eq-eqb f f refl) ∙ q.1, q.2, q.3)
+    pub bind_complete : (bs : Bindings) (p : Tree) → Within (length bs) p → Keeps g bs → (cs : Bindings) × (bind bs p (instance (by_index g) p) ≡ Some cs) × Keeps g cs × (length cs ≡ length bs)
+    bind_complete bs (variable i s) w k = bound_complete bs i w k (slice_get bs i) refl
+    bind_complete bs (numeral a) w k = (bs, ap (λ b. if b then Some bs else None) (eq-eqb a a refl), k, refl)
+    bind_complete bs (apply f ps) w k =
+        let q = bind_all_complete bs ps w k in
+        (q.0, ap (λ b. if b then bind_all bs ps (instances (by_index g) ps) else None) (eq-eqb f f refl) ∙ q.1, q.2, q.3)
 
-    pub bind_all_complete : (bs : Bindings) (ps : Trees) → AllWithin (length bs) ps → Keeps g bs → AllSorted m g ps → (cs : Bindings) × (bind_all m bs ps (instances (by_index g) ps) ≡ Some cs) × Keeps g cs × (length cs ≡ length bs)
-    bind_all_complete bs no_trees w k o = (bs, refl, k, refl)
-    bind_all_complete bs (tree p ps) w k o =
-        let q = bind_complete bs p w.0 k o.0 in
-        let r = bind_all_complete q.0 ps (subst (λ n. AllWithin n ps) (sym q.3) w.1) q.2 o.1 in
-        (r.0, ap (option_and_then (λ cs. bind_all m cs ps (instances (by_index g) ps))) q.1 ∙ r.1, r.2, r.3 ∙ q.3)
+    pub bind_all_complete : (bs : Bindings) (ps : Trees) → AllWithin (length bs) ps → Keeps g bs → (cs : Bindings) × (bind_all bs ps (instances (by_index g) ps) ≡ Some cs) × Keeps g cs × (length cs ≡ length bs)
+    bind_all_complete bs no_trees w k = (bs, refl, k, refl)
+    bind_all_complete bs (tree p ps) w k =
+        let q = bind_complete bs p w.0 k in
+        let r = bind_all_complete q.0 ps (subst (λ n. AllWithin n ps) (sym q.3) w.1) q.2 in
+        (r.0, ap (option_and_then (λ cs. bind_all cs ps (instances (by_index g) ps))) q.1 ∙ r.1, r.2, r.3 ∙ q.3)
 
 -- ---- what is bound stays bound, and each variable of the pattern is
 
-module _ (m : Module) where
+module _ where
   abbrev pub IsBoundIn : Bindings → ℕ → Type 0
   IsBoundIn bs i = (u : Tree) × (slice_get bs i ≡ Some (Some u))
 
@@ -193,8 +168,8 @@ module _ (m : Module) where
       (u, subst (λ cs. slice_get cs i ≡ Some (Some u)) c e)
 
   mutual
-    pub bind_stays : (bs : Bindings) (p t : Tree) {cs : Bindings} → bind m bs p t ≡ Some cs → (j : ℕ) → IsBoundIn bs j → IsBoundIn cs j
-    bind_stays bs (variable i s) t e j h = bound_stays bs i t (slice_get bs i) refl (tested (has_sort m s t) e).1 j h
+    pub bind_stays : (bs : Bindings) (p t : Tree) {cs : Bindings} → bind bs p t ≡ Some cs → (j : ℕ) → IsBoundIn bs j → IsBoundIn cs j
+    bind_stays bs (variable i s) t e j h = bound_stays bs i t (slice_get bs i) refl e j h
     bind_stays bs (numeral a) (variable j' r) e j h = absurd cc
     bind_stays bs (numeral a) (numeral b) {cs = cs} e j h = let p = tested (nat_eq a b) e in let c : bs ≡ cs = cc in subst (λ cs. IsBoundIn cs j) c h
     bind_stays bs (numeral a) (apply f ts) e j h = absurd cc
@@ -202,30 +177,30 @@ module _ (m : Module) where
     bind_stays bs (apply f ps) (numeral b) e j h = absurd cc
     bind_stays bs (apply f ps) (apply g ts) e j h = bind_all_stays bs ps ts (tested (nat_eq f g) e).1 j h
 
-    pub bind_all_stays : (bs : Bindings) (ps ts : Trees) {cs : Bindings} → bind_all m bs ps ts ≡ Some cs → (j : ℕ) → IsBoundIn bs j → IsBoundIn cs j
+    pub bind_all_stays : (bs : Bindings) (ps ts : Trees) {cs : Bindings} → bind_all bs ps ts ≡ Some cs → (j : ℕ) → IsBoundIn bs j → IsBoundIn cs j
     bind_all_stays bs no_trees no_trees {cs = cs} e j h = let c : bs ≡ cs = cc in subst (λ cs. IsBoundIn cs j) c h
     bind_all_stays bs no_trees (tree t ts) e j h = absurd cc
     bind_all_stays bs (tree p ps) no_trees e j h = absurd cc
     bind_all_stays bs (tree p ps) (tree t ts) e j h =
-        let d = chained (λ cs. bind_all m cs ps ts) (bind m bs p t) e in
+        let d = chained (λ cs. bind_all cs ps ts) (bind bs p t) e in
         bind_all_stays d.0 ps ts d.2 j (bind_stays bs p t d.1 j h)
 
   mutual
-    pub bind_binds : (bs : Bindings) (p t : Tree) {cs : Bindings} → bind m bs p t ≡ Some cs → (x : Variable) → Occurs x p → IsBoundIn cs x.0
-    bind_binds bs (variable i s) t {cs = cs} e x o = subst (λ y. IsBoundIn cs y.0) (sym o) (bound_here bs i t (slice_get bs i) refl (tested (has_sort m s t) e).1)
+    pub bind_binds : (bs : Bindings) (p t : Tree) {cs : Bindings} → bind bs p t ≡ Some cs → (x : Variable) → Occurs x p → IsBoundIn cs x.0
+    bind_binds bs (variable i s) t {cs = cs} e x o = subst (λ y. IsBoundIn cs y.0) (sym o) (bound_here bs i t (slice_get bs i) refl e)
     bind_binds bs (numeral a) t e x o = absurd o
     bind_binds bs (apply f ps) (variable j' r) e x o = absurd cc
     bind_binds bs (apply f ps) (numeral b) e x o = absurd cc
     bind_binds bs (apply f ps) (apply g ts) e x o = bind_all_binds bs ps ts (tested (nat_eq f g) e).1 x o
 
-    pub bind_all_binds : (bs : Bindings) (ps ts : Trees) {cs : Bindings} → bind_all m bs ps ts ≡ Some cs → (x : Variable) → OccursIn x ps → IsBoundIn cs x.0
+    pub bind_all_binds : (bs : Bindings) (ps ts : Trees) {cs : Bindings} → bind_all bs ps ts ≡ Some cs → (x : Variable) → OccursIn x ps → IsBoundIn cs x.0
     bind_all_binds bs no_trees ts e x o = absurd o
     bind_all_binds bs (tree p ps) no_trees e x o = absurd cc
     bind_all_binds bs (tree p ps) (tree t ts) e x (inl o) =
-        let d = chained (λ cs. bind_all m cs ps ts) (bind m bs p t) e in
+        let d = chained (λ cs. bind_all cs ps ts) (bind bs p t) e in
         bind_all_stays d.0 ps ts d.2 x.0 (bind_binds bs p t d.1 x o)
     bind_all_binds bs (tree p ps) (tree t ts) e x (inr o) =
-        let d = chained (λ cs. bind_all m cs ps ts) (bind m bs p t) e in
+        let d = chained (λ cs. bind_all cs ps ts) (bind bs p t) e in
         bind_all_binds d.0 ps ts d.2 x o
 
   -- ---- binding keeps the number of places
@@ -236,8 +211,8 @@ module _ (m : Module) where
   bound_length bs i t (Some (Some u)) {cs = cs} b = let p = tested (same_tree u t) b in let c : bs ≡ cs = cc in ap length (sym c)
 
   mutual
-    pub bind_length : (bs : Bindings) (p t : Tree) {cs : Bindings} → bind m bs p t ≡ Some cs → length cs ≡ length bs
-    bind_length bs (variable i s) t e = bound_length bs i t (slice_get bs i) (tested (has_sort m s t) e).1
+    pub bind_length : (bs : Bindings) (p t : Tree) {cs : Bindings} → bind bs p t ≡ Some cs → length cs ≡ length bs
+    bind_length bs (variable i s) t e = bound_length bs i t (slice_get bs i) e
     bind_length bs (numeral a) (variable j r) e = absurd cc
     bind_length bs (numeral a) (numeral b) {cs = cs} e = let p = tested (nat_eq a b) e in let c : bs ≡ cs = cc in ap length (sym c)
     bind_length bs (numeral a) (apply f ts) e = absurd cc
@@ -245,10 +220,10 @@ module _ (m : Module) where
     bind_length bs (apply f ps) (numeral b) e = absurd cc
     bind_length bs (apply f ps) (apply g ts) e = bind_all_length bs ps ts (tested (nat_eq f g) e).1
 
-    pub bind_all_length : (bs : Bindings) (ps ts : Trees) {cs : Bindings} → bind_all m bs ps ts ≡ Some cs → length cs ≡ length bs
+    pub bind_all_length : (bs : Bindings) (ps ts : Trees) {cs : Bindings} → bind_all bs ps ts ≡ Some cs → length cs ≡ length bs
     bind_all_length bs no_trees no_trees {cs = cs} e = let c : bs ≡ cs = cc in ap length (sym c)
     bind_all_length bs no_trees (tree t ts) e = absurd cc
     bind_all_length bs (tree p ps) no_trees e = absurd cc
     bind_all_length bs (tree p ps) (tree t ts) e =
-        let d = chained (λ cs. bind_all m cs ps ts) (bind m bs p t) e in
+        let d = chained (λ cs. bind_all cs ps ts) (bind bs p t) e in
         bind_all_length d.0 ps ts d.2 ∙ bind_length bs p t d.1

@@ -13,8 +13,7 @@ use Rattle.mau_terms.specs.Tree.{Tree, trees_of}
 use Rattle.mau_terms.specs.Order.{tree_cmp}
 use Rattle.mau_terms.specs.View.{tree_of}
 use Rattle.mau_terms.proofs.Orders.{tree_total, tree_tied}
-use Rattle.mau_reader.specs.declared.module.Module.{Module}
-use Rattle.mau_session.specs.Binding.{Bindings, same_tree, is_tie, has_sort, bound_to, bind, bind_all, bind_variable}
+use Rattle.mau_session.specs.Binding.{Bindings, same_tree, is_tie, bound_to, bind, bind_all, bind_variable}
 use Rattle.mau_session.specs.Bound.{bindings_of}
 
 pub same_tree_is : (t u : Tree) → same_tree t u ≡ true → t ≡ u
@@ -39,39 +38,38 @@ same_tree-by t u false h = by (same_tree t u) refl
 pub binding_at : (bs : List (Option (Bor Bare))) (i : ℕ) (b : Option (Bor Bare)) → i < length bs → slice_get (bindings_of bs) i ≡ Some (option_map (λ r. tree_of r.now) (get_or bs i b))
 binding_at bs i b h = slice_get-map _ bs i ∙ ap (option_map (option_map (λ r. tree_of r.now))) (slice_get-get_or bs i b h)
 
-module _ (m : Module) (bs : List (Option (Bor Bare))) (i s : ℕ) (t : Tree) (sorted : has_sort m s t ≡ true) (b : Option (Bor Bare)) (inside : i < length bs) (there : b ≡ get_or bs i b) where
-  bound_there : bind_variable m (bindings_of bs) i s t ≡ bound_to (bindings_of bs) i t (Some (option_map (λ r. tree_of r.now) b))
+module _ (bs : List (Option (Bor Bare))) (i : ℕ) (t : Tree) (b : Option (Bor Bare)) (inside : i < length bs) (there : b ≡ get_or bs i b) where
+  bound_there : bind_variable (bindings_of bs) i t ≡ bound_to (bindings_of bs) i t (Some (option_map (λ r. tree_of r.now) b))
   bound_there =
-      ap (λ h. if h then bound_to (bindings_of bs) i t (slice_get (bindings_of bs) i) else None) sorted
-      ∙ ap (bound_to (bindings_of bs) i t) (binding_at bs i b inside ∙ ap (λ b. Some (option_map (λ r. tree_of r.now) b)) (sym there))
+      ap (bound_to (bindings_of bs) i t) (binding_at bs i b inside ∙ ap (λ b. Some (option_map (λ r. tree_of r.now) b)) (sym there))
 
-  pub binds_same : (r : Bor Bare) → b ≡ Some r → same_tree (tree_of r.now) t ≡ true → bind_variable m (bindings_of bs) i s t ≡ Some (bindings_of bs)
+  pub binds_same : (r : Bor Bare) → b ≡ Some r → same_tree (tree_of r.now) t ≡ true → bind_variable (bindings_of bs) i t ≡ Some (bindings_of bs)
   binds_same r e h =
       bound_there ∙ ap (λ b. bound_to (bindings_of bs) i t (Some (option_map (λ r. tree_of r.now) b))) e ∙ ap (λ c. if c then Some (bindings_of bs) else None) h
 
-  pub binds_other : (r : Bor Bare) → b ≡ Some r → same_tree (tree_of r.now) t ≡ false → bind_variable m (bindings_of bs) i s t ≡ None
+  pub binds_other : (r : Bor Bare) → b ≡ Some r → same_tree (tree_of r.now) t ≡ false → bind_variable (bindings_of bs) i t ≡ None
   binds_other r e h =
       bound_there ∙ ap (λ b. bound_to (bindings_of bs) i t (Some (option_map (λ r. tree_of r.now) b))) e ∙ ap (λ c. if c then Some (bindings_of bs) else None) h
 
-  pub binds_new : (r : Bor Bare) → b ≡ None → tree_of r.now ≡ t → bind_variable m (bindings_of bs) i s t ≡ Some (bindings_of (set bs i (Some r)))
+  pub binds_new : (r : Bor Bare) → b ≡ None → tree_of r.now ≡ t → bind_variable (bindings_of bs) i t ≡ Some (bindings_of (set bs i (Some r)))
   binds_new r e h =
       bound_there ∙ ap (λ b. bound_to (bindings_of bs) i t (Some (option_map (λ r. tree_of r.now) b))) e
       ∙ ap Some (ap (λ t. set (bindings_of bs) i (Some t)) (sym h) ∙ sym (map-set _ bs i (Some r)))
 
 -- lists of different lengths bind nothing
-pub bind_all_lengths : (m : Module) (bs : Bindings) (ps ts : List Tree) → (length ps ≡ length ts → ⊥) → bind_all m bs (trees_of ps) (trees_of ts) ≡ None
-bind_all_lengths m bs [] [] h = absurd (h refl)
-bind_all_lengths m bs [] (t ∷ ts) h = refl
-bind_all_lengths m bs (p ∷ ps) [] h = refl
-bind_all_lengths m bs (p ∷ ps) (t ∷ ts) h = by (bind m bs p t) (λ cs. bind_all_lengths m cs ps ts (λ e. h (omega arith)))
+pub bind_all_lengths : (bs : Bindings) (ps ts : List Tree) → (length ps ≡ length ts → ⊥) → bind_all bs (trees_of ps) (trees_of ts) ≡ None
+bind_all_lengths bs [] [] h = absurd (h refl)
+bind_all_lengths bs [] (t ∷ ts) h = refl
+bind_all_lengths bs (p ∷ ps) [] h = refl
+bind_all_lengths bs (p ∷ ps) (t ∷ ts) h = by (bind bs p t) (λ cs. bind_all_lengths cs ps ts (λ e. h (omega arith)))
   where
-    by : (o : Option Bindings) → ((cs : Bindings) → bind_all m cs (trees_of ps) (trees_of ts) ≡ None) → option_and_then (λ cs. bind_all m cs (trees_of ps) (trees_of ts)) o ≡ None
+    by : (o : Option Bindings) → ((cs : Bindings) → bind_all cs (trees_of ps) (trees_of ts) ≡ None) → option_and_then (λ cs. bind_all cs (trees_of ps) (trees_of ts)) o ≡ None
     by None f = refl
     by (Some cs) f = f cs
 
 -- from one place to the next
-pub bind_all_next : (m : Module) (bs : Bindings) (ps ts : List Bare) (i : ℕ) (p t : Bare) → i < length ps → i < length ts → p ≡ get_or ps i p → t ≡ get_or ts i t
-    → bind_all m bs (trees_of (map tree_of (drop i ps))) (trees_of (map tree_of (drop i ts))) ≡ option_and_then (λ cs. bind_all m cs (trees_of (map tree_of (drop (suc i) ps))) (trees_of (map tree_of (drop (suc i) ts)))) (bind m bs (tree_of p) (tree_of t))
-bind_all_next m bs ps ts i p t h k e f =
-    ap₂ (λ a b. bind_all m bs (trees_of (map tree_of a)) (trees_of (map tree_of b))) (drop-cons ps i p h) (drop-cons ts i t k)
-    ∙ ap₂ (λ a b. option_and_then (λ cs. bind_all m cs (trees_of (map tree_of (drop (suc i) ps))) (trees_of (map tree_of (drop (suc i) ts)))) (bind m bs (tree_of a) (tree_of b))) (sym e) (sym f)
+pub bind_all_next : (bs : Bindings) (ps ts : List Bare) (i : ℕ) (p t : Bare) → i < length ps → i < length ts → p ≡ get_or ps i p → t ≡ get_or ts i t
+    → bind_all bs (trees_of (map tree_of (drop i ps))) (trees_of (map tree_of (drop i ts))) ≡ option_and_then (λ cs. bind_all cs (trees_of (map tree_of (drop (suc i) ps))) (trees_of (map tree_of (drop (suc i) ts)))) (bind bs (tree_of p) (tree_of t))
+bind_all_next bs ps ts i p t h k e f =
+    ap₂ (λ a b. bind_all bs (trees_of (map tree_of a)) (trees_of (map tree_of b))) (drop-cons ps i p h) (drop-cons ts i t k)
+    ∙ ap₂ (λ a b. option_and_then (λ cs. bind_all cs (trees_of (map tree_of (drop (suc i) ps))) (trees_of (map tree_of (drop (suc i) ts)))) (bind bs (tree_of a) (tree_of b))) (sym e) (sym f)

@@ -4,9 +4,10 @@ use Rattle.std.proofs.lemmas.List.{take_at}
 use Rattle.std.specs.List.{list_any}
 use Rattle.mau_terms.specs.Tree.{Tree, Trees}
 use Rattle.mau_terms.specs.Vars.{same_pair, with_pair}
-use Rattle.mau_reader.specs.declared.module.Module.{Module}
+use Rattle.mau_poset.specs.Order.{kind_of}
+use Rattle.mau_reader.specs.Modules.{ModuleOf}
 use Rattle.mau_reader.specs.Words.{Word, text_at}
-use Rattle.mau_session.specs.Terms.{Pairs, Reads, reads_constant, reads_application, reads_variable, ReadsArgument, reads_argument, ReadsList, list_ends, list_goes_on}
+use Rattle.mau_session.specs.Terms.{Pairs, Reads, reads_constant, reads_application, reads_variable, reads_kind_variable, ReadsArgument, reads_argument, ReadsList, list_ends, list_goes_on}
 
 record Extends (ns ms : Pairs) : Type 0 where
   more : Pairs
@@ -25,12 +26,13 @@ with_pair_extends ns x = by (list_any (same_pair x) ns)
     by true = stays ns
     by false = record { more = x ∷ []; is = refl }
 
-module _ (m : Module) (ws : List Word) (to : ℕ) where
+module _ (m : ModuleOf) (ws : List Word) (to : ℕ) where
   mutual
     extends : {ns : Pairs} {i : ℕ} {t : Tree} {s j : ℕ} {ms : Pairs} → Reads m ws to ns i t s j ms → Extends ns ms
-    extends (reads_constant ns i f s b e p) = stays ns
-    extends (reads_application ns i f k ks s ts j ms b e p h o) = list_extends h
+    extends (reads_constant ns i f b e p) = stays ns
+    extends (reads_application ns i f k ks ts j ms b e p h o) = list_extends h
     extends (reads_variable ns i k s b e v) = with_pair_extends ns (take k (text_at ws i), s)
+    extends (reads_kind_variable ns i k s e v) = with_pair_extends ns (take k (text_at ws i), kind_of m.signature.hierarchy s)
 
     list_extends : {ns : Pairs} {w ss : List ℕ} {i : ℕ} {ts : Trees} {j : ℕ} {ms : Pairs} → ReadsList m ws to ns w ss i ts j ms → Extends ns ms
     list_extends (list_ends ns w i) = stays ns

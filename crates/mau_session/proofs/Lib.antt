@@ -6,9 +6,11 @@ pub mod BindLemmas
 pub mod Numbered
 pub mod Bareness
 pub mod Solving
+pub mod Values
 pub mod Lines
 pub mod Extending
 pub mod Answering
 pub mod OneTranscript
 pub mod Depths
 pub mod Spanned
+pub mod Sorting

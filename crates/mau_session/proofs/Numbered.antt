@@ -4,9 +4,10 @@ use Rattle.std.specs.List.{list_any}
 use Rattle.mau_terms.specs.Tree.{Tree, Trees}
 use Rattle.mau_terms.specs.Subst.{same_variable, has_variable, add_variables, add_all_variables}
 use Rattle.mau_terms.specs.Vars.{same_pair, place_of, with_pair}
-use Rattle.mau_reader.specs.declared.module.Module.{Module}
+use Rattle.mau_poset.specs.Order.{kind_of}
+use Rattle.mau_reader.specs.Modules.{ModuleOf}
 use Rattle.mau_reader.specs.Words.{Word, text_at}
-use Rattle.mau_session.specs.Terms.{Pairs, Reads, reads_constant, reads_application, reads_variable, ReadsArgument, reads_argument, ReadsList, list_ends, list_goes_on}
+use Rattle.mau_session.specs.Terms.{Pairs, Reads, reads_constant, reads_application, reads_variable, reads_kind_variable, ReadsArgument, reads_argument, ReadsList, list_ends, list_goes_on}
 use Rattle.mau_session.specs.Matching.{numbered_from}
 
 both : (a b : Bool) → (a && b) ≡ true → (a ≡ true) × (b ≡ true)
@@ -94,12 +95,13 @@ variable_added ns x = by (list_any (same_pair x) ns) refl
 
 -- ---- readings
 
-module _ (m : Module) (ws : List Word) (to : ℕ) where
+module _ (m : ModuleOf) (ws : List Word) (to : ℕ) where
   mutual
     pub reads_numbered : {ns : Pairs} {i : ℕ} {t : Tree} {s j : ℕ} {ms : Pairs} → Reads m ws to ns i t s j ms → add_variables (numbered_from 0 ns) t ≡ numbered_from 0 ms
-    reads_numbered (reads_constant ns i f s b e p) = refl
-    reads_numbered (reads_application ns i f k ks s ts j ms b e p h o) = list_numbered h
+    reads_numbered (reads_constant ns i f b e p) = refl
+    reads_numbered (reads_application ns i f k ks ts j ms b e p h o) = list_numbered h
     reads_numbered (reads_variable ns i k s b e v) = variable_added ns (take k (text_at ws i), s)
+    reads_numbered (reads_kind_variable ns i k s e v) = variable_added ns (take k (text_at ws i), kind_of m.signature.hierarchy s)
 
     list_numbered : {ns : Pairs} {w ss : List ℕ} {i : ℕ} {ts : Trees} {j : ℕ} {ms : Pairs} → ReadsList m ws to ns w ss i ts j ms → add_all_variables (numbered_from 0 ns) ts ≡ numbered_from 0 ms
     list_numbered (list_ends ns w i) = refl

@@ -4,28 +4,29 @@ use Rattle.std.specs.Ordering.{ordering_reverse}
 use Rattle.std.specs.declared.cmp.Ordering.{Ordering}
 use Rattle.std.specs.declared.cmp.Ordering.TheVariants.{Less, Equal, Greater}
 use Rattle.mau_terms.specs.Tree.{Tree}
+use Rattle.mau_terms.specs.Bare.{HasNoAxioms}
 use Rattle.mau_terms.specs.Subst.{variables}
 use Rattle.mau_terms.specs.Solution.{solution_cmp}
 use Rattle.mau_terms.specs.declared.theory.Theory.{Theory}
-use Rattle.mau_reader.specs.declared.module.Module.{Module}
+use Rattle.mau_reader.specs.Modules.{ModuleOf}
 use Rattle.mau_reader.specs.declared.places.Sign.TheVariants.{Parts, Condition}
 use Rattle.mau_session.specs.declared.refusal.Refusal.TheVariants.{NotBuilt}
 use Rattle.mau_reader.specs.Words.{Word, text_at, words_of}
 use Rattle.mau_reader.specs.Places.{IsFirst, IsNowhere, stands_outside}
 use Rattle.mau_reader.specs.Items.{may_end}
 use Rattle.mau_reader.specs.Modules.{ModuleRead}
-use Rattle.mau_session.specs.Terms.{Pairs, Reads, signature_of}
+use Rattle.mau_session.specs.Terms.{Pairs, Reads, terms_in, HasAxioms}
 use Rattle.mau_session.specs.Matching.{numbered_from, IsListing}
 use Rattle.mau_session.specs.Commands.{CommandRead, prefix_leaves, parts_missing, pattern_leaves, subject_leaves, condition_leaves, command_read, SubjectEnds, at_condition, at_stop, is_no_term}
-use Rattle.mau_session.specs.Answers.{refusal_line, fault_line, module_line, match_head, listing_lines}
-use Rattle.mau_session.specs.Transcript.{current, accepted, TermsAnswer, no_pattern, no_subject, listed, MatchAnswer, no_module, command_leaves, command_answered, ItemAnswer, item_unended, module_accepted, module_refused, match_answered, item_not_built, ItemsAnswer, items_end, item_first, Transcript, text_refused, items_answered}
+use Rattle.mau_session.specs.Answers.{refusal_line, module_refusal, fault_line, module_line, match_head, listing_lines}
+use Rattle.mau_session.specs.Transcript.{current, accepted, TermsAnswer, no_pattern, no_subject, listed, MatchAnswer, no_module, command_leaves, axioms_not_built, command_answered, ItemAnswer, item_unended, module_accepted, module_refused, match_answered, item_not_built, ItemsAnswer, items_end, item_first, Transcript, text_refused, items_answered}
 use Rattle.mau_tokens.proofs.Answer.{answers_are_one}
 use Rattle.mau_terms.proofs.Solutions.{solutions_are_ordered}
 use Rattle.mau_session.proofs.Readings.{reads_once}
 use Rattle.mau_session.proofs.Numbered.{reads_numbered}
 use Rattle.mau_session.proofs.Solving.{solution_once}
-use Rattle.mau_reader.proofs.Sizes.{eq_bytes}
-use Rattle.mau_reader.proofs.OneModule.{first_once, first_somewhere, yes_no, module_once}
+use Rattle.mau_session.proofs.Sorting.{axioms_or_none}
+use Rattle.mau_reader.proofs.OneModule.{eq_bytes, first_once, first_somewhere, yes_no, module_once}
 
 -- ---- commands
 
@@ -97,20 +98,20 @@ own_reverse Greater e = absurd cc
 solutions_tie : (th : ℕ → Theory) (p : Tree) (vs : List Tree) → solution_cmp th p ([], vs) ([], vs) ≡ Equal
 solutions_tie th p vs = own_reverse _ ((solutions_are_ordered th p).antisymm ([], vs) ([], vs))
 
-module _ (m : Module) (p t : Tree) (ns : Pairs) (numbered : variables p ≡ numbered_from 0 ns) where
+module _ (m : ModuleOf) (free : HasNoAxioms (terms_in m)) (p t : Tree) (ns : Pairs) (numbered : variables p ≡ numbered_from 0 ns) where
   no_later : (f : List (List Tree)) → IsListing m p t f → (i j : ℕ) → i < j → j < length f → ⊥
   no_later f l i j h k =
       let d : List Tree = [] in
-      let same = solution_once m p t ns numbered (slice_index_or f i d) (slice_index_or f j d) (l.solutions i d (omega (arith, h, k))) (l.solutions j d k) in
+      let same = solution_once m free p t ns numbered (slice_index_or f i d) (slice_index_or f j d) (l.solutions i d (omega (arith, h, k))) (l.solutions j d k) in
       let less = l.ascending i j d h k in
-      let tie = solutions_tie (signature_of m).theory p (slice_index_or f j d) in
-      let n = sym tie ∙ ap (λ vs. solution_cmp (signature_of m).theory p ([], vs) ([], slice_index_or f j d)) (sym same) ∙ less in absurd cc
+      let tie = solutions_tie (terms_in m).theory p (slice_index_or f j d) in
+      let n = sym tie ∙ ap (λ vs. solution_cmp (terms_in m).theory p ([], vs) ([], slice_index_or f j d)) (sym same) ∙ less in absurd cc
 
   listing_once : (f g : List (List Tree)) → IsListing m p t f → IsListing m p t g → f ≡ g
   listing_once [] [] l k = refl
   listing_once [] (w ∷ ws) l k = let a = l.complete w (k.solutions 0 w (omega arith)) in absurd (omega (arith, a.2))
   listing_once (v ∷ vs) [] l k = let a = k.complete v (l.solutions 0 v (omega arith)) in absurd (omega (arith, a.2))
-  listing_once (v ∷ []) (w ∷ []) l k = ap (λ v. v ∷ []) (solution_once m p t ns numbered v w (l.solutions 0 v (omega arith)) (k.solutions 0 w (omega arith)))
+  listing_once (v ∷ []) (w ∷ []) l k = ap (λ v. v ∷ []) (solution_once m free p t ns numbered v w (l.solutions 0 v (omega arith)) (k.solutions 0 w (omega arith)))
   listing_once (v ∷ []) (w ∷ u ∷ ws) l k = absurd (no_later (w ∷ u ∷ ws) k 0 1 (omega arith) (omega arith))
   listing_once (v ∷ u ∷ vs) (w ∷ ws) l k = absurd (no_later (v ∷ u ∷ vs) l 0 1 (omega arith) (omega arith))
 
@@ -123,7 +124,7 @@ record AreOneAnswer (b c : List ℕ) (r s : Bool) : Type 0 where
 one_answer : {b : List ℕ} {r : Bool} → AreOneAnswer b b r r
 one_answer = record { bytes = refl; refused = refl }
 
-module _ (ws : List Word) (m : Module) (k i s j : ℕ) where
+module _ (ws : List Word) (m : ModuleOf) (free : HasNoAxioms (terms_in m)) (k i s j : ℕ) where
   terms_once : {b c : List ℕ} {r q : Bool} → TermsAnswer ws m k i s j b r → TermsAnswer ws m k i s j c q → AreOneAnswer b c r q
   terms_once (no_pattern n) (no_pattern n') = one_answer
   terms_once (no_pattern n) (no_subject p' a' ns' x' n') = absurd (n p' a' ns' x')
@@ -142,36 +143,46 @@ module _ (ws : List Word) (m : Module) (k i s j : ℕ) where
       let y'' = subst (λ a. Reads m ws j ns (s + 1) t' a j os') (sym one.sort) (subst (λ ns. Reads m ws j ns (s + 1) t' a' j os') (sym one.pairs) y') in
       let two = reads_once m ws j y y'' in
       let l'' = subst (λ p. IsListing m p t found') (sym one.tree) (subst (λ t. IsListing m p' t found') (sym two.tree) l') in
-      let same = listing_once m p t ns (reads_numbered m ws s x) found found' l l'' in
+      let same = listing_once m free p t ns (reads_numbered m ws s x) found found' l l'' in
       record {
         bytes = ap (λ os. match_head k m ++ listing_lines m os p found) two.pairs ∙ ap₂ (λ p found. match_head k m ++ listing_lines m os' p found) one.tree same;
         refused = refl;
       }
 
-module _ (ws : List Word) (ms : List Module) (k i j : ℕ) where
-  no_current : {m : Module} → current ms ≡ Some m → current ms ≡ None → ⊥
+module _ (ws : List Word) (ms : List ModuleOf) (k i j : ℕ) where
+  no_current : {m : ModuleOf} → current ms ≡ Some m → current ms ≡ None → ⊥
   no_current e n = let o = sym e ∙ n in absurd cc
+
+  one_current : {m n : ModuleOf} → current ms ≡ Some m → current ms ≡ Some n → m ≡ n
+  one_current e d = let o = sym e ∙ d in cc
 
   match_once : {b c : List ℕ} {r q : Bool} → MatchAnswer ws ms k i j b r → MatchAnswer ws ms k i j c q → AreOneAnswer b c r q
   match_once (no_module n) (no_module n') = one_answer
   match_once (no_module n) (command_leaves m' l' e' x') = absurd (no_current e' n)
-  match_once (no_module n) (command_answered m' s' b' r' e' x' y') = absurd (no_current e' n)
+  match_once (no_module n) (axioms_not_built m' s' e' x' a') = absurd (no_current e' n)
+  match_once (no_module n) (command_answered m' s' b' r' e' x' f' y') = absurd (no_current e' n)
   match_once (command_leaves m l e x) (no_module n') = absurd (no_current e n')
   match_once (command_leaves m l e x) (command_leaves m' l' e' x') =
       let o = command_once ws x x' in
       let h : l ≡ l' = cc in
       record { bytes = ap (λ l. refusal_line k ws (NotBuilt l)) h; refused = refl }
-  match_once (command_leaves m l e x) (command_answered m' s' b' r' e' x' y') = let o = command_once ws x x' in absurd cc
-  match_once (command_answered m s b r e x y) (no_module n') = absurd (no_current e n')
-  match_once (command_answered m s b r e x y) (command_leaves m' l' e' x') = let o = command_once ws x x' in absurd cc
-  match_once (command_answered m s b r e x y) (command_answered m' s' b' r' e' x' y') =
+  match_once (command_leaves m l e x) (axioms_not_built m' s' e' x' a') = let o = command_once ws x x' in absurd cc
+  match_once (command_leaves m l e x) (command_answered m' s' b' r' e' x' f' y') = let o = command_once ws x x' in absurd cc
+  match_once (axioms_not_built m s e x a) (no_module n') = absurd (no_current e n')
+  match_once (axioms_not_built m s e x a) (command_leaves m' l' e' x') = let o = command_once ws x x' in absurd cc
+  match_once (axioms_not_built m s e x a) (axioms_not_built m' s' e' x' a') = one_answer
+  match_once (axioms_not_built m s e x a) (command_answered m' s' b' r' e' x' f' y') =
+      absurd (axioms_or_none m'.signature (subst (λ m. HasAxioms m.signature) (one_current e e') a) f')
+  match_once (command_answered m s b r e x f y) (no_module n') = absurd (no_current e n')
+  match_once (command_answered m s b r e x f y) (command_leaves m' l' e' x') = let o = command_once ws x x' in absurd cc
+  match_once (command_answered m s b r e x f y) (axioms_not_built m' s' e' x' a') =
+      absurd (axioms_or_none m.signature (subst (λ m. HasAxioms m.signature) (one_current e' e) a') f)
+  match_once (command_answered m s b r e x f y) (command_answered m' s' b' r' e' x' f' y') =
       let o = command_once ws x x' in
       let h : s ≡ s' = cc in
-      let g = sym e ∙ e' in
-      let f : m ≡ m' = cc in
-      terms_once ws m k i s j y (subst (λ s. TermsAnswer ws m k i s j b' r') (sym h) (subst (λ m. TermsAnswer ws m k i s' j b' r') (sym f) y'))
+      terms_once ws m f k i s j y (subst (λ s. TermsAnswer ws m k i s j b' r') (sym h) (subst (λ m. TermsAnswer ws m k i s' j b' r') (one_current e' e) y'))
 
-record AreOneItem (j l : ℕ) (ms ns : List Module) (b c : List ℕ) (r s : Bool) : Type 0 where
+record AreOneItem (j l : ℕ) (ms ns : List ModuleOf) (b c : List ℕ) (r s : Bool) : Type 0 where
   behind : j ≡ l
   state : ms ≡ ns
   bytes : b ≡ c
@@ -180,14 +191,14 @@ record AreOneItem (j l : ℕ) (ms ns : List Module) (b c : List ℕ) (r s : Bool
 two_words : (w : List ℕ) → bytes_eq w (codes "fmod") ≡ true → bytes_eq w (codes "match") ≡ true → ⊥
 two_words w f m = let e = sym (eq_bytes w (codes "fmod") f) ∙ eq_bytes w (codes "match") m in absurd cc
 
-module _ (ws : List Word) (ms : List Module) (k i : ℕ) where
+module _ (ws : List Word) (ms : List ModuleOf) (k i : ℕ) where
   ends_once : {j l : ℕ} → IsFirst (may_end ws i) i (length ws) j → IsFirst (may_end ws i) i (length ws) l → j ≡ l
   ends_once {j} {l} f g = first_once (may_end ws i) i (length ws) j l f g
 
   never_ends : {j : ℕ} → IsFirst (may_end ws i) i (length ws) j → IsNowhere (may_end ws i) i (length ws) → ⊥
   never_ends {j} f n = first_somewhere (may_end ws i) i (length ws) j f n
 
-  item_once : {j l : ℕ} {ns os : List Module} {b c : List ℕ} {r s : Bool} → ItemAnswer ws ms k i j ns b r → ItemAnswer ws ms k i l os c s → AreOneItem j l ns os b c r s
+  item_once : {j l : ℕ} {ns os : List ModuleOf} {b c : List ℕ} {r s : Bool} → ItemAnswer ws ms k i j ns b r → ItemAnswer ws ms k i l os c s → AreOneItem j l ns os b c r s
   item_once (item_unended n) (item_unended n') = record { behind = refl; state = refl; bytes = refl; refused = refl }
   item_once (item_unended n) (module_accepted j' m' f' w' x') = absurd (never_ends f' n)
   item_once (item_unended n) (module_refused j' l' f' w' x') = absurd (never_ends f' n)
@@ -200,7 +211,7 @@ module _ (ws : List Word) (ms : List Module) (k i : ℕ) where
   item_once (module_accepted j m f w x) (item_not_built j' f' u' v') = absurd (yes_no _ w u')
   item_once (module_refused j l f w x) (item_unended n') = absurd (never_ends f n')
   item_once (module_refused j l f w x) (module_accepted j' m' f' w' x') = absurd (let o = module_once ws i j x (subst (λ j. ModuleRead ws i j (Ok m')) (sym (ends_once f f')) x') in absurd cc)
-  item_once (module_refused j l f w x) (module_refused j' l' f' w' x') = let o = module_once ws i j x (subst (λ j. ModuleRead ws i j (Err l')) (sym (ends_once f f')) x') in let e : l ≡ l' = cc in record { behind = ap (λ j. j + 1) (ends_once f f'); state = refl; bytes = ap (λ l. refusal_line k ws (NotBuilt l)) e; refused = refl }
+  item_once (module_refused j l f w x) (module_refused j' l' f' w' x') = let o = module_once ws i j x (subst (λ j. ModuleRead ws i j (Err l')) (sym (ends_once f f')) x') in let e : l ≡ l' = cc in record { behind = ap (λ j. j + 1) (ends_once f f'); state = refl; bytes = ap (module_refusal k ws) e; refused = refl }
   item_once (module_refused j l f w x) (match_answered j' b' r' f' w' x') = absurd (two_words (text_at ws i) w w')
   item_once (module_refused j l f w x) (item_not_built j' f' u' v') = absurd (yes_no _ w u')
   item_once (match_answered j b r f w x) (item_unended n') = absurd (never_ends f n')
@@ -215,7 +226,7 @@ module _ (ws : List Word) (ms : List Module) (k i : ℕ) where
   item_once (item_not_built j f u v) (item_not_built j' f' u' v') = record { behind = ap (λ j. j + 1) (ends_once f f'); state = refl; bytes = refl; refused = refl }
 
 module _ (ws : List Word) where
-  items_once : {ms : List Module} {k i : ℕ} {b c : List ℕ} {r s : Bool} → ItemsAnswer ws ms k i b r → ItemsAnswer ws ms k i c s → AreOneAnswer b c r s
+  items_once : {ms : List ModuleOf} {k i : ℕ} {b c : List ℕ} {r s : Bool} → ItemsAnswer ws ms k i b r → ItemsAnswer ws ms k i c s → AreOneAnswer b c r s
   items_once (items_end ms k i e) (items_end ms' k' i' e') = one_answer
   items_once (items_end ms k i e) (item_first ms' ns' k' i' j' b' more' r' later' h' x' y') = absurd (omega (arith, e, h'))
   items_once (item_first ms ns k i j b more r later h x y) (items_end ms' k' i' e') = absurd (omega (arith, e', h))

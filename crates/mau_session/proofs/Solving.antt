@@ -7,18 +7,15 @@ use Rattle.mau_terms.specs.Norm.{norm}
 use Rattle.mau_terms.specs.Tree.{Tree, variable, numeral, apply, Trees, no_trees, tree}
 use Rattle.mau_terms.specs.Subst.{Variable, same_variable, has_variable, instance, instances, Occurs, OccursIn, add_variables, add_all_variables, variables, value_at, with_values}
 use Rattle.mau_terms.specs.Bare.{IsBare, EqualModulo, HasNoAxioms}
-use Rattle.mau_terms.specs.Solution.{HaveSorts}
+use Rattle.mau_terms.specs.Solution.{Fits, HaveSorts}
 use Rattle.mau_terms.proofs.Variables.{EachVar, occurring, variables_occur, same_itself}
 use Rattle.mau_terms.proofs.Plain.{plain_equal, same_equal, plain_norm}
-use Rattle.mau_reader.specs.declared.module.Module.{Module}
-use Rattle.mau_session.specs.Terms.{Pairs, signature_of, HasSort}
-use Rattle.mau_session.specs.Matching.{SolvesIn, numbered_from, IsListing, IsNumbered}
+use Rattle.mau_reader.specs.Modules.{ModuleOf}
+use Rattle.mau_session.specs.Terms.{Pairs, terms_in, HasSort}
+use Rattle.mau_session.specs.Matching.{SolvesIn, numbered_from, IsListing}
 use Rattle.mau_session.specs.Binding.{Bindings, bind}
-use Rattle.mau_session.proofs.BindLemmas.{by_index, Keeps, Within, AllWithin, Sorted, AllSorted, IsBoundIn, bind_sound, bind_complete, bind_binds, bind_length}
-
--- no operator has an axiom
-no_axioms_in : (m : Module) → HasNoAxioms (signature_of m)
-no_axioms_in m = record { no_assoc = λ f. refl; no_comm = λ f. refl; no_id = λ f. refl; no_succ = λ f. refl }
+use Rattle.mau_session.proofs.Values.{length-numbered}
+use Rattle.mau_session.proofs.BindLemmas.{by_index, Keeps, Within, AllWithin, IsBoundIn, bind_sound, bind_complete, bind_binds, bind_length}
 
 -- the values by their indices
 abbrev pub value : List Tree → ℕ → Tree
@@ -85,10 +82,6 @@ mutual
 
 -- ---- numbered variables
 
-length-numbered : (ns : Pairs) (k : ℕ) → length (numbered_from k ns) ≡ length ns
-length-numbered [] k = refl
-length-numbered (p ∷ ns) k = ap suc (length-numbered ns (suc k))
-
 -- the first, or one of the others
 first_or_later : (a b c : Bool) → ((a && b) || c) ≡ true → ((a ≡ true) × (b ≡ true)) ⊎ (((a && b) ≡ false) × (c ≡ true))
 first_or_later true true c e = inl (refl, refl)
@@ -113,56 +106,7 @@ value_at-numbered (p ∷ ns) k (v ∷ vs) l j s e =
           (omega (arith, r.0), omega (arith, r.1), ap (λ b. if b then v else value_at (numbered_from (suc k) ns) vs (j, s)) h.0 ∙ r.2 ∙ sym (later_value v vs k j r.0)))
     ]
 
--- ---- sorts of values
-
-sorts_at : (P : ℕ → Tree → Type 0) (ns : Pairs) (k : ℕ) (vs : List Tree) → HaveSorts P (numbered_from k ns) vs → (j s : ℕ) → has_variable (numbered_from k ns) (j, s) ≡ true → (k ≤ j) × P s (get_or vs (j - k) (numeral 0))
-sorts_at P [] k vs h j s e = absurd cc
-sorts_at P (p ∷ ns) k [] h j s e = absurd h
-sorts_at P (p ∷ ns) k (v ∷ vs) h j s e =
-    elim (first_or_later (nat_eq k j) (nat_eq p.1 s) (has_variable (numbered_from (suc k) ns) (j, s)) e) [
-      | inl q ↦
-          (let d : k ≡ j = eqb-true k j q.0 in
-          let z : 0 ≡ j - k = omega arith in
-          (omega arith, subst (λ i. P s (get_or (v ∷ vs) i (numeral 0))) z (subst (λ s. P s v) (eqb-true p.1 s q.1) h.0)))
-      | inr q ↦
-          (let r = sorts_at P ns (suc k) vs h.1 j s q.1 in
-          (omega (arith, r.0), subst (λ v. P s v) (sym (later_value v vs k j r.0)) r.1))
-    ]
-
-at_seam : (pre : List Tree) (v : Tree) (vs : List Tree) (k : ℕ) → length pre ≡ k → value (pre ++ v ∷ vs) k ≡ v
-at_seam [] v vs k e = ap (λ i. get_or (v ∷ vs) i (numeral 0)) (sym e)
-at_seam (u ∷ pre) v vs zero e = absurd cc
-at_seam (u ∷ pre) v vs (suc k) e = at_seam pre v vs k (let w : length pre ≡ k = cc in w)
-
-sorts_all : (m : Module) (ns : Pairs) (pre vs : List Tree) (k : ℕ) → length pre ≡ k → length vs ≡ length ns → EachVar (λ x. HasSort m x.1 (value (pre ++ vs) x.0)) (numbered_from k ns) → HaveSorts (HasSort m) (numbered_from k ns) vs
-sorts_all m [] pre vs k e l h = tt
-sorts_all m (p ∷ ns) pre [] k e l h = absurd cc
-sorts_all m (p ∷ ns) pre (v ∷ vs) k e l h = (
-  subst (λ v. HasSort m p.1 v) (at_seam pre v vs k e) h.0,
-  sorts_all m ns (pre ++ v ∷ []) vs (suc k) (omega (arith, length-append pre (v ∷ []))) (let w : length vs ≡ length ns = cc in w)
-      (subst (λ us. EachVar (λ x. HasSort m x.1 (value us x.0)) (numbered_from (suc k) ns)) (sym (append_assoc pre (v ∷ []) vs)) h.1),
-)
-
-mutual
-  sorted_at : (m : Module) (g : ℕ → Tree) (p : Tree) → Sorted m g p → (x : Variable) → Occurs x p → HasSort m x.1 (g x.0)
-  sorted_at m g (variable i s) h x o = subst (λ y. HasSort m y.1 (g y.0)) (sym o) h
-  sorted_at m g (numeral n) h x o = absurd o
-  sorted_at m g (apply f ts) h x o = all_sorted_at m g ts h x o
-
-  all_sorted_at : (m : Module) (g : ℕ → Tree) (ts : Trees) → AllSorted m g ts → (x : Variable) → OccursIn x ts → HasSort m x.1 (g x.0)
-  all_sorted_at m g no_trees h x o = absurd o
-  all_sorted_at m g (tree t ts) h x (inl o) = sorted_at m g t h.0 x o
-  all_sorted_at m g (tree t ts) h x (inr o) = all_sorted_at m g ts h.1 x o
-
-mutual
-  sorted_by : (m : Module) (g : ℕ → Tree) (p : Tree) → ((x : Variable) → Occurs x p → HasSort m x.1 (g x.0)) → Sorted m g p
-  sorted_by m g (variable i s) f = f (i, s) refl
-  sorted_by m g (numeral n) f = tt
-  sorted_by m g (apply o ts) f = all_sorted_by m g ts f
-
-  all_sorted_by : (m : Module) (g : ℕ → Tree) (ts : Trees) → ((x : Variable) → OccursIn x ts → HasSort m x.1 (g x.0)) → AllSorted m g ts
-  all_sorted_by m g no_trees f = tt
-  all_sorted_by m g (tree t ts) f = (sorted_by m g t (λ x o. f x (inl o)), all_sorted_by m g ts (λ x o. f x (inr o)))
+-- ---- places
 
 mutual
   within_by : (n : ℕ) (p : Tree) → ((x : Variable) → Occurs x p → x.0 < n) → Within n p
@@ -194,7 +138,7 @@ all_of_one : {X : Type 0} (P : X → Type 0) (x : X) → P x → All P (x ∷ []
 all_of_one P x h zero d l = h
 all_of_one P x h (suc k) d l = absurd (omega arith)
 
-module _ (m : Module) (p t : Tree) (ns : Pairs) (numbered : variables p ≡ numbered_from 0 ns) where
+module _ (m : ModuleOf) (free : HasNoAxioms (terms_in m)) (p t : Tree) (ns : Pairs) (numbered : variables p ≡ numbered_from 0 ns) where
   among : (x : Variable) → Occurs x p → has_variable (numbered_from 0 ns) x ≡ true
   among x o = subst (λ xs. has_variable xs x ≡ true) numbered (comes_among p [] x o)
 
@@ -204,24 +148,22 @@ module _ (m : Module) (p t : Tree) (ns : Pairs) (numbered : variables p ≡ numb
       let z : x.0 - 0 ≡ x.0 = omega arith in
       ap (λ xs. value_at xs vs x) numbered ∙ r.2 ∙ ap (λ i. get_or vs i (numeral 0)) z)
 
-  pub bound_solves : IsBare (signature_of m) t → (cs : Bindings) → bind m (unbound (length ns)) p t ≡ Some cs → (vs : List Tree) → length vs ≡ length ns → Keeps (value vs) cs → SolvesIn m p t vs
-  bound_solves b cs e vs l k =
-      let s = bind_sound m (value vs) (unbound (length ns)) p t e k in
-      let same : with_values p vs ≡ t = by_values vs l ∙ s.1 in
-      let each = occurring (λ x. HasSort m x.1 (value vs x.0)) p [] tt (sorted_at m (value vs) p s.2) in (
-        record { one_each = l ∙ sym (length-numbered ns 0) ∙ sym (ap length numbered); equal = subst (λ u. EqualModulo (signature_of m) u t) (sym same) (same_equal (signature_of m) t t b refl) },
-        subst (λ xs. HaveSorts (HasSort m) xs vs) (sym numbered) (sorts_all m ns [] vs 0 refl l (subst (EachVar (λ x. HasSort m x.1 (value vs x.0))) numbered each)),
-      )
+  as_many : (vs : List Tree) → Fits (terms_in m) p t vs → length vs ≡ length ns
+  as_many vs h = h.one_each ∙ ap length numbered ∙ length-numbered ns 0
 
-  pub solution_bound : (vs : List Tree) → SolvesIn m p t vs → (cs : Bindings) × (bind m (unbound (length ns)) p t ≡ Some cs) × Keeps (value vs) cs
-  solution_bound vs h =
-      let l : length vs ≡ length ns = h.0.one_each ∙ ap length numbered ∙ length-numbered ns 0 in
-      let sorts = subst (λ xs. HaveSorts (HasSort m) xs vs) numbered h.1 in
-      let same : instance (by_index (value vs)) p ≡ t = sym (by_values vs l) ∙ plain_equal (signature_of m) (no_axioms_in m) _ _ h.0.equal in
+  pub bound_fits : IsBare (terms_in m) t → (cs : Bindings) → bind (unbound (length ns)) p t ≡ Some cs → (vs : List Tree) → length vs ≡ length ns → Keeps (value vs) cs → Fits (terms_in m) p t vs
+  bound_fits b cs e vs l k =
+      let s = bind_sound (value vs) (unbound (length ns)) p t e k in
+      let same : with_values p vs ≡ t = by_values vs l ∙ s.1 in
+      record { one_each = l ∙ sym (length-numbered ns 0) ∙ sym (ap length numbered); equal = subst (λ u. EqualModulo (terms_in m) u t) (sym same) (same_equal (terms_in m) t t b refl) }
+
+  pub fit_bound : (vs : List Tree) → Fits (terms_in m) p t vs → (cs : Bindings) × (bind (unbound (length ns)) p t ≡ Some cs) × Keeps (value vs) cs
+  fit_bound vs h =
+      let l = as_many vs h in
+      let same : instance (by_index (value vs)) p ≡ t = sym (by_values vs l) ∙ plain_equal (terms_in m) free _ _ h.equal in
       let within = within_by (length (unbound (length ns))) p (λ x o. let r = value_at-numbered ns 0 vs l x.0 x.1 (among x o) in omega (arith, r.1, length-replicate (length ns) none_bound)) in
-      let sorted = sorted_by m (value vs) p (λ x o. let r = sorts_at (HasSort m) ns 0 vs sorts x.0 x.1 (among x o) in let z : x.0 - 0 ≡ x.0 = omega arith in subst (λ i. HasSort m x.1 (get_or vs i (numeral 0))) z r.1) in
-      let c = bind_complete m (value vs) (unbound (length ns)) p within (λ i u e. absurd (nothing_bound (length ns) i u e)) sorted in
-      (c.0, ap (bind m (unbound (length ns)) p) (sym same) ∙ c.1, c.2)
+      let c = bind_complete (value vs) (unbound (length ns)) p within (λ i u e. absurd (nothing_bound (length ns) i u e)) in
+      (c.0, ap (bind (unbound (length ns)) p) (sym same) ∙ c.1, c.2)
     where
       none_bound : Option Tree
       none_bound = None
@@ -235,11 +177,11 @@ module _ (m : Module) (p t : Tree) (ns : Pairs) (numbered : variables p ≡ numb
       (r.0, subst (λ i. P (i, r.0)) n r.1)
 
   -- each variable is bound
-  pub all_bound : (cs : Bindings) → bind m (unbound (length ns)) p t ≡ Some cs → (i : ℕ) → i < length ns → IsBoundIn m cs i
+  pub all_bound : (cs : Bindings) → bind (unbound (length ns)) p t ≡ Some cs → (i : ℕ) → i < length ns → IsBoundIn cs i
   all_bound cs e i h =
       let r = each_at (λ x. Occurs x p) ns 0 (subst (EachVar (λ x. Occurs x p)) numbered (variables_occur p)) i h in
       let z : 0 + i ≡ i = omega arith in
-      subst (λ j. IsBoundIn m cs j) z (bind_binds m (unbound (length ns)) p t e (0 + i, r.0) r.1)
+      subst (λ j. IsBoundIn cs j) z (bind_binds (unbound (length ns)) p t e (0 + i, r.0) r.1)
 
   -- ---- listings
 
@@ -248,66 +190,67 @@ module _ (m : Module) (p t : Tree) (ns : Pairs) (numbered : variables p ≡ numb
   keeps_values vs cs e i u h =
       get_or_from_slice_get vs i u (numeral 0) (some_inside (slice_get vs i) u (sym (slice_get-map (λ v. Some v) vs i) ∙ ap (λ cs. slice_get cs i) e ∙ h))
 
-  pub no_listing : bind m (unbound (length ns)) p t ≡ None → IsListing m p t []
-  no_listing e = record {
+  no_solutions : ((vs : List Tree) → SolvesIn m p t vs → ⊥) → IsListing m p t []
+  no_solutions n = record {
     solutions = λ k d h. absurd (omega arith);
-    complete = λ vs h. let b = solution_bound vs h in absurd (let q = b.1 in cc);
+    complete = λ vs h. absurd (n vs h);
     ascending = λ i j d a b. absurd (omega arith);
   }
 
-  one_solution : (cs : Bindings) → bind m (unbound (length ns)) p t ≡ Some cs → (vs : List Tree) → map (λ v. Some v) vs ≡ cs → length vs ≡ length ns → (us : List Tree) → SolvesIn m p t us → vs ≡ us
-  one_solution cs e vs v l us h =
-      let b = solution_bound us h in
+  pub no_listing : bind (unbound (length ns)) p t ≡ None → IsListing m p t []
+  no_listing e = no_solutions (λ vs h. let b = fit_bound vs h.0 in let q = b.1 in cc)
+
+  one_fit : (cs : Bindings) → bind (unbound (length ns)) p t ≡ Some cs → (vs : List Tree) → map (λ v. Some v) vs ≡ cs → length vs ≡ length ns → (us : List Tree) → Fits (terms_in m) p t us → vs ≡ us
+  one_fit cs e vs v l us h =
+      let b = fit_bound us h in
       let same : b.0 ≡ cs = (let q = b.1 in cc) in
       let k : Keeps (value us) cs = subst (Keeps (value us)) same b.2 in
-      let n : length us ≡ length ns = h.0.one_each ∙ ap length numbered ∙ length-numbered ns 0 in
-      ext_get_or (numeral 0) vs us (l ∙ sym n) (λ i w.
+      ext_get_or (numeral 0) vs us (l ∙ sym (as_many us h)) (λ i w.
       let r = all_bound cs e i (omega arith) in
       keeps_values vs cs v i r.0 r.1 ∙ sym (k i r.0 r.1))
 
-  pub one_listing : IsBare (signature_of m) t → (cs : Bindings) → bind m (unbound (length ns)) p t ≡ Some cs → (vs : List Tree) → map (λ v. Some v) vs ≡ cs → length vs ≡ length ns → IsListing m p t (vs ∷ [])
-  one_listing b cs e vs v l = record {
-    solutions = all_of_one (SolvesIn m p t) vs (bound_solves b cs e vs l (keeps_values vs cs v));
-    complete = λ us h. (0, vs, omega arith, refl, ap (map (norm (signature_of m).theory)) (one_solution cs e vs v l us h));
+  -- the values that are bound have their sorts
+  pub one_listing : IsBare (terms_in m) t → (cs : Bindings) → bind (unbound (length ns)) p t ≡ Some cs → (vs : List Tree) → map (λ v. Some v) vs ≡ cs → length vs ≡ length ns
+      → HaveSorts (HasSort m) (numbered_from 0 ns) vs → IsListing m p t (vs ∷ [])
+  one_listing b cs e vs v l s = record {
+    solutions = all_of_one (SolvesIn m p t) vs (bound_fits b cs e vs l (keeps_values vs cs v), subst (λ xs. HaveSorts (HasSort m) xs vs) (sym numbered) s);
+    complete = λ us h. (0, vs, omega arith, refl, ap (map (norm (terms_in m).theory)) (one_fit cs e vs v l us h.0));
     ascending = λ i j d a b. absurd (omega arith);
   }
+
+  -- some of them have not
+  pub unsorted_listing : (cs : Bindings) → bind (unbound (length ns)) p t ≡ Some cs → (vs : List Tree) → map (λ v. Some v) vs ≡ cs → length vs ≡ length ns
+      → ¬ HaveSorts (HasSort m) (numbered_from 0 ns) vs → IsListing m p t []
+  unsorted_listing cs e vs v l n =
+      no_solutions (λ us h. n (subst (HaveSorts (HasSort m) (numbered_from 0 ns)) (sym (one_fit cs e vs v l us h.0)) (subst (λ xs. HaveSorts (HasSort m) xs us) numbered h.1)))
 
   -- two solutions are one
   pub solution_once : (vs us : List Tree) → SolvesIn m p t vs → SolvesIn m p t us → vs ≡ us
   solution_once vs us h k =
-      let b = solution_bound vs h in
-      let c = solution_bound us k in
+      let b = fit_bound vs h.0 in
+      let c = fit_bound us k.0 in
       let same : c.0 ≡ b.0 = (let q = sym b.1 ∙ c.1 in cc) in
       let keeps : Keeps (value us) b.0 = subst (Keeps (value us)) same c.2 in
-      let n : length vs ≡ length us = h.0.one_each ∙ sym k.0.one_each in
-      let l : length vs ≡ length ns = h.0.one_each ∙ ap length numbered ∙ length-numbered ns 0 in
-      ext_get_or (numeral 0) vs us n (λ i w.
+      let l = as_many vs h.0 in
+      ext_get_or (numeral 0) vs us (l ∙ sym (as_many us k.0)) (λ i w.
       let r = all_bound b.0 b.1 i (omega arith) in
       b.2 i r.0 r.1 ∙ sym (keeps i r.0 r.1))
 
--- ---- the same by the number of variables
+  -- as many values as variables
+  pub values_each : (cs : Bindings) → bind (unbound (length ns)) p t ≡ Some cs → (vs : List Tree) → map (λ v. Some v) vs ≡ cs → length vs ≡ length ns
+  values_each cs e vs v =
+      sym (length-map vs (λ v. Some v)) ∙ ap length v ∙ bind_length (unbound (length ns)) p t e ∙ length-replicate (length ns) nothing
+    where
+      nothing : Option Tree
+      nothing = None
 
-pub no_listing_of : (m : Module) (p t : Tree) (n : ℕ) → IsNumbered n p → bind m (unbound n) p t ≡ None → IsListing m p t []
-no_listing_of m p t n k e = no_listing m p t k.0 k.2 (ap (λ n. bind m (unbound n) p t) k.1 ∙ e)
-
-pub all_bound_of : (m : Module) (p t : Tree) (n : ℕ) → IsNumbered n p → (cs : Bindings) → bind m (unbound n) p t ≡ Some cs → (i : ℕ) → i < length cs → (u : Tree) × (slice_get cs i ≡ Some (Some u))
-all_bound_of m p t n k cs e i h =
-    all_bound m p t k.0 k.2 cs (ap (λ n. bind m (unbound n) p t) k.1 ∙ e) i (omega (arith, bind_length m (unbound n) p t e, length-replicate n nothing, k.1))
-  where
-    nothing : Option Tree
-    nothing = None
-
-pub values_each : (m : Module) (p t : Tree) (n : ℕ) (cs : Bindings) → bind m (unbound n) p t ≡ Some cs → (vs : List Tree) → map (λ v. Some v) vs ≡ cs → length vs ≡ n
-values_each m p t n cs e vs v =
-    sym (length-map vs (λ v. Some v)) ∙ ap length v ∙ bind_length m (unbound n) p t e ∙ length-replicate n nothing
-  where
-    nothing : Option Tree
-    nothing = None
-
-pub one_listing_of : (m : Module) (p t : Tree) (n : ℕ) → IsNumbered n p → IsBare (signature_of m) t → (cs : Bindings) → bind m (unbound n) p t ≡ Some cs → (vs : List Tree) → map (λ v. Some v) vs ≡ cs → IsListing m p t (vs ∷ [])
-one_listing_of m p t n k b cs e vs v =
-    one_listing m p t k.0 k.2 b cs (ap (λ n. bind m (unbound n) p t) k.1 ∙ e) vs v (values_each m p t n cs e vs v ∙ sym k.1)
+  -- each place is bound
+  pub each_bound : (cs : Bindings) → bind (unbound (length ns)) p t ≡ Some cs → (i : ℕ) → i < length cs → (u : Tree) × (slice_get cs i ≡ Some (Some u))
+  each_bound cs e i h = all_bound cs e i (omega (arith, bind_length (unbound (length ns)) p t e, length-replicate (length ns) nothing))
+    where
+      nothing : Option Tree
+      nothing = None
 
 -- without axioms each tree is a normal form
-pub plain_norm_in : (m : Module) (t : Tree) → norm (signature_of m).theory t ≡ t
-plain_norm_in m t = plain_norm (signature_of m) (no_axioms_in m) t
+pub plain_norm_in : (m : ModuleOf) → HasNoAxioms (terms_in m) → (t : Tree) → norm (terms_in m).theory t ≡ t
+plain_norm_in m free t = plain_norm (terms_in m) free t

@@ -5,11 +5,11 @@ use Rattle.mau_terms.specs.Norm.{norm}
 use Rattle.mau_terms.specs.Subst.{Variable, variables}
 use Rattle.mau_tokens.specs.declared.token.TokenFault.{TokenFault}
 use Rattle.mau_tokens.specs.declared.token.TokenFault.TheVariants.{NotUtf8, OpenComment, OpenString, TokenTooLong, NoMemory}
-use Rattle.mau_reader.specs.declared.module.Module.{Module}
+use Rattle.mau_reader.specs.Modules.{ModuleOf, Why, leaves, faulty}
 use Rattle.mau_session.specs.declared.refusal.Refusal.{Refusal}
 use Rattle.mau_session.specs.declared.refusal.Refusal.TheVariants.{Unended, NotBuilt, NoParse}
 use Rattle.mau_reader.specs.Words.{Word, text_at, place_at}
-use Rattle.mau_session.specs.Terms.{Pairs, signature_of}
+use Rattle.mau_session.specs.Terms.{Pairs, terms_in}
 use Rattle.mau_session.specs.Shown.{shown, shown_variable}
 
 -- each answer begins with the number of its item
@@ -26,6 +26,14 @@ shown_refusal ws (NoParse i) = codes "NoParse " ++ decimal (place_at ws i)
 abbrev pub refusal_line : ℕ → List Word → Refusal → List ℕ
 refusal_line k ws r = item_head k ++ codes "refused: " ++ shown_refusal ws r ++ codes "\n"
 
+-- a refused module: the word that leaves the grammar, or the text of what is at fault
+abbrev pub faulty_line : ℕ → List ℕ → List ℕ
+faulty_line k text = item_head k ++ codes "refused: " ++ text ++ codes "\n"
+
+abbrev pub module_refusal : ℕ → List Word → Why → List ℕ
+module_refusal k ws (leaves i) = refusal_line k ws (NotBuilt i)
+module_refusal k ws (faulty text) = faulty_line k text
+
 -- a text with a token fault has one line for its answer; want of memory has none
 abbrev pub shown_fault : TokenFault → List ℕ
 shown_fault (NotUtf8 i) = codes "NotUtf8 " ++ decimal i
@@ -39,27 +47,27 @@ fault_line f = codes "refused: " ++ shown_fault f ++ codes "\n"
 
 -- ---- modules and listings
 
-abbrev pub module_line : ℕ → Module → List ℕ
+abbrev pub module_line : ℕ → ModuleOf → List ℕ
 module_line k m = item_head k ++ codes "module " ++ m.name ++ codes "\n"
 
 -- a value is printed from its normal form
-abbrev pub value_line : Module → Pairs → Variable → Tree → List ℕ
-value_line m ns x v = shown_variable m ns x.0 x.1 ++ codes " --> " ++ shown m ns (norm (signature_of m).theory v) ++ codes "\n"
+abbrev pub value_line : ModuleOf → Pairs → Variable → Tree → List ℕ
+value_line m ns x v = shown_variable m ns x.0 x.1 ++ codes " --> " ++ shown m ns (norm (terms_in m).theory v) ++ codes "\n"
 
-abbrev pub value_lines : Module → Pairs → List Variable → List Tree → List ℕ
+abbrev pub value_lines : ModuleOf → Pairs → List Variable → List Tree → List ℕ
 value_lines m ns (x ∷ xs) (v ∷ vs) = value_line m ns x v ++ value_lines m ns xs vs
 value_lines m ns (x ∷ xs) [] = []
 value_lines m ns [] vs = []
 
-abbrev pub substitution_lines : Module → Pairs → List Variable → List Tree → List ℕ
+abbrev pub substitution_lines : ModuleOf → Pairs → List Variable → List Tree → List ℕ
 substitution_lines m ns [] vs = codes "empty substitution\n"
 substitution_lines m ns (x ∷ xs) vs = value_lines m ns (x ∷ xs) vs
 
-abbrev pub matcher_lines : Module → Pairs → Tree → ℕ → List Tree → List ℕ
+abbrev pub matcher_lines : ModuleOf → Pairs → Tree → ℕ → List Tree → List ℕ
 matcher_lines m ns p i vs = codes "Matcher " ++ decimal i ++ codes "\n" ++ substitution_lines m ns (variables p) vs
 
 -- the solutions, numbered from i on
-abbrev pub all_matchers : Module → Pairs → Tree → ℕ → List (List Tree) → List ℕ
+abbrev pub all_matchers : ModuleOf → Pairs → Tree → ℕ → List (List Tree) → List ℕ
 all_matchers m ns p i [] = []
 all_matchers m ns p i (vs ∷ found) = matcher_lines m ns p i vs ++ all_matchers m ns p (i + 1) found
 
@@ -67,8 +75,8 @@ abbrev pub last_line : List (List Tree) → List ℕ
 last_line [] = codes "No match.\n"
 last_line (vs ∷ found) = codes "No more matches.\n"
 
-abbrev pub match_head : ℕ → Module → List ℕ
+abbrev pub match_head : ℕ → ModuleOf → List ℕ
 match_head k m = item_head k ++ codes "match in " ++ m.name ++ codes "\n"
 
-abbrev pub listing_lines : Module → Pairs → Tree → List (List Tree) → List ℕ
+abbrev pub listing_lines : ModuleOf → Pairs → Tree → List (List Tree) → List ℕ
 listing_lines m ns p found = all_matchers m ns p 1 found ++ last_line found

@@ -4,8 +4,6 @@ use Rattle.std.specs.declared.cmp.Ordering.{Ordering}
 use Rattle.std.specs.declared.cmp.Ordering.TheVariants.{Less, Equal, Greater}
 use Rattle.mau_terms.specs.Tree.{Tree, variable, numeral, apply, Trees, no_trees, tree}
 use Rattle.mau_terms.specs.Order.{tree_cmp}
-use Rattle.mau_reader.specs.declared.module.Module.{Module}
-use Rattle.mau_session.specs.Terms.{sort_of}
 
 -- the value of each variable, by its index, as far as it is known
 abbrev pub Bindings : Type 0
@@ -19,34 +17,27 @@ is_tie Greater = false
 abbrev pub same_tree : Tree → Tree → Bool
 same_tree t u = is_tie (tree_cmp t u)
 
-abbrev pub is_sort : ℕ → Option ℕ → Bool
-is_sort s None = false
-is_sort s (Some r) = nat_eq r s
-
-abbrev pub has_sort : Module → ℕ → Tree → Bool
-has_sort m s t = is_sort s (sort_of m t)
-
 abbrev pub bound_to : Bindings → ℕ → Tree → Option (Option Tree) → Option Bindings
 bound_to bs i t None = None
 bound_to bs i t (Some None) = Some (slice_set bs i (Some t))
 bound_to bs i t (Some (Some u)) = if same_tree u t then Some bs else None
 
-abbrev pub bind_variable : Module → Bindings → ℕ → ℕ → Tree → Option Bindings
-bind_variable m bs i s t = if has_sort m s t then bound_to bs i t (slice_get bs i) else None
+abbrev pub bind_variable : Bindings → ℕ → Tree → Option Bindings
+bind_variable bs i t = bound_to bs i t (slice_get bs i)
 
 abbrev mutual
   -- the bindings with those that make the pattern p the subject t, if there are some
-  pub bind : Module → Bindings → Tree → Tree → Option Bindings
-  bind m bs (variable i s) t = bind_variable m bs i s t
-  bind m bs (numeral a) (variable j r) = None
-  bind m bs (numeral a) (numeral b) = if nat_eq a b then Some bs else None
-  bind m bs (numeral a) (apply g ts) = None
-  bind m bs (apply f ps) (variable j r) = None
-  bind m bs (apply f ps) (numeral b) = None
-  bind m bs (apply f ps) (apply g ts) = if nat_eq f g then bind_all m bs ps ts else None
+  pub bind : Bindings → Tree → Tree → Option Bindings
+  bind bs (variable i s) t = bind_variable bs i t
+  bind bs (numeral a) (variable j r) = None
+  bind bs (numeral a) (numeral b) = if nat_eq a b then Some bs else None
+  bind bs (numeral a) (apply g ts) = None
+  bind bs (apply f ps) (variable j r) = None
+  bind bs (apply f ps) (numeral b) = None
+  bind bs (apply f ps) (apply g ts) = if nat_eq f g then bind_all bs ps ts else None
 
-  pub bind_all : Module → Bindings → Trees → Trees → Option Bindings
-  bind_all m bs no_trees no_trees = Some bs
-  bind_all m bs no_trees (tree t ts) = None
-  bind_all m bs (tree p ps) no_trees = None
-  bind_all m bs (tree p ps) (tree t ts) = option_and_then (λ cs. bind_all m cs ps ts) (bind m bs p t)
+  pub bind_all : Bindings → Trees → Trees → Option Bindings
+  bind_all bs no_trees no_trees = Some bs
+  bind_all bs no_trees (tree t ts) = None
+  bind_all bs (tree p ps) no_trees = None
+  bind_all bs (tree p ps) (tree t ts) = option_and_then (λ cs. bind_all cs ps ts) (bind bs p t)

@@ -1,4 +1,6 @@
 pub mod Terms
+pub mod ReadVariables
+pub mod Sorted
 pub mod Mark
 pub mod Shown
 pub mod Matching

@@ -5,12 +5,12 @@ use Rattle.mau_terms.specs.Tree.{Tree}
 use Rattle.mau_terms.specs.Norm.{norm}
 use Rattle.mau_terms.specs.Subst.{Variable, variables}
 use Rattle.mau_terms.specs.Solution.{Solves, solution_cmp}
-use Rattle.mau_reader.specs.declared.module.Module.{Module}
-use Rattle.mau_session.specs.Terms.{Pairs, signature_of, HasSort}
+use Rattle.mau_reader.specs.Modules.{ModuleOf}
+use Rattle.mau_session.specs.Terms.{Pairs, terms_in, HasSort}
 
 -- the values vs of p's variables, by first occurrence, have their variables' sorts and make p equal to t
-abbrev pub SolvesIn : Module → Tree → Tree → List Tree → Type 0
-SolvesIn m p t vs = Solves (signature_of m) (HasSort m) p t vs
+abbrev pub SolvesIn : ModuleOf → Tree → Tree → List Tree → Type 0
+SolvesIn m p t vs = Solves (terms_in m) (HasSort m) p t vs
 
 -- the variables of a command, numbered by first occurrence, with their sorts
 abbrev pub numbered_from : ℕ → Pairs → List Variable
@@ -18,11 +18,7 @@ numbered_from k [] = []
 numbered_from k (p ∷ ps) = (k, p.1) ∷ numbered_from (suc k) ps
 
 -- the solutions of a pattern and a subject: all of them, each class once, in ascending order
-pub record IsListing (m : Module) (p t : Tree) (found : List (List Tree)) : Type 0 where
+pub record IsListing (m : ModuleOf) (p t : Tree) (found : List (List Tree)) : Type 0 where
   pub solutions : All (SolvesIn m p t) found
-  pub complete : (vs : List Tree) → SolvesIn m p t vs → Any (λ ws. map (norm (signature_of m).theory) ws ≡ map (norm (signature_of m).theory) vs) found
-  pub ascending : AllPairs (λ vs ws. solution_cmp (signature_of m).theory p ([], vs) ([], ws) ≡ Less) found
-
--- the n variables of the pattern are numbered by first occurrence
-abbrev pub IsNumbered : ℕ → Tree → Type 0
-IsNumbered n p = (ns : Pairs) × (length ns ≡ n) × (variables p ≡ numbered_from 0 ns)
+  pub complete : (vs : List Tree) → SolvesIn m p t vs → Any (λ ws. map (norm (terms_in m).theory) ws ≡ map (norm (terms_in m).theory) vs) found
+  pub ascending : AllPairs (λ vs ws. solution_cmp (terms_in m).theory p ([], vs) ([], ws) ≡ Less) found

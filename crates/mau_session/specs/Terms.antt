@@ -1,52 +1,62 @@
--- Terms over the operators of a module in prefix form, and the words that read as them.
-use Rattle.std.specs.Prelude.{◌≡◌, ◌≢◌, ℕ, zero, suc, ◌+◌, ◌<◌, List, [], ◌∷◌, length, take, drop, map, Bool, true, false, not, ◌&&◌, Option, Some, None, codes, slice_get, slice_index, is_some, nat_lt, if◌then◌else◌}
-use Rattle.std.specs.Option.{option_map, option_map_or}
+-- Terms over the operators of a module in prefix form, the words that read as them, and their sorts.
+use Rattle.std.specs.Prelude.{◌≡◌, ◌≢◌, ℕ, ◌+◌, ◌<◌, List, [], ◌∷◌, length, take, drop, Bool, true, not, ◌&&◌, ◌||◌, is_some, Some, None, codes, slice_index, nat_lt, nat_eq}
 use Rattle.std.specs.Str.{bytes_eq}
 use Rattle.mau_terms.specs.Tree.{Tree, variable, numeral, apply, Trees, no_trees, tree}
 use Rattle.mau_terms.specs.Bare.{TermSignature}
 use Rattle.mau_terms.specs.declared.theory.Theory.{Theory}
 use Rattle.mau_terms.specs.Vars.{place_of, with_pair}
-use Rattle.mau_reader.specs.declared.module.Module.{Module}
-use Rattle.mau_reader.specs.declared.module.Profile.{Profile}
+use Rattle.mau_poset.specs.Order.{kind_of, IsAtOrBelow}
+use Rattle.mau_signature.specs.Faults.{IsSort}
+use Rattle.mau_signature.specs.Signature.{SignatureOf, IsOperator, IsDeclaredResult, declarations_at, theory_at, terms_over}
 use Rattle.mau_reader.specs.Words.{Word, text_at}
 use Rattle.mau_reader.specs.Places.{is_word}
 use Rattle.mau_reader.specs.Names.{number_of}
-use Rattle.mau_reader.specs.Modules.{is_string}
+use Rattle.mau_reader.specs.Sorts.{is_string}
+use Rattle.mau_reader.specs.Modules.{ModuleOf, operator_names}
 
 -- the variables of a command: their names and sorts, by first occurrence
 abbrev pub Pairs : Type 0
 Pairs = List (List ℕ × ℕ)
 
--- ---- operators, numbered from 1, and the signature of a module
+-- ---- the signature of a module, and the sorts of terms
 
-abbrev pub profile_of : Module → ℕ → Option Profile
-profile_of m zero = None
-profile_of m (suc f) = slice_get m.operators.profiles f
+-- what terms need to know of a module
+abbrev pub terms_in : ModuleOf → TermSignature
+terms_in m = terms_over m.signature
 
--- the operators have no axioms
-abbrev pub no_axioms : Theory
-no_axioms = record { assoc = false; comm = false; id = None; succ = false }
+-- the operator with the number f, counted from 0: the kinds of its arguments, and that of its result
+abbrev pub argument_kinds : ModuleOf → ℕ → List ℕ
+argument_kinds m f = (terms_in m).arguments (f + 1)
 
--- each of the n sorts s is its own kind, of the number n + s
-abbrev pub signature_of : Module → TermSignature
-signature_of m = let n = length m.sorts in record {
-  theory = λ f. no_axioms;
-  has_operator = λ f. is_some (profile_of m f);
-  arguments = λ f. option_map_or (λ p. map (λ s. n + s) p.arguments) (profile_of m f) [];
-  result = λ f. option_map_or (λ p. n + p.result) (profile_of m f) 0;
-  has_sort = λ s. nat_lt s (n + n);
-  kind_of = λ s. if nat_lt s n then n + s else s;
-  numerals = None;
-}
+abbrev pub result_kind : ModuleOf → ℕ → ℕ
+result_kind m f = (terms_in m).result (f + 1)
 
--- the sort that declarations give a term; a variable has the sort that it carries
-abbrev pub sort_of : Module → Tree → Option ℕ
-sort_of m (variable i s) = Some s
-sort_of m (numeral n) = None
-sort_of m (apply f ts) = option_map (λ p. p.result) (profile_of m f)
+abbrev pub has_axiom : Theory → Bool
+has_axiom h = h.assoc || (h.comm || (is_some h.id || h.succ))
 
-abbrev pub HasSort : Module → ℕ → Tree → Type 0
-HasSort m s t = sort_of m t ≡ Some s
+-- The declared sort of a term: a variable has the sort that it carries, and an application the declared result for the sorts of
+-- its arguments, which is its kind where no declaration applies.
+mutual
+  pub data HasDeclaredSort (s : SignatureOf) : Tree → ℕ → Type 0 where
+    sort_of_variable : (i r : ℕ) → IsSort s.hierarchy r → HasDeclaredSort s (variable i r) r
+    sort_of_application : (f : ℕ) (ts : Trees) (rs : List ℕ) (r : ℕ) → IsOperator s f → HaveDeclaredSorts s ts rs
+        → IsDeclaredResult s.hierarchy (declarations_at s f) rs r → HasDeclaredSort s (apply f ts) r
+
+  pub data HaveDeclaredSorts (s : SignatureOf) : Trees → List ℕ → Type 0 where
+    no_sorts : HaveDeclaredSorts s no_trees []
+    one_more_sort : (t : Tree) (ts : Trees) (r : ℕ) (rs : List ℕ) → HasDeclaredSort s t r → HaveDeclaredSorts s ts rs → HaveDeclaredSorts s (tree t ts) (r ∷ rs)
+
+-- a term has a sort where its declared sort is at or below it; so it has its kind too
+pub record HasSort (m : ModuleOf) (sort : ℕ) (t : Tree) : Type 0 where
+  pub declared : ℕ
+  pub has_declared : HasDeclaredSort m.signature t declared
+  pub at_or_below : IsAtOrBelow m.signature.hierarchy declared sort
+
+-- an operator of the signature has an axiom
+pub record HasAxioms (s : SignatureOf) : Type 0 where
+  pub operator : ℕ
+  pub declared : IsOperator s operator
+  pub found : has_axiom (theory_at s operator) ≡ true
 
 -- ---- words that read as terms
 
@@ -65,29 +75,43 @@ names_variable w k = nat_lt 0 k && not (is_string w) && not (bytes_eq (take k w)
 pub record IsVariable (sorts : List (List ℕ)) (w : List ℕ) (k s : ℕ) : Type 0 where
   pub cut : IsLastColon w k
   pub named : names_variable w k ≡ true
+  pub behind : k + 1 < length w
   pub sort : number_of sorts (drop (k + 1) w) ≡ Some s
 
--- Reads m ws to ns i t s j ms: the words from i on, and before `to`, begin with a term; it is t, of the sort s, and ends before j.
+-- `X:`, `[`, a word and `]` stand from i on; the colon of the first is at k
+abbrev pub is_kind_frame : List Word → ℕ → ℕ → Bool
+is_kind_frame ws i k = nat_eq (k + 1) (length (text_at ws i)) && (names_variable (text_at ws i) k && (is_word ws (codes "[") (i + 1) && is_word ws (codes "]") (i + 3)))
+
+-- the words from i on, before `to`, are `X:`, `[`, S and `]`: a variable of the kind of the declared sort s
+pub record IsKindVariable (sorts : List (List ℕ)) (ws : List Word) (to i k s : ℕ) : Type 0 where
+  pub inside : i + 3 < to
+  pub cut : IsLastColon (text_at ws i) k
+  pub frame : is_kind_frame ws i k ≡ true
+  pub sort : number_of sorts (text_at ws (i + 2)) ≡ Some s
+
+-- Reads m ws to ns i t k j ms: the words from i on, and before `to`, begin with a term; it is t, in the kind k, and ends before j.
 -- The variables before it are ns, and those with its own are ms. ReadsArgument is the same for an argument behind its mark, and
--- ReadsList for arguments of these sorts, the first behind the mark w, and each other behind a comma.
+-- ReadsList for arguments in these kinds, the first behind the mark w, and each other behind a comma.
 mutual
-  pub data Reads (m : Module) (ws : List Word) (to : ℕ) : Pairs → ℕ → Tree → ℕ → ℕ → Pairs → Type 0 where
-    reads_constant : (ns : Pairs) (i f s : ℕ) → i < to → number_of m.operators.names (text_at ws i) ≡ Some f
-        → slice_get m.operators.profiles f ≡ Some (record { arguments = []; result = s })
-        → Reads m ws to ns i (apply (f + 1) no_trees) s (i + 1) ns
-    reads_application : (ns : Pairs) (i f k : ℕ) (ks : List ℕ) (s : ℕ) (ts : Trees) (j : ℕ) (ms : Pairs) → i < to → number_of m.operators.names (text_at ws i) ≡ Some f
-        → slice_get m.operators.profiles f ≡ Some (record { arguments = k ∷ ks; result = s })
+  pub data Reads (m : ModuleOf) (ws : List Word) (to : ℕ) : Pairs → ℕ → Tree → ℕ → ℕ → Pairs → Type 0 where
+    reads_constant : (ns : Pairs) (i f : ℕ) → i < to → number_of (operator_names m.signature) (text_at ws i) ≡ Some f → argument_kinds m f ≡ []
+        → Reads m ws to ns i (apply (f + 1) no_trees) (result_kind m f) (i + 1) ns
+    reads_application : (ns : Pairs) (i f k : ℕ) (ks : List ℕ) (ts : Trees) (j : ℕ) (ms : Pairs) → i < to → number_of (operator_names m.signature) (text_at ws i) ≡ Some f
+        → argument_kinds m f ≡ k ∷ ks
         → ReadsList m ws to ns (codes "(") (k ∷ ks) (i + 1) ts j ms → (nat_lt j to && is_word ws (codes ")") j) ≡ true
-        → Reads m ws to ns i (apply (f + 1) ts) s (j + 1) ms
-    reads_variable : (ns : Pairs) (i k s : ℕ) → i < to → number_of m.operators.names (text_at ws i) ≡ None → IsVariable m.sorts (text_at ws i) k s
-        → Reads m ws to ns i (variable (place_of ns (take k (text_at ws i), s)) s) s (i + 1) (with_pair ns (take k (text_at ws i), s))
+        → Reads m ws to ns i (apply (f + 1) ts) (result_kind m f) (j + 1) ms
+    reads_variable : (ns : Pairs) (i k s : ℕ) → i < to → number_of (operator_names m.signature) (text_at ws i) ≡ None → IsVariable m.sorts (text_at ws i) k s
+        → Reads m ws to ns i (variable (place_of ns (take k (text_at ws i), s)) s) (kind_of m.signature.hierarchy s) (i + 1) (with_pair ns (take k (text_at ws i), s))
+    reads_kind_variable : (ns : Pairs) (i k s : ℕ) → number_of (operator_names m.signature) (text_at ws i) ≡ None → IsKindVariable m.sorts ws to i k s
+        → Reads m ws to ns i (variable (place_of ns (take k (text_at ws i), kind_of m.signature.hierarchy s)) (kind_of m.signature.hierarchy s)) (kind_of m.signature.hierarchy s) (i + 4)
+        (with_pair ns (take k (text_at ws i), kind_of m.signature.hierarchy s))
 
-  pub data ReadsArgument (m : Module) (ws : List Word) (to : ℕ) : Pairs → List ℕ → ℕ → ℕ → Tree → ℕ → Pairs → Type 0 where
-    reads_argument : (ns : Pairs) (w : List ℕ) (s i : ℕ) (t : Tree) (j : ℕ) (ms : Pairs) → i < to → is_word ws w i ≡ true → Reads m ws to ns (i + 1) t s j ms
-        → ReadsArgument m ws to ns w s i t j ms
+  pub data ReadsArgument (m : ModuleOf) (ws : List Word) (to : ℕ) : Pairs → List ℕ → ℕ → ℕ → Tree → ℕ → Pairs → Type 0 where
+    reads_argument : (ns : Pairs) (w : List ℕ) (k i : ℕ) (t : Tree) (j : ℕ) (ms : Pairs) → i < to → is_word ws w i ≡ true → Reads m ws to ns (i + 1) t k j ms
+        → ReadsArgument m ws to ns w k i t j ms
 
-  pub data ReadsList (m : Module) (ws : List Word) (to : ℕ) : Pairs → List ℕ → List ℕ → ℕ → Trees → ℕ → Pairs → Type 0 where
+  pub data ReadsList (m : ModuleOf) (ws : List Word) (to : ℕ) : Pairs → List ℕ → List ℕ → ℕ → Trees → ℕ → Pairs → Type 0 where
     list_ends : (ns : Pairs) (w : List ℕ) (i : ℕ) → ReadsList m ws to ns w [] i no_trees i ns
-    list_goes_on : (ns : Pairs) (w : List ℕ) (s : ℕ) (ss : List ℕ) (i : ℕ) (t : Tree) (j : ℕ) (ms : Pairs) (ts : Trees) (l : ℕ) (os : Pairs)
-        → ReadsArgument m ws to ns w s i t j ms → ReadsList m ws to ms (codes ",") ss j ts l os
-        → ReadsList m ws to ns w (s ∷ ss) i (tree t ts) l os
+    list_goes_on : (ns : Pairs) (w : List ℕ) (k : ℕ) (ks : List ℕ) (i : ℕ) (t : Tree) (j : ℕ) (ms : Pairs) (ts : Trees) (l : ℕ) (os : Pairs)
+        → ReadsArgument m ws to ns w k i t j ms → ReadsList m ws to ms (codes ",") ks j ts l os
+        → ReadsList m ws to ns w (k ∷ ks) i (tree t ts) l os

@@ -1,7 +1,9 @@
 //! The answers of items.
 ghost use Rattle.std.specs.Prelude.{◌≡◌, ◌<◌, ◌≤◌, ◌+◌, ◌++◌, [], length, true, OnOk, IfOk};
-ghost use Rattle.mau_reader.specs.Modules.{IsSmall};
+ghost use Rattle.mau_terms.specs.Bare.{HasNoAxioms};
+ghost use Rattle.mau_reader.specs.Kept.{AreNamed};
 ghost use Rattle.mau_reader.specs.Places.{is_word};
+ghost use Rattle.mau_session.specs.Terms.{terms_in};
 ghost use Rattle.mau_session.specs.Refused.{word_of_refusal};
 ghost use Rattle.mau_session.specs.Answers.{module_line, match_head, refusal_line};
 ghost use Rattle.mau_session.specs.Transcript.{ItemsAnswer};
@@ -9,11 +11,11 @@ ghost use Rattle.mau_session.specs.Gains.{GainsTerms, GainsMatch, GainsModule, G
 
 use crate::command::read_command;
 use crate::listing::write_listing;
-use crate::refusal::{Refusal, write_head, write_refusal};
-use crate::show::write_text;
+use crate::refusal::{Refusal, write_faulty, write_head, write_refusal};
+use crate::sorts::has_axioms;
 use crate::state::State;
 use crate::whole::{read_whole, read_whole_of};
-use mau_reader::{Module, ReadFault, Words, end_of_item, read_module};
+use mau_reader::{Module, ModuleFault, Words, end_of_item, read_module, write_text};
 use mau_terms::{NoMemory, Vars};
 use std::alloc::Global;
 
@@ -46,7 +48,7 @@ fn write_match_head(out: &mut Vec<u8>, number: usize, module: &Module) -> Result
 {
     write_head(out, number)?;
     write_text(out, "match in ")?;
-    write_text(out, module.name.as_str())?;
+    write_text(out, module.name())?;
     write_text(out, "\n")
 }
 
@@ -56,7 +58,7 @@ fn write_module(out: &mut Vec<u8>, number: usize, module: &Module) -> Result<(),
 {
     write_head(out, number)?;
     write_text(out, "module ")?;
-    write_text(out, module.name.as_str())?;
+    write_text(out, module.name())?;
     write_text(out, "\n")
 }
 
@@ -74,15 +76,16 @@ fn answer_terms(
     requires subject { sign + 1 < item.to }
     requires within { item.to < length words.now }
     requires short { (sign ≤ item.from + 1001) × (item.to ≤ sign + 1001) }
-    requires small { IsSmall module.now }
+    requires named { AreNamed module.now }
+    requires free { HasNoAxioms (terms_in module.now) }
     ensures { IfOk result (λ refused. GainsTerms words.now module.now item.number item.from sign item.to out.old.items out.new.items refused) }
 {
     let mut vars = Vars::new(alloc);
     match read_whole(alloc, module, words, sign, &mut vars, item.from + 1)? {
         None => refuse(out, words, item.number, Refusal::NoParse(item.from + 1)),
-        Some((pattern, sort)) => {
+        Some((pattern, kind)) => {
             let count = vars.len();
-            match read_whole_of(alloc, module, words, item.to, &mut vars, sign + 1, sort)? {
+            match read_whole_of(alloc, module, words, item.to, &mut vars, sign + 1, kind)? {
                 None => refuse(out, words, item.number, Refusal::NoParse(sign + 1)),
                 Some(subject) => {
                     write_match_head(out, item.number, module)?;
@@ -110,7 +113,12 @@ fn answer_match(
         None => refuse(out, words, item.number, Refusal::NotBuilt(item.from)),
         Some(module) => match read_command(words, item.from + 1, item.to) {
             Err(word) => refuse(out, words, item.number, Refusal::NotBuilt(word)),
-            Ok(sign) => answer_terms(out, alloc, words, module, item, sign),
+            Ok(sign) => {
+                if has_axioms(module.signature()) {
+                    return refuse(out, words, item.number, Refusal::NotBuilt(item.from));
+                }
+                answer_terms(out, alloc, words, module, item, sign)
+            }
         },
     }
 }
@@ -134,8 +142,12 @@ fn answer_module(
             state.accept(module)?;
             Ok(false)
         }
-        Err(ReadFault::Leaves(word)) => refuse(out, words, item.number, Refusal::NotBuilt(word)),
-        Err(ReadFault::NoMemory) => Err(NoMemory),
+        Err(ModuleFault::Leaves(word)) => refuse(out, words, item.number, Refusal::NotBuilt(word)),
+        Err(ModuleFault::Refused(text)) => {
+            write_faulty(out, item.number, text.items())?;
+            Ok(true)
+        }
+        Err(ModuleFault::NoMemory) => Err(NoMemory),
     }
 }
 

@@ -9,6 +9,7 @@ mod matching;
 mod meaning;
 mod refusal;
 mod show;
+mod sorts;
 mod state;
 mod terms;
 #[cfg(test)]

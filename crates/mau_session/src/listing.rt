@@ -2,16 +2,16 @@
 ghost use Rattle.std.specs.Prelude.{◌≡◌, ◌++◌, ◌<◌, ◌≤◌, length, take, codes, decimal, OnOk};
 ghost use Rattle.mau_terms.specs.Subst.{variables};
 ghost use Rattle.mau_terms.specs.View.{tree_of};
-ghost use Rattle.mau_terms.specs.Bare.{IsBare};
-ghost use Rattle.mau_session.specs.Terms.{signature_of};
-ghost use Rattle.mau_session.specs.Matching.{IsNumbered, numbered_from};
+ghost use Rattle.mau_terms.specs.Bare.{IsBare, HasNoAxioms};
+ghost use Rattle.mau_session.specs.Terms.{terms_in};
+ghost use Rattle.mau_session.specs.Matching.{numbered_from};
 ghost use Rattle.mau_session.specs.Bound.{trees_at};
 ghost use Rattle.mau_session.specs.Answers.{value_line, value_lines, substitution_lines};
 ghost use Rattle.mau_session.specs.Gains.{GainsListing};
 
 use crate::matching::solve;
-use crate::show::{show, write_number, write_text, write_variable};
-use mau_reader::Module;
+use crate::show::{show, write_variable};
+use mau_reader::{Module, write_number, write_text};
 use mau_terms::{Bare, NoMemory, VarId, Vars};
 use std::alloc::Global;
 
@@ -23,6 +23,7 @@ fn write_value(
     variable: VarId,
     value: &Bare,
 ) -> Result<(), NoMemory>
+    requires { HasNoAxioms (terms_in module.now) }
     ensures { OnOk result (out.new.items ≡ out.old.items ++ value_line module.now vars.now (variable.index, variable.sort) (tree_of value.now)) }
 {
     write_variable(out, module, vars, variable)?;
@@ -41,6 +42,7 @@ fn write_values(
 ) -> Result<(), NoMemory>
     requires few { length values.now ≤ length vars.now }
     requires small { length vars.now < 4294967296 }
+    requires free { HasNoAxioms (terms_in module.now) }
     ensures { OnOk result (out.new.items ≡ out.old.items ++ value_lines module.now vars.now (numbered_from 0 (take (length values.now) vars.now)) (trees_at values.now)) }
 {
     for i in 0..values.len() {
@@ -61,6 +63,7 @@ fn write_substitution(
 ) -> Result<(), NoMemory>
     requires few { length values.now ≤ length vars.now }
     requires small { length vars.now < 4294967296 }
+    requires free { HasNoAxioms (terms_in module.now) }
     ensures { OnOk result (out.new.items ≡ out.old.items ++ substitution_lines module.now vars.now (numbered_from 0 (take (length values.now) vars.now)) (trees_at values.now)) }
 {
     if values.is_empty() {
@@ -92,10 +95,11 @@ pub fn write_listing(
     requires few { count ≤ length vars.now }
     requires small { length vars.now < 4294967296 }
     requires numbered { variables (tree_of pattern.now) ≡ numbered_from 0 (take count vars.now) }
-    requires bare { IsBare (signature_of module.now) (tree_of subject.now) }
+    requires bare { IsBare (terms_in module.now) (tree_of subject.now) }
+    requires free { HasNoAxioms (terms_in module.now) }
     ensures { OnOk result (GainsListing module.now vars.now (tree_of pattern.now) (tree_of subject.now) out.old.items out.new.items) }
 {
-    match solve(alloc, module, pattern, subject, count)? {
+    match solve(alloc, module, vars, pattern, subject, count)? {
         None => write_text(out, "No match.\n"),
         Some(values) => {
             write_matcher(out, 1)?;

@@ -1,49 +1,29 @@
 //! Matching a pattern without axioms with a subject.
-ghost use Rattle.std.specs.Prelude.{◌≡◌, ◌<◌, ℕ, [], ◌∷◌, length, true, false, map, replicate, slice_get, Some, None, IfOk, IfSome, IfNone};
+ghost use Rattle.std.specs.Prelude.{◌≡◌, ◌<◌, ◌≤◌, ℕ, [], ◌∷◌, length, take, true, false, map, replicate, slice_get, Some, None, IfOk, IfSome, IfNone};
 ghost use Rattle.mau_terms.specs.Tree.{Tree, trees_of};
-ghost use Rattle.mau_terms.specs.Bare.{IsBare};
+ghost use Rattle.mau_terms.specs.Bare.{IsBare, HasNoAxioms};
+ghost use Rattle.mau_terms.specs.Solution.{HaveSorts};
+ghost use Rattle.mau_terms.specs.Subst.{variables};
 ghost use Rattle.mau_terms.specs.View.{tree_of};
 ghost use Rattle.mau_session.specs.Binding.{bind, bind_all, bind_variable};
 ghost use Rattle.mau_session.specs.Bound.{bindings_of, trees_at};
-ghost use Rattle.mau_session.specs.Matching.{IsListing, IsNumbered};
-ghost use Rattle.mau_session.specs.Terms.{signature_of};
+ghost use Rattle.mau_session.specs.Matching.{IsListing, numbered_from};
+ghost use Rattle.mau_session.specs.Terms.{HasSort, terms_in};
 
+use crate::sorts::has_sort;
 use mau_reader::Module;
-use mau_terms::{Bare, NoMemory, VarId};
+use mau_terms::{Bare, NoMemory, VarId, Vars};
 use std::alloc::Global;
-
-/// Whether declarations give the term this sort; a variable has the sort that it carries.
-fn has_sort(module: &Module, sort: u32, term: &Bare) -> bool
-    ensures { result ≡ Rattle.mau_session.specs.Binding.has_sort module.now sort (tree_of term.now) }
-{
-    match term {
-        Bare::Var(variable) => variable.sort == sort,
-        Bare::Num(_) => false,
-        Bare::App(operator, _) => {
-            if operator.0 == 0 {
-                return false;
-            }
-            match module.operators.profile(operator.0 as usize - 1) {
-                Some(profile) => profile.result == sort,
-                None => false,
-            }
-        }
-    }
-}
 
 /// Binds a variable to a term, and says whether that can be.
 fn match_variable<'a>(
-    module: &Module,
     variable: VarId,
     subject: &'a Bare,
     bindings: &mut Vec<Option<&'a Bare>>,
 ) -> bool
-    ensures yes { result ≡ true → bind_variable module.now (bindings_of bindings.old.items) variable.index variable.sort (tree_of subject.entry.now) ≡ Some (bindings_of bindings.new.items) }
-    ensures no { result ≡ false → bind_variable module.now (bindings_of bindings.old.items) variable.index variable.sort (tree_of subject.entry.now) ≡ None }
+    ensures yes { result ≡ true → bind_variable (bindings_of bindings.old.items) variable.index (tree_of subject.entry.now) ≡ Some (bindings_of bindings.new.items) }
+    ensures no { result ≡ false → bind_variable (bindings_of bindings.old.items) variable.index (tree_of subject.entry.now) ≡ None }
 {
-    if !has_sort(module, variable.sort, subject) {
-        return false;
-    }
     let index = variable.index as usize;
     if index >= bindings.len() {
         return false;
@@ -61,22 +41,21 @@ fn match_variable<'a>(
 /// the pattern then is the subject. Otherwise some may be bound all the same.
 #[cycle(matching)]
 pub fn match_term<'a>(
-    module: &Module,
     pattern: &Bare,
     subject: &'a Bare,
     bindings: &mut Vec<Option<&'a Bare>>,
 ) -> bool
-    ensures yes { result ≡ true → bind module.now (bindings_of bindings.old.items) (tree_of pattern.now) (tree_of subject.entry.now) ≡ Some (bindings_of bindings.new.items) }
-    ensures no { result ≡ false → bind module.now (bindings_of bindings.old.items) (tree_of pattern.now) (tree_of subject.entry.now) ≡ None }
+    ensures yes { result ≡ true → bind (bindings_of bindings.old.items) (tree_of pattern.now) (tree_of subject.entry.now) ≡ Some (bindings_of bindings.new.items) }
+    ensures no { result ≡ false → bind (bindings_of bindings.old.items) (tree_of pattern.now) (tree_of subject.entry.now) ≡ None }
 {
     match (pattern, subject) {
-        (Bare::Var(variable), _) => match_variable(module, *variable, subject, bindings),
+        (Bare::Var(variable), _) => match_variable(*variable, subject, bindings),
         (Bare::Num(m), Bare::Num(n)) => m == n,
         (Bare::App(f, patterns), Bare::App(g, subjects)) => {
             if f != g {
                 return false;
             }
-            match_all(module, patterns.items(), subjects.items(), bindings)
+            match_all(patterns.items(), subjects.items(), bindings)
         }
         _ => false,
     }
@@ -85,19 +64,18 @@ pub fn match_term<'a>(
 /// The same for each of some patterns and the subject in its place.
 #[cycle(matching)]
 fn match_all<'a>(
-    module: &Module,
     patterns: &[Bare],
     subjects: &'a [Bare],
     bindings: &mut Vec<Option<&'a Bare>>,
 ) -> bool
-    ensures yes { result ≡ true → bind_all module.now (bindings_of bindings.old.items) (trees_of (map tree_of patterns.now)) (trees_of (map tree_of subjects.entry.now)) ≡ Some (bindings_of bindings.new.items) }
-    ensures no { result ≡ false → bind_all module.now (bindings_of bindings.old.items) (trees_of (map tree_of patterns.now)) (trees_of (map tree_of subjects.entry.now)) ≡ None }
+    ensures yes { result ≡ true → bind_all (bindings_of bindings.old.items) (trees_of (map tree_of patterns.now)) (trees_of (map tree_of subjects.entry.now)) ≡ Some (bindings_of bindings.new.items) }
+    ensures no { result ≡ false → bind_all (bindings_of bindings.old.items) (trees_of (map tree_of patterns.now)) (trees_of (map tree_of subjects.entry.now)) ≡ None }
 {
     if patterns.len() != subjects.len() {
         return false;
     }
     for i in 0..patterns.len() {
-        if !match_term(module, &patterns[i], &subjects[i], bindings) {
+        if !match_term(&patterns[i], &subjects[i], bindings) {
             return false;
         }
     }
@@ -130,24 +108,58 @@ fn values_of<'a>(alloc: Global, bindings: &[Option<&'a Bare>]) -> Result<Vec<&'a
     Ok(values)
 }
 
-/// The values of the pattern's variables, by first occurrence, that make it the subject, if there are
-/// some: a pattern without axioms has one solution at most.
+/// Whether each of these values, which are those of the first variables, has its variable's sort.
+fn have_sorts(
+    alloc: Global,
+    module: &Module,
+    vars: &Vars,
+    values: &[&Bare],
+) -> Result<bool, NoMemory>
+    requires few { length values.now ≤ length vars.now }
+    requires small { length vars.now < 4294967296 }
+    ensures yes { IfOk result (λ have. have ≡ true → HaveSorts (HasSort module.now) (numbered_from 0 (take (length values.now) vars.now)) (trees_at values.now)) }
+    ensures no { IfOk result (λ have. have ≡ false → ¬ HaveSorts (HasSort module.now) (numbered_from 0 (take (length values.now) vars.now)) (trees_at values.now)) }
+{
+    for i in 0..values.len() {
+        match vars.variable(i as u32) {
+            Some(variable) => {
+                if !has_sort(alloc, module, variable.sort, values[i])? {
+                    return Ok(false);
+                }
+            }
+            None => unreachable!(),
+        }
+    }
+    Ok(true)
+}
+
+/// The values of the pattern's variables, by first occurrence, that make it the subject, where each has its variable's sort:
+/// a pattern without axioms has one solution at most. The pattern's variables are the first `count` ones.
 pub fn solve<'a>(
     alloc: Global,
     module: &Module,
+    vars: &Vars,
     pattern: &Bare,
     subject: &'a Bare,
     count: usize,
 ) -> Result<Option<Vec<&'a Bare>>, NoMemory>
-    requires numbered { IsNumbered count (tree_of pattern.now) }
-    requires bare { IsBare (signature_of module.now) (tree_of subject.now) }
+    requires few { count ≤ length vars.now }
+    requires small { length vars.now < 4294967296 }
+    requires numbered { variables (tree_of pattern.now) ≡ numbered_from 0 (take count vars.now) }
+    requires bare { IsBare (terms_in module.now) (tree_of subject.now) }
+    requires free { HasNoAxioms (terms_in module.now) }
     ensures some { IfOk result (λ found. IfSome found (λ values. IsListing module.now (tree_of pattern.now) (tree_of subject.entry.now) (trees_at values.items ∷ []))) }
     ensures none { IfOk result (λ found. IfNone found (IsListing module.now (tree_of pattern.now) (tree_of subject.entry.now) [])) }
     ensures each { IfOk result (λ found. IfSome found (λ values. length values.items ≡ count)) }
 {
     let mut bindings = no_bindings(alloc, count)?;
-    if !match_term(module, pattern, subject, &mut bindings) {
+    if !match_term(pattern, subject, &mut bindings) {
         return Ok(None);
     }
-    Ok(Some(values_of(alloc, &bindings)?))
+    let values = values_of(alloc, &bindings)?;
+    if have_sorts(alloc, module, vars, &values)? {
+        Ok(Some(values))
+    } else {
+        Ok(None)
+    }
 }

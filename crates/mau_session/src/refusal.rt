@@ -2,10 +2,9 @@
 ghost use Rattle.std.specs.Prelude.{◌≡◌, ◌++◌, ◌<◌, codes, decimal, length, OnOk};
 ghost use Rattle.mau_reader.specs.Words.{place_at};
 ghost use Rattle.mau_session.specs.Refused.{word_of_refusal};
-ghost use Rattle.mau_session.specs.Answers.{item_head, refusal_line, fault_line};
+ghost use Rattle.mau_session.specs.Answers.{item_head, refusal_line, faulty_line, fault_line};
 
-use crate::show::{write_number, write_text};
-use mau_reader::Words;
+use mau_reader::{Words, write_number, write_text};
 use mau_terms::NoMemory;
 use mau_tokens::TokenFault;
 
@@ -73,6 +72,16 @@ pub fn write_refusal(
     write_head(out, number)?;
     write_text(out, "refused: ")?;
     refusal.write(out, words)?;
+    write_text(out, "\n")
+}
+
+/// Writes the answer of a module that is at fault, with the text of the refusal.
+pub fn write_faulty(out: &mut Vec<u8>, number: usize, text: &[u8]) -> Result<(), NoMemory>
+    ensures { OnOk result (out.new.items ≡ out.old.items ++ faulty_line number text.now) }
+{
+    write_head(out, number)?;
+    write_text(out, "refused: ")?;
+    out.extend_from_slice(text)?;
     write_text(out, "\n")
 }
 

@@ -1,8 +1,7 @@
 //! The state of a session: the modules that were accepted.
-ghost use Rattle.std.specs.Prelude.{◌≡◌, [], OnOk, IfSome, not};
+ghost use Rattle.std.specs.Prelude.{◌≡◌, [], OnOk, not};
 ghost use Rattle.std.specs.Str.{bytes_eq};
 ghost use Rattle.std.specs.Option.{option_copied};
-ghost use Rattle.mau_reader.specs.Modules.{IsSmall};
 ghost use Rattle.mau_session.specs.Transcript.{current};
 
 use mau_reader::Module;
@@ -17,22 +16,19 @@ pub struct State {
 }
 
 impl Model for State {
-    ghost use Rattle.std.specs.Prelude.{List, All};
-    ghost use Rattle.mau_reader.specs.declared.module.Module.{Module};
-    ghost use Rattle.mau_reader.specs.Modules.{IsSmall};
+    ghost use Rattle.std.specs.Prelude.{List};
+    ghost use Rattle.mau_reader.specs.Modules.{ModuleOf};
 
-    ghost Value = { List Module };
+    ghost Value = { List ModuleOf };
 
     ghost view = { λ s. s.modules.items };
-
-    ghost invariant = { λ s. All IsSmall s.modules.items };
 }
 
 /// Whether the module has another name than this one.
 fn has_another_name(module: &Module, name: &str) -> bool
     ensures { result ≡ not (bytes_eq module.now.name name.now) }
 {
-    module.name.as_str() != name
+    module.name() != name
 }
 
 impl State {
@@ -47,18 +43,16 @@ impl State {
 
     /// The current module, if a module was accepted.
     pub fn current(&self) -> Option<&Module>
-        ensures last { option_copied result ≡ current self.now }
-        ensures small { IfSome result (λ m. IsSmall m.now) }
+        ensures { option_copied result ≡ current self.now }
     {
         self.modules.last()
     }
 
     /// Accepts a module. It replaces one of its name, and is the current one.
     pub fn accept(&mut self, accepted: Module) -> Result<(), NoMemory>
-        requires { IsSmall accepted }
         ensures { OnOk result (self.new ≡ Rattle.mau_session.specs.Transcript.accepted self.old accepted) }
     {
-        let name = accepted.name.as_str();
+        let name = accepted.name();
         self.modules.retain(|other| has_another_name(other, name));
         self.modules.push(accepted)?;
         Ok(())

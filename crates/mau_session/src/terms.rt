@@ -1,14 +1,19 @@
 //! Reading terms in prefix form.
-ghost use Rattle.std.specs.Prelude.{◌≡◌, ◌<◌, ◌≤◌, ◌+◌, ◌-◌, ℕ, length, take, codes, nat_lt, ◌&&◌, map, Some, IfOk, IfSome, IfNone};
-ghost use Rattle.mau_terms.specs.Tree.{Tree, Trees, trees_of, variable};
+ghost use Rattle.std.specs.Prelude.{◌≡◌, ◌<◌, ◌≤◌, ◌+◌, ◌-◌, ℕ, length, codes, nat_lt, ◌&&◌, map, All, Some, None, IfOk, IfSome, IfNone};
+ghost use Rattle.mau_terms.specs.Tree.{Tree, Trees, trees_of};
 ghost use Rattle.mau_terms.specs.View.{tree_of};
-ghost use Rattle.mau_terms.specs.Vars.{place_of, with_pair};
 ghost use Rattle.mau_reader.specs.Words.{text_at};
 ghost use Rattle.mau_reader.specs.Places.{is_word};
 ghost use Rattle.mau_reader.specs.Names.{number_of};
 ghost use Rattle.mau_session.specs.Mark.{mark_text};
-ghost use Rattle.mau_session.specs.Terms.{IsLastColon, IsVariable, Pairs, Reads, ReadsList, ReadsArgument};
+ghost use Rattle.mau_poset.specs.Order.{kind_of};
+ghost use Rattle.mau_signature.specs.Faults.{IsSort};
+ghost use Rattle.mau_signature.specs.Signature.{IsOperator};
+ghost use Rattle.mau_reader.specs.Modules.{operator_names};
+ghost use Rattle.mau_session.specs.Terms.{IsLastColon, IsVariable, IsKindVariable, Pairs, Reads, ReadsList, ReadsArgument, argument_kinds};
+ghost use Rattle.mau_session.specs.ReadVariables.{IsReadVariable, IsReadKindVariable};
 
+use mau_poset::Poset;
 use mau_reader::{Module, Names, Words};
 use mau_terms::{Args, Bare, NoMemory, OpId, Vars};
 use std::alloc::Global;
@@ -38,7 +43,7 @@ fn cut_variable(sorts: &Names, word: &str) -> Option<(usize, usize)>
     match last_colon(word) {
         None => None,
         Some(colon) => {
-            if !names_variable(word, colon) {
+            if !names_variable(word, colon) || colon + 1 == word.len() {
                 return None;
             }
             match sorts.number(&word[colon + 1..]) {
@@ -49,37 +54,101 @@ fn cut_variable(sorts: &Names, word: &str) -> Option<(usize, usize)>
     }
 }
 
-/// Reads the variable at `from`, and gives the number of its sort too.
+/// Whether `X:`, `[`, a word and `]` stand from `from` on, before `to`; the colon of the first is at `colon`.
+fn is_kind_frame(words: &Words, to: usize, from: usize, colon: usize) -> bool
+    requires ascends { from + 3 < to }
+    requires within { to ≤ length words.now }
+    requires cut { IsLastColon (text_at words.now from) colon }
+    ensures { result ≡ Rattle.mau_session.specs.Terms.is_kind_frame words.now from colon }
+{
+    let word = words.text(from);
+    colon + 1 == word.len()
+        && names_variable(word, colon)
+        && words.is(from + 1, "[")
+        && words.is(from + 3, "]")
+}
+
+/// Where the name of a variable of a kind ends in its word, and the number of the sort whose kind it is.
+fn cut_kind_variable(sorts: &Names, words: &Words, to: usize, from: usize) -> Option<(usize, usize)>
+    requires ascends { from < to }
+    requires within { to ≤ length words.now }
+    ensures some { IfSome result (λ v. IsKindVariable sorts.now words.now to from v.0 v.1) }
+    ensures within { IfSome result (λ v. v.1 < length sorts.now) }
+    ensures none { IfNone result ((k s : ℕ) → IsKindVariable sorts.now words.now to from k s → ⊥) }
+{
+    if to - from <= 3 {
+        return None;
+    }
+    match last_colon(words.text(from)) {
+        None => None,
+        Some(colon) => {
+            if !is_kind_frame(words, to, from, colon) {
+                return None;
+            }
+            match sorts.number(words.text(from + 2)) {
+                None => None,
+                Some(sort) => Some((colon, sort)),
+            }
+        }
+    }
+}
+
+/// Reads the variable at `from`, and gives the number of its kind too.
 fn read_variable(
-    sorts: &Names,
+    module: &Module,
     words: &Words,
     vars: &mut Vars,
     from: usize,
 ) -> Result<Option<(Bare, u32)>, NoMemory>
     requires within { from < length words.now }
-    requires sorts { length sorts.now < 4294967296 }
     requires room { length vars.old < 4294967295 }
-    ensures some { IfOk result (λ found. IfSome found (λ r. (k : ℕ) × IsVariable sorts.now (text_at words.now from) k r.1
-        × (tree_of r.0 ≡ variable (place_of vars.old (take k (text_at words.now from), r.1)) r.1)
-        × (vars.new ≡ with_pair vars.old (take k (text_at words.now from), r.1)))) }
-    ensures none { IfOk result (λ found. IfNone found ((k s : ℕ) → IsVariable sorts.now (text_at words.now from) k s → ⊥)) }
+    ensures some { IfOk result (λ found. IfSome found (IsReadVariable module.now words.now from vars.old vars.new)) }
+    ensures none { IfOk result (λ found. IfNone found ((k s : ℕ) → IsVariable module.now.sorts (text_at words.now from) k s → ⊥)) }
+    ensures kept { IfOk result (λ found. IfNone found (vars.new ≡ vars.old)) }
     ensures few { length vars.new ≤ length vars.old + 1 }
 {
     let word = words.text(from);
-    match cut_variable(sorts, word) {
+    match cut_variable(module.sorts(), word) {
         None => Ok(None),
         Some((colon, sort)) => {
             let variable = vars.add(&word[..colon], sort as u32)?;
-            Ok(Some((Bare::Var(variable), sort as u32)))
+            let kind = module.signature().poset().kind_of(sort as u32);
+            Ok(Some((Bare::Var(variable), kind)))
         }
     }
 }
 
-/// A term that was read, the number of its sort, and the place behind it.
+/// Reads the variable of a kind whose words begin at `from`, and gives the number of its kind too.
+fn read_kind_variable(
+    module: &Module,
+    words: &Words,
+    to: usize,
+    vars: &mut Vars,
+    from: usize,
+) -> Result<Option<(Bare, u32)>, NoMemory>
+    requires ascends { from < to }
+    requires within { to ≤ length words.now }
+    requires room { length vars.old < 4294967295 }
+    ensures some { IfOk result (λ found. IfSome found (IsReadKindVariable module.now words.now to from vars.old vars.new)) }
+    ensures none { IfOk result (λ found. IfNone found ((k s : ℕ) → IsKindVariable module.now.sorts words.now to from k s → ⊥)) }
+    ensures end { IfOk result (λ found. IfSome found (λ r. from + 3 < to)) }
+    ensures few { length vars.new ≤ length vars.old + 1 }
+{
+    match cut_kind_variable(module.sorts(), words, to, from) {
+        None => Ok(None),
+        Some((colon, sort)) => {
+            let kind = module.signature().poset().kind_of(sort as u32);
+            let variable = vars.add(&words.text(from)[..colon], kind)?;
+            Ok(Some((Bare::Var(variable), kind)))
+        }
+    }
+}
+
+/// A term that was read, the number of its kind, and the place behind it.
 #[derive(Drop)]
 pub struct Reading {
     pub term: Bare,
-    pub sort: u32,
+    pub kind: u32,
     pub end: usize,
 }
 
@@ -116,10 +185,8 @@ pub fn read_term(
 ) -> Result<Option<Reading>, NoMemory>
     requires ascends { from ≤ to }
     requires within { to ≤ length words.now }
-    requires sorts { length module.now.sorts < 4294967296 }
-    requires operators { length module.now.operators.names < 4294967295 }
     requires room { length vars.old + (to - from) < 4294967295 }
-    ensures some { IfOk result (λ found. IfSome found (λ r. Reads module.now words.now to vars.old from (tree_of r.term) r.sort r.end vars.new)) }
+    ensures some { IfOk result (λ found. IfSome found (λ r. Reads module.now words.now to vars.old from (tree_of r.term) r.kind r.end vars.new)) }
     ensures none { IfOk result (λ found. IfNone found ((t : Tree) (s j : ℕ) (ms : Pairs) → Reads module.now words.now to vars.old from t s j ms → ⊥)) }
     ensures end { IfOk result (λ found. IfSome found (λ r. (from < r.end) × (r.end ≤ to))) }
     ensures room { IfOk result (λ found. IfSome found (λ r. length vars.new + (to - r.end) ≤ length vars.old + (to - from))) }
@@ -127,16 +194,81 @@ pub fn read_term(
     if from == to {
         return Ok(None);
     }
-    match module.operators.number(words.text(from)) {
+    match module.operator(words.text(from)) {
         Some(number) => read_application(alloc, module, words, to, vars, from, number),
-        None => match read_variable(&module.sorts, words, vars, from)? {
-            None => Ok(None),
-            Some((term, sort)) => Ok(Some(Reading {
+        None => read_any_variable(module, words, to, vars, from),
+    }
+}
+
+/// Reads a variable of a sort or of a kind.
+fn read_any_variable(
+    module: &Module,
+    words: &Words,
+    to: usize,
+    vars: &mut Vars,
+    from: usize,
+) -> Result<Option<Reading>, NoMemory>
+    requires ascends { from < to }
+    requires within { to ≤ length words.now }
+    requires no_operator { number_of (operator_names module.now.signature) (text_at words.now from) ≡ None }
+    requires room { length vars.old + (to - from) < 4294967295 }
+    ensures some { IfOk result (λ found. IfSome found (λ r. Reads module.now words.now to vars.old from (tree_of r.term) r.kind r.end vars.new)) }
+    ensures none { IfOk result (λ found. IfNone found ((t : Tree) (k j : ℕ) (ms : Pairs) → Reads module.now words.now to vars.old from t k j ms → ⊥)) }
+    ensures end { IfOk result (λ found. IfSome found (λ r. (from < r.end) × (r.end ≤ to))) }
+    ensures room { IfOk result (λ found. IfSome found (λ r. length vars.new + (to - r.end) ≤ length vars.old + (to - from))) }
+{
+    match read_variable(module, words, vars, from)? {
+        Some((term, kind)) => Ok(Some(Reading {
+            term,
+            kind,
+            end: from + 1,
+        })),
+        None => match read_kind_variable(module, words, to, vars, from)? {
+            Some((term, kind)) => Ok(Some(Reading {
                 term,
-                sort,
-                end: from + 1,
+                kind,
+                end: from + 4,
             })),
+            None => Ok(None),
         },
+    }
+}
+
+/// The kinds of some sorts.
+fn kinds_of(alloc: Global, poset: &Poset, sorts: &[u32]) -> Result<Vec<u32>, NoMemory>
+    requires { All (IsSort poset.now) sorts.now }
+    ensures { IfOk result (λ kinds. kinds.items ≡ map (kind_of poset.now) sorts.now) }
+{
+    let mut kinds = Vec::with_capacity(alloc, sorts.len())?;
+    for sort in sorts {
+        kinds.push(poset.kind_of(*sort))?;
+    }
+    Ok(kinds)
+}
+
+/// The kinds of the arguments of an operator, whose number is counted from 0.
+fn argument_kinds(alloc: Global, module: &Module, number: usize) -> Result<Vec<u32>, NoMemory>
+    requires declared { IsOperator module.now.signature (number + 1) }
+    requires few { number < 1000000 }
+    ensures { IfOk result (λ kinds. kinds.items ≡ argument_kinds module.now number) }
+{
+    let signature = module.signature();
+    match signature.declarations(OpId(number as u32 + 1)).first() {
+        Some(decl) => kinds_of(alloc, signature.poset(), decl.args.items()),
+        None => unreachable!(),
+    }
+}
+
+/// The kind of the result of an operator, whose number is counted from 0.
+fn result_kind(module: &Module, number: usize) -> u32
+    requires declared { IsOperator module.now.signature (number + 1) }
+    requires few { number < 1000000 }
+    ensures { result ≡ Rattle.mau_session.specs.Terms.result_kind module.now number }
+{
+    let signature = module.signature();
+    match signature.declarations(OpId(number as u32 + 1)).first() {
+        Some(decl) => signature.poset().kind_of(decl.result),
+        None => unreachable!(),
     }
 }
 
@@ -161,29 +293,26 @@ fn read_application(
 ) -> Result<Option<Reading>, NoMemory>
     requires ascends { from < to }
     requires within { to ≤ length words.now }
-    requires sorts { length module.now.sorts < 4294967296 }
-    requires operators { length module.now.operators.names < 4294967295 }
-    requires number { number_of module.now.operators.names (text_at words.now from) ≡ Some number }
+    requires number { number_of (operator_names module.now.signature) (text_at words.now from) ≡ Some number }
+    requires declared { IsOperator module.now.signature (number + 1) }
+    requires few { number < 1000000 }
     requires room { length vars.old + (to - from) < 4294967295 }
-    ensures some { IfOk result (λ found. IfSome found (λ r. Reads module.now words.now to vars.old from (tree_of r.term) r.sort r.end vars.new)) }
+    ensures some { IfOk result (λ found. IfSome found (λ r. Reads module.now words.now to vars.old from (tree_of r.term) r.kind r.end vars.new)) }
     ensures none { IfOk result (λ found. IfNone found ((t : Tree) (s j : ℕ) (ms : Pairs) → Reads module.now words.now to vars.old from t s j ms → ⊥)) }
     ensures end { IfOk result (λ found. IfSome found (λ r. (from < r.end) × (r.end ≤ to))) }
     ensures room { IfOk result (λ found. IfSome found (λ r. length vars.new + (to - r.end) ≤ length vars.old + (to - from))) }
 {
     let operator = OpId(number as u32 + 1);
-    let profile = match module.operators.profile(number) {
-        Some(profile) => profile,
-        None => return Ok(None),
-    };
-    let sorts = profile.arguments.items();
-    if sorts.is_empty() {
+    let kinds = argument_kinds(alloc, module, number)?;
+    let kind = result_kind(module, number);
+    if kinds.is_empty() {
         return Ok(Some(Reading {
             term: Bare::App(operator, Args::new(Vec::new(alloc))),
-            sort: profile.result,
+            kind,
             end: from + 1,
         }));
     }
-    match read_list(alloc, module, words, to, vars, from + 1, sorts)? {
+    match read_list(alloc, module, words, to, vars, from + 1, &kinds)? {
         None => Ok(None),
         Some((arguments, end)) => {
             if !is_close(words, end, to) {
@@ -191,14 +320,14 @@ fn read_application(
             }
             Ok(Some(Reading {
                 term: Bare::App(operator, Args::new(arguments)),
-                sort: profile.result,
+                kind,
                 end: end + 1,
             }))
         }
     }
 }
 
-/// Reads arguments of these sorts, the first behind an open parenthesis at `from`, each other behind a comma.
+/// Reads arguments in these kinds, the first behind an open parenthesis at `from`, each other behind a comma.
 #[cycle(term)]
 fn read_list(
     alloc: Global,
@@ -207,23 +336,21 @@ fn read_list(
     to: usize,
     vars: &mut Vars,
     from: usize,
-    sorts: &[u32],
+    kinds: &[u32],
 ) -> Result<Option<(Vec<Bare>, usize)>, NoMemory>
     requires ascends { from ≤ to }
     requires within { to ≤ length words.now }
-    requires sorts { length module.now.sorts < 4294967296 }
-    requires operators { length module.now.operators.names < 4294967295 }
     requires room { length vars.old + (to - from) < 4294967295 }
-    ensures some { IfOk result (λ found. IfSome found (λ r. ReadsList module.now words.now to vars.old (codes "(") sorts.now from (trees_of (map tree_of r.0.items)) r.1 vars.new)) }
-    ensures none { IfOk result (λ found. IfNone found ((ts : Trees) (j : ℕ) (ms : Pairs) → ReadsList module.now words.now to vars.old (codes "(") sorts.now from ts j ms → ⊥)) }
+    ensures some { IfOk result (λ found. IfSome found (λ r. ReadsList module.now words.now to vars.old (codes "(") kinds.now from (trees_of (map tree_of r.0.items)) r.1 vars.new)) }
+    ensures none { IfOk result (λ found. IfNone found ((ts : Trees) (j : ℕ) (ms : Pairs) → ReadsList module.now words.now to vars.old (codes "(") kinds.now from ts j ms → ⊥)) }
     ensures end { IfOk result (λ found. IfSome found (λ r. (from ≤ r.1) × (r.1 ≤ to))) }
     ensures room { IfOk result (λ found. IfSome found (λ r. length vars.new + (to - r.1) ≤ length vars.old + (to - from))) }
 {
     let mut arguments = Vec::new(alloc);
     let mut at = from;
     let mut mark = Mark::Open;
-    for sort in sorts {
-        match read_argument(alloc, module, words, to, vars, at, mark, *sort)? {
+    for kind in kinds {
+        match read_argument(alloc, module, words, to, vars, at, mark, *kind)? {
             Some((argument, end)) => {
                 arguments.push(argument)?;
                 at = end;
@@ -235,7 +362,7 @@ fn read_list(
     Ok(Some((arguments, at)))
 }
 
-/// Reads an argument of this sort behind its mark at `at`, and gives the place behind it.
+/// Reads an argument in this kind behind its mark at `at`, and gives the place behind it.
 #[cycle(term)]
 fn read_argument(
     alloc: Global,
@@ -245,15 +372,13 @@ fn read_argument(
     vars: &mut Vars,
     at: usize,
     mark: Mark,
-    sort: u32,
+    kind: u32,
 ) -> Result<Option<(Bare, usize)>, NoMemory>
     requires ascends { at ≤ to }
     requires within { to ≤ length words.now }
-    requires sorts { length module.now.sorts < 4294967296 }
-    requires operators { length module.now.operators.names < 4294967295 }
     requires room { length vars.old + (to - at) < 4294967295 }
-    ensures some { IfOk result (λ found. IfSome found (λ r. ReadsArgument module.now words.now to vars.old (mark_text mark) sort at (tree_of r.0) r.1 vars.new)) }
-    ensures none { IfOk result (λ found. IfNone found ((t : Tree) (j : ℕ) (ms : Pairs) → ReadsArgument module.now words.now to vars.old (mark_text mark) sort at t j ms → ⊥)) }
+    ensures some { IfOk result (λ found. IfSome found (λ r. ReadsArgument module.now words.now to vars.old (mark_text mark) kind at (tree_of r.0) r.1 vars.new)) }
+    ensures none { IfOk result (λ found. IfNone found ((t : Tree) (j : ℕ) (ms : Pairs) → ReadsArgument module.now words.now to vars.old (mark_text mark) kind at t j ms → ⊥)) }
     ensures end { IfOk result (λ found. IfSome found (λ r. (at < r.1) × (r.1 ≤ to))) }
     ensures room { IfOk result (λ found. IfSome found (λ r. length vars.new + (to - r.1) ≤ length vars.old + (to - at))) }
 {
@@ -263,7 +388,7 @@ fn read_argument(
     match read_term(alloc, module, words, to, vars, at + 1)? {
         None => Ok(None),
         Some(reading) => {
-            if reading.sort != sort {
+            if reading.kind != kind {
                 return Ok(None);
             }
             Ok(Some((reading.term, reading.end)))

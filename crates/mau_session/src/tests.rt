@@ -64,18 +64,18 @@ fn answers_matches_over_a_module(rt: HostRuntime) -> Result<(), Fail> {
 fn refuses_by_name_and_place(rt: HostRuntime) -> Result<(), Fail> {
     let rows = [
         (
-            "fmod G is sort S . op a : -> S [ctor] . endfm",
-            "[1] refused: NotBuilt [ 31\n",
+            "fmod G is sort S . op a : -> S [prec 1] . endfm",
+            "[1] refused: NotBuilt prec 32\n",
+        ),
+        (
+            "fmod G is sort S . op a : -> S . op a : S -> S . endfm",
+            "[1] refused: NotBuilt a 36\n",
         ),
         ("fmod A is sort S .", "[1] refused: Unended 0\n"),
         ("match a <=? a .", "[1] refused: NotBuilt match 0\n"),
         (
             "fmod A is op a : -> T . endfm",
             "[1] refused: NotBuilt T 20\n",
-        ),
-        (
-            "fmod A is sort S . ops a a : -> S . endfm",
-            "[1] refused: NotBuilt a 25\n",
         ),
         (
             "fmod A is sort S . op a b : -> S . endfm",
@@ -116,6 +116,133 @@ fn refuses_by_name_and_place(rt: HostRuntime) -> Result<(), Fail> {
         assert_eq!(rt; bytes.as_slice(), wanted.as_bytes());
         assert_eq!(rt; status, Status::Refused);
     }
+    Ok(())
+}
+
+#[test]
+fn accepts_modules_with_sorts_and_attributes(rt: HostRuntime) -> Result<(), Fail> {
+    let rows = [
+        "fmod G is sort S . op a : -> S [ctor] . endfm",
+        "fmod G is sort S . ops a a : -> S . endfm",
+        "fmod G is sorts A B C . subsorts A < B C . op f : [A] A ~> B [comm memo] . op e : -> A [ctor] . op g : B B -> B [assoc comm id: e] . endfm",
+        "fmod G is sorts A B . subsort A < B . op f : A -> A . op f : B -> B . endfm",
+    ];
+    for text in rows {
+        let (bytes, status) = answer(rt.alloc(), &["run"], text)?;
+        assert_eq!(rt; bytes.as_slice(), b"[1] module G\n".as_slice());
+        assert_eq!(rt; status, Status::Done);
+    }
+    Ok(())
+}
+
+#[test]
+fn refuses_modules_at_fault(rt: HostRuntime) -> Result<(), Fail> {
+    let rows = [
+        ("sorts A B . subsorts A < B < A .", "Cycle A A"),
+        (
+            "sorts A B C D E T . subsorts C < A B . subsorts D E < T . op f : A -> D . op f : B -> E .",
+            "NotPreregular f C",
+        ),
+        (
+            "sorts A B . subsort A < B . op f : A A -> B [assoc] . op f : B A -> B .",
+            "NotAssociativeSorts f A A A",
+        ),
+        (
+            "sorts A B . subsort A < B . op e : -> B . op g : B B -> A [id: e] .",
+            "IdentityLowersSort g B",
+        ),
+        (
+            "sorts A B C D E T . subsorts D E < T . subsort A < B . op f : [A] -> D . op f : [B] -> E .",
+            "NotPreregular f A",
+        ),
+        (
+            "sorts A Z . op f : A -> A . op f : A -> Z .",
+            "KindMismatch f",
+        ),
+        ("sorts A Z . op f : A A -> Z [assoc] .", "AttrConflict f"),
+        ("sort A . op f : A A -> A [id: e] .", "IdNotConstant f"),
+        (
+            "sort A . ops b f : A A A A A A A A A A A A A A A A A -> A .",
+            "Arity b",
+        ),
+        // The faults stand in an order: sorts before declarations, and these before tuples of sorts.
+        (
+            "sorts A B Z . subsorts A < B < A . op f : A -> A . op f : A -> Z .",
+            "Cycle A A",
+        ),
+    ];
+    for (elements, refusal) in rows {
+        let text = format!(in rt.alloc(); "fmod Q is {elements} endfm")?;
+        let wanted = format!(in rt.alloc(); "[1] refused: {refusal}\n")?;
+        let (bytes, status) = answer(rt.alloc(), &["run"], &text)?;
+        assert_eq!(rt; bytes.as_slice(), wanted.as_bytes());
+        assert_eq!(rt; status, Status::Refused);
+    }
+    Ok(())
+}
+
+#[test]
+fn refuses_too_many_sorts(rt: HostRuntime) -> Result<(), Fail> {
+    for (count, wanted) in [
+        (16_384usize, b"[1] module Y\n".as_slice()),
+        (16_385, b"[1] refused: TooLarge sorts\n".as_slice()),
+    ] {
+        let mut text = String::new(rt.alloc());
+        text.push_str("fmod Y is sorts")?;
+        for i in 1..=count {
+            let name = format!(in rt.alloc(); " s{i}")?;
+            text.push_str(&name)?;
+        }
+        text.push_str(" . endfm")?;
+        let (bytes, _) = answer(rt.alloc(), &["run"], &text)?;
+        assert_eq!(rt; bytes.as_slice(), wanted);
+    }
+    Ok(())
+}
+
+#[test]
+fn tests_values_by_their_sorts(rt: HostRuntime) -> Result<(), Fail> {
+    let module =
+        "fmod U is sorts A B . subsort A < B . op a : -> A . op b : -> B . op f : A -> A . op f : B -> B . op p : B ~> A . endfm\n";
+    let rows = [
+        ("match X:A <=? b .", "No match.\n"),
+        (
+            "match X:B <=? a .",
+            "Matcher 1\nX:B --> a\nNo more matches.\n",
+        ),
+        (
+            "match X:A <=? f(f(a)) .",
+            "Matcher 1\nX:A --> f(f(a))\nNo more matches.\n",
+        ),
+        ("match X:A <=? f(b) .", "No match.\n"),
+        ("match f(X:A) <=? f(Y:B) .", "No match.\n"),
+        ("match X:B <=? p(b) .", "No match.\n"),
+        (
+            "match X:[A] <=? p(b) .",
+            "Matcher 1\nX:[B] --> p(b)\nNo more matches.\n",
+        ),
+        (
+            "match f(X:[B]) <=? f(Y:[A]) .",
+            "Matcher 1\nX:[B] --> Y:[B]\nNo more matches.\n",
+        ),
+    ];
+    for (command, listing) in rows {
+        let text = format!(in rt.alloc(); "{module}{command}")?;
+        let wanted = format!(in rt.alloc(); "[1] module U\n[2] match in U\n{listing}")?;
+        let (bytes, status) = answer(rt.alloc(), &["run"], &text)?;
+        assert_eq!(rt; bytes.as_slice(), wanted.as_bytes());
+        assert_eq!(rt; status, Status::Done);
+    }
+    let (bytes, status) = answer(
+        rt.alloc(),
+        &["run"],
+        "fmod V is sort S . op a : -> S . op f : S S -> S [comm] . endfm match a <=? a .",
+    )?;
+    assert_eq!(rt;
+        bytes.as_slice(),
+        b"[1] module V\n[2] refused: NotBuilt match 64\n".as_slice()
+    );
+    assert_eq!(rt; status, Status::Refused);
     Ok(())
 }
 

@@ -9,7 +9,7 @@ use mau_reader::{Module, Words};
 use mau_terms::{Bare, NoMemory, Vars};
 use std::alloc::Global;
 
-/// Reads the words from `from` on, all up to `to`, as a term. Gives it and its sort.
+/// Reads the words from `from` on, all up to `to`, as a term. Gives it and its kind.
 pub fn read_whole(
     alloc: Global,
     module: &Module,
@@ -20,8 +20,6 @@ pub fn read_whole(
 ) -> Result<Option<(Bare, u32)>, NoMemory>
     requires ascends { from ≤ to }
     requires within { to ≤ length words.now }
-    requires sorts { length module.now.sorts < 4294967296 }
-    requires operators { length module.now.operators.names < 4294967295 }
     requires room { length vars.old + (to - from) < 4294967295 }
     ensures some { IfOk result (λ found. IfSome found (λ r. Reads module.now words.now to vars.old from (tree_of r.0) r.1 to vars.new)) }
     ensures none { IfOk result (λ found. IfNone found ((t : Tree) (s : ℕ) (ms : Pairs) → Reads module.now words.now to vars.old from t s to ms → ⊥)) }
@@ -33,12 +31,12 @@ pub fn read_whole(
             if reading.end != to {
                 return Ok(None);
             }
-            Ok(Some((reading.term, reading.sort)))
+            Ok(Some((reading.term, reading.kind)))
         }
     }
 }
 
-/// Reads the words from `from` on, all up to `to`, as a term of this sort.
+/// Reads the words from `from` on, all up to `to`, as a term in this kind.
 pub fn read_whole_of(
     alloc: Global,
     module: &Module,
@@ -46,21 +44,19 @@ pub fn read_whole_of(
     to: usize,
     vars: &mut Vars,
     from: usize,
-    sort: u32,
+    kind: u32,
 ) -> Result<Option<Bare>, NoMemory>
     requires ascends { from ≤ to }
     requires within { to ≤ length words.now }
-    requires sorts { length module.now.sorts < 4294967296 }
-    requires operators { length module.now.operators.names < 4294967295 }
     requires room { length vars.old + (to - from) < 4294967295 }
-    ensures some { IfOk result (λ found. IfSome found (λ term. Reads module.now words.now to vars.old from (tree_of term) sort to vars.new)) }
-    ensures none { IfOk result (λ found. IfNone found ((t : Tree) (ms : Pairs) → Reads module.now words.now to vars.old from t sort to ms → ⊥)) }
+    ensures some { IfOk result (λ found. IfSome found (λ term. Reads module.now words.now to vars.old from (tree_of term) kind to vars.new)) }
+    ensures none { IfOk result (λ found. IfNone found ((t : Tree) (ms : Pairs) → Reads module.now words.now to vars.old from t kind to ms → ⊥)) }
     ensures room { IfOk result (λ found. IfSome found (λ term. length vars.new ≤ length vars.old + (to - from))) }
 {
     match read_whole(alloc, module, words, to, vars, from)? {
         None => Ok(None),
         Some((term, other)) => {
-            if other != sort {
+            if other != kind {
                 return Ok(None);
             }
             Ok(Some(term))

@@ -1,5 +1,5 @@
 -- Declarations without a fault make a signature with the kinds that axioms need.
-use Rattle.std.proofs.Common.{◌≡◌, ◌≢◌, ℕ, ◌+◌, ◌-◌, ◌<◌, ◌≤◌, nat_lt, nat_le, zero, suc, List, [], ◌∷◌, Bool, true, false, ◌&&◌, ◌||◌, cond, not, if◌then◌else◌, length, map, get_or, Option, Some, None, All, refl, sym, ◌∙◌, ap, ap₂, subst, eqb-true, arith}
+use Rattle.std.proofs.Common.{◌≡◌, ◌≢◌, ℕ, ◌+◌, ◌-◌, ◌<◌, ◌≤◌, nat_lt, nat_le, zero, suc, List, [], ◌∷◌, Bool, true, false, ◌&&◌, ◌||◌, cond, not, if◌then◌else◌, length, map, get_or, Option, Some, None, All, refl, sym, ◌∙◌, ap, subst, eqb-true, arith}
 use Rattle.std.specs.Prelude.{is_some, filter}
 use Rattle.std.specs.List.{list_any, position_or_len}
 use Rattle.std.specs.Option.{option_map}
@@ -28,7 +28,7 @@ use Rattle.mau_signature.specs.Signature.{SignatureOf, signature_of, arguments_o
 use Rattle.mau_signature.specs.Laws.{HasNumeral, FaultlessAreLawful}
 use Rattle.mau_signature.proofs.Same.{same_operator-is}
 use Rattle.mau_signature.proofs.Grouped.{value_at}
-use Rattle.mau_signature.proofs.Whole.{IsDeclared, all_declared, some_kept}
+use Rattle.mau_signature.proofs.Whole.{IsDeclared, all_declared, some_kept, signature_made}
 use Rattle.mau_signature.proofs.Settled.{kind_of_numerals, IsSettled, AreSettled, successors_right, all_settled}
 
 -- ---- lists
@@ -301,8 +301,7 @@ pub entries_are_lawful : (g : Given) (entries : List Entry) (names : List Operat
     names ≡ operators_of g.hierarchy g.declarations → map declarations_in entries ≡ (signature_of g.hierarchy g.declarations g.numerals).declarations →
     IsLawful (terms_over (record { hierarchy = g.hierarchy; names = names; declarations = map declarations_in entries; numerals = g.numerals }))
 entries_are_lawful g entries names faultless numerals_right a names_are declarations_are =
-    let of : List Operator → List (List Decl) → SignatureOf = λ fs ds. record { hierarchy = g.hierarchy; names = fs; declarations = ds; numerals = g.numerals } in
-    let same : of names (map declarations_in entries) ≡ signature_of g.hierarchy g.declarations g.numerals = ap₂ of names_are declarations_are in
+    let same = signature_made g.hierarchy g.declarations g.numerals names (map declarations_in entries) names_are declarations_are in
     subst (λ s. IsLawful (terms_over s)) (sym same)
     (lawful g faultless numerals_right
     (subst (λ s. (n m : ℕ) → (theory_at s n).id ≡ Some (Numeral m) → m ≤ greatest_numeral) same

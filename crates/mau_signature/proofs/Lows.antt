@@ -5,7 +5,6 @@ use Rattle.std.proofs.lemmas.List.Elements.{Contains-push, Contains-push_cases, 
 use Rattle.mau_poset.specs.Order.{Hierarchy, IsPoset, IsAtOrBelow}
 use Rattle.mau_poset.proofs.Orders.{reflexive, transitive, antisymmetric}
 use Rattle.mau_signature.specs.declared.decl.Decl.{Decl}
-use Rattle.std.specs.Prelude.{◌↔◌}
 use Rattle.mau_signature.specs.Signature.{AreAtOrBelow, Applies, IsResult, IsLeastResult, HasLeastResult, IsDeclaredResult}
 use Rattle.mau_signature.specs.Lowest.{IsLow, IsBelowResults, IsLowestResult, IsLower}
 
@@ -80,33 +79,25 @@ module _ (h : Hierarchy) (sorts : List ℕ) (ds : List Decl) (d : Decl) where
       (λ new. subst (λ k. IsAtOrBelow h r k) new.1 (here new.0))
       (cases q p)
 
-least_one : (h : Hierarchy) (ds : List Decl) (sorts : List ℕ) (r : ℕ) → IsPoset h → IsLow h ds sorts r → HasLeastResult h ds sorts → IsDeclaredResult h ds sorts r
-least_one h ds sorts r poset low accepted = ⊎_elim
+-- the lowest result is the least one, if there is one
+is_least : (h : Hierarchy) (ds : List Decl) (sorts : List ℕ) (r : ℕ) → IsPoset h → IsLow h ds sorts r → HasLeastResult h ds sorts → IsLeastResult h ds sorts r
+is_least h ds sorts r poset low accepted = ⊎_elim
     (λ (some : (m : ℕ) × IsLeastResult h ds sorts m).
     let e : some.0 ≡ r = antisymmetric h poset some.0 r (some.1.least r low.one) (low.low some.0 some.1) in
-    inl (subst (λ m. IsLeastResult h ds sorts m) e some.1))
+    subst (λ m. IsLeastResult h ds sorts m) e some.1)
     (λ none. absurd (none low.one.declaration low.one.declared low.one.applies))
     accepted
 
 pub declared-some : (h k : Hierarchy) (ds es : List Decl) (sorts : List ℕ) (r : ℕ) → k ≡ h → es ≡ ds → IsPoset k → IsLow k es sorts r → HasLeastResult h ds sorts → IsDeclaredResult h ds sorts r
 declared-some h k ds es sorts r e f poset low accepted =
-    least_one h ds sorts r (subst IsPoset e poset) (subst (λ xs. IsLow h xs sorts r) f (subst (λ x. IsLow x es sorts r) e low)) accepted
+    inl (is_least h ds sorts r (subst IsPoset e poset) (subst (λ xs. IsLow h xs sorts r) f (subst (λ x. IsLow x es sorts r) e low)) accepted)
 
 pub read-so : (h : Hierarchy) (sorts : List ℕ) (ds es : List Decl) (x y : Option ℕ) → es ≡ ds → x ≡ y → IsLowestResult h ds sorts y → IsLowestResult h es sorts x
 read-so h sorts ds es x y e k p = subst (λ ws. IsLowestResult h ws sorts x) (sym e) (subst (λ w. IsLowestResult h ds sorts w) (sym k) p)
 
--- the lowest result is the least one, if it is below all
-pub least-if : (h : Hierarchy) (ds : List Decl) (sorts : List ℕ) (r : ℕ) → IsPoset h → IsLow h ds sorts r → IsBelowResults h ds sorts r ↔ HasLeastResult h ds sorts
-least-if h ds sorts r poset low = (
-  (λ all. inl (r, record { one = low.one; least = all })),
-  (λ accepted. ⊎_elim
-      (λ (some : (m : ℕ) × IsLeastResult h ds sorts m).
-      let e : some.0 ≡ r = antisymmetric h poset some.0 r (some.1.least r low.one) (low.low some.0 some.1) in
-      subst (λ m. IsBelowResults h ds sorts m) e some.1.least)
-      (λ none. absurd (none low.one.declaration low.one.declared low.one.applies))
-      accepted),
-)
+-- ---- whether the lowest result is the least one
 
-pub has-least : (h k : Hierarchy) (ds es : List Decl) (sorts : List ℕ) (r : ℕ) → k ≡ h → es ≡ ds → IsPoset k → IsLow k es sorts r → IsBelowResults k es sorts r ↔ HasLeastResult h ds sorts
-has-least h k ds es sorts r e f poset low =
-    subst (λ x. IsBelowResults k es sorts r ↔ HasLeastResult x ds sorts) e (subst (λ xs. IsBelowResults k es sorts r ↔ HasLeastResult k xs sorts) f (least-if k es sorts r poset low))
+pub least-none : (h k : Hierarchy) (ds es : List Decl) (sorts : List ℕ) (r : ℕ) → k ≡ h → es ≡ ds → IsPoset k → IsLow k es sorts r → ¬ IsBelowResults k es sorts r → ¬ HasLeastResult h ds sorts
+least-none h k ds es sorts r e f poset low not_below = λ accepted.
+    not_below (is_least k es sorts r poset low
+    (subst (λ x. HasLeastResult x es sorts) (sym e) (subst (λ xs. HasLeastResult h xs sorts) (sym f) accepted))).least

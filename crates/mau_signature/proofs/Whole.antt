@@ -1,5 +1,5 @@
 -- What holds of the groups when all declarations are in them.
-use Rattle.std.proofs.Common.{◌≡◌, ◌≢◌, ℕ, ◌<◌, ◌≤◌, nat_lt, zero, suc, List, [], ◌∷◌, ◌++◌, Bool, true, false, ◌||◌, if◌then◌else◌, length, map, get_or, Option, Some, None, All, refl, sym, ◌∙◌, ap, subst, arith}
+use Rattle.std.proofs.Common.{◌≡◌, ◌≢◌, ℕ, ◌<◌, ◌≤◌, nat_lt, zero, suc, List, [], ◌∷◌, ◌++◌, Bool, true, false, ◌||◌, if◌then◌else◌, length, map, get_or, Option, Some, None, All, refl, sym, ◌∙◌, ap, ap₂, subst, arith}
 use Rattle.std.specs.Prelude.{filter, fold}
 use Rattle.std.specs.List.{list_any}
 use Rattle.std.proofs.lemmas.List.{length-map}
@@ -11,7 +11,8 @@ use Rattle.mau_signature.specs.declared.operator.Entry.{Entry}
 use Rattle.mau_signature.specs.Attributes.{with_united}
 use Rattle.mau_signature.specs.Names.{Operator, operator_of, same_operator, with_operator, operators_of, declarations_of}
 use Rattle.mau_signature.specs.Faults.{Given, HasSorts, IsSort, AreNumerals, IsFaultless, no_declaration, one_more, has_wrong_arity, is_at_fault}
-use Rattle.mau_signature.specs.Built.{HasZero, declarations_in}
+use Rattle.mau_signature.specs.Signature.{SignatureOf, signature_of}
+use Rattle.mau_signature.specs.Built.{HasZero, HasOthers, declarations_in}
 use Rattle.mau_signature.proofs.Same.{same_operator_itself, either_false}
 
 abbrev pub HasFewArguments : Decl → Type 0
@@ -102,6 +103,15 @@ entered_are h ds read names groups entries r n g e =
     let names_are : names ≡ operators_of h ds = n ∙ ap (operators_of h) r in
     (names_are, e ∙ ap (map with_united) g ∙ map-map with_united (declarations_of h ds) names ∙ ap (map (λ f. with_united (declarations_of h ds f))) names_are)
 
+-- so they make the signature of these declarations
+pub signature_made : (h : Hierarchy) (ds : List Decl) (numerals : Option (ℕ × ℕ)) (fs : List Operator) (groups : List (List Decl)) →
+    fs ≡ operators_of h ds → groups ≡ map (λ f. with_united (declarations_of h ds f)) (operators_of h ds) →
+    record { hierarchy = h; names = fs; declarations = groups; numerals = numerals } ≡ signature_of h ds numerals
+signature_made h ds numerals fs groups names_are groups_are = ap₂ parts names_are groups_are
+  where
+    parts : List Operator → List (List Decl) → SignatureOf
+    parts gs es = record { hierarchy = h; names = gs; declarations = es; numerals = numerals }
+
 pub as_many : (entries : List Entry) (ds : List (List Decl)) (fs : List Operator) (D : Operator → List Decl) → map declarations_in entries ≡ map with_united ds → ds ≡ map D fs → length entries ≡ length fs
 as_many entries ds fs D e k =
     sym (length-map entries declarations_in) ∙ ap length e ∙ length-map ds with_united ∙ ap length k ∙ length-map fs D
@@ -109,3 +119,7 @@ as_many entries ds fs D e k =
 pub zero_there : (h : Hierarchy) (ds : List Decl) (numerals : Option (ℕ × ℕ)) → AreNumerals h ds numerals → HasZero h numerals
 zero_there h ds None a = λ p e. cc
 zero_there h ds (Some z) a = λ p e. let k : z.0 ≡ p.0 = cc in subst (IsSort h) k a.0
+
+pub others_there : (h : Hierarchy) (ds : List Decl) (numerals : Option (ℕ × ℕ)) → AreNumerals h ds numerals → HasOthers h numerals
+others_there h ds None a = λ p e. cc
+others_there h ds (Some z) a = λ p e. let k : z.1 ≡ p.1 = cc in subst (IsSort h) k a.1

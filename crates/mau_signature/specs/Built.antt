@@ -11,6 +11,7 @@ use Rattle.mau_signature.specs.declared.operator.Entry.{Entry}
 use Rattle.mau_signature.specs.Names.{Operator}
 use Rattle.mau_signature.specs.Faults.{HasSorts, IsSort}
 use Rattle.mau_signature.specs.Signature.{theory_of, strategy_of, IsAlike, terms_over}
+use Rattle.mau_signature.specs.Made.{IsSignature}
 
 -- the declarations of an entry
 abbrev pub declarations_in : Entry → List Decl
@@ -32,6 +33,10 @@ pub record IsEntry (h : Hierarchy) (fs : List Operator) (e : Entry) : Type 0 whe
 abbrev pub HasZero : Hierarchy → Option (ℕ × ℕ) → Type 0
 HasZero h numerals = (p : ℕ × ℕ) → numerals ≡ Some p → IsSort h p.0
 
+-- the sort of all numerals but 0 is there
+abbrev pub HasOthers : Hierarchy → Option (ℕ × ℕ) → Type 0
+HasOthers h numerals = (p : ℕ × ℕ) → numerals ≡ Some p → IsSort h p.1
+
 -- the declarations of an entry are alike, and have 16 arguments at most
 pub record AreAlike (h : Hierarchy) (e : Entry) : Type 0 where
   pub alike : All (IsAlike h e.decls.items) e.decls.items
@@ -42,4 +47,6 @@ pub record IsBuilt (h : Hierarchy) (fs : List Operator) (zeros : Option (ℕ × 
   pub entries : All (IsEntry h fs) es
   pub alike : All (AreAlike h) es
   pub numerals : HasZero h zeros
+  pub others : HasOthers h zeros
+  pub made : IsSignature (record { hierarchy = h; names = fs; declarations = map declarations_in es; numerals = zeros })
   pub lawful : IsLawful (terms_over (record { hierarchy = h; names = fs; declarations = map declarations_in es; numerals = zeros }))

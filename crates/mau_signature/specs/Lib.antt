@@ -7,6 +7,7 @@ pub mod Keys
 pub mod Distinct
 pub mod Kinds
 pub mod Signature
+pub mod Made
 pub mod Built
 pub mod Lowest
 pub mod Laws

@@ -5,6 +5,7 @@ ghost use Rattle.mau_terms.specs.Bare.{IsLawful};
 ghost use Rattle.mau_signature.specs.Attributes.{is_given_number};
 ghost use Rattle.mau_signature.specs.Faults.{IsSort, HasSorts, AreNumerals, given, IsFaultless, IsFirstAtFault, HasWrongArity, MismatchesKind, Conflicts, HasBadStrategy, LacksIdentity, IfArity, IfKindMismatch, IfAttrConflict, IfBadStrat, IfIdNotConstant};
 ghost use Rattle.mau_signature.specs.Judged.{IsFirstFault};
+ghost use Rattle.mau_signature.specs.Made.{IsSignature};
 ghost use Rattle.mau_signature.specs.Signature.{IsOperator, declarations_at, form_of, theory_at, strategy_of, attributes_of, IsAlike, signature_of, terms_over};
 
 use crate::build::{enter_all, group_all, name_all};
@@ -44,6 +45,7 @@ impl Signature {
     pub fn operators(&self) -> u32
         ensures value { result ≡ length self.now.declarations }
         ensures limit { result ≤ MAX_DECLARATIONS }
+        ensures signature { IsSignature self.now }
         ensures lawful { IsLawful (terms_over self.now) }
     {
         self.entries.len() as u32
@@ -115,6 +117,7 @@ impl Signature {
     pub fn numerals(&self) -> Option<(u32, u32)>
         ensures value { result ≡ self.now.numerals }
         ensures zero { IfSome result (λ p. IsSort self.now.hierarchy p.0) }
+        ensures others { IfSome result (λ p. IsSort self.now.hierarchy p.1) }
     {
         self.numerals
     }

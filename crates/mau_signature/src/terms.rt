@@ -1,5 +1,5 @@
 //! What a signature says of terms: declared results and kinds.
-ghost use Rattle.std.specs.Prelude.{◌≡◌, ◌<◌, ◌≤◌, ◌↔◌, IsTrue, length, All};
+ghost use Rattle.std.specs.Prelude.{◌≡◌, ◌<◌, ◌≤◌, length, All, IfSome, IfNone};
 ghost use Rattle.mau_poset.specs.Order.{kind_of};
 ghost use Rattle.mau_terms.specs.Bare.{IsBare, IsBareIn};
 ghost use Rattle.mau_terms.specs.View.{tree_of};
@@ -26,25 +26,34 @@ impl Signature {
         }
     }
 
-    /// Whether the declarations that apply to these sorts or kinds have a least result, or none applies. It takes two steps
-    /// for each declaration.
-    pub fn has_least_result(&self, op: OpId, sorts: &[u32]) -> bool
+    /// The declared result for these sorts or kinds, if there is one: none exactly where declarations apply and none of
+    /// their results is the least. It takes two steps for each declaration.
+    pub fn least_result(&self, op: OpId, sorts: &[u32]) -> Option<u32>
         requires operator { IsOperator self.now op.0 }
         requires sorts { All (IsSort self.now.hierarchy) sorts.now }
-        ensures value { IsTrue result ↔ HasLeastResult self.now.hierarchy (declarations_at self.now op.0) sorts.now }
+        ensures value { IfSome result (IsDeclaredResult self.now.hierarchy (declarations_at self.now op.0) sorts.now) }
+        ensures sort { IfSome result (IsSort self.now.hierarchy) }
+        ensures none { IfNone result (¬ HasLeastResult self.now.hierarchy (declarations_at self.now op.0) sorts.now) }
     {
-        let decls = self.declarations(op);
         let poset = self.poset();
+        let decls = self.declarations(op);
         match lowest_result(poset, decls, sorts) {
-            Some(low) => is_below_results(poset, decls, sorts, low),
-            None => true,
+            Some(low) => {
+                if is_below_results(poset, decls, sorts, low) {
+                    Some(low)
+                } else {
+                    None
+                }
+            }
+            None => Some(self.result_kind(op)),
         }
     }
 
     // The kind of the result of an operator.
     fn result_kind(&self, op: OpId) -> u32
         requires { IsOperator self.now op.0 }
-        ensures { result ≡ kind_of self.now.hierarchy (result_of (declarations_at self.now op.0)) }
+        ensures value { result ≡ kind_of self.now.hierarchy (result_of (declarations_at self.now op.0)) }
+        ensures kind { IsSort self.now.hierarchy result }
     {
         match self.declarations(op).first() {
             Some(decl) => self.poset().kind_of(decl.result),

@@ -311,10 +311,12 @@ fn declared(rt: &impl Abort, signature: &Signature, op: u32, sorts: &[u32]) -> O
     let op = number(rt, signature, op);
     let count = signature.poset().sorts() + signature.poset().kinds();
     assert!(rt; sorts.iter().all(|sort| *sort < count));
-    if signature.has_least_result(op, sorts) {
-        Some(signature.declared(op, sorts))
-    } else {
-        None
+    match signature.least_result(op, sorts) {
+        Some(least) => {
+            assert_eq!(rt; signature.declared(op, sorts), least);
+            Some(least)
+        }
+        None => None,
     }
 }
 

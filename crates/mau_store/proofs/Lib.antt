@@ -10,6 +10,8 @@ pub mod Arguments
 pub mod Standing
 -- one number exactly where there is one tree
 pub mod Numbers
+-- how deep trees are
+pub mod Depths
 -- stores that grow
 pub mod Growth
 -- numbers that stand for normal forms

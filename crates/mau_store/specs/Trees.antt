@@ -3,7 +3,8 @@ use Rattle.std.specs.Prelude.{◌≡◌, ◌++◌, ℕ, List, [], ◌∷◌, All
 use Rattle.mau_terms.specs.Tree.{Tree, variable, numeral, node}
 use Rattle.mau_terms.specs.Norm.{norm}
 use Rattle.mau_terms.specs.declared.theory.Theory.{Theory}
-use Rattle.mau_store.specs.Node.{Node, numeral_node, variable_node, operator_node, IsOf}
+use Rattle.mau_terms.specs.Depth.{depth}
+use Rattle.mau_store.specs.Node.{Node, numeral_node, variable_node, operator_node, IsOf, AreNodes}
 
 -- the tree of a node, where g gives the trees of its arguments
 abbrev pub tree_over : (ℕ → Tree) → Node → Tree
@@ -30,6 +31,11 @@ tree_at nodes i = tree_or (trees nodes) i
 -- the trees that some numbers stand for
 abbrev pub trees_at : List Node → List ℕ → List Tree
 trees_at nodes ids = map (tree_at nodes) ids
+
+-- what is kept of some nodes: how deep the tree of each is
+pub record AreKept (nodes : List Node) (depths : List ℕ) : Type 0 where
+  pub are : AreNodes nodes
+  pub deep : depths ≡ map depth (trees nodes)
 
 -- ---- normal forms, where th gives the axioms of each operator
 

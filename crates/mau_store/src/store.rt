@@ -1,10 +1,11 @@
 //! The store of shared nodes.
-ghost use Rattle.std.specs.Prelude.{◌≡◌, ◌↔◌, ◌⊎◌, ◌++◌, ◌∷◌, [], ℕ, length, slice_get, Some, IfOk, OnOk, OnErr, IsTrue, ◌<◌, ◌≢◌};
+ghost use Rattle.std.specs.Prelude.{◌≡◌, ◌↔◌, ◌⊎◌, ◌++◌, ◌∷◌, [], ℕ, length, slice_get, Some, IfOk, OnOk, OnErr, IsTrue, ◌<◌, ◌≢◌, ◌^◌};
 ghost use Rattle.std.specs.ControlFlow.{MatchControlFlow};
 ghost use Rattle.mau_terms.specs.Order.{tree_cmp};
 ghost use Rattle.mau_store.specs.Node.{AreNodes, Extends, IsOf, AreOf, AreBelow, arguments};
-ghost use Rattle.mau_store.specs.View.{node_of};
-ghost use Rattle.mau_store.specs.Trees.{tree_over, tree_at};
+ghost use Rattle.mau_terms.specs.Depth.{depth, list_depth};
+ghost use Rattle.mau_store.specs.View.{node_of, numbers};
+ghost use Rattle.mau_store.specs.Trees.{tree_over, tree_at, trees_at};
 
 use crate::node::{NodeView, StoredNode, first_difference};
 use indexmap::IndexSet;
@@ -19,6 +20,7 @@ use std::ops::ControlFlow;
 pub struct Store {
     alloc: Global,
     nodes: IndexSet<StoredNode>,
+    depths: Vec<usize>,
 }
 
 impl Model for Store {
@@ -27,12 +29,12 @@ impl Model for Store {
 
     ghost Value = { List Node };
 
-    ghost use Rattle.mau_store.specs.Node.{AreNodes};
+    ghost use Rattle.mau_store.specs.Trees.{AreKept};
     ghost use Rattle.mau_store.specs.View.{stored_node};
 
     ghost view = { λ s. map stored_node s.nodes.keys };
 
-    ghost invariant = { λ s. AreNodes (map stored_node s.nodes.keys) };
+    ghost invariant = { λ s. AreKept (map stored_node s.nodes.keys) s.depths.items };
 }
 
 impl Store {
@@ -43,7 +45,13 @@ impl Store {
         Store {
             alloc,
             nodes: IndexSet::new(alloc),
+            depths: Vec::new(alloc),
         }
+    }
+
+    /// What the store allocates by.
+    pub fn allocator(&self) -> Global {
+        self.alloc
     }
 
     /// The number of nodes.
@@ -73,9 +81,46 @@ impl Store {
         ensures unchanged { OnErr result (self.new ≡ self.old) }
         ensures nodes { AreNodes self.new }
     {
+        let depth = self.depth_over(node);
         let node = StoredNode::new(self.alloc, node)?;
-        let (index, _) = self.nodes.insert_full(node)?;
+        self.depths.push(depth)?;
+        let inserted = self.nodes.insert_full(node);
+        // The depth of a node that is not added is not kept.
+        self.depths.truncate(self.nodes.len());
+        let (index, _) = inserted?;
         Ok(TermId(index))
+    }
+
+    /// How deep a term is, in constant time: a numeral, a variable and a constant have the depth 1.
+    pub fn depth(&self, id: TermId) -> usize
+        requires { IsOf self.now id.0 }
+        ensures value { result ≡ depth (tree_at self.now id.0) }
+    {
+        self.depths[id.0]
+    }
+
+    /// How deep a node is over its arguments, which are of this store.
+    fn depth_over(&self, node: NodeView<'_>) -> usize
+        requires { AreOf self.now (arguments (node_of node)) }
+        ensures value { result ≡ depth (tree_over (tree_at self.now) (node_of node.entry)) }
+    {
+        match node {
+            NodeView::Num(_) | NodeView::Var(_) => 1,
+            NodeView::App(_, args) => self.deepest(args) + 1,
+        }
+    }
+
+    /// The depth of the deepest of these terms, or 0 where there is none.
+    fn deepest(&self, ids: &[TermId]) -> usize
+        requires { AreOf self.now (numbers ids.now) }
+        ensures value { result ≡ list_depth (trees_at self.now (numbers ids.now)) }
+        ensures bounded { result < 2 ^ 63 }
+    {
+        let mut deepest: usize = 0;
+        for id in ids {
+            deepest = deepest.max(self.depths[id.0]);
+        }
+        deepest
     }
 
     /// The node with a number of this store, its arguments lent.

@@ -62,6 +62,8 @@ fn a_node_is_read_as_it_was_stored(rt: HostRuntime) -> Result<(), Fail> {
     assert_eq!(rt; store.view(x), NodeView::Var(VarId { index: 0, sort: 1 }));
     assert!(rt; pair.0 < len);
     assert_eq!(rt; store.view(pair), NodeView::App(OpId(7), &[x, five]));
+    assert_eq!(rt; store.depth(x), 1);
+    assert_eq!(rt; store.depth(pair), 2);
     Ok(())
 }
 

@@ -1,17 +1,9 @@
-use Rattle.std.proofs.Common.{arith, sym, subst, false}
+use Rattle.std.proofs.Common.{◌++◌, ◌∙◌, sym, ap, subst, false}
+use Rattle.mau_reader.specs.Modules.{leaves, faulty}
+use Rattle.mau_session.specs.Answers.{faulty_line}
 use Rattle.mau_session.specs.Gains.{GainsModule, gains_accepted, gains_refused}
-use Rattle.mau_reader.proofs.Sizes.{module_left, module_small}
 use Rattle.mau_session.proofs.Answering.{refused_with}
 use Rattle.mau_session.proofs.answer.answer_module.Goals as goal
-
-pub accept-requires : goal.accept-requires
-accept-requires c = module_small (omega (arith, c.requires.within, c.requires.short)) c.in-Ok.ensures.ok
-
-pub refuse-requires : goal.refuse-requires
-refuse-requires c =
-    let read = rw c.in-Err-Leaves.field-0-is at c.in-Err-Leaves.ensures.leaves in
-    let left = module_left c.requires.ascends read in
-    omega (arith, left, c.requires.within)
 
 pub returns-in_ok-accept-in-Ok : goal.returns-in_ok-accept-in-Ok
 returns-in_ok-accept-in-Ok c =
@@ -21,6 +13,11 @@ returns-in_ok-accept-in-Ok c =
 
 pub returns-in-Err-Leaves : goal.returns-in-Err-Leaves
 returns-in-Err-Leaves c =
-    let read = rw c.in-Err-Leaves.field-0-is at c.in-Err-Leaves.ensures.leaves in
     refused_with _ c.refuse.result c.refuse.ensures.bytes c.refuse.ensures.refused
-    (λ g. gains_refused c.in-Err-Leaves.word _ _ read g)
+    (λ g. gains_refused (leaves c.in-Err-Leaves.word) _ _ (rw c.in-Err-Leaves.field-0-is at c.in-Err-Leaves.ensures.why) g)
+
+pub returns-in_ok-write_faulty-in-Err-Refused : goal.returns-in_ok-write_faulty-in-Err-Refused
+returns-in_ok-write_faulty-in-Err-Refused c =
+    let why = rw c.in-Err-Refused.field-0-is at c.in-Err-Refused.ensures.why in
+    gains_refused (faulty c.in-Err-Refused.text) _ _ why
+    (c.in_ok-write_faulty-in-Err-Refused.ensures ∙ ap (λ x. c.args.out.now.items ++ faulty_line c.args.item.number x) c.items.ensures)

@@ -22,7 +22,7 @@ returns-in-None-2 c =
     let pattern = rw c.new-vars.ensures at some in
     let never = rw c.in-None-2.is at c.in_ok-read_whole_of-in-Some.ensures.none in
     refused_with _ c.refuse-in-None-2.result c.refuse-in-None-2.ensures.bytes c.refuse-in-None-2.ensures.refused
-    (λ g. record { bytes = _; answer = no_subject (tree_of c.in-Some.pattern) c.in-Some.sort c.read_whole.new.vars pattern never; gained = g })
+    (λ g. record { bytes = _; answer = no_subject (tree_of c.in-Some.pattern) c.in-Some.kind c.read_whole.new.vars pattern never; gained = g })
 
 pub write_listing-requires-clause-few : goal.write_listing-requires-clause-few
 write_listing-requires-clause-few c =
@@ -44,7 +44,7 @@ write_listing-requires-clause-bare c =
     let first = rw c.in-Some.is at c.in_ok-read_whole.ensures.room in
     let second = rw c.in-Some-2.is at c.in_ok-read_whole_of-in-Some.ensures.room in
     let none = ap length c.new-vars.ensures in
-    (_, reads_bare c.args.module.now c.args.words.now c.args.item.to subject (omega (arith, first, second, none, c.requires.short, c.requires.pattern, c.requires.subject)))
+    (_, reads_bare c.args.module.now c.args.words.now c.args.item.to c.requires.named subject (omega (arith, first, second, none, c.requires.short, c.requires.pattern, c.requires.subject)))
 
 pub returns : goal.returns
 returns c =
@@ -56,6 +56,6 @@ returns c =
     let lines = listing_lines m c.read_whole_of.new.vars (tree_of c.in-Some.pattern) listing.found in
     record {
       bytes = match_head c.args.item.number m ++ lines;
-      answer = listed (tree_of c.in-Some.pattern) c.in-Some.sort c.read_whole.new.vars (tree_of c.in-Some-2.subject) c.read_whole_of.new.vars listing.found pattern subject listing.listing;
+      answer = listed (tree_of c.in-Some.pattern) c.in-Some.kind c.read_whole.new.vars (tree_of c.in-Some-2.subject) c.read_whole_of.new.vars listing.found pattern subject listing.listing;
       gained = listing.gained ∙ ap (λ x. x ++ lines) c.in_ok-write_match_head-in-Some-2.ensures ∙ append_assoc c.args.out.now.items (match_head c.args.item.number m) lines;
     }

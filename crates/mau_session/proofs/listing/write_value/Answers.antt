@@ -13,4 +13,4 @@ returns c =
     c.in_ok-write_text-2.ensures
     ∙ ap (λ x. x ++ codes "\n") (c.in_ok-show.ensures ∙ ap (λ x. x ++ shown m ns (tree_of c.args.value.now)) (c.in_ok-write_text.ensures ∙ ap (λ x. x ++ codes " --> ") c.in_ok-write_variable.ensures))
     ∙ four_parts c.args.out.now.items head (codes " --> ") (shown m ns (tree_of c.args.value.now)) (codes "\n")
-    ∙ ap (λ u. c.args.out.now.items ++ (((head ++ codes " --> ") ++ shown m ns u) ++ codes "\n")) (sym (plain_norm_in m (tree_of c.args.value.now)))
+    ∙ ap (λ u. c.args.out.now.items ++ (((head ++ codes " --> ") ++ shown m ns u) ++ codes "\n")) (sym (plain_norm_in m c.requires (tree_of c.args.value.now)))

@@ -8,7 +8,7 @@ use Rattle.mau_session.proofs.matching.+matching.Goals as goal
 
 pub match_all-returns-then-patterns-subjects-clause-no : goal.match_all-returns-then-patterns-subjects-clause-no
 match_all-returns-then-patterns-subjects-clause-no t c e =
-    bind_all_lengths c.args.module.now _ (map tree_of c.args.patterns.now) (map tree_of c.args.subjects.now) (λ h. c.if-patterns-subjects.true (sym (length-map c.args.patterns.now tree_of) ∙ h ∙ length-map c.args.subjects.now tree_of))
+    bind_all_lengths _ (map tree_of c.args.patterns.now) (map tree_of c.args.subjects.now) (λ h. c.if-patterns-subjects.true (sym (length-map c.args.patterns.now tree_of) ∙ h ∙ length-map c.args.subjects.now tree_of))
 
 pub match_all-match_term-requires : goal.match_all-match_term-requires
 match_all-match_term-requires t c =

@@ -14,5 +14,5 @@ decreases-match_all l = 2 * list_depth (map tree_of l.patterns.now) + 1
 
 abbrev pub invariant-match_all-loop-i : goal.invariant-match_all-loop-i
 invariant-match_all-loop-i l =
-    bind_all l.module (bindings_of l.fn.bindings.items) (trees_of (map tree_of l.patterns)) (trees_of (map tree_of l.subjects))
-    ≡ bind_all l.module (bindings_of l.bindings.items) (trees_of (map tree_of (drop l.i l.patterns))) (trees_of (map tree_of (drop l.i l.subjects)))
+    bind_all (bindings_of l.fn.bindings.items) (trees_of (map tree_of l.patterns)) (trees_of (map tree_of l.subjects))
+    ≡ bind_all (bindings_of l.bindings.items) (trees_of (map tree_of (drop l.i l.patterns))) (trees_of (map tree_of (drop l.i l.subjects)))

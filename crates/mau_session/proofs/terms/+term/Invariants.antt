@@ -17,13 +17,13 @@ decreases-read_list l = 4 * (l.to - l.from) + 1
 abbrev pub decreases-read_term : goal.decreases-read_term
 decreases-read_term l = 4 * (l.to - l.from) + 3
 
-abbrev pub invariant-read_list-loop-sort : goal.invariant-read_list-loop-sort
-invariant-read_list-loop-sort l = record {
+abbrev pub invariant-read_list-loop-kind : goal.invariant-read_list-loop-kind
+invariant-read_list-loop-kind l = record {
   least : l.from ≤ l.at;
   most : l.at ≤ l.to;
   room : length l.vars + (l.to - l.at) ≤ length l.fn.vars + (l.to - l.from);
-  rest : (ts : Trees) (j : ℕ) (ms : Pairs) → ReadsList l.module l.words l.to l.vars (mark_text l.mark) (drop l.sort-index l.sorts) l.at ts j ms
-      → ReadsList l.module l.words l.to l.fn.vars (codes "(") l.sorts l.from (trees_of (map tree_of l.arguments.items ++ list_of ts)) j ms;
-  back : (ts : Trees) (j : ℕ) (ms : Pairs) → ReadsList l.module l.words l.to l.fn.vars (codes "(") l.sorts l.from ts j ms
-      → (us : Trees) × ReadsList l.module l.words l.to l.vars (mark_text l.mark) (drop l.sort-index l.sorts) l.at us j ms;
+  rest : (ts : Trees) (j : ℕ) (ms : Pairs) → ReadsList l.module l.words l.to l.vars (mark_text l.mark) (drop l.kind-index l.kinds) l.at ts j ms
+      → ReadsList l.module l.words l.to l.fn.vars (codes "(") l.kinds l.from (trees_of (map tree_of l.arguments.items ++ list_of ts)) j ms;
+  back : (ts : Trees) (j : ℕ) (ms : Pairs) → ReadsList l.module l.words l.to l.fn.vars (codes "(") l.kinds l.from ts j ms
+      → (us : Trees) × ReadsList l.module l.words l.to l.vars (mark_text l.mark) (drop l.kind-index l.kinds) l.at us j ms;
 }

@@ -1,9 +1,8 @@
-use Rattle.std.proofs.Common.{◌≡◌, ◌≤◌, List, length, ◌∙◌, ap, ap₂, arith}
-use Rattle.mau_signature.specs.declared.decl.Decl.{Decl}
-use Rattle.mau_signature.specs.Names.{Operator, operators_of, declarations_of}
-use Rattle.mau_signature.specs.Signature.{SignatureOf}
+use Rattle.std.proofs.Common.{◌≡◌, ◌≤◌, length, map, ◌∙◌, ap, arith}
+use Rattle.mau_signature.specs.Names.{operators_of, declarations_of}
 use Rattle.mau_signature.specs.Faults.{Given}
-use Rattle.mau_signature.proofs.Whole.{group_sorts, group_arity, group_some, entered_are, as_many, zero_there}
+use Rattle.mau_signature.specs.Built.{declarations_in}
+use Rattle.mau_signature.proofs.Whole.{group_sorts, group_arity, group_some, entered_are, signature_made, as_many, zero_there, others_there}
 use Rattle.mau_signature.proofs.Alike.{entries_alike}
 use Rattle.mau_signature.proofs.Lawful.{entries_are_lawful}
 use Rattle.mau_signature.proofs.signature.Signature.assemble.Goals as goal
@@ -35,15 +34,21 @@ invariant_of-result c =
       entries = c.in_ok-entries.ensures.entries;
       alike = entries_alike g c.in_ok-entries.entries.items c.in_ok-groups.ensures.faultless are.1;
       numerals = zero_there c.args.poset c.args.decls.items c.args.numerals c.requires.numerals;
+      others = others_there c.args.poset c.args.decls.items c.args.numerals c.requires.numerals;
+      made = record {
+        source = c.args.decls.items;
+        few = c.requires.few;
+        sorts = c.requires.sorts;
+        numerals = c.requires.numerals;
+        faultless = c.in_ok-groups.ensures.faultless;
+        made = signature_made c.args.poset c.args.decls.items c.args.numerals c.in_ok-names.names (map declarations_in c.in_ok-entries.entries.items) are.0 are.1;
+      };
       lawful = entries_are_lawful g c.in_ok-entries.entries.items c.in_ok-names.names c.in_ok-groups.ensures.faultless c.requires.numerals c.in_ok-entries.ensures.entries are.0 are.1;
     }
 
 pub returns-clause-ok : goal.returns-clause-ok
-returns-clause-ok c =
-    let make : List Operator → List (List Decl) → SignatureOf = λ fs ds. record { hierarchy = c.args.poset; names = fs; declarations = ds; numerals = c.args.numerals } in
-    let are = entered_are c.args.poset c.args.decls.items c.deref.result.now c.in_ok-names.names c.in_ok-groups.groups.items c.in_ok-entries.entries.items
-    c.deref.ensures.value c.in_ok-names.ensures.names c.in_ok-groups.ensures.ok c.in_ok-entries.ensures.declarations in
-    ap₂ make are.0 are.1
+unfolding invariant_of-result
+returns-clause-ok c = (invariant_of-result c).made.made
 
 pub returns-clause-lawful : goal.returns-clause-lawful
 returns-clause-lawful c = (invariant_of-result c).lawful

@@ -10,14 +10,14 @@ pub returns-in-Some-clause-within : goal.returns-in-Some-clause-within
 returns-in-Some-clause-within c k d h =
     let s = c.args.self.now in
     let at : slice_get s c.args.id.0 ≡ Some (node_of c.view.result) = grind (arith, common_steps, slice_get-map) in
-    let are : AreNodes s = subst AreNodes c.self.view_is c.self.invariant in
+    let are : AreNodes s = subst AreNodes c.self.view_is c.self.invariant.are in
     omega (arith, are.closed c.args.id.0 (node_of c.view.result) at k d h, slice_get_within s c.args.id.0 (node_of c.view.result) at)
 
 pub returns-in-Some-clause-tree : goal.returns-in-Some-clause-tree
 returns-in-Some-clause-tree c =
     let s = c.args.self.now in
     let at : slice_get s c.args.id.0 ≡ Some (node_of c.view.result) = grind (arith, common_steps, slice_get-map) in
-    tree_of_node s (subst AreNodes c.self.view_is c.self.invariant) c.args.id.0 (node_of c.view.result) at
+    tree_of_node s (subst AreNodes c.self.view_is c.self.invariant.are) c.args.id.0 (node_of c.view.result) at
 
 pub returns-in-None-clause-tree : goal.returns-in-None-clause-tree
 returns-in-None-clause-tree c = tree_at-past c.args.self.now c.args.id.0 (grind (arith, common_steps))

@@ -7,4 +7,4 @@ use Rattle.mau_store.proofs.Standing.{tree_of_node}
 use Rattle.mau_store.proofs.store.Store.view.Goals as goal
 
 pub returns-clause-tree : goal.returns-clause-tree
-returns-clause-tree c = tree_of_node c.args.self.now (subst AreNodes c.self.view_is c.self.invariant) c.args.id.0 (node_of c.view.result) (grind (arith, common_steps, slice_get-map))
+returns-clause-tree c = tree_of_node c.args.self.now (subst AreNodes c.self.view_is c.self.invariant.are) c.args.id.0 (node_of c.view.result) (grind (arith, common_steps, slice_get-map))

@@ -1,0 +1,138 @@
+-- Lists that are collected from bare terms.
+use Rattle.std.proofs.Common.{◌≡◌, ℕ, zero, suc, ◌+◌, ◌<◌, ◌≤◌, nat_lt, nat_le, List, [], ◌∷◌, ◌++◌, Bool, true, false, ◌&&◌, ◌||◌, All, map, length, take, get_or, refl, sym, ap, ap₂, ◌∙◌, arith, append_assoc, Result, Ok, Err, IfOk, OnOk}
+use Rattle.std.proofs.lemmas.List.{map-append, take_more}
+use Rattle.std.proofs.lemmas.List.Elements.{All-nil, All-cons}
+use Rattle.std.proofs.lemmas.Bool.{ltb-true, leb-true}
+use Rattle.mau_terms.specs.Tree.{Tree, node, trees_of}
+use Rattle.mau_terms.specs.Depth.{depth, list_depth, depths-trees_of}
+use Rattle.mau_terms.specs.declared.ids.OpId.{OpId}
+use Rattle.mau_terms.specs.declared.bare.Bare.TheVariants.{App}
+use Rattle.mau_terms.specs.Norm.{all_pieces, arrange, finish, norm, holds_overflow, hold_overflow}
+use Rattle.mau_terms.specs.Solution.{list_under, over_list}
+use Rattle.mau_terms.specs.Lawful.{AreLawful}
+use Rattle.mau_terms.specs.Bare.{TermSignature, IsBare, AreBareIn}
+use Rattle.mau_terms.specs.View.{tree_of}
+use Rattle.mau_terms.specs.declared.bare.Bare.{Bare}
+use Rattle.mau_terms.specs.declared.theory.Theory.{Theory}
+use Rattle.mau_terms.proofs.Induction.{norm-node}
+use Rattle.mau_terms.proofs.Normal.{whole_all_pieces}
+use Rattle.mau_terms.proofs.Pieces.{arrange_left, arrange_right}
+use Rattle.mau_terms.proofs.Solutions.{list_of_made}
+use Rattle.mau_terms.proofs.Taken.{are_normal}
+use Rattle.mau_signature.specs.Signature.{SignatureOf, IsOperator, terms_over}
+use Rattle.mau_canon.specs.Within.{is_overflow}
+use Rattle.mau_canon.proofs.Elements.{all_pieces-more}
+use Rattle.mau_canon.proofs.Overflows.{some-append, hold-trees_of, holds-build, test_fails}
+
+-- ---- bare terms
+
+-- the arguments of a bare term are bare terms
+pub bare_each : (s : TermSignature) (bs : List Bare) (ks : List ℕ) → AreBareIn s (trees_of (map tree_of bs)) ks → All (λ b. IsBare s (tree_of b)) bs
+bare_each s [] ks b = All-nil (λ x. IsBare s (tree_of x))
+bare_each s (x ∷ bs) [] b = absurd b
+bare_each s (x ∷ bs) (k ∷ ks) b = All-cons (λ y. IsBare s (tree_of y)) x bs (k, b.0) (bare_each s bs ks b.1)
+
+both_true : (a b : Bool) → (a && b) ≡ true → (a ≡ true) × (b ≡ true)
+both_true true b e = (refl, e)
+both_true false b e = absurd (cc)
+
+pub is_operator : (s : SignatureOf) (f : ℕ) → (terms_over s).has_operator f ≡ true → IsOperator s f
+is_operator s f e =
+    let both = both_true (nat_lt 0 f) (nat_le f (length s.declarations)) e in
+    (ltb-true 0 f both.0, leb-true f (length s.declarations) both.1)
+
+-- ---- depths
+
+pub bare_node : (b : Bare) (op : OpId) (ts : List Tree) (xs : List Bare) → b ≡ App op ts → map tree_of xs ≡ ts → tree_of b ≡ node op.0 (map tree_of xs)
+bare_node b op ts xs e m = ap tree_of e ∙ ap (node op.0) (sym m)
+
+pub depth_of_node : (b : Bare) (f : ℕ) (xs : List Bare) → tree_of b ≡ node f (map tree_of xs) → depth (tree_of b) ≡ suc (list_depth (map tree_of xs))
+depth_of_node b f xs e = ap depth e ∙ ap suc (depths-trees_of (map tree_of xs))
+
+pub at_most_list : (xs : List Bare) (i : ℕ) (x : Bare) → i < length xs → depth (tree_of (get_or xs i x)) ≤ list_depth (map tree_of xs)
+at_most_list [] i x h = absurd (omega arith)
+at_most_list (y ∷ xs) zero x h = omega arith
+at_most_list (y ∷ xs) (suc i) x h = omega (arith, at_most_list xs i x (omega arith))
+
+-- ---- answers
+
+pub IfOk-then : {T E : Type 0} (P Q : T → Type 0) → ((x : T) → P x → Q x) → (r : Result T E) → IfOk r P → IfOk r Q
+IfOk-then P Q h (Ok x) p = h x p
+IfOk-then P Q h (Err e) p = tt
+
+pub OnOk-then : {T E : Type 0} (P Q : Type 0) → (P → Q) → (r : Result T E) → OnOk r P → OnOk r Q
+OnOk-then P Q h (Ok x) p = h p
+OnOk-then P Q h (Err e) p = tt
+
+-- ---- lists
+
+-- one more list
+pub one_more : (c : Bool) (old ps p mid now : List Tree) → arrange c mid ≡ arrange c (old ++ ps) → arrange c now ≡ arrange c (mid ++ p) → arrange c now ≡ arrange c (old ++ (ps ++ p))
+one_more c old ps p mid now before more =
+    more
+    ∙ sym (arrange_left c mid p)
+    ∙ ap (λ w. arrange c (w ++ p)) before
+    ∙ arrange_left c (old ++ ps) p
+    ∙ ap (arrange c) (append_assoc old ps p)
+
+-- the normal forms of one more of some terms
+norms-more : (th : ℕ → Theory) (bs : List Bare) (k : ℕ) (d : Bare) → k < length bs → map (norm th) (map tree_of (take (k + 1) bs)) ≡ map (norm th) (map tree_of (take k bs)) ++ norm th (tree_of (get_or bs k d)) ∷ []
+norms-more th bs k d h =
+    ap (λ xs. map (norm th) (map tree_of xs)) (take_more bs k d h)
+    ∙ ap (map (norm th)) (map-append tree_of (take k bs) (get_or bs k d ∷ []))
+    ∙ map-append (norm th) (map tree_of (take k bs)) (tree_of (get_or bs k d) ∷ [])
+
+pub pieces-norms-more : (th : ℕ → Theory) (f : ℕ) (bs : List Bare) (k : ℕ) (d : Bare) → k < length bs → all_pieces (th f).assoc (th f).id f (map (norm th) (map tree_of (take (k + 1) bs))) ≡ all_pieces (th f).assoc (th f).id f (map (norm th) (map tree_of (take k bs))) ++ list_under (th f) f (norm th (tree_of (get_or bs k d)))
+pieces-norms-more th f bs k d h =
+    ap (all_pieces (th f).assoc (th f).id f) (norms-more th bs k d h)
+    ∙ all_pieces-more (th f).assoc (th f).id f (map (norm th) (map tree_of (take k bs))) (norm th (tree_of (get_or bs k d)))
+
+or_none : (a : Bool) → (a || false) ≡ a
+or_none true = refl
+or_none false = refl
+
+pub hold-norms-more : (th : ℕ → Theory) (bs : List Bare) (k : ℕ) (d : Bare) → k < length bs → hold_overflow th (trees_of (map (norm th) (map tree_of (take (k + 1) bs)))) ≡ (hold_overflow th (trees_of (map (norm th) (map tree_of (take k bs)))) || holds_overflow th (norm th (tree_of (get_or bs k d))))
+hold-norms-more th bs k d h =
+    let before = map (norm th) (map tree_of (take k bs)) in
+    let t = norm th (tree_of (get_or bs k d)) in
+    ap (λ ts. hold_overflow th (trees_of ts)) (norms-more th bs k d h)
+    ∙ hold-trees_of th (before ++ t ∷ [])
+    ∙ some-append th before (t ∷ [])
+    ∙ ap₂ (λ x y. x || y) (sym (hold-trees_of th before)) (or_none (holds_overflow th t))
+
+-- ---- an operator over terms
+
+module _ (th : ℕ → Theory) (f : ℕ) where
+  -- the collected list makes the normal form
+  pub norm-collected : (ts items : List Tree) → arrange (th f).comm items ≡ arrange (th f).comm ([] ++ all_pieces (th f).assoc (th f).id f (map (norm th) ts)) → over_list (th f) f items ≡ norm th (node f ts)
+  norm-collected ts items e = ap (finish (th f).assoc (th f).id (th f).succ f) e ∙ sym (norm-node th f ts)
+
+  module _ (lawful : AreLawful th) (ts : List Tree) where
+    pub holds-collected : holds_overflow th (norm th (node f ts)) ≡ (hold_overflow th (trees_of (map (norm th) ts)) || is_overflow (th f).succ f (norm th (node f ts)))
+    holds-collected =
+        ap (holds_overflow th) (norm-node th f ts)
+        ∙ holds-build th lawful f (map (norm th) ts)
+        ∙ ap₂ (λ x t. x || is_overflow (th f).succ f t) (sym (hold-trees_of th (map (norm th) ts))) (sym (norm-node th f ts))
+
+    -- the list of nested uses of an associative operator is that of the terms below, in order
+    pub list_of_nested : (th f).assoc ≡ true → list_under (th f) f (norm th (node f ts)) ≡ arrange (th f).comm (all_pieces (th f).assoc (th f).id f (map (norm th) ts))
+    list_of_nested a =
+        ap (list_under (th f) f) (norm-node th f ts)
+        ∙ list_of_made th f (all_pieces (th f).assoc (th f).id f (map (norm th) ts)) a (whole_all_pieces th f (map (norm th) ts) (are_normal th lawful ts))
+
+    -- so it may be collected as it comes
+    pub collect_nested : (th f).assoc ≡ true → (old now : List Tree) → arrange (th f).comm now ≡ arrange (th f).comm (old ++ all_pieces (th f).assoc (th f).id f (map (norm th) ts)) → arrange (th f).comm now ≡ arrange (th f).comm (old ++ list_under (th f) f (norm th (node f ts)))
+    collect_nested a old now e =
+        e
+        ∙ sym (arrange_right (th f).comm old (all_pieces (th f).assoc (th f).id f (map (norm th) ts)))
+        ∙ ap (λ w. arrange (th f).comm (old ++ w)) (sym (list_of_nested a))
+
+    pub holds_nested : (th f).assoc ≡ true → holds_overflow th (norm th (node f ts)) ≡ hold_overflow th (trees_of (map (norm th) ts))
+    holds_nested a = holds-collected ∙ by (th f).succ refl
+      where
+        by : (s : Bool) → (th f).succ ≡ s → (hold_overflow th (trees_of (map (norm th) ts)) || is_overflow (th f).succ f (norm th (node f ts))) ≡ hold_overflow th (trees_of (map (norm th) ts))
+        by true s = let no : (th f).assoc ≡ false = lawful.succ_assoc f s in absurd (cc)
+        by false s =
+            ap (λ b. hold_overflow th (trees_of (map (norm th) ts)) || is_overflow b f (norm th (node f ts))) s
+            ∙ ap (λ b. hold_overflow th (trees_of (map (norm th) ts)) || b) (test_fails th f (norm th (node f ts)))
+            ∙ or_none (hold_overflow th (trees_of (map (norm th) ts)))

@@ -1,0 +1,14 @@
+-- Lemmas on lists of operators and on limits, lowest first.
+
+-- the list of a term, and its elements
+pub mod Elements
+-- what holds the successor of the greatest numeral
+pub mod Overflows
+-- what a call answers for a normal form
+pub mod Judged
+-- what is collected from bare terms
+pub mod Collected
+-- the laws
+pub mod Standing
+-- computed cases of the definitions
+pub mod Examples

@@ -1,0 +1,115 @@
+//! Bare terms in normal form. The terms below nested uses of an associative operator are collected into one list, which is sorted
+//! once.
+ghost use Rattle.std.specs.Prelude.{◌≡◌, ◌++◌, All, map, IfOk, OnOk, IfErr};
+ghost use Rattle.mau_terms.specs.Tree.{trees_of};
+ghost use Rattle.mau_terms.specs.Norm.{all_pieces, arrange, norm, holds_overflow, hold_overflow};
+ghost use Rattle.mau_terms.specs.Solution.{list_under};
+ghost use Rattle.mau_terms.specs.Bare.{IsBare};
+ghost use Rattle.mau_terms.specs.View.{tree_of};
+ghost use Rattle.mau_signature.specs.Signature.{IsOperator, terms_over, theory_at};
+ghost use Rattle.mau_store.specs.Node.{AreOf, Extends};
+ghost use Rattle.mau_store.specs.Trees.{StandsFor, StandsForNorm, trees_at};
+ghost use Rattle.mau_store.specs.View.{numbers};
+ghost use Rattle.mau_canon.specs.Within.{IsNumberOf, StandsWithin, IsCause};
+
+use crate::BuildFault;
+use crate::builder::judge;
+use crate::list::pieces;
+use crate::normal::{is_overflow, normal_form};
+use mau_signature::Signature;
+use mau_store::{NodeView, Store};
+use mau_terms::{Bare, NoMemory, OpId, TermId};
+
+/// The normal form of a bare term.
+///
+/// The store may have gained nodes where the term is refused.
+pub fn build_bare(store: &mut Store, sig: &Signature, term: &Bare) -> Result<TermId, BuildFault>
+    requires { IsBare (terms_over sig.now) (tree_of term.now) }
+    ensures ok { IfOk result (λ id. StandsFor (theory_at sig.now) store.new id.0 (tree_of term.now)) }
+    ensures within { IfOk result (λ id. StandsWithin (theory_at sig.now) store.new id.0) }
+    ensures refused { IfErr result (IsCause (theory_at sig.now) (norm (theory_at sig.now) (tree_of term.now))) }
+    ensures extends { Extends store.old store.new }
+{
+    let (id, overflows) = normalize(store, sig, term)?;
+    judge(store, id, overflows)
+}
+
+/// The normal form of a bare term, however deep it is, and whether it holds the successor of the greatest numeral.
+#[cycle(bare)]
+fn normalize(store: &mut Store, sig: &Signature, term: &Bare) -> Result<(TermId, bool), NoMemory>
+    requires { IsBare (terms_over sig.now) (tree_of term.now) }
+    ensures ok { IfOk result (λ p. IsNumberOf store.new p.0.0 (norm (theory_at sig.now) (tree_of term.now))) }
+    ensures normal { IfOk result (λ p. StandsForNorm (theory_at sig.now) store.new p.0.0) }
+    ensures overflows { IfOk result (λ p. p.1 ≡ holds_overflow (theory_at sig.now) (norm (theory_at sig.now) (tree_of term.now))) }
+    ensures extends { Extends store.old store.new }
+{
+    match term {
+        Bare::Var(v) => Ok((store.intern(NodeView::Var(*v))?, false)),
+        Bare::Num(n) => Ok((store.intern(NodeView::Num(*n))?, false)),
+        Bare::App(op, args) => {
+            let mut items = Vec::new(store.allocator());
+            let below = collect_all(store, sig, *op, args.items(), &mut items)?;
+            let theory = sig.theory(*op);
+            let id = normal_form(store, theory, *op, items)?;
+            let here = is_overflow(store, theory, *op, id);
+            Ok((id, below | here))
+        }
+    }
+}
+
+/// Adds the lists of the normal forms of some terms under an operator, and says whether one of these normal forms holds the
+/// successor of the greatest numeral.
+#[cycle(bare)]
+fn collect_all(
+    store: &mut Store,
+    sig: &Signature,
+    op: OpId,
+    terms: &[Bare],
+    items: &mut Vec<TermId>,
+) -> Result<bool, NoMemory>
+    requires operator { IsOperator sig.now op.0 }
+    requires bare { All (λ t. IsBare (terms_over sig.now) (tree_of t)) terms.now }
+    requires there { AreOf store.old (numbers items.old.items) }
+    ensures list { OnOk result (arrange (theory_at sig.now op.0).comm (trees_at store.new (numbers items.new.items))
+        ≡ arrange (theory_at sig.now op.0).comm (trees_at store.old (numbers items.old.items)
+        ++ all_pieces (theory_at sig.now op.0).assoc (theory_at sig.now op.0).id op.0 (map (norm (theory_at sig.now)) (map tree_of terms.now)))) }
+    ensures overflows { IfOk result (λ o. o ≡ hold_overflow (theory_at sig.now) (trees_of (map (norm (theory_at sig.now)) (map tree_of terms.now)))) }
+    ensures there { OnOk result (AreOf store.new (numbers items.new.items)) }
+    ensures extends { Extends store.old store.new }
+{
+    let mut overflows = false;
+    for term in terms {
+        overflows |= collect(store, sig, op, term, items)?;
+    }
+    Ok(overflows)
+}
+
+/// The same of one term. Below an associative operator the terms are collected one by one.
+#[cycle(bare)]
+fn collect(
+    store: &mut Store,
+    sig: &Signature,
+    op: OpId,
+    term: &Bare,
+    items: &mut Vec<TermId>,
+) -> Result<bool, NoMemory>
+    requires operator { IsOperator sig.now op.0 }
+    requires bare { IsBare (terms_over sig.now) (tree_of term.now) }
+    requires there { AreOf store.old (numbers items.old.items) }
+    ensures list { OnOk result (arrange (theory_at sig.now op.0).comm (trees_at store.new (numbers items.new.items))
+        ≡ arrange (theory_at sig.now op.0).comm (trees_at store.old (numbers items.old.items)
+        ++ list_under (theory_at sig.now op.0) op.0 (norm (theory_at sig.now) (tree_of term.now)))) }
+    ensures overflows { IfOk result (λ o. o ≡ holds_overflow (theory_at sig.now) (norm (theory_at sig.now) (tree_of term.now))) }
+    ensures there { OnOk result (AreOf store.new (numbers items.new.items)) }
+    ensures extends { Extends store.old store.new }
+{
+    let theory = sig.theory(op);
+    if let Bare::App(top, args) = term {
+        if theory.assoc && *top == op {
+            return collect_all(store, sig, op, args.items(), items);
+        }
+    }
+    let (id, overflows) = normalize(store, sig, term)?;
+    items.extend_from_slice(pieces(store, theory, op, &id))?;
+    Ok(overflows)
+}

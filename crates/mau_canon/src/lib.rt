@@ -1,0 +1,21 @@
+//! Shared terms in normal form: equal terms have one number. (Normal forms modulo associativity, commutativity and identity:
+//! S. Eker, "Associative-commutative rewriting on large terms", RTA 2003.)
+#![tactic(auto)]
+
+mod bare;
+mod builder;
+mod fault;
+pub mod laws;
+mod list;
+mod normal;
+
+pub use bare::build_bare;
+pub use builder::{build, from_list};
+pub use fault::BuildFault;
+pub use list::list_of;
+
+/// The greatest depth of a normal form; a leaf has the depth 1.
+pub const MAX_DEPTH: usize = 1_000;
+
+#[cfg(test)]
+mod tests;

@@ -1,0 +1,15 @@
+-- Lists of sorts name sorts that are there.
+use Rattle.std.proofs.Common.{ℕ, ◌<◌, List, map}
+use Rattle.std.proofs.lemmas.List.Elements.{All-append, All-push, All-map}
+use Rattle.mau_reader.specs.Elements.{Elements, Lists, AreListsBelow, AreOver, with_sort, with_pairs}
+use Rattle.mau_poset.specs.Order.{IsWithin}
+
+pub sort_below : (n : ℕ) (x : Lists) (s : ℕ) → s < n → AreListsBelow n x → AreListsBelow n (with_sort x s)
+sort_below n x s l h = record {
+  pairs = All-append (λ p. (p.0 < n) × (p.1 < n)) x.pairs (map (λ b. (b, s)) x.below) h.pairs (All-map (λ p. (p.0 < n) × (p.1 < n)) (λ b. (b, s)) x.below (λ i d b. (h.below i d b, l)));
+  below = h.below;
+  above = All-push (λ s. s < n) x.above s h.above l;
+}
+
+pub pairs_over : (n w : ℕ) (e : Elements) (pairs : List (ℕ × ℕ)) → IsWithin pairs n → AreOver n w e → AreOver n w (with_pairs e pairs)
+pairs_over n w e pairs l h = record { pairs = All-append (λ p. (p.0 < n) × (p.1 < n)) e.pairs pairs h.pairs l; operators = h.operators }

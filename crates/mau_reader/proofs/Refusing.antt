@@ -1,0 +1,49 @@
+-- A refusal names the fault that was found.
+use Rattle.std.proofs.Common.{◌≡◌, ℕ, List, Result, Ok, Err, sym, ap, ◌∙◌, refl, subst}
+use Rattle.std.specs.Prelude.{IfOk, IfErr}
+use Rattle.mau_signature.specs.Signature.{SignatureOf}
+use Rattle.mau_sigcheck.specs.declared.fault.CheckFault.{CheckFault}
+use Rattle.mau_sigcheck.specs.declared.fault.CheckFault.TheVariants.{TooManyTuples, NotPreregular, NotAssociativeSorts, IdentityLowersSort, NoMemory as NoMemoryOfCheck}
+use Rattle.mau_sigcheck.specs.Faults.{IsReached, HasTooManyTuples, IsNotPreregular, HasNotAssociativeSorts, HasLoweringIdentity, IfTooManyTuples, IfNotPreregular, IfNotAssociativeSorts, IfIdentityLowersSort, IsFirstFaultOf}
+use Rattle.mau_reader.specs.declared.fault.ReadFault.{ReadFault}
+use Rattle.mau_reader.specs.declared.fault.ReadFault.TheVariants.{Leaves as LeavesOfPart, NoMemory as NoMemoryOfPart}
+use Rattle.mau_reader.specs.declared.module_fault.ModuleFault.{ModuleFault}
+use Rattle.mau_reader.specs.declared.module_fault.ModuleFault.TheVariants.{Leaves, Refused, NoMemory as NoMemoryOfModule}
+use Rattle.mau_reader.specs.Modules.{Why, leaves, faulty}
+use Rattle.mau_reader.specs.Refusals.{IsNamed}
+use Rattle.mau_reader.specs.Faults.{IfWhy, IfLeaves}
+
+pub why_by : {P Q : Why → Type 0} → ((why : Why) → P why → Q why) → (fault : ModuleFault) → IfWhy fault P → IfWhy fault Q
+why_by f (Leaves j) h = f _ h
+why_by f (Refused text) h = f _ h
+why_by f NoMemoryOfModule h = tt
+
+module _ (s : SignatureOf) where
+  -- the cause of a fault that is none of memory
+  pub operator_fault : (f : CheckFault) → IsNamed f
+      → IfTooManyTuples (λ op n. IsReached s op × HasTooManyTuples s op n) f
+      → IfNotPreregular (λ op tuple. IsReached s op × IsNotPreregular s op tuple) f
+      → IfNotAssociativeSorts (λ op triple. IsReached s op × HasNotAssociativeSorts s op triple) f
+      → IfIdentityLowersSort (λ op sort. IsReached s op × HasLoweringIdentity s op sort) f → IsFirstFaultOf s f
+  operator_fault (TooManyTuples op n) i a b c d = a
+  operator_fault (NotPreregular op tuple) i a b c d = b
+  operator_fault (NotAssociativeSorts op triple) i a b c d = c
+  operator_fault (IdentityLowersSort op sort) i a b c d = d
+  operator_fault NoMemoryOfCheck i a b c d = absurd i
+
+-- a fault with a text that names what was found
+pub with_text_by : {V E N : Type 0} {P : Why → Type 0} (items : V → List ℕ) (expected : List ℕ) (text : Result V E) (fault : ModuleFault)
+    → IfOk text (λ b. IfWhy fault (λ why. why ≡ faulty (items b))) → IfErr text (λ e. fault ≡ NoMemoryOfModule)
+    → IfOk text (λ b. items b ≡ expected) → IfOk text (λ b. N) → (N → (why : Why) → why ≡ faulty expected → P why) → IfWhy fault P
+with_text_by items expected (Ok b) fault t m x n f = why_by (λ why h. f n why (h ∙ ap faulty x)) fault t
+with_text_by {P = P} items expected (Err e) fault t m x n f = subst (λ fault. IfWhy fault P) (sym m) tt
+
+-- a fault of a part, as one of the whole
+pub of_part_by : {P : ℕ → Type 0} (Q : Why → Type 0) → ((j : ℕ) → P j → Q (leaves j)) → (part : ReadFault) (whole : ModuleFault)
+    → IfLeaves part (λ j. whole ≡ Leaves j) → (part ≡ NoMemoryOfPart → whole ≡ NoMemoryOfModule) → IfLeaves part P → IfWhy whole Q
+of_part_by Q f (LeavesOfPart j) whole l m h = subst (λ w. IfWhy w Q) (sym l) (f j h)
+of_part_by Q f NoMemoryOfPart whole l m h = subst (λ w. IfWhy w Q) (sym (m refl)) tt
+
+pub ok_trivial : {V E : Type 0} (r : Result V E) → IfOk r (λ v. Unit {0})
+ok_trivial (Ok v) = tt
+ok_trivial (Err e) = tt

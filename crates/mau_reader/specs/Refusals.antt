@@ -1,0 +1,36 @@
+-- The refusals of a module, by the part of it that is at fault.
+use Rattle.std.specs.Prelude.{◌≡◌, ℕ, List}
+use Rattle.mau_poset.specs.Order.{IsLeastCycle}
+use Rattle.mau_signature.specs.declared.fault.SigFault.{SigFault}
+use Rattle.mau_signature.specs.Faults.{Given}
+use Rattle.mau_signature.specs.Laws.{IsFaultOf}
+use Rattle.mau_signature.specs.Signature.{SignatureOf}
+use Rattle.mau_sigcheck.specs.declared.fault.CheckFault.{CheckFault}
+use Rattle.mau_sigcheck.specs.declared.fault.CheckFault.TheVariants.{TooManyTuples, NotPreregular, NotAssociativeSorts, IdentityLowersSort, NoMemory}
+use Rattle.mau_sigcheck.specs.Faults.{IsFirstFaultOf}
+use Rattle.mau_reader.specs.Words.{Word}
+use Rattle.mau_reader.specs.Modules.{Why, faulty, cycle_text, declaration_text, operator_fault_text}
+
+pub record IsCycleRefusal (names : List (List ℕ)) (pairs : List (ℕ × ℕ)) (why : Why) : Type 0 where
+  pub lower : ℕ
+  pub upper : ℕ
+  pub cycle : IsLeastCycle pairs lower upper
+  pub text : why ≡ faulty (cycle_text names lower upper)
+
+pub record IsDeclarationRefusal (ws : List Word) (names : List ℕ) (g : Given) (why : Why) : Type 0 where
+  pub fault : SigFault
+  pub first : IsFaultOf g fault
+  pub text : why ≡ faulty (declaration_text ws names fault)
+
+-- the fault is one of an operator, and not want of memory
+abbrev pub IsNamed : CheckFault → Type 0
+IsNamed (TooManyTuples op n) = Unit {0}
+IsNamed (NotPreregular op tuple) = Unit {0}
+IsNamed (NotAssociativeSorts op triple) = Unit {0}
+IsNamed (IdentityLowersSort op sort) = Unit {0}
+IsNamed NoMemory = ⊥
+
+pub record IsOperatorRefusal (names : List (List ℕ)) (s : SignatureOf) (why : Why) : Type 0 where
+  pub fault : CheckFault
+  pub first : IsFirstFaultOf s fault
+  pub text : why ≡ faulty (operator_fault_text names s fault)

@@ -1,0 +1,45 @@
+//! The elements of a module, as they are read: what they name stands for numbers of sorts and for words.
+use mau_terms::Seq;
+use std::marker::Model;
+
+/// A sort in a declaration: the sort itself, or its whole kind.
+#[derive(Clone, Copy, Drop, Debug)]
+pub struct SortUse {
+    pub sort: u32,
+    pub whole_kind: bool,
+}
+
+/// The attributes of a declaration. The identity is the word that names a constant.
+#[derive(Clone, Copy, Drop, Debug)]
+pub struct RawAttrs {
+    pub assoc: bool,
+    pub comm: bool,
+    pub identity: Option<usize>,
+}
+
+/// A declaration of operators, whose names are the words from `first` on, before `end`. It is partial where all its sorts
+/// stand for their kinds.
+#[derive(Drop, Debug)]
+pub struct RawOps {
+    pub first: usize,
+    pub end: usize,
+    pub args: Seq<SortUse>,
+    pub partial: bool,
+    pub result: SortUse,
+    pub attrs: RawAttrs,
+}
+
+/// What the elements of a module declare beside its sorts: subsort pairs, and operators.
+#[derive(Drop)]
+pub struct Elements {
+    pub pairs: Vec<(u32, u32)>,
+    pub operators: Vec<RawOps>,
+}
+
+impl Model for Elements {
+    ghost use Rattle.mau_reader.specs.Elements.{Elements};
+
+    ghost Value = { Elements };
+
+    ghost view = { λ e. record { pairs = e.pairs.items; operators = e.operators.items } };
+}

@@ -1,0 +1,4 @@
+pub mod Tuples
+pub mod Accepted
+pub mod Faults
+pub mod Checking

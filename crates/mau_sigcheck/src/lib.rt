@@ -1,0 +1,19 @@
+//! Which signatures are accepted: the declarations of each operator, judged at all tuples of sorts and kinds.
+#![tactic(auto)]
+
+mod checker;
+mod count;
+mod demand;
+mod fault;
+mod identity;
+mod operators;
+mod walk;
+
+pub use fault::CheckFault;
+pub use operators::check;
+
+#[cfg(test)]
+mod tests;
+
+/// The greatest number of tuples and triples that are checked for one operator.
+pub const MAX_TUPLES: u64 = 4_000_000;
