@@ -52,6 +52,7 @@ with_sort x s = record { pairs = x.pairs ++ map (λ b. (b, s)) x.below; below = 
 abbrev pub with_list : Lists → Lists
 with_list x = record { pairs = x.pairs; below = x.above; above = [] }
 
+-- a word of a subsort declaration: `<`, or a sort
 abbrev pub list_step : List Word → List (List ℕ) → Lists → ℕ → Result (Lists × ℕ) ℕ
 list_step ws sorts x j =
     if is_word ws (codes "<") j then (if nat_eq (length x.above) 0 then Err j else Ok (with_list x, j + 1))
@@ -73,7 +74,7 @@ SubsortsRead ws sorts p q =
 abbrev pub sort_named : List Word → List (List ℕ) → ℕ → ℕ → Option ℕ
 sort_named ws sorts last j = if nat_lt j last then number_of sorts (text_at ws j) else None
 
--- `[S]` at j, behind its bracket, is the kind of S
+-- behind `[`, at j: the sort whose kind is meant, and `]`; with the place behind
 abbrev pub kind_at : List Word → List (List ℕ) → ℕ → ℕ → Result (SortUse × ℕ) ℕ
 kind_at ws sorts last j = elim (sort_named ws sorts last j) [
   | Some s ↦ if nat_lt (j + 1) last && is_word ws (codes "]") (j + 1) then Ok (record { sort = s; whole_kind = true }, j + 2) else Err (j + 1)
@@ -106,6 +107,7 @@ abbrev pub with_argument : List SortUse → Result (SortUse × ℕ) ℕ → Resu
 with_argument xs (Ok u) = Ok (xs ++ u.0 ∷ [], u.1)
 with_argument xs (Err i) = Err i
 
+-- one argument
 abbrev pub argument_step : List Word → List (List ℕ) → ℕ → List SortUse → ℕ → Result (List SortUse × ℕ) ℕ
 argument_step ws sorts last xs j = with_argument xs (sort_at ws sorts last j)
 
@@ -126,23 +128,28 @@ with_flag a w =
     else (if bytes_eq w (codes "ctor") || bytes_eq w (codes "memo") then Some a
     else None))
 
--- a word that an attribute begins with names no identity
+-- the words that an attribute begins with, also one that is not built
 abbrev pub is_attribute_word : List ℕ → Bool
 is_attribute_word w =
     bytes_eq w (codes "assoc") || (bytes_eq w (codes "comm") || (bytes_eq w (codes "prec") || (bytes_eq w (codes "gather")
     || (bytes_eq w (codes "strat") || (bytes_eq w (codes "frozen") || (bytes_eq w (codes "ctor") || (bytes_eq w (codes "memo")
-    || (bytes_eq w (codes "ditto") || (bytes_eq w (codes "format") || bytes_eq w (codes "metadata"))))))))))
+    || (bytes_eq w (codes "ditto") || (bytes_eq w (codes "format") || (bytes_eq w (codes "metadata") || (bytes_eq w (codes "idem")
+    || (bytes_eq w (codes "iter") || (bytes_eq w (codes "poly") || (bytes_eq w (codes "special") || (bytes_eq w (codes "config")
+    || (bytes_eq w (codes "object") || (bytes_eq w (codes "msg") || (bytes_eq w (codes "portal") || (bytes_eq w (codes "pconst")
+    || (bytes_eq w (codes "left") || bytes_eq w (codes "right")))))))))))))))))))))
 
+-- a name of an operator; a word that an attribute begins with names no identity
 abbrev pub is_identity_name : List ℕ → Bool
 is_identity_name w = is_operator_name w && not (is_attribute_word w)
 
--- `id:` at j, and the name of a constant behind it; a list of attributes has one at most
+-- `id:` at j, and behind it a name, of an operator that is judged later; a list of attributes has one at most
 abbrev pub identity_at : List Word → ℕ → RawAttrs → ℕ → Result (RawAttrs × ℕ) ℕ
 identity_at ws last a j =
     if is_none a.identity
     then (if nat_lt (j + 1) last && is_identity_name (text_at ws (j + 1)) then Ok (record { assoc = a.assoc; comm = a.comm; identity = Some (j + 1) }, j + 2) else Err (j + 1))
     else Err j
 
+-- one attribute
 abbrev pub attribute_step : List Word → ℕ → RawAttrs → ℕ → Result (RawAttrs × ℕ) ℕ
 attribute_step ws last a j =
     if is_word ws (codes "id:") j then identity_at ws last a j
@@ -214,7 +221,7 @@ pub data ElementsRead (ws : List Word) (sorts : List (List ℕ)) (to : ℕ) : El
   element_read : (e f : Elements) (p q : ℕ) (r : Result Elements ℕ) → IsFirst (is_stop ws p) p to q → ElementRead ws sorts p q e (Ok f)
       → ElementsRead ws sorts to f (q + 1) r → ElementsRead ws sorts to e p r
 
--- ---- what elements name is there
+-- ---- elements over the sorts and words that are there
 
 -- the declaration names sorts below n, and words before w
 pub record IsOver (n w : ℕ) (o : RawOps) : Type 0 where

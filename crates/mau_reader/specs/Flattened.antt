@@ -1,4 +1,4 @@
--- The signature that the elements of a module declare, or why there is none.
+-- The declarations that elements make, the names of operators, and the names of sorts and kinds.
 use Rattle.std.specs.Prelude.{◌≡◌, ◌==◌, ℕ, ◌-◌, ◌<◌, List, [], ◌∷◌, ◌++◌, length, map, filter, take, Bool, false, ◌&&◌, ◌||◌, not, nat_lt, nat_eq, if◌then◌else◌, Option, Some, None, fold, get_or, bytes_eq, codes, slice_get}
 use Rattle.std.specs.List.{list_any, range_with_len, flat_map, find}
 use Rattle.std.specs.Cmp.Lexicographic.{pointwise}
@@ -35,9 +35,11 @@ meant h partial u = if partial || u.whole_kind then kind_of h u.sort else u.sort
 abbrev pub word_form : List ℕ → List Piece
 word_form w = OneWord w ∷ []
 
+-- the identity that the word at a place names
 abbrev pub identity_meant : List Word → Option ℕ → Option IdSpec
 identity_meant ws place = option_map (λ j. Const (word_form (text_at ws j))) place
 
+-- what the attributes of a list say: those that cannot be written yet are not given
 abbrev pub attributes_meant : List Word → RawAttrs → Attrs
 attributes_meant ws a = record {
   assoc = a.assoc;
@@ -73,6 +75,7 @@ declarations ws h os = flat_map (declarations_in ws h) os
 abbrev pub kinds_of : Hierarchy → Decl → Kinds
 kinds_of h d = record { arguments = (operator_of h d).arguments; constant = (operator_of h d).constant }
 
+-- place by place
 abbrev pub same_kinds : Kinds → Kinds → Bool
 same_kinds a b = pointwise nat_eq a.arguments b.arguments && option_eq nat_eq a.constant b.constant
 
@@ -84,18 +87,19 @@ name_of_form _ = []
 abbrev pub name_of : Decl → List ℕ
 name_of d = name_of_form d.form
 
--- the first declarations of each name
+-- the first declarations of each name: with d, if it is the first of its name
 abbrev pub with_first : List Decl → Decl → List Decl
 with_first fs d = if list_any (λ e. bytes_eq (name_of d) (name_of e)) fs then fs else fs ++ d ∷ []
 
 abbrev pub first_declarations : List Decl → List Decl
 first_declarations ds = fold with_first [] ds
 
+-- there is such a declaration, and its kinds are not those of d
 abbrev pub is_other_operator : Hierarchy → Option Decl → Decl → Bool
 is_other_operator h (Some e) d = not (same_kinds (kinds_of h d) (kinds_of h e))
 is_other_operator h None d = false
 
--- the declaration of d's name among first ones is one of another operator
+-- the first declaration of d's name, if it is among these, declares another operator than d
 abbrev pub renames : Hierarchy → List Decl → Decl → Bool
 renames h fs d = is_other_operator h (find (λ e. bytes_eq (name_of d) (name_of e)) fs) d
 
@@ -126,6 +130,7 @@ is_maximal_in h k s = kind_of h s == k && not (list_any (λ p. p.0 == s) h.pairs
 abbrev pub maximal_sorts : Hierarchy → ℕ → List ℕ
 maximal_sorts h k = filter (is_maximal_in h k) (range_with_len 0 h.sorts)
 
+-- the name with a number; nothing, where there is none
 abbrev pub name_at : List (List ℕ) → ℕ → List ℕ
 name_at names i = option_map_or (λ x. x) (slice_get names i) []
 

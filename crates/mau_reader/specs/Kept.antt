@@ -1,4 +1,4 @@
--- What a module keeps beside what it is.
+-- What a module keeps for its readers, and what holds of each module.
 use Rattle.std.specs.Prelude.{◌≡◌, ℕ, ◌≤◌, List, length, Bool}
 use Rattle.mau_poset.specs.declared.TheConstants.{MAX_SORTS}
 use Rattle.mau_signature.specs.Signature.{SignatureOf}
@@ -6,7 +6,7 @@ use Rattle.mau_reader.specs.declared.TheConstants.{MAX_DECLARATIONS}
 use Rattle.mau_reader.specs.Flattened.{AreLower}
 use Rattle.mau_reader.specs.Modules.{ModuleOf, operator_names}
 
--- there is a name for each sort and for each operator, and a flag for each sort that is a lower one
+-- there is a name for each sort and for each operator, and a flag for each sort, whether it is a lower one
 pub record IsKept (sorts : List (List ℕ)) (lower : List Bool) (operators : List (List ℕ)) (s : SignatureOf) : Type 0 where
   pub sorts_named : length sorts ≡ s.hierarchy.sorts
   pub flags : AreLower s.hierarchy.sorts s.hierarchy.pairs lower

@@ -34,15 +34,19 @@ pub data Why : Type 0 where
 
 -- ---- what a module declares, from its elements
 
+-- the sorts and the subsort pairs
 abbrev pub hierarchy_of : List (List ℕ) → Elements → Hierarchy
 hierarchy_of sorts e = record { sorts = length sorts; pairs = e.pairs }
 
+-- the declarations
 abbrev pub declared_in : List Word → List (List ℕ) → Elements → List Decl
 declared_in ws sorts e = declarations ws (hierarchy_of sorts e) e.operators
 
+-- what a signature is built from
 abbrev pub given_in : List Word → List (List ℕ) → Elements → Given
 given_in ws sorts e = record { hierarchy = hierarchy_of sorts e; declarations = declared_in ws sorts e; numerals = None }
 
+-- the signature
 abbrev pub signature_in : List Word → List (List ℕ) → Elements → SignatureOf
 signature_in ws sorts e = signature_of (hierarchy_of sorts e) (declared_in ws sorts e) None
 
@@ -72,7 +76,7 @@ too_large_text which = codes "TooLarge " ++ which
 abbrev pub cycle_text : List (List ℕ) → ℕ → ℕ → List ℕ
 cycle_text names a b = codes "Cycle " ++ name_at names a ++ codes " " ++ name_at names b
 
--- the operator that the declaration with the number i declares, counted from 0; these words name the operators
+-- the operator that the declaration with the number i declares, counted from 0; these places hold the names of the operators
 abbrev pub declared_name : List Word → List ℕ → ℕ → List ℕ
 declared_name ws names i = option_map_or (text_at ws) (slice_get names i) []
 

@@ -2,6 +2,7 @@
 use Rattle.std.specs.Prelude.{ℕ, List, [], ◌∷◌, ◌++◌, Bool, Option, bytes_eq, if◌then◌else◌, position}
 use Rattle.std.specs.List.{list_any}
 
+-- x is one of the names
 abbrev pub has_name : List (List ℕ) → List ℕ → Bool
 has_name names x = list_any (bytes_eq x) names
 

@@ -11,7 +11,8 @@ pub data Then {X Y : Type 0} (First : Result X ℕ → Type 0) (Behind : X → R
   part_leaves : (i : ℕ) → First (Err i) → Then First Behind (Err i)
   part_read : (x : X) (r : Result Y ℕ) → First (Ok x) → Behind x r → Then First Behind r
 
--- Repeats step ends last x j r: from j on one part follows another, up to the first place that `ends`, which is before `last`.
+-- Repeats step ends last x j r: from j on one part follows another, up to the first place between two parts at which it `ends`,
+-- which is before `last`.
 -- `step x j` reads the part at j behind x, and gives x with that part and the place behind it.
 pub data Repeats {X : Type 0} (step : X → ℕ → Result (X × ℕ) ℕ) (ends : ℕ → Bool) (last : ℕ) : X → ℕ → Result (X × ℕ) ℕ → Type 0 where
   ends_at : (x : X) (j : ℕ) → j < last → ends j ≡ true → Repeats step ends last x j (Ok (x, j))

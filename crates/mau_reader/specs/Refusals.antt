@@ -11,12 +11,14 @@ use Rattle.mau_sigcheck.specs.Faults.{IsFirstFaultOf}
 use Rattle.mau_reader.specs.Words.{Word}
 use Rattle.mau_reader.specs.Modules.{Why, faulty, cycle_text, declaration_text, operator_fault_text}
 
+-- sorts on a cycle, the least two
 pub record IsCycleRefusal (names : List (List ℕ)) (pairs : List (ℕ × ℕ)) (why : Why) : Type 0 where
   pub lower : ℕ
   pub upper : ℕ
   pub cycle : IsLeastCycle pairs lower upper
   pub text : why ≡ faulty (cycle_text names lower upper)
 
+-- a declaration at fault, the first one
 pub record IsDeclarationRefusal (ws : List Word) (names : List ℕ) (g : Given) (why : Why) : Type 0 where
   pub fault : SigFault
   pub first : IsFaultOf g fault
@@ -30,6 +32,7 @@ IsNamed (NotAssociativeSorts op triple) = Unit {0}
 IsNamed (IdentityLowersSort op sort) = Unit {0}
 IsNamed NoMemory = ⊥
 
+-- an operator that is not accepted, the first one
 pub record IsOperatorRefusal (names : List (List ℕ)) (s : SignatureOf) (why : Why) : Type 0 where
   pub fault : CheckFault
   pub first : IsFirstFaultOf s fault

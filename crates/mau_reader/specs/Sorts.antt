@@ -30,6 +30,7 @@ is_sort_name w = is_module_name w && not (list_any (nat_eq 58) w || nat_eq (slic
 abbrev pub is_operator_name : List ℕ → Bool
 is_operator_name w = list_all is_ascii_alphanumeric w
 
+-- what a declaration of sorts begins with
 abbrev pub is_sort_keyword : List ℕ → Bool
 is_sort_keyword w = bytes_eq w (codes "sort") || bytes_eq w (codes "sorts")
 

@@ -44,6 +44,17 @@ fn is_attribute_word(word: &str) -> bool
             | "ditto"
             | "format"
             | "metadata"
+            | "idem"
+            | "iter"
+            | "poly"
+            | "special"
+            | "config"
+            | "object"
+            | "msg"
+            | "portal"
+            | "pconst"
+            | "left"
+            | "right"
     )
 }
 

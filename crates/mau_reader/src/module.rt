@@ -292,7 +292,7 @@ impl Module {
     pub fn operator(&self, name: &str) -> Option<usize>
         ensures number { result ≡ number_of (operator_names self.now.signature) name.now }
         ensures declared { IfSome result (λ f. IsOperator self.now.signature (f + 1)) }
-        ensures few { IfSome result (λ f. f < 1000000) }
+        ensures few { IfSome result (λ f. f < MAX_DECLARATIONS) }
     {
         let _ = self.signature.operators();
         self.operators.number(name)

@@ -1,5 +1,5 @@
 -- The bindings of a pattern are its one solution, and where there are none there is no solution.
-use Rattle.std.proofs.Common.{◌≡◌, ℕ, zero, suc, ◌<◌, ◌≤◌, ◌+◌, ◌⊎◌, inl, inr, List, [], ◌∷◌, length, get_or, map, Bool, true, false, ◌&&◌, ◌||◌, ◌-◌, ◌++◌, append_assoc, length-append, add-zero, option_map, nat_eq, if◌then◌else◌, Option, Some, None, slice_get, replicate, refl, sym, ◌∙◌, ap, ap₂, subst, arith, eqb-true}
+use Rattle.std.proofs.Common.{◌≡◌, ℕ, zero, suc, ◌<◌, ◌≤◌, ◌+◌, ◌⊎◌, inl, inr, List, [], ◌∷◌, length, get_or, map, Bool, true, false, ◌&&◌, ◌||◌, ◌-◌, ◌++◌, add-zero, option_map, nat_eq, if◌then◌else◌, Option, Some, None, slice_get, replicate, refl, sym, ◌∙◌, ap, ap₂, subst, arith, eqb-true}
 use Rattle.std.proofs.lemmas.Option.{slice_get-map, get_or_from_slice_get}
 use Rattle.std.proofs.lemmas.List.{length-replicate, length-map, ext_get_or}
 use Rattle.std.specs.Prelude.{All}
@@ -8,7 +8,7 @@ use Rattle.mau_terms.specs.Tree.{Tree, variable, numeral, apply, Trees, no_trees
 use Rattle.mau_terms.specs.Subst.{Variable, same_variable, has_variable, instance, instances, Occurs, OccursIn, add_variables, add_all_variables, variables, value_at, with_values}
 use Rattle.mau_terms.specs.Bare.{IsBare, EqualModulo, HasNoAxioms}
 use Rattle.mau_terms.specs.Solution.{Fits, HaveSorts}
-use Rattle.mau_terms.proofs.Variables.{EachVar, occurring, variables_occur, same_itself}
+use Rattle.mau_terms.proofs.Variables.{EachVar, variables_occur, same_itself}
 use Rattle.mau_terms.proofs.Plain.{plain_equal, same_equal, plain_norm}
 use Rattle.mau_reader.specs.Modules.{ModuleOf}
 use Rattle.mau_session.specs.Terms.{Pairs, terms_in, HasSort}

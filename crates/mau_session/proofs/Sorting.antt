@@ -1,7 +1,6 @@
 -- The declared sort of a term: it has one at most. And the axioms of a signature, none of whose operators has one.
-use Rattle.std.proofs.Common.{◌≡◌, ℕ, zero, suc, ◌+◌, ◌-◌, ◌<◌, ◌≤◌, ◌⊎◌, inl, inr, List, [], ◌∷◌, ◌++◌, length, get_or, map, drop, Bool, true, false, ◌||◌, Option, Some, None, All, refl, sym, ◌∙◌, ap, ap₂, subst, arith, add-one}
-use Rattle.std.specs.Prelude.{is_some, IfSome, IfNone, ◌↔◌}
-use Rattle.std.specs.Global.{Vec}
+use Rattle.std.proofs.Common.{◌≡◌, ℕ, ◌+◌, ◌-◌, ◌<◌, ◌≤◌, ◌⊎◌, inl, inr, List, [], ◌∷◌, length, get_or, map, drop, Bool, true, false, ◌||◌, Option, Some, None, refl, sym, ◌∙◌, ap, ap₂, subst, arith, add-one}
+use Rattle.std.specs.Prelude.{is_some, IfSome, IfNone}
 use Rattle.std.proofs.lemmas.Bool.{cases_lt}
 use Rattle.std.proofs.lemmas.List.{get_or_past, drop_all}
 use Rattle.std.proofs.Math.Seq.{drop-cons}
@@ -16,9 +15,7 @@ use Rattle.mau_poset.proofs.Orders.{Chain-kind, kind_of-kind, kind_of-in_range}
 use Rattle.mau_signature.specs.Faults.{IsSort}
 use Rattle.mau_signature.specs.Signature.{SignatureOf, IsOperator, IsDeclaredResult, HasLeastResult, declarations_at, theory_at, theory_of, terms_over}
 use Rattle.mau_sigcheck.proofs.Results.{result_is_one, least_from_result}
-use Rattle.mau_reader.specs.Modules.{ModuleOf}
-use Rattle.mau_session.specs.Sorted.{IsSomeList}
-use Rattle.mau_session.specs.Terms.{HasDeclaredSort, sort_of_variable, sort_of_application, HaveDeclaredSorts, no_sorts, one_more_sort, HasSort, has_axiom, HasAxioms}
+use Rattle.mau_session.specs.Terms.{HasDeclaredSort, sort_of_variable, sort_of_application, HaveDeclaredSorts, no_sorts, one_more_sort, has_axiom, HasAxioms}
 
 -- ---- lists of terms: what stands at a place, and behind it
 

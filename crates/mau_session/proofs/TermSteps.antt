@@ -1,5 +1,5 @@
 -- Steps of reading terms: what is read, and what isn't there to be read.
-use Rattle.std.proofs.Common.{◌≡◌, ℕ, ◌+◌, ◌<◌, List, [], ◌∷◌, length, true, false, ◌&&◌, nat_lt, nat_eq, codes, take, Some, None, refl, sym, ◌∙◌, ap, subst, arith}
+use Rattle.std.proofs.Common.{◌≡◌, ℕ, ◌+◌, ◌<◌, List, [], ◌∷◌, length, true, false, ◌&&◌, nat_lt, nat_eq, codes, Some, None, refl, sym, ◌∙◌, ap, subst, arith}
 use Rattle.mau_terms.specs.declared.bare.Bare.{Bare}
 use Rattle.mau_terms.specs.Tree.{Tree, Trees, tree, trees_of, node}
 use Rattle.mau_terms.specs.View.{tree_of}

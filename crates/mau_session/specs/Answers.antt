@@ -26,10 +26,11 @@ shown_refusal ws (NoParse i) = codes "NoParse " ++ decimal (place_at ws i)
 abbrev pub refusal_line : ℕ → List Word → Refusal → List ℕ
 refusal_line k ws r = item_head k ++ codes "refused: " ++ shown_refusal ws r ++ codes "\n"
 
--- a refused module: the word that leaves the grammar, or the text of what is at fault
+-- the text of what is at fault in a module
 abbrev pub faulty_line : ℕ → List ℕ → List ℕ
 faulty_line k text = item_head k ++ codes "refused: " ++ text ++ codes "\n"
 
+-- a refused module: the word that leaves the grammar, or the text of what is at fault
 abbrev pub module_refusal : ℕ → List Word → Why → List ℕ
 module_refusal k ws (leaves i) = refusal_line k ws (NotBuilt i)
 module_refusal k ws (faulty text) = faulty_line k text

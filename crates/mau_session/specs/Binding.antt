@@ -1,4 +1,5 @@
--- How a matcher without axioms binds variables: a plain recursion on pattern and subject. That it finds the solutions is proved of it.
+-- How a matcher without axioms binds variables: a plain recursion on pattern and subject, which does not look at sorts. It is proved
+-- that what it binds, and that alone, makes the pattern the subject; the sorts of the values are tested afterwards.
 use Rattle.std.specs.Prelude.{ℕ, List, Bool, true, false, Option, Some, None, slice_get, slice_set, nat_eq, if◌then◌else◌, option_and_then}
 use Rattle.std.specs.declared.cmp.Ordering.{Ordering}
 use Rattle.std.specs.declared.cmp.Ordering.TheVariants.{Less, Equal, Greater}
@@ -17,11 +18,13 @@ is_tie Greater = false
 abbrev pub same_tree : Tree → Tree → Bool
 same_tree t u = is_tie (tree_cmp t u)
 
+-- with t bound to i, where the variable i has this value, or none, or isn't there
 abbrev pub bound_to : Bindings → ℕ → Tree → Option (Option Tree) → Option Bindings
 bound_to bs i t None = None
 bound_to bs i t (Some None) = Some (slice_set bs i (Some t))
 bound_to bs i t (Some (Some u)) = if same_tree u t then Some bs else None
 
+-- the same, by the value that it has
 abbrev pub bind_variable : Bindings → ℕ → Tree → Option Bindings
 bind_variable bs i t = bound_to bs i t (slice_get bs i)
 
@@ -36,6 +39,7 @@ abbrev mutual
   bind bs (apply f ps) (numeral b) = None
   bind bs (apply f ps) (apply g ts) = if nat_eq f g then bind_all bs ps ts else None
 
+  -- for each pattern and the subject in its place
   pub bind_all : Bindings → Trees → Trees → Option Bindings
   bind_all bs no_trees no_trees = Some bs
   bind_all bs no_trees (tree t ts) = None

@@ -10,14 +10,15 @@ use Rattle.mau_reader.specs.Places.{IsFirst, IsNowhere, is_word, stands_outside}
 abbrev pub is_numeral : List ℕ → Bool
 is_numeral w = not (nat_eq (length w) 0) && not (nat_lt 1 (length w) && nat_eq (slice_index w 0) 48) && list_all is_ascii_digit w
 
--- the words from p on, before e, begin with a bound, or with the name of a module
+-- a bound stands at p: a numeral in brackets
 abbrev pub is_bound : List Word → ℕ → Bool
 is_bound ws p = is_word ws (codes "[") p && is_numeral (text_at ws (p + 1)) && is_word ws (codes "]") (p + 2)
 
+-- `in`, a word, which is the name of a module, and a colon stand at p
 abbrev pub names_module : List Word → ℕ → Bool
 names_module ws p = is_word ws (codes "in") p && is_word ws (codes ":") (p + 2)
 
--- what stands before the pattern and isn't answered yet
+-- the words from p on, before e, begin with a bound or the name of a module: neither is answered yet
 abbrev pub has_prefix : List Word → ℕ → ℕ → Bool
 has_prefix ws p e = nat_le (p + 3) e && (is_bound ws p || names_module ws p)
 

@@ -1,9 +1,9 @@
 -- The solutions of a pattern and a subject over a module, and their listing.
-use Rattle.std.specs.Prelude.{◌≡◌, ℕ, suc, List, [], ◌∷◌, length, map, All, Any, AllPairs}
+use Rattle.std.specs.Prelude.{◌≡◌, ℕ, suc, List, [], ◌∷◌, map, All, Any, AllPairs}
 use Rattle.std.specs.declared.cmp.Ordering.TheVariants.{Less}
 use Rattle.mau_terms.specs.Tree.{Tree}
 use Rattle.mau_terms.specs.Norm.{norm}
-use Rattle.mau_terms.specs.Subst.{Variable, variables}
+use Rattle.mau_terms.specs.Subst.{Variable}
 use Rattle.mau_terms.specs.Solution.{Solves, solution_cmp}
 use Rattle.mau_reader.specs.Modules.{ModuleOf}
 use Rattle.mau_session.specs.Terms.{Pairs, terms_in, HasSort}

@@ -1,4 +1,4 @@
--- Sorts that were found.
+-- A list of sorts that was found.
 use Rattle.std.specs.Prelude.{◌≡◌, ℕ, List, Option, Some, None}
 use Rattle.std.specs.Global.{Vec}
 

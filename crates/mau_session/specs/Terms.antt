@@ -1,7 +1,7 @@
 -- Terms over the operators of a module in prefix form, the words that read as them, and their sorts.
 use Rattle.std.specs.Prelude.{◌≡◌, ◌≢◌, ℕ, ◌+◌, ◌<◌, List, [], ◌∷◌, length, take, drop, Bool, true, not, ◌&&◌, ◌||◌, is_some, Some, None, codes, slice_index, nat_lt, nat_eq}
 use Rattle.std.specs.Str.{bytes_eq}
-use Rattle.mau_terms.specs.Tree.{Tree, variable, numeral, apply, Trees, no_trees, tree}
+use Rattle.mau_terms.specs.Tree.{Tree, variable, apply, Trees, no_trees, tree}
 use Rattle.mau_terms.specs.Bare.{TermSignature}
 use Rattle.mau_terms.specs.declared.theory.Theory.{Theory}
 use Rattle.mau_terms.specs.Vars.{place_of, with_pair}
@@ -31,11 +31,13 @@ argument_kinds m f = (terms_in m).arguments (f + 1)
 abbrev pub result_kind : ModuleOf → ℕ → ℕ
 result_kind m f = (terms_in m).result (f + 1)
 
+-- associativity, commutativity, an identity, or that it is the successor
 abbrev pub has_axiom : Theory → Bool
 has_axiom h = h.assoc || (h.comm || (is_some h.id || h.succ))
 
 -- The declared sort of a term: a variable has the sort that it carries, and an application the declared result for the sorts of
--- its arguments, which is its kind where no declaration applies.
+-- its arguments, which is the kind of the operator's result where no declaration applies. A numeral has none so far. The sorts are those of
+-- the term as it stands, which is its normal form where no operator has an axiom.
 mutual
   pub data HasDeclaredSort (s : SignatureOf) : Tree → ℕ → Type 0 where
     sort_of_variable : (i r : ℕ) → IsSort s.hierarchy r → HasDeclaredSort s (variable i r) r

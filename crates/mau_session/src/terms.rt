@@ -10,6 +10,7 @@ ghost use Rattle.mau_poset.specs.Order.{kind_of};
 ghost use Rattle.mau_signature.specs.Faults.{IsSort};
 ghost use Rattle.mau_signature.specs.Signature.{IsOperator};
 ghost use Rattle.mau_reader.specs.Modules.{operator_names};
+ghost use Rattle.mau_reader.specs.declared.TheConstants.{MAX_DECLARATIONS};
 ghost use Rattle.mau_session.specs.Terms.{IsLastColon, IsVariable, IsKindVariable, Pairs, Reads, ReadsList, ReadsArgument, argument_kinds};
 ghost use Rattle.mau_session.specs.ReadVariables.{IsReadVariable, IsReadKindVariable};
 
@@ -249,7 +250,7 @@ fn kinds_of(alloc: Global, poset: &Poset, sorts: &[u32]) -> Result<Vec<u32>, NoM
 /// The kinds of the arguments of an operator, whose number is counted from 0.
 fn argument_kinds(alloc: Global, module: &Module, number: usize) -> Result<Vec<u32>, NoMemory>
     requires declared { IsOperator module.now.signature (number + 1) }
-    requires few { number < 1000000 }
+    requires few { number < MAX_DECLARATIONS }
     ensures { IfOk result (λ kinds. kinds.items ≡ argument_kinds module.now number) }
 {
     let signature = module.signature();
@@ -262,7 +263,7 @@ fn argument_kinds(alloc: Global, module: &Module, number: usize) -> Result<Vec<u
 /// The kind of the result of an operator, whose number is counted from 0.
 fn result_kind(module: &Module, number: usize) -> u32
     requires declared { IsOperator module.now.signature (number + 1) }
-    requires few { number < 1000000 }
+    requires few { number < MAX_DECLARATIONS }
     ensures { result ≡ Rattle.mau_session.specs.Terms.result_kind module.now number }
 {
     let signature = module.signature();
@@ -295,7 +296,7 @@ fn read_application(
     requires within { to ≤ length words.now }
     requires number { number_of (operator_names module.now.signature) (text_at words.now from) ≡ Some number }
     requires declared { IsOperator module.now.signature (number + 1) }
-    requires few { number < 1000000 }
+    requires few { number < MAX_DECLARATIONS }
     requires room { length vars.old + (to - from) < 4294967295 }
     ensures some { IfOk result (λ found. IfSome found (λ r. Reads module.now words.now to vars.old from (tree_of r.term) r.kind r.end vars.new)) }
     ensures none { IfOk result (λ found. IfNone found ((t : Tree) (s j : ℕ) (ms : Pairs) → Reads module.now words.now to vars.old from t s j ms → ⊥)) }

@@ -68,6 +68,10 @@ fn refuses_by_name_and_place(rt: HostRuntime) -> Result<(), Fail> {
             "[1] refused: NotBuilt prec 32\n",
         ),
         (
+            "fmod G is sort S . op f : S S -> S [id: idem] . endfm",
+            "[1] refused: NotBuilt idem 40\n",
+        ),
+        (
             "fmod G is sort S . op a : -> S . op a : S -> S . endfm",
             "[1] refused: NotBuilt a 36\n",
         ),

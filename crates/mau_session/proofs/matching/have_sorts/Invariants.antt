@@ -1,5 +1,3 @@
-use Rattle.std.proofs.Common.{ℕ}
-use Rattle.mau_terms.specs.Tree.{Tree}
 use Rattle.mau_session.specs.Terms.{HasSort}
 use Rattle.mau_session.proofs.Values.{HaveSortsFrom}
 use Rattle.mau_session.proofs.matching.have_sorts.Given as goal

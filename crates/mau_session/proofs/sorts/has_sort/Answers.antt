@@ -1,4 +1,4 @@
-use Rattle.std.proofs.Common.{◌≡◌, sym, subst, ap, ◌∙◌, true}
+use Rattle.std.proofs.Common.{sym, subst, ◌∙◌}
 use Rattle.mau_terms.specs.View.{tree_of}
 use Rattle.mau_poset.specs.Order.{IsPoset, IsAtOrBelow}
 use Rattle.mau_signature.specs.Faults.{IsSort}

@@ -1,16 +1,14 @@
-use Rattle.std.proofs.Common.{◌≡◌, ◌<◌, ◌≤◌, ◌+◌, ◌-◌, ◌++◌, ◌∷◌, [], ℕ, length, map, drop, get_or, codes, nat_lt, ◌&&◌, false, None, suc, sym, ◌∙◌, ap, subst, arith, append_assoc, append-nil, add-one, eqb-true, rules}
+use Rattle.std.proofs.Common.{◌≡◌, ◌<◌, ◌≤◌, ◌+◌, ◌-◌, ◌++◌, ◌∷◌, [], ℕ, length, map, drop, get_or, codes, nat_lt, ◌&&◌, false, suc, sym, ◌∙◌, ap, subst, arith, append_assoc, append-nil, add-one, rules}
 use Rattle.std.proofs.Math.Seq.{drop-cons}
 use Rattle.std.proofs.lemmas.List.{map-append, length-drop}
 use Rattle.mau_terms.proofs.Pieces.{trees_of-list_of}
 use Rattle.mau_terms.specs.Tree.{Trees, no_trees, tree, trees_of, list_of, node}
 use Rattle.mau_terms.specs.View.{tree_of}
-use Rattle.mau_reader.specs.Words.{text_at}
 use Rattle.mau_reader.specs.Places.{is_word}
-use Rattle.mau_reader.specs.Names.{number_of}
 use Rattle.mau_session.specs.Mark.{mark_text}
 use Rattle.mau_session.specs.Terms.{result_kind, Reads, ReadsArgument, ReadsList, list_ends, reads_argument}
 use Rattle.mau_session.proofs.Readings.{reads_once, list_once}
-use Rattle.mau_session.proofs.TermSteps.{constant_read, application_read, no_list, variable_read, no_variable, argument_parts, list_parts, list_behind, list_with, nil_by_length, some_by_test}
+use Rattle.mau_session.proofs.TermSteps.{constant_read, application_read, no_list, argument_parts, list_parts, list_behind, list_with, nil_by_length}
 use Rattle.mau_session.proofs.terms.+term.Goals as goal
 
 pub read_application-returns-then-is_empty-clause-some : goal.read_application-returns-then-is_empty-clause-some
