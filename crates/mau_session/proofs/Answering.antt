@@ -8,10 +8,19 @@ use Rattle.mau_session.specs.declared.refusal.Refusal.TheVariants.{Unended, NotB
 use Rattle.mau_reader.specs.Words.{Word, text_at}
 use Rattle.mau_reader.specs.Places.{IsFirst, IsNowhere, is_word}
 use Rattle.mau_reader.specs.Items.{may_end, is_quit, end_of_module}
-use Rattle.mau_session.specs.Terms.{Pairs}
-use Rattle.mau_session.specs.Transcript.{ItemsAnswer, items_end, item_first, item_unended, module_accepted, module_refused, match_answered, item_not_built}
-use Rattle.mau_session.specs.Gains.{GainsItem, GainsModule, gains_accepted, gains_refused, GainsMatch}
-use Rattle.mau_session.specs.Answers.{refusal_line, substitution_lines, listing_lines}
+use Rattle.mau_terms.specs.declared.ids.TermId.{TermId}
+use Rattle.mau_terms.specs.Norm.{norm}
+use Rattle.mau_terms.specs.Bare.{HasNoAxioms}
+use Rattle.mau_signature.specs.Signature.{SignatureOf, theory_at}
+use Rattle.mau_store.specs.Node.{Node}
+use Rattle.mau_store.specs.Trees.{StandsFor}
+use Rattle.mau_canon.specs.Within.{IsWithin, StandsWithin}
+use Rattle.mau_session.specs.Terms.{Pairs, Reads, terms_in}
+use Rattle.mau_session.specs.Bound.{id_tree}
+use Rattle.mau_session.proofs.Solving.{plain_norm_in}
+use Rattle.mau_session.specs.Transcript.{too_deep, overflows, listed, ItemsAnswer, items_end, item_first, item_unended, module_accepted, module_refused, match_answered, item_not_built}
+use Rattle.mau_session.specs.Gains.{GainsListing, GainsListed, gains_solutions, gains_too_deep, gains_overflow, GainsTerms, GainsItem, GainsModule, gains_accepted, gains_refused, GainsMatch}
+use Rattle.mau_session.specs.Answers.{refusal_line, substitution_lines, listing_lines, match_head, too_deep_line, overflow_line}
 use Rattle.mau_reader.proofs.OneModule.{eq_bytes}
 
 and_last : (a b : Bool) → (a && b) ≡ true → b ≡ true
@@ -115,3 +124,33 @@ module _ (ws : List Word) (ms : List ModuleOf) (k i : ℕ) (o : List ℕ) where
     pub gains_other : (new : List ℕ) (b : Bool) → is_word ws (codes "fmod") i ≡ false → is_word ws (codes "match") i ≡ false → new ≡ o ++ refusal_line k ws (NotBuilt i) → b ≡ true
         → GainsItem ws ms k i (j + 1) ms o new b
     gains_other new b u v g r = subst (GainsItem ws ms k i (j + 1) ms o new) (sym r) (record { bytes = _; answer = item_not_built j f u v; gained = g })
+
+-- ---- listings
+
+-- the answer of a match command whose pattern and subject are read
+pub gains_terms : (ws : List Word) (m : ModuleOf) (k i s j : ℕ) (p : Tree) (kind : ℕ) (ns : Pairs) (t : Tree) (os : Pairs) → Reads m ws s [] (i + 1) p kind s ns → Reads m ws j ns (s + 1) t kind j os
+    → (o a n : List ℕ) → a ≡ o ++ match_head k m → GainsListed m os p t a n → GainsTerms ws m k i s j o n false
+gains_terms ws m k i s j p kind ns t os pattern subject o _ _ head (gains_solutions a n within listing) = record {
+  bytes = match_head k m ++ listing_lines m os p listing.found;
+  answer = listed p kind ns t os listing.found pattern subject within listing.listing;
+  gained = listing.gained ∙ ap (λ x. x ++ listing_lines m os p listing.found) head ∙ append_assoc o (match_head k m) (listing_lines m os p listing.found);
+}
+gains_terms ws m k i s j p kind ns t os pattern subject o _ _ head (gains_too_deep a n cause gained) = record {
+  bytes = match_head k m ++ too_deep_line;
+  answer = too_deep p kind ns t os pattern subject cause;
+  gained = gained ∙ ap (λ x. x ++ too_deep_line) head ∙ append_assoc o (match_head k m) too_deep_line;
+}
+gains_terms ws m k i s j p kind ns t os pattern subject o _ _ head (gains_overflow a n cause gained) = record {
+  bytes = match_head k m ++ overflow_line;
+  answer = overflows p kind ns t os pattern subject cause;
+  gained = gained ∙ ap (λ x. x ++ overflow_line) head ∙ append_assoc o (match_head k m) overflow_line;
+}
+
+module _ (m : ModuleOf) (free : HasNoAxioms (terms_in m)) (s : SignatureOf) (same : s ≡ m.signature) (t : Tree) (nodes : List Node) (id : TermId) (stands : StandsFor (theory_at s) nodes id.0 t) where
+  -- without axioms the normal form is the term
+  pub built_tree : id_tree nodes id ≡ t
+  built_tree = stands ∙ ap (λ s. norm (theory_at s) t) same ∙ plain_norm_in m free t
+
+  pub gains_built : (ns : Pairs) (p : Tree) → StandsWithin (theory_at s) nodes id.0 → (old new : List ℕ) → GainsListing m ns p (id_tree nodes id) old new → GainsListed m ns p t old new
+  gains_built ns p within old new listing =
+      gains_solutions old new (subst (λ s. IsWithin (theory_at s) (norm (theory_at s) t)) same (subst (IsWithin (theory_at s)) stands within.within)) (subst (λ t. GainsListing m ns p t old new) built_tree listing)

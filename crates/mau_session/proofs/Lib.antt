@@ -6,6 +6,7 @@ pub mod BindLemmas
 pub mod Numbered
 pub mod Bareness
 pub mod Solving
+pub mod SolvingIds
 pub mod Values
 pub mod Lines
 pub mod Extending
@@ -14,3 +15,4 @@ pub mod OneTranscript
 pub mod Depths
 pub mod Spanned
 pub mod Sorting
+pub mod Stored

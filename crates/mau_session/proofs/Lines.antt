@@ -1,14 +1,13 @@
 -- Lines that are written one after another.
 use Rattle.std.proofs.Common.{◌≡◌, ℕ, ◌<◌, ◌+◌, List, [], ◌∷◌, ◌++◌, length, get_or, take, drop, refl, ◌∙◌, ap, ap₂, append_assoc}
-use denote.Ref.{Bor}
-use Rattle.mau_terms.specs.declared.bare.Bare.{Bare}
+use Rattle.mau_terms.specs.declared.ids.TermId.{TermId}
 use Rattle.mau_terms.specs.declared.ids.VarId.{VarId}
-use Rattle.mau_terms.specs.View.{tree_of}
 use Rattle.mau_terms.specs.Vars.{IsGiven}
 use Rattle.mau_terms.specs.Subst.{Variable}
 use Rattle.mau_reader.specs.Modules.{ModuleOf}
 use Rattle.mau_session.specs.Terms.{Pairs}
-use Rattle.mau_session.specs.Bound.{trees_at}
+use Rattle.mau_session.specs.Bound.{id_tree, id_trees}
+use Rattle.mau_store.specs.Node.{Node}
 use Rattle.mau_session.specs.Matching.{numbered_from}
 use Rattle.mau_session.specs.Answers.{value_line, value_lines}
 use Rattle.mau_session.proofs.Values.{variables_next, values_next, no_values_behind}
@@ -21,12 +20,12 @@ module _ (m : ModuleOf) (ns : Pairs) where
   no_values [] = refl
   no_values (x ∷ xs) = refl
 
-module _ (m : ModuleOf) (ns : Pairs) (values : List (Bor Bare)) where
+module _ (m : ModuleOf) (ns : Pairs) (nodes : List Node) (values : List TermId) where
   -- one line more
-  pub lines_next : (i : ℕ) (x : VarId) (v : Bor Bare) → x.index ≡ i → IsGiven ns x → i < length values → v ≡ get_or values i v
-      → value_lines m ns (drop i (numbered_from 0 (take (length values) ns))) (drop i (trees_at values))
-      ≡ value_line m ns (x.index, x.sort) (tree_of v.now) ++ value_lines m ns (drop (i + 1) (numbered_from 0 (take (length values) ns))) (drop (i + 1) (trees_at values))
-  lines_next i x v e g h w = ap₂ (value_lines m ns) (variables_next ns values i x e g h) (values_next ns values i v h w)
+  pub lines_next : (i : ℕ) (x : VarId) (d : TermId) → x.index ≡ i → IsGiven ns x → i < length values
+      → value_lines m ns (drop i (numbered_from 0 (take (length values) ns))) (drop i (id_trees nodes values))
+      ≡ value_line m ns (x.index, x.sort) (id_tree nodes (get_or values i d)) ++ value_lines m ns (drop (i + 1) (numbered_from 0 (take (length values) ns))) (drop (i + 1) (id_trees nodes values))
+  lines_next i x d e g h = ap₂ (value_lines m ns) (variables_next ns nodes values i x e g h) (values_next ns nodes values i d h)
 
-  pub no_lines : (i : ℕ) → length values ≡ i → (xs : List Variable) → value_lines m ns xs (drop i (trees_at values)) ≡ []
-  no_lines i e xs = ap (value_lines m ns xs) (no_values_behind ns values i e) ∙ no_values m ns xs
+  pub no_lines : (i : ℕ) → length values ≡ i → (xs : List Variable) → value_lines m ns xs (drop i (id_trees nodes values)) ≡ []
+  no_lines i e xs = ap (value_lines m ns xs) (no_values_behind ns nodes values i e) ∙ no_values m ns xs

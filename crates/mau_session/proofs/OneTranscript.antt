@@ -4,7 +4,11 @@ use Rattle.std.specs.Ordering.{ordering_reverse}
 use Rattle.std.specs.declared.cmp.Ordering.{Ordering}
 use Rattle.std.specs.declared.cmp.Ordering.TheVariants.{Less, Equal, Greater}
 use Rattle.mau_terms.specs.Tree.{Tree}
+use Rattle.mau_terms.specs.Norm.{norm}
 use Rattle.mau_terms.specs.Bare.{HasNoAxioms}
+use Rattle.mau_canon.specs.declared.fault.BuildFault.{BuildFault}
+use Rattle.mau_canon.specs.declared.fault.BuildFault.TheVariants.{TooDeep, Overflow}
+use Rattle.mau_canon.specs.Within.{IsWithin, IsCause}
 use Rattle.mau_terms.specs.Subst.{variables}
 use Rattle.mau_terms.specs.Solution.{solution_cmp}
 use Rattle.mau_terms.specs.declared.theory.Theory.{Theory}
@@ -19,7 +23,7 @@ use Rattle.mau_session.specs.Terms.{Pairs, Reads, terms_in, HasAxioms}
 use Rattle.mau_session.specs.Matching.{numbered_from, IsListing}
 use Rattle.mau_session.specs.Commands.{CommandRead, prefix_leaves, parts_missing, pattern_leaves, subject_leaves, condition_leaves, command_read, SubjectEnds, at_condition, at_stop, is_no_term}
 use Rattle.mau_session.specs.Answers.{refusal_line, module_refusal, fault_line, module_line, match_head, listing_lines}
-use Rattle.mau_session.specs.Transcript.{current, accepted, TermsAnswer, no_pattern, no_subject, listed, MatchAnswer, no_module, command_leaves, axioms_not_built, command_answered, ItemAnswer, item_unended, module_accepted, module_refused, match_answered, item_not_built, ItemsAnswer, items_end, item_first, Transcript, text_refused, items_answered}
+use Rattle.mau_session.specs.Transcript.{current, accepted, TermsAnswer, no_pattern, no_subject, too_deep, overflows, listed, MatchAnswer, no_module, command_leaves, axioms_not_built, command_answered, ItemAnswer, item_unended, module_accepted, module_refused, match_answered, item_not_built, ItemsAnswer, items_end, item_first, Transcript, text_refused, items_answered}
 use Rattle.mau_tokens.proofs.Answer.{answers_are_one}
 use Rattle.mau_terms.proofs.Solutions.{solutions_are_ordered}
 use Rattle.mau_session.proofs.Readings.{reads_once}
@@ -124,28 +128,86 @@ record AreOneAnswer (b c : List ℕ) (r s : Bool) : Type 0 where
 one_answer : {b : List ℕ} {r : Bool} → AreOneAnswer b b r r
 one_answer = record { bytes = refl; refused = refl }
 
+-- what the terms of a command read as: a pattern and a subject
+record ReadTerms (ws : List Word) (m : ModuleOf) (i s j : ℕ) (p t : Tree) (os : Pairs) : Type 0 where
+  kind : ℕ
+  pairs : Pairs
+  pattern : Reads m ws s [] (i + 1) p kind s pairs
+  subject : Reads m ws j pairs (s + 1) t kind j os
+
 module _ (ws : List Word) (m : ModuleOf) (free : HasNoAxioms (terms_in m)) (k i s j : ℕ) where
+  -- they read as one pair
+  record AreOnePair (p q t u : Tree) (os os' : Pairs) : Type 0 where
+    pattern : p ≡ q
+    subject : t ≡ u
+    pairs : os ≡ os'
+
+  pair_once : {p q t u : Tree} {os os' : Pairs} → ReadTerms ws m i s j p t os → ReadTerms ws m i s j q u os' → AreOnePair p q t u os os'
+  pair_once {p} {q} {t} {u} {os} {os'} x y =
+      let one = reads_once m ws s x.pattern y.pattern in
+      let y' = subst (λ a. Reads m ws j x.pairs (s + 1) u a j os') (sym one.sort) (subst (λ ns. Reads m ws j ns (s + 1) u y.kind j os') (sym one.pairs) y.subject) in
+      let two = reads_once m ws j x.subject y' in
+      record { pattern = one.tree; subject = two.tree; pairs = two.pairs }
+
+  no_pattern_read : ((p : Tree) (kind : ℕ) (ns : Pairs) → Reads m ws s [] (i + 1) p kind s ns → ⊥) → {p t : Tree} {os : Pairs} → ReadTerms ws m i s j p t os → ⊥
+  no_pattern_read n {p} x = n p x.kind x.pairs x.pattern
+
+  no_subject_read : (p : Tree) (kind : ℕ) (ns : Pairs) → Reads m ws s [] (i + 1) p kind s ns → ((t : Tree) (os : Pairs) → Reads m ws j ns (s + 1) t kind j os → ⊥)
+      → {q t : Tree} {os : Pairs} → ReadTerms ws m i s j q t os → ⊥
+  no_subject_read p kind ns x n {q} {t} {os} y =
+      let one = reads_once m ws s x y.pattern in
+      n t os (subst (λ a. Reads m ws j ns (s + 1) t a j os) (sym one.sort) (subst (λ ns. Reads m ws j ns (s + 1) t y.kind j os) (sym one.pairs) y.subject))
+
+  -- a subject has one end at most, and none where it is within the limits
+  abbrev cause_of : Tree → BuildFault → Type 0
+  cause_of t f = IsCause (terms_in m).theory (norm (terms_in m).theory t) f
+
+  not_deep_and_overflow : (t u : Tree) → t ≡ u → cause_of t TooDeep → cause_of u Overflow → ⊥
+  not_deep_and_overflow t u e deep overflow = let deep' = subst (λ x. cause_of x TooDeep) e deep in omega (arith, overflow.0)
+
+  not_deep_and_within : (t u : Tree) → t ≡ u → cause_of t TooDeep → IsWithin (terms_in m).theory (norm (terms_in m).theory u) → ⊥
+  not_deep_and_within t u e deep within = let deep' = subst (λ x. cause_of x TooDeep) e deep in omega (arith, within.shallow)
+
+  not_overflow_and_within : (t u : Tree) → t ≡ u → cause_of t Overflow → IsWithin (terms_in m).theory (norm (terms_in m).theory u) → ⊥
+  not_overflow_and_within t u e overflow within = let over' = subst (λ x. cause_of x Overflow) e overflow in let yes = over'.1 in let no = within.no_overflow in cc (yes, no)
+
   terms_once : {b c : List ℕ} {r q : Bool} → TermsAnswer ws m k i s j b r → TermsAnswer ws m k i s j c q → AreOneAnswer b c r q
   terms_once (no_pattern n) (no_pattern n') = one_answer
   terms_once (no_pattern n) (no_subject p' a' ns' x' n') = absurd (n p' a' ns' x')
-  terms_once (no_pattern n) (listed p' a' ns' t' os' found' x' y' l') = absurd (n p' a' ns' x')
+  terms_once (no_pattern n) (too_deep p' a' ns' t' os' x' y' d') = absurd (n p' a' ns' x')
+  terms_once (no_pattern n) (overflows p' a' ns' t' os' x' y' d') = absurd (n p' a' ns' x')
+  terms_once (no_pattern n) (listed p' a' ns' t' os' found' x' y' w' l') = absurd (n p' a' ns' x')
   terms_once (no_subject p a ns x n) (no_pattern n') = absurd (n' p a ns x)
   terms_once (no_subject p a ns x n) (no_subject p' a' ns' x' n') = one_answer
-  terms_once (no_subject p a ns x n) (listed p' a' ns' t' os' found' x' y' l') =
-      let one = reads_once m ws s x x' in
-      absurd (n t' os' (subst (λ a. Reads m ws j ns (s + 1) t' a j os') (sym one.sort) (subst (λ ns. Reads m ws j ns (s + 1) t' a' j os') (sym one.pairs) y')))
-  terms_once (listed p a ns t os found x y l) (no_pattern n') = absurd (n' p a ns x)
-  terms_once (listed p a ns t os found x y l) (no_subject p' a' ns' x' n') =
-      let one = reads_once m ws s x x' in
-      absurd (n' t os (subst (λ a. Reads m ws j ns' (s + 1) t a j os) one.sort (subst (λ ns. Reads m ws j ns (s + 1) t a j os) one.pairs y)))
-  terms_once (listed p a ns t os found x y l) (listed p' a' ns' t' os' found' x' y' l') =
-      let one = reads_once m ws s x x' in
-      let y'' = subst (λ a. Reads m ws j ns (s + 1) t' a j os') (sym one.sort) (subst (λ ns. Reads m ws j ns (s + 1) t' a' j os') (sym one.pairs) y') in
-      let two = reads_once m ws j y y'' in
-      let l'' = subst (λ p. IsListing m p t found') (sym one.tree) (subst (λ t. IsListing m p' t found') (sym two.tree) l') in
+  terms_once (no_subject p a ns x n) (too_deep p' a' ns' t' os' x' y' d') = absurd (no_subject_read p a ns x n (record { kind = a'; pairs = ns'; pattern = x'; subject = y' }))
+  terms_once (no_subject p a ns x n) (overflows p' a' ns' t' os' x' y' d') = absurd (no_subject_read p a ns x n (record { kind = a'; pairs = ns'; pattern = x'; subject = y' }))
+  terms_once (no_subject p a ns x n) (listed p' a' ns' t' os' found' x' y' w' l') = absurd (no_subject_read p a ns x n (record { kind = a'; pairs = ns'; pattern = x'; subject = y' }))
+  terms_once (too_deep p a ns t os x y d) (no_pattern n') = absurd (n' p a ns x)
+  terms_once (too_deep p a ns t os x y d) (no_subject p' a' ns' x' n') = absurd (no_subject_read p' a' ns' x' n' (record { kind = a; pairs = ns; pattern = x; subject = y }))
+  terms_once (too_deep p a ns t os x y d) (too_deep p' a' ns' t' os' x' y' d') = one_answer
+  terms_once (too_deep p a ns t os x y d) (overflows p' a' ns' t' os' x' y' d') =
+      let one = pair_once (record { kind = a; pairs = ns; pattern = x; subject = y }) (record { kind = a'; pairs = ns'; pattern = x'; subject = y' }) in absurd (not_deep_and_overflow t t' one.subject d d')
+  terms_once (too_deep p a ns t os x y d) (listed p' a' ns' t' os' found' x' y' w' l') =
+      let one = pair_once (record { kind = a; pairs = ns; pattern = x; subject = y }) (record { kind = a'; pairs = ns'; pattern = x'; subject = y' }) in absurd (not_deep_and_within t t' one.subject d w')
+  terms_once (overflows p a ns t os x y d) (no_pattern n') = absurd (n' p a ns x)
+  terms_once (overflows p a ns t os x y d) (no_subject p' a' ns' x' n') = absurd (no_subject_read p' a' ns' x' n' (record { kind = a; pairs = ns; pattern = x; subject = y }))
+  terms_once (overflows p a ns t os x y d) (too_deep p' a' ns' t' os' x' y' d') =
+      let one = pair_once (record { kind = a'; pairs = ns'; pattern = x'; subject = y' }) (record { kind = a; pairs = ns; pattern = x; subject = y }) in absurd (not_deep_and_overflow t' t one.subject d' d)
+  terms_once (overflows p a ns t os x y d) (overflows p' a' ns' t' os' x' y' d') = one_answer
+  terms_once (overflows p a ns t os x y d) (listed p' a' ns' t' os' found' x' y' w' l') =
+      let one = pair_once (record { kind = a; pairs = ns; pattern = x; subject = y }) (record { kind = a'; pairs = ns'; pattern = x'; subject = y' }) in absurd (not_overflow_and_within t t' one.subject d w')
+  terms_once (listed p a ns t os found x y w l) (no_pattern n') = absurd (n' p a ns x)
+  terms_once (listed p a ns t os found x y w l) (no_subject p' a' ns' x' n') = absurd (no_subject_read p' a' ns' x' n' (record { kind = a; pairs = ns; pattern = x; subject = y }))
+  terms_once (listed p a ns t os found x y w l) (too_deep p' a' ns' t' os' x' y' d') =
+      let one = pair_once (record { kind = a'; pairs = ns'; pattern = x'; subject = y' }) (record { kind = a; pairs = ns; pattern = x; subject = y }) in absurd (not_deep_and_within t' t one.subject d' w)
+  terms_once (listed p a ns t os found x y w l) (overflows p' a' ns' t' os' x' y' d') =
+      let one = pair_once (record { kind = a'; pairs = ns'; pattern = x'; subject = y' }) (record { kind = a; pairs = ns; pattern = x; subject = y }) in absurd (not_overflow_and_within t' t one.subject d' w)
+  terms_once (listed p a ns t os found x y w l) (listed p' a' ns' t' os' found' x' y' w' l') =
+      let one = pair_once (record { kind = a; pairs = ns; pattern = x; subject = y }) (record { kind = a'; pairs = ns'; pattern = x'; subject = y' }) in
+      let l'' = subst (λ p. IsListing m p t found') (sym one.pattern) (subst (λ t. IsListing m p' t found') (sym one.subject) l') in
       let same = listing_once m free p t ns (reads_numbered m ws s x) found found' l l'' in
       record {
-        bytes = ap (λ os. match_head k m ++ listing_lines m os p found) two.pairs ∙ ap₂ (λ p found. match_head k m ++ listing_lines m os' p found) one.tree same;
+        bytes = ap (λ os. match_head k m ++ listing_lines m os p found) one.pairs ∙ ap₂ (λ p found. match_head k m ++ listing_lines m os' p found) one.pattern same;
         refused = refl;
       }
 

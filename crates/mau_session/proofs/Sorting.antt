@@ -1,99 +1,30 @@
--- The declared sort of a term: it has one at most. And the axioms of a signature, none of whose operators has one.
-use Rattle.std.proofs.Common.{◌≡◌, ℕ, ◌+◌, ◌-◌, ◌<◌, ◌≤◌, ◌⊎◌, inl, inr, List, [], ◌∷◌, length, get_or, map, drop, Bool, true, false, ◌||◌, Option, Some, None, refl, sym, ◌∙◌, ap, ap₂, subst, arith, add-one}
-use Rattle.std.specs.Prelude.{is_some, IfSome, IfNone}
-use Rattle.std.proofs.lemmas.Bool.{cases_lt}
-use Rattle.std.proofs.lemmas.List.{get_or_past, drop_all}
-use Rattle.std.proofs.Math.Seq.{drop-cons}
-use Rattle.mau_terms.specs.declared.bare.Bare.{Bare}
-use Rattle.mau_terms.specs.Tree.{Tree, variable, apply, Trees, no_trees, tree, trees_of}
-use Rattle.mau_terms.specs.View.{tree_of}
-use Rattle.mau_terms.specs.Bare.{HasNoAxioms}
+-- The axioms of a signature, none of whose operators has one; bare terms over it; and the sorts of its terms by a table.
+use Rattle.std.proofs.Common.{◌≡◌, ℕ, ◌+◌, ◌-◌, ◌<◌, ◌≤◌, ◌⊎◌, inl, inr, List, [], ◌∷◌, length, get_or, Bool, true, false, ◌||◌, Option, Some, None, refl, sym, ◌∙◌, ap, subst, arith}
+use Rattle.std.specs.Prelude.{is_some, ◌&&◌, nat_lt, nat_le}
+use Rattle.std.specs.Option.{option_map}
+use Rattle.std.proofs.lemmas.Bool.{cases_lt, ltb-true, leb-true}
+use Rattle.std.proofs.lemmas.List.{get_or_past}
+use Rattle.std.proofs.lemmas.List.Elements.{All-contains}
+use Rattle.mau_terms.specs.Tree.{Tree, variable, numeral, apply, Trees, no_trees, tree}
+use Rattle.mau_terms.specs.Bare.{IsBareIn, AreBareIn, HasNoAxioms}
 use Rattle.mau_terms.specs.declared.theory.Theory.{Theory}
-use Rattle.mau_poset.specs.Order.{Hierarchy, IsPoset, IsWithin, kind_of, IsAtOrBelow}
+use Rattle.mau_poset.specs.Order.{Hierarchy, IsPoset, IsAtOrBelow, kinds, kind_of}
 use Rattle.mau_poset.proofs.Chains.{Chain-within}
-use Rattle.mau_poset.proofs.Orders.{Chain-kind, kind_of-kind, kind_of-in_range}
+use Rattle.mau_poset.proofs.Orders.{kind_of-in_range}
 use Rattle.mau_signature.specs.Faults.{IsSort}
-use Rattle.mau_signature.specs.Signature.{SignatureOf, IsOperator, IsDeclaredResult, HasLeastResult, declarations_at, theory_at, theory_of, terms_over}
-use Rattle.mau_sigcheck.proofs.Results.{result_is_one, least_from_result}
-use Rattle.mau_session.specs.Terms.{HasDeclaredSort, sort_of_variable, sort_of_application, HaveDeclaredSorts, no_sorts, one_more_sort, has_axiom, HasAxioms}
-
--- ---- lists of terms: what stands at a place, and behind it
-
-pub terms_next : (xs : List Bare) (i : ℕ) (x : Bare) → i < length xs → x ≡ get_or xs i x → trees_of (map tree_of (drop i xs)) ≡ tree (tree_of x) (trees_of (map tree_of (drop (i + 1) xs)))
-terms_next xs i x h e =
-    ap (λ ys. trees_of (map tree_of ys)) (drop-cons xs i x h) ∙ ap₂ (λ y j. tree (tree_of y) (trees_of (map tree_of (drop j xs)))) (sym e) (sym (add-one i))
-
-pub no_terms_behind : (xs : List Bare) (i : ℕ) → length xs ≤ i → trees_of (map tree_of (drop i xs)) ≡ no_trees
-no_terms_behind xs i h = ap (λ ys. trees_of (map tree_of ys)) (drop_all i xs h)
-
-module _ (s : SignatureOf) where
-  -- ---- the parts of a declared sort
-
-  pub sort_carried : {i r q : ℕ} → HasDeclaredSort s (variable i r) q → (r ≡ q) × IsSort s.hierarchy r
-  sort_carried (sort_of_variable i r h) = (refl, h)
-
-  pub record IsApplication (f : ℕ) (ts : Trees) (r : ℕ) : Type 0 where
-    pub sorts : List ℕ
-    pub operator : IsOperator s f
-    pub arguments : HaveDeclaredSorts s ts sorts
-    pub declared : IsDeclaredResult s.hierarchy (declarations_at s f) sorts r
-
-  pub application : {f : ℕ} {ts : Trees} {r : ℕ} → HasDeclaredSort s (apply f ts) r → IsApplication f ts r
-  application (sort_of_application f ts rs r o a d) = record { sorts = rs; operator = o; arguments = a; declared = d }
-
-  -- ---- lists of terms
-
-  pub record IsSorted (t : Tree) (us : Trees) (rs : List ℕ) : Type 0 where
-    pub sort : ℕ
-    pub rest : List ℕ
-    pub all : rs ≡ sort ∷ rest
-    pub of_first : HasDeclaredSort s t sort
-    pub of_rest : HaveDeclaredSorts s us rest
-
-  pub sorted : {ts : Trees} {rs : List ℕ} (t : Tree) (us : Trees) → ts ≡ tree t us → HaveDeclaredSorts s ts rs → IsSorted t us rs
-  sorted t us e no_sorts = absurd cc
-  sorted t us e (one_more_sort v ws r rs a b) =
-      let h : v ≡ t = cc in
-      let k : ws ≡ us = cc in
-      record { sort = r; rest = rs; all = refl; of_first = subst (λ v. HasDeclaredSort s v r) h a; of_rest = subst (λ ws. HaveDeclaredSorts s ws rs) k b }
-
-  pub none_sorted : {ts : Trees} {rs : List ℕ} → ts ≡ no_trees → HaveDeclaredSorts s ts rs → rs ≡ []
-  none_sorted e no_sorts = refl
-  none_sorted e (one_more_sort v ws r rs a b) = absurd cc
-
-  -- ---- the answer of an operator
-
-  -- the sorts of the arguments are known, and the answer is right for them
-  pub answer_is_one : IsPoset s.hierarchy → (f : ℕ) (ts : Trees) (known : List ℕ) (answer : Option ℕ) → ((rs : List ℕ) → HaveDeclaredSorts s ts rs → known ≡ rs)
-      → IfSome answer (IsDeclaredResult s.hierarchy (declarations_at s f) known) → IfNone answer (¬ HasLeastResult s.hierarchy (declarations_at s f) known)
-      → (r : ℕ) → HasDeclaredSort s (apply f ts) r → answer ≡ Some r
-  answer_is_one poset f ts known answer one value none r h = by answer value none
-    where
-      given : IsDeclaredResult s.hierarchy (declarations_at s f) known r
-      given = let a = application h in subst (λ xs. IsDeclaredResult s.hierarchy (declarations_at s f) xs r) (sym (one a.sorts a.arguments)) a.declared
-
-      by : (o : Option ℕ) → IfSome o (IsDeclaredResult s.hierarchy (declarations_at s f) known) → IfNone o (¬ HasLeastResult s.hierarchy (declarations_at s f) known) → o ≡ Some r
-      by (Some x) value none = ap Some (result_is_one s.hierarchy (declarations_at s f) known poset x r value given)
-      by None value none = absurd (none (least_from_result s.hierarchy (declarations_at s f) known r given))
-
-  pub answer_is_declared : (f : ℕ) (ts : Trees) (known : List ℕ) (answer : Option ℕ) → IsOperator s f → HaveDeclaredSorts s ts known
-      → IfSome answer (IsDeclaredResult s.hierarchy (declarations_at s f) known) → IfSome answer (HasDeclaredSort s (apply f ts))
-  answer_is_declared f ts known None o a value = tt
-  answer_is_declared f ts known (Some r) o a value = sort_of_application f ts known r o a value
-
--- ---- sorts and kinds
-
-pub sort_above : (h : Hierarchy) → IsWithin h.pairs h.sorts → (a b : ℕ) → IsSort h a → IsAtOrBelow h a b → IsSort h b
-sort_above h within a b i (inl c) = by (cases_lt a h.sorts)
-  where
-    by : (a < h.sorts) ⊎ (h.sorts ≤ a) → IsSort h b
-    by (inl n) = omega (arith, Chain-within h.pairs h.sorts within c n)
-    by (inr n) = subst (IsSort h) (Chain-kind h within c n) i
-sort_above h within a b i (inr e) = subst (IsSort h) e (by (cases_lt a h.sorts))
-  where
-    by : (a < h.sorts) ⊎ (h.sorts ≤ a) → IsSort h (kind_of h a)
-    by (inl n) = kind_of-in_range h a n
-    by (inr n) = subst (IsSort h) (sym (kind_of-kind h a n)) i
+use Rattle.mau_signature.specs.Signature.{SignatureOf, IsOperator, theory_at, theory_of, terms_over}
+use Rattle.mau_sorts.specs.SortSets.{SortsOf, IsIn, IsOver}
+use Rattle.mau_sorts.specs.Table.{IsTreeOver, AreTreesOver}
+use Rattle.mau_sorts.specs.Table.{Table, entry_at, IsSettled, AreOver, AreEntries}
+use Rattle.mau_sorts.specs.Derived.{set_or_none}
+use Rattle.mau_sorts.specs.HasSort.{HasSort as NormalHasSort}
+use Rattle.mau_sorts.proofs.Entries.{settled_entry}
+use Rattle.mau_terms.specs.declared.ids.TermId.{TermId}
+use Rattle.mau_store.specs.Node.{Node}
+use Rattle.mau_reader.specs.Modules.{ModuleOf}
+use Rattle.mau_session.specs.Terms.{has_axiom, HasAxioms, HasSort, terms_in}
+use Rattle.mau_session.specs.Bound.{id_tree, IsTableOf}
+use Rattle.mau_session.proofs.Solving.{plain_norm_in}
 
 -- ---- axioms
 
@@ -145,3 +76,69 @@ axioms_or_none s a n =
     ∙ ap (λ o. is_some o || h.succ) (n.no_id a.operator) ∙ n.no_succ a.operator in
     let f = sym a.found ∙ e in
     absurd cc
+
+-- ---- terms over a signature without axioms
+
+both_true : (a b : Bool) → (a && b) ≡ true → (a ≡ true) × (b ≡ true)
+both_true true b e = (refl, e)
+both_true false b e = absurd (cc)
+
+is_operator : (s : SignatureOf) (f : ℕ) → (terms_over s).has_operator f ≡ true → IsOperator s f
+is_operator s f e =
+    let both = both_true (nat_lt 0 f) (nat_le f (length s.declarations)) e in
+    (ltb-true 0 f both.0, leb-true f (length s.declarations) both.1)
+
+some_mapped : {A B : Type 0} (f : A → B) (o : Option A) (b : B) → option_map f o ≡ Some b → is_some o ≡ true
+some_mapped f None b e = absurd (cc e)
+some_mapped f (Some a) b e = refl
+
+mutual
+  pub bare_over : (s : SignatureOf) → HasNoAxioms (terms_over s) → (t : Tree) (k : ℕ) → IsBareIn (terms_over s) t k → IsTreeOver s t
+  bare_over s free (variable i p) k bare = ltb-true p (s.hierarchy.sorts + kinds s.hierarchy) bare.1
+  bare_over s free (numeral n) k bare = some_mapped (λ p. kind_of s.hierarchy p.0) s.numerals k bare.1
+  bare_over s free (apply f ts) k bare =
+      (is_operator s f bare.0, λ assoc. absurd (let plain = free.no_assoc f in cc (assoc, plain)), all_bare_over s free ts ((terms_over s).arguments f) bare.2)
+
+  all_bare_over : (s : SignatureOf) → HasNoAxioms (terms_over s) → (ts : Trees) (ks : List ℕ) → AreBareIn (terms_over s) ts ks → AreTreesOver s ts
+  all_bare_over s free no_trees ks bare = tt
+  all_bare_over s free (tree t ts) [] bare = absurd bare
+  all_bare_over s free (tree t ts) (k ∷ ks) bare = (bare_over s free t k bare.0, all_bare_over s free ts ks bare.1)
+
+-- ---- sorts by a table
+
+at_or_below_sort : (h : Hierarchy) → IsPoset h → (a r : ℕ) → a < h.sorts → IsAtOrBelow h a r → IsSort h r
+at_or_below_sort h poset a r is_sort (inl chain) = omega (arith, Chain-within h.pairs h.sorts poset.within chain is_sort)
+at_or_below_sort h poset a r is_sort (inr kind) = subst (IsSort h) kind (kind_of-in_range h a is_sort)
+
+-- what is in a set is a sort or a kind
+pub in_set : (h : Hierarchy) → IsPoset h → (e : SortsOf) (r : ℕ) → IsOver h e → IsIn h e r → IsSort h r
+in_set h poset e r over (inl (m, among, low)) = at_or_below_sort h poset m r (All-contains (λ x. x < h.sorts) e.minimal m over.minimal among) low
+in_set h poset e r over (inr kind) = subst (IsSort h) kind over.kind.1
+
+module _ (m : ModuleOf) (free : HasNoAxioms (terms_in m)) (nodes : List Node) (table : Table) (is_table : IsTableOf m nodes table) (id : TermId) (settled : IsSettled table id.0) where
+  -- what is kept of the sorts of the term
+  abbrev pub kept_of_id : SortsOf
+  kept_of_id = set_or_none (entry_at table id.0)
+
+  pub entry_of_id : entry_at table id.0 ≡ Some kept_of_id
+  entry_of_id = settled_entry (entry_at table id.0) settled
+
+  pub in_has : (r : ℕ) → IsIn m.signature.hierarchy kept_of_id r → HasSort m r (id_tree nodes id)
+  in_has r is_in =
+      subst (λ t. NormalHasSort m.signature [] t r) (sym (plain_norm_in m free (id_tree nodes id))) (((is_table.entries id.0 kept_of_id entry_of_id).1.exact r).0 is_in)
+
+  pub has_in : (r : ℕ) → HasSort m r (id_tree nodes id) → IsIn m.signature.hierarchy kept_of_id r
+  has_in r has =
+      ((is_table.entries id.0 kept_of_id entry_of_id).1.exact r).1 (subst (λ t. NormalHasSort m.signature [] t r) (plain_norm_in m free (id_tree nodes id)) has)
+
+  -- what a term has is a sort or a kind
+  pub has_is_sort : IsPoset m.signature.hierarchy → (r : ℕ) → HasSort m r (id_tree nodes id) → IsSort m.signature.hierarchy r
+  has_is_sort poset r has = in_set m.signature.hierarchy poset kept_of_id r (is_table.over id.0 kept_of_id entry_of_id) (has_in r has)
+
+-- a table stays one where its entries stay right
+pub table_kept : (m : ModuleOf) (s : SignatureOf) → s ≡ m.signature → (nodes : List Node) (old new : Table) → IsTableOf m nodes old
+    → (AreEntries s [] nodes old → AreEntries s [] nodes new) → AreOver s.hierarchy new → IsTableOf m nodes new
+table_kept m s same nodes old new is_table entries over = record {
+  over = subst (λ s. AreOver s.hierarchy new) same over;
+  entries = subst (λ s. AreEntries s [] nodes new) same (entries (subst (λ s. AreEntries s [] nodes old) (sym same) is_table.entries));
+}

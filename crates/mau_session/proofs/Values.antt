@@ -1,16 +1,15 @@
 -- The values of the first variables, one after another: what stands at a place, and behind it.
 use Rattle.std.proofs.Common.{◌≡◌, ℕ, zero, suc, ◌<◌, ◌≤◌, ◌+◌, List, [], ◌∷◌, length, get_or, take, drop, Some, slice_get, refl, sym, ◌∙◌, ap, ap₂, subst, arith, add-zero, add-one}
-use Rattle.std.proofs.lemmas.List.{drop_all, length-map}
-use denote.Ref.{Bor}
-use Rattle.mau_terms.specs.declared.bare.Bare.{Bare}
+use Rattle.std.proofs.lemmas.List.{drop_all}
+use Rattle.mau_terms.specs.declared.ids.TermId.{TermId}
 use Rattle.mau_terms.specs.declared.ids.VarId.{VarId}
 use Rattle.mau_terms.specs.Tree.{Tree}
-use Rattle.mau_terms.specs.View.{tree_of}
 use Rattle.mau_terms.specs.Vars.{IsGiven}
 use Rattle.mau_terms.specs.Subst.{Variable}
 use Rattle.mau_terms.specs.Solution.{HaveSorts}
 use Rattle.mau_session.specs.Terms.{Pairs}
-use Rattle.mau_session.specs.Bound.{trees_at}
+use Rattle.mau_session.specs.Bound.{id_tree, id_trees}
+use Rattle.mau_store.specs.Node.{Node}
 use Rattle.mau_session.specs.Matching.{numbered_from}
 
 pub length-numbered : (ns : Pairs) (k : ℕ) → length (numbered_from k ns) ≡ length ns
@@ -36,12 +35,16 @@ length_front zero ns = omega arith
 length_front (suc n) [] = omega arith
 length_front (suc n) (p ∷ ns) = omega (arith, length_front n ns)
 
-trees_next : (vs : List (Bor Bare)) (i : ℕ) (v : Bor Bare) → i < length vs → v ≡ get_or vs i v → drop i (trees_at vs) ≡ tree_of v.now ∷ drop (suc i) (trees_at vs)
-trees_next [] i v h e = absurd (omega arith)
-trees_next (w ∷ vs) zero v h e = ap (λ x. tree_of x.now ∷ trees_at vs) (sym e)
-trees_next (w ∷ vs) (suc i) v h e = trees_next vs i v (omega arith) e
+trees_next : (nodes : List Node) (vs : List TermId) (i : ℕ) (d : TermId) → i < length vs → drop i (id_trees nodes vs) ≡ id_tree nodes (get_or vs i d) ∷ drop (suc i) (id_trees nodes vs)
+trees_next nodes [] i d h = absurd (omega arith)
+trees_next nodes (w ∷ vs) zero d h = refl
+trees_next nodes (w ∷ vs) (suc i) d h = trees_next nodes vs i d (omega arith)
 
-module _ (ns : Pairs) (values : List (Bor Bare)) where
+pub length-id_trees : (nodes : List Node) (vs : List TermId) → length (id_trees nodes vs) ≡ length vs
+length-id_trees nodes [] = refl
+length-id_trees nodes (v ∷ vs) = ap suc (length-id_trees nodes vs)
+
+module _ (ns : Pairs) (nodes : List Node) (values : List TermId) where
   -- the variables of these values
   abbrev pub first_ones : List Variable
   first_ones = numbered_from 0 (take (length values) ns)
@@ -52,11 +55,11 @@ module _ (ns : Pairs) (values : List (Bor Bare)) where
       let z : 0 + i ≡ x.index = omega arith in
       numbered_at (take (length values) ns) 0 i _ got ∙ ap₂ (λ j l. (j, x.sort) ∷ drop l first_ones) z (sym (add-one i))
 
-  pub values_next : (i : ℕ) (v : Bor Bare) → i < length values → v ≡ get_or values i v → drop i (trees_at values) ≡ tree_of v.now ∷ drop (i + 1) (trees_at values)
-  values_next i v h w = trees_next values i v h w ∙ ap (λ l. tree_of v.now ∷ drop l (trees_at values)) (sym (add-one i))
+  pub values_next : (i : ℕ) (d : TermId) → i < length values → drop i (id_trees nodes values) ≡ id_tree nodes (get_or values i d) ∷ drop (i + 1) (id_trees nodes values)
+  values_next i d h = trees_next nodes values i d h ∙ ap (λ l. id_tree nodes (get_or values i d) ∷ drop l (id_trees nodes values)) (sym (add-one i))
 
-  pub no_values_behind : (i : ℕ) → length values ≡ i → drop i (trees_at values) ≡ []
-  no_values_behind i e = drop_all i (trees_at values) (omega (arith, length-map values (λ r. tree_of r.now)))
+  pub no_values_behind : (i : ℕ) → length values ≡ i → drop i (id_trees nodes values) ≡ []
+  no_values_behind i e = drop_all i (id_trees nodes values) (omega (arith, length-id_trees nodes values))
 
   pub no_variables_behind : (i : ℕ) → length values ≡ i → drop i first_ones ≡ []
   no_variables_behind i e = drop_all i first_ones (omega (arith, length-numbered (take (length values) ns) 0, length_front (length values) ns))
@@ -64,15 +67,15 @@ module _ (ns : Pairs) (values : List (Bor Bare)) where
   module _ (P : ℕ → Tree → Type 0) where
     -- the values from i on have their sorts
     abbrev pub HaveSortsFrom : ℕ → Type 0
-    HaveSortsFrom i = HaveSorts P (drop i first_ones) (drop i (trees_at values))
+    HaveSortsFrom i = HaveSorts P (drop i first_ones) (drop i (id_trees nodes values))
 
-    pub sorts_behind : (i : ℕ) (x : VarId) (v : Bor Bare) → x.index ≡ i → IsGiven ns x → i < length values → v ≡ get_or values i v → HaveSortsFrom i → P x.sort (tree_of v.now) × HaveSortsFrom (i + 1)
-    sorts_behind i x v e g h w s =
-        subst (λ vs. HaveSorts P ((x.index, x.sort) ∷ drop (i + 1) first_ones) vs) (values_next i v h w) (subst (λ xs. HaveSorts P xs (drop i (trees_at values))) (variables_next i x e g h) s)
+    pub sorts_behind : (i : ℕ) (x : VarId) (d : TermId) → x.index ≡ i → IsGiven ns x → i < length values → HaveSortsFrom i → P x.sort (id_tree nodes (get_or values i d)) × HaveSortsFrom (i + 1)
+    sorts_behind i x d e g h s =
+        subst (λ vs. HaveSorts P ((x.index, x.sort) ∷ drop (i + 1) first_ones) vs) (values_next i d h) (subst (λ xs. HaveSorts P xs (drop i (id_trees nodes values))) (variables_next i x e g h) s)
 
-    pub sorts_with : (i : ℕ) (x : VarId) (v : Bor Bare) → x.index ≡ i → IsGiven ns x → i < length values → v ≡ get_or values i v → P x.sort (tree_of v.now) → HaveSortsFrom (i + 1) → HaveSortsFrom i
-    sorts_with i x v e g h w p s =
-        subst (λ xs. HaveSorts P xs (drop i (trees_at values))) (sym (variables_next i x e g h)) (subst (λ vs. HaveSorts P ((x.index, x.sort) ∷ drop (i + 1) first_ones) vs) (sym (values_next i v h w)) (p, s))
+    pub sorts_with : (i : ℕ) (x : VarId) (d : TermId) → x.index ≡ i → IsGiven ns x → i < length values → P x.sort (id_tree nodes (get_or values i d)) → HaveSortsFrom (i + 1) → HaveSortsFrom i
+    sorts_with i x d e g h p s =
+        subst (λ xs. HaveSorts P xs (drop i (id_trees nodes values))) (sym (variables_next i x e g h)) (subst (λ vs. HaveSorts P ((x.index, x.sort) ∷ drop (i + 1) first_ones) vs) (sym (values_next i d h)) (p, s))
 
     pub sorts_at_end : (i : ℕ) → length values ≡ i → HaveSortsFrom i
-    sorts_at_end i e = subst (λ xs. HaveSorts P xs (drop i (trees_at values))) (sym (no_variables_behind i e)) tt
+    sorts_at_end i e = subst (λ xs. HaveSorts P xs (drop i (id_trees nodes values))) (sym (no_variables_behind i e)) tt

@@ -79,5 +79,12 @@ last_line (vs ∷ found) = codes "No more matches.\n"
 abbrev pub match_head : ℕ → ModuleOf → List ℕ
 match_head k m = item_head k ++ codes "match in " ++ m.name ++ codes "\n"
 
+-- what stands in place of solutions
+abbrev pub too_deep_line : List ℕ
+too_deep_line = codes "Too deep.\n"
+
+abbrev pub overflow_line : List ℕ
+overflow_line = codes "Overflow.\n"
+
 abbrev pub listing_lines : ModuleOf → Pairs → Tree → List (List Tree) → List ℕ
 listing_lines m ns p found = all_matchers m ns p 1 found ++ last_line found

@@ -1,6 +1,5 @@
 pub mod Terms
 pub mod ReadVariables
-pub mod Sorted
 pub mod Mark
 pub mod Shown
 pub mod Matching

@@ -2,12 +2,13 @@
 use Rattle.std.specs.Prelude.{◌≡◌, ◌≢◌, ℕ, ◌+◌, ◌<◌, List, [], ◌∷◌, length, take, drop, Bool, true, not, ◌&&◌, ◌||◌, is_some, Some, None, codes, slice_index, nat_lt, nat_eq}
 use Rattle.std.specs.Str.{bytes_eq}
 use Rattle.mau_terms.specs.Tree.{Tree, variable, apply, Trees, no_trees, tree}
+use Rattle.mau_terms.specs.Norm.{norm}
 use Rattle.mau_terms.specs.Bare.{TermSignature}
 use Rattle.mau_terms.specs.declared.theory.Theory.{Theory}
 use Rattle.mau_terms.specs.Vars.{place_of, with_pair}
-use Rattle.mau_poset.specs.Order.{kind_of, IsAtOrBelow}
-use Rattle.mau_signature.specs.Faults.{IsSort}
-use Rattle.mau_signature.specs.Signature.{SignatureOf, IsOperator, IsDeclaredResult, declarations_at, theory_at, terms_over}
+use Rattle.mau_poset.specs.Order.{kind_of}
+use Rattle.mau_signature.specs.Signature.{SignatureOf, IsOperator, theory_at, terms_over}
+use Rattle.mau_sorts.specs.HasSort.{HasSort as NormalHasSort}
 use Rattle.mau_reader.specs.Words.{Word, text_at}
 use Rattle.mau_reader.specs.Places.{is_word}
 use Rattle.mau_reader.specs.Names.{number_of}
@@ -35,24 +36,9 @@ result_kind m f = (terms_in m).result (f + 1)
 abbrev pub has_axiom : Theory → Bool
 has_axiom h = h.assoc || (h.comm || (is_some h.id || h.succ))
 
--- The declared sort of a term: a variable has the sort that it carries, and an application the declared result for the sorts of
--- its arguments, which is the kind of the operator's result where no declaration applies. A numeral has none so far. The sorts are those of
--- the term as it stands, which is its normal form where no operator has an axiom.
-mutual
-  pub data HasDeclaredSort (s : SignatureOf) : Tree → ℕ → Type 0 where
-    sort_of_variable : (i r : ℕ) → IsSort s.hierarchy r → HasDeclaredSort s (variable i r) r
-    sort_of_application : (f : ℕ) (ts : Trees) (rs : List ℕ) (r : ℕ) → IsOperator s f → HaveDeclaredSorts s ts rs
-        → IsDeclaredResult s.hierarchy (declarations_at s f) rs r → HasDeclaredSort s (apply f ts) r
-
-  pub data HaveDeclaredSorts (s : SignatureOf) : Trees → List ℕ → Type 0 where
-    no_sorts : HaveDeclaredSorts s no_trees []
-    one_more_sort : (t : Tree) (ts : Trees) (r : ℕ) (rs : List ℕ) → HasDeclaredSort s t r → HaveDeclaredSorts s ts rs → HaveDeclaredSorts s (tree t ts) (r ∷ rs)
-
--- a term has a sort where its declared sort is at or below it; so it has its kind too
-pub record HasSort (m : ModuleOf) (sort : ℕ) (t : Tree) : Type 0 where
-  pub declared : ℕ
-  pub has_declared : HasDeclaredSort m.signature t declared
-  pub at_or_below : IsAtOrBelow m.signature.hierarchy declared sort
+-- a term has a sort where the declarations give its normal form that sort, or one below it; so it has its kind too
+abbrev pub HasSort : ModuleOf → ℕ → Tree → Type 0
+HasSort m sort t = NormalHasSort m.signature [] (norm (terms_in m).theory t) sort
 
 -- an operator of the signature has an axiom
 pub record HasAxioms (s : SignatureOf) : Type 0 where

@@ -2,7 +2,10 @@
 use Rattle.std.specs.Prelude.{◌≡◌, ℕ, ◌+◌, ◌-◌, ◌<◌, List, [], ◌∷◌, ◌++◌, length, Bool, true, false, ◌||◌, not, Option, Some, None, Ok, Err, codes, filter, slice_get}
 use Rattle.std.specs.Str.{bytes_eq}
 use Rattle.mau_terms.specs.Tree.{Tree}
+use Rattle.mau_terms.specs.Norm.{norm}
 use Rattle.mau_terms.specs.Bare.{HasNoAxioms}
+use Rattle.mau_canon.specs.declared.fault.BuildFault.TheVariants.{TooDeep, Overflow}
+use Rattle.mau_canon.specs.Within.{IsWithin, IsCause}
 use Rattle.mau_tokens.specs.declared.token.Token.{Token}
 use Rattle.mau_tokens.specs.declared.token.TokenFault.{TokenFault}
 use Rattle.mau_tokens.specs.TokensOf.{TokensOf}
@@ -14,7 +17,7 @@ use Rattle.mau_reader.specs.Items.{may_end}
 use Rattle.mau_session.specs.Terms.{Pairs, Reads, terms_in, HasAxioms}
 use Rattle.mau_session.specs.Matching.{IsListing}
 use Rattle.mau_session.specs.Commands.{CommandRead}
-use Rattle.mau_session.specs.Answers.{refusal_line, fault_line, module_refusal, module_line, match_head, listing_lines}
+use Rattle.mau_session.specs.Answers.{refusal_line, fault_line, module_refusal, module_line, match_head, too_deep_line, overflow_line, listing_lines}
 
 -- ---- the state: the accepted modules, one of each name, the last accepted one at the end
 
@@ -27,14 +30,19 @@ current ms = slice_get ms (length ms - 1)
 
 -- ---- the answer of a match command, whose words run from i to its full stop at j
 
--- the pattern stands from i + 1 on, before `<=?` at s, and the subject behind it; the pattern is read in any kind, and the
--- subject in the pattern's
+-- The pattern stands from i + 1 on, before `<=?` at s, and the subject behind it; the pattern is read in any kind, and the
+-- subject in the pattern's. A subject whose normal form is deeper than 1,000, or else holds the successor of the greatest numeral,
+-- has an end in place of solutions.
 pub data TermsAnswer (ws : List Word) (m : ModuleOf) (k i s j : ℕ) : List ℕ → Bool → Type 0 where
   no_pattern : ((p : Tree) (kind : ℕ) (ns : Pairs) → Reads m ws s [] (i + 1) p kind s ns → ⊥) → TermsAnswer ws m k i s j (refusal_line k ws (NoParse (i + 1))) true
   no_subject : (p : Tree) (kind : ℕ) (ns : Pairs) → Reads m ws s [] (i + 1) p kind s ns
       → ((t : Tree) (os : Pairs) → Reads m ws j ns (s + 1) t kind j os → ⊥) → TermsAnswer ws m k i s j (refusal_line k ws (NoParse (s + 1))) true
+  too_deep : (p : Tree) (kind : ℕ) (ns : Pairs) (t : Tree) (os : Pairs) → Reads m ws s [] (i + 1) p kind s ns → Reads m ws j ns (s + 1) t kind j os
+      → IsCause (terms_in m).theory (norm (terms_in m).theory t) TooDeep → TermsAnswer ws m k i s j (match_head k m ++ too_deep_line) false
+  overflows : (p : Tree) (kind : ℕ) (ns : Pairs) (t : Tree) (os : Pairs) → Reads m ws s [] (i + 1) p kind s ns → Reads m ws j ns (s + 1) t kind j os
+      → IsCause (terms_in m).theory (norm (terms_in m).theory t) Overflow → TermsAnswer ws m k i s j (match_head k m ++ overflow_line) false
   listed : (p : Tree) (kind : ℕ) (ns : Pairs) (t : Tree) (os : Pairs) (found : List (List Tree)) → Reads m ws s [] (i + 1) p kind s ns → Reads m ws j ns (s + 1) t kind j os
-      → IsListing m p t found → TermsAnswer ws m k i s j (match_head k m ++ listing_lines m os p found) false
+      → IsWithin (terms_in m).theory (norm (terms_in m).theory t) → IsListing m p t found → TermsAnswer ws m k i s j (match_head k m ++ listing_lines m os p found) false
 
 pub data MatchAnswer (ws : List Word) (ms : List ModuleOf) (k i j : ℕ) : List ℕ → Bool → Type 0 where
   no_module : current ms ≡ None → MatchAnswer ws ms k i j (refusal_line k ws (NotBuilt i)) true

@@ -1,13 +1,16 @@
 //! The answers of items.
-ghost use Rattle.std.specs.Prelude.{◌≡◌, ◌<◌, ◌≤◌, ◌+◌, ◌++◌, [], length, true, OnOk, IfOk};
-ghost use Rattle.mau_terms.specs.Bare.{HasNoAxioms};
+ghost use Rattle.std.specs.Prelude.{◌≡◌, ◌<◌, ◌≤◌, ◌+◌, ◌++◌, [], length, take, true, OnOk, IfOk};
+ghost use Rattle.mau_terms.specs.Bare.{HasNoAxioms, IsBare};
+ghost use Rattle.mau_terms.specs.Subst.{variables};
+ghost use Rattle.mau_terms.specs.View.{tree_of};
 ghost use Rattle.mau_reader.specs.Kept.{AreNamed};
 ghost use Rattle.mau_reader.specs.Places.{is_word};
 ghost use Rattle.mau_session.specs.Terms.{terms_in};
+ghost use Rattle.mau_session.specs.Matching.{numbered_from};
 ghost use Rattle.mau_session.specs.Refused.{word_of_refusal};
 ghost use Rattle.mau_session.specs.Answers.{module_line, match_head, refusal_line};
 ghost use Rattle.mau_session.specs.Transcript.{ItemsAnswer};
-ghost use Rattle.mau_session.specs.Gains.{GainsTerms, GainsMatch, GainsModule, GainsItem};
+ghost use Rattle.mau_session.specs.Gains.{GainsListed, GainsTerms, GainsMatch, GainsModule, GainsItem};
 
 use crate::command::read_command;
 use crate::listing::write_listing;
@@ -15,8 +18,10 @@ use crate::refusal::{Refusal, write_faulty, write_head, write_refusal};
 use crate::sorts::has_axioms;
 use crate::state::State;
 use crate::whole::{read_whole, read_whole_of};
+use mau_canon::{BuildFault, build_bare};
 use mau_reader::{Module, ModuleFault, Words, end_of_item, read_module, write_text};
-use mau_terms::{NoMemory, Vars};
+use mau_store::Store;
+use mau_terms::{Bare, NoMemory, Vars};
 use std::alloc::Global;
 
 /// Where an item stands: its number, the place of its first word, and that of its last one.
@@ -62,6 +67,34 @@ fn write_module(out: &mut Vec<u8>, number: usize, module: &Module) -> Result<(),
     write_text(out, "\n")
 }
 
+/// Writes what stands behind the head of a listing: the solutions of a pattern and a subject, or the end where the subject's normal form
+/// is beyond the limits. The pattern's variables are the first `count` ones.
+fn answer_listing(
+    out: &mut Vec<u8>,
+    alloc: Global,
+    module: &Module,
+    vars: &Vars,
+    count: usize,
+    pattern: &Bare,
+    subject: &Bare,
+) -> Result<(), NoMemory>
+    requires few { count ≤ length vars.now }
+    requires small { length vars.now < 4294967296 }
+    requires numbered { variables (tree_of pattern.now) ≡ numbered_from 0 (take count vars.now) }
+    requires bare { IsBare (terms_in module.now) (tree_of subject.now) }
+    requires free { HasNoAxioms (terms_in module.now) }
+    ensures { OnOk result (GainsListed module.now vars.now (tree_of pattern.now) (tree_of subject.now) out.old.items out.new.items) }
+{
+    let mut store = Store::new(alloc);
+    match build_bare(&mut store, module.signature(), subject) {
+        Ok(id) => write_listing(out, alloc, module, vars, count, pattern, &store, id)?,
+        Err(BuildFault::TooDeep) => write_text(out, "Too deep.\n")?,
+        Err(BuildFault::Overflow) => write_text(out, "Overflow.\n")?,
+        Err(BuildFault::NoMemory) => return Err(NoMemory),
+    }
+    Ok(())
+}
+
 /// Answers a match over a module, whose pattern and subject stand around the sign at `sign`. Says whether it
 /// was refused.
 fn answer_terms(
@@ -89,7 +122,7 @@ fn answer_terms(
                 None => refuse(out, words, item.number, Refusal::NoParse(sign + 1)),
                 Some(subject) => {
                     write_match_head(out, item.number, module)?;
-                    write_listing(out, alloc, module, &vars, count, &pattern, &subject)?;
+                    answer_listing(out, alloc, module, &vars, count, &pattern, &subject)?;
                     Ok(false)
                 }
             }

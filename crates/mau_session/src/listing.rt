@@ -3,16 +3,19 @@ ghost use Rattle.std.specs.Prelude.{◌≡◌, ◌++◌, ◌<◌, ◌≤◌, len
 ghost use Rattle.mau_terms.specs.Subst.{variables};
 ghost use Rattle.mau_terms.specs.View.{tree_of};
 ghost use Rattle.mau_terms.specs.Bare.{IsBare, HasNoAxioms};
+ghost use Rattle.mau_store.specs.Node.{IsOf, AreOf};
+ghost use Rattle.mau_store.specs.View.{numbers};
 ghost use Rattle.mau_session.specs.Terms.{terms_in};
 ghost use Rattle.mau_session.specs.Matching.{numbered_from};
-ghost use Rattle.mau_session.specs.Bound.{trees_at};
+ghost use Rattle.mau_session.specs.Bound.{id_tree, id_trees};
 ghost use Rattle.mau_session.specs.Answers.{value_line, value_lines, substitution_lines};
 ghost use Rattle.mau_session.specs.Gains.{GainsListing};
 
 use crate::matching::solve;
 use crate::show::{show, write_variable};
 use mau_reader::{Module, write_number, write_text};
-use mau_terms::{Bare, NoMemory, VarId, Vars};
+use mau_store::Store;
+use mau_terms::{Bare, NoMemory, TermId, VarId, Vars};
 use std::alloc::Global;
 
 /// Writes the line of a variable and its value.
@@ -21,14 +24,16 @@ fn write_value(
     module: &Module,
     vars: &Vars,
     variable: VarId,
-    value: &Bare,
+    store: &Store,
+    value: TermId,
 ) -> Result<(), NoMemory>
-    requires { HasNoAxioms (terms_in module.now) }
-    ensures { OnOk result (out.new.items ≡ out.old.items ++ value_line module.now vars.now (variable.index, variable.sort) (tree_of value.now)) }
+    requires there { IsOf store.now value.0 }
+    requires free { HasNoAxioms (terms_in module.now) }
+    ensures { OnOk result (out.new.items ≡ out.old.items ++ value_line module.now vars.now (variable.index, variable.sort) (id_tree store.now value)) }
 {
     write_variable(out, module, vars, variable)?;
     write_text(out, " --> ")?;
-    show(out, module, vars, value)?;
+    show(out, module, vars, store, value)?;
     write_text(out, "\n")?;
     Ok(())
 }
@@ -38,16 +43,18 @@ fn write_values(
     out: &mut Vec<u8>,
     module: &Module,
     vars: &Vars,
-    values: &[&Bare],
+    store: &Store,
+    values: &[TermId],
 ) -> Result<(), NoMemory>
     requires few { length values.now ≤ length vars.now }
+    requires there { AreOf store.now (numbers values.now) }
     requires small { length vars.now < 4294967296 }
     requires free { HasNoAxioms (terms_in module.now) }
-    ensures { OnOk result (out.new.items ≡ out.old.items ++ value_lines module.now vars.now (numbered_from 0 (take (length values.now) vars.now)) (trees_at values.now)) }
+    ensures { OnOk result (out.new.items ≡ out.old.items ++ value_lines module.now vars.now (numbered_from 0 (take (length values.now) vars.now)) (id_trees store.now values.now)) }
 {
     for i in 0..values.len() {
         match vars.variable(i as u32) {
-            Some(variable) => write_value(out, module, vars, variable, values[i])?,
+            Some(variable) => write_value(out, module, vars, variable, store, values[i])?,
             None => unreachable!(),
         }
     }
@@ -59,17 +66,19 @@ fn write_substitution(
     out: &mut Vec<u8>,
     module: &Module,
     vars: &Vars,
-    values: &[&Bare],
+    store: &Store,
+    values: &[TermId],
 ) -> Result<(), NoMemory>
     requires few { length values.now ≤ length vars.now }
+    requires there { AreOf store.now (numbers values.now) }
     requires small { length vars.now < 4294967296 }
     requires free { HasNoAxioms (terms_in module.now) }
-    ensures { OnOk result (out.new.items ≡ out.old.items ++ substitution_lines module.now vars.now (numbered_from 0 (take (length values.now) vars.now)) (trees_at values.now)) }
+    ensures { OnOk result (out.new.items ≡ out.old.items ++ substitution_lines module.now vars.now (numbered_from 0 (take (length values.now) vars.now)) (id_trees store.now values.now)) }
 {
     if values.is_empty() {
         return write_text(out, "empty substitution\n");
     }
-    write_values(out, module, vars, values)
+    write_values(out, module, vars, store, values)
 }
 
 /// Writes the line above a solution.
@@ -90,20 +99,22 @@ pub fn write_listing(
     vars: &Vars,
     count: usize,
     pattern: &Bare,
-    subject: &Bare,
+    store: &Store,
+    subject: TermId,
 ) -> Result<(), NoMemory>
     requires few { count ≤ length vars.now }
     requires small { length vars.now < 4294967296 }
     requires numbered { variables (tree_of pattern.now) ≡ numbered_from 0 (take count vars.now) }
-    requires bare { IsBare (terms_in module.now) (tree_of subject.now) }
+    requires bare { IsBare (terms_in module.now) (id_tree store.now subject) }
+    requires there { IsOf store.now subject.0 }
     requires free { HasNoAxioms (terms_in module.now) }
-    ensures { OnOk result (GainsListing module.now vars.now (tree_of pattern.now) (tree_of subject.now) out.old.items out.new.items) }
+    ensures { OnOk result (GainsListing module.now vars.now (tree_of pattern.now) (id_tree store.now subject) out.old.items out.new.items) }
 {
-    match solve(alloc, module, vars, pattern, subject, count)? {
+    match solve(alloc, module, vars, pattern, store, subject, count)? {
         None => write_text(out, "No match.\n"),
         Some(values) => {
             write_matcher(out, 1)?;
-            write_substitution(out, module, vars, &values)?;
+            write_substitution(out, module, vars, store, &values)?;
             write_text(out, "No more matches.\n")
         }
     }

@@ -1,19 +1,18 @@
 //! The sorts of terms, and whether a module has axioms.
-ghost use Rattle.std.specs.Prelude.{◌≡◌, ◌↔◌, ℕ, List, map, All, false, true, Some, IfOk, IfSome, IfNone};
+ghost use Rattle.std.specs.Prelude.{◌≡◌, ◌↔◌, false, true, IfOk, OnOk};
 ghost use Rattle.mau_terms.specs.Bare.{HasNoAxioms};
-ghost use Rattle.mau_terms.specs.Tree.{trees_of};
-ghost use Rattle.mau_terms.specs.View.{tree_of};
 ghost use Rattle.mau_poset.specs.Order.{IsPoset};
 ghost use Rattle.mau_signature.specs.Faults.{IsSort};
-ghost use Rattle.mau_signature.specs.Signature.{IsOperator, terms_over};
-ghost use Rattle.mau_session.specs.Sorted.{IsSomeList};
-ghost use Rattle.mau_session.specs.Terms.{HasDeclaredSort, HaveDeclaredSorts, HasSort, HasAxioms};
+ghost use Rattle.mau_signature.specs.Signature.{terms_over};
+ghost use Rattle.mau_session.specs.Terms.{HasSort, HasAxioms, terms_in};
+ghost use Rattle.mau_session.specs.Bound.{IsTermOf, IsTableOf, id_tree};
 
 use mau_poset::Poset;
 use mau_reader::Module;
 use mau_signature::Signature;
-use mau_terms::{Bare, NoMemory, OpId, Theory};
-use std::alloc::Global;
+use mau_sorts::SortTable;
+use mau_store::Store;
+use mau_terms::{NoMemory, OpId, TermId, Theory};
 
 /// Whether an operator with this theory has an axiom.
 fn has_axiom(theory: &Theory) -> bool
@@ -35,13 +34,6 @@ pub fn has_axioms(signature: &Signature) -> bool
     false
 }
 
-/// Whether the number is that of an operator.
-fn is_operator(signature: &Signature, op: OpId) -> bool
-    ensures { result ≡ true ↔ IsOperator signature.now op.0 }
-{
-    0 < op.0 && op.0 <= signature.operators()
-}
-
 /// Whether the number is that of a sort or a kind.
 fn is_sort(poset: &Poset, number: u32) -> bool
     ensures value { result ≡ true ↔ IsSort poset.now number }
@@ -50,66 +42,28 @@ fn is_sort(poset: &Poset, number: u32) -> bool
     number < poset.sorts() + poset.kinds()
 }
 
-/// The declared sort of a term, if there is one: a variable has the sort that it carries.
-#[cycle(sorts)]
-fn sort_of(alloc: Global, signature: &Signature, term: &Bare) -> Result<Option<u32>, NoMemory>
-    requires { IsPoset signature.now.hierarchy }
-    ensures some { IfOk result (λ found. IfSome found (HasDeclaredSort signature.now (tree_of term.now))) }
-    ensures one { IfOk result (λ found. (r : ℕ) → HasDeclaredSort signature.now (tree_of term.now) r → found ≡ Some r) }
-    ensures sort { IfOk result (λ found. IfSome found (IsSort signature.now.hierarchy)) }
-{
-    match term {
-        Bare::Var(variable) => {
-            if is_sort(signature.poset(), variable.sort) {
-                Ok(Some(variable.sort))
-            } else {
-                Ok(None)
-            }
-        }
-        Bare::Num(_) => Ok(None),
-        Bare::App(op, arguments) => {
-            if !is_operator(signature, *op) {
-                return Ok(None);
-            }
-            match sorts_of(alloc, signature, arguments.items())? {
-                Some(sorts) => Ok(signature.least_result(*op, &sorts)),
-                None => Ok(None),
-            }
-        }
-    }
-}
-
-/// The declared sorts of some terms, if each has one.
-#[cycle(sorts)]
-fn sorts_of(
-    alloc: Global,
-    signature: &Signature,
-    terms: &[Bare],
-) -> Result<Option<Vec<u32>>, NoMemory>
-    requires { IsPoset signature.now.hierarchy }
-    ensures some { IfOk result (λ found. IfSome found (λ sorts. HaveDeclaredSorts signature.now (trees_of (map tree_of terms.now)) sorts.items)) }
-    ensures one { IfOk result (λ found. (rs : List ℕ) → HaveDeclaredSorts signature.now (trees_of (map tree_of terms.now)) rs → IsSomeList found rs) }
-    ensures sorts { IfOk result (λ found. IfSome found (λ sorts. All (IsSort signature.now.hierarchy) sorts.items)) }
-{
-    let mut sorts = Vec::with_capacity(alloc, terms.len())?;
-    for term in terms {
-        match sort_of(alloc, signature, term)? {
-            Some(sort) => sorts.push(sort)?,
-            None => return Ok(None),
-        }
-    }
-    Ok(Some(sorts))
-}
-
-/// Whether a term has a sort: whether its declared sort is at or below it.
-pub fn has_sort(alloc: Global, module: &Module, sort: u32, term: &Bare) -> Result<bool, NoMemory>
-    ensures yes { IfOk result (λ has. has ≡ true → HasSort module.now sort (tree_of term.now)) }
-    ensures no { IfOk result (λ has. has ≡ false → ¬ HasSort module.now sort (tree_of term.now)) }
+/// Whether a term has a sort, by the table, in which its sorts are settled if they are not yet.
+pub fn has_sort(
+    module: &Module,
+    store: &Store,
+    table: &mut SortTable,
+    sort: u32,
+    id: TermId,
+) -> Result<bool, NoMemory>
+    requires term { IsTermOf module.now.signature store.now id }
+    requires table { IsTableOf module.now store.now table.old }
+    requires free { HasNoAxioms (terms_in module.now) }
+    ensures yes { IfOk result (λ has. has ≡ true → HasSort module.now sort (id_tree store.now id)) }
+    ensures no { IfOk result (λ has. has ≡ false → ¬ HasSort module.now sort (id_tree store.now id)) }
+    ensures table { OnOk result (IsTableOf module.now store.now table.new) }
 {
     let signature = module.signature();
-    let is_sort = is_sort(signature.poset(), sort);
-    match sort_of(alloc, signature, term)? {
-        Some(declared) => Ok(is_sort && signature.poset().leq(declared, sort)),
-        None => Ok(false),
+    table.settle_term(signature, store, id)?;
+    if !is_sort(signature.poset(), sort) {
+        return Ok(false);
+    }
+    match table.has(signature, id, sort) {
+        Some(has) => Ok(has),
+        None => unreachable!(),
     }
 }

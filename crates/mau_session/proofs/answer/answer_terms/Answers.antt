@@ -1,12 +1,11 @@
-use Rattle.std.proofs.Common.{◌++◌, arith, sym, ◌∙◌, ap, length, take, append_assoc}
+use Rattle.std.proofs.Common.{arith, sym, ◌∙◌, ap, length, take}
 use Rattle.mau_terms.specs.View.{tree_of}
 use Rattle.mau_session.specs.Matching.{numbered_from}
-use Rattle.mau_session.specs.Answers.{match_head, listing_lines}
-use Rattle.mau_session.specs.Transcript.{no_pattern, no_subject, listed}
+use Rattle.mau_session.specs.Transcript.{no_pattern, no_subject}
 use Rattle.mau_session.proofs.Numbered.{reads_numbered}
 use Rattle.mau_session.proofs.Bareness.{reads_longer, reads_bare}
 use Rattle.mau_session.proofs.Extending.{first_variables}
-use Rattle.mau_session.proofs.Answering.{refused_with}
+use Rattle.mau_session.proofs.Answering.{refused_with, gains_terms}
 use Rattle.mau_session.proofs.answer.answer_terms.Goals as goal
 
 pub returns-in-None : goal.returns-in-None
@@ -24,22 +23,22 @@ returns-in-None-2 c =
     refused_with _ c.refuse-in-None-2.result c.refuse-in-None-2.ensures.bytes c.refuse-in-None-2.ensures.refused
     (λ g. record { bytes = _; answer = no_subject (tree_of c.in-Some.pattern) c.in-Some.kind c.read_whole.new.vars pattern never; gained = g })
 
-pub write_listing-requires-clause-few : goal.write_listing-requires-clause-few
-write_listing-requires-clause-few c =
+pub answer_listing-requires-clause-few : goal.answer_listing-requires-clause-few
+answer_listing-requires-clause-few c =
     let subject = rw c.in-Some-2.is at c.in_ok-read_whole_of-in-Some.ensures.some in
     let n = reads_longer c.args.module.now c.args.words.now c.args.item.to subject in
     omega (arith, n, c.len-count.ensures.counted)
 
-pub write_listing-requires-clause-numbered : goal.write_listing-requires-clause-numbered
-write_listing-requires-clause-numbered c =
+pub answer_listing-requires-clause-numbered : goal.answer_listing-requires-clause-numbered
+answer_listing-requires-clause-numbered c =
     let some = rw c.in-Some.is at c.in_ok-read_whole.ensures.some in
     let pattern = rw c.new-vars.ensures at some in
     let subject = rw c.in-Some-2.is at c.in_ok-read_whole_of-in-Some.ensures.some in
     reads_numbered c.args.module.now c.args.words.now c.args.sign pattern
     ∙ ap (numbered_from 0) (sym (first_variables c.args.module.now c.args.words.now c.args.item.to subject) ∙ ap (λ n. take n c.read_whole_of.new.vars) (sym c.len-count.ensures.counted))
 
-pub write_listing-requires-clause-bare : goal.write_listing-requires-clause-bare
-write_listing-requires-clause-bare c =
+pub answer_listing-requires-clause-bare : goal.answer_listing-requires-clause-bare
+answer_listing-requires-clause-bare c =
     let subject = rw c.in-Some-2.is at c.in_ok-read_whole_of-in-Some.ensures.some in
     let first = rw c.in-Some.is at c.in_ok-read_whole.ensures.room in
     let second = rw c.in-Some-2.is at c.in_ok-read_whole_of-in-Some.ensures.room in
@@ -51,11 +50,5 @@ returns c =
     let some = rw c.in-Some.is at c.in_ok-read_whole.ensures.some in
     let pattern = rw c.new-vars.ensures at some in
     let subject = rw c.in-Some-2.is at c.in_ok-read_whole_of-in-Some.ensures.some in
-    let listing = c.in_ok-write_listing-in-Some-2.ensures in
-    let m = c.args.module.now in
-    let lines = listing_lines m c.read_whole_of.new.vars (tree_of c.in-Some.pattern) listing.found in
-    record {
-      bytes = match_head c.args.item.number m ++ lines;
-      answer = listed (tree_of c.in-Some.pattern) c.in-Some.kind c.read_whole.new.vars (tree_of c.in-Some-2.subject) c.read_whole_of.new.vars listing.found pattern subject listing.listing;
-      gained = listing.gained ∙ ap (λ x. x ++ lines) c.in_ok-write_match_head-in-Some-2.ensures ∙ append_assoc c.args.out.now.items (match_head c.args.item.number m) lines;
-    }
+    gains_terms c.args.words.now c.args.module.now c.args.item.number c.args.item.from c.args.sign c.args.item.to (tree_of c.in-Some.pattern) c.in-Some.kind c.read_whole.new.vars (tree_of c.in-Some-2.subject)
+    c.read_whole_of.new.vars pattern subject c.args.out.now.items c.write_match_head.new.out.items c.answer_listing.new.out.items c.in_ok-write_match_head-in-Some-2.ensures c.in_ok-answer_listing-in-Some-2.ensures

@@ -1,5 +1,5 @@
 use Rattle.std.proofs.Common.{◌++◌, ◌∙◌, ap, sym, codes}
-use Rattle.mau_terms.specs.View.{tree_of}
+use Rattle.mau_session.specs.Bound.{id_tree}
 use Rattle.mau_session.specs.Shown.{shown, shown_variable}
 use Rattle.mau_session.proofs.Solving.{plain_norm_in}
 use Rattle.mau_session.proofs.Lines.{four_parts}
@@ -11,6 +11,6 @@ returns c =
     let ns = c.args.vars.now in
     let head = shown_variable m ns c.args.variable.index c.args.variable.sort in
     c.in_ok-write_text-2.ensures
-    ∙ ap (λ x. x ++ codes "\n") (c.in_ok-show.ensures ∙ ap (λ x. x ++ shown m ns (tree_of c.args.value.now)) (c.in_ok-write_text.ensures ∙ ap (λ x. x ++ codes " --> ") c.in_ok-write_variable.ensures))
-    ∙ four_parts c.args.out.now.items head (codes " --> ") (shown m ns (tree_of c.args.value.now)) (codes "\n")
-    ∙ ap (λ u. c.args.out.now.items ++ (((head ++ codes " --> ") ++ shown m ns u) ++ codes "\n")) (sym (plain_norm_in m c.requires (tree_of c.args.value.now)))
+    ∙ ap (λ x. x ++ codes "\n") (c.in_ok-show.ensures ∙ ap (λ x. x ++ shown m ns (id_tree c.args.store.now c.args.value)) (c.in_ok-write_text.ensures ∙ ap (λ x. x ++ codes " --> ") c.in_ok-write_variable.ensures))
+    ∙ four_parts c.args.out.now.items head (codes " --> ") (shown m ns (id_tree c.args.store.now c.args.value)) (codes "\n")
+    ∙ ap (λ u. c.args.out.now.items ++ (((head ++ codes " --> ") ++ shown m ns u) ++ codes "\n")) (sym (plain_norm_in m c.requires.free (id_tree c.args.store.now c.args.value)))

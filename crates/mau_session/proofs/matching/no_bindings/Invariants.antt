@@ -1,7 +1,6 @@
 use Rattle.std.proofs.Common.{◌≡◌, None}
 use Rattle.std.specs.Prelude.{replicate}
-use Rattle.mau_session.specs.Bound.{bindings_of}
 use Rattle.mau_session.proofs.matching.no_bindings.Given as goal
 
 abbrev pub invariant-loop-i : goal.invariant-loop-i
-invariant-loop-i l = bindings_of l.bindings.items ≡ replicate l._i None
+invariant-loop-i l = l.bindings.items ≡ replicate l._i None

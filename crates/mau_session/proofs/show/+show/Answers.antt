@@ -1,15 +1,18 @@
-use Rattle.std.proofs.Common.{ap, arith}
-use Rattle.mau_terms.specs.Depth.{depth}
-use Rattle.mau_terms.specs.View.{tree_of}
-use Rattle.mau_session.proofs.Depths.{arguments_fall, behind_first}
+use Rattle.std.proofs.Common.{arith}
+use Rattle.mau_store.specs.Trees.{tree_at}
+use Rattle.mau_store.specs.View.{numbers}
+use Rattle.mau_session.proofs.Depths.{node_falls, behind_first}
+use Rattle.mau_session.proofs.Stored.{older_there, behind_there}
 use Rattle.mau_session.proofs.show.+show.Goals as goal
 
 pub show-show_arguments-requires : goal.show-show_arguments-requires
 show-show_arguments-requires t c =
-    let k = arguments_fall c.args.term.now c.in-App.operator c.in-App.arguments c.items.result.now c.in-App.is c.items.ensures in
-    (omega (arith, k), tt)
+    let nodes = c.args.store.now in
+    let k = node_falls nodes (tree_at nodes c.args.id.0) c.in-App.operator.0 c.in-App.arguments.now c.in-App.ensures.tree in
+    (omega (arith, k), older_there nodes c.args.id.0 (numbers c.in-App.arguments.now) c.requires c.in-App.ensures.older)
 
 pub show_arguments-show-requires-in-loop-argument : goal.show_arguments-show-requires-in-loop-argument
 show_arguments-show-requires-in-loop-argument t c =
-    let k = behind_first _ c.args.arguments.now c.loop-argument.argument-index c.argument-item.result c.loop-argument-test.true in
-    (omega (arith, k, ap (λ x. depth (tree_of x)) c.argument-item.is), tt)
+    let nodes = c.args.store.now in
+    let k = behind_first nodes _ c.args.arguments.now c.loop-argument.argument-index (record { 0 = 0 }) c.loop-argument-test.true in
+    (omega (arith, k), behind_there nodes _ c.args.arguments.now c.loop-argument.argument-index (record { 0 = 0 }) c.requires c.loop-argument-test.true)

@@ -1,19 +1,51 @@
-use Rattle.std.proofs.Common.{sym, subst, ◌∙◌}
-use Rattle.mau_terms.specs.View.{tree_of}
-use Rattle.mau_poset.specs.Order.{IsPoset, IsAtOrBelow}
+use Rattle.std.proofs.Common.{◌≡◌, true, false, sym, ◌∙◌, ap, subst}
+use Rattle.mau_poset.specs.Order.{IsPoset}
 use Rattle.mau_signature.specs.Faults.{IsSort}
-use Rattle.mau_session.specs.Terms.{HasDeclaredSort}
-use Rattle.mau_session.proofs.Sorting.{sort_above}
+use Rattle.mau_sorts.specs.SortSets.{IsIn}
+use Rattle.mau_session.proofs.Sorting.{kept_of_id, entry_of_id, in_has, has_in, has_is_sort, table_kept}
 use Rattle.mau_session.proofs.sorts.has_sort.Goals as goal
 
-pub returns-else-is_sort-clause-no : goal.returns-else-is_sort-clause-no
-returns-else-is_sort-clause-no c e h =
-    let s = c.signature-signature.result.now in
-    let value = c.signature-signature.ensures.value in
-    let one = c.in_ok-declared.ensures.one h.declared (subst (λ s. HasDeclaredSort s (tree_of c.args.term.now) h.declared) (sym value) h.has_declared) in
-    let is : IsSort s.hierarchy h.declared = rw one at c.in_ok-declared.ensures.sort in
-    let poset = subst IsPoset c.poset.ensures.value c.is_sort-is_sort.ensures.poset in
-    let above = sort_above s.hierarchy poset.within h.declared c.args.sort is (subst (λ s. IsAtOrBelow s.hierarchy h.declared c.args.sort) (sym value) h.at_or_below) in
-    let yes = c.is_sort-is_sort.ensures.value.1 (subst (λ h. IsSort h c.args.sort) (sym c.poset.ensures.value) above) in
-    let no = sym e ∙ yes in
-    absurd cc
+pub returns-then-not-is_sort-clause-no : goal.returns-then-not-is_sort-clause-no
+returns-then-not-is_sort-clause-no c e h =
+    let m = c.args.module.now in
+    let nodes = c.args.store.now in
+    let table = c.settle_term.new.self in
+    let same = c.poset.ensures.value ∙ ap (λ s. s.hierarchy) c.signature-signature.ensures.value in
+    let is_table = table_kept m c.signature-signature.result.now c.signature-signature.ensures.value nodes c.args.table.now table c.requires.table c.in_ok-settle_term.ensures.value c.in_ok-settle_term.ensures.over in
+    let sort = has_is_sort m c.requires.free nodes table is_table c.args.id c.in_ok-settle_term.ensures.ok (subst IsPoset same c.is_sort.ensures.poset) c.args.sort h in
+    let no : true ≡ false = sym (c.is_sort.ensures.value.1 (subst (λ p. IsSort p c.args.sort) (sym same) sort)) ∙ c.if-not-is_sort.true in
+    cc
+
+pub returns-then-not-is_sort-clause-table : goal.returns-then-not-is_sort-clause-table
+returns-then-not-is_sort-clause-table c =
+    table_kept c.args.module.now c.signature-signature.result.now c.signature-signature.ensures.value c.args.store.now c.args.table.now c.settle_term.new.self c.requires.table
+    c.in_ok-settle_term.ensures.value c.in_ok-settle_term.ensures.over
+
+pub returns-clause-yes : goal.returns-clause-yes
+returns-clause-yes c e =
+    let m = c.args.module.now in
+    let nodes = c.args.store.now in
+    let table = c.settle_term.new.self in
+    let is_table = table_kept m c.signature-signature.result.now c.signature-signature.ensures.value nodes c.args.table.now table c.requires.table c.in_ok-settle_term.ensures.value c.in_ok-settle_term.ensures.over in
+    let settled = c.in_ok-settle_term.ensures.ok in
+    let exact = c.in-Some.ensures.value (kept_of_id m c.requires.free nodes table is_table c.args.id settled) (entry_of_id m c.requires.free nodes table is_table c.args.id settled) in
+    in_has m c.requires.free nodes table is_table c.args.id settled c.args.sort
+    (subst (λ s. IsIn s.hierarchy (kept_of_id m c.requires.free nodes table is_table c.args.id settled) c.args.sort) c.signature-signature.ensures.value (exact.0 e))
+
+pub returns-clause-no : goal.returns-clause-no
+returns-clause-no c e h =
+    let m = c.args.module.now in
+    let nodes = c.args.store.now in
+    let table = c.settle_term.new.self in
+    let is_table = table_kept m c.signature-signature.result.now c.signature-signature.ensures.value nodes c.args.table.now table c.requires.table c.in_ok-settle_term.ensures.value c.in_ok-settle_term.ensures.over in
+    let settled = c.in_ok-settle_term.ensures.ok in
+    let exact = c.in-Some.ensures.value (kept_of_id m c.requires.free nodes table is_table c.args.id settled) (entry_of_id m c.requires.free nodes table is_table c.args.id settled) in
+    let yes = exact.1 (subst (λ s. IsIn s.hierarchy (kept_of_id m c.requires.free nodes table is_table c.args.id settled) c.args.sort) (sym c.signature-signature.ensures.value)
+    (has_in m c.requires.free nodes table is_table c.args.id settled c.args.sort h)) in
+    let no : true ≡ false = sym yes ∙ e in
+    cc
+
+pub returns-clause-table : goal.returns-clause-table
+returns-clause-table c =
+    table_kept c.args.module.now c.signature-signature.result.now c.signature-signature.ensures.value c.args.store.now c.args.table.now c.settle_term.new.self c.requires.table
+    c.in_ok-settle_term.ensures.value c.in_ok-settle_term.ensures.over
