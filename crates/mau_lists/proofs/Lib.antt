@@ -1,0 +1,9 @@
+-- The lemmas, lowest first.
+pub mod Following
+pub mod Steps
+pub mod Trees
+pub mod Keyed
+pub mod Members
+pub mod Ids
+pub mod Due
+pub mod Buffers
