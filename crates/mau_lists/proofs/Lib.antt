@@ -7,3 +7,8 @@ pub mod Members
 pub mod Ids
 pub mod Due
 pub mod Buffers
+pub mod Next
+pub mod Multisets
+pub mod Listed
+pub mod Runs
+pub mod Fewer

@@ -93,6 +93,17 @@ module _ {A : Type 0} where
   part_cut (suc k) n [] = part_front (take n []) [] (front_taken n [])
   part_cut (suc k) n (y ∷ ys) = inr (part_cut k n ys)
 
+module _ {A : Type 0} where
+  front_All : (P : A → Type 0) (s xs : List A) → IsFront s xs → All P xs → All P s
+  front_All P [] xs h a = λ k d l. absurd (omega arith)
+  front_All P (z ∷ s) [] h a = absurd h
+  front_All P (z ∷ s) (x ∷ xs) h a = All-cons P z s (subst P (sym h.0) (All-head P x xs a)) (front_All P s xs h.1 (All-tail P x xs a))
+
+  pub part_All : (P : A → Type 0) (s xs : List A) → IsPart s xs → All P xs → All P s
+  part_All P s [] h a = front_All P s [] h a
+  part_All P s (x ∷ xs) (inl h) a = front_All P s (x ∷ xs) h a
+  part_All P s (x ∷ xs) (inr h) a = part_All P s xs h (All-tail P x xs a)
+
 -- ---- the same of the keys
 
 module _ {A B : Type 0} (key : A → B) where

@@ -7,7 +7,12 @@ pub mod Terms
 -- where a listing stands, and what it ends as
 pub mod Place
 pub mod Ends
--- what the code computes
+-- all lists of a kind, and how many are left
+pub mod Listed
+-- calls one after another
+pub mod Runs
+-- what the code computes, and what it keeps
 pub mod Following
--- what a listing keeps
 pub mod Kept
+-- what is proved of these
+pub mod Laws

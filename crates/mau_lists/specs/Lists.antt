@@ -22,6 +22,11 @@ module _ {A : Type 0} where
   IsPart xs [] = IsFront xs []
   IsPart xs (y ∷ ys) = IsFront xs (y ∷ ys) ⊎ IsPart xs ys
 
+  -- xs is an element of a list of lists
+  abbrev pub IsAmong : List A → List (List A) → Type 0
+  IsAmong xs [] = ⊥
+  IsAmong xs (s ∷ ss) = (xs ≡ s) ⊎ IsAmong xs ss
+
   -- ---- orders, where Less x y says that x comes before y
 
   module _ (Less : A → A → Type 0) where
@@ -70,11 +75,6 @@ module _ {A : Type 0} where
     abbrev pub AreClimbing : List (List A) → Type 0
     AreClimbing [] = Unit {0}
     AreClimbing (s ∷ ss) = AreBehind s ss × AreClimbing ss
-
-    -- x is an element of a list of lists
-    abbrev pub IsAmong : List A → List (List A) → Type 0
-    IsAmong x [] = ⊥
-    IsAmong x (y ∷ ys) = (x ≡ y) ⊎ IsAmong x ys
 
     -- all is the list of all lists of the kind, ascending, each once
     pub record AreExactly (Is : List A → Type 0) (all : List (List A)) : Type 0 where

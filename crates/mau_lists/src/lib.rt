@@ -2,6 +2,7 @@
 //! and the list that comes next, and computes the following one in place.
 #![tactic(auto)]
 
+pub mod laws;
 mod segments;
 mod sub_lists;
 
