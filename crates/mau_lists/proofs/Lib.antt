@@ -12,3 +12,4 @@ pub mod Multisets
 pub mod Listed
 pub mod Runs
 pub mod Fewer
+pub mod Adjacent

@@ -33,7 +33,7 @@ from_insert x t (u ∷ us) l h = by (from_insert x t us l h.1) (is_gt (tree_cmp 
     by ih true = (h.0, ih)
     by ih false = (l, h)
 
-less_from : (t u : Tree) (us : List Tree) → (IsBefore t u ⊎ (t ≡ u)) → AreFrom IsBefore u us → AreFrom IsBefore t us
+pub less_from : (t u : Tree) (us : List Tree) → (IsBefore t u ⊎ (t ≡ u)) → AreFrom IsBefore u us → AreFrom IsBefore t us
 less_from t u [] l h = tt
 less_from t u (v ∷ us) (inl l) (inl h, r) = (inl (chain t u v l h), less_from t u us (inl l) r)
 less_from t u (v ∷ us) (inl l) (inr e, r) = (inl (subst (IsBefore t) e l), less_from t u us (inl l) r)
@@ -57,7 +57,7 @@ sorted_ascends (t ∷ ts) = ascending_insert t (sort_trees ts) (sorted_ascends t
 
 -- ---- what stands in order is sorted
 
-not_greater : (t u : Tree) → IsBefore t u ⊎ (t ≡ u) → is_gt (tree_cmp t u) ≡ false
+pub not_greater : (t u : Tree) → IsBefore t u ⊎ (t ≡ u) → is_gt (tree_cmp t u) ≡ false
 not_greater t u (inl l) = ap is_gt l
 not_greater t u (inr e) = by (tree_cmp t u) refl
   where

@@ -4,7 +4,12 @@
 
 pub mod laws;
 mod segments;
+mod sorted;
 mod sub_lists;
 
 pub use segments::Segments;
+pub use sorted::are_sorted;
 pub use sub_lists::SubLists;
+
+#[cfg(test)]
+mod tests;

@@ -50,10 +50,11 @@ impl Segments {
         })
     }
 
-    /// The next part, and none after the last. It takes no memory.
+    /// The next part, and none after the last. It takes no memory. Each place of the items is compared with the last part up to the
+    /// first difference alone.
     pub fn next(&mut self, store: &Store) -> Option<&[TermId]>
         ensures* step { sem 𝓛 (SegmentsEndAs self.entry (IsStep (IsNextPart store.now) self.old)) }
-        ensures some { IfSome result (λ list. self.old.due ≡ Some (numbers list.now)) }
+        ensures value { IfSome result (λ list. self.old.due ≡ Some (numbers list.now)) }
         ensures part { IfSome result (λ list. IsPart (numbers list.now) self.old.items) }
         ensures none { IfNone result (self.old.due ≡ None) }
     {
@@ -66,7 +67,7 @@ impl Segments {
 
     /// Goes on at the least part behind a list, whether that list is a part or not. It walks to no other, and takes no memory.
     pub fn after(&mut self, store: &Store, list: &[TermId])
-        ensures items { self.new.items ≡ self.old.items }
+        ensures kept { self.new.items ≡ self.old.items }
         ensures due { IsNextPart store.now self.old.items (numbers list.now) self.new.due }
     {
         self.due = part_behind(store, &self.items, list);

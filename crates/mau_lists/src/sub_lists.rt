@@ -62,7 +62,7 @@ impl SubLists {
         requires items { AreOf store.now self.old.items }
         requires sorted { AreSorted store.now self.old.items }
         ensures* step { sem 𝓛 (SubListsEndAs self.entry (IsStep (IsNextSubList store.now) self.old)) }
-        ensures some { IfSome result (λ list. self.old.due ≡ Some (numbers list.now)) }
+        ensures value { IfSome result (λ list. self.old.due ≡ Some (numbers list.now)) }
         ensures part { IfSome result (λ list. IsSubList (numbers list.now) self.old.items) }
         ensures none { IfNone result (self.old.due ≡ None) }
     {
@@ -80,7 +80,7 @@ impl SubLists {
         requires items { AreOf store.now self.old.items }
         requires sorted { AreSorted store.now self.old.items }
         requires list { AreOf store.now (numbers list.now) }
-        ensures items { self.new.items ≡ self.old.items }
+        ensures kept { self.new.items ≡ self.old.items }
         ensures due { IsNextSubList store.now self.old.items (numbers list.now) self.new.due }
     {
         self.due_len = put_behind(store, &self.items, &mut self.due, list);

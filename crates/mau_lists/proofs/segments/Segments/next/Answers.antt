@@ -30,7 +30,7 @@ returns c =
       (refl, λ _. tt, subst (λ p. IsStep (IsNextPart nodes) p new) c.self.view_is (parts_step nodes items (take len (drop start items)) s.due r due found)),
       record {
         step = tt;
-        some = sym (ap (λ p. p.due) c.self.view_is) ∙ ap (λ o. option_map numbers o) due ∙ ap (λ l. Some (numbers l)) (sym same);
+        value = sym (ap (λ p. p.due) c.self.view_is) ∙ ap (λ o. option_map numbers o) due ∙ ap (λ l. Some (numbers l)) (sym same);
         part = subst (IsPart (numbers given)) old (subst (λ l. IsPart (numbers l) (numbers items)) (sym same) (part-keys (λ id. id.0) (take len (drop start items)) items (part_cut start len items)));
         none = tt;
       },

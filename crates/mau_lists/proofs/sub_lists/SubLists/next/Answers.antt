@@ -80,7 +80,7 @@ returns c =
       (refl, λ _. tt, subst (λ p. IsStep (IsNextSubList nodes) p next) c.self.view_is (sub_lists_step nodes s.items.items (take len s.due.items) (front_of s.due_len s.due.items) (front_of c.put_behind-self-inside.result buffer) (subst (AreSorted nodes) (sym items) c.requires.sorted) due found)),
       record {
         step = tt;
-        some = sym (ap (λ p. p.due) c.self.view_is) ∙ ap (λ o. option_map numbers o) due ∙ ap (λ l. Some (numbers l)) (sym given);
+        value = sym (ap (λ p. p.due) c.self.view_is) ∙ ap (λ o. option_map numbers o) due ∙ ap (λ l. Some (numbers l)) (sym given);
         part = subst (IsSubList (numbers (take len c.deref-4.result.now))) items (subst (λ l. IsSubList (numbers l) (numbers s.items.items)) (sym given) (sub-keys (λ id. id.0) (take len s.due.items) s.items.items part));
         none = tt;
       },
