@@ -1,9 +1,7 @@
 -- Lists that are written into buffers.
-use Rattle.std.proofs.Common.{◌≡◌, ℕ, ◌≤◌, List, ◌++◌, length, take, drop, Option, Some, None, IfSome, sym, ◌∙◌, ap, subst, arith, append-nil}
+use Rattle.std.proofs.Common.{◌≡◌, ℕ, List, ◌++◌, length, take, drop, Option, IfSome, sym, ◌∙◌, ap, subst, arith, append-nil}
 use Rattle.std.proofs.lemmas.List.{take_all, drop_all}
 use Rattle.mau_terms.specs.declared.ids.TermId.{TermId}
-use Rattle.mau_store.specs.Node.{AreBelow}
-use Rattle.mau_store.specs.View.{numbers}
 use Rattle.mau_lists.specs.Lists.{IsSubList}
 use Rattle.mau_lists.specs.Place.{front_of, IsWithin}
 use Rattle.mau_lists.specs.Kept.{HoldsRoom}

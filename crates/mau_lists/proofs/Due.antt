@@ -1,10 +1,10 @@
 -- What is computed of ids stands for the next list of terms.
-use Rattle.std.proofs.Common.{◌≡◌, ℕ, ◌<◌, List, [], ◌∷◌, All, map, length, take, drop, slice_index_or, Option, Some, None, IfSome, refl, sym, ◌∙◌, ap, ap₂, subst, arith}
+use Rattle.std.proofs.Common.{◌≡◌, ℕ, List, [], ◌∷◌, map, Option, Some, None, refl, sym, ◌∙◌, ap, ap₂, subst}
 use Rattle.std.specs.Option.{option_map}
 use Rattle.mau_terms.specs.Tree.{Tree}
-use Rattle.mau_terms.specs.Order.{tree_cmp, sort_trees}
+use Rattle.mau_terms.specs.Order.{tree_cmp}
 use Rattle.mau_terms.specs.declared.ids.TermId.{TermId}
-use Rattle.mau_store.specs.Node.{Node, AreOf}
+use Rattle.mau_store.specs.Node.{Node}
 use Rattle.mau_store.specs.View.{numbers}
 use Rattle.mau_store.specs.Trees.{tree_at, trees_at}
 use Rattle.mau_lists.specs.Lists.{IsSubList, IsPart, IsNextOrEnd}

@@ -1,5 +1,5 @@
 -- Each call leaves fewer lists behind.
-use Rattle.std.proofs.Common.{◌≡◌, ℕ, suc, ◌+◌, ◌<◌, ◌≤◌, List, [], ◌∷◌, Bool, true, false, cond, count_by, Option, Some, None, inl, inr, refl, sym, ◌∙◌, ap, subst, arith}
+use Rattle.std.proofs.Common.{◌≡◌, ℕ, ◌+◌, ◌<◌, ◌≤◌, List, [], ◌∷◌, Bool, true, false, cond, count_by, Option, Some, None, inl, inr, refl, sym, ◌∙◌, ap, subst, arith}
 use Rattle.std.specs.Option.{option_map}
 use Rattle.std.specs.declared.cmp.Ordering.{Ordering}
 use Rattle.std.specs.declared.cmp.Ordering.TheVariants.{Less, Equal, Greater}
@@ -10,21 +10,19 @@ use Rattle.mau_terms.specs.Order.{tree_cmp}
 use Rattle.mau_terms.specs.Solution.{list_cmp}
 use Rattle.mau_store.specs.Node.{Node}
 use Rattle.mau_store.specs.Trees.{trees_at}
-use Rattle.mau_lists.specs.Lists.{IsSubList, IsPart, IsBelow, IsNext, IsNextOrEnd, IsAmong}
+use Rattle.mau_lists.specs.Lists.{IsSubList, IsPart, IsBelow, IsNextOrEnd, IsAmong}
 use Rattle.mau_lists.specs.Terms.{IsBefore, IsNextSubList, IsNextPart}
-use Rattle.mau_lists.specs.Place.{Place, IsStep, IsDueAfter}
+use Rattle.mau_lists.specs.Place.{IsDueAfter}
 use Rattle.mau_lists.specs.Listed.{sub_lists, parts, count_behind, count_from}
 use Rattle.mau_lists.specs.Laws.{SubListCallsLeaveFewer, PartCallsLeaveFewer}
-use Rattle.mau_lists.proofs.Following.{lists_ranked, lists_chain}
+use Rattle.mau_lists.proofs.Following.{lists_ranked, lists_chain, not_itself}
 use Rattle.mau_lists.proofs.Trees.{irrefl, chain, ranks}
 use Rattle.mau_lists.proofs.Listed.{sub_listed, part_listed}
 
 -- ---- the order of lists, as a relation and as computed
 
-not_itself : (xs : List Tree) → IsBelow IsBefore xs xs → ⊥
-not_itself [] h = h
-not_itself (x ∷ xs) (inl l) = irrefl x l
-not_itself (x ∷ xs) (inr h) = not_itself xs h.1
+itself_not : (xs : List Tree) → IsBelow IsBefore xs xs → ⊥
+itself_not = not_itself IsBefore irrefl chain tree_cmp ranks
 
 pub below_cmp : (xs ys : List Tree) → list_cmp xs ys ≡ Less → IsBelow IsBefore xs ys
 below_cmp xs ys e = subst (λ o. MatchOrdering o (IsBelow IsBefore xs ys) (xs ≡ ys) (IsBelow IsBefore ys xs)) e (lists_ranked IsBefore irrefl chain tree_cmp ranks xs ys)
@@ -34,8 +32,8 @@ cmp_below xs ys h = by (list_cmp xs ys) (lists_ranked IsBefore irrefl chain tree
   where
     by : (o : Ordering) → MatchOrdering o (IsBelow IsBefore xs ys) (xs ≡ ys) (IsBelow IsBefore ys xs) → o ≡ Less
     by Less k = refl
-    by Equal k = absurd (not_itself ys (subst (λ w. IsBelow IsBefore w ys) k h))
-    by Greater k = absurd (not_itself xs (lists_chain IsBefore irrefl chain tree_cmp ranks xs ys xs h k))
+    by Equal k = absurd (itself_not ys (subst (λ w. IsBelow IsBefore w ys) k h))
+    by Greater k = absurd (itself_not xs (lists_chain IsBefore irrefl chain tree_cmp ranks xs ys xs h k))
 
 less_is : (o : Ordering) → is_lt o ≡ true → o ≡ Less
 less_is Less e = refl
@@ -85,7 +83,7 @@ fewer_behind xs s all b h = count_less (after s) (after xs) more s itself (ap is
     itself = by (list_cmp s s) refl
       where
         by : (o : Ordering) → list_cmp s s ≡ o → is_lt o ≡ false
-        by Less e = absurd (not_itself s (below_cmp s s e))
+        by Less e = absurd (itself_not s (below_cmp s s e))
         by Equal e = refl
         by Greater e = refl
 

@@ -1,5 +1,5 @@
 -- The computed lists are the next ones.
-use Rattle.std.proofs.Common.{◌≡◌, List, [], ◌∷◌, ◌++◌, Option, Some, None, inl, inr, ◌⊎◌, refl, sym, ◌∙◌, ap, subst}
+use Rattle.std.proofs.Common.{◌≡◌, List, [], ◌∷◌, Option, Some, None, inl, inr, ◌⊎◌, refl, sym, ◌∙◌, ap, subst}
 use Rattle.std.specs.declared.cmp.Ordering.{Ordering}
 use Rattle.std.specs.declared.cmp.Ordering.TheVariants.{Less, Equal, Greater}
 use Rattle.std.specs.Ordering.{MatchOrdering}
@@ -17,11 +17,6 @@ module _ {A : Type 0} (L : A → A → Type 0) (irrefl : (x : A) → L x x → �
       at Less k = f k
       at Equal k = g k
       at Greater k = h k
-
-  no_element : (y : A) (x : A) (t ys : List A) → AreFrom L y ys → IsSubList (x ∷ t) ys → L x y → ⊥
-  no_element y x t [] a s l = s
-  no_element y x t (z ∷ ys) a (inl s) l = elim (a.0) [ inl b ↦ irrefl x (chain x y x l (subst (L y) (sym s.0) b)) | inr b ↦ irrefl x (subst (L x) (b ∙ sym s.0) l) ]
-  no_element y x t (z ∷ ys) a (inr s) l = no_element y x t ys a.1 s l
 
   -- an element of a list from y on is y or above it
   pub head_from : (y : A) (x : A) (t ys : List A) → AreFrom L y ys → IsSubList (x ∷ t) ys → L y x ⊎ (y ≡ x)
@@ -275,3 +270,21 @@ module _ {A : Type 0} (L : A → A → Type 0) (irrefl : (x : A) → L x x → �
   pub is_next_part : (xs ys : List A) → IsNextOrEnd L (Part ys) xs (next_part cmp xs ys)
   is_next_part xs [] = is_next_front xs []
   is_next_part xs (y ∷ ys) = both (Front (y ∷ ys)) (Part ys) xs (next_front cmp xs (y ∷ ys)) (next_part cmp xs ys) (is_next_front xs (y ∷ ys)) (is_next_part xs ys)
+
+  -- ---- the next list is one
+
+  pub not_itself : (xs : List A) → IsBelow L xs xs → ⊥
+  not_itself [] h = h
+  not_itself (x ∷ xs) (inl l) = irrefl x l
+  not_itself (x ∷ xs) (inr h) = not_itself xs h.1
+
+  one_least : (xs ys : List A) → IsUpto L xs ys → IsUpto L ys xs → xs ≡ ys
+  one_least xs ys (inl h) (inl k) = absurd (not_itself xs (lists_chain xs ys xs h k))
+  one_least xs ys (inl h) (inr k) = sym k
+  one_least xs ys (inr h) k = h
+
+  pub next_is_one : (Is : List A → Type 0) (xs : List A) (o p : Option (List A)) → IsNextOrEnd L Is xs o → IsNextOrEnd L Is xs p → o ≡ p
+  next_is_one Is xs None None h k = refl
+  next_is_one Is xs None (Some t) h k = absurd (h t k.is_one k.behind)
+  next_is_one Is xs (Some s) None h k = absurd (k s h.is_one h.behind)
+  next_is_one Is xs (Some s) (Some t) h k = ap Some (one_least s t (h.least t k.is_one k.behind) (k.least s h.is_one h.behind))

@@ -13,3 +13,4 @@ pub mod Listed
 pub mod Runs
 pub mod Fewer
 pub mod Adjacent
+pub mod Examples

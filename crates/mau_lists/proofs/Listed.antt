@@ -1,5 +1,5 @@
 -- The plain programs write down all lists of a kind.
-use Rattle.std.proofs.Common.{◌≡◌, ◌⊎◌, List, [], ◌∷◌, ◌++◌, map, inl, inr, refl, sym, ◌∙◌, ap, subst}
+use Rattle.std.proofs.Common.{◌≡◌, ◌⊎◌, List, [], ◌∷◌, ◌++◌, inl, inr, refl, sym, ap, subst}
 use Rattle.mau_lists.specs.Lists.{IsSubList, IsFront, IsPart, IsAmong}
 use Rattle.mau_lists.specs.Listed.{each_with, sub_lists, fronts, parts}
 use Rattle.mau_lists.specs.Laws.{AreListed}

@@ -84,7 +84,7 @@ module _ {A : Type 0} where
   front_taken (suc n) [] = tt
   front_taken (suc n) (y ∷ ys) = (refl, front_taken n ys)
 
-  part_front : (xs ys : List A) → IsFront xs ys → IsPart xs ys
+  pub part_front : (xs ys : List A) → IsFront xs ys → IsPart xs ys
   part_front xs [] h = h
   part_front xs (y ∷ ys) h = inl h
 

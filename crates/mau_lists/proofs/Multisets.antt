@@ -7,6 +7,7 @@ use Rattle.mau_terms.proofs.Sorting.{swap_insert, insert_all, sort-append, sort_
 use Rattle.mau_lists.specs.Lists.{IsSubList, IsFront, IsPart, AreFrom, IsAscending}
 use Rattle.mau_lists.specs.Terms.{IsBefore}
 use Rattle.mau_lists.specs.Laws.{SubListsAreSubMultisets, PartsStandBetween, FrontsStandFirst, SortedWhereAscending}
+use Rattle.mau_lists.proofs.Members.{part_front}
 use Rattle.mau_lists.proofs.Trees.{sort_ascending, ascending_sorted}
 
 pub sorted_where_ascending : SortedWhereAscending
@@ -80,10 +81,6 @@ front_append (x ∷ xs) right = (refl, front_append xs right)
 
 pub fronts_stand_first : FrontsStandFirst
 fronts_stand_first xs ys = (front_rest xs ys, λ r. subst (IsFront xs) r.1 (front_append xs r.0))
-
-part_front : (xs ys : List Tree) → IsFront xs ys → IsPart xs ys
-part_front xs [] h = h
-part_front xs (y ∷ ys) h = inl h
 
 part_append : (left xs right : List Tree) → IsPart xs (left ++ (xs ++ right))
 part_append [] xs right = part_front xs (xs ++ right) (front_append xs right)

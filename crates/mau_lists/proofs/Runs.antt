@@ -1,13 +1,13 @@
 -- A run gives all lists of its kind, ascending, each once.
-use Rattle.std.proofs.Common.{◌≡◌, ℕ, ◌<◌, List, [], ◌∷◌, All, map, length, Option, Some, None, inl, inr, refl, sym, ◌∙◌, ap, ap₂, subst}
+use Rattle.std.proofs.Common.{◌≡◌, ℕ, ◌<◌, List, [], ◌∷◌, All, map, length, Option, Some, None, inl, inr, refl, sym, ap, subst}
 use Rattle.std.specs.Option.{option_map}
 use Rattle.mau_terms.specs.Tree.{Tree}
 use Rattle.mau_terms.specs.Order.{tree_cmp}
 use Rattle.mau_store.specs.Node.{Node, AreOf, Extends}
 use Rattle.mau_store.specs.Trees.{tree_at, trees_at}
 use Rattle.mau_store.proofs.Growth.{extension_is_preorder, trees_at-extends}
-use Rattle.mau_lists.specs.Lists.{IsSubList, IsPart, IsBelow, IsUpto, IsNext, IsNextOrEnd, IsAmong, AreBehind, AreClimbing, AreExactly}
-use Rattle.mau_lists.specs.Terms.{IsBefore, IsNextSubList, IsNextPart}
+use Rattle.mau_lists.specs.Lists.{IsSubList, IsPart, IsBelow, IsUpto, IsNextOrEnd, IsAmong, AreBehind, AreClimbing, AreExactly}
+use Rattle.mau_lists.specs.Terms.{IsBefore}
 use Rattle.mau_lists.specs.Runs.{IsRun, over, turn}
 use Rattle.mau_lists.specs.Laws.{RunsGiveAllSubLists, RunsGoOnBehindSubLists, RunsGiveAllParts, RunsGoOnBehindParts}
 use Rattle.mau_lists.proofs.Following.{lists_chain}

@@ -6,7 +6,7 @@ use Rattle.mau_terms.specs.Order.{tree_cmp, sort_trees}
 use Rattle.mau_store.specs.Node.{Node, AreOf, Extends}
 use Rattle.mau_store.specs.Trees.{trees_at}
 use Rattle.mau_lists.specs.Lists.{IsSubList, IsFront, IsPart, IsBelow, IsAscending, IsNextOrEnd, IsAmong, AreExactly}
-use Rattle.mau_lists.specs.Terms.{IsBefore, AreSorted, IsNextSubList, IsNextPart}
+use Rattle.mau_lists.specs.Terms.{IsBefore, IsNextSubList, IsNextPart}
 use Rattle.mau_lists.specs.Place.{Place, IsStep}
 use Rattle.mau_lists.specs.Following.{next_sub_list, next_front, next_part}
 use Rattle.mau_lists.specs.Listed.{sub_lists, fronts, parts, sub_lists_left, parts_left}
@@ -50,6 +50,13 @@ FrontsAreNext = (xs ys : List Tree) → IsNextOrEnd IsBefore (λ ts. IsFront ts 
 
 abbrev pub PartsAreNext : Type 0
 PartsAreNext = (xs ys : List Tree) → IsNextOrEnd IsBefore (λ ts. IsPart ts ys) xs (next_part tree_cmp xs ys)
+
+-- the next list is one: what a call promises determines what it gives
+pub record NextIsOne : Type 0 where
+  pub sub_list : (xs ys : List Tree) (o p : Option (List Tree)) →
+      IsNextOrEnd IsBefore (λ ts. IsSubList ts ys) xs o → IsNextOrEnd IsBefore (λ ts. IsSubList ts ys) xs p → o ≡ p
+  pub part : (xs ys : List Tree) (o p : Option (List Tree)) →
+      IsNextOrEnd IsBefore (λ ts. IsPart ts ys) xs o → IsNextOrEnd IsBefore (λ ts. IsPart ts ys) xs p → o ≡ p
 
 -- ---- whole runs
 

@@ -1,5 +1,5 @@
 -- Where a listing of sub-lists or parts stands.
-use Rattle.std.specs.Prelude.{◌≡◌, ℕ, ◌≤◌, List, [], length, take, Option, Some, None}
+use Rattle.std.specs.Prelude.{◌≡◌, ℕ, ◌≤◌, List, [], take, Option, Some, None}
 
 -- The items, and the list that comes next, by their numbers; none after the last list. Numbers outlast a growing store, in which
 -- they keep their trees.

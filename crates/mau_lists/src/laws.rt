@@ -1,6 +1,6 @@
 //! What is proved of sub-multisets and parts. Each function does nothing and has a law for its contract; the laws are stated in
 //! `specs/Laws.antt`.
-ghost use Rattle.mau_lists.specs.Laws.{SubListsAreSubMultisets, PartsStandBetween, FrontsStandFirst, SortedWhereAscending, AreListed, SubListsAreNext, FrontsAreNext, PartsAreNext, RunsGiveAllSubLists, RunsGoOnBehindSubLists, RunsGiveAllParts, RunsGoOnBehindParts, SubListCallsLeaveFewer, PartCallsLeaveFewer};
+ghost use Rattle.mau_lists.specs.Laws.{SubListsAreSubMultisets, PartsStandBetween, FrontsStandFirst, SortedWhereAscending, AreListed, SubListsAreNext, FrontsAreNext, PartsAreNext, NextIsOne, RunsGiveAllSubLists, RunsGoOnBehindSubLists, RunsGiveAllParts, RunsGoOnBehindParts, SubListCallsLeaveFewer, PartCallsLeaveFewer};
 
 /// The sub-lists of a sorted list are its sub-multisets, as sorted lists.
 pub fn sub_lists_are_sub_multisets()
@@ -40,6 +40,11 @@ pub fn fronts_are_next()
 /// The same of parts.
 pub fn parts_are_next()
     ensures { PartsAreNext }
+{}
+
+/// The next list is one: what `next` and `after` promise determines what they give.
+pub fn next_is_one()
+    ensures { NextIsOne }
 {}
 
 /// Calls of `SubLists::next`, from the first on, give all sub-multisets of the items, ascending, each once, however the store grows

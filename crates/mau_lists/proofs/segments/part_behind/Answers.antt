@@ -3,7 +3,7 @@ use Rattle.std.proofs.lemmas.List.{take_all}
 use Rattle.mau_terms.specs.declared.ids.TermId.{TermId}
 use Rattle.mau_store.specs.Node.{Node}
 use Rattle.mau_lists.specs.Terms.{by_tree, no_term}
-use Rattle.mau_lists.specs.Following.{next_front, next_part, least_of, cut, taken, FitsIn}
+use Rattle.mau_lists.specs.Following.{next_front, next_part, least_of, cut, taken}
 use Rattle.mau_lists.proofs.Steps.{part_step}
 use Rattle.mau_lists.proofs.segments.part_behind.Goals as goal
 

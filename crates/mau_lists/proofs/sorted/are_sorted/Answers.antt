@@ -1,4 +1,4 @@
-use Rattle.std.proofs.Common.{◌≡◌, ◌<◌, suc, true, false, sym, ◌∙◌, ap, arith, refl}
+use Rattle.std.proofs.Common.{◌≡◌, true, false, sym, ◌∙◌, ap, arith, refl}
 use Rattle.std.specs.Ordering.{is_gt}
 use Rattle.mau_lists.proofs.Adjacent.{sorted, not_sorted}
 use Rattle.mau_lists.proofs.sorted.are_sorted.Goals as goal

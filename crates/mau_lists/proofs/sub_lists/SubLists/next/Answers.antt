@@ -1,6 +1,5 @@
-use Rattle.std.proofs.Common.{◌≡◌, ℕ, ◌<◌, ◌++◌, List, length, take, drop, Option, Some, IfSome, refl, sym, ◌∙◌, ap, ap₂, subst, arith}
+use Rattle.std.proofs.Common.{◌≡◌, ◌<◌, ◌++◌, length, take, drop, Some, IfSome, refl, sym, ◌∙◌, ap, ap₂, subst, arith}
 use Rattle.std.specs.Option.{option_map}
-use Rattle.mau_terms.specs.declared.ids.TermId.{TermId}
 use Rattle.mau_store.specs.Node.{AreOf}
 use Rattle.mau_store.specs.View.{numbers}
 use Rattle.mau_lists.specs.Lists.{IsSubList}
