@@ -1,9 +1,10 @@
 //! Rows of sub-multisets and of parts. A list of constants is written by their letters, and the empty list by `-`; behind the last
 //! list stands a full stop. The constants are numbered against their order, so that the order of numbers is not that of terms.
-ghost use Rattle.std.specs.Prelude.{◌≡◌, OnOk};
+ghost use Rattle.std.specs.Prelude.{◌≡◌, IfOk};
+ghost use Rattle.std.specs.Option.{option_map};
 ghost use Rattle.mau_store.specs.Node.{AreOf};
 ghost use Rattle.mau_store.specs.View.{numbers};
-ghost use Rattle.mau_lists.specs.Terms.{AreSorted};
+ghost use Rattle.mau_lists.specs.Terms.{AreSorted, IsNextSubList};
 
 use super::*;
 use mau_store::{NodeView, Store};
@@ -107,6 +108,26 @@ fn sub_lists_of(rt: &impl Abort, alloc: Global, items: &str, limit: usize) -> Re
     are_items(rt, &store, &items);
     let mut lists = SubLists::new(alloc, &items)?;
     Ok(next_sub_lists(alloc, &store, &mut lists, limit)?)
+}
+
+/// The least sub-multiset behind a list, from what the calls promise alone.
+fn first_behind(
+    alloc: Global,
+    store: &Store,
+    items: &[TermId],
+    list: &[TermId],
+) -> Result<Option<Vec<TermId>>, NoMemory>
+    requires there { AreOf store.now (numbers items.now) }
+    requires sorted { AreSorted store.now (numbers items.now) }
+    requires list { AreOf store.now (numbers list.now) }
+    ensures next { IfOk result (λ first. IsNextSubList store.now (numbers items.now) (numbers list.now) (option_map (λ v. numbers v.items) first)) }
+{
+    let mut lists = SubLists::new(alloc, items)?;
+    lists.after(store, list);
+    match lists.next(store) {
+        Some(first) => Ok(Some(Vec::from_slice(alloc, first)?)),
+        None => Ok(None),
+    }
 }
 
 fn sub_lists_behind(
@@ -218,17 +239,16 @@ fn twenty_elements_begin_with_these_hundred(rt: HostRuntime) -> Result<(), Fail>
     Ok(())
 }
 
-/// How many lists are given before there is none, if they are fewer than the limit.
-fn count(store: &Store, lists: &mut SubLists, limit: usize) -> usize
+/// How many lists are given before there is none.
+fn count(store: &Store, lists: &mut SubLists) -> usize
     requires there { AreOf store.now lists.old.items }
     requires sorted { AreSorted store.now lists.old.items }
 {
-    for given in 0..limit {
-        if lists.next(store).is_none() {
-            return given;
-        }
+    let mut count: usize = 0;
+    while lists.next(store).is_some() {
+        count = count.saturating_add(1);
     }
-    limit
+    count
 }
 
 #[test]
@@ -237,7 +257,22 @@ fn sixteen_elements_have_65536_sub_lists(rt: HostRuntime) -> Result<(), Fail> {
     let items = terms(rt.alloc(), "abcdefghijklmnop")?;
     are_items(&rt, &store, &items);
     let mut lists = SubLists::new(rt.alloc(), &items)?;
-    assert_eq!(rt; count(&store, &mut lists, 100000), 65536);
+    assert_eq!(rt; count(&store, &mut lists), 65536);
+    Ok(())
+}
+
+#[test]
+fn the_first_sub_list_behind_a_list_is_found(rt: HostRuntime) -> Result<(), Fail> {
+    let store = alphabet(rt.alloc())?;
+    let items = terms(rt.alloc(), "abbc")?;
+    let list = terms(rt.alloc(), "abc")?;
+    are_items(&rt, &store, &items);
+    are_there(&rt, &store, &list);
+    let mut text = String::new(rt.alloc());
+    if let Some(first) = first_behind(rt.alloc(), &store, &items, &list)? {
+        write_list(&mut text, &first)?;
+    }
+    assert_eq!(rt; text.as_str(), "ac ");
     Ok(())
 }
 
