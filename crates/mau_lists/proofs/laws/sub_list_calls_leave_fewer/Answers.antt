@@ -1,0 +1,5 @@
+use Rattle.mau_lists.proofs.Fewer.{sub_list_calls_leave_fewer as law}
+use Rattle.mau_lists.proofs.laws.sub_list_calls_leave_fewer.Goals as goal
+
+pub returns : goal.returns
+returns c = law
