@@ -1,0 +1,5 @@
+pub mod Brackets
+pub mod Faults
+pub mod Parts
+pub mod Word
+pub mod Words
