@@ -15,6 +15,6 @@ Reads (Err (Faulty f)) r = r ≡ Err f
 Reads (Err NoMemory) r = Unit {0}
 
 -- a reading, and then what follows from it
-abbrev pub then : {X Y : Type 0} → Reading X → (X → Reading Y) → Reading Y
-then (Ok x) more = more x
-then (Err f) more = Err f
+abbrev pub and_then : {X Y : Type 0} → Reading X → (X → Reading Y) → Reading Y
+and_then (Ok x) more = more x
+and_then (Err f) more = Err f

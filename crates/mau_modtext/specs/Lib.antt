@@ -1,5 +1,6 @@
 pub mod Brackets
 pub mod Faults
 pub mod Parts
+pub mod Sides
 pub mod Word
 pub mod Words

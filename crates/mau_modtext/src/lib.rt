@@ -4,5 +4,7 @@
 mod brackets;
 mod fault;
 mod parts;
+mod raw;
+mod sides;
 mod word;
 
