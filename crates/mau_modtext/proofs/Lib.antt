@@ -1,2 +1,4 @@
+pub mod Labels
 pub mod Outside
 pub mod PartLemmas
+pub mod Readings

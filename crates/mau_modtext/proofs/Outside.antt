@@ -2,7 +2,7 @@
 use Rattle.std.proofs.Common.{◌≡◌, ℕ, zero, suc, ◌+◌, ◌-◌, ◌<◌, ◌≤◌, List, [], ◌∷◌, length, drop, get_or, Bool, true, false, ◌&&◌, cond, Option, Some, None, option_map, refl, sym, ap, ◌∙◌, arith, add-one, nat_eq, drop-cons}
 use Rattle.std.proofs.lemmas.List.{drop_all}
 use Rattle.mau_modtext.specs.Word.{Word}
-use Rattle.mau_modtext.specs.Brackets.{first_from, depth_behind, opens, closes}
+use Rattle.mau_modtext.specs.Brackets.{first_from, closing_from, depth_behind, opens, closes}
 
 -- what is found from a place on, as a place of the whole
 abbrev pub shifted : ℕ → Option ℕ → Option ℕ
@@ -22,6 +22,15 @@ pub found_further : (test : List Word → Bool) (d : ℕ) (w : Word) (ws : List 
     → shifted i (first_from d test (w ∷ ws)) ≡ shifted (i + 1) (first_from (depth_behind d w) test ws)
 found_further test d w ws i e =
     ap (λ b. shifted i (cond b (Some 0) (option_map suc (first_from (depth_behind d w) test ws)))) e ∙ next_place i (first_from (depth_behind d w) test ws)
+
+-- the same for a closing bracket
+pub closed_here : (d : ℕ) (w : Word) (ws : List Word) (i : ℕ) → nat_eq (depth_behind d w) 0 ≡ true → shifted i (closing_from d (w ∷ ws)) ≡ Some i
+closed_here d w ws i e = ap (λ b. shifted i (cond b (Some 0) (option_map suc (closing_from (depth_behind d w) ws)))) e ∙ ap Some (omega arith)
+
+pub closed_further : (d : ℕ) (w : Word) (ws : List Word) (i : ℕ) → nat_eq (depth_behind d w) 0 ≡ false
+    → shifted i (closing_from d (w ∷ ws)) ≡ shifted (i + 1) (closing_from (depth_behind d w) ws)
+closed_further d w ws i e =
+    ap (λ b. shifted i (cond b (Some 0) (option_map suc (closing_from (depth_behind d w) ws)))) e ∙ next_place i (closing_from (depth_behind d w) ws)
 
 by_tests : (a b : Bool) (d : ℕ) → cond a (d + 1) (cond b (d - 1) d) ≤ d + 1
 by_tests true b d = omega arith

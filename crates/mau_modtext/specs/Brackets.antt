@@ -2,8 +2,6 @@
 use Rattle.std.specs.Prelude.{ℕ, suc, ◌+◌, ◌-◌, ◌==◌, List, [], ◌∷◌, Bool, false, ◌&&◌, ◌||◌, Option, Some, None, option_map, if◌then◌else◌, codes}
 use Rattle.mau_modtext.specs.Word.{Word}
 use Rattle.mau_modtext.specs.Words.{is_word}
-use Rattle.mau_modtext.specs.declared.brackets.Sign.{Sign}
-use Rattle.mau_modtext.specs.declared.brackets.Sign.TheVariants.{Stop, Subject, Condition, Using, And, Equals, Colon, Arrow, Assigns}
 
 abbrev pub opens : Word → Bool
 opens w = is_word (codes "(") w || is_word (codes "[") w || is_word (codes "{") w
@@ -29,19 +27,10 @@ abbrev pub begins : List ℕ → List Word → Bool
 begins text [] = false
 begins text (w ∷ ws) = is_word text w
 
--- the words begin with `s.t.` or `such that`
-abbrev pub begins_condition : List Word → Bool
-begins_condition [] = false
-begins_condition (w ∷ ws) = is_word (codes "s.t.") w || (is_word (codes "such") w && begins (codes "that") ws)
+-- the place of the closing bracket of the one with which the words begin, where d brackets are open before
+abbrev pub closing_from : ℕ → List Word → Option ℕ
+closing_from d [] = None
+closing_from d (w ∷ ws) = if depth_behind d w == 0 then Some 0 else option_map suc (closing_from (depth_behind d w) ws)
 
--- the words begin with the sign
-abbrev pub stands : Sign → List Word → Bool
-stands Stop ws = begins (codes ".") ws
-stands Subject ws = begins (codes "<=?") ws
-stands Condition ws = begins_condition ws
-stands Using ws = begins (codes "using") ws
-stands And ws = begins (codes "/\\") ws
-stands Equals ws = begins (codes "=") ws
-stands Colon ws = begins (codes ":") ws
-stands Arrow ws = begins (codes "=>") ws
-stands Assigns ws = begins (codes ":=") ws
+abbrev pub closing : List Word → Option ℕ
+closing ws = closing_from 0 ws

@@ -5,7 +5,8 @@ use Rattle.mau_tokens.specs.declared.token.Token.{Token}
 use Rattle.mau_modtext.specs.Word.{Word}
 use Rattle.mau_modtext.specs.Words.{place, tokens}
 use Rattle.mau_modtext.specs.Faults.{Reading, and_then}
-use Rattle.mau_modtext.specs.Brackets.{first_outside, stands}
+use Rattle.mau_modtext.specs.Brackets.{first_outside}
+use Rattle.mau_modtext.specs.Signs.{stands}
 use Rattle.mau_modtext.specs.Parts.{parts}
 use Rattle.mau_modtext.specs.declared.fault.Fault.TheVariants.{Unexpected}
 use Rattle.mau_modtext.specs.declared.brackets.Sign.{Sign}

@@ -1,5 +1,5 @@
 -- The words of a text, and tests of them.
-use Rattle.std.specs.Prelude.{ℕ, List, map, Bool, slice_range}
+use Rattle.std.specs.Prelude.{ℕ, ◌==◌, List, [], ◌∷◌, map, Bool, false, slice_range}
 use Rattle.std.specs.Str.{bytes_eq}
 use Rattle.mau_tokens.specs.declared.token.Token.{Token}
 use Rattle.mau_modtext.specs.Word.{Word}
@@ -20,3 +20,12 @@ place w = w.token.start
 
 abbrev pub tokens : List Word → List Token
 tokens ws = map (λ w. w.token) ws
+
+-- the text begins with a quote
+abbrev pub begins_string : List ℕ → Bool
+begins_string [] = false
+begins_string (c ∷ cs) = c == 34
+
+-- a string token
+abbrev pub is_string : Word → Bool
+is_string w = begins_string w.text

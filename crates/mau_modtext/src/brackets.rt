@@ -1,6 +1,7 @@
 //! Places outside brackets.
-ghost use Rattle.std.specs.Prelude.{◌≡◌, ◌<◌, ◌≤◌, ◌+◌, ◌==◌, ◌&&◌, codes, length, IfSome};
-ghost use Rattle.mau_modtext.specs.Brackets.{stands};
+ghost use Rattle.std.specs.Prelude.{◌≡◌, ◌<◌, ◌≤◌, ◌+◌, ◌==◌, ◌&&◌, codes, length, take, drop, IfSome};
+ghost use Rattle.mau_modtext.specs.Brackets;
+ghost use Rattle.mau_modtext.specs.Signs.{stands};
 
 use crate::word::Word;
 
@@ -22,11 +23,13 @@ pub enum Sign {
     Arrow,
     /// `:=`.
     Assigns,
+    /// A list of a statement's attributes, with which the words end.
+    Attributes,
 }
 
 /// Whether the first word reads so.
 pub fn begins(words: &[Word], text: &str) -> bool
-    ensures { result ≡ Rattle.mau_modtext.specs.Brackets.begins text.now words.now }
+    ensures { result ≡ Brackets.begins text.now words.now }
 {
     match words.split_first() {
         Some((word, _)) => word.is(text),
@@ -36,7 +39,7 @@ pub fn begins(words: &[Word], text: &str) -> bool
 
 /// Whether the words begin with `s.t.` or `such that`.
 fn begins_condition(words: &[Word]) -> bool
-    ensures { result ≡ Rattle.mau_modtext.specs.Brackets.begins_condition words.now }
+    ensures { result ≡ Rattle.mau_modtext.specs.Signs.begins_condition words.now }
 {
     match words.split_first() {
         Some((word, rest)) => word.is("s.t.") || (word.is("such") && begins(rest, "that")),
@@ -44,9 +47,59 @@ fn begins_condition(words: &[Word]) -> bool
     }
 }
 
+/// The words behind the first `count`, or none.
+pub fn behind<'a, 'b>(words: &'a [Word<'b>], count: usize) -> &'a [Word<'b>]
+    ensures { result.now ≡ drop count words.now }
+{
+    if count < words.len() {
+        &words[count..]
+    } else {
+        &[]
+    }
+}
+
+/// The first `count` words.
+pub fn front<'a, 'b>(words: &'a [Word<'b>], count: usize) -> &'a [Word<'b>]
+    requires { count ≤ length words.now }
+    ensures { result.now ≡ take count words.now }
+{
+    &words[..count]
+}
+
+/// Whether an attribute of a statement begins here.
+fn begins_attribute(words: &[Word]) -> bool
+    ensures { result ≡ Rattle.mau_modtext.specs.Signs.begins_attribute words.now }
+{
+    match words.split_first() {
+        Some((word, _)) => matches!(
+            word.text(),
+            "label" | "owise" | "otherwise" | "nonexec" | "metadata" | "print" | "variant"
+        ),
+        None => false,
+    }
+}
+
+/// Whether the bracket that is closed at `end` is a group of all the words.
+fn is_group(words: &[Word], end: Option<usize>) -> bool
+    requires { IfSome end (λ i. i < length words.now) }
+    ensures { result ≡ Rattle.mau_modtext.specs.Signs.is_group words.now end }
+{
+    match end {
+        Some(end) => end + 1 == words.len() && begins(behind(words, end), "]"),
+        None => false,
+    }
+}
+
+/// Whether the words are a list of a statement's attributes.
+fn begins_attributes(words: &[Word]) -> bool
+    ensures { result ≡ Rattle.mau_modtext.specs.Signs.begins_attributes words.now }
+{
+    begins(words, "[") && begins_attribute(behind(words, 1)) && is_group(words, closing(words))
+}
+
 impl Sign {
     ghost use Rattle.std.specs.Prelude.{◌≡◌};
-    ghost use Rattle.mau_modtext.specs.Brackets.{stands};
+    ghost use Rattle.mau_modtext.specs.Signs.{stands};
 
     /// Whether the words begin with the sign.
     fn stands(self, words: &[Word]) -> bool
@@ -62,6 +115,7 @@ impl Sign {
             Sign::Colon => begins(words, ":"),
             Sign::Arrow => begins(words, "=>"),
             Sign::Assigns => begins(words, ":="),
+            Sign::Attributes => begins_attributes(words),
         }
     }
 }
@@ -69,13 +123,28 @@ impl Sign {
 /// How many brackets are open behind a word, where `depth` are open before it.
 pub fn depth_behind(depth: usize, word: &Word) -> usize
     requires { depth + 1 < 18446744073709551616 }
-    ensures { result ≡ Rattle.mau_modtext.specs.Brackets.depth_behind depth word.now }
+    ensures { result ≡ Brackets.depth_behind depth word.now }
 {
     match word.text() {
         "(" | "[" | "{" => depth + 1,
         ")" | "]" | "}" => depth.saturating_sub(1),
         _ => depth,
     }
+}
+
+/// The place of the closing bracket of the one with which the words begin.
+pub fn closing(words: &[Word]) -> Option<usize>
+    ensures closing { result ≡ Brackets.closing words.now }
+    ensures within { IfSome result (λ i. i < length words.now) }
+{
+    let mut depth = 0;
+    for i in 0..words.len() {
+        depth = depth_behind(depth, &words[i]);
+        if depth == 0 {
+            return Some(i);
+        }
+    }
+    None
 }
 
 /// Whether the words begin with the sign, outside brackets.
@@ -87,7 +156,7 @@ fn stands_outside(depth: usize, words: &[Word], sign: Sign) -> bool
 
 /// The first place of a sign outside brackets.
 pub fn first_outside(words: &[Word], sign: Sign) -> Option<usize>
-    ensures first { result ≡ Rattle.mau_modtext.specs.Brackets.first_outside (stands sign) words.now }
+    ensures first { result ≡ Brackets.first_outside (stands sign) words.now }
     ensures within { IfSome result (λ i. i < length words.now) }
 {
     let mut depth = 0;

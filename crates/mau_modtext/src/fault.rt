@@ -1,5 +1,7 @@
 //! Why words don't read.
-ghost use Rattle.std.specs.Prelude.{◌≡◌};
+ghost use Rattle.std.specs.Prelude.{◌≡◌, Ok, Err};
+ghost use Rattle.mau_modtext.specs.Faults;
+ghost use Rattle.mau_modtext.specs.Faults.{Reading, Reads};
 
 use mau_terms::NoMemory;
 use std::alloc::{AllocError, AllocFailed};
@@ -84,5 +86,46 @@ impl<T: Drop> From<AllocFailed<T>> for ReadFault {
 
     fn from(_: AllocFailed<T>) -> ReadFault {
         ReadFault::NoMemory
+    }
+}
+
+/// The place of a fault.
+fn fault_place(fault: Fault) -> u32
+    ensures { result ≡ Faults.fault_place fault }
+{
+    match fault {
+        Fault::Unexpected(at) | Fault::Unsupported(_, at) => at,
+    }
+}
+
+/// The fault at the lesser place.
+fn earlier(first: Fault, second: Fault) -> Fault
+    ensures { result ≡ Faults.earlier first second }
+{
+    if fault_place(second) < fault_place(first) {
+        second
+    } else {
+        first
+    }
+}
+
+/// Two readings side by side: of two faults the earlier is named.
+pub fn both<X: Drop, Y: Drop>(
+    first: Result<X, ReadFault>,
+    second: Result<Y, ReadFault>,
+) -> Result<(X, Y), ReadFault>
+    ensures { (r : Reading X) → (s : Reading Y) → Reads first r → Reads second s → Reads result (Faults.both r s) }
+{
+    match first {
+        Ok(x) => match second {
+            Ok(y) => Ok((x, y)),
+            Err(fault) => Err(fault),
+        },
+        Err(ReadFault::NoMemory) => Err(ReadFault::NoMemory),
+        Err(ReadFault::Fault(fault)) => match second {
+            Ok(_y) => Err(ReadFault::Fault(fault)),
+            Err(ReadFault::NoMemory) => Err(ReadFault::NoMemory),
+            Err(ReadFault::Fault(other)) => Err(ReadFault::Fault(earlier(fault, other))),
+        },
     }
 }

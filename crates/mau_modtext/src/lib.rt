@@ -6,5 +6,6 @@ mod fault;
 mod parts;
 mod raw;
 mod sides;
+mod statements;
 mod word;
 

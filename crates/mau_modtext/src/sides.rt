@@ -1,7 +1,7 @@
 //! Reading terms, the two sides of a sign, and conditions.
 ghost use Rattle.std.specs.Prelude.{◌≡◌, ◌<◌, ◌≤◌, ◌+◌, length, drop, IfSome, Ok, Some};
 ghost use Rattle.mau_modtext.specs.Faults.{Reads};
-ghost use Rattle.mau_modtext.specs.Brackets.{stands, first_outside as first};
+ghost use Rattle.mau_modtext.specs.Signs.{stands};
 ghost use Rattle.mau_modtext.specs.Sides.{sides, sides_at, condition, fragment, fragment_part};
 
 use crate::brackets::{Sign, first_outside};

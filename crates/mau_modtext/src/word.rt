@@ -1,7 +1,7 @@
 //! The words of a text: its tokens with what they read.
 ghost use Rattle.std.specs.Prelude.{◌≡◌, ◌++◌, map, codes, IfOk};
 ghost use Rattle.mau_tokens.specs.Spans.{AreSpans};
-ghost use Rattle.mau_modtext.specs.Words.{words_of, is_word};
+ghost use Rattle.mau_modtext.specs.Words.{words_of, is_word, is_string};
 
 use mau_terms::{NoMemory, Seq};
 use mau_tokens::Token;
@@ -46,6 +46,16 @@ impl<'a> Word<'a> {
         ensures { result ≡ self.now.token.start }
     {
         self.token.start
+    }
+
+    /// Whether it is a string token.
+    pub fn is_string(&self) -> bool
+        ensures { result ≡ is_string self.now }
+    {
+        match self.text.as_bytes().split_first() {
+            Some((first, _)) => *first == b'"',
+            None => false,
+        }
     }
 
     /// Whether it reads so.

@@ -1,5 +1,6 @@
 use Rattle.std.proofs.Common.{◌≡◌, ◌≤◌, drop}
-use Rattle.mau_modtext.specs.Brackets.{stands, first_from}
+use Rattle.mau_modtext.specs.Brackets.{first_from}
+use Rattle.mau_modtext.specs.Signs.{stands}
 use Rattle.mau_modtext.proofs.Outside.{shifted}
 use Rattle.mau_modtext.proofs.brackets.first_outside.Given as goal
 
