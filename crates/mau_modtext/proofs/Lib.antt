@@ -1,4 +1,5 @@
 pub mod Labels
+pub mod NumeralLemmas
 pub mod Outside
 pub mod PartLemmas
 pub mod Readings

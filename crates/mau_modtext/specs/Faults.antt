@@ -15,6 +15,11 @@ Reads (Ok x) r = r ≡ Ok x
 Reads (Err (Faulty f)) r = r ≡ Err f
 Reads (Err NoMemory) r = Unit {0}
 
+-- the fact of a fault; want of memory says nothing
+abbrev pub IfFault : ReadFault → (Fault → Type 0) → Type 0
+IfFault (Faulty f) P = P f
+IfFault NoMemory P = Unit {0}
+
 -- a reading, and then what follows from it
 abbrev pub and_then : {X Y : Type 0} → Reading X → (X → Reading Y) → Reading Y
 and_then (Ok x) more = more x

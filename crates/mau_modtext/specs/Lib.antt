@@ -1,5 +1,14 @@
+pub mod Attributes
 pub mod Brackets
+pub mod Commands
+pub mod Elements
 pub mod Faults
+pub mod Features
+pub mod Forms
+pub mod Items
+pub mod Modules
+pub mod Names
+pub mod Numerals
 pub mod Parts
 pub mod Sides
 pub mod Signs

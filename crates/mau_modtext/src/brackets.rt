@@ -25,6 +25,8 @@ pub enum Sign {
     Assigns,
     /// A list of a statement's attributes, with which the words end.
     Attributes,
+    /// What an attribute of an operator begins with.
+    OperatorAttribute,
 }
 
 /// Whether the first word reads so.
@@ -79,6 +81,21 @@ fn begins_attribute(words: &[Word]) -> bool
     }
 }
 
+/// Whether an attribute of an operator begins here.
+fn begins_operator_attribute(words: &[Word]) -> bool
+    ensures { result ≡ Rattle.mau_modtext.specs.Signs.begins_operator_attribute words.now }
+{
+    match words.split_first() {
+        Some((word, _)) => matches!(
+            word.text(),
+            "assoc" | "comm" | "id:" | "prec" | "gather" | "strat" | "frozen" | "ctor" | "memo"
+                | "ditto" | "format" | "metadata" | "idem" | "iter" | "poly" | "special"
+                | "config" | "object" | "msg" | "portal" | "pconst" | "left" | "right"
+        ),
+        None => false,
+    }
+}
+
 /// Whether the bracket that is closed at `end` is a group of all the words.
 fn is_group(words: &[Word], end: Option<usize>) -> bool
     requires { IfSome end (λ i. i < length words.now) }
@@ -116,6 +133,7 @@ impl Sign {
             Sign::Arrow => begins(words, "=>"),
             Sign::Assigns => begins(words, ":="),
             Sign::Attributes => begins_attributes(words),
+            Sign::OperatorAttribute => begins_operator_attribute(words),
         }
     }
 }

@@ -40,6 +40,48 @@ pub enum Feature {
     Variant,
 }
 
+impl Feature {
+    ghost use Rattle.std.specs.Prelude.{◌≡◌};
+    ghost use Rattle.mau_modtext.specs.Features.{name_of};
+
+    /// Its name.
+    pub fn name(self) -> &'static str
+        ensures { result.now ≡ name_of self }
+    {
+        match self {
+            Feature::Load => "load",
+            Feature::In => "in",
+            Feature::View => "view",
+            Feature::Fth => "fth",
+            Feature::Th => "th",
+            Feature::Sth => "sth",
+            Feature::Search => "search",
+            Feature::Srewrite => "srewrite",
+            Feature::Srew => "srew",
+            Feature::Unify => "unify",
+            Feature::Narrow => "narrow",
+            Feature::Omod => "omod",
+            Feature::Show => "show",
+            Feature::SetInclude => "set include",
+            Feature::SetProtect => "set protect",
+            Feature::SetExtend => "set extend",
+            Feature::Idem => "idem",
+            Feature::Iter => "iter",
+            Feature::Poly => "poly",
+            Feature::Special => "special",
+            Feature::Config => "config",
+            Feature::Object => "object",
+            Feature::Msg => "msg",
+            Feature::Portal => "portal",
+            Feature::Pconst => "pconst",
+            Feature::LeftId => "left id:",
+            Feature::RightId => "right id:",
+            Feature::Print => "print",
+            Feature::Variant => "variant",
+        }
+    }
+}
+
 /// Why words don't read, with a place in the text.
 #[derive(Clone, Copy, Debug, PartialEq, Eq)]
 pub enum Fault {

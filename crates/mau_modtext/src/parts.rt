@@ -1,7 +1,7 @@
 //! Reading parts that follow one another.
-ghost use Rattle.std.specs.Prelude.{◌≡◌, ◌<◌, ◌≤◌, ◌+◌, ℕ, List, length, IfOk};
+ghost use Rattle.std.specs.Prelude.{◌≡◌, ◌<◌, ◌≤◌, ◌+◌, ℕ, List, length, IfOk, IfErr, Ok, Err};
 ghost use Rattle.mau_modtext.specs.Word.{Word as Read};
-ghost use Rattle.mau_modtext.specs.Faults.{Reading, Reads};
+ghost use Rattle.mau_modtext.specs.Faults.{Reading, Reads, IfFault};
 ghost use Rattle.mau_modtext.specs.Parts.{parts};
 
 use crate::fault::ReadFault;
@@ -22,12 +22,13 @@ pub trait PartReader<T> {
 }
 
 /// Reads one part after another, up to the end of the words.
-pub fn read_parts<T: Drop, R: PartReader<T>>(
+pub fn collect_parts<T: Drop, R: PartReader<T>>(
     alloc: Global,
     reader: &R,
     words: &[Word],
-) -> Result<Seq<T>, ReadFault>
-    ensures { Reads result (parts (R.part reader.now) words.now) }
+) -> Result<Vec<T>, ReadFault>
+    ensures ok { IfOk result (λ found. parts (R.part reader.now) words.now ≡ Ok found.items) }
+    ensures fault { IfErr result (λ e. IfFault e (λ f. parts (R.part reader.now) words.now ≡ Err f)) }
 {
     let mut parts = Vec::new(alloc);
     let mut from = 0;
@@ -40,5 +41,20 @@ pub fn read_parts<T: Drop, R: PartReader<T>>(
             Err(fault) => return Err(fault),
         }
     }
-    Ok(Seq::new(parts))
+    Ok(parts)
+}
+
+/// Reads one part after another into a list.
+pub fn read_parts<T: Drop, R: PartReader<T>>(
+    alloc: Global,
+    reader: &R,
+    words: &[Word],
+) -> Result<Seq<T>, ReadFault>
+    ensures { Reads result (parts (R.part reader.now) words.now) }
+{
+    match collect_parts(alloc, reader, words) {
+        Ok(parts) => Ok(Seq::new(parts)),
+        Err(ReadFault::Fault(fault)) => Err(ReadFault::Fault(fault)),
+        Err(ReadFault::NoMemory) => Err(ReadFault::NoMemory),
+    }
 }

@@ -33,7 +33,8 @@ pub fn attribute(
 ) -> Result<(RawAttr, usize), ReadFault>
     requires some { 0 < count }
     requires within { count ≤ length words.now }
-    ensures { Reads result (Ok (Statements.attribute words.now count)) }
+    ensures reads { Reads result (Ok (Statements.attribute words.now count)) }
+    ensures count { IfOk result (λ p. (0 < p.1) × (p.1 ≤ length words.now)) }
 {
     let (attribute, _) = words.split_at(count);
     let (name, value) = attribute.split_at(1);
@@ -87,7 +88,8 @@ fn label_attribute(
     behind: u32,
 ) -> Result<(RawAttr, usize), ReadFault>
     requires { 0 < length words.now }
-    ensures { Reads result (Statements.with_word (λ _. true) behind words.now (drop 1 words.now)) }
+    ensures reads { Reads result (Statements.with_word (λ _. true) behind words.now (drop 1 words.now)) }
+    ensures count { IfOk result (λ p. (0 < p.1) × (p.1 ≤ length words.now)) }
 {
     if words.len() < 2 {
         return unexpected(behind);
@@ -102,7 +104,8 @@ pub fn metadata_attribute(
     behind: u32,
 ) -> Result<(RawAttr, usize), ReadFault>
     requires { 0 < length words.now }
-    ensures { Reads result (Statements.with_word is_string behind words.now (drop 1 words.now)) }
+    ensures reads { Reads result (Statements.with_word is_string behind words.now (drop 1 words.now)) }
+    ensures count { IfOk result (λ p. (0 < p.1) × (p.1 ≤ length words.now)) }
 {
     match crate::brackets::behind(words, 1).split_first() {
         Some((value, _)) => {
@@ -172,7 +175,7 @@ fn label_given(words: &[Word]) -> Option<Token>
 }
 
 /// The token of the first word.
-fn first_token(words: &[Word]) -> Option<Token>
+pub fn first_token(words: &[Word]) -> Option<Token>
     ensures { result ≡ Statements.first_token words.now }
 {
     match words.split_first() {
@@ -227,7 +230,7 @@ fn behind_core(words: &[Word], attributes: Option<usize>, stop: u32) -> u32
 }
 
 /// The place of the last word.
-fn last_place(words: &[Word], stop: u32) -> u32
+pub fn last_place(words: &[Word], stop: u32) -> u32
     ensures { result ≡ Statements.last_place stop words.now }
 {
     place_or(behind(words, words.len().saturating_sub(1)), stop)
@@ -324,7 +327,7 @@ fn read_core(
 }
 
 /// The words before the last one.
-fn without_last<'a, 'b>(words: &'a [Word<'b>]) -> &'a [Word<'b>]
+pub fn without_last<'a, 'b>(words: &'a [Word<'b>]) -> &'a [Word<'b>]
     ensures { result.now ≡ Statements.without_last words.now }
 {
     front(words, words.len().saturating_sub(1))

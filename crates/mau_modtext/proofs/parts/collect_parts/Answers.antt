@@ -2,7 +2,7 @@ use Rattle.std.proofs.Common.{◌≡◌, ◌<◌, ◌≤◌, ◌+◌, ◌-◌, l
 use Rattle.std.proofs.lemmas.List.{take_rest, drop-drop}
 use Rattle.mau_modtext.specs.Parts.{parts_from}
 use Rattle.mau_modtext.proofs.PartLemmas.{behind_parts, part_then, one_more}
-use Rattle.mau_modtext.proofs.parts.read_parts.Goals as goal
+use Rattle.mau_modtext.proofs.parts.collect_parts.Goals as goal
 
 pub loop-from-preserved : goal.loop-from-preserved
 loop-from-preserved g c =

@@ -1,7 +1,7 @@
 use Rattle.std.proofs.Common.{length, ◌-◌, ◌≡◌, ◌≤◌, drop}
 use Rattle.mau_modtext.specs.Parts.{parts, parts_from}
 use Rattle.mau_modtext.proofs.PartLemmas.{behind_parts}
-use Rattle.mau_modtext.proofs.parts.read_parts.Given as goal
+use Rattle.mau_modtext.proofs.parts.collect_parts.Given as goal
 
 abbrev pub invariant-loop-from : goal.invariant-loop-from
 invariant-loop-from g l = record {
