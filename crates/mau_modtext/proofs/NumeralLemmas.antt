@@ -17,6 +17,7 @@ too_large t e limit n h l = sym (and_right (is_numeral t) _ (lt-leb _ _ (over (c
     some =
         let none : length t ≡ 0 → ⊥ = eqb-false (length t) 0 (not-true _ (and_parts _ _ (and_parts _ _ n).0).0) in
         omega arith
+
     over : (digits_value 10 t < 2 ^ 8) ⊎ (2 ^ 8 ≤ digits_value 10 t) → limit < digits_value 10 t
     over (inl s) = absurd (parse_digits own 8 t (Err e) h (and_parts _ _ n).1 (some, s))
     over (inr s) = omega arith

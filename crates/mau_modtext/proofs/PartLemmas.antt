@@ -27,4 +27,3 @@ part_then part x (suc n) (w ∷ ws) e h l =
 pub one_more : {X : Type 0} (xs : List X) (x : X) (r : Reading (List X)) → behind_parts xs (before_parts x r) ≡ behind_parts (xs ++ x ∷ []) r
 one_more xs x (Ok ys) = ap Ok (sym (append_assoc xs (x ∷ []) ys))
 one_more xs x (Err f) = refl
-

@@ -34,7 +34,7 @@ has_strategies _ = false
 abbrev pub keyword_of : ModuleKind → Word → Keyword
 keyword_of kind w =
     if is_word (codes "protecting") w || is_word (codes "pr") w || is_word (codes "extending") w || is_word (codes "ex") w
-        || is_word (codes "including") w || is_word (codes "inc") w then ImportWord
+    || is_word (codes "including") w || is_word (codes "inc") w then ImportWord
     else (if is_word (codes "sort") w || is_word (codes "sorts") w then SortsWord
     else (if is_word (codes "subsort") w || is_word (codes "subsorts") w then SubsortsWord
     else (if is_word (codes "op") w then Op

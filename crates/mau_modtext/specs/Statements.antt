@@ -156,7 +156,7 @@ raw_statement h label attrs p =
 abbrev pub statement_at : Head → Option Token → List Word → Option ℕ → Reading RawStatement
 statement_at h label ws a =
     and_then (both (core h (behind_core h.stop ws a) (before_attributes ws a))
-        (parts (statement_attribute h.kind (last_place h.stop ws)) (in_attributes ws a))) (λ p.
+    (parts (statement_attribute h.kind (last_place h.stop ws)) (in_attributes ws a))) (λ p.
     Ok (raw_statement h label (in_attributes ws a) p))
 
 abbrev pub statement_behind : Head → Option Token → List Word → Reading RawStatement

@@ -288,11 +288,7 @@ fn read_inside(
 }
 
 /// Reads a list of attributes whose bracket is never closed.
-fn read_unclosed(
-    alloc: Global,
-    inside: &[Word],
-    stop: u32,
-) -> Result<Seq<RawAttr>, ReadFault>
+fn read_unclosed(alloc: Global, inside: &[Word], stop: u32) -> Result<Seq<RawAttr>, ReadFault>
     ensures { Reads result (Attributes.list_unclosed stop inside.now) }
 {
     let _attrs = read_parts(alloc, &OperatorAttributes { behind: stop }, inside)?;

@@ -88,9 +88,29 @@ fn begins_operator_attribute(words: &[Word]) -> bool
     match words.split_first() {
         Some((word, _)) => matches!(
             word.text(),
-            "assoc" | "comm" | "id:" | "prec" | "gather" | "strat" | "frozen" | "ctor" | "memo"
-                | "ditto" | "format" | "metadata" | "idem" | "iter" | "poly" | "special"
-                | "config" | "object" | "msg" | "portal" | "pconst" | "left" | "right"
+            "assoc"
+                | "comm"
+                | "id:"
+                | "prec"
+                | "gather"
+                | "strat"
+                | "frozen"
+                | "ctor"
+                | "memo"
+                | "ditto"
+                | "format"
+                | "metadata"
+                | "idem"
+                | "iter"
+                | "poly"
+                | "special"
+                | "config"
+                | "object"
+                | "msg"
+                | "portal"
+                | "pconst"
+                | "left"
+                | "right"
         ),
         None => false,
     }

@@ -186,12 +186,7 @@ fn read_match_at(
 }
 
 /// Reads what a command of this kind works on.
-fn read_body(
-    alloc: Global,
-    kind: CommandKind,
-    words: &[Word],
-    stop: u32,
-) -> Result<Body, ReadFault>
+fn read_body(alloc: Global, kind: CommandKind, words: &[Word], stop: u32) -> Result<Body, ReadFault>
     ensures { Reads result (Commands.body kind stop words.now) }
 {
     match kind {
@@ -204,11 +199,7 @@ fn read_body(
         }
         _ => {
             let term = some_tokens(alloc, words, stop)?;
-            Ok((
-                term,
-                Seq::new(Vec::new(alloc)),
-                Seq::new(Vec::new(alloc)),
-            ))
+            Ok((term, Seq::new(Vec::new(alloc)), Seq::new(Vec::new(alloc))))
         }
     }
 }

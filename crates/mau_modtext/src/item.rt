@@ -150,9 +150,7 @@ fn read_body_by(
     ensures { Reads result (Items.body_by keyword at last words.now) }
 {
     match keyword {
-        Keyword::Module(kind) => {
-            Ok(RawBody::Module(read_module(alloc, kind, at, words, last)?))
-        }
+        Keyword::Module(kind) => { Ok(RawBody::Module(read_module(alloc, kind, at, words, last)?)) }
         Keyword::Quit => Ok(RawBody::Quit),
         Keyword::Command(kind) => {
             Ok(RawBody::Command(read_command(alloc, kind, at, words, last)?))
@@ -170,7 +168,13 @@ fn read_body(alloc: Global, keyword: Keyword, words: &[Word]) -> Result<RawBody,
     ensures { Reads result (Items.body_of keyword words.now) }
 {
     let inside = without_last(behind(words, 1));
-    read_body_by(alloc, keyword, place_or(words, 0), inside, last_place(words, 0))
+    read_body_by(
+        alloc,
+        keyword,
+        place_or(words, 0),
+        inside,
+        last_place(words, 0),
+    )
 }
 
 /// The fault of a text, with the name of what is known by it alone.

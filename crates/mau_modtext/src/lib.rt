@@ -21,6 +21,10 @@ mod word;
 pub use item::items;
 pub use raw::{
     CommandKind, FragmentKind, ModuleKind, RawAttr, RawBody, RawCommand, RawElement, RawFragment,
-    RawItem, RawModule, RawOps, RawStatement, RawStrats, RawVars, Setting, StatementKind, TextFault,
+    RawItem, RawModule, RawOps, RawStatement, RawStrats, RawVars, Setting, StatementKind,
+    TextFault,
 };
 pub use word::TokenList;
+
+#[cfg(test)]
+mod tests;

@@ -148,7 +148,14 @@ fn read_ops_sorts(
 ) -> Result<RawOps, ReadFault>
     ensures { Reads result (Elements.ops_sorts at stop forms words.now) }
 {
-    read_ops_args(alloc, at, forms, words, words_before(words, End::Arrow), stop)
+    read_ops_args(
+        alloc,
+        at,
+        forms,
+        words,
+        words_before(words, End::Arrow),
+        stop,
+    )
 }
 
 /// Behind the forms of a declaration: a colon.

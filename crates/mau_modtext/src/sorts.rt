@@ -156,11 +156,7 @@ pub fn read_sorts(alloc: Global, words: &[Word], stop: u32) -> Result<Seq<TokenL
 }
 
 /// Reads sorts that are named, one at least.
-fn read_sort_list(
-    alloc: Global,
-    words: &[Word],
-    place: u32,
-) -> Result<Seq<TokenList>, ReadFault>
+fn read_sort_list(alloc: Global, words: &[Word], place: u32) -> Result<Seq<TokenList>, ReadFault>
     ensures { Reads result (Elements.sort_list place words.now) }
 {
     if words.is_empty() {
@@ -366,5 +362,11 @@ pub fn read_strats(
 ) -> Result<RawStrats, ReadFault>
     ensures { Reads result (Elements.strats at stop words.now) }
 {
-    read_strats_at(alloc, at, words, words_before(words, End::StrategyNames), stop)
+    read_strats_at(
+        alloc,
+        at,
+        words,
+        words_before(words, End::StrategyNames),
+        stop,
+    )
 }

@@ -26,11 +26,7 @@ pub struct Head {
 }
 
 /// An attribute of so many words, the first of which is its name.
-pub fn attribute(
-    alloc: Global,
-    words: &[Word],
-    count: usize,
-) -> Result<(RawAttr, usize), ReadFault>
+pub fn attribute(alloc: Global, words: &[Word], count: usize) -> Result<(RawAttr, usize), ReadFault>
     requires some { 0 < count }
     requires within { count ≤ length words.now }
     ensures reads { Reads result (Ok (Statements.attribute words.now count)) }
@@ -206,10 +202,7 @@ fn behind_label<'a, 'b>(words: &'a [Word<'b>], label: Option<Token>) -> &'a [Wor
 }
 
 /// The words before the attributes.
-fn before_attributes<'a, 'b>(
-    words: &'a [Word<'b>],
-    attributes: Option<usize>,
-) -> &'a [Word<'b>]
+fn before_attributes<'a, 'b>(words: &'a [Word<'b>], attributes: Option<usize>) -> &'a [Word<'b>]
     requires { IfSome attributes (λ a. a < length words.now) }
     ensures { result.now ≡ Statements.before_attributes words.now attributes }
 {
@@ -309,12 +302,7 @@ fn read_conditional(
 }
 
 /// Reads what stands before the attributes.
-fn read_core(
-    alloc: Global,
-    head: Head,
-    words: &[Word],
-    behind_core: u32,
-) -> Result<Core, ReadFault>
+fn read_core(alloc: Global, head: Head, words: &[Word], behind_core: u32) -> Result<Core, ReadFault>
     ensures { Reads result (Statements.core head behind_core words.now) }
 {
     if head.has_if {
@@ -396,11 +384,7 @@ fn read_statement_at(
 }
 
 /// Reads the statement of the words between its keyword and its full stop.
-pub fn read_statement(
-    alloc: Global,
-    head: Head,
-    words: &[Word],
-) -> Result<RawStatement, ReadFault>
+pub fn read_statement(alloc: Global, head: Head, words: &[Word]) -> Result<RawStatement, ReadFault>
     ensures { Reads result (Statements.statement head words.now) }
 {
     let label = label_before(words);

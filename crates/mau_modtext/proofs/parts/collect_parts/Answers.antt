@@ -11,8 +11,8 @@ loop-from-preserved g c =
       within = omega (arith, c.in-Ok.ensures.within, ap length (take_rest c.args.words.now c.loop-from.from), length-drop c.loop-from.from c.args.words.now);
       rest = c.loop-from.invariant.rest
           ∙ ap (behind_parts c.loop-from.parts.items)
-            (part_then (g.R.PartReader.part c.args.reader.now) c.in-Ok.part c.in-Ok.count (drop c.loop-from.from c.args.words.now)
-              (ap (g.R.PartReader.part c.args.reader.now) (sym (take_rest c.args.words.now c.loop-from.from)) ∙ c.in-Ok.ensures.part) c.in-Ok.ensures.some left)
+          (part_then (g.R.PartReader.part c.args.reader.now) c.in-Ok.part c.in-Ok.count (drop c.loop-from.from c.args.words.now)
+          (ap (g.R.PartReader.part c.args.reader.now) (sym (take_rest c.args.words.now c.loop-from.from)) ∙ c.in-Ok.ensures.part) c.in-Ok.ensures.some left)
           ∙ one_more c.loop-from.parts.items c.in-Ok.part _
           ∙ ap (λ ws. behind_parts (c.loop-from.parts.items ++ c.in-Ok.part ∷ []) (parts_from (g.R.PartReader.part c.args.reader.now) 0 ws)) (drop-drop c.in-Ok.count c.loop-from.from c.args.words.now)
           ∙ ap (λ xs. behind_parts xs (parts_from (g.R.PartReader.part c.args.reader.now) 0 (drop (c.loop-from.from + c.in-Ok.count) c.args.words.now))) (sym c.in_ok-push-in-Ok.ensures.items);

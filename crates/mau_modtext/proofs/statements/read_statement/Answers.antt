@@ -11,4 +11,4 @@ returns c =
     let ws = c.args.words.now in
     let rest = c.behind_label-rest.ensures ∙ ap (Statements.behind_label ws) c.label_before-label.ensures in
     along _ (ap3 (Statements.statement_at c.args.head) c.label_before-label.ensures rest (c.first_outside-attributes.ensures.first ∙ ap (first_outside (stands Attributes)) rest))
-      c.read_statement_at.ensures
+    c.read_statement_at.ensures
