@@ -1,3 +1,4 @@
+pub mod ItemLemmas
 pub mod Labels
 pub mod NumeralLemmas
 pub mod Outside

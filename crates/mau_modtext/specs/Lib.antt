@@ -6,6 +6,7 @@ pub mod Faults
 pub mod Features
 pub mod Forms
 pub mod Items
+pub mod Laws
 pub mod Modules
 pub mod Names
 pub mod Numerals

@@ -8,6 +8,7 @@ mod elements;
 mod fault;
 mod forms;
 mod item;
+pub mod laws;
 mod names;
 mod numerals;
 mod operators;
