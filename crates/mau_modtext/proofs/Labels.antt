@@ -1,5 +1,5 @@
 -- Looking for the name that an attribute gives: one attribute further.
-use Rattle.std.proofs.Common.{◌≡◌, ℕ, suc, ◌+◌, ◌<◌, ◌≤◌, List, [], ◌∷◌, length, drop, get_or, Bool, true, false, cond, Some, None, refl, sym, ap, ◌∙◌, arith, drop-cons, length-drop, codes}
+use Rattle.std.proofs.Common.{◌≡◌, ℕ, suc, ◌+◌, ◌<◌, ◌≤◌, List, [], ◌∷◌, length, drop, get_or, true, false, cond, Some, None, refl, sym, ap, ◌∙◌, arith, drop-cons, length-drop, codes}
 use Rattle.mau_modtext.specs.Word.{Word}
 use Rattle.mau_modtext.specs.Words.{is_word}
 use Rattle.mau_modtext.specs.Statements.{label_given}

@@ -1,11 +1,11 @@
 -- A numeral that does not read as a byte is over 255.
-use Rattle.std.proofs.Common.{◌≡◌, ℕ, ◌+◌, ◌-◌, ◌*◌, ◌^◌, ◌<◌, ◌≤◌, List, [], ◌∷◌, length, Bool, true, false, ◌⊎◌, inl, inr, rules, Result, Err, sym, arith}
+use Rattle.std.proofs.Common.{◌≡◌, ℕ, ◌^◌, ◌<◌, ◌≤◌, List, length, true, false, ◌⊎◌, inl, inr, rules, Err, sym, arith}
 use Rattle.std.proofs.lemmas.Bool.{cases_lt, and_parts, and_right, not-true, eqb-false, lt-leb}
 use Rattle.std.proofs.lemmas.Str.Parse.{IsNumeralModel, numerals_by_value, parse_digits}
 use Rattle.std.specs.Char.{is_ascii_digit}
 use Rattle.std.specs.List.{list_all}
 use Rattle.std.specs.Str.Parse.{digits_value, ParsesUnsigned}
-use Rattle.mau_modtext.specs.Numerals.{is_numeral, is_up_to, has_leading_zero}
+use Rattle.mau_modtext.specs.Numerals.{is_numeral, is_up_to}
 
 own : IsNumeralModel (λ ds. list_all is_ascii_digit ds ≡ true) (digits_value 10)
 own = numerals_by_value (λ ds. list_all is_ascii_digit ds ≡ true) (search rules)

@@ -1,5 +1,5 @@
 -- Answers and readings, moved along equations.
-use Rattle.std.proofs.Common.{◌≡◌, Result, Ok, Err, refl, ap, ◌∙◌, subst}
+use Rattle.std.proofs.Common.{◌≡◌, Result, Err, ap, ◌∙◌, subst}
 use Rattle.mau_modtext.specs.declared.fault.ReadFault.{ReadFault}
 use Rattle.mau_modtext.specs.declared.fault.ReadFault.TheVariants.{Fault as Faulty, NoMemory}
 use Rattle.mau_modtext.specs.Faults.{Reading, Reads, and_then}

@@ -1,5 +1,5 @@
 -- Attributes of operators.
-use Rattle.std.specs.Prelude.{ℕ, ◌+◌, ◌-◌, ◌==◌, List, [], ◌∷◌, length, take, drop, Bool, true, false, not, ◌&&◌, ◌||◌, Option, Some, None, Ok, Err, if◌then◌else◌, codes}
+use Rattle.std.specs.Prelude.{ℕ, ◌+◌, ◌-◌, ◌==◌, List, [], ◌∷◌, length, take, drop, ◌||◌, Option, Some, None, Ok, Err, if◌then◌else◌, codes}
 use Rattle.mau_modtext.specs.Word.{Word}
 use Rattle.mau_modtext.specs.Words.{is_word, is_string, place}
 use Rattle.mau_modtext.specs.Numerals.{is_up_to}

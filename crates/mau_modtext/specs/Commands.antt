@@ -13,7 +13,7 @@ use Rattle.mau_modtext.specs.declared.fault.Fault.TheVariants.{Unsupported}
 use Rattle.mau_modtext.specs.declared.fault.Feature.TheVariants.{SetInclude, SetProtect, SetExtend}
 use Rattle.mau_modtext.specs.declared.brackets.Sign.TheVariants.{Subject, Condition, Using}
 use Rattle.mau_modtext.specs.declared.raw.CommandKind.{CommandKind}
-use Rattle.mau_modtext.specs.declared.raw.CommandKind.TheVariants.{Match, Xmatch, Reduce, Rewrite, Frewrite, Dsrewrite, Continue}
+use Rattle.mau_modtext.specs.declared.raw.CommandKind.TheVariants.{Match, Xmatch, Reduce, Frewrite, Dsrewrite, Continue}
 use Rattle.mau_modtext.specs.declared.raw.RawFragment.{RawFragment}
 use Rattle.mau_modtext.specs.declared.raw.RawCommand.{RawCommand}
 use Rattle.mau_modtext.specs.declared.raw.Setting.{Setting}

@@ -1,7 +1,7 @@
 -- The items of a text.
-use Rattle.std.specs.Prelude.{◌≡◌, ℕ, suc, ◌+◌, ◌==◌, nat_lt, List, [], ◌∷◌, length, take, drop, Bool, true, false, ◌||◌, Option, Some, None, option_map, Result, Ok, Err, if◌then◌else◌, codes}
+use Rattle.std.specs.Prelude.{◌≡◌, ℕ, suc, ◌+◌, nat_lt, List, [], ◌∷◌, length, take, drop, ◌||◌, Option, Some, None, option_map, Result, Ok, Err, if◌then◌else◌, codes}
 use Rattle.mau_modtext.specs.Word.{Word}
-use Rattle.mau_modtext.specs.Words.{is_word, place}
+use Rattle.mau_modtext.specs.Words.{is_word}
 use Rattle.mau_modtext.specs.Faults.{Reading, and_then}
 use Rattle.mau_modtext.specs.Brackets.{first_outside}
 use Rattle.mau_modtext.specs.Signs.{stands}
@@ -15,7 +15,6 @@ use Rattle.mau_modtext.specs.Features.{name_of}
 use Rattle.mau_modtext.specs.declared.brackets.Sign.TheVariants.{Stop}
 use Rattle.mau_modtext.specs.declared.names.End.{End}
 use Rattle.mau_modtext.specs.declared.names.End.TheVariants.{EndFmod, EndMod, EndSmod}
-use Rattle.mau_modtext.specs.declared.fault.Feature.{Feature}
 use Rattle.mau_modtext.specs.declared.fault.Feature.TheVariants.{Load, In, View, Fth, Th, Sth, Search, Srewrite, Srew, Unify, Narrow, Omod, Show}
 use Rattle.mau_modtext.specs.declared.fault.Fault.{Fault}
 use Rattle.mau_modtext.specs.declared.fault.Fault.TheVariants.{Unexpected as UnexpectedAt, Unsupported as UnsupportedAt}

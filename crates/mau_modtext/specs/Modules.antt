@@ -1,5 +1,5 @@
 -- Modules.
-use Rattle.std.specs.Prelude.{ℕ, ◌+◌, ◌-◌, List, [], ◌∷◌, take, drop, Bool, true, false, ◌||◌, Option, Some, None, Ok, Err, if◌then◌else◌, codes}
+use Rattle.std.specs.Prelude.{ℕ, ◌+◌, List, [], ◌∷◌, take, drop, Bool, true, false, ◌||◌, Option, Some, None, Ok, if◌then◌else◌, codes}
 use Rattle.mau_tokens.specs.declared.token.Token.{Token}
 use Rattle.mau_modtext.specs.Word.{Word}
 use Rattle.mau_modtext.specs.Words.{is_word, place}
@@ -9,14 +9,13 @@ use Rattle.mau_modtext.specs.Signs.{stands}
 use Rattle.mau_modtext.specs.Parts.{parts}
 use Rattle.mau_modtext.specs.Sides.{place_or, unexpected}
 use Rattle.mau_modtext.specs.Names.{is_name}
-use Rattle.mau_modtext.specs.Statements.{statement, last_place, without_last}
+use Rattle.mau_modtext.specs.Statements.{statement}
 use Rattle.mau_modtext.specs.Elements.{import_name, declared_sorts, subsorts, op, ops, vars, strats}
 use Rattle.mau_modtext.specs.declared.brackets.Sign.TheVariants.{Stop}
 use Rattle.mau_modtext.specs.declared.elements.Keyword.{Keyword}
 use Rattle.mau_modtext.specs.declared.elements.Keyword.TheVariants.{Import as ImportWord, Sorts as SortsWord, Subsorts as SubsortsWord, Op, Ops as OpsWord, Vars as VarsWord, Statement as StatementWord, Strats as StratsWord, Other}
 use Rattle.mau_modtext.specs.declared.raw.ModuleKind.{ModuleKind}
-use Rattle.mau_modtext.specs.declared.raw.ModuleKind.TheVariants.{Functional, System, StrategyModule}
-use Rattle.mau_modtext.specs.declared.raw.StatementKind.{StatementKind}
+use Rattle.mau_modtext.specs.declared.raw.ModuleKind.TheVariants.{Functional, StrategyModule}
 use Rattle.mau_modtext.specs.declared.raw.StatementKind.TheVariants.{Equation, Membership, Rule, Definition}
 use Rattle.mau_modtext.specs.declared.raw.RawElement.{RawElement}
 use Rattle.mau_modtext.specs.declared.raw.RawElement.TheVariants.{Import, Sorts, Subsorts, Ops, Vars, Statement, Strats}

@@ -3,7 +3,7 @@ use Rattle.std.specs.Prelude.{ℕ, suc, ◌-◌, ◌==◌, List, [], ◌∷◌, 
 use Rattle.std.specs.List.{list_any}
 use Rattle.mau_tokens.specs.declared.token.Token.{Token}
 use Rattle.mau_modtext.specs.Word.{Word}
-use Rattle.mau_modtext.specs.Words.{is_word, is_string, place, tokens}
+use Rattle.mau_modtext.specs.Words.{is_word, is_string, place}
 use Rattle.mau_modtext.specs.Numerals.{is_up_to}
 use Rattle.mau_modtext.specs.Brackets.{opens, closes}
 use Rattle.mau_modtext.specs.Faults.{Reading}

@@ -1,5 +1,5 @@
 -- Terms, the two sides of a sign, and conditions.
-use Rattle.std.specs.Prelude.{ℕ, suc, ◌+◌, ◌==◌, List, [], ◌∷◌, length, take, drop, Bool, true, false, not, ◌&&◌, Option, Some, None, option_map, Result, Ok, Err, if◌then◌else◌}
+use Rattle.std.specs.Prelude.{ℕ, ◌+◌, ◌==◌, List, [], ◌∷◌, length, take, drop, Bool, true, Option, Some, None, option_map, Ok, Err, if◌then◌else◌}
 use Rattle.std.specs.Option.{option_or}
 use Rattle.mau_tokens.specs.declared.token.Token.{Token}
 use Rattle.mau_modtext.specs.Word.{Word}

@@ -1,4 +1,4 @@
-use Rattle.std.proofs.Common.{◌≡◌, take, sym, ap, ◌∙◌}
+use Rattle.std.proofs.Common.{take, sym, ap, ◌∙◌}
 use Rattle.mau_modtext.specs.Sides.{place_or}
 use Rattle.mau_modtext.specs.Attributes as Attributes
 use Rattle.mau_modtext.proofs.Readings.{ap2, along}

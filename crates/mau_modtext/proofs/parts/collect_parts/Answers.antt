@@ -1,4 +1,4 @@
-use Rattle.std.proofs.Common.{◌≡◌, ◌<◌, ◌≤◌, ◌+◌, ◌-◌, length, take, drop, Ok, sym, ap, ◌∙◌, arith, length-drop, ◌++◌, ◌∷◌, []}
+use Rattle.std.proofs.Common.{◌<◌, ◌+◌, length, drop, sym, ap, ◌∙◌, arith, length-drop, ◌++◌, ◌∷◌, []}
 use Rattle.std.proofs.lemmas.List.{take_rest, drop-drop}
 use Rattle.mau_modtext.specs.Parts.{parts_from}
 use Rattle.mau_modtext.proofs.PartLemmas.{behind_parts, part_then, one_more}

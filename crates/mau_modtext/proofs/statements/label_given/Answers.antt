@@ -1,4 +1,4 @@
-use Rattle.std.proofs.Common.{◌≡◌, ◌+◌, ◌≤◌, length, drop, sym, ap, ◌∙◌, arith}
+use Rattle.std.proofs.Common.{◌+◌, drop, sym, ap, ◌∙◌, arith}
 use Rattle.mau_modtext.specs.Statements.{label_given as given}
 use Rattle.mau_modtext.proofs.Labels.{behind_two, behind_one, none_left}
 use Rattle.mau_modtext.proofs.statements.label_given.Goals as goal

@@ -1,9 +1,9 @@
-use Rattle.std.proofs.Common.{◌≡◌, ap, ◌∙◌}
+use Rattle.std.proofs.Common.{ap, ◌∙◌}
 use Rattle.mau_modtext.specs.Signs.{stands}
 use Rattle.mau_modtext.specs.Brackets.{first_outside}
 use Rattle.mau_modtext.specs.Statements as Statements
 use Rattle.mau_modtext.specs.declared.brackets.Sign.TheVariants.{Attributes}
-use Rattle.mau_modtext.proofs.Readings.{ap2, ap3, along}
+use Rattle.mau_modtext.proofs.Readings.{ap3, along}
 use Rattle.mau_modtext.proofs.statements.read_statement.Goals as goal
 
 pub returns : goal.returns

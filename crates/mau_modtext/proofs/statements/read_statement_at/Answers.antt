@@ -1,5 +1,5 @@
-use Rattle.std.proofs.Common.{◌≡◌, Ok, Err, sym, ap, ◌∙◌}
-use Rattle.mau_modtext.specs.Faults.{Reads, Reading, both, and_then}
+use Rattle.std.proofs.Common.{Ok, sym, ap, ◌∙◌}
+use Rattle.mau_modtext.specs.Faults.{and_then}
 use Rattle.mau_modtext.specs.Parts.{parts}
 use Rattle.mau_modtext.specs.Statements as Statements
 use Rattle.mau_modtext.proofs.Readings.{ap2, along, fails}
