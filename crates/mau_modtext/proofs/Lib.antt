@@ -1,0 +1,6 @@
+pub mod ItemLemmas
+pub mod Labels
+pub mod NumeralLemmas
+pub mod Outside
+pub mod PartLemmas
+pub mod Readings

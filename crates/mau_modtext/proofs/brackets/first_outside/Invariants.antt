@@ -1,0 +1,11 @@
+use Rattle.std.proofs.Common.{◌≡◌, ◌≤◌, drop}
+use Rattle.mau_modtext.specs.Brackets.{first_from}
+use Rattle.mau_modtext.specs.Signs.{stands}
+use Rattle.mau_modtext.proofs.Outside.{shifted}
+use Rattle.mau_modtext.proofs.brackets.first_outside.Given as goal
+
+abbrev pub invariant-loop-i : goal.invariant-loop-i
+invariant-loop-i l = record {
+  rest : first_from 0 (stands l.sign) l.words ≡ shifted l.i (first_from l.depth (stands l.sign) (drop l.i l.words));
+  small : l.depth ≤ l.i;
+}

@@ -1,0 +1,35 @@
+-- The names of forms that are known by their names alone.
+use Rattle.std.specs.Prelude.{ℕ, List, codes}
+use Rattle.mau_modtext.specs.declared.fault.Feature.{Feature}
+use Rattle.mau_modtext.specs.declared.fault.Feature.TheVariants.{Load, In, View, Fth, Th, Sth, Search, Srewrite, Srew, Unify, Narrow, Omod, Show, SetInclude, SetProtect, SetExtend, Idem, Iter, Poly, Special, Config, Object, Msg, Portal, Pconst, LeftId, RightId, Print, Variant}
+
+abbrev pub name_of : Feature → List ℕ
+name_of Load = codes "load"
+name_of In = codes "in"
+name_of View = codes "view"
+name_of Fth = codes "fth"
+name_of Th = codes "th"
+name_of Sth = codes "sth"
+name_of Search = codes "search"
+name_of Srewrite = codes "srewrite"
+name_of Srew = codes "srew"
+name_of Unify = codes "unify"
+name_of Narrow = codes "narrow"
+name_of Omod = codes "omod"
+name_of Show = codes "show"
+name_of SetInclude = codes "set include"
+name_of SetProtect = codes "set protect"
+name_of SetExtend = codes "set extend"
+name_of Idem = codes "idem"
+name_of Iter = codes "iter"
+name_of Poly = codes "poly"
+name_of Special = codes "special"
+name_of Config = codes "config"
+name_of Object = codes "object"
+name_of Msg = codes "msg"
+name_of Portal = codes "portal"
+name_of Pconst = codes "pconst"
+name_of LeftId = codes "left id:"
+name_of RightId = codes "right id:"
+name_of Print = codes "print"
+name_of Variant = codes "variant"
