@@ -11,3 +11,6 @@ mod trees;
 pub use grammar::{Leaf, Piece, Production, Said};
 pub use reading::{Reading, read};
 pub use trees::Trees;
+
+#[cfg(test)]
+mod tests;

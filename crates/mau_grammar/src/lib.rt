@@ -14,3 +14,6 @@ pub use aliases::{Alias, Variable};
 pub use grammar::Grammar;
 pub use production::{Hole, Part, Production};
 pub use sorts::SortName;
+
+#[cfg(test)]
+mod tests;
