@@ -1,5 +1,5 @@
 -- What stands in the rows of a chart.
-use Rattle.std.proofs.Common.{◌≡◌, ◌≢◌, ℕ, zero, suc, ◌+◌, ◌<◌, ◌≤◌, List, [], ◌∷◌, ◌++◌, length, get_or, set, map, Bool, Option, Some, None, true, false, eqb, eqb-true, length-set, length-append, ◌⊎◌, inl, inr, refl, sym, ◌∙◌, ap, ap₂, subst, arith}
+use Rattle.std.proofs.Common.{◌≡◌, ◌≢◌, ℕ, zero, suc, ◌+◌, ◌<◌, ◌≤◌, List, [], ◌∷◌, ◌++◌, length, get_or, set, map, Bool, Some, true, false, eqb, eqb-true, length-set, length-append, ◌⊎◌, inl, inr, refl, sym, ◌∙◌, ap, ap₂, subst, arith}
 use Rattle.std.specs.List.{slice_get}
 use Rattle.std.proofs.lemmas.Bool.{eqb-false}
 use Rattle.std.specs.Option.{option_map}
@@ -12,7 +12,7 @@ use Rattle.mau_chart.specs.declared.chart.Fact.{Fact}
 use Rattle.mau_chart.specs.declared.chart.Row.{Row}
 use Rattle.mau_chart.specs.declared.chart.Chart.{Chart}
 use Rattle.mau_chart.specs.declared.grammar.Item.{Item}
-use Rattle.mau_chart.specs.Chart.{Found, found, Has, Full, Covers, Offered, Grows, IsSame}
+use Rattle.mau_chart.specs.Chart.{Found, found, Has, Full, Offered, Grows, IsSame}
 use Rattle.mau_chart.proofs.Grows.{slice_get-end, slice_get-new, has_stays, full_stays}
 use Rattle.mau_chart.specs.Table.{table, seen, cells, found_of, IsThere, IsKnown, AreKnown, IsChart, HasOther, Put}
 

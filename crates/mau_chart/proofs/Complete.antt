@@ -1,8 +1,8 @@
 -- A closed table has each reading, or two others.
-use Rattle.std.proofs.Common.{◌≡◌, ◌≢◌, ℕ, zero, suc, ◌+◌, ◌<◌, ◌≤◌, List, [], ◌∷◌, ◌++◌, length, get_or, Option, Some, None, ◌⊎◌, inl, inr, refl, sym, ◌∙◌, ap, ap₂, subst, arith, length-append, append_assoc, append-nil}
+use Rattle.std.proofs.Common.{◌≡◌, ◌≢◌, ℕ, suc, ◌<◌, ◌≤◌, List, [], ◌∷◌, ◌++◌, length, Option, Some, None, inl, inr, refl, sym, ◌∙◌, ap, subst, arith, length-append, append_assoc, append-nil}
 use Rattle.std.specs.List.{slice_get}
 use Rattle.std.proofs.lemmas.List.{append_cancel_left, append_cancel_right}
-use Rattle.mau_terms.specs.Tree.{Tree, Trees, no_trees, tree, variable, numeral, apply, node, trees_of, list_of}
+use Rattle.mau_terms.specs.Tree.{Tree, Trees, no_trees, variable, numeral, apply, trees_of, list_of}
 use Rattle.mau_terms.specs.declared.ids.OpId.{OpId}
 use Rattle.mau_terms.proofs.Pieces.{list_of-trees_of}
 use Rattle.mau_chart.specs.declared.grammar.Piece.{Piece}
@@ -11,7 +11,7 @@ use Rattle.mau_chart.specs.declared.grammar.Item.{Item}
 use Rattle.mau_chart.specs.declared.grammar.Item.TheVariants.{Whole, Part}
 use Rattle.mau_chart.specs.declared.grammar.Leaf.{Leaf}
 use Rattle.mau_chart.specs.Reads.{made, Reads, leaf_read, form_read, Spells, nothing_spelled, piece_spelled}
-use Rattle.mau_chart.specs.Chart.{Found, found, Has, Full, Covers, Closed, AreLeaves, AreForms, IsWanted, Wants}
+use Rattle.mau_chart.specs.Chart.{Found, Has, Covers, Closed, AreLeaves, AreForms, IsWanted}
 
 -- a reading goes forth
 mutual

@@ -5,7 +5,7 @@ use Rattle.std.proofs.lemmas.Bool.{eqb-false}
 use Rattle.mau_chart.specs.declared.grammar.Item.{Item}
 use Rattle.mau_chart.specs.declared.grammar.Item.TheVariants.{Part}
 use Rattle.mau_chart.specs.declared.groups.Group.{Group}
-use Rattle.mau_chart.specs.Groups.{IsPart, HasPart, IsPlace, groups_at, AreGrouped, AreIndexed, IsGrouped}
+use Rattle.mau_chart.specs.Groups.{HasPart, groups_at, AreGrouped, AreIndexed, IsGrouped}
 use Rattle.std.proofs.lemmas.Option.{slice_get-get_or, slice_get_within}
 use Rattle.mau_chart.specs.Chart.{Found, Grows, IsOne, IsAmong}
 use Rattle.mau_chart.proofs.Grows.{slice_get-left, slice_get-end}

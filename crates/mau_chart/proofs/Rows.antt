@@ -1,17 +1,14 @@
 -- Rows that are full, from the last to the first.
-use Rattle.std.proofs.Common.{◌≡◌, ◌≢◌, ℕ, zero, suc, ◌+◌, ◌<◌, ◌≤◌, List, [], ◌∷◌, ◌++◌, length, get_or, drop, Bool, true, false, Option, Some, None, ◌⊎◌, inl, inr, refl, sym, ◌∙◌, ap, ap₂, subst, arith, eqb, eqb-true, nat_lt}
+use Rattle.std.proofs.Common.{◌≡◌, ◌≢◌, ℕ, suc, ◌+◌, ◌<◌, ◌≤◌, List, [], length, drop, Bool, true, false, Some, refl, sym, ◌∙◌, ap, subst, arith, eqb, eqb-true, nat_lt}
 use Rattle.std.proofs.Math.Seq.{drop-length}
 use Rattle.std.specs.List.{slice_get}
 use Rattle.std.proofs.lemmas.Bool.{eqb-false, ltb-true, ltb-false}
 use Rattle.std.proofs.lemmas.Option.{slice_get_within}
-use Rattle.mau_terms.specs.Tree.{Tree}
-use Rattle.mau_chart.specs.declared.grammar.Piece.{Piece}
 use Rattle.mau_chart.specs.declared.grammar.Production.{Production}
 use Rattle.mau_chart.specs.declared.grammar.Leaf.{Leaf}
-use Rattle.mau_chart.specs.declared.grammar.Item.{Item}
 use Rattle.mau_chart.specs.declared.grammar.Item.TheVariants.{Whole, Part}
 use Rattle.mau_chart.specs.Reads.{said_trees, Reads, leaf_read, Spells, nothing_spelled}
-use Rattle.mau_chart.specs.Chart.{Found, found, Has, Covers, Offered, Grows, Steps, Lifts, Processed, IsRight, IsSound, AreSound, AreLeaves, AreForms, IsDone, Begun, Ended, IsRow, IsEmpty, Closed, Wants}
+use Rattle.mau_chart.specs.Chart.{Found, found, Covers, Offered, Grows, AreSound, AreLeaves, AreForms, IsDone, Begun, Ended, IsRow, Closed, Wants}
 use Rattle.mau_chart.proofs.Grows.{offered_grows, grows_not, grows_on, covers_stay}
 use Rattle.mau_chart.proofs.Step.{some_one}
 use Rattle.mau_chart.proofs.Trials.{offered_sound, processed_stays}

@@ -1,5 +1,5 @@
 -- The readings that a row tells.
-use Rattle.std.proofs.Common.{◌≡◌, ◌≢◌, ℕ, zero, suc, ◌+◌, ◌<◌, ◌≤◌, List, [], ◌∷◌, length, Bool, true, false, Option, Some, None, ◌⊎◌, inl, inr, refl, sym, ◌∙◌, ap, ap₂, subst, arith, eqb, eqb-true}
+use Rattle.std.proofs.Common.{◌≡◌, ◌≢◌, ℕ, ◌+◌, ◌<◌, ◌≤◌, List, length, Bool, true, false, Some, inl, inr, refl, sym, ◌∙◌, ap, subst, arith, eqb, eqb-true}
 use Rattle.std.specs.List.{slice_get}
 use Rattle.std.proofs.lemmas.Bool.{eqb-false}
 use Rattle.std.proofs.lemmas.Option.{slice_get_within}
@@ -11,7 +11,7 @@ use Rattle.mau_chart.specs.declared.grammar.Item.TheVariants.{Whole, Part}
 use Rattle.mau_chart.specs.declared.reading.Answer.{Answer}
 use Rattle.mau_chart.specs.declared.reading.Answer.TheVariants.{Nothing, One, Two}
 use Rattle.mau_chart.specs.Reads.{Reads}
-use Rattle.mau_chart.specs.Chart.{Found, found, Has, Full, Covers, AreSound, AreLeaves, AreForms, IsRight, Closed}
+use Rattle.mau_chart.specs.Chart.{Found, found, Has, Covers, AreSound, AreLeaves, AreForms, IsRight, Closed}
 use Rattle.mau_chart.specs.Goal.{IsGoal, GoalAt, Scanned, ReadsAs, IsExact}
 use Rattle.mau_chart.proofs.Complete.{reads_covered}
 use Rattle.mau_chart.proofs.Step.{some_one}

@@ -1,6 +1,6 @@
 -- The trees of a store of nodes.
-use Rattle.std.proofs.Common.{subst, ◌≡◌, ℕ, ◌+◌, ◌<◌, List, [], ◌∷◌, ◌++◌, length, map, fold, get_or, Some, refl, sym, ◌∙◌, ap, ap₂, arith, append_assoc, append-nil}
-use Rattle.std.specs.List.{All, slice_get}
+use Rattle.std.proofs.Common.{subst, ◌≡◌, ℕ, ◌<◌, List, [], ◌∷◌, ◌++◌, length, map, fold, Some, refl, sym, ◌∙◌, ap, arith, append_assoc, append-nil}
+use Rattle.std.specs.List.{slice_get}
 use Rattle.std.proofs.lemmas.List.Elements.{All-nil, All-cons}
 use Rattle.std.proofs.lemmas.List.Sums.{fold-append}
 use Rattle.std.proofs.lemmas.Option.{slice_get_within}

@@ -1,6 +1,5 @@
 -- What is told of readings is exact.
-use Rattle.std.proofs.Common.{◌≡◌, ◌≢◌, ℕ, ◌<◌, List, length, Some, refl, sym, ◌∙◌, subst, arith}
-use Rattle.std.specs.List.{slice_get}
+use Rattle.std.proofs.Common.{◌≡◌, ℕ, List, sym, ◌∙◌, subst}
 use Rattle.std.proofs.lemmas.Option.{slice_get_within}
 use Rattle.mau_terms.specs.Tree.{Tree}
 use Rattle.mau_chart.specs.declared.grammar.Production.{Production}
@@ -11,7 +10,7 @@ use Rattle.mau_chart.specs.declared.reading.Reading.{Reading}
 use Rattle.mau_chart.specs.declared.reading.Reading.TheVariants.{Nothing as NoReading, One as OneReading, Two as TwoReadings}
 use Rattle.mau_chart.specs.Chart.{Found}
 use Rattle.mau_chart.specs.Goal.{GoalAt, ReadsAs, IsExact}
-use Rattle.mau_chart.specs.Nodes.{AllBelow, trees_at}
+use Rattle.mau_chart.specs.Nodes.{trees_at}
 use Rattle.mau_chart.specs.Told.{IsReading, AreThere, AreTreesAt, IsToldBy}
 
 module _ (ps : List Production) (ls : List Leaf) (n low high : ℕ) (ts : List Tree) (rows : ℕ → List Found) where

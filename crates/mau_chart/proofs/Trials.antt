@@ -1,21 +1,20 @@
 -- What comes of one step, for the whole table.
-use Rattle.std.proofs.Common.{◌≡◌, ◌≢◌, ℕ, zero, suc, ◌+◌, ◌<◌, ◌≤◌, List, [], ◌∷◌, ◌++◌, length, get_or, drop, Bool, true, false, Option, Some, None, ◌⊎◌, inl, inr, refl, sym, ◌∙◌, ap, ap₂, subst, arith, eqb, eqb-true}
+use Rattle.std.proofs.Common.{◌≡◌, ◌≢◌, ℕ, zero, suc, ◌+◌, ◌<◌, ◌≤◌, List, [], ◌∷◌, ◌++◌, length, get_or, drop, Bool, true, false, Option, Some, None, ◌⊎◌, inl, inr, refl, sym, ◌∙◌, ap, subst, arith, eqb, eqb-true}
 use Rattle.std.specs.List.{slice_get}
 use Rattle.std.proofs.lemmas.Bool.{eqb-false}
 use Rattle.std.proofs.lemmas.Option.{slice_get-get_or, slice_get_within}
-use Rattle.mau_terms.specs.Tree.{Tree}
 use Rattle.mau_terms.specs.declared.ids.OpId.{OpId}
 use Rattle.mau_chart.specs.declared.grammar.Piece.{Piece}
 use Rattle.mau_chart.specs.declared.grammar.Production.{Production}
 use Rattle.mau_chart.specs.declared.grammar.Leaf.{Leaf}
 use Rattle.mau_chart.specs.declared.grammar.Item.{Item}
 use Rattle.mau_chart.specs.declared.grammar.Item.TheVariants.{Whole, Part}
-use Rattle.mau_chart.specs.Reads.{made, Reads, leaf_read, form_read, Spells, nothing_spelled, piece_spelled}
-use Rattle.mau_chart.specs.Chart.{Found, found, Has, Full, Covers, Offered, Grows, Steps, Lifts, Joined, Lifted, Completed, Combined, IsOne, StepsOnly, Processed, IsRight, IsSound, AreSound, AreLeaves, AreForms, IsDone, Wants}
+use Rattle.mau_chart.specs.Reads.{made, Reads, form_read, Spells, piece_spelled}
+use Rattle.mau_chart.specs.Chart.{Found, found, Covers, Offered, Grows, Steps, Lifts, Joined, Lifted, Completed, Combined, IsOne, StepsOnly, Processed, IsRight, IsSound, AreSound, AreLeaves, AreForms, IsDone, Wants}
 use Rattle.mau_chart.specs.declared.groups.Group.{Group}
 use Rattle.mau_chart.specs.Groups.{AreGrouped, IsGrouped}
 use Rattle.mau_chart.proofs.Grows.{slice_get-new, offered_grows, grows_not, grows_on, place_stays, covers_stay}
-use Rattle.mau_chart.proofs.Step.{some_one, part_number}
+use Rattle.mau_chart.proofs.Step.{some_one}
 use Rattle.mau_chart.proofs.Complete.{reads_forth, reads_within}
 
 pub offered_sound : (ps : List Production) (ls : List Leaf) (old new : ℕ → List Found) (i : ℕ) (f : Found) → Offered old new i f → IsSound ps ls i f → AreSound ps ls old → AreSound ps ls new

@@ -1,5 +1,5 @@
 -- What is told of the readings of a whole text.
-use Rattle.std.specs.Prelude.{◌≡◌, ◌≢◌, ℕ, ◌≤◌, ◌<◌, List, [], ◌∷◌, Some}
+use Rattle.std.specs.Prelude.{◌≡◌, ◌≢◌, ℕ, ◌≤◌, ◌<◌, List, Some}
 use Rattle.std.specs.List.{slice_get}
 use Rattle.mau_terms.specs.Tree.{Tree}
 use Rattle.mau_chart.specs.declared.grammar.Production.{Production}

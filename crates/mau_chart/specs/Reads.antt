@@ -1,5 +1,5 @@
 -- What a text reads as, by the productions of a grammar. Places are numbers of tokens.
-use Rattle.std.specs.Prelude.{◌≡◌, ℕ, suc, ◌≤◌, ◌<◌, List, [], ◌∷◌, ◌++◌, Option, None, Some}
+use Rattle.std.specs.Prelude.{◌≡◌, ℕ, ◌≤◌, List, [], ◌∷◌, ◌++◌, Option, None, Some}
 use Rattle.std.specs.List.{slice_get}
 use Rattle.mau_terms.specs.Tree.{Tree, node, variable, numeral}
 use Rattle.mau_terms.specs.declared.ids.OpId.{OpId}

@@ -1,9 +1,8 @@
 -- Each production of a signature has a part, and one without an operator has one place.
-use Rattle.std.proofs.Common.{cond, ◌≡◌, ◌≢◌, ℕ, zero, suc, ◌+◌, ◌==◌, List, [], ◌∷◌, ◌++◌, Bool, true, false, not, ◌&&◌, ◌||◌, Option, Some, None, codes, length, map, if◌then◌else◌, All, count_by, refl, sym, ◌∙◌, ap, subst, arith, add-one}
+use Rattle.std.proofs.Common.{cond, ◌≡◌, ◌≢◌, ℕ, zero, suc, ◌+◌, ◌==◌, List, [], ◌∷◌, ◌++◌, Bool, true, false, not, ◌&&◌, ◌||◌, Option, Some, None, codes, length, map, if◌then◌else◌, All, refl, sym, subst, arith, add-one}
 use Rattle.std.specs.Option.{option_map}
 use Rattle.std.proofs.lemmas.List.Elements.{All-nil, All-cons, All-append}
 use Rattle.std.proofs.lemmas.List.Sums.{sum_by-append}
-use Rattle.mau_terms.specs.declared.ids.OpId.{OpId}
 use Rattle.mau_poset.specs.Order.{Hierarchy, kind_of, kinds}
 use Rattle.mau_signature.specs.declared.form.Piece.{Piece}
 use Rattle.mau_signature.specs.declared.form.Piece.TheVariants.{Hole, Word}
@@ -14,8 +13,8 @@ use Rattle.mau_grammar.specs.declared.production.Part.{Part}
 use Rattle.mau_grammar.specs.declared.production.Production.{Production}
 use Rattle.mau_grammar.specs.declared.sorts.SortName.{SortName}
 use Rattle.mau_grammar.specs.Production.{word, any, is_place, places, production, IsShaped}
-use Rattle.mau_grammar.specs.Parts.{parts_from, parts_in_order, words_of, one_word, prefix_name, head_of, in_parentheses}
-use Rattle.mau_grammar.specs.Productions.{operator, argument_kinds, level, is_written, written, list_kind, pair, chained, prefixed_by, with_head, prefixed, of_operator, of_operators, enclosed, of_kinds, sorted, sort_names, productions_of}
+use Rattle.mau_grammar.specs.Parts.{parts_from, words_of, one_word, prefix_name, head_of, in_parentheses}
+use Rattle.mau_grammar.specs.Productions.{operator, argument_kinds, level, written, list_kind, pair, chained, prefixed_by, with_head, prefixed, of_operator, of_operators, enclosed, of_kinds, sorted}
 
 -- one operator more
 pub operators_more : (s : SignatureOf) (n : ℕ) → of_operators s (n + 1) ≡ of_operators s n ++ of_operator s.hierarchy (n + 1) (declarations_at s (n + 1))

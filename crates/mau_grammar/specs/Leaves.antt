@@ -1,5 +1,5 @@
 -- Variables and numerals among the tokens of a text. Places are numbers of tokens; a token is its bytes.
-use Rattle.std.specs.Prelude.{ℕ, zero, suc, ◌+◌, ◌-◌, ◌*◌, ◌==◌, nat_lt, nat_le, List, [], ◌∷◌, ◌++◌, length, map, filter, take, drop, fold, Bool, true, false, not, ◌&&◌, ◌||◌, Option, Some, None, codes, bytes_eq, slice_index, slice_get, position, if◌then◌else◌}
+use Rattle.std.specs.Prelude.{ℕ, zero, suc, ◌+◌, ◌-◌, ◌*◌, ◌==◌, nat_lt, nat_le, List, [], ◌∷◌, ◌++◌, length, map, filter, take, drop, fold, Bool, false, not, ◌&&◌, ◌||◌, Option, Some, None, codes, bytes_eq, slice_index, if◌then◌else◌}
 use Rattle.std.specs.List.{list_all}
 use Rattle.mau_terms.specs.Vars.{with_pair}
 use Rattle.mau_grammar.specs.declared.sorts.SortName.{SortName}

@@ -1,7 +1,6 @@
 -- Productions: the ways to write a term of a kind.
-use Rattle.std.specs.Prelude.{◌≡◌, ◌≢◌, ℕ, List, [], ◌∷◌, Bool, true, false, Option, None, All, count_by}
+use Rattle.std.specs.Prelude.{◌≡◌, ◌≢◌, ℕ, List, [], Bool, true, false, Option, None, count_by}
 use Rattle.mau_terms.specs.declared.ids.OpId.{OpId}
-use Rattle.mau_grammar.specs.declared.production.Hole.{Hole}
 use Rattle.mau_grammar.specs.declared.production.Part.{Part}
 use Rattle.mau_grammar.specs.declared.production.Part.TheVariants.{Word, Hole as Place}
 use Rattle.mau_grammar.specs.declared.production.Production.{Production}

@@ -1,8 +1,7 @@
 -- The productions of a signature, with the names of its sorts.
-use Rattle.std.specs.Prelude.{◌≡◌, ℕ, zero, suc, ◌+◌, ◌==◌, List, [], ◌∷◌, ◌++◌, Bool, true, false, not, ◌&&◌, ◌||◌, Option, Some, None, codes, length, map, if◌then◌else◌}
+use Rattle.std.specs.Prelude.{ℕ, zero, suc, ◌+◌, ◌==◌, List, [], ◌∷◌, ◌++◌, Bool, not, ◌&&◌, ◌||◌, Option, Some, None, codes, length, map, if◌then◌else◌}
 use Rattle.mau_terms.specs.declared.ids.OpId.{OpId}
 use Rattle.mau_poset.specs.Order.{Hierarchy, kind_of, kinds}
-use Rattle.mau_signature.specs.declared.form.Piece.{Piece}
 use Rattle.mau_signature.specs.declared.decl.Decl.{Decl}
 use Rattle.mau_signature.specs.Form.{holes}
 use Rattle.mau_signature.specs.Signature.{SignatureOf, declarations_at}

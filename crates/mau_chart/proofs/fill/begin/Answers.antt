@@ -1,6 +1,5 @@
-use Rattle.std.proofs.Common.{◌≡◌, ◌<◌, ◌+◌, ℕ, refl, sym, ◌∙◌, ap, length, get_or, subst, arith}
+use Rattle.std.proofs.Common.{◌≡◌, ◌<◌, ◌+◌, refl, sym, ◌∙◌, length, get_or, subst, arith}
 use Rattle.std.proofs.lemmas.Option.{slice_get-get_or}
-use Rattle.mau_chart.specs.declared.chart.Chart.{Chart}
 use Rattle.mau_chart.specs.Chart.{Begun}
 use Rattle.mau_chart.specs.Table.{table, IsChart}
 use Rattle.mau_chart.proofs.Rows.{begun_on, begun_other}

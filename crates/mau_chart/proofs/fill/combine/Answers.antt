@@ -1,6 +1,6 @@
-use Rattle.std.proofs.Common.{◌≡◌, ◌<◌, ◌+◌, refl, sym, ◌∙◌, ap, length, get_or, arith}
+use Rattle.std.proofs.Common.{◌<◌, ◌+◌, refl, ◌∙◌, length, arith}
 use Rattle.std.proofs.lemmas.List.{length-map}
-use Rattle.std.proofs.lemmas.Option.{slice_get-get_or, slice_get_read}
+use Rattle.std.proofs.lemmas.Option.{slice_get_read}
 use Rattle.mau_chart.specs.Chart.{IsAmong}
 use Rattle.mau_chart.specs.Groups.{IsGrouped}
 use Rattle.mau_chart.specs.Table.{table, cells, found_of}

@@ -1,4 +1,4 @@
-use Rattle.std.proofs.Common.{◌≡◌, Option, Some, None, sym, ◌∙◌, ap, subst, length}
+use Rattle.std.proofs.Common.{◌≡◌, Option, Some, None, sym, ◌∙◌, subst, length}
 use Rattle.mau_chart.specs.declared.grammar.Item.{Item}
 use Rattle.mau_chart.specs.Chart.{Steps, IsAmong}
 use Rattle.mau_chart.specs.Table.{table}

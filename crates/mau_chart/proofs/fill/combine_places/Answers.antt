@@ -1,4 +1,4 @@
-use Rattle.std.proofs.Common.{◌≡◌, ◌<◌, ◌+◌, refl, sym, ◌∙◌, ap, length, get_or, arith}
+use Rattle.std.proofs.Common.{◌<◌, ◌+◌, refl, ◌∙◌, length, get_or, arith}
 use Rattle.std.proofs.lemmas.List.{length-map}
 use Rattle.mau_chart.specs.Chart.{IsOne, IsAmong}
 use Rattle.mau_chart.specs.Table.{table, cells, found_of}

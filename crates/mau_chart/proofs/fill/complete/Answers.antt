@@ -1,4 +1,4 @@
-use Rattle.std.proofs.Common.{◌≡◌, sym, ◌∙◌, ap, Some, None, Option, length, arith}
+use Rattle.std.proofs.Common.{◌≡◌, sym, ◌∙◌, ap, Some, None, Option}
 use Rattle.mau_terms.specs.declared.ids.OpId.{OpId}
 use Rattle.mau_chart.specs.declared.grammar.Item.{Item}
 use Rattle.mau_chart.specs.Table.{table, cells, found_of}

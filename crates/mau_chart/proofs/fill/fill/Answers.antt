@@ -1,5 +1,5 @@
-use Rattle.std.proofs.Common.{length-append, ◌∷◌, ◌≡◌, ◌<◌, ◌≤◌, ◌+◌, ◌-◌, ℕ, suc, zero, [], refl, sym, ◌∙◌, ap, map, length, subst, arith}
-use Rattle.mau_chart.specs.Table.{table, cells, found_of}
+use Rattle.std.proofs.Common.{length-append, ◌∷◌, ◌≡◌, ◌<◌, ◌+◌, ◌-◌, suc, [], refl, sym, ◌∙◌, ap, map, length, subst, arith}
+use Rattle.mau_chart.specs.Table.{table, found_of}
 use Rattle.mau_chart.proofs.Cells.{cells_past}
 use Rattle.mau_chart.specs.Groups.{AreIndexed}
 use Rattle.mau_chart.proofs.Grouped.{indexed_on, indexed_stays}

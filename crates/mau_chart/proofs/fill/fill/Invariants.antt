@@ -1,4 +1,4 @@
-use Rattle.std.proofs.Common.{◌≡◌, ◌<◌, ◌+◌, ◌-◌, ℕ, [], length}
+use Rattle.std.proofs.Common.{◌≡◌, ◌+◌, ◌-◌, length}
 use Rattle.mau_chart.specs.Chart.{AreSound}
 use Rattle.mau_chart.specs.Groups.{AreIndexed}
 use Rattle.mau_chart.specs.Table.{table, IsChart}

@@ -1,4 +1,3 @@
-use Rattle.std.proofs.Common.{◌≡◌, length}
 use Rattle.mau_chart.specs.Table.{table}
 use Rattle.mau_chart.proofs.Grows.{grows_on}
 use Rattle.mau_chart.proofs.Grouped.{indexed_stays}

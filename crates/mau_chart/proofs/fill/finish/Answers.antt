@@ -1,4 +1,4 @@
-use Rattle.std.proofs.Common.{◌≡◌, ◌<◌, ◌+◌, ℕ, true, false, refl, sym, ◌∙◌, ap, length, get_or, subst, arith}
+use Rattle.std.proofs.Common.{◌≡◌, ◌<◌, ◌+◌, true, false, refl, sym, ◌∙◌, length, get_or, subst, arith}
 use Rattle.std.proofs.lemmas.Option.{slice_get-get_or}
 use Rattle.mau_chart.specs.declared.grammar.Item.TheVariants.{Part}
 use Rattle.mau_chart.specs.Chart.{Ended, Wants}

@@ -1,4 +1,4 @@
-use Rattle.std.proofs.Common.{◌≡◌, refl, ◌<◌, sym, ◌∙◌, ap, ap₂, Some, length, get_or, arith}
+use Rattle.std.proofs.Common.{refl, ◌<◌, sym, ◌∙◌, ap, ap₂, Some, length, arith}
 use Rattle.std.proofs.lemmas.Option.{slice_get_read}
 use Rattle.mau_chart.specs.declared.grammar.Item.TheVariants.{Part}
 use Rattle.mau_chart.proofs.Step.{lift_only}

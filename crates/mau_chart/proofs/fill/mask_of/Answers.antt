@@ -1,4 +1,4 @@
-use Rattle.std.proofs.Common.{◌≡◌, ◌<◌, length, arith}
+use Rattle.std.proofs.Common.{arith}
 use Rattle.std.proofs.lemmas.Option.{slice_get_within}
 use Rattle.mau_chart.proofs.Masks.{is_mask}
 use Rattle.mau_chart.proofs.fill.mask_of.Goals as goal

@@ -1,5 +1,4 @@
-use Rattle.std.proofs.Common.{◌≡◌, ◌≢◌, ◌<◌, ◌≤◌, refl, sym, ◌∙◌, ap, subst, length, arith, map}
-use Rattle.mau_chart.specs.Chart.{Found}
+use Rattle.std.proofs.Common.{refl, sym, ap, subst, arith}
 use Rattle.mau_chart.specs.Table.{table, cells, found_of}
 use Rattle.mau_chart.specs.Groups.{AreGrouped}
 use Rattle.mau_chart.proofs.Cells.{slice_get-seen, seen_at}

@@ -1,4 +1,4 @@
-use Rattle.std.proofs.Common.{◌≡◌, ◌<◌, refl, sym, ◌∙◌, ap, length, arith}
+use Rattle.std.proofs.Common.{◌<◌, refl, ◌∙◌, length, arith}
 use Rattle.std.proofs.lemmas.List.{length-map}
 use Rattle.mau_chart.specs.Table.{table, cells, found_of}
 use Rattle.mau_chart.proofs.Grows.{grows_on}

@@ -1,7 +1,5 @@
-use Rattle.std.proofs.Common.{◌≡◌, ◌∙◌, ◌++◌, ◌∷◌, [], ◌<◌, refl, sym, ap, subst, length, set, Some, arith}
-use Rattle.std.specs.List.{slice_get}
+use Rattle.std.proofs.Common.{◌∙◌, ◌++◌, ◌∷◌, [], refl, sym, ap, subst, length, set}
 use Rattle.std.proofs.lemmas.Option.{slice_get_read, slice_get_within}
-use Rattle.mau_chart.specs.declared.groups.Group.{Group}
 use Rattle.mau_chart.specs.Groups.{HasPart, IsPlace}
 use Rattle.mau_chart.proofs.Step.{some_one}
 use Rattle.mau_chart.proofs.Grouped.{placed, placed_others, pushed, pushed_others}

@@ -1,6 +1,6 @@
-use Rattle.std.proofs.Common.{◌≡◌, ap, ap₂, sym, ◌∙◌}
+use Rattle.std.proofs.Common.{ap, sym, ◌∙◌}
 use Rattle.mau_chart.specs.Nodes.{trees_at}
-use Rattle.mau_chart.specs.Table.{cells, found_of}
+use Rattle.mau_chart.specs.Table.{cells}
 use Rattle.mau_chart.proofs.Cells.{seen_at}
 use Rattle.mau_chart.proofs.reading.alike.Goals as goal
 

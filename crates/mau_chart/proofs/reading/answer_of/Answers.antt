@@ -1,4 +1,3 @@
-use Rattle.std.proofs.Common.{◌≡◌, ap, sym, ◌∙◌}
 use Rattle.mau_chart.specs.Table.{table}
 use Rattle.mau_chart.proofs.Scan.{scanned_exact}
 use Rattle.mau_chart.proofs.reading.answer_of.Goals as goal

@@ -1,4 +1,4 @@
-use Rattle.std.proofs.Common.{◌≡◌, ◌+◌, ◌++◌, ◌∷◌, [], ap, sym, ◌∙◌, length, subst, arith, length-append}
+use Rattle.std.proofs.Common.{◌+◌, ap, ◌∙◌, length}
 use Rattle.mau_chart.specs.Table.{cells}
 use Rattle.mau_chart.proofs.Cells.{cells_push, length_push}
 use Rattle.mau_chart.proofs.reading.empty.Goals as goal

@@ -1,9 +1,7 @@
-use Rattle.std.proofs.Common.{◌≡◌, ◌<◌, ◌+◌, ℕ, true, false, Some, refl, length, ap, ap₂, sym, ◌∙◌, subst, arith}
-use Rattle.std.specs.List.{slice_get}
+use Rattle.std.proofs.Common.{◌≡◌, ◌+◌, true, false, refl, length, sym, ◌∙◌, subst, arith}
 use Rattle.std.proofs.lemmas.List.{length-map}
-use Rattle.mau_chart.specs.Goal.{Scanned, IsGoal}
+use Rattle.mau_chart.specs.Goal.{Scanned}
 use Rattle.mau_chart.specs.Table.{table, cells, found_of}
-use Rattle.mau_chart.specs.declared.reading.Answer.TheVariants.{Nothing, One, Two}
 use Rattle.mau_chart.proofs.Cells.{slice_get-seen}
 use Rattle.mau_chart.proofs.Scan.{first_goal, same_goal, no_goal}
 use Rattle.mau_chart.proofs.reading.scan.Goals as goal

@@ -1,4 +1,3 @@
-use Rattle.std.proofs.Common.{◌≡◌, length}
 use Rattle.mau_chart.specs.Goal.{Scanned}
 use Rattle.mau_chart.specs.Table.{table}
 use Rattle.mau_chart.proofs.reading.scan.Given as goal

@@ -1,4 +1,4 @@
-use Rattle.std.proofs.Common.{◌≡◌, ◌≤◌, ◌++◌, map, drop, codes, string_bytes, length}
+use Rattle.std.proofs.Common.{◌≡◌, ◌++◌, map, drop}
 use Rattle.mau_grammar.specs.Grammar.{variable_of}
 use Rattle.mau_grammar.proofs.aliases.variables_of.Given as goal
 

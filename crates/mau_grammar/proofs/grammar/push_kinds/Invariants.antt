@@ -1,4 +1,4 @@
-use Rattle.std.proofs.Common.{◌≡◌, ◌≤◌, ◌++◌, map, drop, codes, string_bytes, length}
+use Rattle.std.proofs.Common.{◌≡◌, ◌++◌}
 use Rattle.mau_grammar.specs.Productions.{of_kinds}
 use Rattle.mau_grammar.proofs.grammar.push_kinds.Given as goal
 

@@ -1,4 +1,4 @@
-use Rattle.std.proofs.Common.{◌≡◌, ◌≤◌, ◌++◌, map, drop, codes, string_bytes, length}
+use Rattle.std.proofs.Common.{◌≡◌, ◌++◌, map, drop}
 use Rattle.mau_grammar.specs.Productions.{sorted}
 use Rattle.mau_grammar.proofs.grammar.push_sorts.Given as goal
 

@@ -1,4 +1,4 @@
-use Rattle.std.proofs.Common.{◌≡◌, ◌≤◌, ◌++◌, map, drop, codes, string_bytes, length}
+use Rattle.std.proofs.Common.{◌≡◌}
 use Rattle.mau_grammar.specs.Grammar.{successors_to}
 use Rattle.mau_grammar.proofs.grammar.successors.Given as goal
 

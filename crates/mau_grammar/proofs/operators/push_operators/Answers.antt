@@ -1,4 +1,4 @@
-use Rattle.std.proofs.Common.{◌≡◌, ◌++◌, ◌+◌, sym, ◌∙◌, ap, ap₂, append_assoc}
+use Rattle.std.proofs.Common.{◌++◌, ◌+◌, sym, ◌∙◌, ap, ap₂, append_assoc}
 use Rattle.mau_signature.specs.Signature.{declarations_at}
 use Rattle.mau_grammar.specs.Productions.{of_operator, of_operators}
 use Rattle.mau_grammar.proofs.Shapes.{operators_more}

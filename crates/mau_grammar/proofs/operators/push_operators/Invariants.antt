@@ -1,4 +1,4 @@
-use Rattle.std.proofs.Common.{◌≡◌, ◌≤◌, ◌++◌, map, drop, codes, string_bytes, length}
+use Rattle.std.proofs.Common.{◌≡◌, ◌++◌}
 use Rattle.mau_grammar.specs.Productions.{of_operators}
 use Rattle.mau_grammar.proofs.operators.push_operators.Given as goal
 

@@ -1,4 +1,4 @@
-use Rattle.std.proofs.Common.{◌≡◌, ◌≤◌, ◌++◌, map, drop, codes, string_bytes, length}
+use Rattle.std.proofs.Common.{◌≡◌, ◌≤◌, ◌++◌, drop}
 use Rattle.mau_grammar.specs.Parts.{parts_from, parts_in_order}
 use Rattle.mau_grammar.proofs.parts.parts_in_order.Given as goal
 

@@ -1,4 +1,4 @@
-use Rattle.std.proofs.Common.{◌≡◌, ◌≤◌, ◌++◌, map, drop, true, string_bytes, length}
+use Rattle.std.proofs.Common.{◌≡◌, ◌++◌, drop, true}
 use Rattle.mau_grammar.specs.Parts.{listed}
 use Rattle.mau_grammar.proofs.parts.push_arguments.Given as goal
 

@@ -1,4 +1,4 @@
-use Rattle.std.proofs.Common.{◌≡◌, ◌≤◌, ◌++◌, map, drop, codes, string_bytes, length}
+use Rattle.std.proofs.Common.{◌≡◌, ◌++◌, drop}
 use Rattle.mau_grammar.specs.Parts.{words_of}
 use Rattle.mau_grammar.proofs.parts.words_of.Given as goal
 

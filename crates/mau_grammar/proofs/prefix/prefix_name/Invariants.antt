@@ -1,4 +1,4 @@
-use Rattle.std.proofs.Common.{◌≡◌, ◌≤◌, ◌++◌, map, drop, codes, string_bytes, length}
+use Rattle.std.proofs.Common.{◌≡◌, drop, string_bytes}
 use Rattle.mau_grammar.specs.Parts.{name_from, prefix_name}
 use Rattle.mau_grammar.proofs.prefix.prefix_name.Given as goal
 

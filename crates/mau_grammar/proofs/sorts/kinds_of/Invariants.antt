@@ -1,4 +1,4 @@
-use Rattle.std.proofs.Common.{◌≡◌, ◌≤◌, ◌++◌, map, drop, codes, string_bytes, length}
+use Rattle.std.proofs.Common.{◌≡◌, ◌++◌, map, drop}
 use Rattle.mau_poset.specs.Order.{kind_of}
 use Rattle.mau_grammar.proofs.sorts.kinds_of.Given as goal
 

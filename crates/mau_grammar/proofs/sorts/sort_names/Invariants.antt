@@ -1,4 +1,4 @@
-use Rattle.std.proofs.Common.{◌≡◌, ◌≤◌, ◌++◌, map, drop, codes, string_bytes, length}
+use Rattle.std.proofs.Common.{◌≡◌, ◌++◌, drop}
 use Rattle.mau_grammar.specs.Productions.{sort_names}
 use Rattle.mau_grammar.proofs.sorts.sort_names.Given as goal
 

@@ -3,7 +3,7 @@ use Rattle.std.proofs.lemmas.List.{take_all}
 use Rattle.std.proofs.lemmas.List.Elements.{All-push, All-same}
 use Rattle.mau_signature.specs.declared.decl.Decl.{Decl}
 use Rattle.mau_signature.specs.Faults.{HasSorts, is_successor}
-use Rattle.mau_grammar.proofs.Lows.{take-step}
+use Rattle.mau_signature.proofs.Lows.{take-step}
 use Rattle.mau_grammar.proofs.tests.assert_all_plain.Goals as goal
 
 abbrev IsPlain : Decl → Type 0

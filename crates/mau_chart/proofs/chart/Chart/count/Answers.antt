@@ -1,4 +1,4 @@
-use Rattle.std.proofs.Common.{◌≡◌, ◌≤◌, ◌<◌, sym, ◌∙◌, ap, length, arith}
+use Rattle.std.proofs.Common.{◌≤◌, ◌<◌, sym, ap, length, arith}
 use Rattle.mau_chart.proofs.Cells.{cells_at, cells_past}
 use Rattle.mau_chart.proofs.chart.Chart.count.Goals as goal
 

@@ -1,7 +1,7 @@
-use Rattle.std.proofs.Common.{◌≡◌, refl, ◌≤◌, ◌<◌, sym, ◌∙◌, ap, length, subst, arith}
+use Rattle.std.proofs.Common.{refl, ◌<◌, ◌∙◌, ap, length, arith}
 use Rattle.std.specs.List.{slice_get}
 use Rattle.std.proofs.lemmas.Option.{slice_get_read}
-use Rattle.mau_chart.proofs.Cells.{cells_at, cells_past, cells_within}
+use Rattle.mau_chart.proofs.Cells.{cells_at, cells_within}
 use Rattle.mau_chart.proofs.chart.Chart.fact.Goals as goal
 
 pub index-requires : goal.index-requires

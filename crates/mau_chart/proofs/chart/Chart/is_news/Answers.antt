@@ -1,4 +1,4 @@
-use Rattle.std.proofs.Common.{◌≡◌, ◌≢◌, true, false, sym, ◌∙◌, ap, length, subst, arith}
+use Rattle.std.proofs.Common.{◌≡◌, true, false, sym, ◌∙◌, ap}
 use Rattle.mau_chart.specs.Nodes.{trees_at}
 use Rattle.mau_chart.proofs.Cells.{had}
 use Rattle.mau_chart.proofs.chart.Chart.is_news.Goals as goal

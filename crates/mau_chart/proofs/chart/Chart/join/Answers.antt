@@ -1,7 +1,7 @@
-use Rattle.std.proofs.Common.{◌≡◌, ◌++◌, sym, ◌∙◌, ap, ap₂, length, subst, arith}
+use Rattle.std.proofs.Common.{◌≡◌, ◌++◌, sym, ◌∙◌, ap, ap₂, length, subst}
 use Rattle.mau_chart.specs.Nodes.{trees_at, AllBelow}
-use Rattle.mau_chart.specs.Chart.{Found, found, Offered}
-use Rattle.mau_chart.specs.Table.{table, seen, cells, found_of}
+use Rattle.mau_chart.specs.Chart.{found, Offered}
+use Rattle.mau_chart.specs.Table.{table, cells, found_of}
 use Rattle.mau_chart.proofs.Grows.{full_offered}
 use Rattle.mau_chart.proofs.Lists.{trees_at-append, AllBelow-append}
 use Rattle.mau_chart.proofs.Cells.{seen_at}

@@ -1,8 +1,8 @@
-use Rattle.std.proofs.Common.{◌≡◌, ◌++◌, sym, ◌∙◌, ap, ap₂, length, subst, arith}
-use Rattle.mau_chart.specs.Nodes.{trees_at, AllBelow}
+use Rattle.std.proofs.Common.{◌≡◌, ◌∙◌, ap, subst}
+use Rattle.mau_chart.specs.Nodes.{trees_at}
 use Rattle.mau_chart.specs.Reads.{made}
-use Rattle.mau_chart.specs.Chart.{Found, found, Offered}
-use Rattle.mau_chart.specs.Table.{table, seen, cells, found_of}
+use Rattle.mau_chart.specs.Chart.{found, Offered}
+use Rattle.mau_chart.specs.Table.{table, cells, found_of}
 use Rattle.mau_chart.proofs.Grows.{full_offered, same_offered}
 use Rattle.mau_chart.proofs.Cells.{seen_at}
 use Rattle.mau_chart.proofs.chart.Chart.lift.Goals as goal

@@ -1,5 +1,5 @@
-use Rattle.std.proofs.Common.{◌≡◌, [], ◌∷◌, sym, ◌∙◌, ap, length, subst, arith}
-use Rattle.mau_chart.specs.Table.{table, seen, AreKnown}
+use Rattle.std.proofs.Common.{sym, ◌∙◌, ap, subst}
+use Rattle.mau_chart.specs.Table.{seen, AreKnown}
 use Rattle.mau_chart.proofs.Cells.{more_same, more_known}
 use Rattle.mau_chart.proofs.chart.Chart.node.Goals as goal
 

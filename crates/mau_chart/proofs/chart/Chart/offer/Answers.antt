@@ -1,4 +1,4 @@
-use Rattle.std.proofs.Common.{◌≡◌, sym, ◌∙◌, ap, length, subst, arith}
+use Rattle.std.proofs.Common.{sym, subst}
 use Rattle.mau_chart.specs.Chart.{Offered, found}
 use Rattle.mau_chart.specs.Table.{table, seen, AreKnown, HasOther}
 use Rattle.mau_chart.specs.Nodes.{trees_at}

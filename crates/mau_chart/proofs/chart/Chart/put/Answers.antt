@@ -1,4 +1,3 @@
-use Rattle.std.proofs.Common.{◌≡◌, sym, ◌∙◌, ap, length, arith}
 use Rattle.mau_chart.proofs.Cells.{put_row}
 use Rattle.mau_chart.proofs.chart.Chart.put.Goals as goal
 

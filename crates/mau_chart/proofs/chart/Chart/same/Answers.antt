@@ -1,5 +1,5 @@
-use Rattle.std.proofs.Common.{Bool, false, true, ◌≡◌, refl, ◌<◌, ◌≤◌, sym, ◌∙◌, ap, length, arith}
-use Rattle.mau_chart.proofs.Lists.{length-trees_at, more_alike_to, alike_at, all_alike, below_at}
+use Rattle.std.proofs.Common.{Bool, false, true, ◌≡◌, refl, sym, ◌∙◌, ap, length, arith}
+use Rattle.mau_chart.proofs.Lists.{length-trees_at, more_alike_to, alike_at, below_at}
 use Rattle.mau_chart.proofs.chart.Chart.same.Goals as goal
 
 pub returns-then-ts-us : goal.returns-then-ts-us

@@ -1,4 +1,4 @@
-use Rattle.std.proofs.Common.{◌∙◌, ◌<◌, ap, sym, length, arith, eq-eqb, eqb-true}
+use Rattle.std.proofs.Common.{◌∙◌, ap, sym, length, arith, eq-eqb, eqb-true}
 use Rattle.mau_chart.specs.Nodes.{tree_at}
 use Rattle.mau_chart.proofs.Stored.{one_where_same}
 use Rattle.mau_chart.proofs.trees.Trees.same.Goals as goal

@@ -1,4 +1,4 @@
-use Rattle.std.proofs.Common.{◌∙◌, ◌<◌, ap, sym, length, arith}
+use Rattle.std.proofs.Common.{◌∙◌, ap, sym, length, arith}
 use Rattle.mau_store.proofs.Standing.{length-trees}
 use Rattle.mau_chart.specs.Nodes.{tree_at, node_tree}
 use Rattle.mau_chart.proofs.Stored.{names_below, tree_over-node}

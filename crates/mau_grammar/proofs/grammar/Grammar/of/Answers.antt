@@ -1,4 +1,4 @@
-use Rattle.std.proofs.Common.{sym, subst, ◌∙◌, ◌++◌, map, All, ap}
+use Rattle.std.proofs.Common.{sym, subst, All}
 use Rattle.mau_grammar.specs.Production.{IsShaped}
 use Rattle.mau_grammar.proofs.Shapes.{all_shaped}
 use Rattle.mau_grammar.proofs.grammar.Grammar.of.Goals as goal

@@ -1,0 +1,3 @@
+pub mod Charted
+pub mod Singles
+pub mod Forms_pushed
