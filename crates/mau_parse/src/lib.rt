@@ -1,10 +1,13 @@
-//! The mixfix reader: words of a text, and the productions of a grammar as a chart of these words takes them. A law says that
+//! The mixfix reader: words of a text, numerals among them, and the productions of
+//! a grammar as a chart of these words takes them. A law says that
 //! what such a chart reads is exactly the trees of the words.
 #![tactic(auto)]
 
 mod forms;
 pub mod laws;
+mod numerals;
 mod words;
 
 pub use forms::forms_of;
+pub use numerals::{is_numeral, value_of};
 pub use words::Words;
