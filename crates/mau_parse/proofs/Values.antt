@@ -28,4 +28,4 @@ numeral_by_first [] h = absurd (omega arith)
 numeral_by_first (b ∷ []) h = refl
 numeral_by_first (b ∷ d ∷ w) h =
     ap (λ t. list_all is_digit (b ∷ d ∷ w) && (not (b == 48) || t))
-      (is_not (length (b ∷ d ∷ w)) 1 (λ e. omega (arith, e)) ∙ sym (is_not (length (d ∷ w)) 0 (λ e. omega (arith, e))))
+    (is_not (length (b ∷ d ∷ w)) 1 (λ e. omega (arith, e)) ∙ sym (is_not (length (d ∷ w)) 0 (λ e. omega (arith, e))))

@@ -2,6 +2,8 @@
 
 -- what tokens read
 pub mod Words
+-- numerals that are too large
+pub mod TooLarge
 -- tokens, productions and leaves in a chart
 pub mod Charted
 -- what is proved of them

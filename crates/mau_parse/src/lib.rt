@@ -9,5 +9,8 @@ mod numerals;
 mod words;
 
 pub use forms::forms_of;
-pub use numerals::{is_numeral, value_of};
+pub use numerals::{first_too_large, is_numeral, value_of};
 pub use words::Words;
+
+#[cfg(test)]
+mod tests;

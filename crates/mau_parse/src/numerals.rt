@@ -1,7 +1,10 @@
 //! Numerals among words.
-ghost use Rattle.std.specs.Prelude.{◌≡◌, ◌≤◌, ◌^◌, ◌-◌, ◌+◌, ◌*◌, ◌==◌, ◌||◌, not, IfSome, IfNone};
+ghost use Rattle.std.specs.Prelude.{◌≡◌, ◌≤◌, ◌^◌, ◌-◌, ◌+◌, ◌*◌, ◌<◌, ◌↔◌, ℕ, IsTrue, length, ◌==◌, ◌||◌, not, IfSome, IfNone};
 ghost use Rattle.std.specs.List.{list_all};
 ghost use Rattle.mau_grammar.specs.Leaves;
+ghost use Rattle.mau_parse.specs.TooLarge.{IsTooLarge, IsFirstTooLarge};
+
+use crate::words::Words;
 
 /// Whether the byte is a decimal digit.
 fn is_digit(byte: u8) -> bool
@@ -61,4 +64,26 @@ pub fn value_of(word: &str) -> Option<u128>
         }
     }
     Some(value)
+}
+
+/// Whether the word is a numeral of 2^128 or more.
+fn is_too_large(words: &Words, i: usize) -> bool
+    requires { i < length words.now }
+    ensures { IsTrue result ↔ IsTooLarge words.now i }
+{
+    let word = words.text(i);
+    is_numeral(word) && value_of(word).is_none()
+}
+
+/// The place of the first word that is a numeral of 2^128 or more.
+pub fn first_too_large(words: &Words) -> Option<usize>
+    ensures some { IfSome result (IsFirstTooLarge words.now) }
+    ensures none { IfNone result ((i : ℕ) → IsTooLarge words.now i → ⊥) }
+{
+    for i in 0..words.len() {
+        if is_too_large(words, i) {
+            return Some(i);
+        }
+    }
+    None
 }
