@@ -1,0 +1,12 @@
+pub mod Stored
+pub mod Lists
+pub mod Grows
+pub mod Cells
+pub mod Step
+pub mod Grouped
+pub mod Complete
+pub mod Trials
+pub mod Masks
+pub mod Rows
+pub mod Scan
+pub mod Told

@@ -1,0 +1,11 @@
+use Rattle.std.proofs.Common.{◌≡◌, length}
+use Rattle.mau_chart.specs.Chart.{Combined, IsAmong}
+use Rattle.mau_chart.specs.Table.{table, IsChart}
+use Rattle.mau_chart.proofs.fill.combine_places.Given as goal
+
+abbrev pub invariant-loop-z : goal.invariant-loop-z
+invariant-loop-z l = record {
+  chart : IsChart l.chart;
+  rows : length l.chart.rows.items ≡ length l.fn.chart.rows.items;
+  combined : Combined l.productions l.leaves (table l.fn.chart) (table l.chart) l.i l.k l.m (IsAmong l.places l.part l.z);
+}

@@ -1,0 +1,595 @@
+//! Filling a chart.
+ghost use Rattle.std.specs.List.{slice_get};
+ghost use Rattle.std.specs.Prelude.{◌≡◌, ◌≢◌, ◌<◌, ◌≤◌, ◌+◌, ℕ, List, Some, None, Option, IfOk, OnOk, IfSome, IsTrue, true, get_or, length};
+ghost use Rattle.mau_terms.specs.declared.ids.OpId.{OpId};
+ghost use Rattle.mau_chart.specs.declared.grammar.Item.{Item};
+ghost use Rattle.mau_chart.specs.declared.grammar.Leaf.{Leaf};
+ghost use Rattle.mau_chart.specs.declared.grammar.Item.TheVariants.{Whole, Part};
+ghost use Rattle.mau_chart.specs.Chart.{Found, Steps, StepsOnly, IsOne, IsAmong, Lifts, Completed, Combined, Grows, AreSound, AreLeaves, AreForms, Processed, IsDone, Begun, Ended, IsRow, IsEmpty, Closed, Wants, IsMask};
+ghost use Rattle.mau_chart.specs.Groups.{IsGrouped, AreGrouped, AreIndexed};
+ghost use Rattle.mau_chart.specs.Table.{table, cells, IsChart};
+
+use crate::chart::Chart;
+use crate::grammar::{Item, Leaf, Production, Said};
+use crate::groups::{Group, group_row, groups_of};
+use mau_terms::{NoMemory, OpId};
+use std::alloc::Global;
+
+/// The part of a production that has the piece a and then the part b.
+pub fn step_of(productions: &[Production], mask: &[bool], a: Item, b: Item) -> Option<Item>
+    ensures some { IfSome result (λ to. Steps productions.now a b to) }
+    ensures only { (ls : List Leaf) (i : ℕ) (to : Item) → IsMask productions.now ls i mask.now → Steps productions.now a b to → Wants productions.now ls i to → result ≡ Some to }
+{
+    match plain_step_of(productions, a, b) {
+        None => None,
+        Some(item) => if is_wanted(productions, mask, item) {
+            Some(item)
+        } else {
+            None
+        },
+    }
+}
+
+/// Whether the piece before the item may end where the mask is of.
+fn is_wanted(productions: &[Production], mask: &[bool], item: Item) -> bool
+    ensures { (ls : List Leaf) (i : ℕ) → IsMask productions.now ls i mask.now → Wants productions.now ls i item → (number dot : ℕ) → item ≡ Part number dot → number < length productions.now → IsTrue result }
+{
+    match item {
+        Item::Whole(_, _) => true,
+        Item::Part(number, dot) => {
+            if dot == 0 {
+                return true;
+            }
+            if number >= productions.len() {
+                return true;
+            }
+            let before = dot - 1;
+            if before >= productions[number].pieces.len() {
+                return true;
+            }
+            let kind = productions[number].pieces[before].kind;
+            if kind >= mask.len() {
+                return true;
+            }
+            mask[kind]
+        }
+    }
+}
+
+/// The part of a production that has the piece a and then the part b.
+pub fn plain_step_of(productions: &[Production], a: Item, b: Item) -> Option<Item>
+    ensures some { IfSome result (λ to. Steps productions.now a b to) }
+    ensures only { (to : Item) → Steps productions.now a b to → result ≡ Some to }
+{
+    match (a, b) {
+        (Item::Whole(kind, level), Item::Part(number, dot)) => {
+            if dot == 0 {
+                return None;
+            }
+            if number >= productions.len() {
+                return None;
+            }
+            let before = dot - 1;
+            if before >= productions[number].pieces.len() {
+                return None;
+            }
+            let piece = productions[number].pieces[before];
+            if piece.kind != kind {
+                return None;
+            }
+            if level > piece.upto {
+                return None;
+            }
+            Some(Item::Part(number, before))
+        }
+        _ => None,
+    }
+}
+
+fn head_of(form: &Production) -> (Item, Option<OpId>)
+    ensures item { result.0 ≡ Whole form.now.kind form.now.level }
+    ensures op { result.1 ≡ form.now.op }
+{
+    (Item::Whole(form.kind, form.level), form.op)
+}
+
+/// What a part becomes that has all its pieces.
+pub fn lift_of(productions: &[Production], item: Item) -> Option<(Item, Option<OpId>)>
+    ensures some { IfSome result (λ to. Lifts productions.now item to.0 to.1) }
+    ensures only { (to : Item) (o : Option OpId) → Lifts productions.now item to o → result ≡ Some (to, o) }
+{
+    match item {
+        Item::Part(number, dot) => {
+            if dot != 0 {
+                return None;
+            }
+            if number >= productions.len() {
+                return None;
+            }
+            Some(head_of(&productions[number]))
+        }
+        Item::Whole(_, _) => None,
+    }
+}
+
+/// The number of an item among the items of its row: hints alone depend on it.
+fn slot_of(slots: &[usize], item: Item) -> usize {
+    match item {
+        Item::Part(number, dot) => {
+            if number < slots.len() {
+                slots[number].wrapping_add(dot)
+            } else {
+                0
+            }
+        }
+        Item::Whole(_, _) => 0,
+    }
+}
+
+/// Puts the fact k of the row i before the fact x of the row m, where this part stands there.
+fn try_part(
+    chart: &mut Chart,
+    alloc: Global,
+    productions: &[Production],
+    leaves: &[Leaf],
+    slot: usize,
+    part: Item,
+    item: Item,
+    i: usize,
+    k: usize,
+    m: usize,
+    x: usize,
+) -> Result<(), NoMemory>
+    requires chart { IsChart chart.old }
+    requires row { i < length chart.old.rows.items }
+    requires first { k < length (cells chart.old.rows.items i) }
+    requires steps { (f : Found) → slice_get (table chart.old i) k ≡ Some f → Steps productions.now f.item part item }
+    requires only { StepsOnly productions.now leaves.now (table chart.old) i k part item }
+    ensures chart { OnOk result (IsChart chart.new) }
+    ensures rows { OnOk result (length chart.new.rows.items ≡ length chart.old.rows.items) }
+    ensures combined { OnOk result (Combined productions.now leaves.now (table chart.old) (table chart.new) i k m (IsOne x part)) }
+{
+    if x >= chart.count(m) {
+        return Ok(());
+    }
+    if !chart.fact(m, x).item.is(part) {
+        return Ok(());
+    }
+    chart.join(alloc, slot, i, k, m, x, item)?;
+    Ok(())
+}
+
+/// Puts the fact k of the row i before each of these places of the row m, where this part stands there.
+fn combine_places(
+    chart: &mut Chart,
+    alloc: Global,
+    productions: &[Production],
+    leaves: &[Leaf],
+    slot: usize,
+    part: Item,
+    item: Item,
+    places: &[usize],
+    i: usize,
+    k: usize,
+    m: usize,
+) -> Result<(), NoMemory>
+    requires chart { IsChart chart.old }
+    requires row { i < length chart.old.rows.items }
+    requires first { k < length (cells chart.old.rows.items i) }
+    requires other { m ≢ i }
+    requires steps { (f : Found) → slice_get (table chart.old i) k ≡ Some f → Steps productions.now f.item part item }
+    requires only { StepsOnly productions.now leaves.now (table chart.old) i k part item }
+    ensures chart { OnOk result (IsChart chart.new) }
+    ensures rows { OnOk result (length chart.new.rows.items ≡ length chart.old.rows.items) }
+    ensures combined { OnOk result (Combined productions.now leaves.now (table chart.old) (table chart.new) i k m (IsAmong places.now part (length places.now))) }
+{
+    for z in 0..places.len() {
+        try_part(
+            chart,
+            alloc,
+            productions,
+            leaves,
+            slot,
+            part,
+            item,
+            i,
+            k,
+            m,
+            places[z],
+        )?;
+    }
+    Ok(())
+}
+
+/// Puts what comes of a part that has all its pieces.
+fn complete(
+    chart: &mut Chart,
+    alloc: Global,
+    productions: &[Production],
+    slots: &[usize],
+    i: usize,
+    k: usize,
+) -> Result<(), NoMemory>
+    requires chart { IsChart chart.old }
+    requires row { i < length chart.old.rows.items }
+    requires first { k < length (cells chart.old.rows.items i) }
+    ensures chart { OnOk result (IsChart chart.new) }
+    ensures rows { OnOk result (length chart.new.rows.items ≡ length chart.old.rows.items) }
+    ensures completed { OnOk result (Completed productions.now (table chart.old) (table chart.new) i k) }
+{
+    let item = chart.fact(i, k).item;
+    match lift_of(productions, item) {
+        None => Ok(()),
+        Some((whole, op)) => {
+            let slot = end_slot(productions, slots, item);
+            chart.lift(alloc, slot, i, k, whole, op)?;
+            Ok(())
+        }
+    }
+}
+
+fn end_slot(productions: &[Production], slots: &[usize], item: Item) -> usize {
+    match item {
+        Item::Part(number, _) => {
+            if number < slots.len() && number < productions.len() {
+                slots[number]
+                    .wrapping_add(productions[number].pieces.len())
+                    .wrapping_add(1)
+            } else {
+                0
+            }
+        }
+        Item::Whole(_, _) => 0,
+    }
+}
+
+/// Puts the fact k of the row i, which is this whole and ends at m, before the parts of a group of the row m.
+fn combine_group(
+    chart: &mut Chart,
+    alloc: Global,
+    productions: &[Production],
+    slots: &[usize],
+    leaves: &[Leaf],
+    mask: &[bool],
+    group: &Group,
+    whole: Item,
+    i: usize,
+    k: usize,
+    m: usize,
+) -> Result<(), NoMemory>
+    requires chart { IsChart chart.old }
+    requires mask { IsMask productions.now leaves.now i mask.now }
+    requires row { i < length chart.old.rows.items }
+    requires first { k < length (cells chart.old.rows.items i) }
+    requires whole { (f : Found) → slice_get (table chart.old i) k ≡ Some f → f.item ≡ whole }
+    requires other { m ≢ i }
+    ensures chart { OnOk result (IsChart chart.new) }
+    ensures rows { OnOk result (length chart.new.rows.items ≡ length chart.old.rows.items) }
+    ensures combined { OnOk result (Combined productions.now leaves.now (table chart.old) (table chart.new) i k m (IsAmong group.now.parts.items group.now.item (length group.now.parts.items))) }
+{
+    match step_of(productions, mask, whole, group.item) {
+        None => Ok(()),
+        Some(item) => {
+            let slot = slot_of(slots, item);
+            combine_places(
+                chart,
+                alloc,
+                productions,
+                leaves,
+                slot,
+                group.item,
+                item,
+                &group.parts,
+                i,
+                k,
+                m,
+            )?;
+            Ok(())
+        }
+    }
+}
+
+/// Puts the fact k of the row i, which is this whole and ends at m, before the parts of the row m, which are these groups.
+fn combine(
+    chart: &mut Chart,
+    alloc: Global,
+    productions: &[Production],
+    slots: &[usize],
+    leaves: &[Leaf],
+    mask: &[bool],
+    groups: &[Group],
+    whole: Item,
+    i: usize,
+    k: usize,
+    m: usize,
+) -> Result<(), NoMemory>
+    requires chart { IsChart chart.old }
+    requires mask { IsMask productions.now leaves.now i mask.now }
+    requires row { i < length chart.old.rows.items }
+    requires first { k < length (cells chart.old.rows.items i) }
+    requires whole { (f : Found) → slice_get (table chart.old i) k ≡ Some f → f.item ≡ whole }
+    requires other { m ≢ i }
+    ensures chart { OnOk result (IsChart chart.new) }
+    ensures rows { OnOk result (length chart.new.rows.items ≡ length chart.old.rows.items) }
+    ensures combined { OnOk result (Combined productions.now leaves.now (table chart.old) (table chart.new) i k m (IsGrouped groups.now (length groups.now))) }
+{
+    for w in 0..groups.len() {
+        combine_group(
+            chart,
+            alloc,
+            productions,
+            slots,
+            leaves,
+            mask,
+            &groups[w],
+            whole,
+            i,
+            k,
+            m,
+        )?;
+    }
+    Ok(())
+}
+
+/// Does what is to be done with the fact k of the row i.
+fn process(
+    chart: &mut Chart,
+    alloc: Global,
+    productions: &[Production],
+    slots: &[usize],
+    leaves: &[Leaf],
+    mask: &[bool],
+    index: &[Vec<Group>],
+    n: usize,
+    i: usize,
+    k: usize,
+) -> Result<(), NoMemory>
+    requires chart { IsChart chart.old }
+    requires index { AreIndexed (table chart.old) n i index.now }
+    requires mask { IsMask productions.now leaves.now i mask.now }
+    requires row { i < length chart.old.rows.items }
+    requires first { k < length (cells chart.old.rows.items i) }
+    requires sound { AreSound productions.now leaves.now (table chart.old) }
+    requires leaves { AreLeaves leaves.now n }
+    requires forms { AreForms productions.now }
+    ensures chart { OnOk result (IsChart chart.new) }
+    ensures rows { OnOk result (length chart.new.rows.items ≡ length chart.old.rows.items) }
+    ensures grows { OnOk result (Grows (table chart.old) (table chart.new) i) }
+    ensures sound { OnOk result (AreSound productions.now leaves.now (table chart.new)) }
+    ensures processed { OnOk result (Processed productions.now leaves.now (table chart.new) i k) }
+{
+    let fact = chart.fact(i, k);
+    let item = fact.item;
+    let end = fact.end;
+    match item {
+        Item::Whole(_, _) => {
+            let groups = groups_of(index, n - end);
+            combine(
+                chart,
+                alloc,
+                productions,
+                slots,
+                leaves,
+                mask,
+                groups,
+                item,
+                i,
+                k,
+                end,
+            )?;
+            Ok(())
+        }
+        Item::Part(_, _) => {
+            complete(chart, alloc, productions, slots, i, k)?;
+            Ok(())
+        }
+    }
+}
+
+/// Does what is to be done with each fact of the row i, those that come of it too.
+fn saturate(
+    chart: &mut Chart,
+    alloc: Global,
+    productions: &[Production],
+    slots: &[usize],
+    leaves: &[Leaf],
+    mask: &[bool],
+    index: &[Vec<Group>],
+    n: usize,
+    i: usize,
+) -> Result<(), NoMemory>
+    requires chart { IsChart chart.old }
+    requires index { AreIndexed (table chart.old) n i index.now }
+    requires mask { IsMask productions.now leaves.now i mask.now }
+    requires row { i < length chart.old.rows.items }
+    requires sound { AreSound productions.now leaves.now (table chart.old) }
+    requires leaves { AreLeaves leaves.now n }
+    requires forms { AreForms productions.now }
+    ensures chart { OnOk result (IsChart chart.new) }
+    ensures rows { OnOk result (length chart.new.rows.items ≡ length chart.old.rows.items) }
+    ensures grows { OnOk result (Grows (table chart.old) (table chart.new) i) }
+    ensures sound { OnOk result (AreSound productions.now leaves.now (table chart.new)) }
+    ensures done { OnOk result (IsDone productions.now leaves.now (table chart.new) i (length (table chart.new i))) }
+{
+    for k in 0..usize::MAX {
+        if k >= chart.count(i) {
+            return Ok(());
+        }
+        process(
+            chart,
+            alloc,
+            productions,
+            slots,
+            leaves,
+            mask,
+            index,
+            n,
+            i,
+            k,
+        )?;
+    }
+    let _count = chart.count(i);
+    Ok(())
+}
+
+/// Puts the leaves that begin at i.
+fn begin(chart: &mut Chart, alloc: Global, leaves: &[Leaf], i: usize) -> Result<(), NoMemory>
+    requires chart { IsChart chart.old }
+    requires row { i < length chart.old.rows.items }
+    ensures chart { OnOk result (IsChart chart.new) }
+    ensures rows { OnOk result (length chart.new.rows.items ≡ length chart.old.rows.items) }
+    ensures begun { OnOk result (Begun leaves.now (table chart.old) (table chart.new) i (length leaves.now)) }
+{
+    for k in 0..leaves.len() {
+        let leaf = leaves[k];
+        if leaf.start == i {
+            chart.say(
+                alloc,
+                0,
+                i,
+                Item::Whole(leaf.kind, leaf.level),
+                leaf.end,
+                leaf.said,
+            )?;
+        }
+    }
+    Ok(())
+}
+
+/// Puts the ends of the productions whose last piece may end here.
+fn finish(
+    chart: &mut Chart,
+    alloc: Global,
+    productions: &[Production],
+    slots: &[usize],
+    leaves: &[Leaf],
+    mask: &[bool],
+    i: usize,
+) -> Result<(), NoMemory>
+    requires chart { IsChart chart.old }
+    requires mask { IsMask productions.now leaves.now i mask.now }
+    requires row { i < length chart.old.rows.items }
+    ensures chart { OnOk result (IsChart chart.new) }
+    ensures rows { OnOk result (length chart.new.rows.items ≡ length chart.old.rows.items) }
+    ensures ended { OnOk result (Ended productions.now leaves.now (table chart.old) (table chart.new) i (length productions.now)) }
+{
+    for k in 0..productions.len() {
+        let item = Item::Part(k, productions[k].pieces.len());
+        if is_wanted(productions, mask, item) {
+            let slot = slot_of(slots, item);
+            chart.say(alloc, slot, i, item, i, Said::Word)?;
+        }
+    }
+    Ok(())
+}
+
+/// Fills the row i, where those behind it are full.
+fn fill_row(
+    chart: &mut Chart,
+    alloc: Global,
+    productions: &[Production],
+    slots: &[usize],
+    leaves: &[Leaf],
+    index: &[Vec<Group>],
+    kinds: usize,
+    n: usize,
+    i: usize,
+) -> Result<(), NoMemory>
+    requires chart { IsChart chart.old }
+    requires index { AreIndexed (table chart.old) n i index.now }
+    requires row { i < length chart.old.rows.items }
+    requires sound { AreSound productions.now leaves.now (table chart.old) }
+    requires leaves { AreLeaves leaves.now n }
+    requires forms { AreForms productions.now }
+    ensures chart { OnOk result (IsChart chart.new) }
+    ensures rows { OnOk result (length chart.new.rows.items ≡ length chart.old.rows.items) }
+    ensures grows { OnOk result (Grows (table chart.old) (table chart.new) i) }
+    ensures sound { OnOk result (AreSound productions.now leaves.now (table chart.new)) }
+    ensures full { OnOk result (IsRow productions.now leaves.now (table chart.new) i) }
+{
+    let mask = mask_of(alloc, productions, leaves, kinds, i)?;
+    begin(chart, alloc, leaves, i)?;
+    finish(chart, alloc, productions, slots, leaves, &mask, i)?;
+    saturate(chart, alloc, productions, slots, leaves, &mask, index, n, i)?;
+    Ok(())
+}
+
+/// One more than the greatest kind of which there is a production.
+pub fn count_kinds(productions: &[Production]) -> usize {
+    let mut count = 0;
+    for production in productions {
+        count = production.kind.saturating_add(1).max(count);
+    }
+    count
+}
+
+/// Fills the rows from the last to the first.
+pub fn fill(
+    chart: &mut Chart,
+    alloc: Global,
+    productions: &[Production],
+    slots: &[usize],
+    leaves: &[Leaf],
+    n: usize,
+) -> Result<(), NoMemory>
+    requires chart { IsChart chart.old }
+    requires rows { length chart.old.rows.items ≡ n + 1 }
+    requires empty { IsEmpty (table chart.old) }
+    requires leaves { AreLeaves leaves.now n }
+    requires forms { AreForms productions.now }
+    ensures chart { OnOk result (IsChart chart.new) }
+    ensures sound { OnOk result (AreSound productions.now leaves.now (table chart.new)) }
+    ensures closed { OnOk result (Closed productions.now leaves.now n (table chart.new) 0) }
+{
+    let kinds = count_kinds(productions);
+    let mut index = Vec::new(alloc);
+    let count = chart.rows.len();
+    for r in 0..count {
+        fill_row(
+            chart,
+            alloc,
+            productions,
+            slots,
+            leaves,
+            &index,
+            kinds,
+            n,
+            n - r,
+        )?;
+        index.push(group_row(alloc, chart, n - r)?)?;
+    }
+    Ok(())
+}
+
+/// Marks a kind as one that may end here.
+fn mark(mask: &mut Vec<bool>, kind: usize)
+    ensures there { get_or mask.new.items kind true ≡ true }
+    ensures others { (j : ℕ) → get_or mask.old.items j true ≡ true → get_or mask.new.items j true ≡ true }
+{
+    if kind < mask.len() {
+        mask[kind] = true;
+    }
+}
+
+/// The kinds of which something may end at i: those of productions, and those of leaves that end there.
+fn mask_of(
+    alloc: Global,
+    productions: &[Production],
+    leaves: &[Leaf],
+    kinds: usize,
+    i: usize,
+) -> Result<Vec<bool>, NoMemory>
+    ensures { IfOk result (λ mask. IsMask productions.now leaves.now i mask.items) }
+{
+    let mut mask = Vec::new(alloc);
+    mask.resize(kinds, false)?;
+    for k in 0..productions.len() {
+        mark(&mut mask, productions[k].kind);
+    }
+    for k in 0..leaves.len() {
+        if leaves[k].end == i {
+            mark(&mut mask, leaves[k].kind);
+        }
+    }
+    Ok(mask)
+}

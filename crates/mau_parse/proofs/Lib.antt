@@ -1,0 +1,4 @@
+pub mod Charted
+pub mod Singles
+pub mod Forms_pushed
+pub mod Values

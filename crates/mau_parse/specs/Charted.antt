@@ -1,0 +1,69 @@
+-- Tokens, productions and leaves as a chart takes them. A word is a kind of its own: the place of the first token that reads it, or the
+-- number of tokens where none does. The kinds of terms have the numbers behind that.
+use Rattle.std.specs.Prelude.{◌≡◌, ℕ, ◌+◌, List, [], ◌∷◌, length, true, Some, bytes_eq, slice_get, if◌then◌else◌}
+use Rattle.mau_terms.specs.declared.ids.VarId.{VarId}
+use Rattle.mau_grammar.specs.declared.production.Part.{Part}
+use Rattle.mau_grammar.specs.declared.production.Part.TheVariants.{Word, Hole as Place}
+use Rattle.mau_grammar.specs.declared.production.Production.{Production as Written}
+use Rattle.mau_grammar.specs.Grammar.{GrammarOf}
+use Rattle.mau_grammar.specs.Leaves.{is_numeral, value_of, Reading, pair_of, readings_at, pairs_of}
+use Rattle.mau_chart.specs.declared.grammar.Piece.{Piece}
+use Rattle.mau_chart.specs.declared.grammar.Production.{Production}
+use Rattle.mau_chart.specs.declared.grammar.Leaf.{Leaf}
+use Rattle.mau_chart.specs.declared.grammar.Said.{Said}
+use Rattle.mau_chart.specs.declared.grammar.Said.TheVariants.{Word as Silent, Var, Num}
+
+-- the number of a word: the place of the first token that reads it, or the number of tokens
+abbrev pub word_number : List (List ℕ) → List ℕ → ℕ
+word_number [] w = 0
+word_number (v ∷ ws) w = if bytes_eq v w then 0 else word_number ws w + 1
+
+-- the number of a kind of terms
+abbrev pub kind_number : List (List ℕ) → ℕ → ℕ
+kind_number ws k = length ws + 1 + k
+
+-- ---- productions
+
+abbrev pub IsPieceOf : List (List ℕ) → Part → Piece → Type 0
+IsPieceOf ws (Word w) c = c.kind ≡ word_number ws w
+IsPieceOf ws (Place h) c = (c.kind ≡ kind_number ws h.kind) × (c.upto ≡ h.upto)
+
+abbrev pub ArePiecesOf : List (List ℕ) → List Part → List Piece → Type 0
+ArePiecesOf ws [] [] = Unit {0}
+ArePiecesOf ws [] (c ∷ cs) = ⊥
+ArePiecesOf ws (p ∷ ps) [] = ⊥
+ArePiecesOf ws (p ∷ ps) (c ∷ cs) = IsPieceOf ws p c × ArePiecesOf ws ps cs
+
+pub record IsFormOf (ws : List (List ℕ)) (p : Written) (q : Production) : Type 0 where
+  pub kind : q.kind ≡ kind_number ws p.kind
+  pub level : q.level ≡ p.level
+  pub op : q.op ≡ p.op
+  pub pieces : ArePiecesOf ws p.parts q.pieces.items
+
+-- each production in its place
+abbrev pub AreFormsOf : List (List ℕ) → List Written → List Production → Type 0
+AreFormsOf ws [] [] = Unit {0}
+AreFormsOf ws [] (q ∷ qs) = ⊥
+AreFormsOf ws (p ∷ ps) [] = ⊥
+AreFormsOf ws (p ∷ ps) (q ∷ qs) = IsFormOf ws p q × AreFormsOf ws ps qs
+
+-- ---- leaves
+
+abbrev pub leaf : ℕ → ℕ → ℕ → ℕ → Said → Leaf
+leaf k q i j s = record { kind = k; level = q; start = i; end = j; said = s }
+
+abbrev pub var_id : ℕ → ℕ → VarId
+var_id n s = record { index = n; sort = s }
+
+-- what a token, or some of them, are by themselves: a word, a numeral, or a variable
+pub data IsLeafOf (g : GrammarOf) (ws : List (List ℕ)) : Leaf → Type 0 where
+  word_leaf : (i : ℕ) (w : List ℕ) → slice_get ws i ≡ Some w → IsLeafOf g ws (leaf (word_number ws w) 0 i (i + 1) Silent)
+  numeral_leaf : (i k : ℕ) (w : List ℕ) → slice_get ws i ≡ Some w → is_numeral w ≡ true → g.numerals ≡ Some k
+      → IsLeafOf g ws (leaf (kind_number ws k) 1 i (i + 1) (Num (value_of w)))
+  variable_leaf : (i m n : ℕ) (r : Reading) → slice_get (readings_at g ws i) m ≡ Some r → slice_get (pairs_of g ws) n ≡ Some (pair_of r)
+      → IsLeafOf g ws (leaf (kind_number ws r.kind) 1 i r.end (Var (var_id n r.sort)))
+
+-- the leaves are exactly these
+pub record AreLeavesOf (g : GrammarOf) (ws : List (List ℕ)) (ls : List Leaf) : Type 0 where
+  pub right : (n : ℕ) (l : Leaf) → slice_get ls n ≡ Some l → IsLeafOf g ws l
+  pub all : (l : Leaf) → IsLeafOf g ws l → (n : ℕ) × (slice_get ls n ≡ Some l)

@@ -1,0 +1,10 @@
+-- What reading tokens means, to be read in this order.
+
+-- what tokens read
+pub mod Words
+-- numerals that are too large
+pub mod TooLarge
+-- tokens, productions and leaves in a chart
+pub mod Charted
+-- what is proved of them
+pub mod Laws

@@ -1,0 +1,14 @@
+-- Numerals of 2^128 or more.
+use Rattle.std.specs.Prelude.{◌≡◌, ℕ, ◌≤◌, ◌<◌, ◌^◌, List, true, Some, slice_get}
+use Rattle.mau_grammar.specs.Leaves.{is_numeral, value_of}
+
+-- the word at i is one
+pub record IsTooLarge (ws : List (List ℕ)) (i : ℕ) : Type 0 where
+  pub word : List ℕ
+  pub there : slice_get ws i ≡ Some word
+  pub numeral : is_numeral word ≡ true
+  pub large : 2 ^ 128 ≤ value_of word
+
+-- and none before it is
+abbrev pub IsFirstTooLarge : List (List ℕ) → ℕ → Type 0
+IsFirstTooLarge ws i = IsTooLarge ws i × ((j : ℕ) → j < i → IsTooLarge ws j → ⊥)

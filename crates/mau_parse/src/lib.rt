@@ -1,0 +1,16 @@
+//! The mixfix reader: words of a text, numerals among them, and the productions of
+//! a grammar as a chart of these words takes them. A law says that
+//! what such a chart reads is exactly the trees of the words.
+#![tactic(auto)]
+
+mod forms;
+pub mod laws;
+mod numerals;
+mod words;
+
+pub use forms::forms_of;
+pub use numerals::{first_too_large, is_numeral, value_of};
+pub use words::Words;
+
+#[cfg(test)]
+mod tests;
