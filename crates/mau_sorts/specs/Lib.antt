@@ -1,0 +1,12 @@
+-- The sorts of terms, to be read in this order.
+
+-- sets of sorts, and how they are kept
+pub mod SortSets
+-- the sorts that a term has, as derivations
+pub mod HasSort
+-- tables of the sorts of a store's terms
+pub mod Table
+-- what is computed from the entries of a node's arguments
+pub mod Derived
+-- what is proved of these
+pub mod Laws

@@ -1,0 +1,12 @@
+//! The sorts of terms: for each term of a store its minimal sorts, by declarations and by what else is known of it.
+//! (J. Goguen and J. Meseguer, "Order-sorted algebra I", Theoretical Computer Science 105, 1992.)
+#![tactic(auto)]
+
+mod derive;
+pub mod laws;
+mod minimal;
+mod settle;
+mod sort_set;
+mod table;
+
+pub use table::SortTable;
