@@ -12,3 +12,6 @@ mod table;
 
 pub use ready::are_terms;
 pub use table::SortTable;
+
+#[cfg(test)]
+mod tests;
