@@ -30,6 +30,17 @@ argument_over s g (variable_node i p) over k below = absurd (omega arith)
 argument_over s g (numeral_node v) over k below = absurd (omega arith)
 argument_over s g (operator_node f ids) over k below = arguments_over s g ids over.2 k below
 
+arguments_from : (s : SignatureOf) (g : ℕ → Tree) (ids : List ℕ) → ((k : ℕ) → k < length ids → IsTreeOver s (g (get_or ids k 0))) → AreTreesOver s (trees_of (map g ids))
+arguments_from s g [] each = tt
+arguments_from s g (i ∷ ids) each = (each zero (omega arith), arguments_from s g ids (λ k below. each (suc k) (omega (arith, below))))
+
+-- a node over terms that are over the signature
+pub tree_from : (s : SignatureOf) (g : ℕ → Tree) (n : Node) → IsNodeOver s n → ((k : ℕ) → k < length (arguments n) → IsTreeOver s (g (get_or (arguments n) k 0))) → IsTreeOver s (tree_over g n)
+tree_from s g (variable_node i p) over each = over
+tree_from s g (numeral_node v) over each = over
+tree_from s g (operator_node f ids) over each =
+    (over.0, λ assoc. subst (λ k. 2 ≤ k) (sym (ap length (list_of-trees_of (map g ids)) ∙ map_length g ids)) (over.1 assoc), arguments_from s g ids each)
+
 pub is_ready : (s : SignatureOf) (nodes : List Node) (t : Table) (i : ℕ) (n : Node) → IsOf nodes i → slice_get nodes i ≡ Some n → tree_at nodes i ≡ tree_over (tree_at nodes) n
     → IsTreeOver s (tree_at nodes i) → ((k : ℕ) → k < length (arguments n) → IsSettled t (get_or (arguments n) k 0)) → IsReady s nodes t i
 is_ready s nodes t i n there at_i tree over settled = record {

@@ -73,3 +73,7 @@ abbrev mutual
   pub AreTreesOver : SignatureOf → Trees → Type 0
   AreTreesOver s no_trees = Unit {0}
   AreTreesOver s (tree t ts) = IsTreeOver s t × AreTreesOver s ts
+
+-- each term of the store is one over the signature
+abbrev pub EachIsOver : SignatureOf → List Node → Type 0
+EachIsOver s nodes = (i : ℕ) → IsOf nodes i → IsTreeOver s (tree_at nodes i)

@@ -5,8 +5,13 @@
 mod derive;
 pub mod laws;
 mod minimal;
+mod ready;
 mod settle;
 mod sort_set;
 mod table;
 
+pub use ready::are_terms;
 pub use table::SortTable;
+
+#[cfg(test)]
+mod tests;

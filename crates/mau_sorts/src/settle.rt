@@ -14,7 +14,7 @@ use mau_store::{NodeView, Store};
 use mau_terms::{NoMemory, TermId};
 
 /// The arguments of a node.
-fn arguments_of<'a>(node: NodeView<'a>) -> &'a [TermId]
+pub(crate) fn arguments_of<'a>(node: NodeView<'a>) -> &'a [TermId]
     ensures { numbers result.now ≡ arguments (node_of node.entry) }
 {
     match node {

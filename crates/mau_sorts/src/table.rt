@@ -40,7 +40,8 @@ impl Model for SortTable {
 impl SortTable {
     /// A table in which nothing is settled. What is entered later is allocated by `alloc`.
     pub fn new(alloc: Global) -> SortTable
-        ensures { result ≡ [] }
+        ensures value { result ≡ [] }
+        ensures over { (h : Hierarchy) → AreOver h result }
     {
         SortTable {
             alloc,
