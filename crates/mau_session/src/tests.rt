@@ -1,5 +1,6 @@
 use crate::{Status, run};
 use mau_bytes::{MemorySink, MemorySource};
+use mau_formula::HookTable;
 use mau_terms::Text;
 use std::alloc::Global;
 use std::test::Fail;
@@ -20,7 +21,7 @@ fn answer(alloc: Global, words: &[&str], text: &str) -> Result<(Vec<u8>, Status)
     let given = texts(alloc, words)?;
     let mut source = MemorySource::new(text.as_bytes().to_vec(alloc)?, Vec::new(alloc));
     let mut sink = MemorySink::new(alloc, 100_000, Vec::new(alloc))?;
-    let status = run(alloc, &given, &mut source, &mut sink);
+    let status = run(alloc, &HookTable::new(alloc), &given, &mut source, &mut sink);
     Ok((sink.bytes().to_vec(alloc)?, status))
 }
 
@@ -294,7 +295,7 @@ fn has_a_cause_for_each_status(rt: HostRuntime) -> Result<(), Fail> {
     let mut source = MemorySource::new(bytes, failing);
     let mut sink = MemorySink::new(rt.alloc(), 1000, Vec::new(rt.alloc()))?;
     assert_eq!(rt;
-        run(rt.alloc(), &words, &mut source, &mut sink),
+        run(rt.alloc(), &HookTable::new(rt.alloc()), &words, &mut source, &mut sink),
         Status::ReadFault
     );
     assert!(rt; sink.bytes().is_empty(), "a read that fails writes nothing");
@@ -304,7 +305,7 @@ fn has_a_cause_for_each_status(rt: HostRuntime) -> Result<(), Fail> {
     let mut source = MemorySource::new(bytes, Vec::new(rt.alloc()));
     let mut sink = MemorySink::new(rt.alloc(), 1000, failing)?;
     assert_eq!(rt;
-        run(rt.alloc(), &words, &mut source, &mut sink),
+        run(rt.alloc(), &HookTable::new(rt.alloc()), &words, &mut source, &mut sink),
         Status::WriteFault
     );
     assert!(rt; sink.bytes().is_empty(), "the first write fails");
@@ -313,7 +314,7 @@ fn has_a_cause_for_each_status(rt: HostRuntime) -> Result<(), Fail> {
     let mut source = MemorySource::new(bytes, Vec::new(rt.alloc()));
     let mut sink = MemorySink::new(rt.alloc(), wanted.len() - 1, Vec::new(rt.alloc()))?;
     assert_eq!(rt;
-        run(rt.alloc(), &words, &mut source, &mut sink),
+        run(rt.alloc(), &HookTable::new(rt.alloc()), &words, &mut source, &mut sink),
         Status::WriteFault
     );
     assert_eq!(rt; sink.bytes(), &wanted[..wanted.len() - 1]);
@@ -331,7 +332,7 @@ fn reads_texts_up_to_the_limit(rt: HostRuntime) -> Result<(), Fail> {
     let mut source = MemorySource::new(copy, Vec::new(rt.alloc()));
     let mut sink = MemorySink::new(rt.alloc(), 1000, Vec::new(rt.alloc()))?;
     assert_eq!(rt;
-        run(rt.alloc(), &words, &mut source, &mut sink),
+        run(rt.alloc(), &HookTable::new(rt.alloc()), &words, &mut source, &mut sink),
         Status::Done
     );
     assert!(rt; sink.bytes().is_empty(), "spaces have no answers");
@@ -339,7 +340,7 @@ fn reads_texts_up_to_the_limit(rt: HostRuntime) -> Result<(), Fail> {
     spaces.push(b' ')?;
     let mut source = MemorySource::new(spaces, Vec::new(rt.alloc()));
     assert_eq!(rt;
-        run(rt.alloc(), &words, &mut source, &mut sink),
+        run(rt.alloc(), &HookTable::new(rt.alloc()), &words, &mut source, &mut sink),
         Status::InputTooLong
     );
     assert!(rt; sink.bytes().is_empty(), "nothing is written");

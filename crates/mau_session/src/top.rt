@@ -8,6 +8,7 @@ ghost use Rattle.mau_session.specs.Run.{IsRead, IsAnswered, IsCut};
 use crate::meaning::have_meaning;
 use crate::transcript::transcript;
 use mau_bytes::{ReadEnd, Sink, Source, read_all, write_all};
+use mau_formula::HookTable;
 use mau_terms::Text;
 use std::alloc::Global;
 
@@ -51,13 +52,15 @@ impl Status {
 }
 
 /// Does all that the program does. `words` are those of the command line without the program's name. The text is
-/// read to its end, its transcript is made whole, and then it is written.
+/// read to its end, its transcript is made whole, and then it is written. `_hooks` are the native operators, which
+/// no command applies yet.
 ///
 /// `Status::Usage` comes exactly where the words have no meaning, before anything is read or written;
 /// `ReadFault` and `WriteFault` only where a read or a write failed; `InputTooLong` exactly where more than
 /// 16,777,216 bytes were read; `NoMemory` where memory was wanting, and then nothing is written.
 pub fn run<S: Source, K: Sink>(
     alloc: Global,
+    _hooks: &HookTable,
     words: &[Text],
     source: &mut S,
     sink: &mut K,

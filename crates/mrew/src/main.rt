@@ -2,6 +2,7 @@
 #![tactic(auto)]
 
 use mau_bytes::{StdSink, StdSource};
+use mau_formula::HookTable;
 use mau_session::{Status, run};
 use mau_terms::Text;
 use std::alloc::Global;
@@ -10,10 +11,11 @@ use std::rt::Env;
 use std::{env, io};
 
 fn main(rt: HostRuntime) -> ExitCode {
+    let hooks = HookTable::new(rt.alloc());
     let mut source = StdSource::new(rt.stdin());
     let mut sink = StdSink::new(rt.stdout());
     let status = match words(&rt) {
-        Ok(words) => run(rt.alloc(), &words, &mut source, &mut sink),
+        Ok(words) => run(rt.alloc(), &hooks, &words, &mut source, &mut sink),
         Err(status) => status,
     };
     if status == Status::Usage {
