@@ -21,7 +21,13 @@ fn answer(alloc: Global, words: &[&str], text: &str) -> Result<(Vec<u8>, Status)
     let given = texts(alloc, words)?;
     let mut source = MemorySource::new(text.as_bytes().to_vec(alloc)?, Vec::new(alloc));
     let mut sink = MemorySink::new(alloc, 100_000, Vec::new(alloc))?;
-    let status = run(alloc, &HookTable::new(alloc), &given, &mut source, &mut sink);
+    let status = run(
+        alloc,
+        &HookTable::new(alloc),
+        &given,
+        &mut source,
+        &mut sink,
+    );
     Ok((sink.bytes().to_vec(alloc)?, status))
 }
 
@@ -295,7 +301,13 @@ fn has_a_cause_for_each_status(rt: HostRuntime) -> Result<(), Fail> {
     let mut source = MemorySource::new(bytes, failing);
     let mut sink = MemorySink::new(rt.alloc(), 1000, Vec::new(rt.alloc()))?;
     assert_eq!(rt;
-        run(rt.alloc(), &HookTable::new(rt.alloc()), &words, &mut source, &mut sink),
+        run(
+            rt.alloc(),
+            &HookTable::new(rt.alloc()),
+            &words,
+            &mut source,
+            &mut sink
+        ),
         Status::ReadFault
     );
     assert!(rt; sink.bytes().is_empty(), "a read that fails writes nothing");
@@ -305,7 +317,13 @@ fn has_a_cause_for_each_status(rt: HostRuntime) -> Result<(), Fail> {
     let mut source = MemorySource::new(bytes, Vec::new(rt.alloc()));
     let mut sink = MemorySink::new(rt.alloc(), 1000, failing)?;
     assert_eq!(rt;
-        run(rt.alloc(), &HookTable::new(rt.alloc()), &words, &mut source, &mut sink),
+        run(
+            rt.alloc(),
+            &HookTable::new(rt.alloc()),
+            &words,
+            &mut source,
+            &mut sink
+        ),
         Status::WriteFault
     );
     assert!(rt; sink.bytes().is_empty(), "the first write fails");
@@ -314,7 +332,13 @@ fn has_a_cause_for_each_status(rt: HostRuntime) -> Result<(), Fail> {
     let mut source = MemorySource::new(bytes, Vec::new(rt.alloc()));
     let mut sink = MemorySink::new(rt.alloc(), wanted.len() - 1, Vec::new(rt.alloc()))?;
     assert_eq!(rt;
-        run(rt.alloc(), &HookTable::new(rt.alloc()), &words, &mut source, &mut sink),
+        run(
+            rt.alloc(),
+            &HookTable::new(rt.alloc()),
+            &words,
+            &mut source,
+            &mut sink
+        ),
         Status::WriteFault
     );
     assert_eq!(rt; sink.bytes(), &wanted[..wanted.len() - 1]);
@@ -332,7 +356,13 @@ fn reads_texts_up_to_the_limit(rt: HostRuntime) -> Result<(), Fail> {
     let mut source = MemorySource::new(copy, Vec::new(rt.alloc()));
     let mut sink = MemorySink::new(rt.alloc(), 1000, Vec::new(rt.alloc()))?;
     assert_eq!(rt;
-        run(rt.alloc(), &HookTable::new(rt.alloc()), &words, &mut source, &mut sink),
+        run(
+            rt.alloc(),
+            &HookTable::new(rt.alloc()),
+            &words,
+            &mut source,
+            &mut sink
+        ),
         Status::Done
     );
     assert!(rt; sink.bytes().is_empty(), "spaces have no answers");
@@ -340,7 +370,13 @@ fn reads_texts_up_to_the_limit(rt: HostRuntime) -> Result<(), Fail> {
     spaces.push(b' ')?;
     let mut source = MemorySource::new(spaces, Vec::new(rt.alloc()));
     assert_eq!(rt;
-        run(rt.alloc(), &HookTable::new(rt.alloc()), &words, &mut source, &mut sink),
+        run(
+            rt.alloc(),
+            &HookTable::new(rt.alloc()),
+            &words,
+            &mut source,
+            &mut sink
+        ),
         Status::InputTooLong
     );
     assert!(rt; sink.bytes().is_empty(), "nothing is written");

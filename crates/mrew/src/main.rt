@@ -1,8 +1,10 @@
 //! The program: it makes the source and the sink, and runs.
 #![tactic(auto)]
 
+mod hooks;
+
+use hooks::native_hooks;
 use mau_bytes::{StdSink, StdSource};
-use mau_formula::HookTable;
 use mau_session::{Status, run};
 use mau_terms::Text;
 use std::alloc::Global;
@@ -11,11 +13,13 @@ use std::rt::Env;
 use std::{env, io};
 
 fn main(rt: HostRuntime) -> ExitCode {
-    let hooks = HookTable::new(rt.alloc());
     let mut source = StdSource::new(rt.stdin());
     let mut sink = StdSink::new(rt.stdout());
     let status = match words(&rt) {
-        Ok(words) => run(rt.alloc(), &hooks, &words, &mut source, &mut sink),
+        Ok(words) => match native_hooks(rt.alloc()) {
+            Ok(hooks) => run(rt.alloc(), &hooks, &words, &mut source, &mut sink),
+            Err(_) => Status::NoMemory,
+        },
         Err(status) => status,
     };
     if status == Status::Usage {
