@@ -2,3 +2,4 @@ pub mod Charted
 pub mod Singles
 pub mod Forms_pushed
 pub mod Values
+pub mod Renamed

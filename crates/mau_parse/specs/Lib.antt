@@ -8,3 +8,5 @@ pub mod TooLarge
 pub mod Charted
 -- what is proved of them
 pub mod Laws
+-- the term of a tree of tokens
+pub mod Terms
