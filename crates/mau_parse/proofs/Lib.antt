@@ -3,3 +3,4 @@ pub mod Singles
 pub mod Forms_pushed
 pub mod Values
 pub mod Renamed
+pub mod Overflowing

@@ -10,3 +10,5 @@ pub mod Charted
 pub mod Laws
 -- the term of a tree of tokens
 pub mod Terms
+-- a successor of the greatest numeral
+pub mod Overflow

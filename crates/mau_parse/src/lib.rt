@@ -6,11 +6,13 @@
 mod forms;
 pub mod laws;
 mod numerals;
+mod overflow;
 mod terms;
 mod words;
 
 pub use forms::forms_of;
 pub use numerals::{first_too_large, is_numeral, value_of};
+pub use overflow::overflows;
 pub use terms::term_of;
 pub use words::Words;
 
