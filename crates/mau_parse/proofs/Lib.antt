@@ -4,3 +4,4 @@ pub mod Forms_pushed
 pub mod Values
 pub mod Renamed
 pub mod Overflowing
+pub mod Kinds_listed

@@ -12,3 +12,5 @@ pub mod Laws
 pub mod Terms
 -- a successor of the greatest numeral
 pub mod Overflow
+-- words that are variables
+pub mod Readings

@@ -7,6 +7,7 @@ mod forms;
 pub mod laws;
 mod numerals;
 mod overflow;
+mod readings;
 mod terms;
 mod words;
 
