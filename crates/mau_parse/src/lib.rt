@@ -14,6 +14,7 @@ mod words;
 pub use forms::forms_of;
 pub use numerals::{first_too_large, is_numeral, value_of};
 pub use overflow::overflows;
+pub use readings::{Reading, readings_of};
 pub use terms::term_of;
 pub use words::Words;
 

@@ -7,6 +7,7 @@ ghost use Rattle.mau_parse.specs.Readings.{all_seen};
 use crate::words::Words;
 use mau_grammar::Grammar;
 use mau_terms::NoMemory;
+use std::alloc::Global;
 
 /// Words that are a variable, up to before `end`: its name, the number of its sort or kind, and the number of its kind.
 #[derive(Clone, Copy)]
@@ -144,4 +145,80 @@ fn kind_list(grammar: &Grammar, words: &Words, from: usize) -> Option<(u32, usiz
             }
         }
     }
+}
+
+/// Whether `X:` and `[` stand at a place, where X may be the name of a variable.
+fn begins_kind(words: &Words, i: usize) -> bool
+    requires within { i < length words.now }
+    requires few { length words.now ≤ 1000 }
+    ensures { result ≡ Rattle.mau_parse.specs.Readings.begins_kind words.now i }
+{
+    if i + 1 >= words.len() {
+        return false;
+    }
+    let word = words.text(i);
+    if word.is_empty() {
+        return false;
+    }
+    is_cut(word, word.len() - 1) && words.text(i + 1) == "["
+}
+
+/// Puts `X:` `[` .. `]`, where the words at a place begin it, behind other readings.
+fn push_kind_variable<'a>(
+    out: &mut Vec<Reading<'a>>,
+    grammar: &Grammar,
+    words: &Words<'a>,
+    i: usize,
+) -> Result<(), NoMemory>
+    requires within { i < length words.now }
+    requires few { length words.now ≤ 1000 }
+    ensures ok { OnOk result (all_seen out.new.items ≡ all_seen out.old.items ++ Leaves.kind_variable grammar.now.sorts (text_at words.now i) i (drop (i + 1) words.now)) }
+{
+    if !begins_kind(words, i) {
+        return Ok(());
+    }
+    let word = words.text(i);
+    if let Some((kind, end)) = kind_list(grammar, words, i + 2) {
+        out.push(Reading {
+            name: &word[..word.len() - 1],
+            sort: kind as usize,
+            kind,
+            end,
+        })?;
+    }
+    Ok(())
+}
+
+/// Puts the variables that begin at a place behind other readings.
+fn push_readings<'a>(
+    out: &mut Vec<Reading<'a>>,
+    grammar: &'a Grammar,
+    words: &Words<'a>,
+    i: usize,
+) -> Result<(), NoMemory>
+    requires within { i < length words.now }
+    requires few { length words.now ≤ 1000 }
+    ensures ok { OnOk result (all_seen out.new.items ≡ all_seen out.old.items ++ Leaves.readings_at grammar.now words.now i) }
+{
+    let word = words.text(i);
+    push_aliases(out, grammar, word, i)?;
+    push_cuts(out, grammar, word, i)?;
+    push_kind_variable(out, grammar, words, i)
+}
+
+/// The variables that begin at the words of a text, from the first word to the last: declared names, `X:S` cut at each colon, and
+/// `X:` `[` sorts of one kind `]`.
+pub fn readings_of<'a>(
+    alloc: Global,
+    grammar: &'a Grammar,
+    words: &Words<'a>,
+) -> Result<Vec<Reading<'a>>, NoMemory>
+    requires { length words.now ≤ 1000 }
+    ensures ok { IfOk result (λ found. all_seen found.items ≡ Leaves.readings_to grammar.now words.now (length words.now)) }
+{
+    let mut out = Vec::new(alloc);
+    for i in 0..words.len() {
+        push_readings(&mut out, grammar, words, i)?;
+    }
+    Ok(out)
 }
