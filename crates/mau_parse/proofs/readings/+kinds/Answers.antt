@@ -7,8 +7,8 @@ use Rattle.mau_parse.proofs.readings.+kinds.Goals.{then-from-len-via-then-from-l
 pub returns-then-from-len : goal.returns-then-from-len
 returns-then-from-len t c =
     elim c.then-from-len.branch [
-    | then-from-len-via-then-from-len w ↦ sym (kinds_short c.args.grammar.now.sorts c.args.words.now c.args.from (omega (arith, c.len.ensures)))
-    | then-from-len-via-else-from-len+then-from-len-2 w ↦ sym (kinds_short c.args.grammar.now.sorts c.args.words.now c.args.from (omega (arith, c.len.ensures)))
+      | then-from-len-via-then-from-len w ↦ sym (kinds_short c.args.grammar.now.sorts c.args.words.now c.args.from (omega (arith, c.len.ensures)))
+      | then-from-len-via-else-from-len+then-from-len-2 w ↦ sym (kinds_short c.args.grammar.now.sorts c.args.words.now c.args.from (omega (arith, c.len.ensures)))
     ]
 
 pub returns-then-eq-2 : goal.returns-then-eq-2
