@@ -1,6 +1,7 @@
-//! The mixfix reader: words of a text, numerals among them, and the productions of
-//! a grammar as a chart of these words takes them. A law says that
-//! what such a chart reads is exactly the trees of the words.
+//! The mixfix reader: words of a text, numerals and variables among them, and the
+//! productions of a grammar as a chart of these words takes them. A law says that
+//! what such a chart reads is exactly the trees of the words. A tree becomes a term,
+//! whose variables are added to those of an item.
 #![tactic(auto)]
 
 mod forms;
