@@ -8,3 +8,9 @@ pub mod TooLarge
 pub mod Charted
 -- what is proved of them
 pub mod Laws
+-- the term of a tree of tokens
+pub mod Terms
+-- a successor of the greatest numeral
+pub mod Overflow
+-- words that are variables
+pub mod Readings

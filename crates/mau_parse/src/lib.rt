@@ -1,15 +1,22 @@
-//! The mixfix reader: words of a text, numerals among them, and the productions of
-//! a grammar as a chart of these words takes them. A law says that
-//! what such a chart reads is exactly the trees of the words.
+//! The mixfix reader: words of a text, numerals and variables among them, and the
+//! productions of a grammar as a chart of these words takes them. A law says that
+//! what such a chart reads is exactly the trees of the words. A tree becomes a term,
+//! whose variables are added to those of an item.
 #![tactic(auto)]
 
 mod forms;
 pub mod laws;
 mod numerals;
+mod overflow;
+mod readings;
+mod terms;
 mod words;
 
 pub use forms::forms_of;
 pub use numerals::{first_too_large, is_numeral, value_of};
+pub use overflow::overflows;
+pub use readings::{Reading, readings_of};
+pub use terms::term_of;
 pub use words::Words;
 
 #[cfg(test)]

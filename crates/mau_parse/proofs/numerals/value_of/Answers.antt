@@ -1,4 +1,4 @@
-use Rattle.std.proofs.Common.{ℕ, ◌≡◌, ◌≤◌, ◌+◌, ◌-◌, ◌*◌, get_or, subst}
+use Rattle.std.proofs.Common.{ℕ, ◌≤◌, ◌+◌, ◌-◌, ◌*◌, get_or, subst}
 use Rattle.mau_grammar.specs.Leaves.{value_of}
 use Rattle.mau_parse.proofs.Values.{at_least}
 use Rattle.mau_parse.proofs.numerals.value_of.Goals as goal
