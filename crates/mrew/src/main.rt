@@ -3,9 +3,9 @@
 
 mod hooks;
 
-use hooks::native_hooks;
+use hooks::run_with_hooks;
 use mau_bytes::{StdSink, StdSource};
-use mau_session::{Status, run};
+use mau_session::Status;
 use mau_terms::Text;
 use std::alloc::Global;
 use std::process::ExitCode;
@@ -16,8 +16,8 @@ fn main(rt: HostRuntime) -> ExitCode {
     let mut source = StdSource::new(rt.stdin());
     let mut sink = StdSink::new(rt.stdout());
     let status = match words(&rt) {
-        Ok(words) => match native_hooks(rt.alloc()) {
-            Ok(hooks) => run(rt.alloc(), &hooks, &words, &mut source, &mut sink),
+        Ok(words) => match run_with_hooks(rt.alloc(), &words, &mut source, &mut sink) {
+            Ok(status) => status,
             Err(_) => Status::NoMemory,
         },
         Err(status) => status,
