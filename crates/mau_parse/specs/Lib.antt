@@ -14,3 +14,13 @@ pub mod Terms
 pub mod Overflow
 -- words that are variables
 pub mod Readings
+-- what words are by themselves, in order
+pub mod Listed
+-- trees in the kinds that are asked for
+pub mod Goal
+-- and their numbers
+pub mod Found
+-- why the one tree is no term
+pub mod Results
+-- the term that tokens are, or why they are none
+pub mod Parsed
