@@ -33,7 +33,7 @@ none_some x e = cc
 some_one : {A : Type 0} (x y : A) → Some x ≡ Some y → x ≡ y
 some_one x y e = cc
 
-in_none : {A : Type 0} (x : A) → IsIn [] x → ⊥
+pub in_none : {A : Type 0} (x : A) → IsIn [] x → ⊥
 in_none x h = none_some x h.1
 
 in_next : {A : Type 0} (x : A) (xs : List A) (y : A) → IsIn xs y → IsIn (x ∷ xs) y
@@ -51,7 +51,7 @@ in_right : {A : Type 0} (xs ys : List A) (y : A) → IsIn ys y → IsIn (xs ++ y
 in_right [] ys y h = h
 in_right (x ∷ xs) ys y h = in_next x (xs ++ ys) y (in_right xs ys y h)
 
-in_one : {A : Type 0} (x y : A) → IsIn (x ∷ []) y → x ≡ y
+pub in_one : {A : Type 0} (x y : A) → IsIn (x ∷ []) y → x ≡ y
 in_one x y h = by h.0 h.1
   where
     by : (n : ℕ) → slice_get (x ∷ []) n ≡ Some y → x ≡ y
@@ -65,7 +65,7 @@ in_head x xs y h = by h.0 h.1
     by zero e = inl (some_one x y e)
     by (suc n) e = inr (n, e)
 
-in_parts : {A : Type 0} (xs ys : List A) (y : A) → IsIn (xs ++ ys) y → IsIn xs y ⊎ IsIn ys y
+pub in_parts : {A : Type 0} (xs ys : List A) (y : A) → IsIn (xs ++ ys) y → IsIn xs y ⊎ IsIn ys y
 in_parts xs ys y h = by xs h.0 h.1
   where
     by : (us : List _) (n : ℕ) → slice_get (us ++ ys) n ≡ Some y → IsIn us y ⊎ IsIn ys y
@@ -81,7 +81,7 @@ in_map f xs x h = by xs h.0 h.1
     by (u ∷ us) zero e = (zero, ap (λ v. Some (f v)) (some_one u x e))
     by (u ∷ us) (suc n) e = in_next (f u) (map f us) (f x) (by us n e)
 
-in_mapped : {A B : Type 0} (f : A → B) (xs : List A) (y : B) → IsIn (map f xs) y → (x : A) × IsIn xs x × (f x ≡ y)
+pub in_mapped : {A B : Type 0} (f : A → B) (xs : List A) (y : B) → IsIn (map f xs) y → (x : A) × IsIn xs x × (f x ≡ y)
 in_mapped f xs y h = by xs h.0 h.1
   where
     by : (us : List _) (n : ℕ) → slice_get (map f us) n ≡ Some y → (x : _) × IsIn us x × (f x ≡ y)

@@ -10,3 +10,5 @@ pub mod Trees_found
 pub mod Trees_given
 pub mod Results_right
 pub mod Read_words
+pub mod Bare_terms
+pub mod Variables_seen

@@ -6,8 +6,6 @@ pub mod Words
 pub mod TooLarge
 -- tokens, productions and leaves in a chart
 pub mod Charted
--- what is proved of them
-pub mod Laws
 -- the term of a tree of tokens
 pub mod Terms
 -- a successor of the greatest numeral
@@ -24,3 +22,5 @@ pub mod Found
 pub mod Results
 -- the term that tokens are, or why they are none
 pub mod Parsed
+-- what is proved of all this
+pub mod Laws

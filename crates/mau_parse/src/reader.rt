@@ -1,6 +1,7 @@
 //! The reader of terms.
 ghost use Rattle.std.specs.Prelude.{◌≡◌, ◌<◌, ◌≤◌, ◌+◌, length, IsSome, IfSome, IfNone, IfOk, IfErr, OnOk, OnErr};
 ghost use Rattle.mau_tokens.specs.Spans.{AreSpans};
+ghost use Rattle.mau_parse.specs.Laws.{IsBareFor};
 ghost use Rattle.mau_parse.specs.Parsed.{IsReadable, IsParsed, IsTreeFault, IsFault};
 ghost use Rattle.mau_parse.specs.TooLarge.{IsFirstTooLarge, AllSmall};
 ghost use Rattle.mau_parse.specs.Words.{texts_of};
@@ -76,6 +77,7 @@ pub fn parse(
     requires some { 0 < length tokens.now }
     requires room { length vars.old < 4000000000 }
     ensures term { IfOk result (IsParsed grammar.now (texts_of text.now tokens.now) goal vars.old vars.new) }
+    ensures bare { IfOk result (IsBareFor grammar.now goal) }
     ensures few { length vars.new ≤ length vars.old + length tokens.now }
     ensures fault { IfErr result (IsFault grammar.now tokens.now (texts_of text.now tokens.now) goal vars.old) }
     ensures unchanged { OnErr result (vars.new ≡ vars.old) }

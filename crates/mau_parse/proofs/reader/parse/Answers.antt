@@ -1,6 +1,7 @@
 use Rattle.std.proofs.Common.{◌≤◌, length, ap, subst, arith}
 use Rattle.mau_parse.specs.TooLarge.{IsFirstTooLarge}
 use Rattle.mau_parse.specs.Words.{texts_of}
+use Rattle.mau_parse.proofs.Bare_terms.{parsed_bare}
 use Rattle.mau_parse.proofs.Read_words.{fault_at, large_there, begins}
 use Rattle.mau_parse.proofs.reader.parse.Goals as goal
 
@@ -18,3 +19,8 @@ returns-clause-fault c =
     let bs = c.args.text.now in
     let ts = c.args.tokens.now in
     fault_at c.args.grammar.now ts (texts_of bs ts) c.new-words.result c.args.goal c.args.vars.now _ c.read_words.result c.new-words.ensures c.read_words.ensures.fault (begins ts 0 _ c.requires.some)
+
+pub returns-clause-bare : goal.returns-clause-bare
+returns-clause-bare c =
+    parsed_bare c.args.grammar.now c.new-words.result c.args.goal c.args.vars.now c.read_words.new.vars c.read_words.result c.read_words.ensures.term
+    (omega (arith, ap length c.new-words.ensures))
