@@ -7,7 +7,7 @@ use Rattle.mau_modtext.specs.declared.raw.RawModule.{RawModule}
 use Rattle.mau_reader.specs.Words.{token_text}
 use Rattle.mau_reader.specs.Sorts.{declared_sorts}
 use Rattle.mau_reader.specs.Elements.{Elements, elements_of}
-use Rattle.mau_reader.specs.Modules.{ModuleOf, Why, leaves, SignatureRead, ModuleRead, elements_leave, module_at_fault, module_read}
+use Rattle.mau_reader.specs.Modules.{Why, leaves, SignatureRead, ModuleRead, elements_leave, module_at_fault, module_read}
 
 module _ (ws : List Word) (raw : RawModule) (sorts : List (List ℕ)) (first second : List RawElement) (s : sorts ≡ declared_sorts ws first) (f : first ≡ raw.elements)
     (g : second ≡ raw.elements) where

@@ -1,5 +1,5 @@
 -- What the elements of a module declare, as far as it is built.
-use Rattle.std.specs.Prelude.{◌≡◌, ℕ, ◌-◌, ◌<◌, List, [], ◌∷◌, ◌++◌, Bool, false, true, ◌||◌, nat_lt, if◌then◌else◌, Option, Some, None, Result, Ok, Err, codes, map, length, is_none, All}
+use Rattle.std.specs.Prelude.{ℕ, ◌-◌, ◌<◌, List, [], ◌∷◌, ◌++◌, false, true, ◌||◌, nat_lt, if◌then◌else◌, Option, Some, None, Result, Ok, Err, codes, map, length, is_none, All}
 use Rattle.std.specs.Str.{bytes_eq}
 use Rattle.std.specs.Option.{option_map_or}
 use Rattle.mau_tokens.specs.declared.token.Token.{Token}

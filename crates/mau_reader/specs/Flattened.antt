@@ -1,5 +1,5 @@
 -- The declarations that elements make, the names of operators, and the names of sorts and kinds.
-use Rattle.std.specs.Prelude.{◌≡◌, ◌==◌, ℕ, ◌-◌, ◌<◌, List, [], ◌∷◌, ◌++◌, length, map, filter, take, Bool, false, ◌&&◌, ◌||◌, not, nat_lt, nat_eq, if◌then◌else◌, Option, Some, None, fold, get_or, bytes_eq, codes, slice_get}
+use Rattle.std.specs.Prelude.{◌≡◌, ◌==◌, ℕ, ◌<◌, List, [], ◌∷◌, ◌++◌, length, map, filter, take, Bool, false, ◌&&◌, ◌||◌, not, nat_lt, nat_eq, if◌then◌else◌, Option, Some, None, fold, get_or, bytes_eq, codes, slice_get}
 use Rattle.std.specs.List.{list_any, range_with_len, flat_map, find}
 use Rattle.std.specs.Cmp.Lexicographic.{pointwise}
 use Rattle.std.specs.Option.{option_map, option_map_or, option_eq}

@@ -1,5 +1,5 @@
 -- Accepted modules, and what a module of a text says.
-use Rattle.std.specs.Prelude.{◌≡◌, ℕ, ◌+◌, ◌-◌, List, [], ◌∷◌, ◌++◌, length, map, Bool, true, false, ◌&&◌, nat_lt, if◌then◌else◌, Option, Some, None, Result, Ok, Err, codes, decimal, slice_get, get_or}
+use Rattle.std.specs.Prelude.{◌≡◌, ℕ, ◌-◌, List, [], ◌∷◌, ◌++◌, length, map, nat_lt, if◌then◌else◌, Option, Some, None, Result, Ok, Err, codes, decimal, slice_get, get_or}
 use Rattle.std.specs.Option.{option_map_or}
 use Rattle.mau_poset.specs.Order.{Hierarchy, IsPoset, IsLeastCycle}
 use Rattle.mau_poset.specs.declared.TheConstants.{MAX_SORTS}

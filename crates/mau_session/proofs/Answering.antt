@@ -1,5 +1,5 @@
 -- The answers of items, from what their parts give.
-use Rattle.std.proofs.Common.{Vec, Global, ◌≡◌, ℕ, ◌<◌, ◌+◌, List, [], ◌∷◌, ◌++◌, Bool, true, false, ◌&&◌, ◌||◌, nat_eq, length, if◌then◌else◌, Some, None, bytes_eq, Result, Ok, Err, IfOk, OnOk, codes, decimal, refl, sym, ◌∙◌, ap, ap₂, subst, ◌⊎◌, inl, inr, append_assoc, append-nil}
+use Rattle.std.proofs.Common.{◌≡◌, ℕ, ◌+◌, List, [], ◌∷◌, ◌++◌, Bool, true, false, ◌||◌, length, Result, Ok, Err, IfOk, OnOk, codes, decimal, refl, sym, ◌∙◌, ap, ap₂, subst, append_assoc, append-nil}
 use Rattle.mau_terms.specs.Tree.{Tree}
 use Rattle.mau_terms.specs.Subst.{Variable, variables}
 use Rattle.mau_reader.specs.Modules.{ModuleOf}

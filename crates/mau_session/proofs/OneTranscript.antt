@@ -1,5 +1,5 @@
 -- A text has one transcript.
-use Rattle.std.proofs.Common.{◌≡◌, ℕ, ◌+◌, ◌<◌, List, [], ◌∷◌, ◌++◌, Bool, true, ◌||◌, length, Some, None, Result, Ok, Err, codes, refl, sym, ◌∙◌, ap, ap₂, subst, arith, slice_index_or, bytes_eq}
+use Rattle.std.proofs.Common.{◌≡◌, ℕ, ◌+◌, ◌<◌, List, [], ◌∷◌, ◌++◌, Bool, ◌||◌, length, Some, None, Ok, refl, sym, ◌∙◌, ap, ap₂, subst, arith, slice_index_or}
 use Rattle.std.specs.Ordering.{ordering_reverse}
 use Rattle.std.specs.declared.cmp.Ordering.{Ordering}
 use Rattle.std.specs.declared.cmp.Ordering.TheVariants.{Less, Equal, Greater}
@@ -14,16 +14,16 @@ use Rattle.mau_terms.specs.Solution.{solution_cmp}
 use Rattle.mau_terms.specs.declared.theory.Theory.{Theory}
 use Rattle.mau_modtext.specs.Word.{Word}
 use Rattle.mau_modtext.specs.Words.{words_of}
-use Rattle.mau_modtext.specs.Items.{AreItems, item_part}
+use Rattle.mau_modtext.specs.Items.{item_part}
 use Rattle.mau_modtext.specs.Parts.{parts}
 use Rattle.mau_modtext.specs.declared.raw.RawItem.{RawItem}
 use Rattle.mau_modtext.specs.declared.raw.RawBody.{RawBody}
 use Rattle.mau_modtext.specs.declared.raw.RawBody.TheVariants.{Quit}
 use Rattle.mau_modtext.specs.declared.raw.RawCommand.{RawCommand}
 use Rattle.mau_reader.specs.Words.{index_at}
-use Rattle.mau_reader.specs.Modules.{ModuleOf, ModuleRead}
+use Rattle.mau_reader.specs.Modules.{ModuleOf}
 use Rattle.mau_session.specs.declared.refusal.Refusal.TheVariants.{NotBuilt}
-use Rattle.mau_session.specs.Terms.{Pairs, Reads, terms_in, HasAxioms}
+use Rattle.mau_session.specs.Terms.{Pairs, terms_in, HasAxioms}
 use Rattle.mau_session.specs.Matching.{numbered_from, IsListing}
 use Rattle.mau_session.specs.Commands.{pattern_end, subject_end, unbuilt}
 use Rattle.mau_session.specs.Built.{fault_answer}

@@ -1,5 +1,5 @@
 -- The parts of a match command, and where one isn't built.
-use Rattle.std.specs.Prelude.{ℕ, ◌+◌, List, length, Bool, ◌||◌, nat_eq, nat_lt, is_some, not, Option, Some, None, if◌then◌else◌}
+use Rattle.std.specs.Prelude.{ℕ, ◌+◌, List, length, Bool, ◌||◌, nat_lt, is_some, Option, Some, None, if◌then◌else◌}
 use Rattle.mau_modtext.specs.Word.{Word}
 use Rattle.mau_modtext.specs.declared.raw.RawCommand.{RawCommand}
 use Rattle.mau_reader.specs.Words.{first_index}

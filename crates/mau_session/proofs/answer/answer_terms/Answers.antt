@@ -1,4 +1,4 @@
-use Rattle.std.proofs.Common.{◌≡◌, ◌+◌, ◌++◌, arith, sym, ◌∙◌, ap, length, take}
+use Rattle.std.proofs.Common.{◌++◌, arith, sym, ◌∙◌, ap, length, take}
 use Rattle.mau_terms.specs.View.{tree_of}
 use Rattle.mau_session.specs.declared.refusal.Refusal.TheVariants.{NoParse}
 use Rattle.mau_session.specs.Answers.{refusal_line}
