@@ -1,0 +1,6 @@
+-- Lemmas of listings, lowest first.
+
+-- stores and tables that grow
+pub mod Growth
+-- the first solutions
+pub mod Chains

@@ -1,0 +1,11 @@
+//! Listings of solutions: what solves a pattern and a subject, the trait that each listing implements, and a plain listing
+//! that tries all values, to which others are compared.
+#![tactic(auto)]
+
+mod first;
+mod lister;
+mod solution;
+
+pub use first::{FirstSolutions, first_solutions};
+pub use lister::Lister;
+pub use solution::Solution;
