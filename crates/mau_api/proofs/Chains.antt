@@ -18,8 +18,8 @@ module _ (Is : Found → Type 0) (cmp : Found → Found → Ordering) where
 
   -- behind these there is one, or there is none
   pub are_first : (last : Option Found) (xs : List Found) (o : Option Found) → AreNext Is cmp last xs → IsNext Is cmp (last_of last xs) o → AreFirst Is cmp last xs (is_some o)
-  are_first last xs None are is = record { next = are; more = λ e. absurd (cc); no_more = λ e. is; }
-  are_first last xs (Some x) are is = record { next = are; more = λ e. (x, is); no_more = λ e. absurd (cc); }
+  are_first last xs None are is = record { next = are; more = λ e. absurd (cc); no_more = λ e. is }
+  are_first last xs (Some x) are is = record { next = are; more = λ e. (x, is); no_more = λ e. absurd (cc) }
 
 pub last_of-more : (last : Option Found) (xs : List Found) (x : Found) → last_of last (xs ++ x ∷ []) ≡ Some x
 last_of-more last [] x = refl

@@ -4,3 +4,5 @@
 pub mod Growth
 -- the first solutions
 pub mod Chains
+-- the order of solutions, and whole listings
+pub mod Ordered

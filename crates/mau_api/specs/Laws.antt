@@ -48,6 +48,6 @@ ListingsGoOn =
 -- where none is left behind the first ones, these are all
 abbrev pub AllAreListed : Type 0
 AllAreListed =
-    (c : Bool) (s : SignatureOf) → IsLawful (terms_over s) → (known : Known) (q : Question) (xs : List Found) →
+    (c : Bool) (s : SignatureOf) (known : Known) (q : Question) (xs : List Found) →
     AreFirst (IsSolution c s (BySort s known) q) (found_cmp (theory_at s) q.pattern) None xs false →
     (x : Found) → IsSolution c s (BySort s known) q x → Contains xs x

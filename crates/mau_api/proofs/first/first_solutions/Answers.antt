@@ -69,8 +69,8 @@ loop-preserved g c =
     let items = c.in_ok-push-in-Some.ensures.items in
     let given : g.L.Lister.given c.next.new.self ≡ Some x = c.in_ok-solution.ensures.given ∙ ap (last_after (g.L.Lister.given c.loop.listing)) c.in-Some.is in
     let solves : IsGiven w s new c.next.new.sorts a x =
-        subst (λ o. IfSome o (IsGiven w s new c.next.new.sorts a)) c.in-Some.is
-        (subst (λ v. IfSome c.in_ok-solution.field-0 (IsGiven w s new c.next.new.sorts v)) i.asked c.in_ok-solution.ensures.solves) in
+    subst (λ o. IfSome o (IsGiven w s new c.next.new.sorts a)) c.in-Some.is
+    (subst (λ v. IfSome c.in_ok-solution.field-0 (IsGiven w s new c.next.new.sorts v)) i.asked c.in_ok-solution.ensures.solves) in
     let ready = listings_go_on w s now new c.loop.sorts c.next.new.sorts c.next.ensures.extends c.next.ensures.kept c.next.ensures.over a (g.L.Lister.given c.loop.listing) i.ready in
     record {
       asked = c.next.ensures.asked ∙ i.asked;
