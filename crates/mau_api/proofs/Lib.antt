@@ -6,3 +6,5 @@ pub mod Growth
 pub mod Chains
 -- the order of solutions, and whole listings
 pub mod Ordered
+-- solutions and answers
+pub mod Answered

@@ -1,9 +1,11 @@
 -- The laws of listings. Each is proved: a public function of the module `laws` has it for its contract.
-use Rattle.std.specs.Prelude.{◌≡◌, ℕ, List, Bool, false, Contains, Option, None}
+use Rattle.std.specs.Prelude.{◌≡◌, ◌↔◌, ℕ, List, [], Bool, false, Contains, Option, None}
 use Rattle.std.specs.Cmp.{IsTotalOrder}
 use Rattle.std.specs.declared.cmp.Ordering.TheVariants.{Equal as Tied}
 use Rattle.mau_terms.specs.Tree.{Tree}
-use Rattle.mau_terms.specs.Bare.{IsLawful}
+use Rattle.mau_terms.specs.Norm.{norm}
+use Rattle.mau_terms.specs.Bare.{IsBare, IsLawful}
+use Rattle.mau_terms.specs.Reading.{reading}
 use Rattle.mau_terms.specs.declared.theory.Theory.{Theory}
 use Rattle.mau_signature.specs.Signature.{SignatureOf, theory_at, terms_over}
 use Rattle.mau_store.specs.Node.{Node, Extends}
@@ -11,8 +13,18 @@ use Rattle.mau_sorts.specs.HasSort.{Known, HasSort}
 use Rattle.mau_sorts.specs.Table.{Table, AreOver, KeepsEntries}
 use Rattle.mau_api.specs.declared.solution.Solution.{Solution}
 use Rattle.mau_api.specs.Found.{Question, Found, IsSolution}
+use Rattle.mau_api.specs.Answers.{IsAnswer}
 use Rattle.mau_api.specs.Next.{found_cmp, AreFirst}
 use Rattle.mau_api.specs.Asked.{Asked, HasEntry, IsTableOf, BySort, CanGoOn}
+
+-- ---- solutions without context
+
+-- they are the answers by normal forms
+abbrev pub AnswersAreSolutions : Type 0
+AnswersAreSolutions =
+    (s : SignatureOf) → IsLawful (terms_over s) → (known : Known) (q : Question) → norm (theory_at s) q.subject ≡ q.subject →
+    IsBare (terms_over s) (reading (theory_at s) q.subject) → (x : Found) →
+    IsSolution false s (BySort s known) q x ↔ ((x.left ≡ []) × (x.right ≡ []) × IsAnswer s (BySort s known) q x.values)
 
 -- ---- the order of solutions
 

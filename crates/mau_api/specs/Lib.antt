@@ -2,6 +2,8 @@
 
 -- questions, and what solves them
 pub mod Found
+-- solutions by normal forms alone
+pub mod Answers
 -- the next solution, and the first ones
 pub mod Next
 -- questions and solutions by the numbers of a store, and the sorts of its terms

@@ -1,5 +1,10 @@
 //! What is proved of listings. Each function does nothing and has a law for its contract; the laws are stated in `specs/Laws.antt`.
-ghost use Rattle.mau_api.specs.Laws.{FoundAreOrdered, TiesAreOne, EntriesAreSorts, ListingsGoOn, AllAreListed};
+ghost use Rattle.mau_api.specs.Laws.{AnswersAreSolutions, FoundAreOrdered, TiesAreOne, EntriesAreSorts, ListingsGoOn, AllAreListed};
+
+/// Solutions without context are the answers by normal forms.
+pub fn answers_are_solutions()
+    ensures { AnswersAreSolutions }
+{}
 
 /// The order of solutions is total.
 pub fn found_are_ordered()
