@@ -8,3 +8,5 @@ pub mod Chains
 pub mod Ordered
 -- solutions and answers
 pub mod Answered
+-- what values may be
+pub mod Valued

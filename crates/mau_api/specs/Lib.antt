@@ -4,6 +4,8 @@
 pub mod Found
 -- solutions by normal forms alone
 pub mod Answers
+-- what values may be
+pub mod Values
 -- the next solution, and the first ones
 pub mod Next
 -- questions and solutions by the numbers of a store, and the sorts of its terms
