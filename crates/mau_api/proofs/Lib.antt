@@ -10,3 +10,9 @@ pub mod Ordered
 pub mod Answered
 -- what values may be
 pub mod Valued
+-- what may be an argument, by cases
+pub mod Parts
+-- the sorts of what may be a value
+pub mod Readied
+-- values under a plain top
+pub mod Depths
