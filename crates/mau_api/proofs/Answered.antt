@@ -114,8 +114,8 @@ module _ (s : SignatureOf) (lawful : IsLawful (terms_over s)) (P : ℕ → Tree 
       let b : IsBare (terms_over s) (with_values p is.bare) = first_bare is.solves.0.equal in
       let read : IsBareIn (terms_over s) (instance (λ y. reading th (norm th (value_at xs is.bare y))) p) b.0 = read_bare (terms_over s) lawful (value_at xs is.bare) p b.0 b.1 in
       let same : instance (λ y. reading th (norm th (value_at xs is.bare y))) p ≡ with_values p (map (reading th) vs) =
-          instance_same (λ y. reading th (norm th (value_at xs is.bare y))) (value_at xs (map (reading th) vs))
-          (λ y. sym (value_mapped (reading th) (λ i r. refl) xs vs y ∙ ap (reading th) (value_mapped (norm th) (λ i r. refl) xs is.bare y))) p in
+      instance_same (λ y. reading th (norm th (value_at xs is.bare y))) (value_at xs (map (reading th) vs))
+      (λ y. sym (value_mapped (reading th) (λ i r. refl) xs vs y ∙ ap (reading th) (value_mapped (norm th) (λ i r. refl) xs is.bare y))) p in
       subst (IsAnswer s P q) is.values (record {
         one_each = length-map (norm th) is.bare ∙ is.solves.0.one_each;
         normal = norms_normal th lawful.theories is.bare;

@@ -2,6 +2,10 @@
 
 -- stores and tables that grow
 pub mod Growth
+-- lists that are compared
+pub mod Compared
+-- the variables of a pattern
+pub mod Placed
 -- the first solutions
 pub mod Chains
 -- the order of solutions, and whole listings

@@ -54,7 +54,7 @@ module _ (th : ℕ → Theory) (nodes : List Node) (table : Table) (subject : Tr
     pub below : (u : Tree) → IsBelow u t → IsTreeSettled nodes table u
 
   fit_unit : (f : ℕ) (i : Identity) → (th f).id ≡ Some i → IsFit (unit_tree i)
-  fit_unit f i e = record { fits = inr (inl (identities f i e)); below = λ u b. absurd (nothing_below_unit i u b); }
+  fit_unit f i e = record { fits = inr (inl (identities f i e)); below = λ u b. absurd (nothing_below_unit i u b) }
 
   fit_argument : (t z : Tree) → IsFit t → IsIn z (arguments_of t) → IsFit z
   fit_argument t z fit h = record {
@@ -89,7 +89,7 @@ module _ (th : ℕ → Theory) (nodes : List Node) (table : Table) (subject : Tr
   fit_part f t z fit part =
       holds_of_part th f t IsFit (record {
         unit = fit_unit f;
-        number = λ n. record { fits = inr (inr tt); below = λ u b. absurd b; };
+        number = λ n. record { fits = inr (inr tt); below = λ u b. absurd b };
         itself = fit;
         argument = λ w h. fit_argument t w fit h;
         list = λ a ts within. fit_list f a t fit ts within;

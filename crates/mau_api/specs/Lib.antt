@@ -12,3 +12,5 @@ pub mod Next
 pub mod Asked
 -- what is proved of these
 pub mod Laws
+-- the variables of a pattern, as the code has them
+pub mod Places

@@ -5,8 +5,12 @@
 mod first;
 pub mod laws;
 mod lister;
+mod order;
+mod places;
 mod solution;
 
 pub use first::{FirstSolutions, first_solutions};
 pub use lister::Lister;
+pub use order::{compare_lists, compare_values, value_key_of};
+pub use places::{Place, places_of};
 pub use solution::Solution;

@@ -100,7 +100,7 @@ stand_within_extended th old new ids x s k d h = stands_within_extended th old n
 pub stand_there : (th : ℕ → Theory) (nodes : List Node) (ids : List ℕ) → StandWithin th nodes ids → AreOf nodes ids
 stand_there th nodes ids s k d h = (s k d h).there
 
-stand_at : (th : ℕ → Theory) (nodes : List Node) (is : List TermId) (k : ℕ) (d : TermId) → k < length is → StandWithin th nodes (numbers is) → StandsWithin th nodes (slice_index_or is k d).0
+pub stand_at : (th : ℕ → Theory) (nodes : List Node) (is : List TermId) (k : ℕ) (d : TermId) → k < length is → StandWithin th nodes (numbers is) → StandsWithin th nodes (slice_index_or is k d).0
 stand_at th nodes [] k d h p = absurd (omega arith)
 stand_at th nodes (i ∷ is) zero d h p = All-head (StandsWithin th nodes) i.0 (numbers is) p
 stand_at th nodes (i ∷ is) (suc k) d h p = stand_at th nodes is k d (omega arith) (All-tail (StandsWithin th nodes) i.0 (numbers is) p)
