@@ -53,6 +53,9 @@ IsSolution-then true s P Q h q x is = record {
 
 -- ---- a store and a table that grow
 
+pub settled_kept : (before after : Table) → KeepsEntries before after → (i : ℕ) → IsSettled before i → IsSettled after i
+settled_kept before after kept i settled = ap is_some (kept i _ (settled_entry (entry_at before i) settled))
+
 abbrev question : Tree → List (Variable × Tree) → Tree → Question
 question p bound t = record { pattern = p; bound = bound; subject = t }
 
@@ -91,15 +94,12 @@ module _ (old new : List Node) (extends : Extends old new) where
   }
 
   module _ (before after : Table) (kept : KeepsEntries before after) where
-    pub settled_kept : (i : ℕ) → IsSettled before i → IsSettled after i
-    settled_kept i settled = ap is_some (kept i _ (settled_entry (entry_at before i) settled))
-
     pub tree_settled_kept : (t : Tree) → IsTreeSettled old before t → IsTreeSettled new after t
     tree_settled_kept t is = record {
       number = is.number;
       there = IsOf-extends old new is.number extends is.there;
       tree = tree_at-extends old new is.number extends is.there ∙ is.tree;
-      settled = settled_kept is.number is.settled;
+      settled = settled_kept before after kept is.number is.settled;
     }
 
     pub entry_kept : (s : SignatureOf) (r : ℕ) (t : Tree) → HasEntry s old before r t → HasEntry s new after r t
@@ -128,7 +128,7 @@ module _ (old new : List Node) (extends : Extends old new) where
           left = stand_within_extended th old new (numbers x.left) extends is.left;
           right = stand_within_extended th old new (numbers x.right) extends is.right;
           values = stand_within_extended th old new (numbers x.values) extends is.values;
-          settled = λ k d h. settled_kept _ (is.settled k d h);
+          settled = λ k d h. settled_kept before after kept _ (is.settled k d h);
           solves =
               subst (λ q. IsSolution c s (HasEntry s new after) q (found_in new x)) (sym (question_same s a askable))
               (subst (IsSolution c s (HasEntry s new after) (question_in old a)) (sym (found_same x (stand_there th old (numbers x.left) is.left) (stand_there th old (numbers x.right) is.right) (stand_there th old (numbers x.values) is.values)))

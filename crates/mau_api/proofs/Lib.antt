@@ -10,6 +10,8 @@ pub mod Placed
 pub mod Chains
 -- the order of solutions, and whole listings
 pub mod Ordered
+-- one more entry of a table
+pub mod Entered
 -- solutions and answers
 pub mod Answered
 -- what values may be

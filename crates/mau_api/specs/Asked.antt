@@ -17,7 +17,7 @@ use Rattle.mau_store.specs.View.{numbers}
 use Rattle.mau_canon.specs.Within.{StandsWithin, StandWithin}
 use Rattle.mau_sorts.specs.SortSets.{SortsOf, IsIn}
 use Rattle.mau_sorts.specs.HasSort.{Known, HasSort}
-use Rattle.mau_sorts.specs.Table.{Table, entry_at, IsSettled, AreEntries, AreOver}
+use Rattle.mau_sorts.specs.Table.{Table, entry_at, IsSettled, IsReady, AreEntries, AreOver}
 use Rattle.mau_api.specs.declared.solution.Solution.{Solution}
 use Rattle.mau_api.specs.Found.{Question, Found, IsSolution}
 
@@ -144,6 +144,11 @@ IsNumeralOrList th (apply f ts) = (th f).assoc ≡ true
 -- the term with the number i was settled before, or is a numeral or a list and not the subject t
 abbrev pub MaySettle : SignatureOf → List Node → Table → Tree → ℕ → Type 0
 MaySettle s nodes old t i = IsSettled old i ⊎ (IsNumeralOrList (theory_at s) (tree_at nodes i) × (tree_at nodes i ≡ t → ⊥))
+
+-- the term with the number i is settled, or a listing may settle it: it is a numeral or a list, not the subject, and its arguments
+-- are settled
+abbrev pub IsSettleable : SignatureOf → List Node → Table → ℕ → ℕ → Type 0
+IsSettleable s nodes table subject i = IsSettled table i ⊎ ((i ≡ subject → ⊥) × IsNumeralOrList (theory_at s) (tree_at nodes i) × IsReady s nodes table i)
 
 -- ---- a solution that was given
 

@@ -28,7 +28,7 @@ add_term-returns-in_ok-push-in-Var-clause-ok t c =
     let ps = c.args.found.now.items in
     let v = c.in-Var.variable in
     let absent : list_any (λ p. same_variable (variable_of p.variable) (variable_of v)) ps ≡ false =
-        ap (list_any (λ p. same_variable (variable_of p.variable) (variable_of v))) (sym c.deref.ensures.value) ∙ sym c.is_among.ensures ∙ c.if-not-is_among.true in
+    ap (list_any (λ p. same_variable (variable_of p.variable) (variable_of v))) (sym c.deref.ensures.value) ∙ sym c.is_among.ensures ∙ c.if-not-is_among.true in
     ap places_in c.in_ok-push-in-Var.ensures.items
     ∙ places_push ps (record { variable = v; under = c.args.under })
     ∙ sym (added th c.args.under ps v false absent)
@@ -40,7 +40,7 @@ add_term-returns-else-not-is_among-clause-ok t c =
     let ps = c.args.found.now.items in
     let v = c.in-Var.variable in
     let there : list_any (λ p. same_variable (variable_of p.variable) (variable_of v)) ps ≡ true =
-        ap (list_any (λ p. same_variable (variable_of p.variable) (variable_of v))) (sym c.deref.ensures.value) ∙ sym c.is_among.ensures ∙ c.if-not-is_among.false in
+    ap (list_any (λ p. same_variable (variable_of p.variable) (variable_of v))) (sym c.deref.ensures.value) ∙ sym c.is_among.ensures ∙ c.if-not-is_among.false in
     sym (added th c.args.under ps v true there)
     ∙ ap (λ b. add_places th (operator_number c.args.under) (places_in ps) (tree_of b)) (sym c.in-Var.is)
 
