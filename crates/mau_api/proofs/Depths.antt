@@ -1,8 +1,8 @@
 -- Under a pattern with a plain top, the value of no variable is the subject: it is less deep.
-use Rattle.std.proofs.Common.{◌≡◌, ℕ, suc, ◌+◌, ◌≤◌, ◌<◌, max, List, [], ◌∷◌, ◌++◌, length, Bool, true, false, ◌&&◌, nat_lt, if◌then◌else◌, Option, Some, None, inl, inr, ◌⊎◌, ⊎_elim, refl, sym, ◌∙◌, ap, ap₂, subst, arith}
-use Rattle.mau_terms.specs.Tree.{Tree, variable, numeral, apply, Trees, no_trees, tree, node, list_of, trees_of}
+use Rattle.std.proofs.Common.{◌≡◌, ℕ, suc, ◌+◌, ◌≤◌, ◌<◌, List, [], ◌∷◌, ◌++◌, length, Bool, true, false, nat_lt, if◌then◌else◌, Option, Some, None, inl, inr, ◌⊎◌, ⊎_elim, refl, sym, ◌∙◌, ap, ap₂, subst, arith}
+use Rattle.mau_terms.specs.Tree.{Tree, variable, numeral, apply, Trees, no_trees, tree, node, list_of}
 use Rattle.mau_terms.specs.Depth.{depth, depths, list_depth, depths-trees_of}
-use Rattle.mau_terms.specs.Norm.{unit_tree, greatest_numeral, pieces, all_pieces, arrange, finish, over_one, made, build, norm, norms}
+use Rattle.mau_terms.specs.Norm.{unit_tree, greatest_numeral, pieces, all_pieces, arrange, finish, made, build, norm, norms}
 use Rattle.mau_terms.specs.Lawful.{AreLawful}
 use Rattle.mau_terms.specs.Subst.{Variable, instance, instances, Occurs, OccursIn}
 use Rattle.mau_terms.specs.Finite.{IsIn, arguments_of}
@@ -10,7 +10,7 @@ use Rattle.mau_terms.specs.declared.theory.Identity.{Identity}
 use Rattle.mau_terms.specs.declared.theory.Identity.TheVariants.{Const, Num}
 use Rattle.mau_terms.specs.declared.theory.Theory.{Theory}
 use Rattle.mau_terms.proofs.Pieces.{Split, unit, many, one, split, alone_element, trees_of-list_of, Each}
-use Rattle.mau_terms.proofs.Normal.{IsNormal, norm_normal, norms_normal}
+use Rattle.mau_terms.proofs.Normal.{IsNormal, norms_normal}
 use Rattle.mau_terms.proofs.Finite.{AllIn, AllIn-arrange, in_arrange, length-arrange, pieces_within, length_within}
 use Rattle.mau_api.specs.Asked.{HasPlainTop}
 use Rattle.mau_api.proofs.Parts.{each_at, holds_of_part}
@@ -32,7 +32,7 @@ among_depth z [] h = absurd h
 among_depth z (t ∷ ts) (inl e) = let k : depth z ≡ depth t = ap depth e in omega arith
 among_depth z (t ∷ ts) (inr h) = omega (arith, among_depth z ts h)
 
-node_depth : (f : ℕ) (ts : List Tree) → depth (node f ts) ≡ suc (list_depth ts)
+pub node_depth : (f : ℕ) (ts : List Tree) → depth (node f ts) ≡ suc (list_depth ts)
 node_depth f ts = ap suc (depths-trees_of ts)
 
 argument_depth : (t z : Tree) → IsIn z (arguments_of t) → depth z < depth t

@@ -1,8 +1,6 @@
 -- One more entry of a table.
-use Rattle.std.proofs.Common.{◌≡◌, ◌≢◌, ℕ, List, [], Contains, true, is_some, ⊎_elim, inl, inr, ap, sym, ◌∙◌, subst, arith}
+use Rattle.std.proofs.Common.{◌≡◌, ◌≢◌, ℕ, List, [], is_some, ⊎_elim, inl, inr, ap, sym, ◌∙◌, subst, arith}
 use Rattle.std.proofs.lemmas.Bool.{cases_eq}
-use Rattle.mau_terms.specs.Tree.{Tree}
-use Rattle.mau_terms.specs.declared.theory.Theory.{Theory}
 use Rattle.mau_signature.specs.Signature.{SignatureOf, theory_at}
 use Rattle.mau_store.specs.Node.{Node, AreNodes, IsOf}
 use Rattle.mau_store.specs.Trees.{tree_at}

@@ -12,6 +12,8 @@ pub mod Chains
 pub mod Ordered
 -- one more entry of a table
 pub mod Entered
+-- values of answers can be settled
+pub mod Settleable
 -- solutions and answers
 pub mod Answered
 -- what values may be

@@ -1,5 +1,5 @@
 -- What may be an argument of an operator, by cases: what holds of each case holds of it.
-use Rattle.std.proofs.Common.{◌≡◌, ℕ, ◌≤◌, List, [], ◌∷◌, length, Bool, true, Option, Some, None, All, ◌⊎◌, inl, inr, ⊎_elim, refl, sym, ap, subst, arith}
+use Rattle.std.proofs.Common.{◌≡◌, ℕ, ◌≤◌, List, [], ◌∷◌, length, true, Option, Some, None, All, inl, inr, ⊎_elim, refl, sym, ap, subst, arith}
 use Rattle.std.proofs.lemmas.List.Elements.{All-head, All-tail}
 use Rattle.mau_terms.specs.Tree.{Tree, numeral, node}
 use Rattle.mau_terms.specs.Norm.{unit_tree, arrange, finish}

@@ -9,7 +9,7 @@ use Rattle.mau_terms.specs.declared.theory.Theory.{Theory}
 use Rattle.mau_terms.proofs.Pieces.{Each}
 use Rattle.mau_store.specs.Node.{Node}
 use Rattle.mau_sorts.specs.Table.{Table}
-use Rattle.mau_api.specs.Asked.{IsTreeSettled, IsBelow, IsBelowOne, AreSettled, HasSettledArguments, CanBeSettled}
+use Rattle.mau_api.specs.Asked.{IsTreeSettled, IsBelow, IsBelowOne, AreSettled, CanBeSettled}
 use Rattle.mau_api.specs.Values.{IsPartUnder, MayBeValue, MayBeValueOfOne}
 use Rattle.mau_api.proofs.Parts.{each_at, holds_of_part}
 

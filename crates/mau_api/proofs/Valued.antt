@@ -1,11 +1,11 @@
 -- The values of a pattern's variables are among those that they may have.
-use Rattle.std.proofs.Common.{◌≡◌, ℕ, zero, suc, ◌+◌, ◌-◌, ◌≤◌, ◌<◌, List, [], ◌∷◌, ◌++◌, length, Bool, true, false, ◌&&◌, nat_lt, if◌then◌else◌, Option, Some, None, All, inl, inr, refl, sym, ◌∙◌, ap, ap₂, subst, arith}
+use Rattle.std.proofs.Common.{◌≡◌, ℕ, ◌+◌, ◌≤◌, List, [], ◌∷◌, length, Bool, true, false, ◌&&◌, nat_lt, if◌then◌else◌, Option, Some, None, All, inl, inr, refl, sym, ◌∙◌, ap, subst, arith}
 use Rattle.std.proofs.lemmas.List.Elements.{All-nil, All-cons}
-use Rattle.mau_terms.specs.Tree.{Tree, variable, numeral, apply, Trees, no_trees, tree, node, list_of, trees_of}
+use Rattle.mau_terms.specs.Tree.{Tree, variable, numeral, apply, Trees, no_trees, tree, node}
 use Rattle.mau_terms.specs.Norm.{greatest_numeral, pieces, all_pieces, arrange, finish, over_one, made, build, norm, norms}
 use Rattle.mau_terms.specs.Lawful.{AreLawful}
 use Rattle.mau_terms.specs.Subst.{Variable, instance, instances, Occurs, OccursIn}
-use Rattle.mau_terms.specs.Solution.{list_under, over_list}
+use Rattle.mau_terms.specs.Solution.{list_under}
 use Rattle.mau_terms.specs.Finite.{IsIn, arguments_of}
 use Rattle.mau_terms.specs.declared.theory.Identity.{Identity}
 use Rattle.mau_terms.specs.declared.theory.Theory.{Theory}

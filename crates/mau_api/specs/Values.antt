@@ -1,5 +1,5 @@
 -- What the values of a pattern's variables may be: more than are values, and never fewer.
-use Rattle.std.specs.Prelude.{◌≡◌, ◌⊎◌, ℕ, ◌+◌, ◌≤◌, List, length, All, true, Some, Contains}
+use Rattle.std.specs.Prelude.{◌≡◌, ◌⊎◌, ℕ, ◌+◌, ◌≤◌, List, length, All, true, Some}
 use Rattle.mau_terms.specs.Tree.{Tree, variable, numeral, apply, Trees, no_trees, tree}
 use Rattle.mau_terms.specs.Norm.{unit_tree}
 use Rattle.mau_terms.specs.Solution.{list_under, over_list}

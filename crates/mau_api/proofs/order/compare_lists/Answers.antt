@@ -1,4 +1,4 @@
-use Rattle.std.proofs.Common.{◌≡◌, sym, ◌∙◌, arith}
+use Rattle.std.proofs.Common.{sym, ◌∙◌, arith}
 use Rattle.mau_terms.specs.Order.{tree_cmp}
 use Rattle.mau_store.specs.Trees.{tree_at}
 use Rattle.mau_api.proofs.Compared.{compare_end}

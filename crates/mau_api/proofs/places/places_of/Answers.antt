@@ -1,5 +1,4 @@
 use Rattle.std.proofs.Common.{◌≡◌, [], None, map, sym, ap, ◌∙◌}
-use Rattle.mau_terms.specs.Subst.{Variable}
 use Rattle.mau_terms.specs.Solution.{add_places}
 use Rattle.mau_terms.specs.View.{tree_of}
 use Rattle.mau_signature.specs.Signature.{theory_at}
