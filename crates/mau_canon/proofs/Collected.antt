@@ -4,6 +4,7 @@ use Rattle.std.proofs.lemmas.List.{map-append, take_more}
 use Rattle.std.proofs.lemmas.List.Elements.{All-nil, All-cons}
 use Rattle.std.proofs.lemmas.Bool.{ltb-true, leb-true}
 use Rattle.mau_terms.specs.Tree.{Tree, node, trees_of}
+use Rattle.mau_terms.specs.Subst.{Variable, instance}
 use Rattle.mau_terms.specs.Depth.{depth, list_depth, depths-trees_of}
 use Rattle.mau_terms.specs.declared.ids.OpId.{OpId}
 use Rattle.mau_terms.specs.declared.bare.Bare.TheVariants.{App}
@@ -75,30 +76,32 @@ one_more c old ps p mid now before more =
     ∙ arrange_left c (old ++ ps) p
     ∙ ap (arrange c) (append_assoc old ps p)
 
--- the normal forms of one more of some terms
-norms-more : (th : ℕ → Theory) (bs : List Bare) (k : ℕ) (d : Bare) → k < length bs → map (norm th) (map tree_of (take (k + 1) bs)) ≡ map (norm th) (map tree_of (take k bs)) ++ norm th (tree_of (get_or bs k d)) ∷ []
-norms-more th bs k d h =
-    ap (λ xs. map (norm th) (map tree_of xs)) (take_more bs k d h)
-    ∙ ap (map (norm th)) (map-append tree_of (take k bs) (get_or bs k d ∷ []))
-    ∙ map-append (norm th) (map tree_of (take k bs)) (tree_of (get_or bs k d) ∷ [])
-
-pub pieces-norms-more : (th : ℕ → Theory) (f : ℕ) (bs : List Bare) (k : ℕ) (d : Bare) → k < length bs → all_pieces (th f).assoc (th f).id f (map (norm th) (map tree_of (take (k + 1) bs))) ≡ all_pieces (th f).assoc (th f).id f (map (norm th) (map tree_of (take k bs))) ++ list_under (th f) f (norm th (tree_of (get_or bs k d)))
-pieces-norms-more th f bs k d h =
-    ap (all_pieces (th f).assoc (th f).id f) (norms-more th bs k d h)
-    ∙ all_pieces-more (th f).assoc (th f).id f (map (norm th) (map tree_of (take k bs))) (norm th (tree_of (get_or bs k d)))
-
 or_none : (a : Bool) → (a || false) ≡ a
 or_none true = refl
 or_none false = refl
 
-pub hold-norms-more : (th : ℕ → Theory) (bs : List Bare) (k : ℕ) (d : Bare) → k < length bs → hold_overflow th (trees_of (map (norm th) (map tree_of (take (k + 1) bs)))) ≡ (hold_overflow th (trees_of (map (norm th) (map tree_of (take k bs)))) || holds_overflow th (norm th (tree_of (get_or bs k d))))
-hold-norms-more th bs k d h =
-    let before = map (norm th) (map tree_of (take k bs)) in
-    let t = norm th (tree_of (get_or bs k d)) in
-    ap (λ ts. hold_overflow th (trees_of ts)) (norms-more th bs k d h)
-    ∙ hold-trees_of th (before ++ t ∷ [])
-    ∙ some-append th before (t ∷ [])
-    ∙ ap₂ (λ x y. x || y) (sym (hold-trees_of th before)) (or_none (holds_overflow th t))
+-- the normal forms of one more of some instances
+module _ (th : ℕ → Theory) (g : Variable → Tree) (bs : List Bare) (k : ℕ) (d : Bare) (h : k < length bs) where
+  norms-more : map (norm th) (map (instance g) (map tree_of (take (k + 1) bs))) ≡ map (norm th) (map (instance g) (map tree_of (take k bs))) ++ norm th (instance g (tree_of (get_or bs k d))) ∷ []
+  norms-more =
+      ap (λ xs. map (norm th) (map (instance g) (map tree_of xs))) (take_more bs k d h)
+      ∙ ap (λ ts. map (norm th) (map (instance g) ts)) (map-append tree_of (take k bs) (get_or bs k d ∷ []))
+      ∙ ap (map (norm th)) (map-append (instance g) (map tree_of (take k bs)) (tree_of (get_or bs k d) ∷ []))
+      ∙ map-append (norm th) (map (instance g) (map tree_of (take k bs))) (instance g (tree_of (get_or bs k d)) ∷ [])
+
+  pub pieces-norms-more : (f : ℕ) → all_pieces (th f).assoc (th f).id f (map (norm th) (map (instance g) (map tree_of (take (k + 1) bs)))) ≡ all_pieces (th f).assoc (th f).id f (map (norm th) (map (instance g) (map tree_of (take k bs)))) ++ list_under (th f) f (norm th (instance g (tree_of (get_or bs k d))))
+  pieces-norms-more f =
+      ap (all_pieces (th f).assoc (th f).id f) norms-more
+      ∙ all_pieces-more (th f).assoc (th f).id f (map (norm th) (map (instance g) (map tree_of (take k bs)))) (norm th (instance g (tree_of (get_or bs k d))))
+
+  pub hold-norms-more : hold_overflow th (trees_of (map (norm th) (map (instance g) (map tree_of (take (k + 1) bs))))) ≡ (hold_overflow th (trees_of (map (norm th) (map (instance g) (map tree_of (take k bs))))) || holds_overflow th (norm th (instance g (tree_of (get_or bs k d)))))
+  hold-norms-more =
+      let before = map (norm th) (map (instance g) (map tree_of (take k bs))) in
+      let t = norm th (instance g (tree_of (get_or bs k d))) in
+      ap (λ ts. hold_overflow th (trees_of ts)) norms-more
+      ∙ hold-trees_of th (before ++ t ∷ [])
+      ∙ some-append th before (t ∷ [])
+      ∙ ap₂ (λ x y. x || y) (sym (hold-trees_of th before)) (or_none (holds_overflow th t))
 
 -- ---- an operator over terms
 

@@ -10,5 +10,7 @@ pub mod Judged
 pub mod Collected
 -- the laws
 pub mod Standing
+-- values of variables
+pub mod Values
 -- computed cases of the definitions
 pub mod Examples

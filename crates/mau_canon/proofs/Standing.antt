@@ -96,17 +96,22 @@ stands_within_extended th old new x i s =
 pub stand_within_extended : (th : ℕ → Theory) (old new : List Node) (ids : List ℕ) → Extends old new → StandWithin th old ids → StandWithin th new ids
 stand_within_extended th old new ids x s k d h = stands_within_extended th old new x _ (s k d h)
 
+-- they are of the store
+pub stand_there : (th : ℕ → Theory) (nodes : List Node) (ids : List ℕ) → StandWithin th nodes ids → AreOf nodes ids
+stand_there th nodes ids s k d h = (s k d h).there
+
+pub stand_at : (th : ℕ → Theory) (nodes : List Node) (is : List TermId) (k : ℕ) (d : TermId) → k < length is → StandWithin th nodes (numbers is) → StandsWithin th nodes (slice_index_or is k d).0
+stand_at th nodes [] k d h p = absurd (omega arith)
+stand_at th nodes (i ∷ is) zero d h p = All-head (StandsWithin th nodes) i.0 (numbers is) p
+stand_at th nodes (i ∷ is) (suc k) d h p = stand_at th nodes is k d (omega arith) (All-tail (StandsWithin th nodes) i.0 (numbers is) p)
+
+-- one of these
+pub stand_one : (th : ℕ → Theory) (nodes : List Node) (ids : List TermId) (x : TermId) → Contains ids x → StandWithin th nodes (numbers ids) → StandsWithin th nodes x.0
+stand_one th nodes ids x w s = subst (λ id. StandsWithin th nodes id.0) w.2 (stand_at th nodes ids w.0 x w.1 s)
+
 -- some of these
 pub stand_among : (th : ℕ → Theory) (nodes : List Node) (xs ids : List TermId) → All (Contains ids) xs → StandWithin th nodes (numbers ids) → StandWithin th nodes (numbers xs)
-stand_among th nodes xs ids among s = All-map (StandsWithin th nodes) (λ id. id.0) xs (λ k d h. one (slice_index_or xs k d) (among k d h))
-  where
-    one : (x : TermId) → Contains ids x → StandsWithin th nodes x.0
-    one x w = subst (λ id. StandsWithin th nodes id.0) w.2 (at ids w.0 x w.1 s)
-      where
-        at : (is : List TermId) (k : ℕ) (d : TermId) → k < length is → StandWithin th nodes (numbers is) → StandsWithin th nodes (slice_index_or is k d).0
-        at [] k d h p = absurd (omega arith)
-        at (i ∷ is) zero d h p = All-head (StandsWithin th nodes) i.0 (numbers is) p
-        at (i ∷ is) (suc k) d h p = at is k d (omega arith) (All-tail (StandsWithin th nodes) i.0 (numbers is) p)
+stand_among th nodes xs ids among s = All-map (StandsWithin th nodes) (λ id. id.0) xs (λ k d h. stand_one th nodes ids (slice_index_or xs k d) (among k d h) s)
 
 -- one more, if it was kept
 pub stand_kept : (th : ℕ → Theory) (nodes : List Node) (old new : List TermId) (id : TermId) → (new ≡ old) ⊎ (new ≡ old ++ id ∷ []) → StandWithin th nodes (numbers old) → StandsWithin th nodes id.0 → StandWithin th nodes (numbers new)

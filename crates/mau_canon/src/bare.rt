@@ -1,24 +1,27 @@
-//! Bare terms in normal form. The terms below nested uses of an associative operator are collected into one list, which is sorted
+//! Bare terms, and instances of patterns, in normal form. The terms below nested uses of an associative operator are collected into one list, which is sorted
 //! once.
 ghost use Rattle.std.specs.Prelude.{◌≡◌, ◌++◌, All, map, IfOk, OnOk, IfErr};
 ghost use Rattle.mau_terms.specs.Tree.{trees_of};
 ghost use Rattle.mau_terms.specs.Norm.{all_pieces, arrange, norm, holds_overflow, hold_overflow};
 ghost use Rattle.mau_terms.specs.Solution.{list_under};
 ghost use Rattle.mau_terms.specs.Bare.{IsBare};
-ghost use Rattle.mau_terms.specs.View.{tree_of};
+ghost use Rattle.mau_terms.specs.View.{tree_of, variable_of};
+ghost use Rattle.mau_terms.specs.Subst.{instance};
 ghost use Rattle.mau_signature.specs.Signature.{IsOperator, terms_over, theory_at};
 ghost use Rattle.mau_store.specs.Node.{AreOf, Extends};
 ghost use Rattle.mau_store.specs.Trees.{StandsFor, StandsForNorm, trees_at};
 ghost use Rattle.mau_store.specs.View.{numbers};
-ghost use Rattle.mau_canon.specs.Within.{IsNumberOf, StandsWithin, IsCause};
+ghost use Rattle.mau_canon.specs.Within.{IsNumberOf, StandsWithin, StandWithin, IsCause};
+ghost use Rattle.mau_canon.specs.Values.{values_in};
 
 use crate::BuildFault;
 use crate::builder::judge;
 use crate::list::pieces;
 use crate::normal::{is_overflow, normal_form};
+use crate::value::value_of;
 use mau_signature::Signature;
 use mau_store::{NodeView, Store};
-use mau_terms::{Bare, NoMemory, OpId, TermId};
+use mau_terms::{Bare, NoMemory, OpId, TermId, VarId};
 
 /// The normal form of a bare term.
 ///
@@ -30,25 +33,53 @@ pub fn build_bare(store: &mut Store, sig: &Signature, term: &Bare) -> Result<Ter
     ensures refused { IfErr result (IsCause (theory_at sig.now) (norm (theory_at sig.now) (tree_of term.now))) }
     ensures extends { Extends store.old store.new }
 {
-    let (id, overflows) = normalize(store, sig, term)?;
+    build_instance(store, sig, term, &[], &[])
+}
+
+/// The normal form of a bare term with the values of some variables in their places. The values are normal forms of this store, each
+/// at the place of its variable; a variable without a value stays.
+///
+/// The store may have gained nodes where the instance is refused.
+pub fn build_instance(
+    store: &mut Store,
+    sig: &Signature,
+    term: &Bare,
+    variables: &[VarId],
+    values: &[TermId],
+) -> Result<TermId, BuildFault>
+    requires bare { IsBare (terms_over sig.now) (tree_of term.now) }
+    requires values { StandWithin (theory_at sig.now) store.old (numbers values.now) }
+    ensures ok { IfOk result (λ id. StandsFor (theory_at sig.now) store.new id.0 (instance (values_in store.old variables.now values.now) (tree_of term.now))) }
+    ensures within { IfOk result (λ id. StandsWithin (theory_at sig.now) store.new id.0) }
+    ensures refused { IfErr result (IsCause (theory_at sig.now) (norm (theory_at sig.now) (instance (values_in store.old variables.now values.now) (tree_of term.now)))) }
+    ensures extends { Extends store.old store.new }
+{
+    let (id, overflows) = normalize(store, sig, term, variables, values)?;
     judge(store, id, overflows)
 }
 
-/// The normal form of a bare term, however deep it is, and whether it holds the successor of the greatest numeral.
+/// The normal form of an instance, however deep it is, and whether it holds the successor of the greatest numeral.
 #[cycle(bare)]
-fn normalize(store: &mut Store, sig: &Signature, term: &Bare) -> Result<(TermId, bool), NoMemory>
-    requires { IsBare (terms_over sig.now) (tree_of term.now) }
-    ensures ok { IfOk result (λ p. IsNumberOf store.new p.0.0 (norm (theory_at sig.now) (tree_of term.now))) }
+fn normalize(
+    store: &mut Store,
+    sig: &Signature,
+    term: &Bare,
+    variables: &[VarId],
+    values: &[TermId],
+) -> Result<(TermId, bool), NoMemory>
+    requires bare { IsBare (terms_over sig.now) (tree_of term.now) }
+    requires values { StandWithin (theory_at sig.now) store.old (numbers values.now) }
+    ensures ok { IfOk result (λ p. IsNumberOf store.new p.0.0 (norm (theory_at sig.now) (instance (values_in store.old variables.now values.now) (tree_of term.now)))) }
     ensures normal { IfOk result (λ p. StandsForNorm (theory_at sig.now) store.new p.0.0) }
-    ensures overflows { IfOk result (λ p. p.1 ≡ holds_overflow (theory_at sig.now) (norm (theory_at sig.now) (tree_of term.now))) }
+    ensures overflows { IfOk result (λ p. p.1 ≡ holds_overflow (theory_at sig.now) (norm (theory_at sig.now) (instance (values_in store.old variables.now values.now) (tree_of term.now)))) }
     ensures extends { Extends store.old store.new }
 {
     match term {
-        Bare::Var(v) => Ok((store.intern(NodeView::Var(*v))?, false)),
+        Bare::Var(v) => Ok((value_of(store, sig, variables, values, *v)?, false)),
         Bare::Num(n) => Ok((store.intern(NodeView::Num(*n))?, false)),
         Bare::App(op, args) => {
             let mut items = Vec::new(store.allocator());
-            let below = collect_all(store, sig, *op, args.items(), &mut items)?;
+            let below = collect_all(store, sig, *op, args.items(), variables, values, &mut items)?;
             let theory = sig.theory(*op);
             let id = normal_form(store, theory, *op, items)?;
             let here = is_overflow(store, theory, *op, id);
@@ -57,7 +88,7 @@ fn normalize(store: &mut Store, sig: &Signature, term: &Bare) -> Result<(TermId,
     }
 }
 
-/// Adds the lists of the normal forms of some terms under an operator, and says whether one of these normal forms holds the
+/// Adds the lists of the normal forms of some instances under an operator, and says whether one of these normal forms holds the
 /// successor of the greatest numeral.
 #[cycle(bare)]
 fn collect_all(
@@ -65,21 +96,24 @@ fn collect_all(
     sig: &Signature,
     op: OpId,
     terms: &[Bare],
+    variables: &[VarId],
+    values: &[TermId],
     items: &mut Vec<TermId>,
 ) -> Result<bool, NoMemory>
     requires operator { IsOperator sig.now op.0 }
     requires bare { All (λ t. IsBare (terms_over sig.now) (tree_of t)) terms.now }
+    requires values { StandWithin (theory_at sig.now) store.old (numbers values.now) }
     requires there { AreOf store.old (numbers items.old.items) }
     ensures list { OnOk result (arrange (theory_at sig.now op.0).comm (trees_at store.new (numbers items.new.items))
         ≡ arrange (theory_at sig.now op.0).comm (trees_at store.old (numbers items.old.items)
-        ++ all_pieces (theory_at sig.now op.0).assoc (theory_at sig.now op.0).id op.0 (map (norm (theory_at sig.now)) (map tree_of terms.now)))) }
-    ensures overflows { IfOk result (λ o. o ≡ hold_overflow (theory_at sig.now) (trees_of (map (norm (theory_at sig.now)) (map tree_of terms.now)))) }
+        ++ all_pieces (theory_at sig.now op.0).assoc (theory_at sig.now op.0).id op.0 (map (norm (theory_at sig.now)) (map (instance (values_in store.old variables.now values.now)) (map tree_of terms.now))))) }
+    ensures overflows { IfOk result (λ o. o ≡ hold_overflow (theory_at sig.now) (trees_of (map (norm (theory_at sig.now)) (map (instance (values_in store.old variables.now values.now)) (map tree_of terms.now))))) }
     ensures there { OnOk result (AreOf store.new (numbers items.new.items)) }
     ensures extends { Extends store.old store.new }
 {
     let mut overflows = false;
     for term in terms {
-        overflows |= collect(store, sig, op, term, items)?;
+        overflows |= collect(store, sig, op, term, variables, values, items)?;
     }
     Ok(overflows)
 }
@@ -91,25 +125,28 @@ fn collect(
     sig: &Signature,
     op: OpId,
     term: &Bare,
+    variables: &[VarId],
+    values: &[TermId],
     items: &mut Vec<TermId>,
 ) -> Result<bool, NoMemory>
     requires operator { IsOperator sig.now op.0 }
     requires bare { IsBare (terms_over sig.now) (tree_of term.now) }
+    requires values { StandWithin (theory_at sig.now) store.old (numbers values.now) }
     requires there { AreOf store.old (numbers items.old.items) }
     ensures list { OnOk result (arrange (theory_at sig.now op.0).comm (trees_at store.new (numbers items.new.items))
         ≡ arrange (theory_at sig.now op.0).comm (trees_at store.old (numbers items.old.items)
-        ++ list_under (theory_at sig.now op.0) op.0 (norm (theory_at sig.now) (tree_of term.now)))) }
-    ensures overflows { IfOk result (λ o. o ≡ holds_overflow (theory_at sig.now) (norm (theory_at sig.now) (tree_of term.now))) }
+        ++ list_under (theory_at sig.now op.0) op.0 (norm (theory_at sig.now) (instance (values_in store.old variables.now values.now) (tree_of term.now))))) }
+    ensures overflows { IfOk result (λ o. o ≡ holds_overflow (theory_at sig.now) (norm (theory_at sig.now) (instance (values_in store.old variables.now values.now) (tree_of term.now)))) }
     ensures there { OnOk result (AreOf store.new (numbers items.new.items)) }
     ensures extends { Extends store.old store.new }
 {
     let theory = sig.theory(op);
     if let Bare::App(top, args) = term {
         if theory.assoc && *top == op {
-            return collect_all(store, sig, op, args.items(), items);
+            return collect_all(store, sig, op, args.items(), variables, values, items);
         }
     }
-    let (id, overflows) = normalize(store, sig, term)?;
+    let (id, overflows) = normalize(store, sig, term, variables, values)?;
     items.extend_from_slice(pieces(store, theory, op, &id))?;
     Ok(overflows)
 }

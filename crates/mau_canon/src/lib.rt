@@ -8,8 +8,9 @@ mod fault;
 pub mod laws;
 mod list;
 mod normal;
+mod value;
 
-pub use bare::build_bare;
+pub use bare::{build_bare, build_instance};
 pub use builder::{build, from_list};
 pub use fault::BuildFault;
 pub use list::list_of;

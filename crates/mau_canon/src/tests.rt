@@ -220,6 +220,39 @@ fn a_list_of_one_is_its_element(rt: HostRuntime) -> Result<(), Fail> {
     short_lists(&rt, rt.alloc(), &mut terms)
 }
 
+fn instances(rt: &impl Abort, alloc: Global, terms: &mut Terms) -> Result<(), Fail> {
+    let x = VarId { index: 0, sort: 0 };
+    for (pattern, value, instance) in [
+        ("xau", "abu", "aabuu"),
+        ("xau", "e", "a"),
+        ("xxv", "abv", "ababvvv"),
+        ("xss", "3", "5"),
+        ("ag", "b", "ag"),
+    ] {
+        let value = number(rt, alloc, terms, value)?;
+        let wanted = number(rt, alloc, terms, instance)?;
+        let pattern = term(alloc, pattern)?;
+        assert_eq!(rt;
+            terms.instance(rt, &pattern, &[x], &[value])?,
+            wanted,
+            "{instance}"
+        );
+        let unbound = terms.bare(rt, &pattern)?;
+        assert_eq!(rt;
+            terms.instance(rt, &pattern, &[], &[])?,
+            unbound,
+            "{instance}"
+        );
+    }
+    Ok(())
+}
+
+#[test]
+fn variables_have_values(rt: HostRuntime) -> Result<(), Fail> {
+    let mut terms = no_terms(&rt, rt.alloc())?;
+    instances(&rt, rt.alloc(), &mut terms)
+}
+
 fn read_lists(rt: &impl Abort, alloc: Global, terms: &mut Terms) -> Result<(), Fail> {
     for (op, text, count) in [
         (U, "bagubu", 3),

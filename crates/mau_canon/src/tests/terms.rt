@@ -3,10 +3,10 @@ ghost use Rattle.std.specs.Prelude.{◌≡◌, ◌⊎◌, ◌++◌, ◌∷◌, [
 ghost use Rattle.mau_signature.specs.Signature.{IsOperator};
 
 use super::bare::is_bare;
-use crate::{BuildFault, build, build_bare, from_list, list_of};
+use crate::{BuildFault, build, build_bare, build_instance, from_list, list_of};
 use mau_signature::Signature;
 use mau_store::Store;
-use mau_terms::{Bare, OpId, TermId};
+use mau_terms::{Bare, OpId, TermId, VarId};
 use std::alloc::{AllocError, Global};
 use std::marker::Model;
 use std::process::Abort;
@@ -109,6 +109,20 @@ impl Terms {
     pub fn bare(&mut self, rt: &impl Abort, term: &Bare) -> Result<TermId, BuildFault> {
         assert!(rt; is_bare(&self.sig, term));
         let id = build_bare(&mut self.store, &self.sig, term)?;
+        keep(&mut self.ids, id)
+    }
+
+    /// The instance of a term by `build_instance`.
+    pub fn instance(
+        &mut self,
+        rt: &impl Abort,
+        term: &Bare,
+        variables: &[VarId],
+        values: &[TermId],
+    ) -> Result<TermId, BuildFault> {
+        assert!(rt; is_bare(&self.sig, term));
+        assert!(rt; are_among(values, &self.ids));
+        let id = build_instance(&mut self.store, &self.sig, term, variables, values)?;
         keep(&mut self.ids, id)
     }
 

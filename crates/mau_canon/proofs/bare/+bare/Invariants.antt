@@ -7,6 +7,8 @@ use Rattle.mau_signature.specs.Signature.{theory_at}
 use Rattle.mau_store.specs.Node.{AreOf, Extends}
 use Rattle.mau_store.specs.Trees.{trees_at}
 use Rattle.mau_store.specs.View.{numbers}
+use Rattle.mau_terms.specs.Subst.{instance}
+use Rattle.mau_canon.specs.Values.{values_in}
 use Rattle.mau_canon.proofs.bare.+bare.Given as goal
 
 abbrev pub decreases-normalize : goal.decreases-normalize
@@ -23,8 +25,8 @@ invariant-collect_all-loop-term l = record {
   list :
       arrange (theory_at l.sig l.op.0).comm (trees_at l.store (numbers l.items.items))
       ≡ arrange (theory_at l.sig l.op.0).comm (trees_at l.fn.store (numbers l.fn.items.items)
-      ++ all_pieces (theory_at l.sig l.op.0).assoc (theory_at l.sig l.op.0).id l.op.0 (map (norm (theory_at l.sig)) (map tree_of (take l.term-index l.terms))));
-  overflows : l.overflows ≡ hold_overflow (theory_at l.sig) (trees_of (map (norm (theory_at l.sig)) (map tree_of (take l.term-index l.terms))));
+      ++ all_pieces (theory_at l.sig l.op.0).assoc (theory_at l.sig l.op.0).id l.op.0 (map (norm (theory_at l.sig)) (map (instance (values_in l.fn.store l.variables l.values)) (map tree_of (take l.term-index l.terms)))));
+  overflows : l.overflows ≡ hold_overflow (theory_at l.sig) (trees_of (map (norm (theory_at l.sig)) (map (instance (values_in l.fn.store l.variables l.values)) (map tree_of (take l.term-index l.terms)))));
   there : AreOf l.store (numbers l.items.items);
   extends : Extends l.fn.store l.store;
 }

@@ -1,0 +1,18 @@
+//! Listings of solutions: what solves a pattern and a subject, the trait that each listing implements, and a plain listing
+//! that tries all values, to which others are compared.
+#![tactic(auto)]
+
+mod first;
+pub mod laws;
+mod lister;
+mod order;
+mod places;
+mod settle;
+mod solution;
+
+pub use first::{FirstSolutions, first_solutions};
+pub use lister::Lister;
+pub use order::{compare_lists, compare_values, value_key_of};
+pub use places::{Place, places_of};
+pub use settle::settle_value;
+pub use solution::Solution;
