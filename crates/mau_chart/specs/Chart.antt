@@ -8,7 +8,7 @@ use Rattle.mau_chart.specs.declared.grammar.Production.{Production}
 use Rattle.mau_chart.specs.declared.grammar.Item.{Item}
 use Rattle.mau_chart.specs.declared.grammar.Item.TheVariants.{Whole, Part}
 use Rattle.mau_chart.specs.declared.grammar.Leaf.{Leaf}
-use Rattle.mau_chart.specs.declared.groups.Place.{Place}
+use Rattle.mau_chart.specs.declared.places.Place.{Place}
 use Rattle.mau_chart.specs.Reads.{said_trees, made, Reads, Spells}
 
 pub record Found : Type 0 where

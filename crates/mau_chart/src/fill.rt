@@ -13,8 +13,9 @@ ghost use Rattle.mau_chart.specs.Table.{table, cells, IsChart};
 
 use crate::chart::Chart;
 use crate::grammar::{Item, Leaf, Production, Said};
-use crate::groups::{Group, Place, group_row, groups_of};
-use crate::marks::{Mark, next_open, no_marks};
+use crate::groups::{group_row, groups_of};
+use crate::marks::{next_open, no_marks};
+use crate::places::{Group, Mark, Place};
 use mau_terms::{NoMemory, OpId};
 use std::alloc::Global;
 
@@ -344,6 +345,9 @@ fn combine_group(
             let slot = slot_of(slots, item);
             let mark = &mut marks[place_for(slot, marks.len())];
             mark.turn(i, item, chart.width)?;
+            if mark.has_all(group) {
+                return Ok(());
+            }
             combine_places(
                 chart,
                 alloc,
