@@ -1,5 +1,5 @@
 //! Where a row has two facts of an item already, so that no more are looked for.
-ghost use Rattle.std.specs.Prelude.{◌≡◌, ◌⊎◌, ◌<◌, ◌≤◌, ℕ, List, [], Some, OnOk, IfOk, IsTrue, true, false, get_or, length};
+ghost use Rattle.std.specs.Prelude.{◌≡◌, ◌⊎◌, ◌↔◌, ◌<◌, ◌≤◌, ℕ, List, [], Some, OnOk, IfOk, IsTrue, true, false, get_or, length, max};
 ghost use Rattle.std.specs.List.{slice_get};
 ghost use Rattle.mau_chart.specs.declared.places.Place.{Place};
 ghost use Rattle.mau_chart.specs.Chart.{Found};
@@ -13,7 +13,7 @@ use std::alloc::Global;
 
 /// So many marks, and at least one, of nothing.
 pub fn no_marks(alloc: Global, count: usize) -> Result<Vec<Mark>, NoMemory>
-    ensures some { IfOk result (λ marks. 0 < length marks.items) }
+    ensures count { IfOk result (λ marks. length marks.items ≡ max count 1) }
     ensures marked { IfOk result (λ marks. (rows : ℕ → List Found) → AllMarked rows marks.items) }
 {
     let mut marks = Vec::new(alloc);
@@ -42,6 +42,7 @@ impl Mark {
         ensures row { OnOk result (self.new.row ≡ row) }
         ensures item { OnOk result (self.new.item ≡ item) }
         ensures full { OnOk result ((self.new ≡ self.old) ⊎ ((e : ℕ) → get_or self.new.full.items e false ≡ false)) }
+        ensures width { OnOk result ((self.new ≡ self.old) ⊎ (length self.new.full.items ≡ width)) }
     {
         if self.row == row && self.item.is(item) {
             return Ok(());
@@ -60,6 +61,7 @@ impl Mark {
         ensures row { self.new.row ≡ self.old.row }
         ensures item { self.new.item ≡ self.old.item }
         ensures full { (e : ℕ) → get_or self.new.full.items e false ≡ true → (get_or self.old.full.items e false ≡ true) ⊎ (e ≡ end) }
+        ensures set { end < length self.old.full.items → get_or self.new.full.items end false ≡ true }
     {
         if end < self.full.len() {
             self.full[end] = true;
@@ -87,7 +89,8 @@ impl Mark {
 
     /// Whether the ends of all places of the group are marked, as far as the stretch tells.
     pub fn has_all(&self, group: &Group) -> bool
-        ensures { IsTrue result → (z : ℕ) (p : Place) → slice_get group.now.parts.items z ≡ Some p → get_or self.now.full.items p.end false ≡ true }
+        ensures stretch { IsTrue result ↔ ((self.now.low ≤ group.now.low) × (group.now.high < self.now.high)) }
+        ensures all { IsTrue result → (z : ℕ) (p : Place) → slice_get group.now.parts.items z ≡ Some p → get_or self.now.full.items p.end false ≡ true }
     {
         self.low <= group.low && group.high < self.high
     }
@@ -130,6 +133,7 @@ pub fn next_open(full: &[bool], places: &[Place], from: usize) -> usize
     ensures within { result ≤ length places.now }
     ensures later { from ≤ result }
     ensures marked { (y : ℕ) (p : Place) → from ≤ y → y < result → slice_get places.now y ≡ Some p → get_or full.now p.end false ≡ true }
+    ensures open { (p : Place) → slice_get places.now result ≡ Some p → get_or full.now p.end false ≡ false }
 {
     for z in from..places.len() {
         let end = places[z].end;

@@ -57,7 +57,7 @@ returns-then-has_all-clause-combined c =
     let marked = turned_marked t (get_or marks c.place_for.result d) mark turned.full (c.requires.marked c.place_for.result (get_or marks c.place_for.result d) (slice_get-get_or marks c.place_for.result d c.place_for.ensures)) in
     combined_full ps c.args.leaves.now t t c.args.i c.args.k c.args.m g.item it (IsAmong places g.item 0) (IsAmong places g.item (length places))
     (λ f to e s w. some_one it to (sym c.in-Some.is ∙ c.step_of.ensures.only c.args.leaves.now c.args.i to c.requires.mask (subst (λ z. Steps ps z g.item to) (c.requires.whole f e) s) w))
-    (among_marked t mark c.args.i it g.item places 0 (length places) turned.row turned.item marked (λ y p l h e. c.has_all.ensures c.if-has_all.true y p e))
+    (among_marked t mark c.args.i it g.item places 0 (length places) turned.row turned.item marked (λ y p l h e. c.has_all.ensures.all c.if-has_all.true y p e))
     (combined_none ps c.args.leaves.now t c.args.i c.args.k c.args.m (IsAmong places g.item 0) (λ x f h to ef eh p s w. omega (arith, p.0.1)))
 
 pub returns-in_ok-combine_places-in-Some-clause-marked : goal.returns-in_ok-combine_places-in-Some-clause-marked
