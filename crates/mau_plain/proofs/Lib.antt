@@ -1,0 +1,4 @@
+-- Lemmas of the plain listing, lowest first.
+
+-- lists over some elements
+pub mod Longer

@@ -1,0 +1,4 @@
+-- What the plain listing computes, to be read in this order.
+
+-- lists over some elements
+pub mod Words
