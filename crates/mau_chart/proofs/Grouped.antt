@@ -5,9 +5,10 @@ use Rattle.std.proofs.lemmas.Bool.{eqb-false}
 use Rattle.mau_chart.specs.declared.grammar.Item.{Item}
 use Rattle.mau_chart.specs.declared.grammar.Item.TheVariants.{Part}
 use Rattle.mau_chart.specs.declared.groups.Group.{Group}
+use Rattle.mau_chart.specs.declared.groups.Place.{Place}
 use Rattle.mau_chart.specs.Groups.{HasPart, groups_at, AreGrouped, AreIndexed, IsGrouped}
-use Rattle.std.proofs.lemmas.Option.{slice_get-get_or, slice_get_within}
-use Rattle.mau_chart.specs.Chart.{Found, Grows, IsOne, IsAmong}
+use Rattle.std.proofs.lemmas.Option.{slice_get_within}
+use Rattle.mau_chart.specs.Chart.{Found, Grows, IsOne, IsAmong, place_of}
 use Rattle.mau_chart.proofs.Grows.{slice_get-left, slice_get-end}
 use Rattle.mau_chart.proofs.Step.{some_one}
 
@@ -30,12 +31,12 @@ groups_at-front [] v r h = absurd (omega arith)
 groups_at-front (u ∷ vs) v zero h = refl
 groups_at-front (u ∷ vs) v (suc r) h = groups_at-front vs v r (omega arith)
 
-slice_get-set : {A : Type 0} (xs : List A) (w : ℕ) (x : A) → w < length xs → slice_get (set xs w x) w ≡ Some x
+pub slice_get-set : {A : Type 0} (xs : List A) (w : ℕ) (x : A) → w < length xs → slice_get (set xs w x) w ≡ Some x
 slice_get-set [] w x h = absurd (omega arith)
 slice_get-set (y ∷ xs) zero x h = refl
 slice_get-set (y ∷ xs) (suc w) x h = slice_get-set xs w x (omega arith)
 
-slice_get-set_other : {A : Type 0} (xs : List A) (w v : ℕ) (x : A) → v ≢ w → slice_get (set xs w x) v ≡ slice_get xs v
+pub slice_get-set_other : {A : Type 0} (xs : List A) (w v : ℕ) (x : A) → v ≢ w → slice_get (set xs w x) v ≡ slice_get xs v
 slice_get-set_other [] w v x n = refl
 slice_get-set_other (y ∷ xs) zero zero x n = absurd (n refl)
 slice_get-set_other (y ∷ xs) zero (suc v) x n = refl
@@ -43,11 +44,11 @@ slice_get-set_other (y ∷ xs) (suc w) zero x n = refl
 slice_get-set_other (y ∷ xs) (suc w) (suc v) x n = slice_get-set_other xs w v x (λ e. n (ap suc e))
 
 -- a group that has one place more
-module _ (gs : List Group) (w x : ℕ) (g h : Group) (eg : slice_get gs w ≡ Some g) (l : w < length gs) (ei : h.item ≡ g.item) (ep : h.parts.items ≡ g.parts.items ++ x ∷ []) where
+module _ (gs : List Group) (w : ℕ) (x : Place) (g h : Group) (eg : slice_get gs w ≡ Some g) (l : w < length gs) (ei : h.item ≡ g.item) (ep : h.parts.items ≡ g.parts.items ++ x ∷ []) where
   pub placed : HasPart (set gs w h) g.item x
   placed = (w, length g.parts.items, record { group = h; its = slice_get-set gs w h l; place = ap (λ ps. slice_get ps (length g.parts.items)) ep ∙ slice_get-end g.parts.items x; item = ei })
 
-  pub placed_others : (it : Item) (y : ℕ) → HasPart gs it y → HasPart (set gs w h) it y
+  pub placed_others : (it : Item) (y : Place) → HasPart gs it y → HasPart (set gs w h) it y
   placed_others it y p = by (eqb p.0 w) refl
     where
       by : (t : Bool) → eqb p.0 w ≡ t → HasPart (set gs w h) it y
@@ -65,31 +66,31 @@ module _ (gs : List Group) (w x : ℕ) (g h : Group) (eg : slice_get gs w ≡ So
           )
 
 -- a new group
-module _ (gs : List Group) (x : ℕ) (h : Group) (ep : h.parts.items ≡ x ∷ []) where
+module _ (gs : List Group) (x : Place) (h : Group) (ep : h.parts.items ≡ x ∷ []) where
   pub pushed : HasPart (gs ++ h ∷ []) h.item x
   pushed = (length gs, 0, record { group = h; its = slice_get-end gs h; place = ap (λ ps. slice_get ps 0) ep; item = refl })
 
-  pub pushed_others : (it : Item) (y : ℕ) → HasPart gs it y → HasPart (gs ++ h ∷ []) it y
+  pub pushed_others : (it : Item) (y : Place) → HasPart gs it y → HasPart (gs ++ h ∷ []) it y
   pushed_others it y p = (p.0, p.1, record { group = p.2.group; its = slice_get-left gs (h ∷ []) p.0 p.2.group p.2.its; place = p.2.place; item = p.2.item })
 
 -- ---- one more place, one more group
 
-pub among_on : (places : List ℕ) (part : Item) (z n y : ℕ) (it : Item) → n ≡ z + 1 → z < length places → IsAmong places part n y it → IsAmong places part z y it ⊎ IsOne (get_or places z 0) part y it
-among_on places part z n y it en h p = by (eqb p.0.0 z) refl
+pub among_one : (places : List Place) (part : Item) (p : Place) (z n y : ℕ) (g : Found) → n ≡ z + 1 → slice_get places z ≡ Some p → IsAmong places part n y g → IsAmong places part z y g ⊎ IsOne p.at part y g
+among_one places part p z n y g en ep a = by (eqb a.0.0 z) refl
   where
-    by : (t : Bool) → eqb p.0.0 z ≡ t → IsAmong places part z y it ⊎ IsOne (get_or places z 0) part y it
-    by false q = let x : p.0.0 ≢ z = eqb-false p.0.0 z q in inl ((p.0.0, omega (arith, p.0.1, en, x), p.0.2), p.1)
-    by true q = inr (some_one y (get_or places z 0) (sym p.0.2 ∙ ap (slice_get places) (eqb-true p.0.0 z q) ∙ slice_get-get_or places z 0 h), p.1)
+    by : (t : Bool) → eqb a.0.0 z ≡ t → IsAmong places part z y g ⊎ IsOne p.at part y g
+    by false q = let x : a.0.0 ≢ z = eqb-false a.0.0 z q in inl ((a.0.0, omega (arith, a.0.1, en, x), a.0.2), a.1)
+    by true q = inr (ap (λ v. v.at) (some_one (place_of y g) p (sym a.0.2 ∙ ap (slice_get places) (eqb-true a.0.0 z q) ∙ ep)), a.1)
 
-pub grouped_on : (gs : List Group) (w n : ℕ) (g : Group) → n ≡ w + 1 → slice_get gs w ≡ Some g → (y : ℕ) (it : Item) → IsGrouped gs n y it → IsGrouped gs w y it ⊎ IsAmong g.parts.items g.item (length g.parts.items) y it
-grouped_on gs w n g en eg y it p = by (eqb p.0 w) refl
+pub grouped_on : (gs : List Group) (w n : ℕ) (g : Group) → n ≡ w + 1 → slice_get gs w ≡ Some g → (y : ℕ) (f : Found) → IsGrouped gs n y f → IsGrouped gs w y f ⊎ IsAmong g.parts.items g.item (length g.parts.items) y f
+grouped_on gs w n g en eg y f p = by (eqb p.0 w) refl
   where
-    by : (t : Bool) → eqb p.0 w ≡ t → IsGrouped gs w y it ⊎ IsAmong g.parts.items g.item (length g.parts.items) y it
+    by : (t : Bool) → eqb p.0 w ≡ t → IsGrouped gs w y f ⊎ IsAmong g.parts.items g.item (length g.parts.items) y f
     by false q = let x : p.0 ≢ w = eqb-false p.0 w q in inl (p.0, p.1, omega (arith, p.2, en, x), p.3)
     by true q =
         let same : p.3.group ≡ g = some_one p.3.group g (sym p.3.its ∙ ap (slice_get gs) (eqb-true p.0 w q) ∙ eg) in
-        let there : slice_get g.parts.items p.1 ≡ Some y = ap (λ z. slice_get z.parts.items p.1) (sym same) ∙ p.3.place in
-        inr ((p.1, slice_get_within g.parts.items p.1 y there, there), sym p.3.item ∙ ap (λ z. z.item) same)
+        let there : slice_get g.parts.items p.1 ≡ Some (place_of y f) = ap (λ z. slice_get z.parts.items p.1) (sym same) ∙ p.3.place in
+        inr ((p.1, slice_get_within g.parts.items p.1 (place_of y f) there, there), sym p.3.item ∙ ap (λ z. z.item) same)
 
 -- ---- rows that are grouped
 
@@ -114,14 +115,14 @@ indexed_on rows n r i j index v le ei ej el a b m h l = by (eqb m i) refl
 
 -- the first n places of the row are grouped
 abbrev pub AreGroupedTo : (ℕ → List Found) → ℕ → List Group → ℕ → Type 0
-AreGroupedTo rows m gs n = (x k d : ℕ) (f : Found) → x < n → slice_get (rows m) x ≡ Some f → f.item ≡ Part k (suc d) → HasPart gs f.item x
+AreGroupedTo rows m gs n = (x k d : ℕ) (f : Found) → x < n → slice_get (rows m) x ≡ Some f → f.item ≡ Part k (suc d) → HasPart gs f.item (place_of x f)
 
-pub grouped_more : (rows : ℕ → List Found) (m : ℕ) (old new : List Group) (x n : ℕ) (f : Found) → n ≡ x + 1 → slice_get (rows m) x ≡ Some f → ((it : Item) (y : ℕ) → HasPart old it y → HasPart new it y) → ((k d : ℕ) → f.item ≡ Part k (suc d) → HasPart new f.item x) → AreGroupedTo rows m old x → AreGroupedTo rows m new n
+pub grouped_more : (rows : ℕ → List Found) (m : ℕ) (old new : List Group) (x n : ℕ) (f : Found) → n ≡ x + 1 → slice_get (rows m) x ≡ Some f → ((it : Item) (y : Place) → HasPart old it y → HasPart new it y) → ((k d : ℕ) → f.item ≡ Part k (suc d) → HasPart new f.item (place_of x f)) → AreGroupedTo rows m old x → AreGroupedTo rows m new n
 grouped_more rows m old new x n f en ef keep there a y k d g h e eg = by (eqb y x) refl
   where
-    by : (t : Bool) → eqb y x ≡ t → HasPart new g.item y
-    by false q = let z : y ≢ x = eqb-false y x q in keep g.item y (a y k d g (omega (arith, h, en, z)) e eg)
+    by : (t : Bool) → eqb y x ≡ t → HasPart new g.item (place_of y g)
+    by false q = let z : y ≢ x = eqb-false y x q in keep g.item (place_of y g) (a y k d g (omega (arith, h, en, z)) e eg)
     by true q =
         let z : y ≡ x = eqb-true y x q in
         let same : f ≡ g = some_one f g (sym ef ∙ ap (slice_get (rows m)) (sym z) ∙ e) in
-        subst (HasPart new g.item) (sym z) (subst (λ v. HasPart new v.item x) same (there k d (ap (λ v. v.item) same ∙ eg)))
+        subst (λ j. HasPart new g.item (place_of j g)) (sym z) (subst (λ v. HasPart new v.item (place_of x v)) same (there k d (ap (λ v. v.item) same ∙ eg)))

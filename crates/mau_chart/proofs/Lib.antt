@@ -4,6 +4,7 @@ pub mod Grows
 pub mod Cells
 pub mod Step
 pub mod Grouped
+pub mod Marked
 pub mod Complete
 pub mod Trials
 pub mod Masks

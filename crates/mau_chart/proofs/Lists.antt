@@ -1,5 +1,6 @@
 -- The trees of lists of numbers.
-use Rattle.std.proofs.Common.{◌≡◌, ℕ, zero, suc, ◌+◌, ◌<◌, ◌≤◌, List, [], ◌∷◌, ◌++◌, length, get_or, take, refl, sym, ◌∙◌, ap, ap₂, subst, arith, take_all}
+use Rattle.std.proofs.Common.{◌≡◌, ℕ, zero, suc, ◌+◌, ◌<◌, ◌≤◌, List, [], ◌∷◌, ◌++◌, length, get_or, take, drop, refl, sym, ◌∙◌, ap, ap₂, subst, arith, take_all, append-nil}
+use Rattle.std.proofs.lemmas.List.{take_all as take_whole, drop_all}
 use Rattle.mau_terms.specs.Tree.{Tree, numeral}
 use Rattle.mau_terms.specs.declared.ids.TermId.{TermId}
 use Rattle.mau_chart.specs.Nodes.{tree_at, trees_at, AllBelow}
@@ -57,3 +58,10 @@ trees_at-append s (t ∷ ts) us = ap (λ vs. tree_at s t.0 ∷ vs) (trees_at-app
 pub AllBelow-append : (n : ℕ) (ts us : List TermId) → AllBelow n ts → AllBelow n us → AllBelow n (ts ++ us)
 AllBelow-append n [] us h k = k
 AllBelow-append n (t ∷ ts) us h k = (h.0, AllBelow-append n ts us h.1 k)
+
+-- a list that was written whole
+pub filled : {A : Type 0} (n : ℕ) (new old : List A) → length new ≡ n → length old ≡ n → take n (new ++ drop (length new) old) ≡ new
+filled n new old e h =
+    ap (λ l. take n (new ++ l)) (drop_all (length new) old (omega (arith, e, h)))
+    ∙ ap (take n) (append-nil new)
+    ∙ take_whole n new (omega (arith, e))

@@ -10,7 +10,7 @@ use Rattle.mau_chart.specs.declared.grammar.Leaf.{Leaf}
 use Rattle.mau_chart.specs.declared.grammar.Item.{Item}
 use Rattle.mau_chart.specs.declared.grammar.Item.TheVariants.{Whole, Part}
 use Rattle.mau_chart.specs.Reads.{made, Reads, form_read, Spells, piece_spelled}
-use Rattle.mau_chart.specs.Chart.{Found, found, Covers, Offered, Grows, Steps, Lifts, Joined, Lifted, Completed, Combined, IsOne, StepsOnly, Processed, IsRight, IsSound, AreSound, AreLeaves, AreForms, IsDone, Wants}
+use Rattle.mau_chart.specs.Chart.{Found, found, Full, Covers, Offered, Grows, Steps, Lifts, Joined, Lifted, Completed, Combined, IsOne, StepsOnly, Processed, IsRight, IsSound, AreSound, AreLeaves, AreForms, IsDone, Wants}
 use Rattle.mau_chart.specs.declared.groups.Group.{Group}
 use Rattle.mau_chart.specs.Groups.{AreGrouped, IsGrouped}
 use Rattle.mau_chart.proofs.Grows.{slice_get-new, offered_grows, grows_not, grows_on, place_stays, covers_stay}
@@ -61,7 +61,7 @@ lift_sound ps ls i f to o s a =
 
 -- ---- a fact before other facts
 
-pub combined_none : (ps : List Production) (ls : List Leaf) (old : ℕ → List Found) (i k m : ℕ) (P : ℕ → Item → Type 0) → ((x : ℕ) (f g : Found) (to : Item) → slice_get (old i) k ≡ Some f → slice_get (old m) x ≡ Some g → P x g.item → Steps ps f.item g.item to → Wants ps ls i to → ⊥) → Combined ps ls old old i k m P
+pub combined_none : (ps : List Production) (ls : List Leaf) (old : ℕ → List Found) (i k m : ℕ) (P : ℕ → Found → Type 0) → ((x : ℕ) (f g : Found) (to : Item) → slice_get (old i) k ≡ Some f → slice_get (old m) x ≡ Some g → P x g → Steps ps f.item g.item to → Wants ps ls i to → ⊥) → Combined ps ls old old i k m P
 combined_none ps ls old i k m P never = record {
   grows = grows_not old i;
   sound = λ f e q s. s;
@@ -122,16 +122,28 @@ old_place old new i g k f h e =
 pub steps_only_stays : (ps : List Production) (ls : List Leaf) (old new : ℕ → List Found) (i k : ℕ) (part it : Item) → Grows old new i → k < length (old i) → StepsOnly ps ls old i k part it → StepsOnly ps ls new i k part it
 steps_only_stays ps ls old new i k part it g h o f to e s w = o f to (old_place old new i g k f h e) s w
 
-pub combined_on : (ps : List Production) (ls : List Leaf) (old mid new : ℕ → List Found) (i k m : ℕ) (P Q R : ℕ → Item → Type 0) → m ≢ i → ((x : ℕ) (it : Item) → R x it → P x it ⊎ Q x it) → Combined ps ls old mid i k m P → Combined ps ls mid new i k m Q → Combined ps ls old new i k m R
+pub combined_on : (ps : List Production) (ls : List Leaf) (old mid new : ℕ → List Found) (i k m : ℕ) (P Q R : ℕ → Found → Type 0) → m ≢ i → ((x : ℕ) (g : Found) → R x g → P x g ⊎ Q x g) → Combined ps ls old mid i k m P → Combined ps ls mid new i k m Q → Combined ps ls old new i k m R
 combined_on ps ls old mid new i k m P Q R other parts c t = record {
   grows = grows_on old mid new i c.grows t.grows;
   sound = λ f e q s. t.sound f (place_stays old mid i c.grows i k f e) q (c.sound f e q s);
-  covers = λ x f g to ef eg r s w. by x f g to ef eg s w (parts x g.item r);
+  covers = λ x f g to ef eg r s w. by x f g to ef eg s w (parts x g r);
 }
   where
-    by : (x : ℕ) (f g : Found) (to : Item) → slice_get (old i) k ≡ Some f → slice_get (old m) x ≡ Some g → Steps ps f.item g.item to → Wants ps ls i to → P x g.item ⊎ Q x g.item → Covers new i to g.end (f.trees ++ g.trees)
+    by : (x : ℕ) (f g : Found) (to : Item) → slice_get (old i) k ≡ Some f → slice_get (old m) x ≡ Some g → Steps ps f.item g.item to → Wants ps ls i to → P x g ⊎ Q x g → Covers new i to g.end (f.trees ++ g.trees)
     by x f g to ef eg s w (inl p) = covers_stay mid new i t.grows i to g.end (f.trees ++ g.trees) (c.covers x f g to ef eg p s w)
     by x f g to ef eg s w (inr q) = t.covers x f g to (place_stays old mid i c.grows i k f ef) (place_stays old mid i c.grows m x g eg) q s w
+
+-- of more of these facts, where two are there of each that comes of them
+pub combined_full : (ps : List Production) (ls : List Leaf) (old new : ℕ → List Found) (i k m : ℕ) (part it : Item) (P Q : ℕ → Found → Type 0) → StepsOnly ps ls old i k part it → ((x : ℕ) (g : Found) → Q x g → P x g ⊎ ((g.item ≡ part) × Full new i it g.end)) → Combined ps ls old new i k m P → Combined ps ls old new i k m Q
+combined_full ps ls old new i k m part it P Q only parts c = record {
+  grows = c.grows;
+  sound = c.sound;
+  covers = λ x f g to ef eg q s w. by x f g to ef eg s w (parts x g q);
+}
+  where
+    by : (x : ℕ) (f g : Found) (to : Item) → slice_get (old i) k ≡ Some f → slice_get (old m) x ≡ Some g → Steps ps f.item g.item to → Wants ps ls i to → P x g ⊎ ((g.item ≡ part) × Full new i it g.end) → Covers new i to g.end (f.trees ++ g.trees)
+    by x f g to ef eg s w (inl p) = c.covers x f g to ef eg p s w
+    by x f g to ef eg s w (inr h) = inr (subst (λ z. Full new i z g.end) (only f to ef (subst (λ z. Steps ps f.item z to) h.0 s) w) h.1)
 
 no_part : (a b c d : ℕ) → Whole a b ≡ Part c d → ⊥
 no_part a b c d e = cc

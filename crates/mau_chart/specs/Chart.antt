@@ -8,6 +8,7 @@ use Rattle.mau_chart.specs.declared.grammar.Production.{Production}
 use Rattle.mau_chart.specs.declared.grammar.Item.{Item}
 use Rattle.mau_chart.specs.declared.grammar.Item.TheVariants.{Whole, Part}
 use Rattle.mau_chart.specs.declared.grammar.Leaf.{Leaf}
+use Rattle.mau_chart.specs.declared.groups.Place.{Place}
 use Rattle.mau_chart.specs.Reads.{said_trees, made, Reads, Spells}
 
 pub record Found : Type 0 where
@@ -134,19 +135,23 @@ pub record Completed (ps : List Production) (old new : ℕ → List Found) (i k 
   pub sound : (ls : List Leaf) → AreSound ps ls old → AreSound ps ls new
   pub covers : (f : Found) (to : Item) (o : Option OpId) → slice_get (old i) k ≡ Some f → Lifts ps f.item to o → Covers new i to f.end (made o f.trees)
 
--- the fact k of the row i was tried before those facts of the row m of which P holds, by their places and items
-pub record Combined (ps : List Production) (ls : List Leaf) (old new : ℕ → List Found) (i k m : ℕ) (P : ℕ → Item → Type 0) : Type 0 where
+-- the fact k of the row i was tried before those facts of the row m of which P holds, by their places
+pub record Combined (ps : List Production) (ls : List Leaf) (old new : ℕ → List Found) (i k m : ℕ) (P : ℕ → Found → Type 0) : Type 0 where
   pub grows : Grows old new i
   pub sound : (f : Found) → slice_get (old i) k ≡ Some f → f.end ≡ m → AreSound ps ls old → AreSound ps ls new
-  pub covers : (x : ℕ) (f g : Found) (to : Item) → slice_get (old i) k ≡ Some f → slice_get (old m) x ≡ Some g → P x g.item → Steps ps f.item g.item to → Wants ps ls i to → Covers new i to g.end (f.trees ++ g.trees)
+  pub covers : (x : ℕ) (f g : Found) (to : Item) → slice_get (old i) k ≡ Some f → slice_get (old m) x ≡ Some g → P x g → Steps ps f.item g.item to → Wants ps ls i to → Covers new i to g.end (f.trees ++ g.trees)
 
 -- the place x, where this item stands
-abbrev pub IsOne : ℕ → Item → ℕ → Item → Type 0
-IsOne x part y it = (y ≡ x) × (it ≡ part)
+abbrev pub IsOne : ℕ → Item → ℕ → Found → Type 0
+IsOne x part y g = (y ≡ x) × (g.item ≡ part)
+
+-- the place of a fact, with its end
+abbrev pub place_of : ℕ → Found → Place
+place_of y g = record { at = y; end = g.end }
 
 -- one of the first n of these places, where this item stands
-abbrev pub IsAmong : List ℕ → Item → ℕ → ℕ → Item → Type 0
-IsAmong parts part n y it = ((z : ℕ) × (z < n) × (slice_get parts z ≡ Some y)) × (it ≡ part)
+abbrev pub IsAmong : List Place → Item → ℕ → ℕ → Found → Type 0
+IsAmong parts part n y g = ((z : ℕ) × (z < n) × (slice_get parts z ≡ Some (place_of y g))) × (g.item ≡ part)
 
 -- whatever the fact k of the row i is, it goes before the part only as `to`
 abbrev pub StepsOnly : List Production → List Leaf → (ℕ → List Found) → ℕ → ℕ → Item → Item → Type 0

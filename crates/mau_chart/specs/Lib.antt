@@ -10,4 +10,5 @@ pub mod Chart
 pub mod Nodes
 pub mod Table
 pub mod Groups
+pub mod Marks
 pub mod Told

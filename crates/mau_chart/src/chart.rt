@@ -93,7 +93,8 @@ impl Chart {
         }
     }
 
-    fn is_full(&self, slot: usize, i: usize, item: Item, end: usize) -> bool
+    /// Whether two different facts are known there.
+    pub fn is_full(&self, slot: usize, i: usize, item: Item, end: usize) -> bool
         requires { IsChart self.now }
         ensures { IsTrue result → Full (table self.now) i item end }
     {

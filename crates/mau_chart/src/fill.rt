@@ -1,21 +1,25 @@
 //! Filling a chart.
 ghost use Rattle.std.specs.List.{slice_get};
-ghost use Rattle.std.specs.Prelude.{◌≡◌, ◌≢◌, ◌<◌, ◌≤◌, ◌+◌, ℕ, List, Some, None, Option, IfOk, OnOk, IfSome, IsTrue, true, get_or, length};
+ghost use Rattle.std.specs.Prelude.{◌≡◌, ◌≢◌, ◌<◌, ◌≤◌, ◌+◌, ◌-◌, ◌^◌, ℕ, List, Some, None, Option, IfOk, OnOk, IfSome, IsTrue, true, get_or, length, min};
 ghost use Rattle.mau_terms.specs.declared.ids.OpId.{OpId};
 ghost use Rattle.mau_chart.specs.declared.grammar.Item.{Item};
 ghost use Rattle.mau_chart.specs.declared.grammar.Leaf.{Leaf};
+ghost use Rattle.mau_chart.specs.declared.grammar.Production.{Production};
 ghost use Rattle.mau_chart.specs.declared.grammar.Item.TheVariants.{Whole, Part};
 ghost use Rattle.mau_chart.specs.Chart.{Found, Steps, StepsOnly, IsOne, IsAmong, Lifts, Completed, Combined, Grows, AreSound, AreLeaves, AreForms, Processed, IsDone, Begun, Ended, IsRow, IsEmpty, Closed, Wants, IsMask};
 ghost use Rattle.mau_chart.specs.Groups.{IsGrouped, AreGrouped, AreIndexed};
+ghost use Rattle.mau_chart.specs.Marks.{IsMarked, AllMarked};
 ghost use Rattle.mau_chart.specs.Table.{table, cells, IsChart};
 
 use crate::chart::Chart;
 use crate::grammar::{Item, Leaf, Production, Said};
-use crate::groups::{Group, group_row, groups_of};
+use crate::groups::{Group, Place, group_row, groups_of};
+use crate::marks::{Mark, next_open, no_marks};
 use mau_terms::{NoMemory, OpId};
 use std::alloc::Global;
 
-/// The part of a production that has the piece a and then the part b.
+/// The part of a production that has the piece a and then the part b, where the mask does not rule it out: the piece before that
+/// part may end where the part begins.
 pub fn step_of(productions: &[Production], mask: &[bool], a: Item, b: Item) -> Option<Item>
     ensures some { IfSome result (λ to. Steps productions.now a b to) }
     ensures only { (ls : List Leaf) (i : ℕ) (to : Item) → IsMask productions.now ls i mask.now → Steps productions.now a b to → Wants productions.now ls i to → result ≡ Some to }
@@ -126,6 +130,14 @@ fn slot_of(slots: &[usize], item: Item) -> usize {
     }
 }
 
+/// The place of the mark for an item of this number. Items may share a mark.
+fn place_for(slot: usize, count: usize) -> usize
+    requires { 0 < count }
+    ensures { result < count }
+{
+    if slot < count { slot } else { 0 }
+}
+
 /// Puts the fact k of the row i before the fact x of the row m, where this part stands there.
 fn try_part(
     chart: &mut Chart,
@@ -159,16 +171,65 @@ fn try_part(
     Ok(())
 }
 
-/// Puts the fact k of the row i before each of these places of the row m, where this part stands there.
+/// The same of a place, and marks its end where two facts are known then.
+fn try_place(
+    chart: &mut Chart,
+    alloc: Global,
+    productions: &[Production],
+    leaves: &[Leaf],
+    slot: usize,
+    mark: &mut Mark,
+    part: Item,
+    item: Item,
+    place: Place,
+    i: usize,
+    k: usize,
+    m: usize,
+) -> Result<(), NoMemory>
+    requires chart { IsChart chart.old }
+    requires row { i < length chart.old.rows.items }
+    requires first { k < length (cells chart.old.rows.items i) }
+    requires steps { (f : Found) → slice_get (table chart.old i) k ≡ Some f → Steps productions.now f.item part item }
+    requires only { StepsOnly productions.now leaves.now (table chart.old) i k part item }
+    requires mark { (mark.old.row ≡ i) × (mark.old.item ≡ item) }
+    requires marked { IsMarked (table chart.old) mark.old }
+    ensures chart { OnOk result (IsChart chart.new) }
+    ensures rows { OnOk result (length chart.new.rows.items ≡ length chart.old.rows.items) }
+    ensures combined { OnOk result (Combined productions.now leaves.now (table chart.old) (table chart.new) i k m (IsOne place.at part)) }
+    ensures mark { OnOk result ((mark.new.row ≡ i) × (mark.new.item ≡ item)) }
+    ensures marked { OnOk result (IsMarked (table chart.new) mark.new) }
+{
+    try_part(
+        chart,
+        alloc,
+        productions,
+        leaves,
+        slot,
+        part,
+        item,
+        i,
+        k,
+        m,
+        place.at,
+    )?;
+    if chart.is_full(slot, i, item, place.end) {
+        mark.set(place.end);
+    }
+    Ok(())
+}
+
+/// Puts the fact k of the row i before each of these places of the row m, where this part stands there. Where a place ends, the
+/// mark tells whether there are two facts already.
 fn combine_places(
     chart: &mut Chart,
     alloc: Global,
     productions: &[Production],
     leaves: &[Leaf],
     slot: usize,
+    mark: &mut Mark,
     part: Item,
     item: Item,
-    places: &[usize],
+    places: &[Place],
     i: usize,
     k: usize,
     m: usize,
@@ -179,24 +240,30 @@ fn combine_places(
     requires other { m ≢ i }
     requires steps { (f : Found) → slice_get (table chart.old i) k ≡ Some f → Steps productions.now f.item part item }
     requires only { StepsOnly productions.now leaves.now (table chart.old) i k part item }
+    requires mark { (mark.old.row ≡ i) × (mark.old.item ≡ item) }
+    requires marked { IsMarked (table chart.old) mark.old }
     ensures chart { OnOk result (IsChart chart.new) }
     ensures rows { OnOk result (length chart.new.rows.items ≡ length chart.old.rows.items) }
     ensures combined { OnOk result (Combined productions.now leaves.now (table chart.old) (table chart.new) i k m (IsAmong places.now part (length places.now))) }
+    ensures marked { OnOk result (IsMarked (table chart.new) mark.new) }
 {
-    for z in 0..places.len() {
-        try_part(
+    let mut z = next_open(&mark.full, places, 0);
+    while z < places.len() {
+        try_place(
             chart,
             alloc,
             productions,
             leaves,
             slot,
+            mark,
             part,
             item,
+            places[z],
             i,
             k,
             m,
-            places[z],
         )?;
+        z = next_open(&mark.full, places, z + 1);
     }
     Ok(())
 }
@@ -251,6 +318,7 @@ fn combine_group(
     slots: &[usize],
     leaves: &[Leaf],
     mask: &[bool],
+    marks: &mut [Mark],
     group: &Group,
     whole: Item,
     i: usize,
@@ -263,20 +331,26 @@ fn combine_group(
     requires first { k < length (cells chart.old.rows.items i) }
     requires whole { (f : Found) → slice_get (table chart.old i) k ≡ Some f → f.item ≡ whole }
     requires other { m ≢ i }
+    requires some { 0 < length marks.old }
+    requires marked { AllMarked (table chart.old) marks.old }
     ensures chart { OnOk result (IsChart chart.new) }
     ensures rows { OnOk result (length chart.new.rows.items ≡ length chart.old.rows.items) }
     ensures combined { OnOk result (Combined productions.now leaves.now (table chart.old) (table chart.new) i k m (IsAmong group.now.parts.items group.now.item (length group.now.parts.items))) }
+    ensures marked { OnOk result (AllMarked (table chart.new) marks.new) }
 {
     match step_of(productions, mask, whole, group.item) {
         None => Ok(()),
         Some(item) => {
             let slot = slot_of(slots, item);
+            let mark = &mut marks[place_for(slot, marks.len())];
+            mark.turn(i, item, chart.width)?;
             combine_places(
                 chart,
                 alloc,
                 productions,
                 leaves,
                 slot,
+                mark,
                 group.item,
                 item,
                 &group.parts,
@@ -297,6 +371,7 @@ fn combine(
     slots: &[usize],
     leaves: &[Leaf],
     mask: &[bool],
+    marks: &mut [Mark],
     groups: &[Group],
     whole: Item,
     i: usize,
@@ -309,9 +384,12 @@ fn combine(
     requires first { k < length (cells chart.old.rows.items i) }
     requires whole { (f : Found) → slice_get (table chart.old i) k ≡ Some f → f.item ≡ whole }
     requires other { m ≢ i }
+    requires some { 0 < length marks.old }
+    requires marked { AllMarked (table chart.old) marks.old }
     ensures chart { OnOk result (IsChart chart.new) }
     ensures rows { OnOk result (length chart.new.rows.items ≡ length chart.old.rows.items) }
     ensures combined { OnOk result (Combined productions.now leaves.now (table chart.old) (table chart.new) i k m (IsGrouped groups.now (length groups.now))) }
+    ensures marked { OnOk result (AllMarked (table chart.new) marks.new) }
 {
     for w in 0..groups.len() {
         combine_group(
@@ -321,6 +399,7 @@ fn combine(
             slots,
             leaves,
             mask,
+            marks,
             &groups[w],
             whole,
             i,
@@ -339,6 +418,7 @@ fn process(
     slots: &[usize],
     leaves: &[Leaf],
     mask: &[bool],
+    marks: &mut [Mark],
     index: &[Vec<Group>],
     n: usize,
     i: usize,
@@ -352,11 +432,14 @@ fn process(
     requires sound { AreSound productions.now leaves.now (table chart.old) }
     requires leaves { AreLeaves leaves.now n }
     requires forms { AreForms productions.now }
+    requires some { 0 < length marks.old }
+    requires marked { AllMarked (table chart.old) marks.old }
     ensures chart { OnOk result (IsChart chart.new) }
     ensures rows { OnOk result (length chart.new.rows.items ≡ length chart.old.rows.items) }
     ensures grows { OnOk result (Grows (table chart.old) (table chart.new) i) }
     ensures sound { OnOk result (AreSound productions.now leaves.now (table chart.new)) }
     ensures processed { OnOk result (Processed productions.now leaves.now (table chart.new) i k) }
+    ensures marked { OnOk result (AllMarked (table chart.new) marks.new) }
 {
     let fact = chart.fact(i, k);
     let item = fact.item;
@@ -371,6 +454,7 @@ fn process(
                 slots,
                 leaves,
                 mask,
+                marks,
                 groups,
                 item,
                 i,
@@ -394,6 +478,7 @@ fn saturate(
     slots: &[usize],
     leaves: &[Leaf],
     mask: &[bool],
+    marks: &mut [Mark],
     index: &[Vec<Group>],
     n: usize,
     i: usize,
@@ -405,11 +490,14 @@ fn saturate(
     requires sound { AreSound productions.now leaves.now (table chart.old) }
     requires leaves { AreLeaves leaves.now n }
     requires forms { AreForms productions.now }
+    requires some { 0 < length marks.old }
+    requires marked { AllMarked (table chart.old) marks.old }
     ensures chart { OnOk result (IsChart chart.new) }
     ensures rows { OnOk result (length chart.new.rows.items ≡ length chart.old.rows.items) }
     ensures grows { OnOk result (Grows (table chart.old) (table chart.new) i) }
     ensures sound { OnOk result (AreSound productions.now leaves.now (table chart.new)) }
     ensures done { OnOk result (IsDone productions.now leaves.now (table chart.new) i (length (table chart.new i))) }
+    ensures marked { OnOk result (AllMarked (table chart.new) marks.new) }
 {
     for k in 0..usize::MAX {
         if k >= chart.count(i) {
@@ -422,6 +510,7 @@ fn saturate(
             slots,
             leaves,
             mask,
+            marks,
             index,
             n,
             i,
@@ -490,6 +579,7 @@ fn fill_row(
     productions: &[Production],
     slots: &[usize],
     leaves: &[Leaf],
+    marks: &mut [Mark],
     index: &[Vec<Group>],
     kinds: usize,
     n: usize,
@@ -501,34 +591,52 @@ fn fill_row(
     requires sound { AreSound productions.now leaves.now (table chart.old) }
     requires leaves { AreLeaves leaves.now n }
     requires forms { AreForms productions.now }
+    requires some { 0 < length marks.old }
+    requires marked { AllMarked (table chart.old) marks.old }
     ensures chart { OnOk result (IsChart chart.new) }
     ensures rows { OnOk result (length chart.new.rows.items ≡ length chart.old.rows.items) }
     ensures grows { OnOk result (Grows (table chart.old) (table chart.new) i) }
     ensures sound { OnOk result (AreSound productions.now leaves.now (table chart.new)) }
     ensures full { OnOk result (IsRow productions.now leaves.now (table chart.new) i) }
+    ensures marked { OnOk result (AllMarked (table chart.new) marks.new) }
 {
     let mask = mask_of(alloc, productions, leaves, kinds, i)?;
     begin(chart, alloc, leaves, i)?;
     finish(chart, alloc, productions, slots, leaves, &mask, i)?;
-    saturate(chart, alloc, productions, slots, leaves, &mask, index, n, i)?;
+    saturate(
+        chart,
+        alloc,
+        productions,
+        slots,
+        leaves,
+        &mask,
+        marks,
+        index,
+        n,
+        i,
+    )?;
     Ok(())
 }
 
-/// One more than the greatest kind of which there is a production.
-pub fn count_kinds(productions: &[Production]) -> usize {
+/// One more than the greatest kind of which there is a production, or as much as the type holds; 0 where there is none.
+pub fn count_kinds(productions: &[Production]) -> usize
+    ensures above { (k : ℕ) (p : Production) → slice_get productions.now k ≡ Some p → min (p.kind + 1) (2 ^ 64 - 1) ≤ result }
+    ensures least { (m : ℕ) → ((k : ℕ) (p : Production) → slice_get productions.now k ≡ Some p → min (p.kind + 1) (2 ^ 64 - 1) ≤ m) → result ≤ m }
+{
     let mut count = 0;
-    for production in productions {
-        count = production.kind.saturating_add(1).max(count);
+    for k in 0..productions.len() {
+        count = productions[k].kind.saturating_add(1).max(count);
     }
     count
 }
 
-/// Fills the rows from the last to the first.
+/// Fills the rows from the last to the first. The numbers of items are below `count`.
 pub fn fill(
     chart: &mut Chart,
     alloc: Global,
     productions: &[Production],
     slots: &[usize],
+    count: usize,
     leaves: &[Leaf],
     n: usize,
 ) -> Result<(), NoMemory>
@@ -542,15 +650,17 @@ pub fn fill(
     ensures closed { OnOk result (Closed productions.now leaves.now n (table chart.new) 0) }
 {
     let kinds = count_kinds(productions);
+    let mut marks = no_marks(alloc, count)?;
     let mut index = Vec::new(alloc);
-    let count = chart.rows.len();
-    for r in 0..count {
+    let rows = chart.rows.len();
+    for r in 0..rows {
         fill_row(
             chart,
             alloc,
             productions,
             slots,
             leaves,
+            &mut marks,
             &index,
             kinds,
             n,

@@ -1,6 +1,7 @@
 //! The parts of a row by what they wait for.
-ghost use Rattle.std.specs.Prelude.{◌≡◌, ◌<◌, ◌≤◌, ◌++◌, ◌∷◌, [], ℕ, length, IfOk, OnOk, IfSome, IfNone};
+ghost use Rattle.std.specs.Prelude.{◌≡◌, ◌<◌, ◌≤◌, ◌++◌, ◌∷◌, [], length, IfOk, OnOk, IfSome, IfNone};
 ghost use Rattle.mau_chart.specs.declared.grammar.Item.{Item};
+ghost use Rattle.mau_chart.specs.declared.groups.Place.{Place};
 ghost use Rattle.mau_chart.specs.Groups.{HasPart, IsPlace, AreGrouped, groups_at};
 ghost use Rattle.mau_chart.specs.Table.{table};
 
@@ -9,11 +10,18 @@ use crate::grammar::Item;
 use mau_terms::NoMemory;
 use std::alloc::Global;
 
+/// A place in a row, and where what stands there ends.
+#[derive(Clone, Copy)]
+pub struct Place {
+    pub at: usize,
+    pub end: usize,
+}
+
 /// The places in a row where this item stands.
 #[derive(Drop)]
 pub struct Group {
     pub item: Item,
-    pub parts: Vec<usize>,
+    pub parts: Vec<Place>,
 }
 
 /// The groups of a row.
@@ -36,7 +44,7 @@ fn place_of(groups: &[Group], item: Item) -> Option<usize>
 }
 
 /// Adds a place to a group.
-fn add_place(group: &mut Group, x: usize) -> Result<(), NoMemory>
+fn add_place(group: &mut Group, x: Place) -> Result<(), NoMemory>
     ensures item { OnOk result (group.new.item ≡ group.old.item) }
     ensures parts { OnOk result (group.new.parts.items ≡ group.old.parts.items ++ x ∷ []) }
 {
@@ -45,9 +53,9 @@ fn add_place(group: &mut Group, x: usize) -> Result<(), NoMemory>
 }
 
 /// Puts the place x into the group of the item.
-fn enter(alloc: Global, groups: &mut Vec<Group>, item: Item, x: usize) -> Result<(), NoMemory>
+fn enter(alloc: Global, groups: &mut Vec<Group>, item: Item, x: Place) -> Result<(), NoMemory>
     ensures there { OnOk result (HasPart groups.new.items item x) }
-    ensures others { OnOk result ((it : Item) (y : ℕ) → HasPart groups.old.items it y → HasPart groups.new.items it y) }
+    ensures others { OnOk result ((it : Item) (y : Place) → HasPart groups.old.items it y → HasPart groups.new.items it y) }
 {
     match place_of(groups, item) {
         Some(w) => {
@@ -69,9 +77,11 @@ pub fn group_row(alloc: Global, chart: &Chart, m: usize) -> Result<Vec<Group>, N
 {
     let mut groups = Vec::new(alloc);
     for x in 0..chart.count(m) {
-        let item = chart.fact(m, x).item;
+        let fact = chart.fact(m, x);
+        let item = fact.item;
+        let end = fact.end;
         if item.waits() {
-            enter(alloc, &mut groups, item, x)?;
+            enter(alloc, &mut groups, item, Place { at: x, end })?;
         }
     }
     Ok(groups)

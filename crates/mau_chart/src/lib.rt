@@ -5,6 +5,7 @@ mod chart;
 mod fill;
 mod grammar;
 mod groups;
+mod marks;
 mod reading;
 mod trees;
 

@@ -161,7 +161,7 @@ fn answer_of(
     let present = present_kinds(alloc, productions, leaves)?;
     let (slots, count) = number_parts(alloc, productions, &present)?;
     let mut chart = empty(alloc, count, n)?;
-    fill(&mut chart, alloc, productions, &slots, leaves, n)?;
+    fill(&mut chart, alloc, productions, &slots, count, leaves, n)?;
     let answer = scan(&chart, low, high, n);
     Ok((chart, answer))
 }

@@ -14,7 +14,7 @@ use Rattle.mau_grammar.specs.declared.production.Production.{Production}
 use Rattle.mau_grammar.specs.declared.sorts.SortName.{SortName}
 use Rattle.mau_grammar.specs.Production.{word, any, is_place, places, production, IsShaped}
 use Rattle.mau_grammar.specs.Parts.{parts_from, words_of, one_word, prefix_name, head_of, in_parentheses}
-use Rattle.mau_grammar.specs.Productions.{operator, argument_kinds, level, written, list_kind, pair, chained, prefixed_by, with_head, prefixed, of_operator, of_operators, enclosed, of_kinds, sorted}
+use Rattle.mau_grammar.specs.Productions.{operator, argument_kinds, level, written, list_kind, pair, chained, prefixed_by, with_head, prefixed, of_operator, of_operators, enclosed, of_kinds, sorted, sort_names}
 
 -- one operator more
 pub operators_more : (s : SignatureOf) (n : ℕ) → of_operators s (n + 1) ≡ of_operators s n ++ of_operator s.hierarchy (n + 1) (declarations_at s (n + 1))
@@ -122,3 +122,9 @@ pub all_shaped : (s : SignatureOf) (ss : List SortName) → All IsShaped (of_ope
 all_shaped s ss =
     All-joined _ _ (of_operators_shaped s (length s.declarations))
     (All-joined _ _ (of_kinds_shaped s.hierarchy (kinds s.hierarchy)) (sorted_shaped ss))
+
+-- ---- sorts
+
+pub length-sort_names : (h : Hierarchy) (a : ℕ) (ws : List (List ℕ)) → length (sort_names h a ws) ≡ length ws
+length-sort_names h a [] = refl
+length-sort_names h a (w ∷ ws) = omega (arith, length-sort_names h (a + 1) ws)

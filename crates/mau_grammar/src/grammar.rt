@@ -1,5 +1,5 @@
 //! The grammar of a signature.
-ghost use Rattle.std.specs.Prelude.{◌≡◌, ◌<◌, ◌+◌, ◌++◌, ◌∷◌, [], All, OnOk, IfOk, map, length};
+ghost use Rattle.std.specs.Prelude.{◌≡◌, ◌<◌, ◌+◌, ◌^◌, ◌++◌, ◌∷◌, [], All, OnOk, IfOk, map, length};
 ghost use Rattle.mau_poset.specs.Order.{kind_of, kinds};
 ghost use Rattle.std.specs.Option.{option_map};
 ghost use Rattle.mau_grammar.specs.Names.{AreDistinct};
@@ -47,10 +47,9 @@ impl Model for Grammar {
       last_kind = g.last_kind;
     } };
 
-    ghost use Rattle.std.specs.Prelude.{All};
-    ghost use Rattle.mau_grammar.specs.Production.{IsShaped};
+    ghost use Rattle.mau_grammar.specs.Grammar.{AreSound};
 
-    ghost invariant = { λ g. All IsShaped g.productions.items };
+    ghost invariant = { λ g. AreSound g.productions.items g.sorts.items };
 }
 
 /// The level of a term in parentheses: every place admits it.
@@ -184,6 +183,7 @@ impl Grammar {
     /// The sorts by their numbers: their names and kinds.
     pub fn sorts(&self) -> &[SortName]
         ensures value { result.now ≡ self.now.sorts }
+        ensures few { length result.now < 2 ^ 32 }
     {
         &self.sorts
     }

@@ -2,6 +2,8 @@
 pub mod Following
 pub mod Steps
 pub mod Trees
+pub mod Least
+pub mod SharedFronts
 pub mod Keyed
 pub mod Members
 pub mod Ids

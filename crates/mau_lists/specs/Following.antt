@@ -29,11 +29,6 @@ module _ {A : Type 0} where
   replaced xs None = None
   replaced xs (Some p) = Some (take p.0 xs ++ p.1 ∷ [])
 
-  -- so many elements, from the first on
-  abbrev pub taken : List A → Option ℕ → Option (List A)
-  taken ys None = None
-  taken ys (Some n) = Some (take n ys)
-
   -- so many elements from a place on
   abbrev pub cut : List A → Option (ℕ × ℕ) → Option (List A)
   cut ys None = None
@@ -53,10 +48,6 @@ module _ {A : Type 0} where
   abbrev pub FitsIn : List A → Option (ℕ × ℕ) → Type 0
   FitsIn ys None = Unit {0}
   FitsIn ys (Some p) = p.0 + p.1 ≤ length ys
-
-  abbrev pub FitsFront : List A → Option ℕ → Type 0
-  FitsFront ys None = Unit {0}
-  FitsFront ys (Some n) = n ≤ length ys
 
   -- ---- the next lists, where cmp is the order of elements
 

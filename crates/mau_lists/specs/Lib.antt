@@ -14,5 +14,6 @@ pub mod Runs
 -- what the code computes, and what it keeps
 pub mod Following
 pub mod Kept
+pub mod Fronts
 -- what is proved of these
 pub mod Laws

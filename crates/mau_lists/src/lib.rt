@@ -2,6 +2,7 @@
 //! and the list that comes next, and computes the following one in place.
 #![tactic(auto)]
 
+mod fronts;
 pub mod laws;
 mod segments;
 mod sorted;

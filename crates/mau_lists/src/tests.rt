@@ -311,7 +311,7 @@ fn parts_ascend_each_once(rt: HostRuntime) -> Result<(), Fail> {
     Ok(())
 }
 
-const PARTS_BEHIND: [(&str, &str, &str); 7] = [
+const PARTS_BEHIND: [(&str, &str, &str); 9] = [
     ("abab", "ab", "aba abab b ba bab ."),
     ("abab", "abb", "b ba bab ."),
     ("abab", "bb", "."),
@@ -319,6 +319,12 @@ const PARTS_BEHIND: [(&str, &str, &str); 7] = [
     ("cb", "a", "b c cb ."),
     ("abab", "bab", "."),
     ("abab", "zzzzzz", "."),
+    (
+        "aabaab",
+        "aab",
+        "aaba aabaa aabaab ab aba abaa abaab b ba baa baab .",
+    ),
+    ("aab", "aaab", "aab ab b ."),
 ];
 
 #[test]

@@ -79,7 +79,7 @@ form_there ws (x ∷ ps) [] a n p e = absurd a
 form_there ws (x ∷ ps) (q ∷ qs) a zero p e = (q, refl, subst (λ z. IsFormOf ws z q) (some_one x p e) a.0)
 form_there ws (x ∷ ps) (q ∷ qs) a (suc n) p e = form_there ws ps qs a.1 n p e
 
-form_back : (ws : List (List ℕ)) (ps : List Written) (qs : List Production) → AreFormsOf ws ps qs → (n : ℕ) (q : Production) → slice_get qs n ≡ Some q → (p : Written) × (slice_get ps n ≡ Some p) × IsFormOf ws p q
+pub form_back : (ws : List (List ℕ)) (ps : List Written) (qs : List Production) → AreFormsOf ws ps qs → (n : ℕ) (q : Production) → slice_get qs n ≡ Some q → (p : Written) × (slice_get ps n ≡ Some p) × IsFormOf ws p q
 form_back ws ps [] a n q e = absurd (none_some q e)
 form_back ws [] (x ∷ qs) a n q e = absurd a
 form_back ws (p ∷ ps) (x ∷ qs) a zero q e = (p, refl, subst (λ z. IsFormOf ws p z) (some_one x q e) a.0)

@@ -5,3 +5,10 @@ pub mod Values
 pub mod Renamed
 pub mod Overflowing
 pub mod Kinds_listed
+pub mod Leaves_listed
+pub mod Trees_found
+pub mod Trees_given
+pub mod Results_right
+pub mod Read_words
+pub mod Bare_terms
+pub mod Variables_seen

@@ -11,7 +11,7 @@ use Rattle.mau_terms.specs.Vars.{same_pair, place_of, with_pair}
 use Rattle.mau_terms.proofs.Pairs.{same_pair_itself}
 use Rattle.mau_parse.specs.Terms.{pair_at, pairs_in, all_pairs, added, renamed, all_renamed, AreGiven, AllGiven}
 
-abbrev IsIn : List (List ℕ × ℕ) → List ℕ × ℕ → Type 0
+abbrev pub IsIn : List (List ℕ × ℕ) → List ℕ × ℕ → Type 0
 IsIn xs y = list_any (same_pair y) xs ≡ true
 
 -- ---- places stay
@@ -53,7 +53,7 @@ place_with xs y = by (list_any (same_pair y) xs)
     by true = refl
     by false = place_last xs y
 
-in_with : (xs : List (List ℕ × ℕ)) (y : List ℕ × ℕ) → IsIn (with_pair xs y) y
+pub in_with : (xs : List (List ℕ × ℕ)) (y : List ℕ × ℕ) → IsIn (with_pair xs y) y
 in_with xs y = by (list_any (same_pair y) xs) refl
   where
     by : (b : Bool) → list_any (same_pair y) xs ≡ b → IsIn (if b then xs else xs ++ y ∷ []) y
@@ -74,7 +74,7 @@ place_kept xs z y h = by (list_any (same_pair z) xs)
     by true = refl
     by false = place_before xs (z ∷ []) y h
 
-few_with : (xs : List (List ℕ × ℕ)) (z : List ℕ × ℕ) → length (with_pair xs z) ≤ length xs + 1
+pub few_with : (xs : List (List ℕ × ℕ)) (z : List ℕ × ℕ) → length (with_pair xs z) ≤ length xs + 1
 few_with xs z = by (list_any (same_pair z) xs)
   where
     one : (us : List (List ℕ × ℕ)) → length (us ++ z ∷ []) ≤ length us + 1
@@ -87,7 +87,7 @@ few_with xs z = by (list_any (same_pair z) xs)
 
 -- ---- with some more
 
-in_added : (xs zs : List (List ℕ × ℕ)) (y : List ℕ × ℕ) → IsIn xs y → IsIn (added xs zs) y
+pub in_added : (xs zs : List (List ℕ × ℕ)) (y : List ℕ × ℕ) → IsIn xs y → IsIn (added xs zs) y
 in_added xs [] y h = h
 in_added xs (z ∷ zs) y h = in_added (with_pair xs z) zs y (in_kept xs z y h)
 

@@ -18,7 +18,7 @@ use Rattle.mau_parse.proofs.Charted.{reads_charts, charts_mean}
 some_one : {A : Type 0} (x y : A) → Some x ≡ Some y → x ≡ y
 some_one x y e = cc
 
-shape_at : (ps : List Written) → All IsShaped ps → (n : ℕ) (p : Written) → slice_get ps n ≡ Some p → IsShaped p
+pub shape_at : (ps : List Written) → All IsShaped ps → (n : ℕ) (p : Written) → slice_get ps n ≡ Some p → IsShaped p
 shape_at ps a n p e =
     let h = slice_get_within ps n p e in
     subst IsShaped (some_one _ p (sym (slice_get-get_or ps n p h) ∙ e)) (a n p h)

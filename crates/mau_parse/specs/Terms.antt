@@ -1,8 +1,10 @@
 -- The term of a tree of some tokens: each variable, which stands there by the place of its pair of name and sort among the pairs of the
 -- text, gets the place of this pair among the variables of an item.
-use Rattle.std.specs.Prelude.{ℕ, List, [], ◌∷◌, ◌++◌, fold, get_or}
+use Rattle.std.specs.Prelude.{◌≡◌, ℕ, List, [], ◌∷◌, ◌++◌, fold, get_or}
 use Rattle.mau_terms.specs.Tree.{Tree, variable, numeral, apply, Trees, no_trees, tree}
 use Rattle.mau_terms.specs.Vars.{with_pair, place_of, IsGiven}
+use Rattle.mau_terms.specs.View.{tree_of}
+use Rattle.mau_terms.specs.declared.bare.Bare.{Bare}
 use Rattle.mau_parse.specs.Charted.{var_id}
 
 -- the pair at a place; past the end one that is never meant
@@ -34,6 +36,18 @@ abbrev mutual
   pub all_renamed : List (List ℕ × ℕ) → List (List ℕ × ℕ) → Trees → Trees
   all_renamed ps xs no_trees = no_trees
   all_renamed ps xs (tree t ts) = tree (renamed ps xs t) (all_renamed ps xs ts)
+
+-- the term of the tree t, where the variables of the item were `old` and are `new` with those of t
+pub record IsTermOf (ps old new : List (List ℕ × ℕ)) (t : Tree) (b : Bare) : Type 0 where
+  pub vars : new ≡ added old (pairs_in ps t)
+  pub term : tree_of b ≡ renamed ps new t
+
+-- the terms of two trees, of which the second comes after the first
+pub record AreTermsOf (ps old : List (List ℕ × ℕ)) (t u : Tree) (a b : Bare) : Type 0 where
+  pub middle : List (List ℕ × ℕ)
+  pub last : List (List ℕ × ℕ)
+  pub first : IsTermOf ps old middle t a
+  pub second : IsTermOf ps middle last u b
 
 -- each variable stands for one of the pairs, and has its sort
 abbrev mutual

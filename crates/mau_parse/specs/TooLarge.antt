@@ -1,5 +1,5 @@
 -- Numerals of 2^128 or more.
-use Rattle.std.specs.Prelude.{◌≡◌, ℕ, ◌≤◌, ◌<◌, ◌^◌, List, true, Some, slice_get}
+use Rattle.std.specs.Prelude.{◌≡◌, ℕ, ◌≤◌, ◌<◌, ◌^◌, List, true, Option, Some, None, slice_get}
 use Rattle.mau_grammar.specs.Leaves.{is_numeral, value_of}
 
 -- the word at i is one
@@ -12,3 +12,8 @@ pub record IsTooLarge (ws : List (List ℕ)) (i : ℕ) : Type 0 where
 -- and none before it is
 abbrev pub IsFirstTooLarge : List (List ℕ) → ℕ → Type 0
 IsFirstTooLarge ws i = IsTooLarge ws i × ((j : ℕ) → j < i → IsTooLarge ws j → ⊥)
+
+-- where there are numerals, none is too large
+abbrev pub AllSmall : Option ℕ → List (List ℕ) → Type 0
+AllSmall None ws = Unit {0}
+AllSmall (Some k) ws = (i : ℕ) → IsTooLarge ws i → ⊥

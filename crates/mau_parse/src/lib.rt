@@ -4,18 +4,28 @@
 //! whose variables are added to those of an item.
 #![tactic(auto)]
 
+mod fault;
 mod forms;
+mod goals;
 pub mod laws;
+mod leaves;
 mod numerals;
 mod overflow;
+mod reader;
 mod readings;
+mod results;
 mod terms;
+mod trees;
 mod words;
 
+pub use fault::ParseFault;
 pub use forms::forms_of;
+pub use goals::Goal;
+pub use leaves::leaves_of;
 pub use numerals::{first_too_large, is_numeral, value_of};
 pub use overflow::overflows;
-pub use readings::{Reading, readings_of};
+pub use reader::parse;
+pub use readings::{Reading, readings_at, readings_of};
 pub use terms::term_of;
 pub use words::Words;
 

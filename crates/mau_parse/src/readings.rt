@@ -13,20 +13,20 @@ use std::alloc::Global;
 #[derive(Clone, Copy)]
 pub struct Reading<'a> {
     pub name: &'a str,
-    pub sort: usize,
+    pub sort: u32,
     pub kind: u32,
     pub end: usize,
 }
 
 /// The number of the sort with this name, and the number of its kind.
-fn sort_named(grammar: &Grammar, name: &str) -> Option<(usize, u32)>
+fn sort_named(grammar: &Grammar, name: &str) -> Option<(u32, u32)>
     ensures { result ≡ Leaves.sort_named grammar.now.sorts name.now }
 {
     let sorts = grammar.sorts();
     for i in 0..sorts.len() {
         let sort = &sorts[i];
         if sort.name.as_str() == name {
-            return Some((i, sort.kind));
+            return Some((i as u32, sort.kind));
         }
     }
     None
@@ -57,7 +57,7 @@ fn push_aliases<'a>(
         if alias.name.as_str() == word {
             out.push(Reading {
                 name: alias.name.as_str(),
-                sort: alias.sort as usize,
+                sort: alias.sort,
                 kind: alias.kind,
                 end: i + 1,
             })?;
@@ -181,7 +181,7 @@ fn push_kind_variable<'a>(
     if let Some((kind, end)) = kind_list(grammar, words, i + 2) {
         out.push(Reading {
             name: &word[..word.len() - 1],
-            sort: kind as usize,
+            sort: kind,
             kind,
             end,
         })?;
@@ -204,6 +204,22 @@ fn push_readings<'a>(
     push_aliases(out, grammar, word, i)?;
     push_cuts(out, grammar, word, i)?;
     push_kind_variable(out, grammar, words, i)
+}
+
+/// The variables that begin at the word at a place.
+pub fn readings_at<'a>(
+    alloc: Global,
+    grammar: &'a Grammar,
+    words: &Words<'a>,
+    i: usize,
+) -> Result<Vec<Reading<'a>>, NoMemory>
+    requires within { i < length words.now }
+    requires few { length words.now ≤ 1000 }
+    ensures ok { IfOk result (λ found. all_seen found.items ≡ Leaves.readings_at grammar.now words.now i) }
+{
+    let mut out = Vec::new(alloc);
+    push_readings(&mut out, grammar, words, i)?;
+    Ok(out)
 }
 
 /// The variables that begin at the words of a text, from the first word to the last: declared names, `X:S` cut at each colon, and

@@ -1,4 +1,8 @@
 //! Numerals, words that are variables, and terms.
+mod notation;
+mod parsing;
+mod signature;
+
 use super::*;
 use mau_chart::Trees;
 use mau_grammar::{Alias, Grammar};

@@ -11,5 +11,5 @@ sort_below n x s l h = record {
   above = All-push (λ s. s < n) x.above s h.above l;
 }
 
-pub pairs_over : (n w : ℕ) (e : Elements) (pairs : List (ℕ × ℕ)) → IsWithin pairs n → AreOver n w e → AreOver n w (with_pairs e pairs)
-pairs_over n w e pairs l h = record { pairs = All-append (λ p. (p.0 < n) × (p.1 < n)) e.pairs pairs h.pairs l; operators = h.operators }
+pub pairs_over : (n : ℕ) (e : Elements) (pairs : List (ℕ × ℕ)) → IsWithin pairs n → AreOver n e → AreOver n (with_pairs e pairs)
+pairs_over n e pairs l h = record { pairs = All-append (λ p. (p.0 < n) × (p.1 < n)) e.pairs pairs h.pairs l; operators = h.operators }

@@ -1,7 +1,5 @@
-pub mod WordPlaces
-pub mod PlaceLemmas
-pub mod Leaving
-pub mod Choosing
+pub mod CountBefore
+pub mod Starts
 pub mod Ranges
 pub mod FirstOnes
 pub mod Below
@@ -10,3 +8,4 @@ pub mod Refusing
 pub mod Named
 pub mod Signed
 pub mod OneModule
+pub mod ModuleSteps

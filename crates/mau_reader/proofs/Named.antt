@@ -14,10 +14,10 @@ use Rattle.mau_signature.specs.declared.decl.Decl.{Decl}
 use Rattle.mau_signature.specs.Form.{same_form}
 use Rattle.mau_signature.specs.Names.{operator_of, same_operator, with_operator, operators_of}
 use Rattle.mau_signature.specs.Signature.{signature_of}
-use Rattle.mau_reader.specs.Words.{Word}
-use Rattle.mau_reader.specs.declared.element.RawOps.{RawOps}
+use Rattle.mau_modtext.specs.Word.{Word}
+use Rattle.mau_reader.specs.declared.element.Operators.{Operators}
 use Rattle.mau_reader.specs.Places.{IsNowhere}
-use Rattle.mau_reader.specs.Flattened.{word_form, name_of_form, name_of, kinds_of, same_kinds, with_first, first_declarations, is_other_operator, renames, renames_at, declaration_at, declarations_in, declarations, declared_names, names_in}
+use Rattle.mau_reader.specs.Flattened.{word_form, name_of_form, name_of, kinds_of, same_kinds, with_first, first_declarations, is_other_operator, renames, renames_at, declaration_at, declarations_in, declarations, declared_names}
 use Rattle.mau_reader.specs.Modules.{operator_names}
 use Rattle.mau_reader.proofs.FirstOnes.{firsts_more}
 
@@ -186,19 +186,19 @@ module _ (h : Hierarchy) (ds : List Decl) (all : All IsOneWord ds) (once : IsNow
 
 -- ---- the declarations that elements make
 
-one_words : (ws : List Word) (h : Hierarchy) (o : RawOps) (js : List ℕ) → All IsOneWord (map (declaration_at ws h o) js)
+one_words : (ws : List Word) (h : Hierarchy) (o : Operators) (js : List ℕ) → All IsOneWord (map (declaration_at ws h o) js)
 one_words ws h o js = All-map IsOneWord (declaration_at ws h o) js (λ i d l. refl)
 
-pub all_one_word : (ws : List Word) (h : Hierarchy) (os : List RawOps) → All IsOneWord (declarations ws h os)
+pub all_one_word : (ws : List Word) (h : Hierarchy) (os : List Operators) → All IsOneWord (declarations ws h os)
 all_one_word ws h [] = λ i d l. absurd (omega arith)
-all_one_word ws h (o ∷ os) = All-append IsOneWord (declarations_in ws h o) (declarations ws h os) (one_words ws h o (names_in o)) (all_one_word ws h os)
+all_one_word ws h (o ∷ os) = All-append IsOneWord (declarations_in ws h o) (declarations ws h os) (one_words ws h o o.names) (all_one_word ws h os)
 
 -- a declaration for each name
-pub as_many : (ws : List Word) (h : Hierarchy) (os : List RawOps) → length (declarations ws h os) ≡ length (declared_names os)
+pub as_many : (ws : List Word) (h : Hierarchy) (os : List Operators) → length (declarations ws h os) ≡ length (declared_names os)
 as_many ws h [] = refl
 as_many ws h (o ∷ os) =
-    length-append (declarations_in ws h o) (declarations ws h os) ∙ ap₂ (λ a b. a + b) (length-map (names_in o) (declaration_at ws h o)) (as_many ws h os)
-    ∙ sym (length-append (names_in o) (declared_names os))
+    length-append (declarations_in ws h o) (declarations ws h os) ∙ ap₂ (λ a b. a + b) (length-map o.names (declaration_at ws h o)) (as_many ws h os)
+    ∙ sym (length-append o.names (declared_names os))
 
 -- no more first declarations than declarations
 pub few_firsts : (fs ds : List Decl) → length (fold with_first fs ds) ≤ length fs + length ds

@@ -9,7 +9,7 @@ use Rattle.mau_signature.specs.Laws.{IsFaultOf}
 use Rattle.mau_signature.specs.Signature.{SignatureOf, signature_of}
 use Rattle.mau_sigcheck.specs.Accepted.{IsAccepted, IsWithinLimit}
 use Rattle.mau_reader.specs.declared.TheConstants.{MAX_DECLARATIONS}
-use Rattle.mau_reader.specs.Words.{Word}
+use Rattle.mau_modtext.specs.Word.{Word}
 use Rattle.mau_reader.specs.Places.{IsFirst, IsNowhere}
 use Rattle.mau_reader.specs.Elements.{Elements}
 use Rattle.mau_reader.specs.Flattened.{declarations, declared_names, first_declarations, name_of, renames_at}

@@ -1,5 +1,5 @@
 -- The declarations that elements make, the names of operators, and the names of sorts and kinds.
-use Rattle.std.specs.Prelude.{◌≡◌, ◌==◌, ℕ, ◌-◌, ◌<◌, List, [], ◌∷◌, ◌++◌, length, map, filter, take, Bool, false, ◌&&◌, ◌||◌, not, nat_lt, nat_eq, if◌then◌else◌, Option, Some, None, fold, get_or, bytes_eq, codes, slice_get}
+use Rattle.std.specs.Prelude.{◌≡◌, ◌==◌, ℕ, ◌<◌, List, [], ◌∷◌, ◌++◌, length, map, filter, take, Bool, false, ◌&&◌, ◌||◌, not, nat_lt, nat_eq, if◌then◌else◌, Option, Some, None, fold, get_or, bytes_eq, codes, slice_get}
 use Rattle.std.specs.List.{list_any, range_with_len, flat_map, find}
 use Rattle.std.specs.Cmp.Lexicographic.{pointwise}
 use Rattle.std.specs.Option.{option_map, option_map_or, option_eq}
@@ -13,19 +13,16 @@ use Rattle.mau_signature.specs.declared.decl.Decl.{Decl}
 use Rattle.mau_signature.specs.Names.{operator_of}
 use Rattle.mau_reader.specs.declared.renaming.Kinds.{Kinds}
 use Rattle.mau_reader.specs.declared.element.SortUse.{SortUse}
-use Rattle.mau_reader.specs.declared.element.RawAttrs.{RawAttrs}
-use Rattle.mau_reader.specs.declared.element.RawOps.{RawOps}
-use Rattle.mau_reader.specs.Words.{Word, text_at}
+use Rattle.mau_modtext.specs.Word.{Word}
+use Rattle.mau_reader.specs.declared.element.Attributes.{Attributes}
+use Rattle.mau_reader.specs.declared.element.Operators.{Operators}
+use Rattle.mau_reader.specs.Words.{text_at}
 
 -- ---- declarations
 
--- the words that name the operators of a declaration
-abbrev pub names_in : RawOps → List ℕ
-names_in o = range_with_len o.first (o.end - o.first)
-
 -- the words that name operators, in order: each is a declaration
-abbrev pub declared_names : List RawOps → List ℕ
-declared_names os = flat_map names_in os
+abbrev pub declared_names : List Operators → List ℕ
+declared_names os = flat_map (λ o. o.names) os
 
 -- what a sort in a declaration stands for: in a partial one, and in brackets, its kind
 abbrev pub meant : Hierarchy → Bool → SortUse → ℕ
@@ -40,7 +37,7 @@ abbrev pub identity_meant : List Word → Option ℕ → Option IdSpec
 identity_meant ws place = option_map (λ j. Const (word_form (text_at ws j))) place
 
 -- what the attributes of a list say: those that cannot be written yet are not given
-abbrev pub attributes_meant : List Word → RawAttrs → Attrs
+abbrev pub attributes_meant : List Word → Attributes → Attrs
 attributes_meant ws a = record {
   assoc = a.assoc;
   comm = a.comm;
@@ -53,7 +50,7 @@ attributes_meant ws a = record {
 }
 
 -- the declaration of the operator that the word at j names
-abbrev pub declaration_at : List Word → Hierarchy → RawOps → ℕ → Decl
+abbrev pub declaration_at : List Word → Hierarchy → Operators → ℕ → Decl
 declaration_at ws h o j = record {
   form = word_form (text_at ws j);
   args = map (meant h o.partial) o.args;
@@ -62,11 +59,11 @@ declaration_at ws h o j = record {
 }
 
 -- the declarations of some operators
-abbrev pub declarations_in : List Word → Hierarchy → RawOps → List Decl
-declarations_in ws h o = map (declaration_at ws h o) (names_in o)
+abbrev pub declarations_in : List Word → Hierarchy → Operators → List Decl
+declarations_in ws h o = map (declaration_at ws h o) o.names
 
 -- all declarations, in order
-abbrev pub declarations : List Word → Hierarchy → List RawOps → List Decl
+abbrev pub declarations : List Word → Hierarchy → List Operators → List Decl
 declarations ws h os = flat_map (declarations_in ws h) os
 
 -- ---- one operator for each name

@@ -1,6 +1,5 @@
 pub mod Words
 pub mod Places
-pub mod Items
 pub mod Names
 pub mod Sorts
 pub mod Readings

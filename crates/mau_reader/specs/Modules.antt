@@ -1,5 +1,5 @@
--- Functional modules, and the words that read as one.
-use Rattle.std.specs.Prelude.{◌≡◌, ℕ, ◌+◌, ◌-◌, List, [], ◌∷◌, ◌++◌, length, map, Bool, true, false, ◌&&◌, nat_lt, if◌then◌else◌, Option, Some, None, Result, Ok, Err, codes, decimal, slice_get, get_or}
+-- Accepted modules, and what a module of a text says.
+use Rattle.std.specs.Prelude.{◌≡◌, ℕ, ◌-◌, List, [], ◌∷◌, ◌++◌, length, map, nat_lt, if◌then◌else◌, Option, Some, None, Result, Ok, Err, codes, decimal, slice_get, get_or}
 use Rattle.std.specs.Option.{option_map_or}
 use Rattle.mau_poset.specs.Order.{Hierarchy, IsPoset, IsLeastCycle}
 use Rattle.mau_poset.specs.declared.TheConstants.{MAX_SORTS}
@@ -13,12 +13,14 @@ use Rattle.mau_sigcheck.specs.declared.fault.CheckFault.{CheckFault}
 use Rattle.mau_sigcheck.specs.declared.fault.CheckFault.TheVariants.{TooManyTuples, NotPreregular, NotAssociativeSorts, IdentityLowersSort, NoMemory as NoMemoryOfCheck}
 use Rattle.mau_sigcheck.specs.Accepted.{IsAccepted, IsWithinLimit}
 use Rattle.mau_sigcheck.specs.Faults.{IsFirstFaultOf}
-use Rattle.mau_reader.specs.declared.element.RawOps.{RawOps}
+use Rattle.mau_modtext.specs.Word.{Word}
+use Rattle.mau_modtext.specs.declared.raw.RawModule.{RawModule}
+use Rattle.mau_reader.specs.declared.element.Operators.{Operators}
 use Rattle.mau_reader.specs.declared.TheConstants.{MAX_DECLARATIONS}
-use Rattle.mau_reader.specs.Words.{Word, text_at}
-use Rattle.mau_reader.specs.Places.{IsFirst, IsNowhere, is_word}
-use Rattle.mau_reader.specs.Sorts.{is_module_name, DeclaresSorts}
-use Rattle.mau_reader.specs.Elements.{Elements, no_elements, ElementsRead}
+use Rattle.mau_reader.specs.Words.{text_at, token_text}
+use Rattle.mau_reader.specs.Places.{IsFirst, IsNowhere}
+use Rattle.mau_reader.specs.Sorts.{declared_sorts}
+use Rattle.mau_reader.specs.Elements.{Elements, elements_of}
 use Rattle.mau_reader.specs.Flattened.{declared_names, declarations, name_of_form, name_at, sort_name, renames_at}
 
 -- an accepted module: its name, its sorts in the order of their numbers, and its signature
@@ -27,7 +29,7 @@ pub record ModuleOf : Type 0 where
   pub sorts : List (List ℕ)
   pub signature : SignatureOf
 
--- why words are no accepted module: a word leaves the grammar, or what they declare is at fault, with the text of the refusal
+-- why a module of a text is not accepted: it isn't built from a word on, or what it declares is at fault, with the text of the refusal
 pub data Why : Type 0 where
   leaves : ℕ → Why
   faulty : List ℕ → Why
@@ -67,7 +69,7 @@ passed n d =
     else (if nat_lt MAX_DECLARATIONS d then Some (codes "declarations") else None)
 
 -- the first limit that the sorts and elements of a module pass
-abbrev pub limit_passed : List (List ℕ) → List RawOps → Option (List ℕ)
+abbrev pub limit_passed : List (List ℕ) → List Operators → Option (List ℕ)
 limit_passed sorts os = passed (length sorts) (length (declared_names os))
 
 abbrev pub too_large_text : List ℕ → List ℕ
@@ -126,24 +128,11 @@ pub data SignatureRead (ws : List Word) (sorts : List (List ℕ)) (e : Elements)
 
 -- ---- modules
 
--- a name of a module follows the keyword
-abbrev pub is_named : List Word → ℕ → ℕ → Bool
-is_named ws from to = nat_lt (from + 1) to && is_module_name (text_at ws (from + 1))
-
--- `is` follows the name
-abbrev pub has_is : List Word → ℕ → ℕ → Bool
-has_is ws from to = nat_lt (from + 2) to && is_word ws (codes "is") (from + 2)
-
--- the words from `from` to the end word at `to` are `fmod NAME is`, elements and the end word: this module, or why they are none
-pub data ModuleRead (ws : List Word) (from to : ℕ) : Result ModuleOf Why → Type 0 where
-  no_name_behind : is_named ws from to ≡ false → ModuleRead ws from to (Err (leaves (from + 1)))
-  no_is_behind : is_named ws from to ≡ true → has_is ws from to ≡ false → ModuleRead ws from to (Err (leaves (from + 2)))
-  elements_leave : (sorts : List (List ℕ)) (j : ℕ) → is_named ws from to ≡ true → has_is ws from to ≡ true
-      → DeclaresSorts ws to [] (from + 3) sorts → ElementsRead ws sorts to no_elements (from + 3) (Err j)
-      → ModuleRead ws from to (Err (leaves j))
-  module_at_fault : (sorts : List (List ℕ)) (e : Elements) (why : Why) → is_named ws from to ≡ true → has_is ws from to ≡ true
-      → DeclaresSorts ws to [] (from + 3) sorts → ElementsRead ws sorts to no_elements (from + 3) (Ok e) → SignatureRead ws sorts e (Err why)
-      → ModuleRead ws from to (Err why)
-  module_read : (sorts : List (List ℕ)) (e : Elements) (s : SignatureOf) → is_named ws from to ≡ true → has_is ws from to ≡ true
-      → DeclaresSorts ws to [] (from + 3) sorts → ElementsRead ws sorts to no_elements (from + 3) (Ok e) → SignatureRead ws sorts e (Ok s)
-      → ModuleRead ws from to (Ok (record { name = text_at ws (from + 1); sorts = sorts; signature = s }))
+-- what a module says over the words of its text: an accepted module, or why it is none
+pub data ModuleRead (ws : List Word) (raw : RawModule) : Result ModuleOf Why → Type 0 where
+  elements_leave : (j : ℕ) → elements_of ws (declared_sorts ws raw.elements) raw.elements ≡ Err j → ModuleRead ws raw (Err (leaves j))
+  module_at_fault : (e : Elements) (why : Why) → elements_of ws (declared_sorts ws raw.elements) raw.elements ≡ Ok e
+      → SignatureRead ws (declared_sorts ws raw.elements) e (Err why) → ModuleRead ws raw (Err why)
+  module_read : (e : Elements) (s : SignatureOf) → elements_of ws (declared_sorts ws raw.elements) raw.elements ≡ Ok e
+      → SignatureRead ws (declared_sorts ws raw.elements) e (Ok s)
+      → ModuleRead ws raw (Ok (record { name = token_text ws raw.name; sorts = declared_sorts ws raw.elements; signature = s }))

@@ -8,7 +8,7 @@ use Rattle.mau_signature.specs.Signature.{SignatureOf}
 use Rattle.mau_sigcheck.specs.declared.fault.CheckFault.{CheckFault}
 use Rattle.mau_sigcheck.specs.declared.fault.CheckFault.TheVariants.{TooManyTuples, NotPreregular, NotAssociativeSorts, IdentityLowersSort, NoMemory}
 use Rattle.mau_sigcheck.specs.Faults.{IsFirstFaultOf}
-use Rattle.mau_reader.specs.Words.{Word}
+use Rattle.mau_modtext.specs.Word.{Word}
 use Rattle.mau_reader.specs.Modules.{Why, faulty, cycle_text, declaration_text, operator_fault_text}
 
 -- sorts on a cycle, the least two

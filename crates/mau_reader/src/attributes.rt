@@ -1,24 +1,24 @@
 //! Reading the attributes of an operator declaration.
-ghost use Rattle.std.specs.Prelude.{◌≡◌, ◌<◌, ◌≤◌, ◌+◌, length, codes, IfOk, IfErr, IfSome, Ok, Err};
-ghost use Rattle.mau_reader.specs.Places.{is_word};
-ghost use Rattle.mau_reader.specs.Words.{text_at};
-ghost use Rattle.mau_reader.specs.Readings.{Repeats};
-ghost use Rattle.mau_reader.specs.Elements.{AttributesRead, attribute_step, identity_at, no_raw_attributes};
+ghost use Rattle.std.specs.Prelude.{◌≡◌};
+ghost use Rattle.mau_reader.specs.Readings.{read_all};
+ghost use Rattle.mau_reader.specs.Elements.{attribute_step, attribute, with_identity, no_attributes};
 
-use crate::element::RawAttrs;
-use crate::sorts::is_operator_name;
+use crate::element::Attributes;
+use crate::operators::form_word;
 use crate::words::Words;
+use mau_modtext::RawAttr;
+use mau_tokens::Token;
 
 /// The attributes with one of one word, if the word is such a one.
-fn with_flag(attrs: RawAttrs, word: &str) -> Option<RawAttrs>
+fn with_flag(attrs: Attributes, word: &str) -> Option<Attributes>
     ensures { result ≡ Rattle.mau_reader.specs.Elements.with_flag attrs word.now }
 {
     match word {
-        "assoc" => Some(RawAttrs {
+        "assoc" => Some(Attributes {
             assoc: true,
             ..attrs
         }),
-        "comm" => Some(RawAttrs {
+        "comm" => Some(Attributes {
             comm: true,
             ..attrs
         }),
@@ -27,157 +27,77 @@ fn with_flag(attrs: RawAttrs, word: &str) -> Option<RawAttrs>
     }
 }
 
-/// Whether an attribute begins with this word.
-fn is_attribute_word(word: &str) -> bool
-    ensures { result ≡ Rattle.mau_reader.specs.Elements.is_attribute_word word.now }
-{
-    matches!(
-        word,
-        "assoc"
-            | "comm"
-            | "prec"
-            | "gather"
-            | "strat"
-            | "frozen"
-            | "ctor"
-            | "memo"
-            | "ditto"
-            | "format"
-            | "metadata"
-            | "idem"
-            | "iter"
-            | "poly"
-            | "special"
-            | "config"
-            | "object"
-            | "msg"
-            | "portal"
-            | "pconst"
-            | "left"
-            | "right"
-    )
-}
-
-/// Whether a word may name the constant of an identity.
-fn is_identity_name(word: &str) -> bool
-    ensures { result ≡ Rattle.mau_reader.specs.Elements.is_identity_name word.now }
-{
-    is_operator_name(word) && !is_attribute_word(word)
-}
-
-/// Reads `id:` at `j`, and the name behind it. Gives the place behind it too.
-fn read_identity(
+/// The attributes with the identity of this form. An error is the number of the word from which on it isn't built: that of the
+/// name at `index` where there is an identity already.
+fn with_identity(
     words: &Words,
-    attrs: RawAttrs,
-    j: usize,
-    last: usize,
-) -> Result<(RawAttrs, usize), usize>
-    requires place { j < last }
-    requires within { last < length words.now }
-    requires identity { IfSome attrs.identity (λ i. i < length words.now) }
-    ensures ok { IfOk result (λ r. identity_at words.now last attrs j ≡ Ok r) }
-    ensures behind { IfOk result (λ r. (j < r.1) × (r.1 ≤ last)) }
-    ensures identity { IfOk result (λ r. IfSome r.0.identity (λ i. i < length words.now)) }
-    ensures leaves { IfErr result (λ i. identity_at words.now last attrs j ≡ Err i) }
-    ensures left { IfErr result (λ i. i ≤ last) }
+    attrs: Attributes,
+    index: usize,
+    form: &[Token],
+) -> Result<Attributes, usize>
+    ensures { result ≡ with_identity words.now attrs index form.now }
 {
     if attrs.identity.is_some() {
-        return Err(j);
+        return Err(index);
     }
-    if j + 1 < last && is_identity_name(words.text(j + 1)) {
-        let with_identity = RawAttrs {
-            identity: Some(j + 1),
+    match form_word(words, form) {
+        Ok(word) => Ok(Attributes {
+            identity: Some(word),
             ..attrs
-        };
-        Ok((with_identity, j + 2))
-    } else {
-        Err(j + 1)
+        }),
+        Err(word) => Err(word),
     }
 }
 
-/// Reads the attribute at `j`, before `last`. Gives the place behind it too.
-fn read_attribute(
+/// The attributes with the one whose name stands at `index` and reads `name`.
+fn with_attribute(
     words: &Words,
-    attrs: RawAttrs,
-    j: usize,
-    last: usize,
-) -> Result<(RawAttrs, usize), usize>
-    requires place { j < last }
-    requires within { last < length words.now }
-    requires identity { IfSome attrs.identity (λ i. i < length words.now) }
-    ensures ok { IfOk result (λ r. attribute_step words.now last attrs j ≡ Ok r) }
-    ensures behind { IfOk result (λ r. (j < r.1) × (r.1 ≤ last)) }
-    ensures identity { IfOk result (λ r. IfSome r.0.identity (λ i. i < length words.now)) }
-    ensures leaves { IfErr result (λ i. attribute_step words.now last attrs j ≡ Err i) }
-    ensures left { IfErr result (λ i. i ≤ last) }
+    attrs: Attributes,
+    index: usize,
+    name: &str,
+    value: &[Token],
+) -> Result<Attributes, usize>
+    ensures { result ≡ attribute words.now attrs index name.now value.now }
 {
-    if words.is(j, "id:") {
-        return read_identity(words, attrs, j, last);
+    if name == "id:" {
+        return with_identity(words, attrs, index, value);
     }
-    match with_flag(attrs, words.text(j)) {
-        Some(more) => Ok((more, j + 1)),
-        None => Err(j),
+    match with_flag(attrs, name) {
+        Some(more) => Ok(more),
+        None => Err(index),
     }
 }
 
-/// Reads attributes from `from` on, up to the closing bracket, and gives its place too.
-fn read_list(words: &Words, from: usize, last: usize) -> Result<(RawAttrs, usize), usize>
-    requires from { from ≤ last }
-    requires within { last < length words.now }
-    ensures ok { IfOk result (λ r. Repeats (attribute_step words.now last) (is_word words.now (codes "]")) last no_raw_attributes from (Ok r)) }
-    ensures bracket { IfOk result (λ r. r.1 < last) }
-    ensures identity { IfOk result (λ r. IfSome r.0.identity (λ i. i < length words.now)) }
-    ensures leaves { IfErr result (λ i. Repeats (attribute_step words.now last) (is_word words.now (codes "]")) last no_raw_attributes from (Err i)) }
-    ensures left { IfErr result (λ i. i ≤ last) }
+/// The attributes with one more.
+fn read_attribute(words: &Words, attrs: Attributes, raw: &RawAttr) -> Result<Attributes, usize>
+    ensures { result ≡ attribute_step words.now attrs raw.now }
 {
-    let mut attrs = RawAttrs {
+    match raw.name.items().split_first() {
+        Some((name, _)) => with_attribute(
+            words,
+            attrs,
+            words.token_index(*name),
+            words.token_text(*name),
+            raw.value.items(),
+        ),
+        None => Err(0),
+    }
+}
+
+/// The attributes of a list. An error is the number of the first word from which on they aren't built.
+pub fn read_attributes(words: &Words, list: &[RawAttr]) -> Result<Attributes, usize>
+    ensures { result ≡ read_all (attribute_step words.now) no_attributes list.now }
+{
+    let mut attrs = Attributes {
         assoc: false,
         comm: false,
         identity: None,
     };
-    let mut j = from;
-    while j < last {
-        if words.is(j, "]") {
-            return Ok((attrs, j));
-        }
-        match read_attribute(words, attrs, j, last) {
-            Ok((more, behind)) => {
-                attrs = more;
-                j = behind;
-            }
-            Err(i) => return Err(i),
+    for raw in list {
+        match read_attribute(words, attrs, raw) {
+            Ok(more) => attrs = more,
+            Err(word) => return Err(word),
         }
     }
-    Err(last)
-}
-
-/// Reads the attributes from `j` on, up to the full stop at `q`: none, or a list in brackets.
-pub fn read_attributes(words: &Words, j: usize, q: usize) -> Result<RawAttrs, usize>
-    requires place { j ≤ q }
-    requires within { q < length words.now }
-    ensures ok { IfOk result (λ attrs. AttributesRead words.now q j (Ok attrs)) }
-    ensures identity { IfOk result (λ attrs. IfSome attrs.identity (λ i. i < length words.now)) }
-    ensures leaves { IfErr result (λ i. AttributesRead words.now q j (Err i)) }
-    ensures left { IfErr result (λ i. i ≤ q) }
-{
-    if j == q {
-        return Ok(RawAttrs {
-            assoc: false,
-            comm: false,
-            identity: None,
-        });
-    }
-    if !words.is(j, "[") {
-        return Err(j);
-    }
-    match read_list(words, j + 1, q) {
-        Ok((attrs, close)) => {
-            if close + 1 == q {
-                Ok(attrs)
-            } else {
-                Err(close + 1)
-            }
-        }
-        Err(i) => Err(i),
-    }
+    Ok(attrs)
 }

@@ -1,39 +1,38 @@
-//! The elements of a module, as they are read: what they name stands for numbers of sorts and for words.
+//! What the elements of a module declare: what they name stands for numbers of sorts and of words.
 use mau_terms::Seq;
 use std::marker::Model;
 
 /// A sort in a declaration: the sort itself, or its whole kind.
 #[derive(Clone, Copy, Drop, Debug)]
 pub struct SortUse {
-    pub sort: u32,
+    pub sort: usize,
     pub whole_kind: bool,
 }
 
-/// The attributes of a declaration. The identity is the word that names a constant.
+/// The attributes of a declaration. The identity is the number of the word that names a constant.
 #[derive(Clone, Copy, Drop, Debug)]
-pub struct RawAttrs {
+pub struct Attributes {
     pub assoc: bool,
     pub comm: bool,
     pub identity: Option<usize>,
 }
 
-/// A declaration of operators, whose names are the words from `first` on, before `end`. It is partial where all its sorts
-/// stand for their kinds.
+/// A declaration of operators, whose names are the words with these numbers. It is partial where all its sorts stand for
+/// their kinds.
 #[derive(Drop, Debug)]
-pub struct RawOps {
-    pub first: usize,
-    pub end: usize,
+pub struct Operators {
+    pub names: Seq<usize>,
     pub args: Seq<SortUse>,
     pub partial: bool,
     pub result: SortUse,
-    pub attrs: RawAttrs,
+    pub attrs: Attributes,
 }
 
 /// What the elements of a module declare beside its sorts: subsort pairs, and operators.
 #[derive(Drop)]
 pub struct Elements {
-    pub pairs: Vec<(u32, u32)>,
-    pub operators: Vec<RawOps>,
+    pub pairs: Vec<(usize, usize)>,
+    pub operators: Vec<Operators>,
 }
 
 impl Model for Elements {

@@ -1,9 +1,9 @@
-//! Why words don't read as a module.
+//! Why a module is not read.
 
 use mau_terms::NoMemory;
 use std::alloc::{AllocError, AllocFailed};
 
-/// Why words don't read as a module: the word at this place is the first that leaves the grammar.
+/// Why a module is not read: it isn't built from the word with this number on.
 #[derive(Clone, Copy, Debug, PartialEq, Eq)]
 pub enum ReadFault {
     Leaves(usize),

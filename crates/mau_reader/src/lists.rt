@@ -1,23 +1,26 @@
-//! Reading subsort declarations: lists of sorts, parted by `<`.
-ghost use Rattle.std.specs.Prelude.{◌≡◌, ◌<◌, ◌≤◌, ◌+◌, ◌++◌, length, map, IfOk, IfErr, OnOk, Ok, Err, nat_eq};
+//! Reading subsort declarations: lists of sorts, each sort of a list below each sort of the next.
+ghost use Rattle.std.specs.Prelude.{◌≡◌, ◌<◌, ◌++◌, length, map, IfOk, IfErr, OnOk, Ok, Err};
 ghost use Rattle.mau_poset.specs.Order.{IsWithin};
-ghost use Rattle.mau_reader.specs.Readings.{Repeats};
-ghost use Rattle.mau_reader.specs.Elements.{SubsortsRead, AreListsBelow, list_step, no_lists};
+ghost use Rattle.mau_reader.specs.Readings.{read_all};
+ghost use Rattle.mau_reader.specs.Elements.{AreListsBelow, sort_step, list_step, no_lists, subsort_pairs};
 ghost use Rattle.mau_reader.specs.Faults.{IfLeaves};
 
 use crate::fault::ReadFault;
 use crate::names::Names;
+use crate::uses::read_sort_use;
 use crate::words::Words;
-use mau_terms::NoMemory;
+use mau_modtext::TokenList;
+use mau_terms::{NoMemory, Seq};
+use mau_tokens::Token;
 use std::alloc::Global;
 use std::marker::Model;
 
-/// The pairs so far, the list before the last `<`, and the list behind it.
+/// The pairs so far, the list before, and the list that is read.
 #[derive(Drop)]
 struct Lists {
-    pairs: Vec<(u32, u32)>,
-    below: Vec<u32>,
-    above: Vec<u32>,
+    pairs: Vec<(usize, usize)>,
+    below: Vec<usize>,
+    above: Vec<usize>,
 }
 
 impl Model for Lists {
@@ -29,7 +32,7 @@ impl Model for Lists {
 }
 
 /// Adds the pair of each of some sorts and this one.
-fn add_pairs(pairs: &mut Vec<(u32, u32)>, below: &[u32], sort: u32) -> Result<(), NoMemory>
+fn add_pairs(pairs: &mut Vec<(usize, usize)>, below: &[usize], sort: usize) -> Result<(), NoMemory>
     ensures { OnOk result (pairs.new.items ≡ pairs.old.items ++ map (λ b. (b, sort)) below.now) }
 {
     for lower in below {
@@ -40,7 +43,7 @@ fn add_pairs(pairs: &mut Vec<(u32, u32)>, below: &[u32], sort: u32) -> Result<()
 
 impl Lists {
     ghost use Rattle.std.specs.Prelude.{◌≡◌, OnOk};
-    ghost use Rattle.mau_reader.specs.Elements.{no_lists, with_sort, with_list, are_lists};
+    ghost use Rattle.mau_reader.specs.Elements.{no_lists, with_sort, with_list};
 
     fn new(alloc: Global) -> Lists
         ensures { result ≡ no_lists }
@@ -53,7 +56,7 @@ impl Lists {
     }
 
     /// A sort more in the last list: each sort of the list before is below it.
-    fn add_sort(&mut self, sort: u32) -> Result<(), NoMemory>
+    fn add_sort(&mut self, sort: usize) -> Result<(), NoMemory>
         ensures { OnOk result (self.new ≡ with_sort self.old sort) }
     {
         add_pairs(&mut self.pairs, &self.below, sort)?;
@@ -69,88 +72,77 @@ impl Lists {
         self.above.clear();
     }
 
-    /// Whether there are two lists at least, and the last one is not empty.
-    fn are_complete(&self) -> bool
-        ensures { result ≡ are_lists self.now }
-    {
-        !self.below.is_empty() && !self.above.is_empty()
-    }
-
-    /// Reads the word at `j`: a sort of the last list, or the sign behind that.
-    fn read_word(&mut self, words: &Words, sorts: &Names, j: usize) -> Result<(), ReadFault>
-        requires within { j < length words.now }
-        requires sorts { length sorts.now < 4294967296 }
-        ensures ok { OnOk result (list_step words.now sorts.now self.old j ≡ Ok (self.new, j + 1)) }
-        ensures leaves { IfErr result (λ e. IfLeaves e (λ i. list_step words.now sorts.now self.old j ≡ Err i)) }
-        ensures left { IfErr result (λ e. IfLeaves e (λ i. i ≡ j)) }
+    /// Reads a sort of the last list.
+    fn read_sort(&mut self, words: &Words, sorts: &Names, sort: &[Token]) -> Result<(), ReadFault>
+        ensures ok { OnOk result (sort_step words.now sorts.now self.old sort.now ≡ Ok self.new) }
+        ensures leaves { IfErr result (λ e. IfLeaves e (λ i. sort_step words.now sorts.now self.old sort.now ≡ Err i)) }
         ensures below { OnOk result (AreListsBelow (length sorts.now) self.old → AreListsBelow (length sorts.now) self.new) }
     {
-        if words.is(j, "<") {
-            if self.above.is_empty() {
-                return Err(ReadFault::Leaves(j));
-            }
-            self.add_list();
-            return Ok(());
-        }
-        match sorts.number(words.text(j)) {
-            Some(sort) => match self.add_sort(sort as u32) {
+        match read_sort_use(words, sorts, sort) {
+            Ok(used) => match self.add_sort(used.sort) {
                 Ok(()) => Ok(()),
                 Err(NoMemory) => Err(ReadFault::NoMemory),
             },
-            None => Err(ReadFault::Leaves(j)),
+            Err(word) => Err(ReadFault::Leaves(word)),
         }
+    }
+
+    /// Reads a list more.
+    fn read_list(
+        &mut self,
+        words: &Words,
+        sorts: &Names,
+        list: &[TokenList],
+    ) -> Result<(), ReadFault>
+        ensures ok { OnOk result (list_step words.now sorts.now self.old list.now ≡ Ok self.new) }
+        ensures leaves { IfErr result (λ e. IfLeaves e (λ i. list_step words.now sorts.now self.old list.now ≡ Err i)) }
+        ensures below { OnOk result (AreListsBelow (length sorts.now) self.old → AreListsBelow (length sorts.now) self.new) }
+    {
+        self.add_list();
+        for sort in list {
+            match self.read_sort(words, sorts, sort.items()) {
+                Ok(()) => (),
+                Err(fault) => return Err(fault),
+            }
+        }
+        Ok(())
     }
 }
 
-/// Reads the lists from `from` on, up to the full stop at `q`.
+/// Reads lists, one after another.
 fn read_lists(
     alloc: Global,
     words: &Words,
     sorts: &Names,
-    from: usize,
-    q: usize,
+    lists: &[Seq<TokenList>],
 ) -> Result<Lists, ReadFault>
-    requires from { from ≤ q }
-    requires within { q < length words.now }
-    requires sorts { length sorts.now < 4294967296 }
     ensures below { IfOk result (AreListsBelow (length sorts.now)) }
-    ensures ok { IfOk result (λ x. Repeats (list_step words.now sorts.now) (nat_eq q) (q + 1) no_lists from (Ok (x, q))) }
-    ensures leaves { IfErr result (λ e. IfLeaves e (λ i. Repeats (list_step words.now sorts.now) (nat_eq q) (q + 1) no_lists from (Err i))) }
-    ensures left { IfErr result (λ e. IfLeaves e (λ i. i ≤ q)) }
+    ensures ok { IfOk result (λ x. read_all (list_step words.now sorts.now) no_lists lists.now ≡ Ok x) }
+    ensures leaves { IfErr result (λ e. IfLeaves e (λ i. read_all (list_step words.now sorts.now) no_lists lists.now ≡ Err i)) }
 {
-    let mut lists = Lists::new(alloc);
-    for j in from..q {
-        match lists.read_word(words, sorts, j) {
+    let mut read = Lists::new(alloc);
+    for list in lists {
+        match read.read_list(words, sorts, list.items()) {
             Ok(()) => (),
             Err(fault) => return Err(fault),
         }
     }
-    Ok(lists)
+    Ok(read)
 }
 
-/// Reads the element from `p` to its full stop at `q`, which declares subsorts: two lists at least.
+/// The pairs of a declaration of subsorts.
 pub fn read_subsorts(
     alloc: Global,
     words: &Words,
     sorts: &Names,
-    p: usize,
-    q: usize,
-) -> Result<Vec<(u32, u32)>, ReadFault>
-    requires below { p < q }
-    requires within { q < length words.now }
-    requires sorts { length sorts.now < 4294967296 }
-    ensures ok { IfOk result (λ pairs. SubsortsRead words.now sorts.now p q (Ok pairs.items)) }
+    lists: &[Seq<TokenList>],
+) -> Result<Vec<(usize, usize)>, ReadFault>
+    ensures ok { IfOk result (λ pairs. subsort_pairs words.now sorts.now lists.now ≡ Ok pairs.items) }
     ensures within { IfOk result (λ pairs. IsWithin pairs.items (length sorts.now)) }
-    ensures leaves { IfErr result (λ e. IfLeaves e (λ j. SubsortsRead words.now sorts.now p q (Err j))) }
-    ensures left { IfErr result (λ e. IfLeaves e (λ j. j ≤ q)) }
+    ensures leaves { IfErr result (λ e. IfLeaves e (λ j. subsort_pairs words.now sorts.now lists.now ≡ Err j)) }
 {
-    match read_lists(alloc, words, sorts, p + 1, q) {
-        Ok(lists) => {
-            if !lists.are_complete() {
-                return Err(ReadFault::Leaves(q));
-            }
-            Ok(lists.pairs)
-        }
+    match read_lists(alloc, words, sorts, lists) {
+        Ok(read) => Ok(read.pairs),
         Err(fault) => Err(fault),
     }
 }

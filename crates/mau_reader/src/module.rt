@@ -7,11 +7,10 @@ ghost use Rattle.mau_sigcheck.specs.Accepted.{IsAccepted, IsWithinLimit};
 ghost use Rattle.mau_reader.specs.Refusals.{IsCycleRefusal, IsDeclarationRefusal, IsOperatorRefusal};
 ghost use Rattle.mau_reader.specs.Kept.{IsKept};
 ghost use Rattle.mau_reader.specs.declared.TheConstants.{MAX_DECLARATIONS};
-ghost use Rattle.mau_reader.specs.Words.{text_at};
 ghost use Rattle.mau_reader.specs.Elements.{AreOver};
 ghost use Rattle.mau_reader.specs.Flattened.{AreLower, declared_names};
 ghost use Rattle.mau_reader.specs.Modules.{ModuleOf, SignatureRead, ModuleRead, hierarchy_of, declared_in, operator_names, limit_passed, passed};
-ghost use Rattle.mau_reader.specs.Faults.{IfWhy, IsAmong};
+ghost use Rattle.mau_reader.specs.Faults.{IfWhy};
 
 use crate::MAX_DECLARATIONS;
 use crate::element::Elements;
@@ -24,8 +23,9 @@ use crate::refusal::{
 };
 use crate::renaming::name_operators;
 use crate::sort_names::{lower_sorts, write_sort};
-use crate::sorts::{declared_sorts, is_module_name};
+use crate::sorts::declared_sorts;
 use crate::words::Words;
+use mau_modtext::RawModule;
 use mau_poset::{MAX_SORTS, Poset, PosetFault};
 use mau_sigcheck::check;
 use mau_signature::{Decl, SigFault, Signature};
@@ -77,6 +77,23 @@ struct Named {
     lower: Vec<bool>,
 }
 
+/// The pairs of sorts that are few.
+fn narrow(
+    alloc: Global,
+    sorts: usize,
+    pairs: &[(usize, usize)],
+) -> Result<Vec<(u32, u32)>, NoMemory>
+    requires few { sorts ≤ MAX_SORTS }
+    requires within { IsWithin pairs.now sorts }
+    ensures { IfOk result (λ found. found.items ≡ pairs.now) }
+{
+    let mut found = Vec::with_capacity(alloc, pairs.len())?;
+    for pair in pairs {
+        found.push((pair.0 as u32, pair.1 as u32))?;
+    }
+    Ok(found)
+}
+
 /// The order of the sorts.
 fn order_sorts(alloc: Global, sorts: &Names, elements: &Elements) -> Result<Poset, ModuleFault>
     requires few { length sorts.now ≤ MAX_SORTS }
@@ -85,7 +102,8 @@ fn order_sorts(alloc: Global, sorts: &Names, elements: &Elements) -> Result<Pose
     ensures poset { IfOk result IsPoset }
     ensures cycle { IfErr result (λ fault. IfWhy fault (IsCycleRefusal sorts.now elements.now.pairs)) }
 {
-    match Poset::build(alloc, sorts.len() as u32, &elements.pairs) {
+    let pairs = narrow(alloc, sorts.len(), &elements.pairs)?;
+    match Poset::build(alloc, sorts.len() as u32, &pairs) {
         Ok(poset) => Ok(poset),
         Err(PosetFault::Cycle(a, b)) => {
             Err(ModuleFault::with_text(cycle_text(alloc, sorts, a, b)))
@@ -102,7 +120,6 @@ fn build_signature(
     poset: Poset,
     decls: Vec<Decl>,
 ) -> Result<Signature, ModuleFault>
-    requires words { All (λ j. j < length words.now) names.now }
     requires few { length decls.items ≤ MAX_DECLARATIONS }
     requires sorts { All (HasSorts poset) decls.items }
     requires no_hooks { All (λ d. is_successor d.attrs ≡ false) decls.items }
@@ -149,15 +166,13 @@ fn read_operators(
     poset: Poset,
 ) -> Result<Named, ModuleFault>
     requires limit { limit_passed sorts.now elements.now.operators ≡ None }
-    requires over { AreOver (length sorts.now) (length words.now) elements.now }
+    requires over { AreOver (length sorts.now) elements.now }
     requires names { names.now ≡ declared_names elements.now.operators }
-    requires words { All (λ j. j < length words.now) names.now }
     requires poset { poset ≡ hierarchy_of sorts.now elements.now }
     requires acyclic { IsPoset poset }
     ensures ok { IfOk result (λ named. SignatureRead words.now sorts.now elements.now (Ok named.signature)) }
     ensures kept { IfOk result (λ named. IsKept sorts.now named.lower.items named.operators named.signature) }
     ensures why { IfErr result (λ fault. IfWhy fault (λ why. SignatureRead words.now sorts.now elements.now (Err why))) }
-    ensures left { IfErr result (λ fault. IfWhy fault (IsAmong (length words.now))) }
 {
     let decls = declarations(alloc, words, &poset, elements)?;
     let lower = lower_sorts(alloc, poset.sorts(), elements)?;
@@ -187,13 +202,12 @@ fn read_signature(
     sorts: &Names,
     elements: &Elements,
 ) -> Result<Named, ModuleFault>
-    requires over { AreOver (length sorts.now) (length words.now) elements.now }
+    requires { AreOver (length sorts.now) elements.now }
     ensures ok { IfOk result (λ named. SignatureRead words.now sorts.now elements.now (Ok named.signature)) }
     ensures kept { IfOk result (λ named. IsKept sorts.now named.lower.items named.operators named.signature) }
     ensures why { IfErr result (λ fault. IfWhy fault (λ why. SignatureRead words.now sorts.now elements.now (Err why))) }
-    ensures left { IfErr result (λ fault. IfWhy fault (IsAmong (length words.now))) }
 {
-    let names = declared_names(alloc, words, sorts, elements)?;
+    let names = declared_names(alloc, elements)?;
     match limit_passed(sorts, &names) {
         Some(which) => return Err(ModuleFault::with_text(too_large_text(alloc, which))),
         None => (),
@@ -205,51 +219,18 @@ fn read_signature(
     read_operators(alloc, words, sorts, elements, &names, poset)
 }
 
-/// Whether a name of a module follows the keyword at `from`, before the end word at `to`.
-fn is_named(words: &Words, from: usize, to: usize) -> bool
-    requires ascends { from < to }
-    requires within { to < length words.now }
-    ensures { result ≡ Rattle.mau_reader.specs.Modules.is_named words.now from to }
+/// Reads a module of the words' text.
+pub fn read_module(alloc: Global, words: &Words, raw: &RawModule) -> Result<Module, ModuleFault>
+    ensures ok { IfOk result (λ m. ModuleRead words.now raw.now (Ok m)) }
+    ensures why { IfErr result (λ fault. IfWhy fault (λ why. ModuleRead words.now raw.now (Err why))) }
 {
-    from + 1 < to && is_module_name(words.text(from + 1))
-}
-
-/// Whether `is` follows the name behind the keyword at `from`, before the end word at `to`.
-fn has_is(words: &Words, from: usize, to: usize) -> bool
-    requires ascends { from + 1 < to }
-    requires within { to < length words.now }
-    ensures { result ≡ Rattle.mau_reader.specs.Modules.has_is words.now from to }
-{
-    from + 2 < to && words.is(from + 2, "is")
-}
-
-/// Reads the module whose words run from `from` to its end word at `to`.
-pub fn read_module(
-    alloc: Global,
-    words: &Words,
-    from: usize,
-    to: usize,
-) -> Result<Module, ModuleFault>
-    requires ascends { from < to }
-    requires within { to < length words.now }
-    requires short { length words.now ≤ 16777216 }
-    ensures ok { IfOk result (λ m. ModuleRead words.now from to (Ok m)) }
-    ensures why { IfErr result (λ fault. IfWhy fault (λ why. ModuleRead words.now from to (Err why))) }
-    ensures left { IfErr result (λ fault. IfWhy fault (IsAmong (length words.now))) }
-{
-    if !is_named(words, from, to) {
-        return Err(ModuleFault::Leaves(from + 1));
-    }
-    if !has_is(words, from, to) {
-        return Err(ModuleFault::Leaves(from + 2));
-    }
-    let sorts = declared_sorts(alloc, words, from + 3, to)?;
-    let elements = match read_elements(alloc, words, &sorts, from + 3, to) {
+    let sorts = declared_sorts(alloc, words, raw.elements.items())?;
+    let elements = match read_elements(alloc, words, &sorts, raw.elements.items()) {
         Ok(elements) => elements,
         Err(fault) => return Err(ModuleFault::of_part(fault)),
     };
     match read_signature(alloc, words, &sorts, &elements) {
-        Ok(named) => match Text::new(alloc, words.text(from + 1)) {
+        Ok(named) => match Text::new(alloc, words.token_text(raw.name)) {
             Ok(name) => Ok(Module {
                 name,
                 sorts,

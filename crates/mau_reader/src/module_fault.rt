@@ -1,12 +1,12 @@
-//! Why words are no accepted module.
+//! Why a module is not accepted.
 use crate::fault::ReadFault;
 use mau_terms::{NoMemory, Seq};
 use std::alloc::{AllocError, AllocFailed};
 
-/// Why words are no accepted module.
+/// Why a module is not accepted.
 #[derive(Drop, Debug)]
 pub enum ModuleFault {
-    /// The word at this place is the first that leaves the grammar.
+    /// It isn't built from the word with this number on.
     Leaves(usize),
     /// What the module declares is at fault: the text of the refusal, behind `refused: `.
     Refused(Seq<u8>),

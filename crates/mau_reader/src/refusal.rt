@@ -44,7 +44,6 @@ fn named_text(
     fault: &str,
     number: u32,
 ) -> Result<Vec<u8>, NoMemory>
-    requires { All (λ j. j < length words.now) names.now }
     ensures { IfOk result (λ text. text.items ≡ fault.now ++ declared_name words.now names.now number) }
 {
     let mut out = Vec::new(alloc);
@@ -63,7 +62,6 @@ pub fn declaration_text(
     names: &[usize],
     fault: SigFault,
 ) -> Result<Vec<u8>, NoMemory>
-    requires { All (λ j. j < length words.now) names.now }
     ensures { IfOk result (λ text. text.items ≡ declaration_text words.now names.now fault) }
 {
     match fault {

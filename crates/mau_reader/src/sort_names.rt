@@ -22,13 +22,13 @@ fn all_no(alloc: Global, n: usize) -> Result<Vec<bool>, NoMemory>
 }
 
 /// For each of `n` sorts, whether one of the pairs makes it a subsort.
-fn mark_lower(alloc: Global, n: u32, pairs: &[(u32, u32)]) -> Result<Vec<bool>, NoMemory>
+fn mark_lower(alloc: Global, n: u32, pairs: &[(usize, usize)]) -> Result<Vec<bool>, NoMemory>
     requires { IsWithin pairs.now n }
     ensures { IfOk result (λ lower. AreLower n pairs.now lower.items) }
 {
     let mut lower = all_no(alloc, n as usize)?;
     for pair in pairs {
-        lower[pair.0 as usize] = true;
+        lower[pair.0] = true;
     }
     Ok(lower)
 }

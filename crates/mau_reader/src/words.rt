@@ -1,8 +1,9 @@
 //! The words of a text: its tokens with what they read.
-ghost use Rattle.std.specs.Prelude.{◌≡◌, ◌<◌, ◌+◌, length};
+ghost use Rattle.std.specs.Prelude.{◌≡◌, ◌≤◌, length, nat_lt};
+ghost use Rattle.std.specs.List.{count_by};
 ghost use Rattle.mau_tokens.specs.Spans.{AreSpans};
-ghost use Rattle.mau_reader.specs.Words.{words_of, text_at, place_at};
-ghost use Rattle.mau_reader.specs.Places.{is_word};
+ghost use Rattle.mau_modtext.specs.Words.{words_of};
+ghost use Rattle.mau_reader.specs.Words.{text_at, place_at, is_word, index_at, token_index, token_text, first_index};
 
 use mau_tokens::Token;
 use std::marker::Model;
@@ -17,13 +18,23 @@ pub struct Words<'a> {
 impl<'a> Model for Words<'a> {
     ghost use Rattle.std.specs.Prelude.{List};
     ghost use Rattle.mau_tokens.specs.Spans.{AreSpans};
-    ghost use Rattle.mau_reader.specs.Words.{Word, words_of};
+    ghost use Rattle.mau_modtext.specs.Word.{Word};
+    ghost use Rattle.mau_modtext.specs.Words.{words_of};
 
     ghost Value = { List Word };
 
     ghost view = { λ w. words_of w.text.now w.tokens.now };
 
     ghost invariant = { λ w. AreSpans w.text.now w.tokens.now };
+}
+
+/// How many tokens begin before a place of their text.
+fn begin_before(text: &str, tokens: &[Token], place: u32) -> usize
+    requires { AreSpans text.now tokens.now }
+    ensures count { result ≡ count_by (λ t. nat_lt t.start place) tokens.now }
+    ensures within { result ≤ length tokens.now }
+{
+    tokens.partition_point(|token| token.start < place)
 }
 
 impl<'a> Words<'a> {
@@ -35,47 +46,65 @@ impl<'a> Words<'a> {
         Words { text, tokens }
     }
 
-    /// How many words there are.
-    pub fn len(&self) -> usize
-        ensures { result ≡ length self.now }
-    {
-        self.tokens.len()
-    }
-
-    /// What the word at `i` reads.
+    /// What the word at `i` reads; nothing behind the last word.
     pub fn text(&self, i: usize) -> &'a str
-        requires { i < length self.now }
         ensures { result.now ≡ text_at self.now i }
     {
         let tokens = self.tokens;
-        let token = tokens[i];
-        &self.text[token.start as usize..token.end as usize]
+        if i < tokens.len() {
+            let token = tokens[i];
+            &self.text[token.start as usize..token.end as usize]
+        } else {
+            ""
+        }
     }
 
     /// Whether the word at `i` is this one.
     pub fn is(&self, i: usize, word: &str) -> bool
-        requires { i < length self.now }
         ensures { result ≡ is_word self.now word.now i }
     {
         self.text(i) == word
     }
 
-    /// Whether a word stands behind the one at `i`, and it is this one.
-    pub fn next_is(&self, i: usize, word: &str) -> bool
-        requires there { i < length self.now }
-        requires some { 0 < length word.now }
-        ensures { result ≡ is_word self.now word.now (i + 1) }
-    {
-        let last = self.len() - 1;
-        i < last && self.is(i + 1, word)
-    }
-
-    /// The place of the first byte of the word at `i`.
+    /// The place of the first byte of the word at `i`; 0 behind the last word.
     pub fn place(&self, i: usize) -> u32
-        requires { i < length self.now }
         ensures { result ≡ place_at self.now i }
     {
         let tokens = self.tokens;
-        tokens[i].start
+        if i < tokens.len() { tokens[i].start } else { 0 }
+    }
+
+    /// The number of the word that stands at a place: so many begin before it.
+    pub fn index_at(&self, place: u32) -> usize
+        ensures index { result ≡ index_at self.now place }
+        ensures within { result ≤ length self.now }
+    {
+        begin_before(self.text, self.tokens, place)
+    }
+
+    /// The number of the word that a token is.
+    pub fn token_index(&self, token: Token) -> usize
+        ensures index { result ≡ token_index self.now token }
+        ensures within { result ≤ length self.now }
+    {
+        self.index_at(token.start)
+    }
+
+    /// What a token reads.
+    pub fn token_text(&self, token: Token) -> &'a str
+        ensures { result.now ≡ token_text self.now token }
+    {
+        self.text(self.token_index(token))
+    }
+
+    /// The number of the first word of some tokens; 0 where there is none.
+    pub fn first_index(&self, tokens: &[Token]) -> usize
+        ensures index { result ≡ first_index self.now tokens.now }
+        ensures within { result ≤ length self.now }
+    {
+        match tokens.split_first() {
+            Some((first, _)) => self.token_index(*first),
+            None => 0,
+        }
     }
 }

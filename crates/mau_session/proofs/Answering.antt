@@ -1,13 +1,16 @@
 -- The answers of items, from what their parts give.
-use Rattle.std.proofs.Common.{Vec, Global, ◌≡◌, ℕ, ◌<◌, ◌+◌, List, [], ◌∷◌, ◌++◌, Bool, true, false, ◌&&◌, ◌||◌, nat_eq, length, if◌then◌else◌, Some, None, bytes_eq, Result, Ok, Err, IfOk, OnOk, codes, decimal, refl, sym, ◌∙◌, ap, subst, ◌⊎◌, inl, inr, append_assoc, append-nil}
-use Rattle.std.proofs.Math.Nat.{eq-or-lt_of_le}
+use Rattle.std.proofs.Common.{◌≡◌, ℕ, ◌+◌, List, [], ◌∷◌, ◌++◌, Bool, true, false, ◌||◌, length, Result, Ok, Err, IfOk, OnOk, codes, decimal, refl, sym, ◌∙◌, ap, ap₂, subst, append_assoc, append-nil}
 use Rattle.mau_terms.specs.Tree.{Tree}
 use Rattle.mau_terms.specs.Subst.{Variable, variables}
 use Rattle.mau_reader.specs.Modules.{ModuleOf}
-use Rattle.mau_session.specs.declared.refusal.Refusal.TheVariants.{Unended, NotBuilt}
-use Rattle.mau_reader.specs.Words.{Word, text_at}
-use Rattle.mau_reader.specs.Places.{IsFirst, IsNowhere, is_word}
-use Rattle.mau_reader.specs.Items.{may_end, is_quit, end_of_module}
+use Rattle.mau_modtext.specs.Word.{Word}
+use Rattle.mau_tokens.specs.declared.token.Token.{Token}
+use Rattle.mau_modtext.specs.declared.raw.RawItem.{RawItem}
+use Rattle.mau_modtext.specs.declared.raw.RawBody.{RawBody}
+use Rattle.mau_modtext.specs.declared.raw.TextFault.{TextFault}
+use Rattle.mau_reader.specs.Words.{index_at, first_index}
+use Rattle.mau_session.specs.Built.{fault_answer}
+use Rattle.mau_modtext.specs.declared.raw.RawCommand.{RawCommand}
 use Rattle.mau_terms.specs.declared.ids.TermId.{TermId}
 use Rattle.mau_terms.specs.Norm.{norm}
 use Rattle.mau_terms.specs.Bare.{HasNoAxioms}
@@ -18,14 +21,9 @@ use Rattle.mau_canon.specs.Within.{IsWithin, StandsWithin}
 use Rattle.mau_session.specs.Terms.{Pairs, Reads, terms_in}
 use Rattle.mau_session.specs.Bound.{id_tree}
 use Rattle.mau_session.proofs.Solving.{plain_norm_in}
-use Rattle.mau_session.specs.Transcript.{too_deep, overflows, listed, ItemsAnswer, items_end, item_first, item_unended, module_accepted, module_refused, match_answered, item_not_built}
-use Rattle.mau_session.specs.Gains.{GainsListing, GainsListed, gains_solutions, gains_too_deep, gains_overflow, GainsTerms, GainsItem, GainsModule, gains_accepted, gains_refused, GainsMatch}
-use Rattle.mau_session.specs.Answers.{refusal_line, substitution_lines, listing_lines, match_head, too_deep_line, overflow_line}
-use Rattle.mau_reader.proofs.OneModule.{eq_bytes}
-
-and_last : (a b : Bool) → (a && b) ≡ true → b ≡ true
-and_last true b e = e
-and_last false b e = absurd cc
+use Rattle.mau_session.specs.Transcript.{PatternReads, SubjectReads, too_deep, overflows, listed, BodyAnswer, item_faulty, item_answered, ItemsAnswer, item_first}
+use Rattle.mau_session.specs.Gains.{GainsListing, GainsListed, gains_solutions, gains_too_deep, gains_overflow, GainsTerms, GainsBody, GainsItem}
+use Rattle.mau_session.specs.Answers.{substitution_lines, listing_lines, match_head, too_deep_line, overflow_line}
 
 -- a refusal that was written answers an item
 pub refused_with : {E A : Type 0} (P : Bool → Type 0) (r : Result Bool E) → OnOk r A → IfOk r (λ b. b ≡ true) → (A → P true) → IfOk r P
@@ -43,35 +41,6 @@ one_matcher m ns p o a b n xs vs x ea eb en =
     en ∙ ap (λ y. y ++ codes "No more matches.\n") (eb ∙ ap (λ y. a ++ substitution_lines m ns y vs) (sym x) ∙ ap (λ y. y ++ lines) ea)
     ∙ matcher_parts o (codes "Matcher ") (decimal 1) (codes "\n") lines (codes "No more matches.\n")
 
--- a module, and a match, don't end at their first word
-module_ends : (w : List ℕ) (i : ℕ) (stop : Bool) → w ≡ codes "fmod"
-    → (if is_quit w then nat_eq i i else elim (end_of_module w) [ Some e ↦ bytes_eq w e | None ↦ stop ]) ≡ true → ⊥
-module_ends w i stop e h =
-    let n = ap (λ w. if is_quit w then nat_eq i i else elim (end_of_module w) [ Some e ↦ bytes_eq w e | None ↦ stop ]) (sym e) ∙ h in absurd cc
-
-match_ends : (w : List ℕ) (i : ℕ) (a : Bool) → w ≡ codes "match"
-    → (if is_quit w then nat_eq i i else elim (end_of_module w) [ Some e ↦ bytes_eq w e | None ↦ a && bytes_eq w (codes ".") ]) ≡ true → ⊥
-match_ends w i a e h =
-    let n = ap (λ w. if is_quit w then nat_eq i i else elim (end_of_module w) [ Some e ↦ bytes_eq w e | None ↦ a && bytes_eq w (codes ".") ]) (sym e) ∙ h in
-    let d = and_last a false n in absurd cc
-
-module _ (ws : List Word) (i j : ℕ) (f : IsFirst (may_end ws i) i (length ws) j) where
-  here : i ≡ j → may_end ws i i ≡ true
-  here e = ap (may_end ws i) e ∙ f.passes
-
-  later : (may_end ws i i ≡ true → ⊥) → i < j
-  later n = by (eq-or-lt_of_le f.least)
-    where
-      by : (i ≡ j) ⊎ (i < j) → i < j
-      by (inr h) = h
-      by (inl e) = absurd (n (here e))
-
-  pub module_behind : is_word ws (codes "fmod") i ≡ true → i < j
-  module_behind w = later (module_ends (text_at ws i) i _ (eq_bytes _ _ w))
-
-  pub match_behind : is_word ws (codes "match") i ≡ true → i < j
-  match_behind w = later (match_ends (text_at ws i) i _ (eq_bytes _ _ w))
-
 -- ---- the items one after another
 
 or_parts : (r i l : Bool) → (r || (i || l)) ≡ ((r || i) || l)
@@ -87,60 +56,60 @@ or_nothing true = refl
 or_nothing false = refl
 
 module _ (ws : List Word) where
-  pub one_more : (ms ns : List ModuleOf) (k i j : ℕ) (o n : List ℕ) (r b s : Bool) → i < length ws → GainsItem ws ms k i j ns o n b → s ≡ (r || b)
-      → ((more : List ℕ) (later : Bool) → ItemsAnswer ws ms k i more later → ItemsAnswer ws [] 1 0 (o ++ more) (r || later))
-      → (more : List ℕ) (later : Bool) → ItemsAnswer ws ns (k + 1) j more later → ItemsAnswer ws [] 1 0 (n ++ more) (s || later)
-  one_more ms ns k i j o n r b s h g e rest more later a =
-      let whole = rest (g.bytes ++ more) (b || later) (item_first ms ns k i j g.bytes more b later h g.answer a) in
-      subst (λ x. ItemsAnswer ws [] 1 0 x (s || later)) (sym (append_assoc o g.bytes more) ∙ ap (λ x. x ++ more) (sym g.gained))
-      (subst (λ x. ItemsAnswer ws [] 1 0 (o ++ (g.bytes ++ more)) x) (or_parts r b later ∙ ap (λ x. x || later) (sym e)) whole)
+  pub one_more : (ms ns : List ModuleOf) (k : ℕ) (item : RawItem) (items : List RawItem) (o n : List ℕ) (r b s : Bool) → GainsItem ws ms k item ns o n b → s ≡ (r || b)
+      → (all : List RawItem) → ((more : List ℕ) (later : Bool) → ItemsAnswer ws ms k (item ∷ items) more later → ItemsAnswer ws [] 1 all (o ++ more) (r || later))
+      → (more : List ℕ) (later : Bool) → ItemsAnswer ws ns (k + 1) items more later → ItemsAnswer ws [] 1 all (n ++ more) (s || later)
+  one_more ms ns k item items o n r b s g e all rest more later a =
+      let whole = rest (g.bytes ++ more) (b || later) (item_first ms ns k item items g.bytes more b later g.answer a) in
+      subst (λ x. ItemsAnswer ws [] 1 all x (s || later)) (sym (append_assoc o g.bytes more) ∙ ap (λ x. x ++ more) (sym g.gained))
+      (subst (λ x. ItemsAnswer ws [] 1 all (o ++ (g.bytes ++ more)) x) (or_parts r b later ∙ ap (λ x. x || later) (sym e)) whole)
 
-  pub all_answered : (ms : List ModuleOf) (k i : ℕ) (o : List ℕ) (r : Bool) → i ≡ length ws
-      → ((more : List ℕ) (later : Bool) → ItemsAnswer ws ms k i more later → ItemsAnswer ws [] 1 0 (o ++ more) (r || later)) → ItemsAnswer ws [] 1 0 o r
-  all_answered ms k i o r e rest =
-      subst (λ x. ItemsAnswer ws [] 1 0 x r) (append-nil o)
-      (subst (λ x. ItemsAnswer ws [] 1 0 (o ++ []) x) (or_nothing r) (rest [] false (items_end ms k i e)))
+  -- nothing more is answered
+  pub all_answered : (ms : List ModuleOf) (k : ℕ) (items all : List RawItem) (o : List ℕ) (r : Bool) → ItemsAnswer ws ms k items [] false
+      → ((more : List ℕ) (later : Bool) → ItemsAnswer ws ms k items more later → ItemsAnswer ws [] 1 all (o ++ more) (r || later)) → ItemsAnswer ws [] 1 all o r
+  all_answered ms k items all o r none rest =
+      subst (λ x. ItemsAnswer ws [] 1 all x r) (append-nil o)
+      (subst (λ x. ItemsAnswer ws [] 1 all (o ++ []) x) (or_nothing r) (rest [] false none))
 
 -- ---- one item
 
-module _ (ws : List Word) (ms : List ModuleOf) (k i : ℕ) (o : List ℕ) where
-  pub gains_unended : (n : ℕ) (new : List ℕ) (b : Bool) → IsNowhere (may_end ws i) i (length ws) → n ≡ length ws → new ≡ o ++ refusal_line k ws (Unended i) → b ≡ true
-      → GainsItem ws ms k i n ms o new b
-  gains_unended n new b f e g r =
-      subst (λ n. GainsItem ws ms k i n ms o new b) (sym e) (subst (GainsItem ws ms k i (length ws) ms o new) (sym r) (record { bytes = _; answer = item_unended f; gained = g }))
+module _ (ws : List Word) (ms : List ModuleOf) (k : ℕ) (item : RawItem) (i : ℕ) (at : i ≡ index_at ws item.at) where
+  pub item_says : (b : RawBody) (ns : List ModuleOf) (o n : List ℕ) (r : Bool) → item.body ≡ Ok b → GainsBody ws ms k i b ns o n r → GainsItem ws ms k item ns o n r
+  item_says b ns o n r h g = record { bytes = g.bytes; answer = item_answered b ns g.bytes r h (subst (λ i. BodyAnswer ws ms k i b ns g.bytes r) at g.answer); gained = g.gained }
 
-  pub moved : (n : ℕ) {ns ns' : List ModuleOf} {v v' : Vec ℕ Global} {b b' : Bool} → ns' ≡ ns → v' ≡ v → b' ≡ b → GainsItem ws ms k i n ns o v.items b → GainsItem ws ms k i n ns' o v'.items b'
-  moved n {ns} {ns'} {v} {v'} {b} {b'} e f g h =
-      subst (λ x. GainsItem ws ms k i n x o v'.items b') (sym e) (subst (λ x. GainsItem ws ms k i n ns o x.items b') (sym f) (subst (GainsItem ws ms k i n ns o v.items) (sym g) h))
+  pub item_fails : (f : TextFault) (o n : List ℕ) → item.body ≡ Err f → n ≡ o ++ fault_answer k ws i f → GainsItem ws ms k item ms o n true
+  item_fails f o n h g = record { bytes = _; answer = item_faulty f h; gained = g ∙ ap (λ i. o ++ fault_answer k ws i f) at }
 
-  module _ (j : ℕ) (f : IsFirst (may_end ws i) i (length ws) j) where
-    pub gains_module : (ns : List ModuleOf) (new : List ℕ) (b : Bool) → is_word ws (codes "fmod") i ≡ true → GainsModule ws k i j ms ns o new b → GainsItem ws ms k i (j + 1) ns o new b
-    gains_module ns new b w (gains_accepted m old new' r g) = record { bytes = _; answer = module_accepted j m f w r; gained = g }
-    gains_module ns new b w (gains_refused l old new' r g) = record { bytes = _; answer = module_refused j l f w r; gained = g }
+-- ---- the terms of a command
 
-    pub gains_match : (new : List ℕ) (b : Bool) → is_word ws (codes "match") i ≡ true → GainsMatch ws ms k i j o new b → GainsItem ws ms k i (j + 1) ms o new b
-    gains_match new b w g = record { bytes = g.bytes; answer = match_answered j g.bytes b f w g.answer; gained = g.gained }
+-- the same words read as the same term
+pub reads_at : (m : ModuleOf) (ws : List Word) {vs : Pairs} {b b' e e' : ℕ} → b ≡ b' → e ≡ e' → {t : Tree} {kind : ℕ} {os : Pairs} → Reads m ws e vs b t kind e os → Reads m ws e' vs b' t kind e' os
+reads_at m ws {vs} {b} {b'} {e} {e'} f g {t} {kind} {os} h = subst (λ b. Reads m ws e' vs b t kind e' os) f (subst (λ e. Reads m ws e vs b t kind e os) g h)
 
-    pub gains_other : (new : List ℕ) (b : Bool) → is_word ws (codes "fmod") i ≡ false → is_word ws (codes "match") i ≡ false → new ≡ o ++ refusal_line k ws (NotBuilt i) → b ≡ true
-        → GainsItem ws ms k i (j + 1) ms o new b
-    gains_other new b u v g r = subst (GainsItem ws ms k i (j + 1) ms o new) (sym r) (record { bytes = _; answer = item_not_built j f u v; gained = g })
+-- where the words of some tokens begin and end
+module _ (ws : List Word) (ts first second : List Token) (b : ℕ) (at : b ≡ first_index ws first) (f : first ≡ ts) (g : second ≡ ts) where
+  pub begin_is : b ≡ first_index ws ts
+  begin_is = at ∙ ap (first_index ws) f
+
+  pub end_is : b + length second ≡ first_index ws ts + length ts
+  end_is = ap₂ (λ b n. b + n) begin_is (ap length g)
 
 -- ---- listings
 
 -- the answer of a match command whose pattern and subject are read
-pub gains_terms : (ws : List Word) (m : ModuleOf) (k i s j : ℕ) (p : Tree) (kind : ℕ) (ns : Pairs) (t : Tree) (os : Pairs) → Reads m ws s [] (i + 1) p kind s ns → Reads m ws j ns (s + 1) t kind j os
-    → (o a n : List ℕ) → a ≡ o ++ match_head k m → GainsListed m os p t a n → GainsTerms ws m k i s j o n false
-gains_terms ws m k i s j p kind ns t os pattern subject o _ _ head (gains_solutions a n within listing) = record {
+pub gains_terms : (ws : List Word) (m : ModuleOf) (k : ℕ) (c : RawCommand) (p : Tree) (kind : ℕ) (ns : Pairs) (t : Tree) (os : Pairs) → PatternReads ws m c p kind ns → SubjectReads ws m c ns t kind os
+    → (o a n : List ℕ) → a ≡ o ++ match_head k m → GainsListed m os p t a n → GainsTerms ws m k c o n false
+gains_terms ws m k c p kind ns t os pattern subject o _ _ head (gains_solutions a n within listing) = record {
   bytes = match_head k m ++ listing_lines m os p listing.found;
   answer = listed p kind ns t os listing.found pattern subject within listing.listing;
   gained = listing.gained ∙ ap (λ x. x ++ listing_lines m os p listing.found) head ∙ append_assoc o (match_head k m) (listing_lines m os p listing.found);
 }
-gains_terms ws m k i s j p kind ns t os pattern subject o _ _ head (gains_too_deep a n cause gained) = record {
+gains_terms ws m k c p kind ns t os pattern subject o _ _ head (gains_too_deep a n cause gained) = record {
   bytes = match_head k m ++ too_deep_line;
   answer = too_deep p kind ns t os pattern subject cause;
   gained = gained ∙ ap (λ x. x ++ too_deep_line) head ∙ append_assoc o (match_head k m) too_deep_line;
 }
-gains_terms ws m k i s j p kind ns t os pattern subject o _ _ head (gains_overflow a n cause gained) = record {
+gains_terms ws m k c p kind ns t os pattern subject o _ _ head (gains_overflow a n cause gained) = record {
   bytes = match_head k m ++ overflow_line;
   answer = overflows p kind ns t os pattern subject cause;
   gained = gained ∙ ap (λ x. x ++ overflow_line) head ∙ append_assoc o (match_head k m) overflow_line;

@@ -10,7 +10,8 @@ use Rattle.mau_poset.proofs.Orders.{kind_of-above, kind_of-kind, kind_of-in_rang
 use Rattle.mau_reader.specs.Kept.{AreNamed}
 use Rattle.mau_reader.specs.Modules.{ModuleOf, operator_names}
 use Rattle.mau_reader.specs.Names.{number_of}
-use Rattle.mau_reader.specs.Words.{Word, text_at}
+use Rattle.mau_modtext.specs.Word.{Word}
+use Rattle.mau_reader.specs.Words.{text_at}
 use Rattle.mau_session.specs.Terms.{Pairs, terms_in, Reads, reads_constant, reads_application, reads_variable, reads_kind_variable, ReadsArgument, reads_argument, ReadsList, list_ends, list_goes_on}
 use Rattle.mau_session.proofs.Numbered.{place_within, with_pair_longer}
 

@@ -6,7 +6,8 @@ use Rattle.mau_terms.specs.Subst.{same_variable, has_variable, add_variables, ad
 use Rattle.mau_terms.specs.Vars.{same_pair, place_of, with_pair}
 use Rattle.mau_poset.specs.Order.{kind_of}
 use Rattle.mau_reader.specs.Modules.{ModuleOf}
-use Rattle.mau_reader.specs.Words.{Word, text_at}
+use Rattle.mau_modtext.specs.Word.{Word}
+use Rattle.mau_reader.specs.Words.{text_at}
 use Rattle.mau_session.specs.Terms.{Pairs, Reads, reads_constant, reads_application, reads_variable, reads_kind_variable, ReadsArgument, reads_argument, ReadsList, list_ends, list_goes_on}
 use Rattle.mau_session.specs.Matching.{numbered_from}
 

@@ -1,5 +1,5 @@
 -- A text has one transcript.
-use Rattle.std.proofs.Common.{◌≡◌, ℕ, ◌+◌, ◌<◌, List, [], ◌∷◌, ◌++◌, Bool, true, ◌||◌, length, Some, None, Result, Ok, Err, codes, refl, sym, ◌∙◌, ap, ap₂, subst, arith, slice_index_or, bytes_eq}
+use Rattle.std.proofs.Common.{◌≡◌, ℕ, ◌+◌, ◌<◌, List, [], ◌∷◌, ◌++◌, Bool, ◌||◌, length, Some, None, Ok, refl, sym, ◌∙◌, ap, ap₂, subst, arith, slice_index_or}
 use Rattle.std.specs.Ordering.{ordering_reverse}
 use Rattle.std.specs.declared.cmp.Ordering.{Ordering}
 use Rattle.std.specs.declared.cmp.Ordering.TheVariants.{Less, Equal, Greater}
@@ -12,85 +12,30 @@ use Rattle.mau_canon.specs.Within.{IsWithin, IsCause}
 use Rattle.mau_terms.specs.Subst.{variables}
 use Rattle.mau_terms.specs.Solution.{solution_cmp}
 use Rattle.mau_terms.specs.declared.theory.Theory.{Theory}
+use Rattle.mau_modtext.specs.Word.{Word}
+use Rattle.mau_modtext.specs.Words.{words_of}
+use Rattle.mau_modtext.specs.Items.{item_part}
+use Rattle.mau_modtext.specs.Parts.{parts}
+use Rattle.mau_modtext.specs.declared.raw.RawItem.{RawItem}
+use Rattle.mau_modtext.specs.declared.raw.RawBody.{RawBody}
+use Rattle.mau_modtext.specs.declared.raw.RawBody.TheVariants.{Quit}
+use Rattle.mau_modtext.specs.declared.raw.RawCommand.{RawCommand}
+use Rattle.mau_reader.specs.Words.{index_at}
 use Rattle.mau_reader.specs.Modules.{ModuleOf}
-use Rattle.mau_reader.specs.declared.places.Sign.TheVariants.{Parts, Condition}
 use Rattle.mau_session.specs.declared.refusal.Refusal.TheVariants.{NotBuilt}
-use Rattle.mau_reader.specs.Words.{Word, text_at, words_of}
-use Rattle.mau_reader.specs.Places.{IsFirst, IsNowhere, stands_outside}
-use Rattle.mau_reader.specs.Items.{may_end}
-use Rattle.mau_reader.specs.Modules.{ModuleRead}
-use Rattle.mau_session.specs.Terms.{Pairs, Reads, terms_in, HasAxioms}
+use Rattle.mau_session.specs.Terms.{Pairs, terms_in, HasAxioms}
 use Rattle.mau_session.specs.Matching.{numbered_from, IsListing}
-use Rattle.mau_session.specs.Commands.{CommandRead, prefix_leaves, parts_missing, pattern_leaves, subject_leaves, condition_leaves, command_read, SubjectEnds, at_condition, at_stop, is_no_term}
+use Rattle.mau_session.specs.Commands.{pattern_end, subject_end, unbuilt}
+use Rattle.mau_session.specs.Built.{fault_answer}
 use Rattle.mau_session.specs.Answers.{refusal_line, module_refusal, fault_line, module_line, match_head, listing_lines}
-use Rattle.mau_session.specs.Transcript.{current, accepted, TermsAnswer, no_pattern, no_subject, too_deep, overflows, listed, MatchAnswer, no_module, command_leaves, axioms_not_built, command_answered, ItemAnswer, item_unended, module_accepted, module_refused, match_answered, item_not_built, ItemsAnswer, items_end, item_first, Transcript, text_refused, items_answered}
+use Rattle.mau_session.specs.Transcript.{current, accepted, PatternReads, SubjectReads, TermsAnswer, no_pattern, no_subject, too_deep, overflows, listed, MatchAnswer, no_module, command_not_built, axioms_not_built, command_answered, BodyAnswer, module_not_built, module_accepted, module_refused, match_answered, other_not_built, setting_not_built, ItemAnswer, item_faulty, item_answered, ItemsAnswer, items_end, item_quits, item_first, Transcript, text_refused, items_answered}
 use Rattle.mau_tokens.proofs.Answer.{answers_are_one}
 use Rattle.mau_terms.proofs.Solutions.{solutions_are_ordered}
 use Rattle.mau_session.proofs.Readings.{reads_once}
 use Rattle.mau_session.proofs.Numbered.{reads_numbered}
 use Rattle.mau_session.proofs.Solving.{solution_once}
 use Rattle.mau_session.proofs.Sorting.{axioms_or_none}
-use Rattle.mau_reader.proofs.OneModule.{eq_bytes, first_once, first_somewhere, yes_no, module_once}
-
--- ---- commands
-
-module _ (ws : List Word) where
-  subject_once : {i e t u : ℕ} → SubjectEnds ws i e t → SubjectEnds ws i e u → t ≡ u
-  subject_once {i} {e} (at_condition t f) (at_condition u g) = first_once (stands_outside ws Condition i) i e t u f g
-  subject_once {i} {e} (at_condition t f) (at_stop g) = absurd (first_somewhere (stands_outside ws Condition i) i e t f g)
-  subject_once {i} {e} (at_stop f) (at_condition u g) = absurd (first_somewhere (stands_outside ws Condition i) i e u g f)
-  subject_once (at_stop f) (at_stop g) = refl
-
-  sign_once : {p e s r : ℕ} → IsFirst (stands_outside ws Parts p) p e s → IsFirst (stands_outside ws Parts p) p e r → s ≡ r
-  sign_once {p} {e} {s} {r} f g = first_once (stands_outside ws Parts p) p e s r f g
-
-  no_sign : {p e s : ℕ} → IsFirst (stands_outside ws Parts p) p e s → IsNowhere (stands_outside ws Parts p) p e → ⊥
-  no_sign {p} {e} {s} f n = first_somewhere (stands_outside ws Parts p) p e s f n
-
-  -- a subject that ends at the full stop meets no condition before it
-  end_once : {s r e t : ℕ} → s ≡ r → SubjectEnds ws (s + 1) e t → SubjectEnds ws (r + 1) e e → t ≡ e
-  end_once {s} {r} {e} {t} h x y = subject_once x (subst (λ s. SubjectEnds ws (s + 1) e e) (sym h) y)
-
-  subjects_once : {s r e t u : ℕ} → s ≡ r → SubjectEnds ws (s + 1) e t → SubjectEnds ws (r + 1) e u → t ≡ u
-  subjects_once {s} {r} {e} {t} {u} h x y = subject_once x (subst (λ s. SubjectEnds ws (s + 1) e u) (sym h) y)
-
-  command_once : {p e : ℕ} {r s : Result ℕ ℕ} → CommandRead ws p e r → CommandRead ws p e s → r ≡ s
-  command_once {p} (prefix_leaves h) (prefix_leaves h') = refl
-  command_once {p} (prefix_leaves h) (parts_missing h' n') = absurd (yes_no _ h h')
-  command_once {p} (prefix_leaves h) (pattern_leaves s' h' f' x') = absurd (yes_no _ h h')
-  command_once {p} (prefix_leaves h) (subject_leaves s' t' h' f' x' y' z') = absurd (yes_no _ h h')
-  command_once {p} (prefix_leaves h) (condition_leaves s' t' h' f' x' y' z' l') = absurd (yes_no _ h h')
-  command_once {p} (prefix_leaves h) (command_read s' h' f' x' y' z') = absurd (yes_no _ h h')
-  command_once {p} (parts_missing h n) (prefix_leaves h') = absurd (yes_no _ h' h)
-  command_once {p} (parts_missing h n) (parts_missing h' n') = refl
-  command_once {p} (parts_missing h n) (pattern_leaves s' h' f' x') = absurd (no_sign f' n)
-  command_once {p} (parts_missing h n) (subject_leaves s' t' h' f' x' y' z') = absurd (no_sign f' n)
-  command_once {p} (parts_missing h n) (condition_leaves s' t' h' f' x' y' z' l') = absurd (no_sign f' n)
-  command_once {p} (parts_missing h n) (command_read s' h' f' x' y' z') = absurd (no_sign f' n)
-  command_once {p} (pattern_leaves s h f x) (prefix_leaves h') = absurd (yes_no _ h' h)
-  command_once {p} (pattern_leaves s h f x) (parts_missing h' n') = absurd (no_sign f n')
-  command_once {p} (pattern_leaves s h f x) (pattern_leaves s' h' f' x') = refl
-  command_once {p} (pattern_leaves s h f x) (subject_leaves s' t' h' f' x' y' z') = absurd (yes_no _ x (ap (is_no_term p) (sign_once f f') ∙ x'))
-  command_once {p} (pattern_leaves s h f x) (condition_leaves s' t' h' f' x' y' z' l') = absurd (yes_no _ x (ap (is_no_term p) (sign_once f f') ∙ x'))
-  command_once {p} (pattern_leaves s h f x) (command_read s' h' f' x' y' z') = absurd (yes_no _ x (ap (is_no_term p) (sign_once f f') ∙ x'))
-  command_once {p} (subject_leaves s t h f x y z) (prefix_leaves h') = absurd (yes_no _ h' h)
-  command_once {p} (subject_leaves s t h f x y z) (parts_missing h' n') = absurd (no_sign f n')
-  command_once {p} (subject_leaves s t h f x y z) (pattern_leaves s' h' f' x') = absurd (yes_no _ x' (ap (is_no_term p) (sign_once f' f) ∙ x))
-  command_once {p} (subject_leaves s t h f x y z) (subject_leaves s' t' h' f' x' y' z') = ap (λ s. Err (s + 1)) (sign_once f f')
-  command_once {p} (subject_leaves s t h f x y z) (condition_leaves s' t' h' f' x' y' z' l') = absurd (yes_no _ z (ap₂ (λ s t. is_no_term (s + 1) t) (sign_once f f') (subjects_once (sign_once f f') y y') ∙ z'))
-  command_once {p} (subject_leaves s t h f x y z) (command_read s' h' f' x' y' z') = absurd (yes_no _ z (ap₂ (λ s t. is_no_term (s + 1) t) (sign_once f f') (end_once (sign_once f f') y y') ∙ z'))
-  command_once {p} (condition_leaves s t h f x y z l) (prefix_leaves h') = absurd (yes_no _ h' h)
-  command_once {p} (condition_leaves s t h f x y z l) (parts_missing h' n') = absurd (no_sign f n')
-  command_once {p} (condition_leaves s t h f x y z l) (pattern_leaves s' h' f' x') = absurd (yes_no _ x' (ap (is_no_term p) (sign_once f' f) ∙ x))
-  command_once {p} (condition_leaves s t h f x y z l) (subject_leaves s' t' h' f' x' y' z') = absurd (yes_no _ z' (ap₂ (λ s' t'. is_no_term (s' + 1) t') (sign_once f' f) (subjects_once (sign_once f' f) y' y) ∙ z))
-  command_once {p} (condition_leaves s t h f x y z l) (condition_leaves s' t' h' f' x' y' z' l') = ap Err (subjects_once (sign_once f f') y y')
-  command_once {p} (condition_leaves s t h f x y z l) (command_read s' h' f' x' y' z') = absurd (omega (arith, l, end_once (sign_once f f') y y'))
-  command_once {p} (command_read s h f x y z) (prefix_leaves h') = absurd (yes_no _ h' h)
-  command_once {p} (command_read s h f x y z) (parts_missing h' n') = absurd (no_sign f n')
-  command_once {p} (command_read s h f x y z) (pattern_leaves s' h' f' x') = absurd (yes_no _ x' (ap (is_no_term p) (sign_once f' f) ∙ x))
-  command_once {p} (command_read s h f x y z) (subject_leaves s' t' h' f' x' y' z') = absurd (yes_no _ z' (ap₂ (λ s' t'. is_no_term (s' + 1) t') (sign_once f' f) (end_once (sign_once f' f) y' y) ∙ z))
-  command_once {p} (command_read s h f x y z) (condition_leaves s' t' h' f' x' y' z' l') = absurd (omega (arith, l', end_once (sign_once f' f) y' y))
-  command_once {p} (command_read s h f x y z) (command_read s' h' f' x' y' z') = ap Ok (sign_once f f')
+use Rattle.mau_reader.proofs.OneModule.{yes_no, module_once}
 
 -- ---- listings
 
@@ -129,34 +74,34 @@ one_answer : {b : List ℕ} {r : Bool} → AreOneAnswer b b r r
 one_answer = record { bytes = refl; refused = refl }
 
 -- what the terms of a command read as: a pattern and a subject
-record ReadTerms (ws : List Word) (m : ModuleOf) (i s j : ℕ) (p t : Tree) (os : Pairs) : Type 0 where
+record ReadTerms (ws : List Word) (m : ModuleOf) (c : RawCommand) (p t : Tree) (os : Pairs) : Type 0 where
   kind : ℕ
   pairs : Pairs
-  pattern : Reads m ws s [] (i + 1) p kind s pairs
-  subject : Reads m ws j pairs (s + 1) t kind j os
+  pattern : PatternReads ws m c p kind pairs
+  subject : SubjectReads ws m c pairs t kind os
 
-module _ (ws : List Word) (m : ModuleOf) (free : HasNoAxioms (terms_in m)) (k i s j : ℕ) where
+module _ (ws : List Word) (m : ModuleOf) (free : HasNoAxioms (terms_in m)) (k : ℕ) (c : RawCommand) where
   -- they read as one pair
   record AreOnePair (p q t u : Tree) (os os' : Pairs) : Type 0 where
     pattern : p ≡ q
     subject : t ≡ u
     pairs : os ≡ os'
 
-  pair_once : {p q t u : Tree} {os os' : Pairs} → ReadTerms ws m i s j p t os → ReadTerms ws m i s j q u os' → AreOnePair p q t u os os'
+  pair_once : {p q t u : Tree} {os os' : Pairs} → ReadTerms ws m c p t os → ReadTerms ws m c q u os' → AreOnePair p q t u os os'
   pair_once {p} {q} {t} {u} {os} {os'} x y =
-      let one = reads_once m ws s x.pattern y.pattern in
-      let y' = subst (λ a. Reads m ws j x.pairs (s + 1) u a j os') (sym one.sort) (subst (λ ns. Reads m ws j ns (s + 1) u y.kind j os') (sym one.pairs) y.subject) in
-      let two = reads_once m ws j x.subject y' in
+      let one = reads_once m ws (pattern_end ws c) x.pattern y.pattern in
+      let y' = subst (λ a. SubjectReads ws m c x.pairs u a os') (sym one.sort) (subst (λ ns. SubjectReads ws m c ns u y.kind os') (sym one.pairs) y.subject) in
+      let two = reads_once m ws (subject_end ws c) x.subject y' in
       record { pattern = one.tree; subject = two.tree; pairs = two.pairs }
 
-  no_pattern_read : ((p : Tree) (kind : ℕ) (ns : Pairs) → Reads m ws s [] (i + 1) p kind s ns → ⊥) → {p t : Tree} {os : Pairs} → ReadTerms ws m i s j p t os → ⊥
+  no_pattern_read : ((p : Tree) (kind : ℕ) (ns : Pairs) → PatternReads ws m c p kind ns → ⊥) → {p t : Tree} {os : Pairs} → ReadTerms ws m c p t os → ⊥
   no_pattern_read n {p} x = n p x.kind x.pairs x.pattern
 
-  no_subject_read : (p : Tree) (kind : ℕ) (ns : Pairs) → Reads m ws s [] (i + 1) p kind s ns → ((t : Tree) (os : Pairs) → Reads m ws j ns (s + 1) t kind j os → ⊥)
-      → {q t : Tree} {os : Pairs} → ReadTerms ws m i s j q t os → ⊥
+  no_subject_read : (p : Tree) (kind : ℕ) (ns : Pairs) → PatternReads ws m c p kind ns → ((t : Tree) (os : Pairs) → SubjectReads ws m c ns t kind os → ⊥)
+      → {q t : Tree} {os : Pairs} → ReadTerms ws m c q t os → ⊥
   no_subject_read p kind ns x n {q} {t} {os} y =
-      let one = reads_once m ws s x y.pattern in
-      n t os (subst (λ a. Reads m ws j ns (s + 1) t a j os) (sym one.sort) (subst (λ ns. Reads m ws j ns (s + 1) t y.kind j os) (sym one.pairs) y.subject))
+      let one = reads_once m ws (pattern_end ws c) x y.pattern in
+      n t os (subst (λ a. SubjectReads ws m c ns t a os) (sym one.sort) (subst (λ ns. SubjectReads ws m c ns t y.kind os) (sym one.pairs) y.subject))
 
   -- a subject has one end at most, and none where it is within the limits
   abbrev cause_of : Tree → BuildFault → Type 0
@@ -171,7 +116,7 @@ module _ (ws : List Word) (m : ModuleOf) (free : HasNoAxioms (terms_in m)) (k i 
   not_overflow_and_within : (t u : Tree) → t ≡ u → cause_of t Overflow → IsWithin (terms_in m).theory (norm (terms_in m).theory u) → ⊥
   not_overflow_and_within t u e overflow within = let over' = subst (λ x. cause_of x Overflow) e overflow in let yes = over'.1 in let no = within.no_overflow in cc (yes, no)
 
-  terms_once : {b c : List ℕ} {r q : Bool} → TermsAnswer ws m k i s j b r → TermsAnswer ws m k i s j c q → AreOneAnswer b c r q
+  terms_once : {b d : List ℕ} {r q : Bool} → TermsAnswer ws m k c b r → TermsAnswer ws m k c d q → AreOneAnswer b d r q
   terms_once (no_pattern n) (no_pattern n') = one_answer
   terms_once (no_pattern n) (no_subject p' a' ns' x' n') = absurd (n p' a' ns' x')
   terms_once (no_pattern n) (too_deep p' a' ns' t' os' x' y' d') = absurd (n p' a' ns' x')
@@ -205,104 +150,116 @@ module _ (ws : List Word) (m : ModuleOf) (free : HasNoAxioms (terms_in m)) (k i 
   terms_once (listed p a ns t os found x y w l) (listed p' a' ns' t' os' found' x' y' w' l') =
       let one = pair_once (record { kind = a; pairs = ns; pattern = x; subject = y }) (record { kind = a'; pairs = ns'; pattern = x'; subject = y' }) in
       let l'' = subst (λ p. IsListing m p t found') (sym one.pattern) (subst (λ t. IsListing m p' t found') (sym one.subject) l') in
-      let same = listing_once m free p t ns (reads_numbered m ws s x) found found' l l'' in
+      let same = listing_once m free p t ns (reads_numbered m ws (pattern_end ws c) x) found found' l l'' in
       record {
         bytes = ap (λ os. match_head k m ++ listing_lines m os p found) one.pairs ∙ ap₂ (λ p found. match_head k m ++ listing_lines m os' p found) one.pattern same;
         refused = refl;
       }
 
-module _ (ws : List Word) (ms : List ModuleOf) (k i j : ℕ) where
+module _ (ws : List Word) (ms : List ModuleOf) (k i : ℕ) (c : RawCommand) where
   no_current : {m : ModuleOf} → current ms ≡ Some m → current ms ≡ None → ⊥
   no_current e n = let o = sym e ∙ n in absurd cc
 
   one_current : {m n : ModuleOf} → current ms ≡ Some m → current ms ≡ Some n → m ≡ n
   one_current e d = let o = sym e ∙ d in cc
 
-  match_once : {b c : List ℕ} {r q : Bool} → MatchAnswer ws ms k i j b r → MatchAnswer ws ms k i j c q → AreOneAnswer b c r q
+  built_or_not : {l : ℕ} → unbuilt ws i c ≡ Some l → unbuilt ws i c ≡ None → ⊥
+  built_or_not e n = let o = sym e ∙ n in absurd cc
+
+  match_once : {b d : List ℕ} {r q : Bool} → MatchAnswer ws ms k i c b r → MatchAnswer ws ms k i c d q → AreOneAnswer b d r q
   match_once (no_module n) (no_module n') = one_answer
-  match_once (no_module n) (command_leaves m' l' e' x') = absurd (no_current e' n)
-  match_once (no_module n) (axioms_not_built m' s' e' x' a') = absurd (no_current e' n)
-  match_once (no_module n) (command_answered m' s' b' r' e' x' f' y') = absurd (no_current e' n)
-  match_once (command_leaves m l e x) (no_module n') = absurd (no_current e n')
-  match_once (command_leaves m l e x) (command_leaves m' l' e' x') =
-      let o = command_once ws x x' in
+  match_once (no_module n) (command_not_built m' l' e' x') = absurd (no_current e' n)
+  match_once (no_module n) (axioms_not_built m' e' x' a') = absurd (no_current e' n)
+  match_once (no_module n) (command_answered m' b' r' e' x' f' y') = absurd (no_current e' n)
+  match_once (command_not_built m l e x) (no_module n') = absurd (no_current e n')
+  match_once (command_not_built m l e x) (command_not_built m' l' e' x') =
+      let o = sym x ∙ x' in
       let h : l ≡ l' = cc in
       record { bytes = ap (λ l. refusal_line k ws (NotBuilt l)) h; refused = refl }
-  match_once (command_leaves m l e x) (axioms_not_built m' s' e' x' a') = let o = command_once ws x x' in absurd cc
-  match_once (command_leaves m l e x) (command_answered m' s' b' r' e' x' f' y') = let o = command_once ws x x' in absurd cc
-  match_once (axioms_not_built m s e x a) (no_module n') = absurd (no_current e n')
-  match_once (axioms_not_built m s e x a) (command_leaves m' l' e' x') = let o = command_once ws x x' in absurd cc
-  match_once (axioms_not_built m s e x a) (axioms_not_built m' s' e' x' a') = one_answer
-  match_once (axioms_not_built m s e x a) (command_answered m' s' b' r' e' x' f' y') =
+  match_once (command_not_built m l e x) (axioms_not_built m' e' x' a') = absurd (built_or_not x x')
+  match_once (command_not_built m l e x) (command_answered m' b' r' e' x' f' y') = absurd (built_or_not x x')
+  match_once (axioms_not_built m e x a) (no_module n') = absurd (no_current e n')
+  match_once (axioms_not_built m e x a) (command_not_built m' l' e' x') = absurd (built_or_not x' x)
+  match_once (axioms_not_built m e x a) (axioms_not_built m' e' x' a') = one_answer
+  match_once (axioms_not_built m e x a) (command_answered m' b' r' e' x' f' y') =
       absurd (axioms_or_none m'.signature (subst (λ m. HasAxioms m.signature) (one_current e e') a) f')
-  match_once (command_answered m s b r e x f y) (no_module n') = absurd (no_current e n')
-  match_once (command_answered m s b r e x f y) (command_leaves m' l' e' x') = let o = command_once ws x x' in absurd cc
-  match_once (command_answered m s b r e x f y) (axioms_not_built m' s' e' x' a') =
+  match_once (command_answered m b r e x f y) (no_module n') = absurd (no_current e n')
+  match_once (command_answered m b r e x f y) (command_not_built m' l' e' x') = absurd (built_or_not x' x)
+  match_once (command_answered m b r e x f y) (axioms_not_built m' e' x' a') =
       absurd (axioms_or_none m.signature (subst (λ m. HasAxioms m.signature) (one_current e' e) a') f)
-  match_once (command_answered m s b r e x f y) (command_answered m' s' b' r' e' x' f' y') =
-      let o = command_once ws x x' in
-      let h : s ≡ s' = cc in
-      terms_once ws m f k i s j y (subst (λ s. TermsAnswer ws m k i s j b' r') (sym h) (subst (λ m. TermsAnswer ws m k i s' j b' r') (one_current e' e) y'))
+  match_once (command_answered m b r e x f y) (command_answered m' b' r' e' x' f' y') = terms_once ws m f k c y (subst (λ m. TermsAnswer ws m k c b' r') (one_current e' e) y')
 
-record AreOneItem (j l : ℕ) (ms ns : List ModuleOf) (b c : List ℕ) (r s : Bool) : Type 0 where
-  behind : j ≡ l
+record AreOneItem (ms ns : List ModuleOf) (b c : List ℕ) (r s : Bool) : Type 0 where
   state : ms ≡ ns
   bytes : b ≡ c
   refused : r ≡ s
 
-two_words : (w : List ℕ) → bytes_eq w (codes "fmod") ≡ true → bytes_eq w (codes "match") ≡ true → ⊥
-two_words w f m = let e = sym (eq_bytes w (codes "fmod") f) ∙ eq_bytes w (codes "match") m in absurd cc
+one_item : {ms : List ModuleOf} {b : List ℕ} {r : Bool} → AreOneItem ms ms b b r r
+one_item = record { state = refl; bytes = refl; refused = refl }
 
 module _ (ws : List Word) (ms : List ModuleOf) (k i : ℕ) where
-  ends_once : {j l : ℕ} → IsFirst (may_end ws i) i (length ws) j → IsFirst (may_end ws i) i (length ws) l → j ≡ l
-  ends_once {j} {l} f g = first_once (may_end ws i) i (length ws) j l f g
+  body_once : {x : RawBody} {ns os : List ModuleOf} {b c : List ℕ} {r s : Bool} → BodyAnswer ws ms k i x ns b r → BodyAnswer ws ms k i x os c s → AreOneItem ns os b c r s
+  body_once (module_not_built raw f) (module_not_built raw' f') = one_item
+  body_once (module_not_built raw f) (module_accepted raw' m' t' x') = absurd (yes_no _ t' f)
+  body_once (module_not_built raw f) (module_refused raw' w' t' x') = absurd (yes_no _ t' f)
+  body_once (module_accepted raw m t x) (module_not_built raw' f') = absurd (yes_no _ t f')
+  body_once (module_accepted raw m t x) (module_accepted raw' m' t' x') =
+      let o = module_once ws raw x x' in
+      let e : m ≡ m' = cc in
+      record { state = ap (accepted ms) e; bytes = ap (module_line k) e; refused = refl }
+  body_once (module_accepted raw m t x) (module_refused raw' w' t' x') = let o = module_once ws raw x x' in absurd cc
+  body_once (module_refused raw w t x) (module_not_built raw' f') = absurd (yes_no _ t f')
+  body_once (module_refused raw w t x) (module_accepted raw' m' t' x') = let o = module_once ws raw x x' in absurd cc
+  body_once (module_refused raw w t x) (module_refused raw' w' t' x') =
+      let o = module_once ws raw x x' in
+      let e : w ≡ w' = cc in
+      record { state = refl; bytes = ap (module_refusal k ws) e; refused = refl }
+  body_once (match_answered c b r t x) (match_answered c' b' r' t' x') = let o = match_once ws ms k i c x x' in record { state = refl; bytes = o.bytes; refused = o.refused }
+  body_once (match_answered c b r t x) (other_not_built c' f') = absurd (yes_no _ t f')
+  body_once (other_not_built c f) (match_answered c' b' r' t' x') = absurd (yes_no _ t' f)
+  body_once (other_not_built c f) (other_not_built c' f') = one_item
+  body_once (setting_not_built s) (setting_not_built s') = one_item
 
-  never_ends : {j : ℕ} → IsFirst (may_end ws i) i (length ws) j → IsNowhere (may_end ws i) i (length ws) → ⊥
-  never_ends {j} f n = first_somewhere (may_end ws i) i (length ws) j f n
+module _ (ws : List Word) (ms : List ModuleOf) (k : ℕ) (item : RawItem) where
+  item_once : {ns os : List ModuleOf} {b c : List ℕ} {r s : Bool} → ItemAnswer ws ms k item ns b r → ItemAnswer ws ms k item os c s → AreOneItem ns os b c r s
+  item_once (item_faulty f e) (item_faulty f' e') =
+      let o = sym e ∙ e' in
+      let h : f ≡ f' = cc in
+      record { state = refl; bytes = ap (fault_answer k ws (index_at ws item.at)) h; refused = refl }
+  item_once (item_faulty f e) (item_answered b' ns' bs' r' e' x') = let o = sym e ∙ e' in absurd cc
+  item_once (item_answered b ns bs r e x) (item_faulty f' e') = let o = sym e ∙ e' in absurd cc
+  item_once (item_answered b ns bs r e x) (item_answered b' ns' bs' r' e' x') =
+      let o = sym e' ∙ e in
+      let h : b' ≡ b = cc in
+      body_once ws ms k (index_at ws item.at) x (subst (λ b. BodyAnswer ws ms k (index_at ws item.at) b ns' bs' r') h x')
 
-  item_once : {j l : ℕ} {ns os : List ModuleOf} {b c : List ℕ} {r s : Bool} → ItemAnswer ws ms k i j ns b r → ItemAnswer ws ms k i l os c s → AreOneItem j l ns os b c r s
-  item_once (item_unended n) (item_unended n') = record { behind = refl; state = refl; bytes = refl; refused = refl }
-  item_once (item_unended n) (module_accepted j' m' f' w' x') = absurd (never_ends f' n)
-  item_once (item_unended n) (module_refused j' l' f' w' x') = absurd (never_ends f' n)
-  item_once (item_unended n) (match_answered j' b' r' f' w' x') = absurd (never_ends f' n)
-  item_once (item_unended n) (item_not_built j' f' u' v') = absurd (never_ends f' n)
-  item_once (module_accepted j m f w x) (item_unended n') = absurd (never_ends f n')
-  item_once (module_accepted j m f w x) (module_accepted j' m' f' w' x') = let o = module_once ws i j x (subst (λ j. ModuleRead ws i j (Ok m')) (sym (ends_once f f')) x') in let e : m ≡ m' = cc in record { behind = ap (λ j. j + 1) (ends_once f f'); state = ap (accepted ms) e; bytes = ap (module_line k) e; refused = refl }
-  item_once (module_accepted j m f w x) (module_refused j' l' f' w' x') = absurd (let o = module_once ws i j x (subst (λ j. ModuleRead ws i j (Err l')) (sym (ends_once f f')) x') in absurd cc)
-  item_once (module_accepted j m f w x) (match_answered j' b' r' f' w' x') = absurd (two_words (text_at ws i) w w')
-  item_once (module_accepted j m f w x) (item_not_built j' f' u' v') = absurd (yes_no _ w u')
-  item_once (module_refused j l f w x) (item_unended n') = absurd (never_ends f n')
-  item_once (module_refused j l f w x) (module_accepted j' m' f' w' x') = absurd (let o = module_once ws i j x (subst (λ j. ModuleRead ws i j (Ok m')) (sym (ends_once f f')) x') in absurd cc)
-  item_once (module_refused j l f w x) (module_refused j' l' f' w' x') = let o = module_once ws i j x (subst (λ j. ModuleRead ws i j (Err l')) (sym (ends_once f f')) x') in let e : l ≡ l' = cc in record { behind = ap (λ j. j + 1) (ends_once f f'); state = refl; bytes = ap (module_refusal k ws) e; refused = refl }
-  item_once (module_refused j l f w x) (match_answered j' b' r' f' w' x') = absurd (two_words (text_at ws i) w w')
-  item_once (module_refused j l f w x) (item_not_built j' f' u' v') = absurd (yes_no _ w u')
-  item_once (match_answered j b r f w x) (item_unended n') = absurd (never_ends f n')
-  item_once (match_answered j b r f w x) (module_accepted j' m' f' w' x') = absurd (two_words (text_at ws i) w' w)
-  item_once (match_answered j b r f w x) (module_refused j' l' f' w' x') = absurd (two_words (text_at ws i) w' w)
-  item_once (match_answered j b r f w x) (match_answered j' b' r' f' w' x') = let o = match_once ws ms k i j x (subst (λ j. MatchAnswer ws ms k i j b' r') (sym (ends_once f f')) x') in record { behind = ap (λ j. j + 1) (ends_once f f'); state = refl; bytes = o.bytes; refused = o.refused }
-  item_once (match_answered j b r f w x) (item_not_built j' f' u' v') = absurd (yes_no _ w v')
-  item_once (item_not_built j f u v) (item_unended n') = absurd (never_ends f n')
-  item_once (item_not_built j f u v) (module_accepted j' m' f' w' x') = absurd (yes_no _ w' u)
-  item_once (item_not_built j f u v) (module_refused j' l' f' w' x') = absurd (yes_no _ w' u)
-  item_once (item_not_built j f u v) (match_answered j' b' r' f' w' x') = absurd (yes_no _ w' v)
-  item_once (item_not_built j f u v) (item_not_built j' f' u' v') = record { behind = ap (λ j. j + 1) (ends_once f f'); state = refl; bytes = refl; refused = refl }
+  never_quits : {ns : List ModuleOf} {b : List ℕ} {r : Bool} → ItemAnswer ws ms k item ns b r → item.body ≡ Ok Quit → ⊥
+  never_quits (item_faulty f e) q = let o = sym e ∙ q in absurd cc
+  never_quits (item_answered b ns bs r e x) q = let o = sym e ∙ q in let h : b ≡ Quit = cc in none (subst (λ b. BodyAnswer ws ms k (index_at ws item.at) b ns bs r) h x)
+    where
+      none : {ns : List ModuleOf} {b : List ℕ} {r : Bool} → BodyAnswer ws ms k (index_at ws item.at) Quit ns b r → ⊥
+      none x = elim x [ ]
 
 module _ (ws : List Word) where
-  items_once : {ms : List ModuleOf} {k i : ℕ} {b c : List ℕ} {r s : Bool} → ItemsAnswer ws ms k i b r → ItemsAnswer ws ms k i c s → AreOneAnswer b c r s
-  items_once (items_end ms k i e) (items_end ms' k' i' e') = one_answer
-  items_once (items_end ms k i e) (item_first ms' ns' k' i' j' b' more' r' later' h' x' y') = absurd (omega (arith, e, h'))
-  items_once (item_first ms ns k i j b more r later h x y) (items_end ms' k' i' e') = absurd (omega (arith, e', h))
-  items_once (item_first ms ns k i j b more r later h x y) (item_first ms' ns' k' i' j' b' more' r' later' h' x' y') =
-      let one = item_once ws ms k i x x' in
-      let rest = items_once y (subst (λ j. ItemsAnswer ws ns (k + 1) j more' later') (sym one.behind) (subst (λ ns. ItemsAnswer ws ns (k + 1) j' more' later') (sym one.state) y')) in
+  items_once : {ms : List ModuleOf} {k : ℕ} {items : List RawItem} {b c : List ℕ} {r s : Bool} → ItemsAnswer ws ms k items b r → ItemsAnswer ws ms k items c s → AreOneAnswer b c r s
+  items_once (items_end ms k) (items_end ms' k') = one_answer
+  items_once (item_quits ms k item items q) (item_quits ms' k' item' items' q') = one_answer
+  items_once (item_quits ms k item items q) (item_first ms' ns' k' item' items' b' more' r' later' x' y') = absurd (never_quits ws ms k item x' q)
+  items_once (item_first ms ns k item items b more r later x y) (item_quits ms' k' item' items' q') = absurd (never_quits ws ms k item x q')
+  items_once (item_first ms ns k item items b more r later x y) (item_first ms' ns' k' item' items' b' more' r' later' x' y') =
+      let one = item_once ws ms k item x x' in
+      let rest = items_once y (subst (λ ns. ItemsAnswer ws ns (k + 1) items more' later') (sym one.state) y') in
       record { bytes = ap₂ (λ b more. b ++ more) one.bytes rest.bytes; refused = ap₂ (λ r later. r || later) one.refused rest.refused }
 
 pub transcript_once : (text b c : List ℕ) (r s : Bool) → Transcript text b r → Transcript text c s → (b ≡ c) × (r ≡ s)
 transcript_once text b c r s (text_refused f x) (text_refused f' x') = let o = answers_are_one text _ _ x x' in let e : f ≡ f' = cc in (ap fault_line e, refl)
-transcript_once text b c r s (text_refused f x) (items_answered tokens' b' r' x' y') = let o = answers_are_one text _ _ x x' in absurd cc
-transcript_once text b c r s (items_answered tokens b' r' x y) (text_refused f' x') = let o = answers_are_one text _ _ x x' in absurd cc
-transcript_once text b c r s (items_answered tokens b' r' x y) (items_answered tokens' b'' r'' x' y') =
+transcript_once text b c r s (text_refused f x) (items_answered tokens' items' b' r' x' z' y') = let o = answers_are_one text _ _ x x' in absurd cc
+transcript_once text b c r s (items_answered tokens items b' r' x z y) (text_refused f' x') = let o = answers_are_one text _ _ x x' in absurd cc
+transcript_once text b c r s (items_answered tokens items b' r' x z y) (items_answered tokens' items' b'' r'' x' z' y') =
     let o = answers_are_one text _ _ x x' in
     let e : tokens ≡ tokens' = cc in
-    let one = items_once (words_of text tokens) y (subst (λ tokens. ItemsAnswer (words_of text tokens) [] 1 0 b'' r'') (sym e) y') in
+    let d = sym z ∙ ap (λ tokens. parts item_part (words_of text tokens)) e ∙ z' in
+    let i : items ≡ items' = cc d in
+    let y'' = subst (λ tokens. ItemsAnswer (words_of text tokens) [] 1 items b'' r'') (sym e) (subst (λ items. ItemsAnswer (words_of text tokens') [] 1 items b'' r'') (sym i) y') in
+    let one = items_once (words_of text tokens) y y'' in
     (one.bytes, one.refused)

@@ -4,7 +4,8 @@ use Rattle.mau_terms.specs.Tree.{Tree, variable, apply, Trees, no_trees, tree}
 use Rattle.mau_terms.specs.Vars.{place_of, with_pair}
 use Rattle.mau_poset.specs.Order.{kind_of}
 use Rattle.mau_reader.specs.Modules.{ModuleOf}
-use Rattle.mau_reader.specs.Words.{Word, text_at}
+use Rattle.mau_modtext.specs.Word.{Word}
+use Rattle.mau_reader.specs.Words.{text_at}
 use Rattle.mau_reader.specs.Names.{number_of}
 use Rattle.mau_session.specs.Terms.{Pairs, argument_kinds, result_kind, is_kind_frame, IsVariable, IsKindVariable, Reads, reads_constant, reads_application, reads_variable, reads_kind_variable, ReadsArgument, reads_argument, ReadsList, list_ends, list_goes_on}
 use Rattle.mau_session.proofs.Colons.{one_last_colon}

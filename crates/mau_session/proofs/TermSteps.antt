@@ -4,8 +4,9 @@ use Rattle.mau_terms.specs.declared.bare.Bare.{Bare}
 use Rattle.mau_terms.specs.Tree.{Tree, Trees, tree, trees_of, node}
 use Rattle.mau_terms.specs.View.{tree_of}
 use Rattle.mau_reader.specs.Modules.{ModuleOf, operator_names}
-use Rattle.mau_reader.specs.Words.{Word, text_at}
-use Rattle.mau_reader.specs.Places.{is_word}
+use Rattle.mau_modtext.specs.Word.{Word}
+use Rattle.mau_reader.specs.Words.{text_at}
+use Rattle.mau_reader.specs.Words.{is_word}
 use Rattle.mau_reader.specs.Names.{number_of}
 use Rattle.mau_session.specs.Terms.{Pairs, argument_kinds, result_kind, IsVariable, IsKindVariable, Reads, reads_constant, reads_application, reads_variable, reads_kind_variable, ReadsArgument, reads_argument, ReadsList, list_ends, list_goes_on}
 use Rattle.mau_session.specs.ReadVariables.{IsReadVariable, IsReadKindVariable}

@@ -7,8 +7,11 @@ use Rattle.mau_tokens.specs.declared.token.TokenFault.{TokenFault}
 use Rattle.mau_tokens.specs.declared.token.TokenFault.TheVariants.{NotUtf8, OpenComment, OpenString, TokenTooLong, NoMemory}
 use Rattle.mau_reader.specs.Modules.{ModuleOf, Why, leaves, faulty}
 use Rattle.mau_session.specs.declared.refusal.Refusal.{Refusal}
-use Rattle.mau_session.specs.declared.refusal.Refusal.TheVariants.{Unended, NotBuilt, NoParse}
-use Rattle.mau_reader.specs.Words.{Word, text_at, place_at}
+use Rattle.mau_session.specs.declared.refusal.Refusal.TheVariants.{NotBuilt, NoParse}
+use Rattle.mau_modtext.specs.Word.{Word}
+use Rattle.mau_modtext.specs.declared.raw.TextFault.{TextFault}
+use Rattle.mau_modtext.specs.declared.raw.TextFault.TheVariants.{Unended, Unexpected, Unsupported}
+use Rattle.mau_reader.specs.Words.{text_at, place_at}
 use Rattle.mau_session.specs.Terms.{Pairs, terms_in}
 use Rattle.mau_session.specs.Shown.{shown, shown_variable}
 
@@ -19,18 +22,26 @@ item_head k = codes "[" ++ decimal k ++ codes "] "
 -- ---- refusals: the name of the fault, and the word that it names, with its place
 
 abbrev pub shown_refusal : List Word → Refusal → List ℕ
-shown_refusal ws (Unended i) = codes "Unended " ++ decimal (place_at ws i)
 shown_refusal ws (NotBuilt i) = codes "NotBuilt " ++ text_at ws i ++ codes " " ++ decimal (place_at ws i)
 shown_refusal ws (NoParse i) = codes "NoParse " ++ decimal (place_at ws i)
 
 abbrev pub refusal_line : ℕ → List Word → Refusal → List ℕ
 refusal_line k ws r = item_head k ++ codes "refused: " ++ shown_refusal ws r ++ codes "\n"
 
--- the text of what is at fault in a module
+-- the answer of an item that is refused with this text
 abbrev pub faulty_line : ℕ → List ℕ → List ℕ
 faulty_line k text = item_head k ++ codes "refused: " ++ text ++ codes "\n"
 
--- a refused module: the word that leaves the grammar, or the text of what is at fault
+-- the fault of an item: its name, that of a form which is known by name alone, and the place
+abbrev pub shown_text_fault : TextFault → List ℕ
+shown_text_fault (Unended at) = codes "Unended " ++ decimal at
+shown_text_fault (Unexpected at) = codes "Unexpected " ++ decimal at
+shown_text_fault (Unsupported name at) = codes "Unsupported " ++ name ++ codes " " ++ decimal at
+
+abbrev pub text_fault_line : ℕ → TextFault → List ℕ
+text_fault_line k f = faulty_line k (shown_text_fault f)
+
+-- a refused module: the word from which on it isn't built, or the text of what is at fault
 abbrev pub module_refusal : ℕ → List Word → Why → List ℕ
 module_refusal k ws (leaves i) = refusal_line k ws (NotBuilt i)
 module_refusal k ws (faulty text) = faulty_line k text

@@ -7,8 +7,8 @@ pub mod Binding
 pub mod Bound
 pub mod Commands
 pub mod Answers
+pub mod Built
 pub mod Transcript
-pub mod Refused
 pub mod Gains
 pub mod Meanings
 pub mod Run

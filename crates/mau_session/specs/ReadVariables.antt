@@ -6,7 +6,8 @@ use Rattle.mau_terms.specs.View.{tree_of}
 use Rattle.mau_terms.specs.Vars.{place_of, with_pair}
 use Rattle.mau_poset.specs.Order.{kind_of}
 use Rattle.mau_reader.specs.Modules.{ModuleOf}
-use Rattle.mau_reader.specs.Words.{Word, text_at}
+use Rattle.mau_modtext.specs.Word.{Word}
+use Rattle.mau_reader.specs.Words.{text_at}
 use Rattle.mau_session.specs.Terms.{Pairs, IsVariable, IsKindVariable}
 
 pub record IsReadVariable (m : ModuleOf) (ws : List Word) (from : ℕ) (old new : Pairs) (r : Bare × ℕ) : Type 0 where

@@ -9,10 +9,10 @@ use Rattle.mau_terms.specs.Vars.{place_of, with_pair}
 use Rattle.mau_poset.specs.Order.{kind_of}
 use Rattle.mau_signature.specs.Signature.{SignatureOf, IsOperator, theory_at, terms_over}
 use Rattle.mau_sorts.specs.HasSort.{HasSort as NormalHasSort}
-use Rattle.mau_reader.specs.Words.{Word, text_at}
-use Rattle.mau_reader.specs.Places.{is_word}
+use Rattle.mau_modtext.specs.Word.{Word}
+use Rattle.mau_modtext.specs.Words.{begins_string}
+use Rattle.mau_reader.specs.Words.{text_at, is_word}
 use Rattle.mau_reader.specs.Names.{number_of}
-use Rattle.mau_reader.specs.Sorts.{is_string}
 use Rattle.mau_reader.specs.Modules.{ModuleOf, operator_names}
 
 -- the variables of a command: their names and sorts, by first occurrence
@@ -56,7 +56,7 @@ pub record IsLastColon (w : List ℕ) (k : ℕ) : Type 0 where
 
 -- what stands before k may be the name of a variable: it isn't empty and not HOLE, and the word is no string
 abbrev pub names_variable : List ℕ → ℕ → Bool
-names_variable w k = nat_lt 0 k && not (is_string w) && not (bytes_eq (take k w) (codes "HOLE"))
+names_variable w k = nat_lt 0 k && not (begins_string w) && not (bytes_eq (take k w) (codes "HOLE"))
 
 -- The word is a variable, `X:S`, cut at the colon at k; S is the declared sort s. No name of a sort holds a colon, so
 -- the cut is at the last one.

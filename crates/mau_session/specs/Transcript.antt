@@ -1,5 +1,5 @@
 -- The transcript of a text: the answers of its items, one after another, each in the state after the items before.
-use Rattle.std.specs.Prelude.{◌≡◌, ℕ, ◌+◌, ◌-◌, ◌<◌, List, [], ◌∷◌, ◌++◌, length, Bool, true, false, ◌||◌, not, Option, Some, None, Ok, Err, codes, filter, slice_get}
+use Rattle.std.specs.Prelude.{◌≡◌, ℕ, ◌+◌, ◌-◌, List, [], ◌∷◌, ◌++◌, length, Bool, true, false, ◌||◌, not, Option, Some, None, Ok, Err, filter, slice_get}
 use Rattle.std.specs.Str.{bytes_eq}
 use Rattle.mau_terms.specs.Tree.{Tree}
 use Rattle.mau_terms.specs.Norm.{norm}
@@ -9,14 +9,23 @@ use Rattle.mau_canon.specs.Within.{IsWithin, IsCause}
 use Rattle.mau_tokens.specs.declared.token.Token.{Token}
 use Rattle.mau_tokens.specs.declared.token.TokenFault.{TokenFault}
 use Rattle.mau_tokens.specs.TokensOf.{TokensOf}
+use Rattle.mau_modtext.specs.Word.{Word}
+use Rattle.mau_modtext.specs.Words.{words_of}
+use Rattle.mau_modtext.specs.Items.{AreItems}
+use Rattle.mau_modtext.specs.declared.raw.RawItem.{RawItem}
+use Rattle.mau_modtext.specs.declared.raw.RawBody.{RawBody}
+use Rattle.mau_modtext.specs.declared.raw.RawBody.TheVariants.{Module, Command, Setting as SettingBody, Quit}
+use Rattle.mau_modtext.specs.declared.raw.RawModule.{RawModule}
+use Rattle.mau_modtext.specs.declared.raw.RawCommand.{RawCommand}
+use Rattle.mau_modtext.specs.declared.raw.Setting.{Setting}
+use Rattle.mau_modtext.specs.declared.raw.TextFault.{TextFault}
+use Rattle.mau_reader.specs.Words.{index_at}
 use Rattle.mau_reader.specs.Modules.{ModuleOf, Why, ModuleRead}
-use Rattle.mau_session.specs.declared.refusal.Refusal.TheVariants.{Unended, NotBuilt, NoParse}
-use Rattle.mau_reader.specs.Words.{Word, words_of}
-use Rattle.mau_reader.specs.Places.{IsFirst, IsNowhere, is_word}
-use Rattle.mau_reader.specs.Items.{may_end}
+use Rattle.mau_session.specs.declared.refusal.Refusal.TheVariants.{NotBuilt, NoParse}
 use Rattle.mau_session.specs.Terms.{Pairs, Reads, terms_in, HasAxioms}
 use Rattle.mau_session.specs.Matching.{IsListing}
-use Rattle.mau_session.specs.Commands.{CommandRead}
+use Rattle.mau_session.specs.Commands.{pattern_begin, pattern_end, subject_begin, subject_end, unbuilt}
+use Rattle.mau_session.specs.Built.{is_built_module, is_match, fault_answer}
 use Rattle.mau_session.specs.Answers.{refusal_line, fault_line, module_refusal, module_line, match_head, too_deep_line, overflow_line, listing_lines}
 
 -- ---- the state: the accepted modules, one of each name, the last accepted one at the end
@@ -28,50 +37,66 @@ accepted ms m = filter (λ n. not (bytes_eq n.name m.name)) ms ++ m ∷ []
 abbrev pub current : List ModuleOf → Option ModuleOf
 current ms = slice_get ms (length ms - 1)
 
--- ---- the answer of a match command, whose words run from i to its full stop at j
+-- ---- the answer of a match command
 
--- The pattern stands from i + 1 on, before `<=?` at s, and the subject behind it; the pattern is read in any kind, and the
--- subject in the pattern's. A subject whose normal form is deeper than 1,000, or else holds the successor of the greatest numeral,
--- has an end in place of solutions.
-pub data TermsAnswer (ws : List Word) (m : ModuleOf) (k i s j : ℕ) : List ℕ → Bool → Type 0 where
-  no_pattern : ((p : Tree) (kind : ℕ) (ns : Pairs) → Reads m ws s [] (i + 1) p kind s ns → ⊥) → TermsAnswer ws m k i s j (refusal_line k ws (NoParse (i + 1))) true
-  no_subject : (p : Tree) (kind : ℕ) (ns : Pairs) → Reads m ws s [] (i + 1) p kind s ns
-      → ((t : Tree) (os : Pairs) → Reads m ws j ns (s + 1) t kind j os → ⊥) → TermsAnswer ws m k i s j (refusal_line k ws (NoParse (s + 1))) true
-  too_deep : (p : Tree) (kind : ℕ) (ns : Pairs) (t : Tree) (os : Pairs) → Reads m ws s [] (i + 1) p kind s ns → Reads m ws j ns (s + 1) t kind j os
-      → IsCause (terms_in m).theory (norm (terms_in m).theory t) TooDeep → TermsAnswer ws m k i s j (match_head k m ++ too_deep_line) false
-  overflows : (p : Tree) (kind : ℕ) (ns : Pairs) (t : Tree) (os : Pairs) → Reads m ws s [] (i + 1) p kind s ns → Reads m ws j ns (s + 1) t kind j os
-      → IsCause (terms_in m).theory (norm (terms_in m).theory t) Overflow → TermsAnswer ws m k i s j (match_head k m ++ overflow_line) false
-  listed : (p : Tree) (kind : ℕ) (ns : Pairs) (t : Tree) (os : Pairs) (found : List (List Tree)) → Reads m ws s [] (i + 1) p kind s ns → Reads m ws j ns (s + 1) t kind j os
-      → IsWithin (terms_in m).theory (norm (terms_in m).theory t) → IsListing m p t found → TermsAnswer ws m k i s j (match_head k m ++ listing_lines m os p found) false
+-- the words of the pattern read as this term, in this kind and with these variables
+abbrev pub PatternReads : List Word → ModuleOf → RawCommand → Tree → ℕ → Pairs → Type 0
+PatternReads ws m c p kind ns = Reads m ws (pattern_end ws c) [] (pattern_begin ws c) p kind (pattern_end ws c) ns
 
-pub data MatchAnswer (ws : List Word) (ms : List ModuleOf) (k i j : ℕ) : List ℕ → Bool → Type 0 where
-  no_module : current ms ≡ None → MatchAnswer ws ms k i j (refusal_line k ws (NotBuilt i)) true
-  command_leaves : (m : ModuleOf) (l : ℕ) → current ms ≡ Some m → CommandRead ws (i + 1) j (Err l) → MatchAnswer ws ms k i j (refusal_line k ws (NotBuilt l)) true
-  axioms_not_built : (m : ModuleOf) (s : ℕ) → current ms ≡ Some m → CommandRead ws (i + 1) j (Ok s) → HasAxioms m.signature → MatchAnswer ws ms k i j (refusal_line k ws (NotBuilt i)) true
-  command_answered : (m : ModuleOf) (s : ℕ) (bytes : List ℕ) (refused : Bool) → current ms ≡ Some m → CommandRead ws (i + 1) j (Ok s) → HasNoAxioms (terms_in m)
-      → TermsAnswer ws m k i s j bytes refused → MatchAnswer ws ms k i j bytes refused
+-- the words of the subject, which is read in the pattern's kind and behind its variables
+abbrev pub SubjectReads : List Word → ModuleOf → RawCommand → Pairs → Tree → ℕ → Pairs → Type 0
+SubjectReads ws m c ns t kind os = Reads m ws (subject_end ws c) ns (subject_begin ws c) t kind (subject_end ws c) os
 
--- ---- the answer of the item that begins at i, which is the k-th: the place behind it, the state after it, its bytes, and whether it was refused
+-- The pattern is read in any kind, and the subject in the pattern's. A subject whose normal form is deeper than 1,000, or else holds
+-- the successor of the greatest numeral, has an end in place of solutions.
+pub data TermsAnswer (ws : List Word) (m : ModuleOf) (k : ℕ) (c : RawCommand) : List ℕ → Bool → Type 0 where
+  no_pattern : ((p : Tree) (kind : ℕ) (ns : Pairs) → PatternReads ws m c p kind ns → ⊥) → TermsAnswer ws m k c (refusal_line k ws (NoParse (pattern_begin ws c))) true
+  no_subject : (p : Tree) (kind : ℕ) (ns : Pairs) → PatternReads ws m c p kind ns
+      → ((t : Tree) (os : Pairs) → SubjectReads ws m c ns t kind os → ⊥) → TermsAnswer ws m k c (refusal_line k ws (NoParse (subject_begin ws c))) true
+  too_deep : (p : Tree) (kind : ℕ) (ns : Pairs) (t : Tree) (os : Pairs) → PatternReads ws m c p kind ns → SubjectReads ws m c ns t kind os
+      → IsCause (terms_in m).theory (norm (terms_in m).theory t) TooDeep → TermsAnswer ws m k c (match_head k m ++ too_deep_line) false
+  overflows : (p : Tree) (kind : ℕ) (ns : Pairs) (t : Tree) (os : Pairs) → PatternReads ws m c p kind ns → SubjectReads ws m c ns t kind os
+      → IsCause (terms_in m).theory (norm (terms_in m).theory t) Overflow → TermsAnswer ws m k c (match_head k m ++ overflow_line) false
+  listed : (p : Tree) (kind : ℕ) (ns : Pairs) (t : Tree) (os : Pairs) (found : List (List Tree)) → PatternReads ws m c p kind ns → SubjectReads ws m c ns t kind os
+      → IsWithin (terms_in m).theory (norm (terms_in m).theory t) → IsListing m p t found → TermsAnswer ws m k c (match_head k m ++ listing_lines m os p found) false
 
-pub data ItemAnswer (ws : List Word) (ms : List ModuleOf) (k i : ℕ) : ℕ → List ModuleOf → List ℕ → Bool → Type 0 where
-  item_unended : IsNowhere (may_end ws i) i (length ws) → ItemAnswer ws ms k i (length ws) ms (refusal_line k ws (Unended i)) true
-  module_accepted : (j : ℕ) (m : ModuleOf) → IsFirst (may_end ws i) i (length ws) j → is_word ws (codes "fmod") i ≡ true → ModuleRead ws i j (Ok m)
-      → ItemAnswer ws ms k i (j + 1) (accepted ms m) (module_line k m) false
-  module_refused : (j : ℕ) (why : Why) → IsFirst (may_end ws i) i (length ws) j → is_word ws (codes "fmod") i ≡ true → ModuleRead ws i j (Err why)
-      → ItemAnswer ws ms k i (j + 1) ms (module_refusal k ws why) true
-  match_answered : (j : ℕ) (bytes : List ℕ) (refused : Bool) → IsFirst (may_end ws i) i (length ws) j → is_word ws (codes "match") i ≡ true
-      → MatchAnswer ws ms k i j bytes refused → ItemAnswer ws ms k i (j + 1) ms bytes refused
-  item_not_built : (j : ℕ) → IsFirst (may_end ws i) i (length ws) j → is_word ws (codes "fmod") i ≡ false → is_word ws (codes "match") i ≡ false
-      → ItemAnswer ws ms k i (j + 1) ms (refusal_line k ws (NotBuilt i)) true
+-- the match command begins at the word i
+pub data MatchAnswer (ws : List Word) (ms : List ModuleOf) (k i : ℕ) (c : RawCommand) : List ℕ → Bool → Type 0 where
+  no_module : current ms ≡ None → MatchAnswer ws ms k i c (refusal_line k ws (NotBuilt i)) true
+  command_not_built : (m : ModuleOf) (l : ℕ) → current ms ≡ Some m → unbuilt ws i c ≡ Some l → MatchAnswer ws ms k i c (refusal_line k ws (NotBuilt l)) true
+  axioms_not_built : (m : ModuleOf) → current ms ≡ Some m → unbuilt ws i c ≡ None → HasAxioms m.signature → MatchAnswer ws ms k i c (refusal_line k ws (NotBuilt i)) true
+  command_answered : (m : ModuleOf) (bytes : List ℕ) (refused : Bool) → current ms ≡ Some m → unbuilt ws i c ≡ None → HasNoAxioms (terms_in m)
+      → TermsAnswer ws m k c bytes refused → MatchAnswer ws ms k i c bytes refused
 
--- the answers of the items from i on, numbered from k, in this state: their bytes, and whether one of them was refused
-pub data ItemsAnswer (ws : List Word) : List ModuleOf → ℕ → ℕ → List ℕ → Bool → Type 0 where
-  items_end : (ms : List ModuleOf) (k i : ℕ) → i ≡ length ws → ItemsAnswer ws ms k i [] false
-  item_first : (ms ns : List ModuleOf) (k i j : ℕ) (bytes more : List ℕ) (refused later : Bool) → i < length ws → ItemAnswer ws ms k i j ns bytes refused
-      → ItemsAnswer ws ns (k + 1) j more later → ItemsAnswer ws ms k i (bytes ++ more) (refused || later)
+-- ---- the answer of an item, which is the k-th
+
+-- what it says, from the word i on: the state after it, its bytes, and whether it was refused
+pub data BodyAnswer (ws : List Word) (ms : List ModuleOf) (k i : ℕ) : RawBody → List ModuleOf → List ℕ → Bool → Type 0 where
+  module_not_built : (raw : RawModule) → is_built_module raw.kind ≡ false → BodyAnswer ws ms k i (Module raw) ms (refusal_line k ws (NotBuilt i)) true
+  module_accepted : (raw : RawModule) (m : ModuleOf) → is_built_module raw.kind ≡ true → ModuleRead ws raw (Ok m)
+      → BodyAnswer ws ms k i (Module raw) (accepted ms m) (module_line k m) false
+  module_refused : (raw : RawModule) (why : Why) → is_built_module raw.kind ≡ true → ModuleRead ws raw (Err why)
+      → BodyAnswer ws ms k i (Module raw) ms (module_refusal k ws why) true
+  match_answered : (c : RawCommand) (bytes : List ℕ) (refused : Bool) → is_match c.kind ≡ true → MatchAnswer ws ms k i c bytes refused
+      → BodyAnswer ws ms k i (Command c) ms bytes refused
+  other_not_built : (c : RawCommand) → is_match c.kind ≡ false → BodyAnswer ws ms k i (Command c) ms (refusal_line k ws (NotBuilt i)) true
+  setting_not_built : (s : Setting) → BodyAnswer ws ms k i (SettingBody s) ms (refusal_line k ws (NotBuilt i)) true
+
+-- an item that says nothing is refused by its fault
+pub data ItemAnswer (ws : List Word) (ms : List ModuleOf) (k : ℕ) (item : RawItem) : List ModuleOf → List ℕ → Bool → Type 0 where
+  item_faulty : (f : TextFault) → item.body ≡ Err f → ItemAnswer ws ms k item ms (fault_answer k ws (index_at ws item.at) f) true
+  item_answered : (b : RawBody) (ns : List ModuleOf) (bytes : List ℕ) (refused : Bool) → item.body ≡ Ok b → BodyAnswer ws ms k (index_at ws item.at) b ns bytes refused
+      → ItemAnswer ws ms k item ns bytes refused
+
+-- the answers of items, numbered from k, in this state, up to one that quits: their bytes, and whether one of them was refused
+pub data ItemsAnswer (ws : List Word) : List ModuleOf → ℕ → List RawItem → List ℕ → Bool → Type 0 where
+  items_end : (ms : List ModuleOf) (k : ℕ) → ItemsAnswer ws ms k [] [] false
+  item_quits : (ms : List ModuleOf) (k : ℕ) (item : RawItem) (items : List RawItem) → item.body ≡ Ok Quit → ItemsAnswer ws ms k (item ∷ items) [] false
+  item_first : (ms ns : List ModuleOf) (k : ℕ) (item : RawItem) (items : List RawItem) (bytes more : List ℕ) (refused later : Bool)
+      → ItemAnswer ws ms k item ns bytes refused → ItemsAnswer ws ns (k + 1) items more later → ItemsAnswer ws ms k (item ∷ items) (bytes ++ more) (refused || later)
 
 -- the transcript of a text, and whether it was refused or one of its items
 pub data Transcript (text : List ℕ) : List ℕ → Bool → Type 0 where
   text_refused : (f : TokenFault) → TokensOf text (Err f) → Transcript text (fault_line f) true
-  items_answered : (tokens : List Token) (bytes : List ℕ) (refused : Bool) → TokensOf text (Ok tokens) → ItemsAnswer (words_of text tokens) [] 1 0 bytes refused
-      → Transcript text bytes refused
+  items_answered : (tokens : List Token) (items : List RawItem) (bytes : List ℕ) (refused : Bool) → TokensOf text (Ok tokens) → AreItems (words_of text tokens) items
+      → ItemsAnswer (words_of text tokens) [] 1 items bytes refused → Transcript text bytes refused

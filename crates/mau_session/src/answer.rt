@@ -1,36 +1,30 @@
 //! The answers of items.
-ghost use Rattle.std.specs.Prelude.{◌≡◌, ◌<◌, ◌≤◌, ◌+◌, ◌++◌, [], length, take, true, OnOk, IfOk};
+ghost use Rattle.std.specs.Prelude.{◌≡◌, ◌≢◌, ◌<◌, ◌≤◌, ◌++◌, [], length, take, true, OnOk, Ok, IfOk};
 ghost use Rattle.mau_terms.specs.Bare.{HasNoAxioms, IsBare};
 ghost use Rattle.mau_terms.specs.Subst.{variables};
 ghost use Rattle.mau_terms.specs.View.{tree_of};
 ghost use Rattle.mau_reader.specs.Kept.{AreNamed};
-ghost use Rattle.mau_reader.specs.Places.{is_word};
 ghost use Rattle.mau_session.specs.Terms.{terms_in};
 ghost use Rattle.mau_session.specs.Matching.{numbered_from};
-ghost use Rattle.mau_session.specs.Refused.{word_of_refusal};
+ghost use Rattle.mau_modtext.specs.declared.raw.RawBody.TheVariants as RawBody;
 ghost use Rattle.mau_session.specs.Answers.{module_line, match_head, refusal_line};
+ghost use Rattle.mau_session.specs.Built.{fault_answer};
 ghost use Rattle.mau_session.specs.Transcript.{ItemsAnswer};
-ghost use Rattle.mau_session.specs.Gains.{GainsListed, GainsTerms, GainsMatch, GainsModule, GainsItem};
+ghost use Rattle.mau_session.specs.Gains.{GainsListed, GainsTerms, GainsMatch, GainsBody, GainsItem};
 
-use crate::command::read_command;
+use crate::built::{begins_unbuilt, is_built_module, is_match, is_unended, quits};
+use crate::command::unbuilt;
 use crate::listing::write_listing;
-use crate::refusal::{Refusal, write_faulty, write_head, write_refusal};
+use crate::refusal::{Refusal, write_faulty, write_head, write_refusal, write_text_fault};
 use crate::sorts::has_axioms;
 use crate::state::State;
 use crate::whole::{read_whole, read_whole_of};
 use mau_canon::{BuildFault, build_bare};
-use mau_reader::{Module, ModuleFault, Words, end_of_item, read_module, write_text};
+use mau_modtext::{RawBody, RawCommand, RawItem, RawModule, TextFault};
+use mau_reader::{Module, ModuleFault, Words, read_module, write_text};
 use mau_store::Store;
 use mau_terms::{Bare, NoMemory, Vars};
 use std::alloc::Global;
-
-/// Where an item stands: its number, the place of its first word, and that of its last one.
-#[derive(Clone, Copy, Debug, PartialEq, Eq)]
-pub struct Item {
-    pub number: usize,
-    pub from: usize,
-    pub to: usize,
-}
 
 /// Writes a refusal, and says that the item was refused.
 fn refuse(
@@ -39,7 +33,6 @@ fn refuse(
     number: usize,
     refusal: Refusal,
 ) -> Result<bool, NoMemory>
-    requires { word_of_refusal refusal < length words.now }
     ensures bytes { OnOk result (out.new.items ≡ out.old.items ++ refusal_line number words.now refusal) }
     ensures refused { IfOk result (λ refused. refused ≡ true) }
 {
@@ -95,33 +88,35 @@ fn answer_listing(
     Ok(())
 }
 
-/// Answers a match over a module, whose pattern and subject stand around the sign at `sign`. Says whether it
-/// was refused.
+/// Answers a match command over a module. Says whether it was refused.
 fn answer_terms(
     out: &mut Vec<u8>,
     alloc: Global,
     words: &Words,
     module: &Module,
-    item: Item,
-    sign: usize,
+    number: usize,
+    command: &RawCommand,
 ) -> Result<bool, NoMemory>
-    requires pattern { item.from + 1 < sign }
-    requires subject { sign + 1 < item.to }
-    requires within { item.to < length words.now }
-    requires short { (sign ≤ item.from + 1001) × (item.to ≤ sign + 1001) }
+    requires few { length words.now ≤ 16777216 }
+    requires pattern { length command.now.first ≤ 1000 }
+    requires subject { length command.now.second ≤ 1000 }
     requires named { AreNamed module.now }
     requires free { HasNoAxioms (terms_in module.now) }
-    ensures { IfOk result (λ refused. GainsTerms words.now module.now item.number item.from sign item.to out.old.items out.new.items refused) }
+    ensures { IfOk result (λ refused. GainsTerms words.now module.now number command.now out.old.items out.new.items refused) }
 {
     let mut vars = Vars::new(alloc);
-    match read_whole(alloc, module, words, sign, &mut vars, item.from + 1)? {
-        None => refuse(out, words, item.number, Refusal::NoParse(item.from + 1)),
+    let begin = words.first_index(command.first.items());
+    let end = begin + command.first.items().len();
+    match read_whole(alloc, module, words, end, &mut vars, begin)? {
+        None => refuse(out, words, number, Refusal::NoParse(begin)),
         Some((pattern, kind)) => {
             let count = vars.len();
-            match read_whole_of(alloc, module, words, item.to, &mut vars, sign + 1, kind)? {
-                None => refuse(out, words, item.number, Refusal::NoParse(sign + 1)),
+            let from = words.first_index(command.second.items());
+            let to = from + command.second.items().len();
+            match read_whole_of(alloc, module, words, to, &mut vars, from, kind)? {
+                None => refuse(out, words, number, Refusal::NoParse(from)),
                 Some(subject) => {
-                    write_match_head(out, item.number, module)?;
+                    write_match_head(out, number, module)?;
                     answer_listing(out, alloc, module, &vars, count, &pattern, &subject)?;
                     Ok(false)
                 }
@@ -130,109 +125,170 @@ fn answer_terms(
     }
 }
 
-/// Answers a match command. Says whether it was refused.
+/// Answers a match command that begins at the word `item`. Says whether it was refused.
 fn answer_match(
     out: &mut Vec<u8>,
     alloc: Global,
     words: &Words,
     state: &State,
-    item: Item,
+    number: usize,
+    item: usize,
+    command: &RawCommand,
 ) -> Result<bool, NoMemory>
-    requires ascends { item.from < item.to }
-    requires within { item.to < length words.now }
-    ensures { IfOk result (λ refused. GainsMatch words.now state.now item.number item.from item.to out.old.items out.new.items refused) }
+    requires few { length words.now ≤ 16777216 }
+    requires item { item ≤ length words.now }
+    ensures { IfOk result (λ refused. GainsMatch words.now state.now number item command.now out.old.items out.new.items refused) }
 {
     match state.current() {
-        None => refuse(out, words, item.number, Refusal::NotBuilt(item.from)),
-        Some(module) => match read_command(words, item.from + 1, item.to) {
-            Err(word) => refuse(out, words, item.number, Refusal::NotBuilt(word)),
-            Ok(sign) => {
+        None => refuse(out, words, number, Refusal::NotBuilt(item)),
+        Some(module) => match unbuilt(words, item, command) {
+            Some(word) => refuse(out, words, number, Refusal::NotBuilt(word)),
+            None => {
                 if has_axioms(module.signature()) {
-                    return refuse(out, words, item.number, Refusal::NotBuilt(item.from));
+                    return refuse(out, words, number, Refusal::NotBuilt(item));
                 }
-                answer_terms(out, alloc, words, module, item, sign)
+                answer_terms(out, alloc, words, module, number, command)
             }
         },
     }
 }
 
-/// Answers a module. Says whether it was refused; otherwise it is the current one.
+/// Answers a command that begins at the word `item`. Says whether it was refused.
+fn answer_command(
+    out: &mut Vec<u8>,
+    alloc: Global,
+    words: &Words,
+    state: &State,
+    number: usize,
+    item: usize,
+    command: &RawCommand,
+) -> Result<bool, NoMemory>
+    requires few { length words.now ≤ 16777216 }
+    requires item { item ≤ length words.now }
+    ensures { IfOk result (λ refused. GainsBody words.now state.now number item (RawBody.Command command.now) state.now out.old.items out.new.items refused) }
+{
+    if is_match(command.kind) {
+        answer_match(out, alloc, words, state, number, item, command)
+    } else {
+        refuse(out, words, number, Refusal::NotBuilt(item))
+    }
+}
+
+/// Answers a module that begins at the word `item`. Says whether it was refused; otherwise it is the current one.
 fn answer_module(
     out: &mut Vec<u8>,
     alloc: Global,
     words: &Words,
     state: &mut State,
-    item: Item,
+    number: usize,
+    item: usize,
+    raw: &RawModule,
 ) -> Result<bool, NoMemory>
-    requires ascends { item.from < item.to }
-    requires within { item.to < length words.now }
-    requires short { length words.now ≤ 16777216 }
-    ensures { IfOk result (λ refused. GainsModule words.now item.number item.from item.to state.old state.new out.old.items out.new.items refused) }
+    ensures { IfOk result (λ refused. GainsBody words.now state.old number item (RawBody.Module raw.now) state.new out.old.items out.new.items refused) }
 {
-    match read_module(alloc, words, item.from, item.to) {
+    if !is_built_module(raw.kind) {
+        return refuse(out, words, number, Refusal::NotBuilt(item));
+    }
+    match read_module(alloc, words, raw) {
         Ok(module) => {
-            write_module(out, item.number, &module)?;
+            write_module(out, number, &module)?;
             state.accept(module)?;
             Ok(false)
         }
-        Err(ModuleFault::Leaves(word)) => refuse(out, words, item.number, Refusal::NotBuilt(word)),
+        Err(ModuleFault::Leaves(word)) => refuse(out, words, number, Refusal::NotBuilt(word)),
         Err(ModuleFault::Refused(text)) => {
-            write_faulty(out, item.number, text.items())?;
+            write_faulty(out, number, text.items())?;
             Ok(true)
         }
         Err(ModuleFault::NoMemory) => Err(NoMemory),
     }
 }
 
-/// Answers the item that begins at `from` and has this number. Gives the place behind it, and whether it was
-/// refused.
+/// Answers what an item says that begins at the word `item`. Says whether it was refused.
+fn answer_body(
+    out: &mut Vec<u8>,
+    alloc: Global,
+    words: &Words,
+    state: &mut State,
+    number: usize,
+    item: usize,
+    body: &RawBody,
+) -> Result<bool, NoMemory>
+    requires few { length words.now ≤ 16777216 }
+    requires item { item ≤ length words.now }
+    requires stays { body.now ≢ RawBody.Quit }
+    ensures { IfOk result (λ refused. GainsBody words.now state.old number item body.now state.new out.old.items out.new.items refused) }
+{
+    match body {
+        RawBody::Module(raw) => answer_module(out, alloc, words, state, number, item, raw),
+        RawBody::Command(command) => {
+            answer_command(out, alloc, words, state, number, item, command)
+        }
+        RawBody::Setting(_) => refuse(out, words, number, Refusal::NotBuilt(item)),
+        RawBody::Quit => unreachable!(),
+    }
+}
+
+/// Writes the answer of an item with a fault that begins at the word `item`.
+fn answer_fault(
+    out: &mut Vec<u8>,
+    words: &Words,
+    number: usize,
+    item: usize,
+    fault: &TextFault,
+) -> Result<(), NoMemory>
+    ensures { OnOk result (out.new.items ≡ out.old.items ++ fault_answer number words.now item fault.now) }
+{
+    if !is_unended(fault) && begins_unbuilt(words.text(item)) {
+        write_refusal(out, words, number, Refusal::NotBuilt(item))
+    } else {
+        write_text_fault(out, number, fault)
+    }
+}
+
+/// Answers an item that doesn't quit. Says whether it was refused.
 fn answer_item(
     out: &mut Vec<u8>,
     alloc: Global,
     words: &Words,
     state: &mut State,
     number: usize,
-    from: usize,
-) -> Result<(usize, bool), NoMemory>
-    requires within { from < length words.now }
-    requires short { length words.now ≤ 16777216 }
-    ensures item { IfOk result (λ r. GainsItem words.now state.old number from r.0 state.new out.old.items out.new.items r.1) }
-    ensures behind { IfOk result (λ r. (from < r.0) × (r.0 ≤ length words.now)) }
+    item: &RawItem,
+) -> Result<bool, NoMemory>
+    requires few { length words.now ≤ 16777216 }
+    requires stays { item.now.body ≢ Ok RawBody.Quit }
+    ensures { IfOk result (λ refused. GainsItem words.now state.old number item.now state.new out.old.items out.new.items refused) }
 {
-    match end_of_item(words, from) {
-        None => {
-            let refused = refuse(out, words, number, Refusal::Unended(from))?;
-            Ok((words.len(), refused))
-        }
-        Some(to) => {
-            let item = Item { number, from, to };
-            let refused = if words.is(from, "fmod") {
-                answer_module(out, alloc, words, state, item)?
-            } else if words.is(from, "match") {
-                answer_match(out, alloc, words, state, item)?
-            } else {
-                refuse(out, words, number, Refusal::NotBuilt(from))?
-            };
-            Ok((to + 1, refused))
+    let word = words.index_at(item.at);
+    match &item.body {
+        Ok(body) => answer_body(out, alloc, words, state, number, word, body),
+        Err(fault) => {
+            answer_fault(out, words, number, word, fault)?;
+            Ok(true)
         }
     }
 }
 
-/// Answers all items. Gives the bytes, and whether one of the items was refused.
-pub fn answer_items(alloc: Global, words: &Words) -> Result<(Vec<u8>, bool), NoMemory>
-    requires short { length words.now ≤ 16777216 }
-    ensures { IfOk result (λ r. ItemsAnswer words.now [] 1 0 r.0.items r.1) }
+/// Answers items, up to one that quits. Gives the bytes, and whether one of the items was refused.
+pub fn answer_items(
+    alloc: Global,
+    words: &Words,
+    items: &[RawItem],
+) -> Result<(Vec<u8>, bool), NoMemory>
+    requires { length words.now ≤ 16777216 }
+    ensures { IfOk result (λ r. ItemsAnswer words.now [] 1 items.now r.0.items r.1) }
 {
     let mut out = Vec::new(alloc);
     let mut state = State::new(alloc);
     let mut refused = false;
     let mut number = 1;
-    let mut from = 0;
-    while from < words.len() {
-        let (next, is_refused) = answer_item(&mut out, alloc, words, &mut state, number, from)?;
+    for item in items {
+        if quits(item) {
+            return Ok((out, refused));
+        }
+        let is_refused = answer_item(&mut out, alloc, words, &mut state, number, item)?;
         refused = refused || is_refused;
         number += 1;
-        from = next;
     }
     Ok((out, refused))
 }

@@ -2,6 +2,7 @@
 #![tactic(auto)]
 
 mod answer;
+mod built;
 mod command;
 pub mod laws;
 mod listing;

@@ -1,9 +1,9 @@
 //! Why an item is refused.
-ghost use Rattle.std.specs.Prelude.{◌≡◌, ◌++◌, ◌<◌, codes, decimal, length, OnOk};
+ghost use Rattle.std.specs.Prelude.{◌≡◌, ◌++◌, codes, decimal, OnOk};
 ghost use Rattle.mau_reader.specs.Words.{place_at};
-ghost use Rattle.mau_session.specs.Refused.{word_of_refusal};
-ghost use Rattle.mau_session.specs.Answers.{item_head, refusal_line, faulty_line, fault_line};
+ghost use Rattle.mau_session.specs.Answers.{item_head, refusal_line, faulty_line, shown_text_fault, text_fault_line, fault_line};
 
+use mau_modtext::TextFault;
 use mau_reader::{Words, write_number, write_text};
 use mau_terms::NoMemory;
 use mau_tokens::TokenFault;
@@ -11,26 +11,21 @@ use mau_tokens::TokenFault;
 /// Why an item is refused, with the number of the word that it is about.
 #[derive(Clone, Copy, Debug, PartialEq, Eq)]
 pub enum Refusal {
-    /// The item that begins there has no end.
-    Unended(usize),
-    /// The word is the first that leaves the grammar which is built so far.
+    /// What is built so far ends before the word.
     NotBuilt(usize),
     /// The term that begins there has no tree.
     NoParse(usize),
 }
 
 impl Refusal {
-    ghost use Rattle.std.specs.Prelude.{◌≡◌, ◌++◌, ◌<◌, length, OnOk};
-    ghost use Rattle.mau_session.specs.Refused.{word_of_refusal};
+    ghost use Rattle.std.specs.Prelude.{◌≡◌, ◌++◌, OnOk};
     ghost use Rattle.mau_session.specs.Answers.{shown_refusal};
 
     /// Writes the name of the refusal, the word where it has one, and its place.
     fn write(self, out: &mut Vec<u8>, words: &Words) -> Result<(), NoMemory>
-        requires { word_of_refusal self < length words.now }
         ensures { OnOk result (out.new.items ≡ out.old.items ++ shown_refusal words.now self) }
     {
         match self {
-            Refusal::Unended(word) => write_place(out, "Unended ", words, word),
             Refusal::NoParse(word) => write_place(out, "NoParse ", words, word),
             Refusal::NotBuilt(word) => {
                 write_text(out, "NotBuilt ")?;
@@ -43,7 +38,6 @@ impl Refusal {
 
 /// Writes a text and the place of a word.
 fn write_place(out: &mut Vec<u8>, text: &str, words: &Words, word: usize) -> Result<(), NoMemory>
-    requires { word < length words.now }
     ensures { OnOk result (out.new.items ≡ out.old.items ++ text.now ++ decimal (place_at words.now word)) }
 {
     write_text(out, text)?;
@@ -66,7 +60,6 @@ pub fn write_refusal(
     number: usize,
     refusal: Refusal,
 ) -> Result<(), NoMemory>
-    requires { word_of_refusal refusal < length words.now }
     ensures { OnOk result (out.new.items ≡ out.old.items ++ refusal_line number words.now refusal) }
 {
     write_head(out, number)?;
@@ -82,6 +75,31 @@ pub fn write_faulty(out: &mut Vec<u8>, number: usize, text: &[u8]) -> Result<(),
     write_head(out, number)?;
     write_text(out, "refused: ")?;
     out.extend_from_slice(text)?;
+    write_text(out, "\n")
+}
+
+/// Writes the fault of an item.
+fn write_shown(out: &mut Vec<u8>, fault: &TextFault) -> Result<(), NoMemory>
+    ensures { OnOk result (out.new.items ≡ out.old.items ++ shown_text_fault fault.now) }
+{
+    match fault {
+        TextFault::Unended(at) => write_at(out, "Unended ", *at),
+        TextFault::Unexpected(at) => write_at(out, "Unexpected ", *at),
+        TextFault::Unsupported(name, at) => {
+            write_text(out, "Unsupported ")?;
+            write_text(out, name.as_str())?;
+            write_at(out, " ", *at)
+        }
+    }
+}
+
+/// Writes the answer of an item with a fault.
+pub fn write_text_fault(out: &mut Vec<u8>, number: usize, fault: &TextFault) -> Result<(), NoMemory>
+    ensures { OnOk result (out.new.items ≡ out.old.items ++ text_fault_line number fault.now) }
+{
+    write_head(out, number)?;
+    write_text(out, "refused: ")?;
+    write_shown(out, fault)?;
     write_text(out, "\n")
 }
 

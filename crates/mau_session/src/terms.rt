@@ -2,8 +2,7 @@
 ghost use Rattle.std.specs.Prelude.{◌≡◌, ◌<◌, ◌≤◌, ◌+◌, ◌-◌, ℕ, length, codes, nat_lt, ◌&&◌, map, All, Some, None, IfOk, IfSome, IfNone};
 ghost use Rattle.mau_terms.specs.Tree.{Tree, Trees, trees_of};
 ghost use Rattle.mau_terms.specs.View.{tree_of};
-ghost use Rattle.mau_reader.specs.Words.{text_at};
-ghost use Rattle.mau_reader.specs.Places.{is_word};
+ghost use Rattle.mau_reader.specs.Words.{text_at, is_word};
 ghost use Rattle.mau_reader.specs.Names.{number_of};
 ghost use Rattle.mau_session.specs.Mark.{mark_text};
 ghost use Rattle.mau_poset.specs.Order.{kind_of};
@@ -58,7 +57,6 @@ fn cut_variable(sorts: &Names, word: &str) -> Option<(usize, usize)>
 /// Whether `X:`, `[`, a word and `]` stand from `from` on, before `to`; the colon of the first is at `colon`.
 fn is_kind_frame(words: &Words, to: usize, from: usize, colon: usize) -> bool
     requires ascends { from + 3 < to }
-    requires within { to ≤ length words.now }
     requires cut { IsLastColon (text_at words.now from) colon }
     ensures { result ≡ Rattle.mau_session.specs.Terms.is_kind_frame words.now from colon }
 {
@@ -72,7 +70,6 @@ fn is_kind_frame(words: &Words, to: usize, from: usize, colon: usize) -> bool
 /// Where the name of a variable of a kind ends in its word, and the number of the sort whose kind it is.
 fn cut_kind_variable(sorts: &Names, words: &Words, to: usize, from: usize) -> Option<(usize, usize)>
     requires ascends { from < to }
-    requires within { to ≤ length words.now }
     ensures some { IfSome result (λ v. IsKindVariable sorts.now words.now to from v.0 v.1) }
     ensures within { IfSome result (λ v. v.1 < length sorts.now) }
     ensures none { IfNone result ((k s : ℕ) → IsKindVariable sorts.now words.now to from k s → ⊥) }
@@ -101,7 +98,6 @@ fn read_variable(
     vars: &mut Vars,
     from: usize,
 ) -> Result<Option<(Bare, u32)>, NoMemory>
-    requires within { from < length words.now }
     requires room { length vars.old < 4294967295 }
     ensures some { IfOk result (λ found. IfSome found (IsReadVariable module.now words.now from vars.old vars.new)) }
     ensures none { IfOk result (λ found. IfNone found ((k s : ℕ) → IsVariable module.now.sorts (text_at words.now from) k s → ⊥)) }
@@ -128,7 +124,6 @@ fn read_kind_variable(
     from: usize,
 ) -> Result<Option<(Bare, u32)>, NoMemory>
     requires ascends { from < to }
-    requires within { to ≤ length words.now }
     requires room { length vars.old < 4294967295 }
     ensures some { IfOk result (λ found. IfSome found (IsReadKindVariable module.now words.now to from vars.old vars.new)) }
     ensures none { IfOk result (λ found. IfNone found ((k s : ℕ) → IsKindVariable module.now.sorts words.now to from k s → ⊥)) }
@@ -185,7 +180,6 @@ pub fn read_term(
     from: usize,
 ) -> Result<Option<Reading>, NoMemory>
     requires ascends { from ≤ to }
-    requires within { to ≤ length words.now }
     requires room { length vars.old + (to - from) < 4294967295 }
     ensures some { IfOk result (λ found. IfSome found (λ r. Reads module.now words.now to vars.old from (tree_of r.term) r.kind r.end vars.new)) }
     ensures none { IfOk result (λ found. IfNone found ((t : Tree) (s j : ℕ) (ms : Pairs) → Reads module.now words.now to vars.old from t s j ms → ⊥)) }
@@ -210,7 +204,6 @@ fn read_any_variable(
     from: usize,
 ) -> Result<Option<Reading>, NoMemory>
     requires ascends { from < to }
-    requires within { to ≤ length words.now }
     requires no_operator { number_of (operator_names module.now.signature) (text_at words.now from) ≡ None }
     requires room { length vars.old + (to - from) < 4294967295 }
     ensures some { IfOk result (λ found. IfSome found (λ r. Reads module.now words.now to vars.old from (tree_of r.term) r.kind r.end vars.new)) }
@@ -275,7 +268,6 @@ fn result_kind(module: &Module, number: usize) -> u32
 
 /// Whether the word at `i`, before `to`, is a closing parenthesis.
 fn is_close(words: &Words, i: usize, to: usize) -> bool
-    requires { to ≤ length words.now }
     ensures { result ≡ (nat_lt i to && is_word words.now (codes ")") i) }
 {
     i < to && words.is(i, ")")
@@ -293,7 +285,6 @@ fn read_application(
     number: usize,
 ) -> Result<Option<Reading>, NoMemory>
     requires ascends { from < to }
-    requires within { to ≤ length words.now }
     requires number { number_of (operator_names module.now.signature) (text_at words.now from) ≡ Some number }
     requires declared { IsOperator module.now.signature (number + 1) }
     requires few { number < MAX_DECLARATIONS }
@@ -340,7 +331,6 @@ fn read_list(
     kinds: &[u32],
 ) -> Result<Option<(Vec<Bare>, usize)>, NoMemory>
     requires ascends { from ≤ to }
-    requires within { to ≤ length words.now }
     requires room { length vars.old + (to - from) < 4294967295 }
     ensures some { IfOk result (λ found. IfSome found (λ r. ReadsList module.now words.now to vars.old (codes "(") kinds.now from (trees_of (map tree_of r.0.items)) r.1 vars.new)) }
     ensures none { IfOk result (λ found. IfNone found ((ts : Trees) (j : ℕ) (ms : Pairs) → ReadsList module.now words.now to vars.old (codes "(") kinds.now from ts j ms → ⊥)) }
@@ -376,7 +366,6 @@ fn read_argument(
     kind: u32,
 ) -> Result<Option<(Bare, usize)>, NoMemory>
     requires ascends { at ≤ to }
-    requires within { to ≤ length words.now }
     requires room { length vars.old + (to - at) < 4294967295 }
     ensures some { IfOk result (λ found. IfSome found (λ r. ReadsArgument module.now words.now to vars.old (mark_text mark) kind at (tree_of r.0) r.1 vars.new)) }
     ensures none { IfOk result (λ found. IfNone found ((t : Tree) (j : ℕ) (ms : Pairs) → ReadsArgument module.now words.now to vars.old (mark_text mark) kind at t j ms → ⊥)) }

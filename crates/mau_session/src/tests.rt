@@ -76,7 +76,11 @@ fn refuses_by_name_and_place(rt: HostRuntime) -> Result<(), Fail> {
         ),
         (
             "fmod G is sort S . op f : S S -> S [id: idem] . endfm",
-            "[1] refused: NotBuilt idem 40\n",
+            "[1] refused: Unexpected 40\n",
+        ),
+        (
+            "fmod I is sort S . op f : S S -> S [idem] . endfm",
+            "[1] refused: Unsupported idem 36\n",
         ),
         (
             "fmod G is sort S . op a : -> S . op a : S -> S . endfm",
@@ -94,9 +98,35 @@ fn refuses_by_name_and_place(rt: HostRuntime) -> Result<(), Fail> {
         ),
         (
             "fmod A is sort S . op a : -> S endfm",
-            "[1] refused: NotBuilt endfm 31\n",
+            "[1] refused: Unexpected 31\n",
         ),
+        (
+            "fmod A is protecting NAT . sort S . endfm",
+            "[1] refused: NotBuilt protecting 10\n",
+        ),
+        (
+            "fmod A is sort S . var X : S . endfm",
+            "[1] refused: NotBuilt var 19\n",
+        ),
+        (
+            "mod A is sort S . ops a b : -> S . rl a => b . endm",
+            "[1] refused: NotBuilt rl 35\n",
+        ),
+        (
+            "fmod A is sort S . ops a ( b c ) : -> S . endfm",
+            "[1] refused: NotBuilt c 29\n",
+        ),
+        ("foo .", "[1] refused: Unexpected 0\n"),
+        ("foo", "[1] refused: Unended 0\n"),
+        ("load x .", "[1] refused: Unsupported load 0\n"),
+        (
+            "set include on .",
+            "[1] refused: Unsupported set include 0\n",
+        ),
+        ("set trace on .", "[1] refused: NotBuilt set 0\n"),
         ("reduce a .", "[1] refused: NotBuilt reduce 0\n"),
+        ("red .", "[1] refused: NotBuilt red 0\n"),
+        ("smod A is foo endsm", "[1] refused: NotBuilt smod 0\n"),
         ("***(", "refused: OpenComment 0\n"),
         ("fmod \"A", "refused: OpenString 5\n"),
     ];
@@ -113,9 +143,9 @@ fn refuses_by_name_and_place(rt: HostRuntime) -> Result<(), Fail> {
         ("match f(X:S, f(a, b)) <=? f(a, b) .", "NoParse 69"),
         ("match [1] a <=? a .", "NotBuilt [ 69"),
         ("match in F : a <=? a .", "NotBuilt in 69"),
-        ("match a .", "NotBuilt . 71"),
-        ("match <=? a .", "NotBuilt <=? 69"),
-        ("match a <=? .", "NotBuilt . 75"),
+        ("match a .", "Unexpected 71"),
+        ("match <=? a .", "Unexpected 69"),
+        ("match a <=? .", "Unexpected 75"),
         ("match a <=? a such that a = a .", "NotBuilt such 77"),
         ("match a <=? a s.t. a = a .", "NotBuilt s.t. 77"),
         ("match a <=? a", "Unended 63"),
@@ -135,6 +165,8 @@ fn accepts_modules_with_sorts_and_attributes(rt: HostRuntime) -> Result<(), Fail
     let rows = [
         "fmod G is sort S . op a : -> S [ctor] . endfm",
         "fmod G is sort S . ops a a : -> S . endfm",
+        "fmod G is sort S . ops a ( b ) c : -> S . endfm",
+        "mod G is sort S . op a : -> S . endm",
         "fmod G is sorts A B C . subsorts A < B C . op f : [A] A ~> B [comm memo] . op e : -> A [ctor] . op g : B B -> B [assoc comm id: e] . endfm",
         "fmod G is sorts A B . subsort A < B . op f : A -> A . op f : B -> B . endfm",
     ];
@@ -277,6 +309,26 @@ fn keeps_the_accepted_modules(rt: HostRuntime) -> Result<(), Fail> {
             .as_slice()
     );
     assert_eq!(rt; status, Status::Refused);
+    Ok(())
+}
+
+#[test]
+fn reads_nothing_behind_an_item_that_quits(rt: HostRuntime) -> Result<(), Fail> {
+    for (text, wanted) in [
+        ("quit fmod", b"".as_slice()),
+        (
+            "fmod A is sort S . endfm q fmod B is sort S . endfm",
+            b"[1] module A\n".as_slice(),
+        ),
+        (
+            "fmod A is sort S . endfm eof match",
+            b"[1] module A\n".as_slice(),
+        ),
+    ] {
+        let (bytes, status) = answer(rt.alloc(), &["run"], text)?;
+        assert_eq!(rt; bytes.as_slice(), wanted);
+        assert_eq!(rt; status, Status::Done);
+    }
     Ok(())
 }
 

@@ -4,6 +4,7 @@ ghost use Rattle.mau_session.specs.Transcript.{Transcript};
 
 use crate::answer::answer_items;
 use crate::refusal::write_fault;
+use mau_modtext::items;
 use mau_reader::Words;
 use mau_terms::NoMemory;
 use mau_tokens::{Token, TokenFault, tokens};
@@ -28,10 +29,13 @@ pub fn transcript(alloc: Global, text: &[u8]) -> Result<(Vec<u8>, bool), NoMemor
     ensures { IfOk result (λ r. Transcript text.now r.0.items r.1) }
 {
     match tokens(alloc, text) {
-        Ok(found) => match std::str::from_utf8(text) {
-            Ok(text) => answer_items(alloc, &Words::new(text, &found)),
-            Err(_) => unreachable!(),
-        },
+        Ok(found) => {
+            let items = items(alloc, text, &found)?;
+            match std::str::from_utf8(text) {
+                Ok(text) => answer_items(alloc, &Words::new(text, &found), &items),
+                Err(_) => unreachable!(),
+            }
+        }
         Err(fault) => {
             if is_no_memory(fault) {
                 return Err(NoMemory);

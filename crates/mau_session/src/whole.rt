@@ -19,7 +19,6 @@ pub fn read_whole(
     from: usize,
 ) -> Result<Option<(Bare, u32)>, NoMemory>
     requires ascends { from ≤ to }
-    requires within { to ≤ length words.now }
     requires room { length vars.old + (to - from) < 4294967295 }
     ensures some { IfOk result (λ found. IfSome found (λ r. Reads module.now words.now to vars.old from (tree_of r.0) r.1 to vars.new)) }
     ensures none { IfOk result (λ found. IfNone found ((t : Tree) (s : ℕ) (ms : Pairs) → Reads module.now words.now to vars.old from t s to ms → ⊥)) }
@@ -47,7 +46,6 @@ pub fn read_whole_of(
     kind: u32,
 ) -> Result<Option<Bare>, NoMemory>
     requires ascends { from ≤ to }
-    requires within { to ≤ length words.now }
     requires room { length vars.old + (to - from) < 4294967295 }
     ensures some { IfOk result (λ found. IfSome found (λ term. Reads module.now words.now to vars.old from (tree_of term) kind to vars.new)) }
     ensures none { IfOk result (λ found. IfNone found ((t : Tree) (ms : Pairs) → Reads module.now words.now to vars.old from t kind to ms → ⊥)) }

@@ -27,4 +27,6 @@ loop-w-preserved c =
           (IsGrouped gs w) (IsAmong g.parts.items g.item (length g.parts.items)) (IsGrouped gs (w + 1)) c.requires.other
           (grouped_on gs w (w + 1) g refl (slice_get_read gs (length gs) w g refl c.loop-w-test.true c.index-groups-w.is))
           c.loop-w.invariant.combined e.combined;
+      some = omega (arith, c.loop-w.invariant.some);
+      marked = e.marked;
     }

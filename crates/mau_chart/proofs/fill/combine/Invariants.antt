@@ -1,6 +1,7 @@
-use Rattle.std.proofs.Common.{◌≡◌, length}
+use Rattle.std.proofs.Common.{◌≡◌, ◌<◌, length}
 use Rattle.mau_chart.specs.Chart.{Combined}
 use Rattle.mau_chart.specs.Groups.{IsGrouped}
+use Rattle.mau_chart.specs.Marks.{AllMarked}
 use Rattle.mau_chart.specs.Table.{table, IsChart}
 use Rattle.mau_chart.proofs.fill.combine.Given as goal
 
@@ -9,4 +10,6 @@ invariant-loop-w l = record {
   chart : IsChart l.chart;
   rows : length l.chart.rows.items ≡ length l.fn.chart.rows.items;
   combined : Combined l.productions l.leaves (table l.fn.chart) (table l.chart) l.i l.k l.m (IsGrouped l.groups l.w);
+  some : 0 < length l.marks;
+  marked : AllMarked (table l.chart) l.marks;
 }

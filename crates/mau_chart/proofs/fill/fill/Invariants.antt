@@ -1,6 +1,7 @@
-use Rattle.std.proofs.Common.{◌≡◌, ◌+◌, ◌-◌, length}
+use Rattle.std.proofs.Common.{◌≡◌, ◌<◌, ◌+◌, ◌-◌, length}
 use Rattle.mau_chart.specs.Chart.{AreSound}
 use Rattle.mau_chart.specs.Groups.{AreIndexed}
+use Rattle.mau_chart.specs.Marks.{AllMarked}
 use Rattle.mau_chart.specs.Table.{table, IsChart}
 use Rattle.mau_chart.proofs.Rows.{AreRows}
 use Rattle.mau_chart.proofs.fill.fill.Given as goal
@@ -13,4 +14,6 @@ invariant-loop-r l = record {
   indexed : AreIndexed (table l.chart) l.n (l.n - l.r) l.index.items;
   grouped : length l.index.items ≡ l.r;
   full : AreRows l.productions l.leaves (table l.chart) l.n (l.n + 1 - l.r);
+  some : 0 < length l.marks.items;
+  marked : AllMarked (table l.chart) l.marks.items;
 }

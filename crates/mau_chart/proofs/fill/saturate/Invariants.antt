@@ -1,5 +1,6 @@
-use Rattle.std.proofs.Common.{◌≡◌, length}
+use Rattle.std.proofs.Common.{◌≡◌, ◌<◌, length}
 use Rattle.mau_chart.specs.Chart.{Grows, AreSound, IsDone}
+use Rattle.mau_chart.specs.Marks.{AllMarked}
 use Rattle.mau_chart.specs.Table.{table, IsChart}
 use Rattle.mau_chart.proofs.fill.saturate.Given as goal
 
@@ -10,4 +11,6 @@ invariant-loop-k l = record {
   grows : Grows (table l.fn.chart) (table l.chart) l.i;
   sound : AreSound l.productions l.leaves (table l.chart);
   done : IsDone l.productions l.leaves (table l.chart) l.i l.k;
+  some : 0 < length l.marks;
+  marked : AllMarked (table l.chart) l.marks;
 }

@@ -12,8 +12,8 @@ loop-x-preserved c =
     let s = c.args.chart.now in
     let m = c.args.m in
     let x = c.loop-x.x in
-    let a = c.fact.result.now in
-    let there = slice_get-seen s.store (cells s.rows.items m) x a c.fact.ensures in
+    let a = c.fact-fact.result.now in
+    let there = slice_get-seen s.store (cells s.rows.items m) x a c.fact-fact.ensures in
     elim c.if-waits.branch [
       | then-waits+in_ok-enter w ↦
           subst (λ v. AreGroupedTo (table s) m v.items (x + 1)) (sym w.groups-is)

@@ -7,6 +7,7 @@ use Rattle.std.specs.Cmp.Lexicographic.{slice_cmp}
 use Rattle.std.proofs.lemmas.List.{drop_all, drop_more}
 use Rattle.mau_terms.specs.declared.ids.TermId.{TermId}
 use Rattle.mau_lists.specs.Terms.{by_tree, no_term}
+use Rattle.mau_lists.proofs.SharedFronts.{order_shared}
 use Rattle.mau_lists.proofs.segments.compare_lists.Goals as goal
 
 -- the order of two lengths is that of what one is longer
@@ -31,6 +32,9 @@ module _ (cmp : TermId → TermId → Ordering) where
 
   second_ends : (xs ys : List TermId) (i : ℕ) → i < length xs → i ≡ length ys → slice_cmp cmp (drop i xs) (drop i ys) ≡ Greater
   second_ends xs ys i h e = ap₂ (λ k l. slice_cmp cmp k l) (drop_more xs i no_term h) (drop_all i ys (omega (arith, e)))
+
+pub loop-i-init : goal.loop-i-init
+loop-i-init c = record { same = order_shared c.args.first.now c.args.second.now c.args.shared c.requires.shared; within = c.requires.shared.second }
 
 pub returns-then-i-second : goal.returns-then-i-second
 returns-then-i-second c = record { order = sym (c.loop-i.invariant.same ∙ second_ends (by_tree c.args.store.now) c.args.first.now c.args.second.now c.loop-i.i c.loop-i-test.true c.if-i-second.true) }

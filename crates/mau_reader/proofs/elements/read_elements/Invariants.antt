@@ -1,13 +1,10 @@
-use Rattle.std.proofs.Common.{ℕ, ◌-◌, ◌≤◌, length, Result}
-use Rattle.mau_reader.specs.Elements.{Elements, ElementsRead, AreOver, no_elements}
+use Rattle.std.proofs.Common.{◌≡◌, drop, length}
+use Rattle.mau_reader.specs.Readings.{read_all}
+use Rattle.mau_reader.specs.Elements.{AreOver, element_step, elements_of}
 use Rattle.mau_reader.proofs.elements.read_elements.Given as goal
 
-abbrev pub invariant-loop-p : goal.invariant-loop-p
-invariant-loop-p l = record {
-  most : l.p ≤ l.to;
-  over : AreOver (length l.sorts) (length l.words) l.elements;
-  rest : (r : Result Elements ℕ) → ElementsRead l.words l.sorts l.to l.elements l.p r → ElementsRead l.words l.sorts l.to no_elements l.from r;
+abbrev pub invariant-loop-element : goal.invariant-loop-element
+invariant-loop-element l = record {
+  rest : elements_of l.words l.sorts l.raw ≡ read_all (element_step l.words l.sorts) l.elements (drop l.element-index l.raw);
+  over : AreOver (length l.sorts) l.elements;
 }
-
-abbrev pub decreases-loop-p : goal.decreases-loop-p
-decreases-loop-p l = l.to - l.p

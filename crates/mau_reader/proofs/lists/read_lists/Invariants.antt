@@ -1,10 +1,10 @@
-use Rattle.std.proofs.Common.{ℕ, ◌+◌, length, Result, nat_eq}
-use Rattle.mau_reader.specs.Readings.{Repeats}
-use Rattle.mau_reader.specs.Elements.{Lists, AreListsBelow, list_step, no_lists}
+use Rattle.std.proofs.Common.{◌≡◌, drop, length}
+use Rattle.mau_reader.specs.Readings.{read_all}
+use Rattle.mau_reader.specs.Elements.{AreListsBelow, list_step, no_lists}
 use Rattle.mau_reader.proofs.lists.read_lists.Given as goal
 
-abbrev pub invariant-loop-j : goal.invariant-loop-j
-invariant-loop-j l = record {
-  below : AreListsBelow (length l.sorts) l.lists;
-  rest : (r : Result (Lists × ℕ) ℕ) → Repeats (list_step l.words l.sorts) (nat_eq l.q) (l.q + 1) l.lists l.j r → Repeats (list_step l.words l.sorts) (nat_eq l.q) (l.q + 1) no_lists l.from r;
+abbrev pub invariant-loop-list : goal.invariant-loop-list
+invariant-loop-list l = record {
+  rest : read_all (list_step l.words l.sorts) no_lists l.lists ≡ read_all (list_step l.words l.sorts) l.read (drop l.list-index l.lists);
+  below : AreListsBelow (length l.sorts) l.read;
 }

@@ -69,10 +69,3 @@ returns-in-Err-accept_signature-clause-why c =
     (at_operator c.args.words.now c.args.sorts.now c.args.elements.now c.args.poset c.in_ok-decls.decls.items c.args.names.now c.requires.limit c.requires.poset c.in_ok-decls.ensures.value c.requires.names c.requires.acyclic
     (subst (λ ds. IsNowhere (renames_at c.args.poset ds) 0 (length ds)) c.deref.ensures.value (rw c.in-Ok.is at c.in_ok-operators.ensures.once)) c.in-Ok-build_signature.signature c.in-Ok-build_signature.ensures.ok c.in-Ok-build_signature.ensures.faultless)
     c.in-Err-accept_signature.fault c.in-Err-accept_signature.ensures.at_fault
-
-pub returns-in-Err-clause-left : goal.returns-in-Err-clause-left
-returns-in-Err-clause-left c =
-    let f = (rw (c.in-Err.is, c.deref.ensures.value) at c.in_ok-operators.ensures.renames) in
-    let n =
-    counted c.args.words.now c.args.sorts.now c.args.elements.now c.args.poset c.in_ok-decls.decls.items c.args.names.now c.requires.limit c.requires.poset c.in_ok-decls.ensures.value c.requires.names c.requires.acyclic in
-    c.requires.words c.in-Err.number 0 (omega (arith, f.below, n))

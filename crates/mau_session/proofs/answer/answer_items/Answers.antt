@@ -1,20 +1,43 @@
-use Rattle.std.proofs.Common.{◌≡◌, ◌||◌, arith, sym, ◌∙◌, ap}
+use Rattle.std.proofs.Common.{◌≡◌, ℕ, suc, ◌+◌, ◌<◌, List, [], ◌∷◌, false, ◌||◌, length, get_or, drop, arith, sym, ◌∙◌, ap, subst, add-one}
+use Rattle.std.proofs.lemmas.List.{drop_all}
+use Rattle.std.proofs.Math.Seq.{drop-cons}
+use Rattle.mau_modtext.specs.declared.raw.RawItem.{RawItem}
+use Rattle.mau_session.specs.Transcript.{ItemsAnswer, items_end, item_quits}
 use Rattle.mau_session.proofs.Answering.{one_more, all_answered, or_first}
 use Rattle.mau_session.proofs.answer.answer_items.Goals as goal
 use Rattle.mau_session.proofs.answer.answer_items.Goals.{then-refused, else-refused}
 
-pub loop-from-preserved : goal.loop-from-preserved
-loop-from-preserved c =
-    let item = c.in_ok-next.ensures.item in
-    let so : c.if-refused.refused ≡ (c.loop-from.refused || c.in_ok-next.is_refused) = elim c.if-refused.branch [
+-- the item at i, and those behind it
+from_item : (items : List RawItem) (i : ℕ) (item : RawItem) → i < length items → item ≡ get_or items i item → drop i items ≡ item ∷ drop (i + 1) items
+from_item items i item h e = drop-cons items i item h ∙ ap (λ x. x ∷ drop (suc i) items) (sym e) ∙ ap (λ n. item ∷ drop n items) (sym (add-one i))
+
+pub returns-then-quits : goal.returns-then-quits
+returns-then-quits c =
+    let item = c.item-item.result in
+    let all = c.args.items.now in
+    let here = from_item all c.loop-item.item-index item c.loop-item-test.true c.item-item.is in
+    let quits = c.quits.ensures.0 c.if-quits.true in
+    all_answered c.args.words.now _ _ (drop c.loop-item.item-index all) all c.loop-item.out.items c.loop-item.refused
+    (subst (λ items. ItemsAnswer c.args.words.now c.loop-item.state c.loop-item.number items [] false) (sym here) (item_quits _ _ item _ quits)) c.loop-item.invariant.rest
+
+pub loop-item-preserved : goal.loop-item-preserved
+loop-item-preserved c =
+    let item = c.item-item.result in
+    let all = c.args.items.now in
+    let here = from_item all c.loop-item.item-index item c.loop-item-test.true c.item-item.is in
+    let so : c.if-refused.refused ≡ (c.loop-item.refused || c.in_ok-is_refused.is_refused) = elim c.if-refused.branch [
       | then-refused w ↦ w.refused-is ∙ or_first _ _ w.if-refused.true
-      | else-refused w ↦ w.refused-is ∙ ap (λ b. b || c.in_ok-next.is_refused) (sym w.if-refused.false)
+      | else-refused w ↦ w.refused-is ∙ ap (λ b. b || c.in_ok-is_refused.is_refused) (sym w.if-refused.false)
     ] in
     record {
-      few = omega (arith, c.loop-from.invariant.few, c.in_ok-next.ensures.behind);
-      within = c.in_ok-next.ensures.behind.1;
-      rest = λ more later h. one_more c.args.words.now _ _ c.loop-from.number c.loop-from.from c.in_ok-next.next _ _ c.loop-from.refused c.in_ok-next.is_refused c.if-refused.refused (omega (arith, c.loop-from-test.true, c.len.ensures)) item so c.loop-from.invariant.rest more later h;
+      few = omega (arith, c.loop-item.invariant.few);
+      rest = λ more later h. one_more c.args.words.now _ _ c.loop-item.number item (drop (c.loop-item.item-index + 1) all) _ _ c.loop-item.refused c.in_ok-is_refused.is_refused c.if-refused.refused c.in_ok-is_refused.ensures so all
+          (λ more later x. c.loop-item.invariant.rest more later (subst (λ items. ItemsAnswer c.args.words.now c.loop-item.state c.loop-item.number items more later) (sym here) x)) more later h;
     }
 
 pub returns : goal.returns
-returns c = all_answered c.args.words.now _ _ _ c.loop-from.out.items c.loop-from.refused (omega (arith, c.loop-from-test.false, c.len.ensures, c.loop-from.invariant.within)) c.loop-from.invariant.rest
+returns c =
+    let all = c.args.items.now in
+    let none = drop_all c.loop-item.item-index all c.loop-item-test.false in
+    all_answered c.args.words.now _ _ (drop c.loop-item.item-index all) all c.loop-item.out.items c.loop-item.refused
+    (subst (λ items. ItemsAnswer c.args.words.now c.loop-item.state c.loop-item.number items [] false) (sym none) (items_end _ _)) c.loop-item.invariant.rest

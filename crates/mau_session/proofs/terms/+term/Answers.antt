@@ -4,7 +4,7 @@ use Rattle.std.proofs.lemmas.List.{map-append, length-drop}
 use Rattle.mau_terms.proofs.Pieces.{trees_of-list_of}
 use Rattle.mau_terms.specs.Tree.{Trees, no_trees, tree, trees_of, list_of, node}
 use Rattle.mau_terms.specs.View.{tree_of}
-use Rattle.mau_reader.specs.Places.{is_word}
+use Rattle.mau_reader.specs.Words.{is_word}
 use Rattle.mau_session.specs.Mark.{mark_text}
 use Rattle.mau_session.specs.Terms.{result_kind, Reads, ReadsArgument, ReadsList, list_ends, reads_argument}
 use Rattle.mau_session.proofs.Readings.{reads_once, list_once}

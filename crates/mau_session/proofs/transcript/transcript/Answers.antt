@@ -1,22 +1,28 @@
 use Rattle.std.proofs.Common.{◌++◌, [], length, true, arith, sym, ◌∙◌, ap, subst}
 use Rattle.std.proofs.lemmas.Result.{IfOk-weaker}
-use Rattle.mau_reader.specs.Words.{words_of}
+use Rattle.mau_modtext.specs.Words.{word_of, words_of}
+use Rattle.mau_modtext.specs.Items.{AreItems}
 use Rattle.mau_session.specs.Answers.{fault_line}
 use Rattle.mau_session.specs.Transcript.{Transcript, ItemsAnswer, text_refused, items_answered}
-use Rattle.mau_reader.proofs.WordPlaces.{length-words_of}
+use Rattle.std.proofs.lemmas.List.{length-map}
 use Rattle.mau_session.proofs.Spanned.{few_tokens}
 use Rattle.mau_session.proofs.transcript.transcript.Goals as goal
 
 pub answer_items-requires : goal.answer_items-requires
 answer_items-requires c =
     let few = few_tokens _ _ c.in-Ok.ensures.spans in
-    let count = length-words_of c.in-Ok-from_utf8.text.now c.deref.result.now in
-    record { short = omega (arith, few, count, ap length c.new.ensures, ap length c.deref.ensures.value, c.requires) }
+    let count = length-map c.deref-in-Ok-from_utf8.result.now (word_of c.in-Ok-from_utf8.text.now) in
+    omega (arith, few, count, ap length c.new.ensures, ap length c.deref-in-Ok-from_utf8.ensures.value, c.requires)
 
 pub returns-in-Ok-from_utf8 : goal.returns-in-Ok-from_utf8
 returns-in-Ok-from_utf8 c =
-    IfOk-weaker c.answer_items.result _ _ (λ r h. items_answered c.in-Ok.found.items r.0.items r.1 c.in-Ok.ensures.ok
-    (subst (λ ws. ItemsAnswer ws [] 1 0 r.0.items r.1) (c.new.ensures ∙ ap (λ t. words_of t c.deref.result.now) c.in-Ok-from_utf8.ensures.cases.0 ∙ ap (words_of c.args.text.now) c.deref.ensures.value) h))
+    let text = c.args.text.now in
+    let tokens = c.in-Ok.found.items in
+    let items = c.in_ok-items-in-Ok.items.items in
+    let same = c.new.ensures ∙ ap (λ t. words_of t c.deref-in-Ok-from_utf8.result.now) c.in-Ok-from_utf8.ensures.cases.0 ∙ ap (words_of text) c.deref-in-Ok-from_utf8.ensures.value in
+    let are = subst (λ ts. AreItems (words_of text ts) items) c.deref.ensures.value c.in_ok-items-in-Ok.ensures in
+    IfOk-weaker c.answer_items.result _ _ (λ r h. items_answered tokens items r.0.items r.1 c.in-Ok.ensures.ok are
+    (subst (λ ws. ItemsAnswer ws [] 1 items r.0.items r.1) same (subst (λ items. ItemsAnswer c.new.result [] 1 items r.0.items r.1) c.deref-in-Ok-from_utf8-2.ensures.value h)))
     c.answer_items.ensures
 
 pub returns-in_ok-write_fault-in-Err : goal.returns-in_ok-write_fault-in-Err

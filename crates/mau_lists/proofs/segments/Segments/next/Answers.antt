@@ -21,10 +21,10 @@ returns c =
     let n : start + len - start ≡ len = omega arith in
     let given = take (start + len - start) (drop start c.deref-3.result.now) in
     let same : given ≡ take len (drop start items) = ap₂ (λ m l. take m (drop start l)) n c.deref-3.ensures.value in
-    let second : take (start + len - start) (drop start c.deref-2.result.now) ≡ take len (drop start items) = ap₂ (λ m l. take m (drop start l)) n c.deref-2.ensures.value in
+    let second : take (start + len - start) (drop start c.deref.result.now) ≡ take len (drop start items) = ap₂ (λ m l. take m (drop start l)) n c.deref.ensures.value in
     let due : cut items s.due ≡ Some (take len (drop start items)) = ap (cut items) is in
     let found : next_part (by_tree nodes) (take len (drop start items)) items ≡ cut items r =
-    ap₂ (next_part (by_tree nodes)) (sym second) (sym c.deref.ensures.value) ∙ c.part_behind-self-inside.ensures.next ∙ ap (λ l. cut l r) c.deref.ensures.value in
+    ap₂ (next_part (by_tree nodes)) (sym second) (sym c.deref-2.ensures.value) ∙ c.part_behind-self-inside.ensures.next ∙ ap (λ l. cut l r) c.deref-2.ensures.value in
     let new : Place = record { items = numbers items; due = option_map numbers (cut items r) } in
     let old : numbers items ≡ c.args.self.now.items = ap (λ p. p.items) c.self.view_is in (
       (refl, λ _. tt, subst (λ p. IsStep (IsNextPart nodes) p new) c.self.view_is (parts_step nodes items (take len (drop start items)) s.due r due found)),

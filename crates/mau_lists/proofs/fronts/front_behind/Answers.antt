@@ -1,0 +1,23 @@
+use Rattle.std.proofs.Common.{◌<◌, length, ◌∙◌, arith, rules}
+use Rattle.std.proofs.lemmas.List.{drop_all}
+use Rattle.mau_lists.specs.Terms.{by_tree, no_term}
+use Rattle.mau_lists.proofs.Steps.{front_past_last, front_met}
+use Rattle.mau_lists.proofs.SharedFronts.{front_shared, more_shared}
+use Rattle.mau_lists.proofs.fronts.front_behind.Goals as goal
+
+pub loop-i-init : goal.loop-i-init
+loop-i-init c = record { same = front_shared c.args.last.now c.args.items.now c.args.known c.requires.known; shared = c.requires.known }
+
+pub returns-then-i-last-clause-next : goal.returns-then-i-last-clause-next
+returns-then-i-last-clause-next c =
+    c.loop-i.invariant.same
+    ∙ front_past_last (by_tree c.args.store.now) no_term c.args.last.now c.args.items.now c.loop-i.i c.loop-i-test.true (drop_all c.loop-i.i c.args.last.now (omega (arith, c.if-i-last.true)))
+
+pub loop-i-preserved : goal.loop-i-preserved
+loop-i-preserved c =
+    let i = c.loop-i.invariant in
+    let longer : c.loop-i.i < length c.args.last.now = omega (arith, i.shared.first, c.if-i-last.false) in
+    record {
+      same = i.same ∙ front_met (by_tree c.args.store.now) no_term c.args.last.now c.args.items.now c.loop-i.i c.loop-i-test.true longer (search (rules, c.in-Equal.ensures.order));
+      shared = more_shared c.loop-i.i i.shared longer c.loop-i-test.true (search (rules, c.in-Equal.ensures.order));
+    }

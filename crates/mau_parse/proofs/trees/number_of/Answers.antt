@@ -1,0 +1,5 @@
+use Rattle.mau_parse.proofs.Trees_found.{number_of_first}
+use Rattle.mau_parse.proofs.trees.number_of.Goals as goal
+
+pub returns : goal.returns
+returns c = number_of_first c.args.trees.now c.args.ids.now _ c.requires

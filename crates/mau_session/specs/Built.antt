@@ -1,0 +1,39 @@
+-- Items that aren't built yet, and the answers of items that say nothing.
+use Rattle.std.specs.Prelude.{ℕ, List, Bool, true, false, ◌||◌, if◌then◌else◌, codes}
+use Rattle.std.specs.Str.{bytes_eq}
+use Rattle.mau_modtext.specs.Word.{Word}
+use Rattle.mau_modtext.specs.declared.raw.ModuleKind.{ModuleKind}
+use Rattle.mau_modtext.specs.declared.raw.ModuleKind.TheVariants.{StrategyModule}
+use Rattle.mau_modtext.specs.declared.raw.CommandKind.{CommandKind}
+use Rattle.mau_modtext.specs.declared.raw.CommandKind.TheVariants.{Match}
+use Rattle.mau_modtext.specs.declared.raw.TextFault.{TextFault}
+use Rattle.mau_modtext.specs.declared.raw.TextFault.TheVariants.{Unended}
+use Rattle.mau_reader.specs.Words.{text_at}
+use Rattle.mau_session.specs.declared.refusal.Refusal.TheVariants.{NotBuilt}
+use Rattle.mau_session.specs.Answers.{refusal_line, text_fault_line}
+
+-- a functional or system module
+abbrev pub is_built_module : ModuleKind → Bool
+is_built_module StrategyModule = false
+is_built_module _ = true
+
+abbrev pub is_match : CommandKind → Bool
+is_match Match = true
+is_match _ = false
+
+-- the words with which items begin that aren't built yet
+abbrev pub begins_unbuilt : List ℕ → Bool
+begins_unbuilt w =
+    bytes_eq w (codes "smod") || bytes_eq w (codes "xmatch") || bytes_eq w (codes "continue") || bytes_eq w (codes "cont")
+    || bytes_eq w (codes "reduce") || bytes_eq w (codes "red") || bytes_eq w (codes "rewrite") || bytes_eq w (codes "rew")
+    || bytes_eq w (codes "frewrite") || bytes_eq w (codes "frew") || bytes_eq w (codes "dsrewrite") || bytes_eq w (codes "dsrew")
+
+abbrev pub is_unended : TextFault → Bool
+is_unended (Unended at) = true
+is_unended _ = false
+
+-- the answer of an item with a fault that begins at the word i: where it ends, it isn't built before it is at fault
+abbrev pub fault_answer : ℕ → List Word → ℕ → TextFault → List ℕ
+fault_answer k ws i f =
+    if is_unended f then text_fault_line k f
+    else (if begins_unbuilt (text_at ws i) then refusal_line k ws (NotBuilt i) else text_fault_line k f)

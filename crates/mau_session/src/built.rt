@@ -1,0 +1,67 @@
+//! What isn't built yet.
+ghost use Rattle.std.specs.Prelude.{◌≡◌, ◌↔◌, true, Ok};
+ghost use Rattle.mau_modtext.specs.declared.raw.RawBody.TheVariants as RawBody;
+ghost use Rattle.mau_session.specs.Built;
+
+use mau_modtext::{CommandKind, ModuleKind, RawBody, RawItem, TextFault};
+
+/// Whether modules of this kind are built.
+pub fn is_built_module(kind: ModuleKind) -> bool
+    ensures { result ≡ Built.is_built_module kind }
+{
+    match kind {
+        ModuleKind::StrategyModule => false,
+        _ => true,
+    }
+}
+
+/// Whether a command is a match.
+pub fn is_match(kind: CommandKind) -> bool
+    ensures { result ≡ Built.is_match kind }
+{
+    match kind {
+        CommandKind::Match => true,
+        _ => false,
+    }
+}
+
+/// Whether items that begin with this word aren't built yet.
+pub fn begins_unbuilt(word: &str) -> bool
+    ensures { result ≡ Built.begins_unbuilt word.now }
+{
+    matches!(
+        word,
+        "smod"
+            | "xmatch"
+            | "continue"
+            | "cont"
+            | "reduce"
+            | "red"
+            | "rewrite"
+            | "rew"
+            | "frewrite"
+            | "frew"
+            | "dsrewrite"
+            | "dsrew"
+    )
+}
+
+/// Whether an item has no end.
+pub fn is_unended(fault: &TextFault) -> bool
+    ensures { result ≡ Built.is_unended fault.now }
+{
+    match fault {
+        TextFault::Unended(_) => true,
+        _ => false,
+    }
+}
+
+/// Whether an item ends the session.
+pub fn quits(item: &RawItem) -> bool
+    ensures { result ≡ true ↔ (item.now.body ≡ Ok RawBody.Quit) }
+{
+    match &item.body {
+        Ok(RawBody::Quit) => true,
+        _ => false,
+    }
+}
