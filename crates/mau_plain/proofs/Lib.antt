@@ -2,3 +2,5 @@
 
 -- lists over some elements
 pub mod Longer
+-- kinds
+pub mod OfKind

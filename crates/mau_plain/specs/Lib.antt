@@ -2,3 +2,5 @@
 
 -- lists over some elements
 pub mod Words
+-- arguments by their kinds
+pub mod Arguments

@@ -2,6 +2,8 @@
 //! that of every listing, so that others can be compared with it on small questions.
 #![tactic(auto)]
 
+mod kinds;
 mod words;
 
+pub use kinds::kind_of;
 pub use words::all_words;
