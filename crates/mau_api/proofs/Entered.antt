@@ -28,7 +28,7 @@ module _ (nodes : List Node) (are : AreNodes nodes) where
     entries = entries t.entries (nothing_known s known old i there unsettled t);
     settled = λ u r among.
         let is = t.settled u r among in
-        record { number = is.number; there = is.there; tree = is.tree; settled = settled_kept old new kept is.number is.settled; };
+        record { number = is.number; there = is.there; tree = is.tree; settled = settled_kept old new kept is.number is.settled };
   }
 
   -- only the term itself is settled

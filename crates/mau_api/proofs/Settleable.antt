@@ -129,7 +129,7 @@ module _ (s : SignatureOf) (lawful : IsLawful (terms_over s)) (nodes : List Node
       let th = theory_at s in
       let g = value_at (variables a.pattern) vs in
       let may = subst (λ t. MayBeValue th a.pattern t (norm th (g x))) whole (value_may_be th lawful.theories g x a.pattern o) in
-      let fit = fit_value th nodes table (tree_at nodes a.subject.0) for.identities a.pattern (tree_at nodes a.subject.0) (norm th (g x)) (record { fits = inl refl; below = for.below; }) may in
+      let fit = fit_value th nodes table (tree_at nodes a.subject.0) for.identities a.pattern (tree_at nodes a.subject.0) (norm th (g x)) (record { fits = inl refl; below = for.below }) may in
       record {
         fits = fit.fits;
         subject = λ e. ⊎_elim (λ h. h)

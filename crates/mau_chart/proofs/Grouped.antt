@@ -4,8 +4,8 @@ use Rattle.std.specs.List.{slice_get}
 use Rattle.std.proofs.lemmas.Bool.{eqb-false}
 use Rattle.mau_chart.specs.declared.grammar.Item.{Item}
 use Rattle.mau_chart.specs.declared.grammar.Item.TheVariants.{Part}
-use Rattle.mau_chart.specs.declared.groups.Group.{Group}
-use Rattle.mau_chart.specs.declared.groups.Place.{Place}
+use Rattle.mau_chart.specs.declared.places.Group.{Group}
+use Rattle.mau_chart.specs.declared.places.Place.{Place}
 use Rattle.mau_chart.specs.Groups.{HasPart, groups_at, AreGrouped, AreIndexed, IsGrouped}
 use Rattle.std.proofs.lemmas.Option.{slice_get_within}
 use Rattle.mau_chart.specs.Chart.{Found, Grows, IsOne, IsAmong, place_of}

@@ -3,8 +3,8 @@ use Rattle.std.proofs.Common.{◌≡◌, ℕ, ◌<◌, ◌≤◌, List, [], ◌�
 use Rattle.std.specs.List.{slice_get}
 use Rattle.std.proofs.lemmas.Bool.{eqb-false, cases_lt}
 use Rattle.mau_chart.specs.declared.grammar.Item.{Item}
-use Rattle.mau_chart.specs.declared.groups.Place.{Place}
-use Rattle.mau_chart.specs.declared.marks.Mark.{Mark}
+use Rattle.mau_chart.specs.declared.places.Place.{Place}
+use Rattle.mau_chart.specs.declared.places.Mark.{Mark}
 use Rattle.mau_chart.specs.Chart.{Found, Full, Grows, IsAmong, place_of}
 use Rattle.mau_chart.specs.Marks.{IsMarked, AllMarked}
 use Rattle.mau_chart.proofs.Grows.{slice_get-new, full_stays}

@@ -11,7 +11,7 @@ use Rattle.mau_chart.specs.declared.grammar.Item.{Item}
 use Rattle.mau_chart.specs.declared.grammar.Item.TheVariants.{Whole, Part}
 use Rattle.mau_chart.specs.Reads.{made, Reads, form_read, Spells, piece_spelled}
 use Rattle.mau_chart.specs.Chart.{Found, found, Full, Covers, Offered, Grows, Steps, Lifts, Joined, Lifted, Completed, Combined, IsOne, StepsOnly, Processed, IsRight, IsSound, AreSound, AreLeaves, AreForms, IsDone, Wants}
-use Rattle.mau_chart.specs.declared.groups.Group.{Group}
+use Rattle.mau_chart.specs.declared.places.Group.{Group}
 use Rattle.mau_chart.specs.Groups.{AreGrouped, IsGrouped}
 use Rattle.mau_chart.proofs.Grows.{slice_get-new, offered_grows, grows_not, grows_on, place_stays, covers_stay}
 use Rattle.mau_chart.proofs.Step.{some_one}

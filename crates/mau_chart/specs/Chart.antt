@@ -8,7 +8,7 @@ use Rattle.mau_chart.specs.declared.grammar.Production.{Production}
 use Rattle.mau_chart.specs.declared.grammar.Item.{Item}
 use Rattle.mau_chart.specs.declared.grammar.Item.TheVariants.{Whole, Part}
 use Rattle.mau_chart.specs.declared.grammar.Leaf.{Leaf}
-use Rattle.mau_chart.specs.declared.groups.Place.{Place}
+use Rattle.mau_chart.specs.declared.places.Place.{Place}
 use Rattle.mau_chart.specs.Reads.{said_trees, made, Reads, Spells}
 
 pub record Found : Type 0 where
@@ -42,6 +42,12 @@ Wants ps ls i (Part k d) = (p : Production) → slice_get ps k ≡ Some p → Is
 -- where the mask has false, nothing of that kind ends at i
 abbrev pub IsMask : List Production → List Leaf → ℕ → List Bool → Type 0
 IsMask ps ls i mask = (k : ℕ) → get_or mask k true ≡ false → CanEnd ps ls k i → ⊥
+
+-- the mask is not against the piece before a part
+abbrev pub IsAllowed : List Production → List Bool → Item → Type 0
+IsAllowed ps mask (Whole k q) = Unit {0}
+IsAllowed ps mask (Part k zero) = Unit {0}
+IsAllowed ps mask (Part k (suc d)) = (p : Production) (c : Piece) → slice_get ps k ≡ Some p → slice_get p.pieces.items d ≡ Some c → get_or mask c.kind true ≡ true
 
 -- this one is there, or two others are
 abbrev pub Covers : (ℕ → List Found) → ℕ → Item → ℕ → List Tree → Type 0

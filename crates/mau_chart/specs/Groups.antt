@@ -3,8 +3,8 @@ use Rattle.std.specs.Prelude.{◌≡◌, ℕ, zero, suc, ◌-◌, ◌<◌, ◌�
 use Rattle.std.specs.List.{slice_get}
 use Rattle.mau_chart.specs.declared.grammar.Item.{Item}
 use Rattle.mau_chart.specs.declared.grammar.Item.TheVariants.{Part}
-use Rattle.mau_chart.specs.declared.groups.Group.{Group}
-use Rattle.mau_chart.specs.declared.groups.Place.{Place}
+use Rattle.mau_chart.specs.declared.places.Group.{Group}
+use Rattle.mau_chart.specs.declared.places.Place.{Place}
 use Rattle.mau_chart.specs.Chart.{Found, place_of}
 
 -- x is a place of the group w, which is the group of the item

@@ -9,6 +9,7 @@ pub mod Chart
 -- trees in a store, and the table that a chart stands for
 pub mod Nodes
 pub mod Table
+pub mod Places
 pub mod Groups
 pub mod Marks
 pub mod Told

@@ -1,7 +1,7 @@
 -- What a mark tells of a table.
 use Rattle.std.specs.Prelude.{◌≡◌, ℕ, List, Some, true, false, get_or}
 use Rattle.std.specs.List.{slice_get}
-use Rattle.mau_chart.specs.declared.marks.Mark.{Mark}
+use Rattle.mau_chart.specs.declared.places.Mark.{Mark}
 use Rattle.mau_chart.specs.Chart.{Found, Full}
 
 -- where an end is marked, there are two different facts of the item

@@ -6,15 +6,16 @@ ghost use Rattle.mau_chart.specs.declared.grammar.Item.{Item};
 ghost use Rattle.mau_chart.specs.declared.grammar.Leaf.{Leaf};
 ghost use Rattle.mau_chart.specs.declared.grammar.Production.{Production};
 ghost use Rattle.mau_chart.specs.declared.grammar.Item.TheVariants.{Whole, Part};
-ghost use Rattle.mau_chart.specs.Chart.{Found, Steps, StepsOnly, IsOne, IsAmong, Lifts, Completed, Combined, Grows, AreSound, AreLeaves, AreForms, Processed, IsDone, Begun, Ended, IsRow, IsEmpty, Closed, Wants, IsMask};
+ghost use Rattle.mau_chart.specs.Chart.{Found, Steps, StepsOnly, IsOne, IsAmong, Lifts, Completed, Combined, Grows, AreSound, AreLeaves, AreForms, Processed, IsDone, Begun, Ended, IsRow, IsEmpty, Closed, Wants, IsMask, IsAllowed};
 ghost use Rattle.mau_chart.specs.Groups.{IsGrouped, AreGrouped, AreIndexed};
 ghost use Rattle.mau_chart.specs.Marks.{IsMarked, AllMarked};
 ghost use Rattle.mau_chart.specs.Table.{table, cells, IsChart};
 
 use crate::chart::Chart;
 use crate::grammar::{Item, Leaf, Production, Said};
-use crate::groups::{Group, Place, group_row, groups_of};
-use crate::marks::{Mark, next_open, no_marks};
+use crate::groups::{group_row, groups_of};
+use crate::marks::{next_open, no_marks};
+use crate::places::{Group, Mark, Place};
 use mau_terms::{NoMemory, OpId};
 use std::alloc::Global;
 
@@ -23,6 +24,7 @@ use std::alloc::Global;
 pub fn step_of(productions: &[Production], mask: &[bool], a: Item, b: Item) -> Option<Item>
     ensures some { IfSome result (λ to. Steps productions.now a b to) }
     ensures only { (ls : List Leaf) (i : ℕ) (to : Item) → IsMask productions.now ls i mask.now → Steps productions.now a b to → Wants productions.now ls i to → result ≡ Some to }
+    ensures allowed { IfSome result (IsAllowed productions.now mask.now) }
 {
     match plain_step_of(productions, a, b) {
         None => None,
@@ -36,7 +38,8 @@ pub fn step_of(productions: &[Production], mask: &[bool], a: Item, b: Item) -> O
 
 /// Whether the piece before the item may end where the mask is of.
 fn is_wanted(productions: &[Production], mask: &[bool], item: Item) -> bool
-    ensures { (ls : List Leaf) (i : ℕ) → IsMask productions.now ls i mask.now → Wants productions.now ls i item → (number dot : ℕ) → item ≡ Part number dot → number < length productions.now → IsTrue result }
+    ensures allowed { IsTrue result → IsAllowed productions.now mask.now item }
+    ensures wanted { (ls : List Leaf) (i : ℕ) → IsMask productions.now ls i mask.now → Wants productions.now ls i item → (number dot : ℕ) → item ≡ Part number dot → number < length productions.now → IsTrue result }
 {
     match item {
         Item::Whole(_, _) => true,
@@ -344,6 +347,9 @@ fn combine_group(
             let slot = slot_of(slots, item);
             let mark = &mut marks[place_for(slot, marks.len())];
             mark.turn(i, item, chart.width)?;
+            if mark.has_all(group) {
+                return Ok(());
+            }
             combine_places(
                 chart,
                 alloc,

@@ -57,7 +57,8 @@ impl Item {
 
     /// Whether it is a part of a production with a piece before it.
     pub fn waits(self) -> bool
-        ensures { (k d : ℕ) → self ≡ Part k (suc d) → IsTrue result }
+        ensures where_part { (k d : ℕ) → self ≡ Part k (suc d) → IsTrue result }
+        ensures only { IsTrue result → (k : ℕ) × ((d : ℕ) × (self ≡ Part k (suc d))) }
     {
         match self {
             Item::Part(_, dot) => dot > 0,

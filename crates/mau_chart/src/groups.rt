@@ -1,28 +1,15 @@
 //! The parts of a row by what they wait for.
 ghost use Rattle.std.specs.Prelude.{◌≡◌, ◌<◌, ◌≤◌, ◌++◌, ◌∷◌, [], length, IfOk, OnOk, IfSome, IfNone};
 ghost use Rattle.mau_chart.specs.declared.grammar.Item.{Item};
-ghost use Rattle.mau_chart.specs.declared.groups.Place.{Place};
+ghost use Rattle.mau_chart.specs.declared.places.Place.{Place};
 ghost use Rattle.mau_chart.specs.Groups.{HasPart, IsPlace, AreGrouped, groups_at};
 ghost use Rattle.mau_chart.specs.Table.{table};
 
 use crate::chart::Chart;
 use crate::grammar::Item;
+use crate::places::{Group, Place};
 use mau_terms::NoMemory;
 use std::alloc::Global;
-
-/// A place in a row, and where what stands there ends.
-#[derive(Clone, Copy)]
-pub struct Place {
-    pub at: usize,
-    pub end: usize,
-}
-
-/// The places in a row where this item stands.
-#[derive(Drop)]
-pub struct Group {
-    pub item: Item,
-    pub parts: Vec<Place>,
-}
 
 /// The groups of a row.
 pub fn groups_of(index: &[Vec<Group>], r: usize) -> &[Group]
@@ -48,6 +35,8 @@ fn add_place(group: &mut Group, x: Place) -> Result<(), NoMemory>
     ensures item { OnOk result (group.new.item ≡ group.old.item) }
     ensures parts { OnOk result (group.new.parts.items ≡ group.old.parts.items ++ x ∷ []) }
 {
+    group.low = group.low.min(x.end);
+    group.high = group.high.max(x.end);
     group.parts.push(x)?;
     Ok(())
 }
@@ -65,7 +54,12 @@ fn enter(alloc: Global, groups: &mut Vec<Group>, item: Item, x: Place) -> Result
         None => {
             let mut parts = Vec::new(alloc);
             parts.push(x)?;
-            groups.push(Group { item, parts })?;
+            groups.push(Group {
+                item,
+                parts,
+                low: x.end,
+                high: x.end,
+            })?;
             Ok(())
         }
     }

@@ -6,6 +6,7 @@ mod fill;
 mod grammar;
 mod groups;
 mod marks;
+mod places;
 mod reading;
 mod trees;
 

@@ -30,15 +30,10 @@ use Rattle.mau_parse.specs.declared.goals.Goal.{Goal}
 use Rattle.mau_parse.specs.TooLarge.{AllSmall}
 use Rattle.mau_parse.specs.Terms.{pair_at, renamed, all_renamed}
 use Rattle.mau_parse.specs.Laws.{IsBareFor, TermsAreBare}
+use Rattle.mau_parse.proofs.Charted.{some_one, none_some}
 use Rattle.mau_parse.specs.Parsed.{IsParsed}
 use Rattle.mau_parse.specs.declared.fault.ParseFault.{ParseFault}
 use Rattle.mau_parse.proofs.Leaves_listed.{IsIn, in_none, in_one, in_parts, in_mapped}
-
-some_one : {A : Type 0} (x y : A) → Some x ≡ Some y → x ≡ y
-some_one x y e = cc
-
-none_some : {A : Type 0} (x : A) → ◌≡◌ {A = Option A} None (Some x) → ⊥
-none_some x e = cc
 
 of_member : {A : Type 0} (P : A → Type 0) (xs : List A) (x : A) → All P xs → IsIn xs x → P x
 of_member P xs x a m = let h = slice_get_within xs m.0 x m.1 in subst P (some_one _ x (sym (slice_get-get_or xs m.0 x h) ∙ m.1)) (a m.0 x h)

@@ -19,10 +19,10 @@ use Rattle.mau_parse.specs.Charted.{word_number, kind_number, ArePiecesOf, IsFor
 
 -- ---- words by their numbers
 
-some_one : {A : Type 0} (x y : A) → Some x ≡ Some y → x ≡ y
+pub some_one : {A : Type 0} (x y : A) → Some x ≡ Some y → x ≡ y
 some_one x y e = cc
 
-none_some : {A : Type 0} (x : A) → ◌≡◌ {A = Option A} None (Some x) → ⊥
+pub none_some : {A : Type 0} (x : A) → ◌≡◌ {A = Option A} None (Some x) → ⊥
 none_some x e = cc
 
 pub word_number-small : (ws : List (List ℕ)) (w : List ℕ) → word_number ws w ≤ length ws

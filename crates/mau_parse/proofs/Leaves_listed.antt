@@ -20,18 +20,13 @@ use Rattle.mau_parse.specs.Listed.{word_at, numerals_at, variable_at, leaves_at,
 use Rattle.mau_parse.specs.declared.readings.Reading.{Reading as CodeReading}
 use Rattle.mau_parse.specs.Readings.{seen, all_seen}
 use Rattle.mau_parse.specs.Terms.{added}
+use Rattle.mau_parse.proofs.Charted.{some_one, none_some}
 use Rattle.mau_parse.proofs.Renamed.{in_added, in_with, few_with}
 
 -- ---- members of a list
 
 abbrev pub IsIn : {A : Type 0} → List A → A → Type 0
 IsIn xs x = (n : ℕ) × (slice_get xs n ≡ Some x)
-
-none_some : {A : Type 0} (x : A) → ◌≡◌ {A = Option A} None (Some x) → ⊥
-none_some x e = cc
-
-some_one : {A : Type 0} (x y : A) → Some x ≡ Some y → x ≡ y
-some_one x y e = cc
 
 pub in_none : {A : Type 0} (x : A) → IsIn [] x → ⊥
 in_none x h = none_some x h.1

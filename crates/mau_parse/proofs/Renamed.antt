@@ -1,7 +1,7 @@
 -- Pairs added one by one keep the places of those that are there, so a term keeps its variables when more are added.
-use Rattle.std.proofs.Common.{◌≡◌, ℕ, ◌+◌, ◌≤◌, ◌<◌, zero, suc, List, [], ◌∷◌, ◌++◌, length, take, get_or, Bool, true, false, ◌||◌, if◌then◌else◌, cond, not, refl, sym, ◌∙◌, ap, ap₂, subst, arith, append_assoc}
+use Rattle.std.proofs.Common.{◌≡◌, ℕ, ◌+◌, ◌≤◌, ◌<◌, zero, suc, List, [], ◌∷◌, ◌++◌, length, take, get_or, Bool, true, false, ◌||◌, if◌then◌else◌, cond, not, refl, sym, ◌∙◌, ap, ap₂, subst, arith, append_assoc, length-append}
 use Rattle.std.specs.List.{list_any}
-use Rattle.std.proofs.lemmas.List.{take_more}
+use Rattle.std.proofs.lemmas.List.{append-nil, take_more}
 use Rattle.std.proofs.lemmas.List.Sums.{fold-append}
 use Rattle.mau_terms.specs.Tree.{Tree, variable, numeral, apply, Trees, no_trees, tree, trees_of}
 use Rattle.mau_terms.specs.declared.ids.TermId.{TermId}
@@ -129,11 +129,7 @@ mutual
 -- ---- one tree more
 
 pub pairs_more : (ps : List (List ℕ × ℕ)) (ts : List Tree) (t : Tree) → all_pairs ps (trees_of (ts ++ t ∷ [])) ≡ all_pairs ps (trees_of ts) ++ pairs_in ps t
-pairs_more ps [] t = none (pairs_in ps t)
-  where
-    none : (xs : List (List ℕ × ℕ)) → xs ++ [] ≡ xs
-    none [] = refl
-    none (x ∷ xs) = ap (λ ys. x ∷ ys) (none xs)
+pairs_more ps [] t = append-nil (pairs_in ps t)
 pairs_more ps (u ∷ ts) t = ap (λ ys. pairs_in ps u ++ ys) (pairs_more ps ts t) ∙ sym (append_assoc (pairs_in ps u) (all_pairs ps (trees_of ts)) (pairs_in ps t))
 
 renamed_end : (ps xs : List (List ℕ × ℕ)) (ts us : List Tree) (t u : Tree) → trees_of us ≡ all_renamed ps xs (trees_of ts) → u ≡ renamed ps xs t → trees_of (us ++ u ∷ []) ≡ all_renamed ps xs (trees_of (ts ++ t ∷ []))
@@ -163,16 +159,12 @@ given_at ps s [] i d h g = absurd (omega arith)
 given_at ps s (id ∷ ids) zero d h g = g.0
 given_at ps s (id ∷ ids) (suc i) d h g = given_at ps s ids i d (omega arith) g.1
 
-both_long : (xs ys : List (List ℕ × ℕ)) → length (xs ++ ys) ≡ length xs + length ys
-both_long [] ys = omega arith
-both_long (x ∷ xs) ys = omega (arith, both_long xs ys)
-
 pub room_at : (ps : List (List ℕ × ℕ)) (s : List Tree) (ids : List TermId) (i : ℕ) (d : TermId) → i < length ids
     → length (all_pairs ps (trees_of (trees_at s (take i ids)))) + length (pairs_in ps (tree_at s (get_or ids i d).0)) ≤ length (all_pairs ps (trees_of (trees_at s ids)))
 room_at ps s [] i d h = absurd (omega arith)
-room_at ps s (id ∷ ids) zero d h = omega (arith, both_long (pairs_in ps (tree_at s id.0)) (all_pairs ps (trees_of (trees_at s ids))))
+room_at ps s (id ∷ ids) zero d h = omega (arith, length-append (pairs_in ps (tree_at s id.0)) (all_pairs ps (trees_of (trees_at s ids))))
 room_at ps s (id ∷ ids) (suc i) d h =
-    omega (arith, room_at ps s ids i d (omega arith), both_long (pairs_in ps (tree_at s id.0)) (all_pairs ps (trees_of (trees_at s ids))), both_long (pairs_in ps (tree_at s id.0)) (all_pairs ps (trees_of (trees_at s (take i ids)))))
+    omega (arith, room_at ps s ids i d (omega arith), length-append (pairs_in ps (tree_at s id.0)) (all_pairs ps (trees_of (trees_at s ids))), length-append (pairs_in ps (tree_at s id.0)) (all_pairs ps (trees_of (trees_at s (take i ids)))))
 
 pub trees_step : (s : List Tree) (ids : List TermId) (i : ℕ) (d : TermId) → i < length ids → trees_at s (take (i + 1) ids) ≡ trees_at s (take i ids) ++ tree_at s (get_or ids i d).0 ∷ []
 trees_step s ids i d h = ap (trees_at s) (take_more ids i d h) ∙ trees_at-append s (take i ids) (get_or ids i d ∷ [])

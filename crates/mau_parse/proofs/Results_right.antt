@@ -1,5 +1,5 @@
 -- Variables copied one by one, and a tree with other places of its variables.
-use Rattle.std.proofs.Common.{◌≡◌, ℕ, zero, suc, ◌+◌, List, [], ◌∷◌, ◌++◌, take, Bool, true, false, ◌&&◌, ◌||◌, if◌then◌else◌, Option, Some, None, slice_get, refl, sym, ◌∙◌, ap, ap₂, subst}
+use Rattle.std.proofs.Common.{◌≡◌, ℕ, zero, suc, ◌+◌, List, [], ◌∷◌, ◌++◌, take, Bool, true, false, ◌&&◌, ◌||◌, if◌then◌else◌, Some, slice_get, refl, sym, ◌∙◌, ap, ap₂, subst}
 use Rattle.std.specs.List.{list_any}
 use Rattle.std.proofs.lemmas.List.{take_more}
 use Rattle.std.proofs.lemmas.Option.{slice_get_within, get_or_from_slice_get}
@@ -10,12 +10,10 @@ use Rattle.mau_terms.proofs.Pairs.{same_pair-is, same_pair_itself}
 use Rattle.mau_signature.specs.Attributes.{has_number}
 use Rattle.mau_parse.specs.Terms.{renamed, all_renamed}
 use Rattle.mau_parse.specs.Overflow.{overflows, some_overflow}
+use Rattle.mau_parse.proofs.Charted.{none_some}
 use Rattle.mau_parse.proofs.Leaves_listed.{any_there}
 
 -- ---- a copy
-
-none_some : {A : Type 0} (x : A) → ◌≡◌ {A = Option A} None (Some x) → ⊥
-none_some x e = cc
 
 other_way : (x y : List ℕ × ℕ) → same_pair y x ≡ false → same_pair x y ≡ false
 other_way x y h = by (same_pair x y) refl

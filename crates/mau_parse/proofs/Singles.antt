@@ -13,10 +13,7 @@ use Rattle.mau_chart.specs.Goal.{ReadsAs}
 use Rattle.mau_chart.specs.Reads.{Reads as Charts}
 use Rattle.mau_parse.specs.Charted.{kind_number}
 use Rattle.mau_parse.specs.Laws.{IsOneTree, ChartsReadTrees}
-use Rattle.mau_parse.proofs.Charted.{reads_charts, charts_mean}
-
-some_one : {A : Type 0} (x y : A) → Some x ≡ Some y → x ≡ y
-some_one x y e = cc
+use Rattle.mau_parse.proofs.Charted.{some_one, reads_charts, charts_mean}
 
 pub shape_at : (ps : List Written) → All IsShaped ps → (n : ℕ) (p : Written) → slice_get ps n ≡ Some p → IsShaped p
 shape_at ps a n p e =

@@ -1,5 +1,5 @@
 -- The variables of a tree of tokens are among the pairs of the text, at most one for each token.
-use Rattle.std.proofs.Common.{◌≡◌, ℕ, ◌+◌, ◌≤◌, List, [], ◌∷◌, ◌++◌, length, Option, Some, None, arith}
+use Rattle.std.proofs.Common.{◌≡◌, ℕ, ◌+◌, ◌≤◌, List, [], ◌∷◌, ◌++◌, length, Option, Some, None, arith, length-append}
 use Rattle.mau_terms.specs.Tree.{Tree, trees_of}
 use Rattle.mau_terms.specs.declared.ids.OpId.{OpId}
 use Rattle.mau_grammar.specs.declared.production.Part.{Part}
@@ -9,14 +9,10 @@ use Rattle.mau_grammar.specs.Trees.{made, Reads, reads_numeral, reads_variable, 
 use Rattle.mau_parse.specs.Terms.{pairs_in, all_pairs, AreGiven, AllGiven}
 use Rattle.mau_parse.proofs.Leaves_listed.{reading_within}
 
-both_long : (xs ys : List (List ℕ × ℕ)) → length (xs ++ ys) ≡ length xs + length ys
-both_long [] ys = omega arith
-both_long (x ∷ xs) ys = omega (arith, both_long xs ys)
-
 pairs-append : (ps : List (List ℕ × ℕ)) (ts us : List Tree) → length (all_pairs ps (trees_of (ts ++ us))) ≡ length (all_pairs ps (trees_of ts)) + length (all_pairs ps (trees_of us))
 pairs-append ps [] us = omega arith
 pairs-append ps (t ∷ ts) us =
-    omega (arith, pairs-append ps ts us, both_long (pairs_in ps t) (all_pairs ps (trees_of (ts ++ us))), both_long (pairs_in ps t) (all_pairs ps (trees_of ts)))
+    omega (arith, pairs-append ps ts us, length-append (pairs_in ps t) (all_pairs ps (trees_of (ts ++ us))), length-append (pairs_in ps t) (all_pairs ps (trees_of ts)))
 
 given-append : (ps : List (List ℕ × ℕ)) (ts us : List Tree) → AllGiven ps (trees_of ts) → AllGiven ps (trees_of us) → AllGiven ps (trees_of (ts ++ us))
 given-append ps [] us a b = b
@@ -29,7 +25,7 @@ pub record IsGivenFrom (ps : List (List ℕ × ℕ)) (i j : ℕ) (ts : List Tree
 
 given_made : (ps : List (List ℕ × ℕ)) (i j : ℕ) (o : Option OpId) (ts : List Tree) → IsGivenFrom ps i j ts → IsGivenFrom ps i j (made o ts)
 given_made ps i j None ts h = h
-given_made ps i j (Some f) ts h = record { given = (h.given, tt); few = omega (arith, h.few, both_long (all_pairs ps (trees_of ts)) []) }
+given_made ps i j (Some f) ts h = record { given = (h.given, tt); few = omega (arith, h.few, length-append (all_pairs ps (trees_of ts)) []) }
 
 module _ (g : GrammarOf) (ws : List (List ℕ)) where
   mutual
@@ -54,4 +50,4 @@ module _ (g : GrammarOf) (ws : List (List ℕ)) where
   tree_given low high t h = (reads_given h.kind h.level 0 (length ws) (t ∷ []) h.reads).given.0
 
   pub tree_few : (low high : ℕ) (t : Tree) → TreeOf g ws low high t → length (pairs_in (pairs_of g ws) t) ≤ length ws
-  tree_few low high t h = omega (arith, (reads_given h.kind h.level 0 (length ws) (t ∷ []) h.reads).few, both_long (pairs_in (pairs_of g ws) t) [])
+  tree_few low high t h = omega (arith, (reads_given h.kind h.level 0 (length ws) (t ∷ []) h.reads).few, length-append (pairs_in (pairs_of g ws) t) [])

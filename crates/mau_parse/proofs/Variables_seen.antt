@@ -1,5 +1,6 @@
 -- The variables of a tree, from left to right, begin at ascending places of the text.
 use Rattle.std.proofs.Common.{◌≡◌, ℕ, ◌+◌, ◌≤◌, List, [], ◌∷◌, ◌++◌, length, Option, Some, None, append_assoc, refl, sym, ◌∙◌, ap, subst, arith}
+use Rattle.std.proofs.lemmas.List.{append-nil}
 use Rattle.std.proofs.lemmas.Option.{get_or_from_slice_get}
 use Rattle.mau_terms.specs.Tree.{Tree, trees_of}
 use Rattle.mau_terms.specs.declared.ids.OpId.{OpId}
@@ -14,10 +15,6 @@ use Rattle.mau_parse.proofs.Leaves_listed.{reading_within}
 pairs-joined : (ps : List (List ℕ × ℕ)) (ts us : List Tree) → all_pairs ps (trees_of (ts ++ us)) ≡ all_pairs ps (trees_of ts) ++ all_pairs ps (trees_of us)
 pairs-joined ps [] us = refl
 pairs-joined ps (t ∷ ts) us = ap (λ xs. pairs_in ps t ++ xs) (pairs-joined ps ts us) ∙ sym (append_assoc (pairs_in ps t) (all_pairs ps (trees_of ts)) (all_pairs ps (trees_of us)))
-
-none_right : (xs : List (List ℕ × ℕ)) → xs ++ [] ≡ xs
-none_right [] = refl
-none_right (x ∷ xs) = ap (λ ys. x ∷ ys) (none_right xs)
 
 from_before : (i k : ℕ) (is : List ℕ) (j : ℕ) → i ≤ k → AreAscending k is j → AreAscending i is j
 from_before i k [] j h a = omega (arith, h, a)
@@ -42,7 +39,7 @@ module _ (g : GrammarOf) (ws : List (List ℕ)) where
 
   made_ordered : (i j : ℕ) (o : Option OpId) (ts : List Tree) → IsInOrder i j ts → IsInOrder i j (made o ts)
   made_ordered i j None ts h = h
-  made_ordered i j (Some f) ts h = record { places = h.places; ascending = h.ascending; seen = subst (AreSeenAt g ws h.places) (sym (none_right (all_pairs (pairs_of g ws) (trees_of ts)))) h.seen }
+  made_ordered i j (Some f) ts h = record { places = h.places; ascending = h.ascending; seen = subst (AreSeenAt g ws h.places) (sym (append-nil (all_pairs (pairs_of g ws) (trees_of ts)))) h.seen }
 
   mutual
     reads_ordered : (k q i j : ℕ) (ts : List Tree) → Reads g ws k q i j ts → IsInOrder i j ts
@@ -69,4 +66,4 @@ module _ (g : GrammarOf) (ws : List (List ℕ)) where
 pub variables_are_in_order : VariablesAreInOrder
 variables_are_in_order g ws goal t h =
     let x = reads_ordered g ws h.kind h.level 0 (length ws) (t ∷ []) h.reads in
-    (x.places, x.ascending, subst (AreSeenAt g ws x.places) (none_right (pairs_in (pairs_of g ws) t)) x.seen)
+    (x.places, x.ascending, subst (AreSeenAt g ws x.places) (append-nil (pairs_in (pairs_of g ws) t)) x.seen)

@@ -1,5 +1,5 @@
--- The laws of reading. What a chart of the tokens reads is exactly the trees of the tokens, the terms of trees are bare, and their
--- variables come in the order of the tokens.
+-- The laws of reading. What a chart of the tokens reads is exactly the trees of the tokens, the terms of trees are bare, their variables
+-- come in the order of the tokens, and no two causes of answers hold together.
 use Rattle.std.specs.Prelude.{◌≡◌, ◌↔◌, ℕ, ◌+◌, ◌<◌, ◌≤◌, ◌^◌, Some, slice_get, List, [], ◌∷◌, All, length}
 use Rattle.mau_terms.specs.Tree.{Tree}
 use Rattle.mau_grammar.specs.Production.{IsShaped}
@@ -17,7 +17,8 @@ use Rattle.mau_chart.specs.Goal.{ReadsAs}
 use Rattle.mau_parse.specs.declared.goals.Goal.{Goal}
 use Rattle.mau_parse.specs.Charted.{kind_number, AreFormsOf, AreLeavesOf}
 use Rattle.mau_parse.specs.TooLarge.{AllSmall}
-use Rattle.mau_parse.specs.Goal.{lowest, highest, IsTree}
+use Rattle.mau_parse.specs.Goal.{lowest, highest, IsTree, IsOnlyTree, AreTwoTrees}
+use Rattle.mau_parse.specs.Parsed.{IsReadable, HasNoTree, HasLargeNumeral}
 use Rattle.mau_parse.specs.Terms.{pairs_in, IsTermOf}
 
 -- one tree, which is one of the tokens
@@ -62,3 +63,18 @@ abbrev pub VariablesAreInOrder : Type 0
 VariablesAreInOrder =
     (g : GrammarOf) (ws : List (List ℕ)) (goal : Goal) (t : Tree) → IsTree g ws goal t →
     (is : List ℕ) × AreAscending 0 is (length ws) × AreSeenAt g ws is (pairs_in (pairs_of g ws) t)
+
+-- ---- no two causes of answers hold together
+
+pub record CausesExclude (g : GrammarOf) (ws : List (List ℕ)) (goal : Goal) : Type 0 where
+  -- readable tokens have no numeral that is too large
+  pub numeral : IsReadable g ws → (i : ℕ) → HasLargeNumeral g ws i → ⊥
+  -- what is the only tree is a tree, of which there is none or two
+  pub none : (t : Tree) → IsOnlyTree g ws goal t → HasNoTree g ws goal → ⊥
+  pub two : (t u v : Tree) → IsOnlyTree g ws goal t → AreTwoTrees g ws goal u v → ⊥
+  pub neither : (u v : Tree) → AreTwoTrees g ws goal u v → HasNoTree g ws goal → ⊥
+  -- two only trees are one
+  pub only : (t u : Tree) → IsOnlyTree g ws goal t → IsOnlyTree g ws goal u → t ≡ u
+
+abbrev pub CausesExcludeEachOther : Type 0
+CausesExcludeEachOther = (g : GrammarOf) (ws : List (List ℕ)) (goal : Goal) → CausesExclude g ws goal

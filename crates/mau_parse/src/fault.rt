@@ -3,7 +3,7 @@ use mau_terms::{Bare, NoMemory};
 
 /// Why some words are not read as a term. A place is that of the first byte of a word in its text, counted from 0: that of the numeral
 /// where one is too large, and otherwise that of the first word.
-#[derive(Drop)]
+#[derive(Debug, Drop)]
 pub enum ParseFault {
     /// The words have no tree.
     NoParse(u32),

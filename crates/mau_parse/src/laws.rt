@@ -1,5 +1,5 @@
 //! What is proved of reading tokens. Each function does nothing and has a law for its contract.
-ghost use Rattle.mau_parse.specs.Laws.{ChartsReadTrees, TermsAreBare, VariablesAreInOrder};
+ghost use Rattle.mau_parse.specs.Laws.{ChartsReadTrees, TermsAreBare, VariablesAreInOrder, CausesExcludeEachOther};
 
 /// What a chart of the tokens reads, by the forms of all productions and exactly the leaves of the tokens, is one tree each time, and
 /// these are exactly the trees of the tokens.
@@ -16,4 +16,9 @@ pub fn terms_are_bare()
 /// item is added by its first occurrence in the tokens.
 pub fn variables_are_in_order()
     ensures { VariablesAreInOrder }
+{}
+
+/// No two causes of answers hold together, so each answer comes only where no other may.
+pub fn causes_exclude_each_other()
+    ensures { CausesExcludeEachOther }
 {}

@@ -1,7 +1,8 @@
-//! The mixfix reader: words of a text, numerals and variables among them, and the
-//! productions of a grammar as a chart of these words takes them. A law says that
-//! what such a chart reads is exactly the trees of the words. A tree becomes a term,
-//! whose variables are added to those of an item.
+//! The mixfix reader: [`parse`] gives the term that some tokens of a text are by the
+//! productions of a grammar, or says why they are none. The tokens are seen as words, of
+//! which some are numerals or begin variables; a chart of the productions tells their
+//! trees; and the one tree becomes a term, whose variables are added to those of an item.
+//! [`laws`] has what holds of all this.
 #![tactic(auto)]
 
 mod fault;
@@ -19,15 +20,8 @@ mod trees;
 mod words;
 
 pub use fault::ParseFault;
-pub use forms::forms_of;
 pub use goals::Goal;
-pub use leaves::leaves_of;
-pub use numerals::{first_too_large, is_numeral, value_of};
-pub use overflow::overflows;
 pub use reader::parse;
-pub use readings::{Reading, readings_at, readings_of};
-pub use terms::term_of;
-pub use words::Words;
 
 #[cfg(test)]
 mod tests;

@@ -4,6 +4,10 @@ mod parsing;
 mod signature;
 
 use super::*;
+use crate::numerals::{is_numeral, value_of};
+use crate::readings::readings_of;
+use crate::terms::term_of;
+use crate::words::Words;
 use mau_chart::Trees;
 use mau_grammar::{Alias, Grammar};
 use mau_poset::Poset;

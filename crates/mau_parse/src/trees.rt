@@ -14,7 +14,7 @@ use mau_terms::{NoMemory, TermId, Vars};
 use std::alloc::Global;
 
 /// The trees of some words, by their numbers in a store: none, one alone, or two that differ.
-#[derive(Clone, Copy, PartialEq, Eq, Debug)]
+#[derive(Clone, Copy)]
 pub enum Found {
     Nothing,
     One(TermId),

@@ -13,7 +13,7 @@ returns-in_err-settle_declared-clause-table c = λ known t. record {
   entries = entries_same c.args.sig.now known c.args.store.now c.args.sorts.now c.settle_declared.new.self c.in_err-settle_declared.ensures.unchanged t.entries;
   settled = λ u r among.
       let is = t.settled u r among in
-      record { number = is.number; there = is.there; tree = is.tree; settled = settled_kept c.args.sorts.now c.settle_declared.new.self c.settle_declared.ensures.kept is.number is.settled; };
+      record { number = is.number; there = is.there; tree = is.tree; settled = settled_kept c.args.sorts.now c.settle_declared.new.self c.settle_declared.ensures.kept is.number is.settled };
 }
 
 pub returns-clause-entries : goal.returns-clause-entries

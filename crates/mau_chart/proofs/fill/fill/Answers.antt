@@ -16,7 +16,7 @@ loop-r-init c = record {
   indexed = search rules;
   grouped = search rules;
   full = search rules;
-  some = omega (arith, c.in_ok-marks.ensures.some);
+  some = omega (arith, c.in_ok-marks.ensures.count);
   marked = c.in_ok-marks.ensures.marked (table c.args.chart.now);
 }
 

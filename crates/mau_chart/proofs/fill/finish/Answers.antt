@@ -32,7 +32,7 @@ loop-k-preserved c =
             rows = c.loop-k.invariant.rows;
             ended = ended_other ps ls (table c.args.chart.now) (table c.loop-k.chart) i k (k + 1) p its
                 (λ u. (
-                let v = c.is_wanted.ensures ls i c.requires.mask (subst (λ d. Wants ps ls i (Part k d)) (sym len) u) k c.len.result refl h in
+                let v = c.is_wanted.ensures.wanted ls i c.requires.mask (subst (λ d. Wants ps ls i (Part k d)) (sym len) u) k c.len.result refl h in
                 let z : false ≡ true = sym w.if-is_wanted.false ∙ v in
                 cc
                 ))

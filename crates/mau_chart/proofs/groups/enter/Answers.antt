@@ -31,9 +31,9 @@ returns-in_ok-add_place-in-Some-clause-others c =
 pub returns-in_ok-push-in-None-2-clause-there : goal.returns-in_ok-push-in-None-2-clause-there
 returns-in_ok-push-in-None-2-clause-there c =
     subst (λ gs. HasPart gs c.args.item c.args.x) (sym c.in_ok-push-in-None-2.ensures.items)
-    (pushed c.args.groups.now.items c.args.x (record { item = c.args.item; parts = c.push.new.self }) (c.in_ok-push-in-None.ensures.items ∙ ap (λ ps. ps ++ c.args.x ∷ []) c.new-parts.ensures.items))
+    (pushed c.args.groups.now.items c.args.x _ (c.in_ok-push-in-None.ensures.items ∙ ap (λ ps. ps ++ c.args.x ∷ []) c.new-parts.ensures.items))
 
 pub returns-in_ok-push-in-None-2-clause-others : goal.returns-in_ok-push-in-None-2-clause-others
 returns-in_ok-push-in-None-2-clause-others c it y h =
     subst (λ gs. HasPart gs it y) (sym c.in_ok-push-in-None-2.ensures.items)
-    (pushed_others c.args.groups.now.items c.args.x (record { item = c.args.item; parts = c.push.new.self }) (c.in_ok-push-in-None.ensures.items ∙ ap (λ ps. ps ++ c.args.x ∷ []) c.new-parts.ensures.items) it y h)
+    (pushed_others c.args.groups.now.items c.args.x _ (c.in_ok-push-in-None.ensures.items ∙ ap (λ ps. ps ++ c.args.x ∷ []) c.new-parts.ensures.items) it y h)

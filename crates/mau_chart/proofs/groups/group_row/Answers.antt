@@ -20,7 +20,7 @@ loop-x-preserved c =
           (grouped_more (table s) m c.loop-x.groups.items w.enter.new.groups.items x (x + 1) (found_of s.store a) refl there w.in_ok-enter.ensures.others (λ k d e. w.in_ok-enter.ensures.there) c.loop-x.invariant)
       | else-waits w ↦
           subst (λ v. AreGroupedTo (table s) m v.items (x + 1)) (sym w.groups-is)
-          (grouped_more (table s) m c.loop-x.groups.items c.loop-x.groups.items x (x + 1) (found_of s.store a) refl there (λ it y h. h) (λ k d e. let z : false ≡ true = sym w.if-waits.false ∙ c.waits.ensures k d e in cc) c.loop-x.invariant)
+          (grouped_more (table s) m c.loop-x.groups.items c.loop-x.groups.items x (x + 1) (found_of s.store a) refl there (λ it y h. h) (λ k d e. let z : false ≡ true = sym w.if-waits.false ∙ c.waits.ensures.where_part k d e in cc) c.loop-x.invariant)
     ]
 
 pub returns : goal.returns

@@ -1,6 +1,6 @@
 use Rattle.std.proofs.Common.{◌≡◌, ℕ, ◌≤◌, ◌<◌, get_or, Some, true, false}
 use Rattle.std.specs.List.{slice_get}
-use Rattle.mau_chart.specs.declared.groups.Place.{Place}
+use Rattle.mau_chart.specs.declared.places.Place.{Place}
 use Rattle.mau_chart.proofs.marks.next_open.Given as goal
 
 abbrev pub invariant-loop-z : goal.invariant-loop-z

@@ -1,10 +1,11 @@
-use Rattle.std.proofs.Common.{ℕ, ◌<◌, List, length}
+use Rattle.std.proofs.Common.{◌≡◌, ℕ, ◌≤◌, max, List, length}
 use Rattle.mau_chart.specs.Chart.{Found}
 use Rattle.mau_chart.specs.Marks.{AllMarked}
 use Rattle.mau_chart.proofs.marks.no_marks.Given as goal
 
 abbrev pub invariant-loop : goal.invariant-loop
 invariant-loop l = record {
-  some : 0 < length l.marks.items;
+  count : length l.marks.items ≡ l.counter;
+  most : l.counter ≤ max l.count 1;
   marked : (rows : ℕ → List Found) → AllMarked rows l.marks.items;
 }
