@@ -4,3 +4,7 @@
 pub mod Longer
 -- kinds
 pub mod OfKind
+-- terms that are gathered
+pub mod Gathering
+-- limits of parts
+pub mod Limits

@@ -4,3 +4,7 @@
 pub mod Words
 -- arguments by their kinds
 pub mod Arguments
+-- terms that are gathered
+pub mod Gathered
+-- what is gathered of a term
+pub mod Parts

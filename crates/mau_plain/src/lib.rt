@@ -3,6 +3,7 @@
 #![tactic(auto)]
 
 mod kinds;
+mod parts;
 mod words;
 
 pub use kinds::kind_of;
