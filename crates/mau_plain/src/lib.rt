@@ -1,5 +1,5 @@
-//! A plain slow listing: it tries all values that the variables of a pattern may have, and keeps the least solution. Its contract is
-//! that of every listing, so that others can be compared with it on small questions.
+//! The lower half of a plain slow listing, which tries all values that the variables of a pattern may have: these values, gathered in a
+//! store, their kinds, and all lists over some terms.
 #![tactic(auto)]
 
 mod kinds;
@@ -7,4 +7,5 @@ mod parts;
 mod words;
 
 pub use kinds::kind_of;
+pub use parts::push_candidates;
 pub use words::all_words;

@@ -169,7 +169,7 @@ fn push_all_parts(
 
 /// Adds what the values of a pattern's variables may be, where the normal form of the instance is one of some terms.
 #[cycle(candidates)]
-pub(crate) fn push_candidates(
+pub fn push_candidates(
     store: &mut Store,
     sig: &Signature,
     pattern: &Bare,

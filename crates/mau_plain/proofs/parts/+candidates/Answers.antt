@@ -43,8 +43,8 @@ push_candidates-returns-in_ok-extend_from_slice-in-Var t c =
     let ts = trees_at nodes (numbers c.args.ids.now) in
     gathers_then th nodes nodes c.args.out.now.items c.extend_from_slice.new.self.items (λ t. IsIn t ts) (IsOfSome th (tree_of c.args.pattern.now) ts)
     (λ v q.
-        let same : v ≡ q.0 = subst (λ b. MayBeValue th (tree_of b) q.0 v) c.in-Var.is q.2 in
-        subst (λ u. IsIn u ts) (sym same) q.1)
+    let same : v ≡ q.0 = subst (λ b. MayBeValue th (tree_of b) q.0 v) c.in-Var.is q.2 in
+    subst (λ u. IsIn u ts) (sym same) q.1)
     (gathers_more th nodes nodes c.args.out.now.items c.args.ids.now c.extend_from_slice.new.self.items (extension_is_preorder.reflexive nodes) c.requires.out c.requires.terms c.in_ok-extend_from_slice-in-Var.ensures.items)
 
 pub push_candidates-returns-in_ok-push_all_parts-in-App : goal.push_candidates-returns-in_ok-push_all_parts-in-App
@@ -62,11 +62,11 @@ push_candidates-returns-in_ok-push_all_parts-in-App t c =
     let g = c.in_ok-push_all_parts-in-App.ensures in
     OnOk-then _ (Gathers th s0 s2 x0 x1 (IsOfSome th (tree_of c.args.pattern.now) ts))
     (λ (h : Gathers th s1 s2 x0 x1 (IsOfSomeOfAll th ps (trees_at s1 (numbers c.deref.result.now)))).
-        gathers_then th s0 s2 x0 x1 _ (IsOfSome th (tree_of c.args.pattern.now) ts)
-        (λ v q.
-            let one = subst (λ p. MayBeValue th p q.0 v) e q.2 in
-            inr (one.0, subst (λ ids. IsIn one.0 (trees_at s1 (numbers ids))) (sym c.deref.ensures.value) (g.all one.0 (q.0, q.1, one.1)), one.2))
-        (gathers_both th s0 s1 s2 x0 x0 x1 (λ z. ⊥) (IsOfSomeOfAll th ps (trees_at s1 (numbers c.deref.result.now))) (gathers_grown th s0 s1 x0 g.extends c.requires.out) h))
+    gathers_then th s0 s2 x0 x1 _ (IsOfSome th (tree_of c.args.pattern.now) ts)
+    (λ v q.
+    let one = subst (λ p. MayBeValue th p q.0 v) e q.2 in
+    inr (one.0, subst (λ ids. IsIn one.0 (trees_at s1 (numbers ids))) (sym c.deref.ensures.value) (g.all one.0 (q.0, q.1, one.1)), one.2))
+    (gathers_both th s0 s1 s2 x0 x0 x1 (λ z. ⊥) (IsOfSomeOfAll th ps (trees_at s1 (numbers c.deref.result.now))) (gathers_grown th s0 s1 x0 g.extends c.requires.out) h))
     c.push_all_candidates.result c.push_all_candidates.ensures
 
 pub push_all_candidates-push_candidates-requires : goal.push_all_candidates-push_candidates-requires
@@ -97,10 +97,10 @@ push_all_candidates-loop-pattern-preserved t c =
     let same : trees_at c.loop-pattern.store (numbers c.args.ids.now) ≡ ts = trees_at-extends start c.loop-pattern.store (numbers c.args.ids.now) c.loop-pattern.invariant.extends (stand_there th start (numbers c.args.ids.now) c.requires.terms) in
     let step = subst (λ us. Gathers th c.loop-pattern.store c.push_candidates.new.store c.loop-pattern.out.items c.push_candidates.new.out.items (IsOfSome th (tree_of c.pattern-item.result) us)) same c.in_ok-push_candidates.ensures in
     let both = gathers_both th start c.loop-pattern.store c.push_candidates.new.store c.args.out.now.items c.loop-pattern.out.items c.push_candidates.new.out.items
-        (IsOfSomeOfAll th (map tree_of (take i ps)) ts) (IsOfSome th (tree_of c.pattern-item.result) ts) c.loop-pattern.invariant step in
+    (IsOfSomeOfAll th (map tree_of (take i ps)) ts) (IsOfSome th (tree_of c.pattern-item.result) ts) c.loop-pattern.invariant step in
     gathers_then th start c.push_candidates.new.store c.args.out.now.items c.push_candidates.new.out.items _ (IsOfSomeOfAll th (map tree_of (take (i + 1) ps)) ts)
     (λ v q. ⊎_elim
-        (λ (h : MayBeValueOfOne th (trees_of (map tree_of (take i ps))) q.0 v). inl (q.0, q.1, h))
-        (λ (h : MayBeValue th (tree_of (get_or ps i c.pattern-item.result)) q.0 v). inr (q.0, q.1, subst (λ b. MayBeValue th (tree_of b) q.0 v) (sym c.pattern-item.is) h))
-        (of_one_more th ps i c.pattern-item.result q.0 v c.loop-pattern-test.true (subst (λ n. MayBeValueOfOne th (trees_of (map tree_of (take n ps))) q.0 v) (add-one i) q.2)))
+    (λ (h : MayBeValueOfOne th (trees_of (map tree_of (take i ps))) q.0 v). inl (q.0, q.1, h))
+    (λ (h : MayBeValue th (tree_of (get_or ps i c.pattern-item.result)) q.0 v). inr (q.0, q.1, subst (λ b. MayBeValue th (tree_of b) q.0 v) (sym c.pattern-item.is) h))
+    (of_one_more th ps i c.pattern-item.result q.0 v c.loop-pattern-test.true (subst (λ n. MayBeValueOfOne th (trees_of (map tree_of (take n ps))) q.0 v) (add-one i) q.2)))
     both
