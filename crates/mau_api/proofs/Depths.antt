@@ -35,7 +35,7 @@ among_depth z (t ∷ ts) (inr h) = omega (arith, among_depth z ts h)
 pub node_depth : (f : ℕ) (ts : List Tree) → depth (node f ts) ≡ suc (list_depth ts)
 node_depth f ts = ap suc (depths-trees_of ts)
 
-argument_depth : (t z : Tree) → IsIn z (arguments_of t) → depth z < depth t
+pub argument_depth : (t z : Tree) → IsIn z (arguments_of t) → depth z < depth t
 argument_depth (variable i s) z h = absurd h
 argument_depth (numeral n) z h = absurd h
 argument_depth (apply f ts) z h = omega (arith, go ts h)

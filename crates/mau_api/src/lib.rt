@@ -16,3 +16,6 @@ pub use order::{compare_lists, compare_values, value_key_of};
 pub use places::{Place, places_of};
 pub use settle::settle_value;
 pub use solution::Solution;
+
+#[cfg(test)]
+mod tests;

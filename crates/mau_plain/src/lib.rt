@@ -1,0 +1,11 @@
+//! The lower half of a plain slow listing, which tries all values that the variables of a pattern may have: these values, gathered in a
+//! store, their kinds, and all lists over some terms.
+#![tactic(auto)]
+
+mod kinds;
+mod parts;
+mod words;
+
+pub use kinds::kind_of;
+pub use parts::push_candidates;
+pub use words::all_words;
