@@ -8,3 +8,5 @@ pub mod OfKind
 pub mod Gathering
 -- limits of parts
 pub mod Limits
+-- terms that are settled
+pub mod Settling

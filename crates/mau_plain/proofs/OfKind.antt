@@ -25,6 +25,12 @@ pub of_kind : (s : TermSignature) (t : Tree) (o : Option ℕ) (k : ℕ) → IfSo
 of_kind s t None k some none = (λ e. absurd (cc), λ b. absurd (none (k, b)))
 of_kind s t (Some j) k some none = (λ e. let same : j ≡ k = cc in subst (IsBareIn s t) same some, λ b. ap Some (one_kind s t j k some b))
 
+pub take_whole : {A : Type 0} (xs : List A) (n : ℕ) → length xs ≤ n → take n xs ≡ xs
+take_whole [] zero h = refl
+take_whole [] (suc n) h = refl
+take_whole (x ∷ xs) zero h = absurd (omega arith)
+take_whole (x ∷ xs) (suc n) h = ap (λ ys. x ∷ ys) (take_whole xs n (omega arith))
+
 -- ---- numbers in a list
 
 pub number_there : (nodes : List Node) (ids : List TermId) (i : ℕ) (d : TermId) → i < length ids → AreOf nodes (numbers ids) → IsOf nodes (get_or ids i d).0

@@ -8,3 +8,5 @@ pub mod Arguments
 pub mod Gathered
 -- what is gathered of a term
 pub mod Parts
+-- terms that are settled
+pub mod Settled

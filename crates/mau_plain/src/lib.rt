@@ -4,8 +4,10 @@
 
 mod kinds;
 mod parts;
+mod settled;
 mod words;
 
 pub use kinds::kind_of;
 pub use parts::push_candidates;
+pub use settled::settled_among;
 pub use words::all_words;

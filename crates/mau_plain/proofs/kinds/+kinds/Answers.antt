@@ -13,17 +13,11 @@ use Rattle.mau_canon.proofs.Collected.{is_operator}
 use Rattle.mau_canon.proofs.Standing.{stand_at, arguments_stand_within}
 use Rattle.mau_terms.proofs.Taken.{one_kind}
 use Rattle.mau_api.proofs.Depths.{node_depth}
-use Rattle.mau_plain.proofs.OfKind.{number_depth, all_more, all_at, bare_more, bare_at, as_many, bare_operator, bare_arguments, arguments_bare}
+use Rattle.mau_plain.proofs.OfKind.{take_whole, number_depth, all_more, all_at, bare_more, bare_at, as_many, bare_operator, bare_arguments, arguments_bare}
 use Rattle.mau_plain.proofs.kinds.+kinds.Goals as goal
 
 has_operator : (s : SignatureOf) (f : ℕ) → IsOperator s f → (terms_over s).has_operator f ≡ true
 has_operator s f op = ap₂ (λ x y. x && y) (lt-ltb 0 f op.0) (le-leb f (length s.declarations) op.1)
-
-take_whole : {A : Type 0} (xs : List A) (n : ℕ) → length xs ≤ n → take n xs ≡ xs
-take_whole [] zero h = refl
-take_whole [] (suc n) h = refl
-take_whole (x ∷ xs) zero h = absurd (omega arith)
-take_whole (x ∷ xs) (suc n) h = ap (λ ys. x ∷ ys) (take_whole xs n (omega arith))
 
 -- ---- one term
 
