@@ -10,3 +10,5 @@ pub mod Gathering
 pub mod Limits
 -- terms that are settled
 pub mod Settling
+-- bare instances
+pub mod Instances
