@@ -36,6 +36,6 @@ module _ (nodes : List Node) (are : AreNodes nodes) where
       → (j : ℕ) → IsSettled new j → MaySettle s nodes old (tree_at nodes subject) j
   settles_one s old new subject i asked there settles other list j is =
       ⊎_elim
-      (λ (e : j ≡ i). subst (MaySettle s nodes old (tree_at nodes subject)) (sym e) (inr (list, λ same. other (one_number nodes are i subject there asked same))))
+      (λ (e : j ≡ i). subst (MaySettle s nodes old (tree_at nodes subject)) (sym e) (inr (there, list, λ same. other (one_number nodes are i subject there asked same))))
       (λ (ne : j ≢ i). inl (ap is_some (sym (settles.others j ne)) ∙ is))
       (cases_eq j i)

@@ -24,3 +24,5 @@ pub mod Parts
 pub mod Readied
 -- values under a plain top
 pub mod Depths
+-- what is put into a store and settled
+pub mod Stored

@@ -41,7 +41,7 @@ nothing_below_unit (Const c) u b = b
 nothing_below_unit (Num n) u b = b
 
 -- what is below a node is one of its arguments, or below one
-below_node : (f : ℕ) (ts : List Tree) (u : Tree) → IsBelow u (node f ts) → (z : Tree) × IsIn z ts × ((u ≡ z) ⊎ IsBelow u z)
+pub below_node : (f : ℕ) (ts : List Tree) (u : Tree) → IsBelow u (node f ts) → (z : Tree) × IsIn z ts × ((u ≡ z) ⊎ IsBelow u z)
 below_node f [] u b = absurd b
 below_node f (t ∷ ts) u (inl e) = (t, inl refl, inl e)
 below_node f (t ∷ ts) u (inr (inl b)) = (t, inl refl, inr b)

@@ -141,9 +141,9 @@ IsNumeralOrList th (variable i s) = ⊥
 IsNumeralOrList th (numeral n) = Unit {0}
 IsNumeralOrList th (apply f ts) = (th f).assoc ≡ true
 
--- the term with the number i was settled before, or is a numeral or a list and not the subject t
+-- the term with the number i was settled before, or is one of the store, a numeral or a list and not the subject t
 abbrev pub MaySettle : SignatureOf → List Node → Table → Tree → ℕ → Type 0
-MaySettle s nodes old t i = IsSettled old i ⊎ (IsNumeralOrList (theory_at s) (tree_at nodes i) × (tree_at nodes i ≡ t → ⊥))
+MaySettle s nodes old t i = IsSettled old i ⊎ (IsOf nodes i × IsNumeralOrList (theory_at s) (tree_at nodes i) × (tree_at nodes i ≡ t → ⊥))
 
 -- the term with the number i is settled, or a listing may settle it: it is a numeral or a list, not the subject, and its arguments
 -- are settled

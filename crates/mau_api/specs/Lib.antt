@@ -14,3 +14,5 @@ pub mod Asked
 pub mod Laws
 -- the variables of a pattern, as the code has them
 pub mod Places
+-- what is settled beforehand
+pub mod Prepared

@@ -1,5 +1,4 @@
-//! Listings of solutions: what solves a pattern and a subject, the trait that each listing implements, and a plain listing
-//! that tries all values, to which others are compared.
+//! Listings of solutions: what solves a pattern and a subject, the trait that each listing implements, and what listings share.
 #![tactic(auto)]
 
 mod first;
@@ -7,6 +6,7 @@ pub mod laws;
 mod lister;
 mod order;
 mod places;
+mod prepared;
 mod settle;
 mod solution;
 
@@ -14,6 +14,7 @@ pub use first::{FirstSolutions, first_solutions};
 pub use lister::Lister;
 pub use order::{compare_lists, compare_values, value_key_of};
 pub use places::{Place, places_of};
+pub use prepared::{put_identities, settle_store};
 pub use settle::settle_value;
 pub use solution::Solution;
 

@@ -1,10 +1,10 @@
 //! Settling the sorts of values.
-ghost use Rattle.std.specs.Prelude.{◌≡◌, ◌↔◌, ℕ, true, false, IfOk, IsTrue};
+ghost use Rattle.std.specs.Prelude.{◌≡◌, ◌↔◌, ℕ, true, false, IfOk, OnOk, OnErr, IsTrue};
 ghost use Rattle.mau_signature.specs.Signature.{theory_at};
 ghost use Rattle.mau_store.specs.Node.{AreNodes, IsOf};
 ghost use Rattle.mau_store.specs.Trees.{tree_at};
 ghost use Rattle.mau_sorts.specs.HasSort.{Known};
-ghost use Rattle.mau_sorts.specs.Table.{IsSettled, IsReady, AreOver, KeepsEntries};
+ghost use Rattle.mau_sorts.specs.Table.{IsSettled, IsReady, AreOver, AreSame, KeepsEntries, Settles};
 ghost use Rattle.mau_api.specs.Asked.{IsNumeralOrList, IsSettleable, IsTableOf, MaySettle};
 
 use mau_signature::Signature;
@@ -23,6 +23,29 @@ fn is_numeral_or_list(store: &Store, sig: &Signature, sorts: &SortTable, id: Ter
         NodeView::Var(_) => false,
         NodeView::App(op, _) => sig.theory(op).assoc,
     }
+}
+
+/// Settles the sorts of a term by declarations alone, if they are not settled.
+pub(crate) fn settle_ready(
+    store: &Store,
+    sig: &Signature,
+    sorts: &mut SortTable,
+    id: TermId,
+) -> Result<(), NoMemory>
+    requires nodes { AreNodes store.now }
+    requires ready { IsReady sig.now store.now sorts.old id.0 }
+    requires over { AreOver sig.now.hierarchy sorts.old }
+    ensures ok { OnOk result (Settles sorts.old sorts.new id.0) }
+    ensures same { OnErr result (AreSame sorts.old sorts.new) }
+    ensures kept { KeepsEntries sorts.old sorts.new }
+    ensures over { AreOver sig.now.hierarchy sorts.new }
+    ensures table { (known : Known) → IsTableOf sig.now known store.now sorts.old → IsTableOf sig.now known store.now sorts.new }
+{
+    if sorts.is_settled(id) {
+        return Ok(());
+    }
+    sorts.settle_declared(sig, store, id, &[])?;
+    Ok(())
 }
 
 /// Whether the sorts of a term that may be a value are settled, after they were settled if a listing may do so: those of a numeral, or
@@ -52,6 +75,6 @@ pub fn settle_value(
     if !is_numeral_or_list(store, sig, sorts, id) {
         return Ok(false);
     }
-    sorts.settle_declared(sig, store, id, &[])?;
+    settle_ready(store, sig, sorts, id)?;
     Ok(true)
 }

@@ -8,6 +8,8 @@ pub mod Overflows
 pub mod Judged
 -- what is collected from bare terms
 pub mod Collected
+-- lists of bare terms
+pub mod BareLists
 -- the laws
 pub mod Standing
 -- values of variables

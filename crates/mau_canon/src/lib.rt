@@ -8,12 +8,14 @@ mod fault;
 pub mod laws;
 mod list;
 mod normal;
+mod terms;
 mod value;
 
 pub use bare::{build_bare, build_instance};
 pub use builder::{build, from_list};
 pub use fault::BuildFault;
 pub use list::list_of;
+pub use terms::is_bare;
 
 /// The greatest depth of a normal form; a leaf has the depth 1.
 pub const MAX_DEPTH: usize = 1_000;

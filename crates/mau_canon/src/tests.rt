@@ -6,7 +6,6 @@ use std::alloc::Global;
 use std::process::Abort;
 use std::test::Fail;
 
-mod bare;
 mod notation;
 mod signature;
 mod terms;

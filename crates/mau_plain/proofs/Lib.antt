@@ -10,5 +10,15 @@ pub mod Gathering
 pub mod Limits
 -- terms that are settled
 pub mod Settling
+-- what holds at each place of a pattern
+pub mod AtEach
 -- bare instances
 pub mod Instances
+-- the least of some lists
+pub mod Leasts
+-- trials of values
+pub mod Trials
+-- trials and solutions
+pub mod Solved
+-- the next solution
+pub mod Nexts

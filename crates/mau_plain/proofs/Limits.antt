@@ -1,9 +1,9 @@
 -- What may have been an argument is within the limits, and is over elements of the term.
-use Rattle.std.proofs.Common.{◌≡◌, ℕ, suc, ◌≤◌, ◌<◌, List, [], ◌∷◌, Bool, true, false, ◌&&◌, ◌||◌, Option, Some, None, All, length, map, ◌⊎◌, inl, inr, refl, sym, ap, ap₂, ◌∙◌, subst, arith, lit≤}
+use Rattle.std.proofs.Common.{◌≡◌, ℕ, suc, ◌≤◌, List, [], ◌∷◌, Bool, true, false, ◌&&◌, ◌||◌, Some, All, map, ◌⊎◌, inl, inr, refl, sym, ap, ap₂, ◌∙◌, subst, arith, lit≤}
 use Rattle.std.proofs.lemmas.List.Elements.{All-head, All-tail}
 use Rattle.mau_terms.specs.Tree.{Tree, variable, numeral, apply, Trees, no_trees, tree, node, list_of, trees_of}
-use Rattle.mau_terms.specs.Depth.{depth, list_depth}
-use Rattle.mau_terms.specs.Norm.{unit_tree, all_pieces, arrange, finish, made, build, norm, holds_overflow, hold_overflow, is_greatest_numeral}
+use Rattle.mau_terms.specs.Depth.{list_depth}
+use Rattle.mau_terms.specs.Norm.{unit_tree, arrange, finish, build, norm, holds_overflow, hold_overflow, is_greatest_numeral}
 use Rattle.mau_terms.specs.Lawful.{AreLawful}
 use Rattle.mau_terms.specs.Solution.{list_under, over_list}
 use Rattle.mau_terms.specs.Finite.{IsIn, arguments_of}
@@ -13,7 +13,6 @@ use Rattle.mau_terms.specs.declared.theory.Theory.{Theory}
 use Rattle.mau_terms.proofs.Induction.{norm-node}
 use Rattle.mau_terms.proofs.Normal.{IsNormal, normal_fixed, normal_pieces, whole_pieces, pieces_all}
 use Rattle.mau_terms.proofs.Pieces.{Each, IsPiece, arrange_none}
-use Rattle.mau_terms.proofs.Finite.{each_in}
 use Rattle.mau_canon.specs.declared.TheConstants.{MAX_DEPTH}
 use Rattle.mau_canon.specs.Within.{IsWithin}
 use Rattle.mau_canon.proofs.Elements.{or_false}

@@ -1,5 +1,5 @@
 -- Kinds of normal forms that are read as bare terms.
-use Rattle.std.proofs.Common.{◌≡◌, ◌↔◌, ℕ, zero, suc, ◌+◌, ◌≤◌, ◌<◌, List, [], ◌∷◌, true, false, All, Option, None, Some, IfSome, IfNone, map, length, take, get_or, Bool, refl, sym, ap, ap₂, ◌∙◌, subst, arith}
+use Rattle.std.proofs.Common.{◌≡◌, ◌↔◌, ℕ, zero, suc, ◌≤◌, ◌<◌, List, [], ◌∷◌, true, false, All, Option, None, Some, IfSome, IfNone, map, length, take, get_or, Bool, refl, sym, ap, ap₂, subst, arith}
 use Rattle.std.proofs.lemmas.List.Elements.{All-nil, All-cons, All-head, All-tail}
 use Rattle.mau_terms.specs.Tree.{Tree, no_trees, tree, node, trees_of}
 use Rattle.mau_terms.specs.Depth.{depth, list_depth}

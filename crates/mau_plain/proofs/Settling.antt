@@ -1,14 +1,13 @@
 -- Terms that are settled, one after another.
-use Rattle.std.proofs.Common.{◌≡◌, ◌<◌, ◌≤◌, ℕ, zero, suc, List, [], ◌∷◌, ◌++◌, ◌⊎◌, Contains, All, inl, inr, ⊎_elim, map, length, take, get_or, sym, ap, ◌∙◌, refl, subst, arith}
+use Rattle.std.proofs.Common.{◌≡◌, ◌<◌, ℕ, zero, suc, List, [], ◌∷◌, ◌++◌, Contains, All, inl, inr, ⊎_elim, length, take, get_or, sym, refl, subst, arith}
 use Rattle.std.proofs.lemmas.List.{map-append}
 use Rattle.std.proofs.lemmas.List.Elements.{All-push}
 use Rattle.mau_terms.specs.declared.ids.TermId.{TermId}
-use Rattle.mau_signature.specs.Signature.{SignatureOf, theory_at}
+use Rattle.mau_signature.specs.Signature.{SignatureOf}
 use Rattle.mau_store.specs.Node.{Node}
-use Rattle.mau_store.specs.Trees.{tree_at}
 use Rattle.mau_store.specs.View.{numbers}
-use Rattle.mau_sorts.specs.Table.{Table, IsSettled, IsReady, KeepsEntries}
-use Rattle.mau_api.specs.Asked.{IsNumeralOrList, IsSettleable}
+use Rattle.mau_sorts.specs.Table.{Table, IsSettled, KeepsEntries}
+use Rattle.mau_api.specs.Asked.{IsSettleable}
 use Rattle.mau_api.proofs.Growth.{settled_kept}
 use Rattle.mau_plain.specs.Settled.{AddsSettled}
 use Rattle.mau_plain.proofs.Gathering.{contains_more}
@@ -29,11 +28,11 @@ settleable_kept s nodes old new subject i kept (inr (ne, list, ready)) = inr (
 all_settled_kept : (old new : Table) → KeepsEntries old new → (ids : List ℕ) → All (IsSettled old) ids → All (IsSettled new) ids
 all_settled_kept old new kept ids all k d h = settled_kept old new kept _ (all k d h)
 
-push_there : {A : Type 0} (xs : List A) (x : A) → Contains (xs ++ x ∷ []) x
+pub push_there : {A : Type 0} (xs : List A) (x : A) → Contains (xs ++ x ∷ []) x
 push_there [] x = (zero, omega arith, refl)
 push_there (y ∷ xs) x = let rest = push_there xs x in let lt = rest.1 in (suc rest.0, omega arith, rest.2)
 
-push_kept : {A : Type 0} (xs : List A) (x y : A) → Contains xs y → Contains (xs ++ x ∷ []) y
+pub push_kept : {A : Type 0} (xs : List A) (x y : A) → Contains xs y → Contains (xs ++ x ∷ []) y
 push_kept [] x y c = let lt = c.1 in absurd (omega arith)
 push_kept (z ∷ xs) x y (zero, h, e) = (zero, omega arith, e)
 push_kept (z ∷ xs) x y (suc k, h, e) = let rest = push_kept xs x y (k, omega arith, e) in let lt = rest.1 in (suc rest.0, omega arith, rest.2)

@@ -10,3 +10,7 @@ pub mod Gathered
 pub mod Parts
 -- terms that are settled
 pub mod Settled
+-- the order of lists of values
+pub mod Least
+-- lists of values that are tried
+pub mod Tried

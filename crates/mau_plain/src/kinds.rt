@@ -107,7 +107,7 @@ fn are_arguments(store: &Store, sig: &Signature, op: OpId, args: &[TermId]) -> b
 
 /// Whether a term is of a kind.
 #[cycle(kinds)]
-fn is_of_kind(store: &Store, sig: &Signature, id: TermId, kind: u32) -> bool
+pub fn is_of_kind(store: &Store, sig: &Signature, id: TermId, kind: u32) -> bool
     requires { StandsWithin (theory_at sig.now) store.now id.0 }
     ensures { IsTrue result ↔ IsBareIn (terms_over sig.now) (reading (theory_at sig.now) (tree_at store.now id.0)) kind }
 {

@@ -6,6 +6,7 @@ ghost use Rattle.mau_terms.specs.Bare.{IsBare, IsLawful};
 ghost use Rattle.mau_terms.specs.Finite.{IsIn, arguments_of};
 ghost use Rattle.mau_terms.specs.View.{tree_of};
 ghost use Rattle.mau_signature.specs.Signature.{IsOperator, terms_over, theory_at};
+ghost use Rattle.mau_store.specs.Node.{Extends};
 ghost use Rattle.mau_store.specs.Trees.{tree_at, trees_at};
 ghost use Rattle.mau_store.specs.View.{numbers};
 ghost use Rattle.mau_canon.specs.Within.{IsWithin, StandsWithin, StandWithin};
@@ -30,7 +31,8 @@ fn push_list(
     requires operator { IsOperator sig.now op.0 }
     requires items { StandWithin (theory_at sig.now) store.old (numbers items.now) }
     requires out { StandWithin (theory_at sig.now) store.old (numbers out.old.items) }
-    ensures { OnOk result (Gathers (theory_at sig.now) store.old store.new out.old.items out.new.items (IsOverList (theory_at sig.now) op.0 (trees_at store.old (numbers items.now)))) }
+    ensures ok { OnOk result (Gathers (theory_at sig.now) store.old store.new out.old.items out.new.items (IsOverList (theory_at sig.now) op.0 (trees_at store.old (numbers items.now)))) }
+    ensures extends { Extends store.old store.new }
 {
     match from_list(store, sig, op, items) {
         Ok(id) => {
@@ -52,7 +54,8 @@ fn push_identity(
 ) -> Result<(), NoMemory>
     requires operator { IsOperator sig.now op.0 }
     requires out { StandWithin (theory_at sig.now) store.old (numbers out.old.items) }
-    ensures { OnOk result (Gathers (theory_at sig.now) store.old store.new out.old.items out.new.items (IsOverList (theory_at sig.now) op.0 (trees_at store.old (numbers [])))) }
+    ensures ok { OnOk result (Gathers (theory_at sig.now) store.old store.new out.old.items out.new.items (IsOverList (theory_at sig.now) op.0 (trees_at store.old (numbers [])))) }
+    ensures extends { Extends store.old store.new }
 {
     push_list(store, sig, op, &[], out)
 }
@@ -67,7 +70,8 @@ fn push_below(
     requires lawful { IsLawful (terms_over sig.now) }
     requires term { StandsWithin (theory_at sig.now) store.old id.0 }
     requires out { StandWithin (theory_at sig.now) store.old (numbers out.old.items) }
-    ensures { OnOk result (Gathers (theory_at sig.now) store.old store.new out.old.items out.new.items (IsBelowOrLess (tree_at store.old id.0))) }
+    ensures ok { OnOk result (Gathers (theory_at sig.now) store.old store.new out.old.items out.new.items (IsBelowOrLess (tree_at store.old id.0))) }
+    ensures extends { Extends store.old store.new }
 {
     match store.view(id) {
         NodeView::Num(n) => {
@@ -96,7 +100,8 @@ fn push_lists(
     requires operator { IsOperator sig.now op.0 }
     requires lists { All (λ l. StandWithin (theory_at sig.now) store.old (numbers l)) lists.now }
     requires out { StandWithin (theory_at sig.now) store.old (numbers out.old.items) }
-    ensures { OnOk result (Gathers (theory_at sig.now) store.old store.new out.old.items out.new.items (IsOverOneList (theory_at sig.now) op.0 store.old lists.now)) }
+    ensures ok { OnOk result (Gathers (theory_at sig.now) store.old store.new out.old.items out.new.items (IsOverOneList (theory_at sig.now) op.0 store.old lists.now)) }
+    ensures extends { Extends store.old store.new }
 {
     for list in lists {
         push_list(store, sig, op, list.items(), out)?;
@@ -116,7 +121,8 @@ fn push_words(
     requires term { StandsWithin (theory_at sig.now) store.old id.0 }
     requires out { StandWithin (theory_at sig.now) store.old (numbers out.old.items) }
     requires lawful { IsLawful (terms_over sig.now) }
-    ensures { OnOk result (Gathers (theory_at sig.now) store.old store.new out.old.items out.new.items (IsWordOf (theory_at sig.now) op.0 (tree_at store.old id.0))) }
+    ensures ok { OnOk result (Gathers (theory_at sig.now) store.old store.new out.old.items out.new.items (IsWordOf (theory_at sig.now) op.0 (tree_at store.old id.0))) }
+    ensures extends { Extends store.old store.new }
 {
     let alloc = store.allocator();
     let items = list_of(store, sig, op, &id);
@@ -136,7 +142,8 @@ fn push_parts(
     requires operator { IsOperator sig.now op.0 }
     requires term { StandsWithin (theory_at sig.now) store.old id.0 }
     requires out { StandWithin (theory_at sig.now) store.old (numbers out.old.items) }
-    ensures { OnOk result (Gathers (theory_at sig.now) store.old store.new out.old.items out.new.items (IsPartUnder (theory_at sig.now) op.0 (tree_at store.old id.0))) }
+    ensures ok { OnOk result (Gathers (theory_at sig.now) store.old store.new out.old.items out.new.items (IsPartUnder (theory_at sig.now) op.0 (tree_at store.old id.0))) }
+    ensures extends { Extends store.old store.new }
 {
     let assoc = sig.theory(op).assoc;
     out.push(id)?;
@@ -159,7 +166,8 @@ fn push_all_parts(
     requires operator { IsOperator sig.now op.0 }
     requires terms { StandWithin (theory_at sig.now) store.old (numbers ids.now) }
     requires out { StandWithin (theory_at sig.now) store.old (numbers out.old.items) }
-    ensures { OnOk result (Gathers (theory_at sig.now) store.old store.new out.old.items out.new.items (IsPartOfOne (theory_at sig.now) op.0 (trees_at store.old (numbers ids.now)))) }
+    ensures ok { OnOk result (Gathers (theory_at sig.now) store.old store.new out.old.items out.new.items (IsPartOfOne (theory_at sig.now) op.0 (trees_at store.old (numbers ids.now)))) }
+    ensures extends { Extends store.old store.new }
 {
     for id in ids {
         push_parts(store, sig, op, *id, out)?;
@@ -179,7 +187,8 @@ pub fn push_candidates(
     requires pattern { IsBare (terms_over sig.now) (tree_of pattern.now) }
     requires terms { StandWithin (theory_at sig.now) store.old (numbers ids.now) }
     requires out { StandWithin (theory_at sig.now) store.old (numbers out.old.items) }
-    ensures { OnOk result (Gathers (theory_at sig.now) store.old store.new out.old.items out.new.items (IsOfSome (theory_at sig.now) (tree_of pattern.now) (trees_at store.old (numbers ids.now)))) }
+    ensures ok { OnOk result (Gathers (theory_at sig.now) store.old store.new out.old.items out.new.items (IsOfSome (theory_at sig.now) (tree_of pattern.now) (trees_at store.old (numbers ids.now)))) }
+    ensures extends { Extends store.old store.new }
 {
     match pattern {
         Bare::Var(_) => {
@@ -207,7 +216,8 @@ fn push_all_candidates(
     requires patterns { All (λ p. IsBare (terms_over sig.now) (tree_of p)) patterns.now }
     requires terms { StandWithin (theory_at sig.now) store.old (numbers ids.now) }
     requires out { StandWithin (theory_at sig.now) store.old (numbers out.old.items) }
-    ensures { OnOk result (Gathers (theory_at sig.now) store.old store.new out.old.items out.new.items (IsOfSomeOfAll (theory_at sig.now) (map tree_of patterns.now) (trees_at store.old (numbers ids.now)))) }
+    ensures ok { OnOk result (Gathers (theory_at sig.now) store.old store.new out.old.items out.new.items (IsOfSomeOfAll (theory_at sig.now) (map tree_of patterns.now) (trees_at store.old (numbers ids.now)))) }
+    ensures extends { Extends store.old store.new }
 {
     for pattern in patterns {
         push_candidates(store, sig, pattern, ids, out)?;

@@ -2,8 +2,7 @@
 ghost use Rattle.std.specs.Prelude.{◌≡◌, ◌⊎◌, ◌++◌, ◌∷◌, [], true, All, Contains};
 ghost use Rattle.mau_signature.specs.Signature.{IsOperator};
 
-use super::bare::is_bare;
-use crate::{BuildFault, build, build_bare, build_instance, from_list, list_of};
+use crate::{BuildFault, build, build_bare, build_instance, from_list, is_bare, list_of};
 use mau_signature::Signature;
 use mau_store::Store;
 use mau_terms::{Bare, OpId, TermId, VarId};

@@ -1,15 +1,14 @@
-use Rattle.std.proofs.Common.{◌≡◌, ℕ, zero, suc, ◌+◌, ◌≤◌, ◌<◌, ◌&&◌, List, Bool, [], ◌∷◌, true, false, All, Some, None, IfSome, IfNone, map, length, take, get_or, add-one, refl, sym, ap, ap₂, ◌∙◌, subst, arith, rules, tests, lt-ltb}
+use Rattle.std.proofs.Common.{◌≡◌, ℕ, ◌&&◌, true, All, map, length, take, get_or, add-one, sym, ap, ap₂, ◌∙◌, subst, arith, rules, tests, lt-ltb}
 use Rattle.std.proofs.lemmas.Bool.{le-leb}
 use Rattle.mau_terms.specs.Tree.{Tree, node, trees_of}
 use Rattle.mau_terms.specs.Depth.{depth}
 use Rattle.mau_terms.specs.Norm.{norm}
 use Rattle.mau_terms.specs.Bare.{IsBare, IsBareIn, AreBareIn}
-use Rattle.mau_terms.specs.Reading.{reading, nest}
+use Rattle.mau_terms.specs.Reading.{reading}
 use Rattle.mau_poset.specs.Order.{kind_of as kind_of_sort}
 use Rattle.mau_signature.specs.Signature.{SignatureOf, IsOperator, terms_over, theory_at}
 use Rattle.mau_store.specs.Trees.{tree_at, trees_at}
 use Rattle.mau_store.specs.View.{numbers}
-use Rattle.mau_canon.proofs.Collected.{is_operator}
 use Rattle.mau_canon.proofs.Standing.{stand_at, arguments_stand_within}
 use Rattle.mau_terms.proofs.Taken.{one_kind}
 use Rattle.mau_api.proofs.Depths.{node_depth}

@@ -1,4 +1,4 @@
-use Rattle.std.proofs.Common.{◌≡◌, ◌+◌, ◌*◌, All, map, take}
+use Rattle.std.proofs.Common.{◌+◌, ◌*◌, All, map, take}
 use Rattle.mau_poset.specs.Order.{kind_of as kind_of_sort}
 use Rattle.mau_terms.specs.Tree.{trees_of}
 use Rattle.mau_terms.specs.Depth.{depth, list_depth}

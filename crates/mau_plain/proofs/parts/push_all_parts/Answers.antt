@@ -1,5 +1,4 @@
 use Rattle.std.proofs.Common.{◌≡◌, ◌+◌, [], take, get_or, ⊎_elim, inl, inr, add-one, sym, ◌∙◌, subst}
-use Rattle.mau_terms.specs.Tree.{Tree}
 use Rattle.mau_terms.specs.Finite.{IsIn}
 use Rattle.mau_signature.specs.Signature.{theory_at}
 use Rattle.mau_store.specs.Trees.{tree_at, trees_at}
@@ -36,7 +35,7 @@ loop-id-preserved c =
     let one : StandsWithin th start id.0 = stand_at th start ids i (record { 0 = 0 }) c.loop-id-test.true c.requires.terms in
     let same : tree_at c.loop-id.store id.0 ≡ tree_at start id.0 = tree_at-extends start c.loop-id.store id.0 c.loop-id.invariant.extends one.there in
     let both = gathers_both th start c.loop-id.store c.push_parts.new.store c.args.out.now.items c.loop-id.out.items c.push_parts.new.out.items
-    (IsPartOfOne th f (trees_at start (numbers (take i ids)))) (IsPartUnder th f (tree_at c.loop-id.store id.0)) c.loop-id.invariant c.in_ok-push_parts.ensures in
+    (IsPartOfOne th f (trees_at start (numbers (take i ids)))) (IsPartUnder th f (tree_at c.loop-id.store id.0)) c.loop-id.invariant c.in_ok-push_parts.ensures.ok in
     gathers_then th start c.push_parts.new.store c.args.out.now.items c.push_parts.new.out.items _ (IsPartOfOne th f (trees_at start (numbers (take (i + 1) ids))))
     (λ z q. ⊎_elim
     (λ (h : IsIn q.0 (trees_at start (numbers (take i ids)))). inl (q.0, h, q.2))

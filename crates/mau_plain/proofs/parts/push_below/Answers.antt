@@ -1,4 +1,4 @@
-use Rattle.std.proofs.Common.{◌≡◌, ◌+◌, ◌-◌, ℕ, [], ◌∷◌, inl, inr, ◌⊎◌, ⊎_elim, refl, sym, ap, ◌∙◌, subst, arith, lit≤}
+use Rattle.std.proofs.Common.{◌≡◌, ◌+◌, ◌-◌, ℕ, [], ◌∷◌, inl, ⊎_elim, refl, sym, ap, ◌∙◌, subst, arith, lit≤}
 use Rattle.std.proofs.lemmas.List.Elements.{All-nil, All-cons}
 use Rattle.std.proofs.lemmas.Option.{slice_get_within}
 use Rattle.mau_terms.specs.Tree.{Tree, numeral, node}
@@ -18,8 +18,8 @@ use Rattle.mau_plain.proofs.parts.push_below.Goals as goal
 less_is : (n m : ℕ) (t : Tree) → numeral n ≡ numeral (m + 1) → t ≡ numeral m → t ≡ numeral (n - 1)
 less_is n m t e k = let same : n ≡ m + 1 = cc in k ∙ ap numeral (let d : m ≡ n - 1 = omega arith in d)
 
-pub returns-in_ok-push-in-Num : goal.returns-in_ok-push-in-Num
-returns-in_ok-push-in-Num c =
+pub returns-in_ok-push-in-Num-clause-ok : goal.returns-in_ok-push-in-Num-clause-ok
+returns-in_ok-push-in-Num-clause-ok c =
     let th = theory_at c.args.sig.now in
     let new = c.intern.new.self in
     let less = c.in_ok-less-in-Num.less in
@@ -37,8 +37,8 @@ returns-in_ok-push-in-Num c =
       within = subst (IsWithin th) (sym k) (record { shallow = lit≤ tt; no_overflow = refl });
     }) (All-nil (StandsWithin th new))) c.in_ok-push-in-Num.ensures.items)
 
-pub returns-in_ok-extend_from_slice-in-App : goal.returns-in_ok-extend_from_slice-in-App
-returns-in_ok-extend_from_slice-in-App c =
+pub returns-in_ok-extend_from_slice-in-App-clause-ok : goal.returns-in_ok-extend_from_slice-in-App-clause-ok
+returns-in_ok-extend_from_slice-in-App-clause-ok c =
     let th = theory_at c.args.sig.now in
     let nodes = c.args.store.now in
     let args = c.in-App.args.now in

@@ -1,5 +1,4 @@
-use Rattle.std.proofs.Common.{◌≡◌, ◌+◌, ℕ, List, [], Contains, All, take, get_or, ⊎_elim, inl, inr, add-one, sym, ap, ◌∙◌, subst}
-use Rattle.mau_terms.specs.Tree.{Tree}
+use Rattle.std.proofs.Common.{◌≡◌, ◌+◌, List, [], Contains, take, get_or, ⊎_elim, inl, inr, add-one, sym, ◌∙◌, subst}
 use Rattle.mau_terms.specs.declared.ids.TermId.{TermId}
 use Rattle.mau_signature.specs.Signature.{theory_at}
 use Rattle.mau_store.specs.Trees.{trees_at}
@@ -7,7 +6,6 @@ use Rattle.mau_store.specs.View.{numbers}
 use Rattle.mau_store.proofs.Growth.{trees_at-extends}
 use Rattle.mau_canon.specs.Within.{StandWithin}
 use Rattle.mau_canon.proofs.Standing.{stand_within_extended, stand_there}
-use Rattle.mau_plain.specs.Gathered.{Gathers}
 use Rattle.mau_plain.specs.Parts.{IsOverList, IsOverOneList}
 use Rattle.mau_plain.proofs.Gathering.{gathers_none, gathers_then, gathers_both, contains_more, contains_none}
 use Rattle.mau_plain.proofs.parts.push_lists.Goals as goal
@@ -38,7 +36,7 @@ loop-list-preserved c =
     let one : StandWithin th start (numbers item) = subst (λ l. StandWithin th start (numbers l)) (sym is) (c.requires.lists i c.list-item.result c.loop-list-test.true) in
     let same : trees_at c.loop-list.store (numbers item) ≡ trees_at start (numbers item) = trees_at-extends start c.loop-list.store (numbers item) c.loop-list.invariant.extends (stand_there th start (numbers item) one) in
     let both = gathers_both th start c.loop-list.store c.push_list.new.store c.args.out.now.items c.loop-list.out.items c.push_list.new.out.items
-    (IsOverOneList th f start (take i ls)) (IsOverList th f (trees_at c.loop-list.store (numbers item))) c.loop-list.invariant c.in_ok-push_list.ensures in
+    (IsOverOneList th f start (take i ls)) (IsOverList th f (trees_at c.loop-list.store (numbers item))) c.loop-list.invariant c.in_ok-push_list.ensures.ok in
     gathers_then th start c.push_list.new.store c.args.out.now.items c.push_list.new.out.items _ (IsOverOneList th f start (take (i + 1) ls))
     (λ t q. ⊎_elim
     (λ (h : Contains (take i ls) q.0). inl (q.0, h, q.2))

@@ -1,14 +1,8 @@
 use Rattle.std.proofs.Common.{◌≡◌, [], true, false, ◌⊎◌, ⊎_elim, inl, inr, sym, ap, ◌∙◌, subst}
-use Rattle.std.proofs.lemmas.List.Elements.{All-nil, All-cons}
-use Rattle.mau_terms.specs.Tree.{Tree}
-use Rattle.mau_terms.specs.Finite.{IsIn}
 use Rattle.mau_signature.specs.Signature.{theory_at}
-use Rattle.mau_store.specs.Node.{Node}
-use Rattle.mau_store.specs.Trees.{tree_at, trees_at}
-use Rattle.mau_store.specs.View.{numbers}
+use Rattle.mau_store.specs.Trees.{tree_at}
 use Rattle.mau_store.proofs.Growth.{extension_is_preorder}
 use Rattle.mau_store.proofs.Standing.{tree_at-extends}
-use Rattle.mau_canon.specs.Within.{StandsWithin}
 use Rattle.mau_canon.proofs.Standing.{stands_within_extended}
 use Rattle.mau_api.specs.Values.{IsPartUnder}
 use Rattle.mau_plain.specs.Gathered.{Gathers}
@@ -22,15 +16,15 @@ push_identity-requires-clause-out c = (gathers_one (theory_at c.args.sig.now) c.
 
 pub push_below-requires-clause-term : goal.push_below-requires-clause-term
 push_below-requires-clause-term c =
-    stands_within_extended (theory_at c.args.sig.now) c.args.store.now c.push_identity.new.store c.in_ok-push_identity.ensures.extends c.args.id.0 c.requires.term
+    stands_within_extended (theory_at c.args.sig.now) c.args.store.now c.push_identity.new.store c.in_ok-push_identity.ensures.ok.extends c.args.id.0 c.requires.term
 
 pub push_words-requires-clause-term : goal.push_words-requires-clause-term
 push_words-requires-clause-term c =
     stands_within_extended (theory_at c.args.sig.now) c.args.store.now c.push_below.new.store
-    (extension_is_preorder.transitive c.args.store.now c.push_identity.new.store c.push_below.new.store c.in_ok-push_identity.ensures.extends c.in_ok-push_below.ensures.extends) c.args.id.0 c.requires.term
+    (extension_is_preorder.transitive c.args.store.now c.push_identity.new.store c.push_below.new.store c.in_ok-push_identity.ensures.ok.extends c.in_ok-push_below.ensures.ok.extends) c.args.id.0 c.requires.term
 
-pub returns-else-assoc : goal.returns-else-assoc
-returns-else-assoc c =
+pub returns-else-assoc-clause-ok : goal.returns-else-assoc-clause-ok
+returns-else-assoc-clause-ok c =
     let th = theory_at c.args.sig.now in
     let f = c.args.op.0 in
     let s0 = c.args.store.now in
@@ -41,10 +35,10 @@ returns-else-assoc c =
     let x1 = c.push.new.self.items in
     let x2 = c.push_identity.new.out.items in
     let x3 = c.push_below.new.out.items in
-    let t1 : tree_at s1 c.args.id.0 ≡ t = tree_at-extends s0 s1 c.args.id.0 c.in_ok-push_identity.ensures.extends c.requires.term.there in
-    let g1 = gathers_both th s0 s0 s1 x0 x1 x2 (λ z. z ≡ t) (IsOverList th f []) (gathers_one th s0 x0 x1 c.args.id c.requires.out c.requires.term c.in_ok-push.ensures.items) c.in_ok-push_identity.ensures in
+    let t1 : tree_at s1 c.args.id.0 ≡ t = tree_at-extends s0 s1 c.args.id.0 c.in_ok-push_identity.ensures.ok.extends c.requires.term.there in
+    let g1 = gathers_both th s0 s0 s1 x0 x1 x2 (λ z. z ≡ t) (IsOverList th f []) (gathers_one th s0 x0 x1 c.args.id c.requires.out c.requires.term c.in_ok-push.ensures.items) c.in_ok-push_identity.ensures.ok in
     let g2 = gathers_both th s0 s1 s2 x0 x2 x3 (λ z. (z ≡ t) ⊎ IsOverList th f [] z) (IsBelowOrLess t) g1
-    (subst (λ u. Gathers th s1 s2 x2 x3 (IsBelowOrLess u)) t1 c.in_ok-push_below.ensures) in
+    (subst (λ u. Gathers th s1 s2 x2 x3 (IsBelowOrLess u)) t1 c.in_ok-push_below.ensures.ok) in
     gathers_then th s0 s2 x0 x3 (λ z. ((z ≡ t) ⊎ IsOverList th f [] z) ⊎ IsBelowOrLess t z) (IsPartUnder th f t)
     (λ z part. ⊎_elim
     (λ (h : ((z ≡ t) ⊎ IsOverList th f [] z) ⊎ IsBelowOrLess t z). h)
@@ -52,8 +46,8 @@ returns-else-assoc c =
     (part_cases th c.theory.ensures.lawful.theories f t c.requires.term.within z part))
     g2
 
-pub returns-in_ok-push_words : goal.returns-in_ok-push_words
-returns-in_ok-push_words c =
+pub returns-in_ok-push_words-clause-ok : goal.returns-in_ok-push_words-clause-ok
+returns-in_ok-push_words-clause-ok c =
     let th = theory_at c.args.sig.now in
     let f = c.args.op.0 in
     let s0 = c.args.store.now in
@@ -64,15 +58,15 @@ returns-in_ok-push_words c =
     let x1 = c.push.new.self.items in
     let x2 = c.push_identity.new.out.items in
     let x3 = c.push_below.new.out.items in
-    let t1 : tree_at s1 c.args.id.0 ≡ t = tree_at-extends s0 s1 c.args.id.0 c.in_ok-push_identity.ensures.extends c.requires.term.there in
-    let g1 = gathers_both th s0 s0 s1 x0 x1 x2 (λ z. z ≡ t) (IsOverList th f []) (gathers_one th s0 x0 x1 c.args.id c.requires.out c.requires.term c.in_ok-push.ensures.items) c.in_ok-push_identity.ensures in
+    let t1 : tree_at s1 c.args.id.0 ≡ t = tree_at-extends s0 s1 c.args.id.0 c.in_ok-push_identity.ensures.ok.extends c.requires.term.there in
+    let g1 = gathers_both th s0 s0 s1 x0 x1 x2 (λ z. z ≡ t) (IsOverList th f []) (gathers_one th s0 x0 x1 c.args.id c.requires.out c.requires.term c.in_ok-push.ensures.items) c.in_ok-push_identity.ensures.ok in
     let g2 = gathers_both th s0 s1 s2 x0 x2 x3 (λ z. (z ≡ t) ⊎ IsOverList th f [] z) (IsBelowOrLess t) g1
-    (subst (λ u. Gathers th s1 s2 x2 x3 (IsBelowOrLess u)) t1 c.in_ok-push_below.ensures) in
+    (subst (λ u. Gathers th s1 s2 x2 x3 (IsBelowOrLess u)) t1 c.in_ok-push_below.ensures.ok) in
     let s3 = c.push_words.new.store in
     let x4 = c.push_words.new.out.items in
     let t2 : tree_at s2 c.args.id.0 ≡ t = tree_at-extends s0 s2 c.args.id.0 g2.extends c.requires.term.there in
     let g3 = gathers_both th s0 s2 s3 x0 x3 x4 (λ z. ((z ≡ t) ⊎ IsOverList th f [] z) ⊎ IsBelowOrLess t z) (IsWordOf th f t) g2
-    (subst (λ u. Gathers th s2 s3 x3 x4 (IsWordOf th f u)) t2 c.in_ok-push_words.ensures) in
+    (subst (λ u. Gathers th s2 s3 x3 x4 (IsWordOf th f u)) t2 c.in_ok-push_words.ensures.ok) in
     gathers_then th s0 s3 x0 x4 (λ z. (((z ≡ t) ⊎ IsOverList th f [] z) ⊎ IsBelowOrLess t z) ⊎ IsWordOf th f t z) (IsPartUnder th f t)
     (λ z part. ⊎_elim
     (λ (h : ((z ≡ t) ⊎ IsOverList th f [] z) ⊎ IsBelowOrLess t z). inl h)

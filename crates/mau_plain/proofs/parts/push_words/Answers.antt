@@ -1,9 +1,9 @@
-use Rattle.std.proofs.Common.{◌≡◌, ◌≤◌, ◌<◌, ℕ, suc, List, [], ◌∷◌, All, Contains, length, get_or, inl, inr, refl, sym, ap, ap₂, ◌∙◌, subst, arith}
+use Rattle.std.proofs.Common.{◌≡◌, ◌≤◌, suc, List, [], ◌∷◌, All, Contains, length, get_or, inl, inr, refl, sym, ap, ap₂, ◌∙◌, subst, arith}
 use Rattle.std.proofs.lemmas.List.{length-map}
 use Rattle.std.proofs.lemmas.List.Elements.{All-nil, All-cons, All-head, All-tail}
 use Rattle.mau_terms.specs.Tree.{Tree, node}
 use Rattle.mau_terms.specs.Norm.{norm}
-use Rattle.mau_terms.specs.Solution.{list_under, over_list}
+use Rattle.mau_terms.specs.Solution.{list_under}
 use Rattle.mau_terms.specs.Finite.{IsIn}
 use Rattle.mau_terms.specs.declared.ids.TermId.{TermId}
 use Rattle.mau_terms.proofs.Normal.{IsNormal}
@@ -13,7 +13,7 @@ use Rattle.mau_store.specs.Trees.{tree_at, trees_at}
 use Rattle.mau_store.specs.View.{numbers}
 use Rattle.mau_canon.proofs.Standing.{stand_among}
 use Rattle.mau_api.proofs.Answered.{normal_is}
-use Rattle.mau_plain.specs.Parts.{IsOverList, IsOverOneList, IsWordOf}
+use Rattle.mau_plain.specs.Parts.{IsOverOneList, IsWordOf}
 use Rattle.mau_plain.proofs.Gathering.{gathers_then}
 use Rattle.mau_plain.proofs.Limits.{over_elements}
 use Rattle.mau_plain.proofs.parts.push_words.Goals as goal
@@ -37,8 +37,8 @@ push_lists-requires-clause-lists c = λ k d h.
     (subst (λ ls. All (All (Contains c.list_of-items.result.now)) ls) (sym c.deref.ensures.value) c.in_ok-lists.ensures.among k d h)
     (c.list_of-items.ensures.within c.requires.term)
 
-pub returns : goal.returns
-returns c =
+pub returns-clause-ok : goal.returns-clause-ok
+returns-clause-ok c =
     let th = theory_at c.args.sig.now in
     let f = c.args.op.0 in
     let nodes = c.args.store.now in
@@ -52,4 +52,4 @@ returns c =
     let short : length one.0 ≤ length ids = omega (arith, q.2, ap length list, ap length one.2, length-map (numbers ids) (tree_at nodes), length-map ids (λ id. id.0), length-map (numbers one.0) (tree_at nodes), length-map one.0 (λ id. id.0)) in
     let there : Contains c.deref.result.now one.0 = subst (λ ls. Contains ls one.0) (sym c.deref.ensures.value) (c.in_ok-lists.ensures.all one.0 one.1 short) in
     (one.0, there, (q.4 ∙ sym (over_elements th f t n q.0 q.1) ∙ ap (λ us. norm th (node f us)) (sym one.2), q.3)))
-    c.in_ok-push_lists.ensures
+    c.in_ok-push_lists.ensures.ok

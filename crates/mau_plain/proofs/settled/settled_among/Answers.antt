@@ -1,9 +1,6 @@
-use Rattle.std.proofs.Common.{◌≡◌, ◌+◌, ℕ, Contains, take, ⊎_elim, inl, inr, add-one, subst, sym, arith}
+use Rattle.std.proofs.Common.{Contains, take, ⊎_elim, inr, add-one, subst, sym, arith}
 use Rattle.mau_terms.specs.declared.ids.TermId.{TermId}
-use Rattle.mau_store.specs.Trees.{tree_at}
 use Rattle.mau_sorts.specs.Table.{IsSettled}
-use Rattle.mau_api.specs.Asked.{IsNumeralOrList, IsSettleable}
-use Rattle.mau_signature.specs.Signature.{theory_at}
 use Rattle.mau_plain.proofs.OfKind.{take_whole}
 use Rattle.mau_plain.proofs.Settling.{settled_more, among_more, complete_more}
 use Rattle.mau_plain.proofs.settled.settled_among.Goals as goal

@@ -1,4 +1,4 @@
-use Rattle.std.proofs.Common.{◌≡◌, [], ◌∷◌, ◌++◌, map, take, sym, ap, ◌∙◌, add-one}
+use Rattle.std.proofs.Common.{[], ◌∷◌, ◌++◌, map, take, sym, ap, ◌∙◌, add-one}
 use Rattle.mau_plain.specs.Words.{each_longer}
 use Rattle.mau_plain.proofs.Longer.{each_longer-more}
 use Rattle.mau_plain.proofs.words.longer.Goals as goal

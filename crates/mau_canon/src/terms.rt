@@ -1,7 +1,7 @@
-//! A test of bare terms.
-ghost use Rattle.std.specs.Prelude.{◌≡◌, true, All, map};
+//! Whether terms are bare terms over a signature.
+ghost use Rattle.std.specs.Prelude.{◌≡◌, ◌↔◌, All, IsTrue, map};
 ghost use Rattle.mau_poset.specs.Order.{kind_of};
-ghost use Rattle.mau_terms.specs.Tree.{trees_of};
+ghost use Rattle.mau_terms.specs.Tree.{variable, numeral, trees_of};
 ghost use Rattle.mau_terms.specs.Bare.{IsBare, AreBareIn};
 ghost use Rattle.mau_terms.specs.View.{tree_of};
 ghost use Rattle.mau_signature.specs.Faults.{IsSort};
@@ -10,17 +10,29 @@ ghost use Rattle.mau_signature.specs.Signature.{IsOperator, arguments_of, declar
 use mau_signature::Signature;
 use mau_terms::{Bare, OpId};
 
-/// The greatest numeral.
-const GREATEST: u128 = 340282366920938463463374607431768211455;
+/// Whether a variable of a sort or a kind is a bare term.
+fn is_variable(sig: &Signature, index: u32, sort: u32) -> bool
+    ensures { IsTrue result ↔ IsBare (terms_over sig.now) (variable index sort) }
+{
+    sort < sig.poset().sorts() + sig.poset().kinds()
+}
 
-/// Whether a term is a bare term over the signature.
+/// Whether a numeral is a bare term.
+fn is_numeral(sig: &Signature, number: u128) -> bool
+    ensures { IsTrue result ↔ IsBare (terms_over sig.now) (numeral number) }
+{
+    sig.numerals().is_some()
+}
+
+/// Whether a term is a bare term over a signature, of whatever kind: each operator, sort and kind is there, and each argument is of the
+/// kind of its place.
 #[cycle(bare_terms)]
 pub fn is_bare(sig: &Signature, term: &Bare) -> bool
-    ensures { result ≡ true → IsBare (terms_over sig.now) (tree_of term.now) }
+    ensures { IsTrue result ↔ IsBare (terms_over sig.now) (tree_of term.now) }
 {
     match term {
-        Bare::Var(v) => { v.index < u32::MAX && v.sort < sig.poset().sorts() + sig.poset().kinds() }
-        Bare::Num(n) => *n <= GREATEST && sig.numerals().is_some(),
+        Bare::Var(v) => is_variable(sig, v.index, v.sort),
+        Bare::Num(n) => is_numeral(sig, *n),
         Bare::App(op, args) => {
             if op.0 == 0 || op.0 > sig.operators() {
                 return false;
@@ -46,7 +58,7 @@ fn arguments(sig: &Signature, op: OpId) -> &[u32]
 #[cycle(bare_terms)]
 fn are_bare(sig: &Signature, terms: &[Bare], sorts: &[u32]) -> bool
     requires { All (IsSort sig.now.hierarchy) sorts.now }
-    ensures { result ≡ true → AreBareIn (terms_over sig.now) (trees_of (map tree_of terms.now)) (map (kind_of sig.now.hierarchy) sorts.now) }
+    ensures { IsTrue result ↔ AreBareIn (terms_over sig.now) (trees_of (map tree_of terms.now)) (map (kind_of sig.now.hierarchy) sorts.now) }
 {
     if terms.len() != sorts.len() {
         return false;

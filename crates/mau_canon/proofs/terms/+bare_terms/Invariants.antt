@@ -5,7 +5,7 @@ use Rattle.mau_terms.specs.Depth.{depth, list_depth}
 use Rattle.mau_terms.specs.Bare.{AreBareIn}
 use Rattle.mau_terms.specs.View.{tree_of}
 use Rattle.mau_signature.specs.Signature.{terms_over}
-use Rattle.mau_canon.proofs.tests.bare.+bare_terms.Given as goal
+use Rattle.mau_canon.proofs.terms.+bare_terms.Given as goal
 
 abbrev pub decreases-is_bare : goal.decreases-is_bare
 decreases-is_bare l = 2 * depth (tree_of l.term.now)

@@ -1,0 +1,162 @@
+//! Lists of values that are tried.
+ghost use Rattle.std.specs.Prelude.{◌≡◌, ◌↔◌, List, All, Contains, length, map, IfOk, OnOk, IsTrue};
+ghost use Rattle.mau_terms.specs.Norm.{norm};
+ghost use Rattle.mau_terms.specs.Bare.{IsBare};
+ghost use Rattle.mau_terms.specs.Reading.{reading};
+ghost use Rattle.mau_terms.specs.Subst.{variables, with_values};
+ghost use Rattle.mau_terms.specs.View.{tree_of, variable_of};
+ghost use Rattle.mau_terms.specs.declared.ids.TermId.{TermId};
+ghost use Rattle.mau_signature.specs.Signature.{terms_over, theory_at};
+ghost use Rattle.mau_store.specs.Node.{Extends};
+ghost use Rattle.mau_store.specs.Trees.{tree_at, trees_at};
+ghost use Rattle.mau_store.specs.View.{numbers};
+ghost use Rattle.mau_canon.specs.Within.{StandsWithin, StandWithin};
+ghost use Rattle.mau_api.specs.Places.{variables_in};
+ghost use Rattle.mau_plain.specs.Tried.{AddsTried, ArePlacesOf, IsReadyToTry, IsTriedBehind};
+
+use crate::fits::{are_for, are_of_kinds_at};
+use crate::kinds::kind_of;
+use crate::least::is_behind;
+use mau_api::{Place, Solution};
+use mau_canon::{BuildFault, build_instance};
+use mau_signature::Signature;
+use mau_sorts::SortTable;
+use mau_store::Store;
+use mau_terms::{Bare, Duplicate, NoMemory, Seq, TermId, VarId};
+use std::cmp::Ordering;
+
+/// A pattern, values that some variables have beforehand, a subject, and the last solution, if there is one.
+#[derive(Drop)]
+pub struct Trial {
+    pub pattern: Bare,
+    pub bound: Vec<(VarId, TermId)>,
+    pub subject: TermId,
+    pub last: Option<Solution>,
+}
+
+/// Whether the instance of a pattern by values, read as bare terms, is a bare term.
+fn is_bare_instance(
+    store: &Store,
+    sig: &Signature,
+    pattern: &Bare,
+    places: &[Place],
+    values: &[TermId],
+) -> bool
+    requires pattern { IsBare (terms_over sig.now) (tree_of pattern.now) }
+    requires places { ArePlacesOf sig.now (tree_of pattern.now) places.now }
+    requires values { StandWithin (theory_at sig.now) store.now (numbers values.now) }
+    requires each { length values.now ≡ length places.now }
+    ensures { IsTrue result ↔ IsBare (terms_over sig.now) (with_values (tree_of pattern.now) (map (reading (theory_at sig.now)) (trees_at store.now (numbers values.now)))) }
+{
+    match pattern {
+        Bare::Var(_) => kind_of(store, sig, values[0]).is_some(),
+        Bare::Num(_) => true,
+        Bare::App(_, _) => are_of_kinds_at(store, sig, places, values),
+    }
+}
+
+/// Whether the normal form of the instance of a pattern by values is the subject.
+fn is_whole(
+    store: &mut Store,
+    sig: &Signature,
+    pattern: &Bare,
+    variables: &[VarId],
+    values: &[TermId],
+    subject: TermId,
+) -> Result<bool, NoMemory>
+    requires pattern { IsBare (terms_over sig.now) (tree_of pattern.now) }
+    requires variables { map variable_of variables.now ≡ Rattle.mau_terms.specs.Subst.variables (tree_of pattern.now) }
+    requires values { StandWithin (theory_at sig.now) store.old (numbers values.now) }
+    requires subject { StandsWithin (theory_at sig.now) store.old subject.0 }
+    ensures whole { IfOk result (λ b. IsTrue b ↔ (norm (theory_at sig.now) (with_values (tree_of pattern.now) (trees_at store.old (numbers values.now))) ≡ tree_at store.old subject.0)) }
+    ensures extends { Extends store.old store.new }
+{
+    match build_instance(store, sig, pattern, variables, values) {
+        Ok(id) => Ok(store.compare(id, subject) == Ordering::Equal),
+        Err(BuildFault::NoMemory) => Err(NoMemory),
+        Err(BuildFault::TooDeep) => Ok(false),
+        Err(BuildFault::Overflow) => Ok(false),
+    }
+}
+
+/// Whether values are the next that are tried with success: they come behind the last solution's, are for the places of the pattern, and
+/// make a bare instance whose normal form is the subject.
+fn is_tried(
+    store: &mut Store,
+    sig: &Signature,
+    sorts: &SortTable,
+    trial: &Trial,
+    places: &[Place],
+    variables: &[VarId],
+    values: &[TermId],
+) -> Result<bool, NoMemory>
+    requires ready { IsReadyToTry sig.now store.old sorts.now trial.now places.now }
+    requires variables { variables.now ≡ variables_in places.now }
+    requires values { StandWithin (theory_at sig.now) store.old (numbers values.now) }
+    ensures tried { IfOk result (λ b. IsTrue b ↔ IsTriedBehind sig.now store.old sorts.now trial.now places.now values.now) }
+    ensures extends { Extends store.old store.new }
+{
+    if values.len() != places.len() {
+        return Ok(false);
+    }
+    if !is_behind(store, sig, places, &trial.last, values) {
+        return Ok(false);
+    }
+    if !are_for(sig, sorts, &trial.bound, places, values) {
+        return Ok(false);
+    }
+    if !is_bare_instance(store, sig, &trial.pattern, places, values) {
+        return Ok(false);
+    }
+    is_whole(store, sig, &trial.pattern, variables, values, trial.subject)
+}
+
+/// Adds a list of values if it is tried with success.
+fn push_tried(
+    store: &mut Store,
+    sig: &Signature,
+    sorts: &SortTable,
+    trial: &Trial,
+    places: &[Place],
+    variables: &[VarId],
+    values: &Seq<TermId>,
+    out: &mut Vec<Seq<TermId>>,
+) -> Result<(), NoMemory>
+    requires ready { IsReadyToTry sig.now store.old sorts.now trial.now places.now }
+    requires variables { variables.now ≡ variables_in places.now }
+    requires values { StandWithin (theory_at sig.now) store.old (numbers values.now) }
+    ensures added { OnOk result (AddsTried sig.now store.old sorts.now trial.now places.now values.now out.old.items out.new.items) }
+    ensures extends { Extends store.old store.new }
+{
+    let is_one = is_tried(store, sig, sorts, trial, places, variables, values.items())?;
+    if !is_one {
+        return Ok(());
+    }
+    out.push(values.copy(store.allocator())?)?;
+    Ok(())
+}
+
+/// Those of some lists of values that are tried with success.
+pub fn tried_among(
+    store: &mut Store,
+    sig: &Signature,
+    sorts: &SortTable,
+    trial: &Trial,
+    places: &[Place],
+    variables: &[VarId],
+    lists: &[Seq<TermId>],
+) -> Result<Vec<Seq<TermId>>, NoMemory>
+    requires ready { IsReadyToTry sig.now store.old sorts.now trial.now places.now }
+    requires variables { variables.now ≡ variables_in places.now }
+    requires values { All (λ l. StandWithin (theory_at sig.now) store.old (numbers l)) lists.now }
+    ensures among { IfOk result (λ out. All (Contains lists.now) out.items) }
+    ensures tried { IfOk result (λ out. All (IsTriedBehind sig.now store.old sorts.now trial.now places.now) out.items) }
+    ensures all { IfOk result (λ out. (l : List TermId) → Contains lists.now l → IsTriedBehind sig.now store.old sorts.now trial.now places.now l → Contains out.items l) }
+    ensures extends { Extends store.old store.new }
+{
+    let mut out = Vec::new(store.allocator());
+    for list in lists {
+        push_tried(store, sig, sorts, trial, places, variables, list, &mut out)?;
+    }
+    Ok(out)
+}
