@@ -22,3 +22,5 @@ pub mod Trials
 pub mod Solved
 -- the next solution
 pub mod Nexts
+-- when a listing may be asked
+pub mod Asking

@@ -47,7 +47,7 @@ module _ (s : SignatureOf) (nodes : List Node) (start old new : Table) (subject 
       (λ (h : (after ≡ before ++ id ∷ []) × IsSettled new id.0).
       subst (λ l. All (IsSettled new) (numbers l)) (sym h.0)
       (subst (All (IsSettled new)) (sym (map-append (λ j. j.0) before (id ∷ []))) (All-push (IsSettled new) (numbers before) id.0 (all_settled_kept old new kept (numbers before) all) h.1)))
-      (λ (h : (after ≡ before) × (IsSettleable s nodes old subject id.0 → ⊥)). subst (λ l. All (IsSettled new) (numbers l)) (sym h.0) (all_settled_kept old new kept (numbers before) all))
+      (λ (h : (after ≡ before) × (IsSettleable s nodes old subject id.0 → Contains before id)). subst (λ l. All (IsSettled new) (numbers l)) (sym h.0) (all_settled_kept old new kept (numbers before) all))
       adds
 
   one_there : (xs : List TermId) (k : ℕ) → k < length xs → Contains xs (get_or xs k d)
@@ -59,7 +59,7 @@ module _ (s : SignatureOf) (nodes : List Node) (start old new : Table) (subject 
   among_more all =
       ⊎_elim
       (λ (h : (after ≡ before ++ id ∷ []) × IsSettled new id.0). subst (All (Contains ids)) (sym h.0) (All-push (Contains ids) before id all (one_there ids i low)))
-      (λ (h : (after ≡ before) × (IsSettleable s nodes old subject id.0 → ⊥)). subst (All (Contains ids)) (sym h.0) all)
+      (λ (h : (after ≡ before) × (IsSettleable s nodes old subject id.0 → Contains before id)). subst (All (Contains ids)) (sym h.0) all)
       adds
 
   pub complete_more : ((x : TermId) → Contains (take i ids) x → IsSettleable s nodes start subject x.0 → Contains before x) → (x : TermId) → Contains (take (suc i) ids) x → IsSettleable s nodes start subject x.0 → Contains after x
@@ -71,10 +71,10 @@ module _ (s : SignatureOf) (nodes : List Node) (start old new : Table) (subject 
       (λ (c : Contains (take i ids) x). push_kept before id x (all x c can))
       (λ (e : x ≡ id). subst (Contains (before ++ id ∷ [])) (sym e) (push_there before id))
       (contains_more ids i d x low there)))
-      (λ (h : (after ≡ before) × (IsSettleable s nodes old subject id.0 → ⊥)).
+      (λ (h : (after ≡ before) × (IsSettleable s nodes old subject id.0 → Contains before id)).
       subst (λ l. Contains l x) (sym h.0)
       (⊎_elim
       (λ (c : Contains (take i ids) x). all x c can)
-      (λ (e : x ≡ id). absurd (h.1 (subst (λ y. IsSettleable s nodes old subject y.0) e (settleable_kept s nodes start old subject x.0 from can))))
+      (λ (e : x ≡ id). subst (Contains before) (sym e) (h.1 (subst (λ y. IsSettleable s nodes old subject y.0) e (settleable_kept s nodes start old subject x.0 from can))))
       (contains_more ids i d x low there)))
       adds

@@ -1,5 +1,5 @@
-//! The lower half of a plain slow listing, which tries all values that the variables of a pattern may have: these values, gathered in a
-//! store, their kinds, and all lists over some terms.
+//! A plain slow listing without contexts, to which others are compared: it gathers all that the variables of a pattern may have, and tries
+//! all lists of these.
 #![tactic(auto)]
 
 mod facts;
@@ -12,8 +12,7 @@ mod settled;
 mod tried;
 mod words;
 
-pub use kinds::kind_of;
 pub use listing::PlainListing;
-pub use parts::push_candidates;
-pub use settled::settled_among;
-pub use words::all_words;
+
+#[cfg(test)]
+mod tests;

@@ -15,7 +15,7 @@ use mau_sorts::SortTable;
 use mau_store::Store;
 use mau_terms::{NoMemory, TermId};
 
-/// Adds a term if its sorts are settled, after they were settled if a listing may do so.
+/// Adds a term that is not there, if its sorts are settled, after they were settled if a listing may do so.
 fn push_settled(
     store: &Store,
     sig: &Signature,
@@ -32,6 +32,9 @@ fn push_settled(
     ensures over { AreOver sig.now.hierarchy sorts.new }
     ensures table { (known : Known) → IsTableOf sig.now known store.now sorts.old → IsTableOf sig.now known store.now sorts.new }
 {
+    if out.contains(&id) {
+        return Ok(());
+    }
     if !settle_value(store, sig, sorts, id, subject)? {
         return Ok(());
     }
@@ -39,7 +42,7 @@ fn push_settled(
     Ok(())
 }
 
-/// Those of some terms whose sorts are settled, after those were settled that a listing may settle.
+/// Those of some terms whose sorts are settled, each once, after those were settled that a listing may settle.
 pub fn settled_among(
     store: &Store,
     sig: &Signature,

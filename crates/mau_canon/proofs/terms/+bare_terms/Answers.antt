@@ -1,12 +1,11 @@
-use Rattle.std.proofs.Common.{◌≡◌, ℕ, zero, suc, ◌+◌, ◌<◌, ◌≤◌, ◌&&◌, nat_lt, List, take, length, get_or, map, true, Option, Some, None, is_some, refl, sym, ap, ap₂, subst, ◌∙◌, arith, add-one, lt-ltb, rules, tests}
+use Rattle.std.proofs.Common.{◌≡◌, ◌<◌, ◌≤◌, ◌&&◌, take, length, get_or, map, refl, sym, ap, ap₂, subst, ◌∙◌, arith, add-one, lt-ltb, rules, tests}
 use Rattle.std.proofs.lemmas.Bool.{le-leb}
-use Rattle.std.specs.Option.{option_map}
 use Rattle.mau_terms.specs.Tree.{trees_of}
 use Rattle.mau_terms.specs.Depth.{depth}
-use Rattle.mau_terms.specs.Bare.{TermSignature, IsBare, IsBareIn, AreBareIn}
+use Rattle.mau_terms.specs.Bare.{IsBareIn, AreBareIn}
 use Rattle.mau_terms.specs.View.{tree_of}
 use Rattle.mau_terms.proofs.Taken.{one_kind}
-use Rattle.mau_poset.specs.Order.{kinds, kind_of}
+use Rattle.mau_poset.specs.Order.{kind_of}
 use Rattle.mau_signature.specs.Signature.{terms_over}
 use Rattle.mau_canon.proofs.Collected.{bare_node, depth_of_node, at_most_list}
 use Rattle.mau_canon.proofs.BareLists.{bare_more, bare_at, as_many}
