@@ -1,6 +1,8 @@
 -- The laws of the order of solutions, and of whole listings.
-use Rattle.std.proofs.Common.{◌≡◌, ℕ, zero, suc, List, [], ◌∷◌, Bool, true, false, Contains, Option, None, Some, ⊎_elim, map, length, refl, sym, ap, ap₂, ◌∙◌, subst, arith}
-use Rattle.std.specs.Cmp.{on_total}
+use Rattle.std.proofs.Common.{◌≡◌, ℕ, zero, suc, List, [], ◌∷◌, Bool, true, false, All, AllPairs, Contains, Option, None, Some, ⊎_elim, map, length, get_or, refl, sym, ap, ap₂, ◌∙◌, subst, arith}
+use Rattle.std.specs.Cmp.{IsTotalOrder, on_total}
+use Rattle.std.proofs.lemmas.List.Elements.{All-nil, All-cons}
+use Rattle.std.proofs.lemmas.List.Kept.{AllPairs-cons}
 use Rattle.std.specs.declared.cmp.Ordering.{Ordering}
 use Rattle.std.specs.declared.cmp.Ordering.TheVariants.{Less}
 use Rattle.mau_terms.specs.Tree.{Tree}
@@ -19,7 +21,7 @@ use Rattle.mau_sorts.specs.HasSort.{HasSort}
 use Rattle.mau_api.specs.Found.{Question, Found, IsSolution}
 use Rattle.mau_api.specs.Next.{found_cmp, IsBehind, IsNext, AreNext, last_of}
 use Rattle.mau_api.specs.Asked.{BySort}
-use Rattle.mau_api.specs.Laws.{FoundAreOrdered, TiesAreOne, EntriesAreSorts, AllAreListed}
+use Rattle.mau_api.specs.Laws.{FoundAreOrdered, TiesAreOne, EntriesAreSorts, AllAreListed, FirstAscend}
 
 pub found_are_ordered : FoundAreOrdered
 found_are_ordered th p = on_total (λ x. (x.left, x.values)) (solutions_are_ordered th p)
@@ -87,3 +89,25 @@ among_next Is cmp last (y ∷ xs) are none x is behind =
 pub all_are_listed : AllAreListed
 all_are_listed c s known q xs first x is =
     among_next (IsSolution c s (BySort s known) q) (found_cmp (theory_at s) q.pattern) None xs first.next (first.no_more refl) x is tt
+
+-- the next ones are solutions, and behind the one before them
+next_are : (Is : Found → Type 0) (cmp : Found → Found → Ordering) (last : Option Found) (xs : List Found) → AreNext Is cmp last xs → All Is xs
+next_are Is cmp last [] are = All-nil Is
+next_are Is cmp last (x ∷ xs) are = All-cons Is x xs are.0.is_one (next_are Is cmp (Some x) xs are.1)
+
+module _ (Is : Found → Type 0) (cmp : Found → Found → Ordering) (total : IsTotalOrder cmp) where
+  next_behind : (x : Found) (xs : List Found) → AreNext Is cmp (Some x) xs → All (λ y. cmp x y ≡ Less) xs
+  next_behind x [] are = All-nil (λ y. cmp x y ≡ Less)
+  next_behind x (y ∷ ys) are =
+      let later = next_behind y ys are.1 in
+      All-cons (λ z. cmp x z ≡ Less) y ys are.0.behind (λ k d h. total.trans x y (get_or ys k d) are.0.behind (later k d h))
+
+  next_ascend : (last : Option Found) (xs : List Found) → AreNext Is cmp last xs → AllPairs (λ x y. cmp x y ≡ Less) xs
+  next_ascend last [] are = λ i j d h k. absurd (omega (arith, k))
+  next_ascend last (x ∷ xs) are = AllPairs-cons (λ y z. cmp y z ≡ Less) x xs (next_behind x xs are.1) (next_ascend (Some x) xs are.1)
+
+pub first_ascend : FirstAscend
+first_ascend c s known q last xs others first =
+    let Is = IsSolution c s (BySort s known) q in
+    let cmp = found_cmp (theory_at s) q.pattern in
+    (next_are Is cmp last xs first.next, next_ascend Is cmp (found_are_ordered (theory_at s) q.pattern) last xs first.next)

@@ -1,7 +1,7 @@
 -- The laws of listings. Each is proved: a public function of the module `laws` has it for its contract.
-use Rattle.std.specs.Prelude.{◌≡◌, ◌↔◌, ℕ, List, [], Bool, false, Contains, Option, None}
+use Rattle.std.specs.Prelude.{◌≡◌, ◌↔◌, ℕ, List, [], Bool, false, All, AllPairs, Contains, Option, None}
 use Rattle.std.specs.Cmp.{IsTotalOrder}
-use Rattle.std.specs.declared.cmp.Ordering.TheVariants.{Equal as Tied}
+use Rattle.std.specs.declared.cmp.Ordering.TheVariants.{Less, Equal as Tied}
 use Rattle.mau_terms.specs.Tree.{Tree}
 use Rattle.mau_terms.specs.Norm.{norm}
 use Rattle.mau_terms.specs.Bare.{IsBare, IsLawful}
@@ -63,3 +63,10 @@ AllAreListed =
     (c : Bool) (s : SignatureOf) (known : Known) (q : Question) (xs : List Found) →
     AreFirst (IsSolution c s (BySort s known) q) (found_cmp (theory_at s) q.pattern) None xs false →
     (x : Found) → IsSolution c s (BySort s known) q x → Contains xs x
+
+-- the first ones are solutions in ascending order, so each is there once
+abbrev pub FirstAscend : Type 0
+FirstAscend =
+    (c : Bool) (s : SignatureOf) (known : Known) (q : Question) (last : Option Found) (xs : List Found) (others : Bool) →
+    AreFirst (IsSolution c s (BySort s known) q) (found_cmp (theory_at s) q.pattern) last xs others →
+    All (IsSolution c s (BySort s known) q) xs × AllPairs (λ x y. found_cmp (theory_at s) q.pattern x y ≡ Less) xs

@@ -1,5 +1,5 @@
 //! What is proved of listings. Each function does nothing and has a law for its contract; the laws are stated in `specs/Laws.antt`.
-ghost use Rattle.mau_api.specs.Laws.{AnswersAreSolutions, FoundAreOrdered, TiesAreOne, EntriesAreSorts, ListingsGoOn, AllAreListed};
+ghost use Rattle.mau_api.specs.Laws.{AnswersAreSolutions, FoundAreOrdered, TiesAreOne, EntriesAreSorts, ListingsGoOn, AllAreListed, FirstAscend};
 
 /// Solutions without context are the answers by normal forms.
 pub fn answers_are_solutions()
@@ -29,4 +29,9 @@ pub fn listings_go_on()
 /// Where none is left behind the first solutions of a listing, these are all.
 pub fn all_are_listed()
     ensures { AllAreListed }
+{}
+
+/// The first solutions of a listing are solutions in ascending order, so each is there once.
+pub fn first_ascend()
+    ensures { FirstAscend }
 {}
