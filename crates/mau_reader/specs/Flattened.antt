@@ -2,7 +2,7 @@
 use Rattle.std.specs.Prelude.{◌≡◌, ◌==◌, ℕ, ◌<◌, List, [], ◌∷◌, ◌++◌, length, map, filter, Bool, false, ◌&&◌, ◌||◌, not, nat_lt, if◌then◌else◌, get_or, codes, slice_get}
 use Rattle.std.specs.List.{list_any, range_with_len, flat_map}
 use Rattle.std.specs.Option.{option_map_or}
-use Rattle.mau_poset.specs.Order.{Hierarchy, kind_of}
+use Rattle.mau_poset.specs.Order.{Hierarchy, kind_of, kinds}
 use Rattle.mau_signature.specs.declared.form.Piece.{Piece}
 use Rattle.mau_signature.specs.declared.decl.Decl.{Decl}
 use Rattle.mau_grammar.specs.declared.aliases.Alias.{Alias}
@@ -75,3 +75,7 @@ kind_name names h k = codes "[" ++ comma_names (map (name_at names) (maximal_sor
 -- the name of a sort or of a kind
 abbrev pub sort_name : List (List ℕ) → Hierarchy → ℕ → List ℕ
 sort_name names h a = if nat_lt a h.sorts then name_at names a else kind_name names h a
+
+-- the names of all kinds, in the order of their numbers
+abbrev pub kind_names : List (List ℕ) → Hierarchy → List (List ℕ)
+kind_names names h = map (kind_name names h) (range_with_len h.sorts (kinds h))

@@ -23,7 +23,7 @@ use crate::names::Names;
 use crate::refusal::{
     cycle_text, declaration_text, operator_fault_text, too_large_text, write_operator,
 };
-use crate::sort_names::{lower_sorts, write_sort};
+use crate::sort_names::{kind_names, lower_sorts, write_sort};
 use crate::sorts::declared_sorts;
 use crate::words::Words;
 use mau_grammar::Grammar;
@@ -255,9 +255,9 @@ pub fn read_module(alloc: Global, words: &Words, raw: &RawModule) -> Result<Modu
 }
 
 impl Module {
-    ghost use Rattle.std.specs.Prelude.{◌≡◌, ◌≤◌, ◌++◌, length, OnOk};
+    ghost use Rattle.std.specs.Prelude.{◌≡◌, ◌≤◌, ◌++◌, length, IfOk, OnOk};
     ghost use Rattle.mau_poset.specs.declared.TheConstants.{MAX_SORTS};
-    ghost use Rattle.mau_reader.specs.Flattened.{sort_name};
+    ghost use Rattle.mau_reader.specs.Flattened.{sort_name, kind_names};
     ghost use Rattle.mau_reader.specs.Kept.{IsItsGrammar};
     ghost use Rattle.mau_reader.specs.Modules.{operator_text};
 
@@ -291,6 +291,13 @@ impl Module {
         ensures its { IsItsGrammar self.now.sorts self.now.signature self.now.grammar }
     {
         &self.grammar
+    }
+
+    /// The names of the kinds, in the order of their numbers.
+    pub fn kind_names(&self, alloc: Global) -> Result<Vec<Text>, NoMemory>
+        ensures { IfOk result (λ names. names.items ≡ kind_names self.now.sorts self.now.signature.hierarchy) }
+    {
+        kind_names(alloc, &self.sorts, self.signature.poset(), &self.lower)
     }
 
     /// Writes the name of a sort or of a kind.

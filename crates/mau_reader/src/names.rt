@@ -38,6 +38,11 @@ impl Names {
         }
     }
 
+    /// What takes memory for names.
+    pub fn allocator(&self) -> Global {
+        self.alloc
+    }
+
     /// How many names there are.
     pub fn len(&self) -> usize
         ensures count { result ≡ length self.now }
