@@ -1,0 +1,11 @@
+//! The mixfix printer: [`show`] gives the text of a term of a store, as a [`Printer`] of its
+//! module writes operators, sorts and kinds.
+#![tactic(auto)]
+
+mod layout;
+mod printer;
+mod printing;
+
+pub use layout::Layout;
+pub use printer::Printer;
+pub use printing::show;
