@@ -5,6 +5,7 @@
 mod layout;
 mod printer;
 mod printing;
+mod texts;
 
 pub use layout::Layout;
 pub use printer::Printer;
