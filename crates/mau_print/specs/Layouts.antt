@@ -1,5 +1,5 @@
 -- How each operator of a signature is written, by its form and by what else has its text.
-use Rattle.std.specs.Prelude.{◌≡◌, ℕ, ◌==◌, nat_lt, List, [], ◌∷◌, ◌++◌, Bool, ◌&&◌, ◌||◌, Option, length, map, filter, fold, position, slice_get, count_by, bytes_eq, is_some, if◌then◌else◌}
+use Rattle.std.specs.Prelude.{◌≡◌, Some, None, ℕ, ◌+◌, ◌<◌, ◌==◌, get_or, nat_lt, List, [], ◌∷◌, ◌++◌, Bool, ◌&&◌, ◌||◌, Option, length, map, filter, fold, count_by, bytes_eq, is_some, if◌then◌else◌}
 use Rattle.std.specs.List.{list_any}
 use Rattle.std.specs.Option.{option_map_or}
 use Rattle.mau_poset.specs.Order.{Hierarchy, kind_of}
@@ -57,14 +57,22 @@ abbrev pub is_shared : GrammarOf → List (List ℕ) → List ℕ → Bool
 is_shared g owned w = nat_lt 1 (count_by (bytes_eq w) owned) || is_numeral_in g w
 
 -- the name of the first sort of a kind
-abbrev pub first_sort : List SortName → ℕ → Option ℕ
-first_sort sorts k = position (λ n. n.kind == k) sorts
-
-abbrev pub name_at : List SortName → ℕ → List ℕ
-name_at sorts a = option_map_or (λ n. n.name) (slice_get sorts a) []
+abbrev pub first_name : List SortName → ℕ → Option (List ℕ)
+first_name [] k = None
+first_name (n ∷ ns) k = if n.kind == k then Some n.name else first_name ns k
 
 abbrev pub first_sort_name : List SortName → ℕ → List ℕ
-first_sort_name sorts k = option_map_or (name_at sorts) (first_sort sorts k) []
+first_sort_name ns k = option_map_or (λ w. w) (first_name ns k) []
+
+-- the name that is known, or else this one, if it is wanted
+abbrev pub or_name : Option (List ℕ) → Bool → List ℕ → Option (List ℕ)
+or_name (Some v) is_wanted w = Some v
+or_name None is_wanted w = if is_wanted then Some w else None
+
+-- these are the names of the first sorts of so many kinds, which are the numbers from `first` on
+pub record AreFirstNames (sorts : List SortName) (first kinds : ℕ) (firsts : List (Option (List ℕ))) : Type 0 where
+  pub len : length firsts ≡ kinds
+  pub each : (k : ℕ) (d : Option (List ℕ)) → k < length firsts → get_or firsts k d ≡ first_name sorts (first + k)
 
 -- ---- layouts
 

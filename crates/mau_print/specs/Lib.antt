@@ -6,3 +6,5 @@ pub mod Written
 pub mod Printed
 -- how the operators of a signature are written
 pub mod Layouts
+-- what is found out for this
+pub mod Found

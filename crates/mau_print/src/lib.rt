@@ -3,8 +3,11 @@
 #![tactic(auto)]
 
 mod layout;
+mod making;
 mod printer;
 mod printing;
+mod productions;
+mod sorts;
 mod texts;
 
 pub use layout::Layout;

@@ -1,5 +1,5 @@
 //! What printing has to know of a module.
-ghost use Rattle.std.specs.Prelude.{◌≡◌, bytes_eq};
+ghost use Rattle.std.specs.Prelude.{◌≡◌, map, bytes_eq, string_bytes};
 ghost use Rattle.std.specs.List.{list_any};
 ghost use Rattle.std.specs.Option.{option_map};
 ghost use Rattle.mau_print.specs.Printed.{layout_at, name_of};
@@ -33,6 +33,23 @@ impl Model for Printer {
 }
 
 impl Printer {
+    /// A printer of these parts.
+    pub(crate) fn from_parts(
+        layouts: Vec<Layout>,
+        names: Vec<Text>,
+        clashes: IndexSet<String>,
+        numeral_sort: Text,
+    ) -> Printer
+        ensures { result ≡ record { layouts = layouts.items; names = names.items; clashes = map string_bytes clashes.keys; numeral_sort = numeral_sort } }
+    {
+        Printer {
+            layouts,
+            names,
+            clashes,
+            numeral_sort,
+        }
+    }
+
     /// How an operator is written.
     pub(crate) fn layout(&self, op: OpId) -> Option<&Layout>
         ensures { option_map (λ l. l.now) result ≡ layout_at self.now op.0 }
