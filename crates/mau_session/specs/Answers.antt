@@ -15,7 +15,8 @@ use Rattle.mau_reader.specs.Words.{text_at, place_at}
 use Rattle.mau_parse.specs.declared.fault.ParseFault.{ParseFault}
 use Rattle.mau_parse.specs.declared.fault.ParseFault.TheVariants.{NoParse, Ambiguous, TooManyTokens, NumberTooLarge, SuccessorTooLarge, NoMemory as NoMemoryOfParse}
 use Rattle.mau_session.specs.Terms.{Pairs, terms_in}
-use Rattle.mau_session.specs.Shown.{shown, shown_variable}
+use Rattle.mau_print.specs.Printed.{shown}
+use Rattle.mau_session.specs.Shown.{shown_variable, printer_in}
 
 -- each answer begins with the number of its item
 abbrev pub item_head : ℕ → List ℕ
@@ -77,7 +78,7 @@ module_line k m = item_head k ++ codes "module " ++ m.name ++ codes "\n"
 
 -- a value is printed from its normal form
 abbrev pub value_line : ModuleOf → Pairs → Variable → Tree → List ℕ
-value_line m ns x v = shown_variable m ns x.0 x.1 ++ codes " --> " ++ shown m ns (norm (terms_in m).theory v) ++ codes "\n"
+value_line m ns x v = shown_variable m ns x.0 x.1 ++ codes " --> " ++ shown (printer_in m) ns (norm (terms_in m).theory v) ++ codes "\n"
 
 abbrev pub value_lines : ModuleOf → Pairs → List Variable → List Tree → List ℕ
 value_lines m ns (x ∷ xs) (v ∷ vs) = value_line m ns x v ++ value_lines m ns xs vs
