@@ -1,8 +1,7 @@
 -- Lists of sorts name sorts that are there.
 use Rattle.std.proofs.Common.{ℕ, ◌<◌, List, map}
 use Rattle.std.proofs.lemmas.List.Elements.{All-append, All-push, All-map}
-use Rattle.mau_reader.specs.Elements.{Elements, Lists, AreListsBelow, AreOver, with_sort, with_pairs}
-use Rattle.mau_poset.specs.Order.{IsWithin}
+use Rattle.mau_reader.specs.Elements.{Lists, AreListsBelow, with_sort}
 
 pub sort_below : (n : ℕ) (x : Lists) (s : ℕ) → s < n → AreListsBelow n x → AreListsBelow n (with_sort x s)
 sort_below n x s l h = record {
@@ -10,6 +9,3 @@ sort_below n x s l h = record {
   below = h.below;
   above = All-push (λ s. s < n) x.above s h.above l;
 }
-
-pub pairs_over : (n : ℕ) (e : Elements) (pairs : List (ℕ × ℕ)) → IsWithin pairs n → AreOver n e → AreOver n (with_pairs e pairs)
-pairs_over n e pairs l h = record { pairs = All-append (λ p. (p.0 < n) × (p.1 < n)) e.pairs pairs h.pairs l; operators = h.operators }

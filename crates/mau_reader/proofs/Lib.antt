@@ -1,11 +1,12 @@
 pub mod CountBefore
 pub mod Starts
 pub mod Ranges
-pub mod FirstOnes
 pub mod Below
 pub mod Listed
 pub mod Refusing
-pub mod Named
+pub mod Distinct
+pub mod Cutting
+pub mod Counting
 pub mod Signed
-pub mod OneModule
 pub mod ModuleSteps
+pub mod OneModule

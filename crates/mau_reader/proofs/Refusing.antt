@@ -11,12 +11,7 @@ use Rattle.mau_reader.specs.declared.module_fault.ModuleFault.{ModuleFault}
 use Rattle.mau_reader.specs.declared.module_fault.ModuleFault.TheVariants.{Leaves, Refused, NoMemory as NoMemoryOfModule}
 use Rattle.mau_reader.specs.Modules.{Why, leaves, faulty}
 use Rattle.mau_reader.specs.Refusals.{IsNamed}
-use Rattle.mau_reader.specs.Faults.{IfWhy, IfLeaves}
-
-pub why_by : {P Q : Why → Type 0} → ((why : Why) → P why → Q why) → (fault : ModuleFault) → IfWhy fault P → IfWhy fault Q
-why_by f (Leaves j) h = f _ h
-why_by f (Refused text) h = f _ h
-why_by f NoMemoryOfModule h = tt
+use Rattle.mau_reader.specs.Faults.{IfWhy, IfRefused, IfLeaves}
 
 module _ (s : SignatureOf) where
   -- the cause of a fault that is none of memory
@@ -31,12 +26,23 @@ module _ (s : SignatureOf) where
   operator_fault (IdentityLowersSort op sort) i a b c d = d
   operator_fault NoMemoryOfCheck i a b c d = absurd i
 
+-- a refusal is one of the whole
+pub refused_by : {P Q : List ℕ → Type 0} → ((text : List ℕ) → P text → Q text) → (fault : ModuleFault) → IfRefused fault P → IfRefused fault Q
+refused_by f (Leaves j) h = h
+refused_by f (Refused text) h = f _ h
+refused_by f NoMemoryOfModule h = tt
+
+pub why_of_refused : {P : List ℕ → Type 0} (Q : Why → Type 0) → ((text : List ℕ) → P text → Q (faulty text)) → (fault : ModuleFault) → IfRefused fault P → IfWhy fault Q
+why_of_refused Q f (Leaves j) h = absurd h
+why_of_refused Q f (Refused text) h = f _ h
+why_of_refused Q f NoMemoryOfModule h = tt
+
 -- a fault with a text that names what was found
-pub with_text_by : {V E N : Type 0} {P : Why → Type 0} (items : V → List ℕ) (expected : List ℕ) (text : Result V E) (fault : ModuleFault)
-    → IfOk text (λ b. IfWhy fault (λ why. why ≡ faulty (items b))) → IfErr text (λ e. fault ≡ NoMemoryOfModule)
-    → IfOk text (λ b. items b ≡ expected) → IfOk text (λ b. N) → (N → (why : Why) → why ≡ faulty expected → P why) → IfWhy fault P
-with_text_by items expected (Ok b) fault t m x n f = why_by (λ why h. f n why (h ∙ ap faulty x)) fault t
-with_text_by {P = P} items expected (Err e) fault t m x n f = subst (λ fault. IfWhy fault P) (sym m) tt
+pub with_text_by : {V E N : Type 0} {P : List ℕ → Type 0} (items : V → List ℕ) (expected : List ℕ) (text : Result V E) (fault : ModuleFault)
+    → IfOk text (λ b. IfRefused fault (λ t. t ≡ items b)) → IfErr text (λ e. fault ≡ NoMemoryOfModule)
+    → IfOk text (λ b. items b ≡ expected) → IfOk text (λ b. N) → (N → (t : List ℕ) → t ≡ expected → P t) → IfRefused fault P
+with_text_by items expected (Ok b) fault t m x n f = refused_by (λ w h. f n w (h ∙ x)) fault t
+with_text_by {P = P} items expected (Err e) fault t m x n f = subst (λ fault. IfRefused fault P) (sym m) tt
 
 -- a fault of a part, as one of the whole
 pub of_part_by : {P : ℕ → Type 0} (Q : Why → Type 0) → ((j : ℕ) → P j → Q (leaves j)) → (part : ReadFault) (whole : ModuleFault)

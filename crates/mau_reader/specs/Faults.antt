@@ -1,5 +1,5 @@
 -- Why words don't read as a module.
-use Rattle.std.specs.Prelude.{◌≡◌, ℕ, Result, Ok, Err}
+use Rattle.std.specs.Prelude.{◌≡◌, ℕ, List, Result, Ok, Err}
 use Rattle.mau_reader.specs.declared.module_fault.ModuleFault.{ModuleFault}
 use Rattle.mau_reader.specs.declared.module_fault.ModuleFault.TheVariants.{Leaves as LeavesAt, Refused, NoMemory as NoMemoryOfModule}
 use Rattle.mau_reader.specs.Modules.{Why, leaves, faulty}
@@ -22,3 +22,9 @@ abbrev pub IfWhy : ModuleFault → (Why → Type 0) → Type 0
 IfWhy (LeavesAt j) P = P (leaves j)
 IfWhy (Refused text) P = P (faulty text)
 IfWhy NoMemoryOfModule P = Unit {0}
+
+-- the fact of the text with which words are refused; want of memory says nothing
+abbrev pub IfRefused : ModuleFault → (List ℕ → Type 0) → Type 0
+IfRefused (LeavesAt j) P = ⊥
+IfRefused (Refused text) P = P text
+IfRefused NoMemoryOfModule P = Unit {0}

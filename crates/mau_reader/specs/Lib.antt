@@ -1,8 +1,9 @@
 pub mod Words
-pub mod Places
 pub mod Names
 pub mod Sorts
 pub mod Readings
+pub mod Forms
+pub mod Attributes
 pub mod Elements
 pub mod Flattened
 pub mod Modules

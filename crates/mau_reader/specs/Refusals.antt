@@ -8,21 +8,21 @@ use Rattle.mau_signature.specs.Signature.{SignatureOf}
 use Rattle.mau_sigcheck.specs.declared.fault.CheckFault.{CheckFault}
 use Rattle.mau_sigcheck.specs.declared.fault.CheckFault.TheVariants.{TooManyTuples, NotPreregular, NotAssociativeSorts, IdentityLowersSort, NoMemory}
 use Rattle.mau_sigcheck.specs.Faults.{IsFirstFaultOf}
-use Rattle.mau_modtext.specs.Word.{Word}
-use Rattle.mau_reader.specs.Modules.{Why, faulty, cycle_text, declaration_text, operator_fault_text}
+use Rattle.mau_reader.specs.declared.element.Operators.{Operators}
+use Rattle.mau_reader.specs.Modules.{cycle_text, declaration_text, operator_fault_text}
 
 -- sorts on a cycle, the least two
-pub record IsCycleRefusal (names : List (List ℕ)) (pairs : List (ℕ × ℕ)) (why : Why) : Type 0 where
+pub record IsCycleRefusal (names : List (List ℕ)) (pairs : List (ℕ × ℕ)) (refusal : List ℕ) : Type 0 where
   pub lower : ℕ
   pub upper : ℕ
   pub cycle : IsLeastCycle pairs lower upper
-  pub text : why ≡ faulty (cycle_text names lower upper)
+  pub text : refusal ≡ cycle_text names lower upper
 
 -- a declaration at fault, the first one
-pub record IsDeclarationRefusal (ws : List Word) (names : List ℕ) (g : Given) (why : Why) : Type 0 where
+pub record IsDeclarationRefusal (os : List Operators) (g : Given) (refusal : List ℕ) : Type 0 where
   pub fault : SigFault
   pub first : IsFaultOf g fault
-  pub text : why ≡ faulty (declaration_text ws names fault)
+  pub text : refusal ≡ declaration_text os fault
 
 -- the fault is one of an operator, and not want of memory
 abbrev pub IsNamed : CheckFault → Type 0
@@ -33,7 +33,7 @@ IsNamed (IdentityLowersSort op sort) = Unit {0}
 IsNamed NoMemory = ⊥
 
 -- an operator that is not accepted, the first one
-pub record IsOperatorRefusal (names : List (List ℕ)) (s : SignatureOf) (why : Why) : Type 0 where
+pub record IsOperatorRefusal (names : List (List ℕ)) (s : SignatureOf) (refusal : List ℕ) : Type 0 where
   pub fault : CheckFault
   pub first : IsFirstFaultOf s fault
-  pub text : why ≡ faulty (operator_fault_text names s fault)
+  pub text : refusal ≡ operator_fault_text names s fault

@@ -1,17 +1,11 @@
--- Names of operators, and the sorts that a module declares.
-use Rattle.std.specs.Prelude.{ℕ, List, [], ◌∷◌, Bool, fold}
-use Rattle.std.specs.Char.{is_ascii_alphanumeric}
-use Rattle.std.specs.List.{list_all}
+-- The sorts that a module declares.
+use Rattle.std.specs.Prelude.{ℕ, List, [], ◌∷◌, fold}
 use Rattle.mau_tokens.specs.declared.token.Token.{Token}
 use Rattle.mau_modtext.specs.Word.{Word}
 use Rattle.mau_modtext.specs.declared.raw.RawElement.{RawElement}
 use Rattle.mau_modtext.specs.declared.raw.RawElement.TheVariants.{Sorts}
 use Rattle.mau_reader.specs.Words.{token_text}
 use Rattle.mau_reader.specs.Names.{with_name}
-
--- a name of an operator: ASCII letters and digits
-abbrev pub is_operator_name : List ℕ → Bool
-is_operator_name w = list_all is_ascii_alphanumeric w
 
 -- the name of a declared sort, which is one token
 abbrev pub sort_text : List Word → List Token → List ℕ

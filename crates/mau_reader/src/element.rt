@@ -1,4 +1,5 @@
-//! What the elements of a module declare: what they name stands for numbers of sorts and of words.
+//! What the elements of a module declare: sorts that they name stand there by their numbers.
+use mau_signature::{Attrs, Form};
 use mau_terms::Seq;
 use std::marker::Model;
 
@@ -9,30 +10,29 @@ pub struct SortUse {
     pub whole_kind: bool,
 }
 
-/// The attributes of a declaration. The identity is the number of the word that names a constant.
-#[derive(Clone, Copy, Drop, Debug)]
-pub struct Attributes {
-    pub assoc: bool,
-    pub comm: bool,
-    pub identity: Option<usize>,
-}
-
-/// A declaration of operators, whose names are the words with these numbers. It is partial where all its sorts stand for
-/// their kinds.
+/// A declaration of operators, one for each form. It is partial where all its sorts stand for their kinds.
 #[derive(Drop, Debug)]
 pub struct Operators {
-    pub names: Seq<usize>,
+    pub forms: Seq<Form>,
     pub args: Seq<SortUse>,
     pub partial: bool,
     pub result: SortUse,
-    pub attrs: Attributes,
+    pub attrs: Attrs,
 }
 
-/// What the elements of a module declare beside its sorts: subsort pairs, and operators.
+/// A declared variable, whose name is the word with this number.
+#[derive(Clone, Copy, Drop, Debug)]
+pub struct Declared {
+    pub name: usize,
+    pub sort: SortUse,
+}
+
+/// What the elements of a module declare beside its sorts: subsort pairs, operators and variables.
 #[derive(Drop)]
 pub struct Elements {
     pub pairs: Vec<(usize, usize)>,
     pub operators: Vec<Operators>,
+    pub variables: Vec<Declared>,
 }
 
 impl Model for Elements {
@@ -40,5 +40,5 @@ impl Model for Elements {
 
     ghost Value = { Elements };
 
-    ghost view = { λ e. record { pairs = e.pairs.items; operators = e.operators.items } };
+    ghost view = { λ e. record { pairs = e.pairs.items; operators = e.operators.items; variables = e.variables.items } };
 }

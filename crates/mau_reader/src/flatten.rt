@@ -1,26 +1,49 @@
-//! Declarations of operators, from what a module reads as.
-ghost use Rattle.std.specs.Prelude.{◌≡◌, ◌++◌, ◌<◌, ◌≤◌, length, map, All, false, IfOk, IfSome, OnOk};
+//! Declarations of operators and variables, from what a module reads as.
+ghost use Rattle.std.specs.Prelude.{◌≡◌, ◌++◌, ◌<◌, ◌≤◌, length, map, nat_lt, slice_get, All, false, IfOk, OnOk};
+ghost use Rattle.std.specs.Option.{option_copied};
 ghost use Rattle.mau_poset.specs.Order.{kind_of};
 ghost use Rattle.mau_signature.specs.Faults.{IsSort, HasSorts, is_successor};
-ghost use Rattle.mau_reader.specs.Flattened.{declared_names, meant, word_form, attributes_meant, declaration_at, declarations_in, declarations};
+ghost use Rattle.mau_reader.specs.Flattened.{declared_forms, meant, declaration_at, declarations_in, declarations, variable_at};
 ghost use Rattle.mau_reader.specs.Elements.{IsOver, AreOver};
+ghost use Rattle.mau_reader.specs.declared.TheConstants.{MAX_DECLARATIONS};
 
-use crate::element::{Attributes, Elements, Operators, SortUse};
+use crate::MAX_DECLARATIONS;
+use crate::element::{Declared, Elements, Operators, SortUse};
 use crate::words::Words;
+use mau_grammar::Alias;
 use mau_poset::Poset;
-use mau_signature::{Attrs, Decl, Form, IdSpec, Piece};
+use mau_signature::{Decl, Form};
 use mau_terms::{NoMemory, Seq, Text};
 use std::alloc::Global;
 
-/// The words that name operators, in order: each is a declaration.
-pub fn declared_names(alloc: Global, elements: &Elements) -> Result<Vec<usize>, NoMemory>
-    ensures { IfOk result (λ names. names.items ≡ declared_names elements.now.operators) }
+/// Whether more operators are declared than a module may have.
+pub fn has_too_many(operators: &[Operators]) -> bool
+    ensures { result ≡ nat_lt MAX_DECLARATIONS (length (declared_forms operators.now)) }
 {
-    let mut names = Vec::new(alloc);
-    for ops in &elements.operators {
-        names.extend_from_slice(ops.names.items())?;
+    let mut count = 0;
+    for ops in operators {
+        let more = ops.forms.items().len();
+        if more > MAX_DECLARATIONS - count {
+            return true;
+        }
+        count += more;
     }
-    Ok(names)
+    false
+}
+
+/// The form of the declaration with this number, counted from 0.
+pub fn declared_form(operators: &[Operators], number: usize) -> Option<&Form>
+    ensures { option_copied result ≡ slice_get (declared_forms operators.now) number }
+{
+    let mut rest = number;
+    for ops in operators {
+        let forms = ops.forms.items();
+        if rest < forms.len() {
+            return Some(&forms[rest]);
+        }
+        rest -= forms.len();
+    }
+    None
 }
 
 /// What a sort in a declaration stands for: in a partial one, and in brackets, its kind.
@@ -56,66 +79,29 @@ fn all_meant(
     Ok(sorts)
 }
 
-/// The form of one word.
-fn word_form(alloc: Global, word: &str) -> Result<Form, NoMemory>
-    ensures { IfOk result (λ form. form ≡ word_form word.now) }
-{
-    let mut pieces = Vec::new(alloc);
-    pieces.push(Piece::Word(Text::new(alloc, word)?))?;
-    Ok(Form::new(pieces))
-}
-
-/// The identity that the word at `place` names, if there is one.
-fn identity(alloc: Global, words: &Words, place: Option<usize>) -> Result<Option<IdSpec>, NoMemory>
-    ensures { IfOk result (λ id. id ≡ Rattle.mau_reader.specs.Flattened.identity_meant words.now place) }
-{
-    match place {
-        Some(j) => Ok(Some(IdSpec::Const(word_form(alloc, words.text(j))?))),
-        None => Ok(None),
-    }
-}
-
-/// The attributes of a declaration.
-fn attributes(alloc: Global, words: &Words, raw: Attributes) -> Result<Attrs, NoMemory>
-    ensures { IfOk result (λ attrs. attrs ≡ attributes_meant words.now raw) }
-{
-    Ok(Attrs {
-        assoc: raw.assoc,
-        comm: raw.comm,
-        id: identity(alloc, words, raw.identity)?,
-        prec: None,
-        gather: None,
-        strat: None,
-        frozen: None,
-        builtin: None,
-    })
-}
-
-/// The declaration of the operator that the word at `j` names.
+/// The declaration of the operator with this form.
 fn declaration(
     alloc: Global,
-    words: &Words,
     poset: &Poset,
     ops: &Operators,
-    j: usize,
+    form: &Form,
 ) -> Result<Decl, NoMemory>
     requires { IsOver poset.now.sorts ops.now }
-    ensures value { IfOk result (λ decl. decl ≡ declaration_at words.now poset.now ops.now j) }
+    ensures value { IfOk result (λ decl. decl ≡ declaration_at poset.now ops.now form.now) }
     ensures sorts { IfOk result (HasSorts poset.now) }
     ensures no_hooks { IfOk result (λ decl. is_successor decl.attrs ≡ false) }
 {
     Ok(Decl {
-        form: word_form(alloc, words.text(j))?,
+        form: form.copy(alloc)?,
         args: Seq::new(all_meant(alloc, poset, ops.partial, ops.args.items())?),
         result: meant(poset, ops.partial, ops.result),
-        attrs: attributes(alloc, words, ops.attrs)?,
+        attrs: ops.attrs.copy(alloc)?,
     })
 }
 
 /// Adds the declarations of some operators.
 fn add_declarations(
     alloc: Global,
-    words: &Words,
     poset: &Poset,
     ops: &Operators,
     decls: &mut Vec<Decl>,
@@ -123,12 +109,12 @@ fn add_declarations(
     requires over { IsOver poset.now.sorts ops.now }
     requires sorts { All (HasSorts poset.now) decls.old.items }
     requires no_hooks { All (λ d. is_successor d.attrs ≡ false) decls.old.items }
-    ensures value { OnOk result (decls.new.items ≡ decls.old.items ++ declarations_in words.now poset.now ops.now) }
+    ensures value { OnOk result (decls.new.items ≡ decls.old.items ++ declarations_in poset.now ops.now) }
     ensures sorts { OnOk result (All (HasSorts poset.now) decls.new.items) }
     ensures no_hooks { OnOk result (All (λ d. is_successor d.attrs ≡ false) decls.new.items) }
 {
-    for word in ops.names.items() {
-        decls.push(declaration(alloc, words, poset, ops, *word)?)?;
+    for form in ops.forms.items() {
+        decls.push(declaration(alloc, poset, ops, form)?)?;
     }
     Ok(())
 }
@@ -136,18 +122,52 @@ fn add_declarations(
 /// All declarations, in order.
 pub fn declarations(
     alloc: Global,
-    words: &Words,
     poset: &Poset,
     elements: &Elements,
 ) -> Result<Vec<Decl>, NoMemory>
     requires { AreOver poset.now.sorts elements.now }
-    ensures value { IfOk result (λ decls. decls.items ≡ declarations words.now poset.now elements.now.operators) }
+    ensures value { IfOk result (λ decls. decls.items ≡ declarations poset.now elements.now.operators) }
     ensures sorts { IfOk result (λ decls. All (HasSorts poset.now) decls.items) }
     ensures no_hooks { IfOk result (λ decls. All (λ d. is_successor d.attrs ≡ false) decls.items) }
 {
     let mut decls = Vec::new(alloc);
     for ops in &elements.operators {
-        add_declarations(alloc, words, poset, ops, &mut decls)?;
+        add_declarations(alloc, poset, ops, &mut decls)?;
     }
     Ok(decls)
+}
+
+/// A declared variable, with its sort or kind.
+fn variable(
+    alloc: Global,
+    words: &Words,
+    poset: &Poset,
+    declared: Declared,
+) -> Result<Alias, NoMemory>
+    requires { declared.sort.sort < poset.now.sorts }
+    ensures value { IfOk result (λ alias. alias ≡ variable_at words.now poset.now declared) }
+    ensures sort { IfOk result (λ alias. IsSort poset.now alias.sort) }
+{
+    Ok(Alias {
+        name: Text::new(alloc, words.text(declared.name))?,
+        sort: meant(poset, false, declared.sort),
+    })
+}
+
+/// All declared variables, in order.
+pub fn variables(
+    alloc: Global,
+    words: &Words,
+    poset: &Poset,
+    elements: &Elements,
+) -> Result<Vec<Alias>, NoMemory>
+    requires { AreOver poset.now.sorts elements.now }
+    ensures value { IfOk result (λ found. found.items ≡ map (variable_at words.now poset.now) elements.now.variables) }
+    ensures sorts { IfOk result (λ found. All (λ alias. IsSort poset.now alias.sort) found.items) }
+{
+    let mut found = Vec::with_capacity(alloc, elements.variables.len())?;
+    for declared in &elements.variables {
+        found.push(variable(alloc, words, poset, *declared)?)?;
+    }
+    Ok(found)
 }

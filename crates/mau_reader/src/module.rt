@@ -1,47 +1,50 @@
 //! Accepted modules, and reading one.
-ghost use Rattle.std.specs.Prelude.{◌≡◌, ◌<◌, ◌≤◌, ◌+◌, ◌⊎◌, length, map, All, IfOk, IfErr, OnOk, IfSome, IfNone, Ok, Err, Some, None, false};
+ghost use Rattle.std.specs.Prelude.{◌≡◌, ◌≤◌, length, map, All, IfOk, IfErr, OnOk, IfSome, IfNone, Ok, Err, Some, None, false};
 ghost use Rattle.mau_poset.specs.Order.{IsPoset, IsWithin};
 ghost use Rattle.mau_signature.specs.Faults.{HasSorts, IsFaultless, is_successor};
 ghost use Rattle.mau_signature.specs.Signature.{signature_of};
 ghost use Rattle.mau_sigcheck.specs.Accepted.{IsAccepted, IsWithinLimit};
+ghost use Rattle.mau_grammar.specs.Grammar.{grammar_of};
 ghost use Rattle.mau_reader.specs.Refusals.{IsCycleRefusal, IsDeclarationRefusal, IsOperatorRefusal};
-ghost use Rattle.mau_reader.specs.Kept.{IsKept};
+ghost use Rattle.mau_reader.specs.Kept.{AreKept};
 ghost use Rattle.mau_reader.specs.declared.TheConstants.{MAX_DECLARATIONS};
 ghost use Rattle.mau_reader.specs.Elements.{AreOver};
-ghost use Rattle.mau_reader.specs.Flattened.{AreLower, declared_names};
-ghost use Rattle.mau_reader.specs.Modules.{ModuleOf, SignatureRead, ModuleRead, hierarchy_of, declared_in, operator_names, limit_passed, passed};
-ghost use Rattle.mau_reader.specs.Faults.{IfWhy};
+ghost use Rattle.mau_reader.specs.Flattened.{AreLower, variable_at};
+ghost use Rattle.mau_reader.specs.Modules.{ModuleOf, SignatureRead, ModuleRead, hierarchy_of, limit_passed};
+ghost use Rattle.mau_reader.specs.Faults.{IfWhy, IfRefused};
+ghost use Rattle.mau_reader.specs.Words.{token_text};
 
-use crate::MAX_DECLARATIONS;
-use crate::element::Elements;
+use crate::element::{Elements, Operators};
 use crate::elements::read_elements;
-use crate::flatten::{declarations, declared_names};
+use crate::flatten::{declarations, has_too_many};
+use crate::grammar::read_grammar;
 use crate::module_fault::ModuleFault;
 use crate::names::Names;
 use crate::refusal::{
     cycle_text, declaration_text, operator_fault_text, too_large_text, write_operator,
 };
-use crate::renaming::name_operators;
-use crate::sort_names::{lower_sorts, write_sort};
+use crate::sort_names::{kind_names, lower_sorts, write_sort};
 use crate::sorts::declared_sorts;
 use crate::words::Words;
+use mau_grammar::Grammar;
 use mau_modtext::RawModule;
 use mau_poset::{MAX_SORTS, Poset, PosetFault};
 use mau_sigcheck::check;
 use mau_signature::{Decl, SigFault, Signature};
 use mau_terms::{NoMemory, OpId, Text};
+use mau_tokens::Token;
 use std::alloc::Global;
 use std::marker::Model;
 
-/// An accepted module: its name, its sorts and operators by their names, and its signature.
+/// An accepted module: its name, its sorts by their names, its signature, and how its terms are written.
 #[derive(Drop)]
 pub struct Module {
     name: Text,
     sorts: Names,
     // whether a subsort pair makes a sort the lower one
     lower: Vec<bool>,
-    operators: Names,
     signature: Signature,
+    grammar: Grammar,
 }
 
 impl Model for Module {
@@ -50,30 +53,29 @@ impl Model for Module {
 
     ghost Value = { ModuleOf };
 
-    ghost view = { λ m. record { name = m.name; sorts = m.sorts; signature = m.signature } };
+    ghost view = { λ m. record { name = m.name; sorts = m.sorts; signature = m.signature; grammar = m.grammar } };
 
-    ghost invariant = { λ m. IsKept m.sorts m.lower.items m.operators m.signature };
+    ghost invariant = { λ m. IsKept m.sorts m.lower.items m.signature m.grammar };
 }
 
-/// The first limit that is passed by so many sorts and declarations.
-fn limit_passed(sorts: &Names, declarations: &[usize]) -> Option<&'static str>
-    ensures some { IfSome result (λ which. passed (length sorts.now) (length declarations.now) ≡ Some which.now) }
-    ensures none { IfNone result (passed (length sorts.now) (length declarations.now) ≡ None) }
+/// The first limit that is passed by the sorts and declarations.
+fn limit_passed(sorts: &Names, elements: &Elements) -> Option<&'static str>
+    ensures some { IfSome result (λ which. limit_passed sorts.now elements.now.operators ≡ Some which.now) }
+    ensures none { IfNone result (limit_passed sorts.now elements.now.operators ≡ None) }
 {
     if sorts.len() > MAX_SORTS as usize {
         Some("sorts")
-    } else if declarations.len() > MAX_DECLARATIONS {
+    } else if has_too_many(&elements.operators) {
         Some("declarations")
     } else {
         None
     }
 }
 
-/// A signature, with a name for each operator and a flag for each lower sort.
+/// A signature, with a flag for each lower sort.
 #[derive(Drop)]
-struct Named {
+struct Signed {
     signature: Signature,
-    operators: Names,
     lower: Vec<bool>,
 }
 
@@ -100,7 +102,7 @@ fn order_sorts(alloc: Global, sorts: &Names, elements: &Elements) -> Result<Pose
     requires within { IsWithin elements.now.pairs (length sorts.now) }
     ensures ok { IfOk result (λ poset. poset ≡ hierarchy_of sorts.now elements.now) }
     ensures poset { IfOk result IsPoset }
-    ensures cycle { IfErr result (λ fault. IfWhy fault (IsCycleRefusal sorts.now elements.now.pairs)) }
+    ensures cycle { IfErr result (λ fault. IfRefused fault (IsCycleRefusal sorts.now elements.now.pairs)) }
 {
     let pairs = narrow(alloc, sorts.len(), &elements.pairs)?;
     match Poset::build(alloc, sorts.len() as u32, &pairs) {
@@ -112,11 +114,10 @@ fn order_sorts(alloc: Global, sorts: &Names, elements: &Elements) -> Result<Pose
     }
 }
 
-/// The signature of declarations, whose names are these words.
+/// The signature of declarations, which are those of these operators.
 fn build_signature(
     alloc: Global,
-    words: &Words,
-    names: &[usize],
+    operators: &[Operators],
     poset: Poset,
     decls: Vec<Decl>,
 ) -> Result<Signature, ModuleFault>
@@ -125,72 +126,59 @@ fn build_signature(
     requires no_hooks { All (λ d. is_successor d.attrs ≡ false) decls.items }
     ensures ok { IfOk result (λ s. s ≡ signature_of poset decls.items None) }
     ensures faultless { OnOk result (IsFaultless (record { hierarchy = poset; declarations = decls.items; numerals = None }) decls.items) }
-    ensures at_fault { IfErr result (λ fault. IfWhy fault (IsDeclarationRefusal words.now names.now (record { hierarchy = poset; declarations = decls.items; numerals = None }))) }
+    ensures at_fault { IfErr result (λ fault. IfRefused fault (IsDeclarationRefusal operators.now (record { hierarchy = poset; declarations = decls.items; numerals = None }))) }
 {
     match Signature::build(alloc, poset, decls, None) {
         Ok(signature) => Ok(signature),
         Err(SigFault::NoMemory) => Err(ModuleFault::NoMemory),
-        Err(fault) => Err(ModuleFault::with_text(declaration_text(alloc, words, names, fault))),
+        Err(fault) => Err(ModuleFault::with_text(declaration_text(alloc, operators, fault))),
     }
 }
 
 /// Whether a signature is accepted.
-fn accept_signature(alloc: Global, sorts: &Names, named: &Named) -> Result<(), ModuleFault>
-    requires lower { AreLower named.now.signature.hierarchy.sorts named.now.signature.hierarchy.pairs named.now.lower.items }
-    requires names { named.now.operators ≡ operator_names named.now.signature }
-    ensures ok { OnOk result (IsAccepted named.now.signature) }
-    ensures few { OnOk result (IsWithinLimit named.now.signature) }
-    ensures at_fault { IfErr result (λ fault. IfWhy fault (IsOperatorRefusal sorts.now named.now.signature)) }
+fn accept_signature(alloc: Global, sorts: &Names, signed: &Signed) -> Result<(), ModuleFault>
+    requires { AreLower signed.now.signature.hierarchy.sorts signed.now.signature.hierarchy.pairs signed.now.lower.items }
+    ensures ok { OnOk result (IsAccepted signed.now.signature) }
+    ensures few { OnOk result (IsWithinLimit signed.now.signature) }
+    ensures at_fault { IfErr result (λ fault. IfRefused fault (IsOperatorRefusal sorts.now signed.now.signature)) }
 {
-    match check(alloc, &named.signature) {
+    match check(alloc, &signed.signature) {
         Ok(()) => Ok(()),
         Err(fault) => Err(ModuleFault::with_text(operator_fault_text(
             alloc,
             sorts,
-            &named.signature,
-            &named.lower,
-            &named.operators,
+            &signed.signature,
+            &signed.lower,
             &fault,
         ))),
     }
 }
 
-/// The operators and the signature of a module's elements over the order of its sorts. `names` are the words that name the
-/// declared operators.
-fn read_operators(
+/// The signature of a module's elements over the order of its sorts.
+fn sign(
     alloc: Global,
-    words: &Words,
     sorts: &Names,
     elements: &Elements,
-    names: &[usize],
     poset: Poset,
-) -> Result<Named, ModuleFault>
+) -> Result<Signed, ModuleFault>
     requires limit { limit_passed sorts.now elements.now.operators ≡ None }
     requires over { AreOver (length sorts.now) elements.now }
-    requires names { names.now ≡ declared_names elements.now.operators }
     requires poset { poset ≡ hierarchy_of sorts.now elements.now }
     requires acyclic { IsPoset poset }
-    ensures ok { IfOk result (λ named. SignatureRead words.now sorts.now elements.now (Ok named.signature)) }
-    ensures kept { IfOk result (λ named. IsKept sorts.now named.lower.items named.operators named.signature) }
-    ensures why { IfErr result (λ fault. IfWhy fault (λ why. SignatureRead words.now sorts.now elements.now (Err why))) }
+    ensures ok { IfOk result (λ signed. SignatureRead sorts.now elements.now (Ok signed.signature)) }
+    ensures kept { IfOk result (λ signed. AreKept sorts.now signed.lower.items signed.signature) }
+    ensures hierarchy { IfOk result (λ signed. signed.signature.hierarchy ≡ hierarchy_of sorts.now elements.now) }
+    ensures refused { IfErr result (λ fault. IfRefused fault (λ text. SignatureRead sorts.now elements.now (Err text))) }
 {
-    let decls = declarations(alloc, words, &poset, elements)?;
+    let decls = declarations(alloc, &poset, elements)?;
     let lower = lower_sorts(alloc, poset.sorts(), elements)?;
-    let operators = match name_operators(alloc, &poset, &decls)? {
-        Ok(operators) => operators,
-        Err(number) => return Err(ModuleFault::Leaves(names[number])),
-    };
-    let signature = match build_signature(alloc, words, names, poset, decls) {
+    let signature = match build_signature(alloc, &elements.operators, poset, decls) {
         Ok(signature) => signature,
         Err(fault) => return Err(fault),
     };
-    let named = Named {
-        signature,
-        operators,
-        lower,
-    };
-    match accept_signature(alloc, sorts, &named) {
-        Ok(()) => Ok(named),
+    let signed = Signed { signature, lower };
+    match accept_signature(alloc, sorts, &signed) {
+        Ok(()) => Ok(signed),
         Err(fault) => Err(fault),
     }
 }
@@ -198,17 +186,16 @@ fn read_operators(
 /// The signature of a module's elements.
 fn read_signature(
     alloc: Global,
-    words: &Words,
     sorts: &Names,
     elements: &Elements,
-) -> Result<Named, ModuleFault>
+) -> Result<Signed, ModuleFault>
     requires { AreOver (length sorts.now) elements.now }
-    ensures ok { IfOk result (λ named. SignatureRead words.now sorts.now elements.now (Ok named.signature)) }
-    ensures kept { IfOk result (λ named. IsKept sorts.now named.lower.items named.operators named.signature) }
-    ensures why { IfErr result (λ fault. IfWhy fault (λ why. SignatureRead words.now sorts.now elements.now (Err why))) }
+    ensures ok { IfOk result (λ signed. SignatureRead sorts.now elements.now (Ok signed.signature)) }
+    ensures kept { IfOk result (λ signed. AreKept sorts.now signed.lower.items signed.signature) }
+    ensures hierarchy { IfOk result (λ signed. signed.signature.hierarchy ≡ hierarchy_of sorts.now elements.now) }
+    ensures refused { IfErr result (λ fault. IfRefused fault (λ text. SignatureRead sorts.now elements.now (Err text))) }
 {
-    let names = declared_names(alloc, elements)?;
-    match limit_passed(sorts, &names) {
+    match limit_passed(sorts, elements) {
         Some(which) => return Err(ModuleFault::with_text(too_large_text(alloc, which))),
         None => (),
     }
@@ -216,7 +203,35 @@ fn read_signature(
         Ok(poset) => poset,
         Err(fault) => return Err(fault),
     };
-    read_operators(alloc, words, sorts, elements, &names, poset)
+    sign(alloc, sorts, elements, poset)
+}
+
+/// The module with this name token, these sorts and this signature.
+fn make_module(
+    alloc: Global,
+    words: &Words,
+    name: Token,
+    sorts: Names,
+    signed: Signed,
+    elements: &Elements,
+) -> Result<Module, NoMemory>
+    requires over { AreOver (length sorts) elements.now }
+    requires kept { AreKept sorts signed.lower.items signed.signature }
+    ensures { IfOk result (λ m. m ≡ record {
+        name = token_text words.now name;
+        sorts = sorts;
+        signature = signed.signature;
+        grammar = grammar_of signed.signature sorts (map (variable_at words.now signed.signature.hierarchy) elements.now.variables) }) }
+{
+    let name = Text::new(alloc, words.token_text(name))?;
+    let grammar = read_grammar(alloc, words, &sorts, &signed.signature, elements)?;
+    Ok(Module {
+        name,
+        sorts,
+        lower: signed.lower,
+        signature: signed.signature,
+        grammar,
+    })
 }
 
 /// Reads a module of the words' text.
@@ -229,29 +244,22 @@ pub fn read_module(alloc: Global, words: &Words, raw: &RawModule) -> Result<Modu
         Ok(elements) => elements,
         Err(fault) => return Err(ModuleFault::of_part(fault)),
     };
-    match read_signature(alloc, words, &sorts, &elements) {
-        Ok(named) => match Text::new(alloc, words.token_text(raw.name)) {
-            Ok(name) => Ok(Module {
-                name,
-                sorts,
-                lower: named.lower,
-                operators: named.operators,
-                signature: named.signature,
-            }),
-            Err(NoMemory) => Err(ModuleFault::NoMemory),
-        },
-        Err(fault) => Err(fault),
+    let signed = match read_signature(alloc, &sorts, &elements) {
+        Ok(signed) => signed,
+        Err(fault) => return Err(fault),
+    };
+    match make_module(alloc, words, raw.name, sorts, signed, &elements) {
+        Ok(module) => Ok(module),
+        Err(NoMemory) => Err(ModuleFault::NoMemory),
     }
 }
 
 impl Module {
-    ghost use Rattle.std.specs.Prelude.{◌≡◌, ◌<◌, ◌≤◌, ◌+◌, ◌++◌, length, IfSome, OnOk};
-    ghost use Rattle.mau_reader.specs.Names.{number_of};
-    ghost use Rattle.mau_signature.specs.Signature.{IsOperator};
+    ghost use Rattle.std.specs.Prelude.{◌≡◌, ◌≤◌, ◌++◌, length, IfOk, OnOk};
     ghost use Rattle.mau_poset.specs.declared.TheConstants.{MAX_SORTS};
-    ghost use Rattle.mau_reader.specs.Flattened.{sort_name};
-    ghost use Rattle.mau_reader.specs.Modules.{operator_names, operator_text};
-    ghost use Rattle.mau_reader.specs.Kept.{AreNamed};
+    ghost use Rattle.mau_reader.specs.Flattened.{sort_name, kind_names};
+    ghost use Rattle.mau_reader.specs.Kept.{IsItsGrammar};
+    ghost use Rattle.mau_reader.specs.Modules.{operator_text};
 
     /// The name.
     pub fn name(&self) -> &str
@@ -269,22 +277,27 @@ impl Module {
         &self.sorts
     }
 
-    /// The number of the operator with a name, counted from 0; as an operator it has the number behind that.
-    pub fn operator(&self, name: &str) -> Option<usize>
-        ensures number { result ≡ number_of (operator_names self.now.signature) name.now }
-        ensures declared { IfSome result (λ f. IsOperator self.now.signature (f + 1)) }
-        ensures few { IfSome result (λ f. f < MAX_DECLARATIONS) }
-    {
-        let _ = self.signature.operators();
-        self.operators.number(name)
-    }
-
     /// The signature.
     pub fn signature(&self) -> &Signature
         ensures value { result.now ≡ self.now.signature }
-        ensures named { AreNamed self.now }
+        ensures named { length self.now.sorts ≡ self.now.signature.hierarchy.sorts }
     {
         &self.signature
+    }
+
+    /// How the terms are written.
+    pub fn grammar(&self) -> &Grammar
+        ensures value { result.now ≡ self.now.grammar }
+        ensures its { IsItsGrammar self.now.sorts self.now.signature self.now.grammar }
+    {
+        &self.grammar
+    }
+
+    /// The names of the kinds, in the order of their numbers.
+    pub fn kind_names(&self, alloc: Global) -> Result<Vec<Text>, NoMemory>
+        ensures { IfOk result (λ names. names.items ≡ kind_names self.now.sorts self.now.signature.hierarchy) }
+    {
+        kind_names(alloc, &self.sorts, self.signature.poset(), &self.lower)
     }
 
     /// Writes the name of a sort or of a kind.
@@ -298,6 +311,6 @@ impl Module {
     pub fn write_operator(&self, out: &mut Vec<u8>, op: OpId) -> Result<(), NoMemory>
         ensures { OnOk result (out.new.items ≡ out.old.items ++ operator_text self.now.signature op.0) }
     {
-        write_operator(out, &self.operators, op)
+        write_operator(out, &self.signature, op)
     }
 }

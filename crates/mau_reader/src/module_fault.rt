@@ -48,12 +48,11 @@ impl<T: Drop> From<AllocFailed<T>> for ModuleFault {
 
 impl ModuleFault {
     ghost use Rattle.std.specs.Prelude.{◌≡◌, IfOk, IfErr};
-    ghost use Rattle.mau_reader.specs.Faults.{IfWhy, IfLeaves};
-    ghost use Rattle.mau_reader.specs.Modules.{faulty};
+    ghost use Rattle.mau_reader.specs.Faults.{IfRefused, IfLeaves};
 
     /// A fault with this text, if there was memory for the text.
     pub fn with_text(text: Result<Vec<u8>, NoMemory>) -> ModuleFault
-        ensures text { IfOk text (λ bytes. IfWhy result (λ why. why ≡ faulty bytes.items)) }
+        ensures text { IfOk text (λ bytes. IfRefused result (λ refusal. refusal ≡ bytes.items)) }
         ensures memory { IfErr text (λ e. result ≡ ModuleFault.NoMemory) }
     {
         match text {

@@ -1,6 +1,7 @@
 //! Names, numbered in the order in which they were added.
 ghost use Rattle.std.specs.Prelude.{◌≡◌, ◌<◌, ◌≤◌, ◌+◌, [], length, not, slice_get, IfOk, OnOk, OnErr, IfSome};
 ghost use Rattle.std.specs.Option.{option_copied};
+ghost use Rattle.mau_grammar.specs.Names.{AreDistinct};
 ghost use Rattle.mau_reader.specs.Names.{has_name, with_name, number_of};
 
 use indexmap::IndexSet;
@@ -17,10 +18,13 @@ pub struct Names {
 
 impl Model for Names {
     ghost use Rattle.std.specs.Prelude.{List, ℕ, map, string_bytes};
+    ghost use Rattle.mau_grammar.specs.Names.{AreDistinct};
 
     ghost Value = { List (List ℕ) };
 
     ghost view = { λ n. map string_bytes n.names.keys };
+
+    ghost invariant = { λ n. AreDistinct (map string_bytes n.names.keys) };
 }
 
 impl Names {
@@ -34,9 +38,15 @@ impl Names {
         }
     }
 
+    /// What takes memory for names.
+    pub fn allocator(&self) -> Global {
+        self.alloc
+    }
+
     /// How many names there are.
     pub fn len(&self) -> usize
-        ensures { result ≡ length self.now }
+        ensures count { result ≡ length self.now }
+        ensures distinct { AreDistinct self.now }
     {
         self.names.len()
     }

@@ -1,13 +1,16 @@
 //! The texts of refused modules.
-ghost use Rattle.std.specs.Prelude.{◌≡◌, ◌<◌, ◌-◌, ◌++◌, length, All, codes, decimal, IfOk, OnOk};
-ghost use Rattle.mau_reader.specs.Flattened.{name_at, AreLower};
-ghost use Rattle.mau_reader.specs.Modules.{too_large_text, cycle_text, declared_name, declaration_text, sorts_text, operator_names, operator_fault_text};
+ghost use Rattle.std.specs.Prelude.{◌≡◌, ◌++◌, codes, decimal, IfOk, OnOk};
+ghost use Rattle.mau_reader.specs.Flattened.{AreLower};
+ghost use Rattle.mau_signature.specs.Signature.{terms_over};
+ghost use Rattle.mau_reader.specs.Modules.{too_large_text, cycle_text, declared_text, declaration_text, sorts_text, operator_text, operator_fault_text};
 ghost use Rattle.mau_reader.specs.Refusals.{IsNamed};
 
+use crate::element::Operators;
+use crate::flatten::declared_form;
+use crate::forms::write_form;
 use crate::names::Names;
 use crate::sort_names::{write_name, write_sort};
 use crate::text::{write_number, write_text};
-use crate::words::Words;
 use mau_poset::Poset;
 use mau_sigcheck::CheckFault;
 use mau_signature::{SigFault, Signature};
@@ -36,54 +39,61 @@ pub fn cycle_text(alloc: Global, sorts: &Names, a: u32, b: u32) -> Result<Vec<u8
     Ok(out)
 }
 
-/// The text of a fault, behind which a declared operator is named.
+/// The text of a fault, behind which the operator of a declaration is named.
 fn named_text(
     alloc: Global,
-    words: &Words,
-    names: &[usize],
+    operators: &[Operators],
     fault: &str,
     number: u32,
 ) -> Result<Vec<u8>, NoMemory>
-    ensures { IfOk result (λ text. text.items ≡ fault.now ++ declared_name words.now names.now number) }
+    ensures { IfOk result (λ text. text.items ≡ fault.now ++ declared_text operators.now number) }
 {
     let mut out = Vec::new(alloc);
     write_text(&mut out, fault)?;
-    match names.get(number as usize) {
-        Some(word) => write_text(&mut out, words.text(*word))?,
+    match declared_form(operators, number as usize) {
+        Some(form) => write_form(&mut out, form)?,
         None => (),
     }
     Ok(out)
 }
 
-/// The text of a fault of a declaration. `names` are the words that name the declared operators.
+/// The text of a fault of a declaration, among those of these operators.
 pub fn declaration_text(
     alloc: Global,
-    words: &Words,
-    names: &[usize],
+    operators: &[Operators],
     fault: SigFault,
 ) -> Result<Vec<u8>, NoMemory>
-    ensures { IfOk result (λ text. text.items ≡ declaration_text words.now names.now fault) }
+    ensures { IfOk result (λ text. text.items ≡ declaration_text operators.now fault) }
 {
     match fault {
-        SigFault::KindMismatch(number) => named_text(alloc, words, names, "KindMismatch ", number),
-        SigFault::AttrConflict(number) => named_text(alloc, words, names, "AttrConflict ", number),
-        SigFault::BadStrat(number) => named_text(alloc, words, names, "BadStrat ", number),
-        SigFault::IdNotConstant(number) => {
-            named_text(alloc, words, names, "IdNotConstant ", number)
-        }
-        SigFault::Arity(number) => named_text(alloc, words, names, "Arity ", number),
+        SigFault::KindMismatch(number) => named_text(alloc, operators, "KindMismatch ", number),
+        SigFault::AttrConflict(number) => named_text(alloc, operators, "AttrConflict ", number),
+        SigFault::BadStrat(number) => named_text(alloc, operators, "BadStrat ", number),
+        SigFault::IdNotConstant(number) => named_text(alloc, operators, "IdNotConstant ", number),
+        SigFault::Arity(number) => named_text(alloc, operators, "Arity ", number),
         SigFault::NoMemory => Ok(Vec::new(alloc)),
     }
 }
 
-/// Writes the name of an operator.
-pub fn write_operator(out: &mut Vec<u8>, operators: &Names, op: OpId) -> Result<(), NoMemory>
-    ensures { OnOk result (out.new.items ≡ out.old.items ++ name_at operators.now (op.0 - 1)) }
+/// Whether the number is that of an operator.
+fn is_operator(signature: &Signature, op: OpId) -> bool
+    ensures { result ≡ (terms_over signature.now).has_operator op.0 }
 {
-    match operators.get((op.0 as usize).saturating_sub(1)) {
-        Some(name) => write_text(out, name),
-        None => Ok(()),
+    op.0 > 0 && op.0 <= signature.operators()
+}
+
+/// Writes an operator: the pieces of its form.
+pub fn write_operator(
+    out: &mut Vec<u8>,
+    signature: &Signature,
+    op: OpId,
+) -> Result<(), NoMemory>
+    ensures { OnOk result (out.new.items ≡ out.old.items ++ operator_text signature.now op.0) }
+{
+    if !is_operator(signature, op) {
+        return Ok(());
     }
+    write_form(out, signature.form(op))
 }
 
 /// Writes sorts and kinds, each behind a space.
@@ -108,58 +118,53 @@ fn write_sorts(
 fn tuple_text(
     alloc: Global,
     sorts: &Names,
-    poset: &Poset,
+    signature: &Signature,
     lower: &[bool],
-    operators: &Names,
     fault: &str,
     op: OpId,
     tuple: &[u32],
 ) -> Result<Vec<u8>, NoMemory>
-    requires { AreLower poset.now.sorts poset.now.pairs lower.now }
-    ensures { IfOk result (λ text. text.items ≡ fault.now ++ name_at operators.now (op.0 - 1) ++ sorts_text sorts.now poset.now tuple.now) }
+    requires { AreLower signature.now.hierarchy.sorts signature.now.hierarchy.pairs lower.now }
+    ensures { IfOk result (λ text. text.items ≡ fault.now ++ operator_text signature.now op.0 ++ sorts_text sorts.now signature.now.hierarchy tuple.now) }
 {
     let mut out = Vec::new(alloc);
     write_text(&mut out, fault)?;
-    write_operator(&mut out, operators, op)?;
-    write_sorts(&mut out, sorts, poset, lower, tuple)?;
+    write_operator(&mut out, signature, op)?;
+    write_sorts(&mut out, sorts, signature.poset(), lower, tuple)?;
     Ok(out)
 }
 
 /// The text for an operator with too many tuples.
-fn count_text(alloc: Global, operators: &Names, op: OpId, n: u64) -> Result<Vec<u8>, NoMemory>
-    ensures { IfOk result (λ text. text.items ≡ codes "TooManyTuples " ++ name_at operators.now (op.0 - 1) ++ codes " " ++ decimal n) }
+fn count_text(alloc: Global, signature: &Signature, op: OpId, n: u64) -> Result<Vec<u8>, NoMemory>
+    ensures { IfOk result (λ text. text.items ≡ codes "TooManyTuples " ++ operator_text signature.now op.0 ++ codes " " ++ decimal n) }
 {
     let mut out = Vec::new(alloc);
     write_text(&mut out, "TooManyTuples ")?;
-    write_operator(&mut out, operators, op)?;
+    write_operator(&mut out, signature, op)?;
     write_text(&mut out, " ")?;
     write_number(&mut out, u128::from(n))?;
     Ok(out)
 }
 
-/// The text of a fault of an operator, over the names of sorts and operators; want of memory has none.
+/// The text of a fault of an operator, over the names of sorts; want of memory has none.
 pub fn operator_fault_text(
     alloc: Global,
     sorts: &Names,
     signature: &Signature,
     lower: &[bool],
-    operators: &Names,
     fault: &CheckFault,
 ) -> Result<Vec<u8>, NoMemory>
-    requires lower { AreLower signature.now.hierarchy.sorts signature.now.hierarchy.pairs lower.now }
-    requires names { operators.now ≡ operator_names signature.now }
+    requires { AreLower signature.now.hierarchy.sorts signature.now.hierarchy.pairs lower.now }
     ensures text { IfOk result (λ text. text.items ≡ operator_fault_text sorts.now signature.now fault.now) }
     ensures named { IfOk result (λ text. IsNamed fault.now) }
 {
-    let poset = signature.poset();
     match fault {
-        CheckFault::TooManyTuples(op, n) => count_text(alloc, operators, *op, *n),
+        CheckFault::TooManyTuples(op, n) => count_text(alloc, signature, *op, *n),
         CheckFault::NotPreregular(op, tuple) => tuple_text(
             alloc,
             sorts,
-            poset,
+            signature,
             lower,
-            operators,
             "NotPreregular ",
             *op,
             tuple.items(),
@@ -167,9 +172,8 @@ pub fn operator_fault_text(
         CheckFault::NotAssociativeSorts(op, triple) => tuple_text(
             alloc,
             sorts,
-            poset,
+            signature,
             lower,
-            operators,
             "NotAssociativeSorts ",
             *op,
             triple,
@@ -177,9 +181,8 @@ pub fn operator_fault_text(
         CheckFault::IdentityLowersSort(op, sort) => tuple_text(
             alloc,
             sorts,
-            poset,
+            signature,
             lower,
-            operators,
             "IdentityLowersSort ",
             *op,
             &[*sort],

@@ -1,13 +1,13 @@
 //! The names of sorts and kinds.
-ghost use Rattle.std.specs.Prelude.{◌≡◌, ◌<◌, ◌++◌, [], map, codes, if◌then◌else◌, replicate, false, IfOk, OnOk};
+ghost use Rattle.std.specs.Prelude.{◌≡◌, ◌<◌, ◌++◌, [], map, codes, if◌then◌else◌, replicate, false, string_bytes, IfOk, OnOk};
 ghost use Rattle.mau_poset.specs.Order.{IsWithin};
-ghost use Rattle.mau_reader.specs.Flattened.{name_at, comma_names, maximal_sorts, sort_name, AreLower};
+ghost use Rattle.mau_reader.specs.Flattened.{name_at, comma_names, maximal_sorts, kind_name, kind_names, sort_name, AreLower};
 
 use crate::element::Elements;
 use crate::names::Names;
 use crate::text::write_text;
 use mau_poset::Poset;
-use mau_terms::NoMemory;
+use mau_terms::{NoMemory, Text};
 use std::alloc::Global;
 
 /// `n` times no.
@@ -41,16 +41,6 @@ pub fn lower_sorts(alloc: Global, n: u32, elements: &Elements) -> Result<Vec<boo
     mark_lower(alloc, n, &elements.pairs)
 }
 
-/// Writes the name of the sort with a number; nothing where there is none.
-pub fn write_name(out: &mut Vec<u8>, sorts: &Names, sort: u32) -> Result<(), NoMemory>
-    ensures { OnOk result (out.new.items ≡ out.old.items ++ name_at sorts.now sort) }
-{
-    match sorts.get(sort as usize) {
-        Some(name) => write_text(out, name),
-        None => Ok(()),
-    }
-}
-
 /// Whether a sort is a maximal one of a kind.
 fn is_maximal_in(poset: &Poset, lower: &[bool], kind: u32, sort: u32) -> bool
     requires lower { AreLower poset.now.sorts poset.now.pairs lower.now }
@@ -60,38 +50,96 @@ fn is_maximal_in(poset: &Poset, lower: &[bool], kind: u32, sort: u32) -> bool
     poset.kind_of(sort) == kind && !lower[sort as usize]
 }
 
-/// Writes the name of a sort, behind a comma if it is not the first.
-fn write_next(out: &mut Vec<u8>, sorts: &Names, is_first: bool, sort: u32) -> Result<(), NoMemory>
-    ensures { OnOk result (out.new.items ≡ out.old.items ++ (if is_first then [] else codes ",") ++ name_at sorts.now sort) }
+/// The name of the sort with a number; empty where there is none.
+fn name_of(sorts: &Names, sort: u32) -> &str
+    ensures { result.now ≡ name_at sorts.now sort }
 {
-    if !is_first {
-        write_text(out, ",")?;
+    match sorts.get(sort as usize) {
+        Some(name) => name,
+        None => "",
     }
-    write_name(out, sorts, sort)
 }
 
-/// Writes the names of the maximal sorts of a kind, parted by commas.
-fn write_maximal_sorts(
-    out: &mut Vec<u8>,
+/// Writes the name of the sort with a number; nothing where there is none.
+pub fn write_name(out: &mut Vec<u8>, sorts: &Names, sort: u32) -> Result<(), NoMemory>
+    ensures { OnOk result (out.new.items ≡ out.old.items ++ name_at sorts.now sort) }
+{
+    write_text(out, name_of(sorts, sort))
+}
+
+/// Puts the name of a sort behind a text, and before it a comma if it is not the first.
+fn push_next(
+    text: &mut String,
+    sorts: &Names,
+    is_first: bool,
+    sort: u32,
+) -> Result<(), NoMemory>
+    ensures { OnOk result (string_bytes text.new ≡ string_bytes text.old ++ (if is_first then [] else codes ",") ++ name_at sorts.now sort) }
+{
+    if !is_first {
+        text.push_str(",")?;
+    }
+    text.push_str(name_of(sorts, sort))?;
+    Ok(())
+}
+
+/// Puts the names of the maximal sorts of a kind behind a text, parted by commas.
+fn push_maximal_sorts(
+    text: &mut String,
     sorts: &Names,
     poset: &Poset,
     lower: &[bool],
     kind: u32,
 ) -> Result<(), NoMemory>
     requires { AreLower poset.now.sorts poset.now.pairs lower.now }
-    ensures { OnOk result (out.new.items ≡ out.old.items ++ comma_names (map (name_at sorts.now) (maximal_sorts poset.now kind))) }
+    ensures { OnOk result (string_bytes text.new ≡ string_bytes text.old ++ comma_names (map (name_at sorts.now) (maximal_sorts poset.now kind))) }
 {
     let mut is_first = true;
     for sort in 0..poset.sorts() {
         if is_maximal_in(poset, lower, kind, sort) {
-            write_next(out, sorts, is_first, sort)?;
+            push_next(text, sorts, is_first, sort)?;
             is_first = false;
         }
     }
     Ok(())
 }
 
-/// Writes the name of a sort or of a kind: that of a kind is its maximal sorts in brackets.
+/// The name of a kind: its maximal sorts in brackets.
+fn kind_text(
+    alloc: Global,
+    sorts: &Names,
+    poset: &Poset,
+    lower: &[bool],
+    kind: u32,
+) -> Result<String, NoMemory>
+    requires { AreLower poset.now.sorts poset.now.pairs lower.now }
+    ensures { IfOk result (λ text. string_bytes text ≡ kind_name sorts.now poset.now kind) }
+{
+    let mut text = String::from_str(alloc, "[")?;
+    push_maximal_sorts(&mut text, sorts, poset, lower, kind)?;
+    text.push_str("]")?;
+    Ok(text)
+}
+
+/// The names of all kinds, in the order of their numbers.
+pub fn kind_names(
+    alloc: Global,
+    sorts: &Names,
+    poset: &Poset,
+    lower: &[bool],
+) -> Result<Vec<Text>, NoMemory>
+    requires { AreLower poset.now.sorts poset.now.pairs lower.now }
+    ensures { IfOk result (λ names. names.items ≡ kind_names sorts.now poset.now) }
+{
+    let mut names = Vec::with_capacity(alloc, poset.kinds() as usize)?;
+    for i in 0..poset.kinds() {
+        let name = kind_text(alloc, sorts, poset, lower, poset.sorts() + i)?;
+        names.push(Text::new(alloc, name.as_str())?)?;
+    }
+    Ok(names)
+}
+
+/// Writes the name of a sort or of a kind.
 pub fn write_sort(
     out: &mut Vec<u8>,
     sorts: &Names,
@@ -105,7 +153,6 @@ pub fn write_sort(
     if sort < poset.sorts() {
         return write_name(out, sorts, sort);
     }
-    write_text(out, "[")?;
-    write_maximal_sorts(out, sorts, poset, lower, sort)?;
-    write_text(out, "]")
+    let name = kind_text(sorts.allocator(), sorts, poset, lower, sort)?;
+    write_text(out, name.as_str())
 }

@@ -1,4 +1,4 @@
-//! Names of operators, and the sorts that a module declares.
+//! The sorts that a module declares.
 ghost use Rattle.std.specs.Prelude.{◌≡◌, [], fold, IfOk, OnOk};
 ghost use Rattle.mau_reader.specs.Names.{with_name};
 ghost use Rattle.mau_reader.specs.Sorts.{sort_text, with_sorts};
@@ -9,15 +9,6 @@ use mau_modtext::{RawElement, TokenList};
 use mau_terms::NoMemory;
 use mau_tokens::Token;
 use std::alloc::Global;
-
-/// Whether a word may name an operator.
-pub fn is_operator_name(word: &str) -> bool
-    ensures { result ≡ Rattle.mau_reader.specs.Sorts.is_operator_name word.now }
-{
-    word.as_bytes()
-        .iter()
-        .all(|byte| byte.is_ascii_alphanumeric())
-}
 
 /// The name of a declared sort.
 fn sort_text<'a>(words: &Words<'a>, sort: &[Token]) -> &'a str

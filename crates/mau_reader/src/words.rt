@@ -1,7 +1,8 @@
 //! The words of a text: its tokens with what they read.
-ghost use Rattle.std.specs.Prelude.{◌≡◌, ◌≤◌, length, nat_lt};
+ghost use Rattle.std.specs.Prelude.{◌≡◌, ◌≤◌, length, nat_lt, map, take, drop};
 ghost use Rattle.std.specs.List.{count_by};
 ghost use Rattle.mau_tokens.specs.Spans.{AreSpans};
+ghost use Rattle.mau_tokens.specs.Laws.{text_of};
 ghost use Rattle.mau_modtext.specs.Words.{words_of};
 ghost use Rattle.mau_reader.specs.Words.{text_at, place_at, is_word, index_at, token_index, token_text, first_index};
 
@@ -35,6 +36,28 @@ fn begin_before(text: &str, tokens: &[Token], place: u32) -> usize
     ensures within { result ≤ length tokens.now }
 {
     tokens.partition_point(|token| token.start < place)
+}
+
+/// The tokens from the one with this number on.
+fn behind(tokens: &[Token], from: usize) -> &[Token]
+    ensures { result.now ≡ drop from tokens.now }
+{
+    if from < tokens.len() {
+        &tokens[from..]
+    } else {
+        &[]
+    }
+}
+
+/// The first tokens, so many, or all that there are.
+fn front(tokens: &[Token], count: usize) -> &[Token]
+    ensures { result.now ≡ take count tokens.now }
+{
+    if count < tokens.len() {
+        &tokens[..count]
+    } else {
+        tokens
+    }
 }
 
 impl<'a> Words<'a> {
@@ -106,5 +129,14 @@ impl<'a> Words<'a> {
             Some((first, _)) => self.token_index(*first),
             None => 0,
         }
+    }
+
+    /// The text, and so many of its tokens from the one with this number on, or all that there are.
+    pub fn part(&self, from: usize, count: usize) -> (&'a str, &'a [Token])
+        ensures spans { AreSpans result.0.now result.1.now }
+        ensures tokens { result.1.now ≡ map (λ w. w.token) (take count (drop from self.now)) }
+        ensures texts { map (text_of result.0.now) result.1.now ≡ map (λ w. w.text) (take count (drop from self.now)) }
+    {
+        (self.text, front(behind(self.tokens, from), count))
     }
 }

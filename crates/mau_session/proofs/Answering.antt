@@ -4,21 +4,22 @@ use Rattle.mau_terms.specs.Tree.{Tree}
 use Rattle.mau_terms.specs.Subst.{Variable, variables}
 use Rattle.mau_reader.specs.Modules.{ModuleOf}
 use Rattle.mau_modtext.specs.Word.{Word}
-use Rattle.mau_tokens.specs.declared.token.Token.{Token}
 use Rattle.mau_modtext.specs.declared.raw.RawItem.{RawItem}
 use Rattle.mau_modtext.specs.declared.raw.RawBody.{RawBody}
 use Rattle.mau_modtext.specs.declared.raw.TextFault.{TextFault}
-use Rattle.mau_reader.specs.Words.{index_at, first_index}
+use Rattle.mau_reader.specs.Words.{index_at}
 use Rattle.mau_session.specs.Built.{fault_answer}
 use Rattle.mau_modtext.specs.declared.raw.RawCommand.{RawCommand}
 use Rattle.mau_terms.specs.declared.ids.TermId.{TermId}
+use Rattle.mau_terms.specs.View.{tree_of}
+use Rattle.mau_terms.specs.declared.bare.Bare.{Bare}
 use Rattle.mau_terms.specs.Norm.{norm}
 use Rattle.mau_terms.specs.Bare.{HasNoAxioms}
 use Rattle.mau_signature.specs.Signature.{SignatureOf, theory_at}
 use Rattle.mau_store.specs.Node.{Node}
 use Rattle.mau_store.specs.Trees.{StandsFor}
 use Rattle.mau_canon.specs.Within.{IsWithin, StandsWithin}
-use Rattle.mau_session.specs.Terms.{Pairs, Reads, terms_in}
+use Rattle.mau_session.specs.Terms.{Pairs, terms_in}
 use Rattle.mau_session.specs.Bound.{id_tree}
 use Rattle.mau_session.proofs.Solving.{plain_norm_in}
 use Rattle.mau_session.specs.Transcript.{PatternReads, SubjectReads, too_deep, overflows, listed, BodyAnswer, item_faulty, item_answered, ItemsAnswer, item_first}
@@ -29,6 +30,11 @@ use Rattle.mau_session.specs.Answers.{substitution_lines, listing_lines, match_h
 pub refused_with : {E A : Type 0} (P : Bool → Type 0) (r : Result Bool E) → OnOk r A → IfOk r (λ b. b ≡ true) → (A → P true) → IfOk r P
 refused_with P (Ok b) a e f = subst P (sym e) (f a)
 refused_with P (Err e) a h f = tt
+
+-- so does the fault of a term
+pub unread_with : {E A B : Type 0} (P : Bool → Type 0) (r : Result Bool E) → OnOk r A → OnOk r B → IfOk r (λ b. b ≡ true) → (A → B → P true) → IfOk r P
+unread_with P (Ok b) a c e f = subst P (sym e) (f a c)
+unread_with P (Err e) a c h f = tt
 
 matcher_parts : (o a d n s l : List ℕ) → o ++ a ++ d ++ n ++ s ++ l ≡ o ++ (a ++ d ++ n ++ s ++ [] ++ l)
 matcher_parts o a d n s l = simp (append_assoc, append-nil)
@@ -80,38 +86,24 @@ module _ (ws : List Word) (ms : List ModuleOf) (k : ℕ) (item : RawItem) (i : �
   pub item_fails : (f : TextFault) (o n : List ℕ) → item.body ≡ Err f → n ≡ o ++ fault_answer k ws i f → GainsItem ws ms k item ms o n true
   item_fails f o n h g = record { bytes = _; answer = item_faulty f h; gained = g ∙ ap (λ i. o ++ fault_answer k ws i f) at }
 
--- ---- the terms of a command
-
--- the same words read as the same term
-pub reads_at : (m : ModuleOf) (ws : List Word) {vs : Pairs} {b b' e e' : ℕ} → b ≡ b' → e ≡ e' → {t : Tree} {kind : ℕ} {os : Pairs} → Reads m ws e vs b t kind e os → Reads m ws e' vs b' t kind e' os
-reads_at m ws {vs} {b} {b'} {e} {e'} f g {t} {kind} {os} h = subst (λ b. Reads m ws e' vs b t kind e' os) f (subst (λ e. Reads m ws e vs b t kind e os) g h)
-
--- where the words of some tokens begin and end
-module _ (ws : List Word) (ts first second : List Token) (b : ℕ) (at : b ≡ first_index ws first) (f : first ≡ ts) (g : second ≡ ts) where
-  pub begin_is : b ≡ first_index ws ts
-  begin_is = at ∙ ap (first_index ws) f
-
-  pub end_is : b + length second ≡ first_index ws ts + length ts
-  end_is = ap₂ (λ b n. b + n) begin_is (ap length g)
-
 -- ---- listings
 
 -- the answer of a match command whose pattern and subject are read
-pub gains_terms : (ws : List Word) (m : ModuleOf) (k : ℕ) (c : RawCommand) (p : Tree) (kind : ℕ) (ns : Pairs) (t : Tree) (os : Pairs) → PatternReads ws m c p kind ns → SubjectReads ws m c ns t kind os
-    → (o a n : List ℕ) → a ≡ o ++ match_head k m → GainsListed m os p t a n → GainsTerms ws m k c o n false
-gains_terms ws m k c p kind ns t os pattern subject o _ _ head (gains_solutions a n within listing) = record {
-  bytes = match_head k m ++ listing_lines m os p listing.found;
-  answer = listed p kind ns t os listing.found pattern subject within listing.listing;
-  gained = listing.gained ∙ ap (λ x. x ++ listing_lines m os p listing.found) head ∙ append_assoc o (match_head k m) (listing_lines m os p listing.found);
+pub gains_terms : (ws : List Word) (m : ModuleOf) (k : ℕ) (c : RawCommand) (p : Bare) (ns : Pairs) (t : Bare) (os : Pairs) → PatternReads ws m c p ns → SubjectReads ws m c p ns t os
+    → (o a n : List ℕ) → a ≡ o ++ match_head k m → GainsListed m os (tree_of p) (tree_of t) a n → GainsTerms ws m k c o n false
+gains_terms ws m k c p ns t os pattern subject o _ _ head (gains_solutions a n within listing) = record {
+  bytes = match_head k m ++ listing_lines m os (tree_of p) listing.found;
+  answer = listed p ns t os listing.found pattern subject within listing.listing;
+  gained = listing.gained ∙ ap (λ x. x ++ listing_lines m os (tree_of p) listing.found) head ∙ append_assoc o (match_head k m) (listing_lines m os (tree_of p) listing.found);
 }
-gains_terms ws m k c p kind ns t os pattern subject o _ _ head (gains_too_deep a n cause gained) = record {
+gains_terms ws m k c p ns t os pattern subject o _ _ head (gains_too_deep a n cause gained) = record {
   bytes = match_head k m ++ too_deep_line;
-  answer = too_deep p kind ns t os pattern subject cause;
+  answer = too_deep p ns t os pattern subject cause;
   gained = gained ∙ ap (λ x. x ++ too_deep_line) head ∙ append_assoc o (match_head k m) too_deep_line;
 }
-gains_terms ws m k c p kind ns t os pattern subject o _ _ head (gains_overflow a n cause gained) = record {
+gains_terms ws m k c p ns t os pattern subject o _ _ head (gains_overflow a n cause gained) = record {
   bytes = match_head k m ++ overflow_line;
-  answer = overflows p kind ns t os pattern subject cause;
+  answer = overflows p ns t os pattern subject cause;
   gained = gained ∙ ap (λ x. x ++ overflow_line) head ∙ append_assoc o (match_head k m) overflow_line;
 }
 

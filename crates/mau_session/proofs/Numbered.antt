@@ -1,15 +1,24 @@
 -- The variables of a pattern that was read are numbered in the order of their first occurrences.
-use Rattle.std.proofs.Common.{◌≡◌, ℕ, suc, ◌<◌, ◌≤◌, ◌+◌, List, [], ◌∷◌, ◌++◌, length, Bool, true, false, ◌&&◌, ◌||◌, not, nat_eq, if◌then◌else◌, cond, take, refl, sym, ◌∙◌, ap, ap₂, arith, eqb-true, eq-eqb, length-append, add-zero, bytes_eq}
+use Rattle.std.proofs.Common.{◌≡◌, ℕ, suc, ◌<◌, ◌≤◌, ◌+◌, List, [], ◌∷◌, ◌++◌, length, Bool, true, false, ◌&&◌, ◌||◌, not, nat_eq, if◌then◌else◌, cond, refl, sym, ◌∙◌, ap, ap₂, subst, arith, eqb-true, eq-eqb, length-append, add-zero, bytes_eq}
 use Rattle.std.specs.List.{list_any}
-use Rattle.mau_terms.specs.Tree.{Tree, Trees}
-use Rattle.mau_terms.specs.Subst.{same_variable, has_variable, add_variables, add_all_variables}
+use Rattle.std.proofs.lemmas.List.Sums.{fold-append}
+use Rattle.std.proofs.lemmas.Option.{get_or_from_slice_get}
+use Rattle.mau_terms.specs.Tree.{Tree, variable, numeral, apply, Trees, no_trees, tree}
+use Rattle.mau_terms.specs.Subst.{variables, same_variable, has_variable, add_variables, add_all_variables}
 use Rattle.mau_terms.specs.Vars.{same_pair, place_of, with_pair}
-use Rattle.mau_poset.specs.Order.{kind_of}
-use Rattle.mau_reader.specs.Modules.{ModuleOf}
-use Rattle.mau_modtext.specs.Word.{Word}
-use Rattle.mau_reader.specs.Words.{text_at}
-use Rattle.mau_session.specs.Terms.{Pairs, Reads, reads_constant, reads_application, reads_variable, reads_kind_variable, ReadsArgument, reads_argument, ReadsList, list_ends, list_goes_on}
+use Rattle.mau_terms.specs.View.{tree_of}
+use Rattle.mau_terms.specs.declared.bare.Bare.{Bare}
+use Rattle.mau_terms.proofs.Pairs.{same_pair_itself}
+use Rattle.mau_grammar.specs.Grammar.{GrammarOf}
+use Rattle.mau_grammar.specs.Leaves.{pairs_of}
+use Rattle.mau_parse.specs.declared.goals.Goal.{Goal}
+use Rattle.mau_parse.specs.Goal.{lowest, highest}
+use Rattle.mau_parse.specs.Parsed.{IsParsed}
+use Rattle.mau_parse.specs.Terms.{pair_at, pairs_in, all_pairs, added, renamed, all_renamed, AreGiven, AllGiven}
+use Rattle.mau_parse.proofs.Trees_given.{tree_given}
+use Rattle.mau_session.specs.Terms.{Pairs}
 use Rattle.mau_session.specs.Matching.{numbered_from}
+use Rattle.mau_session.proofs.Extending.{Extends, stays, twice, added_extends, kept_place}
 
 both : (a b : Bool) → (a && b) ≡ true → (a ≡ true) × (b ≡ true)
 both true b e = (refl, e)
@@ -94,19 +103,61 @@ variable_added ns x = by (list_any (same_pair x) ns) refl
         ∙ sym (numbered-end ns 0 x)
         ∙ ap (λ b. numbered_from 0 (if b then ns else ns ++ x ∷ [])) (sym e)
 
--- ---- readings
+-- ---- the term of a tree of tokens
 
-module _ (m : ModuleOf) (ws : List Word) (to : ℕ) where
+itself_there : (ns : Pairs) (x : List ℕ × ℕ) → list_any (same_pair x) (with_pair ns x) ≡ true
+itself_there ns x = by (list_any (same_pair x) ns) refl
+  where
+    end : (ns : Pairs) → list_any (same_pair x) (ns ++ x ∷ []) ≡ true
+    end [] = ap (λ b. b || false) (same_pair_itself x)
+    end (y ∷ ns) = ap (λ b. same_pair x y || b) (end ns) ∙ or-true (same_pair x y)
+      where
+        or-true : (b : Bool) → (b || true) ≡ true
+        or-true true = refl
+        or-true false = refl
+
+    by : (b : Bool) → list_any (same_pair x) ns ≡ b → list_any (same_pair x) (if list_any (same_pair x) ns then ns else ns ++ x ∷ []) ≡ true
+    by true e = ap (λ b. list_any (same_pair x) (if b then ns else ns ++ x ∷ [])) e ∙ e
+    by false e = ap (λ b. list_any (same_pair x) (if b then ns else ns ++ x ∷ [])) e ∙ end ns
+
+place_with : (ns : Pairs) (x : List ℕ × ℕ) → place_of (with_pair ns x) x ≡ place_of ns x
+place_with ns x = by (list_any (same_pair x) ns) refl
+  where
+    end : (ns : Pairs) → list_any (same_pair x) ns ≡ false → place_of (ns ++ x ∷ []) x ≡ length ns
+    end [] e = ap (λ b. cond (not b) 1 0) (same_pair_itself x)
+    end (y ∷ ns) e = go (same_pair x y) e (end ns)
+      where
+        go : (b : Bool) → (b || list_any (same_pair x) ns) ≡ false → (list_any (same_pair x) ns ≡ false → place_of (ns ++ x ∷ []) x ≡ length ns) → cond (not b) (1 + place_of (ns ++ x ∷ []) x) 0 ≡ suc (length ns)
+        go true e f = absurd cc
+        go false e f = omega (arith, f e)
+
+    by : (b : Bool) → list_any (same_pair x) ns ≡ b → place_of (if list_any (same_pair x) ns then ns else ns ++ x ∷ []) x ≡ place_of ns x
+    by true e = ap (λ b. place_of (if b then ns else ns ++ x ∷ []) x) e
+    by false e = ap (λ b. place_of (if b then ns else ns ++ x ∷ []) x) e ∙ end ns e ∙ sym (place_of-new ns x e)
+
+-- ps are the pairs of the tokens, and os those of the command in the end
+module _ (ps os : Pairs) where
   mutual
-    pub reads_numbered : {ns : Pairs} {i : ℕ} {t : Tree} {s j : ℕ} {ms : Pairs} → Reads m ws to ns i t s j ms → add_variables (numbered_from 0 ns) t ≡ numbered_from 0 ms
-    reads_numbered (reads_constant ns i f b e p) = refl
-    reads_numbered (reads_application ns i f k ks ts j ms b e p h o) = list_numbered h
-    reads_numbered (reads_variable ns i k s b e v) = variable_added ns (take k (text_at ws i), s)
-    reads_numbered (reads_kind_variable ns i k s e v) = variable_added ns (take k (text_at ws i), kind_of m.signature.hierarchy s)
+    pub tree_numbered : (ns : Pairs) (t : Tree) → AreGiven ps t → Extends (added ns (pairs_in ps t)) os → add_variables (numbered_from 0 ns) (renamed ps os t) ≡ numbered_from 0 (added ns (pairs_in ps t))
+    tree_numbered ns (variable i s) h e =
+        let x = pair_at ps i in
+        let f : x ≡ (h.0, s) = get_or_from_slice_get ps i (h.0, s) ([], 0) h.1 in
+        let k : place_of os x ≡ place_of ns x = kept_place (with_pair ns x) os x e (itself_there ns x) ∙ place_with ns x in
+        ap₂ (λ a b. if has_variable (numbered_from 0 ns) (a, b) then numbered_from 0 ns else numbered_from 0 ns ++ (a, b) ∷ []) k (sym (ap (λ y. y.1) f)) ∙ variable_added ns x
+    tree_numbered ns (numeral n) h e = refl
+    tree_numbered ns (apply f ts) h e = trees_numbered ns ts h e
 
-    list_numbered : {ns : Pairs} {w ss : List ℕ} {i : ℕ} {ts : Trees} {j : ℕ} {ms : Pairs} → ReadsList m ws to ns w ss i ts j ms → add_all_variables (numbered_from 0 ns) ts ≡ numbered_from 0 ms
-    list_numbered (list_ends ns w i) = refl
-    list_numbered (list_goes_on ns w s ss i t j ms ts l os a h) = ap (λ xs. add_all_variables xs ts) (argument_numbered a) ∙ list_numbered h
+    trees_numbered : (ns : Pairs) (ts : Trees) → AllGiven ps ts → Extends (added ns (all_pairs ps ts)) os → add_all_variables (numbered_from 0 ns) (all_renamed ps os ts) ≡ numbered_from 0 (added ns (all_pairs ps ts))
+    trees_numbered ns no_trees h e = refl
+    trees_numbered ns (tree t ts) h e =
+        let split : added ns (pairs_in ps t ++ all_pairs ps ts) ≡ added (added ns (pairs_in ps t)) (all_pairs ps ts) = fold-append with_pair ns (pairs_in ps t) (all_pairs ps ts) in
+        let rest = subst (λ x. Extends x os) split e in
+        ap (λ xs. add_all_variables xs (all_renamed ps os ts)) (tree_numbered ns t h.0 (twice (added_extends (added ns (pairs_in ps t)) (all_pairs ps ts)) rest))
+        ∙ trees_numbered (added ns (pairs_in ps t)) ts h.1 rest ∙ ap (numbered_from 0) (sym split)
 
-    argument_numbered : {ns : Pairs} {w : List ℕ} {s i : ℕ} {t : Tree} {j : ℕ} {ms : Pairs} → ReadsArgument m ws to ns w s i t j ms → add_variables (numbered_from 0 ns) t ≡ numbered_from 0 ms
-    argument_numbered (reads_argument ns w s i t j ms b e x) = reads_numbered x
+-- the variables of a term that is read first are numbered as they come
+pub read_numbered : (g : GrammarOf) (ws : List (List ℕ)) (goal : Goal) (os : Pairs) (b : Bare) → IsParsed g ws goal [] os b → variables (tree_of b) ≡ numbered_from 0 os
+read_numbered g ws goal os b h =
+    let ps = pairs_of g ws in
+    ap variables h.term.term ∙ tree_numbered ps os [] h.tree (tree_given g ws (lowest g goal) (highest g goal) h.tree h.only.tree) (subst (λ x. Extends x os) h.term.vars (stays os))
+    ∙ ap (numbered_from 0) (sym h.term.vars)

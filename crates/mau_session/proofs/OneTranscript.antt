@@ -1,9 +1,15 @@
 -- A text has one transcript.
-use Rattle.std.proofs.Common.{◌≡◌, ℕ, ◌+◌, ◌<◌, List, [], ◌∷◌, ◌++◌, Bool, ◌||◌, length, Some, None, Ok, refl, sym, ◌∙◌, ap, ap₂, subst, arith, slice_index_or}
+use Rattle.std.proofs.Common.{◌≡◌, ◌≢◌, ℕ, ◌+◌, ◌<◌, List, [], ◌∷◌, ◌++◌, Bool, ◌||◌, length, Some, None, Ok, refl, sym, ◌∙◌, ap, ap₂, subst, arith, slice_index_or}
 use Rattle.std.specs.Ordering.{ordering_reverse}
 use Rattle.std.specs.declared.cmp.Ordering.{Ordering}
 use Rattle.std.specs.declared.cmp.Ordering.TheVariants.{Less, Equal, Greater}
 use Rattle.mau_terms.specs.Tree.{Tree}
+use Rattle.mau_terms.specs.View.{tree_of}
+use Rattle.mau_terms.specs.declared.bare.Bare.{Bare}
+use Rattle.mau_parse.specs.declared.goals.Goal.{Goal}
+use Rattle.mau_parse.specs.declared.goals.Goal.TheVariants.{AnyKind, Kind}
+use Rattle.mau_parse.specs.declared.fault.ParseFault.{ParseFault}
+use Rattle.mau_parse.specs.declared.fault.ParseFault.TheVariants.{NoMemory as NoMemoryOfParse}
 use Rattle.mau_terms.specs.Norm.{norm}
 use Rattle.mau_terms.specs.Bare.{HasNoAxioms}
 use Rattle.mau_canon.specs.declared.fault.BuildFault.{BuildFault}
@@ -23,16 +29,17 @@ use Rattle.mau_modtext.specs.declared.raw.RawCommand.{RawCommand}
 use Rattle.mau_reader.specs.Words.{index_at}
 use Rattle.mau_reader.specs.Modules.{ModuleOf}
 use Rattle.mau_session.specs.declared.refusal.Refusal.TheVariants.{NotBuilt}
-use Rattle.mau_session.specs.Terms.{Pairs, terms_in, HasAxioms}
+use Rattle.mau_session.specs.Terms.{Pairs, terms_in, kind_of_term, HasAxioms}
+use Rattle.mau_session.specs.Reading.{part_tokens, part_texts, TermReads, IsUnread}
 use Rattle.mau_session.specs.Matching.{numbered_from, IsListing}
-use Rattle.mau_session.specs.Commands.{pattern_end, subject_end, unbuilt}
+use Rattle.mau_session.specs.Commands.{unbuilt}
 use Rattle.mau_session.specs.Built.{fault_answer}
-use Rattle.mau_session.specs.Answers.{refusal_line, module_refusal, fault_line, module_line, match_head, listing_lines}
-use Rattle.mau_session.specs.Transcript.{current, accepted, PatternReads, SubjectReads, TermsAnswer, no_pattern, no_subject, too_deep, overflows, listed, MatchAnswer, no_module, command_not_built, axioms_not_built, command_answered, BodyAnswer, module_not_built, module_accepted, module_refused, match_answered, other_not_built, setting_not_built, ItemAnswer, item_faulty, item_answered, ItemsAnswer, items_end, item_quits, item_first, Transcript, text_refused, items_answered}
+use Rattle.mau_session.specs.Answers.{refusal_line, faulty_line, shown_parse_fault, module_refusal, fault_line, module_line, match_head, listing_lines}
+use Rattle.mau_session.specs.Transcript.{current, accepted, PatternReads, SubjectReads, TermsAnswer, pattern_refused, subject_refused, too_deep, overflows, listed, MatchAnswer, no_module, command_not_built, axioms_not_built, command_answered, BodyAnswer, module_not_built, module_accepted, module_refused, match_answered, other_not_built, setting_not_built, ItemAnswer, item_faulty, item_answered, ItemsAnswer, items_end, item_quits, item_first, Transcript, text_refused, items_answered}
 use Rattle.mau_tokens.proofs.Answer.{answers_are_one}
 use Rattle.mau_terms.proofs.Solutions.{solutions_are_ordered}
-use Rattle.mau_session.proofs.Readings.{reads_once}
-use Rattle.mau_session.proofs.Numbered.{reads_numbered}
+use Rattle.mau_session.proofs.OneReading.{AreOneTerm, term_once, term_no_fault, fault_once}
+use Rattle.mau_session.proofs.Numbered.{read_numbered}
 use Rattle.mau_session.proofs.Solving.{solution_once}
 use Rattle.mau_session.proofs.Sorting.{axioms_or_none}
 use Rattle.mau_reader.proofs.OneModule.{yes_no, module_once}
@@ -74,34 +81,48 @@ one_answer : {b : List ℕ} {r : Bool} → AreOneAnswer b b r r
 one_answer = record { bytes = refl; refused = refl }
 
 -- what the terms of a command read as: a pattern and a subject
-record ReadTerms (ws : List Word) (m : ModuleOf) (c : RawCommand) (p t : Tree) (os : Pairs) : Type 0 where
-  kind : ℕ
+record ReadTerms (ws : List Word) (m : ModuleOf) (c : RawCommand) (p t : Bare) (os : Pairs) : Type 0 where
   pairs : Pairs
-  pattern : PatternReads ws m c p kind pairs
-  subject : SubjectReads ws m c pairs t kind os
+  pattern : PatternReads ws m c p pairs
+  subject : SubjectReads ws m c p pairs t os
 
 module _ (ws : List Word) (m : ModuleOf) (free : HasNoAxioms (terms_in m)) (k : ℕ) (c : RawCommand) where
+  pattern_once : (p q : Bare) (ns ns' : Pairs) → PatternReads ws m c p ns → PatternReads ws m c q ns' → AreOneTerm m.grammar (part_tokens ws c.first) (part_texts ws c.first) AnyKind [] ns ns' p q
+  pattern_once p q ns ns' x y = term_once m.grammar (part_tokens ws c.first) (part_texts ws c.first) AnyKind [] ns ns' p q x y
+
+  no_pattern_read : (f : ParseFault) → IsUnread ws m c.first AnyKind [] f → f ≢ NoMemoryOfParse → (p : Bare) (ns : Pairs) → PatternReads ws m c p ns → ⊥
+  no_pattern_read f x n p ns y = term_no_fault m.grammar (part_tokens ws c.first) (part_texts ws c.first) AnyKind [] ns p f y x n
+
+  -- where two patterns are one term, what is asked of the subject is one thing
+  abbrev goal_of : Tree → Goal
+  goal_of t = Kind (kind_of_term m t)
+
+  no_subject_read : (p : Bare) (ns : Pairs) (f : ParseFault) → PatternReads ws m c p ns → IsUnread ws m c.second (goal_of (tree_of p)) ns f → f ≢ NoMemoryOfParse
+      → {q t : Bare} {os : Pairs} → ReadTerms ws m c q t os → ⊥
+  no_subject_read p ns f x u n {q} {t} {os} y =
+      let one = pattern_once p q ns y.pairs x y.pattern in
+      let u' = subst (λ p. IsUnread ws m c.second (goal_of p) y.pairs f) one.tree (subst (λ ns. IsUnread ws m c.second (goal_of (tree_of p)) ns f) one.pairs u) in
+      term_no_fault m.grammar (part_tokens ws c.second) (part_texts ws c.second) (goal_of (tree_of q)) y.pairs os t f y.subject u' n
+
+  subject_fault_once : (p q : Bare) (ns ns' : Pairs) (e f : ParseFault) → PatternReads ws m c p ns → PatternReads ws m c q ns' → IsUnread ws m c.second (goal_of (tree_of p)) ns e
+      → IsUnread ws m c.second (goal_of (tree_of q)) ns' f → e ≢ NoMemoryOfParse → f ≢ NoMemoryOfParse → shown_parse_fault e ≡ shown_parse_fault f
+  subject_fault_once p q ns ns' e f x y u v n o =
+      let one = pattern_once p q ns ns' x y in
+      let u' = subst (λ p. IsUnread ws m c.second (goal_of p) ns' e) one.tree (subst (λ ns. IsUnread ws m c.second (goal_of (tree_of p)) ns e) one.pairs u) in
+      fault_once m.grammar (part_tokens ws c.second) (part_texts ws c.second) (goal_of (tree_of q)) ns' e f u' v n o
+
   -- they read as one pair
-  record AreOnePair (p q t u : Tree) (os os' : Pairs) : Type 0 where
-    pattern : p ≡ q
-    subject : t ≡ u
+  record AreOnePair (p q t u : Bare) (os os' : Pairs) : Type 0 where
+    pattern : tree_of p ≡ tree_of q
+    subject : tree_of t ≡ tree_of u
     pairs : os ≡ os'
 
-  pair_once : {p q t u : Tree} {os os' : Pairs} → ReadTerms ws m c p t os → ReadTerms ws m c q u os' → AreOnePair p q t u os os'
+  pair_once : {p q t u : Bare} {os os' : Pairs} → ReadTerms ws m c p t os → ReadTerms ws m c q u os' → AreOnePair p q t u os os'
   pair_once {p} {q} {t} {u} {os} {os'} x y =
-      let one = reads_once m ws (pattern_end ws c) x.pattern y.pattern in
-      let y' = subst (λ a. SubjectReads ws m c x.pairs u a os') (sym one.sort) (subst (λ ns. SubjectReads ws m c ns u y.kind os') (sym one.pairs) y.subject) in
-      let two = reads_once m ws (subject_end ws c) x.subject y' in
+      let one = pattern_once p q x.pairs y.pairs x.pattern y.pattern in
+      let y' = subst (λ p. TermReads ws m c.second (goal_of p) x.pairs os' u) (sym one.tree) (subst (λ ns. TermReads ws m c.second (goal_of (tree_of q)) ns os' u) (sym one.pairs) y.subject) in
+      let two = term_once m.grammar (part_tokens ws c.second) (part_texts ws c.second) (goal_of (tree_of p)) x.pairs os os' t u x.subject y' in
       record { pattern = one.tree; subject = two.tree; pairs = two.pairs }
-
-  no_pattern_read : ((p : Tree) (kind : ℕ) (ns : Pairs) → PatternReads ws m c p kind ns → ⊥) → {p t : Tree} {os : Pairs} → ReadTerms ws m c p t os → ⊥
-  no_pattern_read n {p} x = n p x.kind x.pairs x.pattern
-
-  no_subject_read : (p : Tree) (kind : ℕ) (ns : Pairs) → PatternReads ws m c p kind ns → ((t : Tree) (os : Pairs) → SubjectReads ws m c ns t kind os → ⊥)
-      → {q t : Tree} {os : Pairs} → ReadTerms ws m c q t os → ⊥
-  no_subject_read p kind ns x n {q} {t} {os} y =
-      let one = reads_once m ws (pattern_end ws c) x y.pattern in
-      n t os (subst (λ a. SubjectReads ws m c ns t a os) (sym one.sort) (subst (λ ns. SubjectReads ws m c ns t y.kind os) (sym one.pairs) y.subject))
 
   -- a subject has one end at most, and none where it is within the limits
   abbrev cause_of : Tree → BuildFault → Type 0
@@ -117,42 +138,36 @@ module _ (ws : List Word) (m : ModuleOf) (free : HasNoAxioms (terms_in m)) (k : 
   not_overflow_and_within t u e overflow within = let over' = subst (λ x. cause_of x Overflow) e overflow in let yes = over'.1 in let no = within.no_overflow in cc (yes, no)
 
   terms_once : {b d : List ℕ} {r q : Bool} → TermsAnswer ws m k c b r → TermsAnswer ws m k c d q → AreOneAnswer b d r q
-  terms_once (no_pattern n) (no_pattern n') = one_answer
-  terms_once (no_pattern n) (no_subject p' a' ns' x' n') = absurd (n p' a' ns' x')
-  terms_once (no_pattern n) (too_deep p' a' ns' t' os' x' y' d') = absurd (n p' a' ns' x')
-  terms_once (no_pattern n) (overflows p' a' ns' t' os' x' y' d') = absurd (n p' a' ns' x')
-  terms_once (no_pattern n) (listed p' a' ns' t' os' found' x' y' w' l') = absurd (n p' a' ns' x')
-  terms_once (no_subject p a ns x n) (no_pattern n') = absurd (n' p a ns x)
-  terms_once (no_subject p a ns x n) (no_subject p' a' ns' x' n') = one_answer
-  terms_once (no_subject p a ns x n) (too_deep p' a' ns' t' os' x' y' d') = absurd (no_subject_read p a ns x n (record { kind = a'; pairs = ns'; pattern = x'; subject = y' }))
-  terms_once (no_subject p a ns x n) (overflows p' a' ns' t' os' x' y' d') = absurd (no_subject_read p a ns x n (record { kind = a'; pairs = ns'; pattern = x'; subject = y' }))
-  terms_once (no_subject p a ns x n) (listed p' a' ns' t' os' found' x' y' w' l') = absurd (no_subject_read p a ns x n (record { kind = a'; pairs = ns'; pattern = x'; subject = y' }))
-  terms_once (too_deep p a ns t os x y d) (no_pattern n') = absurd (n' p a ns x)
-  terms_once (too_deep p a ns t os x y d) (no_subject p' a' ns' x' n') = absurd (no_subject_read p' a' ns' x' n' (record { kind = a; pairs = ns; pattern = x; subject = y }))
-  terms_once (too_deep p a ns t os x y d) (too_deep p' a' ns' t' os' x' y' d') = one_answer
-  terms_once (too_deep p a ns t os x y d) (overflows p' a' ns' t' os' x' y' d') =
-      let one = pair_once (record { kind = a; pairs = ns; pattern = x; subject = y }) (record { kind = a'; pairs = ns'; pattern = x'; subject = y' }) in absurd (not_deep_and_overflow t t' one.subject d d')
-  terms_once (too_deep p a ns t os x y d) (listed p' a' ns' t' os' found' x' y' w' l') =
-      let one = pair_once (record { kind = a; pairs = ns; pattern = x; subject = y }) (record { kind = a'; pairs = ns'; pattern = x'; subject = y' }) in absurd (not_deep_and_within t t' one.subject d w')
-  terms_once (overflows p a ns t os x y d) (no_pattern n') = absurd (n' p a ns x)
-  terms_once (overflows p a ns t os x y d) (no_subject p' a' ns' x' n') = absurd (no_subject_read p' a' ns' x' n' (record { kind = a; pairs = ns; pattern = x; subject = y }))
-  terms_once (overflows p a ns t os x y d) (too_deep p' a' ns' t' os' x' y' d') =
-      let one = pair_once (record { kind = a'; pairs = ns'; pattern = x'; subject = y' }) (record { kind = a; pairs = ns; pattern = x; subject = y }) in absurd (not_deep_and_overflow t' t one.subject d' d)
-  terms_once (overflows p a ns t os x y d) (overflows p' a' ns' t' os' x' y' d') = one_answer
-  terms_once (overflows p a ns t os x y d) (listed p' a' ns' t' os' found' x' y' w' l') =
-      let one = pair_once (record { kind = a; pairs = ns; pattern = x; subject = y }) (record { kind = a'; pairs = ns'; pattern = x'; subject = y' }) in absurd (not_overflow_and_within t t' one.subject d w')
-  terms_once (listed p a ns t os found x y w l) (no_pattern n') = absurd (n' p a ns x)
-  terms_once (listed p a ns t os found x y w l) (no_subject p' a' ns' x' n') = absurd (no_subject_read p' a' ns' x' n' (record { kind = a; pairs = ns; pattern = x; subject = y }))
-  terms_once (listed p a ns t os found x y w l) (too_deep p' a' ns' t' os' x' y' d') =
-      let one = pair_once (record { kind = a'; pairs = ns'; pattern = x'; subject = y' }) (record { kind = a; pairs = ns; pattern = x; subject = y }) in absurd (not_deep_and_within t' t one.subject d' w)
-  terms_once (listed p a ns t os found x y w l) (overflows p' a' ns' t' os' x' y' d') =
-      let one = pair_once (record { kind = a'; pairs = ns'; pattern = x'; subject = y' }) (record { kind = a; pairs = ns; pattern = x; subject = y }) in absurd (not_overflow_and_within t' t one.subject d' w)
-  terms_once (listed p a ns t os found x y w l) (listed p' a' ns' t' os' found' x' y' w' l') =
-      let one = pair_once (record { kind = a; pairs = ns; pattern = x; subject = y }) (record { kind = a'; pairs = ns'; pattern = x'; subject = y' }) in
-      let l'' = subst (λ p. IsListing m p t found') (sym one.pattern) (subst (λ t. IsListing m p' t found') (sym one.subject) l') in
-      let same = listing_once m free p t ns (reads_numbered m ws (pattern_end ws c) x) found found' l l'' in
+  terms_once (pattern_refused f u n) (pattern_refused f' u' n') = record { bytes = ap (faulty_line k) (fault_once m.grammar (part_tokens ws c.first) (part_texts ws c.first) AnyKind [] f f' u u' n n'); refused = refl }
+  terms_once (pattern_refused f u n) (subject_refused p' ns' f' x' u' n') = absurd (no_pattern_read f u n p' ns' x')
+  terms_once (pattern_refused f u n) (too_deep p' ns' t' os' x' y' d') = absurd (no_pattern_read f u n p' ns' x')
+  terms_once (pattern_refused f u n) (overflows p' ns' t' os' x' y' d') = absurd (no_pattern_read f u n p' ns' x')
+  terms_once (pattern_refused f u n) (listed p' ns' t' os' found' x' y' w' l') = absurd (no_pattern_read f u n p' ns' x')
+  terms_once (subject_refused p ns f x u n) (pattern_refused f' u' n') = absurd (no_pattern_read f' u' n' p ns x)
+  terms_once (subject_refused p ns f x u n) (subject_refused p' ns' f' x' u' n') = record { bytes = ap (faulty_line k) (subject_fault_once p p' ns ns' f f' x x' u u' n n'); refused = refl }
+  terms_once (subject_refused p ns f x u n) (too_deep p' ns' t' os' x' y' d') = absurd (no_subject_read p ns f x u n (record { pairs = ns'; pattern = x'; subject = y' }))
+  terms_once (subject_refused p ns f x u n) (overflows p' ns' t' os' x' y' d') = absurd (no_subject_read p ns f x u n (record { pairs = ns'; pattern = x'; subject = y' }))
+  terms_once (subject_refused p ns f x u n) (listed p' ns' t' os' found' x' y' w' l') = absurd (no_subject_read p ns f x u n (record { pairs = ns'; pattern = x'; subject = y' }))
+  terms_once (too_deep p ns t os x y d) (pattern_refused f' u' n') = absurd (no_pattern_read f' u' n' p ns x)
+  terms_once (too_deep p ns t os x y d) (subject_refused p' ns' f' x' u' n') = absurd (no_subject_read p' ns' f' x' u' n' (record { pairs = ns; pattern = x; subject = y }))
+  terms_once (too_deep p ns t os x y d) (too_deep p' ns' t' os' x' y' d') = one_answer
+  terms_once (too_deep p ns t os x y d) (overflows p' ns' t' os' x' y' d') = let one = pair_once (record { pairs = ns; pattern = x; subject = y }) (record { pairs = ns'; pattern = x'; subject = y' }) in absurd (not_deep_and_overflow (tree_of t) (tree_of t') one.subject d d')
+  terms_once (too_deep p ns t os x y d) (listed p' ns' t' os' found' x' y' w' l') = let one = pair_once (record { pairs = ns; pattern = x; subject = y }) (record { pairs = ns'; pattern = x'; subject = y' }) in absurd (not_deep_and_within (tree_of t) (tree_of t') one.subject d w')
+  terms_once (overflows p ns t os x y d) (pattern_refused f' u' n') = absurd (no_pattern_read f' u' n' p ns x)
+  terms_once (overflows p ns t os x y d) (subject_refused p' ns' f' x' u' n') = absurd (no_subject_read p' ns' f' x' u' n' (record { pairs = ns; pattern = x; subject = y }))
+  terms_once (overflows p ns t os x y d) (too_deep p' ns' t' os' x' y' d') = let one = pair_once (record { pairs = ns'; pattern = x'; subject = y' }) (record { pairs = ns; pattern = x; subject = y }) in absurd (not_deep_and_overflow (tree_of t') (tree_of t) one.subject d' d)
+  terms_once (overflows p ns t os x y d) (overflows p' ns' t' os' x' y' d') = one_answer
+  terms_once (overflows p ns t os x y d) (listed p' ns' t' os' found' x' y' w' l') = let one = pair_once (record { pairs = ns; pattern = x; subject = y }) (record { pairs = ns'; pattern = x'; subject = y' }) in absurd (not_overflow_and_within (tree_of t) (tree_of t') one.subject d w')
+  terms_once (listed p ns t os found x y w l) (pattern_refused f' u' n') = absurd (no_pattern_read f' u' n' p ns x)
+  terms_once (listed p ns t os found x y w l) (subject_refused p' ns' f' x' u' n') = absurd (no_subject_read p' ns' f' x' u' n' (record { pairs = ns; pattern = x; subject = y }))
+  terms_once (listed p ns t os found x y w l) (too_deep p' ns' t' os' x' y' d') = let one = pair_once (record { pairs = ns'; pattern = x'; subject = y' }) (record { pairs = ns; pattern = x; subject = y }) in absurd (not_deep_and_within (tree_of t') (tree_of t) one.subject d' w)
+  terms_once (listed p ns t os found x y w l) (overflows p' ns' t' os' x' y' d') = let one = pair_once (record { pairs = ns'; pattern = x'; subject = y' }) (record { pairs = ns; pattern = x; subject = y }) in absurd (not_overflow_and_within (tree_of t') (tree_of t) one.subject d' w)
+  terms_once (listed p ns t os found x y w l) (listed p' ns' t' os' found' x' y' w' l') = 
+      let one = pair_once (record { pairs = ns; pattern = x; subject = y }) (record { pairs = ns'; pattern = x'; subject = y' }) in
+      let l'' = subst (λ p. IsListing m p (tree_of t) found') (sym one.pattern) (subst (λ t. IsListing m (tree_of p') t found') (sym one.subject) l') in
+      let same = listing_once m free (tree_of p) (tree_of t) ns (read_numbered m.grammar (part_texts ws c.first) AnyKind ns p x) found found' l l'' in
       record {
-        bytes = ap (λ os. match_head k m ++ listing_lines m os p found) one.pairs ∙ ap₂ (λ p found. match_head k m ++ listing_lines m os' p found) one.pattern same;
+        bytes = ap (λ os. match_head k m ++ listing_lines m os (tree_of p) found) one.pairs ∙ ap₂ (λ p found. match_head k m ++ listing_lines m os' p found) one.pattern same;
         refused = refl;
       }
 

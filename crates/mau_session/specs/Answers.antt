@@ -7,13 +7,16 @@ use Rattle.mau_tokens.specs.declared.token.TokenFault.{TokenFault}
 use Rattle.mau_tokens.specs.declared.token.TokenFault.TheVariants.{NotUtf8, OpenComment, OpenString, TokenTooLong, NoMemory}
 use Rattle.mau_reader.specs.Modules.{ModuleOf, Why, leaves, faulty}
 use Rattle.mau_session.specs.declared.refusal.Refusal.{Refusal}
-use Rattle.mau_session.specs.declared.refusal.Refusal.TheVariants.{NotBuilt, NoParse}
+use Rattle.mau_session.specs.declared.refusal.Refusal.TheVariants.{NotBuilt}
 use Rattle.mau_modtext.specs.Word.{Word}
 use Rattle.mau_modtext.specs.declared.raw.TextFault.{TextFault}
 use Rattle.mau_modtext.specs.declared.raw.TextFault.TheVariants.{Unended, Unexpected, Unsupported}
 use Rattle.mau_reader.specs.Words.{text_at, place_at}
+use Rattle.mau_parse.specs.declared.fault.ParseFault.{ParseFault}
+use Rattle.mau_parse.specs.declared.fault.ParseFault.TheVariants.{NoParse, Ambiguous, TooManyTokens, NumberTooLarge, SuccessorTooLarge, NoMemory as NoMemoryOfParse}
 use Rattle.mau_session.specs.Terms.{Pairs, terms_in}
-use Rattle.mau_session.specs.Shown.{shown, shown_variable}
+use Rattle.mau_print.specs.Printed.{shown}
+use Rattle.mau_session.specs.Shown.{shown_variable, printer_in}
 
 -- each answer begins with the number of its item
 abbrev pub item_head : ℕ → List ℕ
@@ -23,7 +26,6 @@ item_head k = codes "[" ++ decimal k ++ codes "] "
 
 abbrev pub shown_refusal : List Word → Refusal → List ℕ
 shown_refusal ws (NotBuilt i) = codes "NotBuilt " ++ text_at ws i ++ codes " " ++ decimal (place_at ws i)
-shown_refusal ws (NoParse i) = codes "NoParse " ++ decimal (place_at ws i)
 
 abbrev pub refusal_line : ℕ → List Word → Refusal → List ℕ
 refusal_line k ws r = item_head k ++ codes "refused: " ++ shown_refusal ws r ++ codes "\n"
@@ -40,6 +42,18 @@ shown_text_fault (Unsupported name at) = codes "Unsupported " ++ name ++ codes "
 
 abbrev pub text_fault_line : ℕ → TextFault → List ℕ
 text_fault_line k f = faulty_line k (shown_text_fault f)
+
+-- why the tokens of a command are no term: the name of the fault, and its place or the number of tokens; want of memory has none
+abbrev pub shown_parse_fault : ParseFault → List ℕ
+shown_parse_fault (NoParse at) = codes "NoParse " ++ decimal at
+shown_parse_fault (Ambiguous at a b) = codes "Ambiguous " ++ decimal at
+shown_parse_fault (TooManyTokens n) = codes "TooManyTokens " ++ decimal n
+shown_parse_fault (NumberTooLarge at) = codes "NumberTooLarge " ++ decimal at
+shown_parse_fault (SuccessorTooLarge at) = codes "SuccessorTooLarge " ++ decimal at
+shown_parse_fault NoMemoryOfParse = []
+
+abbrev pub parse_fault_line : ℕ → ParseFault → List ℕ
+parse_fault_line k f = faulty_line k (shown_parse_fault f)
 
 -- a refused module: the word from which on it isn't built, or the text of what is at fault
 abbrev pub module_refusal : ℕ → List Word → Why → List ℕ
@@ -64,7 +78,7 @@ module_line k m = item_head k ++ codes "module " ++ m.name ++ codes "\n"
 
 -- a value is printed from its normal form
 abbrev pub value_line : ModuleOf → Pairs → Variable → Tree → List ℕ
-value_line m ns x v = shown_variable m ns x.0 x.1 ++ codes " --> " ++ shown m ns (norm (terms_in m).theory v) ++ codes "\n"
+value_line m ns x v = shown_variable m ns x.0 x.1 ++ codes " --> " ++ shown (printer_in m) ns (norm (terms_in m).theory v) ++ codes "\n"
 
 abbrev pub value_lines : ModuleOf → Pairs → List Variable → List Tree → List ℕ
 value_lines m ns (x ∷ xs) (v ∷ vs) = value_line m ns x v ++ value_lines m ns xs vs

@@ -1,6 +1,5 @@
 pub mod Terms
-pub mod ReadVariables
-pub mod Mark
+pub mod Reading
 pub mod Shown
 pub mod Matching
 pub mod Binding

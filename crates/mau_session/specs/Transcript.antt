@@ -1,7 +1,9 @@
 -- The transcript of a text: the answers of its items, one after another, each in the state after the items before.
-use Rattle.std.specs.Prelude.{◌≡◌, ℕ, ◌+◌, ◌-◌, List, [], ◌∷◌, ◌++◌, length, Bool, true, false, ◌||◌, not, Option, Some, None, Ok, Err, filter, slice_get}
+use Rattle.std.specs.Prelude.{◌≡◌, ◌≢◌, ℕ, ◌+◌, ◌-◌, List, [], ◌∷◌, ◌++◌, length, Bool, true, false, ◌||◌, not, Option, Some, None, Ok, Err, filter, slice_get}
 use Rattle.std.specs.Str.{bytes_eq}
 use Rattle.mau_terms.specs.Tree.{Tree}
+use Rattle.mau_terms.specs.View.{tree_of}
+use Rattle.mau_terms.specs.declared.bare.Bare.{Bare}
 use Rattle.mau_terms.specs.Norm.{norm}
 use Rattle.mau_terms.specs.Bare.{HasNoAxioms}
 use Rattle.mau_canon.specs.declared.fault.BuildFault.TheVariants.{TooDeep, Overflow}
@@ -19,14 +21,18 @@ use Rattle.mau_modtext.specs.declared.raw.RawModule.{RawModule}
 use Rattle.mau_modtext.specs.declared.raw.RawCommand.{RawCommand}
 use Rattle.mau_modtext.specs.declared.raw.Setting.{Setting}
 use Rattle.mau_modtext.specs.declared.raw.TextFault.{TextFault}
+use Rattle.mau_parse.specs.declared.goals.Goal.TheVariants.{AnyKind, Kind}
+use Rattle.mau_parse.specs.declared.fault.ParseFault.{ParseFault}
+use Rattle.mau_parse.specs.declared.fault.ParseFault.TheVariants.{NoMemory as NoMemoryOfParse}
 use Rattle.mau_reader.specs.Words.{index_at}
 use Rattle.mau_reader.specs.Modules.{ModuleOf, Why, ModuleRead}
-use Rattle.mau_session.specs.declared.refusal.Refusal.TheVariants.{NotBuilt, NoParse}
-use Rattle.mau_session.specs.Terms.{Pairs, Reads, terms_in, HasAxioms}
+use Rattle.mau_session.specs.declared.refusal.Refusal.TheVariants.{NotBuilt}
+use Rattle.mau_session.specs.Terms.{Pairs, terms_in, kind_of_term, HasAxioms}
+use Rattle.mau_session.specs.Reading.{TermReads, IsUnread}
 use Rattle.mau_session.specs.Matching.{IsListing}
-use Rattle.mau_session.specs.Commands.{pattern_begin, pattern_end, subject_begin, subject_end, unbuilt}
+use Rattle.mau_session.specs.Commands.{unbuilt}
 use Rattle.mau_session.specs.Built.{is_built_module, is_match, fault_answer}
-use Rattle.mau_session.specs.Answers.{refusal_line, fault_line, module_refusal, module_line, match_head, too_deep_line, overflow_line, listing_lines}
+use Rattle.mau_session.specs.Answers.{refusal_line, fault_line, parse_fault_line, module_refusal, module_line, match_head, too_deep_line, overflow_line, listing_lines}
 
 -- ---- the state: the accepted modules, one of each name, the last accepted one at the end
 
@@ -39,26 +45,27 @@ current ms = slice_get ms (length ms - 1)
 
 -- ---- the answer of a match command
 
--- the words of the pattern read as this term, in this kind and with these variables
-abbrev pub PatternReads : List Word → ModuleOf → RawCommand → Tree → ℕ → Pairs → Type 0
-PatternReads ws m c p kind ns = Reads m ws (pattern_end ws c) [] (pattern_begin ws c) p kind (pattern_end ws c) ns
+-- the pattern is this term, with these variables
+abbrev pub PatternReads : List Word → ModuleOf → RawCommand → Bare → Pairs → Type 0
+PatternReads ws m c p ns = TermReads ws m c.first AnyKind [] ns p
 
--- the words of the subject, which is read in the pattern's kind and behind its variables
-abbrev pub SubjectReads : List Word → ModuleOf → RawCommand → Pairs → Tree → ℕ → Pairs → Type 0
-SubjectReads ws m c ns t kind os = Reads m ws (subject_end ws c) ns (subject_begin ws c) t kind (subject_end ws c) os
+-- the subject, which is read in the pattern's kind and behind its variables
+abbrev pub SubjectReads : List Word → ModuleOf → RawCommand → Bare → Pairs → Bare → Pairs → Type 0
+SubjectReads ws m c p ns t os = TermReads ws m c.second (Kind (kind_of_term m (tree_of p))) ns os t
 
 -- The pattern is read in any kind, and the subject in the pattern's. A subject whose normal form is deeper than 1,000, or else holds
 -- the successor of the greatest numeral, has an end in place of solutions.
 pub data TermsAnswer (ws : List Word) (m : ModuleOf) (k : ℕ) (c : RawCommand) : List ℕ → Bool → Type 0 where
-  no_pattern : ((p : Tree) (kind : ℕ) (ns : Pairs) → PatternReads ws m c p kind ns → ⊥) → TermsAnswer ws m k c (refusal_line k ws (NoParse (pattern_begin ws c))) true
-  no_subject : (p : Tree) (kind : ℕ) (ns : Pairs) → PatternReads ws m c p kind ns
-      → ((t : Tree) (os : Pairs) → SubjectReads ws m c ns t kind os → ⊥) → TermsAnswer ws m k c (refusal_line k ws (NoParse (subject_begin ws c))) true
-  too_deep : (p : Tree) (kind : ℕ) (ns : Pairs) (t : Tree) (os : Pairs) → PatternReads ws m c p kind ns → SubjectReads ws m c ns t kind os
-      → IsCause (terms_in m).theory (norm (terms_in m).theory t) TooDeep → TermsAnswer ws m k c (match_head k m ++ too_deep_line) false
-  overflows : (p : Tree) (kind : ℕ) (ns : Pairs) (t : Tree) (os : Pairs) → PatternReads ws m c p kind ns → SubjectReads ws m c ns t kind os
-      → IsCause (terms_in m).theory (norm (terms_in m).theory t) Overflow → TermsAnswer ws m k c (match_head k m ++ overflow_line) false
-  listed : (p : Tree) (kind : ℕ) (ns : Pairs) (t : Tree) (os : Pairs) (found : List (List Tree)) → PatternReads ws m c p kind ns → SubjectReads ws m c ns t kind os
-      → IsWithin (terms_in m).theory (norm (terms_in m).theory t) → IsListing m p t found → TermsAnswer ws m k c (match_head k m ++ listing_lines m os p found) false
+  pattern_refused : (f : ParseFault) → IsUnread ws m c.first AnyKind [] f → f ≢ NoMemoryOfParse → TermsAnswer ws m k c (parse_fault_line k f) true
+  subject_refused : (p : Bare) (ns : Pairs) (f : ParseFault) → PatternReads ws m c p ns → IsUnread ws m c.second (Kind (kind_of_term m (tree_of p))) ns f
+      → f ≢ NoMemoryOfParse → TermsAnswer ws m k c (parse_fault_line k f) true
+  too_deep : (p : Bare) (ns : Pairs) (t : Bare) (os : Pairs) → PatternReads ws m c p ns → SubjectReads ws m c p ns t os
+      → IsCause (terms_in m).theory (norm (terms_in m).theory (tree_of t)) TooDeep → TermsAnswer ws m k c (match_head k m ++ too_deep_line) false
+  overflows : (p : Bare) (ns : Pairs) (t : Bare) (os : Pairs) → PatternReads ws m c p ns → SubjectReads ws m c p ns t os
+      → IsCause (terms_in m).theory (norm (terms_in m).theory (tree_of t)) Overflow → TermsAnswer ws m k c (match_head k m ++ overflow_line) false
+  listed : (p : Bare) (ns : Pairs) (t : Bare) (os : Pairs) (found : List (List Tree)) → PatternReads ws m c p ns → SubjectReads ws m c p ns t os
+      → IsWithin (terms_in m).theory (norm (terms_in m).theory (tree_of t)) → IsListing m (tree_of p) (tree_of t) found
+      → TermsAnswer ws m k c (match_head k m ++ listing_lines m os (tree_of p) found) false
 
 -- the match command begins at the word i
 pub data MatchAnswer (ws : List Word) (ms : List ModuleOf) (k i : ℕ) (c : RawCommand) : List ℕ → Bool → Type 0 where

@@ -1,26 +1,30 @@
 //! The answers of items.
-ghost use Rattle.std.specs.Prelude.{◌≡◌, ◌≢◌, ◌<◌, ◌≤◌, ◌++◌, [], length, take, true, OnOk, Ok, IfOk};
+ghost use Rattle.std.specs.Prelude.{◌≡◌, ◌≢◌, ◌<◌, ◌≤◌, ◌++◌, [], length, take, true, false, OnOk, Ok, IfOk};
 ghost use Rattle.mau_terms.specs.Bare.{HasNoAxioms, IsBare};
 ghost use Rattle.mau_terms.specs.Subst.{variables};
 ghost use Rattle.mau_terms.specs.View.{tree_of};
-ghost use Rattle.mau_reader.specs.Kept.{AreNamed};
 ghost use Rattle.mau_session.specs.Terms.{terms_in};
 ghost use Rattle.mau_session.specs.Matching.{numbered_from};
 ghost use Rattle.mau_modtext.specs.declared.raw.RawBody.TheVariants as RawBody;
-ghost use Rattle.mau_session.specs.Answers.{module_line, match_head, refusal_line};
+ghost use Rattle.mau_session.specs.Answers.{module_line, match_head, refusal_line, parse_fault_line};
+ghost use Rattle.mau_session.specs.Commands.{is_empty};
+ghost use Rattle.mau_session.specs.Reading.{IsBareOf};
 ghost use Rattle.mau_session.specs.Built.{fault_answer};
-ghost use Rattle.mau_session.specs.Transcript.{ItemsAnswer};
+ghost use Rattle.mau_session.specs.Transcript.{ItemsAnswer, PatternReads};
 ghost use Rattle.mau_session.specs.Gains.{GainsListed, GainsTerms, GainsMatch, GainsBody, GainsItem};
 
 use crate::built::{begins_unbuilt, is_built_module, is_match, is_unended, quits};
 use crate::command::unbuilt;
 use crate::listing::write_listing;
-use crate::refusal::{Refusal, write_faulty, write_head, write_refusal, write_text_fault};
+use crate::reading::{kind_of_term, read_term};
+use crate::refusal::{
+    Refusal, write_faulty, write_head, write_refusal, write_text_fault, write_unread,
+};
 use crate::sorts::has_axioms;
 use crate::state::State;
-use crate::whole::{read_whole, read_whole_of};
 use mau_canon::{BuildFault, build_bare};
 use mau_modtext::{RawBody, RawCommand, RawItem, RawModule, TextFault};
+use mau_parse::{Goal, ParseFault};
 use mau_reader::{Module, ModuleFault, Words, read_module, write_text};
 use mau_store::Store;
 use mau_terms::{Bare, NoMemory, Vars};
@@ -88,6 +92,47 @@ fn answer_listing(
     Ok(())
 }
 
+/// Writes why tokens are no term, and says that the item was refused.
+fn refuse_term(out: &mut Vec<u8>, number: usize, fault: &ParseFault) -> Result<bool, NoMemory>
+    ensures bytes { OnOk result (out.new.items ≡ out.old.items ++ parse_fault_line number fault.now) }
+    ensures refused { IfOk result (λ refused. refused ≡ true) }
+    ensures named { OnOk result (fault.now ≢ ParseFault.NoMemory) }
+{
+    write_unread(out, number, fault)?;
+    Ok(true)
+}
+
+/// Answers a match command over a module, whose pattern was read. Says whether it was refused.
+fn answer_subject(
+    out: &mut Vec<u8>,
+    alloc: Global,
+    words: &Words,
+    module: &Module,
+    number: usize,
+    command: &RawCommand,
+    vars: &mut Vars,
+    pattern: &Bare,
+) -> Result<bool, NoMemory>
+    requires few { length words.now ≤ 16777216 }
+    requires room { length vars.old ≤ 16777216 }
+    requires subject { is_empty words.now command.now.second ≡ false }
+    requires free { HasNoAxioms (terms_in module.now) }
+    requires pattern { PatternReads words.now module.now command.now pattern.now vars.old }
+    requires bare { IsBareOf module.now Goal.AnyKind pattern.now }
+    ensures { IfOk result (λ refused. GainsTerms words.now module.now number command.now out.old.items out.new.items refused) }
+{
+    let count = vars.len();
+    let goal = Goal::Kind(kind_of_term(module, pattern));
+    match read_term(alloc, words, module, vars, goal, command.second.items()) {
+        Err(fault) => refuse_term(out, number, &fault),
+        Ok(subject) => {
+            write_match_head(out, number, module)?;
+            answer_listing(out, alloc, module, vars, count, pattern, &subject)?;
+            Ok(false)
+        }
+    }
+}
+
 /// Answers a match command over a module. Says whether it was refused.
 fn answer_terms(
     out: &mut Vec<u8>,
@@ -98,30 +143,17 @@ fn answer_terms(
     command: &RawCommand,
 ) -> Result<bool, NoMemory>
     requires few { length words.now ≤ 16777216 }
-    requires pattern { length command.now.first ≤ 1000 }
-    requires subject { length command.now.second ≤ 1000 }
-    requires named { AreNamed module.now }
+    requires pattern { is_empty words.now command.now.first ≡ false }
+    requires subject { is_empty words.now command.now.second ≡ false }
     requires free { HasNoAxioms (terms_in module.now) }
     ensures { IfOk result (λ refused. GainsTerms words.now module.now number command.now out.old.items out.new.items refused) }
 {
     let mut vars = Vars::new(alloc);
-    let begin = words.first_index(command.first.items());
-    let end = begin + command.first.items().len();
-    match read_whole(alloc, module, words, end, &mut vars, begin)? {
-        None => refuse(out, words, number, Refusal::NoParse(begin)),
-        Some((pattern, kind)) => {
-            let count = vars.len();
-            let from = words.first_index(command.second.items());
-            let to = from + command.second.items().len();
-            match read_whole_of(alloc, module, words, to, &mut vars, from, kind)? {
-                None => refuse(out, words, number, Refusal::NoParse(from)),
-                Some(subject) => {
-                    write_match_head(out, number, module)?;
-                    answer_listing(out, alloc, module, &vars, count, &pattern, &subject)?;
-                    Ok(false)
-                }
-            }
-        }
+    match read_term(alloc, words, module, &mut vars, Goal::AnyKind, command.first.items()) {
+        Err(fault) => refuse_term(out, number, &fault),
+        Ok(pattern) => answer_subject(
+            out, alloc, words, module, number, command, &mut vars, &pattern,
+        ),
     }
 }
 

@@ -8,15 +8,14 @@ pub mod laws;
 mod listing;
 mod matching;
 mod meaning;
+mod reading;
 mod refusal;
 mod show;
 mod sorts;
 mod state;
-mod terms;
 #[cfg(test)]
 mod tests;
 mod top;
 mod transcript;
-mod whole;
 
 pub use top::{Status, run};

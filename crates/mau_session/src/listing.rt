@@ -10,9 +10,11 @@ ghost use Rattle.mau_session.specs.Matching.{numbered_from};
 ghost use Rattle.mau_session.specs.Bound.{id_tree, id_trees};
 ghost use Rattle.mau_session.specs.Answers.{value_line, value_lines, substitution_lines};
 ghost use Rattle.mau_session.specs.Gains.{GainsListing};
+ghost use Rattle.mau_session.specs.Shown.{printer_in};
 
 use crate::matching::solve;
-use crate::show::{show, write_variable};
+use crate::show::{printer_of, write_term, write_variable};
+use mau_print::Printer;
 use mau_reader::{Module, write_number, write_text};
 use mau_store::Store;
 use mau_terms::{Bare, NoMemory, TermId, VarId, Vars};
@@ -21,19 +23,22 @@ use std::alloc::Global;
 /// Writes the line of a variable and its value.
 fn write_value(
     out: &mut Vec<u8>,
+    alloc: Global,
     module: &Module,
+    printer: &Printer,
     vars: &Vars,
     variable: VarId,
     store: &Store,
     value: TermId,
 ) -> Result<(), NoMemory>
+    requires printer { printer.now ≡ printer_in module.now }
     requires there { IsOf store.now value.0 }
     requires free { HasNoAxioms (terms_in module.now) }
     ensures { OnOk result (out.new.items ≡ out.old.items ++ value_line module.now vars.now (variable.index, variable.sort) (id_tree store.now value)) }
 {
     write_variable(out, module, vars, variable)?;
     write_text(out, " --> ")?;
-    show(out, module, vars, store, value)?;
+    write_term(out, alloc, printer, vars, store, value)?;
     write_text(out, "\n")?;
     Ok(())
 }
@@ -41,6 +46,35 @@ fn write_value(
 /// Writes a line for each of these values, which are those of the first variables.
 fn write_values(
     out: &mut Vec<u8>,
+    alloc: Global,
+    module: &Module,
+    printer: &Printer,
+    vars: &Vars,
+    store: &Store,
+    values: &[TermId],
+) -> Result<(), NoMemory>
+    requires printer { printer.now ≡ printer_in module.now }
+    requires few { length values.now ≤ length vars.now }
+    requires there { AreOf store.now (numbers values.now) }
+    requires small { length vars.now < 4294967296 }
+    requires free { HasNoAxioms (terms_in module.now) }
+    ensures { OnOk result (out.new.items ≡ out.old.items ++ value_lines module.now vars.now (numbered_from 0 (take (length values.now) vars.now)) (id_trees store.now values.now)) }
+{
+    for i in 0..values.len() {
+        match vars.variable(i as u32) {
+            Some(variable) => {
+                write_value(out, alloc, module, printer, vars, variable, store, values[i])?
+            }
+            None => unreachable!(),
+        }
+    }
+    Ok(())
+}
+
+/// Writes a line for each of these values, as the module prints them.
+fn write_bindings(
+    out: &mut Vec<u8>,
+    alloc: Global,
     module: &Module,
     vars: &Vars,
     store: &Store,
@@ -52,18 +86,14 @@ fn write_values(
     requires free { HasNoAxioms (terms_in module.now) }
     ensures { OnOk result (out.new.items ≡ out.old.items ++ value_lines module.now vars.now (numbered_from 0 (take (length values.now) vars.now)) (id_trees store.now values.now)) }
 {
-    for i in 0..values.len() {
-        match vars.variable(i as u32) {
-            Some(variable) => write_value(out, module, vars, variable, store, values[i])?,
-            None => unreachable!(),
-        }
-    }
-    Ok(())
+    let printer = printer_of(alloc, module)?;
+    write_values(out, alloc, module, &printer, vars, store, values)
 }
 
 /// Writes a substitution, which gives these values to the first variables.
 fn write_substitution(
     out: &mut Vec<u8>,
+    alloc: Global,
     module: &Module,
     vars: &Vars,
     store: &Store,
@@ -78,7 +108,7 @@ fn write_substitution(
     if values.is_empty() {
         return write_text(out, "empty substitution\n");
     }
-    write_values(out, module, vars, store, values)
+    write_bindings(out, alloc, module, vars, store, values)
 }
 
 /// Writes the line above a solution.
@@ -114,7 +144,7 @@ pub fn write_listing(
         None => write_text(out, "No match.\n"),
         Some(values) => {
             write_matcher(out, 1)?;
-            write_substitution(out, module, vars, store, &values)?;
+            write_substitution(out, alloc, module, vars, store, &values)?;
             write_text(out, "No more matches.\n")
         }
     }

@@ -1,9 +1,10 @@
 //! Why an item is refused.
-ghost use Rattle.std.specs.Prelude.{◌≡◌, ◌++◌, codes, decimal, OnOk};
+ghost use Rattle.std.specs.Prelude.{◌≡◌, ◌≢◌, ◌++◌, codes, decimal, OnOk};
 ghost use Rattle.mau_reader.specs.Words.{place_at};
-ghost use Rattle.mau_session.specs.Answers.{item_head, refusal_line, faulty_line, shown_text_fault, text_fault_line, fault_line};
+ghost use Rattle.mau_session.specs.Answers.{item_head, refusal_line, faulty_line, shown_text_fault, text_fault_line, fault_line, shown_parse_fault, parse_fault_line};
 
 use mau_modtext::TextFault;
+use mau_parse::ParseFault;
 use mau_reader::{Words, write_number, write_text};
 use mau_terms::NoMemory;
 use mau_tokens::TokenFault;
@@ -13,8 +14,6 @@ use mau_tokens::TokenFault;
 pub enum Refusal {
     /// What is built so far ends before the word.
     NotBuilt(usize),
-    /// The term that begins there has no tree.
-    NoParse(usize),
 }
 
 impl Refusal {
@@ -25,14 +24,10 @@ impl Refusal {
     fn write(self, out: &mut Vec<u8>, words: &Words) -> Result<(), NoMemory>
         ensures { OnOk result (out.new.items ≡ out.old.items ++ shown_refusal words.now self) }
     {
-        match self {
-            Refusal::NoParse(word) => write_place(out, "NoParse ", words, word),
-            Refusal::NotBuilt(word) => {
-                write_text(out, "NotBuilt ")?;
-                write_text(out, words.text(word))?;
-                write_place(out, " ", words, word)
-            }
-        }
+        let Refusal::NotBuilt(word) = self;
+        write_text(out, "NotBuilt ")?;
+        write_text(out, words.text(word))?;
+        write_place(out, " ", words, word)
     }
 }
 
@@ -75,6 +70,32 @@ pub fn write_faulty(out: &mut Vec<u8>, number: usize, text: &[u8]) -> Result<(),
     write_head(out, number)?;
     write_text(out, "refused: ")?;
     out.extend_from_slice(text)?;
+    write_text(out, "\n")
+}
+
+/// Writes why tokens are no term.
+fn write_parse_fault(out: &mut Vec<u8>, fault: &ParseFault) -> Result<(), NoMemory>
+    ensures ok { OnOk result (out.new.items ≡ out.old.items ++ shown_parse_fault fault.now) }
+    ensures named { OnOk result (fault.now ≢ ParseFault.NoMemory) }
+{
+    match fault {
+        ParseFault::NoParse(at) => write_at(out, "NoParse ", *at),
+        ParseFault::Ambiguous(at, _, _) => write_at(out, "Ambiguous ", *at),
+        ParseFault::TooManyTokens(count) => write_count(out, "TooManyTokens ", *count),
+        ParseFault::NumberTooLarge(at) => write_at(out, "NumberTooLarge ", *at),
+        ParseFault::SuccessorTooLarge(at) => write_at(out, "SuccessorTooLarge ", *at),
+        ParseFault::NoMemory => Err(NoMemory),
+    }
+}
+
+/// Writes the answer of a command of which a term's tokens are none.
+pub fn write_unread(out: &mut Vec<u8>, number: usize, fault: &ParseFault) -> Result<(), NoMemory>
+    ensures ok { OnOk result (out.new.items ≡ out.old.items ++ parse_fault_line number fault.now) }
+    ensures named { OnOk result (fault.now ≢ ParseFault.NoMemory) }
+{
+    write_head(out, number)?;
+    write_text(out, "refused: ")?;
+    write_parse_fault(out, fault)?;
     write_text(out, "\n")
 }
 
@@ -124,4 +145,12 @@ fn write_at(out: &mut Vec<u8>, text: &str, at: u32) -> Result<(), NoMemory>
 {
     write_text(out, text)?;
     write_number(out, u128::from(at))
+}
+
+/// Writes a text and a count.
+fn write_count(out: &mut Vec<u8>, text: &str, count: usize) -> Result<(), NoMemory>
+    ensures { OnOk result (out.new.items ≡ out.old.items ++ text.now ++ decimal count) }
+{
+    write_text(out, text)?;
+    write_number(out, count as u128)
 }

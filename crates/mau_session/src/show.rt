@@ -1,15 +1,15 @@
-//! Printing terms.
-ghost use Rattle.std.specs.Prelude.{◌≡◌, ◌++◌, OnOk};
-ghost use Rattle.mau_terms.specs.Tree.{trees_of};
-ghost use Rattle.mau_store.specs.Node.{IsOf, AreOf};
+//! Printing variables and terms.
+ghost use Rattle.std.specs.Prelude.{◌≡◌, ◌++◌, IfOk, OnOk};
+ghost use Rattle.mau_store.specs.Node.{IsOf};
 ghost use Rattle.mau_store.specs.Trees.{tree_at};
-ghost use Rattle.mau_store.specs.View.{numbers};
-ghost use Rattle.mau_session.specs.Bound.{id_trees};
-ghost use Rattle.mau_session.specs.Shown.{variable_name, shown_variable, shown, shown_arguments};
+ghost use Rattle.mau_print.specs.Printed.{shown};
+ghost use Rattle.mau_session.specs.Shown.{variable_name, shown_variable, printer_in};
 
-use mau_reader::{Module, write_number, write_text};
-use mau_store::{NodeView, Store};
+use mau_print::{Printer, show};
+use mau_reader::{Module, write_text};
+use mau_store::Store;
 use mau_terms::{NoMemory, TermId, VarId, Vars};
+use std::alloc::Global;
 
 /// Writes the name of a variable.
 fn write_variable_name(out: &mut Vec<u8>, vars: &Vars, variable: VarId) -> Result<(), NoMemory>
@@ -35,51 +35,27 @@ pub fn write_variable(
     module.write_sort(out, variable.sort)
 }
 
+/// What prints the terms of a module.
+pub fn printer_of(alloc: Global, module: &Module) -> Result<Printer, NoMemory>
+    ensures { IfOk result (λ printer. printer ≡ printer_in module.now) }
+{
+    let kinds = module.kind_names(alloc)?;
+    let printer = Printer::of(alloc, module.signature(), module.grammar(), &kinds)?;
+    Ok(printer)
+}
+
 /// Writes a term, which is a normal form of the store.
-#[cycle(show)]
-pub fn show(
+pub fn write_term(
     out: &mut Vec<u8>,
-    module: &Module,
+    alloc: Global,
+    printer: &Printer,
     vars: &Vars,
     store: &Store,
     id: TermId,
 ) -> Result<(), NoMemory>
     requires { IsOf store.now id.0 }
-    ensures { OnOk result (out.new.items ≡ out.old.items ++ shown module.now vars.now (tree_at store.now id.0)) }
+    ensures { OnOk result (out.new.items ≡ out.old.items ++ shown printer.now vars.now (tree_at store.now id.0)) }
 {
-    match store.view(id) {
-        NodeView::Var(variable) => write_variable(out, module, vars, variable)?,
-        NodeView::Num(number) => write_number(out, number)?,
-        NodeView::App(operator, arguments) => {
-            module.write_operator(out, operator)?;
-            show_arguments(out, module, vars, store, arguments)?;
-        }
-    }
-    Ok(())
-}
-
-/// Writes the arguments of an application.
-#[cycle(show)]
-fn show_arguments(
-    out: &mut Vec<u8>,
-    module: &Module,
-    vars: &Vars,
-    store: &Store,
-    arguments: &[TermId],
-) -> Result<(), NoMemory>
-    requires { AreOf store.now (numbers arguments.now) }
-    ensures { OnOk result (out.new.items ≡ out.old.items ++ shown_arguments module.now vars.now (trees_of (id_trees store.now arguments.now))) }
-{
-    match arguments {
-        [] => Ok(()),
-        [first, rest @ ..] => {
-            write_text(out, "(")?;
-            show(out, module, vars, store, *first)?;
-            for argument in rest {
-                write_text(out, ", ")?;
-                show(out, module, vars, store, *argument)?;
-            }
-            write_text(out, ")")
-        }
-    }
+    let text = show(alloc, printer, vars, store, id)?;
+    write_text(out, text.as_str())
 }

@@ -3,6 +3,7 @@ use mau_bytes::{MemorySink, MemorySource};
 use mau_formula::HookTable;
 use mau_terms::Text;
 use std::alloc::Global;
+use std::process::Abort;
 use std::test::Fail;
 
 const F: &str = "fmod F is sorts S T . ops a b : -> S . op f : S S -> T . endfm\n";
@@ -71,8 +72,20 @@ fn answers_matches_over_a_module(rt: HostRuntime) -> Result<(), Fail> {
 fn refuses_by_name_and_place(rt: HostRuntime) -> Result<(), Fail> {
     let rows = [
         (
-            "fmod G is sort S . op a : -> S [prec 1] . endfm",
-            "[1] refused: NotBuilt prec 32\n",
+            "fmod G is sort S . op a : -> S [strat (0)] . endfm",
+            "[1] refused: NotBuilt strat 32\n",
+        ),
+        (
+            "fmod G is sort S . op _+_ : S S -> S [prec 1 prec 2] . endfm",
+            "[1] refused: NotBuilt prec 45\n",
+        ),
+        (
+            "fmod G is sort S . op -_ : S -> S [gather (E) gather (e)] . endfm",
+            "[1] refused: NotBuilt gather 46\n",
+        ),
+        (
+            "fmod G is sort S . op a : -> S [prec 128] . endfm",
+            "[1] refused: Unexpected 37\n",
         ),
         (
             "fmod G is sort S . op f : S S -> S [id: idem] . endfm",
@@ -82,10 +95,6 @@ fn refuses_by_name_and_place(rt: HostRuntime) -> Result<(), Fail> {
             "fmod I is sort S . op f : S S -> S [idem] . endfm",
             "[1] refused: Unsupported idem 36\n",
         ),
-        (
-            "fmod G is sort S . op a : -> S . op a : S -> S . endfm",
-            "[1] refused: NotBuilt a 36\n",
-        ),
         ("fmod A is sort S .", "[1] refused: Unended 0\n"),
         ("match a <=? a .", "[1] refused: NotBuilt match 0\n"),
         (
@@ -93,8 +102,12 @@ fn refuses_by_name_and_place(rt: HostRuntime) -> Result<(), Fail> {
             "[1] refused: NotBuilt T 20\n",
         ),
         (
-            "fmod A is sort S . op a b : -> S . endfm",
-            "[1] refused: NotBuilt b 24\n",
+            "fmod A is sort S . op ***a : -> S . endfm",
+            "[1] refused: Unended 0\n",
+        ),
+        (
+            "fmod A is sort S . op f_---g : S -> S . endfm",
+            "[1] refused: Unexpected 22\n",
         ),
         (
             "fmod A is sort S . op a : -> S endfm",
@@ -105,16 +118,16 @@ fn refuses_by_name_and_place(rt: HostRuntime) -> Result<(), Fail> {
             "[1] refused: NotBuilt protecting 10\n",
         ),
         (
-            "fmod A is sort S . var X : S . endfm",
-            "[1] refused: NotBuilt var 19\n",
+            "fmod A is sort S . vars X Y : T . endfm",
+            "[1] refused: NotBuilt T 30\n",
+        ),
+        (
+            "fmod A is sort S . var HOLE : S . endfm",
+            "[1] refused: Unexpected 23\n",
         ),
         (
             "mod A is sort S . ops a b : -> S . rl a => b . endm",
             "[1] refused: NotBuilt rl 35\n",
-        ),
-        (
-            "fmod A is sort S . ops a ( b c ) : -> S . endfm",
-            "[1] refused: NotBuilt c 29\n",
         ),
         ("foo .", "[1] refused: Unexpected 0\n"),
         ("foo", "[1] refused: Unended 0\n"),
@@ -169,6 +182,9 @@ fn accepts_modules_with_sorts_and_attributes(rt: HostRuntime) -> Result<(), Fail
         "mod G is sort S . op a : -> S . endm",
         "fmod G is sorts A B C . subsorts A < B C . op f : [A] A ~> B [comm memo] . op e : -> A [ctor] . op g : B B -> B [assoc comm id: e] . endfm",
         "fmod G is sorts A B . subsort A < B . op f : A -> A . op f : B -> B . endfm",
+        "fmod G is sort S . op a : -> S . op a : S -> S . op a b : -> S . ops c ( d e ) : -> S . endfm",
+        "fmod G is sort S . op _ : S -> S . op __ : S S -> S . op f_ : S -> S [prec 127 gather (&)] . endfm",
+        "fmod G is sorts S T . vars X Y : S . var X : [T] . endfm",
     ];
     for text in rows {
         let (bytes, status) = answer(rt.alloc(), &["run"], text)?;
@@ -208,6 +224,13 @@ fn refuses_modules_at_fault(rt: HostRuntime) -> Result<(), Fail> {
             "sort A . ops b f : A A A A A A A A A A A A A A A A A -> A .",
             "Arity b",
         ),
+        ("sort A . op a : -> A . op _+_ : A -> A .", "Arity _+_"),
+        ("sort A . op `[_`] : A -> A [gather (E e)] .", "AttrConflict [_]"),
+        (
+            "sort A . op _+_ : A A -> A [prec 3] . op _+_ : A A -> A [prec 4] .",
+            "AttrConflict _+_",
+        ),
+        ("sort A . op _a b_ : A A -> A [id: no no] .", "IdNotConstant _ab_"),
         // The faults stand in an order: sorts before declarations, and these before tuples of sorts.
         (
             "sorts A B Z . subsorts A < B < A . op f : A -> A . op f : A -> Z .",
@@ -286,6 +309,210 @@ fn tests_values_by_their_sorts(rt: HostRuntime) -> Result<(), Fail> {
         b"[1] module V\n[2] refused: NotBuilt match 64\n".as_slice()
     );
     assert_eq!(rt; status, Status::Refused);
+    Ok(())
+}
+
+/// A command over a module, and the answers of both.
+#[derive(Drop)]
+struct Row {
+    module: &'static str,
+    command: &'static str,
+    answers: &'static str,
+}
+
+/// Each row's answers are out.
+fn assert_answers(rt: &impl Abort, alloc: Global, rows: &[Row]) -> Result<(), Fail> {
+    for row in rows {
+        let text = format!(in alloc; "{}\n{}", row.module, row.command)?;
+        let (bytes, _) = answer(alloc, &["run"], &text)?;
+        assert_eq!(rt; std::str::from_utf8(&bytes), Ok(row.answers));
+    }
+    Ok(())
+}
+
+#[test]
+fn reads_mixfix_terms(rt: HostRuntime) -> Result<(), Fail> {
+    let rows = [
+        Row {
+            module: "fmod M is sort T . ops a b c : -> T . op _+_ : T T -> T . endfm",
+            command: "match a + b + c <=? a .",
+            answers: "[1] module M\n[2] refused: Ambiguous 70\n",
+        },
+        Row {
+            module: "fmod M is sort T . ops a b c : -> T . op _+_ : T T -> T [gather (E e)] . endfm",
+            command: "match X:T + c <=? a + b + c .",
+            answers: "[1] module M\n[2] match in M\nMatcher 1\nX:T --> a + b\nNo more matches.\n",
+        },
+        Row {
+            module: "fmod M is sort T . ops a b c : -> T . op _+_ : T T -> T [gather (E e)] . endfm",
+            command: "match X:T <=? a + (b + c) .",
+            answers: "[1] module M\n[2] match in M\nMatcher 1\nX:T --> a + (b + c)\nNo more matches.\n",
+        },
+        Row {
+            module: "fmod M is sort T . ops a b c : -> T . op _+_ : T T -> T [assoc] . endfm",
+            command: "match a + b + c <=? a .",
+            answers: "[1] module M\n[2] refused: NotBuilt match 72\n",
+        },
+        Row {
+            module: "fmod M is sort T . ops a b c : -> T . op _+_ : T T -> T . endfm",
+            command: "match a <=? b + a + c .",
+            answers: "[1] module M\n[2] refused: Ambiguous 76\n",
+        },
+        Row {
+            module: "fmod M is sort T . ops a b c : -> T . op _+_ : T T -> T . endfm",
+            command: "match a + <=? a .",
+            answers: "[1] module M\n[2] refused: NoParse 70\n",
+        },
+        Row {
+            module: "fmod M is sort T . ops a b c : -> T . op _+_ : T T -> T [gather (E e)] . endfm",
+            command: "match _+_(X:T, b) <=? a + b .",
+            answers: "[1] module M\n[2] match in M\nMatcher 1\nX:T --> a\nNo more matches.\n",
+        },
+        Row {
+            module: "fmod M is sort T . ops a b c : -> T . op _+_ : T T -> T [gather (E e)] . endfm",
+            command: "match +(a, b) <=? a .",
+            answers: "[1] module M\n[2] refused: NoParse 85\n",
+        },
+        Row {
+            module: "fmod M is sorts B T . ops t f : -> B . ops a b : -> T . op if_then_else_fi : B T T -> T . endfm",
+            command: "match if X:B then a else Y:T fi <=? if t then a else if f then a else b fi fi .",
+            answers: "[1] module M\n[2] match in M\nMatcher 1\nX:B --> t\nY:T --> if f then a else b fi\nNo more matches.\n",
+        },
+        Row {
+            module: "fmod M is sort T . ops a b c : -> T . op __ : T T -> T [gather (E e)] . endfm",
+            command: "match X:T c <=? a b c .",
+            answers: "[1] module M\n[2] match in M\nMatcher 1\nX:T --> a b\nNo more matches.\n",
+        },
+        Row {
+            module: "fmod M is sort T . ops a b c : -> T . op __ : T T -> T . endfm",
+            command: "match a b c <=? a .",
+            answers: "[1] module M\n[2] refused: Ambiguous 69\n",
+        },
+        Row {
+            module: "fmod M is sort T . op a : -> T . op _ : T -> T . endfm",
+            command: "match a <=? a .",
+            answers: "[1] module M\n[2] refused: Ambiguous 61\n",
+        },
+        Row {
+            module: "fmod M is sort T . op a : -> T . op `[_`] : T -> T . endfm",
+            command: "match [X:T] <=? [[a]] .",
+            answers: "[1] module M\n[2] match in M\nMatcher 1\nX:T --> [ a ]\nNo more matches.\n",
+        },
+        Row {
+            module: "fmod M is sort T . op a : -> T . op `[_`] : T -> T . endfm",
+            command: "match `[_`](X:T) <=? [a] .",
+            answers: "[1] module M\n[2] match in M\nMatcher 1\nX:T --> a\nNo more matches.\n",
+        },
+        Row {
+            module: "fmod M is sort T . ops a 5 : -> T . var 5 : T . endfm",
+            command: "match 5 <=? a .",
+            answers: "[1] module M\n[2] refused: Ambiguous 60\n",
+        },
+        Row {
+            module: "fmod M is sorts T U . op 5 : -> T . var 5 : U . op f : U -> T . endfm",
+            command: "match f(5) <=? f(X:U) .",
+            answers: "[1] module M\n[2] match in M\nMatcher 1\n5:U --> X:U\nNo more matches.\n",
+        },
+        Row {
+            module: "fmod M is sort T . ops a b : -> T . op _+_ : T T -> T . vars X Y : T . var K : [T] . endfm",
+            command: "match X + Y <=? a + K .",
+            answers: "[1] module M\n[2] match in M\nNo match.\n",
+        },
+        Row {
+            module: "fmod M is sort T . ops a b : -> T . op _+_ : T T -> T . vars X Y : T . var K : [T] . endfm",
+            command: "match K + Y <=? (a + b) + Y:T .",
+            answers: "[1] module M\n[2] match in M\nMatcher 1\nK:[T] --> a + b\nY:T --> Y:T\nNo more matches.\n",
+        },
+        Row {
+            module: "fmod M is sorts T U . op a : -> T . op a : -> U . op b : -> U . endfm",
+            command: "match a <=? a .",
+            answers: "[1] module M\n[2] refused: Ambiguous 76\n",
+        },
+        Row {
+            module: "fmod M is sorts T U . op a : -> T . op a : -> U . op b : -> U . endfm",
+            command: "match ( a ) .T <=? a .",
+            answers: "[1] module M\n[2] match in M\nMatcher 1\nempty substitution\nNo more matches.\n",
+        },
+        Row {
+            module: "fmod M is sorts T U . op a : -> T . op a : -> U . op b : -> U . endfm",
+            command: "match X:U <=? a .",
+            answers: "[1] module M\n[2] match in M\nMatcher 1\nX:U --> (a).U\nNo more matches.\n",
+        },
+        Row {
+            module: "fmod M is sorts T U . op a : -> T . op a : -> U . op b : -> U . endfm",
+            command: "match ( b ) .T <=? a .",
+            answers: "[1] module M\n[2] refused: NoParse 76\n",
+        },
+        Row {
+            module: "fmod M is sort T . ops a b : -> T . op f_ : T -> T . op _+_ : T T -> T [prec 0 gather (e e)] . endfm",
+            command: "match a + b <=? a .",
+            answers: "[1] module M\n[2] refused: NoParse 107\n",
+        },
+        Row {
+            module: "fmod M is sort T . ops a b : -> T . op f_ : T -> T . op _+_ : T T -> T [prec 0 gather (e e)] . endfm",
+            command: "match X:T <=? (a) + (b) .",
+            answers: "[1] module M\n[2] match in M\nMatcher 1\nX:T --> (a) + (b)\nNo more matches.\n",
+        },
+        Row {
+            module: "fmod M is sort T . ops a b : -> T . op f_ : T -> T . op _+_ : T T -> T [prec 0 gather (E &)] . endfm",
+            command: "match X:T + Y:T <=? a + f b .",
+            answers: "[1] module M\n[2] match in M\nMatcher 1\nX:T --> a\nY:T --> f b\nNo more matches.\n",
+        },
+        Row {
+            module: "fmod M is sort T . ops a b : -> T . op f_ : T -> T . op _+_ : T T -> T [prec 0 gather (E &)] . endfm",
+            command: "match X:T <=? f a + b .",
+            answers: "[1] module M\n[2] match in M\nMatcher 1\nX:T --> f a + b\nNo more matches.\n",
+        },
+        Row {
+            module: "fmod M is sort T . ops a b : -> T . op f_ : T -> T . op _+_ : T T -> T [prec 127 gather (e E)] . endfm",
+            command: "match X:T + Y:T <=? f a + a + b .",
+            answers: "[1] module M\n[2] match in M\nMatcher 1\nX:T --> f a\nY:T --> a + b\nNo more matches.\n",
+        },
+        Row {
+            module: "fmod M is sort T . ops a b : -> T . op f_ : T -> T . op _+_ : T T -> T [prec 127 gather (& e)] . endfm",
+            command: "match X:T + Y:T <=? a + a + f b .",
+            answers: "[1] module M\n[2] match in M\nMatcher 1\nX:T --> a + a\nY:T --> f b\nNo more matches.\n",
+        },
+        Row {
+            module: "fmod M is sort T . ops a b c : -> T . op _+_ : T T -> T . endfm",
+            command: "match A:B:T + b <=? a + b .",
+            answers: "[1] module M\n[2] match in M\nMatcher 1\nA:B:T --> a\nNo more matches.\n",
+        },
+        Row {
+            module: "fmod M is sort T . ops a b c : -> T . op _+_ : T T -> T . endfm",
+            command: "match X:[T,T] <=? a .",
+            answers: "[1] module M\n[2] match in M\nMatcher 1\nX:[T] --> a\nNo more matches.\n",
+        },
+        Row {
+            module: "fmod M is sort T . op a b : -> T . op f g : T -> T . endfm",
+            command: "match f g (X:T) <=? f g (a b) .",
+            answers: "[1] module M\n[2] match in M\nMatcher 1\nX:T --> a b\nNo more matches.\n",
+        },
+        Row {
+            module: "fmod M is sort T . op a b : -> T . op f g : T -> T . endfm",
+            command: "match X:T <=? f g (f g (a b)) .",
+            answers: "[1] module M\n[2] match in M\nMatcher 1\nX:T --> f g(f g(a b))\nNo more matches.\n",
+        },
+    ];
+    assert_answers(&rt, rt.alloc(), &rows)
+}
+
+#[test]
+fn refuses_long_terms(rt: HostRuntime) -> Result<(), Fail> {
+    let head = "fmod M is sort T . op a : -> T . op s_ : T -> T . endfm\nmatch";
+    for (count, wanted) in [
+        (999, "[2] match in M\nNo match.\n"),
+        (1000, "[2] refused: TooManyTokens 1001\n"),
+    ] {
+        let mut text = String::from_str(rt.alloc(), head)?;
+        for _ in 0..count {
+            text.push_str(" s")?;
+        }
+        text.push_str(" a <=? a .")?;
+        let wanted = format!(in rt.alloc(); "[1] module M\n{wanted}")?;
+        let (bytes, _) = answer(rt.alloc(), &["run"], &text)?;
+        assert_eq!(rt; bytes.as_slice(), wanted.as_bytes());
+    }
     Ok(())
 }
 

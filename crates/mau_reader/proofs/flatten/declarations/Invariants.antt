@@ -5,7 +5,7 @@ use Rattle.mau_reader.proofs.flatten.declarations.Given as goal
 
 abbrev pub invariant-loop-ops : goal.invariant-loop-ops
 invariant-loop-ops l = record {
-  value : l.decls.items ≡ declarations l.words l.poset (take l.ops-index l.elements.operators);
+  value : l.decls.items ≡ declarations l.poset (take l.ops-index l.elements.operators);
   sorts : All (HasSorts l.poset) l.decls.items;
   no_hooks : All (λ d. is_successor d.attrs ≡ false) l.decls.items;
 }

@@ -1,6 +1,6 @@
-use Rattle.std.proofs.Common.{Err, ◌∙◌}
+use Rattle.std.proofs.Common.{Ok, Err, sym, subst}
 use Rattle.mau_reader.specs.Modules.{ModuleRead}
-use Rattle.mau_reader.proofs.Refusing.{why_by, of_part_by}
+use Rattle.mau_reader.proofs.Refusing.{why_of_refused, of_part_by}
 use Rattle.mau_reader.proofs.ModuleSteps.{leaving, at_fault, whole}
 use Rattle.mau_reader.proofs.module.read_module.Goals as goal
 
@@ -12,11 +12,12 @@ returns-in-Err-clause-why c =
 
 pub returns-in-Err-read_signature-clause-why : goal.returns-in-Err-read_signature-clause-why
 returns-in-Err-read_signature-clause-why c =
-    why_by
-    (λ why h. at_fault c.args.words.now c.args.raw.now c.in_ok-sorts.sorts c.items.result.now c.items-2.result.now c.in_ok-sorts.ensures c.items.ensures c.items-2.ensures c.in-Ok.elements why c.in-Ok.ensures.ok h)
-    c.in-Err-read_signature.fault c.in-Err-read_signature.ensures.why
+    why_of_refused (λ why. ModuleRead c.args.words.now c.args.raw.now (Err why))
+    (λ text h. at_fault c.args.words.now c.args.raw.now c.in_ok-sorts.sorts c.items.result.now c.items-2.result.now c.in_ok-sorts.ensures c.items.ensures c.items-2.ensures c.in-Ok.elements text c.in-Ok.ensures.ok h)
+    c.in-Err-read_signature.fault c.in-Err-read_signature.ensures.refused
 
-pub returns-in-Ok-new-clause-ok : goal.returns-in-Ok-new-clause-ok
-returns-in-Ok-new-clause-ok c =
-    whole c.args.words.now c.args.raw.now c.in_ok-sorts.sorts c.items.result.now c.items-2.result.now c.in_ok-sorts.ensures c.items.ensures c.items-2.ensures
-    c.in-Ok-new.name c.in-Ok.elements c.in-Ok-read_signature.named.signature (c.in-Ok-new.ensures ∙ c.token_text.ensures) c.in-Ok.ensures.ok c.in-Ok-read_signature.ensures.ok
+pub returns-in-Ok-make_module-clause-ok : goal.returns-in-Ok-make_module-clause-ok
+returns-in-Ok-make_module-clause-ok c =
+    subst (λ m. ModuleRead c.args.words.now c.args.raw.now (Ok m)) (sym c.in-Ok-make_module.ensures)
+    (whole c.args.words.now c.args.raw.now c.in_ok-sorts.sorts c.items.result.now c.items-2.result.now c.in_ok-sorts.ensures c.items.ensures c.items-2.ensures
+    c.in-Ok.elements c.in-Ok-read_signature.signed.signature c.in-Ok-read_signature.ensures.hierarchy c.in-Ok.ensures.ok c.in-Ok-read_signature.ensures.ok)

@@ -1,7 +1,6 @@
-use Rattle.std.proofs.Common.{◌≡◌, [], drop}
-use Rattle.mau_reader.specs.Readings.{read_all}
-use Rattle.mau_reader.specs.Elements.{form_step}
+use Rattle.std.proofs.Common.{◌≡◌, map, take}
+use Rattle.mau_reader.specs.Forms.{form_of}
 use Rattle.mau_reader.proofs.operators.read_forms.Given as goal
 
 abbrev pub invariant-loop-form : goal.invariant-loop-form
-invariant-loop-form l = read_all (form_step l.words) [] l.forms ≡ read_all (form_step l.words) l.names.items (drop l.form-index l.forms)
+invariant-loop-form l = l.read.items ≡ map (form_of l.words) (take l.form-index l.forms)
