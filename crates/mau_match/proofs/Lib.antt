@@ -1,0 +1,10 @@
+pub mod Search
+pub mod Removal
+pub mod Builds
+pub mod Known
+pub mod Sound
+pub mod Lengths
+pub mod Walk
+pub mod Extension
+pub mod Fair
+pub mod Complete
