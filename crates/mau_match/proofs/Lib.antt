@@ -7,4 +7,11 @@ pub mod Lengths
 pub mod Walk
 pub mod Extension
 pub mod Fair
+pub mod Occurring
 pub mod Complete
+pub mod Good
+pub mod Merge
+pub mod AcNext
+pub mod SeqNext
+pub mod AsTrees
+pub mod Members

@@ -1,19 +1,19 @@
 -- The walk over a pattern misses no value that its variable has in a solution.
-use Rattle.std.proofs.Common.{◌≡◌, ℕ, ◌+◌, ◌-◌, ◌≤◌, List, [], ◌∷◌, ◌++◌, length, map, Bool, true, false, not, ◌&&◌, ◌||◌, ◌==◌, Option, Some, None, inl, inr, ◌⊎◌, if◌then◌else◌, refl, sym, ◌∙◌, ap, ap₂, subst, append-nil, arith, length-append, eqb-true, eq-eqb}
+use Rattle.std.proofs.Common.{◌≡◌, ℕ, ◌+◌, ◌-◌, ◌≤◌, List, [], ◌∷◌, ◌++◌, length, map, Bool, true, false, not, ◌&&◌, ◌||◌, ◌==◌, nat_lt, Option, Some, None, inl, inr, ◌⊎◌, if◌then◌else◌, refl, sym, ◌∙◌, ap, ap₂, subst, append-nil, arith, length-append, eqb-true, eq-eqb, lt-ltb}
 use Rattle.mau_terms.specs.Tree.{Tree, variable, numeral, apply, Trees, no_trees, tree, list_of, trees_of}
 use Rattle.mau_terms.specs.Norm.{unit_tree, is_unit, all_pieces, arrange, finish, build, norm, norms}
 use Rattle.mau_terms.specs.Lawful.{AreLawful}
 use Rattle.mau_terms.specs.Subst.{Variable, has_variable, instance, instances}
 use Rattle.mau_terms.specs.Solution.{list_under, over_list}
-use Rattle.mau_terms.specs.Finite.{IsIn, each_of}
+use Rattle.mau_terms.specs.Finite.{IsIn, each_of, units_of}
 use Rattle.mau_terms.specs.declared.theory.Identity.{Identity}
 use Rattle.mau_terms.specs.declared.theory.Identity.TheVariants.{Const, Num}
 use Rattle.mau_terms.specs.declared.theory.Theory.{Theory}
 use Rattle.mau_terms.proofs.Pieces.{unit_is_unit, Split, unit, many, one, split, Each, list_of-trees_of, arrange-arrange, arrange_left, arrange_right, arrange_none, arrange_one}
 use Rattle.mau_terms.proofs.Normal.{IsNormal, norms_normal, build_normal}
-use Rattle.mau_terms.proofs.Finite.{length-arrange, length_within, each_in, over_its_list, finish_true_one}
+use Rattle.mau_terms.proofs.Finite.{in_left, in_right, length-arrange, length_within, each_in, over_its_list, finish_true_one}
 use Rattle.mau_terms.proofs.Variables.{same-is}
-use Rattle.mau_match.specs.Parts.{Reach, whole, Part, just, some_of, Reaches, IsOf, AnyOf, headed, has_x, have_x, lists_in, alone_in, folded_parts, apart_from, is_bound, any_of, lists_of, own_part, rest_behind, parts_of, parts_among, parts_at, parts_any, parts_folded, IsFairAt, IsFair, AreFair}
+use Rattle.mau_match.specs.Parts.{Reach, whole, Part, just, some_of, Reaches, IsOf, AnyOf, headed, folded_by, has_x, have_x, lists_in, alone_in, folded_parts, apart_from, is_bound, any_of, lists_of, own_part, rest_behind, parts_of, parts_among, parts_at, parts_any, parts_folded, IsFairAt, IsFair, AreFair}
 use Rattle.mau_match.proofs.Builds.{all_in, Built, placed, counted, folded, IsFolded, built_other, list_of_built}
 use Rattle.mau_match.proofs.Known.{bound_norm}
 use Rattle.mau_match.proofs.Lengths.{not_too_few}
@@ -40,6 +40,9 @@ each_piece_in : (P : Tree → Type 0) (zs : List Tree) (z : Tree) → Each P zs 
 each_piece_in P [] z p h = absurd h
 each_piece_in P (y ∷ zs) z p (inl e) = subst P (sym e) p.0
 each_piece_in P (y ∷ zs) z p (inr h) = each_piece_in P zs z p.1 h
+
+positive : (n : ℕ) → nat_lt 0 (n + 1) ≡ true
+positive n = lt-ltb 0 (n + 1) (omega arith)
 
 either_true : (a b : Bool) → (a || b) ≡ true → a ≡ false → b ≡ true
 either_true true b e h = cc
@@ -208,14 +211,10 @@ module _ (th : ℕ → Theory) (lawful : AreLawful th) (bound : List Variable) (
   alone_is (just t) v nope o = inl o
   alone_is (some_of r h ts) v nope o = by (split (th h).assoc (th h).id h v)
     where
-      by : Split (th h).assoc (th h).id h v → IsIn v (over_list (th h) h [] ∷ ts)
-      by (one p) = inr (one_reaches (th h).comm r v ts (subst (λ l. Reaches (th h).comm r l ts) p o))
+      by : Split (th h).assoc (th h).id h v → IsIn v (units_of (th h).id ++ ts)
+      by (one p) = in_right v (units_of (th h).id) ts (one_reaches (th h).comm r v ts (subst (λ l. Reaches (th h).comm r l ts) p o))
       by (many us b k p) = absurd (nope h us b k)
-      by (unit i u k p) = inl (k ∙ sym (ap (finish (th h).assoc (th h).id (th h).succ h) (arrange_none (th h).comm) ∙ ap (λ w. finish (th h).assoc w (th h).succ h []) u ∙ unit_finish (th h).assoc))
-        where
-          unit_finish : (b : Bool) → finish b (Some i) (th h).succ h [] ≡ unit_tree i
-          unit_finish true = refl
-          unit_finish false = refl
+      by (unit i u k p) = in_left v (units_of (th h).id) ts (subst (λ w. IsIn v (units_of w)) (sym u) (inl k))
 
   abbrev OtherWay : ℕ → List Tree → Part → Type 0
   OtherWay f zs q =
@@ -239,7 +238,7 @@ module _ (th : ℕ → Theory) (lawful : AreLawful th) (bound : List Variable) (
           let m : n + 1 - 1 ≡ n = omega arith in
           inr (inl (λ z k. any_each th (any_of th bound g x f) v alone z (alone_is q v nope o)
           (subst (λ w. AnyOf th (any_of th bound g x f w) z) (sym e)
-          (subst (λ d. AnyOf th (if d then just (numeral (n + 1 - 1)) ∷ [] else []) z) (sym s)
+          (subst (λ d. AnyOf th (if d then just (numeral (n + 1 - 1)) ∷ [] else []) z) (sym (ap₂ (λ p r. p && r) s (positive n)))
           (inl (elim (all_in zs (numeral n ∷ []) z i k) [ inl w ↦ w ∙ ap numeral (sym m) | inr w ↦ absurd w ]))))))
       by (placed es e i nc) = at (th f).comm refl
         where
@@ -369,7 +368,7 @@ module _ (th : ℕ → Theory) (lawful : AreLawful th) (bound : List Variable) (
 
         -- the part of one of them, by the other
         part : (other : Tree) (w : Tree) → (w ≡ unit_tree i) ⊎ ((w ≡ v) × (norm th (instance gg other) ≡ unit_tree i)) → AnyOf th (folded_parts th bound g x f other q) w
-        part other w h = subst (λ o'. AnyOf th (elim o' [ None ↦ [] | Some j ↦ just (unit_tree j) ∷ (if is_bound th bound g x other && not (is_unit (Some j) (norm th (instance g other))) then [] else q ∷ []) ]) w) (sym u) (at h)
+        part other w h = subst (λ o'. AnyOf th (folded_by o' (is_bound th bound g x other) (norm th (instance g other)) q) w) (sym u) (at h)
           where
             at : (w ≡ unit_tree i) ⊎ ((w ≡ v) × (norm th (instance gg other) ≡ unit_tree i)) → AnyOf th (just (unit_tree i) ∷ (if is_bound th bound g x other && not (is_unit (Some i) (norm th (instance g other))) then [] else q ∷ [])) w
             at (inl k) = inl k

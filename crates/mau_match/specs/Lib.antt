@@ -1,5 +1,6 @@
 pub mod Search
 pub mod Parts
+pub mod Given
 pub mod Listing
-pub mod Laws
 pub mod AsTrees
+pub mod Laws

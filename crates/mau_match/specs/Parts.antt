@@ -5,8 +5,8 @@ use Rattle.mau_terms.specs.Tree.{Tree, variable, numeral, apply, Trees, no_trees
 use Rattle.mau_terms.specs.Order.{tree_cmp}
 use Rattle.mau_terms.specs.Norm.{arrange, norm, norms, unit_tree, is_unit}
 use Rattle.mau_terms.specs.Subst.{Variable, same_variable, has_variable, instance, instances}
-use Rattle.mau_terms.specs.Solution.{list_under, over_list}
-use Rattle.mau_terms.specs.Finite.{IsIn, each_of}
+use Rattle.mau_terms.specs.Solution.{list_under}
+use Rattle.mau_terms.specs.Finite.{IsIn, each_of, units_of}
 use Rattle.mau_terms.specs.declared.theory.Identity.{Identity}
 use Rattle.mau_terms.specs.declared.theory.Theory.{Theory}
 
@@ -107,6 +107,12 @@ abbrev pub from_some : {A B : Type 0} → Option A → (A → List B) → List B
 from_some None f = []
 from_some (Some x) f = f x
 
+-- what one of two arguments of an operator with the identity i may be where one of them is that identity, and the other is of the part
+-- q; whether the other one's value is known, and then what it is
+abbrev pub folded_by : Option Identity → Bool → Tree → Part → List Part
+folded_by None is_known v q = []
+folded_by (Some i) is_known v q = just (unit_tree i) ∷ (if is_known && not (is_unit (Some i) v) then [] else q ∷ [])
+
 -- ---- the walk over a pattern to the first place of x, where the variables in `bound` have the values g
 
 module _ (th : ℕ → Theory) (bound : List Variable) (g : Variable → Tree) (x : Variable) where
@@ -149,11 +155,11 @@ module _ (th : ℕ → Theory) (bound : List Variable) (g : Variable → Tree) (
   -- the normal forms of the part with another top than the part's operator
   abbrev pub alone_in : Part → List Tree
   alone_in (just t) = t ∷ []
-  alone_in (some_of r h ts) = over_list (th h) h [] ∷ ts
+  alone_in (some_of r h ts) = units_of (th h).id ++ ts
 
   -- what an argument may be where it is an identity, or the other one is: that one's value may be known
   abbrev pub folded_parts : ℕ → Tree → Part → List Part
-  folded_parts f other q = elim (th f).id [ None ↦ [] | Some i ↦ just (unit_tree i) ∷ (if is_bound other && not (is_unit (Some i) (norm th (instance g other))) then [] else q ∷ []) ]
+  folded_parts f other q = folded_by (th f).id (is_bound other) (norm th (instance g other)) q
 
   -- the part, where it is a list of another operator
   abbrev pub apart_from : ℕ → Part → List Part
@@ -163,7 +169,7 @@ module _ (th : ℕ → Theory) (bound : List Variable) (g : Variable → Tree) (
   -- the parts that an argument may take: of a successor or of a comm operator whose normal form is e
   abbrev pub any_of : ℕ → Tree → List Part
   any_of f (variable i s) = []
-  any_of f (numeral n) = if (th f).succ then just (numeral (n - 1)) ∷ [] else []
+  any_of f (numeral n) = if (th f).succ && nat_lt 0 n then just (numeral (n - 1)) ∷ [] else []
   any_of f (apply h es) = if (f == h) && (th f).comm then map just (list_of es) else []
 
   -- the lists of arguments, each at its place
