@@ -15,7 +15,7 @@ use Rattle.mau_api.specs.Found.{Question}
 use Rattle.mau_api.specs.Answers.{IsAnswer}
 use Rattle.mau_api.specs.Asked.{BySort}
 use Rattle.mau_api.proofs.Answered.{norm-reading-is}
-use Rattle.mau_match.specs.Parts.{just, AnyOf, has_x, have_x, parts_of, IsFairAt, IsFair, AreFair}
+use Rattle.mau_match.specs.Parts.{just, AnyOf, occurs, occurs_among, parts_of, IsFairAt, IsFair, AreFair}
 use Rattle.mau_match.specs.Given.{given_variables, given_at}
 use Rattle.mau_match.specs.Laws.{PartsHoldAnswers}
 use Rattle.mau_match.proofs.Fair.{bare_fair}
@@ -30,17 +30,16 @@ or_right : (a b : Bool) → b ≡ true → (a || b) ≡ true
 or_right true b e = refl
 or_right false b e = e
 
-module _ (th : ℕ → Theory) (bound : List Variable) (g : Variable → Tree) (x : Variable) where
-  mutual
-    pub occurs_has : (p : Tree) → Occurs x p → has_x th bound g x p ≡ true
-    occurs_has (variable i s) o = subst (λ y. same_variable y x ≡ true) o (same_itself x)
-    occurs_has (numeral n) o = absurd o
-    occurs_has (apply f ps) o = occur_have ps o
+mutual
+  occurs_has : (x : Variable) (p : Tree) → Occurs x p → occurs x p ≡ true
+  occurs_has x (variable i s) o = subst (λ y. same_variable y x ≡ true) o (same_itself x)
+  occurs_has x (numeral n) o = absurd o
+  occurs_has x (apply f ps) o = occur_have x ps o
 
-    occur_have : (ps : Trees) → OccursIn x ps → have_x th bound g x ps ≡ true
-    occur_have no_trees o = absurd o
-    occur_have (tree p ps) (inl o) = or_left (has_x th bound g x p) (have_x th bound g x ps) (occurs_has p o)
-    occur_have (tree p ps) (inr o) = or_right (has_x th bound g x p) (have_x th bound g x ps) (occur_have ps o)
+  occur_have : (x : Variable) (ps : Trees) → OccursIn x ps → occurs_among x ps ≡ true
+  occur_have x no_trees o = absurd o
+  occur_have x (tree p ps) (inl o) = or_left (occurs x p) (occurs_among x ps) (occurs_has x p o)
+  occur_have x (tree p ps) (inr o) = or_right (occurs x p) (occurs_among x ps) (occur_have x ps o)
 
 -- ---- values at their places
 
@@ -167,7 +166,7 @@ module _ (s : SignatureOf) (lawful : IsLawful (terms_over s)) (P : ℕ → Tree 
       let occ : Occurs x p = each_var_at (λ y. Occurs y p) xs x zs (subst (EachVar (λ y. Occurs y p)) ev (variables_occur p)) in
       let at : gg x ≡ u = sym (same x occ) ∙ value_there F xs x zs vs u us l (ap (map F) (sym ev) ∙ values_of_variables p (vs ++ u ∷ us) a.one_each) in
       let whole : norm th (instance gg p) ≡ q.subject = ap (norm th) (sym (instance_along F gg p same)) ∙ a.whole in
-      let found : AnyOf th (parts_of th ys g x p (just q.subject)) (norm th (gg x)) = walk th lawful.theories ys g gg x agree p fair (occurs_has th ys g x p occ) (just q.subject) whole in
+      let found : AnyOf th (parts_of th ys g x p (just q.subject)) (norm th (gg x)) = walk th lawful.theories ys g gg x agree p fair (occurs_has x p occ) (just q.subject) whole in
       subst (AnyOf th (parts_of th ys g x p (just q.subject))) (ap (norm th) at ∙ norm_at th vs u us a.normal) found
 
 pub parts_hold_answers : PartsHoldAnswers

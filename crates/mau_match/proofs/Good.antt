@@ -10,7 +10,7 @@ use Rattle.mau_terms.specs.declared.theory.Identity.{Identity}
 use Rattle.mau_terms.specs.declared.theory.Theory.{Theory}
 use Rattle.mau_terms.proofs.Pieces.{Each, IsPiece}
 use Rattle.mau_terms.proofs.Normal.{IsNormal, each_normal, whole_pieces, normal_pieces, unit_normal}
-use Rattle.mau_match.specs.Parts.{Reach, whole, inside, Part, just, some_of, folded_by, same_tree, with_first, least_lengths, too_few_for, without, then_without, without_all, behind_front, weaker, begins, headed, from_some, are_none, has_x, is_bound, are_bound, known, known_in, lists_in, alone_in, folded_parts, apart_from, any_of, lists_of, own_part, rest_behind, parts_of, parts_among, parts_at, parts_any, parts_folded}
+use Rattle.mau_match.specs.Parts.{Reach, whole, inside, Part, just, some_of, folded_by, same_tree, with_first, least_lengths, too_few_for, without, then_without, without_all, behind_front, weaker, begins, headed, from_some, are_none, occurs, is_bound, are_bound, known, known_in, lists_in, alone_in, folded_parts, apart_from, any_of, lists_of, own_part, rest_behind, parts_of, parts_among, parts_at, parts_any, parts_folded}
 
 abbrev IfSomeEach : {A : Type 0} → (A → Type 0) → Option A → Type 0
 IfSomeEach P None = Unit {0}
@@ -133,15 +133,15 @@ module _ (th : ℕ → Theory) (lawful : AreLawful th) (bound : List Variable) (
   good_own : (f : ℕ) (ps : Trees) (r : Reach) (ts : List Tree) → Each (IsItem f) ts → AllGood (own_part th bound g x f ps r ts)
   good_own f ps r ts n = by (th f).comm (without_all (known_in th bound g x f ps) ts) (each_without_all (IsItem f) (known_in th bound g x f ps) ts n)
     where
-      by : (c : Bool) (o : Option (List Tree)) → IfSomeEach (Each (IsItem f)) o → AllGood (if c then from_some o (λ us. some_of (if are_bound th bound g x ps then r else weaker r) f us ∷ []) else some_of (if are_none ps then r else weaker r) f ts ∷ [])
+      by : (c : Bool) (o : Option (List Tree)) → IfSomeEach (Each (IsItem f)) o → AllGood (if c then from_some o (λ us. some_of (if are_bound bound ps then r else weaker r) f us ∷ []) else some_of (if are_none ps then r else weaker r) f ts ∷ [])
       by true None h = tt
       by true (Some us) h = (h, tt)
       by false o h = (n, tt)
 
   good_rest : (f : ℕ) (p : Tree) (r : Reach) (ts : List Tree) → Each (IsItem f) ts → EachOf (GoodList f) (rest_behind th bound g x f p r ts)
-  good_rest f p r ts n = by (th f).comm (is_bound th bound g x p && begins r) (without_all (known th bound g x f p) ts) (each_without_all (IsItem f) (known th bound g x f p) ts n) (behind_front (known th bound g x f p) ts) (each_behind (IsItem f) (known th bound g x f p) ts n)
+  good_rest f p r ts n = by (th f).comm (is_bound bound p && begins r) (without_all (known th bound g x f p) ts) (each_without_all (IsItem f) (known th bound g x f p) ts n) (behind_front (known th bound g x f p) ts) (each_behind (IsItem f) (known th bound g x f p) ts n)
     where
-      by : (c b : Bool) (o : Option (List Tree)) → IfSomeEach (Each (IsItem f)) o → (o' : Option (List Tree)) → IfSomeEach (Each (IsItem f)) o' → EachOf (GoodList f) (if c then from_some o (λ us. (if is_bound th bound g x p then r else weaker r, us) ∷ []) else (if b then from_some o' (λ us. (r, us) ∷ []) else (inside, ts) ∷ []))
+      by : (c b : Bool) (o : Option (List Tree)) → IfSomeEach (Each (IsItem f)) o → (o' : Option (List Tree)) → IfSomeEach (Each (IsItem f)) o' → EachOf (GoodList f) (if c then from_some o (λ us. (if is_bound bound p then r else weaker r, us) ∷ []) else (if b then from_some o' (λ us. (r, us) ∷ []) else (inside, ts) ∷ []))
       by true b None h o' h' = tt
       by true b (Some us) h o' h' = (h, tt)
       by false true o h None h' = tt
@@ -152,7 +152,7 @@ module _ (th : ℕ → Theory) (lawful : AreLawful th) (bound : List Variable) (
   good_folded f other q n = by (th f).id refl
     where
       b : Bool
-      b = is_bound th bound g x other
+      b = is_bound bound other
 
       v : Tree
       v = norm th (instance g other)
@@ -207,7 +207,7 @@ module _ (th : ℕ → Theory) (lawful : AreLawful th) (bound : List Variable) (
 
     good_among : (f : ℕ) (ps : Trees) (r : Reach) (ts : List Tree) → Each (IsItem f) ts → AllGood (parts_among th bound g x f ps r ts)
     good_among f no_trees r ts n = tt
-    good_among f (tree p ps) r ts n = few (if has_x th bound g x p then each_of (parts_of th bound g x p) (own_part th bound g x f ps r ts) else each_of (λ l. parts_among th bound g x f ps l.0 l.1) (rest_behind th bound g x f p r ts)) (too_few_for (th f).id (length ts) (least_lengths f (tree p ps))) (by (λ q h. good p q h) (λ l h. good_among f ps l.0 l.1 h) (has_x th bound g x p))
+    good_among f (tree p ps) r ts n = few (if occurs x p then each_of (parts_of th bound g x p) (own_part th bound g x f ps r ts) else each_of (λ l. parts_among th bound g x f ps l.0 l.1) (rest_behind th bound g x f p r ts)) (too_few_for (th f).id (length ts) (least_lengths f (tree p ps))) (by (λ q h. good p q h) (λ l h. good_among f ps l.0 l.1 h) (occurs x p))
       where
         few : (qs : List Part) (b : Bool) → AllGood qs → AllGood (if b then [] else qs)
         few qs true h = tt
@@ -220,7 +220,7 @@ module _ (th : ℕ → Theory) (lawful : AreLawful th) (bound : List Variable) (
     good_at : (ps : Trees) (es : List Tree) → Each (IsNormal th) es → AllGood (parts_at th bound g x ps es)
     good_at no_trees es n = tt
     good_at (tree p ps) [] n = tt
-    good_at (tree p ps) (e ∷ es) n = by (good p (just e) n.0) (good_at ps es n.1) (has_x th bound g x p)
+    good_at (tree p ps) (e ∷ es) n = by (good p (just e) n.0) (good_at ps es n.1) (occurs x p)
       where
         by : AllGood (parts_of th bound g x p (just e)) → AllGood (parts_at th bound g x ps es) → (b : Bool) → AllGood (if b then parts_of th bound g x p (just e) else parts_at th bound g x ps es)
         by h k true = h
@@ -228,7 +228,7 @@ module _ (th : ℕ → Theory) (lawful : AreLawful th) (bound : List Variable) (
 
     good_any : (ps : Trees) (qs : List Part) → AllGood qs → AllGood (parts_any th bound g x ps qs)
     good_any no_trees qs n = tt
-    good_any (tree p ps) qs n = by (λ q h. good p q h) (good_any ps qs n) (has_x th bound g x p)
+    good_any (tree p ps) qs n = by (λ q h. good p q h) (good_any ps qs n) (occurs x p)
       where
         by : ((q : Part) → IsGood q → AllGood (parts_of th bound g x p q)) → AllGood (parts_any th bound g x ps qs) → (b : Bool) → AllGood (if b then each_of (parts_of th bound g x p) qs else parts_any th bound g x ps qs)
         by h k true = good_parts (parts_of th bound g x p) qs n h
@@ -237,7 +237,7 @@ module _ (th : ℕ → Theory) (lawful : AreLawful th) (bound : List Variable) (
     good_fold : (f : ℕ) (ps : Trees) (q : Part) → IsGood q → AllGood (parts_folded th bound g x f ps q)
     good_fold f no_trees q n = tt
     good_fold f (tree p no_trees) q n = tt
-    good_fold f (tree p (tree p' ps)) q n = by (λ q h. good p q h) (λ q h. good p' q h) (has_x th bound g x p)
+    good_fold f (tree p (tree p' ps)) q n = by (λ q h. good p q h) (λ q h. good p' q h) (occurs x p)
       where
         by : ((q : Part) → IsGood q → AllGood (parts_of th bound g x p q)) → ((q : Part) → IsGood q → AllGood (parts_of th bound g x p' q)) → (b : Bool) → AllGood (if b then each_of (parts_of th bound g x p) (folded_parts th bound g x f p' q) else each_of (parts_of th bound g x p') (folded_parts th bound g x f p q))
         by h k true = good_parts (parts_of th bound g x p) (folded_parts th bound g x f p' q) (good_folded f p' q n) h

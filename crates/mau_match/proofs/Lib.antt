@@ -1,7 +1,10 @@
+pub mod Sizes
+pub mod Places
+pub mod Adding
 pub mod Search
 pub mod Removal
 pub mod Builds
-pub mod Known
+pub mod KnownElements
 pub mod Sound
 pub mod Lengths
 pub mod Walk

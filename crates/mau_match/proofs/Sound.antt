@@ -12,7 +12,7 @@ use Rattle.mau_terms.proofs.Sorting.{sort_swap}
 use Rattle.mau_terms.proofs.Finite.{in_arrange}
 use Rattle.mau_match.specs.Parts.{Reach, whole, front, inside, Part, just, some_of, Leaves, Reaches, IsOf, AnyOf, without_all, behind_front, weaker, begins, from_some, is_bound, are_bound, known, known_in, are_none, own_part, rest_behind}
 use Rattle.mau_match.proofs.Removal.{more_right, more_left, past, cancel_left, from_arrange, is_without_all, is_behind_front, LessAll, Follows}
-use Rattle.mau_match.proofs.Known.{HasKnown, bound_known, has_known, have_known}
+use Rattle.mau_match.proofs.KnownElements.{HasKnown, bound_known, has_known, have_known}
 
 -- ---- some part of a list of parts
 
@@ -135,8 +135,8 @@ module _ (th : ℕ → Theory) (bound : List Variable) (g gg : Variable → Tree
       last no_trees left right k = k
       last (tree p ps') left right k = weak_leaves r left right (all_pieces (th f).assoc (th f).id f (norms th (instances gg (tree p ps')))) k
 
-      by : (c : Bool) → (th f).comm ≡ c → Reaches c r (l ++ m) ts → AnyOf th (if c then from_some (without_all (known_in th bound g x f ps) ts) (λ us. some_of (if are_bound th bound g x ps then r else weaker r) f us ∷ []) else some_of (if are_none ps then r else weaker r) f ts ∷ []) z
-      by true e k = some true e (if are_bound th bound g x ps then r else weaker r) (without_all (known_in th bound g x f ps) ts) (taken r (are_bound th bound g x ps) l m ts (known_in th bound g x f ps) (have_known th bound g gg x agree lawful f a e ps) k)
+      by : (c : Bool) → (th f).comm ≡ c → Reaches c r (l ++ m) ts → AnyOf th (if c then from_some (without_all (known_in th bound g x f ps) ts) (λ us. some_of (if are_bound bound ps then r else weaker r) f us ∷ []) else some_of (if are_none ps then r else weaker r) f ts ∷ []) z
+      by true e k = some true e (if are_bound bound ps then r else weaker r) (without_all (known_in th bound g x f ps) ts) (taken r (are_bound bound ps) l m ts (known_in th bound g x f ps) (have_known th bound g gg x agree lawful f a e ps) k)
       by false e k = inl (subst (λ d. Reaches d (if are_none ps then r else weaker r) l ts) (sym e) (record {
         left = k.left;
         right = m ++ k.right;
@@ -156,7 +156,7 @@ module _ (th : ℕ → Theory) (bound : List Variable) (g gg : Variable → Tree
       l = list_under (th f) f (norm th (instance gg p))
 
       b : Bool
-      b = is_bound th bound g x p
+      b = is_bound bound p
 
       ks : List Tree
       ks = known th bound g x f p
@@ -177,7 +177,7 @@ module _ (th : ℕ → Theory) (bound : List Variable) (g gg : Variable → Tree
             all = append_assoc k.left l (m ++ k.right) ∙ ap (λ w. k.left ++ w) (sym (append_assoc l m k.right)) ∙ k.all;
           }))
 
-          cut : is_bound th bound g x p ≡ true → (r : Reach) → (k : Reaches false r (l ++ m) ts) → k.left ≡ [] → Leaves r [] k.right → AnyRest f m (from_some (behind_front ks ts) (λ us. (r, us) ∷ []))
+          cut : is_bound bound p ≡ true → (r : Reach) → (k : Reaches false r (l ++ m) ts) → k.left ≡ [] → Leaves r [] k.right → AnyRest f m (from_some (behind_front ks ts) (λ us. (r, us) ∷ []))
           cut eb r k none lv = met (behind_front ks ts) (is_behind_front ks ts)
             where
               joined : ks ++ (m ++ k.right) ≡ ts
@@ -187,7 +187,7 @@ module _ (th : ℕ → Theory) (bound : List Variable) (g gg : Variable → Tree
               met None w = w (m ++ k.right) joined
               met (Some us) w = inl (subst (λ d. Reaches d r m us) (sym e) (record { left = []; right = k.right; leaves = lv; all = w (m ++ k.right) joined }))
 
-          at : (d : Bool) → is_bound th bound g x p ≡ d → (r : Reach) → Reaches false r (l ++ m) ts → AnyRest f m (if d && begins r then from_some (behind_front ks ts) (λ us. (r, us) ∷ []) else (inside, ts) ∷ [])
+          at : (d : Bool) → is_bound bound p ≡ d → (r : Reach) → Reaches false r (l ++ m) ts → AnyRest f m (if d && begins r then from_some (behind_front ks ts) (λ us. (r, us) ∷ []) else (inside, ts) ∷ [])
           at false eb r k = loose r k
           at true eb inside k = loose inside k
           at true eb whole k = cut eb whole k k.leaves.0 (refl, k.leaves.1)

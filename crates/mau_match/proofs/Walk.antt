@@ -13,9 +13,9 @@ use Rattle.mau_terms.proofs.Pieces.{unit_is_unit, Split, unit, many, one, split,
 use Rattle.mau_terms.proofs.Normal.{IsNormal, norms_normal, build_normal}
 use Rattle.mau_terms.proofs.Finite.{in_left, in_right, length-arrange, length_within, each_in, over_its_list, finish_true_one}
 use Rattle.mau_terms.proofs.Variables.{same-is}
-use Rattle.mau_match.specs.Parts.{Reach, whole, Part, just, some_of, Reaches, IsOf, AnyOf, headed, folded_by, has_x, have_x, lists_in, alone_in, folded_parts, apart_from, is_bound, any_of, lists_of, own_part, rest_behind, parts_of, parts_among, parts_at, parts_any, parts_folded, IsFairAt, IsFair, AreFair}
+use Rattle.mau_match.specs.Parts.{Reach, whole, Part, just, some_of, Reaches, IsOf, AnyOf, headed, folded_by, occurs, occurs_among, lists_in, alone_in, folded_parts, apart_from, is_bound, any_of, lists_of, own_part, rest_behind, parts_of, parts_among, parts_at, parts_any, parts_folded, IsFairAt, IsFair, AreFair}
 use Rattle.mau_match.proofs.Builds.{all_in, Built, placed, counted, folded, IsFolded, built_other, list_of_built}
-use Rattle.mau_match.proofs.Known.{bound_norm}
+use Rattle.mau_match.proofs.KnownElements.{bound_norm}
 use Rattle.mau_match.proofs.Lengths.{not_too_few}
 use Rattle.mau_match.proofs.Sound.{any_left, any_right, any_each, any_each_part, any_just, in_each, one_reaches, owns, rests, AnyRest}
 
@@ -270,7 +270,7 @@ module _ (th : ℕ → Theory) (lawful : AreLawful th) (bound : List Variable) (
   any_rests f m (l ∷ ls) F z (inr h) k = any_right th (F l) (each_of F ls) z (any_rests f m ls F z h k)
 
   mutual
-    pub walk : (p : Tree) → IsFair th gg p → has_x th bound g x p ≡ true → (q : Part) → IsOf th q (norm th (instance gg p)) → AnyOf th (parts_of th bound g x p q) (norm th (gg x))
+    pub walk : (p : Tree) → IsFair th gg p → occurs x p ≡ true → (q : Part) → IsOf th q (norm th (instance gg p)) → AnyOf th (parts_of th bound g x p q) (norm th (gg x))
     walk (variable i s) fair hx q o = inl (subst (λ y. IsOf th q (norm th (gg y))) (same-is (i, s) x hx) o)
     walk (numeral n) fair hx q o = cc
     walk (apply f ps) fair hx q o =
@@ -301,52 +301,52 @@ module _ (th : ℕ → Theory) (lawful : AreLawful th) (bound : List Variable) (
             at' (inr (inl w)) = any_right th _ _ y (any_left th _ _ y (any (each_of (any_of th bound g x f) (alone_in th bound g x q)) w))
             at' (inr (inr w)) = any_right th _ _ y (any_right th (parts_any th bound g x ps (each_of (any_of th bound g x f) (alone_in th bound g x q))) _ y (fold w.0 q (build (th f) f zs) w.1 o w.2))
 
-    walk_among : (f : ℕ) (ps : Trees) → AreFair th gg ps → have_x th bound g x ps ≡ true → (f-a : (th f).assoc ≡ true) → ((th f).id ≡ None → (z : Tree) → IsIn z (norms th (instances gg ps)) → list_under (th f) f z ≡ [] → ⊥) → (r : Reach) (ts : List Tree) → Reaches (th f).comm r (all_pieces (th f).assoc (th f).id f (norms th (instances gg ps))) ts → AnyOf th (parts_among th bound g x f ps r ts) (norm th (gg x))
+    walk_among : (f : ℕ) (ps : Trees) → AreFair th gg ps → occurs_among x ps ≡ true → (f-a : (th f).assoc ≡ true) → ((th f).id ≡ None → (z : Tree) → IsIn z (norms th (instances gg ps)) → list_under (th f) f z ≡ [] → ⊥) → (r : Reach) (ts : List Tree) → Reaches (th f).comm r (all_pieces (th f).assoc (th f).id f (norms th (instances gg ps))) ts → AnyOf th (parts_among th bound g x f ps r ts) (norm th (gg x))
     walk_among f no_trees fair hx a full r ts h = cc
     walk_among f (tree p ps) fair hx a full r ts h =
-        subst (λ d. AnyOf th (if d then [] else (if has_x th bound g x p then each_of (parts_of th bound g x p) (own_part th bound g x f ps r ts) else each_of (λ l. parts_among th bound g x f ps l.0 l.1) (rest_behind th bound g x f p r ts))) (norm th (gg x)))
+        subst (λ d. AnyOf th (if d then [] else (if occurs x p then each_of (parts_of th bound g x p) (own_part th bound g x f ps r ts) else each_of (λ l. parts_among th bound g x f ps l.0 l.1) (rest_behind th bound g x f p r ts))) (norm th (gg x)))
         (sym (not_too_few th lawful gg f a (tree p ps) fair full r ts h))
-        (by (λ k q o. walk p fair.0 k q o) (λ k l o. walk_among f ps fair.1 k a (λ u z i. full u z (inr i)) l.0 l.1 o) (has_x th bound g x p) refl)
+        (by (λ k q o. walk p fair.0 k q o) (λ k l o. walk_among f ps fair.1 k a (λ u z i. full u z (inr i)) l.0 l.1 o) (occurs x p) refl)
       where
         y : Tree
         y = norm th (gg x)
 
-        by : (has_x th bound g x p ≡ true → (q : Part) → IsOf th q (norm th (instance gg p)) → AnyOf th (parts_of th bound g x p q) y)
-            → (have_x th bound g x ps ≡ true → (l : Reach × List Tree) → Reaches (th f).comm l.0 (all_pieces (th f).assoc (th f).id f (norms th (instances gg ps))) l.1 → AnyOf th (parts_among th bound g x f ps l.0 l.1) y)
-            → (b : Bool) → has_x th bound g x p ≡ b
+        by : (occurs x p ≡ true → (q : Part) → IsOf th q (norm th (instance gg p)) → AnyOf th (parts_of th bound g x p q) y)
+            → (occurs_among x ps ≡ true → (l : Reach × List Tree) → Reaches (th f).comm l.0 (all_pieces (th f).assoc (th f).id f (norms th (instances gg ps))) l.1 → AnyOf th (parts_among th bound g x f ps l.0 l.1) y)
+            → (b : Bool) → occurs x p ≡ b
             → AnyOf th (if b then each_of (parts_of th bound g x p) (own_part th bound g x f ps r ts) else each_of (λ l. parts_among th bound g x f ps l.0 l.1) (rest_behind th bound g x f p r ts)) y
         by here later true e = any_each_part th (parts_of th bound g x p) (own_part th bound g x f ps r ts) (norm th (instance gg p)) y (owns th bound g gg x agree f a lawful ps r ts (norm th (instance gg p)) h) (here e)
-        by here later false e = any_rests f _ (rest_behind th bound g x f p r ts) (λ l. parts_among th bound g x f ps l.0 l.1) y (rests th bound g gg x agree f a lawful p r ts _ h) (later (either_true (has_x th bound g x p) (have_x th bound g x ps) hx e))
+        by here later false e = any_rests f _ (rest_behind th bound g x f p r ts) (λ l. parts_among th bound g x f ps l.0 l.1) y (rests th bound g gg x agree f a lawful p r ts _ h) (later (either_true (occurs x p) (occurs_among x ps) hx e))
 
-    walk_at : (ps : Trees) → AreFair th gg ps → have_x th bound g x ps ≡ true → (es : List Tree) → norms th (instances gg ps) ≡ es → AnyOf th (parts_at th bound g x ps es) (norm th (gg x))
+    walk_at : (ps : Trees) → AreFair th gg ps → occurs_among x ps ≡ true → (es : List Tree) → norms th (instances gg ps) ≡ es → AnyOf th (parts_at th bound g x ps es) (norm th (gg x))
     walk_at no_trees fair hx es e = cc
     walk_at (tree p ps) fair hx [] e = cc
     walk_at (tree p ps) fair hx (t ∷ es) e =
-        by (λ k o. walk p fair.0 k (just t) o) (λ k. walk_at ps fair.1 k es (let j : norms th (instances gg ps) ≡ es = cc in j)) (has_x th bound g x p) refl
+        by (λ k o. walk p fair.0 k (just t) o) (λ k. walk_at ps fair.1 k es (let j : norms th (instances gg ps) ≡ es = cc in j)) (occurs x p) refl
       where
-        by : (has_x th bound g x p ≡ true → norm th (instance gg p) ≡ t → AnyOf th (parts_of th bound g x p (just t)) (norm th (gg x)))
-            → (have_x th bound g x ps ≡ true → AnyOf th (parts_at th bound g x ps es) (norm th (gg x)))
-            → (b : Bool) → has_x th bound g x p ≡ b → AnyOf th (if b then parts_of th bound g x p (just t) else parts_at th bound g x ps es) (norm th (gg x))
+        by : (occurs x p ≡ true → norm th (instance gg p) ≡ t → AnyOf th (parts_of th bound g x p (just t)) (norm th (gg x)))
+            → (occurs_among x ps ≡ true → AnyOf th (parts_at th bound g x ps es) (norm th (gg x)))
+            → (b : Bool) → occurs x p ≡ b → AnyOf th (if b then parts_of th bound g x p (just t) else parts_at th bound g x ps es) (norm th (gg x))
         by here later true k = here k (let j : norm th (instance gg p) ≡ t = cc in j)
-        by here later false k = later (either_true (has_x th bound g x p) (have_x th bound g x ps) hx k)
+        by here later false k = later (either_true (occurs x p) (occurs_among x ps) hx k)
 
-    walk_any : (ps : Trees) → AreFair th gg ps → have_x th bound g x ps ≡ true → (qs : List Part) → ((z : Tree) → IsIn z (norms th (instances gg ps)) → AnyOf th qs z) → AnyOf th (parts_any th bound g x ps qs) (norm th (gg x))
+    walk_any : (ps : Trees) → AreFair th gg ps → occurs_among x ps ≡ true → (qs : List Part) → ((z : Tree) → IsIn z (norms th (instances gg ps)) → AnyOf th qs z) → AnyOf th (parts_any th bound g x ps qs) (norm th (gg x))
     walk_any no_trees fair hx qs h = cc
     walk_any (tree p ps) fair hx qs h =
-        by (λ k q o. walk p fair.0 k q o) (λ k. walk_any ps fair.1 k qs (λ z i. h z (inr i))) (has_x th bound g x p) refl
+        by (λ k q o. walk p fair.0 k q o) (λ k. walk_any ps fair.1 k qs (λ z i. h z (inr i))) (occurs x p) refl
       where
-        by : (has_x th bound g x p ≡ true → (q : Part) → IsOf th q (norm th (instance gg p)) → AnyOf th (parts_of th bound g x p q) (norm th (gg x)))
-            → (have_x th bound g x ps ≡ true → AnyOf th (parts_any th bound g x ps qs) (norm th (gg x)))
-            → (b : Bool) → has_x th bound g x p ≡ b → AnyOf th (if b then each_of (parts_of th bound g x p) qs else parts_any th bound g x ps qs) (norm th (gg x))
+        by : (occurs x p ≡ true → (q : Part) → IsOf th q (norm th (instance gg p)) → AnyOf th (parts_of th bound g x p q) (norm th (gg x)))
+            → (occurs_among x ps ≡ true → AnyOf th (parts_any th bound g x ps qs) (norm th (gg x)))
+            → (b : Bool) → occurs x p ≡ b → AnyOf th (if b then each_of (parts_of th bound g x p) qs else parts_any th bound g x ps qs) (norm th (gg x))
         by here later true k = any_each_part th (parts_of th bound g x p) qs (norm th (instance gg p)) (norm th (gg x)) (h (norm th (instance gg p)) (inl refl)) (here k)
-        by here later false k = later (either_true (has_x th bound g x p) (have_x th bound g x ps) hx k)
+        by here later false k = later (either_true (occurs x p) (occurs_among x ps) hx k)
 
-    walk_folded : (f : ℕ) (ps : Trees) → AreFair th gg ps → have_x th bound g x ps ≡ true → (i : Identity) (q : Part) (v : Tree) → (th f).id ≡ Some i → IsOf th q v → IsFolded i (norms th (instances gg ps)) v → AnyOf th (parts_folded th bound g x f ps q) (norm th (gg x))
+    walk_folded : (f : ℕ) (ps : Trees) → AreFair th gg ps → occurs_among x ps ≡ true → (i : Identity) (q : Part) (v : Tree) → (th f).id ≡ Some i → IsOf th q v → IsFolded i (norms th (instances gg ps)) v → AnyOf th (parts_folded th bound g x f ps q) (norm th (gg x))
     walk_folded f no_trees fair hx i q v u o e = cc
     walk_folded f (tree p no_trees) fair hx i q v u o (inl e) = cc
     walk_folded f (tree p no_trees) fair hx i q v u o (inr e) = cc
     walk_folded f (tree p (tree p' ps)) fair hx i q v u o e =
-        by (λ k q o. walk p fair.0 k q o) (λ k q o. walk p' fair.1.0 k q o) (has_x th bound g x p) refl
+        by (λ k q o. walk p fair.0 k q o) (λ k q o. walk p' fair.1.0 k q o) (occurs x p) refl
       where
         z : Tree
         z = norm th (instance gg p)
@@ -368,13 +368,13 @@ module _ (th : ℕ → Theory) (lawful : AreLawful th) (bound : List Variable) (
 
         -- the part of one of them, by the other
         part : (other : Tree) (w : Tree) → (w ≡ unit_tree i) ⊎ ((w ≡ v) × (norm th (instance gg other) ≡ unit_tree i)) → AnyOf th (folded_parts th bound g x f other q) w
-        part other w h = subst (λ o'. AnyOf th (folded_by o' (is_bound th bound g x other) (norm th (instance g other)) q) w) (sym u) (at h)
+        part other w h = subst (λ o'. AnyOf th (folded_by o' (is_bound bound other) (norm th (instance g other)) q) w) (sym u) (at h)
           where
-            at : (w ≡ unit_tree i) ⊎ ((w ≡ v) × (norm th (instance gg other) ≡ unit_tree i)) → AnyOf th (just (unit_tree i) ∷ (if is_bound th bound g x other && not (is_unit (Some i) (norm th (instance g other))) then [] else q ∷ [])) w
+            at : (w ≡ unit_tree i) ⊎ ((w ≡ v) × (norm th (instance gg other) ≡ unit_tree i)) → AnyOf th (just (unit_tree i) ∷ (if is_bound bound other && not (is_unit (Some i) (norm th (instance g other))) then [] else q ∷ [])) w
             at (inl k) = inl k
-            at (inr k) = inr (test (is_bound th bound g x other) refl)
+            at (inr k) = inr (test (is_bound bound other) refl)
               where
-                test : (b : Bool) → is_bound th bound g x other ≡ b → AnyOf th (if b && not (is_unit (Some i) (norm th (instance g other))) then [] else q ∷ []) w
+                test : (b : Bool) → is_bound bound other ≡ b → AnyOf th (if b && not (is_unit (Some i) (norm th (instance g other))) then [] else q ∷ []) w
                 test false e' = inl (subst (IsOf th q) (sym k.0) o)
                 test true e' =
                     let t : is_unit (Some i) (norm th (instance g other)) ≡ true = ap (is_unit (Some i)) (bound_norm th bound g gg x agree other e' ∙ k.1) ∙ unit_is_unit i in
@@ -399,17 +399,17 @@ module _ (th : ℕ → Theory) (lawful : AreLawful th) (bound : List Variable) (
             right k = cc
 
         -- a third argument there is none
-        only : (ps : Trees) → norms th (instances gg ps) ≡ [] → have_x th bound g x ps ≡ true → ⊥
+        only : (ps : Trees) → norms th (instances gg ps) ≡ [] → occurs_among x ps ≡ true → ⊥
         only no_trees k h = cc
         only (tree p ps) k h = cc
 
-        by : (has_x th bound g x p ≡ true → (q : Part) → IsOf th q z → AnyOf th (parts_of th bound g x p q) y)
-            → (has_x th bound g x p' ≡ true → (q : Part) → IsOf th q z' → AnyOf th (parts_of th bound g x p' q) y)
-            → (b : Bool) → has_x th bound g x p ≡ b
+        by : (occurs x p ≡ true → (q : Part) → IsOf th q z → AnyOf th (parts_of th bound g x p q) y)
+            → (occurs x p' ≡ true → (q : Part) → IsOf th q z' → AnyOf th (parts_of th bound g x p' q) y)
+            → (b : Bool) → occurs x p ≡ b
             → AnyOf th (if b then each_of (parts_of th bound g x p) (folded_parts th bound g x f p' q) else each_of (parts_of th bound g x p') (folded_parts th bound g x f p q)) y
         by here there true k = any_each_part th (parts_of th bound g x p) (folded_parts th bound g x f p' q) z y (part p' z first) (here k)
-        by here there false k = any_each_part th (parts_of th bound g x p') (folded_parts th bound g x f p q) z' y (part p z' second) (there (in-second (has_x th bound g x p') refl))
+        by here there false k = any_each_part th (parts_of th bound g x p') (folded_parts th bound g x f p q) z' y (part p z' second) (there (in-second (occurs x p') refl))
           where
-            in-second : (b : Bool) → has_x th bound g x p' ≡ b → has_x th bound g x p' ≡ true
+            in-second : (b : Bool) → occurs x p' ≡ b → occurs x p' ≡ true
             in-second true j = j
-            in-second false j = absurd (only ps alone (either_true (has_x th bound g x p') (have_x th bound g x ps) (either_true (has_x th bound g x p) (have_x th bound g x (tree p' ps)) hx k) j))
+            in-second false j = absurd (only ps alone (either_true (occurs x p') (occurs_among x ps) (either_true (occurs x p) (occurs_among x (tree p' ps)) hx k) j))

@@ -3,4 +3,5 @@ pub mod Parts
 pub mod Given
 pub mod Listing
 pub mod AsTrees
+pub mod Walked
 pub mod Laws

@@ -113,35 +113,39 @@ abbrev pub folded_by : Option Identity → Bool → Tree → Part → List Part
 folded_by None is_known v q = []
 folded_by (Some i) is_known v q = just (unit_tree i) ∷ (if is_known && not (is_unit (Some i) v) then [] else q ∷ [])
 
+-- ---- variables of a pattern
+
+-- x occurs in a pattern
+abbrev mutual
+  pub occurs : Variable → Tree → Bool
+  occurs x (variable i s) = same_variable (i, s) x
+  occurs x (numeral n) = false
+  occurs x (apply f ts) = occurs_among x ts
+
+  pub occurs_among : Variable → Trees → Bool
+  occurs_among x no_trees = false
+  occurs_among x (tree t ts) = occurs x t || occurs_among x ts
+
+-- all variables of a pattern are among these
+abbrev mutual
+  pub is_bound : List Variable → Tree → Bool
+  is_bound bound (variable i s) = has_variable bound (i, s)
+  is_bound bound (numeral n) = true
+  is_bound bound (apply f ts) = are_bound bound ts
+
+  pub are_bound : List Variable → Trees → Bool
+  are_bound bound no_trees = true
+  are_bound bound (tree t ts) = is_bound bound t && are_bound bound ts
+
 -- ---- the walk over a pattern to the first place of x, where the variables in `bound` have the values g
 
 module _ (th : ℕ → Theory) (bound : List Variable) (g : Variable → Tree) (x : Variable) where
-  abbrev mutual
-    pub has_x : Tree → Bool
-    has_x (variable i s) = same_variable (i, s) x
-    has_x (numeral n) = false
-    has_x (apply f ts) = have_x ts
-
-    pub have_x : Trees → Bool
-    have_x no_trees = false
-    have_x (tree t ts) = has_x t || have_x ts
-
-  abbrev mutual
-    pub is_bound : Tree → Bool
-    is_bound (variable i s) = has_variable bound (i, s)
-    is_bound (numeral n) = true
-    is_bound (apply f ts) = are_bound ts
-
-    pub are_bound : Trees → Bool
-    are_bound no_trees = true
-    are_bound (tree t ts) = is_bound t && are_bound ts
-
   -- elements that the list of the instance under f has for sure
   abbrev mutual
     pub known : ℕ → Tree → List Tree
     known f (variable i s) = if has_variable bound (i, s) then list_under (th f) f (norm th (g (i, s))) else []
     known f (numeral n) = list_under (th f) f (numeral n)
-    known f (apply h ts) = if are_bound ts then list_under (th f) f (norm th (instance g (apply h ts))) else if h == f then known_in f ts else []
+    known f (apply h ts) = if are_bound bound ts then list_under (th f) f (norm th (instance g (apply h ts))) else if h == f then known_in f ts else []
 
     pub known_in : ℕ → Trees → List Tree
     known_in f no_trees = []
@@ -159,7 +163,7 @@ module _ (th : ℕ → Theory) (bound : List Variable) (g : Variable → Tree) (
 
   -- what an argument may be where it is an identity, or the other one is: that one's value may be known
   abbrev pub folded_parts : ℕ → Tree → Part → List Part
-  folded_parts f other q = folded_by (th f).id (is_bound other) (norm th (instance g other)) q
+  folded_parts f other q = folded_by (th f).id (is_bound bound other) (norm th (instance g other)) q
 
   -- the part, where it is a list of another operator
   abbrev pub apart_from : ℕ → Part → List Part
@@ -182,15 +186,15 @@ module _ (th : ℕ → Theory) (bound : List Variable) (g : Variable → Tree) (
   abbrev pub own_part : ℕ → Trees → Reach → List Tree → List Part
   own_part f ps r ts =
       if (th f).comm
-      then from_some (without_all (known_in f ps) ts) (λ us. some_of (if are_bound ps then r else weaker r) f us ∷ [])
+      then from_some (without_all (known_in f ps) ts) (λ us. some_of (if are_bound bound ps then r else weaker r) f us ∷ [])
       else some_of (if are_none ps then r else weaker r) f ts ∷ []
 
   -- what is left for the arguments behind p
   abbrev pub rest_behind : ℕ → Tree → Reach → List Tree → List (Reach × List Tree)
   rest_behind f p r ts =
       if (th f).comm
-      then from_some (without_all (known f p) ts) (λ us. (if is_bound p then r else weaker r, us) ∷ [])
-      else (if is_bound p && begins r then from_some (behind_front (known f p) ts) (λ us. (r, us) ∷ []) else (inside, ts) ∷ [])
+      then from_some (without_all (known f p) ts) (λ us. (if is_bound bound p then r else weaker r, us) ∷ [])
+      else (if is_bound bound p && begins r then from_some (behind_front (known f p) ts) (λ us. (r, us) ∷ []) else (inside, ts) ∷ [])
 
   abbrev mutual
     -- the parts that the first place of x may take, where p's normal form is of the part q
@@ -205,24 +209,24 @@ module _ (th : ℕ → Theory) (bound : List Variable) (g : Variable → Tree) (
     -- under an associative operator: the arguments' lists, joined, are such a part of the items
     pub parts_among : ℕ → Trees → Reach → List Tree → List Part
     parts_among f no_trees r ts = []
-    parts_among f (tree p ps) r ts = if too_few_for (th f).id (length ts) (least_lengths f (tree p ps)) then [] else (if has_x p then each_of (parts_of p) (own_part f ps r ts) else each_of (λ l. parts_among f ps l.0 l.1) (rest_behind f p r ts))
+    parts_among f (tree p ps) r ts = if too_few_for (th f).id (length ts) (least_lengths f (tree p ps)) then [] else (if occurs x p then each_of (parts_of p) (own_part f ps r ts) else each_of (λ l. parts_among f ps l.0 l.1) (rest_behind f p r ts))
 
     -- each argument is at its place
     pub parts_at : Trees → List Tree → List Part
     parts_at no_trees es = []
     parts_at (tree p ps) [] = []
-    parts_at (tree p ps) (e ∷ es) = if has_x p then parts_of p (just e) else parts_at ps es
+    parts_at (tree p ps) (e ∷ es) = if occurs x p then parts_of p (just e) else parts_at ps es
 
     -- one of two arguments is the identity, and the other is of the part
     pub parts_folded : ℕ → Trees → Part → List Part
     parts_folded f no_trees q = []
     parts_folded f (tree p no_trees) q = []
-    parts_folded f (tree p (tree p' ps)) q = if has_x p then each_of (parts_of p) (folded_parts f p' q) else each_of (parts_of p') (folded_parts f p q)
+    parts_folded f (tree p (tree p' ps)) q = if occurs x p then each_of (parts_of p) (folded_parts f p' q) else each_of (parts_of p') (folded_parts f p q)
 
     -- each argument is of one of the parts
     pub parts_any : Trees → List Part → List Part
     parts_any no_trees qs = []
-    parts_any (tree p ps) qs = if has_x p then each_of (parts_of p) qs else parts_any ps qs
+    parts_any (tree p ps) qs = if occurs x p then each_of (parts_of p) qs else parts_any ps qs
 
 -- ---- what the arguments of an operator have in bare terms
 

@@ -1,4 +1,10 @@
 //! Listing the solutions of a pattern and a subject, modulo associativity, commutativity and identity.
 #![tactic(auto)]
 
+mod known;
 pub mod laws;
+mod lists;
+mod part;
+mod variables;
+
+pub use part::{Given, Part, Reach};

@@ -28,18 +28,18 @@ joined a b k m l n e h =
 
 module _ (th : ℕ → Theory) (bound : List Variable) (g gg : Variable → Tree) (x : Variable) (agree : (y : Variable) → has_variable bound y ≡ true → norm th (g y) ≡ norm th (gg y)) where
   mutual
-    pub bound_norm : (p : Tree) → is_bound th bound g x p ≡ true → norm th (instance g p) ≡ norm th (instance gg p)
+    pub bound_norm : (p : Tree) → is_bound bound p ≡ true → norm th (instance g p) ≡ norm th (instance gg p)
     bound_norm (variable i s) b = agree (i, s) b
     bound_norm (numeral n) b = refl
     bound_norm (apply f ts) b = ap (build (th f) f) (bound_norms ts b)
 
-    pub bound_norms : (ps : Trees) → are_bound th bound g x ps ≡ true → norms th (instances g ps) ≡ norms th (instances gg ps)
+    pub bound_norms : (ps : Trees) → are_bound bound ps ≡ true → norms th (instances g ps) ≡ norms th (instances gg ps)
     bound_norms no_trees b = refl
     bound_norms (tree p ps) b =
-        let e = both_true (is_bound th bound g x p) (are_bound th bound g x ps) b in
+        let e = both_true (is_bound bound p) (are_bound bound ps) b in
         ap₂ (λ v w. v ∷ w) (bound_norm p e.0) (bound_norms ps e.1)
 
-  pub bound_known : (f : ℕ) (p : Tree) → is_bound th bound g x p ≡ true → known th bound g x f p ≡ list_under (th f) f (norm th (instance gg p))
+  pub bound_known : (f : ℕ) (p : Tree) → is_bound bound p ≡ true → known th bound g x f p ≡ list_under (th f) f (norm th (instance gg p))
   bound_known f (variable i s) b = ap (λ w. if w then list_under (th f) f (norm th (g (i, s))) else []) b ∙ ap (list_under (th f) f) (agree (i, s) b)
   bound_known f (numeral n) b = refl
   bound_known f (apply h ts) b =
@@ -66,16 +66,16 @@ module _ (th : ℕ → Theory) (bound : List Variable) (g gg : Variable → Tree
         ap sort_trees (list_of_built th f zs a (norms_normal th lawful (instances gg ps)) ∙ ap (λ b. arrange b all) c) ∙ sort-sort all
 
     mutual
-      pub has_known : (p : Tree) → HasKnown (is_bound th bound g x p) (known th bound g x f p) (list_under (th f) f (norm th (instance gg p)))
+      pub has_known : (p : Tree) → HasKnown (is_bound bound p) (known th bound g x f p) (list_under (th f) f (norm th (instance gg p)))
       has_known (variable i s) = by (has_variable bound (i, s)) refl
         where
           by : (b : Bool) → has_variable bound (i, s) ≡ b → HasKnown b (if b then list_under (th f) f (norm th (g (i, s))) else []) (list_under (th f) f (norm th (gg (i, s))))
           by true e = exact true _ _ (ap (list_under (th f) f) (agree (i, s) e))
           by false e = nothing (list_under (th f) f (norm th (gg (i, s))))
       has_known (numeral n) = exact true _ _ refl
-      has_known (apply h ps) = by (have_known ps) (are_bound th bound g x ps) refl (h == f) refl
+      has_known (apply h ps) = by (have_known ps) (are_bound bound ps) refl (h == f) refl
         where
-          by : HasKnown (are_bound th bound g x ps) (known_in th bound g x f ps) (all_pieces (th f).assoc (th f).id f (norms th (instances gg ps))) → (b : Bool) → are_bound th bound g x ps ≡ b → (d : Bool) → (h == f) ≡ d → HasKnown b (if b then list_under (th f) f (norm th (instance g (apply h ps))) else if d then known_in th bound g x f ps else []) (list_under (th f) f (norm th (instance gg (apply h ps))))
+          by : HasKnown (are_bound bound ps) (known_in th bound g x f ps) (all_pieces (th f).assoc (th f).id f (norms th (instances gg ps))) → (b : Bool) → are_bound bound ps ≡ b → (d : Bool) → (h == f) ≡ d → HasKnown b (if b then list_under (th f) f (norm th (instance g (apply h ps))) else if d then known_in th bound g x f ps else []) (list_under (th f) f (norm th (instance gg (apply h ps))))
           by ih true e d j = exact true _ _ (ap (list_under (th f) f) (bound_norm (apply h ps) e))
           by ih false e false j = nothing (list_under (th f) f (norm th (instance gg (apply h ps))))
           by ih false e true j = record {
@@ -84,7 +84,7 @@ module _ (th : ℕ → Theory) (bound : List Variable) (g gg : Variable → Tree
             none = λ k. cc;
           }
 
-      pub have_known : (ps : Trees) → HasKnown (are_bound th bound g x ps) (known_in th bound g x f ps) (all_pieces (th f).assoc (th f).id f (norms th (instances gg ps)))
+      pub have_known : (ps : Trees) → HasKnown (are_bound bound ps) (known_in th bound g x f ps) (all_pieces (th f).assoc (th f).id f (norms th (instances gg ps)))
       have_known no_trees = exact true [] [] refl
       have_known (tree p ps) =
           let h = has_known p in
@@ -92,5 +92,11 @@ module _ (th : ℕ → Theory) (bound : List Variable) (g gg : Variable → Tree
           record {
             more = h.more ++ k.more;
             same = joined (list_under (th f) f (norm th (instance gg p))) (all_pieces (th f).assoc (th f).id f (norms th (instances gg ps))) (known th bound g x f p) h.more (known_in th bound g x f ps) k.more h.same k.same;
-            none = λ b. let e = both_true (is_bound th bound g x p) (are_bound th bound g x ps) b in ap₂ (λ v w. v ++ w) (h.none e.0) (k.none e.1);
+            none = λ b. let e = both_true (is_bound bound p) (are_bound bound ps) b in ap₂ (λ v w. v ++ w) (h.none e.0) (k.none e.1);
           }
+
+-- where a pattern is bound, all elements of its instance are known
+pub known_of_bound : (th : ℕ → Theory) (bound : List Variable) (g : Variable → Tree) (x : Variable) (f : ℕ) (p : Tree) → is_bound bound p ≡ true → known th bound g x f p ≡ list_under (th f) f (norm th (instance g p))
+known_of_bound th bound g x f (variable i s) b = ap (λ w. if w then list_under (th f) f (norm th (g (i, s))) else []) b
+known_of_bound th bound g x f (numeral n) b = refl
+known_of_bound th bound g x f (apply h ts) b = ap (λ w. if w then list_under (th f) f (norm th (instance g (apply h ts))) else if h == f then known_in th bound g x f ts else []) b
