@@ -1,6 +1,7 @@
 pub mod Sizes
 pub mod Places
 pub mod Adding
+pub mod Taking
 pub mod Search
 pub mod Removal
 pub mod Builds

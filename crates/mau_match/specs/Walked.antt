@@ -1,5 +1,5 @@
 -- What the code of the walk gives, over the terms of a store.
-use Rattle.std.specs.Prelude.{◌≡◌, ◌⊎◌, ◌++◌, ℕ, List, All, true, map}
+use Rattle.std.specs.Prelude.{◌≡◌, ◌⊎◌, ◌++◌, ℕ, List, [], ◌∷◌, All, true, map, Option, Some, None}
 use Rattle.mau_terms.specs.Tree.{Tree, Trees}
 use Rattle.mau_terms.specs.Norm.{norm}
 use Rattle.mau_terms.specs.Subst.{Variable, instance}
@@ -20,6 +20,7 @@ use Rattle.mau_match.specs.declared.part.Reach.{Reach as ReachOfCode}
 use Rattle.mau_match.specs.declared.part.Reach.TheVariants.{Whole, Front, Inside}
 use Rattle.mau_match.specs.declared.part.Part.{Part as PartOfCode}
 use Rattle.mau_match.specs.declared.part.Part.TheVariants.{One, ListOf}
+use Rattle.mau_match.specs.declared.part.Span.{Span}
 use Rattle.mau_match.specs.declared.part.Given.{Given}
 
 -- ---- values of the code as parts
@@ -40,6 +41,22 @@ parts_in nodes qs = map (part_in nodes) qs
 abbrev pub IsPartWithin : SignatureOf → List Node → PartOfCode → Type 0
 IsPartWithin s nodes (One id) = StandsWithin (theory_at s) nodes id.0
 IsPartWithin s nodes (ListOf r op ids) = IsOperator s op.0 × ((theory_at s op.0).assoc ≡ true) × StandWithin (theory_at s) nodes (numbers ids)
+
+-- one part, or none
+abbrev pub option_in : List Node → Option PartOfCode → List Part
+option_in nodes None = []
+option_in nodes (Some q) = part_in nodes q ∷ []
+
+-- so much of some items
+abbrev pub span_in : List Node → Span → Reach × List Tree
+span_in nodes l = (reach_of l.reach, trees_at nodes (numbers l.items.items))
+
+abbrev pub spans_in : List Node → Option Span → List (Reach × List Tree)
+spans_in nodes None = []
+spans_in nodes (Some l) = span_in nodes l ∷ []
+
+abbrev pub IsSpanWithin : SignatureOf → List Node → Span → Type 0
+IsSpanWithin s nodes l = StandWithin (theory_at s) nodes (numbers l.items.items)
 
 -- ---- what is given
 

@@ -5,6 +5,7 @@ mod known;
 pub mod laws;
 mod lists;
 mod part;
+mod steps;
 mod variables;
 
-pub use part::{Given, Part, Reach};
+pub use part::{Given, Part, Reach, Span};

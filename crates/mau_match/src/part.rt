@@ -20,6 +20,13 @@ pub enum Part {
     ListOf(Reach, OpId, Seq<TermId>),
 }
 
+/// So much of some items.
+#[derive(Drop, Debug)]
+pub struct Span {
+    pub reach: Reach,
+    pub items: Vec<TermId>,
+}
+
 /// The variables that have a value, the values, and the variable that is to be given one.
 #[derive(Drop, Debug)]
 pub struct Given {
