@@ -1,13 +1,14 @@
 -- Terms and parts that are added, one after another, while the store grows.
-use Rattle.std.proofs.Common.{◌≡◌, ℕ, ◌≤◌, ◌-◌, List, [], ◌∷◌, ◌++◌, All, map, length, take, drop, get_or, true, Result, Ok, Err, IfErr, inl, refl, sym, ap, ap₂, ◌∙◌, subst, append_assoc, append-nil, arith}
-use Rattle.std.proofs.lemmas.List.{take_rest, map-append}
-use Rattle.std.proofs.lemmas.List.Elements.{All-weaker, All-append, All-take, All-drop, All-head, All-tail}
+use Rattle.std.proofs.Common.{◌+◌, ◌<◌, ◌≡◌, ℕ, ◌≤◌, ◌-◌, List, [], ◌∷◌, ◌++◌, All, map, length, take, drop, get_or, true, Result, Ok, Err, IfErr, inl, refl, sym, ap, ap₂, ◌∙◌, subst, append_assoc, append-nil, arith}
+use Rattle.std.proofs.lemmas.List.{take_more, take_rest, map-append}
+use Rattle.std.proofs.lemmas.List.Elements.{All-append, All-cons, All-drop, All-head, All-nil, All-tail, All-take, All-weaker}
 use Rattle.mau_terms.specs.Tree.{Tree, tree, node, trees_of}
 use Rattle.mau_terms.specs.Bare.{TermSignature, IsBare}
 use Rattle.mau_terms.specs.declared.ids.OpId.{OpId}
 use Rattle.mau_terms.specs.declared.bare.Bare.TheVariants.{App}
 use Rattle.mau_terms.specs.Norm.{norm}
 use Rattle.mau_terms.specs.Subst.{Variable, instance}
+use Rattle.mau_terms.specs.Finite.{each_of}
 use Rattle.mau_terms.specs.View.{tree_of}
 use Rattle.mau_terms.specs.declared.bare.Bare.{Bare}
 use Rattle.mau_terms.specs.declared.ids.TermId.{TermId}
@@ -15,7 +16,7 @@ use Rattle.mau_terms.specs.declared.theory.Theory.{Theory}
 use Rattle.mau_signature.specs.Signature.{SignatureOf, IsOperator, terms_over, theory_at}
 use Rattle.mau_canon.proofs.Collected.{bare_each, bare_node, is_operator}
 use Rattle.mau_store.specs.Node.{Node, Extends}
-use Rattle.mau_store.specs.Trees.{trees_at}
+use Rattle.mau_store.specs.Trees.{tree_at, trees_at}
 use Rattle.mau_store.specs.View.{numbers}
 use Rattle.mau_store.proofs.Growth.{extension_is_preorder, trees_at-extends}
 use Rattle.mau_store.proofs.Standing.{tree_at-extends}
@@ -131,9 +132,32 @@ module _ (s : SignatureOf) where
     parts = ap (parts_in new) k ∙ map-append (part_in new) before more ∙ ap₂ (λ x y. x ++ y) (parts_stay old new e before wb) m;
   }
 
+  pub adds_one_part : (old new : List Node) (before after : List PartOfCode) (q : PartOfCode) (r : Part) → Extends old new → All (IsPartWithin s old) before → IsPartWithin s new q → after ≡ before ++ q ∷ [] → part_in new q ≡ r → AddsParts s old new before after (r ∷ [])
+  adds_one_part old new before after q r e wb wq k m =
+      adds_some_parts old new before (q ∷ []) after (r ∷ []) e wb (All-cons (IsPartWithin s new) q [] wq (All-nil (IsPartWithin s new))) k (ap (λ x. x ∷ []) m)
+
   pub adds_both_parts : (a b c : List Node) (xs ys zs : List PartOfCode) (ps qs : List Part) → AddsParts s a b xs ys ps → AddsParts s b c ys zs qs → AddsParts s a c xs zs (ps ++ qs)
   adds_both_parts a b c xs ys zs ps qs h k = record {
     extends = extension_is_preorder.transitive a b c h.extends k.extends;
     within = k.within;
     parts = k.parts ∙ ap (λ w. w ++ qs) h.parts ∙ append_assoc (parts_in a xs) ps qs;
   }
+
+-- ---- each of some terms
+
+pub parts_ones : (nodes : List Node) (ids : List TermId) → parts_in nodes (map One ids) ≡ map just (trees_at nodes (numbers ids))
+parts_ones nodes [] = refl
+parts_ones nodes (id ∷ ids) = ap (λ w. just (tree_at nodes id.0) ∷ w) (parts_ones nodes ids)
+
+pub ones_within : (s : SignatureOf) (nodes : List Node) (ids : List TermId) → StandWithin (theory_at s) nodes (numbers ids) → All (IsPartWithin s nodes) (map One ids)
+ones_within s nodes [] w = All-nil (IsPartWithin s nodes)
+ones_within s nodes (id ∷ ids) w =
+    All-cons (IsPartWithin s nodes) (One id) (map One ids) (All-head (StandsWithin (theory_at s) nodes) id.0 (numbers ids) w) (ones_within s nodes ids (All-tail (StandsWithin (theory_at s) nodes) id.0 (numbers ids) w))
+
+pub each_of-more : {A B : Type 0} (F : A → List B) (xs : List A) (y : A) → each_of F (xs ++ y ∷ []) ≡ each_of F xs ++ F y
+each_of-more F [] y = append-nil (F y)
+each_of-more F (x ∷ xs) y = ap (λ w. F x ++ w) (each_of-more F xs y) ∙ sym (append_assoc (F x) (each_of F xs) (F y))
+
+-- the trees of one more number
+pub trees_more : (nodes : List Node) (ids : List TermId) (i : ℕ) (d : TermId) → i < length ids → trees_at nodes (numbers (take (i + 1) ids)) ≡ trees_at nodes (numbers (take i ids)) ++ tree_at nodes (get_or ids i d).0 ∷ []
+trees_more nodes ids i d h = ap (λ w. trees_at nodes (numbers w)) (take_more ids i d h) ∙ trees_at-append nodes (take i ids) (get_or ids i d ∷ [])

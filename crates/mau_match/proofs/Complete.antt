@@ -20,7 +20,7 @@ use Rattle.mau_match.specs.Given.{given_variables, given_at}
 use Rattle.mau_match.specs.Laws.{PartsHoldAnswers}
 use Rattle.mau_match.proofs.Fair.{bare_fair}
 use Rattle.mau_match.proofs.Occurring.{occurring_among, instance_along, instances_along}
-use Rattle.mau_match.proofs.Walk.{walk}
+use Rattle.mau_match.proofs.NothingMissed.{walk}
 
 or_left : (a b : Bool) → a ≡ true → (a || b) ≡ true
 or_left true b e = refl

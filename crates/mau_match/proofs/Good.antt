@@ -85,7 +85,7 @@ module _ (th : ℕ → Theory) (lawful : AreLawful th) (bound : List Variable) (
   abbrev GoodList : ℕ → Reach × List Tree → Type 0
   GoodList f l = Each (IsItem f) l.1
 
-  good_lists_in : (f : ℕ) (q : Part) → IsGood q → EachOf (GoodList f) (lists_in th bound g x f q)
+  good_lists_in : (f : ℕ) (q : Part) → IsGood q → EachOf (GoodList f) (lists_in th f q)
   good_lists_in f (just t) n = (own_items f t n, tt)
   good_lists_in f (some_of r h ts) n = by (f == h) refl
     where
@@ -101,7 +101,7 @@ module _ (th : ℕ → Theory) (lawful : AreLawful th) (bound : List Variable) (
       by true e = (subst (λ k. Each (IsItem k) ts) (sym (eqb-true f h e)) n, tt)
       by false e = among ts (normals h ts n)
 
-  good_alone : (q : Part) → IsGood q → EachOf (IsNormal th) (alone_in th bound g x q)
+  good_alone : (q : Part) → IsGood q → EachOf (IsNormal th) (alone_in th q)
   good_alone (just t) n = (n, tt)
   good_alone (some_of r h ts) n = with_unit (th h).id refl
     where
@@ -117,7 +117,7 @@ module _ (th : ℕ → Theory) (lawful : AreLawful th) (bound : List Variable) (
   good_just [] n = tt
   good_just (e ∷ es) n = (n.0, good_just es n.1)
 
-  good_any_of : (f : ℕ) (e : Tree) → IsNormal th e → AllGood (any_of th bound g x f e)
+  good_any_of : (f : ℕ) (e : Tree) → IsNormal th e → AllGood (any_of th f e)
   good_any_of f (variable i s) n = tt
   good_any_of f (numeral k) n = by ((th f).succ && nat_lt 0 k)
     where
@@ -165,7 +165,7 @@ module _ (th : ℕ → Theory) (lawful : AreLawful th) (bound : List Variable) (
       by None e = tt
       by (Some i) e = (unit_normal th lawful f i e, test (b && not (is_unit (Some i) v)))
 
-  good_apart : (f : ℕ) (q : Part) → IsGood q → AllGood (apart_from th bound g x f q)
+  good_apart : (f : ℕ) (q : Part) → IsGood q → AllGood (apart_from th f q)
   good_apart f (just t) n = tt
   good_apart f (some_of r h ts) n = by (f == h)
     where
@@ -176,16 +176,16 @@ module _ (th : ℕ → Theory) (lawful : AreLawful th) (bound : List Variable) (
   abbrev GoodArgs : List Tree → Type 0
   GoodArgs es = Each (IsNormal th) es
 
-  good_lists_of : (f : ℕ) (q : Part) → IsGood q → EachOf GoodArgs (each_of (lists_of th bound g x f) (alone_in th bound g x q))
-  good_lists_of f q n = go (alone_in th bound g x q) (good_alone q n)
+  good_lists_of : (f : ℕ) (q : Part) → IsGood q → EachOf GoodArgs (each_of (lists_of th f) (alone_in th q))
+  good_lists_of f q n = go (alone_in th q) (good_alone q n)
     where
-      go : (es : List Tree) → EachOf (IsNormal th) es → EachOf GoodArgs (each_of (lists_of th bound g x f) es)
+      go : (es : List Tree) → EachOf (IsNormal th) es → EachOf GoodArgs (each_of (lists_of th f) es)
       go [] m = tt
       go (variable i s ∷ es) m = go es m.1
       go (numeral k ∷ es) m = go es m.1
       go (apply h us ∷ es) m = at ((f == h) && not (th f).comm) (go es m.1)
         where
-          at : (b : Bool) → EachOf GoodArgs (each_of (lists_of th bound g x f) es) → EachOf GoodArgs ((if b then list_of us ∷ [] else []) ++ each_of (lists_of th bound g x f) es)
+          at : (b : Bool) → EachOf GoodArgs (each_of (lists_of th f) es) → EachOf GoodArgs ((if b then list_of us ∷ [] else []) ++ each_of (lists_of th f) es)
           at true k = (each_normal th us m.0.0, k)
           at false k = k
 
@@ -200,10 +200,10 @@ module _ (th : ℕ → Theory) (lawful : AreLawful th) (bound : List Variable) (
             → ((es : List Tree) → Each (IsNormal th) es → AllGood (parts_at th bound g x ps es))
             → ((qs : List Part) → AllGood qs → AllGood (parts_any th bound g x ps qs))
             → ((q : Part) → IsGood q → AllGood (parts_folded th bound g x f ps q))
-            → (a : Bool) → AllGood (if a then each_of (λ l. parts_among th bound g x f ps l.0 l.1) (lists_in th bound g x f q) ++ each_of (λ q'. parts_folded th bound g x f ps q') (apart_from th bound g x f q)
-            else each_of (λ es. parts_at th bound g x ps es) (each_of (lists_of th bound g x f) (alone_in th bound g x q)) ++ (parts_any th bound g x ps (each_of (any_of th bound g x f) (alone_in th bound g x q)) ++ parts_folded th bound g x f ps q))
-        by among at any fold true = good_append _ _ (good_each (GoodList f) (λ l. parts_among th bound g x f ps l.0 l.1) (lists_in th bound g x f q) (good_lists_in f q n) (λ l h. among l.0 l.1 h)) (good_parts (λ q'. parts_folded th bound g x f ps q') (apart_from th bound g x f q) (good_apart f q n) fold)
-        by among at any fold false = good_append _ _ (good_each GoodArgs (λ es. parts_at th bound g x ps es) (each_of (lists_of th bound g x f) (alone_in th bound g x q)) (good_lists_of f q n) at) (good_append _ _ (any (each_of (any_of th bound g x f) (alone_in th bound g x q)) (good_each (IsNormal th) (any_of th bound g x f) (alone_in th bound g x q) (good_alone q n) (λ e h. good_any_of f e h))) (fold q n))
+            → (a : Bool) → AllGood (if a then each_of (λ l. parts_among th bound g x f ps l.0 l.1) (lists_in th f q) ++ each_of (λ q'. parts_folded th bound g x f ps q') (apart_from th f q)
+            else each_of (λ es. parts_at th bound g x ps es) (each_of (lists_of th f) (alone_in th q)) ++ (parts_any th bound g x ps (each_of (any_of th f) (alone_in th q)) ++ parts_folded th bound g x f ps q))
+        by among at any fold true = good_append _ _ (good_each (GoodList f) (λ l. parts_among th bound g x f ps l.0 l.1) (lists_in th f q) (good_lists_in f q n) (λ l h. among l.0 l.1 h)) (good_parts (λ q'. parts_folded th bound g x f ps q') (apart_from th f q) (good_apart f q n) fold)
+        by among at any fold false = good_append _ _ (good_each GoodArgs (λ es. parts_at th bound g x ps es) (each_of (lists_of th f) (alone_in th q)) (good_lists_of f q n) at) (good_append _ _ (any (each_of (any_of th f) (alone_in th q)) (good_each (IsNormal th) (any_of th f) (alone_in th q) (good_alone q n) (λ e h. good_any_of f e h))) (fold q n))
 
     good_among : (f : ℕ) (ps : Trees) (r : Reach) (ts : List Tree) → Each (IsItem f) ts → AllGood (parts_among th bound g x f ps r ts)
     good_among f no_trees r ts n = tt

@@ -2,13 +2,14 @@ pub mod Sizes
 pub mod Places
 pub mod Adding
 pub mod Taking
+pub mod Units
 pub mod Search
 pub mod Removal
 pub mod Builds
 pub mod KnownElements
 pub mod Sound
 pub mod Lengths
-pub mod Walk
+pub mod NothingMissed
 pub mod Extension
 pub mod Fair
 pub mod Occurring

@@ -113,6 +113,39 @@ abbrev pub folded_by : Option Identity → Bool → Tree → Part → List Part
 folded_by None is_known v q = []
 folded_by (Some i) is_known v q = just (unit_tree i) ∷ (if is_known && not (is_unit (Some i) v) then [] else q ∷ [])
 
+-- ---- what the arguments of an operator may take from a part, where th gives the axioms of each operator
+
+-- the list of e under f, where f is the top
+abbrev pub lists_below : (ℕ → Theory) → ℕ → Tree → List (Reach × List Tree)
+lists_below th f e = if headed f e then (whole, list_under (th f) f e) ∷ [] else []
+
+-- the lists under f that a normal form of the part may have, where it has a list under f
+abbrev pub lists_in : (ℕ → Theory) → ℕ → Part → List (Reach × List Tree)
+lists_in th f (just t) = (whole, list_under (th f) f t) ∷ []
+lists_in th f (some_of r h ts) = if f == h then (r, ts) ∷ [] else each_of (lists_below th f) ts
+
+-- the normal forms of the part with another top than the part's operator
+abbrev pub alone_in : (ℕ → Theory) → Part → List Tree
+alone_in th (just t) = t ∷ []
+alone_in th (some_of r h ts) = units_of (th h).id ++ ts
+
+-- the part, where it is a list of another operator
+abbrev pub apart_from : (ℕ → Theory) → ℕ → Part → List Part
+apart_from th f (just t) = []
+apart_from th f (some_of r h ts) = if f == h then [] else some_of r h ts ∷ []
+
+-- the parts that an argument may take: of a successor or of a comm operator whose normal form is e
+abbrev pub any_of : (ℕ → Theory) → ℕ → Tree → List Part
+any_of th f (variable i s) = []
+any_of th f (numeral n) = if (th f).succ && nat_lt 0 n then just (numeral (n - 1)) ∷ [] else []
+any_of th f (apply h es) = if (f == h) && (th f).comm then map just (list_of es) else []
+
+-- the lists of arguments, each at its place
+abbrev pub lists_of : (ℕ → Theory) → ℕ → Tree → List (List Tree)
+lists_of th f (variable i s) = []
+lists_of th f (numeral n) = []
+lists_of th f (apply h es) = if (f == h) && not (th f).comm then list_of es ∷ [] else []
+
 -- ---- variables of a pattern
 
 -- x occurs in a pattern
@@ -151,36 +184,9 @@ module _ (th : ℕ → Theory) (bound : List Variable) (g : Variable → Tree) (
     known_in f no_trees = []
     known_in f (tree t ts) = known f t ++ known_in f ts
 
-  -- the lists under f that a normal form of the part may have, where it has a list under f
-  abbrev pub lists_in : ℕ → Part → List (Reach × List Tree)
-  lists_in f (just t) = (whole, list_under (th f) f t) ∷ []
-  lists_in f (some_of r h ts) = if f == h then (r, ts) ∷ [] else each_of (λ e. if headed f e then (whole, list_under (th f) f e) ∷ [] else []) ts
-
-  -- the normal forms of the part with another top than the part's operator
-  abbrev pub alone_in : Part → List Tree
-  alone_in (just t) = t ∷ []
-  alone_in (some_of r h ts) = units_of (th h).id ++ ts
-
   -- what an argument may be where it is an identity, or the other one is: that one's value may be known
   abbrev pub folded_parts : ℕ → Tree → Part → List Part
   folded_parts f other q = folded_by (th f).id (is_bound bound other) (norm th (instance g other)) q
-
-  -- the part, where it is a list of another operator
-  abbrev pub apart_from : ℕ → Part → List Part
-  apart_from f (just t) = []
-  apart_from f (some_of r h ts) = if f == h then [] else some_of r h ts ∷ []
-
-  -- the parts that an argument may take: of a successor or of a comm operator whose normal form is e
-  abbrev pub any_of : ℕ → Tree → List Part
-  any_of f (variable i s) = []
-  any_of f (numeral n) = if (th f).succ && nat_lt 0 n then just (numeral (n - 1)) ∷ [] else []
-  any_of f (apply h es) = if (f == h) && (th f).comm then map just (list_of es) else []
-
-  -- the lists of arguments, each at its place
-  abbrev pub lists_of : ℕ → Tree → List (List Tree)
-  lists_of f (variable i s) = []
-  lists_of f (numeral n) = []
-  lists_of f (apply h es) = if (f == h) && not (th f).comm then list_of es ∷ [] else []
 
   -- under an associative operator: the part that the argument before ps takes, where the lists of it and of ps, joined, are such a part of ts
   abbrev pub own_part : ℕ → Trees → Reach → List Tree → List Part
@@ -203,8 +209,8 @@ module _ (th : ℕ → Theory) (bound : List Variable) (g : Variable → Tree) (
     parts_of (numeral n) q = []
     parts_of (apply f ps) q =
         if (th f).assoc
-        then each_of (λ l. parts_among f ps l.0 l.1) (lists_in f q) ++ each_of (λ q'. parts_folded f ps q') (apart_from f q)
-        else each_of (λ es. parts_at ps es) (each_of (lists_of f) (alone_in q)) ++ (parts_any ps (each_of (any_of f) (alone_in q)) ++ parts_folded f ps q)
+        then each_of (λ l. parts_among f ps l.0 l.1) (lists_in th f q) ++ each_of (λ q'. parts_folded f ps q') (apart_from th f q)
+        else each_of (λ es. parts_at ps es) (each_of (lists_of th f) (alone_in th q)) ++ (parts_any ps (each_of (any_of th f) (alone_in th q)) ++ parts_folded f ps q)
 
     -- under an associative operator: the arguments' lists, joined, are such a part of the items
     pub parts_among : ℕ → Trees → Reach → List Tree → List Part

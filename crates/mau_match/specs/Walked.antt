@@ -3,6 +3,7 @@ use Rattle.std.specs.Prelude.{◌≡◌, ◌⊎◌, ◌++◌, ℕ, List, [], ◌
 use Rattle.mau_terms.specs.Tree.{Tree, Trees}
 use Rattle.mau_terms.specs.Norm.{norm}
 use Rattle.mau_terms.specs.Subst.{Variable, instance}
+use Rattle.mau_terms.specs.Finite.{each_of}
 use Rattle.mau_terms.specs.View.{variable_of}
 use Rattle.mau_terms.specs.declared.theory.Theory.{Theory}
 use Rattle.mau_terms.specs.declared.ids.TermId.{TermId}
@@ -15,7 +16,7 @@ use Rattle.mau_canon.specs.Values.{values_in}
 use Rattle.mau_canon.specs.declared.fault.BuildFault.{BuildFault}
 use Rattle.mau_canon.specs.declared.fault.BuildFault.TheVariants.{TooDeep, Overflow, NoMemory}
 use Rattle.mau_api.specs.Asked.{IsBelow, IsBelowOne}
-use Rattle.mau_match.specs.Parts.{Reach, whole, front, inside, Part, just, some_of, is_bound}
+use Rattle.mau_match.specs.Parts.{Reach, whole, front, inside, Part, just, some_of, is_bound, lists_of, alone_in, any_of, parts_of, parts_among, parts_at, parts_any, parts_folded}
 use Rattle.mau_match.specs.declared.part.Reach.{Reach as ReachOfCode}
 use Rattle.mau_match.specs.declared.part.Reach.TheVariants.{Whole, Front, Inside}
 use Rattle.mau_match.specs.declared.part.Part.{Part as PartOfCode}
@@ -46,6 +47,11 @@ IsPartWithin s nodes (ListOf r op ids) = IsOperator s op.0 × ((theory_at s op.0
 abbrev pub option_in : List Node → Option PartOfCode → List Part
 option_in nodes None = []
 option_in nodes (Some q) = part_in nodes q ∷ []
+
+-- one term, or none
+abbrev pub units_in : List Node → Option TermId → List Tree
+units_in nodes None = []
+units_in nodes (Some id) = tree_at nodes id.0 ∷ []
 
 -- so much of some items
 abbrev pub span_in : List Node → Span → Reach × List Tree
@@ -106,3 +112,43 @@ abbrev pub IsFault : Type 0 → BuildFault → Type 0
 IsFault A NoMemory = Unit {0}
 IsFault A TooDeep = A
 IsFault A Overflow = A
+
+-- ---- the walk over the terms of a store
+
+abbrev pub refused_in : SignatureOf → List Node → Given → Tree → Type 0
+refused_in s nodes g p = IsRefused (theory_at s) (bound_of g) (values_of nodes g) p
+
+abbrev pub all_refused_in : SignatureOf → List Node → Given → Trees → Type 0
+all_refused_in s nodes g ps = AreRefused (theory_at s) (bound_of g) (values_of nodes g) ps
+
+abbrev pub walked : SignatureOf → List Node → Given → Tree → Part → List Part
+walked s nodes g p q = parts_of (theory_at s) (bound_of g) (values_of nodes g) (target_of g) p q
+
+abbrev pub walked_each : SignatureOf → List Node → Given → Tree → List Part → List Part
+walked_each s nodes g p qs = each_of (walked s nodes g p) qs
+
+abbrev pub walked_among : SignatureOf → List Node → Given → ℕ → Trees → Reach × List Tree → List Part
+walked_among s nodes g f ps l = parts_among (theory_at s) (bound_of g) (values_of nodes g) (target_of g) f ps l.0 l.1
+
+abbrev pub walked_lists : SignatureOf → List Node → Given → ℕ → Trees → List (Reach × List Tree) → List Part
+walked_lists s nodes g f ps ls = each_of (walked_among s nodes g f ps) ls
+
+abbrev pub walked_at : SignatureOf → List Node → Given → Trees → List Tree → List Part
+walked_at s nodes g ps es = parts_at (theory_at s) (bound_of g) (values_of nodes g) (target_of g) ps es
+
+abbrev pub walked_any : SignatureOf → List Node → Given → Trees → List Part → List Part
+walked_any s nodes g ps qs = parts_any (theory_at s) (bound_of g) (values_of nodes g) (target_of g) ps qs
+
+abbrev pub walked_folded : SignatureOf → List Node → Given → ℕ → Trees → Part → List Part
+walked_folded s nodes g f ps q = parts_folded (theory_at s) (bound_of g) (values_of nodes g) (target_of g) f ps q
+
+-- the terms of one list, or none
+abbrev pub lists_found : List Node → Option (List TermId) → List (List Tree)
+lists_found nodes None = []
+lists_found nodes (Some ids) = trees_at nodes (numbers ids) ∷ []
+
+-- what the arguments of an operator that is not associative take
+abbrev pub walked_other : SignatureOf → List Node → Given → ℕ → Trees → Part → List Part
+walked_other s nodes g f ps q =
+    each_of (walked_at s nodes g ps) (each_of (lists_of (theory_at s) f) (alone_in (theory_at s) q))
+    ++ (walked_any s nodes g ps (each_of (any_of (theory_at s) f) (alone_in (theory_at s) q)) ++ walked_folded s nodes g f ps q)

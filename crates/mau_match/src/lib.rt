@@ -1,6 +1,7 @@
 //! Listing the solutions of a pattern and a subject, modulo associativity, commutativity and identity.
 #![tactic(auto)]
 
+mod choices;
 mod known;
 pub mod laws;
 mod lists;

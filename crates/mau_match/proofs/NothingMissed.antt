@@ -52,7 +52,7 @@ module _ (th : ℕ → Theory) (lawful : AreLawful th) (bound : List Variable) (
   -- ---- an associative operator
 
   abbrev Way : ℕ → List Tree → Part → Type 0
-  Way f zs q = ((l : Reach × List Tree) × IsIn l (lists_in th bound g x f q) × Reaches (th f).comm l.0 (all_pieces (th f).assoc (th f).id f zs) l.1) ⊎ (IsIn q (apart_from th bound g x f q) × ((i : Identity) × ((th f).id ≡ Some i) × IsFolded i zs (build (th f) f zs)))
+  Way f zs q = ((l : Reach × List Tree) × IsIn l (lists_in th f q) × Reaches (th f).comm l.0 (all_pieces (th f).assoc (th f).id f zs) l.1) ⊎ (IsIn q (apart_from th f q) × ((i : Identity) × ((th f).id ≡ Some i) × IsFolded i zs (build (th f) f zs)))
 
   ways : (f : ℕ) → (th f).assoc ≡ true → (zs : List Tree) → Each (IsNormal th) zs → IsFairAt th f zs → (q : Part) → IsOf th q (build (th f) f zs) → Way f zs q
   ways f a zs n fair q h = by q h
@@ -207,7 +207,7 @@ module _ (th : ℕ → Theory) (lawful : AreLawful th) (bound : List Variable) (
 
   -- ---- any other operator
 
-  alone_is : (q : Part) (v : Tree) → ((h : ℕ) (us : Trees) → (th h).assoc ≡ true → v ≡ apply h us → ⊥) → IsOf th q v → IsIn v (alone_in th bound g x q)
+  alone_is : (q : Part) (v : Tree) → ((h : ℕ) (us : Trees) → (th h).assoc ≡ true → v ≡ apply h us → ⊥) → IsOf th q v → IsIn v (alone_in th q)
   alone_is (just t) v nope o = inl o
   alone_is (some_of r h ts) v nope o = by (split (th h).assoc (th h).id h v)
     where
@@ -218,8 +218,8 @@ module _ (th : ℕ → Theory) (lawful : AreLawful th) (bound : List Variable) (
 
   abbrev OtherWay : ℕ → List Tree → Part → Type 0
   OtherWay f zs q =
-      IsIn zs (each_of (lists_of th bound g x f) (alone_in th bound g x q))
-      ⊎ ((z : Tree) → IsIn z zs → AnyOf th (each_of (any_of th bound g x f) (alone_in th bound g x q)) z)
+      IsIn zs (each_of (lists_of th f) (alone_in th q))
+      ⊎ ((z : Tree) → IsIn z zs → AnyOf th (each_of (any_of th f) (alone_in th q)) z)
       ⊎ ((i : Identity) × ((th f).id ≡ Some i) × IsFolded i zs (build (th f) f zs))
 
   other_ways : (f : ℕ) → (th f).assoc ≡ false → (zs : List Tree) → IsFairAt th f zs → (q : Part) → IsOf th q (build (th f) f zs) → OtherWay f zs q
@@ -229,15 +229,15 @@ module _ (th : ℕ → Theory) (lawful : AreLawful th) (bound : List Variable) (
       v = build (th f) f zs
 
       alone : List Tree
-      alone = alone_in th bound g x q
+      alone = alone_in th q
 
       by : Built (th f) f zs v → OtherWay f zs q
       by (folded i u e) = inr (inr (i, u, e))
       by (counted n s e i) =
           let nope : (h : ℕ) (us : Trees) → (th h).assoc ≡ true → v ≡ apply h us → ⊥ = (λ h us b k. let j : numeral (n + 1) ≡ apply h us = sym e ∙ k in cc) in
           let m : n + 1 - 1 ≡ n = omega arith in
-          inr (inl (λ z k. any_each th (any_of th bound g x f) v alone z (alone_is q v nope o)
-          (subst (λ w. AnyOf th (any_of th bound g x f w) z) (sym e)
+          inr (inl (λ z k. any_each th (any_of th f) v alone z (alone_is q v nope o)
+          (subst (λ w. AnyOf th (any_of th f w) z) (sym e)
           (subst (λ d. AnyOf th (if d then just (numeral (n + 1 - 1)) ∷ [] else []) z) (sym (ap₂ (λ p r. p && r) s (positive n)))
           (inl (elim (all_in zs (numeral n ∷ []) z i k) [ inl w ↦ w ∙ ap numeral (sym m) | inr w ↦ absurd w ]))))))
       by (placed es e i nc) = at (th f).comm refl
@@ -252,13 +252,13 @@ module _ (th : ℕ → Theory) (lawful : AreLawful th) (bound : List Variable) (
           there = alone_is q v nope o
 
           at : (c : Bool) → (th f).comm ≡ c → OtherWay f zs q
-          at true w = inr (inl (λ z k. any_each th (any_of th bound g x f) v alone z there
-              (subst (λ t. AnyOf th (any_of th bound g x f t) z) (sym e)
+          at true w = inr (inl (λ z k. any_each th (any_of th f) v alone z there
+              (subst (λ t. AnyOf th (any_of th f t) z) (sym e)
               (subst (λ d. AnyOf th (if d then map just (list_of (trees_of es)) else []) z) (sym (ap₂ (λ p r. p && r) (eq-eqb f f refl) w))
               (any_just th (list_of (trees_of es)) z (subst (IsIn z) (sym (list_of-trees_of es)) (all_in zs es z i k)))))))
           at false w =
-              inl (in_each (lists_of th bound g x f) v alone zs there
-              (subst (λ t. IsIn zs (lists_of th bound g x f t)) (sym e)
+              inl (in_each (lists_of th f) v alone zs there
+              (subst (λ t. IsIn zs (lists_of th f t)) (sym e)
               (subst (λ d. IsIn zs (if d then list_of (trees_of es) ∷ [] else [])) (sym (ap₂ (λ p r. p && not r) (eq-eqb f f refl) w))
               (inl (nc w ∙ sym (list_of-trees_of es))))))
 
@@ -287,19 +287,19 @@ module _ (th : ℕ → Theory) (lawful : AreLawful th) (bound : List Variable) (
             → ((qs : List Part) → ((z : Tree) → IsIn z zs → AnyOf th qs z) → AnyOf th (parts_any th bound g x ps qs) y)
             → ((i : Identity) (q : Part) (v : Tree) → (th f).id ≡ Some i → IsOf th q v → IsFolded i zs v → AnyOf th (parts_folded th bound g x f ps q) y)
             → (a : Bool) → (th f).assoc ≡ a
-            → AnyOf th (if a then each_of (λ l. parts_among th bound g x f ps l.0 l.1) (lists_in th bound g x f q) ++ each_of (λ q'. parts_folded th bound g x f ps q') (apart_from th bound g x f q)
-            else each_of (λ es. parts_at th bound g x ps es) (each_of (lists_of th bound g x f) (alone_in th bound g x q)) ++ (parts_any th bound g x ps (each_of (any_of th bound g x f) (alone_in th bound g x q)) ++ parts_folded th bound g x f ps q)) y
+            → AnyOf th (if a then each_of (λ l. parts_among th bound g x f ps l.0 l.1) (lists_in th f q) ++ each_of (λ q'. parts_folded th bound g x f ps q') (apart_from th f q)
+            else each_of (λ es. parts_at th bound g x ps es) (each_of (lists_of th f) (alone_in th q)) ++ (parts_any th bound g x ps (each_of (any_of th f) (alone_in th q)) ++ parts_folded th bound g x f ps q)) y
         by among at any fold true a = at' (ways f a zs (norms_normal th lawful (instances gg ps)) fair.0 q o)
           where
-            at' : Way f zs q → AnyOf th (each_of (λ l. parts_among th bound g x f ps l.0 l.1) (lists_in th bound g x f q) ++ each_of (λ q'. parts_folded th bound g x f ps q') (apart_from th bound g x f q)) y
-            at' (inl w) = any_left th _ _ y (any_each th (λ l. parts_among th bound g x f ps l.0 l.1) w.0 (lists_in th bound g x f q) y w.1 (among a w.0.0 w.0.1 w.2))
-            at' (inr w) = any_right th _ _ y (any_each th (λ q'. parts_folded th bound g x f ps q') q (apart_from th bound g x f q) y w.0 (fold w.1.0 q (build (th f) f zs) w.1.1 o w.1.2))
+            at' : Way f zs q → AnyOf th (each_of (λ l. parts_among th bound g x f ps l.0 l.1) (lists_in th f q) ++ each_of (λ q'. parts_folded th bound g x f ps q') (apart_from th f q)) y
+            at' (inl w) = any_left th _ _ y (any_each th (λ l. parts_among th bound g x f ps l.0 l.1) w.0 (lists_in th f q) y w.1 (among a w.0.0 w.0.1 w.2))
+            at' (inr w) = any_right th _ _ y (any_each th (λ q'. parts_folded th bound g x f ps q') q (apart_from th f q) y w.0 (fold w.1.0 q (build (th f) f zs) w.1.1 o w.1.2))
         by among at any fold false a = at' (other_ways f a zs fair.0 q o)
           where
-            at' : OtherWay f zs q → AnyOf th (each_of (λ es. parts_at th bound g x ps es) (each_of (lists_of th bound g x f) (alone_in th bound g x q)) ++ (parts_any th bound g x ps (each_of (any_of th bound g x f) (alone_in th bound g x q)) ++ parts_folded th bound g x f ps q)) y
-            at' (inl w) = any_left th _ _ y (any_each th (λ es. parts_at th bound g x ps es) zs (each_of (lists_of th bound g x f) (alone_in th bound g x q)) y w (at zs refl))
-            at' (inr (inl w)) = any_right th _ _ y (any_left th _ _ y (any (each_of (any_of th bound g x f) (alone_in th bound g x q)) w))
-            at' (inr (inr w)) = any_right th _ _ y (any_right th (parts_any th bound g x ps (each_of (any_of th bound g x f) (alone_in th bound g x q))) _ y (fold w.0 q (build (th f) f zs) w.1 o w.2))
+            at' : OtherWay f zs q → AnyOf th (each_of (λ es. parts_at th bound g x ps es) (each_of (lists_of th f) (alone_in th q)) ++ (parts_any th bound g x ps (each_of (any_of th f) (alone_in th q)) ++ parts_folded th bound g x f ps q)) y
+            at' (inl w) = any_left th _ _ y (any_each th (λ es. parts_at th bound g x ps es) zs (each_of (lists_of th f) (alone_in th q)) y w (at zs refl))
+            at' (inr (inl w)) = any_right th _ _ y (any_left th _ _ y (any (each_of (any_of th f) (alone_in th q)) w))
+            at' (inr (inr w)) = any_right th _ _ y (any_right th (parts_any th bound g x ps (each_of (any_of th f) (alone_in th q))) _ y (fold w.0 q (build (th f) f zs) w.1 o w.2))
 
     walk_among : (f : ℕ) (ps : Trees) → AreFair th gg ps → occurs_among x ps ≡ true → (f-a : (th f).assoc ≡ true) → ((th f).id ≡ None → (z : Tree) → IsIn z (norms th (instances gg ps)) → list_under (th f) f z ≡ [] → ⊥) → (r : Reach) (ts : List Tree) → Reaches (th f).comm r (all_pieces (th f).assoc (th f).id f (norms th (instances gg ps))) ts → AnyOf th (parts_among th bound g x f ps r ts) (norm th (gg x))
     walk_among f no_trees fair hx a full r ts h = cc
