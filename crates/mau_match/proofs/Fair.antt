@@ -1,0 +1,68 @@
+-- Bare instances are fair.
+use Rattle.std.proofs.Common.{◌≡◌, ℕ, suc, List, [], ◌∷◌, length, true, None, inl, inr, refl, sym, ◌∙◌, ap, subst}
+use Rattle.mau_terms.specs.Tree.{Tree, variable, numeral, apply, Trees, no_trees, tree, list_of}
+use Rattle.mau_terms.specs.Norm.{norm, norms}
+use Rattle.mau_terms.specs.Reading.{reading, nest}
+use Rattle.mau_terms.specs.Bare.{TermSignature, IsBareIn, AreBareIn, IsBare, EqualModulo, same_term, one_step, IsLawful}
+use Rattle.mau_terms.specs.Subst.{Variable, instance, instances}
+use Rattle.mau_terms.specs.Solution.{list_under}
+use Rattle.mau_terms.specs.Finite.{IsIn}
+use Rattle.mau_terms.proofs.Pieces.{Split, unit, many, one, split}
+use Rattle.mau_terms.proofs.Law.{equal_reading}
+use Rattle.mau_match.specs.Parts.{IsFairAt, IsFair, AreFair}
+
+bare_end : (s : TermSignature) {t u : Tree} → EqualModulo s t u → IsBare s u
+bare_end s (same_term b) = b
+bare_end s (one_step b x p) = bare_end s p
+
+module _ (s : TermSignature) (lawful : IsLawful s) where
+  -- no bare term has the empty list of an associative operator as its normal form
+  never_empty : (t : Tree) → IsBare s t → (f : ℕ) → (s.theory f).assoc ≡ true → norm s.theory t ≡ apply f no_trees → ⊥
+  never_empty t b f a e = by (subst (λ w. IsBare s (reading s.theory w)) e (bare_end s (equal_reading s lawful t b)))
+    where
+      by : IsBare s (reading s.theory (apply f no_trees)) → ⊥
+      by h =
+          let b' : IsBare s (apply f no_trees) = subst (λ c. IsBare s (nest c f [])) a h in
+          subst (AreBareIn s no_trees) (lawful.assoc_kinds f a) b'.1.2
+
+  filled : (t : Tree) → IsBare s t → (f : ℕ) → (s.theory f).assoc ≡ true → (s.theory f).id ≡ None → list_under (s.theory f) f (norm s.theory t) ≡ [] → ⊥
+  filled t b f a n e = by (split (s.theory f).assoc (s.theory f).id f (norm s.theory t))
+    where
+      by : Split (s.theory f).assoc (s.theory f).id f (norm s.theory t) → ⊥
+      by (unit i u k p) = cc
+      by (one p) = cc
+      by (many ts h k p) = none ts (sym p ∙ e) k
+        where
+          none : (ts : Trees) → list_of ts ≡ [] → norm s.theory t ≡ apply f ts → ⊥
+          none no_trees j k = never_empty t b f a k
+          none (tree v vs) j k = cc
+
+  as_long : (ts : Trees) (ks : List ℕ) → AreBareIn s ts ks → length (norms s.theory ts) ≡ length ks
+  as_long no_trees [] b = refl
+  as_long no_trees (k ∷ ks) b = absurd b
+  as_long (tree t ts) [] b = absurd b
+  as_long (tree t ts) (k ∷ ks) b = ap suc (as_long ts ks b.1)
+
+  all_filled : (ts : Trees) (ks : List ℕ) → AreBareIn s ts ks → (f : ℕ) → (s.theory f).assoc ≡ true → (s.theory f).id ≡ None → (z : Tree) → IsIn z (norms s.theory ts) → list_under (s.theory f) f z ≡ [] → ⊥
+  all_filled no_trees ks b f a n z h e = h
+  all_filled (tree t ts) [] b f a n z h e = b
+  all_filled (tree t ts) (k ∷ ks) b f a n z (inl h) e = filled t (k, b.0) f a n (ap (list_under (s.theory f) f) (sym h) ∙ e)
+  all_filled (tree t ts) (k ∷ ks) b f a n z (inr h) e = all_filled ts ks b.1 f a n z h e
+
+  fair_at : (f : ℕ) (ts : Trees) → AreBareIn s ts (s.arguments f) → IsFairAt s.theory f (norms s.theory ts)
+  fair_at f ts b = record {
+    two_by_unit = λ i u. as_long ts (s.arguments f) b ∙ ap length (lawful.unit_kinds f i u).0;
+    two_by_assoc = λ a. as_long ts (s.arguments f) b ∙ ap length (lawful.assoc_kinds f a);
+    filled = λ a n z h e. all_filled ts (s.arguments f) b f a n z h e;
+  }
+
+  mutual
+    pub bare_fair : (g : Variable → Tree) (p : Tree) (k : ℕ) → IsBareIn s (instance g p) k → IsFair s.theory g p
+    bare_fair g (variable i r) k b = tt
+    bare_fair g (numeral n) k b = tt
+    bare_fair g (apply f ps) k b = (fair_at f (instances g ps) b.2, bare_fairs g ps (s.arguments f) b.2)
+
+    bare_fairs : (g : Variable → Tree) (ps : Trees) (ks : List ℕ) → AreBareIn s (instances g ps) ks → AreFair s.theory g ps
+    bare_fairs g no_trees ks b = tt
+    bare_fairs g (tree p ps) [] b = absurd b
+    bare_fairs g (tree p ps) (k ∷ ks) b = (bare_fair g p k b.0, bare_fairs g ps ks b.1)

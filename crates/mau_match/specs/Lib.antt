@@ -1,0 +1,7 @@
+pub mod Search
+pub mod Parts
+pub mod Given
+pub mod Listing
+pub mod AsTrees
+pub mod Walked
+pub mod Laws
