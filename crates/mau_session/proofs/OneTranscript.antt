@@ -162,7 +162,7 @@ module _ (ws : List Word) (m : ModuleOf) (free : HasNoAxioms (terms_in m)) (k : 
   terms_once (listed p ns t os found x y w l) (subject_refused p' ns' f' x' u' n') = absurd (no_subject_read p' ns' f' x' u' n' (record { pairs = ns; pattern = x; subject = y }))
   terms_once (listed p ns t os found x y w l) (too_deep p' ns' t' os' x' y' d') = let one = pair_once (record { pairs = ns'; pattern = x'; subject = y' }) (record { pairs = ns; pattern = x; subject = y }) in absurd (not_deep_and_within (tree_of t') (tree_of t) one.subject d' w)
   terms_once (listed p ns t os found x y w l) (overflows p' ns' t' os' x' y' d') = let one = pair_once (record { pairs = ns'; pattern = x'; subject = y' }) (record { pairs = ns; pattern = x; subject = y }) in absurd (not_overflow_and_within (tree_of t') (tree_of t) one.subject d' w)
-  terms_once (listed p ns t os found x y w l) (listed p' ns' t' os' found' x' y' w' l') = 
+  terms_once (listed p ns t os found x y w l) (listed p' ns' t' os' found' x' y' w' l') =
       let one = pair_once (record { pairs = ns; pattern = x; subject = y }) (record { pairs = ns'; pattern = x'; subject = y' }) in
       let l'' = subst (λ p. IsListing m p (tree_of t) found') (sym one.pattern) (subst (λ t. IsListing m (tree_of p') t found') (sym one.subject) l') in
       let same = listing_once m free (tree_of p) (tree_of t) ns (read_numbered m.grammar (part_texts ws c.first) AnyKind ns p x) found found' l l'' in

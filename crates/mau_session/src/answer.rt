@@ -149,7 +149,14 @@ fn answer_terms(
     ensures { IfOk result (λ refused. GainsTerms words.now module.now number command.now out.old.items out.new.items refused) }
 {
     let mut vars = Vars::new(alloc);
-    match read_term(alloc, words, module, &mut vars, Goal::AnyKind, command.first.items()) {
+    match read_term(
+        alloc,
+        words,
+        module,
+        &mut vars,
+        Goal::AnyKind,
+        command.first.items(),
+    ) {
         Err(fault) => refuse_term(out, number, &fault),
         Ok(pattern) => answer_subject(
             out, alloc, words, module, number, command, &mut vars, &pattern,

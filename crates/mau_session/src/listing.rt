@@ -63,7 +63,9 @@ fn write_values(
     for i in 0..values.len() {
         match vars.variable(i as u32) {
             Some(variable) => {
-                write_value(out, alloc, module, printer, vars, variable, store, values[i])?
+                write_value(
+                    out, alloc, module, printer, vars, variable, store, values[i],
+                )?
             }
             None => unreachable!(),
         }
