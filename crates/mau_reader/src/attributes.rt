@@ -78,13 +78,7 @@ fn precedence_of(text: &str) -> Option<u8>
         return None;
     }
     match text.parse::<u8>() {
-        Ok(number) => {
-            if number <= 127 {
-                Some(number)
-            } else {
-                None
-            }
-        }
+        Ok(number) => { if number <= 127 { Some(number) } else { None } }
         Err(_) => None,
     }
 }
@@ -222,11 +216,7 @@ fn read_attribute(
 }
 
 /// The attributes of a list.
-pub fn read_attributes(
-    alloc: Global,
-    words: &Words,
-    list: &[RawAttr],
-) -> Result<Attrs, ReadFault>
+pub fn read_attributes(alloc: Global, words: &Words, list: &[RawAttr]) -> Result<Attrs, ReadFault>
     ensures reads { Reads result (read_all (Attributes.attribute_step words.now) no_attributes list.now) }
     ensures builtin { IfOk result (λ a. a.builtin ≡ None) }
 {

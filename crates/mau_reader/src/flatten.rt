@@ -80,12 +80,7 @@ fn all_meant(
 }
 
 /// The declaration of the operator with this form.
-fn declaration(
-    alloc: Global,
-    poset: &Poset,
-    ops: &Operators,
-    form: &Form,
-) -> Result<Decl, NoMemory>
+fn declaration(alloc: Global, poset: &Poset, ops: &Operators, form: &Form) -> Result<Decl, NoMemory>
     requires { IsOver poset.now.sorts ops.now }
     ensures value { IfOk result (λ decl. decl ≡ declaration_at poset.now ops.now form.now) }
     ensures sorts { IfOk result (HasSorts poset.now) }

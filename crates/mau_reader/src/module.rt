@@ -184,11 +184,7 @@ fn sign(
 }
 
 /// The signature of a module's elements.
-fn read_signature(
-    alloc: Global,
-    sorts: &Names,
-    elements: &Elements,
-) -> Result<Signed, ModuleFault>
+fn read_signature(alloc: Global, sorts: &Names, elements: &Elements) -> Result<Signed, ModuleFault>
     requires { AreOver (length sorts.now) elements.now }
     ensures ok { IfOk result (λ signed. SignatureRead sorts.now elements.now (Ok signed.signature)) }
     ensures kept { IfOk result (λ signed. AreKept sorts.now signed.lower.items signed.signature) }
@@ -218,10 +214,11 @@ fn make_module(
     requires over { AreOver (length sorts) elements.now }
     requires kept { AreKept sorts signed.lower.items signed.signature }
     ensures { IfOk result (λ m. m ≡ record {
-        name = token_text words.now name;
-        sorts = sorts;
-        signature = signed.signature;
-        grammar = grammar_of signed.signature sorts (map (variable_at words.now signed.signature.hierarchy) elements.now.variables) }) }
+      name = token_text words.now name;
+      sorts = sorts;
+      signature = signed.signature;
+      grammar = grammar_of signed.signature sorts (map (variable_at words.now signed.signature.hierarchy) elements.now.variables);
+    }) }
 {
     let name = Text::new(alloc, words.token_text(name))?;
     let grammar = read_grammar(alloc, words, &sorts, &signed.signature, elements)?;

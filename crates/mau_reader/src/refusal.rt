@@ -83,11 +83,7 @@ fn is_operator(signature: &Signature, op: OpId) -> bool
 }
 
 /// Writes an operator: the pieces of its form.
-pub fn write_operator(
-    out: &mut Vec<u8>,
-    signature: &Signature,
-    op: OpId,
-) -> Result<(), NoMemory>
+pub fn write_operator(out: &mut Vec<u8>, signature: &Signature, op: OpId) -> Result<(), NoMemory>
     ensures { OnOk result (out.new.items ≡ out.old.items ++ operator_text signature.now op.0) }
 {
     if !is_operator(signature, op) {

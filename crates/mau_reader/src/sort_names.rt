@@ -68,12 +68,7 @@ pub fn write_name(out: &mut Vec<u8>, sorts: &Names, sort: u32) -> Result<(), NoM
 }
 
 /// Puts the name of a sort behind a text, and before it a comma if it is not the first.
-fn push_next(
-    text: &mut String,
-    sorts: &Names,
-    is_first: bool,
-    sort: u32,
-) -> Result<(), NoMemory>
+fn push_next(text: &mut String, sorts: &Names, is_first: bool, sort: u32) -> Result<(), NoMemory>
     ensures { OnOk result (string_bytes text.new ≡ string_bytes text.old ++ (if is_first then [] else codes ",") ++ name_at sorts.now sort) }
 {
     if !is_first {

@@ -26,9 +26,9 @@ pub loop-token-preserved : goal.loop-token-preserved
 loop-token-preserved c =
     elim c.match-gather_of.branch [
       | in-Some+in_ok-push-in-Some w ↦
-        some c.args.words.now c.args.value.now c.loop-token.token-index _ c.loop-token-test.true c.gather_of.result (c.gather_of.ensures ∙ ap gather_of c.token_text.ensures) c.loop-token.gathers.items c.loop-token.invariant
-        _ _ w.in-Some.is (ap (λ v. v.items) w.gathers-is ∙ w.in_ok-push-in-Some.ensures.items)
+          some c.args.words.now c.args.value.now c.loop-token.token-index _ c.loop-token-test.true c.gather_of.result (c.gather_of.ensures ∙ ap gather_of c.token_text.ensures) c.loop-token.gathers.items c.loop-token.invariant
+          _ _ w.in-Some.is (ap (λ v. v.items) w.gathers-is ∙ w.in_ok-push-in-Some.ensures.items)
       | in-None w ↦
-        subst (λ g. g ++ gathers c.args.words.now (drop (c.loop-token.token-index + 1) c.args.value.now) ≡ gathers c.args.words.now c.args.value.now) (ap (λ v. v.items) (sym w.gathers-is))
-        (none c.args.words.now c.args.value.now c.loop-token.token-index _ c.loop-token-test.true c.gather_of.result (c.gather_of.ensures ∙ ap gather_of c.token_text.ensures) c.loop-token.gathers.items c.loop-token.invariant w.in-None.is)
+          subst (λ g. g ++ gathers c.args.words.now (drop (c.loop-token.token-index + 1) c.args.value.now) ≡ gathers c.args.words.now c.args.value.now) (ap (λ v. v.items) (sym w.gathers-is))
+          (none c.args.words.now c.args.value.now c.loop-token.token-index _ c.loop-token-test.true c.gather_of.result (c.gather_of.ensures ∙ ap gather_of c.token_text.ensures) c.loop-token.gathers.items c.loop-token.invariant w.in-None.is)
     ]

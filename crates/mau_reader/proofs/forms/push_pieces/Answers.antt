@@ -28,18 +28,18 @@ loop-i-preserved c =
     let from = c.loop-i.begin in
     elim c.if-is_quoted.branch [
       | then-is_quoted+in_ok-push_word w ↦
-        quoted_step t all out c.if-is_quoted.out.items c.if-is_quoted.is_quoted from c.if-is_quoted.begin i c.utf8.text (omega arith) w.begin-is
-        (subst (λ q. IsCut t all out q from i) w.if-is_quoted.true c.loop-i.invariant) w.is_quoted-is
-        (ap (λ v. v.items) w.out-is ∙ w.in_ok-push_word.ensures ∙ ap (λ x. out ++ ended x) w.range.ensures.value)
+          quoted_step t all out c.if-is_quoted.out.items c.if-is_quoted.is_quoted from c.if-is_quoted.begin i c.utf8.text (omega arith) w.begin-is
+          (subst (λ q. IsCut t all out q from i) w.if-is_quoted.true c.loop-i.invariant) w.is_quoted-is
+          (ap (λ v. v.items) w.out-is ∙ w.in_ok-push_word.ensures ∙ ap (λ x. out ++ ended x) w.range.ensures.value)
       | else-is_quoted+then-bytes-i-eq95+in_ok-push_word-2+in_ok-push w ↦
-        hole_step t all out c.if-is_quoted.out.items c.if-is_quoted.is_quoted from c.if-is_quoted.begin i c.utf8.text (omega arith) w.begin-is
-        (subst (λ q. IsCut t all out q from i) w.if-is_quoted.false c.loop-i.invariant) (sym (ap (λ xs. get_or xs i 0) c.as_bytes-bytes.ensures.value) ∙ w.if-bytes-i-eq95.true) (w.is_quoted-is ∙ w.if-is_quoted.false)
-        (ap (λ v. v.items) w.out-is ∙ w.in_ok-push.ensures.items ∙ ap (λ xs. xs ++ Hole ∷ []) (w.in_ok-push_word-2.ensures ∙ ap (λ x. out ++ ended x) w.range-then-bytes-i-eq95.ensures.value))
+          hole_step t all out c.if-is_quoted.out.items c.if-is_quoted.is_quoted from c.if-is_quoted.begin i c.utf8.text (omega arith) w.begin-is
+          (subst (λ q. IsCut t all out q from i) w.if-is_quoted.false c.loop-i.invariant) (sym (ap (λ xs. get_or xs i 0) c.as_bytes-bytes.ensures.value) ∙ w.if-bytes-i-eq95.true) (w.is_quoted-is ∙ w.if-is_quoted.false)
+          (ap (λ v. v.items) w.out-is ∙ w.in_ok-push.ensures.items ∙ ap (λ xs. xs ++ Hole ∷ []) (w.in_ok-push_word-2.ensures ∙ ap (λ x. out ++ ended x) w.range-then-bytes-i-eq95.ensures.value))
       | else-is_quoted+else-bytes-i-eq95+then-is_quote+in_ok-push_word-3 w ↦
-        quote_step t all out c.if-is_quoted.out.items c.if-is_quoted.is_quoted from c.if-is_quoted.begin i c.utf8.text (omega arith) w.begin-is
-        (subst (λ q. IsCut t all out q from i) w.if-is_quoted.false c.loop-i.invariant) (sym (w.is_quote.ensures ∙ ap (λ xs. is_quote xs i) c.as_bytes-bytes.ensures.value) ∙ w.if-is_quote.true) w.is_quoted-is
-        (ap (λ v. v.items) w.out-is ∙ w.in_ok-push_word-3.ensures ∙ ap (λ x. out ++ ended x) w.range-then-is_quote.ensures.value)
+          quote_step t all out c.if-is_quoted.out.items c.if-is_quoted.is_quoted from c.if-is_quoted.begin i c.utf8.text (omega arith) w.begin-is
+          (subst (λ q. IsCut t all out q from i) w.if-is_quoted.false c.loop-i.invariant) (sym (w.is_quote.ensures ∙ ap (λ xs. is_quote xs i) c.as_bytes-bytes.ensures.value) ∙ w.if-is_quote.true) w.is_quoted-is
+          (ap (λ v. v.items) w.out-is ∙ w.in_ok-push_word-3.ensures ∙ ap (λ x. out ++ ended x) w.range-then-is_quote.ensures.value)
       | else-is_quoted+else-bytes-i-eq95+else-is_quote w ↦
-        moved t all out c.if-is_quoted.out.items false c.if-is_quoted.is_quoted from c.if-is_quoted.begin (i + 1) (ap (λ v. v.items) w.out-is) (w.is_quoted-is ∙ w.if-is_quoted.false) w.begin-is
-        (plain_step t all out from i (omega arith) (subst (λ q. IsCut t all out q from i) w.if-is_quoted.false c.loop-i.invariant) (λ e. w.if-bytes-i-eq95.false (ap (λ xs. get_or xs i 0) c.as_bytes-bytes.ensures.value ∙ e)) (sym (w.is_quote.ensures ∙ ap (λ xs. is_quote xs i) c.as_bytes-bytes.ensures.value) ∙ w.if-is_quote.false))
+          moved t all out c.if-is_quoted.out.items false c.if-is_quoted.is_quoted from c.if-is_quoted.begin (i + 1) (ap (λ v. v.items) w.out-is) (w.is_quoted-is ∙ w.if-is_quoted.false) w.begin-is
+          (plain_step t all out from i (omega arith) (subst (λ q. IsCut t all out q from i) w.if-is_quoted.false c.loop-i.invariant) (λ e. w.if-bytes-i-eq95.false (ap (λ xs. get_or xs i 0) c.as_bytes-bytes.ensures.value ∙ e)) (sym (w.is_quote.ensures ∙ ap (λ xs. is_quote xs i) c.as_bytes-bytes.ensures.value) ∙ w.if-is_quote.false))
     ]

@@ -23,6 +23,6 @@ returns-clause-names c =
 pub invariant_of-self-2 : goal.invariant_of-self-2
 invariant_of-self-2 c =
     subst AreDistinct (sym (
-      ap (map string_bytes) c.in_ok-is_new.ensures.keys
-          ∙ insert-keyed string_bytes _ (bytes_eq (string_bytes c.in_ok-name.name)) (λ k. refl) c.self.inside.names.keys c.in_ok-name.name
+    ap (map string_bytes) c.in_ok-is_new.ensures.keys
+    ∙ insert-keyed string_bytes _ (bytes_eq (string_bytes c.in_ok-name.name)) (λ k. refl) c.self.inside.names.keys c.in_ok-name.name
     )) (with_distinct (map string_bytes c.self.inside.names.keys) (string_bytes c.in_ok-name.name) c.self.invariant)
