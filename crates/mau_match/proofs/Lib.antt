@@ -14,6 +14,7 @@ pub mod Extension
 pub mod Fair
 pub mod Occurring
 pub mod Complete
+pub mod OneStep
 pub mod Good
 pub mod Merge
 pub mod AcNext
