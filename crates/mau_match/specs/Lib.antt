@@ -1,3 +1,5 @@
+-- The definitions of the walk over a pattern and of the search over its variables, to be read in this order.
+
 pub mod Search
 pub mod Parts
 pub mod Given
