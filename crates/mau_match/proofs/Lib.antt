@@ -1,3 +1,4 @@
+-- The lemmas.
 pub mod Sizes
 pub mod Places
 pub mod Adding
@@ -14,8 +15,10 @@ pub mod Extension
 pub mod Fair
 pub mod Occurring
 pub mod Complete
+pub mod OneStep
 pub mod Good
 pub mod Merge
+pub mod Candidates
 pub mod AcNext
 pub mod SeqNext
 pub mod AsTrees
