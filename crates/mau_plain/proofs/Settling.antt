@@ -1,7 +1,7 @@
 -- Terms that are settled, one after another.
-use Rattle.std.proofs.Common.{◌≡◌, ◌<◌, ℕ, zero, suc, List, [], ◌∷◌, ◌++◌, Contains, All, inl, inr, ⊎_elim, length, take, get_or, sym, refl, subst, arith}
+use Rattle.std.proofs.Common.{◌≡◌, ◌<◌, ℕ, zero, suc, List, [], ◌∷◌, ◌++◌, Contains, All, inl, inr, ⊎_elim, length, take, get_or, sym, subst, arith}
 use Rattle.std.proofs.lemmas.List.{map-append}
-use Rattle.std.proofs.lemmas.List.Elements.{All-push}
+use Rattle.std.proofs.lemmas.List.Elements.{All-push, Contains-push, Contains-get_or}
 use Rattle.mau_terms.specs.declared.ids.TermId.{TermId}
 use Rattle.mau_signature.specs.Signature.{SignatureOf}
 use Rattle.mau_store.specs.Node.{Node}
@@ -28,10 +28,6 @@ settleable_kept s nodes old new subject i kept (inr (ne, list, ready)) = inr (
 all_settled_kept : (old new : Table) → KeepsEntries old new → (ids : List ℕ) → All (IsSettled old) ids → All (IsSettled new) ids
 all_settled_kept old new kept ids all k d h = settled_kept old new kept _ (all k d h)
 
-pub push_there : {A : Type 0} (xs : List A) (x : A) → Contains (xs ++ x ∷ []) x
-push_there [] x = (zero, omega arith, refl)
-push_there (y ∷ xs) x = let rest = push_there xs x in let lt = rest.1 in (suc rest.0, omega arith, rest.2)
-
 pub push_kept : {A : Type 0} (xs : List A) (x y : A) → Contains xs y → Contains (xs ++ x ∷ []) y
 push_kept [] x y c = let lt = c.1 in absurd (omega arith)
 push_kept (z ∷ xs) x y (zero, h, e) = (zero, omega arith, e)
@@ -50,15 +46,10 @@ module _ (s : SignatureOf) (nodes : List Node) (start old new : Table) (subject 
       (λ (h : (after ≡ before) × (IsSettleable s nodes old subject id.0 → Contains before id)). subst (λ l. All (IsSettled new) (numbers l)) (sym h.0) (all_settled_kept old new kept (numbers before) all))
       adds
 
-  one_there : (xs : List TermId) (k : ℕ) → k < length xs → Contains xs (get_or xs k d)
-  one_there [] k h = absurd (omega arith)
-  one_there (x ∷ xs) zero h = (zero, omega arith, refl)
-  one_there (x ∷ xs) (suc k) h = let rest = one_there xs k (omega arith) in let lt = rest.1 in (suc rest.0, omega arith, rest.2)
-
   pub among_more : All (Contains ids) before → All (Contains ids) after
   among_more all =
       ⊎_elim
-      (λ (h : (after ≡ before ++ id ∷ []) × IsSettled new id.0). subst (All (Contains ids)) (sym h.0) (All-push (Contains ids) before id all (one_there ids i low)))
+      (λ (h : (after ≡ before ++ id ∷ []) × IsSettled new id.0). subst (All (Contains ids)) (sym h.0) (All-push (Contains ids) before id all (Contains-get_or ids i d low)))
       (λ (h : (after ≡ before) × (IsSettleable s nodes old subject id.0 → Contains before id)). subst (All (Contains ids)) (sym h.0) all)
       adds
 
@@ -69,7 +60,7 @@ module _ (s : SignatureOf) (nodes : List Node) (start old new : Table) (subject 
       subst (λ l. Contains l x) (sym h.0)
       (⊎_elim
       (λ (c : Contains (take i ids) x). push_kept before id x (all x c can))
-      (λ (e : x ≡ id). subst (Contains (before ++ id ∷ [])) (sym e) (push_there before id))
+      (λ (e : x ≡ id). subst (Contains (before ++ id ∷ [])) (sym e) (Contains-push before id))
       (contains_more ids i d x low there)))
       (λ (h : (after ≡ before) × (IsSettleable s nodes old subject id.0 → Contains before id)).
       subst (λ l. Contains l x) (sym h.0)

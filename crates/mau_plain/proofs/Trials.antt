@@ -1,6 +1,6 @@
 -- Trials of values, in a store that grows, one after another.
 use Rattle.std.proofs.Common.{◌≡◌, ◌<◌, ◌++◌, ℕ, suc, List, [], ◌∷◌, Option, None, Some, IfSome, All, Contains, inl, inr, ⊎_elim, map, length, take, get_or, sym, ap₂, ◌∙◌, subst}
-use Rattle.std.proofs.lemmas.List.Elements.{All-push, Contains-get_or}
+use Rattle.std.proofs.lemmas.List.Elements.{All-push, Contains-push, Contains-get_or}
 use Rattle.std.specs.Cmp.Lexicographic.{slice_cmp}
 use Rattle.std.specs.declared.cmp.Ordering.{Ordering}
 use Rattle.mau_terms.specs.Solution.{list_cmp, value_keys}
@@ -27,7 +27,7 @@ use Rattle.mau_plain.specs.Least.{IsBehindLast}
 use Rattle.mau_plain.specs.Tried.{IsTried, IsTriedBehind, IsReadyToTry, AddsTried, asked_in}
 use Rattle.mau_plain.specs.declared.tried.Trial.{Trial}
 use Rattle.mau_plain.proofs.Gathering.{contains_more}
-use Rattle.mau_plain.proofs.Settling.{push_there, push_kept}
+use Rattle.mau_plain.proofs.Settling.{push_kept}
 
 -- ---- in a store that has grown
 
@@ -112,7 +112,7 @@ module _ (s : SignatureOf) (nodes : List Node) (table : Table) (t : Trial) (ps :
       subst (λ ls. Contains ls l) (sym h.0)
       (⊎_elim
       (λ (c : Contains (take i lists) l). push_kept before (get_or lists i []) l (all l c is))
-      (λ (e : l ≡ get_or lists i []). subst (Contains (before ++ get_or lists i [] ∷ [])) (sym e) (push_there before (get_or lists i [])))
+      (λ (e : l ≡ get_or lists i []). subst (Contains (before ++ get_or lists i [] ∷ [])) (sym e) (Contains-push before (get_or lists i [])))
       (contains_more lists i [] l low there)))
       (λ (h : (after ≡ before) × (IsTriedBehind s nodes table t ps (get_or lists i []) → ⊥)).
       subst (λ ls. Contains ls l) (sym h.0)
