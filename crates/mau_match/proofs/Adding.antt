@@ -25,10 +25,12 @@ use Rattle.mau_canon.specs.declared.fault.BuildFault.{BuildFault}
 use Rattle.mau_canon.specs.declared.fault.BuildFault.TheVariants.{TooDeep, Overflow, NoMemory}
 use Rattle.mau_canon.proofs.Standing.{stands_within_extended, stand_within_extended, stand_there}
 use Rattle.mau_canon.proofs.Elements.{trees_at-append}
-use Rattle.mau_match.specs.Parts.{Part, just, some_of, is_bound}
-use Rattle.mau_match.specs.declared.part.Part.{Part as PartOfCode}
-use Rattle.mau_match.specs.declared.part.Part.TheVariants.{One, ListOf}
-use Rattle.mau_match.specs.Walked.{reach_of, part_in, parts_in, IsPartWithin, AddsTerms, AddsParts, IsRefused, IsFault}
+use Rattle.mau_parts.specs.Parts.{Part, just, some_of}
+use Rattle.mau_match.specs.Parts.{is_bound}
+use Rattle.mau_parts.specs.declared.part.Part.{Part as PartOfCode}
+use Rattle.mau_parts.specs.declared.part.Part.TheVariants.{One, ListOf}
+use Rattle.mau_parts.specs.Stored.{reach_of, part_in}
+use Rattle.mau_match.specs.Walked.{parts_in, IsPartWithin, AddsTerms, AddsParts, IsRefused, IsFault}
 
 -- ---- answers
 

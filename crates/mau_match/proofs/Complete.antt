@@ -15,7 +15,8 @@ use Rattle.mau_api.specs.Found.{Question}
 use Rattle.mau_api.specs.Answers.{IsAnswer}
 use Rattle.mau_api.specs.Asked.{BySort}
 use Rattle.mau_api.proofs.Answered.{norm-reading-is}
-use Rattle.mau_match.specs.Parts.{just, AnyOf, occurs, occurs_among, parts_of, IsFairAt, IsFair, AreFair}
+use Rattle.mau_parts.specs.Parts.{just}
+use Rattle.mau_match.specs.Parts.{AnyOf, occurs, occurs_among, parts_of, IsFairAt, IsFair, AreFair}
 use Rattle.mau_match.specs.Given.{given_variables, given_at}
 use Rattle.mau_match.specs.Laws.{PartsHoldAnswers}
 use Rattle.mau_match.proofs.Fair.{bare_fair}
@@ -31,7 +32,7 @@ or_right true b e = refl
 or_right false b e = e
 
 mutual
-  occurs_has : (x : Variable) (p : Tree) → Occurs x p → occurs x p ≡ true
+  pub occurs_has : (x : Variable) (p : Tree) → Occurs x p → occurs x p ≡ true
   occurs_has x (variable i s) o = subst (λ y. same_variable y x ≡ true) o (same_itself x)
   occurs_has x (numeral n) o = absurd o
   occurs_has x (apply f ps) o = occur_have x ps o
@@ -43,11 +44,11 @@ mutual
 
 -- ---- values at their places
 
-each_var_at : (P : Variable → Type 0) (xs : List Variable) (x : Variable) (zs : List Variable) → EachVar P (xs ++ x ∷ zs) → P x
+pub each_var_at : (P : Variable → Type 0) (xs : List Variable) (x : Variable) (zs : List Variable) → EachVar P (xs ++ x ∷ zs) → P x
 each_var_at P [] x zs h = h.0
 each_var_at P (y ∷ xs) x zs h = each_var_at P xs x zs h.1
 
-value_there : (F : Variable → Tree) (xs : List Variable) (x : Variable) (zs : List Variable) (vs : List Tree) (u : Tree) (us : List Tree) → length xs ≡ length vs → map F (xs ++ x ∷ zs) ≡ vs ++ u ∷ us → F x ≡ u
+pub value_there : (F : Variable → Tree) (xs : List Variable) (x : Variable) (zs : List Variable) (vs : List Tree) (u : Tree) (us : List Tree) → length xs ≡ length vs → map F (xs ++ x ∷ zs) ≡ vs ++ u ∷ us → F x ≡ u
 value_there F [] x zs [] u us l e = cc
 value_there F [] x zs (v ∷ vs) u us l e = cc
 value_there F (y ∷ xs) x zs [] u us l e = cc
@@ -129,20 +130,20 @@ module _ (s : SignatureOf) (lawful : IsLawful (terms_over s)) (P : ℕ → Tree 
   all = vs ++ u ∷ us
 
   -- the values of the answer
-  abbrev F : Variable → Tree
+  abbrev pub F : Variable → Tree
   F = value_at (variables q.pattern) (vs ++ u ∷ us)
 
   abbrev g : Variable → Tree
   g = given_at q xs vs
 
   -- the same, and what is given for variables that the pattern does not have
-  abbrev gg : Variable → Tree
+  abbrev pub gg : Variable → Tree
   gg y = if has_variable (variables q.pattern) y then value_at (variables q.pattern) (vs ++ u ∷ us) y else given_at q xs vs y
 
   abbrev gg_at : Bool → Variable → Tree
   gg_at b y = if b then value_at (variables q.pattern) (vs ++ u ∷ us) y else given_at q xs vs y
 
-  same : (y : Variable) → Occurs y q.pattern → F y ≡ gg y
+  pub same : (y : Variable) → Occurs y q.pattern → F y ≡ gg y
   same y o = sym (ap (λ b. gg_at b y) (occurring_among q.pattern y o))
 
   fair : IsFair (theory_at s) gg q.pattern
@@ -151,7 +152,7 @@ module _ (s : SignatureOf) (lawful : IsLawful (terms_over s)) (P : ℕ → Tree 
       let R : Variable → Tree = value_at (variables q.pattern) (map (reading th) (vs ++ u ∷ us)) in
       fair_along th F gg q.pattern same (fair_by_norms th R F (reading_at th lawful.theories (variables q.pattern) (vs ++ u ∷ us) a.normal) q.pattern (bare_fair (terms_over s) lawful R q.pattern a.bare.0 a.bare.1))
 
-  agree : (y : Variable) → has_variable (given_variables q xs) y ≡ true → norm (theory_at s) (given_at q xs vs y) ≡ norm (theory_at s) (gg y)
+  pub agree : (y : Variable) → has_variable (given_variables q xs) y ≡ true → norm (theory_at s) (given_at q xs vs y) ≡ norm (theory_at s) (gg y)
   agree y h = by (has_variable (variables q.pattern) y) refl
     where
       by : (b : Bool) → has_variable (variables q.pattern) y ≡ b → norm (theory_at s) (given_at q xs vs y) ≡ norm (theory_at s) (gg_at b y)

@@ -10,7 +10,7 @@ use Rattle.mau_terms.specs.declared.theory.Theory.{Theory}
 use Rattle.mau_terms.proofs.Pieces.{Each, Each-append, IsPiece, arrange-arrange, arrange_right}
 use Rattle.mau_terms.proofs.Normal.{IsNormal, norm_normal, whole_pieces}
 use Rattle.mau_terms.proofs.Solutions.{list_of_made}
-use Rattle.mau_match.specs.Parts.{front, some_of, IsOf}
+use Rattle.mau_parts.specs.Parts.{front, some_of, IsOf}
 
 each_piece : (th : ℕ → Theory) (f : ℕ) (ts : List Tree) → ArePieces th f ts → Each (IsPiece (th f).assoc (th f).id f) ts
 each_piece th f [] p = tt

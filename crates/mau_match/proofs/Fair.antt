@@ -25,7 +25,7 @@ module _ (s : TermSignature) (lawful : IsLawful s) where
           let b' : IsBare s (apply f no_trees) = subst (λ c. IsBare s (nest c f [])) a h in
           subst (AreBareIn s no_trees) (lawful.assoc_kinds f a) b'.1.2
 
-  filled : (t : Tree) → IsBare s t → (f : ℕ) → (s.theory f).assoc ≡ true → (s.theory f).id ≡ None → list_under (s.theory f) f (norm s.theory t) ≡ [] → ⊥
+  pub filled : (t : Tree) → IsBare s t → (f : ℕ) → (s.theory f).assoc ≡ true → (s.theory f).id ≡ None → list_under (s.theory f) f (norm s.theory t) ≡ [] → ⊥
   filled t b f a n e = by (split (s.theory f).assoc (s.theory f).id f (norm s.theory t))
     where
       by : Split (s.theory f).assoc (s.theory f).id f (norm s.theory t) → ⊥

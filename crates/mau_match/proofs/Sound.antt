@@ -10,7 +10,8 @@ use Rattle.mau_terms.specs.Finite.{IsIn, each_of}
 use Rattle.mau_terms.specs.declared.theory.Theory.{Theory}
 use Rattle.mau_terms.proofs.Sorting.{sort_swap}
 use Rattle.mau_terms.proofs.Finite.{in_arrange}
-use Rattle.mau_match.specs.Parts.{Reach, whole, front, inside, Part, just, some_of, Leaves, Reaches, IsOf, AnyOf, without_all, behind_front, weaker, begins, from_some, is_bound, are_bound, known, known_in, are_none, own_part, rest_behind}
+use Rattle.mau_parts.specs.Parts.{Reach, whole, front, inside, Part, just, some_of, Leaves, Reaches, IsOf}
+use Rattle.mau_match.specs.Parts.{AnyOf, without_all, behind_front, weaker, begins, from_some, is_bound, are_bound, known, known_in, are_none, own_part, rest_behind}
 use Rattle.mau_match.proofs.Removal.{more_right, more_left, past, cancel_left, from_arrange, is_without_all, is_behind_front, LessAll, Follows}
 use Rattle.mau_match.proofs.KnownElements.{HasKnown, bound_known, has_known, have_known}
 

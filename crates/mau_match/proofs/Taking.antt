@@ -15,7 +15,8 @@ use Rattle.mau_store.specs.View.{numbers}
 use Rattle.mau_store.proofs.Growth.{trees_at-extends}
 use Rattle.mau_canon.specs.Within.{StandWithin}
 use Rattle.mau_canon.proofs.Standing.{stand_there, stand_among}
-use Rattle.mau_match.specs.Parts.{Reach, some_of, weaker, are_none, without_all, behind_front, from_some, are_bound, known, known_in, own_part}
+use Rattle.mau_parts.specs.Parts.{Reach, some_of}
+use Rattle.mau_match.specs.Parts.{weaker, are_none, without_all, behind_front, from_some, are_bound, known, known_in, own_part}
 use Rattle.mau_match.specs.Walked.{AddsTerms}
 
 module _ (th : ℕ → Theory) (bound : List Variable) (g : Variable → Tree) (x : Variable) (f : ℕ) where

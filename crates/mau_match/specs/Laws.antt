@@ -11,7 +11,8 @@ use Rattle.mau_sorts.specs.HasSort.{Known}
 use Rattle.mau_api.specs.Found.{Question}
 use Rattle.mau_api.specs.Asked.{BySort}
 use Rattle.mau_api.specs.Answers.{IsAnswer}
-use Rattle.mau_match.specs.Parts.{Part, occurs_among, just, some_of, front, IsOf, AnyOf, parts_of}
+use Rattle.mau_parts.specs.Parts.{Part, just, some_of, front, IsOf}
+use Rattle.mau_match.specs.Parts.{occurs_among, AnyOf, parts_of}
 use Rattle.mau_match.specs.Taken.{first_with, taken}
 use Rattle.mau_match.specs.Given.{given_variables, given_at}
 

@@ -3,6 +3,7 @@ use Rattle.std.specs.Prelude.{◌≡◌, ◌⊎◌, ◌++◌, ℕ, List, [], ◌
 use Rattle.mau_terms.specs.Tree.{Tree, Trees}
 use Rattle.mau_terms.specs.Norm.{norm}
 use Rattle.mau_terms.specs.Subst.{Variable, instance}
+use Rattle.mau_terms.specs.Solution.{list_under}
 use Rattle.mau_terms.specs.Finite.{each_of}
 use Rattle.mau_terms.specs.View.{variable_of}
 use Rattle.mau_terms.specs.declared.theory.Theory.{Theory}
@@ -16,24 +17,16 @@ use Rattle.mau_canon.specs.Values.{values_in}
 use Rattle.mau_canon.specs.declared.fault.BuildFault.{BuildFault}
 use Rattle.mau_canon.specs.declared.fault.BuildFault.TheVariants.{TooDeep, Overflow, NoMemory}
 use Rattle.mau_api.specs.Asked.{IsBelow, IsBelowOne}
-use Rattle.mau_match.specs.Parts.{Reach, whole, front, inside, Part, just, some_of, is_bound, lists_of, alone_in, any_of, parts_of, parts_among, parts_at, parts_any, parts_folded}
-use Rattle.mau_match.specs.declared.part.Reach.{Reach as ReachOfCode}
-use Rattle.mau_match.specs.declared.part.Reach.TheVariants.{Whole, Front, Inside}
-use Rattle.mau_match.specs.declared.part.Part.{Part as PartOfCode}
-use Rattle.mau_match.specs.declared.part.Part.TheVariants.{One, ListOf}
+use Rattle.mau_parts.specs.Parts.{Reach, whole, Part}
+use Rattle.mau_match.specs.Parts.{is_bound, own_part, parts_of}
+use Rattle.mau_parts.specs.Stored.{reach_of, part_in}
+use Rattle.mau_match.specs.Taken.{taken_among, taken_at, taken_folded, taken}
+use Rattle.mau_parts.specs.declared.part.Part.{Part as PartOfCode}
+use Rattle.mau_parts.specs.declared.part.Part.TheVariants.{One, ListOf}
 use Rattle.mau_match.specs.declared.part.Span.{Span}
 use Rattle.mau_match.specs.declared.part.Given.{Given}
 
 -- ---- values of the code as parts
-
-abbrev pub reach_of : ReachOfCode → Reach
-reach_of Whole = whole
-reach_of Front = front
-reach_of Inside = inside
-
-abbrev pub part_in : List Node → PartOfCode → Part
-part_in nodes (One id) = just (tree_at nodes id.0)
-part_in nodes (ListOf r op ids) = some_of (reach_of r) op.0 (trees_at nodes (numbers ids))
 
 abbrev pub parts_in : List Node → List PartOfCode → List Part
 parts_in nodes qs = map (part_in nodes) qs
@@ -63,6 +56,15 @@ spans_in nodes (Some l) = span_in nodes l ∷ []
 
 abbrev pub IsSpanWithin : SignatureOf → List Node → Span → Type 0
 IsSpanWithin s nodes l = StandWithin (theory_at s) nodes (numbers l.items.items)
+
+-- the whole list of a term under an associative operator
+abbrev pub whole_list : (ℕ → Theory) → ℕ → Tree → List (Reach × List Tree)
+whole_list th f t = (whole, list_under (th f) f t) ∷ []
+
+-- these spans are added to those that were there, and are within the limits
+pub record AddsSpans (s : SignatureOf) (nodes : List Node) (before after : List Span) (more : List (Reach × List Tree)) : Type 0 where
+  pub within : All (IsSpanWithin s nodes) after
+  pub spans : map (span_in nodes) after ≡ map (span_in nodes) before ++ more
 
 -- ---- what is given
 
@@ -124,31 +126,23 @@ all_refused_in s nodes g ps = AreRefused (theory_at s) (bound_of g) (values_of n
 abbrev pub walked : SignatureOf → List Node → Given → Tree → Part → List Part
 walked s nodes g p q = parts_of (theory_at s) (bound_of g) (values_of nodes g) (target_of g) p q
 
+-- from each of some parts
 abbrev pub walked_each : SignatureOf → List Node → Given → Tree → List Part → List Part
 walked_each s nodes g p qs = each_of (walked s nodes g p) qs
 
-abbrev pub walked_among : SignatureOf → List Node → Given → ℕ → Trees → Reach × List Tree → List Part
-walked_among s nodes g f ps l = parts_among (theory_at s) (bound_of g) (values_of nodes g) (target_of g) f ps l.0 l.1
+-- ---- one step of it
 
-abbrev pub walked_lists : SignatureOf → List Node → Given → ℕ → Trees → List (Reach × List Tree) → List Part
-walked_lists s nodes g f ps ls = each_of (walked_among s nodes g f ps) ls
+abbrev pub own_part_in : SignatureOf → List Node → Given → ℕ → Trees → Reach × List Tree → List Part
+own_part_in s nodes g f ps l = own_part (theory_at s) (bound_of g) (values_of nodes g) (target_of g) f ps l.0 l.1
 
-abbrev pub walked_at : SignatureOf → List Node → Given → Trees → List Tree → List Part
-walked_at s nodes g ps es = parts_at (theory_at s) (bound_of g) (values_of nodes g) (target_of g) ps es
+abbrev pub taken_among_in : SignatureOf → List Node → Given → ℕ → Trees → Reach × List Tree → List Part
+taken_among_in s nodes g f ps l = taken_among (theory_at s) (bound_of g) (values_of nodes g) (target_of g) f ps l.0 l.1
 
-abbrev pub walked_any : SignatureOf → List Node → Given → Trees → List Part → List Part
-walked_any s nodes g ps qs = parts_any (theory_at s) (bound_of g) (values_of nodes g) (target_of g) ps qs
+abbrev pub taken_at_in : SignatureOf → List Node → Given → Trees → List Tree → List Part
+taken_at_in s nodes g ps es = taken_at (theory_at s) (bound_of g) (values_of nodes g) (target_of g) ps es
 
-abbrev pub walked_folded : SignatureOf → List Node → Given → ℕ → Trees → Part → List Part
-walked_folded s nodes g f ps q = parts_folded (theory_at s) (bound_of g) (values_of nodes g) (target_of g) f ps q
+abbrev pub taken_folded_in : SignatureOf → List Node → Given → ℕ → Trees → Part → List Part
+taken_folded_in s nodes g f ps q = taken_folded (theory_at s) (bound_of g) (values_of nodes g) (target_of g) f ps q
 
--- the terms of one list, or none
-abbrev pub lists_found : List Node → Option (List TermId) → List (List Tree)
-lists_found nodes None = []
-lists_found nodes (Some ids) = trees_at nodes (numbers ids) ∷ []
-
--- what the arguments of an operator that is not associative take
-abbrev pub walked_other : SignatureOf → List Node → Given → ℕ → Trees → Part → List Part
-walked_other s nodes g f ps q =
-    each_of (walked_at s nodes g ps) (each_of (lists_of (theory_at s) f) (alone_in (theory_at s) q))
-    ++ (walked_any s nodes g ps (each_of (any_of (theory_at s) f) (alone_in (theory_at s) q)) ++ walked_folded s nodes g f ps q)
+abbrev pub taken_in : SignatureOf → List Node → Given → ℕ → Trees → Part → List Part
+taken_in s nodes g f ps q = taken (theory_at s) (bound_of g) (values_of nodes g) (target_of g) f ps q

@@ -11,13 +11,16 @@ ghost use Rattle.mau_store.specs.Node.{Extends, IsOf};
 ghost use Rattle.mau_store.specs.Trees.{tree_at, trees_at};
 ghost use Rattle.mau_store.specs.View.{numbers};
 ghost use Rattle.mau_canon.specs.Within.{StandsWithin, StandWithin};
-ghost use Rattle.mau_match.specs.Parts.{just, is_bound, headed, alone_in, any_of, folded_by, folded_parts};
-ghost use Rattle.mau_match.specs.Walked.{part_in, parts_in, units_in, IsPartWithin, AddsTerms, AddsParts, bound_of, values_of, target_of, AreGivenWithin, IsFault, refused_in};
+ghost use Rattle.mau_parts.specs.Parts.{just};
+ghost use Rattle.mau_match.specs.Parts.{is_bound, headed, alone_in, any_of, folded_by, folded_parts};
+ghost use Rattle.mau_parts.specs.Stored.{part_in};
+ghost use Rattle.mau_match.specs.Walked.{parts_in, units_in, IsPartWithin, AddsTerms, AddsParts, bound_of, values_of, target_of, AreGivenWithin, IsFault, refused_in};
 
+use crate::Given;
 use crate::known::{build_known, extend};
 use crate::variables::is_bound;
-use crate::{Given, Part};
 use mau_canon::BuildFault;
+use mau_parts::Part;
 use mau_signature::Signature;
 use mau_store::{NodeView, Store};
 use mau_terms::{Bare, Identity, NoMemory, OpId, TermId};
@@ -140,23 +143,24 @@ fn push_choices(
     }
 }
 
-/// What each argument of a commutative operator or of the successor may be, where the normal form is one of some terms.
-pub fn choices_of(
+/// The same for each of some terms.
+pub fn push_choices_of(
     store: &mut Store,
     sig: &Signature,
     op: OpId,
     ids: &[TermId],
-) -> Result<Vec<Part>, NoMemory>
+    out: &mut Vec<Part>,
+) -> Result<(), NoMemory>
     requires operator { IsOperator sig.now op.0 }
     requires terms { StandWithin (theory_at sig.now) store.old (numbers ids.now) }
-    ensures ok { IfOk result (λ out. AddsParts sig.now store.old store.new [] out.items (each_of (any_of (theory_at sig.now) op.0) (trees_at store.old (numbers ids.now)))) }
+    requires out { All (IsPartWithin sig.now store.old) out.old.items }
+    ensures ok { OnOk result (AddsParts sig.now store.old store.new out.old.items out.new.items (each_of (any_of (theory_at sig.now) op.0) (trees_at store.old (numbers ids.now)))) }
     ensures extends { Extends store.old store.new }
 {
-    let mut out = Vec::new(store.allocator());
     for id in ids {
-        push_choices(store, sig, op, *id, &mut out)?;
+        push_choices(store, sig, op, *id, out)?;
     }
-    Ok(out)
+    Ok(())
 }
 
 /// Whether the identity is no value of a pattern whose variables are all given.

@@ -54,7 +54,7 @@ each_with R P [] (y ∷ ys) all also = absurd all
 each_with R P (x ∷ xs) [] all also = absurd all
 each_with R P (x ∷ xs) (y ∷ ys) all also = ((all.0, All-head P y ys also), each_with R P xs ys all.1 (All-tail P y ys also))
 
-all_of_each : {A B : Type 0} (P : B → Type 0) (xs : List A) (ys : List B) → HoldsAtEach (λ x y. P y) xs ys → All P ys
+pub all_of_each : {A B : Type 0} (P : B → Type 0) (xs : List A) (ys : List B) → HoldsAtEach (λ x y. P y) xs ys → All P ys
 all_of_each P [] [] all = All-nil P
 all_of_each P [] (y ∷ ys) all = absurd all
 all_of_each P (x ∷ xs) [] all = absurd all
@@ -68,11 +68,11 @@ module _ (th : ℕ → Theory) where
   all_norms P (x ∷ xs) [] n all = absurd all
   all_norms P (x ∷ xs) (v ∷ vs) n all = All-cons P v vs (subst P n.0 all.0) (all_norms P xs vs n.1 all.1)
 
-  all_are_norms : (vs : List Tree) → AreNorms th vs → All (λ v. norm th v ≡ v) vs
+  pub all_are_norms : (vs : List Tree) → AreNorms th vs → All (λ v. norm th v ≡ v) vs
   all_are_norms [] n = All-nil (λ v. norm th v ≡ v)
   all_are_norms (v ∷ vs) n = All-cons (λ u. norm th u ≡ u) v vs n.0 (all_are_norms vs n.1)
 
-  norms_stand : (nodes : List Node) (ids : List TermId) → StandWithin th nodes (numbers ids) → AreNorms th (trees_at nodes (numbers ids))
+  pub norms_stand : (nodes : List Node) (ids : List TermId) → StandWithin th nodes (numbers ids) → AreNorms th (trees_at nodes (numbers ids))
   norms_stand nodes [] within = tt
   norms_stand nodes (id ∷ ids) within = (
     (All-head (StandsWithin th nodes) id.0 (numbers ids) within).normal,
@@ -80,7 +80,7 @@ module _ (th : ℕ → Theory) where
   )
 
 module _ (P : ℕ → Tree → Type 0) where
-  sorts_each : (xs : List Variable) (vs : List Tree) → length vs ≡ length xs → HaveSorts P xs vs → HoldsAtEach (λ x v. P x.1 v) xs vs
+  pub sorts_each : (xs : List Variable) (vs : List Tree) → length vs ≡ length xs → HaveSorts P xs vs → HoldsAtEach (λ x v. P x.1 v) xs vs
   sorts_each [] [] long has = tt
   sorts_each [] (v ∷ vs) long has = absurd (cc)
   sorts_each (x ∷ xs) [] long has = absurd (cc)
@@ -98,7 +98,7 @@ abbrev pub Agreed : List (Variable × Tree) → Variable → Tree → Type 0
 Agreed bound x t = (b : Variable × Tree) → Contains bound b → b.0 ≡ x → b.1 ≡ t
 
 module _ (p : Tree) (bound : List (Variable × Tree)) (vs : List Tree) where
-  agreed_each : length vs ≡ length (variables p) → AgreesWith p bound vs → HoldsAtEach (Agreed bound) (variables p) vs
+  pub agreed_each : length vs ≡ length (variables p) → AgreesWith p bound vs → HoldsAtEach (Agreed bound) (variables p) vs
   agreed_each long agrees =
       holds_each (Agreed bound) p vs long
       (λ x o b among e. sym (agrees b among (subst (λ y. has_variable (variables p) y ≡ true) (sym e) (has_occurring x p o))) ∙ ap (value_at (variables p) vs) e)
@@ -115,7 +115,7 @@ term_id_is x y e = λ i. record { 0 = e i }
 
 module _ (th : ℕ → Theory) (nodes : List Node) (are : AreNodes nodes) (x : VarId) (id : TermId) where
   -- by numbers and by terms
-  numbers_agree : (bound : List (VarId × TermId)) → All (λ b. StandsWithin th nodes b.1.0) bound → IsOf nodes id.0 → Agreed (bound_in nodes bound) (variable_of x) (tree_at nodes id.0) → All (λ b. b.0 ≡ x → b.1 ≡ id) bound
+  pub numbers_agree : (bound : List (VarId × TermId)) → All (λ b. StandsWithin th nodes b.1.0) bound → IsOf nodes id.0 → Agreed (bound_in nodes bound) (variable_of x) (tree_at nodes id.0) → All (λ b. b.0 ≡ x → b.1 ≡ id) bound
   numbers_agree bound within there agreed = λ k d h e.
       let b = get_or bound k d in
       term_id_is b.1 id
@@ -150,7 +150,7 @@ numbers_of nodes ids (v ∷ vs) has =
 -- ---- the values of an answer
 
 -- each value of a bare instance is a bare term
-values_are_bare : (s : SignatureOf) (p : Tree) → IsBare (terms_over s) p → (vs : List Tree) → length vs ≡ length (variables p) → IsBare (terms_over s) (with_values p (map (reading (theory_at s)) vs))
+pub values_are_bare : (s : SignatureOf) (p : Tree) → IsBare (terms_over s) p → (vs : List Tree) → length vs ≡ length (variables p) → IsBare (terms_over s) (with_values p (map (reading (theory_at s)) vs))
     → HoldsAtEach (λ x v. IsBare (terms_over s) (reading (theory_at s) v)) (variables p) vs
 values_are_bare s (variable i r) bare [] long is = absurd (cc)
 values_are_bare s (variable i r) bare (v ∷ []) long is = (subst (IsBare (terms_over s)) (value_alone i r (reading (theory_at s) v)) is, tt)

@@ -32,7 +32,7 @@ use Rattle.mau_plain.proofs.Settling.{push_kept}
 -- ---- in a store that has grown
 
 module _ (s : SignatureOf) (table : Table) (t : Trial) (ps : List Place) (one other : List Node) (vs : List TermId) (values : trees_at one (numbers vs) ≡ trees_at other (numbers vs)) (subject : tree_at one t.subject.0 ≡ tree_at other t.subject.0) where
-  tried_by : IsTried s one table (asked_in t) ps vs → IsTried s other table (asked_in t) ps vs
+  pub tried_by : IsTried s one table (asked_in t) ps vs → IsTried s other table (asked_in t) ps vs
   tried_by is = record {
     each = is.each;
     bare = subst (λ ws. IsBare (terms_over s) (with_values (tree_of t.pattern) (map (reading (theory_at s)) ws))) values is.bare;

@@ -40,7 +40,7 @@ fn agrees(bound: &[(VarId, TermId)], variable: VarId, value: TermId) -> bool
 }
 
 /// Whether a value has its variable's sort, and is the one that this has beforehand, if it has one.
-fn is_for(
+pub fn is_for(
     sig: &Signature,
     sorts: &SortTable,
     bound: &[(VarId, TermId)],

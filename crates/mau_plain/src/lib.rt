@@ -12,7 +12,10 @@ mod settled;
 mod tried;
 mod words;
 
+pub use facts::{has_nodes, is_lawful};
+pub use fits::is_for;
 pub use listing::PlainListing;
+pub use tried::{Trial, copy_bound, solution_of, solves, variables_of};
 
 #[cfg(test)]
 mod tests;

@@ -21,7 +21,7 @@ use crate::facts::{has_nodes, is_lawful};
 use crate::least::least_of;
 use crate::parts::push_candidates;
 use crate::settled::settled_among;
-use crate::tried::{Trial, tried_among};
+use crate::tried::{Trial, copy_bound, solution_of, tried_among, variables_of};
 use crate::words::all_words;
 use mau_api::{Lister, Place, Solution, places_of};
 use mau_signature::Signature;
@@ -35,37 +35,6 @@ use std::alloc::Global;
 #[derive(Drop)]
 pub struct PlainListing {
     trial: Trial,
-}
-
-/// The variables of places.
-fn variables_of(alloc: Global, places: &[Place]) -> Result<Vec<VarId>, NoMemory>
-    ensures { IfOk result (λ variables. variables.items ≡ variables_in places.now) }
-{
-    let mut variables = Vec::with_capacity(alloc, places.len())?;
-    for place in places {
-        variables.push(place.variable)?;
-    }
-    Ok(variables)
-}
-
-/// The pairs of a variable and its value.
-fn copy_bound(alloc: Global, bound: &[(VarId, TermId)]) -> Result<Vec<(VarId, TermId)>, NoMemory>
-    ensures { IfOk result (λ copy. copy.items ≡ bound.now) }
-{
-    let mut copy = Vec::with_capacity(alloc, bound.len())?;
-    copy.extend_from_slice(bound)?;
-    Ok(copy)
-}
-
-/// The solution with these values and no context.
-fn solution_of(alloc: Global, values: &Seq<TermId>) -> Result<Solution, NoMemory>
-    ensures { IfOk result (λ x. x ≡ without_context values.now) }
-{
-    Ok(Solution {
-        left: Seq::new(Vec::new(alloc)),
-        right: Seq::new(Vec::new(alloc)),
-        values: values.copy(alloc)?,
-    })
 }
 
 /// All that may be values of solutions and whose sorts are settled, after those were settled that a listing may settle.

@@ -12,7 +12,7 @@ ghost use Rattle.mau_store.specs.Trees.{tree_at, trees_at};
 ghost use Rattle.mau_store.specs.View.{numbers};
 ghost use Rattle.mau_canon.specs.Within.{StandsWithin, StandWithin};
 ghost use Rattle.mau_api.specs.Places.{variables_in};
-ghost use Rattle.mau_plain.specs.Tried.{AddsTried, ArePlacesOf, IsReadyToTry, IsTriedBehind};
+ghost use Rattle.mau_plain.specs.Tried.{AddsTried, ArePlacesOf, IsReadyToTry, IsTried, IsTriedBehind, asked_in, without_context};
 
 use crate::fits::{are_for, are_of_kinds_at};
 use crate::kinds::kind_of;
@@ -23,6 +23,7 @@ use mau_signature::Signature;
 use mau_sorts::SortTable;
 use mau_store::Store;
 use mau_terms::{Bare, Duplicate, NoMemory, Seq, TermId, VarId};
+use std::alloc::Global;
 use std::cmp::Ordering;
 
 /// A pattern, values that some variables have beforehand, a subject, and the last solution, if there is one.
@@ -32,6 +33,40 @@ pub struct Trial {
     pub bound: Vec<(VarId, TermId)>,
     pub subject: TermId,
     pub last: Option<Solution>,
+}
+
+/// The variables of places.
+pub fn variables_of(alloc: Global, places: &[Place]) -> Result<Vec<VarId>, NoMemory>
+    ensures { IfOk result (λ variables. variables.items ≡ variables_in places.now) }
+{
+    let mut variables = Vec::with_capacity(alloc, places.len())?;
+    for place in places {
+        variables.push(place.variable)?;
+    }
+    Ok(variables)
+}
+
+/// The pairs of a variable and its value.
+pub fn copy_bound(
+    alloc: Global,
+    bound: &[(VarId, TermId)],
+) -> Result<Vec<(VarId, TermId)>, NoMemory>
+    ensures { IfOk result (λ copy. copy.items ≡ bound.now) }
+{
+    let mut copy = Vec::with_capacity(alloc, bound.len())?;
+    copy.extend_from_slice(bound)?;
+    Ok(copy)
+}
+
+/// The solution with these values and no context.
+pub fn solution_of(alloc: Global, values: &Seq<TermId>) -> Result<Solution, NoMemory>
+    ensures { IfOk result (λ x. x ≡ without_context values.now) }
+{
+    Ok(Solution {
+        left: Seq::new(Vec::new(alloc)),
+        right: Seq::new(Vec::new(alloc)),
+        values: values.copy(alloc)?,
+    })
 }
 
 /// Whether the instance of a pattern by values, read as bare terms, is a bare term.
@@ -79,8 +114,36 @@ fn is_whole(
     }
 }
 
-/// Whether values are the next that are tried with success: they come behind the last solution's, are for the places of the pattern, and
-/// make a bare instance whose normal form is the subject.
+/// Whether values are those of a solution without context: they are for the places of the pattern, and make a bare instance whose normal
+/// form is the subject.
+pub fn solves(
+    store: &mut Store,
+    sig: &Signature,
+    sorts: &SortTable,
+    trial: &Trial,
+    places: &[Place],
+    variables: &[VarId],
+    values: &[TermId],
+) -> Result<bool, NoMemory>
+    requires ready { IsReadyToTry sig.now store.old sorts.now trial.now places.now }
+    requires variables { variables.now ≡ variables_in places.now }
+    requires values { StandWithin (theory_at sig.now) store.old (numbers values.now) }
+    ensures solves { IfOk result (λ b. IsTrue b ↔ IsTried sig.now store.old sorts.now (asked_in trial.now) places.now values.now) }
+    ensures extends { Extends store.old store.new }
+{
+    if values.len() != places.len() {
+        return Ok(false);
+    }
+    if !are_for(sig, sorts, &trial.bound, places, values) {
+        return Ok(false);
+    }
+    if !is_bare_instance(store, sig, &trial.pattern, places, values) {
+        return Ok(false);
+    }
+    is_whole(store, sig, &trial.pattern, variables, values, trial.subject)
+}
+
+/// Whether values are the next that are tried with success: they solve, and come behind the last solution's.
 fn is_tried(
     store: &mut Store,
     sig: &Signature,
@@ -102,13 +165,7 @@ fn is_tried(
     if !is_behind(store, sig, places, &trial.last, values) {
         return Ok(false);
     }
-    if !are_for(sig, sorts, &trial.bound, places, values) {
-        return Ok(false);
-    }
-    if !is_bare_instance(store, sig, &trial.pattern, places, values) {
-        return Ok(false);
-    }
-    is_whole(store, sig, &trial.pattern, variables, values, trial.subject)
+    solves(store, sig, sorts, trial, places, variables, values)
 }
 
 /// Adds a list of values if it is tried with success.

@@ -25,7 +25,7 @@ below (suc i) zero h = absurd (omega arith)
 below (suc i) (suc n) h = elim (below i n (omega arith)) [ inl l ↦ inl (omega arith) | inr e ↦ inr (ap suc e) ]
 
 -- those of the operator i + 1, and what stands around them
-abbrev Around : SignatureOf → ℕ → List Production → Type 0
+abbrev pub Around : SignatureOf → ℕ → List Production → Type 0
 Around s i ps = (more : List Production) × (ps ≡ of_operators s i ++ (of_operator s.hierarchy (i + 1) (declarations_at s (i + 1)) ++ more))
 
 around_by : (s : SignatureOf) (n i : ℕ) → (i < n) ⊎ (i ≡ n) → (i < n → Around s i (of_operators s n)) → Around s i (of_operators s (suc n))
@@ -40,7 +40,7 @@ around_by s n i (inr e) rec =
     ([], ap (λ m. of_operators s n ++ of_operator s.hierarchy m (declarations_at s m)) (sym (add-one n)) ∙ ap (λ ps. of_operators s n ++ ps) (sym (append-nil (of_operator s.hierarchy (n + 1) (declarations_at s (n + 1)))))) in
     subst (λ m. Around s m (of_operators s (suc n))) (sym e) last
 
-around : (s : SignatureOf) (n i : ℕ) → i < n → Around s i (of_operators s n)
+pub around : (s : SignatureOf) (n i : ℕ) → i < n → Around s i (of_operators s n)
 around s zero i h = absurd (omega arith)
 around s (suc n) i h = around_by s n i (below i n h) (λ l. around s n i l)
 
@@ -49,7 +49,7 @@ seam [] y ys = refl
 seam (x ∷ xs) y ys = seam xs y ys
 
 -- the production in which an operator with holes is written
-written-is : (h : Hierarchy) (f : ℕ) (d : Decl) → is_written d ≡ true → written h f d ≡ production (kind_of h d.result) (level d) (operator f) (parts_in_order d (argument_kinds h d)) ∷ []
+pub written-is : (h : Hierarchy) (f : ℕ) (d : Decl) → is_written d ≡ true → written h f d ≡ production (kind_of h d.result) (level d) (operator f) (parts_in_order d (argument_kinds h d)) ∷ []
 written-is h f d e = ap (λ b. cond b (production (kind_of h d.result) (level d) (operator f) (parts_in_order d (argument_kinds h d)) ∷ []) []) e
 
 pub written_there : (s : SignatureOf) (g : GrammarOf) (i : ℕ) (d : Decl) (ds : List Decl) → IsGrammarFor s g → i < length s.declarations → declarations_at s (i + 1) ≡ d ∷ ds → is_written d ≡ true

@@ -8,3 +8,11 @@ pub mod Printed
 pub mod Layouts
 -- what is found out for this
 pub mod Found
+-- the words of printed terms, and what they read as
+pub mod Words
+-- the words of a term's text
+pub mod Worded
+-- which names a text can write, and what a text is read as
+pub mod Readable
+-- what is proved of printing
+pub mod Laws

@@ -5,6 +5,7 @@ ghost use Rattle.mau_store.specs.View.{numbers};
 ghost use Rattle.mau_store.specs.Trees.{tree_at};
 ghost use Rattle.mau_grammar.specs.Production.{places};
 ghost use Rattle.mau_print.specs.Written.{in_parentheses, guarded, gap, pieces, spaced, nested, opening, closing, times, IsSecondPlace, comma_texts};
+ghost use Rattle.mau_print.specs.Readable.{IsTextOf};
 ghost use Rattle.mau_print.specs.Printed.{Pairs, shown, printed_at, printed_all, variable_name, variable_text, numeral_printed};
 
 use crate::layout::Layout;
@@ -349,7 +350,8 @@ fn write_chain(
     }
 }
 
-/// The text of a term, by its normal form, which is `id` of the store.
+/// The text of a term, by its normal form, which is `id` of the store. Where the module's names are such that a text can write
+/// them, the text reads as the term.
 pub fn show(
     alloc: Global,
     printer: &Printer,
@@ -359,6 +361,7 @@ pub fn show(
 ) -> Result<String, NoMemory>
     requires { IsOf store.now id.0 }
     ensures text { IfOk result (λ text. string_bytes text ≡ shown printer.now vars.now (tree_at store.now id.0)) }
+    ensures reads { IfOk result (λ text. IsTextOf printer.now vars.now (tree_at store.now id.0) (string_bytes text)) }
 {
     let mut out = String::new(alloc);
     write_term(&mut out, printer, vars, store, id)?;

@@ -1,7 +1,7 @@
 -- The answers of items, from what their parts give.
-use Rattle.std.proofs.Common.{◌≡◌, ℕ, ◌+◌, List, [], ◌∷◌, ◌++◌, Bool, true, false, ◌||◌, length, Result, Ok, Err, IfOk, OnOk, codes, decimal, refl, sym, ◌∙◌, ap, ap₂, subst, append_assoc, append-nil}
+use Rattle.std.proofs.Common.{◌≡◌, ℕ, ◌+◌, List, [], ◌∷◌, ◌++◌, Bool, true, false, ◌||◌, Option, None, Some, Result, Ok, Err, IfOk, OnOk, refl, sym, ◌∙◌, ap, subst, append_assoc, append-nil}
+use Rattle.std.specs.Prelude.{slice_get}
 use Rattle.mau_terms.specs.Tree.{Tree}
-use Rattle.mau_terms.specs.Subst.{Variable, variables}
 use Rattle.mau_reader.specs.Modules.{ModuleOf}
 use Rattle.mau_modtext.specs.Word.{Word}
 use Rattle.mau_modtext.specs.declared.raw.RawItem.{RawItem}
@@ -10,21 +10,17 @@ use Rattle.mau_modtext.specs.declared.raw.TextFault.{TextFault}
 use Rattle.mau_reader.specs.Words.{index_at}
 use Rattle.mau_session.specs.Built.{fault_answer}
 use Rattle.mau_modtext.specs.declared.raw.RawCommand.{RawCommand}
-use Rattle.mau_terms.specs.declared.ids.TermId.{TermId}
 use Rattle.mau_terms.specs.View.{tree_of}
 use Rattle.mau_terms.specs.declared.bare.Bare.{Bare}
-use Rattle.mau_terms.specs.Norm.{norm}
-use Rattle.mau_terms.specs.Bare.{HasNoAxioms}
-use Rattle.mau_signature.specs.Signature.{SignatureOf, theory_at}
-use Rattle.mau_store.specs.Node.{Node}
-use Rattle.mau_store.specs.Trees.{StandsFor}
-use Rattle.mau_canon.specs.Within.{IsWithin, StandsWithin}
-use Rattle.mau_session.specs.Terms.{Pairs, terms_in}
-use Rattle.mau_session.specs.Bound.{id_tree}
-use Rattle.mau_session.proofs.Solving.{plain_norm_in}
-use Rattle.mau_session.specs.Transcript.{PatternReads, SubjectReads, too_deep, overflows, listed, BodyAnswer, item_faulty, item_answered, ItemsAnswer, item_first}
-use Rattle.mau_session.specs.Gains.{GainsListing, GainsListed, gains_solutions, gains_too_deep, gains_overflow, GainsTerms, GainsBody, GainsItem}
-use Rattle.mau_session.specs.Answers.{substitution_lines, listing_lines, match_head, too_deep_line, overflow_line}
+use Rattle.mau_session.specs.Terms.{Pairs}
+use Rattle.mau_session.specs.Query.{QueryOf, asked_first, shown_more}
+use Rattle.mau_session.specs.State.{GoingOf, StateOf, nothing_yet, IsChosen, OutcomeOf, left_by, refuses, state_after}
+use Rattle.mau_session.specs.Bounds.{bound_of}
+use Rattle.mau_session.specs.Commands.{unbuilt}
+use Rattle.mau_session.specs.Next.{GainsShown}
+use Rattle.mau_session.specs.Transcript.{PatternReads, SubjectReads, TermsAnswer, too_deep, overflows, listed, MatchAnswer, bound_refused, command_answered, ContinueAnswer, continued, BodyAnswer, item_faulty, item_answered, ItemsAnswer, item_first}
+use Rattle.mau_session.specs.Gains.{GainsListing, GainsListed, gains_solutions, gains_too_deep, gains_overflow, GainsTerms, ChosenAnswer, chosen_refused, chosen_answered, GainsChosen, GainsMatch, GainsOn, GainsContinue, GainsBody, GainsItem}
+use Rattle.mau_session.specs.Answers.{listing_lines, match_head, continue_head, too_deep_line, overflow_line}
 
 -- a refusal that was written answers an item
 pub refused_with : {E A : Type 0} (P : Bool → Type 0) (r : Result Bool E) → OnOk r A → IfOk r (λ b. b ≡ true) → (A → P true) → IfOk r P
@@ -32,20 +28,9 @@ refused_with P (Ok b) a e f = subst P (sym e) (f a)
 refused_with P (Err e) a h f = tt
 
 -- so does the fault of a term
-pub unread_with : {E A B : Type 0} (P : Bool → Type 0) (r : Result Bool E) → OnOk r A → OnOk r B → IfOk r (λ b. b ≡ true) → (A → B → P true) → IfOk r P
-unread_with P (Ok b) a c e f = subst P (sym e) (f a c)
-unread_with P (Err e) a c h f = tt
-
-matcher_parts : (o a d n s l : List ℕ) → o ++ a ++ d ++ n ++ s ++ l ≡ o ++ (a ++ d ++ n ++ s ++ [] ++ l)
-matcher_parts o a d n s l = simp (append_assoc, append-nil)
-
--- the lines of a listing of one solution
-pub one_matcher : (m : ModuleOf) (ns : Pairs) (p : Tree) (o a b n : List ℕ) (xs : List Variable) (vs : List Tree) → variables p ≡ xs
-    → a ≡ o ++ codes "Matcher " ++ decimal 1 ++ codes "\n" → b ≡ a ++ substitution_lines m ns xs vs → n ≡ b ++ codes "No more matches.\n" → n ≡ o ++ listing_lines m ns p (vs ∷ [])
-one_matcher m ns p o a b n xs vs x ea eb en =
-    let lines = substitution_lines m ns (variables p) vs in
-    en ∙ ap (λ y. y ++ codes "No more matches.\n") (eb ∙ ap (λ y. a ++ substitution_lines m ns y vs) (sym x) ∙ ap (λ y. y ++ lines) ea)
-    ∙ matcher_parts o (codes "Matcher ") (decimal 1) (codes "\n") lines (codes "No more matches.\n")
+pub unread_with : {T E A B : Type 0} (v : T) (P : T → Type 0) (r : Result T E) → OnOk r A → OnOk r B → IfOk r (λ b. b ≡ v) → (A → B → P v) → IfOk r P
+unread_with v P (Ok b) a c e f = subst P (sym e) (f a c)
+unread_with v P (Err e) a c h f = tt
 
 -- ---- the items one after another
 
@@ -62,56 +47,104 @@ or_nothing true = refl
 or_nothing false = refl
 
 module _ (ws : List Word) where
-  pub one_more : (ms ns : List ModuleOf) (k : ℕ) (item : RawItem) (items : List RawItem) (o n : List ℕ) (r b s : Bool) → GainsItem ws ms k item ns o n b → s ≡ (r || b)
-      → (all : List RawItem) → ((more : List ℕ) (later : Bool) → ItemsAnswer ws ms k (item ∷ items) more later → ItemsAnswer ws [] 1 all (o ++ more) (r || later))
-      → (more : List ℕ) (later : Bool) → ItemsAnswer ws ns (k + 1) items more later → ItemsAnswer ws [] 1 all (n ++ more) (s || later)
-  one_more ms ns k item items o n r b s g e all rest more later a =
-      let whole = rest (g.bytes ++ more) (b || later) (item_first ms ns k item items g.bytes more b later g.answer a) in
-      subst (λ x. ItemsAnswer ws [] 1 all x (s || later)) (sym (append_assoc o g.bytes more) ∙ ap (λ x. x ++ more) (sym g.gained))
-      (subst (λ x. ItemsAnswer ws [] 1 all (o ++ (g.bytes ++ more)) x) (or_parts r b later ∙ ap (λ x. x || later) (sym e)) whole)
+  pub one_more : (st next : StateOf) (k : ℕ) (item : RawItem) (items : List RawItem) (o n : List ℕ) (r b s : Bool) → GainsItem ws st k item next o n b → s ≡ (r || b)
+      → (all : List RawItem) → ((more : List ℕ) (later : Bool) → ItemsAnswer ws st k (item ∷ items) more later → ItemsAnswer ws nothing_yet 1 all (o ++ more) (r || later))
+      → (more : List ℕ) (later : Bool) → ItemsAnswer ws next (k + 1) items more later → ItemsAnswer ws nothing_yet 1 all (n ++ more) (s || later)
+  one_more st next k item items o n r b s g e all rest more later a =
+      let whole = rest (g.bytes ++ more) (b || later) (item_first st next k item items g.bytes more b later g.answer a) in
+      subst (λ x. ItemsAnswer ws nothing_yet 1 all x (s || later)) (sym (append_assoc o g.bytes more) ∙ ap (λ x. x ++ more) (sym g.gained))
+      (subst (λ x. ItemsAnswer ws nothing_yet 1 all (o ++ (g.bytes ++ more)) x) (or_parts r b later ∙ ap (λ x. x || later) (sym e)) whole)
 
   -- nothing more is answered
-  pub all_answered : (ms : List ModuleOf) (k : ℕ) (items all : List RawItem) (o : List ℕ) (r : Bool) → ItemsAnswer ws ms k items [] false
-      → ((more : List ℕ) (later : Bool) → ItemsAnswer ws ms k items more later → ItemsAnswer ws [] 1 all (o ++ more) (r || later)) → ItemsAnswer ws [] 1 all o r
-  all_answered ms k items all o r none rest =
-      subst (λ x. ItemsAnswer ws [] 1 all x r) (append-nil o)
-      (subst (λ x. ItemsAnswer ws [] 1 all (o ++ []) x) (or_nothing r) (rest [] false none))
+  pub all_answered : (st : StateOf) (k : ℕ) (items all : List RawItem) (o : List ℕ) (r : Bool) → ItemsAnswer ws st k items [] false
+      → ((more : List ℕ) (later : Bool) → ItemsAnswer ws st k items more later → ItemsAnswer ws nothing_yet 1 all (o ++ more) (r || later)) → ItemsAnswer ws nothing_yet 1 all o r
+  all_answered st k items all o r none rest =
+      subst (λ x. ItemsAnswer ws nothing_yet 1 all x r) (append-nil o)
+      (subst (λ x. ItemsAnswer ws nothing_yet 1 all (o ++ []) x) (or_nothing r) (rest [] false none))
 
 -- ---- one item
 
-module _ (ws : List Word) (ms : List ModuleOf) (k : ℕ) (item : RawItem) (i : ℕ) (at : i ≡ index_at ws item.at) where
-  pub item_says : (b : RawBody) (ns : List ModuleOf) (o n : List ℕ) (r : Bool) → item.body ≡ Ok b → GainsBody ws ms k i b ns o n r → GainsItem ws ms k item ns o n r
-  item_says b ns o n r h g = record { bytes = g.bytes; answer = item_answered b ns g.bytes r h (subst (λ i. BodyAnswer ws ms k i b ns g.bytes r) at g.answer); gained = g.gained }
+module _ (ws : List Word) (st : StateOf) (k : ℕ) (item : RawItem) (i : ℕ) (at : i ≡ index_at ws item.at) where
+  pub item_says : (b : RawBody) (next : StateOf) (o n : List ℕ) (r : Bool) → item.body ≡ Ok b → GainsBody ws st k i b next o n r → GainsItem ws st k item next o n r
+  item_says b next o n r h g = record { bytes = g.bytes; answer = item_answered b next g.bytes r h (subst (λ i. BodyAnswer ws st k i b next g.bytes r) at g.answer); gained = g.gained }
 
-  pub item_fails : (f : TextFault) (o n : List ℕ) → item.body ≡ Err f → n ≡ o ++ fault_answer k ws i f → GainsItem ws ms k item ms o n true
+  pub item_fails : (f : TextFault) (o n : List ℕ) → item.body ≡ Err f → n ≡ o ++ fault_answer k ws i f → GainsItem ws st k item st o n true
   item_fails f o n h g = record { bytes = _; answer = item_faulty f h; gained = g ∙ ap (λ i. o ++ fault_answer k ws i f) at }
 
 -- ---- listings
 
 -- the answer of a match command whose pattern and subject are read
-pub gains_terms : (ws : List Word) (m : ModuleOf) (k : ℕ) (c : RawCommand) (p : Bare) (ns : Pairs) (t : Bare) (os : Pairs) → PatternReads ws m c p ns → SubjectReads ws m c p ns t os
-    → (o a n : List ℕ) → a ≡ o ++ match_head k m → GainsListed m os (tree_of p) (tree_of t) a n → GainsTerms ws m k c o n false
-gains_terms ws m k c p ns t os pattern subject o _ _ head (gains_solutions a n within listing) = record {
-  bytes = match_head k m ++ listing_lines m os (tree_of p) listing.found;
-  answer = listed p ns t os listing.found pattern subject within listing.listing;
-  gained = listing.gained ∙ ap (λ x. x ++ listing_lines m os (tree_of p) listing.found) head ∙ append_assoc o (match_head k m) (listing_lines m os (tree_of p) listing.found);
+pub gains_terms : (ws : List Word) (m : ModuleOf) (k : ℕ) (c : RawCommand) (most : Option ℕ) (p : Bare) (ns : Pairs) (t : Bare) (os : Pairs) → PatternReads ws m c p ns → SubjectReads ws m c p ns t os
+    → (o a n : List ℕ) (left : OutcomeOf) → a ≡ o ++ match_head k m → GainsListed m os (tree_of p) (tree_of t) most left a n → GainsTerms ws m k c most o n left
+gains_terms ws m k c most p ns t os pattern subject o _ _ _ head (gains_solutions left a n within listing) = record {
+  bytes = match_head k m ++ listing_lines m os (tree_of p) 0 listing.found listing.ended;
+  answer = subst (λ l. TermsAnswer ws m k c most l (match_head k m ++ listing_lines m os (tree_of p) 0 listing.found listing.ended)) (sym listing.leaves)
+      (listed p ns t os listing.found listing.ended pattern subject within listing.listing);
+  gained = listing.gained ∙ ap (λ x. x ++ listing_lines m os (tree_of p) 0 listing.found listing.ended) head ∙ append_assoc o (match_head k m) (listing_lines m os (tree_of p) 0 listing.found listing.ended);
 }
-gains_terms ws m k c p ns t os pattern subject o _ _ head (gains_too_deep a n cause gained) = record {
+gains_terms ws m k c most p ns t os pattern subject o _ _ _ head (gains_too_deep a n cause gained) = record {
   bytes = match_head k m ++ too_deep_line;
   answer = too_deep p ns t os pattern subject cause;
   gained = gained ∙ ap (λ x. x ++ too_deep_line) head ∙ append_assoc o (match_head k m) too_deep_line;
 }
-gains_terms ws m k c p ns t os pattern subject o _ _ head (gains_overflow a n cause gained) = record {
+gains_terms ws m k c most p ns t os pattern subject o _ _ _ head (gains_overflow a n cause gained) = record {
   bytes = match_head k m ++ overflow_line;
   answer = overflows p ns t os pattern subject cause;
   gained = gained ∙ ap (λ x. x ++ overflow_line) head ∙ append_assoc o (match_head k m) overflow_line;
 }
 
-module _ (m : ModuleOf) (free : HasNoAxioms (terms_in m)) (s : SignatureOf) (same : s ≡ m.signature) (t : Tree) (nodes : List Node) (id : TermId) (stands : StandsFor (theory_at s) nodes id.0 t) where
-  -- without axioms the normal form is the term
-  pub built_tree : id_tree nodes id ≡ t
-  built_tree = stands ∙ ap (λ s. norm (theory_at s) t) same ∙ plain_norm_in m free t
+-- what a query shows of which nothing was shown
+pub gains_listing : (m : ModuleOf) (ns : Pairs) (p t : Tree) (most : Option ℕ) (q next : QueryOf) (left : OutcomeOf) (old new : List ℕ) (ended : Bool)
+    → q ≡ asked_first p t ns → GainsShown m q next most old new ended → left ≡ left_by ended next → GainsListing m ns p t most left old new
+gains_listing m ns p t most q next left old new ended e g l =
+    let h = subst (λ k. GainsShown m k next most old new ended) e g in
+    record { found = h.found; ended = ended; listing = h.shows; leaves = l ∙ ap (left_by ended) h.after; gained = h.gained }
 
-  pub gains_built : (ns : Pairs) (p : Tree) → StandsWithin (theory_at s) nodes id.0 → (old new : List ℕ) → GainsListing m ns p (id_tree nodes id) old new → GainsListed m ns p t old new
-  gains_built ns p within old new listing =
-      gains_solutions old new (subst (λ s. IsWithin (theory_at s) (norm (theory_at s) t)) same (subst (IsWithin (theory_at s)) stands within.within)) (subst (λ t. GainsListing m ns p t old new) built_tree listing)
+-- what a query shows that goes on, behind the first line of the answer
+pub gains_on : (st : StateOf) (k : ℕ) (g : GoingOf) (most : Option ℕ) (m : ModuleOf) (at_number : slice_get st.modules g.number ≡ Some m) (next : QueryOf) (after : StateOf) (o a n : List ℕ) (ended refused : Bool)
+    → a ≡ o ++ continue_head k m → GainsShown m g.query next most a n ended → after ≡ state_after st g.number (left_by ended next) → refused ≡ refuses (left_by ended next)
+    → GainsOn st k g most after o n refused
+gains_on st k g most m at_number next after o a n ended refused head shown is answered = record {
+  «module» = m;
+  there = at_number;
+  found = shown.found;
+  ended = ended;
+  shows = shown.shows;
+  after = is ∙ ap (λ q. state_after st g.number (left_by ended q)) shown.after;
+  gained =
+      shown.gained ∙ ap (λ x. x ++ listing_lines m g.query.variables g.query.pattern g.query.shown shown.found ended) head
+      ∙ append_assoc o (continue_head k m) (listing_lines m g.query.variables g.query.pattern g.query.shown shown.found ended);
+  answered = answered ∙ never ended;
+}
+  where
+    never : (b : Bool) → refuses (left_by b next) ≡ false
+    never true = refl
+    never false = refl
+
+-- what goes on may be taken out of the state before
+same_after : (st : StateOf) (taken : Option GoingOf) (n : ℕ) (b : Bool) (q : QueryOf) → state_after (record st { going = taken }) n (left_by b q) ≡ state_after st n (left_by b q)
+same_after st taken n true q = refl
+same_after st taken n false q = refl
+
+-- the answer of a command that continues a query
+pub continues : (ws : List Word) (st : StateOf) (taken : Option GoingOf) (k : ℕ) (c : RawCommand) (most : Option ℕ) (g : GoingOf) (next : StateOf) (o n : List ℕ) (refused : Bool)
+    → bound_of ws c.bound ≡ Ok most → st.going ≡ Some g → GainsOn (record st { going = taken }) k g most next o n refused → GainsContinue ws st k c next o n refused
+continues ws st taken k c most g next o n refused bound going on =
+    let bytes = continue_head k on.«module» ++ listing_lines on.«module» g.query.variables g.query.pattern g.query.shown on.found on.ended in
+    let q = shown_more g.query on.found in
+    record {
+      bytes = bytes;
+      answer = subst (λ s. ContinueAnswer ws st k c s bytes refused) (sym (on.after ∙ same_after st taken g.number on.ended q))
+          (subst (λ b. ContinueAnswer ws st k c (state_after st g.number (left_by on.ended q)) bytes b) (sym on.answered)
+          (continued most g on.«module» on.found on.ended bound going on.there on.shows));
+      gained = on.gained;
+    }
+
+-- the answer of a match command over a module that was chosen
+pub gains_chosen : (ws : List Word) (st : StateOf) (k i : ℕ) (c : RawCommand) (n : ℕ) (next : StateOf) (old new : List ℕ) (refused : Bool) → unbuilt ws st.modules i c ≡ None → IsChosen ws st.modules c n
+    → GainsChosen ws st k c n next old new refused → GainsMatch ws st k i c next old new refused
+gains_chosen ws st k i c n next old new refused built chosen g = record { bytes = g.bytes; answer = by g.answer; gained = g.gained }
+  where
+    by : {s : StateOf} {b : List ℕ} {r : Bool} → ChosenAnswer ws st k c n s b r → MatchAnswer ws st k i c s b r
+    by (chosen_refused r e) = bound_refused n r built chosen e
+    by (chosen_answered m most left bytes there e a) = command_answered n m most left bytes built chosen there e a

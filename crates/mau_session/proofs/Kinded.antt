@@ -7,7 +7,7 @@ use Rattle.mau_terms.specs.Bare.{IsBareIn, IsBare}
 use Rattle.mau_terms.specs.View.{tree_of}
 use Rattle.mau_terms.specs.declared.bare.Bare.{Bare}
 use Rattle.mau_parse.specs.declared.goals.Goal.{Goal}
-use Rattle.mau_parse.specs.declared.goals.Goal.TheVariants.{AnyKind, Kind}
+use Rattle.mau_parse.specs.declared.goals.Goal.TheVariants.{AnyKind}
 use Rattle.mau_grammar.specs.Grammar.{GrammarOf}
 use Rattle.mau_parse.specs.Goal.{highest}
 use Rattle.mau_parse.specs.Laws.{IsBareFor}

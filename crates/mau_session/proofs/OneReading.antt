@@ -1,5 +1,5 @@
 -- Tokens read in one way: as one term, or with one fault.
-use Rattle.std.proofs.Common.{◌≡◌, ◌≢◌, ℕ, ◌<◌, ◌≤◌, ◌⊎◌, inl, inr, List, length, true, false, Option, Some, None, IsSome, codes, decimal, ◌++◌, refl, sym, ◌∙◌, ap, ap₂, subst, arith}
+use Rattle.std.proofs.Common.{◌≡◌, ◌≢◌, ℕ, ◌<◌, ◌⊎◌, inl, inr, List, Option, Some, None, IsSome, codes, decimal, ◌++◌, refl, sym, ◌∙◌, ap, ap₂, arith}
 use Rattle.std.specs.Prelude.{slice_get}
 use Rattle.std.proofs.lemmas.Bool.{cases_order, false≢true}
 use Rattle.mau_terms.specs.Tree.{Tree}
@@ -15,7 +15,7 @@ use Rattle.mau_parse.specs.TooLarge.{IsTooLarge, IsFirstTooLarge, AllSmall}
 use Rattle.mau_parse.specs.Goal.{IsOnlyTree, AreTwoTrees}
 use Rattle.mau_parse.specs.Terms.{added, pairs_in, renamed}
 use Rattle.mau_parse.specs.Overflow.{overflows}
-use Rattle.mau_parse.specs.Parsed.{IsReadable, BeginsAt, IsParsed, HasNoTree, HasTwoTrees, HasLargeNumeral, HasLargeSuccessor, IsFault}
+use Rattle.mau_parse.specs.Parsed.{IsReadable, BeginsAt, IsParsed, HasLargeNumeral, IsFault}
 use Rattle.mau_session.specs.Terms.{Pairs}
 use Rattle.mau_session.specs.Answers.{shown_parse_fault}
 

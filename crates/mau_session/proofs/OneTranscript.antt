@@ -1,8 +1,5 @@
 -- A text has one transcript.
-use Rattle.std.proofs.Common.{◌≡◌, ◌≢◌, ℕ, ◌+◌, ◌<◌, List, [], ◌∷◌, ◌++◌, Bool, ◌||◌, length, Some, None, Ok, refl, sym, ◌∙◌, ap, ap₂, subst, arith, slice_index_or}
-use Rattle.std.specs.Ordering.{ordering_reverse}
-use Rattle.std.specs.declared.cmp.Ordering.{Ordering}
-use Rattle.std.specs.declared.cmp.Ordering.TheVariants.{Less, Equal, Greater}
+use Rattle.std.proofs.Common.{◌≡◌, ◌≢◌, ℕ, ◌+◌, List, [], ◌++◌, Bool, ◌||◌, Some, None, Ok, refl, sym, ◌∙◌, ap, ap₂, subst, arith, Option, length, slice_get, Err}
 use Rattle.mau_terms.specs.Tree.{Tree}
 use Rattle.mau_terms.specs.View.{tree_of}
 use Rattle.mau_terms.specs.declared.bare.Bare.{Bare}
@@ -11,13 +8,9 @@ use Rattle.mau_parse.specs.declared.goals.Goal.TheVariants.{AnyKind, Kind}
 use Rattle.mau_parse.specs.declared.fault.ParseFault.{ParseFault}
 use Rattle.mau_parse.specs.declared.fault.ParseFault.TheVariants.{NoMemory as NoMemoryOfParse}
 use Rattle.mau_terms.specs.Norm.{norm}
-use Rattle.mau_terms.specs.Bare.{HasNoAxioms}
 use Rattle.mau_canon.specs.declared.fault.BuildFault.{BuildFault}
 use Rattle.mau_canon.specs.declared.fault.BuildFault.TheVariants.{TooDeep, Overflow}
 use Rattle.mau_canon.specs.Within.{IsWithin, IsCause}
-use Rattle.mau_terms.specs.Subst.{variables}
-use Rattle.mau_terms.specs.Solution.{solution_cmp}
-use Rattle.mau_terms.specs.declared.theory.Theory.{Theory}
 use Rattle.mau_modtext.specs.Word.{Word}
 use Rattle.mau_modtext.specs.Words.{words_of}
 use Rattle.mau_modtext.specs.Items.{item_part}
@@ -26,50 +19,26 @@ use Rattle.mau_modtext.specs.declared.raw.RawItem.{RawItem}
 use Rattle.mau_modtext.specs.declared.raw.RawBody.{RawBody}
 use Rattle.mau_modtext.specs.declared.raw.RawBody.TheVariants.{Quit}
 use Rattle.mau_modtext.specs.declared.raw.RawCommand.{RawCommand}
-use Rattle.mau_reader.specs.Words.{index_at}
+use Rattle.mau_reader.specs.Words.{index_at, token_text, token_index}
 use Rattle.mau_reader.specs.Modules.{ModuleOf}
-use Rattle.mau_session.specs.declared.refusal.Refusal.TheVariants.{NotBuilt}
-use Rattle.mau_session.specs.Terms.{Pairs, terms_in, kind_of_term, HasAxioms}
+use Rattle.mau_tokens.specs.declared.token.Token.{Token}
+use Rattle.mau_session.specs.declared.refusal.Refusal.{Refusal}
+use Rattle.mau_session.specs.declared.refusal.Refusal.TheVariants.{NotBuilt, UnknownModule}
+use Rattle.mau_session.specs.Terms.{Pairs, terms_in, kind_of_term}
 use Rattle.mau_session.specs.Reading.{part_tokens, part_texts, TermReads, IsUnread}
-use Rattle.mau_session.specs.Matching.{numbered_from, IsListing}
+use Rattle.mau_session.specs.Matching.{Shows}
 use Rattle.mau_session.specs.Commands.{unbuilt}
 use Rattle.mau_session.specs.Built.{fault_answer}
-use Rattle.mau_session.specs.Answers.{refusal_line, faulty_line, shown_parse_fault, module_refusal, fault_line, module_line, match_head, listing_lines}
-use Rattle.mau_session.specs.Transcript.{current, accepted, PatternReads, SubjectReads, TermsAnswer, pattern_refused, subject_refused, too_deep, overflows, listed, MatchAnswer, no_module, command_not_built, axioms_not_built, command_answered, BodyAnswer, module_not_built, module_accepted, module_refused, match_answered, other_not_built, setting_not_built, ItemAnswer, item_faulty, item_answered, ItemsAnswer, items_end, item_quits, item_first, Transcript, text_refused, items_answered}
+use Rattle.mau_session.specs.Answers.{refusal_line, faulty_line, shown_parse_fault, module_refusal, fault_line, module_line, match_head, continue_head, listing_lines}
+use Rattle.mau_session.specs.Query.{asked_first, shown_more}
+use Rattle.mau_session.specs.State.{GoingOf, StateOf, nothing_yet, accepted, LastNamed, IsChosen, current_one, named_one, NamesNone, OutcomeOf, left_by, refuses, state_after}
+use Rattle.mau_session.specs.Bounds.{bound_of}
+use Rattle.mau_session.specs.Transcript.{PatternReads, SubjectReads, TermsAnswer, pattern_refused, subject_refused, too_deep, overflows, listed, MatchAnswer, command_not_built, module_unknown, bound_refused, command_answered, ContinueAnswer, number_refused, nothing_to_continue, continued, BodyAnswer, module_not_built, module_accepted, module_refused, match_answered, continue_answered, other_not_built, setting_not_built, ItemAnswer, item_faulty, item_answered, ItemsAnswer, items_end, item_quits, item_first, Transcript, text_refused, items_answered}
 use Rattle.mau_tokens.proofs.Answer.{answers_are_one}
-use Rattle.mau_terms.proofs.Solutions.{solutions_are_ordered}
+use Rattle.mau_session.proofs.Naming.{named_once}
+use Rattle.mau_session.proofs.OneListing.{shows_once}
 use Rattle.mau_session.proofs.OneReading.{AreOneTerm, term_once, term_no_fault, fault_once}
-use Rattle.mau_session.proofs.Numbered.{read_numbered}
-use Rattle.mau_session.proofs.Solving.{solution_once}
-use Rattle.mau_session.proofs.Sorting.{axioms_or_none}
 use Rattle.mau_reader.proofs.OneModule.{yes_no, module_once}
-
--- ---- listings
-
-own_reverse : (o : Ordering) → o ≡ ordering_reverse o → o ≡ Equal
-own_reverse Less e = absurd cc
-own_reverse Equal e = refl
-own_reverse Greater e = absurd cc
-
-solutions_tie : (th : ℕ → Theory) (p : Tree) (vs : List Tree) → solution_cmp th p ([], vs) ([], vs) ≡ Equal
-solutions_tie th p vs = own_reverse _ ((solutions_are_ordered th p).antisymm ([], vs) ([], vs))
-
-module _ (m : ModuleOf) (free : HasNoAxioms (terms_in m)) (p t : Tree) (ns : Pairs) (numbered : variables p ≡ numbered_from 0 ns) where
-  no_later : (f : List (List Tree)) → IsListing m p t f → (i j : ℕ) → i < j → j < length f → ⊥
-  no_later f l i j h k =
-      let d : List Tree = [] in
-      let same = solution_once m free p t ns numbered (slice_index_or f i d) (slice_index_or f j d) (l.solutions i d (omega (arith, h, k))) (l.solutions j d k) in
-      let less = l.ascending i j d h k in
-      let tie = solutions_tie (terms_in m).theory p (slice_index_or f j d) in
-      let n = sym tie ∙ ap (λ vs. solution_cmp (terms_in m).theory p ([], vs) ([], slice_index_or f j d)) (sym same) ∙ less in absurd cc
-
-  listing_once : (f g : List (List Tree)) → IsListing m p t f → IsListing m p t g → f ≡ g
-  listing_once [] [] l k = refl
-  listing_once [] (w ∷ ws) l k = let a = l.complete w (k.solutions 0 w (omega arith)) in absurd (omega (arith, a.2))
-  listing_once (v ∷ vs) [] l k = let a = k.complete v (l.solutions 0 v (omega arith)) in absurd (omega (arith, a.2))
-  listing_once (v ∷ []) (w ∷ []) l k = ap (λ v. v ∷ []) (solution_once m free p t ns numbered v w (l.solutions 0 v (omega arith)) (k.solutions 0 w (omega arith)))
-  listing_once (v ∷ []) (w ∷ u ∷ ws) l k = absurd (no_later (w ∷ u ∷ ws) k 0 1 (omega arith) (omega arith))
-  listing_once (v ∷ u ∷ vs) (w ∷ ws) l k = absurd (no_later (v ∷ u ∷ vs) l 0 1 (omega arith) (omega arith))
 
 -- ---- answers: the bytes, and whether it was refused
 
@@ -80,13 +49,21 @@ record AreOneAnswer (b c : List ℕ) (r s : Bool) : Type 0 where
 one_answer : {b : List ℕ} {r : Bool} → AreOneAnswer b b r r
 one_answer = record { bytes = refl; refused = refl }
 
+-- the bytes, and what is left
+record AreOneEnd (b c : List ℕ) (l o : OutcomeOf) : Type 0 where
+  bytes : b ≡ c
+  left : l ≡ o
+
+one_end : {b : List ℕ} {l : OutcomeOf} → AreOneEnd b b l l
+one_end = record { bytes = refl; left = refl }
+
 -- what the terms of a command read as: a pattern and a subject
 record ReadTerms (ws : List Word) (m : ModuleOf) (c : RawCommand) (p t : Bare) (os : Pairs) : Type 0 where
   pairs : Pairs
   pattern : PatternReads ws m c p pairs
   subject : SubjectReads ws m c p pairs t os
 
-module _ (ws : List Word) (m : ModuleOf) (free : HasNoAxioms (terms_in m)) (k : ℕ) (c : RawCommand) where
+module _ (ws : List Word) (m : ModuleOf) (k : ℕ) (c : RawCommand) where
   pattern_once : (p q : Bare) (ns ns' : Pairs) → PatternReads ws m c p ns → PatternReads ws m c q ns' → AreOneTerm m.grammar (part_tokens ws c.first) (part_texts ws c.first) AnyKind [] ns ns' p q
   pattern_once p q ns ns' x y = term_once m.grammar (part_tokens ws c.first) (part_texts ws c.first) AnyKind [] ns ns' p q x y
 
@@ -137,83 +114,145 @@ module _ (ws : List Word) (m : ModuleOf) (free : HasNoAxioms (terms_in m)) (k : 
   not_overflow_and_within : (t u : Tree) → t ≡ u → cause_of t Overflow → IsWithin (terms_in m).theory (norm (terms_in m).theory u) → ⊥
   not_overflow_and_within t u e overflow within = let over' = subst (λ x. cause_of x Overflow) e overflow in let yes = over'.1 in let no = within.no_overflow in cc (yes, no)
 
-  terms_once : {b d : List ℕ} {r q : Bool} → TermsAnswer ws m k c b r → TermsAnswer ws m k c d q → AreOneAnswer b d r q
-  terms_once (pattern_refused f u n) (pattern_refused f' u' n') = record { bytes = ap (faulty_line k) (fault_once m.grammar (part_tokens ws c.first) (part_texts ws c.first) AnyKind [] f f' u u' n n'); refused = refl }
+  terms_once : {most : Option ℕ} {b d : List ℕ} {r q : OutcomeOf} → TermsAnswer ws m k c most r b → TermsAnswer ws m k c most q d → AreOneEnd b d r q
+  terms_once (pattern_refused f u n) (pattern_refused f' u' n') = record { bytes = ap (faulty_line k) (fault_once m.grammar (part_tokens ws c.first) (part_texts ws c.first) AnyKind [] f f' u u' n n'); left = refl }
   terms_once (pattern_refused f u n) (subject_refused p' ns' f' x' u' n') = absurd (no_pattern_read f u n p' ns' x')
   terms_once (pattern_refused f u n) (too_deep p' ns' t' os' x' y' d') = absurd (no_pattern_read f u n p' ns' x')
   terms_once (pattern_refused f u n) (overflows p' ns' t' os' x' y' d') = absurd (no_pattern_read f u n p' ns' x')
-  terms_once (pattern_refused f u n) (listed p' ns' t' os' found' x' y' w' l') = absurd (no_pattern_read f u n p' ns' x')
+  terms_once (pattern_refused f u n) (listed p' ns' t' os' found' e' x' y' w' l') = absurd (no_pattern_read f u n p' ns' x')
   terms_once (subject_refused p ns f x u n) (pattern_refused f' u' n') = absurd (no_pattern_read f' u' n' p ns x)
-  terms_once (subject_refused p ns f x u n) (subject_refused p' ns' f' x' u' n') = record { bytes = ap (faulty_line k) (subject_fault_once p p' ns ns' f f' x x' u u' n n'); refused = refl }
+  terms_once (subject_refused p ns f x u n) (subject_refused p' ns' f' x' u' n') = record { bytes = ap (faulty_line k) (subject_fault_once p p' ns ns' f f' x x' u u' n n'); left = refl }
   terms_once (subject_refused p ns f x u n) (too_deep p' ns' t' os' x' y' d') = absurd (no_subject_read p ns f x u n (record { pairs = ns'; pattern = x'; subject = y' }))
   terms_once (subject_refused p ns f x u n) (overflows p' ns' t' os' x' y' d') = absurd (no_subject_read p ns f x u n (record { pairs = ns'; pattern = x'; subject = y' }))
-  terms_once (subject_refused p ns f x u n) (listed p' ns' t' os' found' x' y' w' l') = absurd (no_subject_read p ns f x u n (record { pairs = ns'; pattern = x'; subject = y' }))
+  terms_once (subject_refused p ns f x u n) (listed p' ns' t' os' found' e' x' y' w' l') = absurd (no_subject_read p ns f x u n (record { pairs = ns'; pattern = x'; subject = y' }))
   terms_once (too_deep p ns t os x y d) (pattern_refused f' u' n') = absurd (no_pattern_read f' u' n' p ns x)
   terms_once (too_deep p ns t os x y d) (subject_refused p' ns' f' x' u' n') = absurd (no_subject_read p' ns' f' x' u' n' (record { pairs = ns; pattern = x; subject = y }))
-  terms_once (too_deep p ns t os x y d) (too_deep p' ns' t' os' x' y' d') = one_answer
+  terms_once (too_deep p ns t os x y d) (too_deep p' ns' t' os' x' y' d') = one_end
   terms_once (too_deep p ns t os x y d) (overflows p' ns' t' os' x' y' d') = let one = pair_once (record { pairs = ns; pattern = x; subject = y }) (record { pairs = ns'; pattern = x'; subject = y' }) in absurd (not_deep_and_overflow (tree_of t) (tree_of t') one.subject d d')
-  terms_once (too_deep p ns t os x y d) (listed p' ns' t' os' found' x' y' w' l') = let one = pair_once (record { pairs = ns; pattern = x; subject = y }) (record { pairs = ns'; pattern = x'; subject = y' }) in absurd (not_deep_and_within (tree_of t) (tree_of t') one.subject d w')
+  terms_once (too_deep p ns t os x y d) (listed p' ns' t' os' found' e' x' y' w' l') = let one = pair_once (record { pairs = ns; pattern = x; subject = y }) (record { pairs = ns'; pattern = x'; subject = y' }) in absurd (not_deep_and_within (tree_of t) (tree_of t') one.subject d w')
   terms_once (overflows p ns t os x y d) (pattern_refused f' u' n') = absurd (no_pattern_read f' u' n' p ns x)
   terms_once (overflows p ns t os x y d) (subject_refused p' ns' f' x' u' n') = absurd (no_subject_read p' ns' f' x' u' n' (record { pairs = ns; pattern = x; subject = y }))
   terms_once (overflows p ns t os x y d) (too_deep p' ns' t' os' x' y' d') = let one = pair_once (record { pairs = ns'; pattern = x'; subject = y' }) (record { pairs = ns; pattern = x; subject = y }) in absurd (not_deep_and_overflow (tree_of t') (tree_of t) one.subject d' d)
-  terms_once (overflows p ns t os x y d) (overflows p' ns' t' os' x' y' d') = one_answer
-  terms_once (overflows p ns t os x y d) (listed p' ns' t' os' found' x' y' w' l') = let one = pair_once (record { pairs = ns; pattern = x; subject = y }) (record { pairs = ns'; pattern = x'; subject = y' }) in absurd (not_overflow_and_within (tree_of t) (tree_of t') one.subject d w')
-  terms_once (listed p ns t os found x y w l) (pattern_refused f' u' n') = absurd (no_pattern_read f' u' n' p ns x)
-  terms_once (listed p ns t os found x y w l) (subject_refused p' ns' f' x' u' n') = absurd (no_subject_read p' ns' f' x' u' n' (record { pairs = ns; pattern = x; subject = y }))
-  terms_once (listed p ns t os found x y w l) (too_deep p' ns' t' os' x' y' d') = let one = pair_once (record { pairs = ns'; pattern = x'; subject = y' }) (record { pairs = ns; pattern = x; subject = y }) in absurd (not_deep_and_within (tree_of t') (tree_of t) one.subject d' w)
-  terms_once (listed p ns t os found x y w l) (overflows p' ns' t' os' x' y' d') = let one = pair_once (record { pairs = ns'; pattern = x'; subject = y' }) (record { pairs = ns; pattern = x; subject = y }) in absurd (not_overflow_and_within (tree_of t') (tree_of t) one.subject d' w)
-  terms_once (listed p ns t os found x y w l) (listed p' ns' t' os' found' x' y' w' l') =
+  terms_once (overflows p ns t os x y d) (overflows p' ns' t' os' x' y' d') = one_end
+  terms_once (overflows p ns t os x y d) (listed p' ns' t' os' found' e' x' y' w' l') = let one = pair_once (record { pairs = ns; pattern = x; subject = y }) (record { pairs = ns'; pattern = x'; subject = y' }) in absurd (not_overflow_and_within (tree_of t) (tree_of t') one.subject d w')
+  terms_once (listed p ns t os found e x y w l) (pattern_refused f' u' n') = absurd (no_pattern_read f' u' n' p ns x)
+  terms_once (listed p ns t os found e x y w l) (subject_refused p' ns' f' x' u' n') = absurd (no_subject_read p' ns' f' x' u' n' (record { pairs = ns; pattern = x; subject = y }))
+  terms_once (listed p ns t os found e x y w l) (too_deep p' ns' t' os' x' y' d') = let one = pair_once (record { pairs = ns'; pattern = x'; subject = y' }) (record { pairs = ns; pattern = x; subject = y }) in absurd (not_deep_and_within (tree_of t') (tree_of t) one.subject d' w)
+  terms_once (listed p ns t os found e x y w l) (overflows p' ns' t' os' x' y' d') = let one = pair_once (record { pairs = ns'; pattern = x'; subject = y' }) (record { pairs = ns; pattern = x; subject = y }) in absurd (not_overflow_and_within (tree_of t') (tree_of t) one.subject d' w)
+  terms_once {most} (listed p ns t os found e x y w l) (listed p' ns' t' os' found' e' x' y' w' l') =
       let one = pair_once (record { pairs = ns; pattern = x; subject = y }) (record { pairs = ns'; pattern = x'; subject = y' }) in
-      let l'' = subst (λ p. IsListing m p (tree_of t) found') (sym one.pattern) (subst (λ t. IsListing m (tree_of p') t found') (sym one.subject) l') in
-      let same = listing_once m free (tree_of p) (tree_of t) ns (read_numbered m.grammar (part_texts ws c.first) AnyKind ns p x) found found' l l'' in
+      let l'' = subst (λ p. Shows m p (tree_of t) None most found' e') (sym one.pattern) (subst (λ t. Shows m (tree_of p') t None most found' e') (sym one.subject) l') in
+      let same = shows_once m (tree_of p) (tree_of t) None most found found' e e' l l'' in
       record {
-        bytes = ap (λ os. match_head k m ++ listing_lines m os (tree_of p) found) one.pairs ∙ ap₂ (λ p found. match_head k m ++ listing_lines m os' p found) one.pattern same;
-        refused = refl;
+        bytes =
+            ap (λ os. match_head k m ++ listing_lines m os (tree_of p) 0 found e) one.pairs
+            ∙ ap₂ (λ p found. match_head k m ++ listing_lines m os' p 0 found e) one.pattern same.found
+            ∙ ap (λ e. match_head k m ++ listing_lines m os' (tree_of p') 0 found' e) same.ended;
+        left =
+            ap₂ (λ p t. left_by e (shown_more (asked_first p t os) found)) one.pattern one.subject
+            ∙ ap₂ (λ os found. left_by e (shown_more (asked_first (tree_of p') (tree_of t') os) found)) one.pairs same.found
+            ∙ ap (λ e. left_by e (shown_more (asked_first (tree_of p') (tree_of t') os') found')) same.ended;
       }
 
-module _ (ws : List Word) (ms : List ModuleOf) (k i : ℕ) (c : RawCommand) where
-  no_current : {m : ModuleOf} → current ms ≡ Some m → current ms ≡ None → ⊥
-  no_current e n = let o = sym e ∙ n in absurd cc
-
-  one_current : {m n : ModuleOf} → current ms ≡ Some m → current ms ≡ Some n → m ≡ n
-  one_current e d = let o = sym e ∙ d in cc
-
-  built_or_not : {l : ℕ} → unbuilt ws i c ≡ Some l → unbuilt ws i c ≡ None → ⊥
-  built_or_not e n = let o = sym e ∙ n in absurd cc
-
-  match_once : {b d : List ℕ} {r q : Bool} → MatchAnswer ws ms k i c b r → MatchAnswer ws ms k i c d q → AreOneAnswer b d r q
-  match_once (no_module n) (no_module n') = one_answer
-  match_once (no_module n) (command_not_built m' l' e' x') = absurd (no_current e' n)
-  match_once (no_module n) (axioms_not_built m' e' x' a') = absurd (no_current e' n)
-  match_once (no_module n) (command_answered m' b' r' e' x' f' y') = absurd (no_current e' n)
-  match_once (command_not_built m l e x) (no_module n') = absurd (no_current e n')
-  match_once (command_not_built m l e x) (command_not_built m' l' e' x') =
-      let o = sym x ∙ x' in
-      let h : l ≡ l' = cc in
-      record { bytes = ap (λ l. refusal_line k ws (NotBuilt l)) h; refused = refl }
-  match_once (command_not_built m l e x) (axioms_not_built m' e' x' a') = absurd (built_or_not x x')
-  match_once (command_not_built m l e x) (command_answered m' b' r' e' x' f' y') = absurd (built_or_not x x')
-  match_once (axioms_not_built m e x a) (no_module n') = absurd (no_current e n')
-  match_once (axioms_not_built m e x a) (command_not_built m' l' e' x') = absurd (built_or_not x' x)
-  match_once (axioms_not_built m e x a) (axioms_not_built m' e' x' a') = one_answer
-  match_once (axioms_not_built m e x a) (command_answered m' b' r' e' x' f' y') =
-      absurd (axioms_or_none m'.signature (subst (λ m. HasAxioms m.signature) (one_current e e') a) f')
-  match_once (command_answered m b r e x f y) (no_module n') = absurd (no_current e n')
-  match_once (command_answered m b r e x f y) (command_not_built m' l' e' x') = absurd (built_or_not x' x)
-  match_once (command_answered m b r e x f y) (axioms_not_built m' e' x' a') =
-      absurd (axioms_or_none m.signature (subst (λ m. HasAxioms m.signature) (one_current e' e) a') f)
-  match_once (command_answered m b r e x f y) (command_answered m' b' r' e' x' f' y') = terms_once ws m f k c y (subst (λ m. TermsAnswer ws m k c b' r') (one_current e' e) y')
-
-record AreOneItem (ms ns : List ModuleOf) (b c : List ℕ) (r s : Bool) : Type 0 where
-  state : ms ≡ ns
+record AreOneItem (st next : StateOf) (b c : List ℕ) (r s : Bool) : Type 0 where
+  state : st ≡ next
   bytes : b ≡ c
   refused : r ≡ s
 
-one_item : {ms : List ModuleOf} {b : List ℕ} {r : Bool} → AreOneItem ms ms b b r r
+one_item : {st : StateOf} {b : List ℕ} {r : Bool} → AreOneItem st st b b r r
 one_item = record { state = refl; bytes = refl; refused = refl }
 
-module _ (ws : List Word) (ms : List ModuleOf) (k i : ℕ) where
-  body_once : {x : RawBody} {ns os : List ModuleOf} {b c : List ℕ} {r s : Bool} → BodyAnswer ws ms k i x ns b r → BodyAnswer ws ms k i x os c s → AreOneItem ns os b c r s
+module _ (ws : List Word) (st : StateOf) (k i : ℕ) (c : RawCommand) where
+  built_or_not : {l : ℕ} → unbuilt ws st.modules i c ≡ Some l → unbuilt ws st.modules i c ≡ None → ⊥
+  built_or_not e n = let o = sym e ∙ n in absurd cc
+
+  -- a command has one module, or none
+  chosen_once : {n o : ℕ} → IsChosen ws st.modules c n → IsChosen ws st.modules c o → n ≡ o
+  chosen_once (current_one n e h) (current_one o d l) = omega (arith, h, l)
+  chosen_once (current_one n e h) (named_one t o d l) = let f = sym e ∙ d in absurd cc
+  chosen_once (named_one t n e h) (current_one o d l) = let f = sym e ∙ d in absurd cc
+  chosen_once (named_one t n e h) (named_one u o d l) =
+      let f = sym e ∙ d in
+      let same : t ≡ u = cc in
+      let one = named_once st.modules (token_text ws t) (Some n) (Some o) h (subst (λ x. LastNamed st.modules (token_text ws x) (length st.modules) (Some o)) (sym same) l) in
+      cc
+
+  never_chosen : {t : Token} {n : ℕ} → NamesNone ws st.modules c t → IsChosen ws st.modules c n → ⊥
+  never_chosen {t} none (current_one n e h) = let f = sym e ∙ none.given in absurd cc
+  never_chosen {t} none (named_one u n e h) =
+      let f = sym e ∙ none.given in
+      let same : u ≡ t = cc in
+      let one = named_once st.modules (token_text ws t) None (Some n) none.none (subst (λ x. LastNamed st.modules (token_text ws x) (length st.modules) (Some n)) same h) in
+      absurd cc
+
+  unknown_once : {t u : Token} → NamesNone ws st.modules c t → NamesNone ws st.modules c u → t ≡ u
+  unknown_once x y = let f = sym x.given ∙ y.given in cc
+
+  bound_or_refused : {most : Option ℕ} {r : Refusal} → bound_of ws c.bound ≡ Ok most → bound_of ws c.bound ≡ Err r → ⊥
+  bound_or_refused e n = let o = sym e ∙ n in absurd cc
+
+  bound_once : {most least : Option ℕ} → bound_of ws c.bound ≡ Ok most → bound_of ws c.bound ≡ Ok least → most ≡ least
+  bound_once e n = let o = sym e ∙ n in cc
+
+  refusal_once : {r s : Refusal} → bound_of ws c.bound ≡ Err r → bound_of ws c.bound ≡ Err s → r ≡ s
+  refusal_once e n = let o = sym e ∙ n in cc
+
+  match_once : {u v : StateOf} {b d : List ℕ} {r q : Bool} → MatchAnswer ws st k i c u b r → MatchAnswer ws st k i c v d q → AreOneItem u v b d r q
+  match_once (command_not_built l e) (command_not_built l' e') =
+      let o = sym e ∙ e' in
+      let h : l ≡ l' = cc in
+      record { state = refl; bytes = ap (λ l. refusal_line k ws (NotBuilt l)) h; refused = refl }
+  match_once (command_not_built l e) (module_unknown t' e' x') = absurd (built_or_not e e')
+  match_once (command_not_built l e) (bound_refused n' r' e' x' f') = absurd (built_or_not e e')
+  match_once (command_not_built l e) (command_answered n' m' most' left' b' e' x' h' f' y') = absurd (built_or_not e e')
+  match_once (module_unknown t e x) (command_not_built l' e') = absurd (built_or_not e' e)
+  match_once (module_unknown t e x) (module_unknown t' e' x') = record { state = refl; bytes = ap (λ t. refusal_line k ws (UnknownModule (token_index ws t))) (unknown_once x x'); refused = refl }
+  match_once (module_unknown t e x) (bound_refused n' r' e' x' f') = absurd (never_chosen x x')
+  match_once (module_unknown t e x) (command_answered n' m' most' left' b' e' x' h' f' y') = absurd (never_chosen x x')
+  match_once (bound_refused n r e x f) (command_not_built l' e') = absurd (built_or_not e' e)
+  match_once (bound_refused n r e x f) (module_unknown t' e' x') = absurd (never_chosen x' x)
+  match_once (bound_refused n r e x f) (bound_refused n' r' e' x' f') = record { state = refl; bytes = ap (refusal_line k ws) (refusal_once f f'); refused = refl }
+  match_once (bound_refused n r e x f) (command_answered n' m' most' left' b' e' x' h' f' y') = absurd (bound_or_refused f' f)
+  match_once (command_answered n m most left b e x h f y) (command_not_built l' e') = absurd (built_or_not e' e)
+  match_once (command_answered n m most left b e x h f y) (module_unknown t' e' x') = absurd (never_chosen x' x)
+  match_once (command_answered n m most left b e x h f y) (bound_refused n' r' e' x' f') = absurd (bound_or_refused f f')
+  match_once (command_answered n m most left b e x h f y) (command_answered n' m' most' left' b' e' x' h' f' y') =
+      let number = chosen_once x x' in
+      let at = sym h ∙ ap (slice_get st.modules) number ∙ h' in
+      let same : m ≡ m' = cc in
+      let o = terms_once ws m k c y (subst (λ m. TermsAnswer ws m k c most left' b') (sym same) (subst (λ a. TermsAnswer ws m' k c a left' b') (sym (bound_once f f')) y')) in
+      record { state = ap₂ (state_after st) number o.left; bytes = o.bytes; refused = ap refuses o.left }
+
+  continue_once : {u v : StateOf} {b d : List ℕ} {r q : Bool} → ContinueAnswer ws st k c u b r → ContinueAnswer ws st k c v d q → AreOneItem u v b d r q
+  continue_once (number_refused r e) (number_refused r' e') = record { state = refl; bytes = ap (refusal_line k ws) (refusal_once e e'); refused = refl }
+  continue_once (number_refused r e) (nothing_to_continue most' e' n') = absurd (bound_or_refused e' e)
+  continue_once (number_refused r e) (continued most' g' m' found' b' e' n' h' l') = absurd (bound_or_refused e' e)
+  continue_once (nothing_to_continue most e n) (number_refused r' e') = absurd (bound_or_refused e e')
+  continue_once (nothing_to_continue most e n) (nothing_to_continue most' e' n') = one_item
+  continue_once (nothing_to_continue most e n) (continued most' g' m' found' b' e' n' h' l') = let o = sym n ∙ n' in absurd cc
+  continue_once (continued most g m found b e n h l) (number_refused r' e') = absurd (bound_or_refused e e')
+  continue_once (continued most g m found b e n h l) (nothing_to_continue most' e' n') = let o = sym n' ∙ n in absurd cc
+  continue_once (continued most g m found b e n h l) (continued most' g' m' found' b' e' n' h' l') =
+      let o = sym n ∙ n' in
+      let going : g ≡ g' = cc in
+      let at = sym h ∙ ap (λ (x : GoingOf). slice_get st.modules x.number) going ∙ h' in
+      let same : m ≡ m' = cc in
+      let l'' = subst (λ m. Shows m g.query.pattern g.query.subject g.query.last most found' b') (sym same)
+      (subst (λ (x : GoingOf). Shows m' x.query.pattern x.query.subject x.query.last most found' b') (sym going)
+      (subst (λ a. Shows m' g'.query.pattern g'.query.subject g'.query.last a found' b') (sym (bound_once e e')) l')) in
+      let one = shows_once m g.query.pattern g.query.subject g.query.last most found found' b b' l l'' in
+      record {
+        state =
+            ap (λ (x : GoingOf). state_after st x.number (left_by b (shown_more x.query found))) going
+            ∙ ap₂ (λ f b. state_after st g'.number (left_by b (shown_more g'.query f))) one.found one.ended;
+        bytes =
+            ap₂ (λ m (x : GoingOf). continue_head k m ++ listing_lines m x.query.variables x.query.pattern x.query.shown found b) same going
+            ∙ ap₂ (λ f b. continue_head k m' ++ listing_lines m' g'.query.variables g'.query.pattern g'.query.shown f b) one.found one.ended;
+        refused = refl;
+      }
+
+module _ (ws : List Word) (st : StateOf) (k i : ℕ) where
+  body_once : {x : RawBody} {u v : StateOf} {b c : List ℕ} {r s : Bool} → BodyAnswer ws st k i x u b r → BodyAnswer ws st k i x v c s → AreOneItem u v b c r s
   body_once (module_not_built raw f) (module_not_built raw' f') = one_item
   body_once (module_not_built raw f) (module_accepted raw' m' t' x') = absurd (yes_no _ t' f)
   body_once (module_not_built raw f) (module_refused raw' w' t' x') = absurd (yes_no _ t' f)
@@ -221,7 +260,7 @@ module _ (ws : List Word) (ms : List ModuleOf) (k i : ℕ) where
   body_once (module_accepted raw m t x) (module_accepted raw' m' t' x') =
       let o = module_once ws raw x x' in
       let e : m ≡ m' = cc in
-      record { state = ap (accepted ms) e; bytes = ap (module_line k) e; refused = refl }
+      record { state = ap (accepted st) e; bytes = ap (module_line k) e; refused = refl }
   body_once (module_accepted raw m t x) (module_refused raw' w' t' x') = let o = module_once ws raw x x' in absurd cc
   body_once (module_refused raw w t x) (module_not_built raw' f') = absurd (yes_no _ t f')
   body_once (module_refused raw w t x) (module_accepted raw' m' t' x') = let o = module_once ws raw x x' in absurd cc
@@ -229,14 +268,19 @@ module _ (ws : List Word) (ms : List ModuleOf) (k i : ℕ) where
       let o = module_once ws raw x x' in
       let e : w ≡ w' = cc in
       record { state = refl; bytes = ap (module_refusal k ws) e; refused = refl }
-  body_once (match_answered c b r t x) (match_answered c' b' r' t' x') = let o = match_once ws ms k i c x x' in record { state = refl; bytes = o.bytes; refused = o.refused }
-  body_once (match_answered c b r t x) (other_not_built c' f') = absurd (yes_no _ t f')
-  body_once (other_not_built c f) (match_answered c' b' r' t' x') = absurd (yes_no _ t' f)
-  body_once (other_not_built c f) (other_not_built c' f') = one_item
+  body_once (match_answered c n b r t x) (match_answered c' n' b' r' t' x') = match_once ws st k i c x x'
+  body_once (match_answered c n b r t x) (continue_answered c' n' b' r' f' t' x') = absurd (yes_no _ t f')
+  body_once (match_answered c n b r t x) (other_not_built c' f' g') = absurd (yes_no _ t f')
+  body_once (continue_answered c n b r f t x) (match_answered c' n' b' r' t' x') = absurd (yes_no _ t' f)
+  body_once (continue_answered c n b r f t x) (continue_answered c' n' b' r' f' t' x') = continue_once ws st k i c x x'
+  body_once (continue_answered c n b r f t x) (other_not_built c' f' g') = absurd (yes_no _ t g')
+  body_once (other_not_built c f g) (match_answered c' n' b' r' t' x') = absurd (yes_no _ t' f)
+  body_once (other_not_built c f g) (continue_answered c' n' b' r' f' t' x') = absurd (yes_no _ t' g)
+  body_once (other_not_built c f g) (other_not_built c' f' g') = one_item
   body_once (setting_not_built s) (setting_not_built s') = one_item
 
-module _ (ws : List Word) (ms : List ModuleOf) (k : ℕ) (item : RawItem) where
-  item_once : {ns os : List ModuleOf} {b c : List ℕ} {r s : Bool} → ItemAnswer ws ms k item ns b r → ItemAnswer ws ms k item os c s → AreOneItem ns os b c r s
+module _ (ws : List Word) (st : StateOf) (k : ℕ) (item : RawItem) where
+  item_once : {u v : StateOf} {b c : List ℕ} {r s : Bool} → ItemAnswer ws st k item u b r → ItemAnswer ws st k item v c s → AreOneItem u v b c r s
   item_once (item_faulty f e) (item_faulty f' e') =
       let o = sym e ∙ e' in
       let h : f ≡ f' = cc in
@@ -246,17 +290,17 @@ module _ (ws : List Word) (ms : List ModuleOf) (k : ℕ) (item : RawItem) where
   item_once (item_answered b ns bs r e x) (item_answered b' ns' bs' r' e' x') =
       let o = sym e' ∙ e in
       let h : b' ≡ b = cc in
-      body_once ws ms k (index_at ws item.at) x (subst (λ b. BodyAnswer ws ms k (index_at ws item.at) b ns' bs' r') h x')
+      body_once ws st k (index_at ws item.at) x (subst (λ b. BodyAnswer ws st k (index_at ws item.at) b ns' bs' r') h x')
 
-  never_quits : {ns : List ModuleOf} {b : List ℕ} {r : Bool} → ItemAnswer ws ms k item ns b r → item.body ≡ Ok Quit → ⊥
+  never_quits : {next : StateOf} {b : List ℕ} {r : Bool} → ItemAnswer ws st k item next b r → item.body ≡ Ok Quit → ⊥
   never_quits (item_faulty f e) q = let o = sym e ∙ q in absurd cc
-  never_quits (item_answered b ns bs r e x) q = let o = sym e ∙ q in let h : b ≡ Quit = cc in none (subst (λ b. BodyAnswer ws ms k (index_at ws item.at) b ns bs r) h x)
+  never_quits (item_answered b ns bs r e x) q = let o = sym e ∙ q in let h : b ≡ Quit = cc in none (subst (λ b. BodyAnswer ws st k (index_at ws item.at) b ns bs r) h x)
     where
-      none : {ns : List ModuleOf} {b : List ℕ} {r : Bool} → BodyAnswer ws ms k (index_at ws item.at) Quit ns b r → ⊥
+      none : {next : StateOf} {b : List ℕ} {r : Bool} → BodyAnswer ws st k (index_at ws item.at) Quit next b r → ⊥
       none x = elim x [ ]
 
 module _ (ws : List Word) where
-  items_once : {ms : List ModuleOf} {k : ℕ} {items : List RawItem} {b c : List ℕ} {r s : Bool} → ItemsAnswer ws ms k items b r → ItemsAnswer ws ms k items c s → AreOneAnswer b c r s
+  items_once : {st : StateOf} {k : ℕ} {items : List RawItem} {b c : List ℕ} {r s : Bool} → ItemsAnswer ws st k items b r → ItemsAnswer ws st k items c s → AreOneAnswer b c r s
   items_once (items_end ms k) (items_end ms' k') = one_answer
   items_once (item_quits ms k item items q) (item_quits ms' k' item' items' q') = one_answer
   items_once (item_quits ms k item items q) (item_first ms' ns' k' item' items' b' more' r' later' x' y') = absurd (never_quits ws ms k item x' q)
@@ -275,6 +319,6 @@ transcript_once text b c r s (items_answered tokens items b' r' x z y) (items_an
     let e : tokens ≡ tokens' = cc in
     let d = sym z ∙ ap (λ tokens. parts item_part (words_of text tokens)) e ∙ z' in
     let i : items ≡ items' = cc d in
-    let y'' = subst (λ tokens. ItemsAnswer (words_of text tokens) [] 1 items b'' r'') (sym e) (subst (λ items. ItemsAnswer (words_of text tokens') [] 1 items b'' r'') (sym i) y') in
+    let y'' = subst (λ tokens. ItemsAnswer (words_of text tokens) nothing_yet 1 items b'' r'') (sym e) (subst (λ items. ItemsAnswer (words_of text tokens') nothing_yet 1 items b'' r'') (sym i) y') in
     let one = items_once (words_of text tokens) y y'' in
     (one.bytes, one.refused)

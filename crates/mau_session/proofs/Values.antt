@@ -1,14 +1,12 @@
 -- The values of the first variables, one after another: what stands at a place, and behind it.
-use Rattle.std.proofs.Common.{◌≡◌, ℕ, zero, suc, ◌<◌, ◌≤◌, ◌+◌, List, [], ◌∷◌, length, get_or, take, drop, Some, slice_get, refl, sym, ◌∙◌, ap, ap₂, subst, arith, add-zero, add-one}
+use Rattle.std.proofs.Common.{◌≡◌, ℕ, zero, suc, ◌<◌, ◌≤◌, ◌+◌, List, [], ◌∷◌, length, get_or, take, drop, Some, slice_get, refl, sym, ◌∙◌, ap, ap₂, arith, add-zero, add-one}
 use Rattle.std.proofs.lemmas.List.{drop_all}
 use Rattle.mau_terms.specs.declared.ids.TermId.{TermId}
 use Rattle.mau_terms.specs.declared.ids.VarId.{VarId}
-use Rattle.mau_terms.specs.Tree.{Tree}
 use Rattle.mau_terms.specs.Vars.{IsGiven}
 use Rattle.mau_terms.specs.Subst.{Variable}
-use Rattle.mau_terms.specs.Solution.{HaveSorts}
 use Rattle.mau_session.specs.Terms.{Pairs}
-use Rattle.mau_session.specs.Bound.{id_tree, id_trees}
+use Rattle.mau_session.specs.Query.{id_tree, id_trees}
 use Rattle.mau_store.specs.Node.{Node}
 use Rattle.mau_session.specs.Matching.{numbered_from}
 
@@ -63,19 +61,3 @@ module _ (ns : Pairs) (nodes : List Node) (values : List TermId) where
 
   pub no_variables_behind : (i : ℕ) → length values ≡ i → drop i first_ones ≡ []
   no_variables_behind i e = drop_all i first_ones (omega (arith, length-numbered (take (length values) ns) 0, length_front (length values) ns))
-
-  module _ (P : ℕ → Tree → Type 0) where
-    -- the values from i on have their sorts
-    abbrev pub HaveSortsFrom : ℕ → Type 0
-    HaveSortsFrom i = HaveSorts P (drop i first_ones) (drop i (id_trees nodes values))
-
-    pub sorts_behind : (i : ℕ) (x : VarId) (d : TermId) → x.index ≡ i → IsGiven ns x → i < length values → HaveSortsFrom i → P x.sort (id_tree nodes (get_or values i d)) × HaveSortsFrom (i + 1)
-    sorts_behind i x d e g h s =
-        subst (λ vs. HaveSorts P ((x.index, x.sort) ∷ drop (i + 1) first_ones) vs) (values_next i d h) (subst (λ xs. HaveSorts P xs (drop i (id_trees nodes values))) (variables_next i x e g h) s)
-
-    pub sorts_with : (i : ℕ) (x : VarId) (d : TermId) → x.index ≡ i → IsGiven ns x → i < length values → P x.sort (id_tree nodes (get_or values i d)) → HaveSortsFrom (i + 1) → HaveSortsFrom i
-    sorts_with i x d e g h p s =
-        subst (λ xs. HaveSorts P xs (drop i (id_trees nodes values))) (sym (variables_next i x e g h)) (subst (λ vs. HaveSorts P ((x.index, x.sort) ∷ drop (i + 1) first_ones) vs) (sym (values_next i d h)) (p, s))
-
-    pub sorts_at_end : (i : ℕ) → length values ≡ i → HaveSortsFrom i
-    sorts_at_end i e = subst (λ xs. HaveSorts P xs (drop i (id_trees nodes values))) (sym (no_variables_behind i e)) tt

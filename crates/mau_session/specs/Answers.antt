@@ -1,20 +1,19 @@
 -- The bytes of the answers.
-use Rattle.std.specs.Prelude.{ℕ, ◌+◌, List, [], ◌∷◌, ◌++◌, codes, decimal}
+use Rattle.std.specs.Prelude.{ℕ, zero, suc, ◌+◌, Bool, true, false, List, [], ◌∷◌, ◌++◌, length, codes, decimal}
 use Rattle.mau_terms.specs.Tree.{Tree}
-use Rattle.mau_terms.specs.Norm.{norm}
 use Rattle.mau_terms.specs.Subst.{Variable, variables}
 use Rattle.mau_tokens.specs.declared.token.TokenFault.{TokenFault}
 use Rattle.mau_tokens.specs.declared.token.TokenFault.TheVariants.{NotUtf8, OpenComment, OpenString, TokenTooLong, NoMemory}
 use Rattle.mau_reader.specs.Modules.{ModuleOf, Why, leaves, faulty}
 use Rattle.mau_session.specs.declared.refusal.Refusal.{Refusal}
-use Rattle.mau_session.specs.declared.refusal.Refusal.TheVariants.{NotBuilt}
+use Rattle.mau_session.specs.declared.refusal.Refusal.TheVariants.{NotBuilt, UnknownModule, BadBound, NothingToContinue}
 use Rattle.mau_modtext.specs.Word.{Word}
 use Rattle.mau_modtext.specs.declared.raw.TextFault.{TextFault}
 use Rattle.mau_modtext.specs.declared.raw.TextFault.TheVariants.{Unended, Unexpected, Unsupported}
 use Rattle.mau_reader.specs.Words.{text_at, place_at}
 use Rattle.mau_parse.specs.declared.fault.ParseFault.{ParseFault}
 use Rattle.mau_parse.specs.declared.fault.ParseFault.TheVariants.{NoParse, Ambiguous, TooManyTokens, NumberTooLarge, SuccessorTooLarge, NoMemory as NoMemoryOfParse}
-use Rattle.mau_session.specs.Terms.{Pairs, terms_in}
+use Rattle.mau_session.specs.Terms.{Pairs}
 use Rattle.mau_print.specs.Printed.{shown}
 use Rattle.mau_session.specs.Shown.{shown_variable, printer_in}
 
@@ -22,10 +21,13 @@ use Rattle.mau_session.specs.Shown.{shown_variable, printer_in}
 abbrev pub item_head : ℕ → List ℕ
 item_head k = codes "[" ++ decimal k ++ codes "] "
 
--- ---- refusals: the name of the fault, and the word that it names, with its place
+-- ---- refusals: the name of the fault, the word that it names, and its place
 
 abbrev pub shown_refusal : List Word → Refusal → List ℕ
 shown_refusal ws (NotBuilt i) = codes "NotBuilt " ++ text_at ws i ++ codes " " ++ decimal (place_at ws i)
+shown_refusal ws (UnknownModule i) = codes "UnknownModule " ++ text_at ws i
+shown_refusal ws BadBound = codes "BadBound"
+shown_refusal ws NothingToContinue = codes "NothingToContinue"
 
 abbrev pub refusal_line : ℕ → List Word → Refusal → List ℕ
 refusal_line k ws r = item_head k ++ codes "refused: " ++ shown_refusal ws r ++ codes "\n"
@@ -76,9 +78,9 @@ fault_line f = codes "refused: " ++ shown_fault f ++ codes "\n"
 abbrev pub module_line : ℕ → ModuleOf → List ℕ
 module_line k m = item_head k ++ codes "module " ++ m.name ++ codes "\n"
 
--- a value is printed from its normal form
+-- a value, which is a normal form
 abbrev pub value_line : ModuleOf → Pairs → Variable → Tree → List ℕ
-value_line m ns x v = shown_variable m ns x.0 x.1 ++ codes " --> " ++ shown (printer_in m) ns (norm (terms_in m).theory v) ++ codes "\n"
+value_line m ns x v = shown_variable m ns x.0 x.1 ++ codes " --> " ++ shown (printer_in m) ns v ++ codes "\n"
 
 abbrev pub value_lines : ModuleOf → Pairs → List Variable → List Tree → List ℕ
 value_lines m ns (x ∷ xs) (v ∷ vs) = value_line m ns x v ++ value_lines m ns xs vs
@@ -97,12 +99,21 @@ abbrev pub all_matchers : ModuleOf → Pairs → Tree → ℕ → List (List Tre
 all_matchers m ns p i [] = []
 all_matchers m ns p i (vs ∷ found) = matcher_lines m ns p i vs ++ all_matchers m ns p (i + 1) found
 
-abbrev pub last_line : List (List Tree) → List ℕ
-last_line [] = codes "No match.\n"
-last_line (vs ∷ found) = codes "No more matches.\n"
+-- where so many solutions were shown in all, and it is said whether the listing has ended
+abbrev pub last_line : Bool → ℕ → List ℕ
+last_line false n = codes "Bound reached.\n"
+last_line true zero = codes "No match.\n"
+last_line true (suc n) = codes "No more matches.\n"
+
+-- what a listing shows, behind so many solutions that it has shown before
+abbrev pub listing_lines : ModuleOf → Pairs → Tree → ℕ → List (List Tree) → Bool → List ℕ
+listing_lines m ns p before found ended = all_matchers m ns p (before + 1) found ++ last_line ended (before + length found)
 
 abbrev pub match_head : ℕ → ModuleOf → List ℕ
 match_head k m = item_head k ++ codes "match in " ++ m.name ++ codes "\n"
+
+abbrev pub continue_head : ℕ → ModuleOf → List ℕ
+continue_head k m = item_head k ++ codes "continue in " ++ m.name ++ codes "\n"
 
 -- what stands in place of solutions
 abbrev pub too_deep_line : List ℕ
@@ -110,6 +121,3 @@ too_deep_line = codes "Too deep.\n"
 
 abbrev pub overflow_line : List ℕ
 overflow_line = codes "Overflow.\n"
-
-abbrev pub listing_lines : ModuleOf → Pairs → Tree → List (List Tree) → List ℕ
-listing_lines m ns p found = all_matchers m ns p 1 found ++ last_line found

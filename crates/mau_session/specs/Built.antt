@@ -5,7 +5,7 @@ use Rattle.mau_modtext.specs.Word.{Word}
 use Rattle.mau_modtext.specs.declared.raw.ModuleKind.{ModuleKind}
 use Rattle.mau_modtext.specs.declared.raw.ModuleKind.TheVariants.{StrategyModule}
 use Rattle.mau_modtext.specs.declared.raw.CommandKind.{CommandKind}
-use Rattle.mau_modtext.specs.declared.raw.CommandKind.TheVariants.{Match}
+use Rattle.mau_modtext.specs.declared.raw.CommandKind.TheVariants.{Match, Continue}
 use Rattle.mau_modtext.specs.declared.raw.TextFault.{TextFault}
 use Rattle.mau_modtext.specs.declared.raw.TextFault.TheVariants.{Unended}
 use Rattle.mau_reader.specs.Words.{text_at}
@@ -21,10 +21,14 @@ abbrev pub is_match : CommandKind → Bool
 is_match Match = true
 is_match _ = false
 
+abbrev pub is_continue : CommandKind → Bool
+is_continue Continue = true
+is_continue _ = false
+
 -- the words with which items begin that aren't built yet
 abbrev pub begins_unbuilt : List ℕ → Bool
 begins_unbuilt w =
-    bytes_eq w (codes "smod") || bytes_eq w (codes "xmatch") || bytes_eq w (codes "continue") || bytes_eq w (codes "cont")
+    bytes_eq w (codes "smod") || bytes_eq w (codes "xmatch")
     || bytes_eq w (codes "reduce") || bytes_eq w (codes "red") || bytes_eq w (codes "rewrite") || bytes_eq w (codes "rew")
     || bytes_eq w (codes "frewrite") || bytes_eq w (codes "frew") || bytes_eq w (codes "dsrewrite") || bytes_eq w (codes "dsrew")
 

@@ -1,5 +1,5 @@
 -- What an answer adds to the bytes so far.
-use Rattle.std.specs.Prelude.{◌≡◌, ℕ, List, ◌++◌, Bool}
+use Rattle.std.specs.Prelude.{◌≡◌, ℕ, List, ◌++◌, Bool, true, false, Option, None, Some, Ok, Err, slice_get}
 use Rattle.mau_terms.specs.Tree.{Tree}
 use Rattle.mau_terms.specs.Norm.{norm}
 use Rattle.mau_canon.specs.declared.fault.BuildFault.TheVariants.{TooDeep, Overflow}
@@ -10,38 +10,72 @@ use Rattle.mau_modtext.specs.declared.raw.RawBody.{RawBody}
 use Rattle.mau_modtext.specs.declared.raw.RawCommand.{RawCommand}
 use Rattle.mau_reader.specs.Modules.{ModuleOf}
 use Rattle.mau_session.specs.Terms.{Pairs, terms_in}
-use Rattle.mau_session.specs.Matching.{IsListing}
-use Rattle.mau_session.specs.Answers.{listing_lines, too_deep_line, overflow_line}
-use Rattle.mau_session.specs.Transcript.{TermsAnswer, MatchAnswer, BodyAnswer, ItemAnswer}
+use Rattle.mau_session.specs.Matching.{Shows}
+use Rattle.mau_session.specs.Query.{asked_first, shown_more}
+use Rattle.mau_session.specs.State.{GoingOf, StateOf, OutcomeOf, has_ended, left_by, refuses, state_after}
+use Rattle.mau_session.specs.Bounds.{bound_of}
+use Rattle.mau_session.specs.declared.refusal.Refusal.{Refusal}
+use Rattle.mau_session.specs.Answers.{refusal_line, continue_head, listing_lines, too_deep_line, overflow_line}
+use Rattle.mau_session.specs.Transcript.{TermsAnswer, MatchAnswer, ContinueAnswer, BodyAnswer, ItemAnswer}
 
 -- the bytes gained are the lines of the listing
-pub record GainsListing (m : ModuleOf) (ns : Pairs) (p t : Tree) (old new : List ℕ) : Type 0 where
+pub record GainsListing (m : ModuleOf) (ns : Pairs) (p t : Tree) (most : Option ℕ) (left : OutcomeOf) (old new : List ℕ) : Type 0 where
   pub found : List (List Tree)
-  pub listing : IsListing m p t found
-  pub gained : new ≡ old ++ listing_lines m ns p found
+  pub ended : Bool
+  pub listing : Shows m p t None most found ended
+  pub leaves : left ≡ left_by ended (shown_more (asked_first p t ns) found)
+  pub gained : new ≡ old ++ listing_lines m ns p 0 found ended
 
 -- the bytes gained are the lines of the listing, or the end where the subject's normal form is beyond the limits
-pub data GainsListed (m : ModuleOf) (ns : Pairs) (p t : Tree) : List ℕ → List ℕ → Type 0 where
-  gains_solutions : (old new : List ℕ) → IsWithin (terms_in m).theory (norm (terms_in m).theory t) → GainsListing m ns p t old new → GainsListed m ns p t old new
-  gains_too_deep : (old new : List ℕ) → IsCause (terms_in m).theory (norm (terms_in m).theory t) TooDeep → new ≡ old ++ too_deep_line → GainsListed m ns p t old new
-  gains_overflow : (old new : List ℕ) → IsCause (terms_in m).theory (norm (terms_in m).theory t) Overflow → new ≡ old ++ overflow_line → GainsListed m ns p t old new
+pub data GainsListed (m : ModuleOf) (ns : Pairs) (p t : Tree) (most : Option ℕ) : OutcomeOf → List ℕ → List ℕ → Type 0 where
+  gains_solutions : (left : OutcomeOf) (old new : List ℕ) → IsWithin (terms_in m).theory (norm (terms_in m).theory t) → GainsListing m ns p t most left old new
+      → GainsListed m ns p t most left old new
+  gains_too_deep : (old new : List ℕ) → IsCause (terms_in m).theory (norm (terms_in m).theory t) TooDeep → new ≡ old ++ too_deep_line → GainsListed m ns p t most has_ended old new
+  gains_overflow : (old new : List ℕ) → IsCause (terms_in m).theory (norm (terms_in m).theory t) Overflow → new ≡ old ++ overflow_line → GainsListed m ns p t most has_ended old new
 
-pub record GainsTerms (ws : List Word) (m : ModuleOf) (k : ℕ) (c : RawCommand) (old new : List ℕ) (refused : Bool) : Type 0 where
+pub record GainsTerms (ws : List Word) (m : ModuleOf) (k : ℕ) (c : RawCommand) (most : Option ℕ) (old new : List ℕ) (left : OutcomeOf) : Type 0 where
   pub bytes : List ℕ
-  pub answer : TermsAnswer ws m k c bytes refused
+  pub answer : TermsAnswer ws m k c most left bytes
   pub gained : new ≡ old ++ bytes
 
-pub record GainsMatch (ws : List Word) (ms : List ModuleOf) (k i : ℕ) (c : RawCommand) (old new : List ℕ) (refused : Bool) : Type 0 where
+-- the bytes of a match command over the module with the number n, whose bound is not judged yet
+pub data ChosenAnswer (ws : List Word) (st : StateOf) (k : ℕ) (c : RawCommand) (n : ℕ) : StateOf → List ℕ → Bool → Type 0 where
+  chosen_refused : (r : Refusal) → bound_of ws c.bound ≡ Err r → ChosenAnswer ws st k c n st (refusal_line k ws r) true
+  chosen_answered : (m : ModuleOf) (most : Option ℕ) (left : OutcomeOf) (bytes : List ℕ) → slice_get st.modules n ≡ Some m → bound_of ws c.bound ≡ Ok most
+      → TermsAnswer ws m k c most left bytes → ChosenAnswer ws st k c n (state_after st n left) bytes (refuses left)
+
+pub record GainsChosen (ws : List Word) (st : StateOf) (k : ℕ) (c : RawCommand) (n : ℕ) (next : StateOf) (old new : List ℕ) (refused : Bool) : Type 0 where
   pub bytes : List ℕ
-  pub answer : MatchAnswer ws ms k i c bytes refused
+  pub answer : ChosenAnswer ws st k c n next bytes refused
   pub gained : new ≡ old ++ bytes
 
-pub record GainsBody (ws : List Word) (ms : List ModuleOf) (k i : ℕ) (b : RawBody) (ns : List ModuleOf) (old new : List ℕ) (refused : Bool) : Type 0 where
+pub record GainsMatch (ws : List Word) (st : StateOf) (k i : ℕ) (c : RawCommand) (next : StateOf) (old new : List ℕ) (refused : Bool) : Type 0 where
   pub bytes : List ℕ
-  pub answer : BodyAnswer ws ms k i b ns bytes refused
+  pub answer : MatchAnswer ws st k i c next bytes refused
   pub gained : new ≡ old ++ bytes
 
-pub record GainsItem (ws : List Word) (ms : List ModuleOf) (k : ℕ) (item : RawItem) (ns : List ModuleOf) (old new : List ℕ) (refused : Bool) : Type 0 where
+-- a query has gone on
+pub record GainsOn (st : StateOf) (k : ℕ) (g : GoingOf) (most : Option ℕ) (next : StateOf) (old new : List ℕ) (refused : Bool) : Type 0 where
+  pub «module» : ModuleOf
+  pub there : slice_get st.modules g.number ≡ Some «module»
+  pub found : List (List Tree)
+  pub ended : Bool
+  pub shows : Shows «module» g.query.pattern g.query.subject g.query.last most found ended
+  pub after : next ≡ state_after st g.number (left_by ended (shown_more g.query found))
+  pub gained : new ≡ old ++ (continue_head k «module» ++ listing_lines «module» g.query.variables g.query.pattern g.query.shown found ended)
+  pub answered : refused ≡ false
+
+pub record GainsContinue (ws : List Word) (st : StateOf) (k : ℕ) (c : RawCommand) (next : StateOf) (old new : List ℕ) (refused : Bool) : Type 0 where
   pub bytes : List ℕ
-  pub answer : ItemAnswer ws ms k item ns bytes refused
+  pub answer : ContinueAnswer ws st k c next bytes refused
+  pub gained : new ≡ old ++ bytes
+
+pub record GainsBody (ws : List Word) (st : StateOf) (k i : ℕ) (b : RawBody) (next : StateOf) (old new : List ℕ) (refused : Bool) : Type 0 where
+  pub bytes : List ℕ
+  pub answer : BodyAnswer ws st k i b next bytes refused
+  pub gained : new ≡ old ++ bytes
+
+pub record GainsItem (ws : List Word) (st : StateOf) (k : ℕ) (item : RawItem) (next : StateOf) (old new : List ℕ) (refused : Bool) : Type 0 where
+  pub bytes : List ℕ
+  pub answer : ItemAnswer ws st k item next bytes refused
   pub gained : new ≡ old ++ bytes

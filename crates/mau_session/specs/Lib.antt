@@ -2,11 +2,13 @@ pub mod Terms
 pub mod Reading
 pub mod Shown
 pub mod Matching
-pub mod Binding
-pub mod Bound
 pub mod Commands
 pub mod Answers
 pub mod Built
+pub mod Query
+pub mod Next
+pub mod State
+pub mod Bounds
 pub mod Transcript
 pub mod Gains
 pub mod Meanings

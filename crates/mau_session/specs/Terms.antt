@@ -1,11 +1,10 @@
 -- Terms over the signature of a module, their kinds and their sorts.
-use Rattle.std.specs.Prelude.{◌≡◌, ℕ, List, [], Bool, true, ◌||◌, is_some}
+use Rattle.std.specs.Prelude.{ℕ, List, []}
 use Rattle.std.specs.Option.{option_map_or}
 use Rattle.mau_terms.specs.Tree.{Tree, variable, numeral, apply}
 use Rattle.mau_terms.specs.Norm.{norm}
 use Rattle.mau_terms.specs.Bare.{TermSignature}
-use Rattle.mau_terms.specs.declared.theory.Theory.{Theory}
-use Rattle.mau_signature.specs.Signature.{SignatureOf, IsOperator, theory_at, terms_over}
+use Rattle.mau_signature.specs.Signature.{terms_over}
 use Rattle.mau_sorts.specs.HasSort.{HasSort as NormalHasSort}
 use Rattle.mau_reader.specs.Modules.{ModuleOf}
 
@@ -23,16 +22,6 @@ kind_of_term m (variable i s) = (terms_in m).kind_of s
 kind_of_term m (numeral n) = option_map_or (λ k. k) (terms_in m).numerals 0
 kind_of_term m (apply f ts) = (terms_in m).result f
 
--- associativity, commutativity, an identity, or that it is the successor
-abbrev pub has_axiom : Theory → Bool
-has_axiom h = h.assoc || (h.comm || (is_some h.id || h.succ))
-
 -- a term has a sort where the declarations give its normal form that sort, or one below it; so it has its kind too
 abbrev pub HasSort : ModuleOf → ℕ → Tree → Type 0
 HasSort m sort t = NormalHasSort m.signature [] (norm (terms_in m).theory t) sort
-
--- an operator of the signature has an axiom
-pub record HasAxioms (s : SignatureOf) : Type 0 where
-  pub operator : ℕ
-  pub declared : IsOperator s operator
-  pub found : has_axiom (theory_at s operator) ≡ true

@@ -1,32 +1,37 @@
 //! The answers of items.
 ghost use Rattle.std.specs.Prelude.{◌≡◌, ◌≢◌, ◌<◌, ◌≤◌, ◌++◌, [], length, take, true, false, OnOk, Ok, IfOk};
-ghost use Rattle.mau_terms.specs.Bare.{HasNoAxioms, IsBare};
+ghost use Rattle.mau_terms.specs.Bare.{IsBare};
 ghost use Rattle.mau_terms.specs.Subst.{variables};
 ghost use Rattle.mau_terms.specs.View.{tree_of};
 ghost use Rattle.mau_session.specs.Terms.{terms_in};
 ghost use Rattle.mau_session.specs.Matching.{numbered_from};
 ghost use Rattle.mau_modtext.specs.declared.raw.RawBody.TheVariants as RawBody;
-ghost use Rattle.mau_session.specs.Answers.{module_line, match_head, refusal_line, parse_fault_line};
+ghost use Rattle.mau_session.specs.State.{nothing_yet, state_of, going_of, outcome_of, IsReadyState, IsReadyAt, IsReadyOutcome};
+ghost use Rattle.mau_session.specs.declared.state.Outcome.TheVariants as Outcome;
+ghost use Rattle.mau_reader.specs.Modules.{ModuleOf};
+ghost use Rattle.mau_session.specs.Query.{query_of, IsReady};
+ghost use Rattle.mau_session.specs.Answers.{module_line, match_head, continue_head, refusal_line, parse_fault_line};
 ghost use Rattle.mau_session.specs.Commands.{is_empty};
 ghost use Rattle.mau_session.specs.Reading.{IsBareOf};
 ghost use Rattle.mau_session.specs.Built.{fault_answer};
 ghost use Rattle.mau_session.specs.Transcript.{ItemsAnswer, PatternReads};
-ghost use Rattle.mau_session.specs.Gains.{GainsListed, GainsTerms, GainsMatch, GainsBody, GainsItem};
+ghost use Rattle.mau_session.specs.Gains.{GainsListed, GainsTerms, GainsChosen, GainsMatch, GainsOn, GainsContinue, GainsBody, GainsItem};
 
-use crate::built::{begins_unbuilt, is_built_module, is_match, is_unended, quits};
+use crate::bounds::bound_of;
+use crate::built::{begins_unbuilt, is_built_module, is_continue, is_match, is_unended, quits};
 use crate::command::unbuilt;
-use crate::listing::write_listing;
+use crate::listing::show;
+use crate::listings::MatchListing;
+use crate::query::Query;
 use crate::reading::{kind_of_term, read_term};
 use crate::refusal::{
     Refusal, write_faulty, write_head, write_refusal, write_text_fault, write_unread,
 };
-use crate::sorts::has_axioms;
-use crate::state::State;
-use mau_canon::{BuildFault, build_bare};
+use crate::state::{Going, Outcome, State};
+use mau_canon::BuildFault;
 use mau_modtext::{RawBody, RawCommand, RawItem, RawModule, TextFault};
 use mau_parse::{Goal, ParseFault};
 use mau_reader::{Module, ModuleFault, Words, read_module, write_text};
-use mau_store::Store;
 use mau_terms::{Bare, NoMemory, Vars};
 use std::alloc::Global;
 
@@ -54,6 +59,16 @@ fn write_match_head(out: &mut Vec<u8>, number: usize, module: &Module) -> Result
     write_text(out, "\n")
 }
 
+/// Writes what a listing begins with that goes on.
+fn write_continue_head(out: &mut Vec<u8>, number: usize, module: &Module) -> Result<(), NoMemory>
+    ensures { OnOk result (out.new.items ≡ out.old.items ++ continue_head number module.now) }
+{
+    write_head(out, number)?;
+    write_text(out, "continue in ")?;
+    write_text(out, module.name())?;
+    write_text(out, "\n")
+}
+
 /// Writes the answer of an accepted module.
 fn write_module(out: &mut Vec<u8>, number: usize, module: &Module) -> Result<(), NoMemory>
     ensures { OnOk result (out.new.items ≡ out.old.items ++ module_line number module.now) }
@@ -64,45 +79,66 @@ fn write_module(out: &mut Vec<u8>, number: usize, module: &Module) -> Result<(),
     write_text(out, "\n")
 }
 
-/// Writes what stands behind the head of a listing: the solutions of a pattern and a subject, or the end where the subject's normal form
-/// is beyond the limits. The pattern's variables are the first `count` ones.
+/// What a query leaves behind its listing.
+fn left_by(query: Query, has_ended: bool) -> Outcome
+    ensures left { outcome_of result ≡ Rattle.mau_session.specs.State.left_by has_ended (query_of query) }
+    ensures ready { (m : ModuleOf) → IsReady m.signature query → IsReadyOutcome m result }
+{
+    if has_ended {
+        Outcome::Ended
+    } else {
+        Outcome::GoesOn(query)
+    }
+}
+
+/// Writes what stands behind the head of a listing: the first solutions of a pattern and a subject, at most so many, or the end where the
+/// subject's normal form is beyond the limits. The pattern's variables are the first ones.
 fn answer_listing(
     out: &mut Vec<u8>,
     alloc: Global,
     module: &Module,
-    vars: &Vars,
-    count: usize,
-    pattern: &Bare,
-    subject: &Bare,
-) -> Result<(), NoMemory>
-    requires few { count ≤ length vars.now }
-    requires small { length vars.now < 4294967296 }
-    requires numbered { variables (tree_of pattern.now) ≡ numbered_from 0 (take count vars.now) }
-    requires bare { IsBare (terms_in module.now) (tree_of subject.now) }
-    requires free { HasNoAxioms (terms_in module.now) }
-    ensures { OnOk result (GainsListed module.now vars.now (tree_of pattern.now) (tree_of subject.now) out.old.items out.new.items) }
+    vars: Vars,
+    pattern: Bare,
+    subject: Bare,
+    most: Option<u64>,
+) -> Result<Outcome, NoMemory>
+    requires few { length (variables (tree_of pattern)) ≤ length vars }
+    requires small { length vars < 4294967296 }
+    requires numbered { variables (tree_of pattern) ≡ numbered_from 0 (take (length (variables (tree_of pattern))) vars) }
+    requires pattern { IsBare (terms_in module.now) (tree_of pattern) }
+    requires subject { IsBare (terms_in module.now) (tree_of subject) }
+    ensures gained { IfOk result (λ left. GainsListed module.now vars (tree_of pattern) (tree_of subject) most (outcome_of left) out.old.items out.new.items) }
+    ensures ready { IfOk result (IsReadyOutcome module.now) }
 {
-    let mut store = Store::new(alloc);
-    match build_bare(&mut store, module.signature(), subject) {
-        Ok(id) => write_listing(out, alloc, module, vars, count, pattern, &store, id)?,
-        Err(BuildFault::TooDeep) => write_text(out, "Too deep.\n")?,
-        Err(BuildFault::Overflow) => write_text(out, "Overflow.\n")?,
-        Err(BuildFault::NoMemory) => return Err(NoMemory),
+    match Query::new(alloc, module.signature(), pattern, subject, vars) {
+        Ok(query) => {
+            let mut query = query;
+            let has_ended = show::<MatchListing>(out, alloc, module, &mut query, most)?;
+            Ok(left_by(query, has_ended))
+        }
+        Err(BuildFault::TooDeep) => {
+            write_text(out, "Too deep.\n")?;
+            Ok(Outcome::Ended)
+        }
+        Err(BuildFault::Overflow) => {
+            write_text(out, "Overflow.\n")?;
+            Ok(Outcome::Ended)
+        }
+        Err(BuildFault::NoMemory) => Err(NoMemory),
     }
-    Ok(())
 }
 
-/// Writes why tokens are no term, and says that the item was refused.
-fn refuse_term(out: &mut Vec<u8>, number: usize, fault: &ParseFault) -> Result<bool, NoMemory>
+/// Writes why tokens are no term, so that the item is refused.
+fn refuse_term(out: &mut Vec<u8>, number: usize, fault: &ParseFault) -> Result<Outcome, NoMemory>
     ensures bytes { OnOk result (out.new.items ≡ out.old.items ++ parse_fault_line number fault.now) }
-    ensures refused { IfOk result (λ refused. refused ≡ true) }
+    ensures refused { IfOk result (λ left. left ≡ Outcome.Refused) }
     ensures named { OnOk result (fault.now ≢ ParseFault.NoMemory) }
 {
     write_unread(out, number, fault)?;
-    Ok(true)
+    Ok(Outcome::Refused)
 }
 
-/// Answers a match command over a module, whose pattern was read. Says whether it was refused.
+/// Answers a match command over a module, whose pattern was read. Gives what it leaves.
 fn answer_subject(
     out: &mut Vec<u8>,
     alloc: Global,
@@ -110,30 +146,37 @@ fn answer_subject(
     module: &Module,
     number: usize,
     command: &RawCommand,
-    vars: &mut Vars,
-    pattern: &Bare,
-) -> Result<bool, NoMemory>
+    most: Option<u64>,
+    vars: Vars,
+    pattern: Bare,
+) -> Result<Outcome, NoMemory>
     requires few { length words.now ≤ 16777216 }
-    requires room { length vars.old ≤ 16777216 }
+    requires room { length vars ≤ 16777216 }
     requires subject { is_empty words.now command.now.second ≡ false }
-    requires free { HasNoAxioms (terms_in module.now) }
-    requires pattern { PatternReads words.now module.now command.now pattern.now vars.old }
-    requires bare { IsBareOf module.now Goal.AnyKind pattern.now }
-    ensures { IfOk result (λ refused. GainsTerms words.now module.now number command.now out.old.items out.new.items refused) }
+    requires pattern { PatternReads words.now module.now command.now pattern vars }
+    requires bare { IsBareOf module.now Goal.AnyKind pattern }
+    ensures gained { IfOk result (λ left. GainsTerms words.now module.now number command.now most out.old.items out.new.items (outcome_of left)) }
+    ensures ready { IfOk result (IsReadyOutcome module.now) }
 {
-    let count = vars.len();
-    let goal = Goal::Kind(kind_of_term(module, pattern));
-    match read_term(alloc, words, module, vars, goal, command.second.items()) {
+    let mut vars = vars;
+    let goal = Goal::Kind(kind_of_term(module, &pattern));
+    match read_term(
+        alloc,
+        words,
+        module,
+        &mut vars,
+        goal,
+        command.second.items(),
+    ) {
         Err(fault) => refuse_term(out, number, &fault),
         Ok(subject) => {
             write_match_head(out, number, module)?;
-            answer_listing(out, alloc, module, vars, count, pattern, &subject)?;
-            Ok(false)
+            answer_listing(out, alloc, module, vars, pattern, subject, most)
         }
     }
 }
 
-/// Answers a match command over a module. Says whether it was refused.
+/// Answers a match command over a module. Gives what it leaves.
 fn answer_terms(
     out: &mut Vec<u8>,
     alloc: Global,
@@ -141,12 +184,13 @@ fn answer_terms(
     module: &Module,
     number: usize,
     command: &RawCommand,
-) -> Result<bool, NoMemory>
+    most: Option<u64>,
+) -> Result<Outcome, NoMemory>
     requires few { length words.now ≤ 16777216 }
     requires pattern { is_empty words.now command.now.first ≡ false }
     requires subject { is_empty words.now command.now.second ≡ false }
-    requires free { HasNoAxioms (terms_in module.now) }
-    ensures { IfOk result (λ refused. GainsTerms words.now module.now number command.now out.old.items out.new.items refused) }
+    ensures gained { IfOk result (λ left. GainsTerms words.now module.now number command.now most out.old.items out.new.items (outcome_of left)) }
+    ensures ready { IfOk result (IsReadyOutcome module.now) }
 {
     let mut vars = Vars::new(alloc);
     match read_term(
@@ -159,8 +203,36 @@ fn answer_terms(
     ) {
         Err(fault) => refuse_term(out, number, &fault),
         Ok(pattern) => answer_subject(
-            out, alloc, words, module, number, command, &mut vars, &pattern,
+            out, alloc, words, module, number, command, most, vars, pattern,
         ),
+    }
+}
+
+/// Answers a match command over the module with the number `chosen`. Says whether it was refused.
+fn answer_chosen(
+    out: &mut Vec<u8>,
+    alloc: Global,
+    words: &Words,
+    state: &mut State,
+    number: usize,
+    command: &RawCommand,
+    chosen: usize,
+) -> Result<bool, NoMemory>
+    requires few { length words.now ≤ 16777216 }
+    requires ready { IsReadyState state.old }
+    requires within { chosen < length state.old.modules.items }
+    requires pattern { is_empty words.now command.now.first ≡ false }
+    requires subject { is_empty words.now command.now.second ≡ false }
+    ensures gained { IfOk result (GainsChosen words.now (state_of state.old) number command.now chosen (state_of state.new) out.old.items out.new.items) }
+    ensures ready { OnOk result (IsReadyState state.new) }
+{
+    match bound_of(words, command.bound) {
+        Err(refusal) => refuse(out, words, number, refusal),
+        Ok(most) => {
+            let module = &state.modules[chosen];
+            let left = answer_terms(out, alloc, words, module, number, command, most)?;
+            Ok(state.conclude(chosen, left))
+        }
     }
 }
 
@@ -169,25 +241,65 @@ fn answer_match(
     out: &mut Vec<u8>,
     alloc: Global,
     words: &Words,
-    state: &State,
+    state: &mut State,
     number: usize,
     item: usize,
     command: &RawCommand,
 ) -> Result<bool, NoMemory>
     requires few { length words.now ≤ 16777216 }
-    requires item { item ≤ length words.now }
-    ensures { IfOk result (λ refused. GainsMatch words.now state.now number item command.now out.old.items out.new.items refused) }
+    requires ready { IsReadyState state.old }
+    ensures gained { IfOk result (GainsMatch words.now (state_of state.old) number item command.now (state_of state.new) out.old.items out.new.items) }
+    ensures ready { OnOk result (IsReadyState state.new) }
 {
-    match state.current() {
-        None => refuse(out, words, number, Refusal::NotBuilt(item)),
-        Some(module) => match unbuilt(words, item, command) {
-            Some(word) => refuse(out, words, number, Refusal::NotBuilt(word)),
-            None => {
-                if has_axioms(module.signature()) {
-                    return refuse(out, words, number, Refusal::NotBuilt(item));
-                }
-                answer_terms(out, alloc, words, module, number, command)
-            }
+    match unbuilt(words, &state.modules, item, command) {
+        Some(word) => refuse(out, words, number, Refusal::NotBuilt(word)),
+        None => match state.choose(words, command) {
+            Err(refusal) => refuse(out, words, number, refusal),
+            Ok(chosen) => answer_chosen(out, alloc, words, state, number, command, chosen),
+        },
+    }
+}
+
+/// Shows the solutions of a query behind the last one shown, at most so many. Says that the item was not refused.
+fn go_on(
+    out: &mut Vec<u8>,
+    alloc: Global,
+    state: &mut State,
+    number: usize,
+    going: Going,
+    most: Option<u64>,
+) -> Result<bool, NoMemory>
+    requires ready { IsReadyState state.old }
+    requires going { IsReadyAt state.old.modules.items going }
+    ensures gained { IfOk result (GainsOn (state_of state.old) number (going_of going) most (state_of state.new) out.old.items out.new.items) }
+    ensures ready { OnOk result (IsReadyState state.new) }
+{
+    let chosen = going.number;
+    let mut query = going.query;
+    let module = &state.modules[chosen];
+    write_continue_head(out, number, module)?;
+    let has_ended = show::<MatchListing>(out, alloc, module, &mut query, most)?;
+    Ok(state.conclude(chosen, left_by(query, has_ended)))
+}
+
+/// Answers `continue`. Says whether it was refused.
+fn answer_continue(
+    out: &mut Vec<u8>,
+    alloc: Global,
+    words: &Words,
+    state: &mut State,
+    number: usize,
+    command: &RawCommand,
+) -> Result<bool, NoMemory>
+    requires ready { IsReadyState state.old }
+    ensures gained { IfOk result (GainsContinue words.now (state_of state.old) number command.now (state_of state.new) out.old.items out.new.items) }
+    ensures ready { OnOk result (IsReadyState state.new) }
+{
+    match bound_of(words, command.bound) {
+        Err(refusal) => refuse(out, words, number, refusal),
+        Ok(most) => match state.going.take() {
+            None => refuse(out, words, number, Refusal::NothingToContinue),
+            Some(going) => go_on(out, alloc, state, number, going, most),
         },
     }
 }
@@ -197,17 +309,20 @@ fn answer_command(
     out: &mut Vec<u8>,
     alloc: Global,
     words: &Words,
-    state: &State,
+    state: &mut State,
     number: usize,
     item: usize,
     command: &RawCommand,
 ) -> Result<bool, NoMemory>
     requires few { length words.now ≤ 16777216 }
-    requires item { item ≤ length words.now }
-    ensures { IfOk result (λ refused. GainsBody words.now state.now number item (RawBody.Command command.now) state.now out.old.items out.new.items refused) }
+    requires ready { IsReadyState state.old }
+    ensures gained { IfOk result (GainsBody words.now (state_of state.old) number item (RawBody.Command command.now) (state_of state.new) out.old.items out.new.items) }
+    ensures ready { OnOk result (IsReadyState state.new) }
 {
     if is_match(command.kind) {
         answer_match(out, alloc, words, state, number, item, command)
+    } else if is_continue(command.kind) {
+        answer_continue(out, alloc, words, state, number, command)
     } else {
         refuse(out, words, number, Refusal::NotBuilt(item))
     }
@@ -223,7 +338,9 @@ fn answer_module(
     item: usize,
     raw: &RawModule,
 ) -> Result<bool, NoMemory>
-    ensures { IfOk result (λ refused. GainsBody words.now state.old number item (RawBody.Module raw.now) state.new out.old.items out.new.items refused) }
+    requires ready { IsReadyState state.old }
+    ensures gained { IfOk result (GainsBody words.now (state_of state.old) number item (RawBody.Module raw.now) (state_of state.new) out.old.items out.new.items) }
+    ensures ready { OnOk result (IsReadyState state.new) }
 {
     if !is_built_module(raw.kind) {
         return refuse(out, words, number, Refusal::NotBuilt(item));
@@ -254,9 +371,10 @@ fn answer_body(
     body: &RawBody,
 ) -> Result<bool, NoMemory>
     requires few { length words.now ≤ 16777216 }
-    requires item { item ≤ length words.now }
+    requires ready { IsReadyState state.old }
     requires stays { body.now ≢ RawBody.Quit }
-    ensures { IfOk result (λ refused. GainsBody words.now state.old number item body.now state.new out.old.items out.new.items refused) }
+    ensures gained { IfOk result (GainsBody words.now (state_of state.old) number item body.now (state_of state.new) out.old.items out.new.items) }
+    ensures ready { OnOk result (IsReadyState state.new) }
 {
     match body {
         RawBody::Module(raw) => answer_module(out, alloc, words, state, number, item, raw),
@@ -295,8 +413,10 @@ fn answer_item(
     item: &RawItem,
 ) -> Result<bool, NoMemory>
     requires few { length words.now ≤ 16777216 }
+    requires ready { IsReadyState state.old }
     requires stays { item.now.body ≢ Ok RawBody.Quit }
-    ensures { IfOk result (λ refused. GainsItem words.now state.old number item.now state.new out.old.items out.new.items refused) }
+    ensures gained { IfOk result (GainsItem words.now (state_of state.old) number item.now (state_of state.new) out.old.items out.new.items) }
+    ensures ready { OnOk result (IsReadyState state.new) }
 {
     let word = words.index_at(item.at);
     match &item.body {
@@ -315,7 +435,7 @@ pub fn answer_items(
     items: &[RawItem],
 ) -> Result<(Vec<u8>, bool), NoMemory>
     requires { length words.now ≤ 16777216 }
-    ensures { IfOk result (λ r. ItemsAnswer words.now [] 1 items.now r.0.items r.1) }
+    ensures { IfOk result (λ r. ItemsAnswer words.now nothing_yet 1 items.now r.0.items r.1) }
 {
     let mut out = Vec::new(alloc);
     let mut state = State::new(alloc);

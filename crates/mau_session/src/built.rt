@@ -25,6 +25,16 @@ pub fn is_match(kind: CommandKind) -> bool
     }
 }
 
+/// Whether a command is `continue`.
+pub fn is_continue(kind: CommandKind) -> bool
+    ensures { result ≡ Built.is_continue kind }
+{
+    match kind {
+        CommandKind::Continue => true,
+        _ => false,
+    }
+}
+
 /// Whether items that begin with this word aren't built yet.
 pub fn begins_unbuilt(word: &str) -> bool
     ensures { result ≡ Built.begins_unbuilt word.now }
@@ -33,8 +43,6 @@ pub fn begins_unbuilt(word: &str) -> bool
         word,
         "smod"
             | "xmatch"
-            | "continue"
-            | "cont"
             | "reduce"
             | "red"
             | "rewrite"

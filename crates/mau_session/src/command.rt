@@ -1,31 +1,36 @@
 //! Where a match command isn't built.
-ghost use Rattle.std.specs.Prelude.{◌≡◌, ◌≤◌, ◌+◌, length, false, IfNone};
-ghost use Rattle.mau_session.specs.Commands.{unbuilt, is_empty};
+ghost use Rattle.std.specs.Prelude.{◌≡◌, ◌≤◌, length, false, IfNone};
+ghost use Rattle.mau_session.specs.Commands;
 
 use crate::reading::is_empty;
 use mau_modtext::RawCommand;
-use mau_reader::Words;
+use mau_reader::{Module, Words};
 
-/// Whether a command has a bound, or the name of a module.
-fn has_prefix(command: &RawCommand) -> bool
-    ensures { result ≡ Rattle.mau_session.specs.Commands.has_prefix command.now }
+/// Whether a command names no module, and none was accepted.
+fn lacks_module(modules: &[Module], command: &RawCommand) -> bool
+    ensures { result ≡ Commands.lacks_module modules.now command.now }
 {
-    command.bound.is_some() || command.module.is_some()
+    command.module.is_none() && modules.is_empty()
 }
 
-/// The number of the word from which on a match command that begins at the word `item` isn't built, if there is one. Its
-/// terms have tokens where there is none.
-pub fn unbuilt(words: &Words, item: usize, command: &RawCommand) -> Option<usize>
-    requires item { item ≤ length words.now }
+/// The number of the word from which on a match command that begins at the word `item` isn't built, if there is one. It has a module,
+/// and its terms have tokens, where there is none.
+pub fn unbuilt(
+    words: &Words,
+    modules: &[Module],
+    item: usize,
+    command: &RawCommand,
+) -> Option<usize>
     requires short { length words.now ≤ 16777216 }
-    ensures unbuilt { result ≡ unbuilt words.now item command.now }
-    ensures pattern { IfNone result (is_empty words.now command.now.first ≡ false) }
-    ensures subject { IfNone result (is_empty words.now command.now.second ≡ false) }
+    ensures unbuilt { result ≡ Commands.unbuilt words.now modules.now item command.now }
+    ensures some { IfNone result (Commands.lacks_module modules.now command.now ≡ false) }
+    ensures pattern { IfNone result (Commands.is_empty words.now command.now.first ≡ false) }
+    ensures subject { IfNone result (Commands.is_empty words.now command.now.second ≡ false) }
 {
     let pattern = command.first.items();
     let subject = command.second.items();
-    if has_prefix(command) {
-        return Some(item + 1);
+    if lacks_module(modules, command) {
+        return Some(item);
     }
     if is_empty(words, pattern) {
         return Some(words.first_index(pattern));

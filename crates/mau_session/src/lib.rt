@@ -2,16 +2,18 @@
 #![tactic(auto)]
 
 mod answer;
+mod bounds;
 mod built;
 mod command;
 pub mod laws;
 mod listing;
-mod matching;
+mod listings;
 mod meaning;
+mod query;
 mod reading;
 mod refusal;
+mod settled;
 mod show;
-mod sorts;
 mod state;
 #[cfg(test)]
 mod tests;

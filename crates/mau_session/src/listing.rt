@@ -1,23 +1,22 @@
 //! Writing the solutions of a match.
-ghost use Rattle.std.specs.Prelude.{◌≡◌, ◌++◌, ◌<◌, ◌≤◌, length, take, codes, decimal, OnOk};
+ghost use Rattle.std.specs.Prelude.{◌≡◌, ◌+◌, ◌++◌, ◌<◌, ◌≤◌, length, take, codes, decimal, false, Some, OnOk, IfOk};
 ghost use Rattle.mau_terms.specs.Subst.{variables};
 ghost use Rattle.mau_terms.specs.View.{tree_of};
-ghost use Rattle.mau_terms.specs.Bare.{IsBare, HasNoAxioms};
 ghost use Rattle.mau_store.specs.Node.{IsOf, AreOf};
 ghost use Rattle.mau_store.specs.View.{numbers};
-ghost use Rattle.mau_session.specs.Terms.{terms_in};
 ghost use Rattle.mau_session.specs.Matching.{numbered_from};
-ghost use Rattle.mau_session.specs.Bound.{id_tree, id_trees};
-ghost use Rattle.mau_session.specs.Answers.{value_line, value_lines, substitution_lines};
-ghost use Rattle.mau_session.specs.Gains.{GainsListing};
+ghost use Rattle.mau_session.specs.Query.{id_tree, id_trees, values_in, query_of, asked_for, IsReady};
+ghost use Rattle.mau_session.specs.Answers.{value_line, value_lines, substitution_lines, matcher_lines, last_line};
+ghost use Rattle.mau_session.specs.Next.{ShowsNext, GainsMatchers, GainsShown};
 ghost use Rattle.mau_session.specs.Shown.{printer_in};
 
-use crate::matching::solve;
+use crate::query::Query;
 use crate::show::{printer_of, write_term, write_variable};
+use mau_api::{Lister, Solution};
 use mau_print::Printer;
 use mau_reader::{Module, write_number, write_text};
 use mau_store::Store;
-use mau_terms::{Bare, NoMemory, TermId, VarId, Vars};
+use mau_terms::{NoMemory, TermId, VarId, Vars};
 use std::alloc::Global;
 
 /// Writes the line of a variable and its value.
@@ -33,7 +32,6 @@ fn write_value(
 ) -> Result<(), NoMemory>
     requires printer { printer.now ≡ printer_in module.now }
     requires there { IsOf store.now value.0 }
-    requires free { HasNoAxioms (terms_in module.now) }
     ensures { OnOk result (out.new.items ≡ out.old.items ++ value_line module.now vars.now (variable.index, variable.sort) (id_tree store.now value)) }
 {
     write_variable(out, module, vars, variable)?;
@@ -57,7 +55,6 @@ fn write_values(
     requires few { length values.now ≤ length vars.now }
     requires there { AreOf store.now (numbers values.now) }
     requires small { length vars.now < 4294967296 }
-    requires free { HasNoAxioms (terms_in module.now) }
     ensures { OnOk result (out.new.items ≡ out.old.items ++ value_lines module.now vars.now (numbered_from 0 (take (length values.now) vars.now)) (id_trees store.now values.now)) }
 {
     for i in 0..values.len() {
@@ -73,81 +70,172 @@ fn write_values(
     Ok(())
 }
 
-/// Writes a line for each of these values, as the module prints them.
-fn write_bindings(
-    out: &mut Vec<u8>,
-    alloc: Global,
-    module: &Module,
-    vars: &Vars,
-    store: &Store,
-    values: &[TermId],
-) -> Result<(), NoMemory>
-    requires few { length values.now ≤ length vars.now }
-    requires there { AreOf store.now (numbers values.now) }
-    requires small { length vars.now < 4294967296 }
-    requires free { HasNoAxioms (terms_in module.now) }
-    ensures { OnOk result (out.new.items ≡ out.old.items ++ value_lines module.now vars.now (numbered_from 0 (take (length values.now) vars.now)) (id_trees store.now values.now)) }
-{
-    let printer = printer_of(alloc, module)?;
-    write_values(out, alloc, module, &printer, vars, store, values)
-}
-
 /// Writes a substitution, which gives these values to the first variables.
 fn write_substitution(
     out: &mut Vec<u8>,
     alloc: Global,
     module: &Module,
+    printer: &Printer,
     vars: &Vars,
     store: &Store,
     values: &[TermId],
 ) -> Result<(), NoMemory>
+    requires printer { printer.now ≡ printer_in module.now }
     requires few { length values.now ≤ length vars.now }
     requires there { AreOf store.now (numbers values.now) }
     requires small { length vars.now < 4294967296 }
-    requires free { HasNoAxioms (terms_in module.now) }
     ensures { OnOk result (out.new.items ≡ out.old.items ++ substitution_lines module.now vars.now (numbered_from 0 (take (length values.now) vars.now)) (id_trees store.now values.now)) }
 {
     if values.is_empty() {
         return write_text(out, "empty substitution\n");
     }
-    write_bindings(out, alloc, module, vars, store, values)
+    write_values(out, alloc, module, printer, vars, store, values)
 }
 
 /// Writes the line above a solution.
-fn write_matcher(out: &mut Vec<u8>, number: usize) -> Result<(), NoMemory>
+fn write_matcher(out: &mut Vec<u8>, number: u64) -> Result<(), NoMemory>
     ensures { OnOk result (out.new.items ≡ out.old.items ++ codes "Matcher " ++ decimal number ++ codes "\n") }
 {
     write_text(out, "Matcher ")?;
-    write_number(out, number as u128)?;
+    write_number(out, u128::from(number))?;
     write_text(out, "\n")
 }
 
-/// Writes the solutions of a pattern and a subject, numbered from 1, and the last line of the listing. The
-/// pattern's variables are the first `count` ones.
-pub fn write_listing(
+/// Writes the solution that a query shows next, which is its last one then.
+fn show_solution(
     out: &mut Vec<u8>,
     alloc: Global,
     module: &Module,
-    vars: &Vars,
-    count: usize,
-    pattern: &Bare,
-    store: &Store,
-    subject: TermId,
+    printer: &Printer,
+    query: &mut Query,
+    solution: Solution,
 ) -> Result<(), NoMemory>
-    requires few { count ≤ length vars.now }
-    requires small { length vars.now < 4294967296 }
-    requires numbered { variables (tree_of pattern.now) ≡ numbered_from 0 (take count vars.now) }
-    requires bare { IsBare (terms_in module.now) (id_tree store.now subject) }
-    requires there { IsOf store.now subject.0 }
-    requires free { HasNoAxioms (terms_in module.now) }
-    ensures { OnOk result (GainsListing module.now vars.now (tree_of pattern.now) (id_tree store.now subject) out.old.items out.new.items) }
+    requires printer { printer.now ≡ printer_in module.now }
+    requires there { AreOf query.old.store (numbers solution.values) }
+    requires each { length solution.values ≡ length (variables (tree_of query.old.pattern)) }
+    requires numbered { variables (tree_of query.old.pattern) ≡ numbered_from 0 (take (length (variables (tree_of query.old.pattern))) query.old.vars) }
+    requires few { length (variables (tree_of query.old.pattern)) ≤ length query.old.vars }
+    requires small { length query.old.vars < 4294967296 }
+    ensures shown { OnOk result (query.new ≡ record query.old { last = Some solution; shown = query.old.shown + 1 }) }
+    ensures gained { OnOk result (out.new.items ≡ out.old.items ++ matcher_lines module.now query.old.vars (tree_of query.old.pattern) (query.old.shown + 1) (values_in query.old.store solution)) }
 {
-    match solve(alloc, module, vars, pattern, store, subject, count)? {
-        None => write_text(out, "No match.\n"),
-        Some(values) => {
-            write_matcher(out, 1)?;
-            write_substitution(out, alloc, module, vars, store, &values)?;
-            write_text(out, "No more matches.\n")
+    let number = query.shown.checked_add(1).ok_or(NoMemory)?;
+    write_matcher(out, number)?;
+    write_substitution(
+        out,
+        alloc,
+        module,
+        printer,
+        &query.vars,
+        &query.store,
+        solution.values.items(),
+    )?;
+    query.shown = number;
+    query.last = Some(solution);
+    Ok(())
+}
+
+/// Shows the next solution of a query, and says whether there is one.
+fn show_next<L: Lister>(
+    out: &mut Vec<u8>,
+    alloc: Global,
+    module: &Module,
+    printer: &Printer,
+    query: &mut Query,
+    listing: &mut L,
+) -> Result<bool, NoMemory>
+    requires plain { L.with_context ≡ false }
+    requires printer { printer.now ≡ printer_in module.now }
+    requires ready { IsReady module.now.signature query.old }
+    requires signature { L.is_for listing.old module.now.signature }
+    requires asked { L.asked listing.old ≡ asked_for query.old }
+    requires given { L.given listing.old ≡ query.old.last }
+    ensures shown { IfOk result (ShowsNext module.now (query_of query.old) out.old.items (query_of query.new) out.new.items) }
+    ensures ready { OnOk result (IsReady module.now.signature query.new) }
+    ensures signature { OnOk result (L.is_for listing.new module.now.signature) }
+    ensures asked { OnOk result (L.asked listing.new ≡ asked_for query.new) }
+    ensures given { OnOk result (L.given listing.new ≡ query.new.last) }
+{
+    match listing.next(&mut query.store, module.signature(), &mut query.sorts)? {
+        None => Ok(false),
+        Some(solution) => {
+            show_solution(out, alloc, module, printer, query, solution)?;
+            Ok(true)
         }
     }
+}
+
+/// Shows the next solutions of a query, at most so many, or all. Says whether it has ended: whether there were fewer.
+fn show_solutions<L: Lister>(
+    out: &mut Vec<u8>,
+    alloc: Global,
+    module: &Module,
+    query: &mut Query,
+    listing: &mut L,
+    most: Option<u64>,
+) -> Result<bool, NoMemory>
+    requires plain { L.with_context ≡ false }
+    requires ready { IsReady module.now.signature query.old }
+    requires signature { L.is_for listing.old module.now.signature }
+    requires asked { L.asked listing.old ≡ asked_for query.old }
+    requires given { L.given listing.old ≡ query.old.last }
+    ensures shown { IfOk result (GainsMatchers module.now (query_of query.old) (query_of query.new) most out.old.items out.new.items) }
+    ensures ready { OnOk result (IsReady module.now.signature query.new) }
+{
+    let printer = printer_of(alloc, module)?;
+    for _ in 0..most.unwrap_or(u64::MAX) {
+        if !show_next(out, alloc, module, &printer, query, listing)? {
+            return Ok(true);
+        }
+    }
+    match most {
+        Some(_) => Ok(false),
+        // The lines of so many solutions don't fit into memory.
+        None => Err(NoMemory),
+    }
+}
+
+/// A listing of a query's solutions behind the last one that was shown.
+fn listing_of<L: Lister>(alloc: Global, module: &Module, query: &Query) -> Result<L, NoMemory>
+    ensures signature { IfOk result (λ listing. L.is_for listing module.now.signature) }
+    ensures asked { IfOk result (λ listing. L.asked listing ≡ asked_for query.now) }
+    ensures given { IfOk result (λ listing. L.given listing ≡ query.now.last) }
+{
+    let signature = module.signature();
+    match &query.last {
+        None => L::start(alloc, signature, &query.pattern, &[], query.number),
+        Some(last) => L::resume(alloc, signature, &query.pattern, &[], query.number, last),
+    }
+}
+
+/// Writes the last line of a listing that has shown so many solutions in all.
+fn write_end(out: &mut Vec<u8>, has_ended: bool, shown: u64) -> Result<(), NoMemory>
+    ensures { OnOk result (out.new.items ≡ out.old.items ++ last_line has_ended shown) }
+{
+    if !has_ended {
+        write_text(out, "Bound reached.\n")
+    } else if shown == 0 {
+        write_text(out, "No match.\n")
+    } else {
+        write_text(out, "No more matches.\n")
+    }
+}
+
+/// Shows the solutions of a query behind the last one that was shown, at most so many, and the last line. Says whether it has ended.
+pub fn show<L: Lister + Drop>(
+    out: &mut Vec<u8>,
+    alloc: Global,
+    module: &Module,
+    query: &mut Query,
+    most: Option<u64>,
+) -> Result<bool, NoMemory>
+    requires plain { L.with_context ≡ false }
+    requires ready { IsReady module.now.signature query.old }
+    ensures shown { IfOk result (GainsShown module.now (query_of query.old) (query_of query.new) most out.old.items out.new.items) }
+    ensures ready { OnOk result (IsReady module.now.signature query.new) }
+{
+    let mut listing: L = listing_of(alloc, module, query)?;
+    let has_ended = show_solutions(out, alloc, module, query, &mut listing, most)?;
+    write_end(out, has_ended, query.shown)?;
+    Ok(has_ended)
 }

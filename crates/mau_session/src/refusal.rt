@@ -9,11 +9,17 @@ use mau_reader::{Words, write_number, write_text};
 use mau_terms::NoMemory;
 use mau_tokens::TokenFault;
 
-/// Why an item is refused, with the number of the word that it is about.
+/// Why an item is refused, with the number of the word that it is about, where there is one.
 #[derive(Clone, Copy, Debug, PartialEq, Eq)]
 pub enum Refusal {
     /// What is built so far ends before the word.
     NotBuilt(usize),
+    /// No module has the name that the word is.
+    UnknownModule(usize),
+    /// A bound, or the number of `continue`, is not from 1 to 1,000,000,000,000.
+    BadBound,
+    /// There is nothing to continue.
+    NothingToContinue,
 }
 
 impl Refusal {
@@ -24,10 +30,19 @@ impl Refusal {
     fn write(self, out: &mut Vec<u8>, words: &Words) -> Result<(), NoMemory>
         ensures { OnOk result (out.new.items ≡ out.old.items ++ shown_refusal words.now self) }
     {
-        let Refusal::NotBuilt(word) = self;
-        write_text(out, "NotBuilt ")?;
-        write_text(out, words.text(word))?;
-        write_place(out, " ", words, word)
+        match self {
+            Refusal::NotBuilt(word) => {
+                write_text(out, "NotBuilt ")?;
+                write_text(out, words.text(word))?;
+                write_place(out, " ", words, word)
+            }
+            Refusal::UnknownModule(word) => {
+                write_text(out, "UnknownModule ")?;
+                write_text(out, words.text(word))
+            }
+            Refusal::BadBound => write_text(out, "BadBound"),
+            Refusal::NothingToContinue => write_text(out, "NothingToContinue"),
+        }
     }
 }
 

@@ -1,60 +1,115 @@
-//! The state of a session: the modules that were accepted.
-ghost use Rattle.std.specs.Prelude.{◌≡◌, [], OnOk, not};
+//! The state of a session: the modules that were accepted, and what `continue` goes on with.
+ghost use Rattle.std.specs.Prelude.{◌≡◌, ◌<◌, length, false, slice_get, IfOk, IfErr, OnOk, Some};
 ghost use Rattle.std.specs.Str.{bytes_eq};
-ghost use Rattle.std.specs.Option.{option_copied};
-ghost use Rattle.mau_session.specs.Transcript.{current};
+ghost use Rattle.mau_reader.specs.Modules.{ModuleOf};
+ghost use Rattle.mau_session.specs.State.{nothing_yet, accepted, LastNamed, IsChosen, IsUnknown, state_of, state_after, outcome_of, refuses, IsReadyState, IsReadyOutcome};
+ghost use Rattle.mau_session.specs.Commands.{lacks_module};
 
-use mau_reader::Module;
+use crate::query::Query;
+use crate::refusal::Refusal;
+use mau_modtext::RawCommand;
+use mau_reader::{Module, Words};
 use mau_terms::NoMemory;
 use std::alloc::Global;
-use std::marker::Model;
 
-/// The accepted modules, one of each name; the last accepted one is the current one.
+/// What `continue` goes on with: a query over the module with this number.
+#[derive(Drop)]
+pub struct Going {
+    pub number: usize,
+    pub query: Query,
+}
+
+/// All accepted modules in order, of which the last one is current, and what `continue` goes on with, if there is something.
 #[derive(Drop)]
 pub struct State {
-    modules: Vec<Module>,
+    pub modules: Vec<Module>,
+    pub going: Option<Going>,
 }
 
-impl Model for State {
-    ghost use Rattle.std.specs.Prelude.{List};
-    ghost use Rattle.mau_reader.specs.Modules.{ModuleOf};
-
-    ghost Value = { List ModuleOf };
-
-    ghost view = { λ s. s.modules.items };
+/// What a command leaves: it is refused and changes nothing, or there is nothing to continue behind it, or this query.
+#[derive(Drop)]
+pub enum Outcome {
+    Refused,
+    Ended,
+    GoesOn(Query),
 }
 
-/// Whether the module has another name than this one.
-fn has_another_name(module: &Module, name: &str) -> bool
-    ensures { result ≡ not (bytes_eq module.now.name name.now) }
+/// Whether the module has this name.
+fn has_name(module: &Module, name: &str) -> bool
+    ensures { result ≡ bytes_eq module.now.name name.now }
 {
-    module.name() != name
+    module.name() == name
+}
+
+/// The number of the last module of a name, if there is one.
+fn last_named(modules: &[Module], name: &str) -> Option<usize>
+    ensures { LastNamed modules.now name.now (length modules.now) result }
+{
+    let mut last = None;
+    for i in 0..modules.len() {
+        if has_name(&modules[i], name) {
+            last = Some(i);
+        }
+    }
+    last
 }
 
 impl State {
-    /// No modules.
+    /// No modules, and nothing to continue.
     pub fn new(alloc: Global) -> State
-        ensures { result ≡ [] }
+        ensures state { state_of result ≡ nothing_yet }
+        ensures ready { IsReadyState result }
     {
         State {
             modules: Vec::new(alloc),
+            going: None,
         }
     }
 
-    /// The current module, if a module was accepted.
-    pub fn current(&self) -> Option<&Module>
-        ensures { option_copied result ≡ current self.now }
+    /// Accepts a module, which is the current one.
+    pub fn accept(&mut self, module: Module) -> Result<(), NoMemory>
+        requires ready { IsReadyState self.old }
+        ensures state { OnOk result (state_of self.new ≡ accepted (state_of self.old) «module») }
+        ensures ready { OnOk result (IsReadyState self.new) }
     {
-        self.modules.last()
+        self.modules.push(module)?;
+        Ok(())
     }
 
-    /// Accepts a module. It replaces one of its name, and is the current one.
-    pub fn accept(&mut self, accepted: Module) -> Result<(), NoMemory>
-        ensures { OnOk result (self.new ≡ Rattle.mau_session.specs.Transcript.accepted self.old accepted) }
+    /// The number of a command's module, or that no module has the name that it gives.
+    pub fn choose(&self, words: &Words, command: &RawCommand) -> Result<usize, Refusal>
+        requires some { lacks_module self.now.modules.items command.now ≡ false }
+        ensures chosen { IfOk result (IsChosen words.now self.now.modules.items command.now) }
+        ensures within { IfOk result (λ i. i < length self.now.modules.items) }
+        ensures unknown { IfErr result (IsUnknown words.now self.now.modules.items command.now) }
     {
-        let name = accepted.name();
-        self.modules.retain(|other| has_another_name(other, name));
-        self.modules.push(accepted)?;
-        Ok(())
+        match command.module {
+            None => Ok(self.modules.len() - 1),
+            Some(name) => match last_named(&self.modules, words.token_text(name)) {
+                Some(number) => Ok(number),
+                None => Err(Refusal::UnknownModule(words.token_index(name))),
+            },
+        }
+    }
+
+    /// Keeps what a command over the module with this number leaves. Says whether it was refused.
+    pub fn conclude(&mut self, number: usize, outcome: Outcome) -> bool
+        requires ready { IsReadyState self.old }
+        requires left { (m : ModuleOf) × (slice_get self.old.modules.items number ≡ Some m) × IsReadyOutcome m outcome }
+        ensures state { state_of self.new ≡ state_after (state_of self.old) number (outcome_of outcome) }
+        ensures refused { result ≡ refuses (outcome_of outcome) }
+        ensures ready { IsReadyState self.new }
+    {
+        match outcome {
+            Outcome::Refused => true,
+            Outcome::Ended => {
+                self.going = None;
+                false
+            }
+            Outcome::GoesOn(query) => {
+                self.going = Some(Going { number, query });
+                false
+            }
+        }
     }
 }

@@ -153,8 +153,17 @@ fn refuses_by_name_and_place(rt: HostRuntime) -> Result<(), Fail> {
         ("match f(a, b) <=? a .", "NoParse 81"),
         ("match f(a) <=? f(a, b) .", "NoParse 69"),
         ("match f(X:S, f(a, b)) <=? f(a, b) .", "NoParse 69"),
-        ("match [1] a <=? a .", "NotBuilt [ 69"),
-        ("match in F : a <=? a .", "NotBuilt in 69"),
+        ("match [0] a <=? a .", "BadBound"),
+        ("match [1000000000001] a <=? a .", "BadBound"),
+        ("match [99999999999999999999999] a <=? a .", "BadBound"),
+        ("match in G : a <=? a .", "UnknownModule G"),
+        ("match [0] in G : a <=? a .", "UnknownModule G"),
+        ("match [0] in F : foo <=? a .", "BadBound"),
+        ("match [07] a <=? a .", "NoParse 69"),
+        ("match in F a <=? a .", "NoParse 69"),
+        ("continue .", "NothingToContinue"),
+        ("cont 2 .", "NothingToContinue"),
+        ("continue 0 .", "BadBound"),
         ("match a .", "Unexpected 71"),
         ("match <=? a .", "Unexpected 69"),
         ("match a <=? .", "Unexpected 75"),
@@ -304,16 +313,167 @@ fn tests_values_by_their_sorts(rt: HostRuntime) -> Result<(), Fail> {
         assert_eq!(rt; bytes.as_slice(), wanted.as_bytes());
         assert_eq!(rt; status, Status::Done);
     }
-    let (bytes, status) = answer(
-        rt.alloc(),
-        &["run"],
-        "fmod V is sort S . op a : -> S . op f : S S -> S [comm] . endfm match a <=? a .",
-    )?;
-    assert_eq!(rt;
-        bytes.as_slice(),
-        b"[1] module V\n[2] refused: NotBuilt match 64\n".as_slice()
-    );
-    assert_eq!(rt; status, Status::Refused);
+    Ok(())
+}
+
+const C: &str =
+    "fmod C is sort S . ops a e : -> S . op h : S S -> S [comm] . op k : S S -> S [id: e] . endfm";
+
+const SET: &str =
+    "fmod SET is sorts Elt Set . subsort Elt < Set . ops a b c : -> Elt . op none : -> Set . \
+    op __ : Set Set -> Set [assoc comm id: none] . endfm";
+
+const SET_K: &str =
+    "fmod SET is sorts Elt Set . subsort Elt < Set . ops a b c : -> Elt . op none : -> Set . \
+    op __ : Set Set -> Set [assoc comm id: none] . op k : Set Set -> Set [id: nil] . op nil : -> Set . endfm";
+
+const LST: &str = "fmod LST is sorts Elt Lst . subsort Elt < Lst . ops a b : -> Elt . \
+    op __ : Lst Lst -> Lst [assoc] . endfm";
+
+const LST_NIL: &str =
+    "fmod LST is sorts Elt Lst . subsort Elt < Lst . ops a b : -> Elt . op nil : -> Lst . \
+    op __ : Lst Lst -> Lst [assoc id: nil] . endfm";
+
+/// A module, its name, a command over it, and what stands behind the first line of its answer.
+type Row = (&'static str, &'static str, &'static str, &'static str);
+
+const AXIOMS: [Row; 12] = [
+    (
+        C,
+        "C",
+        "match h(X:S, Y:S) <=? h(a, e) .",
+        "Matcher 1\nX:S --> a\nY:S --> e\nMatcher 2\nX:S --> e\nY:S --> a\nNo more matches.\n",
+    ),
+    (
+        C,
+        "C",
+        "match h(X:S, Y:S) <=? h(a, a) .",
+        "Matcher 1\nX:S --> a\nY:S --> a\nNo more matches.\n",
+    ),
+    (
+        C,
+        "C",
+        "match k(X:S, Y:S) <=? k(a, a) .",
+        "Matcher 1\nX:S --> a\nY:S --> a\nMatcher 2\nX:S --> e\nY:S --> k(a, a)\n\
+         Matcher 3\nX:S --> k(a, a)\nY:S --> e\nNo more matches.\n",
+    ),
+    (
+        LST,
+        "LST",
+        "match X:Lst Y:Lst <=? a b a .",
+        "Matcher 1\nX:Lst --> a\nY:Lst --> b a\nMatcher 2\nX:Lst --> a b\nY:Lst --> a\nNo more matches.\n",
+    ),
+    (
+        LST_NIL,
+        "LST",
+        "match X:Lst Y:Lst <=? a b .",
+        "Matcher 1\nX:Lst --> nil\nY:Lst --> a b\nMatcher 2\nX:Lst --> a\nY:Lst --> b\n\
+         Matcher 3\nX:Lst --> a b\nY:Lst --> nil\nNo more matches.\n",
+    ),
+    (
+        SET,
+        "SET",
+        "match X:Set Y:Set <=? a b .",
+        "Matcher 1\nX:Set --> none\nY:Set --> a b\nMatcher 2\nX:Set --> a\nY:Set --> b\n\
+         Matcher 3\nX:Set --> a b\nY:Set --> none\nMatcher 4\nX:Set --> b\nY:Set --> a\nNo more matches.\n",
+    ),
+    (
+        SET,
+        "SET",
+        "match X:Elt Y:Set <=? a .",
+        "Matcher 1\nX:Elt --> a\nY:Set --> none\nNo more matches.\n",
+    ),
+    (
+        SET,
+        "SET",
+        "match X:Elt X:Elt Y:Set <=? a a b .",
+        "Matcher 1\nX:Elt --> a\nY:Set --> b\nNo more matches.\n",
+    ),
+    (
+        SET,
+        "SET",
+        "match X:Set Y:Set <=? none .",
+        "Matcher 1\nX:Set --> none\nY:Set --> none\nNo more matches.\n",
+    ),
+    (
+        SET_K,
+        "SET",
+        "match k(Y:Set, Z:Set) X:Elt <=? a .",
+        "Matcher 1\nY:Set --> none\nZ:Set --> nil\nX:Elt --> a\n\
+         Matcher 2\nY:Set --> nil\nZ:Set --> none\nX:Elt --> a\nNo more matches.\n",
+    ),
+    (SET, "SET", "match a X:Elt <=? b b .", "No match.\n"),
+    (
+        SET,
+        "SET",
+        "match none a <=? a none .",
+        "Matcher 1\nempty substitution\nNo more matches.\n",
+    ),
+];
+
+#[test]
+fn lists_all_solutions_modulo_axioms(rt: HostRuntime) -> Result<(), Fail> {
+    for (module, name, command, listing) in AXIOMS {
+        let text = format!(in rt.alloc(); "{module} {command}")?;
+        let wanted = format!(in rt.alloc(); "[1] module {name}\n[2] match in {name}\n{listing}")?;
+        let (bytes, status) = answer(rt.alloc(), &["run"], &text)?;
+        assert_eq!(rt; bytes.as_slice(), wanted.as_bytes(), "{command}");
+        assert_eq!(rt; status, Status::Done);
+    }
+    Ok(())
+}
+
+/// Listings over SET that are bounded, continued and left.
+const LISTINGS: [(&str, &str); 6] = [
+    (
+        "match [1] X:Set Y:Set <=? a b . continue 2 . continue . continue .",
+        "[2] match in SET\nMatcher 1\nX:Set --> none\nY:Set --> a b\nBound reached.\n\
+         [3] continue in SET\nMatcher 2\nX:Set --> a\nY:Set --> b\nMatcher 3\nX:Set --> a b\nY:Set --> none\nBound reached.\n\
+         [4] continue in SET\nMatcher 4\nX:Set --> b\nY:Set --> a\nNo more matches.\n\
+         [5] refused: NothingToContinue\n",
+    ),
+    // As many as there are: whether there are more isn't asked.
+    (
+        "match [1] X:Elt <=? a . cont 1 . cont .",
+        "[2] match in SET\nMatcher 1\nX:Elt --> a\nBound reached.\n\
+         [3] continue in SET\nNo more matches.\n[4] refused: NothingToContinue\n",
+    ),
+    // Refused items and modules leave what goes on, and so does a module of the same name.
+    (
+        "match [1] X:Set b <=? a b . match [0] a <=? a . foo . fmod SET is sort S . op b : -> S . endfm match in NO : b <=? b . continue 0 . cont .",
+        "[2] match in SET\nMatcher 1\nX:Set --> a\nBound reached.\n[3] refused: BadBound\n[4] refused: Unexpected 189\n\
+         [5] module SET\n[6] refused: UnknownModule NO\n[7] refused: BadBound\n[8] continue in SET\nNo more matches.\n",
+    ),
+    // Another match takes its place, and one that ends leaves nothing.
+    (
+        "match [1] X:Set Y:Set <=? a . match [1] X:Elt Y:Elt <=? a b . continue 1 . match a <=? a . continue .",
+        "[2] match in SET\nMatcher 1\nX:Set --> none\nY:Set --> a\nBound reached.\n\
+         [3] match in SET\nMatcher 1\nX:Elt --> a\nY:Elt --> b\nBound reached.\n\
+         [4] continue in SET\nMatcher 2\nX:Elt --> b\nY:Elt --> a\nBound reached.\n\
+         [5] match in SET\nMatcher 1\nempty substitution\nNo more matches.\n[6] refused: NothingToContinue\n",
+    ),
+    // A module that is named is not the current one behind the command.
+    (
+        "fmod B is sort S . op d : -> S . endfm match in SET : X:Elt <=? a . match X:S <=? d . match [1] in B : X:S <=? a .",
+        "[2] module B\n[3] match in SET\nMatcher 1\nX:Elt --> a\nNo more matches.\n\
+         [4] match in B\nMatcher 1\nX:S --> d\nNo more matches.\n[5] refused: NoParse 252\n",
+    ),
+    // The last module of a name is meant.
+    (
+        "fmod SET is sort S . op d : -> S . endfm fmod B is sort S . endfm match in SET : X:S <=? d . match [2] a <=? b .",
+        "[2] module SET\n[3] module B\n[4] match in SET\nMatcher 1\nX:S --> d\nNo more matches.\n[5] refused: NoParse 244\n",
+    ),
+];
+
+#[test]
+fn continues_listings_behind_the_last_solution(rt: HostRuntime) -> Result<(), Fail> {
+    for (items, answers) in LISTINGS {
+        let text = format!(in rt.alloc(); "{SET} {items}")?;
+        let wanted = format!(in rt.alloc(); "[1] module SET\n{answers}")?;
+        let (bytes, status) = answer(rt.alloc(), &["run"], &text)?;
+        assert_eq!(rt; bytes.as_slice(), wanted.as_bytes(), "{items}");
+        assert_eq!(rt; status, Status::Refused);
+    }
     Ok(())
 }
 
@@ -379,7 +539,8 @@ Matcher 1
 X:[T] --> a
 No more matches.
 [6] module M
-[7] refused: NotBuilt match 228
+[7] match in M
+No match.
 [8] module M
 [9] match in M
 Matcher 1
@@ -512,10 +673,11 @@ fn refuses_long_terms(rt: HostRuntime) -> Result<(), Fail> {
         (1000, "[2] refused: TooManyTokens 1001\n"),
     ] {
         let mut text = String::from_str(rt.alloc(), head)?;
+        text.push_str(" a <=?")?;
         for _ in 0..count {
             text.push_str(" s")?;
         }
-        text.push_str(" a <=? a .")?;
+        text.push_str(" a .")?;
         let wanted = format!(in rt.alloc(); "[1] module M\n{wanted}")?;
         let (bytes, _) = answer(rt.alloc(), &["run"], &text)?;
         assert_eq!(rt; bytes.as_slice(), wanted.as_bytes());

@@ -6,8 +6,9 @@ use Rattle.mau_store.proofs.Growth.{extension_is_preorder, trees_at-extends}
 use Rattle.mau_canon.proofs.Collected.{OnOk-then}
 use Rattle.mau_canon.proofs.Standing.{stand_within_extended, stand_there}
 use Rattle.mau_match.specs.Parts.{alone_in}
-use Rattle.mau_match.specs.declared.part.Part.TheVariants.{ListOf}
-use Rattle.mau_match.specs.Walked.{part_in, IsPartWithin, AddsTerms}
+use Rattle.mau_parts.specs.declared.part.Part.TheVariants.{ListOf}
+use Rattle.mau_parts.specs.Stored.{part_in}
+use Rattle.mau_match.specs.Walked.{IsPartWithin, AddsTerms}
 use Rattle.mau_match.proofs.Adding.{adds_some_terms, adds_both_terms}
 use Rattle.mau_match.proofs.choices.push_alone.Goals as goal
 

@@ -1,11 +1,12 @@
 use Rattle.std.proofs.lemmas.Result.{IfOk-weaker}
+use Rattle.mau_session.specs.State.{state_of}
 use Rattle.mau_session.proofs.Answering.{item_says, item_fails}
 use Rattle.mau_session.proofs.answer.answer_item.Goals as goal
 
-pub returns-in-Ok : goal.returns-in-Ok
-returns-in-Ok c =
-    IfOk-weaker c.answer_body.result _ _ (λ r g. item_says c.args.words.now c.args.state.now c.args.number c.args.item.now c.index_at-word.result c.index_at-word.ensures.index _ _ _ _ r c.in-Ok.is g) c.answer_body.ensures
+pub returns-in-Ok-clause-gained : goal.returns-in-Ok-clause-gained
+returns-in-Ok-clause-gained c =
+    IfOk-weaker c.answer_body.result _ _ (λ r g. item_says c.args.words.now (state_of c.args.state.now) c.args.number c.args.item.now c.index_at-word.result c.index_at-word.ensures.index _ _ _ _ r c.in-Ok.is g) c.answer_body.ensures.gained
 
-pub returns-in_ok-answer_fault-in-Err : goal.returns-in_ok-answer_fault-in-Err
-returns-in_ok-answer_fault-in-Err c =
-    item_fails c.args.words.now c.args.state.now c.args.number c.args.item.now c.index_at-word.result c.index_at-word.ensures.index _ _ _ c.in-Err.is c.in_ok-answer_fault-in-Err.ensures
+pub returns-in_ok-answer_fault-in-Err-clause-gained : goal.returns-in_ok-answer_fault-in-Err-clause-gained
+returns-in_ok-answer_fault-in-Err-clause-gained c =
+    item_fails c.args.words.now (state_of c.args.state.now) c.args.number c.args.item.now c.index_at-word.result c.index_at-word.ensures.index _ _ _ c.in-Err.is c.in_ok-answer_fault-in-Err.ensures

@@ -1,29 +1,39 @@
-use Rattle.std.proofs.Common.{sym, subst}
+use Rattle.std.proofs.Common.{◌≡◌, None, true, sym, ap, ◌∙◌, subst}
 use Rattle.std.proofs.lemmas.Result.{IfOk-weaker}
-use Rattle.mau_terms.specs.Bare.{HasNoAxioms}
-use Rattle.mau_signature.specs.Signature.{terms_over}
-use Rattle.mau_session.specs.Terms.{HasAxioms}
-use Rattle.mau_session.specs.Transcript.{no_module, command_not_built, axioms_not_built, command_answered}
-use Rattle.mau_session.proofs.Answering.{refused_with}
+use Rattle.mau_session.specs.Answers.{refusal_line}
+use Rattle.mau_session.specs.Commands.{unbuilt}
+use Rattle.mau_session.specs.State.{state_of}
+use Rattle.mau_session.specs.Transcript.{MatchAnswer, command_not_built, module_unknown}
+use Rattle.mau_session.proofs.Answering.{refused_with, gains_chosen}
 use Rattle.mau_session.proofs.answer.answer_match.Goals as goal
 
-pub returns-in-None : goal.returns-in-None
-returns-in-None c =
+pub returns-in-Some-clause-gained : goal.returns-in-Some-clause-gained
+returns-in-Some-clause-gained c =
     refused_with _ c.refuse.result c.refuse.ensures.bytes c.refuse.ensures.refused
-    (λ g. record { bytes = _; answer = no_module (sym c.in-None.ensures); gained = g })
+    (λ g. record {
+      bytes = _;
+      answer = command_not_built c.in-Some.word (ap (λ ms. unbuilt c.args.words.now ms c.args.item c.args.command.now) (sym c.deref.ensures.value) ∙ sym c.in-Some.ensures.unbuilt);
+      gained = g;
+    })
 
-pub returns-in-Some-unbuilt : goal.returns-in-Some-unbuilt
-returns-in-Some-unbuilt c =
-    refused_with _ c.refuse-in-Some-unbuilt.result c.refuse-in-Some-unbuilt.ensures.bytes c.refuse-in-Some-unbuilt.ensures.refused
-    (λ g. record { bytes = _; answer = command_not_built _ c.in-Some-unbuilt.word (sym c.in-Some.ensures) (sym c.in-Some-unbuilt.ensures.unbuilt); gained = g })
+pub returns-in-Err-clause-gained : goal.returns-in-Err-clause-gained
+returns-in-Err-clause-gained c =
+    let ws = c.args.words.now in
+    let st = state_of c.args.state.now in
+    let built : unbuilt ws st.modules c.args.item c.args.command.now ≡ None = ap (λ ms. unbuilt ws ms c.args.item c.args.command.now) (sym c.deref.ensures.value) ∙ sym c.in-None.ensures.unbuilt in
+    let u = c.in-Err.ensures.unknown in
+    refused_with _ c.refuse-in-Err.result c.refuse-in-Err.ensures.bytes c.refuse-in-Err.ensures.refused
+    (λ g. record {
+      bytes = _;
+      answer = subst (λ r. MatchAnswer ws st c.args.number c.args.item c.args.command.now st (refusal_line c.args.number ws r) true) (sym u.named) (module_unknown u.token built u.none);
+      gained = g;
+    })
 
-pub returns-then-has_axioms : goal.returns-then-has_axioms
-returns-then-has_axioms c =
-    let some = subst HasAxioms c.signature.ensures.value (c.has_axioms.ensures.yes c.if-has_axioms.true) in
-    refused_with _ c.refuse-then-has_axioms.result c.refuse-then-has_axioms.ensures.bytes c.refuse-then-has_axioms.ensures.refused
-    (λ g. record { bytes = _; answer = axioms_not_built _ (sym c.in-Some.ensures) (sym c.in-None-unbuilt.ensures.unbuilt) some; gained = g })
-
-pub returns-else-has_axioms : goal.returns-else-has_axioms
-returns-else-has_axioms c =
-    let free = subst (λ s. HasNoAxioms (terms_over s)) c.signature.ensures.value (c.has_axioms.ensures.no c.if-has_axioms.false) in
-    IfOk-weaker c.answer_terms.result _ _ (λ b g. record { bytes = g.bytes; answer = command_answered _ g.bytes b (sym c.in-Some.ensures) (sym c.in-None-unbuilt.ensures.unbuilt) free g.answer; gained = g.gained }) c.answer_terms.ensures
+pub returns-in-Ok-clause-gained : goal.returns-in-Ok-clause-gained
+returns-in-Ok-clause-gained c =
+    let ws = c.args.words.now in
+    let st = state_of c.args.state.now in
+    let built : unbuilt ws st.modules c.args.item c.args.command.now ≡ None = ap (λ ms. unbuilt ws ms c.args.item c.args.command.now) (sym c.deref.ensures.value) ∙ sym c.in-None.ensures.unbuilt in
+    IfOk-weaker c.answer_chosen.result _ _
+    (λ r g. gains_chosen ws st c.args.number c.args.item c.args.command.now c.in-Ok.chosen (state_of c.answer_chosen.new.state) c.args.out.now.items c.answer_chosen.new.out.items r built c.in-Ok.ensures.chosen g)
+    c.answer_chosen.ensures.gained

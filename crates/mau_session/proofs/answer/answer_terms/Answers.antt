@@ -1,18 +1,26 @@
-use Rattle.std.proofs.Common.{[], subst}
+use Rattle.std.proofs.Common.{subst}
 use Rattle.mau_parse.specs.declared.goals.Goal.TheVariants.{AnyKind}
 use Rattle.mau_session.specs.Reading.{IsUnread}
+use Rattle.mau_session.specs.State.{outcome_of, IsReadyOutcome}
+use Rattle.mau_session.specs.declared.state.Outcome.TheVariants.{Refused}
+use Rattle.mau_session.specs.Gains.{GainsTerms}
 use Rattle.mau_session.specs.Transcript.{pattern_refused}
 use Rattle.mau_session.proofs.Answering.{unread_with}
 use Rattle.mau_session.proofs.answer.answer_terms.Goals as goal
 
-pub returns-in-Err : goal.returns-in-Err
-returns-in-Err c =
+pub returns-in-Err-clause-gained : goal.returns-in-Err-clause-gained
+returns-in-Err-clause-gained c =
     let ws = c.args.words.now in
     let m = c.args.module.now in
     let f = c.in-Err.fault in
-    unread_with _ c.refuse_term.result c.refuse_term.ensures.bytes c.refuse_term.ensures.named c.refuse_term.ensures.refused
+    unread_with Refused (λ l. GainsTerms ws m c.args.number c.args.command.now c.args.most c.args.out.now.items c.refuse_term.new.out.items (outcome_of l)) c.refuse_term.result
+    c.refuse_term.ensures.bytes c.refuse_term.ensures.named c.refuse_term.ensures.refused
     (λ g n. record {
       bytes = _;
       answer = pattern_refused f (subst (λ ns. IsUnread ws m c.args.command.now.first AnyKind ns f) c.new-vars.ensures (subst (λ ts. IsUnread ws m ts AnyKind c.new-vars.result f) c.items.ensures c.in-Err.ensures.fault)) n;
       gained = g;
     })
+
+pub returns-in-Err-clause-ready : goal.returns-in-Err-clause-ready
+returns-in-Err-clause-ready c =
+    unread_with Refused (IsReadyOutcome c.args.module.now) c.refuse_term.result c.refuse_term.ensures.bytes c.refuse_term.ensures.named c.refuse_term.ensures.refused (λ g n. tt)

@@ -1,8 +1,7 @@
-use Rattle.std.proofs.Common.{◌++◌, ◌∙◌, ap, sym, codes}
-use Rattle.mau_session.specs.Bound.{id_tree}
+use Rattle.std.proofs.Common.{◌++◌, ◌∙◌, ap, codes}
+use Rattle.mau_session.specs.Query.{id_tree}
 use Rattle.mau_print.specs.Printed.{shown}
 use Rattle.mau_session.specs.Shown.{shown_variable, printer_in}
-use Rattle.mau_session.proofs.Solving.{plain_norm_in}
 use Rattle.mau_session.proofs.Lines.{four_parts}
 use Rattle.mau_session.proofs.listing.write_value.Goals as goal
 
@@ -15,4 +14,3 @@ returns c =
     c.in_ok-write_text-2.ensures
     ∙ ap (λ x. x ++ codes "\n") (c.in_ok-write_term.ensures ∙ ap (λ q. c.write_text.new.out.items ++ shown q ns (id_tree c.args.store.now c.args.value)) c.requires.printer ∙ ap (λ x. x ++ shown p ns (id_tree c.args.store.now c.args.value)) (c.in_ok-write_text.ensures ∙ ap (λ x. x ++ codes " --> ") c.in_ok-write_variable.ensures))
     ∙ four_parts c.args.out.now.items head (codes " --> ") (shown p ns (id_tree c.args.store.now c.args.value)) (codes "\n")
-    ∙ ap (λ u. c.args.out.now.items ++ (((head ++ codes " --> ") ++ shown p ns u) ++ codes "\n")) (sym (plain_norm_in m c.requires.free (id_tree c.args.store.now c.args.value)))

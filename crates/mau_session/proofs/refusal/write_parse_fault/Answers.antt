@@ -1,4 +1,4 @@
-use Rattle.std.proofs.Common.{◌++◌, Result, Ok, Err, codes, decimal, sym, ap, ◌∙◌, append_assoc}
+use Rattle.std.proofs.Common.{◌++◌, Result, Ok, Err, sym, ap, ◌∙◌, append_assoc}
 use Rattle.std.specs.Prelude.{OnOk}
 use Rattle.mau_session.specs.Answers.{shown_parse_fault}
 use Rattle.mau_session.proofs.refusal.write_parse_fault.Goals as goal

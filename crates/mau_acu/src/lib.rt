@@ -1,0 +1,9 @@
+//! What a term can take as an argument of an operator that is associative and commutative, with or without an identity.
+#![tactic(auto)]
+
+mod values;
+
+pub use values::acu_values;
+
+#[cfg(test)]
+mod tests;

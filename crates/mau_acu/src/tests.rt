@@ -1,0 +1,63 @@
+//! Rows of terms and what they can take, in order, by hand.
+use super::*;
+use mau_canon::{build_bare, is_bare};
+use mau_signature::Signature;
+use mau_store::Store;
+use mau_terms::TermId;
+use std::alloc::Global;
+use std::process::Abort;
+use std::test::Fail;
+
+mod asking;
+mod notation;
+mod signature;
+
+use asking::{asked, values};
+use notation::{operator, term};
+use signature::example;
+
+/// The number of a term.
+fn number(rt: &impl Abort, sig: &Signature, store: &mut Store, text: &str) -> Result<TermId, Fail> {
+    let term = term(store.allocator(), text)?;
+    assert!(rt; is_bare(sig, &term));
+    Ok(build_bare(store, sig, &term)?)
+}
+
+/// An operator, a subject, and what that can take under the operator.
+type Row = (u8, &'static str, &'static [&'static str]);
+
+fn takes(rt: &impl Abort, alloc: Global, row: Row) -> Result<(), Fail> {
+    let (letter, text, wanted) = row;
+    let sig = example(rt, alloc)?;
+    let mut store = Store::new(alloc);
+    let (op, _) = operator(letter).ok_or("no letter of the notation")?;
+    let term = term(alloc, text)?;
+    let (op, subject) = asked(rt, &sig, &mut store, op, &term)?;
+    assert!(rt; sig.theory(op).assoc && sig.theory(op).comm);
+    let found = values(&mut store, &sig, op, &term, subject)?;
+    assert_eq!(rt; found.len(), wanted.len(), "{text}");
+    for i in 0..wanted.len() {
+        let id = number(rt, &sig, &mut store, wanted[i])?;
+        assert_eq!(rt; found[i], id, "{text}: {}", wanted[i]);
+    }
+    Ok(())
+}
+
+/// The constants a, b, e come first in the order of terms; u has the identity e, and w has none.
+const ROWS: [Row; 7] = [
+    (b'w', "babww", &["a", "abw", "b", "bbw"]),
+    (b'w', "aaw", &["a"]),
+    (b'w', "a", &[]),
+    (b'u', "bau", &["e", "a", "abu", "b"]),
+    (b'u', "aau", &["e", "a", "aau"]),
+    (b'u', "e", &["e"]),
+    (b'u', "bbaaww", &["e", "bbaaww"]),
+];
+
+#[test]
+fn all_is_taken_in_order_each_once(rt: HostRuntime) -> Result<(), Fail> {
+    for row in ROWS {
+        takes(&rt, rt.alloc(), row)?;
+    }
+    Ok(())
+}

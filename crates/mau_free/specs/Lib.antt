@@ -1,0 +1,2 @@
+-- What a term can take as an argument of an operator that is not associative.
+pub mod Arguments

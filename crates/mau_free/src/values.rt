@@ -1,0 +1,44 @@
+//! The next of what a term can take as an argument of an operator that is not associative.
+ghost use Rattle.std.specs.Prelude.{◌≡◌, false, None, IfOk, IfSome};
+ghost use Rattle.mau_terms.specs.Bare.{IsBareIn};
+ghost use Rattle.mau_terms.specs.Reading.{reading};
+ghost use Rattle.mau_terms.specs.CanTake.{CanTakeNormal};
+ghost use Rattle.mau_signature.specs.Signature.{IsOperator, terms_over, theory_at};
+ghost use Rattle.mau_store.specs.Node.{Extends};
+ghost use Rattle.mau_store.specs.Trees.{tree_at};
+ghost use Rattle.mau_canon.specs.Within.{StandsWithin};
+ghost use Rattle.mau_parts.specs.Search.{IsLeastOrNone};
+ghost use Rattle.mau_parts.specs.Values.{by_key};
+ghost use Rattle.mau_parts.specs.Stored.{tree_in};
+
+use crate::taken::all_taken;
+use mau_parts::nearest_behind;
+use mau_signature::Signature;
+use mau_store::Store;
+use mau_terms::{Bare, NoMemory, OpId, TermId};
+
+/// The least of what a term can take as an argument of an operator that is behind another value, or the least of all, in the order of
+/// terms. The term is of the kind of the operator's results. All instances of the argument are among these values, whatever it is.
+pub fn free_values(
+    store: &mut Store,
+    sig: &Signature,
+    op: OpId,
+    _argument: &Bare,
+    subject: TermId,
+    after: Option<TermId>,
+) -> Result<Option<TermId>, NoMemory>
+    requires operator { IsOperator sig.now op.0 }
+    requires apart { (theory_at sig.now op.0).assoc ≡ false }
+    requires subject { StandsWithin (theory_at sig.now) store.old subject.0 }
+    requires kind { IsBareIn (terms_over sig.now) (reading (theory_at sig.now) (tree_at store.old subject.0)) ((terms_over sig.now).result op.0) }
+    requires after { IfSome after (λ id. StandsWithin (theory_at sig.now) store.old id.0) }
+    ensures next { IfOk result (λ value. IsLeastOrNone (by_key (theory_at sig.now) None) (CanTakeNormal (terms_over sig.now) op.0 (tree_at store.old subject.0)) 0
+        (tree_in store.old after) (tree_in store.new value)) }
+    ensures value { IfOk result (λ value. IfSome value (λ id. CanTakeNormal (terms_over sig.now) op.0 (tree_at store.old subject.0) (tree_at store.new id.0))) }
+    ensures within { IfOk result (λ value. IfSome value (λ id. StandsWithin (theory_at sig.now) store.new id.0)) }
+    ensures extends { Extends store.old store.new }
+{
+    let _ = sig.operators();
+    let values = all_taken(store, sig, op, subject)?;
+    Ok(nearest_behind(store, sig, None, after, &values))
+}

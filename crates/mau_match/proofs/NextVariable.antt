@@ -1,0 +1,99 @@
+-- The walk for the next variable of a search, in a store: what its parts hold, and when there is no answer.
+use Rattle.std.proofs.Common.{◌≡◌, ◌<◌, suc, List, [], ◌∷◌, ◌++◌, length, map, take, drop, get_or, true, None, All, Contains, inl, sym, ◌∙◌, ap, ap₂, subst, arith}
+use Rattle.mau_terms.specs.Tree.{Tree}
+use Rattle.mau_terms.specs.Bare.{IsLawful}
+use Rattle.mau_terms.specs.Subst.{Variable, variables}
+use Rattle.mau_terms.specs.View.{tree_of, variable_of}
+use Rattle.mau_terms.specs.declared.ids.VarId.{VarId}
+use Rattle.mau_terms.specs.declared.ids.TermId.{TermId}
+use Rattle.mau_signature.specs.Signature.{SignatureOf, terms_over, theory_at}
+use Rattle.mau_store.specs.Node.{Node}
+use Rattle.mau_store.specs.Trees.{tree_at, trees_at}
+use Rattle.mau_store.specs.View.{numbers}
+use Rattle.mau_sorts.specs.HasSort.{Known}
+use Rattle.mau_api.specs.declared.places.Place.{Place}
+use Rattle.mau_api.specs.Places.{variables_in}
+use Rattle.mau_api.specs.Found.{Question}
+use Rattle.mau_api.specs.Asked.{IsAskable, BySort, question_in}
+use Rattle.mau_api.proofs.Answered.{normal_is}
+use Rattle.mau_plain.specs.Tried.{ArePlacesOf, asked_in}
+use Rattle.mau_plain.specs.declared.tried.Trial.{Trial}
+use Rattle.mau_plain.proofs.Longer.{in_map}
+use Rattle.mau_parts.specs.Parts.{just}
+use Rattle.mau_match.specs.Parts.{occurs, parts_of}
+use Rattle.mau_match.specs.Given.{given_variables, given_at}
+use Rattle.mau_match.specs.Searched.{AnswerIn}
+use Rattle.mau_match.specs.Walked.{parts_in, bound_of, values_of, target_of, AddsParts, IsRefused, walked}
+use Rattle.mau_match.specs.Values.{IsValueOfAny}
+use Rattle.mau_parts.specs.Stored.{IsPartOver}
+use Rattle.mau_match.specs.declared.part.Given.{Given}
+use Rattle.mau_parts.specs.declared.part.Part.{Part as PartOfCode}
+use Rattle.mau_parts.specs.declared.part.Part.TheVariants.{One}
+use Rattle.mau_match.proofs.Answering.{bound_is, value_normal, walked_value, none_refused, occurs_at}
+use Rattle.mau_match.proofs.GivenFor.{names, names_split, names_long, given_names, given_is}
+use Rattle.mau_match.proofs.Good.{IsTerm, AreItemsOf, items_kept, AllGood, good}
+use Rattle.mau_match.proofs.PartsOver.{parts_over}
+use Rattle.mau_match.proofs.Stepping.{trees_long}
+
+-- stands for a missing place, and is never meant
+abbrev pub no_place : Place
+no_place = record { variable = record { index = 0; sort = 0 }; under = None }
+
+module _ (s : SignatureOf) (lawful : IsLawful (terms_over s)) (old : List Node) (t : Trial) (ps : List Place) (are : ArePlacesOf s (tree_of t.pattern) ps) (ask : IsAskable s old (asked_in t)) (chosen : List TermId) (room : length chosen < length ps) where
+  abbrev q : Question
+  q = question_in old (asked_in t)
+
+  abbrev xs : List Variable
+  xs = names (take (length chosen) ps)
+
+  abbrev x : VarId
+  x = (get_or ps (length chosen) no_place).variable
+
+  abbrev zs : List Variable
+  zs = names (drop (suc (length chosen)) ps)
+
+  abbrev vs : List Tree
+  vs = trees_at old (numbers chosen)
+
+  pub names_are : variables (tree_of t.pattern) ≡ names (take (length chosen) ps) ++ variable_of (get_or ps (length chosen) no_place).variable ∷ names (drop (suc (length chosen)) ps)
+  names_are = sym are.variables ∙ names_split ps (length chosen) no_place room
+
+  pub as_many : length (names (take (length chosen) ps)) ≡ length (trees_at old (numbers chosen))
+  as_many = names_long ps (length chosen) (omega (arith, room)) ∙ sym (trees_long old chosen)
+
+  pub occurs_next : occurs (variable_of (get_or ps (length chosen) no_place).variable) (tree_of t.pattern) ≡ true
+  occurs_next = occurs_at (tree_of t.pattern) xs (variable_of x) zs names_are
+
+  -- a variable that has a value beforehand has that one
+  pub bound_value_is : (value : TermId) → Contains t.bound.items ((get_or ps (length chosen) no_place).variable, value) → (known : Known) (u : Tree) (us : List Tree) → AnswerIn s known old t (trees_at old (numbers chosen) ++ u ∷ us)
+      → IsValueOfAny (theory_at s) (parts_in old (One value ∷ [])) u
+  bound_value_is value among known u us a =
+      let same = bound_is s lawful (BySort s known) q ask.pattern xs (variable_of x) zs names_are vs as_many u us a (tree_at old value.0) (in_map {B = Variable × Tree} (λ (b : VarId × TermId). (variable_of b.0, tree_at old b.1.0)) (x, value) t.bound.items among) in
+      inl (record { normal = value_normal s lawful (BySort s known) q ask.pattern xs (variable_of x) zs names_are vs as_many u us a; of = same; filled = tt })
+
+  module _ (g : Given) (ev : g.variables ≡ map {B = VarId} (λ b. b.0) t.bound.items ++ variables_in (take (length chosen) ps)) (el : g.values ≡ map {B = TermId} (λ b. b.1) t.bound.items ++ chosen) (et : g.target ≡ (get_or ps (length chosen) no_place).variable) where
+    walked_is : walked s old g (tree_of t.pattern) (just (tree_at old t.subject.0)) ≡ parts_of (theory_at s) (given_variables q xs) (given_at q xs vs) (variable_of x) (tree_of t.pattern) (just (tree_at old t.subject.0))
+    walked_is =
+        ap₂ (λ b v. parts_of (theory_at s) b v (target_of g) (tree_of t.pattern) (just (tree_at old t.subject.0))) (given_names s old t (take (length chosen) ps) chosen g ev el) (given_is s old t (take (length chosen) ps) chosen g ev el)
+        ∙ ap (λ y. parts_of (theory_at s) (given_variables q xs) (given_at q xs vs) (variable_of y) (tree_of t.pattern) (just (tree_at old t.subject.0))) et
+
+    module _ (new : List Node) (parts : List PartOfCode) (adds : AddsParts s old new [] parts (walked s old g (tree_of t.pattern) (just (tree_at old t.subject.0)))) where
+      -- its parts are within the limits
+      pub over_parts : All (IsPartOver s new) parts
+      over_parts =
+          let th = theory_at s in
+          let qs = walked s old g (tree_of t.pattern) (just (tree_at old t.subject.0)) in
+          parts_over s lawful.theories (bound_of g) (values_of old g) (target_of g) new parts adds.within
+          (subst (AllGood th (bound_of g) (values_of old g) (target_of g) (IsTerm th lawful.theories) (AreItemsOf th lawful.theories) (items_kept th lawful.theories)) (sym adds.parts)
+          (good th (bound_of g) (values_of old g) (target_of g) (IsTerm th lawful.theories) (AreItemsOf th lawful.theories) (items_kept th lawful.theories) (tree_of t.pattern) (just (tree_at old t.subject.0)) (normal_is th lawful.theories (tree_at old t.subject.0) ask.subject.normal, ask.subject.within)))
+
+      -- each answer's value is one of theirs
+      pub some_value : (known : Known) (u : Tree) (us : List Tree) → AnswerIn s known old t (trees_at old (numbers chosen) ++ u ∷ us) → IsValueOfAny (theory_at s) (parts_in new parts) u
+      some_value known u us a = walked_value s lawful (BySort s known) q ask.pattern xs (variable_of x) zs names_are vs as_many u us a new parts adds.within (adds.parts ∙ walked_is)
+
+    -- where what is known beforehand is beyond the limits, there is no answer
+    pub no_answer : IsRefused (theory_at s) (bound_of g) (values_of old g) (tree_of t.pattern) → (known : Known) (u : Tree) (us : List Tree) → AnswerIn s known old t (trees_at old (numbers chosen) ++ u ∷ us) → ⊥
+    no_answer r known u us a =
+        none_refused s lawful (BySort s known) q ask.pattern xs (variable_of x) zs names_are vs as_many u us a ask.subject.within
+        (subst (λ v. IsRefused (theory_at s) (given_variables q xs) v (tree_of t.pattern)) (given_is s old t (take (length chosen) ps) chosen g ev el)
+        (subst (λ b. IsRefused (theory_at s) b (values_of old g) (tree_of t.pattern)) (given_names s old t (take (length chosen) ps) chosen g ev el) r))

@@ -1,0 +1,199 @@
+//! What the value of the next variable may be: the parts of the subject that it is of, and the values of these in order.
+ghost use Rattle.std.specs.Prelude.{◌≡◌, ◌⊎◌, ◌++◌, ◌∷◌, ◌<◌, ℕ, List, All, Contains, length, map, IfOk, IfSome, IfNone, OnOk};
+ghost use Rattle.mau_terms.specs.Tree.{Tree};
+ghost use Rattle.mau_terms.specs.View.{tree_of};
+ghost use Rattle.mau_terms.specs.declared.ids.VarId.{VarId};
+ghost use Rattle.mau_terms.specs.declared.ids.TermId.{TermId as Id};
+ghost use Rattle.mau_signature.specs.Signature.{theory_at};
+ghost use Rattle.mau_store.specs.Node.{Extends};
+ghost use Rattle.mau_store.specs.Trees.{tree_at, trees_at};
+ghost use Rattle.mau_store.specs.View.{numbers};
+ghost use Rattle.mau_canon.specs.Within.{StandsWithin, StandWithin};
+ghost use Rattle.mau_sorts.specs.HasSort.{Known};
+ghost use Rattle.mau_api.specs.Asked.{IsAskable};
+ghost use Rattle.mau_api.specs.Places.{operator_number, variables_in};
+ghost use Rattle.mau_plain.specs.Tried.{ArePlacesOf, asked_in};
+ghost use Rattle.mau_parts.specs.Search.{IsLeastOrNone, first_of};
+ghost use Rattle.mau_match.specs.Walked.{parts_in};
+ghost use Rattle.mau_parts.specs.Values.{by_key};
+ghost use Rattle.mau_match.specs.Values.{IsValueOfAny};
+ghost use Rattle.mau_parts.specs.Stored.{tree_in, IsListOperator, IsPartOver};
+ghost use Rattle.mau_match.specs.Searched.{AnswerIn};
+
+use crate::Given;
+use crate::choices::push;
+use crate::walk::parts_for;
+use mau_api::{Place, compare_lists, value_key_of};
+use mau_canon::BuildFault;
+use mau_parts::{Part, next_value};
+use mau_plain::{Trial, is_lawful};
+use mau_signature::Signature;
+use mau_store::Store;
+use mau_terms::{NoMemory, OpId, Seq, TermId, VarId};
+use std::alloc::Global;
+use std::cmp::Ordering;
+
+/// The value that a variable has beforehand, if it has one.
+fn bound_value(bound: &[(VarId, TermId)], variable: VarId) -> Option<TermId>
+    ensures { IfSome result (λ id. Contains bound.now (variable, id)) }
+{
+    for pair in bound {
+        if pair.0 == variable {
+            return Some(pair.1);
+        }
+    }
+    None
+}
+
+/// Variables that have values beforehand, and then those of some places.
+fn given_variables(
+    alloc: Global,
+    bound: &[(VarId, TermId)],
+    places: &[Place],
+) -> Result<Vec<VarId>, NoMemory>
+    ensures { IfOk result (λ xs. xs.items ≡ map {B = VarId} (λ b. b.0) bound.now ++ variables_in places.now) }
+{
+    let mut variables = Vec::new(alloc);
+    for pair in bound {
+        variables.push(pair.0)?;
+    }
+    push_variables(&mut variables, places)?;
+    Ok(variables)
+}
+
+/// Adds the variables of some places.
+fn push_variables(out: &mut Vec<VarId>, places: &[Place]) -> Result<(), NoMemory>
+    ensures { OnOk result (out.new.items ≡ out.old.items ++ variables_in places.now) }
+{
+    for place in places {
+        out.push(place.variable)?;
+    }
+    Ok(())
+}
+
+/// Values beforehand, and then some others.
+fn given_values(
+    alloc: Global,
+    bound: &[(VarId, TermId)],
+    chosen: &[TermId],
+) -> Result<Vec<TermId>, NoMemory>
+    ensures { IfOk result (λ ids. ids.items ≡ map {B = Id} (λ b. b.1) bound.now ++ chosen.now) }
+{
+    let mut values = Vec::new(alloc);
+    for pair in bound {
+        values.push(pair.1)?;
+    }
+    values.extend_from_slice(chosen)?;
+    Ok(values)
+}
+
+/// What is given while a variable is to have a value: what is bound beforehand, and the chosen values of the variables at some places.
+fn given_for(
+    alloc: Global,
+    bound: &[(VarId, TermId)],
+    places: &[Place],
+    chosen: &[TermId],
+    target: VarId,
+) -> Result<Given, NoMemory>
+    ensures variables { IfOk result (λ g. g.variables ≡ map {B = VarId} (λ b. b.0) bound.now ++ variables_in places.now) }
+    ensures values { IfOk result (λ g. g.values ≡ map {B = Id} (λ b. b.1) bound.now ++ chosen.now) }
+    ensures target { IfOk result (λ g. g.target ≡ target) }
+{
+    let variables = given_variables(alloc, bound, places)?;
+    let values = given_values(alloc, bound, chosen)?;
+    Ok(Given {
+        variables: Seq::new(variables),
+        values: Seq::new(values),
+        target,
+    })
+}
+
+/// The parts that the value of the next variable may be of, and none where no answer begins with the chosen values.
+pub fn candidates(
+    trial: &Trial,
+    places: &[Place],
+    store: &mut Store,
+    sig: &Signature,
+    chosen: &[TermId],
+) -> Result<Option<Vec<Part>>, NoMemory>
+    requires askable { IsAskable sig.now store.old (asked_in trial.now) }
+    requires places { ArePlacesOf sig.now (tree_of trial.now.pattern) places.now }
+    requires chosen { StandWithin (theory_at sig.now) store.old (numbers chosen.now) }
+    requires room { length chosen.now < length places.now }
+    ensures within { IfOk result (λ o. IfSome o (λ parts. All (IsPartOver sig.now store.new) parts.items)) }
+    ensures some { (known : Known) (u : Tree) (us : List Tree) → AnswerIn sig.now known store.old trial.now (trees_at store.old (numbers chosen.now) ++ u ∷ us) →
+        IfOk result (λ o. IfSome o (λ parts. IsValueOfAny (theory_at sig.now) (parts_in store.new parts.items) u)) }
+    ensures none { (known : Known) (u : Tree) (us : List Tree) → AnswerIn sig.now known store.old trial.now (trees_at store.old (numbers chosen.now) ++ u ∷ us) →
+        IfOk result (λ o. IfNone o ⊥) }
+    ensures extends { Extends store.old store.new }
+{
+    is_lawful(sig);
+    let target = places[chosen.len()].variable;
+    if let Some(value) = bound_value(&trial.bound, target) {
+        let mut parts = Vec::new(store.allocator());
+        push(&mut parts, Part::One(value))?;
+        return Ok(Some(parts));
+    }
+    let front = &places[..chosen.len()];
+    let given = given_for(store.allocator(), &trial.bound, front, chosen, target)?;
+    match parts_for(store, sig, &given, &trial.pattern, trial.subject) {
+        Ok(parts) => Ok(Some(parts)),
+        Err(BuildFault::NoMemory) => Err(NoMemory),
+        Err(BuildFault::TooDeep) => Ok(None),
+        Err(BuildFault::Overflow) => Ok(None),
+    }
+}
+
+/// The lesser of two values, as far as there are two, in the order of values under an operator.
+fn lesser(
+    store: &Store,
+    sig: &Signature,
+    under: Option<OpId>,
+    first: Option<TermId>,
+    second: Option<TermId>,
+) -> Option<TermId>
+    requires under { IfSome under (λ op. IsListOperator sig.now op.0) }
+    requires first { IfSome first (λ id. StandsWithin (theory_at sig.now) store.now id.0) }
+    requires second { IfSome second (λ id. StandsWithin (theory_at sig.now) store.now id.0) }
+    ensures value { tree_in store.now result ≡ first_of (by_key (theory_at sig.now) (operator_number under)) 0 (tree_in store.now first) (tree_in store.now second) }
+    ensures one { (result ≡ first) ⊎ (result ≡ second) }
+{
+    let Some(left) = first else {
+        return second;
+    };
+    let Some(right) = second else {
+        return first;
+    };
+    let left_key = value_key_of(store, sig, under, &left);
+    let right_key = value_key_of(store, sig, under, &right);
+    match compare_lists(store, left_key, right_key) {
+        Ordering::Greater => second,
+        _ => first,
+    }
+}
+
+/// The least value of all parts behind another value, or of all their values, in the order of values under an operator.
+pub fn least_value(
+    store: &mut Store,
+    sig: &Signature,
+    under: Option<OpId>,
+    parts: &[Part],
+    after: Option<TermId>,
+) -> Result<Option<TermId>, NoMemory>
+    requires under { IfSome under (λ op. IsListOperator sig.now op.0) }
+    requires parts { All (IsPartOver sig.now store.old) parts.now }
+    requires after { IfSome after (λ id. StandsWithin (theory_at sig.now) store.old id.0) }
+    ensures next { IfOk result (λ value. IsLeastOrNone (by_key (theory_at sig.now) (operator_number under)) (IsValueOfAny (theory_at sig.now) (parts_in store.old parts.now)) 0
+        (tree_in store.old after) (tree_in store.new value)) }
+    ensures value { IfOk result (λ value. IfSome value (λ id. IsValueOfAny (theory_at sig.now) (parts_in store.old parts.now) (tree_at store.new id.0))) }
+    ensures within { IfOk result (λ value. IfSome value (λ id. StandsWithin (theory_at sig.now) store.new id.0)) }
+    ensures extends { Extends store.old store.new }
+{
+    is_lawful(sig);
+    let mut least = None;
+    for part in parts {
+        let value = next_value(store, sig, under, part, after)?;
+        least = lesser(store, sig, under, least, value);
+    }
+    Ok(least)
+}

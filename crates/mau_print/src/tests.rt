@@ -1,0 +1,3 @@
+//! Terms that are read, printed and read again.
+mod printing;
+mod signature;
