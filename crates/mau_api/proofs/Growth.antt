@@ -1,6 +1,7 @@
 -- What is asked and what was found, in stores and tables that grow.
-use Rattle.std.proofs.Common.{◌≡◌, ℕ, List, [], ◌∷◌, Bool, true, false, All, Option, None, Some, IfSome, map, is_some, refl, sym, ap, ap₂, ◌∙◌, subst, ⊎_elim, inl, inr}
-use Rattle.std.proofs.lemmas.List.Elements.{All-head, All-tail}
+use Rattle.std.proofs.Common.{◌≡◌, ℕ, suc, List, [], ◌∷◌, length, Bool, true, false, All, Option, None, Some, IfSome, map, is_some, refl, sym, ap, ap₂, ◌∙◌, subst, ⊎_elim, inl, inr}
+use Rattle.std.proofs.lemmas.List.Elements.{All-nil, All-head, All-tail}
+use Rattle.std.proofs.lemmas.List.{length-map}
 use Rattle.std.specs.Option.{option_map}
 use Rattle.mau_terms.specs.Tree.{Tree}
 use Rattle.mau_terms.specs.Norm.{norm}
@@ -13,7 +14,7 @@ use Rattle.mau_terms.specs.declared.ids.VarId.{VarId}
 use Rattle.mau_terms.specs.declared.ids.TermId.{TermId}
 use Rattle.mau_terms.specs.declared.theory.Theory.{Theory}
 use Rattle.mau_signature.specs.Signature.{SignatureOf, theory_at, terms_over}
-use Rattle.mau_store.specs.Node.{Node, AreOf, Extends}
+use Rattle.mau_store.specs.Node.{Node, IsOf, AreOf, Extends}
 use Rattle.mau_store.specs.Trees.{tree_at, trees_at}
 use Rattle.mau_store.specs.View.{numbers}
 use Rattle.mau_store.proofs.Growth.{IsOf-extends, AreOf-extends, trees_at-extends}
@@ -24,7 +25,7 @@ use Rattle.mau_sorts.specs.Table.{Table, entry_at, IsSettled, KeepsEntries}
 use Rattle.mau_sorts.proofs.Entries.{settled_entry}
 use Rattle.mau_api.specs.declared.solution.Solution.{Solution}
 use Rattle.mau_api.specs.Found.{Question, Found, OfNorm, IsSolution}
-use Rattle.mau_api.specs.Asked.{Asked, bound_in, question_in, found_in, IsAskable, IsTreeSettled, HasEntry, IsBelow, IsSettledFor, IsGiven}
+use Rattle.mau_api.specs.Asked.{Asked, bound_in, question_in, found_in, IsAskable, IsTreeSettled, HasEntry, IsBelow, IsSettledFor, IsGiven, CanBeLast}
 use Rattle.mau_api.specs.Laws.{ListingsGoOn}
 
 -- ---- sorts
@@ -135,6 +136,16 @@ module _ (old new : List Node) (extends : Extends old new) where
               (IsSolution-then c s (HasEntry s old before) (HasEntry s new after) (entry_kept s) (question_in old a) (found_in old x) is.solves));
         }
 
+    last_kept : (c : Bool) (s : SignatureOf) (a : Asked) → IsAskable s old a → (x : Solution) → CanBeLast c s old before a x → CanBeLast c s new after a x
+    last_kept false s a askable x is = record {
+      no_left = is.no_left;
+      no_right = is.no_right;
+      values = stand_within_extended (theory_at s) old new (numbers x.values) extends is.values;
+      one_each = is.one_each;
+      settled = λ k d h. settled_kept before after kept _ (is.settled k d h);
+    }
+    last_kept true s a askable x is = given_kept true s a askable x is
+
 pub listings_go_on : ListingsGoOn
 listings_go_on c s old new before after extends kept over a last is = record {
   askable = askable_extended old new extends s a is.askable;
@@ -143,11 +154,19 @@ listings_go_on c s old new before after extends kept over a last is = record {
   given = by last is.given;
 }
   where
-    by : (o : Option Solution) → IfSome o (IsGiven c s old before a) → IfSome o (IsGiven c s new after a)
+    by : (o : Option Solution) → IfSome o (CanBeLast c s old before a) → IfSome o (CanBeLast c s new after a)
     by None h = tt
-    by (Some x) h = given_kept old new extends before after kept c s a is.askable x h
+    by (Some x) h = last_kept old new extends before after kept c s a is.askable x h
 
 -- ---- several solutions
+
+pub trees_long : (nodes : List Node) (l : List TermId) → length (trees_at nodes (numbers l)) ≡ length l
+trees_long nodes [] = refl
+trees_long nodes (id ∷ l) = ap suc (trees_long nodes l)
+
+none : (nodes : List Node) (l : List TermId) → trees_at nodes (numbers l) ≡ [] → l ≡ []
+none nodes [] e = refl
+none nodes (id ∷ l) e = cc
 
 -- the numbers of a solution are of the store
 pub record AreOfStore (nodes : List Node) (x : Solution) : Type 0 where
@@ -161,6 +180,25 @@ given_of_store c s nodes table a x is = record {
   right = stand_there (theory_at s) nodes (numbers x.right) is.right;
   values = stand_there (theory_at s) nodes (numbers x.values) is.values;
 }
+
+pub last_of_store : (c : Bool) (s : SignatureOf) (nodes : List Node) (table : Table) (a : Asked) (x : Solution) → CanBeLast c s nodes table a x → AreOfStore nodes x
+last_of_store false s nodes table a x is = record {
+  left = subst (λ (l : List TermId). AreOf nodes (numbers l)) (sym is.no_left) (All-nil (IsOf nodes));
+  right = subst (λ (l : List TermId). AreOf nodes (numbers l)) (sym is.no_right) (All-nil (IsOf nodes));
+  values = stand_there (theory_at s) nodes (numbers x.values) is.values;
+}
+last_of_store true s nodes table a x is = given_of_store true s nodes table a x is
+
+-- a listing goes on behind each solution that was given
+pub given_is_last : (c : Bool) (s : SignatureOf) (nodes : List Node) (table : Table) (a : Asked) (x : Solution) → IsGiven c s nodes table a x → CanBeLast c s nodes table a x
+given_is_last false s nodes table a x is = record {
+  no_left = none nodes x.left is.solves.no_left;
+  no_right = none nodes x.right is.solves.no_right;
+  values = is.values;
+  one_each = sym (trees_long nodes x.values) ∙ ap length (sym is.solves.values) ∙ length-map is.solves.bare (norm (theory_at s)) ∙ is.solves.solves.0.one_each;
+  settled = is.settled;
+}
+given_is_last true s nodes table a x is = is
 
 module _ (old new : List Node) (extends : Extends old new) where
   pub of_store_extended : (xs : List Solution) → All (AreOfStore old) xs → All (AreOfStore new) xs
@@ -178,8 +216,8 @@ module _ (old new : List Node) (extends : Extends old new) where
       let one = All-head (AreOfStore old) x xs within in
       ap₂ (λ (y : Found) (ys : List Found). y ∷ ys) (found_same old new extends x one.left one.right one.values) (all_found_same xs (All-tail (AreOfStore old) x xs within))
 
-  pub last_found_same : (s : SignatureOf) (c : Bool) (table : Table) (a : Asked) (o : Option Solution) → IfSome o (IsGiven c s old table a) → option_map (found_in new) o ≡ option_map (found_in old) o
+  pub last_found_same : (s : SignatureOf) (c : Bool) (table : Table) (a : Asked) (o : Option Solution) → IfSome o (CanBeLast c s old table a) → option_map (found_in new) o ≡ option_map (found_in old) o
   last_found_same s c table a None h = refl
   last_found_same s c table a (Some x) h =
-      let one = given_of_store c s old table a x h in
+      let one = last_of_store c s old table a x h in
       ap Some (found_same old new extends x one.left one.right one.values)

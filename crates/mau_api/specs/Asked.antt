@@ -1,10 +1,10 @@
 -- Questions and solutions by the numbers of a store, and what is known of the sorts of its terms.
-use Rattle.std.specs.Prelude.{◌≡◌, ◌⊎◌, ℕ, List, All, Bool, true, false, Contains, Option, None, Some, IfSome, map}
+use Rattle.std.specs.Prelude.{◌≡◌, ◌⊎◌, ℕ, List, All, Bool, true, false, Contains, Option, None, Some, IfSome, [], length, map}
 use Rattle.mau_terms.specs.Tree.{Tree, variable, numeral, apply, Trees, no_trees, tree}
 use Rattle.mau_terms.specs.Norm.{norm, unit_tree}
 use Rattle.mau_terms.specs.Bare.{IsBare}
 use Rattle.mau_terms.specs.Reading.{reading}
-use Rattle.mau_terms.specs.Subst.{Variable}
+use Rattle.mau_terms.specs.Subst.{Variable, variables}
 use Rattle.mau_terms.specs.View.{variable_of}
 use Rattle.mau_terms.specs.declared.ids.VarId.{VarId}
 use Rattle.mau_terms.specs.declared.ids.TermId.{TermId}
@@ -160,9 +160,23 @@ pub record IsGiven (c : Bool) (s : SignatureOf) (nodes : List Node) (table : Tab
   pub settled : All (IsSettled table) (numbers x.values)
   pub solves : IsSolution c s (HasEntry s nodes table) (question_in nodes a) (found_in nodes x)
 
+-- x is a point of the order of solutions without contexts, whether it is a solution or not: its numbers stand for normal forms within
+-- the limits, one for each variable of the pattern, and they are settled
+pub record IsPoint (s : SignatureOf) (nodes : List Node) (table : Table) (a : Asked) (x : Solution) : Type 0 where
+  pub no_left : x.left ≡ []
+  pub no_right : x.right ≡ []
+  pub values : StandWithin (theory_at s) nodes (numbers x.values)
+  pub one_each : length x.values ≡ length (variables a.pattern)
+  pub settled : All (IsSettled table) (numbers x.values)
+
+-- what a listing goes on behind: a solution with its context, or without contexts any point
+abbrev pub CanBeLast : Bool → SignatureOf → List Node → Table → Asked → Solution → Type 0
+CanBeLast false s nodes table a x = IsPoint s nodes table a x
+CanBeLast true s nodes table a x = IsGiven true s nodes table a x
+
 -- what a listing needs of the signature, the store and the table to go on behind its last solution
 pub record CanGoOn (c : Bool) (s : SignatureOf) (nodes : List Node) (table : Table) (a : Asked) (last : Option Solution) : Type 0 where
   pub askable : IsAskable s nodes a
   pub settled : IsSettledFor s nodes table a
   pub over : AreOver s.hierarchy table
-  pub given : IfSome last (IsGiven c s nodes table a)
+  pub given : IfSome last (CanBeLast c s nodes table a)

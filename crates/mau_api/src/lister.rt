@@ -50,7 +50,7 @@ pub trait Lister: Sized {
         ensures signature { IfOk result (λ listing. is_for listing sig.now) }
         ensures given { IfOk result (λ listing. given listing ≡ None) };
 
-    /// The listing whose last solution is the one given.
+    /// The listing whose last solution is the one given, made without a look at those before it.
     fn resume(
         alloc: Global,
         sig: &Signature,
@@ -71,8 +71,9 @@ pub trait Lister: Sized {
     ///
     /// The signature is the one that the listing was made with. The pattern is a bare term over it, and the bound values and the subject
     /// are terms of the store. The identities and the subject's proper subterms are settled, and so is the subject, unless the top of
-    /// the pattern's normal form is an operator that is neither associative nor the successor and has no identity. A last solution is
-    /// one over this store and by these sorts.
+    /// the pattern's normal form is an operator that is neither associative nor the successor and has no identity. What a listing with
+    /// contexts goes on behind is a solution over this store and by these sorts. A listing without contexts goes on behind any settled
+    /// normal forms, one for each variable of the pattern, whether they are a solution or not.
     ///
     /// Only the sorts of numerals and of lists of associative operators are settled, by declarations alone, and never those of the
     /// subject. Out of memory, the listing is as it was.

@@ -1,5 +1,5 @@
 -- What the search finds is the next solution of a listing.
-use Rattle.std.proofs.Common.{◌≡◌, List, [], false, true, length, refl, sym, ap, subst, Option, None, Some, IfSome}
+use Rattle.std.proofs.Common.{◌≡◌, List, [], false, true, length, refl, sym, ap, ◌∙◌, subst, Option, None, Some, IfSome}
 use Rattle.std.specs.Borrow.{Bor}
 use Rattle.std.specs.Option.{option_map, option_copied}
 use Rattle.mau_terms.specs.Bare.{IsLawful}
@@ -18,15 +18,17 @@ use Rattle.mau_api.specs.declared.places.Place.{Place}
 use Rattle.mau_api.specs.declared.solution.Solution.{Solution}
 use Rattle.mau_api.specs.Found.{IsSolution}
 use Rattle.mau_api.specs.Next.{found_cmp, IsNext}
-use Rattle.mau_api.specs.Asked.{question_in, found_in, HasEntry, IsTableOf, BySort, IsGiven, CanGoOn}
-use Rattle.mau_api.proofs.Growth.{IsSolution-then}
+use Rattle.mau_api.specs.Asked.{question_in, found_in, HasEntry, IsTableOf, BySort, IsGiven, CanBeLast, CanGoOn}
+use Rattle.mau_api.proofs.Growth.{trees_long}
 use Rattle.mau_api.proofs.Ordered.{entries_are_sorts}
 use Rattle.mau_plain.specs.Tried.{ArePlacesOf, asked_in, without_context}
 use Rattle.mau_plain.specs.declared.tried.Trial.{Trial}
 use Rattle.mau_match.specs.Listing.{order_at}
 use Rattle.mau_match.specs.Search.{IsFirst, IsEnd}
 use Rattle.mau_match.specs.Searched.{AreChosen, AnswerIn, last_in, IsFound}
-use Rattle.mau_match.proofs.Order.{first_is_next, end_is_end}
+use Rattle.mau_plain.proofs.Solved.{norms_stand}
+use Rattle.mau_terms.proofs.Ties.{places_length}
+use Rattle.mau_match.proofs.Order.{IsPointOf, first_is_next, end_is_end}
 
 -- ---- the values of the last solution
 
@@ -37,7 +39,7 @@ module _ (nodes : List Node) where
   last_found (Some l) None e = cc
   last_found (Some l) (Some x) e = ap (option_map {U = List Tree} (λ (ids : List TermId). trees_at nodes (numbers ids))) (sym e)
 
-pub last_chosen : (s : SignatureOf) (nodes : List Node) (table : Table) (t : Trial) (o : Option (Bor (List TermId))) (x : Option Solution) → option_copied o ≡ option_map {U = List TermId} (λ y. y.values) x → IfSome x (IsGiven false s nodes table (asked_in t))
+pub last_chosen : (s : SignatureOf) (nodes : List Node) (table : Table) (t : Trial) (o : Option (Bor (List TermId))) (x : Option Solution) → option_copied o ≡ option_map {U = List TermId} (λ y. y.values) x → IfSome x (CanBeLast false s nodes table (asked_in t))
     → IfSome o (λ l. AreChosen s nodes table l.now)
 last_chosen s nodes table t None x e h = tt
 last_chosen s nodes table t (Some l) None e h = cc
@@ -56,9 +58,13 @@ last_each s nodes ps (Some l) (Some x) e h =
 -- ---- the next solution
 
 module _ (s : SignatureOf) (lawful : IsLawful (terms_over s)) (known : Known) (t : Trial) (ps : List Place) (are : ArePlacesOf s (tree_of t.pattern) ps) (old : List Node) (table : Table) (can : CanGoOn false s old table (asked_in t) t.last) (is_table : IsTableOf s known old table) where
-  last_solves : (o : Option Solution) → IfSome o (IsGiven false s old table (asked_in t)) → IfSome (option_map (found_in old) o) (IsSolution false s (BySort s known) (question_in old (asked_in t)))
-  last_solves None h = tt
-  last_solves (Some x) h = IsSolution-then false s (HasEntry s old table) (BySort s known) (entries_are_sorts s known old table is_table) (question_in old (asked_in t)) (found_in old x) h.solves
+  last_point : (o : Option Solution) → IfSome o (CanBeLast false s old table (asked_in t)) → IfSome (option_map (found_in old) o) (IsPointOf (theory_at s) (tree_of t.pattern))
+  last_point None h = tt
+  last_point (Some x) h = record {
+    no_left = ap (λ (ids : List TermId). trees_at old (numbers ids)) h.no_left;
+    one_each = trees_long old x.values ∙ h.one_each ∙ sym (places_length (theory_at s) (tree_of t.pattern));
+    normal = norms_stand (theory_at s) old x.values h.values;
+  }
 
   module _ (last : Option (List Tree)) (same : option_map {U = List Tree} (λ y. y.values) (option_map (found_in old) t.last) ≡ last) (new : List Node) (after : List TermId) where
     pub next_is : IsFound s known t ps old new [] last after true
@@ -69,7 +75,7 @@ module _ (s : SignatureOf) (lawful : IsLawful (terms_over s)) (known : Known) (t
         let vs = trees_at new (numbers f.0) in
         let first : IsFirst (order_at (theory_at s) (places (theory_at s) q.pattern)) P 0 last vs = subst (λ os. IsFirst (order_at (theory_at s) os) P 0 last vs) are.under f.2 in
         subst (λ (l : List TermId). IsNext (IsSolution false s (BySort s known) q) (found_cmp (theory_at s) q.pattern) (option_map (found_in old) t.last) (Some (found_in new (without_context l)))) (sym f.1)
-        (first_is_next s lawful known q can.askable.subject.normal can.askable.bare (option_map (found_in old) t.last) (last_solves t.last can.given) vs
+        (first_is_next s lawful known q can.askable.subject.normal can.askable.bare (option_map (found_in old) t.last) (last_point t.last can.given) vs
         (subst (λ o. IsFirst (order_at (theory_at s) (places (theory_at s) q.pattern)) P 0 o vs) (sym same) first))
 
     pub end_is : IsFound s known t ps old new [] last after false
@@ -78,5 +84,5 @@ module _ (s : SignatureOf) (lawful : IsLawful (terms_over s)) (known : Known) (t
         let q = question_in old (asked_in t) in
         let P = AnswerIn s known old t in
         let end : IsEnd (order_at (theory_at s) (places (theory_at s) q.pattern)) P 0 last = subst (λ os. IsEnd (order_at (theory_at s) os) P 0 last) are.under f in
-        end_is_end s lawful known q can.askable.subject.normal can.askable.bare (option_map (found_in old) t.last) (last_solves t.last can.given)
+        end_is_end s lawful known q can.askable.subject.normal can.askable.bare (option_map (found_in old) t.last) (last_point t.last can.given)
         (subst (λ o. IsEnd (order_at (theory_at s) (places (theory_at s) q.pattern)) P 0 o) (sym same) end)

@@ -33,7 +33,7 @@ use Rattle.mau_match.proofs.Answering.{bound_is, value_normal, walked_value, non
 use Rattle.mau_match.proofs.GivenFor.{names, names_split, names_long, given_names, given_is}
 use Rattle.mau_match.proofs.Good.{IsTerm, AreItemsOf, items_kept, AllGood, good}
 use Rattle.mau_match.proofs.PartsOver.{parts_over}
-use Rattle.mau_match.proofs.Stepping.{trees_long}
+use Rattle.mau_api.proofs.Growth.{trees_long}
 
 -- stands for a missing place, and is never meant
 abbrev pub no_place : Place

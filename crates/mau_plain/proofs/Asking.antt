@@ -15,7 +15,7 @@ use Rattle.mau_canon.specs.Within.{StandsWithin}
 use Rattle.mau_sorts.specs.Table.{Table, AreOver, KeepsEntries}
 use Rattle.mau_api.specs.declared.solution.Solution.{Solution}
 use Rattle.mau_api.specs.Asked.{Asked, asks, IsSettledFor, IsGiven, CanGoOn}
-use Rattle.mau_api.proofs.Growth.{listings_go_on}
+use Rattle.mau_api.proofs.Growth.{given_is_last, listings_go_on}
 
 -- a listing may be asked for the normal form of a bare term
 pub may_be_asked : (c : Bool) (s : SignatureOf) → IsLawful (terms_over s) → (nodes : List Node) (table : Table) (p t : Tree) (bound : List (VarId × TermId)) (id : TermId) → IsBare (terms_over s) p → IsBare (terms_over s) t
@@ -38,4 +38,4 @@ pub goes_on : (c : Bool) (s : SignatureOf) (old new : List Node) (before after :
     → (x : Solution) → IsGiven c s new after a x → CanGoOn c s new after a (Some x)
 goes_on c s old new before after extends kept over a last can x given =
     let go = listings_go_on c s old new before after extends kept over a last can in
-    record { askable = go.askable; settled = go.settled; over = go.over; given = given }
+    record { askable = go.askable; settled = go.settled; over = go.over; given = given_is_last c s new after a x given }

@@ -27,9 +27,9 @@ use Rattle.mau_api.specs.Places.{variables_in, under_all}
 use Rattle.mau_api.specs.Found.{Found, IsSolution}
 use Rattle.mau_api.specs.Answers.{IsAnswer}
 use Rattle.mau_api.specs.Next.{found_cmp, IsBehind, IsNext}
-use Rattle.mau_api.specs.Asked.{Asked, question_in, found_in, HasEntry, IsTableOf, BySort, IsNumeralOrList, MaySettle, IsSettleable, IsGiven, CanGoOn}
+use Rattle.mau_api.specs.Asked.{Asked, question_in, found_in, HasEntry, IsTableOf, BySort, IsNumeralOrList, MaySettle, IsSettleable, IsGiven, CanBeLast, CanGoOn}
 use Rattle.mau_api.proofs.Answered.{solution_is_answer}
-use Rattle.mau_api.proofs.Growth.{IsSolution-then, question_same, tree_settled_kept, listings_go_on, last_found_same}
+use Rattle.mau_api.proofs.Growth.{IsSolution-then, question_same, tree_settled_kept, listings_go_on, last_found_same, trees_long}
 use Rattle.mau_api.proofs.Ordered.{entries_are_sorts, ties_are_one}
 use Rattle.mau_plain.specs.Gathered.{Gathers}
 use Rattle.mau_plain.specs.Least.{IsLeastOf}
@@ -132,16 +132,9 @@ module _ (s : SignatureOf) (lawful : IsLawful (terms_over s)) (old new : List No
         both [] = refl
         both (q ∷ qs) = ap suc (both qs)
 
-    trees_long : (nodes : List Node) (l : List TermId) → length (trees_at nodes (numbers l)) ≡ length l
-    trees_long nodes [] = refl
-    trees_long nodes (id ∷ l) = ap suc (trees_long nodes l)
-
-    last_ready : (o : Option Solution) → IfSome o (IsGiven false s new after a) → IfSome o (λ x. StandWithin th new (numbers x.values) × (length x.values ≡ length ps))
+    last_ready : (o : Option Solution) → IfSome o (CanBeLast false s new after a) → IfSome o (λ x. StandWithin th new (numbers x.values) × (length x.values ≡ length ps))
     last_ready None given = tt
-    last_ready (Some x) given =
-        let go = can_go_on in
-        let answer = solution_is_answer s lawful (HasEntry s new after) (question_in new a) go.askable.subject.normal (found_in new x) given.solves in
-        (given.values, sym (trees_long new x.values) ∙ answer.one_each ∙ places_long)
+    last_ready (Some x) given = (given.values, given.one_each ∙ places_long)
 
     pub ready_to_try : IsReadyToTry s new after t ps
     ready_to_try =

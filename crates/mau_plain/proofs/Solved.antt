@@ -33,7 +33,7 @@ use Rattle.mau_api.specs.Values.{MayBeValue}
 use Rattle.mau_api.specs.Found.{Found, AgreesWith}
 use Rattle.mau_api.specs.Answers.{IsAnswer}
 use Rattle.mau_api.specs.Next.{found_cmp, IsBehind}
-use Rattle.mau_api.specs.Asked.{Asked, CanBeSettled, bound_in, question_in, found_in, HasEntry, IsTableOf, BySort, IsSettleable, IsGiven, CanGoOn}
+use Rattle.mau_api.specs.Asked.{Asked, CanBeSettled, bound_in, question_in, found_in, HasEntry, IsTableOf, BySort, IsSettleable, IsGiven, CanBeLast, CanGoOn}
 use Rattle.mau_api.proofs.Answered.{answer_is_solution}
 use Rattle.mau_api.proofs.Settleable.{settleable, values_fit}
 use Rattle.mau_api.proofs.Valued.{value_may_be}
@@ -302,10 +302,10 @@ module _ (s : SignatureOf) (nodes : List Node) (are : AreNodes nodes) (table : T
     -- ---- behind the last one
 
     abbrev Last : Option Solution → Type 0
-    Last o = IfSome o (IsGiven false s nodes table a)
+    Last o = IfSome o (CanBeLast false s nodes table a)
 
-    last_cmp : (last : Solution) → IsGiven false s nodes table a last → found_cmp th p (found_in nodes last) (found_in nodes (without_context l)) ≡ values_cmp th (under_all ps) nodes last.values l
-    last_cmp last given = cmp_alone th p (under_all ps) places_are.under (found_in nodes last) (found_in nodes (without_context l)) given.solves.no_left refl
+    last_cmp : (last : Solution) → CanBeLast false s nodes table a last → found_cmp th p (found_in nodes last) (found_in nodes (without_context l)) ≡ values_cmp th (under_all ps) nodes last.values l
+    last_cmp last given = cmp_alone th p (under_all ps) places_are.under (found_in nodes last) (found_in nodes (without_context l)) (ap (λ (ids : List TermId). trees_at nodes (numbers ids)) given.no_left) refl
 
     pub behind_tried : (o : Option Solution) → Last o → IsBehind (found_cmp th p) (option_map (found_in nodes) o) (found_in nodes (without_context l)) → IsBehindLast th (under_all ps) nodes o l
     behind_tried None given is = tt

@@ -14,7 +14,7 @@ use Rattle.mau_terms.proofs.Chains.{EqualModulo-trans, EqualModulo-sym}
 use Rattle.mau_terms.proofs.Law.{equal_reading}
 use Rattle.mau_signature.specs.Signature.{SignatureOf, theory_at}
 use Rattle.mau_store.specs.Node.{Node, AreOf, Extends}
-use Rattle.mau_store.specs.Trees.{tree_at}
+use Rattle.mau_store.specs.Trees.{tree_at, trees_at}
 use Rattle.mau_store.specs.View.{numbers}
 use Rattle.mau_store.proofs.Growth.{trees_at-extends}
 use Rattle.mau_store.proofs.Standing.{tree_at-extends}
@@ -25,8 +25,8 @@ use Rattle.mau_api.specs.Found.{Question, Found, IsWhole}
 use Rattle.mau_api.specs.Found
 use Rattle.mau_api.specs.Next
 use Rattle.mau_api.specs.Next.{found_cmp, IsLeastBehind}
-use Rattle.mau_api.specs.Asked.{Asked, question_in, found_in, IsTableOf, BySort, IsGiven}
-use Rattle.mau_api.proofs.Growth.{listings_go_on}
+use Rattle.mau_api.specs.Asked.{Asked, question_in, found_in, IsTableOf, BySort, IsGiven, CanBeLast}
+use Rattle.mau_api.proofs.Growth.{given_is_last, listings_go_on}
 use Rattle.mau_reader.specs.Modules.{ModuleOf}
 use Rattle.mau_session.specs.Terms.{terms_in}
 use Rattle.mau_session.specs.Matching.{IsSolution, IsBefore, IsBehind}
@@ -111,9 +111,9 @@ module _ (m : ModuleOf) (q : Query) (ready : IsReady m.signature q) where
   last_has_no_left : IfSome q.last (λ x. (found_in q.store x).left ≡ [])
   last_has_no_left = by q.last ready.can.given
     where
-      by : (o : Option Solution) → IfSome o (IsGiven false m.signature q.store q.sorts (asked_for q)) → IfSome o (λ x. (found_in q.store x).left ≡ [])
+      by : (o : Option Solution) → IfSome o (CanBeLast false m.signature q.store q.sorts (asked_for q)) → IfSome o (λ x. (found_in q.store x).left ≡ [])
       by None g = tt
-      by (Some x) g = g.solves.no_left
+      by (Some x) g = ap (λ (ids : List TermId). trees_at q.store (numbers ids)) g.no_left
 
   abbrev Answers : Question → Option Found → Type 0
   Answers u o =
@@ -170,7 +170,7 @@ module _ (m : ModuleOf) (q : Query) (ready : IsReady m.signature q) where
     pub grown_same : query_of grown ≡ query_of q
     grown_same = ap (λ o. record (query_of q) { last = o }) (by q.last ready.can.given)
       where
-        by : (o : Option Solution) → IfSome o (IsGiven false m.signature q.store q.sorts (asked_for q)) → option_map (values_in store) o ≡ option_map (values_in q.store) o
+        by : (o : Option Solution) → IfSome o (CanBeLast false m.signature q.store q.sorts (asked_for q)) → option_map (values_in store) o ≡ option_map (values_in q.store) o
         by None g = refl
         by (Some x) g = ap Some (trees_at-extends q.store store (numbers x.values) extends (stand_there (theory_at m.signature) q.store (numbers x.values) g.values))
 
@@ -190,7 +190,7 @@ module _ (m : ModuleOf) (q : Query) (ready : IsReady m.signature q) where
       pub advanced_ready : (n : ℕ) → IsReady m.signature (advanced n)
       advanced_ready n = record {
         lawful = ready.lawful;
-        can = record { askable = grown_ready.can.askable; settled = grown_ready.can.settled; over = grown_ready.can.over; given = given };
+        can = record { askable = grown_ready.can.askable; settled = grown_ready.can.settled; over = grown_ready.can.over; given = given_is_last false m.signature store sorts (asked_for q) x given };
         table = grown_ready.table;
         stands = grown_ready.stands;
         subject = ready.subject;

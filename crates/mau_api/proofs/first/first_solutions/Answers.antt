@@ -6,8 +6,8 @@ use Rattle.mau_sorts.specs.Table.{Table, KeepsEntries}
 use Rattle.mau_store.proofs.Growth.{extension_is_preorder}
 use Rattle.mau_api.specs.Found.{IsSolution}
 use Rattle.mau_api.specs.Next.{found_cmp, IsNext, AreFirst, last_of}
-use Rattle.mau_api.specs.Asked.{question_in, found_in, last_after, BySort, IsGiven}
-use Rattle.mau_api.proofs.Growth.{AreOfStore, question_same, given_of_store, of_store_extended, all_found_same, listings_go_on}
+use Rattle.mau_api.specs.Asked.{question_in, found_in, last_after, BySort, IsGiven, CanBeLast}
+use Rattle.mau_api.proofs.Growth.{AreOfStore, question_same, given_of_store, given_is_last, of_store_extended, all_found_same, listings_go_on}
 use Rattle.mau_api.proofs.Chains.{comes_next, first_now, one_more, last_now}
 use Rattle.mau_api.proofs.first.first_solutions.Goals as goal
 
@@ -79,7 +79,7 @@ loop-preserved g c =
         askable = ready.askable;
         settled = ready.settled;
         over = ready.over;
-        given = subst (λ o. IfSome o (IsGiven w s new c.next.new.sorts a)) (sym given) solves;
+        given = subst (λ o. IfSome o (CanBeLast w s new c.next.new.sorts a)) (sym given) (given_is_last w s new c.next.new.sorts a x solves);
       };
       extends = extension_is_preorder.transitive start now new i.extends c.next.ensures.extends;
       kept = kept_both c.args.sorts.now c.loop.sorts c.next.new.sorts i.kept c.next.ensures.kept;

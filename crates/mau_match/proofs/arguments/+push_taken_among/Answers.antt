@@ -13,7 +13,8 @@ use Rattle.mau_parts.specs.Stored.{reach_of}
 use Rattle.mau_match.specs.Walked.{span_in, spans_in, bound_of, values_of, target_of, IsSpanWithin, AddsParts, AreRefused}
 use Rattle.mau_match.proofs.Adding.{bare_rest, first_and_rest, parts_within_stay, adds_no_parts, adds_both_parts, IfErr-then, fault_then}
 use Rattle.mau_match.proofs.Sizes.{size_of_rest}
-use Rattle.mau_match.proofs.Stepping.{among_own, among_rest, few_known, each_of-one, refused_rest, trees_long}
+use Rattle.mau_match.proofs.Stepping.{among_own, among_rest, few_known, each_of-one, refused_rest}
+use Rattle.mau_api.proofs.Growth.{trees_long}
 use Rattle.mau_match.proofs.arguments.+push_taken_among.Goals as goal
 
 pub push_taken_among-requires : goal.push_taken_among-requires
