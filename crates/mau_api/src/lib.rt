@@ -11,7 +11,7 @@ mod settle;
 mod solution;
 
 pub use first::{FirstSolutions, first_solutions};
-pub use lister::Lister;
+pub use lister::{Lister, WholeLister};
 pub use order::{compare_lists, compare_values, value_key_of};
 pub use places::{Place, places_of};
 pub use prepared::{put_identities, settle_store};

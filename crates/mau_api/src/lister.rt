@@ -1,5 +1,5 @@
 //! The trait of all listings.
-ghost use Rattle.std.specs.Prelude.{◌≡◌, ℕ, Bool, Option, None, Some, IfOk, OnErr, IfSome};
+ghost use Rattle.std.specs.Prelude.{◌≡◌, ℕ, Bool, false, Option, None, Some, IfOk, OnErr, IfSome};
 ghost use Rattle.std.specs.Option.{option_map, option_copied};
 ghost use Rattle.mau_terms.specs.View.{tree_of};
 ghost use Rattle.mau_signature.specs.Signature.{SignatureOf, theory_at};
@@ -99,4 +99,9 @@ pub trait Lister: Sized {
         ensures kept { KeepsEntries sorts.old sorts.new }
         ensures over { AreOver sig.now.hierarchy sorts.new }
         ensures table { (known : Known) → IsTableOf sig.now known store.old sorts.old → IsTableOf sig.now known store.new sorts.new };
+}
+
+/// A listing of solutions without contexts.
+pub trait WholeLister: Lister {
+    ghost whole: { Self.with_context ≡ false };
 }

@@ -1,9 +1,10 @@
 //! Bare terms, and instances of patterns, in normal form. The terms below nested uses of an associative operator are collected into one list, which is sorted
 //! once.
-ghost use Rattle.std.specs.Prelude.{◌≡◌, ◌++◌, All, map, IfOk, OnOk, IfErr};
+ghost use Rattle.std.specs.Prelude.{◌≡◌, ◌++◌, All, map, IfOk, OnOk, IfErr, IfSome, Some, None, if◌then◌else◌};
+ghost use Rattle.std.specs.Option.{option_map};
 ghost use Rattle.mau_terms.specs.Tree.{trees_of};
 ghost use Rattle.mau_terms.specs.Norm.{all_pieces, arrange, norm, holds_overflow, hold_overflow};
-ghost use Rattle.mau_terms.specs.Solution.{list_under};
+ghost use Rattle.mau_terms.specs.Solution.{list_under, assoc_top};
 ghost use Rattle.mau_terms.specs.Bare.{IsBare};
 ghost use Rattle.mau_terms.specs.View.{tree_of, variable_of};
 ghost use Rattle.mau_terms.specs.Subst.{instance};
@@ -22,6 +23,7 @@ use crate::value::value_of;
 use mau_signature::Signature;
 use mau_store::{NodeView, Store};
 use mau_terms::{Bare, NoMemory, OpId, TermId, VarId};
+use std::alloc::Global;
 
 /// The normal form of a bare term.
 ///
@@ -56,6 +58,31 @@ pub fn build_instance(
 {
     let (id, overflows) = normalize(store, sig, term, variables, values)?;
     judge(store, id, overflows)
+}
+
+/// The operator at the top of the normal form of a bare term, if it is associative. The normal form may be of any depth.
+pub fn assoc_top(alloc: Global, sig: &Signature, term: &Bare) -> Result<Option<OpId>, NoMemory>
+    requires { IsBare (terms_over sig.now) (tree_of term.now) }
+    ensures top { IfOk result (λ top. option_map (λ op. op.0) top ≡ assoc_top (theory_at sig.now) (norm (theory_at sig.now) (tree_of term.now))) }
+    ensures operator { IfOk result (λ top. IfSome top (λ op. IsOperator sig.now op.0)) }
+{
+    let mut store = Store::new(alloc);
+    let (id, _) = normalize(&mut store, sig, term, &[], &[])?;
+    let _ = sig.operators();
+    match store.view(id) {
+        NodeView::App(op, _) => Ok(if_assoc(sig, op)),
+        NodeView::Var(_) => Ok(None),
+        NodeView::Num(_) => Ok(None),
+    }
+}
+
+/// An operator, if it is associative.
+fn if_assoc(sig: &Signature, op: OpId) -> Option<OpId>
+    requires { IsOperator sig.now op.0 }
+    ensures top { option_map (λ o. o.0) result ≡ (if (theory_at sig.now op.0).assoc then Some op.0 else None) }
+    ensures operator { IfSome result (λ o. IsOperator sig.now o.0) }
+{
+    if sig.theory(op).assoc { Some(op) } else { None }
 }
 
 /// The normal form of an instance, however deep it is, and whether it holds the successor of the greatest numeral.

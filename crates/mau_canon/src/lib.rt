@@ -11,7 +11,7 @@ mod normal;
 mod terms;
 mod value;
 
-pub use bare::{build_bare, build_instance};
+pub use bare::{assoc_top, build_bare, build_instance};
 pub use builder::{build, from_list};
 pub use fault::BuildFault;
 pub use list::list_of;

@@ -23,7 +23,7 @@ use crate::parts::push_candidates;
 use crate::settled::settled_among;
 use crate::tried::{Trial, copy_bound, solution_of, tried_among, variables_of};
 use crate::words::all_words;
-use mau_api::{Lister, Place, Solution, places_of};
+use mau_api::{Lister, Place, Solution, WholeLister, places_of};
 use mau_signature::Signature;
 use mau_sorts::SortTable;
 use mau_store::Store;
@@ -171,4 +171,10 @@ impl Lister for PlainListing {
             }
         }
     }
+}
+
+impl WholeLister for PlainListing {
+    ghost use Rattle.std.specs.Prelude.{refl};
+
+    ghost whole = { refl };
 }

@@ -5,7 +5,7 @@ use Rattle.std.specs.List.{list_any}
 use Rattle.std.proofs.lemmas.List.{length-map}
 use Rattle.std.proofs.lemmas.Bool.Decides.{nat_tests}
 use Rattle.std.proofs.lemmas.List.Elements.{All-map, All-nil, All-push, All-same, All-filter, All-weaker, All-head, All-tail}
-use Rattle.mau_poset.specs.Order.{Hierarchy}
+use Rattle.mau_poset.specs.Order.{Hierarchy, kind_of}
 use Rattle.mau_signature.specs.declared.decl.Decl.{Decl}
 use Rattle.mau_signature.specs.declared.operator.Entry.{Entry}
 use Rattle.mau_signature.specs.Attributes.{with_united}
@@ -122,4 +122,6 @@ zero_there h ds (Some z) a = λ p e. let k : z.0 ≡ p.0 = cc in subst (IsSort h
 
 pub others_there : (h : Hierarchy) (ds : List Decl) (numerals : Option (ℕ × ℕ)) → AreNumerals h ds numerals → HasOthers h numerals
 others_there h ds None a = λ p e. cc
-others_there h ds (Some z) a = λ p e. let k : z.1 ≡ p.1 = cc in subst (IsSort h) k a.1
+others_there h ds (Some z) a = λ p e.
+    let k : z ≡ p = cc in
+    subst (λ (w : ℕ × ℕ). IsSort h w.1 × (kind_of h w.0 ≡ kind_of h w.1)) k (a.1, a.2)

@@ -1,6 +1,6 @@
 -- What a signature keeps with the declarations of its operators.
 use Rattle.std.specs.Prelude.{◌≡◌, ◌≢◌, ℕ, ◌≤◌, List, [], Option, Some, All, length, map}
-use Rattle.mau_poset.specs.Order.{Hierarchy}
+use Rattle.mau_poset.specs.Order.{Hierarchy, kind_of}
 use Rattle.mau_terms.specs.Norm.{greatest_numeral}
 use Rattle.mau_terms.specs.Bare.{IsLawful}
 use Rattle.mau_terms.specs.declared.theory.Identity.{Identity}
@@ -33,9 +33,9 @@ pub record IsEntry (h : Hierarchy) (fs : List Operator) (e : Entry) : Type 0 whe
 abbrev pub HasZero : Hierarchy → Option (ℕ × ℕ) → Type 0
 HasZero h numerals = (p : ℕ × ℕ) → numerals ≡ Some p → IsSort h p.0
 
--- the sort of all numerals but 0 is there
+-- the sort of all numerals but 0 is there, in the same kind
 abbrev pub HasOthers : Hierarchy → Option (ℕ × ℕ) → Type 0
-HasOthers h numerals = (p : ℕ × ℕ) → numerals ≡ Some p → IsSort h p.1
+HasOthers h numerals = (p : ℕ × ℕ) → numerals ≡ Some p → IsSort h p.1 × (kind_of h p.0 ≡ kind_of h p.1)
 
 -- the declarations of an entry are alike, and have 16 arguments at most
 pub record AreAlike (h : Hierarchy) (e : Entry) : Type 0 where

@@ -1,6 +1,6 @@
 //! Signatures.
 ghost use Rattle.std.specs.Prelude.{◌≡◌, ◌+◌, ◌<◌, ◌≤◌, ◌≢◌, ◌⊎◌, [], length, All, IfSome, IfOk, OnOk, IfErr};
-ghost use Rattle.mau_poset.specs.Order.{kinds};
+ghost use Rattle.mau_poset.specs.Order.{kind_of, kinds};
 ghost use Rattle.mau_terms.specs.Bare.{IsLawful};
 ghost use Rattle.mau_signature.specs.Attributes.{is_given_number};
 ghost use Rattle.mau_signature.specs.Faults.{IsSort, HasSorts, AreNumerals, given, IsFaultless, IsFirstAtFault, HasWrongArity, MismatchesKind, Conflicts, HasBadStrategy, LacksIdentity, IfArity, IfKindMismatch, IfAttrConflict, IfBadStrat, IfIdNotConstant};
@@ -113,11 +113,12 @@ impl Signature {
         &self.poset
     }
 
-    /// The sort of 0 and the sort of all other numerals, if there are numerals.
+    /// The sort of 0 and the sort of all other numerals, if there are numerals. Both are in one kind.
     pub fn numerals(&self) -> Option<(u32, u32)>
         ensures value { result ≡ self.now.numerals }
         ensures zero { IfSome result (λ p. IsSort self.now.hierarchy p.0) }
         ensures others { IfSome result (λ p. IsSort self.now.hierarchy p.1) }
+        ensures kinds { IfSome result (λ p. kind_of self.now.hierarchy p.0 ≡ kind_of self.now.hierarchy p.1) }
     {
         self.numerals
     }

@@ -49,11 +49,12 @@ impl Signature {
         }
     }
 
-    // The kind of the result of an operator.
-    fn result_kind(&self, op: OpId) -> u32
+    /// The kind of the result of an operator, in constant time.
+    pub fn result_kind(&self, op: OpId) -> u32
         requires { IsOperator self.now op.0 }
         ensures value { result ≡ kind_of self.now.hierarchy (result_of (declarations_at self.now op.0)) }
         ensures kind { IsSort self.now.hierarchy result }
+        ensures own { kind_of self.now.hierarchy result ≡ result }
     {
         match self.declarations(op).first() {
             Some(decl) => self.poset().kind_of(decl.result),

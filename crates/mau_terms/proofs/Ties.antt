@@ -59,7 +59,7 @@ names-end (y ∷ xs) x = ap (λ w. y.0 ∷ w) (names-end xs x)
 
 module _ (th : ℕ → Theory) where
   mutual
-    places_names : (o : Option ℕ) (xs : List (Variable × Option ℕ)) (t : Tree) → names (add_places th o xs t) ≡ add_variables (names xs) t
+    pub places_names : (o : Option ℕ) (xs : List (Variable × Option ℕ)) (t : Tree) → names (add_places th o xs t) ≡ add_variables (names xs) t
     places_names o xs (variable i s) = by (has_variable (names xs) (i, s))
       where
         by : (b : Bool) → names (if b then xs else xs ++ ((i, s), o) ∷ []) ≡ (if b then names xs else names xs ++ (i, s) ∷ [])

@@ -4,6 +4,7 @@ use Rattle.mau_terms.specs.Tree.{Tree, variable, numeral, apply, Trees, no_trees
 use Rattle.mau_terms.specs.Norm.{arrange, finish, build, norm}
 use Rattle.mau_terms.specs.Depth.{depth}
 use Rattle.mau_terms.specs.Lawful.{AreLawful}
+use Rattle.mau_terms.specs.Bare.{TermSignature, IsBareIn}
 use Rattle.mau_terms.specs.Reading.{nest, reading, readings}
 use Rattle.mau_terms.specs.Solution.{over_list, ArePieces}
 use Rattle.mau_terms.specs.Laws.{NormIsEqual, OverListIsEqual}
@@ -28,7 +29,7 @@ not_within_itself : (f : ℕ) (x : Tree) → x ≡ node f (x ∷ []) → ⊥
 not_within_itself f x e = omega (arith, ap depth e)
 
 -- so a list of one element isn't settled under an associative operator
-not_alone : (u : Option Identity) (s : Bool) (f : ℕ) (x : Tree) → finish true u s f (x ∷ []) ≡ node f (x ∷ []) → ⊥
+pub not_alone : (u : Option Identity) (s : Bool) (f : ℕ) (x : Tree) → finish true u s f (x ∷ []) ≡ node f (x ∷ []) → ⊥
 not_alone None s f x e = not_within_itself f x e
 not_alone (Some i) s f x e = not_within_itself f x e
 
@@ -55,7 +56,7 @@ module _ (th : ℕ → Theory) (lawful : AreLawful th) where
     norms-readings (tree t ts) n = ap₂ (λ v w. v ∷ w) (norm-reading t n.0) (norms-readings ts n.1)
 
   -- f over a list of its pieces is normal
-  over_list_normal : (f : ℕ) (ts : List Tree) → ArePieces th f ts → IsNormal th (over_list (th f) f ts)
+  pub over_list_normal : (f : ℕ) (ts : List Tree) → ArePieces th f ts → IsNormal th (over_list (th f) f ts)
   over_list_normal f ts p =
       subst (λ w. IsNormal th (over_list (th f) f w)) (pieces_all th (th f).assoc (th f).id f ts (whole ts p)) (build_normal th lawful f ts (normal ts p))
     where
@@ -66,6 +67,20 @@ module _ (th : ℕ → Theory) (lawful : AreLawful th) where
       normal : (us : List Tree) → ArePieces th f us → Each (IsNormal th) us
       normal [] q = tt
       normal (u ∷ us) q = (subst (IsNormal th) q.0 (norm_normal th lawful u), normal us q.2)
+
+-- ---- bare terms
+
+-- the top of a normal form that is read as a bare term is an operator, and its kind is the term's
+pub reading_top : (s : TermSignature) (f : ℕ) (ts : Trees) (k : ℕ) → IsNormal s.theory (apply f ts) → IsBareIn s (reading s.theory (apply f ts)) k → (s.has_operator f ≡ true) × (s.result f ≡ k)
+reading_top s f ts k n b = by (s.theory f).assoc refl ts n.1.long (λ a e. subst (λ c. IsBareIn s (nest c f (readings s.theory a)) k) e) b
+  where
+    by : (c : Bool) → (s.theory f).assoc ≡ c → (us : Trees) → finish (s.theory f).assoc (s.theory f).id (s.theory f).succ f (list_of us) ≡ node f (list_of us)
+        → ((a : Trees) → (s.theory f).assoc ≡ c → IsBareIn s (nest (s.theory f).assoc f (readings s.theory a)) k → IsBareIn s (nest c f (readings s.theory a)) k)
+        → IsBareIn s (nest (s.theory f).assoc f (readings s.theory us)) k → (s.has_operator f ≡ true) × (s.result f ≡ k)
+    by false e us l read w = let d = read us e w in (d.0, d.1)
+    by true e no_trees l read w = let d = read no_trees e w in (d.0, d.1)
+    by true e (tree t no_trees) l read w = absurd (not_alone (s.theory f).id (s.theory f).succ f t (subst (λ c. finish c (s.theory f).id (s.theory f).succ f (t ∷ []) ≡ node f (t ∷ [])) e l))
+    by true e (tree t (tree u us)) l read w = let d = read (tree t (tree u us)) e w in (d.0, d.1)
 
 pub norm_is_equal : NormIsEqual
 norm_is_equal = equal_reading

@@ -1,0 +1,302 @@
+-- What the first accepted solution of a widened pattern is among the solutions with contexts.
+use Rattle.std.proofs.Common.{◌≡◌, ◌≤◌, ◌+◌, ◌⊎◌, ℕ, suc, List, [], ◌∷◌, ◌++◌, length, length-append, Bool, true, false, Option, None, Some, inl, inr, refl, sym, ◌∙◌, ap, ap₂, subst, arith}
+use Rattle.std.specs.declared.cmp.Ordering.{Ordering}
+use Rattle.std.specs.declared.cmp.Ordering.TheVariants.{Less, Equal, Greater}
+use Rattle.std.specs.Ordering.{ordering_then}
+use Rattle.mau_terms.specs.Tree.{Tree}
+use Rattle.mau_terms.specs.Norm.{norm}
+use Rattle.mau_terms.specs.Bare.{IsBare, IsBareIn, IsLawful}
+use Rattle.mau_terms.specs.Reading.{reading}
+use Rattle.mau_terms.specs.Subst.{Variable, variables, with_values}
+use Rattle.mau_terms.specs.Solution.{list_under, list_cmp, over_list, IsListOf, FitsUnder, FitsAt, places}
+use Rattle.mau_terms.specs.declared.theory.Theory.{Theory}
+use Rattle.mau_terms.proofs.Normal.{IsNormal, norm_normal, normal_fixed, norm-norm}
+use Rattle.mau_terms.proofs.Solutions.{length-map, with_values_norms}
+use Rattle.mau_terms.proofs.Finite.{length-arrange}
+use Rattle.mau_terms.proofs.Ties.{places_length}
+use Rattle.mau_terms.proofs.Wholes.{over_list_normal}
+use Rattle.mau_poset.specs.Order.{kind_of}
+use Rattle.mau_signature.specs.Signature.{SignatureOf, theory_at, terms_over}
+use Rattle.mau_sorts.specs.HasSort.{Known, HasSort}
+use Rattle.mau_api.specs.Found.{Question, Found, IsSolution, IsWhole, IsPart}
+use Rattle.mau_api.specs.Next.{found_cmp, IsBehind, IsNext}
+use Rattle.mau_api.specs.Asked.{BySort}
+use Rattle.mau_api.proofs.Ordered.{ties_are_one}
+use Rattle.mau_extend.specs.Widened.{widened, around, behind_first, before_last, context_list, as_term, widened_question, CanBeWidened, CanBeArgument, HasShape, widened_found, narrowed, IsNarrowed, IsWide, IsLeastAmong}
+use Rattle.mau_extend.proofs.Widened.{Lacks, lacks, variables_widened}
+use Rattle.mau_extend.proofs.Lists.{list_back}
+use Rattle.mau_extend.proofs.OfKind.{top_assoc, pattern_applied}
+use Rattle.mau_extend.proofs.Around.{IsAround, around_is}
+use Rattle.mau_extend.proofs.KindSorts.{has_kind}
+use Rattle.mau_extend.proofs.WideOrder.{then_last, wide_cmp}
+use Rattle.mau_extend.proofs.Narrowing.{narrow, long_of, norms_twice}
+use Rattle.mau_extend.proofs.Widening.{widen, subject_list}
+
+-- ---- lists
+
+module _ {A : Type 0} where
+  same_ends : (xs ys : List A) (a b : A) → xs ++ a ∷ [] ≡ ys ++ b ∷ [] → (xs ≡ ys) × (a ≡ b)
+  same_ends [] [] a b e = (refl, let k : a ≡ b = cc in k)
+  same_ends [] (y ∷ []) a b e = cc
+  same_ends [] (y ∷ z ∷ ys) a b e = cc
+  same_ends (x ∷ []) [] a b e = cc
+  same_ends (x ∷ z ∷ xs) [] a b e = cc
+  same_ends (x ∷ xs) (y ∷ ys) a b e =
+      let rest = same_ends xs ys a b (let k : xs ++ a ∷ [] ≡ ys ++ b ∷ [] = cc in k) in
+      let head : x ≡ y = cc in
+      (ap₂ (λ z zs. z ∷ zs) head rest.0, rest.1)
+
+  pub record AreSame (h k : Bool) (l l' : A) (vs vs' : List A) (r r' : A) : Type 0 where
+    pub first : h ≡ true → l ≡ l'
+    pub middle : vs ≡ vs'
+    pub last : k ≡ true → r ≡ r'
+
+  same_around : (h k : Bool) (l l' : A) (vs vs' : List A) (r r' : A) → around h k l vs r ≡ around h k l' vs' r' → AreSame h k l l' vs vs' r r'
+  same_around false false l l' vs vs' r r' e = record { first = λ d. cc; middle = e; last = λ d. cc }
+  same_around false true l l' vs vs' r r' e = let d = same_ends vs vs' r r' e in record { first = λ d. cc; middle = d.0; last = λ c. d.1 }
+  same_around true false l l' vs vs' r r' e =
+      let head : l ≡ l' = cc in
+      let rest : vs ≡ vs' = cc in
+      record { first = λ d. head; middle = rest; last = λ d. cc }
+  same_around true true l l' vs vs' r r' e =
+      let head : l ≡ l' = cc in
+      let rest : vs ++ r ∷ [] ≡ vs' ++ r' ∷ [] = cc in
+      let d = same_ends vs vs' r r' rest in
+      record { first = λ c. head; middle = d.0; last = λ c. d.1 }
+
+module _ {A B : Type 0} where
+  ends_long : (xs : List A) (a : A) (ys : List B) (b : B) → length (xs ++ a ∷ []) ≡ length (ys ++ b ∷ []) → length xs ≡ length ys
+  ends_long [] a [] b e = refl
+  ends_long [] a (y ∷ []) b e = cc
+  ends_long [] a (y ∷ z ∷ ys) b e = cc
+  ends_long (x ∷ []) a [] b e = cc
+  ends_long (x ∷ z ∷ xs) a [] b e = cc
+  ends_long (x ∷ xs) a (y ∷ ys) b e = ap suc (ends_long xs a ys b (let k : length (xs ++ a ∷ []) ≡ length (ys ++ b ∷ []) = cc in k))
+
+  pub around_long_back : (h k : Bool) (a : A) (xs : List A) (b : A) (c : B) (ys : List B) (d : B) → length (around h k a xs b) ≡ length (around h k c ys d) → length xs ≡ length ys
+  around_long_back false false a xs b c ys d e = e
+  around_long_back false true a xs b c ys d e = ends_long xs b ys d e
+  around_long_back true false a xs b c ys d e = let k : length xs ≡ length ys = cc in k
+  around_long_back true true a xs b c ys d e = ends_long xs b ys d (let k : length (xs ++ b ∷ []) ≡ length (ys ++ d ∷ []) = cc in k)
+
+-- ---- one shape
+
+module _ (s : SignatureOf) (lawful : IsLawful (terms_over s)) (kinds : (p : ℕ × ℕ) → s.numerals ≡ Some p → kind_of s.hierarchy p.0 ≡ kind_of s.hierarchy p.1) (known : Known) (q : Question)
+    (normal : norm (theory_at s) q.subject ≡ q.subject) (bare : IsBare (terms_over s) (reading (theory_at s) q.subject)) (h k : Bool) (f : ℕ) (a b : Variable) (can : CanBeWidened s q h f a b)
+    (first_sort : a.1 ≡ (terms_over s).result f) (last_sort : b.1 ≡ (terms_over s).result f) where
+  abbrev th : ℕ → Theory
+  th = theory_at s
+
+  abbrev Is : Found → Type 0
+  Is x = IsPart s (BySort s known) q x
+
+  abbrev IsWideSolution : Found → Type 0
+  IsWideSolution y = IsWhole s (BySort s known) (widened_question h k f a b q) y
+
+  abbrev cmp : Found → Found → Ordering
+  cmp = found_cmp (theory_at s) q.pattern
+
+  abbrev wide : Tree
+  wide = widened h k f (as_term a) q.pattern (as_term b)
+
+  abbrev wide_order : Found → Found → Ordering
+  wide_order = found_cmp (theory_at s) (widened h k f (as_term a) q.pattern (as_term b))
+
+  abbrev wider : Found → Found
+  wider x = widened_found h k (theory_at s f) f x
+
+  assoc : (theory_at s f).assoc ≡ true
+  assoc = top_assoc (terms_over s) lawful f q.pattern can.pattern can.top
+
+  no_first : Lacks q.pattern a
+  no_first = lacks q.pattern a can.first.free
+
+  fits : (x : Found) → (is : IsPart s (BySort s known) q x) → FitsUnder (terms_over s) f q.pattern (reading (theory_at s) q.subject) is.bare x.left x.right
+  fits x is = subst (λ o. FitsAt (terms_over s) o q.pattern (reading (theory_at s) q.subject) is.bare x.left x.right) can.top is.solves.0
+
+  -- ---- solutions with contexts
+
+  pub wider_solves : (x : Found) → IsPart s (BySort s known) q x → HasShape h k (theory_at s f) x → IsWhole s (BySort s known) (widened_question h k f a b q) (widened_found h k (theory_at s f) f x)
+  wider_solves x is shape =
+      widen s lawful (BySort s known) q h k f a b can normal bare x is shape.left shape.right
+      (λ v n d.
+      let has = has_kind s lawful kinds known v ((terms_over s).result f) (subst (IsNormal (theory_at s)) n (norm_normal (theory_at s) lawful.theories v)) d in
+      (subst (HasSort s known v) (sym first_sort) has, subst (HasSort s known v) (sym last_sort) has))
+      (widened_found h k (theory_at s f) f x) refl refl refl
+
+  part_long : (x : Found) → IsPart s (BySort s known) q x → length x.values ≡ length (places (theory_at s) q.pattern)
+  part_long x is = sym (ap length is.values) ∙ length-map (norm (theory_at s)) is.bare ∙ (fits x is).one_each ∙ sym (places_length (theory_at s) q.pattern)
+
+  -- the list of the left context, as it is compared
+  left_key : (x : Found) → IsPart s (BySort s known) q x → list_under (theory_at s f) f (norm (theory_at s) (over_list (theory_at s f) f x.left)) ≡ x.left
+  left_key x is =
+      let l = (fits x is).left_list in
+      ap (list_under (theory_at s f) f) (normal_fixed (theory_at s) (over_list (theory_at s f) f x.left) (over_list_normal (theory_at s) lawful.theories f x.left l.pieces))
+      ∙ list_back (theory_at s) lawful.theories f assoc x.left l
+
+  list_here : (ts : List Tree) → IsListOf (theory_at s) f ts → list_under (theory_at s f) f (over_list (theory_at s f) f ts) ≡ ts
+  list_here ts l = list_back (theory_at s) lawful.theories f assoc ts l
+
+  pub part_wide : (x : Found) → IsPart s (BySort s known) q x → IsWide (theory_at s f) f q.subject x
+  part_wide x is =
+      let g = fits x is in
+      let m = list_under (theory_at s f) f (norm (theory_at s) (with_values q.pattern is.bare)) in
+      let e : length (list_under (theory_at s f) f q.subject) ≡ length x.left + (length m + length x.right) =
+      ap length (subject_list s lawful (BySort s known) q h k f a b can normal bare is.bare x.left x.right g) ∙ length-arrange (theory_at s f).comm (x.left ++ (m ++ x.right)) ∙ three x.left m x.right in
+      by g.part e
+    where
+      three : (us vs ws : List Tree) → length (us ++ (vs ++ ws)) ≡ length us + (length vs + length ws)
+      three us vs ws = length-append us (vs ++ ws) ∙ ap (λ n. length us + n) (length-append vs ws)
+
+      by : (2 ≤ length (list_under (theory_at s f) f (norm (theory_at s) (with_values q.pattern is.bare)))) ⊎ ((x.left ≡ []) × (x.right ≡ []))
+          → length (list_under (theory_at s f) f q.subject) ≡ length x.left + (length (list_under (theory_at s f) f (norm (theory_at s) (with_values q.pattern is.bare))) + length x.right) → IsWide (theory_at s f) f q.subject x
+      by (inl two) e = inr (omega (arith, two, e))
+      by (inr none) e = let l : length x.left ≡ 0 = ap length none.0 in let r : length x.right ≡ 0 = ap length none.1 in inl (omega (arith, l, r))
+
+  -- ---- solutions of the widened pattern
+
+  module _ (y x : Found) (solves : IsWhole s (BySort s known) (widened_question h k f a b q) y) (is : IsNarrowed h k (theory_at s f) f y x) where
+    names_long : length x.values ≡ length (variables q.pattern)
+    names_long =
+        around_long_back h k is.left x.values is.right a (variables q.pattern) b
+        (sym (ap length is.values) ∙ sym (ap length solves.values) ∙ length-map (norm (theory_at s)) solves.bare ∙ solves.solves.0.one_each
+        ∙ ap (λ xs. length xs) (variables_widened f a b q.pattern no_first can.last.free can.apart h k))
+
+    pub narrow_long : length x.values ≡ length (places (theory_at s) q.pattern)
+    narrow_long = names_long ∙ sym (places_length (theory_at s) q.pattern)
+
+    left_is : x.left ≡ context_list h (theory_at s f) f is.left
+    left_is = ap (λ (z : Found). z.left) is.same
+
+    right_is : x.right ≡ context_list k (theory_at s f) f is.right
+    right_is = ap (λ (z : Found). z.right) is.same
+
+    left_norm : h ≡ true → norm (theory_at s) is.left ≡ is.left
+    left_norm e =
+        let split : IsAround (norm (theory_at s)) h k is.left x.values is.right solves.bare = around_is (norm (theory_at s)) h k is.left x.values is.right solves.bare q.pattern (solves.values ∙ is.values) in
+        ap (norm (theory_at s)) (sym (split.at_first e)) ∙ norm-norm (theory_at s) lawful.theories split.first ∙ split.at_first e
+
+    own_left_key : h ≡ true → list_under (theory_at s f) f (norm (theory_at s) is.left) ≡ x.left
+    own_left_key e = ap (list_under (theory_at s f) f) (left_norm e) ∙ sym (left_is ∙ ap (λ c. context_list c (theory_at s f) f is.left) e)
+
+    own_no_left : h ≡ false → x.left ≡ []
+    own_no_left e = left_is ∙ ap (λ c. context_list c (theory_at s f) f is.left) e
+
+    -- a wide one is a solution with contexts
+    pub narrow_solves : IsWide (theory_at s f) f q.subject x → IsPart s (BySort s known) q x
+    narrow_solves w =
+        let m = list_under (theory_at s f) f (norm (theory_at s) (with_values q.pattern x.values)) in
+        let e : length (list_under (theory_at s f) f q.subject) ≡ length (context_list h (theory_at s f) f is.left) + (length m + length (context_list k (theory_at s f) f is.right)) =
+        long_of s lawful (BySort s known) q h k f a b can normal y solves is.left x.values is.right is.values names_long in
+        let l : length x.left ≡ length (context_list h (theory_at s f) f is.left) = ap length left_is in
+        let r : length x.right ≡ length (context_list k (theory_at s f) f is.right) = ap length right_is in
+        subst (IsPart s (BySort s known) q) (sym is.same)
+        (narrow s lawful (BySort s known) q h k f a b can y solves is.left x.values is.right is.values names_long (by w e l r))
+      where
+        none : (ts : List Tree) → length ts ≡ 0 → ts ≡ []
+        none [] e = refl
+        none (t ∷ ts) e = cc
+
+        by : IsWide (theory_at s f) f q.subject x
+            → length (list_under (theory_at s f) f q.subject) ≡ length (context_list h (theory_at s f) f is.left) + (length (list_under (theory_at s f) f (norm (theory_at s) (with_values q.pattern x.values))) + length (context_list k (theory_at s f) f is.right))
+            → length x.left ≡ length (context_list h (theory_at s f) f is.left) → length x.right ≡ length (context_list k (theory_at s f) f is.right)
+            → (2 ≤ length (list_under (theory_at s f) f (norm (theory_at s) (with_values q.pattern x.values)))) ⊎ ((context_list h (theory_at s f) f is.left ≡ []) × (context_list k (theory_at s f) f is.right ≡ []))
+        by (inl z) e l r = inr (none (context_list h (theory_at s f) f is.left) (omega (arith, z, l, r)), none (context_list k (theory_at s f) f is.right) (omega (arith, z, l, r)))
+        by (inr z) e l r = inl (omega (arith, z, e, l, r))
+
+    -- compared with a solution with contexts
+    module _ (z : Found) (part : IsPart s (BySort s known) q z) (shape : HasShape h k (theory_at s f) z) where
+      compared : found_cmp (theory_at s) (widened h k f (as_term a) q.pattern (as_term b)) y (widened_found h k (theory_at s f) f z)
+          ≡ then_last k (found_cmp (theory_at s) q.pattern x z) (list_under (theory_at s f) f (norm (theory_at s) is.right)) (list_under (theory_at s f) f (norm (theory_at s) (over_list (theory_at s f) f z.right)))
+      compared =
+          let applied = pattern_applied (terms_over s) lawful f q.pattern can.pattern can.top in
+          wide_cmp (theory_at s) f assoc a b q.pattern no_first can.last.free can.apart applied.0 applied.1 applied.2 h k y (widened_found h k (theory_at s f) f z) x z is.left (over_list (theory_at s f) f z.left) is.right (over_list (theory_at s f) f z.right)
+          solves.no_left refl is.values refl narrow_long (part_long z part) own_left_key (λ e. left_key z part) own_no_left shape.left.none
+
+      -- where they are one, so are the solutions
+      pub same_narrowed : y ≡ widened_found h k (theory_at s f) f z → x ≡ z
+      same_narrowed e =
+          let g = fits z part in
+          let same = same_around h k is.left (over_list (theory_at s f) f z.left) x.values z.values is.right (over_list (theory_at s f) f z.right) (sym is.values ∙ ap (λ (w : Found). w.values) e) in
+          three (left_is ∙ side h is.left z.left shape.left g.left_list same.first) (right_is ∙ side k is.right z.right shape.right g.right_list same.last) same.middle
+        where
+          side : (c : Bool) (l : Tree) (ts : List Tree) → CanBeArgument c (theory_at s f) ts → IsListOf (theory_at s) f ts → (c ≡ true → l ≡ over_list (theory_at s f) f ts) → context_list c (theory_at s f) f l ≡ ts
+          side true l ts d ls e = ap (list_under (theory_at s f) f) (e refl) ∙ list_here ts ls
+          side false l ts d ls e = sym (d.none refl)
+
+          three : x.left ≡ z.left → x.right ≡ z.right → x.values ≡ z.values → x ≡ z
+          three l r v = λ i. record { left = l i; right = r i; values = v i }
+
+      by_last : (c : Bool) (o : Ordering) (us ws : List Tree) → then_last c o us ws ≡ Less → (o ≡ Less) ⊎ (o ≡ Equal)
+      by_last false o us ws e = inl e
+      by_last true Less us ws e = inl refl
+      by_last true Equal us ws e = inr refl
+      by_last true Greater us ws e = cc
+
+      -- what stands behind stands behind
+      pub upto_narrowed : IsPart s (BySort s known) q x → (found_cmp (theory_at s) (widened h k f (as_term a) q.pattern (as_term b)) y (widened_found h k (theory_at s f) f z) ≡ Less) ⊎ (y ≡ widened_found h k (theory_at s f) f z)
+          → (found_cmp (theory_at s) q.pattern x z ≡ Less) ⊎ (x ≡ z)
+      upto_narrowed own (inr e) = inr (same_narrowed e)
+      upto_narrowed own (inl l) = by (by_last k (found_cmp (theory_at s) q.pattern x z) (list_under (theory_at s f) f (norm (theory_at s) is.right)) (list_under (theory_at s f) f (norm (theory_at s) (over_list (theory_at s f) f z.right))) (sym compared ∙ l))
+        where
+          by : (found_cmp (theory_at s) q.pattern x z ≡ Less) ⊎ (found_cmp (theory_at s) q.pattern x z ≡ Equal) → (found_cmp (theory_at s) q.pattern x z ≡ Less) ⊎ (x ≡ z)
+          by (inl e) = inl e
+          by (inr e) = inr (ties_are_one true s lawful known q x z own part e)
+
+  -- ---- step by step
+
+  -- all solutions of this shape behind the last one stand behind this point
+  abbrev pub IsAhead : Option Found → Option Found → Type 0
+  IsAhead last given = (x : Found) → IsPart s (BySort s known) q x × HasShape h k (theory_at s f) x → IsBehind (found_cmp (theory_at s) q.pattern) last x
+      → IsBehind (found_cmp (theory_at s) (widened h k f (as_term a) q.pattern (as_term b))) given (widened_found h k (theory_at s f) f x)
+
+  module _ (last given : Option Found) (ahead : IsAhead last given) where
+    abbrev Next : Option Found → Type 0
+    Next o = IsNext (IsSolution false s (BySort s known) (widened_question h k f a b q)) (found_cmp (theory_at s) (widened h k f (as_term a) q.pattern (as_term b))) given o
+
+    pub none_left : IsNext (IsSolution false s (BySort s known) (widened_question h k f a b q)) (found_cmp (theory_at s) (widened h k f (as_term a) q.pattern (as_term b))) given None
+        → (x : Found) → IsPart s (BySort s known) q x × HasShape h k (theory_at s f) x → IsBehind (found_cmp (theory_at s) q.pattern) last x → ⊥
+    none_left none x is behind = none (widened_found h k (theory_at s f) f x) (wider_solves x is.0 is.1) (ahead x is behind)
+
+    module _ (y x : Found) (next : IsNext (IsSolution false s (BySort s known) (widened_question h k f a b q)) (found_cmp (theory_at s) (widened h k f (as_term a) q.pattern (as_term b))) given (Some y))
+        (is : IsNarrowed h k (theory_at s f) f y x) where
+      pub accepted : IsWide (theory_at s f) f q.subject x → IsBehind (found_cmp (theory_at s) q.pattern) last x
+          → IsLeastAmong (IsPart s (BySort s known) q) (λ z. IsPart s (BySort s known) q z × HasShape h k (theory_at s f) z) (found_cmp (theory_at s) q.pattern) last x
+      accepted w behind =
+          let own = narrow_solves y x next.is_one is w in
+          record {
+            is_one = own;
+            behind = behind;
+            least = λ z other later.
+                upto_narrowed y x next.is_one is z other.0 other.1 own
+                (next.least (widened_found h k (theory_at s f) f z) (wider_solves z other.0 other.1) (ahead z other later));
+          }
+
+      pub skipped : (IsWide (theory_at s f) f q.subject x → IsBehind (found_cmp (theory_at s) q.pattern) last x → ⊥) → IsAhead last (Some y)
+      skipped refused z other later =
+          by (next.least (widened_found h k (theory_at s f) f z) (wider_solves z other.0 other.1) (ahead z other later))
+        where
+          by : (found_cmp (theory_at s) (widened h k f (as_term a) q.pattern (as_term b)) y (widened_found h k (theory_at s f) f z) ≡ Less) ⊎ (y ≡ widened_found h k (theory_at s f) f z)
+              → found_cmp (theory_at s) (widened h k f (as_term a) q.pattern (as_term b)) y (widened_found h k (theory_at s f) f z) ≡ Less
+          by (inl e) = e
+          by (inr e) =
+              let one : x ≡ z = same_narrowed y x next.is_one is z other.0 other.1 e in
+              absurd (refused (subst (IsWide (theory_at s f) f q.subject) (sym one) (part_wide z other.0)) (subst (IsBehind (found_cmp (theory_at s) q.pattern) last) (sym one) later))
+
+  -- ---- where to begin
+
+  pub ahead_of_all : (last : Option Found) → IsAhead last None
+  ahead_of_all last = λ x is later. tt
+
+  -- behind a solution: its values, between its left context and any right one
+  pub ahead_of_point : (x : Found) → IsPart s (BySort s known) q x → (h ≡ false → x.left ≡ []) → (r : Tree) (y : Found) → y.left ≡ [] → y.values ≡ around h k (over_list (theory_at s f) f x.left) x.values r → IsAhead (Some x) (Some y)
+  ahead_of_point x is none r y no_left values = λ z other later.
+      let applied = pattern_applied (terms_over s) lawful f q.pattern can.pattern can.top in
+      wide_cmp (theory_at s) f assoc a b q.pattern no_first can.last.free can.apart applied.0 applied.1 applied.2 h k y (widened_found h k (theory_at s f) f z) x z (over_list (theory_at s f) f x.left) (over_list (theory_at s f) f z.left) r (over_list (theory_at s f) f z.right)
+      no_left refl values refl (part_long x is) (part_long z other.0) (λ e. left_key x is) (λ e. left_key z other.0) none other.1.left.none
+      ∙ ap (λ o. then_last k o (list_under (theory_at s f) f (norm (theory_at s) r)) (list_under (theory_at s f) f (norm (theory_at s) (over_list (theory_at s f) f z.right)))) later
+      ∙ by k (list_under (theory_at s f) f (norm (theory_at s) r)) (list_under (theory_at s f) f (norm (theory_at s) (over_list (theory_at s f) f z.right)))
+    where
+      by : (c : Bool) (us ws : List Tree) → then_last c Less us ws ≡ Less
+      by true us ws = refl
+      by false us ws = refl

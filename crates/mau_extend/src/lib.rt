@@ -1,0 +1,8 @@
+//! Listing the solutions of a pattern and a subject with their contexts, over any listing of those without.
+#![tactic(auto)]
+
+mod compared;
+mod fresh;
+pub mod laws;
+mod narrowed;
+mod shape;
