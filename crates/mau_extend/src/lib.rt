@@ -2,7 +2,11 @@
 #![tactic(auto)]
 
 mod compared;
+mod facts;
 mod fresh;
 pub mod laws;
 mod narrowed;
+mod next;
+mod search;
 mod shape;
+mod start;

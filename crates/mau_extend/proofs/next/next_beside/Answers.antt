@@ -1,0 +1,92 @@
+use Rattle.std.proofs.Common.{◌≡◌, ◌⊎◌, List, [], ◌∷◌, Bool, true, false, Option, None, Some, IfSome, inl, inr, refl, sym, ◌∙◌, ap, subst}
+use Rattle.std.specs.Option.{option_map}
+use Rattle.mau_terms.specs.Tree.{Tree}
+use Rattle.mau_terms.specs.View.{tree_of}
+use Rattle.mau_terms.specs.declared.theory.Theory.{Theory}
+use Rattle.mau_signature.specs.Signature.{theory_at}
+use Rattle.mau_api.specs.declared.solution.Solution.{Solution}
+use Rattle.mau_api.specs.Found.{Found, IsPart}
+use Rattle.mau_api.specs.Next.{found_cmp}
+use Rattle.mau_api.specs.Asked.{question_in, found_in, BySort, IsGiven}
+use Rattle.mau_plain.specs.Tried.{asked_in}
+use Rattle.mau_extend.specs.Widened.{CanBeArgument, HasShape}
+use Rattle.mau_extend.specs.Extended.{IsNextOf, IsLesser, IsListed}
+use Rattle.mau_extend.proofs.Growing.{grown}
+use Rattle.mau_extend.proofs.Looping.{can_then, here}
+use Rattle.mau_extend.proofs.Merging.{merged, some_kept, some_same, some_listed, either}
+use Rattle.mau_extend.proofs.next.next_beside.Goals as goal
+
+pub next_of_shape-requires-2-clause-can : goal.next_of_shape-requires-2-clause-can
+next_of_shape-requires-2-clause-can g c =
+    can_then c.args.sig.now c.args.trial.now c.args.store.now c.next_of_shape.new.store c.args.sorts.now c.next_of_shape.new.sorts c.requires.can c.next_of_shape.ensures.grows
+
+pub returns-in_err-part-clause-grows : goal.returns-in_err-part-clause-grows
+returns-in_err-part-clause-grows g c =
+    grown c.args.sig.now c.args.store.now c.next_of_shape.new.store c.next_of_shape-2.new.store c.args.sorts.now c.next_of_shape.new.sorts c.next_of_shape-2.new.sorts c.args.trial.now c.requires.can.askable.subject.there c.next_of_shape.ensures.grows c.next_of_shape-2.ensures.grows
+
+pub returns-clause-grows : goal.returns-clause-grows
+returns-clause-grows g c =
+    grown c.args.sig.now c.args.store.now c.next_of_shape.new.store c.next_of_shape-2.new.store c.args.sorts.now c.next_of_shape.new.sorts c.next_of_shape-2.new.sorts c.args.trial.now c.requires.can.askable.subject.there c.next_of_shape.ensures.grows c.next_of_shape-2.ensures.grows
+
+pub lesser-requires-clause-one : goal.lesser-requires-clause-one
+lesser-requires-clause-one g c =
+    let s = c.args.sig.now in
+    let t = c.args.trial.now in
+    let mid = c.next_of_shape.new.store in
+    let new = c.next_of_shape-2.new.store in
+    let can = can_then s t c.args.store.now mid c.args.sorts.now c.next_of_shape.new.sorts c.requires.can c.next_of_shape.ensures.grows in
+    let grows = c.next_of_shape-2.ensures.grows in
+    some_listed s t c.args.op.0 c.requires.top c.args.places.now c.requires.places new c.next_of_shape-2.new.sorts c.in_ok-whole.whole
+    (some_kept s t mid new c.next_of_shape.new.sorts c.next_of_shape-2.new.sorts grows.extends grows.kept can.askable c.in_ok-whole.whole c.in_ok-whole.ensures.given)
+
+pub lesser-requires-clause-other : goal.lesser-requires-clause-other
+lesser-requires-clause-other g c =
+    some_listed c.args.sig.now c.args.trial.now c.args.op.0 c.requires.top c.args.places.now c.requires.places c.next_of_shape-2.new.store c.next_of_shape-2.new.sorts c.in_ok-part.part c.in_ok-part.ensures.given
+
+pub returns-clause-given : goal.returns-clause-given
+returns-clause-given g c =
+    let s = c.args.sig.now in
+    let t = c.args.trial.now in
+    let mid = c.next_of_shape.new.store in
+    let new = c.next_of_shape-2.new.store in
+    let after = c.next_of_shape-2.new.sorts in
+    let can = can_then s t c.args.store.now mid c.args.sorts.now c.next_of_shape.new.sorts c.requires.can c.next_of_shape.ensures.grows in
+    let grows = c.next_of_shape-2.ensures.grows in
+    either (λ (o : Option Solution). IfSome o (IsGiven true s new after (asked_in t))) c.in_ok-whole.whole c.in_ok-part.part c.lesser.result c.lesser.ensures.among
+    (some_kept s t mid new c.next_of_shape.new.sorts after grows.extends grows.kept can.askable c.in_ok-whole.whole c.in_ok-whole.ensures.given) c.in_ok-part.ensures.given
+
+-- each left context stands with a right one or without
+sides : (Is : Found → Type 0) (h : Bool) (t : Theory) (x : Found) → Is x × CanBeArgument h t x.left → (Is x × HasShape h false t x) ⊎ (Is x × HasShape h true t x)
+sides Is h t x is = by x.right refl
+  where
+    by : (r : List Tree) → x.right ≡ r → (Is x × HasShape h false t x) ⊎ (Is x × HasShape h true t x)
+    by [] e = inl (is.0, record { left = is.1; right = record { there = λ n. cc; none = λ n. e } })
+    by (r ∷ rs) e = inr (is.0, record { left = is.1; right = record { there = λ n d. cc; none = λ n. cc } })
+
+pub returns-clause-next : goal.returns-clause-next
+returns-clause-next g c = λ known table.
+    let s = c.args.sig.now in
+    let t = c.args.trial.now in
+    let start = c.args.store.now in
+    let mid = c.next_of_shape.new.store in
+    let new = c.next_of_shape-2.new.store in
+    let h = c.args.left in
+    let f = c.args.op.0 in
+    let q = question_in start (asked_in t) in
+    let last = option_map (found_in start) t.last in
+    let first = c.next_of_shape.ensures.grows in
+    let grows = c.next_of_shape-2.ensures.grows in
+    let can = can_then s t start mid c.args.sorts.now c.next_of_shape.new.sorts c.requires.can first in
+    let whole = c.in_ok-whole.whole in
+    let part = c.in_ok-part.part in
+    let same = some_same s t mid new c.next_of_shape.new.sorts c.next_of_shape-2.new.sorts grows.extends grows.kept can.askable whole c.in_ok-whole.ensures.given in
+    let n1 : IsNextOf s known q h false f last (option_map (found_in new) whole) =
+    subst (λ o. IsNextOf s known q h false f last o) (sym same) (c.in_ok-whole.ensures.next known table) in
+    let n2 : IsNextOf s known q h true f last (option_map (found_in new) part) =
+    here s t start mid c.args.sorts.now c.next_of_shape.new.sorts c.requires.can first (λ u l. IsNextOf s known u h true f l (option_map (found_in new) part)) (c.in_ok-part.ensures.next known (first.table known table)) in
+    merged s c.is_lawful.ensures known q last
+    (λ x. IsPart s (BySort s known) q x × CanBeArgument h (theory_at s f) x.left)
+    (λ x. IsPart s (BySort s known) q x × HasShape h false (theory_at s f) x)
+    (λ x. IsPart s (BySort s known) q x × HasShape h true (theory_at s f) x)
+    (λ x is. sides (IsPart s (BySort s known) q) h (theory_at s f) x is) (λ x is. is.0)
+    (option_map (found_in new) whole) (option_map (found_in new) part) (option_map (found_in new) c.lesser.result) n1 n2 (c.lesser.ensures.lesser (tree_of t.pattern) c.requires.places.under)
