@@ -1,17 +1,16 @@
 -- What the first accepted solution of a widened pattern is among the solutions with contexts.
-use Rattle.std.proofs.Common.{◌≡◌, ◌≤◌, ◌+◌, ◌⊎◌, ℕ, suc, List, [], ◌∷◌, ◌++◌, length, length-append, Bool, true, false, Option, None, Some, inl, inr, refl, sym, ◌∙◌, ap, ap₂, subst, arith}
+use Rattle.std.proofs.Common.{◌≡◌, ◌≤◌, ◌+◌, ◌⊎◌, ℕ, List, [], ◌++◌, length, length-append, Bool, true, false, Option, None, Some, inl, inr, refl, sym, ◌∙◌, ap, subst, arith}
 use Rattle.std.specs.declared.cmp.Ordering.{Ordering}
 use Rattle.std.specs.declared.cmp.Ordering.TheVariants.{Less, Equal, Greater}
-use Rattle.std.specs.Ordering.{ordering_then}
 use Rattle.mau_terms.specs.Tree.{Tree}
 use Rattle.mau_terms.specs.Norm.{norm}
-use Rattle.mau_terms.specs.Bare.{IsBare, IsBareIn, IsLawful}
+use Rattle.mau_terms.specs.Bare.{IsBare, IsLawful}
 use Rattle.mau_terms.specs.Reading.{reading}
-use Rattle.mau_terms.specs.Subst.{Variable, variables, with_values}
-use Rattle.mau_terms.specs.Solution.{list_under, list_cmp, over_list, IsListOf, FitsUnder, FitsAt, places}
+use Rattle.mau_terms.specs.Subst.{Variable, with_values}
+use Rattle.mau_terms.specs.Solution.{list_under, over_list, IsListOf, FitsUnder, FitsAt, places}
 use Rattle.mau_terms.specs.declared.theory.Theory.{Theory}
-use Rattle.mau_terms.proofs.Normal.{IsNormal, norm_normal, normal_fixed, norm-norm}
-use Rattle.mau_terms.proofs.Solutions.{length-map, with_values_norms}
+use Rattle.mau_terms.proofs.Normal.{IsNormal, norm_normal, normal_fixed}
+use Rattle.mau_terms.proofs.Solutions.{length-map}
 use Rattle.mau_terms.proofs.Finite.{length-arrange}
 use Rattle.mau_terms.proofs.Ties.{places_length}
 use Rattle.mau_terms.proofs.Wholes.{over_list_normal}
@@ -22,11 +21,10 @@ use Rattle.mau_api.specs.Found.{Question, Found, IsSolution, IsWhole, IsPart}
 use Rattle.mau_api.specs.Next.{found_cmp, IsBehind, IsNext}
 use Rattle.mau_api.specs.Asked.{BySort}
 use Rattle.mau_api.proofs.Ordered.{ties_are_one}
-use Rattle.mau_extend.specs.Widened.{widened, around, behind_first, before_last, context_list, as_term, widened_question, CanBeWidened, CanBeArgument, HasShape, widened_found, narrowed, IsNarrowed, IsWide, IsLeastAmong}
-use Rattle.mau_extend.proofs.Widened.{Lacks, lacks, variables_widened}
+use Rattle.mau_extend.specs.Widened.{widened, around, context_list, as_term, widened_question, CanBeWidened, CanBeArgument, HasShape, widened_found, IsNarrowed, IsWide, IsLeastAmong}
+use Rattle.mau_extend.proofs.Widened.{Lacks, lacks}
 use Rattle.mau_extend.proofs.Lists.{list_back}
 use Rattle.mau_extend.proofs.OfKind.{top_assoc, pattern_applied}
-use Rattle.mau_extend.proofs.Around.{IsAround, around_is}
 use Rattle.mau_extend.proofs.KindSorts.{has_kind}
 use Rattle.mau_extend.proofs.WideOrder.{then_last, wide_cmp}
 use Rattle.mau_extend.proofs.OneNarrowed.{same_around, narrow_long, left_is, right_is, own_left_key, own_no_left, narrow_solves}

@@ -1,11 +1,11 @@
 -- Lists with one more element in front and one more behind, and the instances of widened patterns.
-use Rattle.std.proofs.Common.{◌≡◌, ℕ, suc, List, [], ◌∷◌, ◌++◌, length, map, Bool, true, false, ◌||◌, if◌then◌else◌, refl, sym, ◌∙◌, ap, ap₂, subst}
+use Rattle.std.proofs.Common.{◌≡◌, ℕ, suc, List, [], ◌∷◌, ◌++◌, length, map, Bool, true, false, ◌||◌, if◌then◌else◌, refl, ◌∙◌, ap, ap₂, subst}
 use Rattle.mau_terms.specs.Tree.{Tree}
 use Rattle.mau_terms.specs.Subst.{Variable, same_variable, has_variable, variables, value_at, instance, with_values}
 use Rattle.mau_terms.specs.Solution.{HaveSorts}
 use Rattle.mau_terms.proofs.Variables.{same_itself}
 use Rattle.mau_match.proofs.Occurring.{occurring_among, instance_along}
-use Rattle.mau_extend.specs.Widened.{behind_left, before_right, widened, behind_first, before_last, around, as_term}
+use Rattle.mau_extend.specs.Widened.{widened, before_last, around, as_term}
 use Rattle.mau_extend.proofs.Widened.{Lacks, variables_widened}
 
 -- ---- lists

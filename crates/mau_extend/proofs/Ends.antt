@@ -1,11 +1,11 @@
 -- The ends of a list of values, and the terms that they stand for.
-use Rattle.std.proofs.Common.{◌≡◌, ◌≤◌, ◌<◌, ◌-◌, ◌+◌, ℕ, zero, suc, List, [], ◌∷◌, ◌++◌, length, length-append, map, get_or, Bool, true, false, if◌then◌else◌, refl, sym, ◌∙◌, ap, ap₂, subst, arith}
+use Rattle.std.proofs.Common.{◌≡◌, ◌≤◌, ◌-◌, ◌+◌, List, [], ◌∷◌, ◌++◌, length, length-append, get_or, Bool, true, false, if◌then◌else◌, refl, sym, ◌∙◌, ap, arith}
 use Rattle.mau_terms.specs.Tree.{Tree}
 use Rattle.mau_terms.specs.declared.ids.TermId.{TermId}
 use Rattle.mau_store.specs.Node.{Node}
 use Rattle.mau_store.specs.Trees.{tree_at, trees_at}
 use Rattle.mau_store.specs.View.{numbers}
-use Rattle.mau_extend.specs.Widened.{behind_first, before_last, around}
+use Rattle.mau_extend.specs.Widened.{before_last, around}
 
 module _ {A : Type 0} where
   last_got : (xs : List A) (r d : A) → get_or (xs ++ r ∷ []) (length (xs ++ r ∷ []) - 1) d ≡ r

@@ -1,6 +1,5 @@
 -- Stores that grow and tables in which more is settled.
-use Rattle.std.proofs.Common.{◌≡◌, ℕ, List, subst}
-use Rattle.mau_terms.specs.Tree.{Tree}
+use Rattle.std.proofs.Common.{ℕ, List, subst}
 use Rattle.mau_signature.specs.Signature.{SignatureOf}
 use Rattle.mau_store.specs.Node.{Node, IsOf, Extends}
 use Rattle.mau_store.specs.Trees.{tree_at}

@@ -1,11 +1,11 @@
 -- A term of a kind has the kind for a sort.
-use Rattle.std.proofs.Common.{◌≡◌, ℕ, List, [], ◌∷◌, Bool, true, false, ◌==◌, if◌then◌else◌, Option, None, Some, inl, inr, refl, sym, ◌∙◌, ap, subst}
+use Rattle.std.proofs.Common.{◌≡◌, ℕ, [], ◌∷◌, Bool, true, false, ◌==◌, if◌then◌else◌, Option, None, Some, inl, inr, refl, sym, ◌∙◌, ap, subst}
 use Rattle.std.specs.Option.{option_map}
 use Rattle.std.specs.Bool.{MatchBool}
-use Rattle.mau_terms.specs.Tree.{Tree, variable, numeral, apply, Trees, no_trees, tree, node, list_of}
+use Rattle.mau_terms.specs.Tree.{Tree, variable, numeral, apply, Trees, no_trees, tree, node}
 use Rattle.mau_terms.specs.Norm.{finish}
 use Rattle.mau_terms.specs.Bare.{IsBareIn, AreBareIn, IsLawful}
-use Rattle.mau_terms.specs.Reading.{nest, reading, readings}
+use Rattle.mau_terms.specs.Reading.{nest, reading}
 use Rattle.mau_terms.proofs.Normal.{IsNormal}
 use Rattle.mau_terms.proofs.Wholes.{reading_top, not_alone}
 use Rattle.mau_poset.specs.Order.{kind_of}

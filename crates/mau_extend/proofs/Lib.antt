@@ -15,3 +15,5 @@ pub mod Growing
 pub mod Starting
 pub mod Looping
 pub mod Merging
+pub mod Covering
+pub mod Wholly

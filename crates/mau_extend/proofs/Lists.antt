@@ -1,18 +1,18 @@
 -- The normal form of a widened term, and the lists of its contexts.
 use Rattle.std.proofs.Common.{◌≡◌, ℕ, List, [], ◌∷◌, ◌++◌, Bool, true, false, if◌then◌else◌, Option, None, Some, refl, sym, ◌∙◌, ap, subst, append-nil}
-use Rattle.mau_terms.specs.Tree.{Tree, variable, numeral, apply, Trees, no_trees, tree, node, list_of, trees_of}
+use Rattle.mau_terms.specs.Tree.{Tree, apply}
 use Rattle.mau_terms.specs.Axioms.{binary}
 use Rattle.mau_terms.specs.Order.{insert_tree, sort_trees, tree_cmp}
 use Rattle.std.specs.Ordering.{is_gt}
-use Rattle.mau_terms.specs.Norm.{unit_tree, pieces, arrange, finish, norm}
+use Rattle.mau_terms.specs.Norm.{arrange, finish, norm}
 use Rattle.mau_terms.specs.Lawful.{AreLawful}
 use Rattle.mau_terms.specs.Solution.{list_under, over_list, ArePieces, IsListOf}
 use Rattle.mau_terms.specs.declared.theory.Identity.{Identity}
 use Rattle.mau_terms.specs.declared.theory.Theory.{Theory}
 use Rattle.mau_terms.proofs.Pieces.{trees_of-list_of, Split, unit, many, one, split, Each, Each-append, arrange_right, arrange_one, arrange_none, IsPiece}
-use Rattle.mau_terms.proofs.Normal.{IsSettled, IsNormal, norm_normal, whole_pieces, normal_pieces, normal_fixed}
+use Rattle.mau_terms.proofs.Normal.{IsNormal, norm_normal, whole_pieces, normal_pieces, normal_fixed}
 use Rattle.mau_terms.proofs.Solutions.{list_of_made}
-use Rattle.mau_extend.specs.Widened.{behind_left, before_right, widened, context_list}
+use Rattle.mau_extend.specs.Widened.{before_right, widened, context_list}
 
 module _ (th : ℕ → Theory) (lawful : AreLawful th) (f : ℕ) (assoc : (th f).assoc ≡ true) where
   -- f over its own list

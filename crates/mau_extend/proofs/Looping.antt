@@ -1,10 +1,9 @@
 -- The loop over the solutions of a widened pattern.
 use Rattle.std.proofs.Common.{◌≡◌, ◌≤◌, ◌+◌, ◌⊎◌, ℕ, List, [], ◌∷◌, length, map, suc, Bool, true, false, if◌then◌else◌, All, Contains, Option, None, Some, IfSome, inl, inr, refl, sym, ◌∙◌, ap, subst}
 use Rattle.std.specs.Option.{option_map}
-use Rattle.std.proofs.lemmas.List.Elements.{All-contains}
-use Rattle.mau_terms.specs.Tree.{Tree, variable, numeral, apply, Trees}
+use Rattle.mau_terms.specs.Tree.{Tree, apply}
 use Rattle.mau_terms.specs.Norm.{norm}
-use Rattle.mau_terms.specs.Bare.{IsBare, IsBareIn, IsLawful}
+use Rattle.mau_terms.specs.Bare.{IsBareIn, IsLawful}
 use Rattle.mau_terms.specs.Reading.{reading}
 use Rattle.mau_terms.specs.Subst.{Variable, variables}
 use Rattle.mau_terms.specs.Solution.{FitsUnder, FitsAt, assoc_top}
@@ -14,30 +13,29 @@ use Rattle.mau_terms.specs.declared.ids.OpId.{OpId}
 use Rattle.mau_terms.specs.declared.theory.Theory.{Theory}
 use Rattle.mau_poset.specs.Order.{kind_of}
 use Rattle.mau_signature.specs.Signature.{SignatureOf, theory_at, terms_over}
-use Rattle.mau_store.specs.Node.{Node, IsOf, Extends}
-use Rattle.mau_store.specs.Trees.{tree_at, trees_at}
+use Rattle.mau_store.specs.Node.{Node, Extends}
+use Rattle.mau_store.specs.Trees.{tree_at}
 use Rattle.mau_store.specs.View.{numbers}
 use Rattle.mau_store.proofs.Standing.{tree_at-extends}
-use Rattle.mau_canon.specs.Within.{StandsWithin, StandWithin}
+use Rattle.mau_canon.specs.Within.{StandWithin}
 use Rattle.mau_canon.proofs.Standing.{stand_among, stand_within_extended}
 use Rattle.mau_terms.proofs.Solutions.{length-map}
 use Rattle.mau_sorts.specs.HasSort.{Known}
 use Rattle.mau_sorts.specs.Table.{Table, IsSettled}
 use Rattle.mau_api.specs.declared.solution.Solution.{Solution}
 use Rattle.mau_api.specs.declared.places.Place.{Place}
-use Rattle.mau_api.specs.Found.{Question, Found, IsSolution, IsWhole, IsPart}
+use Rattle.mau_api.specs.Found.{Question, Found, IsSolution}
 use Rattle.mau_api.specs.Next.{found_cmp, IsBehind, IsNext}
-use Rattle.mau_api.specs.Asked.{Asked, question_in, found_in, last_after, IsAskable, IsSettledFor, HasPlainTop, HasEntry, IsTableOf, BySort, IsGiven, CanBeLast, CanGoOn}
-use Rattle.mau_api.proofs.Growth.{question_same, last_found_same, listings_go_on, askable_extended, settled_kept, trees_long}
+use Rattle.mau_api.specs.Asked.{Asked, question_in, found_in, IsAskable, HasPlainTop, HasEntry, IsTableOf, BySort, IsGiven, CanBeLast, CanGoOn}
+use Rattle.mau_api.proofs.Growth.{question_same, last_found_same, listings_go_on, trees_long}
 use Rattle.mau_api.specs.Places.{variables_in}
 use Rattle.mau_plain.specs.Tried.{asked_in, ArePlacesOf}
 use Rattle.mau_plain.proofs.Nexts.{numbers_among}
 use Rattle.mau_plain.specs.declared.tried.Trial.{Trial}
-use Rattle.mau_terms.proofs.Ties.{places_length}
 use Rattle.mau_match.specs.Searched.{Grows}
 use Rattle.mau_extend.specs.declared.shape.Shape.{Shape}
-use Rattle.mau_extend.specs.Widened.{around, as_term, widened, IsFresh, IsWide}
-use Rattle.mau_extend.specs.Extended.{IsShapeOf, IsShaped, IsAheadOf, IsNextShaped, IsNextOf, IsAccepted, IsRefused, shaped, shaped_asked}
+use Rattle.mau_extend.specs.Widened.{around, as_term, IsFresh, IsWide}
+use Rattle.mau_extend.specs.Extended.{IsShapeOf, IsAheadOf, IsNextShaped, IsNextOf, IsAccepted, IsRefused, shaped, shaped_asked}
 use Rattle.mau_extend.proofs.Widened.{lacks, variables_widened}
 use Rattle.mau_extend.proofs.OfKind.{top_is, top_operator, top_assoc, pattern_bare, widened_bare}
 use Rattle.mau_extend.proofs.Ends.{room_around, has_ends}
@@ -77,10 +75,13 @@ module _ (s : SignatureOf) (lawful : IsLawful (terms_over s)) (t : Trial) (w : S
       let has = top_operator (terms_over s) lawful w.op.0 q.pattern shape.can.pattern shape.can.top in
       record {
         askable = record {
-          pattern = (n, widened_bare (terms_over s) lawful w.op.0 assoc has w.left w.right (as_term (variable_of w.first)) q.pattern (as_term (variable_of w.last))
-          (λ e. fresh_bare s q n (variable_of w.first) shape.can.first)
-          (pattern_bare (terms_over s) lawful w.op.0 q.pattern shape.can.pattern shape.can.top)
-          (λ e. fresh_bare s q n (variable_of w.last) shape.can.last));
+          pattern = (
+            n,
+            widened_bare (terms_over s) lawful w.op.0 assoc has w.left w.right (as_term (variable_of w.first)) q.pattern (as_term (variable_of w.last))
+                (λ e. fresh_bare s q n (variable_of w.first) shape.can.first)
+                (pattern_bare (terms_over s) lawful w.op.0 q.pattern shape.can.pattern shape.can.top)
+                (λ e. fresh_bare s q n (variable_of w.last) shape.can.last),
+          );
           bound = can.askable.bound;
           subject = can.askable.subject;
           bare = can.askable.bare;
@@ -109,14 +110,13 @@ module _ (s : SignatureOf) (lawful : IsLawful (terms_over s)) (t : Trial) (w : S
       let names = variables_widened w.op.0 (variable_of w.first) (variable_of w.last) p (lacks p (variable_of w.first) shape.can.first.free) shape.can.last.free shape.can.apart w.left w.right in
       let each : length y.values ≡ length (around w.left w.right (variable_of w.first) (variables p) (variable_of w.last)) = is.one_each ∙ ap (λ xs. length xs) names in
       let room = room_around w.left w.right (variable_of w.first) (variables p) (variable_of w.last) in
-      let ends = has_ends w.left w.right y.values (record { 0 = 0 }) (subst (λ n. (if w.left then 1 else 0) + (if w.right then 1 else 0) ≤ n) (sym each) room) in
-      (
+      let ends = has_ends w.left w.right y.values (record { 0 = 0 }) (subst (λ n. (if w.left then 1 else 0) + (if w.right then 1 else 0) ≤ n) (sym each) room) in (
         ends.0,
         ends.1,
         ends.2,
         ends.3,
         around_long_back w.left w.right ends.0 ends.2 ends.1 (variable_of w.first) (variables p) (variable_of w.last) (ap (λ (us : List TermId). length us) (sym ends.3) ∙ each)
-        ∙ sym (ap (λ xs. length xs) places.variables) ∙ named_long ps,
+            ∙ sym (ap (λ xs. length xs) places.variables) ∙ named_long ps,
       )
 
   module _ (start : List Node) (before : Table) (can : CanGoOn true s start before (asked_in t) t.last) (shape : IsShapeOf s (question_in start (asked_in t)) w) where
@@ -202,7 +202,7 @@ module _ (s : SignatureOf) (lawful : IsLawful (terms_over s)) (t : Trial) (w : S
             subst (λ o. FitsAt (terms_over s) o (question_in start (asked_in t)).pattern (reading (theory_at s) (question_in start (asked_in t)).subject) h.solves.bare (found_in start x).left (found_in start x).right) shape.can.top h.solves.solves.0 in (
               stand_within_extended (theory_at s) start now (numbers x.values) extends h.values,
               sym (trees_long start x.values) ∙ ap (λ ts. length ts) (sym h.solves.values) ∙ length-map (norm (theory_at s)) h.solves.bare ∙ fits.one_each
-              ∙ sym (ap (λ xs. length xs) places.variables) ∙ named_long ps,
+                  ∙ sym (ap (λ xs. length xs) places.variables) ∙ named_long ps,
             )
 
 -- ---- from one store to the next

@@ -1,5 +1,5 @@
 -- The least of two next solutions.
-use Rattle.std.proofs.Common.{◌≡◌, ◌⊎◌, ℕ, List, [], ◌∷◌, length, map, Bool, true, false, Option, None, Some, IfSome, inl, inr, refl, sym, ◌∙◌, ap, subst}
+use Rattle.std.proofs.Common.{◌≡◌, ◌⊎◌, ℕ, List, length, true, Option, None, Some, IfSome, inl, inr, refl, sym, ◌∙◌, ap, subst}
 use Rattle.std.specs.declared.cmp.Ordering.{Ordering}
 use Rattle.std.specs.declared.cmp.Ordering.TheVariants.{Less, Equal, Greater}
 use Rattle.std.specs.Ordering.{ordering_reverse}
@@ -13,19 +13,18 @@ use Rattle.mau_terms.specs.View.{tree_of}
 use Rattle.mau_terms.proofs.Solutions.{length-map}
 use Rattle.mau_signature.specs.Signature.{SignatureOf, theory_at, terms_over}
 use Rattle.mau_store.specs.Node.{Node, Extends}
-use Rattle.mau_store.specs.View.{numbers}
 use Rattle.mau_sorts.specs.HasSort.{Known}
 use Rattle.mau_sorts.specs.Table.{Table, KeepsEntries}
 use Rattle.mau_api.specs.declared.solution.Solution.{Solution}
 use Rattle.mau_api.specs.declared.places.Place.{Place}
 use Rattle.mau_api.specs.Found.{Question, Found, IsPart}
 use Rattle.mau_api.specs.Next.{found_cmp, IsBehind}
-use Rattle.mau_api.specs.Asked.{Asked, question_in, found_in, IsAskable, BySort, IsGiven}
+use Rattle.mau_api.specs.Asked.{question_in, found_in, IsAskable, BySort, IsGiven}
 use Rattle.mau_api.proofs.Growth.{given_kept, last_found_same, trees_long}
 use Rattle.mau_api.proofs.Ordered.{ties_are_one, found_are_ordered}
 use Rattle.mau_plain.specs.Tried.{asked_in, ArePlacesOf}
 use Rattle.mau_plain.specs.declared.tried.Trial.{Trial}
-use Rattle.mau_extend.specs.Widened.{IsNextAmong, IsLeastAmong}
+use Rattle.mau_extend.specs.Widened.{IsNextAmong}
 use Rattle.mau_extend.specs.Extended.{IsListed, IsLesser}
 use Rattle.mau_extend.proofs.Looping.{named_long}
 

@@ -1,11 +1,11 @@
 -- A solution of the widened question is one of the question, with contexts.
-use Rattle.std.proofs.Common.{◌≡◌, ◌≤◌, ◌+◌, ◌⊎◌, ℕ, List, [], ◌∷◌, ◌++◌, length, length-append, map, Bool, true, false, Contains, refl, sym, ◌∙◌, ap, ap₂, subst}
-use Rattle.mau_terms.specs.Tree.{Tree, variable}
+use Rattle.std.proofs.Common.{◌≡◌, ◌≤◌, ◌+◌, ◌⊎◌, ℕ, List, [], ◌∷◌, ◌++◌, length, length-append, map, Bool, true, false, refl, sym, ◌∙◌, ap, ap₂, subst}
+use Rattle.mau_terms.specs.Tree.{Tree}
 use Rattle.mau_terms.specs.Norm.{norm}
-use Rattle.mau_terms.specs.Bare.{IsBareIn, IsBare, IsLawful}
+use Rattle.mau_terms.specs.Bare.{IsBare, IsLawful}
 use Rattle.mau_terms.specs.Reading.{reading}
-use Rattle.mau_terms.specs.Subst.{Variable, same_variable, has_variable, value_at, variables, with_values}
-use Rattle.mau_terms.specs.Solution.{list_under, over_list, IsListOf, FitsUnder, FitsAt, HaveSorts}
+use Rattle.mau_terms.specs.Subst.{Variable, has_variable, value_at, variables, with_values}
+use Rattle.mau_terms.specs.Solution.{list_under, over_list, IsListOf, FitsAt, HaveSorts}
 use Rattle.mau_terms.specs.declared.theory.Theory.{Theory}
 use Rattle.mau_terms.specs.Lawful.{AreLawful}
 use Rattle.mau_terms.proofs.Pieces.{Each-append, IsPiece}
@@ -16,7 +16,7 @@ use Rattle.mau_terms.proofs.Chains.{first_bare}
 use Rattle.mau_terms.proofs.Law.{equal_norm}
 use Rattle.mau_terms.proofs.Solutions.{length-map, with_values_norms, list_of_made}
 use Rattle.mau_signature.specs.Signature.{SignatureOf, theory_at, terms_over}
-use Rattle.mau_api.specs.Found.{Question, Found, OfNorm, AgreesWith, IsWhole, IsPart}
+use Rattle.mau_api.specs.Found.{Question, Found, OfNorm, IsWhole, IsPart}
 use Rattle.mau_extend.specs.Widened.{widened, around, context_list, as_term, widened_question, CanBeWidened, narrowed}
 use Rattle.mau_extend.proofs.Widened.{Lacks, lacks, variables_widened}
 use Rattle.mau_extend.proofs.Lists.{own_list, no_list, each_piece, norm-widened}
@@ -124,7 +124,7 @@ module _ (s : SignatureOf) (lawful : IsLawful (terms_over s)) (P : ℕ → Tree 
             part = subst (λ t. (2 ≤ length (list_under (theory_at s f) f t)) ⊎ ((context_list h (theory_at s f) f l ≡ []) × (context_list k (theory_at s f) f r ≡ []))) (sym norms) part;
           }),
           sorts_within (OfNorm P s) h k a (variables q.pattern) b split.first bs split.last long
-          (subst (λ xs. HaveSorts (OfNorm P s) xs (around h k split.first bs split.last)) names (subst (λ us. HaveSorts (OfNorm P s) (variables wide) us) split.whole is.solves.1)),
+              (subst (λ xs. HaveSorts (OfNorm P s) xs (around h k split.first bs split.last)) names (subst (λ us. HaveSorts (OfNorm P s) (variables wide) us) split.whole is.solves.1)),
         );
         agrees = λ d c e.
             let there : has_variable (variables wide) d.0 ≡ true = subst (λ xs. has_variable xs d.0 ≡ true) (sym names) (has_around h k a (variables q.pattern) b d.0 e) in

@@ -5,8 +5,8 @@ use Rattle.mau_terms.specs.Axioms.{binary}
 use Rattle.mau_terms.specs.Norm.{unit_tree, arrange, finish, norm}
 use Rattle.mau_terms.specs.Bare.{TermSignature, IsBareIn, AreBareIn, IsBare, IsLawful}
 use Rattle.mau_terms.specs.Reading.{nest, nest_from, reading, readings}
-use Rattle.mau_terms.specs.Subst.{Variable, instance, with_values}
-use Rattle.mau_terms.specs.Solution.{list_under, over_list, assoc_top, IsListOf, FitsUnder}
+use Rattle.mau_terms.specs.Subst.{Variable, instance}
+use Rattle.mau_terms.specs.Solution.{list_under, over_list, assoc_top, IsListOf}
 use Rattle.mau_terms.specs.declared.theory.Identity.{Identity}
 use Rattle.mau_terms.specs.declared.theory.Identity.TheVariants.{Const, Num}
 use Rattle.mau_terms.specs.declared.theory.Theory.{Theory}
@@ -16,7 +16,7 @@ use Rattle.mau_terms.proofs.Chains.{chain_end}
 use Rattle.mau_terms.proofs.Readings.{lead_norm}
 use Rattle.mau_terms.proofs.Finite.{length-arrange}
 use Rattle.mau_terms.proofs.Wholes.{reading_top, not_alone}
-use Rattle.mau_extend.specs.Widened.{behind_left, before_right, widened}
+use Rattle.mau_extend.specs.Widened.{widened}
 use Rattle.mau_extend.proofs.Lists.{arranged, both_parts}
 
 -- the associative top of a tree

@@ -1,32 +1,19 @@
 -- A solution of a widened pattern whose contexts are wide enough is one with contexts, whatever tells the sorts.
-use Rattle.std.proofs.Common.{◌≡◌, ◌≤◌, ◌+◌, ◌⊎◌, ℕ, suc, List, [], ◌∷◌, ◌++◌, length, length-append, Bool, true, false, Option, None, Some, inl, inr, refl, sym, ◌∙◌, ap, ap₂, subst, arith}
-use Rattle.std.specs.declared.cmp.Ordering.{Ordering}
-use Rattle.std.specs.declared.cmp.Ordering.TheVariants.{Less, Equal, Greater}
-use Rattle.std.specs.Ordering.{ordering_then}
+use Rattle.std.proofs.Common.{◌≡◌, ◌≤◌, ◌+◌, ◌⊎◌, ℕ, suc, List, [], ◌∷◌, ◌++◌, length, Bool, true, false, inl, inr, refl, sym, ◌∙◌, ap, ap₂, subst, arith}
 use Rattle.mau_terms.specs.Tree.{Tree}
 use Rattle.mau_terms.specs.Norm.{norm}
-use Rattle.mau_terms.specs.Bare.{IsBare, IsBareIn, IsLawful}
-use Rattle.mau_terms.specs.Reading.{reading}
+use Rattle.mau_terms.specs.Bare.{IsLawful}
 use Rattle.mau_terms.specs.Subst.{Variable, variables, with_values}
-use Rattle.mau_terms.specs.Solution.{list_under, list_cmp, over_list, IsListOf, FitsUnder, FitsAt, places}
-use Rattle.mau_terms.specs.declared.theory.Theory.{Theory}
-use Rattle.mau_terms.proofs.Normal.{IsNormal, norm_normal, normal_fixed, norm-norm}
-use Rattle.mau_terms.proofs.Solutions.{length-map, with_values_norms}
-use Rattle.mau_terms.proofs.Finite.{length-arrange}
+use Rattle.mau_terms.specs.Solution.{list_under, places}
+use Rattle.mau_terms.proofs.Normal.{norm-norm}
+use Rattle.mau_terms.proofs.Solutions.{length-map}
 use Rattle.mau_terms.proofs.Ties.{places_length}
-use Rattle.mau_terms.proofs.Wholes.{over_list_normal}
-use Rattle.mau_poset.specs.Order.{kind_of}
 use Rattle.mau_signature.specs.Signature.{SignatureOf, theory_at, terms_over}
-use Rattle.mau_sorts.specs.HasSort.{Known, HasSort}
-use Rattle.mau_api.specs.Found.{Question, Found, IsSolution, IsWhole, IsPart}
-use Rattle.mau_api.specs.Next.{found_cmp, IsBehind, IsNext}
-use Rattle.mau_api.specs.Asked.{BySort}
-use Rattle.mau_extend.specs.Widened.{widened, around, behind_first, before_last, context_list, as_term, widened_question, CanBeWidened, CanBeArgument, HasShape, widened_found, narrowed, IsNarrowed, IsWide, IsLeastAmong}
-use Rattle.mau_extend.proofs.Widened.{Lacks, lacks, variables_widened}
-use Rattle.mau_extend.proofs.Lists.{list_back}
-use Rattle.mau_extend.proofs.OfKind.{top_assoc, pattern_applied}
+use Rattle.mau_api.specs.Found.{Question, Found, IsWhole, IsPart}
+use Rattle.mau_extend.specs.Widened.{around, context_list, widened_question, CanBeWidened, IsNarrowed, IsWide}
+use Rattle.mau_extend.proofs.Widened.{lacks, variables_widened}
 use Rattle.mau_extend.proofs.Around.{IsAround, around_is}
-use Rattle.mau_extend.proofs.Narrowing.{narrow, long_of, norms_twice}
+use Rattle.mau_extend.proofs.Narrowing.{narrow, long_of}
 
 -- ---- lists
 

@@ -1,13 +1,13 @@
 -- Where a listing of a widened pattern goes on behind a solution.
-use Rattle.std.proofs.Common.{◌≡◌, ◌≢◌, ℕ, List, [], ◌∷◌, ◌++◌, length, length-append, map, Bool, true, false, All, Option, None, Some, IfSome, inl, inr, refl, sym, ◌∙◌, ap, ap₂, subst}
+use Rattle.std.proofs.Common.{◌≡◌, ◌≢◌, ℕ, List, [], ◌∷◌, length, map, Bool, true, false, All, Some, IfSome, refl, sym, ◌∙◌, ap, ap₂, subst}
 use Rattle.std.proofs.lemmas.List.Elements.{All-cons, All-push}
 use Rattle.std.specs.declared.cmp.Ordering.TheVariants.{Less}
 use Rattle.mau_terms.specs.Tree.{Tree, node}
 use Rattle.mau_terms.specs.Norm.{norm, build, finish, arrange}
-use Rattle.mau_terms.specs.Bare.{IsBare, IsLawful}
+use Rattle.mau_terms.specs.Bare.{IsLawful}
 use Rattle.mau_terms.specs.Reading.{reading}
-use Rattle.mau_terms.specs.Subst.{Variable, variables}
-use Rattle.mau_terms.specs.Solution.{over_list, ArePieces, FitsUnder, FitsAt, assoc_top}
+use Rattle.mau_terms.specs.Subst.{variables}
+use Rattle.mau_terms.specs.Solution.{over_list, ArePieces, FitsUnder, FitsAt}
 use Rattle.mau_terms.specs.View.{variable_of}
 use Rattle.mau_terms.specs.declared.ids.TermId.{TermId}
 use Rattle.mau_terms.specs.declared.theory.Theory.{Theory}
@@ -17,7 +17,7 @@ use Rattle.mau_terms.proofs.Pieces.{Each, IsPiece}
 use Rattle.mau_terms.proofs.Normal.{pieces_all}
 use Rattle.mau_poset.specs.Order.{kind_of}
 use Rattle.mau_signature.specs.Signature.{SignatureOf, theory_at, terms_over}
-use Rattle.mau_store.specs.Node.{Node, Extends}
+use Rattle.mau_store.specs.Node.{Node}
 use Rattle.mau_store.specs.Trees.{tree_at, trees_at}
 use Rattle.mau_store.specs.View.{numbers}
 use Rattle.mau_store.proofs.Growth.{trees_at-extends}
@@ -28,15 +28,15 @@ use Rattle.mau_sorts.specs.Table.{Table, IsSettled}
 use Rattle.mau_api.specs.declared.solution.Solution.{Solution}
 use Rattle.mau_api.specs.Found.{Question, Found, IsPart}
 use Rattle.mau_api.specs.Next.{found_cmp, IsBehind}
-use Rattle.mau_api.specs.Asked.{Asked, question_in, found_in, HasEntry, IsTableOf, BySort, IsPoint, IsGiven, CanGoOn}
+use Rattle.mau_api.specs.Asked.{question_in, found_in, HasEntry, IsTableOf, BySort, IsPoint, IsGiven, CanGoOn}
 use Rattle.mau_api.proofs.Growth.{IsSolution-then, settled_kept, trees_long}
 use Rattle.mau_api.proofs.Ordered.{entries_are_sorts}
 use Rattle.mau_plain.specs.Tried.{asked_in, without_context}
 use Rattle.mau_plain.specs.declared.tried.Trial.{Trial}
 use Rattle.mau_match.specs.Searched.{Grows}
 use Rattle.mau_extend.specs.declared.shape.Shape.{Shape}
-use Rattle.mau_extend.specs.Widened.{around, behind_first, before_last}
-use Rattle.mau_extend.specs.Extended.{IsShapeOf, IsShaped, IsAheadOf, shaped, shaped_asked}
+use Rattle.mau_extend.specs.Widened.{around, before_last}
+use Rattle.mau_extend.specs.Extended.{IsShapeOf, IsShaped, IsAheadOf, shaped_asked}
 use Rattle.mau_extend.proofs.Widened.{lacks, variables_widened}
 use Rattle.mau_extend.proofs.Lists.{each_piece}
 use Rattle.mau_extend.proofs.OfKind.{top_assoc}

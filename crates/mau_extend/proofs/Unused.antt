@@ -1,5 +1,5 @@
 -- Variables with an unused index are no variables of the question.
-use Rattle.std.proofs.Common.{◌≡◌, ◌≢◌, ◌<◌, ◌^◌, ℕ, List, [], ◌∷◌, map, Bool, true, false, ◌==◌, ◌&&◌, ◌||◌, All, Contains, refl, sym, ◌∙◌, ap, subst, arith, ne_eqb}
+use Rattle.std.proofs.Common.{◌≡◌, ◌≢◌, ◌<◌, ◌^◌, ℕ, List, [], ◌∷◌, map, true, false, ◌==◌, ◌&&◌, ◌||◌, All, refl, sym, ap, subst, ne_eqb}
 use Rattle.std.proofs.lemmas.List.Elements.{All-nil, All-cons, All-head, All-tail, All-contains}
 use Rattle.mau_terms.specs.Tree.{Tree}
 use Rattle.mau_terms.specs.Subst.{Variable, same_variable, has_variable, variables}
@@ -10,7 +10,6 @@ use Rattle.mau_signature.specs.Signature.{SignatureOf, terms_over}
 use Rattle.mau_store.specs.Node.{Node}
 use Rattle.mau_api.specs.declared.places.Place.{Place}
 use Rattle.mau_api.specs.Places.{variables_in}
-use Rattle.mau_api.specs.Found.{Question}
 use Rattle.mau_api.specs.Asked.{Asked, bound_in, question_in}
 use Rattle.mau_extend.specs.Widened.{IsFresh}
 use Rattle.mau_extend.specs.Extended.{IsUnused}

@@ -11,7 +11,7 @@ use Rattle.mau_terms.specs.Solution.{add_places, places, value_key, value_keys, 
 use Rattle.mau_terms.specs.declared.theory.Theory.{Theory}
 use Rattle.mau_api.specs.Found.{Found}
 use Rattle.mau_api.specs.Next.{found_cmp}
-use Rattle.mau_extend.specs.Widened.{widened, around, behind_first, before_last, as_term, context_list}
+use Rattle.mau_extend.specs.Widened.{widened, around, behind_first, before_last, as_term}
 use Rattle.mau_extend.proofs.Widened.{Lacks, places_widened}
 use Rattle.mau_extend.proofs.Around.{map_around}
 

@@ -1,14 +1,13 @@
 -- The variables of a widened pattern, and its instances.
-use Rattle.std.proofs.Common.{◌≡◌, ℕ, List, [], ◌∷◌, ◌++◌, length, map, Bool, true, false, ◌||◌, if◌then◌else◌, Option, Some, None, inl, inr, refl, sym, ◌∙◌, ap, ap₂, subst}
+use Rattle.std.proofs.Common.{◌≡◌, ℕ, List, [], ◌∷◌, ◌++◌, map, Bool, true, false, ◌||◌, if◌then◌else◌, Option, Some, None, inl, inr, refl, sym, ◌∙◌, ap, subst}
 use Rattle.mau_terms.specs.Tree.{Tree, variable, numeral, apply, Trees, no_trees, tree}
-use Rattle.mau_terms.specs.Axioms.{binary}
-use Rattle.mau_terms.specs.Subst.{Variable, same_variable, has_variable, add_variables, add_all_variables, variables, Occurs, OccursIn, value_at, instance, instances, with_values}
-use Rattle.mau_terms.specs.Solution.{add_places, add_all_places, places}
+use Rattle.mau_terms.specs.Subst.{Variable, same_variable, has_variable, add_variables, add_all_variables, variables, Occurs, OccursIn}
+use Rattle.mau_terms.specs.Solution.{add_places, add_all_places}
 use Rattle.mau_terms.specs.declared.theory.Theory.{Theory}
-use Rattle.mau_terms.proofs.Variables.{same-is, same_itself}
+use Rattle.mau_terms.proofs.Variables.{same-is}
 use Rattle.mau_terms.proofs.Ties.{places_names}
-use Rattle.mau_match.proofs.Occurring.{occurring_among, instance_along}
-use Rattle.mau_extend.specs.Widened.{behind_left, before_right, widened, behind_first, before_last, around, as_term}
+use Rattle.mau_match.proofs.Occurring.{occurring_among}
+use Rattle.mau_extend.specs.Widened.{widened, around, as_term}
 
 -- ---- a variable that a term lacks
 

@@ -1,12 +1,11 @@
 -- A solution with contexts is one of the widened question.
-use Rattle.std.proofs.Common.{◌≡◌, ◌<◌, ◌≤◌, ◌⊎◌, ℕ, List, [], ◌∷◌, ◌++◌, length, map, Bool, true, false, Contains, Some, inl, inr, refl, sym, ◌∙◌, ap, ap₂, subst}
-use Rattle.mau_terms.specs.Tree.{Tree, variable}
+use Rattle.std.proofs.Common.{◌≡◌, ℕ, List, [], ◌++◌, length, map, Bool, true, false, refl, sym, ◌∙◌, ap, ap₂, subst}
+use Rattle.mau_terms.specs.Tree.{Tree}
 use Rattle.mau_terms.specs.Norm.{norm, arrange}
 use Rattle.mau_terms.specs.Bare.{IsBareIn, IsBare, IsLawful}
 use Rattle.mau_terms.specs.Reading.{reading}
-use Rattle.mau_terms.specs.Subst.{Variable, same_variable, has_variable, value_at, variables, with_values}
-use Rattle.mau_terms.specs.Solution.{list_under, over_list, ArePieces, IsListOf, FitsUnder, FitsAt, HaveSorts}
-use Rattle.mau_terms.specs.declared.theory.Identity.{Identity}
+use Rattle.mau_terms.specs.Subst.{Variable, has_variable, value_at, variables, with_values}
+use Rattle.mau_terms.specs.Solution.{list_under, over_list, IsListOf, FitsUnder, FitsAt, HaveSorts}
 use Rattle.mau_terms.specs.declared.theory.Theory.{Theory}
 use Rattle.mau_terms.proofs.Pieces.{Each, Each-append, IsPiece}
 use Rattle.mau_terms.proofs.Normal.{IsNormal, norm_normal, whole_pieces}
@@ -15,7 +14,7 @@ use Rattle.mau_terms.proofs.Solutions.{length-map, list_of_made}
 use Rattle.mau_terms.proofs.Wholes.{over_list_normal, norm-reading}
 use Rattle.mau_terms.proofs.Normal.{normal_fixed}
 use Rattle.mau_signature.specs.Signature.{SignatureOf, theory_at, terms_over}
-use Rattle.mau_api.specs.Found.{Question, Found, OfNorm, AgreesWith, IsWhole, IsPart}
+use Rattle.mau_api.specs.Found.{Question, Found, OfNorm, IsWhole, IsPart}
 use Rattle.mau_extend.specs.Widened.{widened, around, context_list, as_term, widened_question, CanBeWidened, CanBeArgument}
 use Rattle.mau_extend.proofs.Widened.{Lacks, lacks, variables_widened}
 use Rattle.mau_extend.proofs.Lists.{each_piece, list_back, norm-widened}
@@ -85,14 +84,16 @@ module _ (s : SignatureOf) (lawful : IsLawful (terms_over s)) (P : ℕ → Tree 
       let left_bare = argument_bare h x.left fits.left_list at_left kinds.0 in
       let right_bare = argument_bare k x.right fits.right_list at_right kinds.1 in
       let whole_bare : IsBare (terms_over s) (with_values wide (around h k l is.bare r)) =
-      subst (IsBare (terms_over s)) (sym same)
-      ((terms_over s).result f, widened_bare (terms_over s) lawful f assoc has h k l inst r left_bare
-      (instance_of_kind (terms_over s) lawful f q.pattern can.pattern can.top (value_at (variables q.pattern) is.bare) fits.bare) right_bare) in
+      subst (IsBare (terms_over s)) (sym same) (
+        (terms_over s).result f,
+        widened_bare (terms_over s) lawful f assoc has h k l inst r left_bare
+            (instance_of_kind (terms_over s) lawful f q.pattern can.pattern can.top (value_at (variables q.pattern) is.bare) fits.bare) right_bare,
+      ) in
       let left_norm = argument_norm x.left fits.left_list in
       let right_norm = argument_norm x.right fits.right_list in
       let each : length x.values ≡ length (variables q.pattern) = sym (ap length is.values) ∙ length-map (norm (theory_at s)) is.bare ∙ fits.one_each in
       let kind_of_context : (c : Bool) (n : ℕ) (ts : List Tree) (e : c ≡ true) → IsListOf (theory_at s) f ts → (IsBareIn (terms_over s) (reading (theory_at s) (over_list (theory_at s f) f ts)) ((terms_over s).result f)) → ((v : Tree) → norm (theory_at s) v ≡ v → IsBareIn (terms_over s) (reading (theory_at s) v) ((terms_over s).result f) → P n v)
-          → OfNorm P s n (reading (theory_at s) (over_list (theory_at s f) f ts)) =
+      → OfNorm P s n (reading (theory_at s) (over_list (theory_at s f) f ts)) =
       (λ c n ts e ls d of. subst (P n) (sym (argument_norm ts ls)) (of (over_list (theory_at s f) f ts) (normal_fixed (theory_at s) (over_list (theory_at s f) f ts) (over_list_normal (theory_at s) lawful.theories f ts ls.pieces)) d)) in
       record {
         bare = around h k l is.bare r;
@@ -110,10 +111,10 @@ module _ (s : SignatureOf) (lawful : IsLawful (terms_over s)) (P : ℕ → Tree 
                 ∙ sym fits.whole);
           },
           subst (λ xs. HaveSorts (OfNorm P s) xs (around h k l is.bare r)) (sym names)
-          (sorts_around (OfNorm P s) h k a (variables q.pattern) b l is.bare r fits.one_each
-          (λ e. kind_of_context h a.1 x.left e fits.left_list (left_bare e) (λ v n d. (of_kind v n d).0))
-          is.solves.1
-          (λ e. kind_of_context k b.1 x.right e fits.right_list (right_bare e) (λ v n d. (of_kind v n d).1))),
+              (sorts_around (OfNorm P s) h k a (variables q.pattern) b l is.bare r fits.one_each
+              (λ e. kind_of_context h a.1 x.left e fits.left_list (left_bare e) (λ v n d. (of_kind v n d).0))
+              is.solves.1
+              (λ e. kind_of_context k b.1 x.right e fits.right_list (right_bare e) (λ v n d. (of_kind v n d).1))),
         );
         agrees = λ d c e.
             let there : has_variable (around h k a (variables q.pattern) b) d.0 ≡ true = subst (λ xs. has_variable xs d.0 ≡ true) names e in

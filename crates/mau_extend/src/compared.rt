@@ -66,7 +66,13 @@ pub fn is_behind(
 }
 
 /// Whether the contexts leave two elements of the subject at least, or are empty.
-pub fn is_wide(store: &Store, sig: &Signature, op: OpId, subject: TermId, solution: &Solution) -> bool
+pub fn is_wide(
+    store: &Store,
+    sig: &Signature,
+    op: OpId,
+    subject: TermId,
+    solution: &Solution,
+) -> bool
     requires operator { IsOperator sig.now op.0 }
     requires subject { IsOf store.now subject.0 }
     ensures { IsTrue result ↔ IsWide (theory_at sig.now op.0) op.0 (tree_at store.now subject.0) (found_in store.now solution.now) }

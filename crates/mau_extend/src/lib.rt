@@ -5,8 +5,11 @@ mod compared;
 mod facts;
 mod fresh;
 pub mod laws;
+mod listing;
 mod narrowed;
 mod next;
 mod search;
 mod shape;
 mod start;
+
+pub use listing::ExtListing;

@@ -1,5 +1,5 @@
 //! The next solution with contexts, over a listing of those without.
-ghost use Rattle.std.specs.Prelude.{◌≡◌, ◌⊎◌, Some, None, true, false, IfOk, IfSome};
+ghost use Rattle.std.specs.Prelude.{◌≡◌, ◌⊎◌, [], IsSome, Some, None, true, false, IfOk, IfSome};
 ghost use Rattle.std.specs.Option.{option_map};
 ghost use Rattle.mau_terms.specs.Norm.{norm};
 ghost use Rattle.mau_terms.specs.Tree.{Tree};
@@ -19,12 +19,13 @@ use crate::compared::compare_found;
 use crate::search::first_accepted;
 use crate::shape::{shape_of, shaped};
 use crate::start::{Start, start_of};
-use mau_api::{Lister, Place, Solution};
+use mau_api::{Lister, Place, Solution, places_of};
 use mau_plain::{Trial, is_lawful};
 use mau_signature::Signature;
 use mau_sorts::SortTable;
 use mau_store::Store;
 use mau_terms::{NoMemory, OpId};
+use std::alloc::Global;
 use std::cmp::Ordering;
 
 /// The least solution behind the last one, of those with a left and a right context, or with none on a side.
@@ -119,4 +120,114 @@ fn next_beside<L: Lister + Drop>(
     let whole = next_of_shape::<L>(trial, places, op, left, false, store, sig, sorts)?;
     let part = next_of_shape::<L>(trial, places, op, left, true, store, sig, sorts)?;
     Ok(lesser(store, sig, places, whole, part))
+}
+
+/// Whether a solution has no left context.
+fn begins(solution: &Option<Solution>) -> bool
+    ensures { result ≡ true → IsSome solution.now × IfSome solution.now (λ x. x.left ≡ []) }
+{
+    match solution {
+        Some(solution) => solution.left.items().is_empty(),
+        None => false,
+    }
+}
+
+/// The least solution behind the last one, under an operator that is not commutative: those without a left context come first.
+fn next_apart<L: Lister + Drop>(
+    trial: &Trial,
+    places: &[Place],
+    op: OpId,
+    store: &mut Store,
+    sig: &Signature,
+    sorts: &mut SortTable,
+) -> Result<Option<Solution>, NoMemory>
+    requires plain { L.with_context ≡ false }
+    requires operator { IsOperator sig.now op.0 }
+    requires top { assoc_top (theory_at sig.now) (norm (theory_at sig.now) (tree_of trial.now.pattern)) ≡ Some op.0 }
+    requires places { ArePlacesOf sig.now (tree_of trial.now.pattern) places.now }
+    requires apart { (theory_at sig.now op.0).comm ≡ false }
+    requires can { CanGoOn true sig.now store.old sorts.old (asked_in trial.now) trial.now.last }
+    ensures next { (known : Known) → IsTableOf sig.now known store.old sorts.old → IfOk result (λ o.
+        IsNext (IsSolution true sig.now (BySort sig.now known) (question_in store.old (asked_in trial.now)))
+        (found_cmp (theory_at sig.now) (tree_of trial.now.pattern)) (option_map (found_in store.old) trial.now.last) (option_map (found_in store.new) o)) }
+    ensures given { IfOk result (λ o. IfSome o (IsGiven true sig.now store.new sorts.new (asked_in trial.now))) }
+    ensures grows { Grows sig.now (subject_in store.old trial.now) store.old store.new sorts.old sorts.new }
+{
+    is_lawful(sig);
+    let first = next_beside::<L>(trial, places, op, false, store, sig, sorts)?;
+    if begins(&first) {
+        return Ok(first);
+    }
+    let second = next_beside::<L>(trial, places, op, true, store, sig, sorts)?;
+    Ok(lesser(store, sig, places, first, second))
+}
+
+/// The least solution behind the last one, of a pattern with an associative top. With an identity each context can be an argument, and
+/// else solutions with and without contexts are looked for one by one.
+pub fn next_part<L: Lister + Drop>(
+    trial: &Trial,
+    op: OpId,
+    store: &mut Store,
+    sig: &Signature,
+    sorts: &mut SortTable,
+) -> Result<Option<Solution>, NoMemory>
+    requires plain { L.with_context ≡ false }
+    requires operator { IsOperator sig.now op.0 }
+    requires top { assoc_top (theory_at sig.now) (norm (theory_at sig.now) (tree_of trial.now.pattern)) ≡ Some op.0 }
+    requires can { CanGoOn true sig.now store.old sorts.old (asked_in trial.now) trial.now.last }
+    ensures next { (known : Known) → IsTableOf sig.now known store.old sorts.old → IfOk result (λ o.
+        IsNext (IsSolution true sig.now (BySort sig.now known) (question_in store.old (asked_in trial.now)))
+        (found_cmp (theory_at sig.now) (tree_of trial.now.pattern)) (option_map (found_in store.old) trial.now.last) (option_map (found_in store.new) o)) }
+    ensures given { IfOk result (λ o. IfSome o (IsGiven true sig.now store.new sorts.new (asked_in trial.now))) }
+    ensures grows { Grows sig.now (subject_in store.old trial.now) store.old store.new sorts.old sorts.new }
+{
+    let places = places_of(store.allocator(), sig, &trial.pattern)?;
+    let theory = sig.theory(op);
+    if theory.id.is_some() {
+        return next_of_shape::<L>(trial, &places, op, !theory.comm, true, store, sig, sorts);
+    }
+    if theory.comm {
+        return next_beside::<L>(trial, &places, op, false, store, sig, sorts);
+    }
+    next_apart::<L>(trial, &places, op, store, sig, sorts)
+}
+
+/// The least solution behind the last one, of a pattern without an associative top: it is one without contexts.
+pub fn next_whole<L: Lister + Drop>(
+    trial: &Trial,
+    store: &mut Store,
+    sig: &Signature,
+    sorts: &mut SortTable,
+) -> Result<Option<Solution>, NoMemory>
+    requires plain { L.with_context ≡ false }
+    requires top { assoc_top (theory_at sig.now) (norm (theory_at sig.now) (tree_of trial.now.pattern)) ≡ None }
+    requires can { CanGoOn true sig.now store.old sorts.old (asked_in trial.now) trial.now.last }
+    ensures next { (known : Known) → IsTableOf sig.now known store.old sorts.old → IfOk result (λ o.
+        IsNext (IsSolution true sig.now (BySort sig.now known) (question_in store.old (asked_in trial.now)))
+        (found_cmp (theory_at sig.now) (tree_of trial.now.pattern)) (option_map (found_in store.old) trial.now.last) (option_map (found_in store.new) o)) }
+    ensures given { IfOk result (λ o. IfSome o (IsGiven true sig.now store.new sorts.new (asked_in trial.now))) }
+    ensures grows { Grows sig.now (subject_in store.old trial.now) store.old store.new sorts.old sorts.new }
+{
+    let mut listing: L = listing_of(store.allocator(), trial, sig)?;
+    let found = listing.next(store, sig, sorts)?;
+    Ok(found)
+}
+
+/// A listing of the pattern itself, behind the last solution.
+fn listing_of<L: Lister>(alloc: Global, trial: &Trial, sig: &Signature) -> Result<L, NoMemory>
+    ensures asked { IfOk result (λ listing. L.asked listing ≡ asked_in trial.now) }
+    ensures signature { IfOk result (λ listing. L.is_for listing sig.now) }
+    ensures given { IfOk result (λ listing. L.given listing ≡ trial.now.last) }
+{
+    match &trial.last {
+        None => L::start(alloc, sig, &trial.pattern, &trial.bound, trial.subject),
+        Some(last) => L::resume(
+            alloc,
+            sig,
+            &trial.pattern,
+            &trial.bound,
+            trial.subject,
+            last,
+        ),
+    }
 }

@@ -147,7 +147,14 @@ fn first_argument(
         has_nodes(store);
         return Ok(Some(trial.subject));
     }
-    argument(store, sig, sorts, shape.op, trial.subject, last.left.items())
+    argument(
+        store,
+        sig,
+        sorts,
+        shape.op,
+        trial.subject,
+        last.left.items(),
+    )
 }
 
 /// Where a listing of the widened pattern goes on behind the last solution.

@@ -1,6 +1,5 @@
-use Rattle.std.proofs.Common.{List, Contains, subst, sym, rules}
+use Rattle.std.proofs.Common.{Contains}
 use Rattle.std.proofs.lemmas.List.Elements.{All-contains_itself, All-drop, All-take}
-use Rattle.mau_terms.specs.declared.ids.TermId.{TermId}
 use Rattle.mau_extend.proofs.narrowed.middle.Goals as goal
 
 pub returns-clause-among : goal.returns-clause-among

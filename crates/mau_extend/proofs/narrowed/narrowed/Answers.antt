@@ -1,4 +1,4 @@
-use Rattle.std.proofs.Common.{◌≡◌, ◌≤◌, ◌<◌, ◌-◌, ◌+◌, ◌==◌, ℕ, List, [], ◌∷◌, length, All, Contains, Bool, true, false, get_or, refl, sym, ◌∙◌, ap, ap₂, subst, arith, eqb-true}
+use Rattle.std.proofs.Common.{◌≡◌, ◌<◌, ◌-◌, ◌==◌, ℕ, List, [], ◌∷◌, length, All, Contains, Bool, true, false, get_or, sym, ◌∙◌, ap, subst, arith, eqb-true}
 use Rattle.mau_terms.specs.Tree.{Tree}
 use Rattle.mau_terms.specs.declared.ids.TermId.{TermId}
 use Rattle.mau_signature.specs.Signature.{theory_at}
@@ -8,7 +8,6 @@ use Rattle.mau_store.specs.Node.{Node}
 use Rattle.mau_terms.specs.declared.theory.Theory.{Theory}
 use Rattle.mau_canon.specs.Within.{StandWithin}
 use Rattle.mau_canon.proofs.Standing.{stand_at}
-use Rattle.mau_api.specs.Found.{Found}
 use Rattle.mau_api.specs.Asked.{found_in}
 use Rattle.mau_extend.specs.Widened.{around, context_list, narrowed}
 use Rattle.mau_extend.proofs.Ends.{around_ends, none_around, terms_around}

@@ -1,4 +1,4 @@
-use Rattle.std.proofs.Common.{◌≡◌, ◌⊎◌, List, [], ◌∷◌, Bool, true, false, Option, None, Some, IfSome, inl, inr, refl, sym, ◌∙◌, ap, subst}
+use Rattle.std.proofs.Common.{◌≡◌, ◌⊎◌, List, [], ◌∷◌, Bool, true, false, Option, IfSome, inl, inr, refl, sym, subst}
 use Rattle.std.specs.Option.{option_map}
 use Rattle.mau_terms.specs.Tree.{Tree}
 use Rattle.mau_terms.specs.View.{tree_of}
@@ -6,11 +6,10 @@ use Rattle.mau_terms.specs.declared.theory.Theory.{Theory}
 use Rattle.mau_signature.specs.Signature.{theory_at}
 use Rattle.mau_api.specs.declared.solution.Solution.{Solution}
 use Rattle.mau_api.specs.Found.{Found, IsPart}
-use Rattle.mau_api.specs.Next.{found_cmp}
 use Rattle.mau_api.specs.Asked.{question_in, found_in, BySort, IsGiven}
 use Rattle.mau_plain.specs.Tried.{asked_in}
 use Rattle.mau_extend.specs.Widened.{CanBeArgument, HasShape}
-use Rattle.mau_extend.specs.Extended.{IsNextOf, IsLesser, IsListed}
+use Rattle.mau_extend.specs.Extended.{IsNextOf}
 use Rattle.mau_extend.proofs.Growing.{grown}
 use Rattle.mau_extend.proofs.Looping.{can_then, here}
 use Rattle.mau_extend.proofs.Merging.{merged, some_kept, some_same, some_listed, either}

@@ -1,18 +1,13 @@
-use Rattle.std.proofs.Common.{◌≡◌, Option, None, Some, IfSome, IfOk, sym, ◌∙◌, ap, subst}
+use Rattle.std.proofs.Common.{◌≡◌, Option, None, Some, sym, ap, subst}
 use Rattle.std.specs.Option.{option_map}
-use Rattle.mau_terms.specs.View.{tree_of}
-use Rattle.mau_signature.specs.Signature.{SignatureOf, theory_at}
-use Rattle.mau_store.specs.Node.{Node}
 use Rattle.mau_canon.proofs.Collected.{IfOk-then}
-use Rattle.mau_sorts.specs.HasSort.{Known}
 use Rattle.mau_api.specs.declared.solution.Solution.{Solution}
-use Rattle.mau_api.specs.Found.{Question, Found}
-use Rattle.mau_api.specs.Asked.{asks, question_in, found_in}
+use Rattle.mau_api.specs.Asked.{question_in, found_in}
 use Rattle.mau_plain.specs.Tried.{asked_in}
 use Rattle.mau_extend.specs.declared.start.Start.{Start}
-use Rattle.mau_extend.specs.Extended.{IsShapeOf, IsAheadOf, IsNextShaped, IsNextOf, IsStartOf, shaped_asked}
+use Rattle.mau_extend.specs.Extended.{IsAheadOf, IsNextShaped, IsNextOf, IsStartOf}
 use Rattle.mau_extend.proofs.Growing.{grown}
-use Rattle.mau_extend.proofs.Looping.{shape_now, can_then, here, there, of_shape}
+use Rattle.mau_extend.proofs.Looping.{can_then, here, there, of_shape}
 use Rattle.mau_extend.proofs.next.next_of_shape.Goals as goal
 
 pub start_of-requires-clause-shape : goal.start_of-requires-clause-shape

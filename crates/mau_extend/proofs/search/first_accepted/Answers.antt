@@ -1,21 +1,17 @@
-use Rattle.std.proofs.Common.{◌≡◌, List, All, Contains, Option, None, Some, IfSome, IfNone, false, sym, ◌∙◌, ap, subst}
+use Rattle.std.proofs.Common.{◌≡◌, All, Contains, Option, Some, IfSome, IfNone, false, sym, ◌∙◌, ap, subst}
 use Rattle.std.specs.Option.{option_map}
-use Rattle.mau_store.specs.Node.{Node, IsOf}
 use Rattle.mau_store.specs.View.{numbers}
 use Rattle.mau_store.proofs.Growth.{extension_is_preorder}
-use Rattle.mau_store.proofs.Standing.{tree_at-extends}
 use Rattle.mau_canon.specs.Within.{StandWithin}
-use Rattle.mau_sorts.specs.Table.{Table}
-use Rattle.mau_plain.specs.declared.tried.Trial.{Trial}
-use Rattle.mau_signature.specs.Signature.{SignatureOf, theory_at}
+use Rattle.mau_signature.specs.Signature.{theory_at}
 use Rattle.mau_api.specs.declared.solution.Solution.{Solution}
 use Rattle.mau_api.specs.Asked.{question_in, found_in, last_after, IsGiven, CanBeLast}
 use Rattle.mau_api.proofs.Growth.{given_is_last}
 use Rattle.mau_plain.specs.Tried.{asked_in}
-use Rattle.mau_match.specs.Searched.{Grows, subject_in}
+use Rattle.mau_match.specs.Searched.{subject_in}
 use Rattle.mau_match.proofs.Searching.{grows_nodes}
 use Rattle.mau_extend.proofs.Growing.{grown}
-use Rattle.mau_extend.specs.Extended.{IsShapeOf, IsAheadOf, IsNextShaped, IsAccepted, IsRefused, shaped_asked}
+use Rattle.mau_extend.specs.Extended.{IsAheadOf, IsAccepted, IsRefused, shaped_asked}
 use Rattle.mau_extend.proofs.Looping.{wide_values, shape_now, ready, no_more, found_one, goes_on, given_one, last_ready}
 use Rattle.mau_extend.proofs.search.first_accepted.Goals as goal
 

@@ -1,9 +1,9 @@
-use Rattle.std.proofs.Common.{Bool, subst, sym}
+use Rattle.std.proofs.Common.{Bool, subst}
 use Rattle.std.specs.Option.{option_map}
 use Rattle.mau_signature.specs.Signature.{theory_at}
 use Rattle.mau_api.specs.Found.{IsSolution}
 use Rattle.mau_api.specs.Next.{found_cmp, IsNext}
-use Rattle.mau_api.specs.Asked.{Asked, question_in, found_in, BySort, IsGiven}
+use Rattle.mau_api.specs.Asked.{Asked, question_in, found_in, BySort}
 use Rattle.mau_plain.specs.Tried.{asked_in}
 use Rattle.mau_extend.specs.Extended.{shaped_asked}
 use Rattle.mau_extend.proofs.search.next_wide.Goals as goal

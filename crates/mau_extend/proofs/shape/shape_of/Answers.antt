@@ -1,8 +1,6 @@
-use Rattle.std.proofs.Common.{◌≡◌, ◌<◌, ◌+◌, ℕ, List, true, sym, ◌∙◌, ap, arith, subst, lt-ltb}
+use Rattle.std.proofs.Common.{◌≡◌, ◌+◌, List, true, sym, ◌∙◌, arith, subst, lt-ltb}
 use Rattle.mau_poset.specs.Order.{kinds}
-use Rattle.mau_terms.specs.View.{tree_of}
 use Rattle.mau_signature.specs.Signature.{terms_over}
-use Rattle.mau_signature.specs.Faults.{IsSort}
 use Rattle.mau_plain.specs.Tried.{asked_in}
 use Rattle.mau_terms.specs.declared.ids.TermId.{TermId}
 use Rattle.mau_terms.specs.declared.ids.VarId.{VarId}

@@ -1,4 +1,3 @@
-use Rattle.mau_terms.specs.Tree.{Tree}
 use Rattle.mau_store.specs.Trees.{tree_at}
 use Rattle.mau_match.proofs.Searching.{grows_nodes}
 use Rattle.mau_extend.proofs.Growing.{settled_grows}

@@ -1,4 +1,4 @@
-use Rattle.std.proofs.Common.{◌≡◌, Option, Some, IfSome, false, true, sym, ◌∙◌, ap, subst}
+use Rattle.std.proofs.Common.{◌≡◌, Option, Some, IfSome, true, sym, subst}
 use Rattle.std.specs.Option.{option_map}
 use Rattle.mau_terms.specs.Tree.{node}
 use Rattle.mau_terms.specs.Norm.{norm}
@@ -11,7 +11,7 @@ use Rattle.mau_sorts.specs.Table.{IsSettled}
 use Rattle.mau_api.specs.declared.solution.Solution.{Solution}
 use Rattle.mau_api.specs.Next.{found_cmp, IsBehind}
 use Rattle.mau_api.specs.Asked.{question_in, found_in, IsPoint}
-use Rattle.mau_plain.specs.Tried.{asked_in, without_context}
+use Rattle.mau_plain.specs.Tried.{asked_in}
 use Rattle.mau_extend.specs.Extended.{IsAheadOf, shaped_asked}
 use Rattle.mau_extend.proofs.Starting.{nowhere, ahead, point}
 use Rattle.mau_extend.proofs.start.start_of.Goals as goal
