@@ -8,7 +8,7 @@ use Rattle.mau_modtext.specs.declared.raw.RawItem.{RawItem}
 use Rattle.mau_modtext.specs.declared.raw.RawBody.{RawBody}
 use Rattle.mau_modtext.specs.declared.raw.TextFault.{TextFault}
 use Rattle.mau_reader.specs.Words.{index_at}
-use Rattle.mau_session.specs.Built.{fault_answer}
+use Rattle.mau_session.specs.Built.{has_context, fault_answer}
 use Rattle.mau_modtext.specs.declared.raw.RawCommand.{RawCommand}
 use Rattle.mau_terms.specs.View.{tree_of}
 use Rattle.mau_terms.specs.declared.bare.Bare.{Bare}
@@ -75,28 +75,28 @@ module _ (ws : List Word) (st : StateOf) (k : ℕ) (item : RawItem) (i : ℕ) (a
 
 -- the answer of a match command whose pattern and subject are read
 pub gains_terms : (ws : List Word) (m : ModuleOf) (k : ℕ) (c : RawCommand) (most : Option ℕ) (p : Bare) (ns : Pairs) (t : Bare) (os : Pairs) → PatternReads ws m c p ns → SubjectReads ws m c p ns t os
-    → (o a n : List ℕ) (left : OutcomeOf) → a ≡ o ++ match_head k m → GainsListed m os (tree_of p) (tree_of t) most left a n → GainsTerms ws m k c most o n left
+    → (o a n : List ℕ) (left : OutcomeOf) → a ≡ o ++ match_head k (has_context c.kind) m → GainsListed m os (has_context c.kind) (tree_of p) (tree_of t) most left a n → GainsTerms ws m k c most o n left
 gains_terms ws m k c most p ns t os pattern subject o _ _ _ head (gains_solutions left a n within listing) = record {
-  bytes = match_head k m ++ listing_lines m os (tree_of p) 0 listing.found listing.ended;
-  answer = subst (λ l. TermsAnswer ws m k c most l (match_head k m ++ listing_lines m os (tree_of p) 0 listing.found listing.ended)) (sym listing.leaves)
+  bytes = match_head k (has_context c.kind) m ++ listing_lines m os (has_context c.kind) (tree_of p) 0 listing.found listing.ended;
+  answer = subst (λ l. TermsAnswer ws m k c most l (match_head k (has_context c.kind) m ++ listing_lines m os (has_context c.kind) (tree_of p) 0 listing.found listing.ended)) (sym listing.leaves)
       (listed p ns t os listing.found listing.ended pattern subject within listing.listing);
-  gained = listing.gained ∙ ap (λ x. x ++ listing_lines m os (tree_of p) 0 listing.found listing.ended) head ∙ append_assoc o (match_head k m) (listing_lines m os (tree_of p) 0 listing.found listing.ended);
+  gained = listing.gained ∙ ap (λ x. x ++ listing_lines m os (has_context c.kind) (tree_of p) 0 listing.found listing.ended) head ∙ append_assoc o (match_head k (has_context c.kind) m) (listing_lines m os (has_context c.kind) (tree_of p) 0 listing.found listing.ended);
 }
 gains_terms ws m k c most p ns t os pattern subject o _ _ _ head (gains_too_deep a n cause gained) = record {
-  bytes = match_head k m ++ too_deep_line;
+  bytes = match_head k (has_context c.kind) m ++ too_deep_line;
   answer = too_deep p ns t os pattern subject cause;
-  gained = gained ∙ ap (λ x. x ++ too_deep_line) head ∙ append_assoc o (match_head k m) too_deep_line;
+  gained = gained ∙ ap (λ x. x ++ too_deep_line) head ∙ append_assoc o (match_head k (has_context c.kind) m) too_deep_line;
 }
 gains_terms ws m k c most p ns t os pattern subject o _ _ _ head (gains_overflow a n cause gained) = record {
-  bytes = match_head k m ++ overflow_line;
+  bytes = match_head k (has_context c.kind) m ++ overflow_line;
   answer = overflows p ns t os pattern subject cause;
-  gained = gained ∙ ap (λ x. x ++ overflow_line) head ∙ append_assoc o (match_head k m) overflow_line;
+  gained = gained ∙ ap (λ x. x ++ overflow_line) head ∙ append_assoc o (match_head k (has_context c.kind) m) overflow_line;
 }
 
 -- what a query shows of which nothing was shown
-pub gains_listing : (m : ModuleOf) (ns : Pairs) (p t : Tree) (most : Option ℕ) (q next : QueryOf) (left : OutcomeOf) (old new : List ℕ) (ended : Bool)
-    → q ≡ asked_first p t ns → GainsShown m q next most old new ended → left ≡ left_by ended next → GainsListing m ns p t most left old new
-gains_listing m ns p t most q next left old new ended e g l =
+pub gains_listing : (m : ModuleOf) (ns : Pairs) (w : Bool) (p t : Tree) (most : Option ℕ) (q next : QueryOf) (left : OutcomeOf) (old new : List ℕ) (ended : Bool)
+    → q ≡ asked_first w p t ns → GainsShown m q next most old new ended → left ≡ left_by ended next → GainsListing m ns w p t most left old new
+gains_listing m ns w p t most q next left old new ended e g l =
     let h = subst (λ k. GainsShown m k next most old new ended) e g in
     record { found = h.found; ended = ended; listing = h.shows; leaves = l ∙ ap (left_by ended) h.after; gained = h.gained }
 
@@ -112,8 +112,8 @@ gains_on st k g most m at_number next after o a n ended refused head shown is an
   shows = shown.shows;
   after = is ∙ ap (λ q. state_after st g.number (left_by ended q)) shown.after;
   gained =
-      shown.gained ∙ ap (λ x. x ++ listing_lines m g.query.variables g.query.pattern g.query.shown shown.found ended) head
-      ∙ append_assoc o (continue_head k m) (listing_lines m g.query.variables g.query.pattern g.query.shown shown.found ended);
+      shown.gained ∙ ap (λ x. x ++ listing_lines m g.query.variables g.query.with_context g.query.pattern g.query.shown shown.found ended) head
+      ∙ append_assoc o (continue_head k m) (listing_lines m g.query.variables g.query.with_context g.query.pattern g.query.shown shown.found ended);
   answered = answered ∙ never ended;
 }
   where
@@ -130,7 +130,7 @@ same_after st taken n false q = refl
 pub continues : (ws : List Word) (st : StateOf) (taken : Option GoingOf) (k : ℕ) (c : RawCommand) (most : Option ℕ) (g : GoingOf) (next : StateOf) (o n : List ℕ) (refused : Bool)
     → bound_of ws c.bound ≡ Ok most → st.going ≡ Some g → GainsOn (record st { going = taken }) k g most next o n refused → GainsContinue ws st k c next o n refused
 continues ws st taken k c most g next o n refused bound going on =
-    let bytes = continue_head k on.«module» ++ listing_lines on.«module» g.query.variables g.query.pattern g.query.shown on.found on.ended in
+    let bytes = continue_head k on.«module» ++ listing_lines on.«module» g.query.variables g.query.with_context g.query.pattern g.query.shown on.found on.ended in
     let q = shown_more g.query on.found in
     record {
       bytes = bytes;

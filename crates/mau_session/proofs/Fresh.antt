@@ -1,5 +1,5 @@
 -- A query of which nothing was shown.
-use Rattle.std.proofs.Common.{◌≡◌, ◌≤◌, ◌<◌, ℕ, List, [], length, take, None, false, sym, subst, arith}
+use Rattle.std.proofs.Common.{◌≡◌, ◌≤◌, ◌<◌, ℕ, List, [], length, take, None, sym, subst, arith}
 use Rattle.mau_terms.specs.Norm.{norm}
 use Rattle.mau_terms.specs.Bare.{IsBare, IsLawful}
 use Rattle.mau_terms.specs.Reading.{reading}
@@ -29,7 +29,7 @@ module _ (s : SignatureOf) (lawful : IsLawful (terms_over s)) (q : Query) (none 
   reading_bare : IsBare (terms_over s) (reading (theory_at s) (norm (theory_at s) (tree_of q.subject)))
   reading_bare = last_bare (equal_reading (terms_over s) lawful (tree_of q.subject) subject)
 
-  can_begin : CanGoOn false s q.store q.sorts (asked_for q) None
+  can_begin : CanGoOn q.with_context s q.store q.sorts (asked_for q) None
   can_begin = record {
     askable = record {
       pattern = pattern;
@@ -46,7 +46,7 @@ module _ (s : SignatureOf) (lawful : IsLawful (terms_over s)) (q : Query) (none 
       → length (variables (tree_of q.pattern)) ≤ length q.vars → length q.vars < 4294967296 → IsReady s q
   fresh_ready entries numbered few small = record {
     lawful = lawful;
-    can = subst (CanGoOn false s q.store q.sorts (asked_for q)) (sym none) can_begin;
+    can = subst (CanGoOn q.with_context s q.store q.sorts (asked_for q)) (sym none) can_begin;
     table = record { entries = entries; settled = λ t r among. absurd (let low : among.0 < 0 = among.1 in omega arith) };
     stands = stands;
     subject = subject;

@@ -1,6 +1,9 @@
 pub mod OverSignature
 pub mod Settling
 pub mod Listed
+pub mod Around
+pub mod PartLines
+pub mod MatcherLines
 pub mod Fresh
 pub mod Showing
 pub mod Progress

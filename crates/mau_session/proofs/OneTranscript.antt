@@ -28,7 +28,7 @@ use Rattle.mau_session.specs.Terms.{Pairs, terms_in, kind_of_term}
 use Rattle.mau_session.specs.Reading.{part_tokens, part_texts, TermReads, IsUnread}
 use Rattle.mau_session.specs.Matching.{Shows}
 use Rattle.mau_session.specs.Commands.{unbuilt}
-use Rattle.mau_session.specs.Built.{fault_answer}
+use Rattle.mau_session.specs.Built.{has_context, fault_answer}
 use Rattle.mau_session.specs.Answers.{refusal_line, faulty_line, shown_parse_fault, module_refusal, fault_line, module_line, match_head, continue_head, listing_lines}
 use Rattle.mau_session.specs.Query.{asked_first, shown_more}
 use Rattle.mau_session.specs.State.{GoingOf, StateOf, nothing_yet, accepted, LastNamed, IsChosen, current_one, named_one, NamesNone, OutcomeOf, left_by, refuses, state_after}
@@ -141,17 +141,17 @@ module _ (ws : List Word) (m : ModuleOf) (k : ℕ) (c : RawCommand) where
   terms_once (listed p ns t os found e x y w l) (overflows p' ns' t' os' x' y' d') = let one = pair_once (record { pairs = ns'; pattern = x'; subject = y' }) (record { pairs = ns; pattern = x; subject = y }) in absurd (not_overflow_and_within (tree_of t') (tree_of t) one.subject d' w)
   terms_once {most} (listed p ns t os found e x y w l) (listed p' ns' t' os' found' e' x' y' w' l') =
       let one = pair_once (record { pairs = ns; pattern = x; subject = y }) (record { pairs = ns'; pattern = x'; subject = y' }) in
-      let l'' = subst (λ p. Shows m p (tree_of t) None most found' e') (sym one.pattern) (subst (λ t. Shows m (tree_of p') t None most found' e') (sym one.subject) l') in
-      let same = shows_once m (tree_of p) (tree_of t) None most found found' e e' l l'' in
+      let l'' = subst (λ p. Shows m (has_context c.kind) p (tree_of t) None most found' e') (sym one.pattern) (subst (λ t. Shows m (has_context c.kind) (tree_of p') t None most found' e') (sym one.subject) l') in
+      let same = shows_once m (has_context c.kind) (tree_of p) (tree_of t) None most found found' e e' l l'' in
       record {
         bytes =
-            ap (λ os. match_head k m ++ listing_lines m os (tree_of p) 0 found e) one.pairs
-            ∙ ap₂ (λ p found. match_head k m ++ listing_lines m os' p 0 found e) one.pattern same.found
-            ∙ ap (λ e. match_head k m ++ listing_lines m os' (tree_of p') 0 found' e) same.ended;
+            ap (λ os. match_head k (has_context c.kind) m ++ listing_lines m os (has_context c.kind) (tree_of p) 0 found e) one.pairs
+            ∙ ap₂ (λ p found. match_head k (has_context c.kind) m ++ listing_lines m os' (has_context c.kind) p 0 found e) one.pattern same.found
+            ∙ ap (λ e. match_head k (has_context c.kind) m ++ listing_lines m os' (has_context c.kind) (tree_of p') 0 found' e) same.ended;
         left =
-            ap₂ (λ p t. left_by e (shown_more (asked_first p t os) found)) one.pattern one.subject
-            ∙ ap₂ (λ os found. left_by e (shown_more (asked_first (tree_of p') (tree_of t') os) found)) one.pairs same.found
-            ∙ ap (λ e. left_by e (shown_more (asked_first (tree_of p') (tree_of t') os') found')) same.ended;
+            ap₂ (λ p t. left_by e (shown_more (asked_first (has_context c.kind) p t os) found)) one.pattern one.subject
+            ∙ ap₂ (λ os found. left_by e (shown_more (asked_first (has_context c.kind) (tree_of p') (tree_of t') os) found)) one.pairs same.found
+            ∙ ap (λ e. left_by e (shown_more (asked_first (has_context c.kind) (tree_of p') (tree_of t') os') found')) same.ended;
       }
 
 record AreOneItem (st next : StateOf) (b c : List ℕ) (r s : Bool) : Type 0 where
@@ -237,17 +237,17 @@ module _ (ws : List Word) (st : StateOf) (k i : ℕ) (c : RawCommand) where
       let going : g ≡ g' = cc in
       let at = sym h ∙ ap (λ (x : GoingOf). slice_get st.modules x.number) going ∙ h' in
       let same : m ≡ m' = cc in
-      let l'' = subst (λ m. Shows m g.query.pattern g.query.subject g.query.last most found' b') (sym same)
-      (subst (λ (x : GoingOf). Shows m' x.query.pattern x.query.subject x.query.last most found' b') (sym going)
-      (subst (λ a. Shows m' g'.query.pattern g'.query.subject g'.query.last a found' b') (sym (bound_once e e')) l')) in
-      let one = shows_once m g.query.pattern g.query.subject g.query.last most found found' b b' l l'' in
+      let l'' = subst (λ m. Shows m g.query.with_context g.query.pattern g.query.subject g.query.last most found' b') (sym same)
+      (subst (λ (x : GoingOf). Shows m' x.query.with_context x.query.pattern x.query.subject x.query.last most found' b') (sym going)
+      (subst (λ a. Shows m' g'.query.with_context g'.query.pattern g'.query.subject g'.query.last a found' b') (sym (bound_once e e')) l')) in
+      let one = shows_once m g.query.with_context g.query.pattern g.query.subject g.query.last most found found' b b' l l'' in
       record {
         state =
             ap (λ (x : GoingOf). state_after st x.number (left_by b (shown_more x.query found))) going
             ∙ ap₂ (λ f b. state_after st g'.number (left_by b (shown_more g'.query f))) one.found one.ended;
         bytes =
-            ap₂ (λ m (x : GoingOf). continue_head k m ++ listing_lines m x.query.variables x.query.pattern x.query.shown found b) same going
-            ∙ ap₂ (λ f b. continue_head k m' ++ listing_lines m' g'.query.variables g'.query.pattern g'.query.shown f b) one.found one.ended;
+            ap₂ (λ m (x : GoingOf). continue_head k m ++ listing_lines m x.query.variables x.query.with_context x.query.pattern x.query.shown found b) same going
+            ∙ ap₂ (λ f b. continue_head k m' ++ listing_lines m' g'.query.variables g'.query.with_context g'.query.pattern g'.query.shown f b) one.found one.ended;
         refused = refl;
       }
 

@@ -1,21 +1,21 @@
 -- The solutions that were shown one after another are the first ones, and all of them where none is left.
-use Rattle.std.proofs.Common.{◌≡◌, ◌⊎◌, inl, inr, ⊎_elim, suc, List, [], ◌∷◌, ◌++◌, get_or, map, All, AllPairs, Contains, Option, None, Some, refl, subst, arith}
+use Rattle.std.proofs.Common.{◌≡◌, ◌⊎◌, inl, inr, ⊎_elim, suc, Bool, List, [], ◌∷◌, ◌++◌, get_or, All, AllPairs, Contains, Option, None, Some, refl, subst, arith}
 use Rattle.std.proofs.lemmas.List.Elements.{All-nil, All-head, All-tail, All-push, Contains-append_left, Contains-push}
 use Rattle.std.proofs.lemmas.List.Kept.{AllPairs-cons}
 use Rattle.mau_terms.specs.Tree.{Tree}
-use Rattle.mau_terms.specs.Norm.{norm}
-use Rattle.mau_terms.proofs.Solutions.{solutions_are_ordered}
+use Rattle.mau_api.specs.Found.{Found}
+use Rattle.mau_api.proofs.Ordered.{found_are_ordered}
 use Rattle.mau_reader.specs.Modules.{ModuleOf}
 use Rattle.mau_session.specs.Terms.{terms_in}
-use Rattle.mau_session.specs.Matching.{IsSolution, IsBefore, IsBehind, AreFirst, AreAll, last_shown}
+use Rattle.mau_session.specs.Matching.{IsSolution, IsBefore, IsBehind, AreFirst, AreAll, class_of, last_shown}
 use Rattle.mau_session.specs.Next.{IsNext, NoneIsBehind}
 
 -- ---- the order
 
-pub before_trans : (m : ModuleOf) (p : Tree) (xs ys zs : List Tree) → IsBefore m p xs ys → IsBefore m p ys zs → IsBefore m p xs zs
-before_trans m p xs ys zs a b = (solutions_are_ordered (terms_in m).theory p).trans ([], xs) ([], ys) ([], zs) a b
+pub before_trans : (m : ModuleOf) (p : Tree) (xs ys zs : Found) → IsBefore m p xs ys → IsBefore m p ys zs → IsBefore m p xs zs
+before_trans m p xs ys zs a b = (found_are_ordered (terms_in m).theory p).trans xs ys zs a b
 
-pub behind_trans : (m : ModuleOf) (p : Tree) (last : Option (List Tree)) (xs ys : List Tree) → IsBehind m p last xs → IsBefore m p xs ys → IsBehind m p last ys
+pub behind_trans : (m : ModuleOf) (p : Tree) (last : Option Found) (xs ys : Found) → IsBehind m p last xs → IsBefore m p xs ys → IsBehind m p last ys
 behind_trans m p None xs ys a b = tt
 behind_trans m p (Some zs) xs ys a b = before_trans m p zs xs ys a b
 
@@ -31,22 +31,22 @@ All-last : {X : Type 0} (P : X → Type 0) (xs : List X) (x : X) → All P (xs +
 All-last P [] x all = All-head P x [] all
 All-last P (y ∷ xs) x all = All-last P xs x (All-tail P y (xs ++ x ∷ []) all)
 
-last_shown-push : (last : Option (List Tree)) (found : List (List Tree)) (xs : List Tree) → last_shown last (found ++ xs ∷ []) ≡ Some xs
+last_shown-push : (last : Option Found) (found : List Found) (xs : Found) → last_shown last (found ++ xs ∷ []) ≡ Some xs
 last_shown-push last [] xs = refl
 last_shown-push last (ys ∷ found) xs = last_shown-push (Some ys) found xs
 
-module _ (m : ModuleOf) (p t : Tree) (last : Option (List Tree)) where
+module _ (m : ModuleOf) (w : Bool) (p t : Tree) (last : Option Found) where
   -- found was shown behind `last`, and then `now` is the last one: what comes behind it is what comes behind `last` and all of them
-  pub record AreShown (now : Option (List Tree)) (found : List (List Tree)) : Type 0 where
-    pub first : AreFirst m p t last found
+  pub record AreShown (now : Option Found) (found : List Found) : Type 0 where
+    pub first : AreFirst m w p t last found
     pub now_is : last_shown last found ≡ now
-    pub covers : (xs : List Tree) → IsBehind m p now xs → IsBehind m p last xs × All (λ ys. IsBefore m p ys xs) found
-    pub reaches : (xs : List Tree) → IsBehind m p last xs → All (λ ys. IsBefore m p ys xs) found → IsBehind m p now xs
+    pub covers : (xs : Found) → IsBehind m p now xs → IsBehind m p last xs × All (λ ys. IsBefore m p ys xs) found
+    pub reaches : (xs : Found) → IsBehind m p last xs → All (λ ys. IsBefore m p ys xs) found → IsBehind m p now xs
 
   pub none_shown : AreShown last []
   none_shown = record {
     first = record {
-      solutions = All-nil (IsSolution m p t);
+      solutions = All-nil (IsSolution m w p t);
       behind = All-nil (IsBehind m p last);
       ascending = λ i j d h l. absurd (omega (arith, l));
       others = λ xs is behind. inr (All-nil (λ ys. IsBefore m p ys xs));
@@ -56,12 +56,12 @@ module _ (m : ModuleOf) (p t : Tree) (last : Option (List Tree)) where
     reaches = λ xs behind all. behind;
   }
 
-  pub one_shown : (now : Option (List Tree)) (found : List (List Tree)) (xs : List Tree) → AreShown now found → IsNext m p t now xs → AreShown (Some xs) (found ++ xs ∷ [])
+  pub one_shown : (now : Option Found) (found : List Found) (xs : Found) → AreShown now found → IsNext m w p t now xs → AreShown (Some xs) (found ++ xs ∷ [])
   one_shown now found xs shown next =
       let here = shown.covers xs next.behind in
       record {
         first = record {
-          solutions = All-push (IsSolution m p t) found xs shown.first.solutions next.solution;
+          solutions = All-push (IsSolution m w p t) found xs shown.first.solutions next.is_one;
           behind = All-push (IsBehind m p last) found xs shown.first.behind here.0;
           ascending = pairs_push (IsBefore m p) found xs shown.first.ascending here.1;
           others = λ ys is behind. by ys is behind (shown.first.others ys is behind);
@@ -71,7 +71,7 @@ module _ (m : ModuleOf) (p t : Tree) (last : Option (List Tree)) where
         reaches = λ ys behind all. All-last (λ zs. IsBefore m p zs ys) found xs all;
       }
     where
-      by : (ys : List Tree) → IsSolution m p t ys → IsBehind m p last ys → Contains found ys ⊎ All (λ zs. IsBefore m p zs ys) found
+      by : (ys : Found) → IsSolution m w p t ys → IsBehind m p last ys → Contains found ys ⊎ All (λ zs. IsBefore m p zs ys) found
           → Contains (found ++ xs ∷ []) ys ⊎ All (λ zs. IsBefore m p zs ys) (found ++ xs ∷ [])
       by ys is behind (inl among) = inl (Contains-append_left found (xs ∷ []) ys among)
       by ys is behind (inr all) =
@@ -80,13 +80,14 @@ module _ (m : ModuleOf) (p t : Tree) (last : Option (List Tree)) where
           (λ (same : xs ≡ ys). inl (subst (Contains (found ++ xs ∷ [])) same (Contains-push found xs)))
           (next.least ys is (shown.reaches ys behind all))
 
-  pub all_shown : (now : Option (List Tree)) (found : List (List Tree)) → AreShown now found → NoneIsBehind m p t now → AreAll m p t last found
+  pub all_shown : (now : Option Found) (found : List Found) → AreShown now found → NoneIsBehind m w p t now → AreAll m w p t last found
   all_shown now found shown none = record {
     first = shown.first;
-    complete = λ vs solves behind.
-        let is : IsSolution m p t (map (norm (terms_in m).theory) vs) = record { values = vs; normal = refl; solves = solves } in
+    complete = λ vs left right solves behind.
+        let x = class_of m left right vs in
+        let is : IsSolution m w p t x = record { values = vs; normal = refl; solves = solves } in
         ⊎_elim
-        (λ (among : Contains found (map (norm (terms_in m).theory) vs)). among)
-        (λ (all : All (λ ys. IsBefore m p ys (map (norm (terms_in m).theory) vs)) found). absurd (none _ is (shown.reaches _ behind all)))
-        (shown.first.others _ is behind);
+        (λ (among : Contains found x). among)
+        (λ (all : All (λ ys. IsBefore m p ys x) found). absurd (none x is (shown.reaches x behind all)))
+        (shown.first.others x is behind);
   }

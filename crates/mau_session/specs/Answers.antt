@@ -1,7 +1,10 @@
 -- The bytes of the answers.
-use Rattle.std.specs.Prelude.{ℕ, zero, suc, ◌+◌, Bool, true, false, List, [], ◌∷◌, ◌++◌, length, codes, decimal}
+use Rattle.std.specs.Prelude.{ℕ, zero, suc, ◌+◌, ◌==◌, Bool, true, false, ◌&&◌, List, [], ◌∷◌, ◌++◌, length, Option, None, Some, codes, decimal, if◌then◌else◌}
 use Rattle.mau_terms.specs.Tree.{Tree}
-use Rattle.mau_terms.specs.Subst.{Variable, variables}
+use Rattle.mau_terms.specs.Norm.{norm}
+use Rattle.mau_terms.specs.Subst.{Variable, variables, with_values}
+use Rattle.mau_terms.specs.Solution.{assoc_top, over_list}
+use Rattle.mau_api.specs.Found.{Found}
 use Rattle.mau_tokens.specs.declared.token.TokenFault.{TokenFault}
 use Rattle.mau_tokens.specs.declared.token.TokenFault.TheVariants.{NotUtf8, OpenComment, OpenString, TokenTooLong, NoMemory}
 use Rattle.mau_reader.specs.Modules.{ModuleOf, Why, leaves, faulty}
@@ -13,8 +16,8 @@ use Rattle.mau_modtext.specs.declared.raw.TextFault.TheVariants.{Unended, Unexpe
 use Rattle.mau_reader.specs.Words.{text_at, place_at}
 use Rattle.mau_parse.specs.declared.fault.ParseFault.{ParseFault}
 use Rattle.mau_parse.specs.declared.fault.ParseFault.TheVariants.{NoParse, Ambiguous, TooManyTokens, NumberTooLarge, SuccessorTooLarge, NoMemory as NoMemoryOfParse}
-use Rattle.mau_session.specs.Terms.{Pairs}
-use Rattle.mau_print.specs.Printed.{shown}
+use Rattle.mau_session.specs.Terms.{Pairs, terms_in}
+use Rattle.mau_print.specs.Printed.{PrinterOf, shown}
 use Rattle.mau_session.specs.Shown.{shown_variable, printer_in}
 
 -- each answer begins with the number of its item
@@ -91,13 +94,47 @@ abbrev pub substitution_lines : ModuleOf → Pairs → List Variable → List Tr
 substitution_lines m ns [] vs = codes "empty substitution\n"
 substitution_lines m ns (x ∷ xs) vs = value_lines m ns (x ∷ xs) vs
 
-abbrev pub matcher_lines : ModuleOf → Pairs → Tree → ℕ → List Tree → List ℕ
-matcher_lines m ns p i vs = codes "Matcher " ++ decimal i ++ codes "\n" ++ substitution_lines m ns (variables p) vs
+-- a term behind its label
+abbrev pub term_line : PrinterOf → Pairs → List ℕ → Tree → List ℕ
+term_line printer ns label t = label ++ codes " = " ++ shown printer ns t ++ codes "\n"
+
+-- both contexts are empty
+abbrev pub is_whole : Found → Bool
+is_whole x = (length x.left == 0) && (length x.right == 0)
+
+-- the part of the subject that is matched, which is the instance of the pattern p, or that it is the whole
+abbrev pub portion_line : ModuleOf → Pairs → Tree → Found → List ℕ
+portion_line m ns p x =
+    if is_whole x then codes "Matched portion = (whole)\n"
+    else term_line (printer_in m) ns (codes "Matched portion") (norm (terms_in m).theory (with_values p x.values))
+
+-- a context: the operator f over its list, or no line where that is empty
+abbrev pub context_line : ModuleOf → Pairs → ℕ → List ℕ → List Tree → List ℕ
+context_line m ns f label [] = []
+context_line m ns f label (t ∷ ts) = term_line (printer_in m) ns label (over_list ((terms_in m).theory f) f (t ∷ ts))
+
+-- what the context behind the part is called: under a commutative operator it is all the rest
+abbrev pub right_label : Bool → List ℕ
+right_label comm = if comm then codes "Rest" else codes "Right context"
+
+-- the contexts of a solution, where f is the associative operator at the top of the pattern's normal form, if it has one
+abbrev pub context_lines : ModuleOf → Pairs → Option ℕ → Found → List ℕ
+context_lines m ns None x = []
+context_lines m ns (Some f) x = context_line m ns f (codes "Left context") x.left ++ context_line m ns f (right_label ((terms_in m).theory f).comm) x.right
+
+-- what a solution with contexts shows of them, which one without does not
+abbrev pub part_lines : ModuleOf → Pairs → Bool → Tree → Found → List ℕ
+part_lines m ns false p x = []
+part_lines m ns true p x = portion_line m ns p x ++ context_lines m ns (assoc_top (terms_in m).theory (norm (terms_in m).theory p)) x
+
+-- the solution with the number i, where w says whether it has contexts
+abbrev pub matcher_lines : ModuleOf → Pairs → Bool → Tree → ℕ → Found → List ℕ
+matcher_lines m ns w p i x = codes "Matcher " ++ decimal i ++ codes "\n" ++ part_lines m ns w p x ++ substitution_lines m ns (variables p) x.values
 
 -- the solutions, numbered from i on
-abbrev pub all_matchers : ModuleOf → Pairs → Tree → ℕ → List (List Tree) → List ℕ
-all_matchers m ns p i [] = []
-all_matchers m ns p i (vs ∷ found) = matcher_lines m ns p i vs ++ all_matchers m ns p (i + 1) found
+abbrev pub all_matchers : ModuleOf → Pairs → Bool → Tree → ℕ → List Found → List ℕ
+all_matchers m ns w p i [] = []
+all_matchers m ns w p i (x ∷ found) = matcher_lines m ns w p i x ++ all_matchers m ns w p (i + 1) found
 
 -- where so many solutions were shown in all, and it is said whether the listing has ended
 abbrev pub last_line : Bool → ℕ → List ℕ
@@ -106,11 +143,15 @@ last_line true zero = codes "No match.\n"
 last_line true (suc n) = codes "No more matches.\n"
 
 -- what a listing shows, behind so many solutions that it has shown before
-abbrev pub listing_lines : ModuleOf → Pairs → Tree → ℕ → List (List Tree) → Bool → List ℕ
-listing_lines m ns p before found ended = all_matchers m ns p (before + 1) found ++ last_line ended (before + length found)
+abbrev pub listing_lines : ModuleOf → Pairs → Bool → Tree → ℕ → List Found → Bool → List ℕ
+listing_lines m ns w p before found ended = all_matchers m ns w p (before + 1) found ++ last_line ended (before + length found)
 
-abbrev pub match_head : ℕ → ModuleOf → List ℕ
-match_head k m = item_head k ++ codes "match in " ++ m.name ++ codes "\n"
+-- what a command is called whose solutions have contexts, and one whose solutions have none
+abbrev pub match_name : Bool → List ℕ
+match_name w = if w then codes "xmatch" else codes "match"
+
+abbrev pub match_head : ℕ → Bool → ModuleOf → List ℕ
+match_head k w m = item_head k ++ match_name w ++ codes " in " ++ m.name ++ codes "\n"
 
 abbrev pub continue_head : ℕ → ModuleOf → List ℕ
 continue_head k m = item_head k ++ codes "continue in " ++ m.name ++ codes "\n"

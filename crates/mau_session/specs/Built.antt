@@ -5,7 +5,7 @@ use Rattle.mau_modtext.specs.Word.{Word}
 use Rattle.mau_modtext.specs.declared.raw.ModuleKind.{ModuleKind}
 use Rattle.mau_modtext.specs.declared.raw.ModuleKind.TheVariants.{StrategyModule}
 use Rattle.mau_modtext.specs.declared.raw.CommandKind.{CommandKind}
-use Rattle.mau_modtext.specs.declared.raw.CommandKind.TheVariants.{Match, Continue}
+use Rattle.mau_modtext.specs.declared.raw.CommandKind.TheVariants.{Match, Xmatch, Continue}
 use Rattle.mau_modtext.specs.declared.raw.TextFault.{TextFault}
 use Rattle.mau_modtext.specs.declared.raw.TextFault.TheVariants.{Unended}
 use Rattle.mau_reader.specs.Words.{text_at}
@@ -20,6 +20,11 @@ is_built_module _ = true
 abbrev pub is_match : CommandKind → Bool
 is_match Match = true
 is_match _ = false
+
+-- whether the solutions of a match have contexts
+abbrev pub has_context : CommandKind → Bool
+has_context Xmatch = true
+has_context _ = false
 
 abbrev pub is_continue : CommandKind → Bool
 is_continue Continue = true

@@ -4,6 +4,7 @@ use Rattle.mau_terms.specs.Tree.{Tree}
 use Rattle.mau_terms.specs.Norm.{norm}
 use Rattle.mau_canon.specs.declared.fault.BuildFault.TheVariants.{TooDeep, Overflow}
 use Rattle.mau_canon.specs.Within.{IsWithin, IsCause}
+use Rattle.mau_api.specs.Found.{Found}
 use Rattle.mau_modtext.specs.Word.{Word}
 use Rattle.mau_modtext.specs.declared.raw.RawItem.{RawItem}
 use Rattle.mau_modtext.specs.declared.raw.RawBody.{RawBody}
@@ -19,19 +20,19 @@ use Rattle.mau_session.specs.Answers.{refusal_line, continue_head, listing_lines
 use Rattle.mau_session.specs.Transcript.{TermsAnswer, MatchAnswer, ContinueAnswer, BodyAnswer, ItemAnswer}
 
 -- the bytes gained are the lines of the listing
-pub record GainsListing (m : ModuleOf) (ns : Pairs) (p t : Tree) (most : Option ℕ) (left : OutcomeOf) (old new : List ℕ) : Type 0 where
-  pub found : List (List Tree)
+pub record GainsListing (m : ModuleOf) (ns : Pairs) (w : Bool) (p t : Tree) (most : Option ℕ) (left : OutcomeOf) (old new : List ℕ) : Type 0 where
+  pub found : List Found
   pub ended : Bool
-  pub listing : Shows m p t None most found ended
-  pub leaves : left ≡ left_by ended (shown_more (asked_first p t ns) found)
-  pub gained : new ≡ old ++ listing_lines m ns p 0 found ended
+  pub listing : Shows m w p t None most found ended
+  pub leaves : left ≡ left_by ended (shown_more (asked_first w p t ns) found)
+  pub gained : new ≡ old ++ listing_lines m ns w p 0 found ended
 
 -- the bytes gained are the lines of the listing, or the end where the subject's normal form is beyond the limits
-pub data GainsListed (m : ModuleOf) (ns : Pairs) (p t : Tree) (most : Option ℕ) : OutcomeOf → List ℕ → List ℕ → Type 0 where
-  gains_solutions : (left : OutcomeOf) (old new : List ℕ) → IsWithin (terms_in m).theory (norm (terms_in m).theory t) → GainsListing m ns p t most left old new
-      → GainsListed m ns p t most left old new
-  gains_too_deep : (old new : List ℕ) → IsCause (terms_in m).theory (norm (terms_in m).theory t) TooDeep → new ≡ old ++ too_deep_line → GainsListed m ns p t most has_ended old new
-  gains_overflow : (old new : List ℕ) → IsCause (terms_in m).theory (norm (terms_in m).theory t) Overflow → new ≡ old ++ overflow_line → GainsListed m ns p t most has_ended old new
+pub data GainsListed (m : ModuleOf) (ns : Pairs) (w : Bool) (p t : Tree) (most : Option ℕ) : OutcomeOf → List ℕ → List ℕ → Type 0 where
+  gains_solutions : (left : OutcomeOf) (old new : List ℕ) → IsWithin (terms_in m).theory (norm (terms_in m).theory t) → GainsListing m ns w p t most left old new
+      → GainsListed m ns w p t most left old new
+  gains_too_deep : (old new : List ℕ) → IsCause (terms_in m).theory (norm (terms_in m).theory t) TooDeep → new ≡ old ++ too_deep_line → GainsListed m ns w p t most has_ended old new
+  gains_overflow : (old new : List ℕ) → IsCause (terms_in m).theory (norm (terms_in m).theory t) Overflow → new ≡ old ++ overflow_line → GainsListed m ns w p t most has_ended old new
 
 pub record GainsTerms (ws : List Word) (m : ModuleOf) (k : ℕ) (c : RawCommand) (most : Option ℕ) (old new : List ℕ) (left : OutcomeOf) : Type 0 where
   pub bytes : List ℕ
@@ -58,11 +59,11 @@ pub record GainsMatch (ws : List Word) (st : StateOf) (k i : ℕ) (c : RawComman
 pub record GainsOn (st : StateOf) (k : ℕ) (g : GoingOf) (most : Option ℕ) (next : StateOf) (old new : List ℕ) (refused : Bool) : Type 0 where
   pub «module» : ModuleOf
   pub there : slice_get st.modules g.number ≡ Some «module»
-  pub found : List (List Tree)
+  pub found : List Found
   pub ended : Bool
-  pub shows : Shows «module» g.query.pattern g.query.subject g.query.last most found ended
+  pub shows : Shows «module» g.query.with_context g.query.pattern g.query.subject g.query.last most found ended
   pub after : next ≡ state_after st g.number (left_by ended (shown_more g.query found))
-  pub gained : new ≡ old ++ (continue_head k «module» ++ listing_lines «module» g.query.variables g.query.pattern g.query.shown found ended)
+  pub gained : new ≡ old ++ (continue_head k «module» ++ listing_lines «module» g.query.variables g.query.with_context g.query.pattern g.query.shown found ended)
   pub answered : refused ≡ false
 
 pub record GainsContinue (ws : List Word) (st : StateOf) (k : ℕ) (c : RawCommand) (next : StateOf) (old new : List ℕ) (refused : Bool) : Type 0 where

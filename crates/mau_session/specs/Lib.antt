@@ -6,6 +6,7 @@ pub mod Commands
 pub mod Answers
 pub mod Built
 pub mod Query
+pub mod Parts
 pub mod Next
 pub mod State
 pub mod Bounds

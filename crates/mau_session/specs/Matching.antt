@@ -1,16 +1,21 @@
--- The solutions of a pattern and a subject over a module, and the first of them.
+-- The solutions of a pattern and a subject over a module, with their contexts or without, and the first of them.
 use Rattle.std.specs.Prelude.{◌≡◌, ◌⊎◌, ℕ, suc, ◌<◌, Bool, true, false, List, [], ◌∷◌, length, map, All, AllPairs, Contains, Option, None, Some}
 use Rattle.std.specs.declared.cmp.Ordering.TheVariants.{Less}
 use Rattle.mau_terms.specs.Tree.{Tree}
 use Rattle.mau_terms.specs.Norm.{norm}
 use Rattle.mau_terms.specs.Subst.{Variable}
-use Rattle.mau_terms.specs.Solution.{Solves, solution_cmp}
+use Rattle.mau_terms.specs.Solution.{Solves, SolvesWithin}
+use Rattle.mau_api.specs.Found.{Found}
+use Rattle.mau_api.specs.Next
+use Rattle.mau_api.specs.Next.{found_cmp}
 use Rattle.mau_reader.specs.Modules.{ModuleOf}
 use Rattle.mau_session.specs.Terms.{Pairs, terms_in, HasSort}
 
--- the values vs of p's variables, by first occurrence, have their variables' sorts and make p equal to t
-abbrev pub SolvesIn : ModuleOf → Tree → Tree → List Tree → Type 0
-SolvesIn m p t vs = Solves (terms_in m) (HasSort m) p t vs
+-- the values vs of p's variables, by first occurrence, have their variables' sorts and make p equal to t, or, with contexts, to the
+-- part of t that stands between the lists left and right
+abbrev pub SolvesIn : ModuleOf → Bool → Tree → Tree → List Tree → List Tree → List Tree → Type 0
+SolvesIn m false p t vs left right = Solves (terms_in m) (HasSort m) p t vs × (left ≡ []) × (right ≡ [])
+SolvesIn m true p t vs left right = SolvesWithin (terms_in m) (HasSort m) p t vs left right
 
 -- the variables of a command, numbered by first occurrence, with their sorts
 abbrev pub numbered_from : ℕ → Pairs → List Variable
@@ -19,47 +24,50 @@ numbered_from k (p ∷ ps) = (k, p.1) ∷ numbered_from (suc k) ps
 
 -- ---- solutions by their classes
 
--- xs are the normal forms of a solution's values; equal values have one normal form, so they tell its class
-pub record IsSolution (m : ModuleOf) (p t : Tree) (xs : List Tree) : Type 0 where
+-- the contexts of a solution, and the normal forms of its values; equal values have one normal form, so they tell its class
+abbrev pub class_of : ModuleOf → List Tree → List Tree → List Tree → Found
+class_of m left right vs = record { left = left; right = right; values = map (norm (terms_in m).theory) vs }
+
+-- x is the class of a solution, where w says whether it has contexts
+pub record IsSolution (m : ModuleOf) (w : Bool) (p t : Tree) (x : Found) : Type 0 where
   pub values : List Tree
-  pub normal : map (norm (terms_in m).theory) values ≡ xs
-  pub solves : SolvesIn m p t values
+  pub normal : map (norm (terms_in m).theory) values ≡ x.values
+  pub solves : SolvesIn m w p t values x.left x.right
 
--- xs comes before ys, in the order of solutions
-abbrev pub IsBefore : ModuleOf → Tree → List Tree → List Tree → Type 0
-IsBefore m p xs ys = solution_cmp (terms_in m).theory p ([], xs) ([], ys) ≡ Less
+-- x comes before y, in the order of solutions: by their left contexts first, and then by their values
+abbrev pub IsBefore : ModuleOf → Tree → Found → Found → Type 0
+IsBefore m p x y = found_cmp (terms_in m).theory p x y ≡ Less
 
--- xs comes behind the last one shown, if one was shown
-abbrev pub IsBehind : ModuleOf → Tree → Option (List Tree) → List Tree → Type 0
-IsBehind m p None xs = Unit {0}
-IsBehind m p (Some last) xs = IsBefore m p last xs
+-- x comes behind the last one shown, if one was shown
+abbrev pub IsBehind : ModuleOf → Tree → Option Found → Found → Type 0
+IsBehind m p last x = Next.IsBehind (found_cmp (terms_in m).theory p) last x
 
 -- ---- listings
 
 -- the first solutions behind the last one shown, each class once and in ascending order: any other one comes behind them
-pub record AreFirst (m : ModuleOf) (p t : Tree) (last : Option (List Tree)) (found : List (List Tree)) : Type 0 where
-  pub solutions : All (IsSolution m p t) found
+pub record AreFirst (m : ModuleOf) (w : Bool) (p t : Tree) (last : Option Found) (found : List Found) : Type 0 where
+  pub solutions : All (IsSolution m w p t) found
   pub behind : All (IsBehind m p last) found
   pub ascending : AllPairs (IsBefore m p) found
-  pub others : (xs : List Tree) → IsSolution m p t xs → IsBehind m p last xs → Contains found xs ⊎ All (λ ys. IsBefore m p ys xs) found
+  pub others : (x : Found) → IsSolution m w p t x → IsBehind m p last x → Contains found x ⊎ All (λ y. IsBefore m p y x) found
 
--- these are all of them: whatever bare values make p equal to t, their class is there
-pub record AreAll (m : ModuleOf) (p t : Tree) (last : Option (List Tree)) (found : List (List Tree)) : Type 0 where
-  pub first : AreFirst m p t last found
-  pub complete : (vs : List Tree) → SolvesIn m p t vs → IsBehind m p last (map (norm (terms_in m).theory) vs) → Contains found (map (norm (terms_in m).theory) vs)
+-- these are all of them: whatever bare values make p equal to t, or to the part of it between two contexts, their class is there
+pub record AreAll (m : ModuleOf) (w : Bool) (p t : Tree) (last : Option Found) (found : List Found) : Type 0 where
+  pub first : AreFirst m w p t last found
+  pub complete : (vs left right : List Tree) → SolvesIn m w p t vs left right → IsBehind m p last (class_of m left right vs) → Contains found (class_of m left right vs)
 
 -- there are fewer than were asked for, if a number was
-abbrev pub AreFewer : List (List Tree) → Option ℕ → Type 0
+abbrev pub AreFewer : List Found → Option ℕ → Type 0
 AreFewer found None = Unit {0}
 AreFewer found (Some most) = length found < most
 
 -- What a listing shows behind the last one shown, where at most so many solutions are asked for: all that are left, and then it has ended,
 -- or as many as are asked for.
-pub data Shows (m : ModuleOf) (p t : Tree) (last : Option (List Tree)) : Option ℕ → List (List Tree) → Bool → Type 0 where
-  shows_all : (most : Option ℕ) (found : List (List Tree)) → AreAll m p t last found → AreFewer found most → Shows m p t last most found true
-  shows_first : (most : ℕ) (found : List (List Tree)) → AreFirst m p t last found → length found ≡ most → Shows m p t last (Some most) found false
+pub data Shows (m : ModuleOf) (w : Bool) (p t : Tree) (last : Option Found) : Option ℕ → List Found → Bool → Type 0 where
+  shows_all : (most : Option ℕ) (found : List Found) → AreAll m w p t last found → AreFewer found most → Shows m w p t last most found true
+  shows_first : (most : ℕ) (found : List Found) → AreFirst m w p t last found → length found ≡ most → Shows m w p t last (Some most) found false
 
 -- the last one shown, after some more
-abbrev pub last_shown : Option (List Tree) → List (List Tree) → Option (List Tree)
+abbrev pub last_shown : Option Found → List Found → Option Found
 last_shown last [] = last
-last_shown last (xs ∷ found) = last_shown (Some xs) found
+last_shown last (x ∷ found) = last_shown (Some x) found

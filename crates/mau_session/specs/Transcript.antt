@@ -1,11 +1,11 @@
 -- The transcript of a text: the answers of its items, one after another, each in the state after the items before.
 use Rattle.std.specs.Prelude.{◌≡◌, ◌≢◌, ℕ, ◌+◌, List, [], ◌∷◌, ◌++◌, Bool, true, false, ◌||◌, Option, Some, None, Ok, Err, slice_get}
-use Rattle.mau_terms.specs.Tree.{Tree}
 use Rattle.mau_terms.specs.View.{tree_of}
 use Rattle.mau_terms.specs.declared.bare.Bare.{Bare}
 use Rattle.mau_terms.specs.Norm.{norm}
 use Rattle.mau_canon.specs.declared.fault.BuildFault.TheVariants.{TooDeep, Overflow}
 use Rattle.mau_canon.specs.Within.{IsWithin, IsCause}
+use Rattle.mau_api.specs.Found.{Found}
 use Rattle.mau_tokens.specs.declared.token.Token.{Token}
 use Rattle.mau_tokens.specs.declared.token.TokenFault.{TokenFault}
 use Rattle.mau_tokens.specs.TokensOf.{TokensOf}
@@ -33,7 +33,7 @@ use Rattle.mau_session.specs.Query.{asked_first, shown_more}
 use Rattle.mau_session.specs.State.{GoingOf, StateOf, nothing_yet, accepted, IsChosen, NamesNone, OutcomeOf, is_refused, has_ended, left_by, refuses, state_after}
 use Rattle.mau_session.specs.Bounds.{bound_of}
 use Rattle.mau_session.specs.Commands.{unbuilt}
-use Rattle.mau_session.specs.Built.{is_built_module, is_match, is_continue, fault_answer}
+use Rattle.mau_session.specs.Built.{is_built_module, is_match, has_context, is_continue, fault_answer}
 use Rattle.mau_session.specs.Answers.{refusal_line, fault_line, parse_fault_line, module_refusal, module_line, match_head, continue_head, too_deep_line, overflow_line, listing_lines}
 
 -- ---- the answer of a match command
@@ -48,18 +48,19 @@ SubjectReads ws m c p ns t os = TermReads ws m c.second (Kind (kind_of_term m (t
 
 -- The pattern is read in any kind, and the subject in the pattern's. A subject whose normal form is deeper than 1,000, or else holds
 -- the successor of the greatest numeral, has an end in place of solutions, which leaves nothing to continue. Otherwise the first
--- solutions are listed, at most so many, or all.
+-- solutions are listed, at most so many, or all; those of `xmatch` with their contexts.
 pub data TermsAnswer (ws : List Word) (m : ModuleOf) (k : ℕ) (c : RawCommand) (most : Option ℕ) : OutcomeOf → List ℕ → Type 0 where
   pattern_refused : (f : ParseFault) → IsUnread ws m c.first AnyKind [] f → f ≢ NoMemoryOfParse → TermsAnswer ws m k c most is_refused (parse_fault_line k f)
   subject_refused : (p : Bare) (ns : Pairs) (f : ParseFault) → PatternReads ws m c p ns → IsUnread ws m c.second (Kind (kind_of_term m (tree_of p))) ns f
       → f ≢ NoMemoryOfParse → TermsAnswer ws m k c most is_refused (parse_fault_line k f)
   too_deep : (p : Bare) (ns : Pairs) (t : Bare) (os : Pairs) → PatternReads ws m c p ns → SubjectReads ws m c p ns t os
-      → IsCause (terms_in m).theory (norm (terms_in m).theory (tree_of t)) TooDeep → TermsAnswer ws m k c most has_ended (match_head k m ++ too_deep_line)
+      → IsCause (terms_in m).theory (norm (terms_in m).theory (tree_of t)) TooDeep → TermsAnswer ws m k c most has_ended (match_head k (has_context c.kind) m ++ too_deep_line)
   overflows : (p : Bare) (ns : Pairs) (t : Bare) (os : Pairs) → PatternReads ws m c p ns → SubjectReads ws m c p ns t os
-      → IsCause (terms_in m).theory (norm (terms_in m).theory (tree_of t)) Overflow → TermsAnswer ws m k c most has_ended (match_head k m ++ overflow_line)
-  listed : (p : Bare) (ns : Pairs) (t : Bare) (os : Pairs) (found : List (List Tree)) (ended : Bool) → PatternReads ws m c p ns → SubjectReads ws m c p ns t os
-      → IsWithin (terms_in m).theory (norm (terms_in m).theory (tree_of t)) → Shows m (tree_of p) (tree_of t) None most found ended
-      → TermsAnswer ws m k c most (left_by ended (shown_more (asked_first (tree_of p) (tree_of t) os) found)) (match_head k m ++ listing_lines m os (tree_of p) 0 found ended)
+      → IsCause (terms_in m).theory (norm (terms_in m).theory (tree_of t)) Overflow → TermsAnswer ws m k c most has_ended (match_head k (has_context c.kind) m ++ overflow_line)
+  listed : (p : Bare) (ns : Pairs) (t : Bare) (os : Pairs) (found : List Found) (ended : Bool) → PatternReads ws m c p ns → SubjectReads ws m c p ns t os
+      → IsWithin (terms_in m).theory (norm (terms_in m).theory (tree_of t)) → Shows m (has_context c.kind) (tree_of p) (tree_of t) None most found ended
+      → TermsAnswer ws m k c most (left_by ended (shown_more (asked_first (has_context c.kind) (tree_of p) (tree_of t) os) found))
+      (match_head k (has_context c.kind) m ++ listing_lines m os (has_context c.kind) (tree_of p) 0 found ended)
 
 -- The match command begins at the word i; the state after it is told. Its module is looked for before its bound is judged, and both
 -- before its terms are read.
@@ -76,10 +77,10 @@ pub data MatchAnswer (ws : List Word) (st : StateOf) (k i : ℕ) (c : RawCommand
 pub data ContinueAnswer (ws : List Word) (st : StateOf) (k : ℕ) (c : RawCommand) : StateOf → List ℕ → Bool → Type 0 where
   number_refused : (r : Refusal) → bound_of ws c.bound ≡ Err r → ContinueAnswer ws st k c st (refusal_line k ws r) true
   nothing_to_continue : (most : Option ℕ) → bound_of ws c.bound ≡ Ok most → st.going ≡ None → ContinueAnswer ws st k c st (refusal_line k ws NothingToContinue) true
-  continued : (most : Option ℕ) (g : GoingOf) (m : ModuleOf) (found : List (List Tree)) (ended : Bool) → bound_of ws c.bound ≡ Ok most → st.going ≡ Some g
-      → slice_get st.modules g.number ≡ Some m → Shows m g.query.pattern g.query.subject g.query.last most found ended
+  continued : (most : Option ℕ) (g : GoingOf) (m : ModuleOf) (found : List Found) (ended : Bool) → bound_of ws c.bound ≡ Ok most → st.going ≡ Some g
+      → slice_get st.modules g.number ≡ Some m → Shows m g.query.with_context g.query.pattern g.query.subject g.query.last most found ended
       → ContinueAnswer ws st k c (state_after st g.number (left_by ended (shown_more g.query found)))
-      (continue_head k m ++ listing_lines m g.query.variables g.query.pattern g.query.shown found ended) false
+      (continue_head k m ++ listing_lines m g.query.variables g.query.with_context g.query.pattern g.query.shown found ended) false
 
 -- ---- the answer of an item, which is the k-th
 

@@ -10,7 +10,7 @@ ghost use Rattle.mau_session.specs.State.{nothing_yet, state_of, going_of, outco
 ghost use Rattle.mau_session.specs.declared.state.Outcome.TheVariants as Outcome;
 ghost use Rattle.mau_reader.specs.Modules.{ModuleOf};
 ghost use Rattle.mau_session.specs.Query.{query_of, IsReady};
-ghost use Rattle.mau_session.specs.Answers.{module_line, match_head, continue_head, refusal_line, parse_fault_line};
+ghost use Rattle.mau_session.specs.Answers.{module_line, match_name, match_head, continue_head, refusal_line, parse_fault_line};
 ghost use Rattle.mau_session.specs.Commands.{is_empty};
 ghost use Rattle.mau_session.specs.Reading.{IsBareOf};
 ghost use Rattle.mau_session.specs.Built.{fault_answer};
@@ -18,10 +18,11 @@ ghost use Rattle.mau_session.specs.Transcript.{ItemsAnswer, PatternReads};
 ghost use Rattle.mau_session.specs.Gains.{GainsListed, GainsTerms, GainsChosen, GainsMatch, GainsOn, GainsContinue, GainsBody, GainsItem};
 
 use crate::bounds::bound_of;
-use crate::built::{begins_unbuilt, is_built_module, is_continue, is_match, is_unended, quits};
+use crate::built::{
+    begins_unbuilt, has_context, is_built_module, is_continue, is_match, is_unended, quits,
+};
 use crate::command::unbuilt;
-use crate::listing::show;
-use crate::listings::MatchListing;
+use crate::listings::show_query;
 use crate::query::Query;
 use crate::reading::{kind_of_term, read_term};
 use crate::refusal::{
@@ -49,12 +50,25 @@ fn refuse(
     Ok(true)
 }
 
+/// What a command is called, by whether its solutions have contexts.
+fn match_name_of(with_context: bool) -> &'static str
+    ensures { result.now ≡ match_name with_context }
+{
+    if with_context { "xmatch" } else { "match" }
+}
+
 /// Writes what a listing begins with.
-fn write_match_head(out: &mut Vec<u8>, number: usize, module: &Module) -> Result<(), NoMemory>
-    ensures { OnOk result (out.new.items ≡ out.old.items ++ match_head number module.now) }
+fn write_match_head(
+    out: &mut Vec<u8>,
+    number: usize,
+    with_context: bool,
+    module: &Module,
+) -> Result<(), NoMemory>
+    ensures { OnOk result (out.new.items ≡ out.old.items ++ match_head number with_context module.now) }
 {
     write_head(out, number)?;
-    write_text(out, "match in ")?;
+    write_text(out, match_name_of(with_context))?;
+    write_text(out, " in ")?;
     write_text(out, module.name())?;
     write_text(out, "\n")
 }
@@ -91,12 +105,13 @@ fn left_by(query: Query, has_ended: bool) -> Outcome
     }
 }
 
-/// Writes what stands behind the head of a listing: the first solutions of a pattern and a subject, at most so many, or the end where the
-/// subject's normal form is beyond the limits. The pattern's variables are the first ones.
+/// Writes what stands behind the head of a listing: the first solutions of a pattern and a subject, with contexts or without, at most so
+/// many, or the end where the subject's normal form is beyond the limits. The pattern's variables are the first ones.
 fn answer_listing(
     out: &mut Vec<u8>,
     alloc: Global,
     module: &Module,
+    with_context: bool,
     vars: Vars,
     pattern: Bare,
     subject: Bare,
@@ -107,13 +122,20 @@ fn answer_listing(
     requires numbered { variables (tree_of pattern) ≡ numbered_from 0 (take (length (variables (tree_of pattern))) vars) }
     requires pattern { IsBare (terms_in module.now) (tree_of pattern) }
     requires subject { IsBare (terms_in module.now) (tree_of subject) }
-    ensures gained { IfOk result (λ left. GainsListed module.now vars (tree_of pattern) (tree_of subject) most (outcome_of left) out.old.items out.new.items) }
+    ensures gained { IfOk result (λ left. GainsListed module.now vars with_context (tree_of pattern) (tree_of subject) most (outcome_of left) out.old.items out.new.items) }
     ensures ready { IfOk result (IsReadyOutcome module.now) }
 {
-    match Query::new(alloc, module.signature(), pattern, subject, vars) {
+    match Query::new(
+        alloc,
+        module.signature(),
+        with_context,
+        pattern,
+        subject,
+        vars,
+    ) {
         Ok(query) => {
             let mut query = query;
-            let has_ended = show::<MatchListing>(out, alloc, module, &mut query, most)?;
+            let has_ended = show_query(out, alloc, module, &mut query, most)?;
             Ok(left_by(query, has_ended))
         }
         Err(BuildFault::TooDeep) => {
@@ -170,8 +192,18 @@ fn answer_subject(
     ) {
         Err(fault) => refuse_term(out, number, &fault),
         Ok(subject) => {
-            write_match_head(out, number, module)?;
-            answer_listing(out, alloc, module, vars, pattern, subject, most)
+            let with_context = has_context(command.kind);
+            write_match_head(out, number, with_context, module)?;
+            answer_listing(
+                out,
+                alloc,
+                module,
+                with_context,
+                vars,
+                pattern,
+                subject,
+                most,
+            )
         }
     }
 }
@@ -278,7 +310,7 @@ fn go_on(
     let mut query = going.query;
     let module = &state.modules[chosen];
     write_continue_head(out, number, module)?;
-    let has_ended = show::<MatchListing>(out, alloc, module, &mut query, most)?;
+    let has_ended = show_query(out, alloc, module, &mut query, most)?;
     Ok(state.conclude(chosen, left_by(query, has_ended)))
 }
 

@@ -25,6 +25,16 @@ pub fn is_match(kind: CommandKind) -> bool
     }
 }
 
+/// Whether the solutions of a match have contexts.
+pub fn has_context(kind: CommandKind) -> bool
+    ensures { result ≡ Built.has_context kind }
+{
+    match kind {
+        CommandKind::Xmatch => true,
+        _ => false,
+    }
+}
+
 /// Whether a command is `continue`.
 pub fn is_continue(kind: CommandKind) -> bool
     ensures { result ≡ Built.is_continue kind }

@@ -9,6 +9,7 @@ pub mod laws;
 mod listing;
 mod listings;
 mod meaning;
+mod part;
 mod query;
 mod reading;
 mod refusal;

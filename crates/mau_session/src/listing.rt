@@ -1,15 +1,16 @@
-//! Writing the solutions of a match.
-ghost use Rattle.std.specs.Prelude.{◌≡◌, ◌+◌, ◌++◌, ◌<◌, ◌≤◌, length, take, codes, decimal, false, Some, OnOk, IfOk};
-ghost use Rattle.mau_terms.specs.Subst.{variables};
+//! Writing the solutions of a match, with their contexts or without.
+ghost use Rattle.std.specs.Prelude.{◌≡◌, ◌+◌, ◌++◌, ◌<◌, ◌≤◌, length, take, codes, decimal, Some, OnOk, IfOk};
 ghost use Rattle.mau_terms.specs.View.{tree_of};
-ghost use Rattle.mau_store.specs.Node.{IsOf, AreOf};
+ghost use Rattle.mau_store.specs.Node.{Extends, IsOf, AreOf};
 ghost use Rattle.mau_store.specs.View.{numbers};
+ghost use Rattle.mau_api.specs.Asked.{found_in, IsGiven};
 ghost use Rattle.mau_session.specs.Matching.{numbered_from};
-ghost use Rattle.mau_session.specs.Query.{id_tree, id_trees, values_in, query_of, asked_for, IsReady};
+ghost use Rattle.mau_session.specs.Query.{id_tree, id_trees, query_of, asked_for, IsReady};
 ghost use Rattle.mau_session.specs.Answers.{value_line, value_lines, substitution_lines, matcher_lines, last_line};
 ghost use Rattle.mau_session.specs.Next.{ShowsNext, GainsMatchers, GainsShown};
 ghost use Rattle.mau_session.specs.Shown.{printer_in};
 
+use crate::part::write_part;
 use crate::query::Query;
 use crate::show::{printer_of, write_term, write_variable};
 use mau_api::{Lister, Solution};
@@ -111,16 +112,16 @@ fn show_solution(
     solution: Solution,
 ) -> Result<(), NoMemory>
     requires printer { printer.now ≡ printer_in module.now }
-    requires there { AreOf query.old.store (numbers solution.values) }
-    requires each { length solution.values ≡ length (variables (tree_of query.old.pattern)) }
-    requires numbered { variables (tree_of query.old.pattern) ≡ numbered_from 0 (take (length (variables (tree_of query.old.pattern))) query.old.vars) }
-    requires few { length (variables (tree_of query.old.pattern)) ≤ length query.old.vars }
-    requires small { length query.old.vars < 4294967296 }
-    ensures shown { OnOk result (query.new ≡ record query.old { last = Some solution; shown = query.old.shown + 1 }) }
-    ensures gained { OnOk result (out.new.items ≡ out.old.items ++ matcher_lines module.now query.old.vars (tree_of query.old.pattern) (query.old.shown + 1) (values_in query.old.store solution)) }
+    requires ready { IsReady module.now.signature query.old }
+    requires given { IsGiven query.old.with_context module.now.signature query.old.store query.old.sorts (asked_for query.old) solution }
+    ensures shown { OnOk result (query.new ≡ record query.old { store = query.new.store; last = Some solution; shown = query.old.shown + 1 }) }
+    ensures extends { Extends query.old.store query.new.store }
+    ensures gained { OnOk result (out.new.items ≡ out.old.items ++ matcher_lines module.now query.old.vars query.old.with_context (tree_of query.old.pattern) (query.old.shown + 1) (found_in query.old.store solution)) }
+    ensures ready { OnOk result (IsReady module.now.signature query.new) }
 {
     let number = query.shown.checked_add(1).ok_or(NoMemory)?;
     write_matcher(out, number)?;
+    write_part(out, alloc, module, printer, query, &solution)?;
     write_substitution(
         out,
         alloc,
@@ -144,7 +145,7 @@ fn show_next<L: Lister>(
     query: &mut Query,
     listing: &mut L,
 ) -> Result<bool, NoMemory>
-    requires plain { L.with_context ≡ false }
+    requires contexts { L.with_context ≡ query.old.with_context }
     requires printer { printer.now ≡ printer_in module.now }
     requires ready { IsReady module.now.signature query.old }
     requires signature { L.is_for listing.old module.now.signature }
@@ -174,7 +175,7 @@ fn show_solutions<L: Lister>(
     listing: &mut L,
     most: Option<u64>,
 ) -> Result<bool, NoMemory>
-    requires plain { L.with_context ≡ false }
+    requires contexts { L.with_context ≡ query.old.with_context }
     requires ready { IsReady module.now.signature query.old }
     requires signature { L.is_for listing.old module.now.signature }
     requires asked { L.asked listing.old ≡ asked_for query.old }
@@ -229,7 +230,7 @@ pub fn show<L: Lister + Drop>(
     query: &mut Query,
     most: Option<u64>,
 ) -> Result<bool, NoMemory>
-    requires plain { L.with_context ≡ false }
+    requires contexts { L.with_context ≡ query.old.with_context }
     requires ready { IsReady module.now.signature query.old }
     ensures shown { IfOk result (GainsShown module.now (query_of query.old) (query_of query.new) most out.old.items out.new.items) }
     ensures ready { OnOk result (IsReady module.now.signature query.new) }

@@ -1,6 +1,31 @@
-//! Which listing answers a command.
+//! Which listing answers a query.
+ghost use Rattle.std.specs.Prelude.{OnOk, IfOk};
+ghost use Rattle.mau_session.specs.Query.{query_of, IsReady};
+ghost use Rattle.mau_session.specs.Next.{GainsShown};
 
+use crate::listing::show;
+use crate::query::Query;
 use mau_match::Listing;
+use mau_reader::Module;
+use mau_terms::NoMemory;
+use std::alloc::Global;
 
-/// The solutions of `match`, without contexts.
-pub type MatchListing = Listing;
+/// Shows the solutions of a query behind the last one that was shown, at most so many, and the last line, by the listing of its
+/// solutions with their contexts or without. Says whether it has ended.
+pub fn show_query(
+    out: &mut Vec<u8>,
+    alloc: Global,
+    module: &Module,
+    query: &mut Query,
+    most: Option<u64>,
+) -> Result<bool, NoMemory>
+    requires ready { IsReady module.now.signature query.old }
+    ensures shown { IfOk result (GainsShown module.now (query_of query.old) (query_of query.new) most out.old.items out.new.items) }
+    ensures ready { OnOk result (IsReady module.now.signature query.new) }
+{
+    if query.with_context {
+        // No command asks for it as long as there is no listing with contexts.
+        return Err(NoMemory);
+    }
+    show::<Listing>(out, alloc, module, query, most)
+}

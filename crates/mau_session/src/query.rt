@@ -18,10 +18,11 @@ use mau_store::Store;
 use mau_terms::{Bare, TermId, Vars};
 use std::alloc::Global;
 
-/// A pattern and a subject, their variables, the subject's normal form and all sorts in a store and a table of its own, the last
+/// Whether solutions have contexts, a pattern and a subject, their variables, the subject's normal form and all sorts in a store and a table of its own, the last
 /// solution that was shown, and how many were.
 #[derive(Drop)]
 pub struct Query {
+    pub with_context: bool,
     pub pattern: Bare,
     pub subject: Bare,
     pub vars: Vars,
@@ -45,6 +46,7 @@ impl Query {
     pub fn new(
         alloc: Global,
         sig: &Signature,
+        with_context: bool,
         pattern: Bare,
         subject: Bare,
         vars: Vars,
@@ -55,7 +57,7 @@ impl Query {
         requires few { length (variables (tree_of pattern)) ≤ length vars }
         requires small { length vars < 4294967296 }
         ensures ready { IfOk result (IsReady sig.now) }
-        ensures asked { IfOk result (λ q. query_of q ≡ record { pattern = tree_of pattern; subject = tree_of subject; variables = vars; last = None; shown = 0 }) }
+        ensures asked { IfOk result (λ q. query_of q ≡ record { with_context = with_context; pattern = tree_of pattern; subject = tree_of subject; variables = vars; last = None; shown = 0 }) }
         ensures within { IfOk result (λ q. IsWithin (theory_at sig.now) (norm (theory_at sig.now) (tree_of subject))) }
         ensures refused { IfErr result (IsCause (theory_at sig.now) (norm (theory_at sig.now) (tree_of subject))) }
     {
@@ -66,6 +68,7 @@ impl Query {
         let mut sorts = SortTable::new(alloc);
         settle_terms(&store, sig, &mut sorts)?;
         Ok(Query {
+            with_context,
             pattern,
             subject,
             vars,

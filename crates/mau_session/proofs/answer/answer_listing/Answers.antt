@@ -14,9 +14,9 @@ pub returns-in_ok-has_ended-in-Ok-clause-gained : goal.returns-in_ok-has_ended-i
 returns-in_ok-has_ended-in-Ok-clause-gained c =
     let m = c.args.module.now in
     let old = c.args.out.now.items in
-    let new = c.show.new.out.items in
+    let new = c.show_query.new.out.items in
     gains_solutions _ old new (subst (λ s. IsWithin (theory_at s) (norm (theory_at s) (tree_of c.args.subject))) c.signature.ensures.value c.in-Ok.ensures.within)
-    (gains_listing m c.args.vars (tree_of c.args.pattern) (tree_of c.args.subject) c.args.most (query_of c.in-Ok.query) (query_of c.show.new.query) (outcome_of c.left_by.result) old new
+    (gains_listing m c.args.vars c.args.with_context (tree_of c.args.pattern) (tree_of c.args.subject) c.args.most (query_of c.in-Ok.query) (query_of c.show_query.new.query) (outcome_of c.left_by.result) old new
     c.in_ok-has_ended-in-Ok.has_ended c.in-Ok.ensures.asked c.in_ok-has_ended-in-Ok.ensures.shown c.left_by.ensures.left)
 
 pub returns-in_ok-write_text-in-Err-TooDeep-clause-gained : goal.returns-in_ok-write_text-in-Err-TooDeep-clause-gained

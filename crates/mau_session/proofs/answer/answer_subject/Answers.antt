@@ -1,4 +1,4 @@
-use Rattle.std.proofs.Common.{length, take, sym, ap, ◌∙◌, subst, arith}
+use Rattle.std.proofs.Common.{◌++◌, length, take, sym, ap, ◌∙◌, subst, arith}
 use Rattle.mau_parse.specs.declared.goals.Goal.TheVariants.{AnyKind, Kind}
 use Rattle.std.proofs.lemmas.List.{length-append}
 use Rattle.std.proofs.lemmas.Result.{IfOk-weaker}
@@ -6,7 +6,9 @@ use Rattle.mau_session.specs.Reading.{IsUnread, TermReads, part_texts}
 use Rattle.mau_session.specs.Matching.{numbered_from}
 use Rattle.mau_session.specs.State.{outcome_of, IsReadyOutcome}
 use Rattle.mau_session.specs.declared.state.Outcome.TheVariants.{Refused}
-use Rattle.mau_session.specs.Gains.{GainsTerms}
+use Rattle.mau_terms.specs.View.{tree_of}
+use Rattle.mau_session.specs.Answers.{match_head}
+use Rattle.mau_session.specs.Gains.{GainsListed, GainsTerms}
 use Rattle.mau_session.specs.Transcript.{subject_refused}
 use Rattle.mau_session.proofs.Extending.{Extends, read_extends, first_variables}
 use Rattle.mau_session.proofs.Numbered.{read_numbered}
@@ -59,4 +61,6 @@ returns-in_ok-write_match_head-in-Ok-clause-gained c =
     IfOk-weaker c.answer_listing.result _ _ (λ left g.
     gains_terms ws m c.args.number c.args.command.now c.args.most c.args.pattern c.args.vars t os c.requires.pattern
     (subst (λ k. TermReads ws m c.args.command.now.second (Kind k) c.args.vars os t) c.kind_of_term.ensures (subst (λ ts. TermReads ws m ts (Kind c.kind_of_term.result) c.args.vars os t) c.items.ensures c.in-Ok.ensures.term))
-    c.args.out.now.items c.write_match_head.new.out.items c.answer_listing.new.out.items (outcome_of left) c.in_ok-write_match_head-in-Ok.ensures g) c.answer_listing.ensures.gained
+    c.args.out.now.items c.write_match_head.new.out.items c.answer_listing.new.out.items (outcome_of left)
+    (c.in_ok-write_match_head-in-Ok.ensures ∙ ap (λ w. c.args.out.now.items ++ match_head c.args.number w m) c.has_context-with_context.ensures)
+    (subst (λ w. GainsListed m os w (tree_of c.args.pattern) (tree_of t) c.args.most (outcome_of left) c.write_match_head.new.out.items c.answer_listing.new.out.items) c.has_context-with_context.ensures g)) c.answer_listing.ensures.gained

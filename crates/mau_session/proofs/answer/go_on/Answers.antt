@@ -20,6 +20,6 @@ returns-clause-gained c =
     let n = c.args.going.number in
     let m = c.index-module.result.now in
     let there : slice_get ms n ≡ Some m = slice_get-get_or ms n m (slice_get_within ms n c.requires.going.«module» c.requires.going.there) ∙ ap Some (sym c.index-module.ensures) in
-    gains_on st c.args.number (going_of c.args.going) c.args.most m there (query_of c.show.new.query) (state_of c.conclude.new.self) c.args.out.now.items
-    c.write_continue_head.new.out.items c.show.new.out.items c.in_ok-has_ended.has_ended c.conclude.result c.in_ok-write_continue_head.ensures c.in_ok-has_ended.ensures.shown
+    gains_on st c.args.number (going_of c.args.going) c.args.most m there (query_of c.show_query.new.query) (state_of c.conclude.new.self) c.args.out.now.items
+    c.write_continue_head.new.out.items c.show_query.new.out.items c.in_ok-has_ended.has_ended c.conclude.result c.in_ok-write_continue_head.ensures c.in_ok-has_ended.ensures.shown
     (c.conclude.ensures.state ∙ ap (state_after st c.args.going.number) c.left_by.ensures.left) (c.conclude.ensures.refused ∙ ap refuses c.left_by.ensures.left)

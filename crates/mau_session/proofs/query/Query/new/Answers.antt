@@ -14,7 +14,7 @@ returns-clause-ready c =
     let number = c.in_ok-number.number in
     let e = c.in_ok-number.ensures in
     let extends = c.put_identities.ensures.extends in
-    fresh_ready s c.is_lawful.ensures (record { pattern = c.args.pattern; subject = c.args.subject; vars = c.args.vars; store = store; sorts = sorts; number = number; last = None; shown = 0 }) refl c.requires.pattern c.requires.subject
+    fresh_ready s c.is_lawful.ensures (record { with_context = c.args.with_context; pattern = c.args.pattern; subject = c.args.subject; vars = c.args.vars; store = store; sorts = sorts; number = number; last = None; shown = 0 }) refl c.requires.pattern c.requires.subject
     (stands_within_extended (theory_at s) old store extends number.0 e.within) (tree_at-extends old store number.0 extends e.within.there ∙ e.ok) c.settle_terms.ensures.nodes
     c.in_ok-put_identities.ensures.identities c.in_ok-settle_terms.ensures.settled c.settle_terms.ensures.over (c.settle_terms.ensures.entries (no_entries s store c.new-sorts.result c.new-sorts.ensures.value))
     c.requires.numbered c.requires.few c.requires.small

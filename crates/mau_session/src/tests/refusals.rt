@@ -1,0 +1,119 @@
+//! Items that are refused.
+
+use super::{F, answer};
+use crate::Status;
+use std::test::Fail;
+
+#[test]
+fn refuses_by_name_and_place(rt: HostRuntime) -> Result<(), Fail> {
+    let rows = [
+        (
+            "fmod G is sort S . op a : -> S [strat (0)] . endfm",
+            "[1] refused: NotBuilt strat 32\n",
+        ),
+        (
+            "fmod G is sort S . op _+_ : S S -> S [prec 1 prec 2] . endfm",
+            "[1] refused: NotBuilt prec 45\n",
+        ),
+        (
+            "fmod G is sort S . op -_ : S -> S [gather (E) gather (e)] . endfm",
+            "[1] refused: NotBuilt gather 46\n",
+        ),
+        (
+            "fmod G is sort S . op a : -> S [prec 128] . endfm",
+            "[1] refused: Unexpected 37\n",
+        ),
+        (
+            "fmod G is sort S . op f : S S -> S [id: idem] . endfm",
+            "[1] refused: Unexpected 40\n",
+        ),
+        (
+            "fmod I is sort S . op f : S S -> S [idem] . endfm",
+            "[1] refused: Unsupported idem 36\n",
+        ),
+        ("fmod A is sort S .", "[1] refused: Unended 0\n"),
+        ("match a <=? a .", "[1] refused: NotBuilt match 0\n"),
+        (
+            "fmod A is op a : -> T . endfm",
+            "[1] refused: NotBuilt T 20\n",
+        ),
+        (
+            "fmod A is sort S . op ***a : -> S . endfm",
+            "[1] refused: Unended 0\n",
+        ),
+        (
+            "fmod A is sort S . op f_---g : S -> S . endfm",
+            "[1] refused: Unexpected 22\n",
+        ),
+        (
+            "fmod A is sort S . op a : -> S endfm",
+            "[1] refused: Unexpected 31\n",
+        ),
+        (
+            "fmod A is protecting NAT . sort S . endfm",
+            "[1] refused: NotBuilt protecting 10\n",
+        ),
+        (
+            "fmod A is sort S . vars X Y : T . endfm",
+            "[1] refused: NotBuilt T 30\n",
+        ),
+        (
+            "fmod A is sort S . var HOLE : S . endfm",
+            "[1] refused: Unexpected 23\n",
+        ),
+        (
+            "mod A is sort S . ops a b : -> S . rl a => b . endm",
+            "[1] refused: NotBuilt rl 35\n",
+        ),
+        ("foo .", "[1] refused: Unexpected 0\n"),
+        ("foo", "[1] refused: Unended 0\n"),
+        ("load x .", "[1] refused: Unsupported load 0\n"),
+        (
+            "set include on .",
+            "[1] refused: Unsupported set include 0\n",
+        ),
+        ("set trace on .", "[1] refused: NotBuilt set 0\n"),
+        ("reduce a .", "[1] refused: NotBuilt reduce 0\n"),
+        ("red .", "[1] refused: NotBuilt red 0\n"),
+        ("smod A is foo endsm", "[1] refused: NotBuilt smod 0\n"),
+        ("***(", "refused: OpenComment 0\n"),
+        ("fmod \"A", "refused: OpenString 5\n"),
+    ];
+    for (text, wanted) in rows {
+        let (bytes, status) = answer(rt.alloc(), &["run"], text)?;
+        assert_eq!(rt; bytes.as_slice(), wanted.as_bytes());
+        assert_eq!(rt; status, Status::Refused);
+    }
+    let rows = [
+        ("match f(a, b) <=? g(a) .", "NoParse 81"),
+        ("match g(a) <=? f(a, b) .", "NoParse 69"),
+        ("match f(a, b) <=? a .", "NoParse 81"),
+        ("match f(a) <=? f(a, b) .", "NoParse 69"),
+        ("match f(X:S, f(a, b)) <=? f(a, b) .", "NoParse 69"),
+        ("match [0] a <=? a .", "BadBound"),
+        ("match [1000000000001] a <=? a .", "BadBound"),
+        ("match [99999999999999999999999] a <=? a .", "BadBound"),
+        ("match in G : a <=? a .", "UnknownModule G"),
+        ("match [0] in G : a <=? a .", "UnknownModule G"),
+        ("match [0] in F : foo <=? a .", "BadBound"),
+        ("match [07] a <=? a .", "NoParse 69"),
+        ("match in F a <=? a .", "NoParse 69"),
+        ("continue .", "NothingToContinue"),
+        ("cont 2 .", "NothingToContinue"),
+        ("continue 0 .", "BadBound"),
+        ("match a .", "Unexpected 71"),
+        ("match <=? a .", "Unexpected 69"),
+        ("match a <=? .", "Unexpected 75"),
+        ("match a <=? a such that a = a .", "NotBuilt such 77"),
+        ("match a <=? a s.t. a = a .", "NotBuilt s.t. 77"),
+        ("match a <=? a", "Unended 63"),
+    ];
+    for (command, refusal) in rows {
+        let text = format!(in rt.alloc(); "{F}{command}")?;
+        let wanted = format!(in rt.alloc(); "[1] module F\n[2] refused: {refusal}\n")?;
+        let (bytes, status) = answer(rt.alloc(), &["run"], &text)?;
+        assert_eq!(rt; bytes.as_slice(), wanted.as_bytes());
+        assert_eq!(rt; status, Status::Refused);
+    }
+    Ok(())
+}
