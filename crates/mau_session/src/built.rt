@@ -20,7 +20,7 @@ pub fn is_match(kind: CommandKind) -> bool
     ensures { result ≡ Built.is_match kind }
 {
     match kind {
-        CommandKind::Match => true,
+        CommandKind::Match | CommandKind::Xmatch => true,
         _ => false,
     }
 }
@@ -51,16 +51,7 @@ pub fn begins_unbuilt(word: &str) -> bool
 {
     matches!(
         word,
-        "smod"
-            | "xmatch"
-            | "reduce"
-            | "red"
-            | "rewrite"
-            | "rew"
-            | "frewrite"
-            | "frew"
-            | "dsrewrite"
-            | "dsrew"
+        "smod" | "reduce" | "red" | "rewrite" | "rew" | "frewrite" | "frew" | "dsrewrite" | "dsrew"
     )
 }
 

@@ -5,6 +5,7 @@ ghost use Rattle.mau_session.specs.Next.{GainsShown};
 
 use crate::listing::show;
 use crate::query::Query;
+use mau_extend::ExtListing;
 use mau_match::Listing;
 use mau_reader::Module;
 use mau_terms::NoMemory;
@@ -24,8 +25,8 @@ pub fn show_query(
     ensures ready { OnOk result (IsReady module.now.signature query.new) }
 {
     if query.with_context {
-        // No command asks for it as long as there is no listing with contexts.
-        return Err(NoMemory);
+        show::<ExtListing<Listing>>(out, alloc, module, query, most)
+    } else {
+        show::<Listing>(out, alloc, module, query, most)
     }
-    show::<Listing>(out, alloc, module, query, most)
 }

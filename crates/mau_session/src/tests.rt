@@ -1,5 +1,6 @@
 //! Whole texts and their transcripts.
 
+mod contexts;
 mod listings;
 mod mixfix;
 mod modules;
