@@ -23,6 +23,7 @@ use std::marker::PhantomData;
 
 /// A listing of solutions with their contexts, over any listing of those without. Where the top of the pattern's normal form is an
 /// associative operator, the pattern is widened by variables for the contexts. What goes on from call to call is the last solution alone.
+#[derive(Drop)]
 pub struct ExtListing<L> {
     trial: Trial,
     of: PhantomData<L>,

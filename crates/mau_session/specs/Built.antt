@@ -34,8 +34,7 @@ is_continue _ = false
 -- the words with which items begin that aren't built yet
 abbrev pub begins_unbuilt : List ℕ → Bool
 begins_unbuilt w =
-    bytes_eq w (codes "smod")
-    || bytes_eq w (codes "reduce") || bytes_eq w (codes "red") || bytes_eq w (codes "rewrite") || bytes_eq w (codes "rew")
+    bytes_eq w (codes "smod") || bytes_eq w (codes "reduce") || bytes_eq w (codes "red") || bytes_eq w (codes "rewrite") || bytes_eq w (codes "rew")
     || bytes_eq w (codes "frewrite") || bytes_eq w (codes "frew") || bytes_eq w (codes "dsrewrite") || bytes_eq w (codes "dsrew")
 
 abbrev pub is_unended : TextFault → Bool

@@ -15,7 +15,7 @@ pub fn is_built_module(kind: ModuleKind) -> bool
     }
 }
 
-/// Whether a command is a match.
+/// Whether a command is a match, with contexts or without.
 pub fn is_match(kind: CommandKind) -> bool
     ensures { result ≡ Built.is_match kind }
 {
