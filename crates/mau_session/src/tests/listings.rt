@@ -76,10 +76,10 @@ fn tests_values_by_their_sorts(rt: HostRuntime) -> Result<(), Fail> {
     Ok(())
 }
 
-const C: &str =
+pub const C: &str =
     "fmod C is sort S . ops a e : -> S . op h : S S -> S [comm] . op k : S S -> S [id: e] . endfm";
 
-const SET: &str =
+pub const SET: &str =
     "fmod SET is sorts Elt Set . subsort Elt < Set . ops a b c : -> Elt . op none : -> Set . \
     op __ : Set Set -> Set [assoc comm id: none] . endfm";
 
@@ -87,15 +87,15 @@ const SET_K: &str =
     "fmod SET is sorts Elt Set . subsort Elt < Set . ops a b c : -> Elt . op none : -> Set . \
     op __ : Set Set -> Set [assoc comm id: none] . op k : Set Set -> Set [id: nil] . op nil : -> Set . endfm";
 
-const LST: &str = "fmod LST is sorts Elt Lst . subsort Elt < Lst . ops a b : -> Elt . \
+pub const LST: &str = "fmod LST is sorts Elt Lst . subsort Elt < Lst . ops a b : -> Elt . \
     op __ : Lst Lst -> Lst [assoc] . endfm";
 
-const LST_NIL: &str =
+pub const LST_NIL: &str =
     "fmod LST is sorts Elt Lst . subsort Elt < Lst . ops a b : -> Elt . op nil : -> Lst . \
     op __ : Lst Lst -> Lst [assoc id: nil] . endfm";
 
 /// A module, its name, a command over it, and what stands behind the first line of its answer.
-type Row = (&'static str, &'static str, &'static str, &'static str);
+pub type Row = (&'static str, &'static str, &'static str, &'static str);
 
 const AXIOMS: [Row; 12] = [
     (
