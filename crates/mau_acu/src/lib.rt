@@ -4,6 +4,3 @@
 mod values;
 
 pub use values::acu_values;
-
-#[cfg(test)]
-mod tests;

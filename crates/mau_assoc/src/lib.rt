@@ -4,6 +4,3 @@
 mod values;
 
 pub use values::assoc_values;
-
-#[cfg(test)]
-mod tests;

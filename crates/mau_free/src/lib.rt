@@ -5,6 +5,3 @@ mod taken;
 mod values;
 
 pub use values::free_values;
-
-#[cfg(test)]
-mod tests;

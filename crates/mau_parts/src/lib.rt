@@ -14,6 +14,3 @@ pub use nearest::nearest_behind;
 pub use next::next_value;
 pub use part::{Part, Reach};
 pub use taken::next_taken;
-
-#[cfg(test)]
-mod tests;

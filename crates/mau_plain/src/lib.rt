@@ -16,6 +16,3 @@ pub use facts::{has_nodes, is_lawful};
 pub use fits::is_for;
 pub use listing::PlainListing;
 pub use tried::{Trial, copy_bound, solution_of, solves, variables_of};
-
-#[cfg(test)]
-mod tests;
