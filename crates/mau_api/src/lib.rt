@@ -1,4 +1,5 @@
-//! Listings of solutions: what solves a pattern and a subject, the trait that each listing implements, and what listings share.
+//! Listings of solutions: what solves a pattern and a subject, the trait that each listing implements, and what listings share. Statements of
+//! modules.
 #![tactic(auto)]
 
 mod first;
@@ -9,6 +10,7 @@ mod places;
 mod prepared;
 mod settle;
 mod solution;
+mod statements;
 
 pub use first::{FirstSolutions, first_solutions};
 pub use lister::{Lister, WholeLister};
@@ -17,6 +19,7 @@ pub use places::{Place, places_of};
 pub use prepared::{put_identities, settle_store};
 pub use settle::settle_value;
 pub use solution::Solution;
+pub use statements::{Equation, Fragment, Membership, Program, Rule};
 
 #[cfg(test)]
 mod tests;

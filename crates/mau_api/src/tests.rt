@@ -1,10 +1,10 @@
-//! Lists of terms in order, solutions that are copied, and values that no listing settles.
+//! Lists of terms in order, solutions and fragments that are copied, and values that no listing settles.
 use super::*;
 use mau_poset::Poset;
 use mau_signature::{SigFault, Signature};
 use mau_sorts::SortTable;
 use mau_store::{NodeView, Store};
-use mau_terms::{Seq, VarId};
+use mau_terms::{Bare, Seq, VarId};
 use std::alloc::Global;
 use std::cmp::Ordering;
 use std::test::Fail;
@@ -47,6 +47,34 @@ fn a_solution_is_copied(rt: HostRuntime) -> Result<(), Fail> {
     assert!(rt; copy.left.items().is_empty());
     assert_eq!(rt; copy.right.items(), [one].as_slice());
     assert_eq!(rt; copy.values.items(), [two, one].as_slice());
+    Ok(())
+}
+
+/// Whether two fragments are of one kind and have the same terms and sort.
+fn are_same(one: &Fragment, other: &Fragment) -> bool {
+    match (one, other) {
+        (Fragment::Equal(t, u), Fragment::Equal(v, w)) => t.same(v) && u.same(w),
+        (Fragment::Match(t, u), Fragment::Match(v, w)) => t.same(v) && u.same(w),
+        (Fragment::Sort(t, sort), Fragment::Sort(v, other)) => t.same(v) && sort == other,
+        (Fragment::Reach(t, u), Fragment::Reach(v, w)) => t.same(v) && u.same(w),
+        _ => false,
+    }
+}
+
+#[test]
+fn a_fragment_is_copied(rt: HostRuntime) -> Result<(), Fail> {
+    let alloc = rt.alloc();
+    let x = VarId { index: 0, sort: 1 };
+    let fragments = [
+        Fragment::Equal(Bare::Var(x), Bare::Num(2)),
+        Fragment::Match(Bare::Num(2), Bare::Var(x)),
+        Fragment::Sort(Bare::Var(x), 3),
+        Fragment::Reach(Bare::Num(4), Bare::Num(5)),
+    ];
+    for fragment in &fragments {
+        assert!(rt; are_same(fragment, &fragment.copy(alloc)?));
+    }
+    assert!(rt; !are_same(&fragments[0], &fragments[1]));
     Ok(())
 }
 
