@@ -22,10 +22,13 @@ use Rattle.mau_session.specs.Transcript.{PatternReads, SubjectReads, TermsAnswer
 use Rattle.mau_session.specs.Gains.{GainsListing, GainsListed, gains_solutions, gains_too_deep, gains_overflow, GainsTerms, ChosenAnswer, chosen_refused, chosen_answered, GainsChosen, GainsMatch, GainsOn, GainsContinue, GainsBody, GainsItem}
 use Rattle.mau_session.specs.Answers.{listing_lines, match_head, continue_head, too_deep_line, overflow_line}
 
--- a refusal that was written answers an item
+-- what was written answers an item, where it is known whether that is a refusal
+pub answered_with : {E A : Type 0} (v : Bool) (P : Bool → Type 0) (r : Result Bool E) → OnOk r A → IfOk r (λ b. b ≡ v) → (A → P v) → IfOk r P
+answered_with v P (Ok b) a e f = subst P (sym e) (f a)
+answered_with v P (Err e) a h f = tt
+
 pub refused_with : {E A : Type 0} (P : Bool → Type 0) (r : Result Bool E) → OnOk r A → IfOk r (λ b. b ≡ true) → (A → P true) → IfOk r P
-refused_with P (Ok b) a e f = subst P (sym e) (f a)
-refused_with P (Err e) a h f = tt
+refused_with = answered_with true
 
 -- so does the fault of a term
 pub unread_with : {T E A B : Type 0} (v : T) (P : T → Type 0) (r : Result T E) → OnOk r A → OnOk r B → IfOk r (λ b. b ≡ v) → (A → B → P v) → IfOk r P
@@ -141,7 +144,7 @@ continues ws st taken k c most g next o n refused bound going on =
     }
 
 -- the answer of a match command over a module that was chosen
-pub gains_chosen : (ws : List Word) (st : StateOf) (k i : ℕ) (c : RawCommand) (n : ℕ) (next : StateOf) (old new : List ℕ) (refused : Bool) → unbuilt ws st.modules i c ≡ None → IsChosen ws st.modules c n
+pub gains_chosen : (ws : List Word) (st : StateOf) (k i : ℕ) (c : RawCommand) (n : ℕ) (next : StateOf) (old new : List ℕ) (refused : Bool) → unbuilt ws st.current i c ≡ None → IsChosen ws st c n
     → GainsChosen ws st k c n next old new refused → GainsMatch ws st k i c next old new refused
 gains_chosen ws st k i c n next old new refused built chosen g = record { bytes = g.bytes; answer = by g.answer; gained = g.gained }
   where

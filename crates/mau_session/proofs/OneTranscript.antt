@@ -19,6 +19,7 @@ use Rattle.mau_modtext.specs.declared.raw.RawItem.{RawItem}
 use Rattle.mau_modtext.specs.declared.raw.RawBody.{RawBody}
 use Rattle.mau_modtext.specs.declared.raw.RawBody.TheVariants.{Quit}
 use Rattle.mau_modtext.specs.declared.raw.RawCommand.{RawCommand}
+use Rattle.mau_modtext.specs.declared.raw.Setting.{Setting}
 use Rattle.mau_reader.specs.Words.{index_at, token_text, token_index}
 use Rattle.mau_reader.specs.Modules.{ModuleOf}
 use Rattle.mau_tokens.specs.declared.token.Token.{Token}
@@ -31,9 +32,9 @@ use Rattle.mau_session.specs.Commands.{unbuilt}
 use Rattle.mau_session.specs.Built.{has_context, fault_answer}
 use Rattle.mau_session.specs.Answers.{refusal_line, faulty_line, shown_parse_fault, module_refusal, fault_line, module_line, match_head, continue_head, listing_lines}
 use Rattle.mau_session.specs.Query.{asked_first, shown_more}
-use Rattle.mau_session.specs.State.{GoingOf, StateOf, nothing_yet, accepted, LastNamed, IsChosen, current_one, named_one, NamesNone, OutcomeOf, left_by, refuses, state_after}
+use Rattle.mau_session.specs.State.{GoingOf, StateOf, nothing_yet, accepted, selected, LastNamed, IsChosen, current_one, named_one, NamesNone, OutcomeOf, left_by, refuses, state_after}
 use Rattle.mau_session.specs.Bounds.{bound_of}
-use Rattle.mau_session.specs.Transcript.{PatternReads, SubjectReads, TermsAnswer, pattern_refused, subject_refused, too_deep, overflows, listed, MatchAnswer, command_not_built, module_unknown, bound_refused, command_answered, ContinueAnswer, number_refused, nothing_to_continue, continued, BodyAnswer, module_not_built, module_accepted, module_refused, match_answered, continue_answered, other_not_built, setting_not_built, ItemAnswer, item_faulty, item_answered, ItemsAnswer, items_end, item_quits, item_first, Transcript, text_refused, items_answered}
+use Rattle.mau_session.specs.Transcript.{PatternReads, SubjectReads, TermsAnswer, pattern_refused, subject_refused, too_deep, overflows, listed, MatchAnswer, command_not_built, module_unknown, bound_refused, command_answered, ContinueAnswer, number_refused, nothing_to_continue, continued, BodyAnswer, module_not_built, module_accepted, module_refused, match_answered, continue_answered, other_not_built, SettingAnswer, trace_not_built, trace_off, changes_nothing, module_selected, selects_none, setting_answered, ItemAnswer, item_faulty, item_answered, ItemsAnswer, items_end, item_quits, item_first, Transcript, text_refused, items_answered}
 use Rattle.mau_tokens.proofs.Answer.{answers_are_one}
 use Rattle.mau_session.proofs.Naming.{named_once}
 use Rattle.mau_session.proofs.OneListing.{shows_once}
@@ -163,12 +164,12 @@ one_item : {st : StateOf} {b : List ℕ} {r : Bool} → AreOneItem st st b b r r
 one_item = record { state = refl; bytes = refl; refused = refl }
 
 module _ (ws : List Word) (st : StateOf) (k i : ℕ) (c : RawCommand) where
-  built_or_not : {l : ℕ} → unbuilt ws st.modules i c ≡ Some l → unbuilt ws st.modules i c ≡ None → ⊥
+  built_or_not : {l : ℕ} → unbuilt ws st.current i c ≡ Some l → unbuilt ws st.current i c ≡ None → ⊥
   built_or_not e n = let o = sym e ∙ n in absurd cc
 
   -- a command has one module, or none
-  chosen_once : {n o : ℕ} → IsChosen ws st.modules c n → IsChosen ws st.modules c o → n ≡ o
-  chosen_once (current_one n e h) (current_one o d l) = omega (arith, h, l)
+  chosen_once : {n o : ℕ} → IsChosen ws st c n → IsChosen ws st c o → n ≡ o
+  chosen_once (current_one n e h) (current_one o d l) = let f = sym h ∙ l in cc
   chosen_once (current_one n e h) (named_one t o d l) = let f = sym e ∙ d in absurd cc
   chosen_once (named_one t n e h) (current_one o d l) = let f = sym e ∙ d in absurd cc
   chosen_once (named_one t n e h) (named_one u o d l) =
@@ -177,7 +178,7 @@ module _ (ws : List Word) (st : StateOf) (k i : ℕ) (c : RawCommand) where
       let one = named_once st.modules (token_text ws t) (Some n) (Some o) h (subst (λ x. LastNamed st.modules (token_text ws x) (length st.modules) (Some o)) (sym same) l) in
       cc
 
-  never_chosen : {t : Token} {n : ℕ} → NamesNone ws st.modules c t → IsChosen ws st.modules c n → ⊥
+  never_chosen : {t : Token} {n : ℕ} → NamesNone ws st c t → IsChosen ws st c n → ⊥
   never_chosen {t} none (current_one n e h) = let f = sym e ∙ none.given in absurd cc
   never_chosen {t} none (named_one u n e h) =
       let f = sym e ∙ none.given in
@@ -185,7 +186,7 @@ module _ (ws : List Word) (st : StateOf) (k i : ℕ) (c : RawCommand) where
       let one = named_once st.modules (token_text ws t) None (Some n) none.none (subst (λ x. LastNamed st.modules (token_text ws x) (length st.modules) (Some n)) same h) in
       absurd cc
 
-  unknown_once : {t u : Token} → NamesNone ws st.modules c t → NamesNone ws st.modules c u → t ≡ u
+  unknown_once : {t u : Token} → NamesNone ws st c t → NamesNone ws st c u → t ≡ u
   unknown_once x y = let f = sym x.given ∙ y.given in cc
 
   bound_or_refused : {most : Option ℕ} {r : Refusal} → bound_of ws c.bound ≡ Ok most → bound_of ws c.bound ≡ Err r → ⊥
@@ -252,6 +253,18 @@ module _ (ws : List Word) (st : StateOf) (k i : ℕ) (c : RawCommand) where
       }
 
 module _ (ws : List Word) (st : StateOf) (k i : ℕ) where
+  setting_once : {x : Setting} {u v : StateOf} {b c : List ℕ} {r s : Bool} → SettingAnswer ws st k i x u b r → SettingAnswer ws st k i x v c s → AreOneItem u v b c r s
+  setting_once trace_not_built trace_not_built = one_item
+  setting_once trace_off trace_off = one_item
+  setting_once changes_nothing changes_nothing = one_item
+  setting_once (module_selected name n h) (module_selected name' n' h') =
+      let one = named_once st.modules name (Some n) (Some n') h h' in
+      let same : n ≡ n' = cc in
+      record { state = ap (selected st) same; bytes = refl; refused = refl }
+  setting_once (module_selected name n h) (selects_none name' h') = let one = named_once st.modules name (Some n) None h h' in absurd cc
+  setting_once (selects_none name h) (module_selected name' n' h') = let one = named_once st.modules name None (Some n') h h' in absurd cc
+  setting_once (selects_none name h) (selects_none name' h') = one_item
+
   body_once : {x : RawBody} {u v : StateOf} {b c : List ℕ} {r s : Bool} → BodyAnswer ws st k i x u b r → BodyAnswer ws st k i x v c s → AreOneItem u v b c r s
   body_once (module_not_built raw f) (module_not_built raw' f') = one_item
   body_once (module_not_built raw f) (module_accepted raw' m' t' x') = absurd (yes_no _ t' f)
@@ -277,7 +290,7 @@ module _ (ws : List Word) (st : StateOf) (k i : ℕ) where
   body_once (other_not_built c f g) (match_answered c' n' b' r' t' x') = absurd (yes_no _ t' f)
   body_once (other_not_built c f g) (continue_answered c' n' b' r' f' t' x') = absurd (yes_no _ t' g)
   body_once (other_not_built c f g) (other_not_built c' f' g') = one_item
-  body_once (setting_not_built s) (setting_not_built s') = one_item
+  body_once (setting_answered x n b r h) (setting_answered x' n' b' r' h') = setting_once h h'
 
 module _ (ws : List Word) (st : StateOf) (k : ℕ) (item : RawItem) where
   item_once : {u v : StateOf} {b c : List ℕ} {r s : Bool} → ItemAnswer ws st k item u b r → ItemAnswer ws st k item v c s → AreOneItem u v b c r s

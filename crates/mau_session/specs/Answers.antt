@@ -76,7 +76,15 @@ shown_fault NoMemory = []
 abbrev pub fault_line : TokenFault → List ℕ
 fault_line f = codes "refused: " ++ shown_fault f ++ codes "\n"
 
--- ---- modules and listings
+-- ---- settings, modules and listings
+
+-- the answer of a setting
+abbrev pub ok_line : ℕ → List ℕ
+ok_line k = item_head k ++ codes "ok\n"
+
+-- the answer of an item that names a module which isn't there
+abbrev pub unknown_module_line : ℕ → List ℕ → List ℕ
+unknown_module_line k name = faulty_line k (codes "UnknownModule " ++ name)
 
 abbrev pub module_line : ℕ → ModuleOf → List ℕ
 module_line k m = item_head k ++ codes "module " ++ m.name ++ codes "\n"

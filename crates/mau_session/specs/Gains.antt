@@ -9,6 +9,7 @@ use Rattle.mau_modtext.specs.Word.{Word}
 use Rattle.mau_modtext.specs.declared.raw.RawItem.{RawItem}
 use Rattle.mau_modtext.specs.declared.raw.RawBody.{RawBody}
 use Rattle.mau_modtext.specs.declared.raw.RawCommand.{RawCommand}
+use Rattle.mau_modtext.specs.declared.raw.Setting.{Setting}
 use Rattle.mau_reader.specs.Modules.{ModuleOf}
 use Rattle.mau_session.specs.Terms.{Pairs, terms_in}
 use Rattle.mau_session.specs.Matching.{Shows}
@@ -17,7 +18,7 @@ use Rattle.mau_session.specs.State.{GoingOf, StateOf, OutcomeOf, has_ended, left
 use Rattle.mau_session.specs.Bounds.{bound_of}
 use Rattle.mau_session.specs.declared.refusal.Refusal.{Refusal}
 use Rattle.mau_session.specs.Answers.{refusal_line, continue_head, listing_lines, too_deep_line, overflow_line}
-use Rattle.mau_session.specs.Transcript.{TermsAnswer, MatchAnswer, ContinueAnswer, BodyAnswer, ItemAnswer}
+use Rattle.mau_session.specs.Transcript.{TermsAnswer, MatchAnswer, ContinueAnswer, SettingAnswer, BodyAnswer, ItemAnswer}
 
 -- the bytes gained are the lines of the listing
 pub record GainsListing (m : ModuleOf) (ns : Pairs) (w : Bool) (p t : Tree) (most : Option ℕ) (left : OutcomeOf) (old new : List ℕ) : Type 0 where
@@ -69,6 +70,11 @@ pub record GainsOn (st : StateOf) (k : ℕ) (g : GoingOf) (most : Option ℕ) (n
 pub record GainsContinue (ws : List Word) (st : StateOf) (k : ℕ) (c : RawCommand) (next : StateOf) (old new : List ℕ) (refused : Bool) : Type 0 where
   pub bytes : List ℕ
   pub answer : ContinueAnswer ws st k c next bytes refused
+  pub gained : new ≡ old ++ bytes
+
+pub record GainsSetting (ws : List Word) (st : StateOf) (k i : ℕ) (s : Setting) (next : StateOf) (old new : List ℕ) (refused : Bool) : Type 0 where
+  pub bytes : List ℕ
+  pub answer : SettingAnswer ws st k i s next bytes refused
   pub gained : new ≡ old ++ bytes
 
 pub record GainsBody (ws : List Word) (st : StateOf) (k i : ℕ) (b : RawBody) (next : StateOf) (old new : List ℕ) (refused : Bool) : Type 0 where

@@ -1,5 +1,5 @@
--- The state between items: the accepted modules, and what `continue` goes on with.
-use Rattle.std.specs.Prelude.{◌≡◌, ◌≢◌, ℕ, ◌+◌, ◌<◌, Bool, true, false, List, [], ◌∷◌, ◌++◌, length, Option, None, Some, IfSome, slice_get}
+-- The state between items: the accepted modules, the current one, and what `continue` goes on with.
+use Rattle.std.specs.Prelude.{◌≡◌, ◌≢◌, ℕ, ◌<◌, Bool, true, false, List, [], ◌∷◌, ◌++◌, length, Option, None, Some, IfSome, slice_get}
 use Rattle.std.specs.Option.{option_map}
 use Rattle.mau_tokens.specs.declared.token.Token.{Token}
 use Rattle.mau_modtext.specs.Word.{Word}
@@ -19,17 +19,23 @@ pub record GoingOf : Type 0 where
   pub number : ℕ
   pub query : QueryOf
 
--- all accepted modules in order, numbered from 0, and what `continue` goes on with, if there is something
+-- all accepted modules in order, numbered from 0, the number of the current one, if there is one, and what `continue` goes on with, if
+-- there is something
 pub record StateOf : Type 0 where
   pub modules : List ModuleOf
+  pub current : Option ℕ
   pub going : Option GoingOf
 
 abbrev pub nothing_yet : StateOf
-nothing_yet = record { modules = []; going = None }
+nothing_yet = record { modules = []; current = None; going = None }
 
--- after a module was accepted
+-- after a module was accepted, which is the current one then
 abbrev pub accepted : StateOf → ModuleOf → StateOf
-accepted st m = record st { modules = st.modules ++ m ∷ [] }
+accepted st m = record st { modules = st.modules ++ m ∷ []; current = Some (length st.modules) }
+
+-- after the module with a number was made the current one
+abbrev pub selected : StateOf → ℕ → StateOf
+selected st i = record st { current = Some i }
 
 -- ---- the module of a command
 
@@ -39,20 +45,24 @@ pub data LastNamed (ms : List ModuleOf) (name : List ℕ) (n : ℕ) : Option ℕ
   last_named : (i : ℕ) (m : ModuleOf) → i < n → slice_get ms i ≡ Some m → m.name ≡ name
       → ((j : ℕ) (o : ModuleOf) → i < j → j < n → slice_get ms j ≡ Some o → o.name ≢ name) → LastNamed ms name n (Some i)
 
--- the number of a command's module: the last one accepted, which is the current one, or the last one of the name that the command gives
-pub data IsChosen (ws : List Word) (ms : List ModuleOf) (c : RawCommand) : ℕ → Type 0 where
-  current_one : (i : ℕ) → c.«module» ≡ None → i + 1 ≡ length ms → IsChosen ws ms c i
-  named_one : (t : Token) (i : ℕ) → c.«module» ≡ Some t → LastNamed ms (token_text ws t) (length ms) (Some i) → IsChosen ws ms c i
+-- the number of the module of a name: the last one accepted that has it, or none
+abbrev pub Named : StateOf → List ℕ → Option ℕ → Type 0
+Named st name = LastNamed st.modules name (length st.modules)
+
+-- the number of a command's module: the current one, or that of the name that the command gives
+pub data IsChosen (ws : List Word) (st : StateOf) (c : RawCommand) : ℕ → Type 0 where
+  current_one : (i : ℕ) → c.«module» ≡ None → st.current ≡ Some i → IsChosen ws st c i
+  named_one : (t : Token) (i : ℕ) → c.«module» ≡ Some t → Named st (token_text ws t) (Some i) → IsChosen ws st c i
 
 -- no module has the name that the command gives
-pub record NamesNone (ws : List Word) (ms : List ModuleOf) (c : RawCommand) (t : Token) : Type 0 where
+pub record NamesNone (ws : List Word) (st : StateOf) (c : RawCommand) (t : Token) : Type 0 where
   pub given : c.«module» ≡ Some t
-  pub none : LastNamed ms (token_text ws t) (length ms) None
+  pub none : Named st (token_text ws t) None
 
 -- so the command is refused
-pub record IsUnknown (ws : List Word) (ms : List ModuleOf) (c : RawCommand) (r : Refusal) : Type 0 where
+pub record IsUnknown (ws : List Word) (st : StateOf) (c : RawCommand) (r : Refusal) : Type 0 where
   pub token : Token
-  pub none : NamesNone ws ms c token
+  pub none : NamesNone ws st c token
   pub named : r ≡ UnknownModule (token_index ws token)
 
 -- ---- what a command leaves
@@ -85,7 +95,7 @@ abbrev pub going_of : Going → GoingOf
 going_of g = record { number = g.number; query = query_of g.query }
 
 abbrev pub state_of : State → StateOf
-state_of s = record { modules = s.modules.items; going = option_map going_of s.going }
+state_of s = record { modules = s.modules.items; current = s.current; going = option_map going_of s.going }
 
 abbrev pub outcome_of : Outcome → OutcomeOf
 outcome_of Refused = is_refused
@@ -98,8 +108,10 @@ pub record IsReadyAt (ms : List ModuleOf) (g : Going) : Type 0 where
   pub there : slice_get ms g.number ≡ Some «module»
   pub ready : IsReady «module».signature g.query
 
-abbrev pub IsReadyState : State → Type 0
-IsReadyState s = IfSome s.going (IsReadyAt s.modules.items)
+-- the current module is one, and so is that of what goes on
+pub record IsReadyState (s : State) : Type 0 where
+  pub current : IfSome s.current (λ i. i < length s.modules.items)
+  pub going : IfSome s.going (IsReadyAt s.modules.items)
 
 -- what goes on is ready over a module
 abbrev pub IsReadyOutcome : ModuleOf → Outcome → Type 0

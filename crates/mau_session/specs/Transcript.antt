@@ -18,6 +18,7 @@ use Rattle.mau_modtext.specs.declared.raw.RawBody.TheVariants.{Module, Command, 
 use Rattle.mau_modtext.specs.declared.raw.RawModule.{RawModule}
 use Rattle.mau_modtext.specs.declared.raw.RawCommand.{RawCommand}
 use Rattle.mau_modtext.specs.declared.raw.Setting.{Setting}
+use Rattle.mau_modtext.specs.declared.raw.Setting.TheVariants.{Trace, Select, Ignored}
 use Rattle.mau_modtext.specs.declared.raw.TextFault.{TextFault}
 use Rattle.mau_parse.specs.declared.goals.Goal.TheVariants.{AnyKind, Kind}
 use Rattle.mau_parse.specs.declared.fault.ParseFault.{ParseFault}
@@ -30,11 +31,11 @@ use Rattle.mau_session.specs.Terms.{Pairs, terms_in, kind_of_term}
 use Rattle.mau_session.specs.Reading.{TermReads, IsUnread}
 use Rattle.mau_session.specs.Matching.{Shows}
 use Rattle.mau_session.specs.Query.{asked_first, shown_more}
-use Rattle.mau_session.specs.State.{GoingOf, StateOf, nothing_yet, accepted, IsChosen, NamesNone, OutcomeOf, is_refused, has_ended, left_by, refuses, state_after}
+use Rattle.mau_session.specs.State.{GoingOf, StateOf, nothing_yet, accepted, selected, Named, IsChosen, NamesNone, OutcomeOf, is_refused, has_ended, left_by, refuses, state_after}
 use Rattle.mau_session.specs.Bounds.{bound_of}
 use Rattle.mau_session.specs.Commands.{unbuilt}
 use Rattle.mau_session.specs.Built.{is_built_module, is_match, has_context, is_continue, fault_answer}
-use Rattle.mau_session.specs.Answers.{refusal_line, fault_line, parse_fault_line, module_refusal, module_line, match_head, continue_head, too_deep_line, overflow_line, listing_lines}
+use Rattle.mau_session.specs.Answers.{refusal_line, fault_line, parse_fault_line, module_refusal, ok_line, unknown_module_line, module_line, match_head, continue_head, too_deep_line, overflow_line, listing_lines}
 
 -- ---- the answer of a match command
 
@@ -65,10 +66,10 @@ pub data TermsAnswer (ws : List Word) (m : ModuleOf) (k : ℕ) (c : RawCommand) 
 -- The match command begins at the word i; the state after it is told. Its module is looked for before its bound is judged, and both
 -- before its terms are read.
 pub data MatchAnswer (ws : List Word) (st : StateOf) (k i : ℕ) (c : RawCommand) : StateOf → List ℕ → Bool → Type 0 where
-  command_not_built : (l : ℕ) → unbuilt ws st.modules i c ≡ Some l → MatchAnswer ws st k i c st (refusal_line k ws (NotBuilt l)) true
-  module_unknown : (t : Token) → unbuilt ws st.modules i c ≡ None → NamesNone ws st.modules c t → MatchAnswer ws st k i c st (refusal_line k ws (UnknownModule (token_index ws t))) true
-  bound_refused : (n : ℕ) (r : Refusal) → unbuilt ws st.modules i c ≡ None → IsChosen ws st.modules c n → bound_of ws c.bound ≡ Err r → MatchAnswer ws st k i c st (refusal_line k ws r) true
-  command_answered : (n : ℕ) (m : ModuleOf) (most : Option ℕ) (left : OutcomeOf) (bytes : List ℕ) → unbuilt ws st.modules i c ≡ None → IsChosen ws st.modules c n
+  command_not_built : (l : ℕ) → unbuilt ws st.current i c ≡ Some l → MatchAnswer ws st k i c st (refusal_line k ws (NotBuilt l)) true
+  module_unknown : (t : Token) → unbuilt ws st.current i c ≡ None → NamesNone ws st c t → MatchAnswer ws st k i c st (refusal_line k ws (UnknownModule (token_index ws t))) true
+  bound_refused : (n : ℕ) (r : Refusal) → unbuilt ws st.current i c ≡ None → IsChosen ws st c n → bound_of ws c.bound ≡ Err r → MatchAnswer ws st k i c st (refusal_line k ws r) true
+  command_answered : (n : ℕ) (m : ModuleOf) (most : Option ℕ) (left : OutcomeOf) (bytes : List ℕ) → unbuilt ws st.current i c ≡ None → IsChosen ws st c n
       → slice_get st.modules n ≡ Some m → bound_of ws c.bound ≡ Ok most → TermsAnswer ws m k c most left bytes → MatchAnswer ws st k i c (state_after st n left) bytes (refuses left)
 
 -- ---- the answer of `continue`
@@ -81,6 +82,16 @@ pub data ContinueAnswer (ws : List Word) (st : StateOf) (k : ℕ) (c : RawComman
       → slice_get st.modules g.number ≡ Some m → Shows m g.query.with_context g.query.pattern g.query.subject g.query.last most found ended
       → ContinueAnswer ws st k c (state_after st g.number (left_by ended (shown_more g.query found)))
       (continue_head k m ++ listing_lines m g.query.variables g.query.with_context g.query.pattern g.query.shown found ended) false
+
+-- ---- the answer of a setting that begins at the word i
+
+-- `select` makes a module the current one; no step is traced yet, and what is shown and printed does not change
+pub data SettingAnswer (ws : List Word) (st : StateOf) (k i : ℕ) : Setting → StateOf → List ℕ → Bool → Type 0 where
+  trace_not_built : SettingAnswer ws st k i (Trace true) st (refusal_line k ws (NotBuilt i)) true
+  trace_off : SettingAnswer ws st k i (Trace false) st (ok_line k) false
+  changes_nothing : SettingAnswer ws st k i Ignored st (ok_line k) false
+  module_selected : (name : List ℕ) (n : ℕ) → Named st name (Some n) → SettingAnswer ws st k i (Select name) (selected st n) (ok_line k) false
+  selects_none : (name : List ℕ) → Named st name None → SettingAnswer ws st k i (Select name) st (unknown_module_line k name) true
 
 -- ---- the answer of an item, which is the k-th
 
@@ -96,7 +107,8 @@ pub data BodyAnswer (ws : List Word) (st : StateOf) (k i : ℕ) : RawBody → St
   continue_answered : (c : RawCommand) (next : StateOf) (bytes : List ℕ) (refused : Bool) → is_match c.kind ≡ false → is_continue c.kind ≡ true
       → ContinueAnswer ws st k c next bytes refused → BodyAnswer ws st k i (Command c) next bytes refused
   other_not_built : (c : RawCommand) → is_match c.kind ≡ false → is_continue c.kind ≡ false → BodyAnswer ws st k i (Command c) st (refusal_line k ws (NotBuilt i)) true
-  setting_not_built : (s : Setting) → BodyAnswer ws st k i (SettingBody s) st (refusal_line k ws (NotBuilt i)) true
+  setting_answered : (s : Setting) (next : StateOf) (bytes : List ℕ) (refused : Bool) → SettingAnswer ws st k i s next bytes refused
+      → BodyAnswer ws st k i (SettingBody s) next bytes refused
 
 -- an item that says nothing is refused by its fault
 pub data ItemAnswer (ws : List Word) (st : StateOf) (k : ℕ) (item : RawItem) : StateOf → List ℕ → Bool → Type 0 where

@@ -1,21 +1,23 @@
 //! The answers of items.
-ghost use Rattle.std.specs.Prelude.{◌≡◌, ◌≢◌, ◌<◌, ◌≤◌, ◌++◌, [], length, take, true, false, OnOk, Ok, IfOk};
+ghost use Rattle.std.specs.Prelude.{◌≡◌, ◌≢◌, ◌<◌, ◌≤◌, ◌++◌, ℕ, List, [], length, take, true, false, OnOk, Ok, IfOk};
 ghost use Rattle.mau_terms.specs.Bare.{IsBare};
 ghost use Rattle.mau_terms.specs.Subst.{variables};
 ghost use Rattle.mau_terms.specs.View.{tree_of};
 ghost use Rattle.mau_session.specs.Terms.{terms_in};
 ghost use Rattle.mau_session.specs.Matching.{numbered_from};
+ghost use Rattle.mau_modtext.specs.Word.{Word};
+ghost use Rattle.mau_modtext.specs.declared.raw.Setting.TheVariants as Setting;
 ghost use Rattle.mau_modtext.specs.declared.raw.RawBody.TheVariants as RawBody;
 ghost use Rattle.mau_session.specs.State.{nothing_yet, state_of, going_of, outcome_of, IsReadyState, IsReadyAt, IsReadyOutcome};
 ghost use Rattle.mau_session.specs.declared.state.Outcome.TheVariants as Outcome;
 ghost use Rattle.mau_reader.specs.Modules.{ModuleOf};
 ghost use Rattle.mau_session.specs.Query.{query_of, IsReady};
-ghost use Rattle.mau_session.specs.Answers.{module_line, match_name, match_head, continue_head, refusal_line, parse_fault_line};
+ghost use Rattle.mau_session.specs.Answers.{module_line, match_name, match_head, continue_head, refusal_line, parse_fault_line, ok_line, unknown_module_line};
 ghost use Rattle.mau_session.specs.Commands.{is_empty};
 ghost use Rattle.mau_session.specs.Reading.{IsBareOf};
 ghost use Rattle.mau_session.specs.Built.{fault_answer};
 ghost use Rattle.mau_session.specs.Transcript.{ItemsAnswer, PatternReads};
-ghost use Rattle.mau_session.specs.Gains.{GainsListed, GainsTerms, GainsChosen, GainsMatch, GainsOn, GainsContinue, GainsBody, GainsItem};
+ghost use Rattle.mau_session.specs.Gains.{GainsListed, GainsTerms, GainsChosen, GainsMatch, GainsOn, GainsContinue, GainsSetting, GainsBody, GainsItem};
 
 use crate::bounds::bound_of;
 use crate::built::{
@@ -30,7 +32,7 @@ use crate::refusal::{
 };
 use crate::state::{Going, Outcome, State};
 use mau_canon::BuildFault;
-use mau_modtext::{RawBody, RawCommand, RawItem, RawModule, TextFault};
+use mau_modtext::{RawBody, RawCommand, RawItem, RawModule, Setting, TextFault};
 use mau_parse::{Goal, ParseFault};
 use mau_reader::{Module, ModuleFault, Words, read_module, write_text};
 use mau_terms::{Bare, NoMemory, Vars};
@@ -283,7 +285,7 @@ fn answer_match(
     ensures gained { IfOk result (GainsMatch words.now (state_of state.old) number item command.now (state_of state.new) out.old.items out.new.items) }
     ensures ready { OnOk result (IsReadyState state.new) }
 {
-    match unbuilt(words, &state.modules, item, command) {
+    match unbuilt(words, state.current, item, command) {
         Some(word) => refuse(out, words, number, Refusal::NotBuilt(word)),
         None => match state.choose(words, command) {
             Err(refusal) => refuse(out, words, number, refusal),
@@ -392,6 +394,74 @@ fn answer_module(
     }
 }
 
+/// Writes that a setting was taken, and says that the item was not refused.
+fn accept_setting(out: &mut Vec<u8>, number: usize) -> Result<bool, NoMemory>
+    ensures bytes { OnOk result (out.new.items ≡ out.old.items ++ ok_line number) }
+    ensures accepted { IfOk result (λ refused. refused ≡ false) }
+{
+    write_head(out, number)?;
+    write_text(out, "ok\n")?;
+    Ok(false)
+}
+
+/// Writes that no module has a name, and says that the item was refused.
+fn refuse_name(
+    out: &mut Vec<u8>,
+    alloc: Global,
+    number: usize,
+    name: &str,
+) -> Result<bool, NoMemory>
+    ensures bytes { OnOk result (out.new.items ≡ out.old.items ++ unknown_module_line number name.now) }
+    ensures refused { IfOk result (λ refused. refused ≡ true) }
+{
+    let mut text = Vec::new(alloc);
+    write_text(&mut text, "UnknownModule ")?;
+    write_text(&mut text, name)?;
+    write_faulty(out, number, &text)?;
+    Ok(true)
+}
+
+/// Answers `select`. Says whether it was refused; otherwise the module of this name is the current one.
+fn answer_select(
+    out: &mut Vec<u8>,
+    alloc: Global,
+    state: &mut State,
+    number: usize,
+    name: &str,
+) -> Result<bool, NoMemory>
+    requires ready { IsReadyState state.old }
+    ensures gained { (ws : List Word) (i : ℕ) → IfOk result (GainsSetting ws (state_of state.old) number i (Setting.Select name.now) (state_of state.new) out.old.items out.new.items) }
+    ensures ready { OnOk result (IsReadyState state.new) }
+{
+    if state.select(name) {
+        accept_setting(out, number)
+    } else {
+        refuse_name(out, alloc, number, name)
+    }
+}
+
+/// Answers a setting that begins at the word `item`. Says whether it was refused.
+fn answer_setting(
+    out: &mut Vec<u8>,
+    alloc: Global,
+    words: &Words,
+    state: &mut State,
+    number: usize,
+    item: usize,
+    setting: &Setting,
+) -> Result<bool, NoMemory>
+    requires ready { IsReadyState state.old }
+    ensures gained { IfOk result (GainsSetting words.now (state_of state.old) number item setting.now (state_of state.new) out.old.items out.new.items) }
+    ensures ready { OnOk result (IsReadyState state.new) }
+{
+    match setting {
+        Setting::Trace(true) => refuse(out, words, number, Refusal::NotBuilt(item)),
+        Setting::Trace(false) => accept_setting(out, number),
+        Setting::Ignored => accept_setting(out, number),
+        Setting::Select(name) => answer_select(out, alloc, state, number, name.as_str()),
+    }
+}
+
 /// Answers what an item says that begins at the word `item`. Says whether it was refused.
 fn answer_body(
     out: &mut Vec<u8>,
@@ -413,7 +483,9 @@ fn answer_body(
         RawBody::Command(command) => {
             answer_command(out, alloc, words, state, number, item, command)
         }
-        RawBody::Setting(_) => refuse(out, words, number, Refusal::NotBuilt(item)),
+        RawBody::Setting(setting) => answer_setting(
+            out, alloc, words, state, number, item, setting,
+        ),
         RawBody::Quit => unreachable!(),
     }
 }

@@ -1,8 +1,8 @@
-//! The state of a session: the modules that were accepted, and what `continue` goes on with.
-ghost use Rattle.std.specs.Prelude.{◌≡◌, ◌<◌, length, false, slice_get, IfOk, IfErr, OnOk, Some};
+//! The state of a session: the modules that were accepted, the current one, and what `continue` goes on with.
+ghost use Rattle.std.specs.Prelude.{◌≡◌, ◌<◌, ℕ, length, true, false, slice_get, IfOk, IfErr, OnOk, Some, None};
 ghost use Rattle.std.specs.Str.{bytes_eq};
 ghost use Rattle.mau_reader.specs.Modules.{ModuleOf};
-ghost use Rattle.mau_session.specs.State.{nothing_yet, accepted, LastNamed, IsChosen, IsUnknown, state_of, state_after, outcome_of, refuses, IsReadyState, IsReadyOutcome};
+ghost use Rattle.mau_session.specs.State.{nothing_yet, accepted, selected, LastNamed, Named, IsChosen, IsUnknown, state_of, state_after, outcome_of, refuses, IsReadyState, IsReadyOutcome};
 ghost use Rattle.mau_session.specs.Commands.{lacks_module};
 
 use crate::query::Query;
@@ -19,10 +19,11 @@ pub struct Going {
     pub query: Query,
 }
 
-/// All accepted modules in order, of which the last one is current, and what `continue` goes on with, if there is something.
+/// All accepted modules in order, the number of the current one, if there is one, and what `continue` goes on with, if there is something.
 #[derive(Drop)]
 pub struct State {
     pub modules: Vec<Module>,
+    pub current: Option<usize>,
     pub going: Option<Going>,
 }
 
@@ -62,29 +63,52 @@ impl State {
     {
         State {
             modules: Vec::new(alloc),
+            current: None,
             going: None,
         }
     }
 
-    /// Accepts a module, which is the current one.
+    /// Accepts a module, which is the current one then.
     pub fn accept(&mut self, module: Module) -> Result<(), NoMemory>
         requires ready { IsReadyState self.old }
         ensures state { OnOk result (state_of self.new ≡ accepted (state_of self.old) «module») }
         ensures ready { OnOk result (IsReadyState self.new) }
     {
+        let number = self.modules.len();
         self.modules.push(module)?;
+        self.current = Some(number);
         Ok(())
+    }
+
+    /// Makes the module of a name the current one, if there is one. Says whether there is.
+    pub fn select(&mut self, name: &str) -> bool
+        requires ready { IsReadyState self.old }
+        ensures selected { result ≡ true → (n : ℕ) × Named (state_of self.old) name.now (Some n) × (state_of self.new ≡ selected (state_of self.old) n) }
+        ensures unknown { result ≡ false → Named (state_of self.old) name.now None × (self.new ≡ self.old) }
+        ensures ready { IsReadyState self.new }
+    {
+        match last_named(&self.modules, name) {
+            Some(number) => {
+                self.current = Some(number);
+                true
+            }
+            None => false,
+        }
     }
 
     /// The number of a command's module, or that no module has the name that it gives.
     pub fn choose(&self, words: &Words, command: &RawCommand) -> Result<usize, Refusal>
-        requires some { lacks_module self.now.modules.items command.now ≡ false }
-        ensures chosen { IfOk result (IsChosen words.now self.now.modules.items command.now) }
+        requires ready { IsReadyState self.now }
+        requires some { lacks_module self.now.current command.now ≡ false }
+        ensures chosen { IfOk result (IsChosen words.now (state_of self.now) command.now) }
         ensures within { IfOk result (λ i. i < length self.now.modules.items) }
-        ensures unknown { IfErr result (IsUnknown words.now self.now.modules.items command.now) }
+        ensures unknown { IfErr result (IsUnknown words.now (state_of self.now) command.now) }
     {
         match command.module {
-            None => Ok(self.modules.len() - 1),
+            None => match self.current {
+                Some(number) => Ok(number),
+                None => unreachable!(),
+            },
             Some(name) => match last_named(&self.modules, words.token_text(name)) {
                 Some(number) => Ok(number),
                 None => Err(Refusal::UnknownModule(words.token_index(name))),

@@ -6,6 +6,7 @@ mod mixfix;
 mod modules;
 mod refusals;
 mod runs;
+mod settings;
 
 use crate::{Status, run};
 use mau_bytes::{MemorySink, MemorySource};

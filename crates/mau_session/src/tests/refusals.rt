@@ -72,7 +72,6 @@ fn refuses_by_name_and_place(rt: HostRuntime) -> Result<(), Fail> {
             "set include on .",
             "[1] refused: Unsupported set include 0\n",
         ),
-        ("set trace on .", "[1] refused: NotBuilt set 0\n"),
         ("reduce a .", "[1] refused: NotBuilt reduce 0\n"),
         ("red .", "[1] refused: NotBuilt red 0\n"),
         ("smod A is foo endsm", "[1] refused: NotBuilt smod 0\n"),

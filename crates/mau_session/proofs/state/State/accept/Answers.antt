@@ -1,4 +1,5 @@
-use Rattle.std.proofs.Common.{List, [], ◌∷◌, ◌++◌, Option, None, Some, IfSome, sym, subst}
+use Rattle.std.proofs.Common.{◌≡◌, ◌∙◌, ℕ, ◌<◌, List, [], ◌∷◌, ◌++◌, length, Option, None, Some, IfSome, sym, subst, arith}
+use Rattle.std.proofs.lemmas.List.{length-append}
 use Rattle.mau_reader.specs.Modules.{ModuleOf}
 use Rattle.mau_session.specs.State.{IsReadyAt}
 use Rattle.mau_session.specs.declared.state.Going.{Going}
@@ -9,6 +10,13 @@ ready_still : (ms : List ModuleOf) (m : ModuleOf) (g : Option Going) → IfSome 
 ready_still ms m None h = tt
 ready_still ms m (Some g) h = record { «module» = h.«module»; there = there_still ms m h.«module» g.number h.there; ready = h.ready }
 
+-- the module that comes last is one
+last_within : (ms : List ModuleOf) (m : ModuleOf) (n : ℕ) → n ≡ length ms → n < length (ms ++ m ∷ [])
+last_within ms m n e = let l = length-append ms (m ∷ []) in omega (arith, e, l)
+
 pub returns-clause-ready : goal.returns-clause-ready
 returns-clause-ready c =
-    subst (λ ms. IfSome c.args.self.now.going (IsReadyAt ms)) (sym c.in_ok-push.ensures.items) (ready_still c.args.self.now.modules.items c.args.«module» c.args.self.now.going c.requires.ready)
+    record {
+      current = subst (λ ms. c.len-number.result < length ms) (sym c.in_ok-push.ensures.items) (last_within c.args.self.now.modules.items c.args.«module» c.len-number.result (c.len-number.ensures ∙ c.args.self.now.modules.ok.0));
+      going = subst (λ ms. IfSome c.args.self.now.going (IsReadyAt ms)) (sym c.in_ok-push.ensures.items) (ready_still c.args.self.now.modules.items c.args.«module» c.args.self.now.going c.requires.ready.going);
+    }

@@ -1,18 +1,9 @@
-use Rattle.std.proofs.Common.{◌≡◌, ℕ, length, Bool, true, false, not, ◌&&◌, ◌==◌, Some, is_some, ap, subst, arith}
-use Rattle.std.proofs.lemmas.Bool.{eqb-false}
+use Rattle.std.proofs.Common.{length, Some, subst}
 use Rattle.mau_session.specs.State.{LastNamed, current_one, named_one}
 use Rattle.mau_session.proofs.state.State.choose.Goals as goal
 
--- where a command names no module, there is one
-not_empty : (n : ℕ) (b : Bool) → b ≡ false → (not b && (n == 0)) ≡ false → n ≡ 0 → ⊥
-not_empty n true e f = absurd (cc)
-not_empty n false e f = eqb-false n 0 f
-
-pub returns-in-None-clause-chosen : goal.returns-in-None-clause-chosen
-returns-in-None-clause-chosen c =
-    let ms = c.args.self.now.modules.items in
-    let some : length ms ≡ 0 → ⊥ = not_empty (length ms) (is_some c.args.command.now.«module») (ap is_some c.in-None.is) c.requires.some in
-    current_one _ c.in-None.is (omega (arith, some, c.len.ensures))
+pub returns-in-Some-current-clause-chosen : goal.returns-in-Some-current-clause-chosen
+returns-in-Some-current-clause-chosen c = current_one _ c.in-None.is c.in-Some-current.is
 
 pub returns-in-Some-last_named-clause-chosen : goal.returns-in-Some-last_named-clause-chosen
 returns-in-Some-last_named-clause-chosen c =
