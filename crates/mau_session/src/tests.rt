@@ -2,6 +2,7 @@
 
 mod contexts;
 mod listings;
+mod long_lists;
 mod mixfix;
 mod modules;
 mod refusals;

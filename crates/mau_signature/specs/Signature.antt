@@ -2,6 +2,7 @@
 use Rattle.std.specs.Prelude.{◌≡◌, ℕ, ◌+◌, ◌-◌, ◌<◌, ◌≤◌, nat_lt, nat_le, List, [], ◌∷◌, ◌⊎◌, true, ◌&&◌, Option, Some, None, map, length, get_or, Contains}
 use Rattle.std.specs.Option.{option_map}
 use Rattle.mau_poset.specs.Order.{Hierarchy, kind_of, kinds, IsAtOrBelow}
+use Rattle.mau_terms.specs.declared.ids.OpId.{OpId}
 use Rattle.mau_terms.specs.declared.theory.Identity.{Identity}
 use Rattle.mau_terms.specs.declared.theory.Identity.TheVariants.{Const as Constant, Num as Numeral}
 use Rattle.mau_terms.specs.declared.theory.Theory.{Theory}
@@ -56,6 +57,10 @@ pub record IsAlike (h : Hierarchy) (ds : List Decl) (d : Decl) : Type 0 where
   pub arguments : map (kind_of h) d.args ≡ map (kind_of h) (arguments_of ds)
   pub result : kind_of h d.result ≡ kind_of h (result_of ds)
   pub attributes : d.attrs ≡ attributes_of ds
+
+-- the number of an operator, if it is one of these
+abbrev pub number_of : List Operator → Operator → Option OpId
+number_of fs f = option_map (λ i. record { 0 = i + 1 }) (place_of fs f)
 
 -- the operator at a place that is counted from 0, as an identity
 abbrev pub constant_at : ℕ → Identity

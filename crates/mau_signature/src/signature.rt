@@ -6,14 +6,15 @@ ghost use Rattle.mau_signature.specs.Attributes.{is_given_number};
 ghost use Rattle.mau_signature.specs.Faults.{IsSort, HasSorts, AreNumerals, given, IsFaultless, IsFirstAtFault, HasWrongArity, MismatchesKind, Conflicts, HasBadStrategy, LacksIdentity, IfArity, IfKindMismatch, IfAttrConflict, IfBadStrat, IfIdNotConstant};
 ghost use Rattle.mau_signature.specs.Judged.{IsFirstFault};
 ghost use Rattle.mau_signature.specs.Made.{IsSignature};
-ghost use Rattle.mau_signature.specs.Signature.{IsOperator, declarations_at, form_of, theory_at, strategy_of, attributes_of, IsAlike, signature_of, terms_over};
+ghost use Rattle.mau_signature.specs.Names.{operator_of};
+ghost use Rattle.mau_signature.specs.Signature.{number_of, IsOperator, declarations_at, form_of, theory_at, strategy_of, attributes_of, IsAlike, signature_of, terms_over};
 
 use crate::build::{enter_all, group_all, name_all};
-use crate::names::Names;
+use crate::names::{Key, Names};
 use crate::operator::Entry;
 use crate::{Decl, Form, MAX_ARITY, MAX_DECLARATIONS, SigFault};
 use mau_poset::Poset;
-use mau_terms::{OpId, Theory};
+use mau_terms::{NoMemory, OpId, Theory};
 use std::alloc::Global;
 use std::marker::Model;
 
@@ -71,6 +72,19 @@ impl Signature {
         match self.entries[op.0 as usize - 1].decls.first() {
             Some(decl) => &decl.form,
             None => unreachable!(),
+        }
+    }
+
+    /// The operator that a declaration over these sorts is one of, if it is one of this signature's.
+    pub fn operator(&self, alloc: Global, decl: &Decl) -> Result<Option<OpId>, NoMemory>
+        requires { HasSorts self.now.hierarchy decl.now }
+        ensures number { IfOk result (λ op. op ≡ number_of self.now.names (operator_of self.now.hierarchy decl.now)) }
+        ensures within { IfOk result (λ op. IfSome op (λ o. IsOperator self.now o.0)) }
+    {
+        let key = Key::of(alloc, &self.poset, decl)?;
+        match self.names.place(&key) {
+            Some(place) => Ok(Some(OpId(place as u32 + 1))),
+            None => Ok(None),
         }
     }
 

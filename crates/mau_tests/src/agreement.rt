@@ -1,5 +1,5 @@
 //! A table of questions on which the lazy listing is compared with the plain slow one.
-ghost use Rattle.std.specs.Prelude.{◌≡◌, Option, None, false, OnOk};
+ghost use Rattle.std.specs.Prelude.{◌≡◌, Bool, Option, None, false, OnOk};
 ghost use Rattle.mau_terms.specs.View.{tree_of};
 ghost use Rattle.mau_store.specs.Node.{Extends};
 ghost use Rattle.mau_sorts.specs.Table.{AreOver, KeepsEntries};
@@ -66,7 +66,7 @@ fn enter(
 }
 
 /// Enters terms that no question has.
-fn grow(
+pub fn grow(
     rt: &impl Abort,
     sig: &Signature,
     store: &mut Store,
@@ -74,7 +74,7 @@ fn grow(
     n: u128,
 ) -> Result<(), Fail>
     requires { AreOver sig.now.hierarchy sorts.old }
-    ensures { OnOk result ((a : Asked) (o : Option SolutionOf) → CanGoOn false sig.now store.old sorts.old a o → CanGoOn false sig.now store.new sorts.new a o) }
+    ensures { OnOk result ((c : Bool) (a : Asked) (o : Option SolutionOf) → CanGoOn c sig.now store.old sorts.old a o → CanGoOn c sig.now store.new sorts.new a o) }
 {
     for term in &others(store.allocator(), n)? {
         enter(rt, sig, store, sorts, term)?;

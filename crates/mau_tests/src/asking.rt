@@ -1,5 +1,5 @@
 //! Terms of a store by their texts, and asking listings.
-ghost use Rattle.std.specs.Prelude.{◌≡◌, List, All, Option, false, None, IfOk, OnOk};
+ghost use Rattle.std.specs.Prelude.{◌≡◌, List, All, Option, Bool, None, IfOk, OnOk};
 ghost use Rattle.mau_terms.specs.View.{tree_of};
 ghost use Rattle.mau_terms.specs.declared.ids.TermId.{TermId};
 ghost use Rattle.mau_terms.specs.declared.ids.VarId.{VarId};
@@ -108,7 +108,7 @@ pub fn settled(
     question: &Question,
 ) -> Result<(TermId, SortTable), Fail>
     requires { All (λ b. StandsWithin (theory_at sig.now) store.old b.1.0) question.now.bound.items }
-    ensures ready { IfOk result (λ r. CanGoOn false sig.now store.new r.1 (asks (tree_of question.now.pattern) question.now.bound.items r.0) None) }
+    ensures ready { IfOk result (λ r. (c : Bool) → CanGoOn c sig.now store.new r.1 (asks (tree_of question.now.pattern) question.now.bound.items r.0) None) }
     ensures extends { Extends store.old store.new }
 {
     is_lawful(sig);
@@ -150,8 +150,7 @@ pub fn first<L: Lister + Drop>(
     question: &Question,
     count: usize,
 ) -> Result<FirstSolutions, Fail>
-    requires plain { L.with_context ≡ false }
-    requires bound { All (λ b. StandsWithin (theory_at sig.now) store.old b.1.0) question.now.bound.items }
+    requires { All (λ b. StandsWithin (theory_at sig.now) store.old b.1.0) question.now.bound.items }
 {
     let alloc = store.allocator();
     let (id, mut sorts) = settled(rt, sig, store, question)?;
@@ -187,10 +186,9 @@ pub fn next_behind<L: Lister + Drop>(
     id: TermId,
     last: &Option<Solution>,
 ) -> Result<Option<Solution>, NoMemory>
-    requires plain { L.with_context ≡ false }
-    requires ready { CanGoOn false sig.now store.old sorts.old (asks (tree_of question.now.pattern) question.now.bound.items id) last.now }
-    ensures given { IfOk result (λ next. CanGoOn false sig.now store.new sorts.new (asks (tree_of question.now.pattern) question.now.bound.items id) next) }
-    ensures kept { OnOk result ((a : Asked) (o : Option SolutionOf) → CanGoOn false sig.now store.old sorts.old a o → CanGoOn false sig.now store.new sorts.new a o) }
+    requires { CanGoOn L.with_context sig.now store.old sorts.old (asks (tree_of question.now.pattern) question.now.bound.items id) last.now }
+    ensures given { IfOk result (λ next. CanGoOn L.with_context sig.now store.new sorts.new (asks (tree_of question.now.pattern) question.now.bound.items id) next) }
+    ensures kept { OnOk result ((a : Asked) (o : Option SolutionOf) → CanGoOn L.with_context sig.now store.old sorts.old a o → CanGoOn L.with_context sig.now store.new sorts.new a o) }
 {
     let mut listing: L = listing_behind(store.allocator(), sig, question, id, last)?;
     let found = next_of(sig, store, sorts, &mut listing)?;

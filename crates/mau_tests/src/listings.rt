@@ -1,40 +1,66 @@
-//! Rows of listings by hand: over each theory, by sorts, and with values beforehand, from the first solution on and each one resumed.
-ghost use Rattle.std.specs.Prelude.{◌≡◌, false, OnOk};
+//! Rows of listings by hand: over each theory, by sorts, with values beforehand, and with contexts, from the first solution on and each one
+//! resumed in a store that has other terms besides.
+ghost use Rattle.std.specs.Prelude.{OnOk};
 ghost use Rattle.mau_store.specs.Node.{Extends};
 
+use crate::agreement::grow;
 use crate::asking::{first, next_behind, numbers, question_of, settled};
 use crate::signature::example;
 use mau_api::{Lister, Solution};
+use mau_extend::ExtListing;
 use mau_match::Listing;
 use mau_plain::PlainListing;
 use mau_signature::Signature;
 use mau_store::Store;
+use mau_terms::TermId;
 use std::alloc::Global;
 use std::process::Abort;
 use std::test::Fail;
 
-/// A solution of a question has no context, and these values.
-fn has_values(
+/// These are the numbers of some terms.
+fn are(
     rt: &impl Abort,
     sig: &Signature,
     store: &mut Store,
-    solution: &Solution,
-    values: &str,
+    ids: &[TermId],
+    terms: &str,
     text: &str,
 ) -> Result<(), Fail>
     ensures { OnOk result (Extends store.old store.new) }
 {
-    let wanted = numbers(rt, sig, store, values)?;
-    assert_eq!(rt; solution.values.items(), wanted.as_slice(), "{text}");
-    assert!(rt;
-        solution.left.items().is_empty() && solution.right.items().is_empty(),
-        "{text}"
-    );
+    let wanted = numbers(rt, sig, store, terms)?;
+    assert_eq!(rt; ids, wanted.as_slice(), "{text}");
     Ok(())
 }
 
-/// The question of a row, and the values of its solutions.
-fn parts_of(alloc: Global, row: &str) -> Result<Vec<&str>, Fail> {
+/// The left context, the values and the right context of a solution: without contexts a text has the values alone.
+pub fn split_at_contexts(wanted: &str) -> Option<(&str, &str, &str)> {
+    let Some((left, rest)) = wanted.split_once('/') else {
+        return Some(("", wanted, ""));
+    };
+    let (values, right) = rest.split_once('/')?;
+    Some((left, values, right))
+}
+
+/// A solution of a question has these contexts and values.
+fn is_solution(
+    rt: &impl Abort,
+    sig: &Signature,
+    store: &mut Store,
+    solution: &Solution,
+    wanted: &str,
+    text: &str,
+) -> Result<(), Fail>
+    ensures { OnOk result (Extends store.old store.new) }
+{
+    let (left, values, right) = split_at_contexts(wanted).ok_or("no right context")?;
+    are(rt, sig, store, solution.left.items(), left, text)?;
+    are(rt, sig, store, solution.values.items(), values, text)?;
+    are(rt, sig, store, solution.right.items(), right, text)
+}
+
+/// What stands between the colons of a row: a question, and its solutions.
+pub fn parts_of(alloc: Global, row: &str) -> Result<Vec<&str>, Fail> {
     let mut parts = Vec::new(alloc);
     for part in row.split(':') {
         parts.push(part)?;
@@ -49,36 +75,33 @@ fn lists<L: Lister + Drop>(
     store: &mut Store,
     text: &str,
     wanted: &[&str],
-) -> Result<(), Fail>
-    requires { L.with_context ≡ false }
-{
+) -> Result<(), Fail> {
     let question = question_of(rt, sig, store, text)?;
     let found = first::<L>(rt, sig, store, &question, wanted.len())?;
     assert_eq!(rt; found.solutions.len(), wanted.len(), "{text}");
     assert!(rt; !found.more, "{text}");
     for (solution, values) in found.solutions.iter().zip(wanted) {
-        has_values(rt, sig, store, solution, values, text)?;
+        is_solution(rt, sig, store, solution, values, text)?;
     }
     Ok(())
 }
 
-/// So do listings each of which is made from the last solution.
+/// So do listings each of which is made from the last solution, in a store that gets other terms besides.
 fn resumes<L: Lister + Drop>(
     rt: &impl Abort,
     sig: &Signature,
     store: &mut Store,
     text: &str,
     wanted: &[&str],
-) -> Result<(), Fail>
-    requires { L.with_context ≡ false }
-{
+) -> Result<(), Fail> {
     let question = question_of(rt, sig, store, text)?;
     let (id, mut sorts) = settled(rt, sig, store, &question)?;
     let mut last = None;
-    for values in wanted {
+    for k in 0..wanted.len() {
         let next = next_behind::<L>(sig, store, &mut sorts, &question, id, &last)?;
         let solution = next.as_ref().ok_or("a solution is missing")?;
-        has_values(rt, sig, store, solution, values, text)?;
+        is_solution(rt, sig, store, solution, wanted[k], text)?;
+        grow(rt, sig, store, &mut sorts, 10 + k as u128)?;
         last = next;
     }
     let next = next_behind::<L>(sig, store, &mut sorts, &question, id, &last)?;
@@ -91,20 +114,20 @@ fn row_is_listed<L: Lister + Drop>(
     alloc: Global,
     sig: &Signature,
     row: &str,
-) -> Result<(), Fail>
-    requires { L.with_context ≡ false }
-{
+) -> Result<(), Fail> {
     let parts = parts_of(alloc, row)?;
     let (text, wanted) = parts.split_first().ok_or("no question")?;
     lists::<L>(rt, sig, &mut Store::new(alloc), text, wanted)?;
     resumes::<L>(rt, sig, &mut Store::new(alloc), text, wanted)
 }
 
-fn rows_are_listed<L: Lister + Drop>(rt: &impl Abort, alloc: Global) -> Result<(), Fail>
-    requires { L.with_context ≡ false }
-{
+fn rows_are_listed<L: Lister + Drop>(
+    rt: &impl Abort,
+    alloc: Global,
+    rows: &str,
+) -> Result<(), Fail> {
     let sig = example(rt, alloc)?;
-    for row in ROWS.lines() {
+    for row in rows.lines() {
         row_is_listed::<L>(rt, alloc, &sig, row)?;
     }
     Ok(())
@@ -150,10 +173,34 @@ xyv abavv xabv : abv a";
 
 #[test]
 fn rows_are_listed_by_the_plain_listing(rt: HostRuntime) -> Result<(), Fail> {
-    rows_are_listed::<PlainListing>(&rt, rt.alloc())
+    rows_are_listed::<PlainListing>(&rt, rt.alloc(), ROWS)
 }
 
 #[test]
 fn rows_are_listed_by_the_lazy_listing(rt: HostRuntime) -> Result<(), Fail> {
-    rows_are_listed::<Listing>(&rt, rt.alloc())
+    rows_are_listed::<Listing>(&rt, rt.alloc(), ROWS)
+}
+
+/// The same with contexts, each solution by its left context, its values and its right one: under AC and ACU, where the right one is the
+/// rest; A and AU, where what a variable takes may be nothing; one element that is no part, but may be the whole; and patterns that have no
+/// associative operator for the top of their normal form.
+const CONTEXTS: &str = "pqu abcuu : /a b/c : /a c/b : /b a/c : /b c/a : /c a/b : /c b/a
+xau abcuu : /b/c : /bcu/ : /c/b
+abu cacbuuu : //c c
+acu abu
+ppw aaabwww : /a/a b
+xyw abcww : /a b/c : /a bcw/ : /a c/b : /abw c/ : /acw b/ : /b a/c : /b acw/ : /b c/a : /bcw a/ : /c a/b : /c abw/ : /c b/a
+pqv ababvvv : /a b/a b : a/b a/b : a b/a b/
+xpv abavv : /a b/a : /abv a/ : a/b a/
+xyv abavv : /a b/a : /a bav/ : /abv a/ : a/b a/
+xbl aball : /a/a
+xbl b : /e/
+xyl abl : /e abl/ : /a b/ : /abl e/
+xel abl : /abl/
+xyh aeh : /a e/ : /e a/
+xxh aeh";
+
+#[test]
+fn rows_are_listed_with_contexts(rt: HostRuntime) -> Result<(), Fail> {
+    rows_are_listed::<ExtListing<Listing>>(&rt, rt.alloc(), CONTEXTS)
 }

@@ -97,7 +97,7 @@ pub const LST_NIL: &str =
 /// A module, its name, a command over it, and what stands behind the first line of its answer.
 pub type Row = (&'static str, &'static str, &'static str, &'static str);
 
-const AXIOMS: [Row; 12] = [
+const AXIOMS: [Row; 13] = [
     (
         C,
         "C",
@@ -161,6 +161,17 @@ const AXIOMS: [Row; 12] = [
         "match k(Y:Set, Z:Set) X:Elt <=? a .",
         "Matcher 1\nY:Set --> none\nZ:Set --> nil\nX:Elt --> a\n\
          Matcher 2\nY:Set --> nil\nZ:Set --> none\nX:Elt --> a\nNo more matches.\n",
+    ),
+    (
+        SET_K,
+        "SET",
+        "match k(Y:Set, Z:Set) X:Elt <=? a b c .",
+        "Matcher 1\nY:Set --> a b\nZ:Set --> nil\nX:Elt --> c\n\
+         Matcher 2\nY:Set --> a c\nZ:Set --> nil\nX:Elt --> b\n\
+         Matcher 3\nY:Set --> b c\nZ:Set --> nil\nX:Elt --> a\n\
+         Matcher 4\nY:Set --> nil\nZ:Set --> a b\nX:Elt --> c\n\
+         Matcher 5\nY:Set --> nil\nZ:Set --> a c\nX:Elt --> b\n\
+         Matcher 6\nY:Set --> nil\nZ:Set --> b c\nX:Elt --> a\nNo more matches.\n",
     ),
     (SET, "SET", "match a X:Elt <=? b b .", "No match.\n"),
     (

@@ -19,6 +19,11 @@ loop-count-preserved g c =
     let next = c.is_next.new in
     record {
       asked = c.is_next.ensures.asked ∙ i.asked;
-      ready = c.in_ok-grown.ensures a _ (c.in_ok-grow.ensures a _ (subst (λ b. CanGoOn false c.args.sig.now next.store next.sorts b next.listing.trial.last) i.asked c.in_ok-went_on.ensures.ready));
-      last = c.in_ok-grown.ensures a _ (c.in_ok-grow.ensures a _ (c.in_ok-went_on.ensures.kept a _ (c.in_ok-resumed.ensures a _ c.in_ok-next.ensures.given)));
+      ready = c.in_ok-grown.ensures a _ (c.in_ok-grow.ensures false a _ (subst (λ b. CanGoOn false c.args.sig.now next.store next.sorts b next.listing.trial.last) i.asked c.in_ok-went_on.ensures.ready));
+      last = c.in_ok-grown.ensures a _ (c.in_ok-grow.ensures false a _ (c.in_ok-went_on.ensures.kept a _ (c.in_ok-resumed.ensures a _ c.in_ok-next.ensures.given)));
     }
+
+pub is_resumed-requires-in-loop-count : goal.is_resumed-requires-in-loop-count
+is_resumed-requires-in-loop-count g c =
+    let a = asks (tree_of c.args.question.now.pattern) c.args.question.now.bound.items c.args.id in
+    c.in_ok-grow.ensures false a _ (c.in_ok-went_on.ensures.kept a _ (c.in_ok-resumed.ensures a _ (c.in_ok-next.ensures.kept a _ c.loop-count.invariant.last)))

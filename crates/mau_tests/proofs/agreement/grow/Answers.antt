@@ -1,4 +1,3 @@
-use Rattle.std.proofs.Common.{false}
 use Rattle.mau_api.proofs.Growth.{listings_go_on}
 use Rattle.mau_tests.proofs.agreement.grow.Goals as goal
 
@@ -7,5 +6,5 @@ loop-term-preserved g c =
     let e = c.in_ok-enter.ensures in
     record {
       over = e.over;
-      kept = λ a o can. listings_go_on false c.args.sig.now c.loop-term.store c.enter.new.store c.loop-term.sorts c.enter.new.sorts e.extends e.kept e.over a o (c.loop-term.invariant.kept a o can);
+      kept = λ v a o can. listings_go_on v c.args.sig.now c.loop-term.store c.enter.new.store c.loop-term.sorts c.enter.new.sorts e.extends e.kept e.over a o (c.loop-term.invariant.kept v a o can);
     }

@@ -1,4 +1,4 @@
-use Rattle.std.proofs.Common.{Option, false}
+use Rattle.std.proofs.Common.{Bool, Option}
 use Rattle.mau_sorts.specs.Table.{AreOver}
 use Rattle.mau_api.specs.declared.solution.Solution.{Solution}
 use Rattle.mau_api.specs.Asked.{Asked, CanGoOn}
@@ -7,5 +7,5 @@ use Rattle.mau_tests.proofs.agreement.grow.Given as goal
 abbrev pub invariant-loop-term : goal.invariant-loop-term
 invariant-loop-term g l = record {
   over : AreOver l.sig.hierarchy l.sorts;
-  kept : (a : Asked) (o : Option Solution) → CanGoOn false l.sig l.fn.store l.fn.sorts a o → CanGoOn false l.sig l.store l.sorts a o;
+  kept : (c : Bool) (a : Asked) (o : Option Solution) → CanGoOn c l.sig l.fn.store l.fn.sorts a o → CanGoOn c l.sig l.store l.sorts a o;
 }

@@ -1,4 +1,4 @@
-use Rattle.std.proofs.Common.{None, false, sym, subst}
+use Rattle.std.proofs.Common.{None, sym, subst}
 use Rattle.mau_terms.specs.View.{tree_of}
 use Rattle.mau_api.specs.Asked.{asks, CanGoOn}
 use Rattle.mau_tests.proofs.asking.first.Goals as goal
@@ -13,5 +13,4 @@ first_solutions-requires-clause-ready g c =
     let w = g.L.Lister.with_context in
     let a = asks (tree_of q.pattern) q.bound.items c.in_ok-id.id in
     subst (λ o. CanGoOn w s store sorts (g.L.Lister.asked listing) o) (sym {b = None} c.in_ok-listing.ensures.given)
-    (subst (λ x. CanGoOn w s store sorts x None) (sym {b = a} c.in_ok-listing.ensures.asked)
-    (subst (λ b. CanGoOn b s store sorts a None) (sym {b = false} c.requires.plain) c.in_ok-id.ensures.ready))
+    (subst (λ x. CanGoOn w s store sorts x None) (sym {b = a} c.in_ok-listing.ensures.asked) (c.in_ok-id.ensures.ready w))

@@ -1,12 +1,16 @@
-use Rattle.std.proofs.Common.{false}
 use Rattle.mau_terms.specs.View.{tree_of}
 use Rattle.mau_api.specs.Asked.{asks}
 use Rattle.mau_api.proofs.Growth.{listings_go_on}
 use Rattle.mau_tests.proofs.listings.resumes.Goals as goal
 
-pub loop-values-preserved : goal.loop-values-preserved
-loop-values-preserved g c =
+pub loop-k-init : goal.loop-k-init
+loop-k-init g c = c.in_ok-id.ensures.ready g.L.Lister.with_context
+
+pub loop-k-preserved : goal.loop-k-preserved
+loop-k-preserved g c =
+    let w = g.L.Lister.with_context in
     let sorts = c.next_behind.new.sorts in
     let q = c.in_ok-question.question in
+    let a = asks (tree_of q.pattern) q.bound.items c.in_ok-id.id in
     let can = c.in_ok-next.ensures.given in
-    listings_go_on false c.args.sig.now c.next_behind.new.store c.has_values.new.store sorts sorts c.in_ok-has_values.ensures (λ i e h. h) can.over (asks (tree_of q.pattern) q.bound.items c.in_ok-id.id) c.in_ok-next.next can
+    c.in_ok-grow.ensures w a _ (listings_go_on w c.args.sig.now c.next_behind.new.store c.is_solution.new.store sorts sorts c.in_ok-is_solution.ensures (λ i e h. h) can.over a c.in_ok-next.next can)

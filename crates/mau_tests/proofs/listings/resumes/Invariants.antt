@@ -1,7 +1,6 @@
-use Rattle.std.proofs.Common.{false}
 use Rattle.mau_terms.specs.View.{tree_of}
 use Rattle.mau_api.specs.Asked.{asks, CanGoOn}
 use Rattle.mau_tests.proofs.listings.resumes.Given as goal
 
-abbrev pub invariant-loop-values : goal.invariant-loop-values
-invariant-loop-values g l = CanGoOn false l.sig l.store l.sorts (asks (tree_of l.question.pattern) l.question.bound.items l.id) l.last
+abbrev pub invariant-loop-k : goal.invariant-loop-k
+invariant-loop-k g l = CanGoOn g.L.Lister.with_context l.sig l.store l.sorts (asks (tree_of l.question.pattern) l.question.bound.items l.id) l.last

@@ -1,0 +1,11 @@
+pub mod CountBefore
+pub mod Starts
+pub mod Ranges
+pub mod Below
+pub mod Listed
+pub mod Distinct
+pub mod Cutting
+pub mod Counting
+pub mod Numbers
+pub mod Counted
+pub mod Conflicts

@@ -1,0 +1,13 @@
+pub mod Words
+pub mod Names
+pub mod Sorts
+pub mod Imports
+pub mod Counts
+pub mod Readings
+pub mod Forms
+pub mod Numerals
+pub mod Attributes
+pub mod Statements
+pub mod Elements
+pub mod Flattened
+pub mod Faults

@@ -1,0 +1,15 @@
+-- A library with one module more is one.
+use Rattle.std.proofs.Common.{◌≡◌, ◌+◌, ◌<◌, List, [], ◌∷◌, ◌++◌, length, arith, length-append}
+use Rattle.std.specs.Prelude.{All}
+use Rattle.std.proofs.lemmas.List.Elements.{All-push}
+use Rattle.mau_module.specs.Modules.{ModuleOf}
+use Rattle.mau_module.specs.Library.{IsLibrary, IsNext}
+
+module _ (ms : List ModuleOf) (m : ModuleOf) (lib : IsLibrary ms) (next : IsNext ms m) where
+  longer : length (ms ++ m ∷ []) ≡ length ms + 1
+  longer = length-append ms (m ∷ [])
+
+  pub entered : IsLibrary (ms ++ m ∷ [])
+  entered = record {
+    parts = All-push (λ (n : ModuleOf). All (λ p. p < length (ms ++ m ∷ [])) n.parts) ms m (λ k d l j e r. omega (arith, lib.parts k d l j e r, longer)) (λ j e r. omega (arith, next.parts j e r, longer));
+  }

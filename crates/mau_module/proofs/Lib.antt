@@ -1,0 +1,16 @@
+pub mod Named
+pub mod Firsts
+pub mod Knowns
+pub mod Imports
+pub mod FaultLemmas
+pub mod Parts
+pub mod Numbers
+pub mod Truths
+pub mod Entering
+pub mod Pairs
+pub mod Alls
+pub mod Carries
+pub mod Owns
+pub mod Faulted
+pub mod Signatures
+pub mod Truthful

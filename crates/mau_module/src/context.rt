@@ -1,0 +1,108 @@
+//! What the statements of a module are read over: how its terms are written, and the constant `true`.
+ghost use Rattle.std.specs.Prelude.{◌≡◌, ◌≤◌, ◌∷◌, [], codes, length, map, true, IfOk};
+ghost use Rattle.std.specs.Option.{ForSome};
+ghost use Rattle.mau_poset.specs.declared.TheConstants.{MAX_SORTS};
+ghost use Rattle.mau_terms.specs.Bare.{IsBare};
+ghost use Rattle.mau_signature.specs.Signature.{terms_over};
+ghost use Rattle.mau_signature.specs.Attributes.{no_attributes};
+ghost use Rattle.mau_grammar.specs.Grammar.{grammar_of};
+ghost use Rattle.mau_declare.specs.Elements.{AreOver};
+ghost use Rattle.mau_declare.specs.Flattened.{variable_at};
+ghost use Rattle.mau_statement.specs.Context.{IsItsGrammar, constant};
+ghost use Rattle.mau_module.specs.Flattened.{truth_in};
+
+use crate::declarations::has_part;
+use crate::frame::Frame;
+use crate::library::{Library, TRUTH};
+use crate::numbering::number_in;
+use mau_canon::is_bare;
+use mau_declare::{Elements, Names, Words, variables};
+use mau_grammar::Grammar;
+use mau_signature::{Attrs, Decl, Form, Piece, Signature};
+use mau_terms::{Args, Bare, NoMemory, OpId, Seq, Text};
+use std::alloc::Global;
+
+/// The names as texts.
+fn texts_of(alloc: Global, names: &Names) -> Result<Vec<Text>, NoMemory>
+    ensures { IfOk result (λ texts. texts.items ≡ names.now) }
+{
+    let mut texts = Vec::with_capacity(alloc, names.len())?;
+    for number in 0..names.len() {
+        match names.get(number) {
+            Some(name) => texts.push(Text::new(alloc, name)?)?,
+            None => unreachable!(),
+        }
+    }
+    Ok(texts)
+}
+
+/// The grammar of a signature, whose sorts have these names, with the variables that the elements declare.
+pub fn grammar_in(
+    alloc: Global,
+    words: &Words,
+    sorts: &Names,
+    signature: &Signature,
+    elements: &Elements,
+) -> Result<Grammar, NoMemory>
+    requires named { length sorts.now ≡ signature.now.hierarchy.sorts }
+    requires over { AreOver (length sorts.now) elements.now }
+    ensures value { IfOk result (λ g. g ≡ grammar_of signature.now sorts.now (map (variable_at words.now signature.now.hierarchy) elements.now.variables)) }
+    ensures kept { IfOk result (IsItsGrammar sorts.now signature.now) }
+{
+    let names = texts_of(alloc, sorts)?;
+    let variables = variables(alloc, words, signature.poset(), elements)?;
+    let _sorts = sorts.len();
+    let _operators = signature.operators();
+    let grammar = Grammar::of(alloc, signature, &names, &variables)?;
+    Ok(grammar)
+}
+
+/// Whether an operator is a constant.
+fn is_constant(alloc: Global, signature: &Signature, op: OpId) -> bool
+    ensures { result ≡ true → IsBare (terms_over signature.now) (constant op) }
+{
+    is_bare(signature, &Bare::App(op, Args::new(Vec::new(alloc))))
+}
+
+/// The declaration of the constant `true` of a sort.
+fn true_declaration(alloc: Global, bool: u32) -> Result<Decl, NoMemory>
+    ensures { IfOk result (λ d. d ≡ record { form = Piece.Word (codes "true") ∷ []; args = []; result = bool; attrs = no_attributes }) }
+{
+    let word = Piece::Word(Text::new(alloc, "true")?);
+    Ok(Decl {
+        form: Form::new(vec![in alloc; word]?),
+        args: Seq::new(Vec::new(alloc)),
+        result: bool,
+        attrs: Attrs::none(),
+    })
+}
+
+/// The constant `true`, where truth values are among the parts.
+pub fn truth_in(
+    alloc: Global,
+    library: &Library,
+    frame: &Frame,
+    signature: &Signature,
+) -> Result<Option<OpId>, NoMemory>
+    requires few { length frame.now.names ≤ MAX_SORTS }
+    requires named { length frame.now.names ≡ signature.now.hierarchy.sorts }
+    ensures value { IfOk result (λ truth. truth ≡ truth_in library.now frame.now signature.now) }
+    ensures bare { IfOk result (λ truth. ForSome truth (λ f. IsBare (terms_over signature.now) (constant f))) }
+{
+    if !has_part(library, &frame.parts, TRUTH) {
+        return Ok(None);
+    }
+    if frame.names.len() == 0 {
+        return Err(NoMemory);
+    }
+    let decl = true_declaration(alloc, number_in(&frame.names, "Bool"))?;
+    match signature.operator(alloc, &decl)? {
+        Some(op) => {
+            if !is_constant(alloc, signature, op) {
+                return Err(NoMemory);
+            }
+            Ok(Some(op))
+        }
+        None => Ok(None),
+    }
+}

@@ -1,0 +1,26 @@
+//! Whole modules: what a module of a text is over the modules that were accepted before, with all that it includes, and why it
+//! is none. A [`Library`] holds all accepted modules, those of the prelude first.
+#![tactic(auto)]
+
+mod context;
+mod declarations;
+mod fault;
+mod flatten;
+mod frame;
+mod include;
+mod library;
+mod limits;
+mod module;
+mod numbering;
+mod own;
+mod signing;
+mod statements;
+mod tables;
+mod truth;
+
+pub use fault::{Limit, ModuleFault};
+pub use library::Library;
+pub use module::Module;
+
+/// The greatest depth of imports.
+pub const MAX_DEPTH: u32 = 32;

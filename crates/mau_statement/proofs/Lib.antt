@@ -1,0 +1,9 @@
+-- the size of terms
+pub mod Sizes
+-- tops of normal forms
+pub mod Topped
+-- what is read part by part
+pub mod Kinded
+pub mod Handed
+-- variables of what is read
+pub mod Own

@@ -1,0 +1,35 @@
+use Rattle.std.proofs.Common.{length, Ok, Err, sym, ◌∙◌, ap, subst}
+use Rattle.mau_signature.specs.Signature.{theory_at}
+use Rattle.mau_statement.specs.Faults.{IfFault, unread_fault}
+use Rattle.mau_statement.specs.Statements.{Judged, StatementRead, parts_read}
+use Rattle.mau_statement.proofs.Handed.{returned, refused}
+use Rattle.mau_statement.proofs.reading.read_statement.Goals as goal
+
+pub returns-in_err-judge-in-Ok-clause-fault : goal.returns-in_err-judge-in-Ok-clause-fault
+returns-in_err-judge-in-Ok-clause-fault c =
+    let ws = c.args.words.now in
+    let x = c.args.context.now in
+    let raw = c.args.raw.now in
+    let s = c.in-Ok.statement in
+    let over = c.signature.result.now in
+    let fs = c.items-fragments.result.now in
+    returned (λ f. Judged (theory_at over) (length fs) s (Err f)) (λ f. StatementRead ws x raw (Err f))
+    c.from_residual.result c.in_err-judge-in-Ok.field-0.0 c.from_residual.ensures.1 c.in_err-judge-in-Ok.ensures.fault
+    (λ f j. parts_read s (Err f) c.in-Ok.ensures.reads
+    (subst (λ h. Judged (theory_at h) (length raw.cond) s (Err f)) c.signature.ensures.value (subst (λ gs. Judged (theory_at over) (length gs) s (Err f)) c.items-fragments.ensures j)))
+
+pub returns-in_ok-judge-in-Ok-clause-read : goal.returns-in_ok-judge-in-Ok-clause-read
+returns-in_ok-judge-in-Ok-clause-read c =
+    let raw = c.args.raw.now in
+    let s = c.in-Ok.statement in
+    let over = c.signature.result.now in
+    parts_read s (Ok s) c.in-Ok.ensures.reads
+    (subst (λ h. Judged (theory_at h) (length raw.cond) s (Ok s)) c.signature.ensures.value (subst (λ gs. Judged (theory_at over) (length gs) s (Ok s)) c.items-fragments.ensures c.in_ok-judge-in-Ok.ensures.accepted))
+
+pub returns-in-Err-clause-fault : goal.returns-in-Err-clause-fault
+returns-in-Err-clause-fault c =
+    let ws = c.args.words.now in
+    let x = c.args.context.now in
+    let raw = c.args.raw.now in
+    subst (IfFault (λ f. StatementRead ws x raw (Err f))) (sym (c.unread_fault.ensures ∙ ap (λ gs. unread_fault (length gs) c.in-Err.fault) c.items-fragments.ensures))
+    (refused ws x raw c.in-Err.fault c.in-Err.ensures.fault)

@@ -1,0 +1,23 @@
+-- Faults that say something: all but want of memory.
+use Rattle.std.specs.Prelude.{ℕ, nat_lt, if◌then◌else◌}
+use Rattle.mau_parse.specs.declared.fault.ParseFault.{ParseFault}
+use Rattle.mau_parse.specs.declared.fault.ParseFault.TheVariants.{NoMemory as OutOfMemory}
+use Rattle.mau_statement.specs.declared.fault.StatementFault.{StatementFault}
+use Rattle.mau_statement.specs.declared.fault.StatementFault.TheVariants.{LimitExceeded, Parse, NoMemory}
+use Rattle.mau_statement.specs.declared.fault.Limit.TheVariants.{Fragments}
+use Rattle.mau_statement.specs.declared.TheConstants.{MAX_FRAGMENTS}
+
+-- P holds of a fault that is not want of memory
+abbrev pub IfFault : (StatementFault → Type 0) → StatementFault → Type 0
+IfFault P NoMemory = Unit {0}
+IfFault P f = P f
+
+-- the fault of a part that is no term
+abbrev pub fault_of : ParseFault → StatementFault
+fault_of OutOfMemory = NoMemory
+fault_of f = Parse f
+
+-- the fault of a statement with n fragments of which a part has this fault: too many of them come before it, but not before want of memory
+abbrev pub unread_fault : ℕ → StatementFault → StatementFault
+unread_fault n NoMemory = NoMemory
+unread_fault n f = if nat_lt MAX_FRAGMENTS n then LimitExceeded Fragments else f

@@ -1,0 +1,138 @@
+//! Reading the fragments of a condition.
+ghost use Rattle.std.specs.Prelude.{◌≡◌, ◌<◌, ◌+◌, All, true, IfOk, IfErr};
+ghost use Rattle.mau_poset.specs.Order.{kinds};
+ghost use Rattle.mau_signature.specs.Signature.{terms_over};
+ghost use Rattle.mau_terms.specs.Bare.{IsBare, IsBareIn};
+ghost use Rattle.mau_statement.specs.Context.{constant, terms_in};
+ghost use Rattle.mau_statement.specs.Conditions.{FragmentReads, FragmentUnread, ConditionReads, ConditionUnread};
+ghost use Rattle.mau_statement.specs.Faults.{IfFault};
+ghost use Rattle.mau_statement.specs.Lawful.{IsLawfulFragment};
+ghost use Rattle.mau_modtext.specs.declared.raw.FragmentKind.TheVariants as Sign;
+
+use crate::context::Context;
+use crate::fault::StatementFault;
+use crate::part::{no_term, read_pair, read_part, sort_named, unknown_sort};
+use mau_api::Fragment;
+use mau_declare::Words;
+use mau_modtext::{FragmentKind, RawFragment};
+use mau_parse::Goal;
+use mau_signature::Signature;
+use mau_terms::{Args, Bare, OpId, Seq, Vars};
+use std::alloc::Global;
+
+/// The kind of the result of an operator.
+fn result_kind(signature: &Signature, op: OpId) -> u32
+    requires { (terms_over signature.now).has_operator op.0 ≡ true }
+    ensures value { result ≡ (terms_over signature.now).result op.0 }
+    ensures below { result < signature.now.hierarchy.sorts + kinds signature.now.hierarchy }
+{
+    match signature.declarations(op).first() {
+        Some(decl) => signature.poset().kind_of(decl.result),
+        None => unreachable!(),
+    }
+}
+
+/// The kind of the truth values.
+fn kind_of_truth(context: &Context, truth: OpId) -> u32
+    requires { IsBare (terms_in context.now) (constant truth) }
+    ensures bare { IsBareIn (terms_in context.now) (constant truth) result }
+    ensures below { result < context.now.grammar.last_kind }
+{
+    result_kind(context.signature(), truth)
+}
+
+/// A fragment that says that a term has a sort.
+fn read_sort_test(
+    alloc: Global,
+    words: &Words,
+    context: &Context,
+    vars: &mut Vars,
+    raw: &RawFragment,
+) -> Result<Fragment, StatementFault>
+    requires { raw.now.kind ≡ Sign.Sort }
+    ensures fragment { IfOk result (FragmentReads words.now context.now raw.now vars.old vars.new) }
+    ensures lawful { IfOk result (IsLawfulFragment context.now.signature) }
+    ensures fault { IfErr result (IfFault (FragmentUnread words.now context.now raw.now vars.old)) }
+{
+    let term = read_part(alloc, words, context, vars, Goal::AnyKind, raw.left.items())?;
+    match sort_named(words, context, raw.right.items()) {
+        Some(sort) => Ok(Fragment::Sort(term, sort)),
+        None => Err(unknown_sort(words, raw.right.items())),
+    }
+}
+
+/// A fragment that says that a term is true.
+fn read_truth(
+    alloc: Global,
+    words: &Words,
+    context: &Context,
+    vars: &mut Vars,
+    raw: &RawFragment,
+) -> Result<Fragment, StatementFault>
+    requires { raw.now.kind ≡ Sign.Bool }
+    ensures fragment { IfOk result (FragmentReads words.now context.now raw.now vars.old vars.new) }
+    ensures lawful { IfOk result (IsLawfulFragment context.now.signature) }
+    ensures fault { IfErr result (IfFault (FragmentUnread words.now context.now raw.now vars.old)) }
+{
+    match context.truth() {
+        Some(truth) => {
+            let kind = Goal::Kind(kind_of_truth(context, truth));
+            let term = read_part(alloc, words, context, vars, kind, raw.left.items())?;
+            let truth = Bare::App(truth, Args::new(Vec::new(alloc)));
+            Ok(Fragment::Equal(term, truth))
+        }
+        None => Err(no_term(words, raw.left.items())),
+    }
+}
+
+/// What a fragment reads as. Its variables are added to the others.
+fn read_fragment(
+    alloc: Global,
+    words: &Words,
+    context: &Context,
+    vars: &mut Vars,
+    raw: &RawFragment,
+) -> Result<Fragment, StatementFault>
+    ensures fragment { IfOk result (FragmentReads words.now context.now raw.now vars.old vars.new) }
+    ensures lawful { IfOk result (IsLawfulFragment context.now.signature) }
+    ensures fault { IfErr result (IfFault (FragmentUnread words.now context.now raw.now vars.old)) }
+{
+    let left = raw.left.items();
+    let right = raw.right.items();
+    match raw.kind {
+        FragmentKind::Equal => {
+            let (term, other) = read_pair(alloc, words, context, vars, left, right)?;
+            Ok(Fragment::Equal(term, other))
+        }
+        FragmentKind::Match => {
+            let (subject, pattern) = read_pair(alloc, words, context, vars, right, left)?;
+            Ok(Fragment::Match(pattern, subject))
+        }
+        FragmentKind::Reach => {
+            let (start, end) = read_pair(alloc, words, context, vars, left, right)?;
+            Ok(Fragment::Reach(start, end))
+        }
+        FragmentKind::Sort => read_sort_test(alloc, words, context, vars, raw),
+        FragmentKind::Bool => read_truth(alloc, words, context, vars, raw),
+    }
+}
+
+/// What a condition reads as.
+pub fn read_condition(
+    alloc: Global,
+    words: &Words,
+    context: &Context,
+    vars: &mut Vars,
+    raws: &[RawFragment],
+) -> Result<Seq<Fragment>, StatementFault>
+    ensures condition { IfOk result (ConditionReads words.now context.now vars.old raws.now vars.new) }
+    ensures lawful { IfOk result (All (IsLawfulFragment context.now.signature)) }
+    ensures fault { IfErr result (IfFault (ConditionUnread words.now context.now vars.old raws.now)) }
+{
+    let mut fragments = Vec::new(alloc);
+    for raw in raws {
+        let fragment = read_fragment(alloc, words, context, vars, raw)?;
+        fragments.push(fragment)?;
+    }
+    Ok(Seq::new(fragments))
+}

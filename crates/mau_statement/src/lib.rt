@@ -1,0 +1,27 @@
+//! Statements of a module's text. [`read_statement`] reads an equation, a membership or a rule
+//! as typed terms and fragments, or says why it is none: a part is no term, a left side or a
+//! head may not be one, a variable is not bound, or there are too many parts.
+#![tactic(auto)]
+
+mod binding;
+mod condition;
+mod context;
+mod fault;
+mod judged;
+mod part;
+mod reading;
+mod statement;
+mod tops;
+
+pub use context::Context;
+pub use fault::{Limit, StatementFault};
+pub use part::{is_empty, read_term, sort_named};
+pub use reading::read_statement;
+pub use statement::Statement;
+pub use tops::{is_head, is_left_side};
+
+/// The greatest number of variables of a statement.
+pub const MAX_VARIABLES: usize = 64;
+
+/// The greatest number of fragments of a condition.
+pub const MAX_FRAGMENTS: usize = 32;
