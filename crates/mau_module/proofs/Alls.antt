@@ -9,6 +9,10 @@ module _ {X : Type 0} (P : X → Type 0) (xs : List X) (i : ℕ) where
   all_more x l e a p =
       subst (All P) (sym (ap (λ k. take k xs) (add-one i) ∙ take-suc xs i x l)) (All-push P (take i xs) (get_or xs i x) a (subst P e p))
 
+  pub all_at : (d : X) → i < length xs → All P (take i xs) → P (get_or xs i d) → All P (take (i + 1) xs)
+  all_at d l a p =
+      subst (All P) (sym (ap (λ k. take k xs) (add-one i) ∙ take-suc xs i d l)) (All-push P (take i xs) (get_or xs i d) a p)
+
   pub all_whole : i ≡ length xs → All P (take i xs) → All P xs
   all_whole e a = subst (All P) (ap (λ k. take k xs) e ∙ take-length xs) a
 

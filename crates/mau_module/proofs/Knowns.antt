@@ -94,6 +94,10 @@ pub all_known : (ms : List ModuleOf) (ws : List Word) (es : List RawElement) (ps
     → has_name (declared_sorts ws (sorts_of ms ps) es) (get_or (of_module ms (λ m. m.sorts) (get_or ps k d)) j e) ≡ true
 all_known ms ws es ps k d l j e m = kept_declared ws es (sorts_of ms ps) _ (there_parts ms ps [] k d j e l m)
 
+-- so have those of the parts, and then others
+pub more_known : (ms : List ModuleOf) (more : List (List ℕ)) (ps : List ℕ) → AreKnown ms (fold with_name (sorts_of ms ps) more) ps
+more_known ms more ps k d l j e m = kept_all more (sorts_of ms ps) _ (there_parts ms ps [] k d j e l m)
+
 -- names that have those of some modules have those of each of them
 pub known_at : (ms : List ModuleOf) (names : List (List ℕ)) (parts : List ℕ) (i d : ℕ) (m : ModuleOf) → AreKnown ms names parts → i < length parts
     → slice_get ms (get_or parts i d) ≡ Some m → All (λ x. has_name names x ≡ true) m.sorts

@@ -14,3 +14,6 @@ pub mod Owns
 pub mod Faulted
 pub mod Signatures
 pub mod Truthful
+pub mod Flattening
+pub mod Tabled
+pub mod OneModule

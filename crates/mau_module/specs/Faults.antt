@@ -1,10 +1,12 @@
 -- Why a module of a text is not accepted.
-use Rattle.std.specs.Prelude.{ℕ, List}
+use Rattle.std.specs.Prelude.{ℕ, List, Result, Ok, Err}
 use Rattle.mau_statement.specs.declared.fault.StatementFault.{StatementFault}
+use Rattle.mau_statement.specs.Faults.{without_trees as without_trees_of_statement}
 use Rattle.mau_signed.specs.declared.fault.SignFault.{SignFault}
 use Rattle.mau_signed.specs.declared.fault.SignFault.TheVariants.{Refused, NoMemory as NoMemoryOfSign}
 use Rattle.mau_module.specs.declared.fault.ModuleFault.{ModuleFault}
 use Rattle.mau_module.specs.declared.fault.ModuleFault.TheVariants.{Signed, Statement, NoMemory}
+use Rattle.mau_module.specs.Modules.{ModuleOf}
 
 -- P holds of a fault that is not want of memory
 abbrev pub IfFault : (ModuleFault → Type 0) → ModuleFault → Type 0
@@ -27,3 +29,15 @@ IfSigned _ P = ⊥
 abbrev pub fault_of : SignFault → ModuleFault
 fault_of (Refused text) = Signed text
 fault_of NoMemoryOfSign = NoMemory
+
+-- ---- what an answer tells, whichever two trees an ambiguity has
+
+-- a fault without the two trees of an ambiguity, in place of which others may be told
+abbrev pub without_trees : ModuleFault → ModuleFault
+without_trees (Statement i f) = Statement i (without_trees_of_statement f)
+without_trees f = f
+
+-- an answer, as far as it is one
+abbrev pub told : Result ModuleOf ModuleFault → Result ModuleOf ModuleFault
+told (Ok m) = Ok m
+told (Err f) = Err (without_trees f)

@@ -1,8 +1,9 @@
 //! What the statements of a module are read over: how its terms are written, and the constant `true`.
-ghost use Rattle.std.specs.Prelude.{◌≡◌, ◌≤◌, ◌∷◌, [], codes, length, map, true, IfOk};
+ghost use Rattle.std.specs.Prelude.{◌≡◌, ◌≤◌, ◌∷◌, [], codes, length, map, true, All, IfOk};
 ghost use Rattle.std.specs.Option.{ForSome};
 ghost use Rattle.mau_poset.specs.declared.TheConstants.{MAX_SORTS};
 ghost use Rattle.mau_terms.specs.Bare.{IsBare};
+ghost use Rattle.mau_signature.specs.Faults.{IsSort};
 ghost use Rattle.mau_signature.specs.Signature.{terms_over};
 ghost use Rattle.mau_signature.specs.Attributes.{no_attributes};
 ghost use Rattle.mau_grammar.specs.Grammar.{grammar_of};
@@ -17,13 +18,13 @@ use crate::library::{Library, TRUTH};
 use crate::numbering::number_in;
 use mau_canon::is_bare;
 use mau_declare::{Elements, Names, Words, variables};
-use mau_grammar::Grammar;
+use mau_grammar::{Alias, Grammar};
 use mau_signature::{Attrs, Decl, Form, Piece, Signature};
 use mau_terms::{Args, Bare, NoMemory, OpId, Seq, Text};
 use std::alloc::Global;
 
 /// The names as texts.
-fn texts_of(alloc: Global, names: &Names) -> Result<Vec<Text>, NoMemory>
+pub fn texts_of(alloc: Global, names: &Names) -> Result<Vec<Text>, NoMemory>
     ensures { IfOk result (λ texts. texts.items ≡ names.now) }
 {
     let mut texts = Vec::with_capacity(alloc, names.len())?;
@@ -34,6 +35,25 @@ fn texts_of(alloc: Global, names: &Names) -> Result<Vec<Text>, NoMemory>
         }
     }
     Ok(texts)
+}
+
+/// The grammar of a signature, whose sorts have these names, with these variables.
+pub fn grammar_over(
+    alloc: Global,
+    sorts: &Names,
+    signature: &Signature,
+    variables: &[Alias],
+) -> Result<Grammar, NoMemory>
+    requires named { length sorts.now ≡ signature.now.hierarchy.sorts }
+    requires over { All (λ alias. IsSort signature.now.hierarchy alias.sort) variables.now }
+    ensures value { IfOk result (λ g. g ≡ grammar_of signature.now sorts.now variables.now) }
+    ensures kept { IfOk result (IsItsGrammar sorts.now signature.now) }
+{
+    let names = texts_of(alloc, sorts)?;
+    let _sorts = sorts.len();
+    let _operators = signature.operators();
+    let grammar = Grammar::of(alloc, signature, &names, variables)?;
+    Ok(grammar)
 }
 
 /// The grammar of a signature, whose sorts have these names, with the variables that the elements declare.
@@ -49,12 +69,8 @@ pub fn grammar_in(
     ensures value { IfOk result (λ g. g ≡ grammar_of signature.now sorts.now (map (variable_at words.now signature.now.hierarchy) elements.now.variables)) }
     ensures kept { IfOk result (IsItsGrammar sorts.now signature.now) }
 {
-    let names = texts_of(alloc, sorts)?;
     let variables = variables(alloc, words, signature.poset(), elements)?;
-    let _sorts = sorts.len();
-    let _operators = signature.operators();
-    let grammar = Grammar::of(alloc, signature, &names, &variables)?;
-    Ok(grammar)
+    grammar_over(alloc, sorts, signature, &variables)
 }
 
 /// Whether an operator is a constant.

@@ -13,13 +13,16 @@ mod limits;
 mod module;
 mod numbering;
 mod own;
+mod prelude;
 mod signing;
 mod statements;
 mod tables;
+#[cfg(test)]
+mod tests;
 mod truth;
 
 pub use fault::{Limit, ModuleFault};
-pub use library::Library;
+pub use library::{Library, NAT};
 pub use module::Module;
 
 /// The greatest depth of imports.

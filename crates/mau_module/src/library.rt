@@ -4,7 +4,11 @@ ghost use Rattle.mau_module.specs.Library.{last_named};
 
 use crate::module::Module;
 use mau_terms::NoMemory;
+use std::alloc::Global;
 use std::marker::Model;
+
+/// The number of the prelude's module of the sort of truth values.
+pub const TRUTH_VALUE: usize = 0;
 
 /// The number of the prelude's module of the operators on truth values.
 pub const TRUTH: usize = 1;
@@ -64,6 +68,15 @@ fn last_named(modules: &[Module], name: &str) -> Option<usize>
 impl Library {
     ghost use Rattle.std.specs.Prelude.{◌≡◌, ◌<◌, ◌≤◌, ◌∷◌, ◌++◌, [], length, All, Some, IfSome, OnOk, OnErr, slice_get};
     ghost use Rattle.mau_module.specs.Library.{last_named, IsLibrary, IsNext};
+
+    /// No modules, not even those of the prelude.
+    pub(crate) fn new(alloc: Global) -> Library
+        ensures { result ≡ [] }
+    {
+        Library {
+            modules: Vec::new(alloc),
+        }
+    }
 
     /// How many modules there are.
     pub fn len(&self) -> usize

@@ -1,12 +1,15 @@
 //! Accepted modules.
 ghost use Rattle.std.specs.Prelude.{◌≡◌, drop};
 
-use crate::statements::Counts;
+use crate::context::texts_of;
+use crate::frame::Frame;
+use crate::signing::Signed;
+use crate::statements::{Counts, Statements};
 use mau_api::{Equation, Membership, Program, Rule};
 use mau_declare::{Names, kind_names, write_sort};
 use mau_grammar::Grammar;
 use mau_signature::{Decl, Signature};
-use mau_terms::{NoMemory, Text};
+use mau_terms::{NoMemory, Seq, Text};
 use std::alloc::Global;
 use std::marker::Model;
 
@@ -67,13 +70,65 @@ fn rest<T>(items: &[T], from: usize) -> &[T]
 }
 
 impl Module {
-    ghost use Rattle.std.specs.Prelude.{◌≡◌, ◌≤◌, ◌++◌, length, All, IfOk, OnOk};
+    ghost use Rattle.std.specs.Prelude.{◌≡◌, ◌≤◌, ◌++◌, ◌∷◌, [], length, All, IfOk, OnOk};
     ghost use Rattle.mau_poset.specs.Order.{IsWithin};
     ghost use Rattle.mau_poset.specs.declared.TheConstants.{MAX_SORTS};
     ghost use Rattle.mau_signature.specs.Faults.{HasSorts};
     ghost use Rattle.mau_declare.specs.Flattened.{sort_name, kind_names};
     ghost use Rattle.mau_statement.specs.Context.{IsItsGrammar};
     ghost use Rattle.mau_module.specs.declared.TheConstants.{MAX_DEPTH};
+    ghost use Rattle.mau_module.specs.Kept.{AreKept, IsOver};
+    ghost use Rattle.mau_module.specs.Modules.{behind};
+
+    /// The module with this number, which includes the parts of a frame and itself. Of its statements, so many are those of its parts.
+    pub fn new(
+        alloc: Global,
+        number: usize,
+        name: Text,
+        frame: Frame,
+        signed: Signed,
+        grammar: Grammar,
+        pairs: Vec<(u32, u32)>,
+        included: Counts,
+        statements: Statements,
+    ) -> Result<Module, NoMemory>
+        requires depth { frame.depth ≤ MAX_DEPTH }
+        requires kept { AreKept frame.names signed.lower.items signed.signature }
+        requires grammar { IsItsGrammar frame.names signed.signature grammar }
+        requires over { IsOver signed.signature pairs.items signed.own.items }
+        ensures { IfOk result (λ m. m ≡ record {
+          name = name;
+          depth = frame.depth;
+          parts = frame.parts ++ number ∷ [];
+          sorts = frame.names;
+          signature = signed.signature;
+          grammar = grammar;
+          statements = statements;
+          own = record { pairs = pairs.items; declarations = signed.own.items; statements = behind included statements };
+        }) }
+    {
+        let sorts = texts_of(alloc, &frame.names)?;
+        let mut parts = frame.parts;
+        parts.push(number)?;
+        Ok(Module {
+            name,
+            depth: frame.depth,
+            parts,
+            sorts: frame.names,
+            lower: signed.lower,
+            grammar,
+            program: Program {
+                sig: signed.signature,
+                sorts: Seq::new(sorts),
+                equations: Seq::new(statements.equations),
+                memberships: Seq::new(statements.memberships),
+                rules: Seq::new(statements.rules),
+            },
+            pairs,
+            declarations: signed.own,
+            included,
+        })
+    }
 
     /// The name.
     pub fn name(&self) -> &str

@@ -1,15 +1,20 @@
 //! The statements of a module: those of its parts, judged by its own operators and axioms, and those that it states itself.
-ghost use Rattle.std.specs.Prelude.{◌≡◌, All, true, false, Ok, Err, IfOk, IfErr, OnOk, IsTrue, ◌↔◌};
+ghost use Rattle.std.specs.Prelude.{◌≡◌, ◌<◌, ◌≤◌, length, All, true, false, Ok, Err, IfOk, IfErr, OnOk, IsTrue, ◌↔◌};
 ghost use Rattle.std.specs.Option.{option_copied};
 ghost use Rattle.mau_module.specs.Modules.{no_statements};
 ghost use Rattle.mau_module.specs.Stated.{IsLeftSide, IsHead, AreLawful, HasCarriedFault, OwnRead, statement_in};
 ghost use Rattle.mau_module.specs.Faults.{IfOwn};
+ghost use Rattle.mau_poset.specs.declared.TheConstants.{MAX_SORTS};
+ghost use Rattle.mau_module.specs.Known.{AreKnown};
+ghost use Rattle.mau_module.specs.Carried.{carried};
 
 use crate::fault::ModuleFault;
+use crate::library::Library;
 use crate::statements::Statements;
+use crate::tables::carried;
 use mau_api::{Equation, Membership};
 use mau_canon::is_bare;
-use mau_declare::Words;
+use mau_declare::{Names, Words};
 use mau_modtext::{RawElement, RawStatement, StatementKind};
 use mau_signature::Signature;
 use mau_statement::{Context, StatementFault, is_head, is_left_side, read_statement};
@@ -67,6 +72,29 @@ pub fn judge_carried(signature: &Signature, statements: &Statements) -> Result<(
         return Err(StatementFault::MembershipHead);
     }
     Ok(())
+}
+
+/// The statements of a module's parts, over a signature whose sorts have these names. A fault has the number 0.
+pub fn read_carried(
+    alloc: Global,
+    library: &Library,
+    names: &Names,
+    signature: &Signature,
+    parts: &[usize],
+) -> Result<Statements, ModuleFault>
+    requires few { length names.now ≤ MAX_SORTS }
+    requires parts { All (λ p. p < length library.now) parts.now }
+    requires known { AreKnown library.now names.now parts.now }
+    requires named { length names.now ≡ signature.now.hierarchy.sorts }
+    ensures ok { IfOk result (λ a. a ≡ carried library.now names.now signature.now parts.now) }
+    ensures lawful { IfOk result (AreLawful signature.now) }
+    ensures at_fault { IfErr result (IfOwn (λ i f. (i ≡ 0) × HasCarriedFault signature.now (carried library.now names.now signature.now parts.now) f)) }
+{
+    let statements = carried(alloc, library, names, signature, parts)?;
+    match judge_carried(signature, &statements) {
+        Ok(()) => Ok(statements),
+        Err(fault) => Err(ModuleFault::of_statement(0, fault)),
+    }
 }
 
 /// The equation, membership or rule that an element is.

@@ -12,6 +12,7 @@ ghost use Rattle.mau_declare.specs.Flattened.{declared_forms};
 ghost use Rattle.mau_module.specs.Included.{numeral_kind};
 ghost use Rattle.mau_module.specs.Known.{AreKnown};
 ghost use Rattle.mau_module.specs.Framed.{all_parts, included_declarations};
+ghost use Rattle.mau_module.specs.Declarations.{given_over};
 ghost use Rattle.mau_module.specs.Flattened.{hierarchy_in, own_in, given_in, conflict_in};
 
 use crate::declarations::{add_copies, all_declarations, has_part, pairs_of};
@@ -170,6 +171,44 @@ fn conflict_in(library: &Library, frame: &Frame, elements: &Elements) -> Option<
     }
 }
 
+/// The signature of all declarations of a module that includes these parts and has its own declarations, over the order of its sorts.
+pub fn sign_declarations(
+    alloc: Global,
+    library: &Library,
+    names: &Names,
+    parts: &[usize],
+    lower: &[bool],
+    poset: Poset,
+    own: &[Decl],
+    conflict: Option<usize>,
+) -> Result<Signature, ModuleFault>
+    requires few { length names.now ≤ MAX_SORTS }
+    requires parts { All (λ p. p < length library.now) parts.now }
+    requires known { AreKnown library.now names.now parts.now }
+    requires named { length names.now ≡ poset.sorts }
+    requires poset { IsPoset poset }
+    requires lower { AreLower poset.sorts poset.pairs lower.now }
+    requires sorts { All (HasSorts poset) own.now }
+    requires conflict { IfSome conflict (λ c. c < 4294967296) }
+    ensures ok { IfOk result (λ s. SignatureRead names.now (given_over library.now parts.now names.now poset own.now) conflict (Ok s)) }
+    ensures hierarchy { IfOk result (λ s. s.hierarchy ≡ poset) }
+    ensures refused { IfErr result (λ fault. IfSigned fault (λ text. SignatureRead names.now (given_over library.now parts.now names.now poset own.now) conflict (Err text))) }
+{
+    let numerals = numerals_of(library, names, parts)?;
+    let named = all_declarations(alloc, library, names, &poset, parts, own)?;
+    if named.len() > MAX_DECLARATIONS || !are_numerals(&poset, &named, numerals) {
+        return Err(ModuleFault::NoMemory);
+    }
+    let mut decls = Vec::new(alloc);
+    add_copies(alloc, &mut decls, &named)?;
+    match sign(
+        alloc, names, lower, poset, decls, &named, numerals, conflict,
+    ) {
+        Ok(signature) => Ok(signature),
+        Err(fault) => Err(fault_of(fault)),
+    }
+}
+
 /// The signature of a module over what it includes.
 pub fn sign_over(
     alloc: Global,
@@ -204,21 +243,15 @@ pub fn sign_over(
         elements,
         &mut own,
     )?;
-    let named = all_declarations(alloc, library, &frame.names, &poset, &frame.parts, &own)?;
-    if named.len() > MAX_DECLARATIONS || !are_numerals(&poset, &named, numerals) {
-        return Err(ModuleFault::NoMemory);
-    }
-    let mut decls = Vec::new(alloc);
-    add_copies(alloc, &mut decls, &named)?;
     let conflict = conflict_in(library, frame, elements);
-    match sign(
+    match sign_declarations(
         alloc,
+        library,
         &frame.names,
+        &frame.parts,
         &lower,
         poset,
-        decls,
-        &named,
-        numerals,
+        &own,
         conflict,
     ) {
         Ok(signature) => Ok(Signed {
@@ -226,6 +259,6 @@ pub fn sign_over(
             lower,
             own,
         }),
-        Err(fault) => Err(fault_of(fault)),
+        Err(fault) => Err(fault),
     }
 }

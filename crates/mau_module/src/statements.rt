@@ -36,8 +36,8 @@ pub struct Counts {
 }
 
 impl Statements {
-    ghost use Rattle.std.specs.Prelude.{◌≡◌, OnOk};
-    ghost use Rattle.mau_module.specs.Modules.{no_statements};
+    ghost use Rattle.std.specs.Prelude.{◌≡◌, [], OnOk};
+    ghost use Rattle.mau_module.specs.Modules.{no_statements, and_more, counts_of};
     ghost use Rattle.mau_module.specs.Stated.{with_statement};
 
     /// No statements.
@@ -46,6 +46,17 @@ impl Statements {
     {
         Statements {
             equations: Vec::new(alloc),
+            memberships: Vec::new(alloc),
+            rules: Vec::new(alloc),
+        }
+    }
+
+    /// These equations alone.
+    pub fn of_equations(alloc: Global, equations: Vec<Equation>) -> Statements
+        ensures { result ≡ record { equations = equations.items; memberships = []; rules = [] } }
+    {
+        Statements {
+            equations,
             memberships: Vec::new(alloc),
             rules: Vec::new(alloc),
         }
@@ -61,5 +72,26 @@ impl Statements {
             Statement::Rule(rule) => self.rules.push(rule)?,
         }
         Ok(())
+    }
+
+    /// Adds other statements behind these.
+    pub fn append(&mut self, mut more: Statements) -> Result<(), NoMemory>
+        ensures { OnOk result (self.new ≡ and_more self.old more) }
+    {
+        self.equations.append(&mut more.equations)?;
+        self.memberships.append(&mut more.memberships)?;
+        self.rules.append(&mut more.rules)?;
+        Ok(())
+    }
+
+    /// How many statements there are.
+    pub fn counts(&self) -> Counts
+        ensures { result ≡ counts_of self.now }
+    {
+        Counts {
+            equations: self.equations.len(),
+            memberships: self.memberships.len(),
+            rules: self.rules.len(),
+        }
     }
 }

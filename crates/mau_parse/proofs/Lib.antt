@@ -12,3 +12,4 @@ pub mod Results_right
 pub mod Read_words
 pub mod Bare_terms
 pub mod Variables_seen
+pub mod OneReading

@@ -2,6 +2,7 @@
 use Rattle.std.specs.Prelude.{◌≡◌, ℕ, ◌<◌, ◌≤◌, List, length, true, false, Some, IsSome, slice_get}
 use Rattle.mau_terms.specs.Tree.{Tree}
 use Rattle.mau_terms.specs.declared.bare.Bare.{Bare}
+use Rattle.mau_terms.specs.declared.bare.Bare.TheVariants.{Num}
 use Rattle.mau_tokens.specs.declared.token.Token.{Token}
 use Rattle.mau_grammar.specs.Grammar.{GrammarOf}
 use Rattle.mau_grammar.specs.Leaves.{pairs_of}
@@ -75,3 +76,8 @@ IsFault g ts ws goal old (TooManyTokens n) = (n ≡ length ws) × (1000 < n)
 IsFault g ts ws goal old (NumberTooLarge at) = (i : ℕ) × HasLargeNumeral g ws i × BeginsAt ts i at
 IsFault g ts ws goal old (SuccessorTooLarge at) = HasLargeSuccessor g ws goal × BeginsAt ts 0 at
 IsFault g ts ws goal old NoMemory = Unit {0}
+
+-- a fault without the two trees of an ambiguity, in place of which others may be told
+abbrev pub without_trees : ParseFault → ParseFault
+without_trees (Ambiguous at a b) = Ambiguous at (Num 0) (Num 0)
+without_trees f = f

@@ -2,24 +2,24 @@
 use Rattle.std.proofs.Common.{◌≡◌, ℕ, ◌+◌, List, [], ◌∷◌, ◌++◌, Bool, true, false, ◌||◌, Option, None, Some, Result, Ok, Err, IfOk, OnOk, refl, sym, ◌∙◌, ap, subst, append_assoc, append-nil}
 use Rattle.std.specs.Prelude.{slice_get}
 use Rattle.mau_terms.specs.Tree.{Tree}
-use Rattle.mau_reader.specs.Modules.{ModuleOf}
+use Rattle.mau_module.specs.Modules.{ModuleOf}
 use Rattle.mau_modtext.specs.Word.{Word}
 use Rattle.mau_modtext.specs.declared.raw.RawItem.{RawItem}
 use Rattle.mau_modtext.specs.declared.raw.RawBody.{RawBody}
 use Rattle.mau_modtext.specs.declared.raw.TextFault.{TextFault}
-use Rattle.mau_reader.specs.Words.{index_at}
+use Rattle.mau_declare.specs.Words.{index_at}
 use Rattle.mau_session.specs.Built.{has_context, fault_answer}
 use Rattle.mau_modtext.specs.declared.raw.RawCommand.{RawCommand}
 use Rattle.mau_terms.specs.View.{tree_of}
 use Rattle.mau_terms.specs.declared.bare.Bare.{Bare}
 use Rattle.mau_session.specs.Terms.{Pairs}
 use Rattle.mau_session.specs.Query.{QueryOf, asked_first, shown_more}
-use Rattle.mau_session.specs.State.{GoingOf, StateOf, nothing_yet, IsChosen, OutcomeOf, left_by, refuses, state_after}
+use Rattle.mau_session.specs.State.{GoingOf, StateOf, at_first, IsChosen, OutcomeOf, left_by, refuses, state_after}
 use Rattle.mau_session.specs.Bounds.{bound_of}
 use Rattle.mau_session.specs.Commands.{unbuilt}
 use Rattle.mau_session.specs.Next.{GainsShown}
-use Rattle.mau_session.specs.Transcript.{PatternReads, SubjectReads, TermsAnswer, too_deep, overflows, listed, MatchAnswer, bound_refused, command_answered, ContinueAnswer, continued, BodyAnswer, item_faulty, item_answered, ItemsAnswer, item_first}
-use Rattle.mau_session.specs.Gains.{GainsListing, GainsListed, gains_solutions, gains_too_deep, gains_overflow, GainsTerms, ChosenAnswer, chosen_refused, chosen_answered, GainsChosen, GainsMatch, GainsOn, GainsContinue, GainsBody, GainsItem}
+use Rattle.mau_session.specs.Transcript.{PatternReads, SubjectReads, TermsAnswer, too_deep, overflows, listed, MatchAnswer, listing_not_built, bound_refused, command_answered, ContinueAnswer, continued, BodyAnswer, item_faulty, item_answered, ItemsAnswer, item_first}
+use Rattle.mau_session.specs.Gains.{GainsListing, GainsListed, gains_solutions, gains_too_deep, gains_overflow, GainsTerms, ChosenAnswer, chosen_not_built, chosen_refused, chosen_answered, GainsChosen, GainsMatch, GainsOn, GainsContinue, GainsBody, GainsItem}
 use Rattle.mau_session.specs.Answers.{listing_lines, match_head, continue_head, too_deep_line, overflow_line}
 
 -- what was written answers an item, where it is known whether that is a refusal
@@ -51,19 +51,19 @@ or_nothing false = refl
 
 module _ (ws : List Word) where
   pub one_more : (st next : StateOf) (k : ℕ) (item : RawItem) (items : List RawItem) (o n : List ℕ) (r b s : Bool) → GainsItem ws st k item next o n b → s ≡ (r || b)
-      → (all : List RawItem) → ((more : List ℕ) (later : Bool) → ItemsAnswer ws st k (item ∷ items) more later → ItemsAnswer ws nothing_yet 1 all (o ++ more) (r || later))
-      → (more : List ℕ) (later : Bool) → ItemsAnswer ws next (k + 1) items more later → ItemsAnswer ws nothing_yet 1 all (n ++ more) (s || later)
+      → (all : List RawItem) → ((more : List ℕ) (later : Bool) → ItemsAnswer ws st k (item ∷ items) more later → ItemsAnswer ws at_first 1 all (o ++ more) (r || later))
+      → (more : List ℕ) (later : Bool) → ItemsAnswer ws next (k + 1) items more later → ItemsAnswer ws at_first 1 all (n ++ more) (s || later)
   one_more st next k item items o n r b s g e all rest more later a =
       let whole = rest (g.bytes ++ more) (b || later) (item_first st next k item items g.bytes more b later g.answer a) in
-      subst (λ x. ItemsAnswer ws nothing_yet 1 all x (s || later)) (sym (append_assoc o g.bytes more) ∙ ap (λ x. x ++ more) (sym g.gained))
-      (subst (λ x. ItemsAnswer ws nothing_yet 1 all (o ++ (g.bytes ++ more)) x) (or_parts r b later ∙ ap (λ x. x || later) (sym e)) whole)
+      subst (λ x. ItemsAnswer ws at_first 1 all x (s || later)) (sym (append_assoc o g.bytes more) ∙ ap (λ x. x ++ more) (sym g.gained))
+      (subst (λ x. ItemsAnswer ws at_first 1 all (o ++ (g.bytes ++ more)) x) (or_parts r b later ∙ ap (λ x. x || later) (sym e)) whole)
 
   -- nothing more is answered
   pub all_answered : (st : StateOf) (k : ℕ) (items all : List RawItem) (o : List ℕ) (r : Bool) → ItemsAnswer ws st k items [] false
-      → ((more : List ℕ) (later : Bool) → ItemsAnswer ws st k items more later → ItemsAnswer ws nothing_yet 1 all (o ++ more) (r || later)) → ItemsAnswer ws nothing_yet 1 all o r
+      → ((more : List ℕ) (later : Bool) → ItemsAnswer ws st k items more later → ItemsAnswer ws at_first 1 all (o ++ more) (r || later)) → ItemsAnswer ws at_first 1 all o r
   all_answered st k items all o r none rest =
-      subst (λ x. ItemsAnswer ws nothing_yet 1 all x r) (append-nil o)
-      (subst (λ x. ItemsAnswer ws nothing_yet 1 all (o ++ []) x) (or_nothing r) (rest [] false none))
+      subst (λ x. ItemsAnswer ws at_first 1 all x r) (append-nil o)
+      (subst (λ x. ItemsAnswer ws at_first 1 all (o ++ []) x) (or_nothing r) (rest [] false none))
 
 -- ---- one item
 
@@ -144,10 +144,11 @@ continues ws st taken k c most g next o n refused bound going on =
     }
 
 -- the answer of a match command over a module that was chosen
-pub gains_chosen : (ws : List Word) (st : StateOf) (k i : ℕ) (c : RawCommand) (n : ℕ) (next : StateOf) (old new : List ℕ) (refused : Bool) → unbuilt ws st.current i c ≡ None → IsChosen ws st c n
-    → GainsChosen ws st k c n next old new refused → GainsMatch ws st k i c next old new refused
+pub gains_chosen : (ws : List Word) (st : StateOf) (k i : ℕ) (c : RawCommand) (n : ℕ) (next : StateOf) (old new : List ℕ) (refused : Bool) → unbuilt ws c ≡ None → IsChosen ws st c n
+    → GainsChosen ws st k i c n next old new refused → GainsMatch ws st k i c next old new refused
 gains_chosen ws st k i c n next old new refused built chosen g = record { bytes = g.bytes; answer = by g.answer; gained = g.gained }
   where
-    by : {s : StateOf} {b : List ℕ} {r : Bool} → ChosenAnswer ws st k c n s b r → MatchAnswer ws st k i c s b r
-    by (chosen_refused r e) = bound_refused n r built chosen e
-    by (chosen_answered m most left bytes there e a) = command_answered n m most left bytes built chosen there e a
+    by : {s : StateOf} {b : List ℕ} {r : Bool} → ChosenAnswer ws st k i c n s b r → MatchAnswer ws st k i c s b r
+    by (chosen_not_built m there uses) = listing_not_built n m built chosen there uses
+    by (chosen_refused m r there none e) = bound_refused n m r built chosen there none e
+    by (chosen_answered m most left bytes there none e a) = command_answered n m most left bytes built chosen there none e a

@@ -11,8 +11,8 @@ use Rattle.mau_parse.specs.declared.goals.Goal.TheVariants.{AnyKind}
 use Rattle.mau_grammar.specs.Grammar.{GrammarOf}
 use Rattle.mau_parse.specs.Goal.{highest}
 use Rattle.mau_parse.specs.Laws.{IsBareFor}
-use Rattle.mau_reader.specs.Kept.{IsItsGrammar}
-use Rattle.mau_reader.specs.Modules.{ModuleOf}
+use Rattle.mau_statement.specs.Context.{IsItsGrammar}
+use Rattle.mau_module.specs.Modules.{ModuleOf}
 use Rattle.mau_session.specs.Terms.{terms_in, kind_of_term}
 use Rattle.mau_session.specs.Reading.{IsBareOf}
 

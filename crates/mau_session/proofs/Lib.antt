@@ -9,7 +9,7 @@ pub mod Showing
 pub mod Progress
 pub mod Extending
 pub mod Numbered
-pub mod OneReading
+pub mod OneFault
 pub mod Kinded
 pub mod Values
 pub mod Lines

@@ -26,7 +26,7 @@ use Rattle.mau_api.specs.Next.{found_cmp, IsLeastBehind}
 use Rattle.mau_api.specs.Asked.{Asked, question_in, found_in, IsTableOf, BySort, IsGiven, CanBeLast}
 use Rattle.mau_api.proofs.Growth.{found_same, given_is_last, last_of_store, given_of_store, listings_go_on, trees_long}
 use Rattle.mau_plain.proofs.Nexts.{table_grown}
-use Rattle.mau_reader.specs.Modules.{ModuleOf}
+use Rattle.mau_module.specs.Modules.{ModuleOf}
 use Rattle.mau_session.specs.Terms.{terms_in}
 use Rattle.mau_session.specs.Matching.{IsSolution}
 use Rattle.mau_session.specs.Query.{asked_for, query_of, IsReady}

@@ -10,7 +10,7 @@ use Rattle.mau_store.specs.View.{numbers}
 use Rattle.mau_store.proofs.Growth.{trees_at-extends}
 use Rattle.mau_api.specs.declared.solution.Solution.{Solution}
 use Rattle.mau_api.specs.Asked.{found_in, IsGiven}
-use Rattle.mau_reader.specs.Modules.{ModuleOf}
+use Rattle.mau_module.specs.Modules.{ModuleOf}
 use Rattle.mau_session.specs.Terms.{Pairs}
 use Rattle.mau_session.specs.Matching.{numbered_from}
 use Rattle.mau_session.specs.Answers.{substitution_lines, part_lines, matcher_lines}

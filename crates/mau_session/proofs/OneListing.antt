@@ -8,7 +8,7 @@ use Rattle.std.specs.declared.cmp.Ordering.TheVariants.{Less, Equal, Greater}
 use Rattle.mau_terms.specs.Tree.{Tree}
 use Rattle.mau_api.specs.Found.{Found}
 use Rattle.mau_api.proofs.Ordered.{found_are_ordered}
-use Rattle.mau_reader.specs.Modules.{ModuleOf}
+use Rattle.mau_module.specs.Modules.{ModuleOf}
 use Rattle.mau_session.specs.Terms.{terms_in}
 use Rattle.mau_session.specs.Matching.{IsSolution, IsBefore, IsBehind, AreFirst, AreAll, class_of, Shows, shows_all, shows_first}
 use Rattle.mau_session.proofs.Showing.{before_trans, behind_trans}

@@ -1,5 +1,5 @@
 -- A text has one transcript.
-use Rattle.std.proofs.Common.{◌≡◌, ◌≢◌, ℕ, ◌+◌, List, [], ◌++◌, Bool, ◌||◌, Some, None, Ok, refl, sym, ◌∙◌, ap, ap₂, subst, arith, Option, length, slice_get, Err}
+use Rattle.std.proofs.Common.{◌≡◌, ◌≢◌, ℕ, ◌+◌, List, [], ◌++◌, Bool, true, false, ◌||◌, Some, None, Ok, refl, sym, ◌∙◌, ap, ap₂, subst, arith, Option, slice_get, Err}
 use Rattle.mau_terms.specs.Tree.{Tree}
 use Rattle.mau_terms.specs.View.{tree_of}
 use Rattle.mau_terms.specs.declared.bare.Bare.{Bare}
@@ -20,8 +20,9 @@ use Rattle.mau_modtext.specs.declared.raw.RawBody.{RawBody}
 use Rattle.mau_modtext.specs.declared.raw.RawBody.TheVariants.{Quit}
 use Rattle.mau_modtext.specs.declared.raw.RawCommand.{RawCommand}
 use Rattle.mau_modtext.specs.declared.raw.Setting.{Setting}
-use Rattle.mau_reader.specs.Words.{index_at, token_text, token_index}
-use Rattle.mau_reader.specs.Modules.{ModuleOf}
+use Rattle.mau_declare.specs.Words.{index_at, token_text, token_index}
+use Rattle.mau_module.specs.Modules.{ModuleOf}
+use Rattle.mau_module.specs.Library.{last_named}
 use Rattle.mau_tokens.specs.declared.token.Token.{Token}
 use Rattle.mau_session.specs.declared.refusal.Refusal.{Refusal}
 use Rattle.mau_session.specs.declared.refusal.Refusal.TheVariants.{NotBuilt, UnknownModule}
@@ -29,17 +30,20 @@ use Rattle.mau_session.specs.Terms.{Pairs, terms_in, kind_of_term}
 use Rattle.mau_session.specs.Reading.{part_tokens, part_texts, TermReads, IsUnread}
 use Rattle.mau_session.specs.Matching.{Shows}
 use Rattle.mau_session.specs.Commands.{unbuilt}
-use Rattle.mau_session.specs.Built.{has_context, fault_answer}
-use Rattle.mau_session.specs.Answers.{refusal_line, faulty_line, shown_parse_fault, module_refusal, fault_line, module_line, match_head, continue_head, listing_lines}
+use Rattle.mau_session.specs.Built.{uses_memberships, has_context, fault_answer}
+use Rattle.mau_session.specs.Answers.{refusal_line, faulty_line, shown_parse_fault, fault_line, module_line, match_head, continue_head, listing_lines}
 use Rattle.mau_session.specs.Query.{asked_first, shown_more}
-use Rattle.mau_session.specs.State.{GoingOf, StateOf, nothing_yet, accepted, selected, LastNamed, IsChosen, current_one, named_one, NamesNone, OutcomeOf, left_by, refuses, state_after}
+use Rattle.mau_session.specs.State.{GoingOf, StateOf, at_first, accepted, selected, IsChosen, current_one, named_one, NamesNone, OutcomeOf, left_by, refuses, state_after}
 use Rattle.mau_session.specs.Bounds.{bound_of}
-use Rattle.mau_session.specs.Transcript.{PatternReads, SubjectReads, TermsAnswer, pattern_refused, subject_refused, too_deep, overflows, listed, MatchAnswer, command_not_built, module_unknown, bound_refused, command_answered, ContinueAnswer, number_refused, nothing_to_continue, continued, BodyAnswer, module_not_built, module_accepted, module_refused, match_answered, continue_answered, other_not_built, SettingAnswer, trace_not_built, trace_off, changes_nothing, module_selected, selects_none, setting_answered, ItemAnswer, item_faulty, item_answered, ItemsAnswer, items_end, item_quits, item_first, Transcript, text_refused, items_answered}
+use Rattle.mau_session.specs.Transcript.{PatternReads, SubjectReads, TermsAnswer, pattern_refused, subject_refused, too_deep, overflows, listed, MatchAnswer, command_not_built, module_unknown, listing_not_built, bound_refused, command_answered, ContinueAnswer, number_refused, nothing_to_continue, continued, BodyAnswer, module_not_built, module_accepted, module_refused, match_answered, continue_answered, other_unknown, other_not_built, SettingAnswer, trace_not_built, trace_off, changes_nothing, module_selected, selects_none, setting_answered, ItemAnswer, item_faulty, item_answered, ItemsAnswer, items_end, item_quits, item_first, Transcript, text_refused, items_answered}
 use Rattle.mau_tokens.proofs.Answer.{answers_are_one}
-use Rattle.mau_session.proofs.Naming.{named_once}
 use Rattle.mau_session.proofs.OneListing.{shows_once}
-use Rattle.mau_session.proofs.OneReading.{AreOneTerm, term_once, term_no_fault, fault_once}
-use Rattle.mau_reader.proofs.OneModule.{yes_no, module_once}
+use Rattle.mau_parse.proofs.OneReading.{AreOneTerm, term_once, term_no_fault, fault_once}
+use Rattle.mau_module.proofs.OneModule.{module_once}
+use Rattle.mau_session.proofs.OneFault.{shown_once, module_shown_once}
+
+yes_no : (b : Bool) → b ≡ true → b ≡ false → ⊥
+yes_no b t f = let e = sym t ∙ f in absurd cc
 
 -- ---- answers: the bytes, and whether it was refused
 
@@ -87,7 +91,7 @@ module _ (ws : List Word) (m : ModuleOf) (k : ℕ) (c : RawCommand) where
   subject_fault_once p q ns ns' e f x y u v n o =
       let one = pattern_once p q ns ns' x y in
       let u' = subst (λ p. IsUnread ws m c.second (goal_of p) ns' e) one.tree (subst (λ ns. IsUnread ws m c.second (goal_of (tree_of p)) ns e) one.pairs u) in
-      fault_once m.grammar (part_tokens ws c.second) (part_texts ws c.second) (goal_of (tree_of q)) ns' e f u' v n o
+      shown_once e f (fault_once m.grammar (part_tokens ws c.second) (part_texts ws c.second) (goal_of (tree_of q)) ns' e f u' v n o)
 
   -- they read as one pair
   record AreOnePair (p q t u : Bare) (os os' : Pairs) : Type 0 where
@@ -116,7 +120,7 @@ module _ (ws : List Word) (m : ModuleOf) (k : ℕ) (c : RawCommand) where
   not_overflow_and_within t u e overflow within = let over' = subst (λ x. cause_of x Overflow) e overflow in let yes = over'.1 in let no = within.no_overflow in cc (yes, no)
 
   terms_once : {most : Option ℕ} {b d : List ℕ} {r q : OutcomeOf} → TermsAnswer ws m k c most r b → TermsAnswer ws m k c most q d → AreOneEnd b d r q
-  terms_once (pattern_refused f u n) (pattern_refused f' u' n') = record { bytes = ap (faulty_line k) (fault_once m.grammar (part_tokens ws c.first) (part_texts ws c.first) AnyKind [] f f' u u' n n'); left = refl }
+  terms_once (pattern_refused f u n) (pattern_refused f' u' n') = record { bytes = ap (faulty_line k) (shown_once f f' (fault_once m.grammar (part_tokens ws c.first) (part_texts ws c.first) AnyKind [] f f' u u' n n')); left = refl }
   terms_once (pattern_refused f u n) (subject_refused p' ns' f' x' u' n') = absurd (no_pattern_read f u n p' ns' x')
   terms_once (pattern_refused f u n) (too_deep p' ns' t' os' x' y' d') = absurd (no_pattern_read f u n p' ns' x')
   terms_once (pattern_refused f u n) (overflows p' ns' t' os' x' y' d') = absurd (no_pattern_read f u n p' ns' x')
@@ -164,26 +168,26 @@ one_item : {st : StateOf} {b : List ℕ} {r : Bool} → AreOneItem st st b b r r
 one_item = record { state = refl; bytes = refl; refused = refl }
 
 module _ (ws : List Word) (st : StateOf) (k i : ℕ) (c : RawCommand) where
-  built_or_not : {l : ℕ} → unbuilt ws st.current i c ≡ Some l → unbuilt ws st.current i c ≡ None → ⊥
+  built_or_not : {l : ℕ} → unbuilt ws c ≡ Some l → unbuilt ws c ≡ None → ⊥
   built_or_not e n = let o = sym e ∙ n in absurd cc
 
   -- a command has one module, or none
   chosen_once : {n o : ℕ} → IsChosen ws st c n → IsChosen ws st c o → n ≡ o
-  chosen_once (current_one n e h) (current_one o d l) = let f = sym h ∙ l in cc
-  chosen_once (current_one n e h) (named_one t o d l) = let f = sym e ∙ d in absurd cc
-  chosen_once (named_one t n e h) (current_one o d l) = let f = sym e ∙ d in absurd cc
+  chosen_once (current_one e) (current_one d) = refl
+  chosen_once (current_one e) (named_one t o d l) = let f = sym e ∙ d in absurd cc
+  chosen_once (named_one t n e h) (current_one d) = let f = sym e ∙ d in absurd cc
   chosen_once (named_one t n e h) (named_one u o d l) =
       let f = sym e ∙ d in
       let same : t ≡ u = cc in
-      let one = named_once st.modules (token_text ws t) (Some n) (Some o) h (subst (λ x. LastNamed st.modules (token_text ws x) (length st.modules) (Some o)) (sym same) l) in
+      let one = sym h ∙ ap (λ x. last_named st.modules (token_text ws x)) same ∙ l in
       cc
 
   never_chosen : {t : Token} {n : ℕ} → NamesNone ws st c t → IsChosen ws st c n → ⊥
-  never_chosen {t} none (current_one n e h) = let f = sym e ∙ none.given in absurd cc
+  never_chosen {t} none (current_one e) = let f = sym e ∙ none.given in absurd cc
   never_chosen {t} none (named_one u n e h) =
       let f = sym e ∙ none.given in
       let same : u ≡ t = cc in
-      let one = named_once st.modules (token_text ws t) None (Some n) none.none (subst (λ x. LastNamed st.modules (token_text ws x) (length st.modules) (Some n)) same h) in
+      let one = sym h ∙ ap (λ x. last_named st.modules (token_text ws x)) same ∙ none.none in
       absurd cc
 
   unknown_once : {t u : Token} → NamesNone ws st c t → NamesNone ws st c u → t ≡ u
@@ -198,31 +202,45 @@ module _ (ws : List Word) (st : StateOf) (k i : ℕ) (c : RawCommand) where
   refusal_once : {r s : Refusal} → bound_of ws c.bound ≡ Err r → bound_of ws c.bound ≡ Err s → r ≡ s
   refusal_once e n = let o = sym e ∙ n in cc
 
+  module_at : {n o : ℕ} {m l : ModuleOf} → IsChosen ws st c n → slice_get st.modules n ≡ Some m → IsChosen ws st c o → slice_get st.modules o ≡ Some l → m ≡ l
+  module_at x h y l = let e = sym h ∙ ap (slice_get st.modules) (chosen_once x y) ∙ l in cc
+
+  used_or_not : {n o : ℕ} {m l : ModuleOf} → IsChosen ws st c n → slice_get st.modules n ≡ Some m → IsChosen ws st c o → slice_get st.modules o ≡ Some l
+      → uses_memberships m ≡ true → uses_memberships l ≡ false → ⊥
+  used_or_not {n} {o} {m} {l} x h y g uses none = yes_no (uses_memberships l) (ap uses_memberships (sym (module_at x h y g)) ∙ uses) none
+
   match_once : {u v : StateOf} {b d : List ℕ} {r q : Bool} → MatchAnswer ws st k i c u b r → MatchAnswer ws st k i c v d q → AreOneItem u v b d r q
   match_once (command_not_built l e) (command_not_built l' e') =
       let o = sym e ∙ e' in
       let h : l ≡ l' = cc in
       record { state = refl; bytes = ap (λ l. refusal_line k ws (NotBuilt l)) h; refused = refl }
   match_once (command_not_built l e) (module_unknown t' e' x') = absurd (built_or_not e e')
-  match_once (command_not_built l e) (bound_refused n' r' e' x' f') = absurd (built_or_not e e')
-  match_once (command_not_built l e) (command_answered n' m' most' left' b' e' x' h' f' y') = absurd (built_or_not e e')
+  match_once (command_not_built l e) (listing_not_built n' m' e' x' h' w') = absurd (built_or_not e e')
+  match_once (command_not_built l e) (bound_refused n' m' r' e' x' h' w' f') = absurd (built_or_not e e')
+  match_once (command_not_built l e) (command_answered n' m' most' left' b' e' x' h' w' f' y') = absurd (built_or_not e e')
   match_once (module_unknown t e x) (command_not_built l' e') = absurd (built_or_not e' e)
   match_once (module_unknown t e x) (module_unknown t' e' x') = record { state = refl; bytes = ap (λ t. refusal_line k ws (UnknownModule (token_index ws t))) (unknown_once x x'); refused = refl }
-  match_once (module_unknown t e x) (bound_refused n' r' e' x' f') = absurd (never_chosen x x')
-  match_once (module_unknown t e x) (command_answered n' m' most' left' b' e' x' h' f' y') = absurd (never_chosen x x')
-  match_once (bound_refused n r e x f) (command_not_built l' e') = absurd (built_or_not e' e)
-  match_once (bound_refused n r e x f) (module_unknown t' e' x') = absurd (never_chosen x' x)
-  match_once (bound_refused n r e x f) (bound_refused n' r' e' x' f') = record { state = refl; bytes = ap (refusal_line k ws) (refusal_once f f'); refused = refl }
-  match_once (bound_refused n r e x f) (command_answered n' m' most' left' b' e' x' h' f' y') = absurd (bound_or_refused f' f)
-  match_once (command_answered n m most left b e x h f y) (command_not_built l' e') = absurd (built_or_not e' e)
-  match_once (command_answered n m most left b e x h f y) (module_unknown t' e' x') = absurd (never_chosen x' x)
-  match_once (command_answered n m most left b e x h f y) (bound_refused n' r' e' x' f') = absurd (bound_or_refused f f')
-  match_once (command_answered n m most left b e x h f y) (command_answered n' m' most' left' b' e' x' h' f' y') =
-      let number = chosen_once x x' in
-      let at = sym h ∙ ap (slice_get st.modules) number ∙ h' in
-      let same : m ≡ m' = cc in
+  match_once (module_unknown t e x) (listing_not_built n' m' e' x' h' w') = absurd (never_chosen x x')
+  match_once (module_unknown t e x) (bound_refused n' m' r' e' x' h' w' f') = absurd (never_chosen x x')
+  match_once (module_unknown t e x) (command_answered n' m' most' left' b' e' x' h' w' f' y') = absurd (never_chosen x x')
+  match_once (listing_not_built n m e x h w) (command_not_built l' e') = absurd (built_or_not e' e)
+  match_once (listing_not_built n m e x h w) (module_unknown t' e' x') = absurd (never_chosen x' x)
+  match_once (listing_not_built n m e x h w) (listing_not_built n' m' e' x' h' w') = one_item
+  match_once (listing_not_built n m e x h w) (bound_refused n' m' r' e' x' h' w' f') = absurd (used_or_not x h x' h' w w')
+  match_once (listing_not_built n m e x h w) (command_answered n' m' most' left' b' e' x' h' w' f' y') = absurd (used_or_not x h x' h' w w')
+  match_once (bound_refused n m r e x h w f) (command_not_built l' e') = absurd (built_or_not e' e)
+  match_once (bound_refused n m r e x h w f) (module_unknown t' e' x') = absurd (never_chosen x' x)
+  match_once (bound_refused n m r e x h w f) (listing_not_built n' m' e' x' h' w') = absurd (used_or_not x' h' x h w' w)
+  match_once (bound_refused n m r e x h w f) (bound_refused n' m' r' e' x' h' w' f') = record { state = refl; bytes = ap (refusal_line k ws) (refusal_once f f'); refused = refl }
+  match_once (bound_refused n m r e x h w f) (command_answered n' m' most' left' b' e' x' h' w' f' y') = absurd (bound_or_refused f' f)
+  match_once (command_answered n m most left b e x h w f y) (command_not_built l' e') = absurd (built_or_not e' e)
+  match_once (command_answered n m most left b e x h w f y) (module_unknown t' e' x') = absurd (never_chosen x' x)
+  match_once (command_answered n m most left b e x h w f y) (listing_not_built n' m' e' x' h' w') = absurd (used_or_not x' h' x h w' w)
+  match_once (command_answered n m most left b e x h w f y) (bound_refused n' m' r' e' x' h' w' f') = absurd (bound_or_refused f f')
+  match_once (command_answered n m most left b e x h w f y) (command_answered n' m' most' left' b' e' x' h' w' f' y') =
+      let same = module_at x h x' h' in
       let o = terms_once ws m k c y (subst (λ m. TermsAnswer ws m k c most left' b') (sym same) (subst (λ a. TermsAnswer ws m' k c a left' b') (sym (bound_once f f')) y')) in
-      record { state = ap₂ (state_after st) number o.left; bytes = o.bytes; refused = ap refuses o.left }
+      record { state = ap₂ (state_after st) (chosen_once x x') o.left; bytes = o.bytes; refused = ap refuses o.left }
 
   continue_once : {u v : StateOf} {b d : List ℕ} {r q : Bool} → ContinueAnswer ws st k c u b r → ContinueAnswer ws st k c v d q → AreOneItem u v b d r q
   continue_once (number_refused r e) (number_refused r' e') = record { state = refl; bytes = ap (refusal_line k ws) (refusal_once e e'); refused = refl }
@@ -258,11 +276,11 @@ module _ (ws : List Word) (st : StateOf) (k i : ℕ) where
   setting_once trace_off trace_off = one_item
   setting_once changes_nothing changes_nothing = one_item
   setting_once (module_selected name n h) (module_selected name' n' h') =
-      let one = named_once st.modules name (Some n) (Some n') h h' in
+      let one = sym h ∙ h' in
       let same : n ≡ n' = cc in
       record { state = ap (selected st) same; bytes = refl; refused = refl }
-  setting_once (module_selected name n h) (selects_none name' h') = let one = named_once st.modules name (Some n) None h h' in absurd cc
-  setting_once (selects_none name h) (module_selected name' n' h') = let one = named_once st.modules name None (Some n') h h' in absurd cc
+  setting_once (module_selected name n h) (selects_none name' h') = let one = sym h ∙ h' in absurd cc
+  setting_once (selects_none name h) (module_selected name' n' h') = let one = sym h ∙ h' in absurd cc
   setting_once (selects_none name h) (selects_none name' h') = one_item
 
   body_once : {x : RawBody} {u v : StateOf} {b c : List ℕ} {r s : Bool} → BodyAnswer ws st k i x u b r → BodyAnswer ws st k i x v c s → AreOneItem u v b c r s
@@ -271,25 +289,31 @@ module _ (ws : List Word) (st : StateOf) (k i : ℕ) where
   body_once (module_not_built raw f) (module_refused raw' w' t' x') = absurd (yes_no _ t' f)
   body_once (module_accepted raw m t x) (module_not_built raw' f') = absurd (yes_no _ t f')
   body_once (module_accepted raw m t x) (module_accepted raw' m' t' x') =
-      let o = module_once ws raw x x' in
+      let o = module_once st.modules ws raw x x' in
       let e : m ≡ m' = cc in
       record { state = ap (accepted st) e; bytes = ap (module_line k) e; refused = refl }
-  body_once (module_accepted raw m t x) (module_refused raw' w' t' x') = let o = module_once ws raw x x' in absurd cc
+  body_once (module_accepted raw m t x) (module_refused raw' w' t' x') = let o = module_once st.modules ws raw x x' in absurd cc
   body_once (module_refused raw w t x) (module_not_built raw' f') = absurd (yes_no _ t f')
-  body_once (module_refused raw w t x) (module_accepted raw' m' t' x') = let o = module_once ws raw x x' in absurd cc
+  body_once (module_refused raw w t x) (module_accepted raw' m' t' x') = let o = module_once st.modules ws raw x x' in absurd cc
   body_once (module_refused raw w t x) (module_refused raw' w' t' x') =
-      let o = module_once ws raw x x' in
-      let e : w ≡ w' = cc in
-      record { state = refl; bytes = ap (module_refusal k ws) e; refused = refl }
+      record { state = refl; bytes = ap (faulty_line k) (module_shown_once w w' (module_once st.modules ws raw x x')); refused = refl }
   body_once (match_answered c n b r t x) (match_answered c' n' b' r' t' x') = match_once ws st k i c x x'
   body_once (match_answered c n b r t x) (continue_answered c' n' b' r' f' t' x') = absurd (yes_no _ t f')
-  body_once (match_answered c n b r t x) (other_not_built c' f' g') = absurd (yes_no _ t f')
+  body_once (match_answered c n b r t x) (other_unknown c' u' f' g' h') = absurd (yes_no _ t f')
+  body_once (match_answered c n b r t x) (other_not_built c' o' f' g' h') = absurd (yes_no _ t f')
   body_once (continue_answered c n b r f t x) (match_answered c' n' b' r' t' x') = absurd (yes_no _ t' f)
   body_once (continue_answered c n b r f t x) (continue_answered c' n' b' r' f' t' x') = continue_once ws st k i c x x'
-  body_once (continue_answered c n b r f t x) (other_not_built c' f' g') = absurd (yes_no _ t g')
-  body_once (other_not_built c f g) (match_answered c' n' b' r' t' x') = absurd (yes_no _ t' f)
-  body_once (other_not_built c f g) (continue_answered c' n' b' r' f' t' x') = absurd (yes_no _ t' g)
-  body_once (other_not_built c f g) (other_not_built c' f' g') = one_item
+  body_once (continue_answered c n b r f t x) (other_unknown c' u' f' g' h') = absurd (yes_no _ t g')
+  body_once (continue_answered c n b r f t x) (other_not_built c' o' f' g' h') = absurd (yes_no _ t g')
+  body_once (other_unknown c u f g h) (match_answered c' n' b' r' t' x') = absurd (yes_no _ t' f)
+  body_once (other_unknown c u f g h) (continue_answered c' n' b' r' f' t' x') = absurd (yes_no _ t' g)
+  body_once (other_unknown c u f g h) (other_unknown c' u' f' g' h') =
+      record { state = refl; bytes = ap (λ t. refusal_line k ws (UnknownModule (token_index ws t))) (unknown_once ws st k i c h h'); refused = refl }
+  body_once (other_unknown c u f g h) (other_not_built c' o' f' g' h') = absurd (never_chosen ws st k i c h h')
+  body_once (other_not_built c o f g h) (match_answered c' n' b' r' t' x') = absurd (yes_no _ t' f)
+  body_once (other_not_built c o f g h) (continue_answered c' n' b' r' f' t' x') = absurd (yes_no _ t' g)
+  body_once (other_not_built c o f g h) (other_unknown c' u' f' g' h') = absurd (never_chosen ws st k i c h' h)
+  body_once (other_not_built c o f g h) (other_not_built c' o' f' g' h') = one_item
   body_once (setting_answered x n b r h) (setting_answered x' n' b' r' h') = setting_once h h'
 
 module _ (ws : List Word) (st : StateOf) (k : ℕ) (item : RawItem) where
@@ -332,6 +356,6 @@ transcript_once text b c r s (items_answered tokens items b' r' x z y) (items_an
     let e : tokens ≡ tokens' = cc in
     let d = sym z ∙ ap (λ tokens. parts item_part (words_of text tokens)) e ∙ z' in
     let i : items ≡ items' = cc d in
-    let y'' = subst (λ tokens. ItemsAnswer (words_of text tokens) nothing_yet 1 items b'' r'') (sym e) (subst (λ items. ItemsAnswer (words_of text tokens') nothing_yet 1 items b'' r'') (sym i) y') in
+    let y'' = subst (λ tokens. ItemsAnswer (words_of text tokens) at_first 1 items b'' r'') (sym e) (subst (λ items. ItemsAnswer (words_of text tokens') at_first 1 items b'' r'') (sym i) y') in
     let one = items_once (words_of text tokens) y y'' in
     (one.bytes, one.refused)

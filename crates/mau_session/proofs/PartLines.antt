@@ -12,7 +12,7 @@ use Rattle.mau_api.specs.declared.solution.Solution.{Solution}
 use Rattle.mau_api.specs.Found.{Found}
 use Rattle.mau_api.specs.Asked.{found_in}
 use Rattle.mau_api.proofs.Growth.{trees_long}
-use Rattle.mau_reader.specs.Modules.{ModuleOf}
+use Rattle.mau_module.specs.Modules.{ModuleOf}
 use Rattle.mau_session.specs.Terms.{Pairs, terms_in}
 use Rattle.mau_session.specs.Shown.{printer_in}
 use Rattle.mau_session.specs.Answers.{is_whole, term_line, context_line, context_lines, right_label, part_lines}

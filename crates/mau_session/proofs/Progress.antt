@@ -3,7 +3,7 @@ use Rattle.std.proofs.Common.{◌≡◌, ℕ, suc, ◌+◌, ◌<◌, List, [], �
 use Rattle.std.specs.Prelude.{unwrap_or}
 use Rattle.mau_terms.specs.Tree.{Tree}
 use Rattle.mau_api.specs.Found.{Found}
-use Rattle.mau_reader.specs.Modules.{ModuleOf}
+use Rattle.mau_module.specs.Modules.{ModuleOf}
 use Rattle.mau_session.specs.Terms.{Pairs}
 use Rattle.mau_session.specs.Matching.{AreFewer, last_shown, shows_all, shows_first}
 use Rattle.mau_session.specs.Answers.{matcher_lines, all_matchers, last_line}

@@ -5,7 +5,7 @@ use Rattle.std.proofs.lemmas.List.Kept.{AllPairs-cons}
 use Rattle.mau_terms.specs.Tree.{Tree}
 use Rattle.mau_api.specs.Found.{Found}
 use Rattle.mau_api.proofs.Ordered.{found_are_ordered}
-use Rattle.mau_reader.specs.Modules.{ModuleOf}
+use Rattle.mau_module.specs.Modules.{ModuleOf}
 use Rattle.mau_session.specs.Terms.{terms_in}
 use Rattle.mau_session.specs.Matching.{IsSolution, IsBefore, IsBehind, AreFirst, AreAll, class_of, last_shown}
 use Rattle.mau_session.specs.Next.{IsNext, NoneIsBehind}

@@ -7,13 +7,21 @@ use Rattle.mau_terms.specs.Solution.{assoc_top, over_list}
 use Rattle.mau_api.specs.Found.{Found}
 use Rattle.mau_tokens.specs.declared.token.TokenFault.{TokenFault}
 use Rattle.mau_tokens.specs.declared.token.TokenFault.TheVariants.{NotUtf8, OpenComment, OpenString, TokenTooLong, NoMemory}
-use Rattle.mau_reader.specs.Modules.{ModuleOf, Why, leaves, faulty}
+use Rattle.mau_statement.specs.declared.fault.Limit.{Limit as StatementLimit}
+use Rattle.mau_statement.specs.declared.fault.Limit.TheVariants.{Variables, Fragments}
+use Rattle.mau_statement.specs.declared.fault.StatementFault.{StatementFault}
+use Rattle.mau_statement.specs.declared.fault.StatementFault.TheVariants.{LimitExceeded, Parse, UnknownSort as UnknownSortOfStatement, LhsVariable, MembershipHead, UnboundVariable, NoMemory as NoMemoryOfStatement}
+use Rattle.mau_module.specs.Modules.{ModuleOf}
+use Rattle.mau_module.specs.declared.fault.Limit.{Limit}
+use Rattle.mau_module.specs.declared.fault.Limit.TheVariants.{Sorts, Declarations, Statements}
+use Rattle.mau_module.specs.declared.fault.ModuleFault.{ModuleFault}
+use Rattle.mau_module.specs.declared.fault.ModuleFault.TheVariants.{UnknownModule as UnknownImport, ImportTooDeep, TooLarge, UnknownSort, Signed, Statement, NoMemory as NoMemoryOfModule}
 use Rattle.mau_session.specs.declared.refusal.Refusal.{Refusal}
 use Rattle.mau_session.specs.declared.refusal.Refusal.TheVariants.{NotBuilt, UnknownModule, BadBound, NothingToContinue}
 use Rattle.mau_modtext.specs.Word.{Word}
 use Rattle.mau_modtext.specs.declared.raw.TextFault.{TextFault}
 use Rattle.mau_modtext.specs.declared.raw.TextFault.TheVariants.{Unended, Unexpected, Unsupported}
-use Rattle.mau_reader.specs.Words.{text_at, place_at}
+use Rattle.mau_declare.specs.Words.{text_at, place_at}
 use Rattle.mau_parse.specs.declared.fault.ParseFault.{ParseFault}
 use Rattle.mau_parse.specs.declared.fault.ParseFault.TheVariants.{NoParse, Ambiguous, TooManyTokens, NumberTooLarge, SuccessorTooLarge, NoMemory as NoMemoryOfParse}
 use Rattle.mau_session.specs.Terms.{Pairs, terms_in}
@@ -60,10 +68,39 @@ shown_parse_fault NoMemoryOfParse = []
 abbrev pub parse_fault_line : ℕ → ParseFault → List ℕ
 parse_fault_line k f = faulty_line k (shown_parse_fault f)
 
--- a refused module: the word from which on it isn't built, or the text of what is at fault
-abbrev pub module_refusal : ℕ → List Word → Why → List ℕ
-module_refusal k ws (leaves i) = refusal_line k ws (NotBuilt i)
-module_refusal k ws (faulty text) = faulty_line k text
+-- why a statement of a module is refused, which has the number i: the name of the fault and the number, but of a part that is no term
+-- the number first; want of memory has none
+abbrev pub statement_limit_name : StatementLimit → List ℕ
+statement_limit_name Variables = codes "variables"
+statement_limit_name Fragments = codes "fragments"
+
+abbrev pub shown_statement_fault : ℕ → StatementFault → List ℕ
+shown_statement_fault i (LimitExceeded limit) = codes "LimitExceeded " ++ decimal i ++ codes " " ++ statement_limit_name limit
+shown_statement_fault i (Parse f) = decimal i ++ codes " " ++ shown_parse_fault f
+shown_statement_fault i (UnknownSortOfStatement at) = codes "UnknownSort " ++ decimal at
+shown_statement_fault i LhsVariable = codes "LhsVariable " ++ decimal i
+shown_statement_fault i MembershipHead = codes "MembershipHead " ++ decimal i
+shown_statement_fault i UnboundVariable = codes "UnboundVariable " ++ decimal i
+shown_statement_fault i NoMemoryOfStatement = []
+
+-- why a module is refused: the name of the fault, and the name, the limit or the place that it is about; what is at fault in sorts and
+-- operators has its own text, and want of memory has none
+abbrev pub limit_name : Limit → List ℕ
+limit_name Sorts = codes "sorts"
+limit_name Declarations = codes "declarations"
+limit_name Statements = codes "statements"
+
+abbrev pub shown_module_fault : ModuleFault → List ℕ
+shown_module_fault (UnknownImport name) = codes "UnknownModule " ++ name
+shown_module_fault ImportTooDeep = codes "ImportTooDeep"
+shown_module_fault (TooLarge limit) = codes "TooLarge " ++ limit_name limit
+shown_module_fault (UnknownSort at) = codes "UnknownSort " ++ decimal at
+shown_module_fault (Signed text) = text
+shown_module_fault (Statement i f) = shown_statement_fault i f
+shown_module_fault NoMemoryOfModule = []
+
+abbrev pub module_fault_line : ℕ → ModuleFault → List ℕ
+module_fault_line k f = faulty_line k (shown_module_fault f)
 
 -- a text with a token fault has one line for its answer; want of memory has none
 abbrev pub shown_fault : TokenFault → List ℕ

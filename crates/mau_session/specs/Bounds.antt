@@ -5,7 +5,7 @@ use Rattle.std.specs.List.{list_all}
 use Rattle.std.specs.Str.Parse.{digits_value}
 use Rattle.mau_tokens.specs.declared.token.Token.{Token}
 use Rattle.mau_modtext.specs.Word.{Word}
-use Rattle.mau_reader.specs.Words.{token_text}
+use Rattle.mau_declare.specs.Words.{token_text}
 use Rattle.mau_session.specs.declared.refusal.Refusal.{Refusal}
 use Rattle.mau_session.specs.declared.refusal.Refusal.TheVariants.{BadBound}
 

@@ -1,6 +1,7 @@
 -- Items that aren't built yet, and the answers of items that say nothing.
 use Rattle.std.specs.Prelude.{ℕ, List, Bool, true, false, ◌||◌, if◌then◌else◌, codes}
 use Rattle.std.specs.Str.{bytes_eq}
+use Rattle.std.specs.List.{list_any}
 use Rattle.mau_modtext.specs.Word.{Word}
 use Rattle.mau_modtext.specs.declared.raw.ModuleKind.{ModuleKind}
 use Rattle.mau_modtext.specs.declared.raw.ModuleKind.TheVariants.{StrategyModule}
@@ -8,7 +9,9 @@ use Rattle.mau_modtext.specs.declared.raw.CommandKind.{CommandKind}
 use Rattle.mau_modtext.specs.declared.raw.CommandKind.TheVariants.{Match, Xmatch, Continue}
 use Rattle.mau_modtext.specs.declared.raw.TextFault.{TextFault}
 use Rattle.mau_modtext.specs.declared.raw.TextFault.TheVariants.{Unended}
-use Rattle.mau_reader.specs.Words.{text_at}
+use Rattle.mau_api.specs.declared.statements.Membership.{Membership}
+use Rattle.mau_declare.specs.Words.{text_at}
+use Rattle.mau_module.specs.Modules.{ModuleOf}
 use Rattle.mau_session.specs.declared.refusal.Refusal.TheVariants.{NotBuilt}
 use Rattle.mau_session.specs.Answers.{refusal_line, text_fault_line}
 
@@ -16,6 +19,10 @@ use Rattle.mau_session.specs.Answers.{refusal_line, text_fault_line}
 abbrev pub is_built_module : ModuleKind → Bool
 is_built_module StrategyModule = false
 is_built_module _ = true
+
+-- a membership of the module may be used to evaluate, so that a term may have a lower sort than the declared one
+abbrev pub uses_memberships : ModuleOf → Bool
+uses_memberships m = list_any (λ (x : Membership). x.exec) m.statements.memberships
 
 abbrev pub is_match : CommandKind → Bool
 is_match Match = true

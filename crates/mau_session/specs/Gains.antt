@@ -10,13 +10,15 @@ use Rattle.mau_modtext.specs.declared.raw.RawItem.{RawItem}
 use Rattle.mau_modtext.specs.declared.raw.RawBody.{RawBody}
 use Rattle.mau_modtext.specs.declared.raw.RawCommand.{RawCommand}
 use Rattle.mau_modtext.specs.declared.raw.Setting.{Setting}
-use Rattle.mau_reader.specs.Modules.{ModuleOf}
+use Rattle.mau_module.specs.Modules.{ModuleOf}
 use Rattle.mau_session.specs.Terms.{Pairs, terms_in}
 use Rattle.mau_session.specs.Matching.{Shows}
 use Rattle.mau_session.specs.Query.{asked_first, shown_more}
 use Rattle.mau_session.specs.State.{GoingOf, StateOf, OutcomeOf, has_ended, left_by, refuses, state_after}
 use Rattle.mau_session.specs.Bounds.{bound_of}
 use Rattle.mau_session.specs.declared.refusal.Refusal.{Refusal}
+use Rattle.mau_session.specs.declared.refusal.Refusal.TheVariants.{NotBuilt}
+use Rattle.mau_session.specs.Built.{uses_memberships}
 use Rattle.mau_session.specs.Answers.{refusal_line, continue_head, listing_lines, too_deep_line, overflow_line}
 use Rattle.mau_session.specs.Transcript.{TermsAnswer, MatchAnswer, ContinueAnswer, SettingAnswer, BodyAnswer, ItemAnswer}
 
@@ -40,15 +42,17 @@ pub record GainsTerms (ws : List Word) (m : ModuleOf) (k : ℕ) (c : RawCommand)
   pub answer : TermsAnswer ws m k c most left bytes
   pub gained : new ≡ old ++ bytes
 
--- the bytes of a match command over the module with the number n, whose bound is not judged yet
-pub data ChosenAnswer (ws : List Word) (st : StateOf) (k : ℕ) (c : RawCommand) (n : ℕ) : StateOf → List ℕ → Bool → Type 0 where
-  chosen_refused : (r : Refusal) → bound_of ws c.bound ≡ Err r → ChosenAnswer ws st k c n st (refusal_line k ws r) true
-  chosen_answered : (m : ModuleOf) (most : Option ℕ) (left : OutcomeOf) (bytes : List ℕ) → slice_get st.modules n ≡ Some m → bound_of ws c.bound ≡ Ok most
-      → TermsAnswer ws m k c most left bytes → ChosenAnswer ws st k c n (state_after st n left) bytes (refuses left)
+-- the bytes of a match command over the module with the number n
+pub data ChosenAnswer (ws : List Word) (st : StateOf) (k i : ℕ) (c : RawCommand) (n : ℕ) : StateOf → List ℕ → Bool → Type 0 where
+  chosen_not_built : (m : ModuleOf) → slice_get st.modules n ≡ Some m → uses_memberships m ≡ true → ChosenAnswer ws st k i c n st (refusal_line k ws (NotBuilt i)) true
+  chosen_refused : (m : ModuleOf) (r : Refusal) → slice_get st.modules n ≡ Some m → uses_memberships m ≡ false → bound_of ws c.bound ≡ Err r
+      → ChosenAnswer ws st k i c n st (refusal_line k ws r) true
+  chosen_answered : (m : ModuleOf) (most : Option ℕ) (left : OutcomeOf) (bytes : List ℕ) → slice_get st.modules n ≡ Some m → uses_memberships m ≡ false → bound_of ws c.bound ≡ Ok most
+      → TermsAnswer ws m k c most left bytes → ChosenAnswer ws st k i c n (state_after st n left) bytes (refuses left)
 
-pub record GainsChosen (ws : List Word) (st : StateOf) (k : ℕ) (c : RawCommand) (n : ℕ) (next : StateOf) (old new : List ℕ) (refused : Bool) : Type 0 where
+pub record GainsChosen (ws : List Word) (st : StateOf) (k i : ℕ) (c : RawCommand) (n : ℕ) (next : StateOf) (old new : List ℕ) (refused : Bool) : Type 0 where
   pub bytes : List ℕ
-  pub answer : ChosenAnswer ws st k c n next bytes refused
+  pub answer : ChosenAnswer ws st k i c n next bytes refused
   pub gained : new ≡ old ++ bytes
 
 pub record GainsMatch (ws : List Word) (st : StateOf) (k i : ℕ) (c : RawCommand) (next : StateOf) (old new : List ℕ) (refused : Bool) : Type 0 where

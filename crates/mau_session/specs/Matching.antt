@@ -8,7 +8,7 @@ use Rattle.mau_terms.specs.Solution.{Solves, SolvesWithin}
 use Rattle.mau_api.specs.Found.{Found}
 use Rattle.mau_api.specs.Next
 use Rattle.mau_api.specs.Next.{found_cmp}
-use Rattle.mau_reader.specs.Modules.{ModuleOf}
+use Rattle.mau_module.specs.Modules.{ModuleOf}
 use Rattle.mau_session.specs.Terms.{Pairs, terms_in, HasSort}
 
 -- the values vs of p's variables, by first occurrence, have their variables' sorts and make p equal to t, or, with contexts, to the

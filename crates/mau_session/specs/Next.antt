@@ -4,7 +4,7 @@ use Rattle.mau_terms.specs.Tree.{Tree}
 use Rattle.mau_api.specs.Found.{Found}
 use Rattle.mau_api.specs.Next
 use Rattle.mau_api.specs.Next.{found_cmp, IsLeastBehind}
-use Rattle.mau_reader.specs.Modules.{ModuleOf}
+use Rattle.mau_module.specs.Modules.{ModuleOf}
 use Rattle.mau_session.specs.Terms.{terms_in}
 use Rattle.mau_session.specs.Matching.{IsSolution, Shows}
 use Rattle.mau_session.specs.Answers.{matcher_lines, all_matchers, listing_lines}

@@ -5,8 +5,8 @@ use Rattle.mau_terms.specs.View.{tree_of}
 use Rattle.mau_terms.specs.declared.bare.Bare.{Bare}
 use Rattle.mau_tokens.specs.declared.token.Token.{Token}
 use Rattle.mau_modtext.specs.Word.{Word}
-use Rattle.mau_reader.specs.Words.{first_index}
-use Rattle.mau_reader.specs.Modules.{ModuleOf}
+use Rattle.mau_declare.specs.Words.{first_index}
+use Rattle.mau_module.specs.Modules.{ModuleOf}
 use Rattle.mau_parse.specs.declared.goals.Goal.{Goal}
 use Rattle.mau_parse.specs.declared.fault.ParseFault.{ParseFault}
 use Rattle.mau_parse.specs.Goal.{lowest, highest}

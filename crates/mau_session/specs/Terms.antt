@@ -6,7 +6,7 @@ use Rattle.mau_terms.specs.Norm.{norm}
 use Rattle.mau_terms.specs.Bare.{TermSignature}
 use Rattle.mau_signature.specs.Signature.{terms_over}
 use Rattle.mau_sorts.specs.HasSort.{HasSort as NormalHasSort}
-use Rattle.mau_reader.specs.Modules.{ModuleOf}
+use Rattle.mau_module.specs.Modules.{ModuleOf}
 
 -- the variables of a command: their names and sorts, by first occurrence
 abbrev pub Pairs : Type 0

@@ -23,19 +23,22 @@ use Rattle.mau_modtext.specs.declared.raw.TextFault.{TextFault}
 use Rattle.mau_parse.specs.declared.goals.Goal.TheVariants.{AnyKind, Kind}
 use Rattle.mau_parse.specs.declared.fault.ParseFault.{ParseFault}
 use Rattle.mau_parse.specs.declared.fault.ParseFault.TheVariants.{NoMemory as NoMemoryOfParse}
-use Rattle.mau_reader.specs.Words.{index_at, token_index}
-use Rattle.mau_reader.specs.Modules.{ModuleOf, Why, ModuleRead}
+use Rattle.mau_declare.specs.Words.{index_at, token_index}
+use Rattle.mau_module.specs.Modules.{ModuleOf}
+use Rattle.mau_module.specs.Library.{last_named}
+use Rattle.mau_module.specs.declared.fault.ModuleFault.{ModuleFault}
+use Rattle.mau_module.specs.Flattened.{FlattenedAs}
 use Rattle.mau_session.specs.declared.refusal.Refusal.{Refusal}
 use Rattle.mau_session.specs.declared.refusal.Refusal.TheVariants.{NotBuilt, UnknownModule, NothingToContinue}
 use Rattle.mau_session.specs.Terms.{Pairs, terms_in, kind_of_term}
 use Rattle.mau_session.specs.Reading.{TermReads, IsUnread}
 use Rattle.mau_session.specs.Matching.{Shows}
 use Rattle.mau_session.specs.Query.{asked_first, shown_more}
-use Rattle.mau_session.specs.State.{GoingOf, StateOf, nothing_yet, accepted, selected, Named, IsChosen, NamesNone, OutcomeOf, is_refused, has_ended, left_by, refuses, state_after}
+use Rattle.mau_session.specs.State.{GoingOf, StateOf, at_first, accepted, selected, IsChosen, NamesNone, OutcomeOf, is_refused, has_ended, left_by, refuses, state_after}
 use Rattle.mau_session.specs.Bounds.{bound_of}
 use Rattle.mau_session.specs.Commands.{unbuilt}
-use Rattle.mau_session.specs.Built.{is_built_module, is_match, has_context, is_continue, fault_answer}
-use Rattle.mau_session.specs.Answers.{refusal_line, fault_line, parse_fault_line, module_refusal, ok_line, unknown_module_line, module_line, match_head, continue_head, too_deep_line, overflow_line, listing_lines}
+use Rattle.mau_session.specs.Built.{is_built_module, uses_memberships, is_match, has_context, is_continue, fault_answer}
+use Rattle.mau_session.specs.Answers.{refusal_line, fault_line, parse_fault_line, module_fault_line, ok_line, unknown_module_line, module_line, match_head, continue_head, too_deep_line, overflow_line, listing_lines}
 
 -- ---- the answer of a match command
 
@@ -63,14 +66,18 @@ pub data TermsAnswer (ws : List Word) (m : ModuleOf) (k : ℕ) (c : RawCommand) 
       → TermsAnswer ws m k c most (left_by ended (shown_more (asked_first (has_context c.kind) (tree_of p) (tree_of t) os) found))
       (match_head k (has_context c.kind) m ++ listing_lines m os (has_context c.kind) (tree_of p) 0 found ended)
 
--- The match command begins at the word i; the state after it is told. Its module is looked for before its bound is judged, and both
--- before its terms are read.
+-- The match command begins at the word i; the state after it is told. What isn't built in it comes before its module is looked for, a
+-- module that isn't built before its bound is judged, and all of these before its terms are read.
 pub data MatchAnswer (ws : List Word) (st : StateOf) (k i : ℕ) (c : RawCommand) : StateOf → List ℕ → Bool → Type 0 where
-  command_not_built : (l : ℕ) → unbuilt ws st.current i c ≡ Some l → MatchAnswer ws st k i c st (refusal_line k ws (NotBuilt l)) true
-  module_unknown : (t : Token) → unbuilt ws st.current i c ≡ None → NamesNone ws st c t → MatchAnswer ws st k i c st (refusal_line k ws (UnknownModule (token_index ws t))) true
-  bound_refused : (n : ℕ) (r : Refusal) → unbuilt ws st.current i c ≡ None → IsChosen ws st c n → bound_of ws c.bound ≡ Err r → MatchAnswer ws st k i c st (refusal_line k ws r) true
-  command_answered : (n : ℕ) (m : ModuleOf) (most : Option ℕ) (left : OutcomeOf) (bytes : List ℕ) → unbuilt ws st.current i c ≡ None → IsChosen ws st c n
-      → slice_get st.modules n ≡ Some m → bound_of ws c.bound ≡ Ok most → TermsAnswer ws m k c most left bytes → MatchAnswer ws st k i c (state_after st n left) bytes (refuses left)
+  command_not_built : (l : ℕ) → unbuilt ws c ≡ Some l → MatchAnswer ws st k i c st (refusal_line k ws (NotBuilt l)) true
+  module_unknown : (t : Token) → unbuilt ws c ≡ None → NamesNone ws st c t → MatchAnswer ws st k i c st (refusal_line k ws (UnknownModule (token_index ws t))) true
+  listing_not_built : (n : ℕ) (m : ModuleOf) → unbuilt ws c ≡ None → IsChosen ws st c n → slice_get st.modules n ≡ Some m → uses_memberships m ≡ true
+      → MatchAnswer ws st k i c st (refusal_line k ws (NotBuilt i)) true
+  bound_refused : (n : ℕ) (m : ModuleOf) (r : Refusal) → unbuilt ws c ≡ None → IsChosen ws st c n → slice_get st.modules n ≡ Some m → uses_memberships m ≡ false
+      → bound_of ws c.bound ≡ Err r → MatchAnswer ws st k i c st (refusal_line k ws r) true
+  command_answered : (n : ℕ) (m : ModuleOf) (most : Option ℕ) (left : OutcomeOf) (bytes : List ℕ) → unbuilt ws c ≡ None → IsChosen ws st c n
+      → slice_get st.modules n ≡ Some m → uses_memberships m ≡ false → bound_of ws c.bound ≡ Ok most → TermsAnswer ws m k c most left bytes
+      → MatchAnswer ws st k i c (state_after st n left) bytes (refuses left)
 
 -- ---- the answer of `continue`
 
@@ -90,23 +97,26 @@ pub data SettingAnswer (ws : List Word) (st : StateOf) (k i : ℕ) : Setting →
   trace_not_built : SettingAnswer ws st k i (Trace true) st (refusal_line k ws (NotBuilt i)) true
   trace_off : SettingAnswer ws st k i (Trace false) st (ok_line k) false
   changes_nothing : SettingAnswer ws st k i Ignored st (ok_line k) false
-  module_selected : (name : List ℕ) (n : ℕ) → Named st name (Some n) → SettingAnswer ws st k i (Select name) (selected st n) (ok_line k) false
-  selects_none : (name : List ℕ) → Named st name None → SettingAnswer ws st k i (Select name) st (unknown_module_line k name) true
+  module_selected : (name : List ℕ) (n : ℕ) → last_named st.modules name ≡ Some n → SettingAnswer ws st k i (Select name) (selected st n) (ok_line k) false
+  selects_none : (name : List ℕ) → last_named st.modules name ≡ None → SettingAnswer ws st k i (Select name) st (unknown_module_line k name) true
 
 -- ---- the answer of an item, which is the k-th
 
 -- what it says, from the word i on: the state after it, its bytes, and whether it was refused
 pub data BodyAnswer (ws : List Word) (st : StateOf) (k i : ℕ) : RawBody → StateOf → List ℕ → Bool → Type 0 where
   module_not_built : (raw : RawModule) → is_built_module raw.kind ≡ false → BodyAnswer ws st k i (Module raw) st (refusal_line k ws (NotBuilt i)) true
-  module_accepted : (raw : RawModule) (m : ModuleOf) → is_built_module raw.kind ≡ true → ModuleRead ws raw (Ok m)
+  module_accepted : (raw : RawModule) (m : ModuleOf) → is_built_module raw.kind ≡ true → FlattenedAs st.modules ws raw (Ok m)
       → BodyAnswer ws st k i (Module raw) (accepted st m) (module_line k m) false
-  module_refused : (raw : RawModule) (why : Why) → is_built_module raw.kind ≡ true → ModuleRead ws raw (Err why)
-      → BodyAnswer ws st k i (Module raw) st (module_refusal k ws why) true
+  module_refused : (raw : RawModule) (f : ModuleFault) → is_built_module raw.kind ≡ true → FlattenedAs st.modules ws raw (Err f)
+      → BodyAnswer ws st k i (Module raw) st (module_fault_line k f) true
   match_answered : (c : RawCommand) (next : StateOf) (bytes : List ℕ) (refused : Bool) → is_match c.kind ≡ true → MatchAnswer ws st k i c next bytes refused
       → BodyAnswer ws st k i (Command c) next bytes refused
   continue_answered : (c : RawCommand) (next : StateOf) (bytes : List ℕ) (refused : Bool) → is_match c.kind ≡ false → is_continue c.kind ≡ true
       → ContinueAnswer ws st k c next bytes refused → BodyAnswer ws st k i (Command c) next bytes refused
-  other_not_built : (c : RawCommand) → is_match c.kind ≡ false → is_continue c.kind ≡ false → BodyAnswer ws st k i (Command c) st (refusal_line k ws (NotBuilt i)) true
+  other_unknown : (c : RawCommand) (t : Token) → is_match c.kind ≡ false → is_continue c.kind ≡ false → NamesNone ws st c t
+      → BodyAnswer ws st k i (Command c) st (refusal_line k ws (UnknownModule (token_index ws t))) true
+  other_not_built : (c : RawCommand) (n : ℕ) → is_match c.kind ≡ false → is_continue c.kind ≡ false → IsChosen ws st c n
+      → BodyAnswer ws st k i (Command c) st (refusal_line k ws (NotBuilt i)) true
   setting_answered : (s : Setting) (next : StateOf) (bytes : List ℕ) (refused : Bool) → SettingAnswer ws st k i s next bytes refused
       → BodyAnswer ws st k i (SettingBody s) next bytes refused
 
@@ -127,4 +137,4 @@ pub data ItemsAnswer (ws : List Word) : StateOf → ℕ → List RawItem → Lis
 pub data Transcript (text : List ℕ) : List ℕ → Bool → Type 0 where
   text_refused : (f : TokenFault) → TokensOf text (Err f) → Transcript text (fault_line f) true
   items_answered : (tokens : List Token) (items : List RawItem) (bytes : List ℕ) (refused : Bool) → TokensOf text (Ok tokens) → AreItems (words_of text tokens) items
-      → ItemsAnswer (words_of text tokens) nothing_yet 1 items bytes refused → Transcript text bytes refused
+      → ItemsAnswer (words_of text tokens) at_first 1 items bytes refused → Transcript text bytes refused

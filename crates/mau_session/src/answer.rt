@@ -8,9 +8,9 @@ ghost use Rattle.mau_session.specs.Matching.{numbered_from};
 ghost use Rattle.mau_modtext.specs.Word.{Word};
 ghost use Rattle.mau_modtext.specs.declared.raw.Setting.TheVariants as Setting;
 ghost use Rattle.mau_modtext.specs.declared.raw.RawBody.TheVariants as RawBody;
-ghost use Rattle.mau_session.specs.State.{nothing_yet, state_of, going_of, outcome_of, IsReadyState, IsReadyAt, IsReadyOutcome};
+ghost use Rattle.mau_session.specs.State.{at_first, state_of, going_of, outcome_of, IsReadyState, IsReadyAt, IsReadyOutcome};
 ghost use Rattle.mau_session.specs.declared.state.Outcome.TheVariants as Outcome;
-ghost use Rattle.mau_reader.specs.Modules.{ModuleOf};
+ghost use Rattle.mau_module.specs.Modules.{ModuleOf};
 ghost use Rattle.mau_session.specs.Query.{query_of, IsReady};
 ghost use Rattle.mau_session.specs.Answers.{module_line, match_name, match_head, continue_head, refusal_line, parse_fault_line, ok_line, unknown_module_line};
 ghost use Rattle.mau_session.specs.Commands.{is_empty};
@@ -22,19 +22,22 @@ ghost use Rattle.mau_session.specs.Gains.{GainsListed, GainsTerms, GainsChosen, 
 use crate::bounds::bound_of;
 use crate::built::{
     begins_unbuilt, has_context, is_built_module, is_continue, is_match, is_unended, quits,
+    uses_memberships,
 };
 use crate::command::unbuilt;
 use crate::listings::show_query;
 use crate::query::Query;
 use crate::reading::{kind_of_term, read_term};
 use crate::refusal::{
-    Refusal, write_faulty, write_head, write_refusal, write_text_fault, write_unread,
+    Refusal, write_faulty, write_head, write_module_fault, write_refusal, write_text_fault,
+    write_unread,
 };
 use crate::state::{Going, Outcome, State};
 use mau_canon::BuildFault;
+use mau_declare::{Words, write_text};
 use mau_modtext::{RawBody, RawCommand, RawItem, RawModule, Setting, TextFault};
+use mau_module::Module;
 use mau_parse::{Goal, ParseFault};
-use mau_reader::{Module, ModuleFault, Words, read_module, write_text};
 use mau_terms::{Bare, NoMemory, Vars};
 use std::alloc::Global;
 
@@ -242,28 +245,32 @@ fn answer_terms(
     }
 }
 
-/// Answers a match command over the module with the number `chosen`. Says whether it was refused.
+/// Answers a match command that begins at the word `item`, over the module with the number `chosen`. Says whether it was refused.
 fn answer_chosen(
     out: &mut Vec<u8>,
     alloc: Global,
     words: &Words,
     state: &mut State,
     number: usize,
+    item: usize,
     command: &RawCommand,
     chosen: usize,
 ) -> Result<bool, NoMemory>
     requires few { length words.now ≤ 16777216 }
     requires ready { IsReadyState state.old }
-    requires within { chosen < length state.old.modules.items }
+    requires within { chosen < length state.old.library }
     requires pattern { is_empty words.now command.now.first ≡ false }
     requires subject { is_empty words.now command.now.second ≡ false }
-    ensures gained { IfOk result (GainsChosen words.now (state_of state.old) number command.now chosen (state_of state.new) out.old.items out.new.items) }
+    ensures gained { IfOk result (GainsChosen words.now (state_of state.old) number item command.now chosen (state_of state.new) out.old.items out.new.items) }
     ensures ready { OnOk result (IsReadyState state.new) }
 {
+    let module = state.library.module(chosen);
+    if uses_memberships(module) {
+        return refuse(out, words, number, Refusal::NotBuilt(item));
+    }
     match bound_of(words, command.bound) {
         Err(refusal) => refuse(out, words, number, refusal),
         Ok(most) => {
-            let module = &state.modules[chosen];
             let left = answer_terms(out, alloc, words, module, number, command, most)?;
             Ok(state.conclude(chosen, left))
         }
@@ -285,11 +292,11 @@ fn answer_match(
     ensures gained { IfOk result (GainsMatch words.now (state_of state.old) number item command.now (state_of state.new) out.old.items out.new.items) }
     ensures ready { OnOk result (IsReadyState state.new) }
 {
-    match unbuilt(words, state.current, item, command) {
+    match unbuilt(words, command) {
         Some(word) => refuse(out, words, number, Refusal::NotBuilt(word)),
         None => match state.choose(words, command) {
             Err(refusal) => refuse(out, words, number, refusal),
-            Ok(chosen) => answer_chosen(out, alloc, words, state, number, command, chosen),
+            Ok(chosen) => { answer_chosen(out, alloc, words, state, number, item, command, chosen) }
         },
     }
 }
@@ -304,13 +311,13 @@ fn go_on(
     most: Option<u64>,
 ) -> Result<bool, NoMemory>
     requires ready { IsReadyState state.old }
-    requires going { IsReadyAt state.old.modules.items going }
+    requires going { IsReadyAt state.old.library going }
     ensures gained { IfOk result (GainsOn (state_of state.old) number (going_of going) most (state_of state.new) out.old.items out.new.items) }
     ensures ready { OnOk result (IsReadyState state.new) }
 {
     let chosen = going.number;
     let mut query = going.query;
-    let module = &state.modules[chosen];
+    let module = state.library.module(chosen);
     write_continue_head(out, number, module)?;
     let has_ended = show_query(out, alloc, module, &mut query, most)?;
     Ok(state.conclude(chosen, left_by(query, has_ended)))
@@ -338,6 +345,26 @@ fn answer_continue(
     }
 }
 
+/// Answers a command that isn't built and begins at the word `item`. Says that it was refused.
+fn answer_unbuilt(
+    out: &mut Vec<u8>,
+    words: &Words,
+    state: &State,
+    number: usize,
+    item: usize,
+    command: &RawCommand,
+) -> Result<bool, NoMemory>
+    requires ready { IsReadyState state.now }
+    requires no_match { Rattle.mau_session.specs.Built.is_match command.now.kind ≡ false }
+    requires no_continue { Rattle.mau_session.specs.Built.is_continue command.now.kind ≡ false }
+    ensures gained { IfOk result (GainsBody words.now (state_of state.now) number item (RawBody.Command command.now) (state_of state.now) out.old.items out.new.items) }
+{
+    match state.choose(words, command) {
+        Err(refusal) => refuse(out, words, number, refusal),
+        Ok(_) => refuse(out, words, number, Refusal::NotBuilt(item)),
+    }
+}
+
 /// Answers a command that begins at the word `item`. Says whether it was refused.
 fn answer_command(
     out: &mut Vec<u8>,
@@ -358,7 +385,7 @@ fn answer_command(
     } else if is_continue(command.kind) {
         answer_continue(out, alloc, words, state, number, command)
     } else {
-        refuse(out, words, number, Refusal::NotBuilt(item))
+        answer_unbuilt(out, words, state, number, item, command)
     }
 }
 
@@ -379,18 +406,16 @@ fn answer_module(
     if !is_built_module(raw.kind) {
         return refuse(out, words, number, Refusal::NotBuilt(item));
     }
-    match read_module(alloc, words, raw) {
+    match state.library.flatten(alloc, words, raw) {
         Ok(module) => {
             write_module(out, number, &module)?;
             state.accept(module)?;
             Ok(false)
         }
-        Err(ModuleFault::Leaves(word)) => refuse(out, words, number, Refusal::NotBuilt(word)),
-        Err(ModuleFault::Refused(text)) => {
-            write_faulty(out, number, text.items())?;
+        Err(fault) => {
+            write_module_fault(out, number, &fault)?;
             Ok(true)
         }
-        Err(ModuleFault::NoMemory) => Err(NoMemory),
     }
 }
 
@@ -539,10 +564,10 @@ pub fn answer_items(
     items: &[RawItem],
 ) -> Result<(Vec<u8>, bool), NoMemory>
     requires { length words.now ≤ 16777216 }
-    ensures { IfOk result (λ r. ItemsAnswer words.now nothing_yet 1 items.now r.0.items r.1) }
+    ensures { IfOk result (λ r. ItemsAnswer words.now at_first 1 items.now r.0.items r.1) }
 {
     let mut out = Vec::new(alloc);
-    let mut state = State::new(alloc);
+    let mut state = State::new(alloc)?;
     let mut refused = false;
     let mut number = 1;
     for item in items {

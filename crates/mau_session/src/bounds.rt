@@ -5,7 +5,7 @@ ghost use Rattle.std.specs.List.{list_all};
 ghost use Rattle.mau_session.specs.Bounds;
 
 use crate::refusal::Refusal;
-use mau_reader::Words;
+use mau_declare::Words;
 use mau_tokens::Token;
 
 /// Whether each byte of a text is a decimal digit.

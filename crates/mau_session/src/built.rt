@@ -3,7 +3,9 @@ ghost use Rattle.std.specs.Prelude.{◌≡◌, ◌↔◌, true, Ok};
 ghost use Rattle.mau_modtext.specs.declared.raw.RawBody.TheVariants as RawBody;
 ghost use Rattle.mau_session.specs.Built;
 
+use mau_api::Membership;
 use mau_modtext::{CommandKind, ModuleKind, RawBody, RawItem, TextFault};
+use mau_module::Module;
 
 /// Whether modules of this kind are built.
 pub fn is_built_module(kind: ModuleKind) -> bool
@@ -13,6 +15,20 @@ pub fn is_built_module(kind: ModuleKind) -> bool
         ModuleKind::StrategyModule => false,
         _ => true,
     }
+}
+
+/// Whether a membership may be used to evaluate.
+fn is_used(membership: &Membership) -> bool
+    ensures { result ≡ membership.now.exec }
+{
+    membership.exec
+}
+
+/// Whether a module has a membership that may be used to evaluate: listings in such modules aren't built.
+pub fn uses_memberships(module: &Module) -> bool
+    ensures { result ≡ Built.uses_memberships «module».now }
+{
+    module.memberships().iter().any(is_used)
 }
 
 /// Whether a command is a match, with contexts or without.

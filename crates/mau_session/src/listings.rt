@@ -7,7 +7,7 @@ use crate::listing::show;
 use crate::query::Query;
 use mau_extend::ExtListing;
 use mau_match::Listing;
-use mau_reader::Module;
+use mau_module::Module;
 use mau_terms::NoMemory;
 use std::alloc::Global;
 

@@ -9,8 +9,9 @@ ghost use Rattle.mau_session.specs.Commands;
 ghost use Rattle.mau_session.specs.Reading.{part_words, part_tokens, part_texts, TermReads, IsUnread, IsBareOf};
 ghost use Rattle.mau_session.specs.Terms.{terms_in};
 
+use mau_declare::Words;
+use mau_module::Module;
 use mau_parse::{Goal, ParseFault, parse};
-use mau_reader::{Module, Words};
 use mau_terms::{Bare, OpId, Vars};
 use mau_tokens::Token;
 use std::alloc::Global;

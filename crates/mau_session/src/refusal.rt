@@ -1,11 +1,13 @@
 //! Why an item is refused.
 ghost use Rattle.std.specs.Prelude.{◌≡◌, ◌≢◌, ◌++◌, codes, decimal, OnOk};
-ghost use Rattle.mau_reader.specs.Words.{place_at};
-ghost use Rattle.mau_session.specs.Answers.{item_head, refusal_line, faulty_line, shown_text_fault, text_fault_line, fault_line, shown_parse_fault, parse_fault_line};
+ghost use Rattle.mau_declare.specs.Words.{place_at};
+ghost use Rattle.mau_session.specs.Answers.{item_head, refusal_line, faulty_line, shown_text_fault, text_fault_line, fault_line, shown_parse_fault, parse_fault_line, limit_name, statement_limit_name, shown_statement_fault, shown_module_fault, module_fault_line};
 
+use mau_declare::{Words, write_number, write_text};
 use mau_modtext::TextFault;
+use mau_module::{Limit, ModuleFault};
 use mau_parse::ParseFault;
-use mau_reader::{Words, write_number, write_text};
+use mau_statement::StatementFault;
 use mau_terms::NoMemory;
 use mau_tokens::TokenFault;
 
@@ -85,6 +87,94 @@ pub fn write_faulty(out: &mut Vec<u8>, number: usize, text: &[u8]) -> Result<(),
     write_head(out, number)?;
     write_text(out, "refused: ")?;
     out.extend_from_slice(text)?;
+    write_text(out, "\n")
+}
+
+/// What is too much of a statement.
+fn statement_limit_name(limit: mau_statement::Limit) -> &'static str
+    ensures { result.now ≡ statement_limit_name limit }
+{
+    match limit {
+        mau_statement::Limit::Variables => "variables",
+        mau_statement::Limit::Fragments => "fragments",
+    }
+}
+
+/// What a module has too many of.
+fn limit_name(limit: Limit) -> &'static str
+    ensures { result.now ≡ limit_name limit }
+{
+    match limit {
+        Limit::Sorts => "sorts",
+        Limit::Declarations => "declarations",
+        Limit::Statements => "statements",
+    }
+}
+
+/// Writes why a statement of a module is refused, which has this number.
+fn write_statement_fault(
+    out: &mut Vec<u8>,
+    statement: usize,
+    fault: &StatementFault,
+) -> Result<(), NoMemory>
+    ensures { OnOk result (out.new.items ≡ out.old.items ++ shown_statement_fault statement fault.now) }
+{
+    match fault {
+        StatementFault::LimitExceeded(limit) => {
+            write_count(out, "LimitExceeded ", statement)?;
+            write_text(out, " ")?;
+            write_text(out, statement_limit_name(*limit))
+        }
+        StatementFault::Parse(fault) => {
+            write_number(out, statement as u128)?;
+            write_text(out, " ")?;
+            write_parse_fault(out, fault)
+        }
+        StatementFault::UnknownSort(at) => write_at(out, "UnknownSort ", *at),
+        StatementFault::LhsVariable => write_count(out, "LhsVariable ", statement),
+        StatementFault::MembershipHead => write_count(out, "MembershipHead ", statement),
+        StatementFault::UnboundVariable => write_count(out, "UnboundVariable ", statement),
+        StatementFault::NoMemory => Err(NoMemory),
+    }
+}
+
+/// Writes why a module is refused.
+fn write_shown_module(out: &mut Vec<u8>, fault: &ModuleFault) -> Result<(), NoMemory>
+    ensures ok { OnOk result (out.new.items ≡ out.old.items ++ shown_module_fault fault.now) }
+    ensures named { OnOk result (fault.now ≢ ModuleFault.NoMemory) }
+{
+    match fault {
+        ModuleFault::UnknownModule(name) => {
+            write_text(out, "UnknownModule ")?;
+            write_text(out, name.as_str())
+        }
+        ModuleFault::ImportTooDeep => write_text(out, "ImportTooDeep"),
+        ModuleFault::TooLarge(limit) => {
+            write_text(out, "TooLarge ")?;
+            write_text(out, limit_name(*limit))
+        }
+        ModuleFault::UnknownSort(at) => write_at(out, "UnknownSort ", *at),
+        ModuleFault::Signed(text) => {
+            out.extend_from_slice(text.items())?;
+            Ok(())
+        }
+        ModuleFault::Statement(number, fault) => write_statement_fault(out, *number, fault),
+        ModuleFault::NoMemory => Err(NoMemory),
+    }
+}
+
+/// Writes the answer of a module that is refused.
+pub fn write_module_fault(
+    out: &mut Vec<u8>,
+    number: usize,
+    fault: &ModuleFault,
+) -> Result<(), NoMemory>
+    ensures ok { OnOk result (out.new.items ≡ out.old.items ++ module_fault_line number fault.now) }
+    ensures named { OnOk result (fault.now ≢ ModuleFault.NoMemory) }
+{
+    write_head(out, number)?;
+    write_text(out, "refused: ")?;
+    write_shown_module(out, fault)?;
     write_text(out, "\n")
 }
 

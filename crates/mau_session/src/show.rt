@@ -5,8 +5,9 @@ ghost use Rattle.mau_store.specs.Trees.{tree_at};
 ghost use Rattle.mau_print.specs.Printed.{shown};
 ghost use Rattle.mau_session.specs.Shown.{variable_name, shown_variable, printer_in};
 
+use mau_declare::write_text;
+use mau_module::Module;
 use mau_print::{Printer, show};
-use mau_reader::{Module, write_text};
 use mau_store::Store;
 use mau_terms::{NoMemory, TermId, VarId, Vars};
 use std::alloc::Global;

@@ -1,14 +1,14 @@
 //! The state of a session: the modules that were accepted, the current one, and what `continue` goes on with.
 ghost use Rattle.std.specs.Prelude.{◌≡◌, ◌<◌, ℕ, length, true, false, slice_get, IfOk, IfErr, OnOk, Some, None};
-ghost use Rattle.std.specs.Str.{bytes_eq};
-ghost use Rattle.mau_reader.specs.Modules.{ModuleOf};
-ghost use Rattle.mau_session.specs.State.{nothing_yet, accepted, selected, LastNamed, Named, IsChosen, IsUnknown, state_of, state_after, outcome_of, refuses, IsReadyState, IsReadyOutcome};
-ghost use Rattle.mau_session.specs.Commands.{lacks_module};
+ghost use Rattle.mau_module.specs.Modules.{ModuleOf};
+ghost use Rattle.mau_module.specs.Library.{last_named, IsNext};
+ghost use Rattle.mau_session.specs.State.{at_first, accepted, selected, IsChosen, IsUnknown, state_of, state_after, outcome_of, refuses, IsReadyState, IsReadyOutcome};
 
 use crate::query::Query;
 use crate::refusal::Refusal;
+use mau_declare::Words;
 use mau_modtext::RawCommand;
-use mau_reader::{Module, Words};
+use mau_module::{Library, Module, NAT};
 use mau_terms::NoMemory;
 use std::alloc::Global;
 
@@ -19,11 +19,11 @@ pub struct Going {
     pub query: Query,
 }
 
-/// All accepted modules in order, the number of the current one, if there is one, and what `continue` goes on with, if there is something.
+/// All modules, those of the prelude first, the number of the current one, and what `continue` goes on with, if there is something.
 #[derive(Drop)]
 pub struct State {
-    pub modules: Vec<Module>,
-    pub current: Option<usize>,
+    pub library: Library,
+    pub current: usize,
     pub going: Option<Going>,
 }
 
@@ -35,61 +35,42 @@ pub enum Outcome {
     GoesOn(Query),
 }
 
-/// Whether the module has this name.
-fn has_name(module: &Module, name: &str) -> bool
-    ensures { result ≡ bytes_eq module.now.name name.now }
-{
-    module.name() == name
-}
-
-/// The number of the last module of a name, if there is one.
-fn last_named(modules: &[Module], name: &str) -> Option<usize>
-    ensures { LastNamed modules.now name.now (length modules.now) result }
-{
-    let mut last = None;
-    for i in 0..modules.len() {
-        if has_name(&modules[i], name) {
-            last = Some(i);
-        }
-    }
-    last
-}
-
 impl State {
-    /// No modules, and nothing to continue.
-    pub fn new(alloc: Global) -> State
-        ensures state { state_of result ≡ nothing_yet }
-        ensures ready { IsReadyState result }
+    /// The modules of the prelude, of which that of the numbers is the current one, and nothing to continue.
+    pub fn new(alloc: Global) -> Result<State, NoMemory>
+        ensures state { IfOk result (λ s. state_of s ≡ at_first) }
+        ensures ready { IfOk result IsReadyState }
     {
-        State {
-            modules: Vec::new(alloc),
-            current: None,
+        Ok(State {
+            library: Library::prelude(alloc)?,
+            current: NAT,
             going: None,
-        }
+        })
     }
 
     /// Accepts a module, which is the current one then.
     pub fn accept(&mut self, module: Module) -> Result<(), NoMemory>
         requires ready { IsReadyState self.old }
+        requires next { IsNext self.old.library «module» }
         ensures state { OnOk result (state_of self.new ≡ accepted (state_of self.old) «module») }
         ensures ready { OnOk result (IsReadyState self.new) }
     {
-        let number = self.modules.len();
-        self.modules.push(module)?;
-        self.current = Some(number);
+        let number = self.library.len();
+        self.library.enter(module)?;
+        self.current = number;
         Ok(())
     }
 
     /// Makes the module of a name the current one, if there is one. Says whether there is.
     pub fn select(&mut self, name: &str) -> bool
         requires ready { IsReadyState self.old }
-        ensures selected { result ≡ true → (n : ℕ) × Named (state_of self.old) name.now (Some n) × (state_of self.new ≡ selected (state_of self.old) n) }
-        ensures unknown { result ≡ false → Named (state_of self.old) name.now None × (self.new ≡ self.old) }
+        ensures selected { result ≡ true → (n : ℕ) × (last_named self.old.library name.now ≡ Some n) × (state_of self.new ≡ selected (state_of self.old) n) }
+        ensures unknown { result ≡ false → (last_named self.old.library name.now ≡ None) × (self.new ≡ self.old) }
         ensures ready { IsReadyState self.new }
     {
-        match last_named(&self.modules, name) {
+        match self.library.find(name) {
             Some(number) => {
-                self.current = Some(number);
+                self.current = number;
                 true
             }
             None => false,
@@ -99,17 +80,13 @@ impl State {
     /// The number of a command's module, or that no module has the name that it gives.
     pub fn choose(&self, words: &Words, command: &RawCommand) -> Result<usize, Refusal>
         requires ready { IsReadyState self.now }
-        requires some { lacks_module self.now.current command.now ≡ false }
         ensures chosen { IfOk result (IsChosen words.now (state_of self.now) command.now) }
-        ensures within { IfOk result (λ i. i < length self.now.modules.items) }
+        ensures within { IfOk result (λ i. i < length self.now.library) }
         ensures unknown { IfErr result (IsUnknown words.now (state_of self.now) command.now) }
     {
         match command.module {
-            None => match self.current {
-                Some(number) => Ok(number),
-                None => unreachable!(),
-            },
-            Some(name) => match last_named(&self.modules, words.token_text(name)) {
+            None => Ok(self.current),
+            Some(name) => match self.library.find(words.token_text(name)) {
                 Some(number) => Ok(number),
                 None => Err(Refusal::UnknownModule(words.token_index(name))),
             },
@@ -119,7 +96,7 @@ impl State {
     /// Keeps what a command over the module with this number leaves. Says whether it was refused.
     pub fn conclude(&mut self, number: usize, outcome: Outcome) -> bool
         requires ready { IsReadyState self.old }
-        requires left { (m : ModuleOf) × (slice_get self.old.modules.items number ≡ Some m) × IsReadyOutcome m outcome }
+        requires left { (m : ModuleOf) × (slice_get self.old.library number ≡ Some m) × IsReadyOutcome m outcome }
         ensures state { state_of self.new ≡ state_after (state_of self.old) number (outcome_of outcome) }
         ensures refused { result ≡ refuses (outcome_of outcome) }
         ensures ready { IsReadyState self.new }

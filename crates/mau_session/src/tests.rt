@@ -1,6 +1,7 @@
 //! Whole texts and their transcripts.
 
 mod contexts;
+mod imports;
 mod listings;
 mod long_lists;
 mod mixfix;

@@ -4,8 +4,8 @@ ghost use Rattle.mau_session.specs.Transcript.{Transcript};
 
 use crate::answer::answer_items;
 use crate::refusal::write_fault;
+use mau_declare::Words;
 use mau_modtext::items;
-use mau_reader::Words;
 use mau_terms::NoMemory;
 use mau_tokens::{Token, TokenFault, tokens};
 use std::alloc::Global;

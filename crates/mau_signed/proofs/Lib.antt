@@ -1,3 +1,4 @@
 pub mod Refusing
 pub mod Declaring
 pub mod Signing
+pub mod OneSignature

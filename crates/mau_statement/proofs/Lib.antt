@@ -7,3 +7,5 @@ pub mod Kinded
 pub mod Handed
 -- variables of what is read
 pub mod Own
+-- what is read of a statement is one thing
+pub mod OneStatement

@@ -16,6 +16,11 @@ fn accepts_modules_with_sorts_and_attributes(rt: HostRuntime) -> Result<(), Fail
         "fmod G is sort S . op a : -> S . op a : S -> S . op a b : -> S . ops c ( d e ) : -> S . endfm",
         "fmod G is sort S . op _ : S -> S . op __ : S S -> S . op f_ : S -> S [prec 127 gather (&)] . endfm",
         "fmod G is sorts S T . vars X Y : S . var X : [T] . endfm",
+        "fmod G is sort S . op a : -> S [strat (0)] . endfm",
+        "fmod G is protecting NAT . including TRUTH . sort S . op f : Nat -> S . endfm",
+        "mod G is sort S . ops a b : -> S . rl [go] : a => b . crl a => b if b => a [nonexec] . endm",
+        "fmod G is sort S . ops a b : -> S . var X : S . ceq a = b if X := b /\\ X = b /\\ X : S /\\ X == b [owise] . endfm",
+        "fmod G is sorts S T . subsort T < S . op f : S -> S . var X : S . cmb [l] : f(X) : T if true . eq f(X) = Y:S [nonexec] . endfm",
     ];
     for text in rows {
         let (bytes, status) = answer(rt.alloc(), &["run"], text)?;
@@ -68,6 +73,14 @@ fn refuses_modules_at_fault(rt: HostRuntime) -> Result<(), Fail> {
             "sort A . op _a b_ : A A -> A [id: no no] .",
             "IdNotConstant _ab_",
         ),
+        (
+            "sort S . op _+_ : S S -> S [prec 1 prec 2] .",
+            "AttrConflict _+_",
+        ),
+        (
+            "sort S . op -_ : S -> S [gather (E) gather (e)] .",
+            "AttrConflict -_",
+        ),
         // The faults stand in an order: sorts before declarations, and these before tuples of sorts.
         (
             "sorts A B Z . subsorts A < B < A . op f : A -> A . op f : A -> Z .",
@@ -87,7 +100,7 @@ fn refuses_modules_at_fault(rt: HostRuntime) -> Result<(), Fail> {
 #[test]
 fn refuses_too_many_sorts(rt: HostRuntime) -> Result<(), Fail> {
     for (count, wanted) in [
-        (16_384usize, b"[1] module Y\n".as_slice()),
+        (16_383usize, b"[1] module Y\n".as_slice()),
         (16_385, b"[1] refused: TooLarge sorts\n".as_slice()),
     ] {
         let mut text = String::new(rt.alloc());

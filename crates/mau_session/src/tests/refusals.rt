@@ -8,18 +8,6 @@ use std::test::Fail;
 fn refuses_by_name_and_place(rt: HostRuntime) -> Result<(), Fail> {
     let rows = [
         (
-            "fmod G is sort S . op a : -> S [strat (0)] . endfm",
-            "[1] refused: NotBuilt strat 32\n",
-        ),
-        (
-            "fmod G is sort S . op _+_ : S S -> S [prec 1 prec 2] . endfm",
-            "[1] refused: NotBuilt prec 45\n",
-        ),
-        (
-            "fmod G is sort S . op -_ : S -> S [gather (E) gather (e)] . endfm",
-            "[1] refused: NotBuilt gather 46\n",
-        ),
-        (
             "fmod G is sort S . op a : -> S [prec 128] . endfm",
             "[1] refused: Unexpected 37\n",
         ),
@@ -32,10 +20,10 @@ fn refuses_by_name_and_place(rt: HostRuntime) -> Result<(), Fail> {
             "[1] refused: Unsupported idem 36\n",
         ),
         ("fmod A is sort S .", "[1] refused: Unended 0\n"),
-        ("match a <=? a .", "[1] refused: NotBuilt match 0\n"),
+        ("match a <=? a .", "[1] refused: NoParse 6\n"),
         (
             "fmod A is op a : -> T . endfm",
-            "[1] refused: NotBuilt T 20\n",
+            "[1] refused: UnknownSort 20\n",
         ),
         (
             "fmod A is sort S . op ***a : -> S . endfm",
@@ -50,20 +38,12 @@ fn refuses_by_name_and_place(rt: HostRuntime) -> Result<(), Fail> {
             "[1] refused: Unexpected 31\n",
         ),
         (
-            "fmod A is protecting NAT . sort S . endfm",
-            "[1] refused: NotBuilt protecting 10\n",
-        ),
-        (
             "fmod A is sort S . vars X Y : T . endfm",
-            "[1] refused: NotBuilt T 30\n",
+            "[1] refused: UnknownSort 30\n",
         ),
         (
             "fmod A is sort S . var HOLE : S . endfm",
             "[1] refused: Unexpected 23\n",
-        ),
-        (
-            "mod A is sort S . ops a b : -> S . rl a => b . endm",
-            "[1] refused: NotBuilt rl 35\n",
         ),
         ("foo .", "[1] refused: Unexpected 0\n"),
         ("foo", "[1] refused: Unended 0\n"),
@@ -74,6 +54,12 @@ fn refuses_by_name_and_place(rt: HostRuntime) -> Result<(), Fail> {
         ),
         ("reduce a .", "[1] refused: NotBuilt reduce 0\n"),
         ("red .", "[1] refused: NotBuilt red 0\n"),
+        ("reduce in NAT : 1 .", "[1] refused: NotBuilt reduce 0\n"),
+        ("reduce in NOPE : a .", "[1] refused: UnknownModule NOPE\n"),
+        (
+            "frewrite in NOPE : a .",
+            "[1] refused: UnknownModule NOPE\n",
+        ),
         ("smod A is foo endsm", "[1] refused: NotBuilt smod 0\n"),
         ("***(", "refused: OpenComment 0\n"),
         ("fmod \"A", "refused: OpenString 5\n"),

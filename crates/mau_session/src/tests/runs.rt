@@ -20,7 +20,7 @@ fn keeps_the_accepted_modules(rt: HostRuntime) -> Result<(), Fail> {
     )?;
     assert_eq!(rt;
         bytes.as_slice(),
-        b"[1] module A\n[2] refused: NotBuilt T 68\n[3] match in A\nMatcher 1\nX:S --> a\nNo more matches.\n\
+        b"[1] module A\n[2] refused: UnknownSort 68\n[3] match in A\nMatcher 1\nX:S --> a\nNo more matches.\n\
           [4] module C\n[5] match in C\nMatcher 1\nX:S --> c\nNo more matches.\n\
           [6] module A\n[7] match in A\nMatcher 1\nX:S --> d\nNo more matches.\n"
             .as_slice()

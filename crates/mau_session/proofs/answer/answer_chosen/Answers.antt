@@ -1,14 +1,22 @@
-use Rattle.std.proofs.Common.{Some, sym, ap, ◌∙◌, subst}
-use Rattle.std.proofs.lemmas.Option.{slice_get-get_or}
+use Rattle.std.proofs.Common.{sym, ◌∙◌, subst}
 use Rattle.mau_session.specs.State.{state_of, outcome_of, state_after}
-use Rattle.mau_session.specs.Gains.{ChosenAnswer, chosen_refused, chosen_answered}
+use Rattle.mau_session.specs.Gains.{ChosenAnswer, chosen_not_built, chosen_refused, chosen_answered}
 use Rattle.mau_session.proofs.Answering.{refused_with}
 use Rattle.mau_session.proofs.answer.answer_chosen.Goals as goal
 
+pub returns-then-uses_memberships-clause-gained : goal.returns-then-uses_memberships-clause-gained
+returns-then-uses_memberships-clause-gained c =
+    refused_with _ c.refuse.result c.refuse.ensures.bytes c.refuse.ensures.refused
+    (λ g. record { bytes = _; answer = chosen_not_built c.module-module.result.now c.module-module.ensures.there (sym c.uses_memberships.ensures ∙ c.if-uses_memberships.true); gained = g })
+
 pub returns-in-Err-clause-gained : goal.returns-in-Err-clause-gained
 returns-in-Err-clause-gained c =
-    refused_with _ c.refuse.result c.refuse.ensures.bytes c.refuse.ensures.refused
-    (λ g. record { bytes = _; answer = chosen_refused c.in-Err.refusal (sym c.bound_of.ensures ∙ c.in-Err.is); gained = g })
+    refused_with _ c.refuse-in-Err.result c.refuse-in-Err.ensures.bytes c.refuse-in-Err.ensures.refused
+    (λ g. record {
+      bytes = _;
+      answer = chosen_refused c.module-module.result.now c.in-Err.refusal c.module-module.ensures.there (sym c.uses_memberships.ensures ∙ c.if-uses_memberships.false) (sym c.bound_of.ensures ∙ c.in-Err.is);
+      gained = g;
+    })
 
 pub returns-in_ok-left-in-Ok-clause-gained : goal.returns-in_ok-left-in-Ok-clause-gained
 returns-in_ok-left-in-Ok-clause-gained c =
@@ -18,8 +26,8 @@ returns-in_ok-left-in-Ok-clause-gained c =
     let g = c.in_ok-left-in-Ok.ensures.gained in
     record {
       bytes = g.bytes;
-      answer = subst (λ s. ChosenAnswer ws st c.args.number c.args.command.now c.args.chosen s g.bytes c.conclude.result) (sym c.conclude.ensures.state)
-          (subst (λ b. ChosenAnswer ws st c.args.number c.args.command.now c.args.chosen (state_after st c.args.chosen left) g.bytes b) (sym c.conclude.ensures.refused)
-          (chosen_answered c.index-module.result.now c.in-Ok.most left g.bytes (slice_get-get_or c.args.state.now.modules.items c.args.chosen c.index-module.result.now c.requires.within ∙ ap Some (sym c.index-module.ensures)) (sym c.bound_of.ensures ∙ c.in-Ok.is) g.answer));
+      answer = subst (λ s. ChosenAnswer ws st c.args.number c.args.item c.args.command.now c.args.chosen s g.bytes c.conclude.result) (sym c.conclude.ensures.state)
+          (subst (λ b. ChosenAnswer ws st c.args.number c.args.item c.args.command.now c.args.chosen (state_after st c.args.chosen left) g.bytes b) (sym c.conclude.ensures.refused)
+          (chosen_answered c.module-module.result.now c.in-Ok.most left g.bytes c.module-module.ensures.there (sym c.uses_memberships.ensures ∙ c.if-uses_memberships.false) (sym c.bound_of.ensures ∙ c.in-Ok.is) g.answer));
       gained = g.gained;
     }

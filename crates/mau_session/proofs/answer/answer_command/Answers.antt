@@ -1,7 +1,6 @@
 use Rattle.std.proofs.Common.{sym, ◌∙◌}
 use Rattle.std.proofs.lemmas.Result.{IfOk-weaker}
-use Rattle.mau_session.specs.Transcript.{match_answered, continue_answered, other_not_built}
-use Rattle.mau_session.proofs.Answering.{refused_with}
+use Rattle.mau_session.specs.Transcript.{match_answered, continue_answered}
 use Rattle.mau_session.proofs.answer.answer_command.Goals as goal
 
 pub returns-then-is_match-clause-gained : goal.returns-then-is_match-clause-gained
@@ -17,8 +16,3 @@ returns-then-is_continue-clause-gained c =
       answer = continue_answered _ _ g.bytes b (sym c.is_match.ensures ∙ c.if-is_match.false) (sym c.is_continue.ensures ∙ c.if-is_continue.true) g.answer;
       gained = g.gained;
     }) c.answer_continue.ensures.gained
-
-pub returns-else-is_continue-clause-gained : goal.returns-else-is_continue-clause-gained
-returns-else-is_continue-clause-gained c =
-    refused_with _ c.refuse.result c.refuse.ensures.bytes c.refuse.ensures.refused
-    (λ g. record { bytes = _; answer = other_not_built _ (sym c.is_match.ensures ∙ c.if-is_match.false) (sym c.is_continue.ensures ∙ c.if-is_continue.false); gained = g })

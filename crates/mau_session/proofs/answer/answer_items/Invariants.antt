@@ -1,5 +1,5 @@
 use Rattle.std.proofs.Common.{ℕ, ◌+◌, ◌≤◌, List, ◌++◌, Bool, ◌||◌, drop}
-use Rattle.mau_session.specs.State.{state_of, nothing_yet, IsReadyState}
+use Rattle.mau_session.specs.State.{state_of, at_first, IsReadyState}
 use Rattle.mau_session.specs.Transcript.{ItemsAnswer}
 use Rattle.mau_session.proofs.answer.answer_items.Given as goal
 
@@ -7,5 +7,5 @@ abbrev pub invariant-loop-item : goal.invariant-loop-item
 invariant-loop-item l = record {
   ready : IsReadyState l.state;
   few : l.number ≤ l.item-index + 1;
-  rest : (more : List ℕ) (later : Bool) → ItemsAnswer l.words (state_of l.state) l.number (drop l.item-index l.items) more later → ItemsAnswer l.words nothing_yet 1 l.items (l.out.items ++ more) (l.refused || later);
+  rest : (more : List ℕ) (later : Bool) → ItemsAnswer l.words (state_of l.state) l.number (drop l.item-index l.items) more later → ItemsAnswer l.words at_first 1 l.items (l.out.items ++ more) (l.refused || later);
 }

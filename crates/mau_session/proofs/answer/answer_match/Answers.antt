@@ -20,7 +20,7 @@ pub returns-in-Err-clause-gained : goal.returns-in-Err-clause-gained
 returns-in-Err-clause-gained c =
     let ws = c.args.words.now in
     let st = state_of c.args.state.now in
-    let built : unbuilt ws st.current c.args.item c.args.command.now ≡ None = sym c.in-None.ensures.unbuilt in
+    let built : unbuilt ws c.args.command.now ≡ None = sym c.in-None.ensures.unbuilt in
     let u = c.in-Err.ensures.unknown in
     refused_with _ c.refuse-in-Err.result c.refuse-in-Err.ensures.bytes c.refuse-in-Err.ensures.refused
     (λ g. record {
@@ -33,7 +33,7 @@ pub returns-in-Ok-clause-gained : goal.returns-in-Ok-clause-gained
 returns-in-Ok-clause-gained c =
     let ws = c.args.words.now in
     let st = state_of c.args.state.now in
-    let built : unbuilt ws st.current c.args.item c.args.command.now ≡ None = sym c.in-None.ensures.unbuilt in
+    let built : unbuilt ws c.args.command.now ≡ None = sym c.in-None.ensures.unbuilt in
     IfOk-weaker c.answer_chosen.result _ _
     (λ r g. gains_chosen ws st c.args.number c.args.item c.args.command.now c.in-Ok.chosen (state_of c.answer_chosen.new.state) c.args.out.now.items c.answer_chosen.new.out.items r built c.in-Ok.ensures.chosen g)
     c.answer_chosen.ensures.gained

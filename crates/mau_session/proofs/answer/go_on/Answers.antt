@@ -1,5 +1,4 @@
-use Rattle.std.proofs.Common.{◌≡◌, Some, slice_get, sym, ap, ◌∙◌}
-use Rattle.std.proofs.lemmas.Option.{slice_get-get_or, slice_get_within}
+use Rattle.std.proofs.Common.{ap, ◌∙◌}
 use Rattle.mau_session.specs.Query.{query_of}
 use Rattle.mau_session.specs.State.{state_of, going_of, state_after, refuses}
 use Rattle.mau_session.proofs.Answering.{gains_on}
@@ -7,19 +6,11 @@ use Rattle.mau_session.proofs.answer.go_on.Goals as goal
 
 pub conclude-requires-clause-left : goal.conclude-requires-clause-left
 conclude-requires-clause-left c =
-    let ms = c.args.state.now.modules.items in
-    let n = c.args.going.number in
-    let m = c.index-module.result.now in
-    let there : slice_get ms n ≡ Some m = slice_get-get_or ms n m (slice_get_within ms n c.requires.going.«module» c.requires.going.there) ∙ ap Some (sym c.index-module.ensures) in
-    (m, there, c.left_by.ensures.ready m c.in_ok-has_ended.ensures.ready)
+    (c.module-module.result.now, c.module-module.ensures.there, c.left_by.ensures.ready c.module-module.result.now c.in_ok-has_ended.ensures.ready)
 
 pub returns-clause-gained : goal.returns-clause-gained
 returns-clause-gained c =
     let st = state_of c.args.state.now in
-    let ms = c.args.state.now.modules.items in
-    let n = c.args.going.number in
-    let m = c.index-module.result.now in
-    let there : slice_get ms n ≡ Some m = slice_get-get_or ms n m (slice_get_within ms n c.requires.going.«module» c.requires.going.there) ∙ ap Some (sym c.index-module.ensures) in
-    gains_on st c.args.number (going_of c.args.going) c.args.most m there (query_of c.show_query.new.query) (state_of c.conclude.new.self) c.args.out.now.items
+    gains_on st c.args.number (going_of c.args.going) c.args.most c.module-module.result.now c.module-module.ensures.there (query_of c.show_query.new.query) (state_of c.conclude.new.self) c.args.out.now.items
     c.write_continue_head.new.out.items c.show_query.new.out.items c.in_ok-has_ended.has_ended c.conclude.result c.in_ok-write_continue_head.ensures c.in_ok-has_ended.ensures.shown
     (c.conclude.ensures.state ∙ ap (state_after st c.args.going.number) c.left_by.ensures.left) (c.conclude.ensures.refused ∙ ap refuses c.left_by.ensures.left)

@@ -3,7 +3,7 @@ use Rattle.std.proofs.lemmas.Result.{IfOk-weaker}
 use Rattle.mau_modtext.specs.Words.{word_of, words_of}
 use Rattle.mau_modtext.specs.Items.{AreItems}
 use Rattle.mau_session.specs.Answers.{fault_line}
-use Rattle.mau_session.specs.State.{nothing_yet}
+use Rattle.mau_session.specs.State.{at_first}
 use Rattle.mau_session.specs.Transcript.{Transcript, ItemsAnswer, text_refused, items_answered}
 use Rattle.std.proofs.lemmas.List.{length-map}
 use Rattle.mau_session.proofs.Spanned.{few_tokens}
@@ -23,7 +23,7 @@ returns-in-Ok-from_utf8 c =
     let same = c.new.ensures ∙ ap (λ t. words_of t c.deref-in-Ok-from_utf8.result.now) c.in-Ok-from_utf8.ensures.cases.0 ∙ ap (words_of text) c.deref-in-Ok-from_utf8.ensures.value in
     let are = subst (λ ts. AreItems (words_of text ts) items) c.deref.ensures.value c.in_ok-items-in-Ok.ensures in
     IfOk-weaker c.answer_items.result _ _ (λ r h. items_answered tokens items r.0.items r.1 c.in-Ok.ensures.ok are
-    (subst (λ ws. ItemsAnswer ws nothing_yet 1 items r.0.items r.1) same (subst (λ items. ItemsAnswer c.new.result nothing_yet 1 items r.0.items r.1) c.deref-in-Ok-from_utf8-2.ensures.value h)))
+    (subst (λ ws. ItemsAnswer ws at_first 1 items r.0.items r.1) same (subst (λ items. ItemsAnswer c.new.result at_first 1 items r.0.items r.1) c.deref-in-Ok-from_utf8-2.ensures.value h)))
     c.answer_items.ensures
 
 pub returns-in_ok-write_fault-in-Err : goal.returns-in_ok-write_fault-in-Err

@@ -1,6 +1,7 @@
-use Rattle.std.proofs.Common.{◌≡◌, ◌∙◌, ℕ, ◌<◌, List, [], ◌∷◌, ◌++◌, length, Option, None, Some, IfSome, sym, subst, arith}
+use Rattle.std.proofs.Common.{◌≡◌, ℕ, ◌<◌, List, [], ◌∷◌, ◌++◌, length, Option, None, Some, IfSome, sym, subst, arith}
 use Rattle.std.proofs.lemmas.List.{length-append}
-use Rattle.mau_reader.specs.Modules.{ModuleOf}
+use Rattle.mau_module.specs.Modules.{ModuleOf}
+use Rattle.mau_module.specs.Library.{HasPrelude}
 use Rattle.mau_session.specs.State.{IsReadyAt}
 use Rattle.mau_session.specs.declared.state.Going.{Going}
 use Rattle.mau_session.proofs.Naming.{there_still}
@@ -14,9 +15,13 @@ ready_still ms m (Some g) h = record { «module» = h.«module»; there = there_
 last_within : (ms : List ModuleOf) (m : ModuleOf) (n : ℕ) → n ≡ length ms → n < length (ms ++ m ∷ [])
 last_within ms m n e = let l = length-append ms (m ∷ []) in omega (arith, e, l)
 
+prelude_still : (ms : List ModuleOf) (m : ModuleOf) → HasPrelude ms → HasPrelude (ms ++ m ∷ [])
+prelude_still ms m h = let l = length-append ms (m ∷ []) in omega (arith, h, l)
+
 pub returns-clause-ready : goal.returns-clause-ready
 returns-clause-ready c =
     record {
-      current = subst (λ ms. c.len-number.result < length ms) (sym c.in_ok-push.ensures.items) (last_within c.args.self.now.modules.items c.args.«module» c.len-number.result (c.len-number.ensures ∙ c.args.self.now.modules.ok.0));
-      going = subst (λ ms. IfSome c.args.self.now.going (IsReadyAt ms)) (sym c.in_ok-push.ensures.items) (ready_still c.args.self.now.modules.items c.args.«module» c.args.self.now.going c.requires.ready.going);
+      prelude = subst HasPrelude (sym c.in_ok-enter.ensures.ok) (prelude_still c.args.self.now.library c.args.«module» c.requires.ready.prelude);
+      current = subst (λ ms. c.len-number.result < length ms) (sym c.in_ok-enter.ensures.ok) (last_within c.args.self.now.library c.args.«module» c.len-number.result c.len-number.ensures.count);
+      going = subst (λ ms. IfSome c.args.self.now.going (IsReadyAt ms)) (sym c.in_ok-enter.ensures.ok) (ready_still c.args.self.now.library c.args.«module» c.args.self.now.going c.requires.ready.going);
     }

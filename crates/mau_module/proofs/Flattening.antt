@@ -1,0 +1,92 @@
+-- A module of a text, or the fault of one of its statements, from what was read of it in turn.
+use Rattle.std.proofs.Common.{◌≡◌, ◌<◌, ◌≤◌, ◌+◌, ℕ, List, [], ◌∷◌, ◌++◌, length, refl, sym, ap, ap₂, subst, ◌∙◌, drop, arith}
+use Rattle.std.specs.Prelude.{All, Ok, Err}
+use Rattle.std.proofs.Math.Seq.{drop-append_seam}
+use Rattle.std.proofs.lemmas.List.Elements.{All-push}
+use Rattle.mau_modtext.specs.Word.{Word}
+use Rattle.mau_modtext.specs.declared.raw.RawModule.{RawModule}
+use Rattle.mau_signature.specs.declared.decl.Decl.{Decl}
+use Rattle.mau_signature.specs.Signature.{SignatureOf}
+use Rattle.mau_grammar.specs.Grammar.{GrammarOf}
+use Rattle.mau_api.specs.declared.statements.Equation.{Equation}
+use Rattle.mau_api.specs.declared.statements.Membership.{Membership}
+use Rattle.mau_api.specs.declared.statements.Rule.{Rule}
+use Rattle.mau_declare.specs.Words.{token_text}
+use Rattle.mau_declare.specs.Elements.{Elements}
+use Rattle.mau_statement.specs.declared.fault.StatementFault.{StatementFault}
+use Rattle.mau_module.specs.declared.fault.ModuleFault.{ModuleFault}
+use Rattle.mau_module.specs.declared.fault.ModuleFault.TheVariants.{UnknownModule, ImportTooDeep, TooLarge, UnknownSort, Signed, Statement, NoMemory}
+use Rattle.mau_module.specs.Faults.{IfFault, IfOwn}
+use Rattle.mau_module.specs.Modules.{ModuleOf, StatementsOf, no_statements, and_more, behind, counts_of}
+use Rattle.mau_module.specs.Library.{IsNext}
+use Rattle.mau_module.specs.declared.statements.Counts.{Counts}
+use Rattle.mau_module.specs.Framed.{Frame, all_parts, frame_of}
+use Rattle.mau_module.specs.Stated.{AreLawful, HasCarriedFault, OwnRead}
+use Rattle.mau_module.specs.Flattened.{FlattenedAs, IsSigned, AreStatements, carried_in, context_in, grammar_in, own_in, carried_at_fault, own_at_fault, flattened}
+
+-- the fault of a statement, as one of a module
+pub statement_told : (P : ℕ → StatementFault → Type 0) (Q : ModuleFault → Type 0) → ((i : ℕ) (f : StatementFault) → P i f → Q (Statement i f))
+    → (g : ModuleFault) → IfOwn P g → IfFault Q g
+statement_told P Q h (UnknownModule name) w = absurd w
+statement_told P Q h ImportTooDeep w = absurd w
+statement_told P Q h (TooLarge limit) w = absurd w
+statement_told P Q h (UnknownSort at) w = absurd w
+statement_told P Q h (Signed text) w = absurd w
+statement_told P Q h (Statement i f) w = h i f w
+statement_told P Q h NoMemory w = w
+
+-- the statements behind those of the parts
+pub behind_parts : (a b : StatementsOf) → behind (counts_of a) (and_more a b) ≡ b
+behind_parts a b =
+    let each : List Equation → List Membership → List Rule → StatementsOf = λ x y z. record { equations = x; memberships = y; rules = z } in
+    ap₂ (λ x y. each x y (drop (length a.rules) (a.rules ++ b.rules))) (drop-append_seam a.equations b.equations) (drop-append_seam a.memberships b.memberships)
+    ∙ ap (each b.equations b.memberships) (drop-append_seam a.rules b.rules)
+
+-- what is read over the frame of the text
+module _ (ms : List ModuleOf) (ws : List Word) (raw : RawModule) (f : Frame) (q : f ≡ frame_of ms ws raw) (e : Elements) (s : SignatureOf) (signed : IsSigned ms ws raw e s) where
+  -- a statement of the parts at fault
+  pub parts_at_fault : (g : ModuleFault) → IfOwn (λ i x. (i ≡ 0) × HasCarriedFault s (carried_in ms f s) x) g → IfFault (λ x. FlattenedAs ms ws raw (Err x)) g
+  parts_at_fault = statement_told (λ i x. (i ≡ 0) × HasCarriedFault s (carried_in ms f s) x) (λ x. FlattenedAs ms ws raw (Err x))
+      (λ i x w. subst (λ k. FlattenedAs ms ws raw (Err (Statement k x))) (sym w.0)
+      (carried_at_fault e s x signed (subst (λ (y : Frame). HasCarriedFault s (carried_in ms y s) x) q w.1)))
+
+  module _ (lawful : AreLawful s (carried_in ms f s)) where
+    lawful_there : AreLawful s (carried_in ms (frame_of ms ws raw) s)
+    lawful_there = subst (λ (y : Frame). AreLawful s (carried_in ms y s)) q lawful
+
+    -- one of the module itself
+    pub its_at_fault : (g : ModuleFault) → IfOwn (λ i x. OwnRead ws (context_in ms ws f e s) no_statements 1 raw.elements (Err (i, x))) g
+        → IfFault (λ x. FlattenedAs ms ws raw (Err x)) g
+    its_at_fault = statement_told (λ i x. OwnRead ws (context_in ms ws f e s) no_statements 1 raw.elements (Err (i, x))) (λ x. FlattenedAs ms ws raw (Err x))
+        (λ i x w. own_at_fault e s i x signed lawful_there
+        (subst (λ (y : Frame). OwnRead ws (context_in ms ws y e s) no_statements 1 raw.elements (Err (i, x))) q w))
+
+  -- the module
+  abbrev pub made : Frame → GrammarOf → List Decl → StatementsOf → StatementsOf → ModuleOf
+  made y g decls all its = record {
+    name = token_text ws raw.name;
+    depth = y.depth;
+    parts = all_parts ms y.parts;
+    sorts = y.names;
+    signature = s;
+    grammar = g;
+    statements = all;
+    own = record { pairs = e.pairs; declarations = decls; statements = its };
+  }
+
+  pub made_of_text : (g : GrammarOf) (decls : List Decl) (n : Counts) (all : StatementsOf) → g ≡ grammar_in ws f e s → decls ≡ own_in ms f e → AreStatements ms ws raw f e s n all
+      → (m : ModuleOf) → m ≡ made f g decls all (behind n all) → FlattenedAs ms ws raw (Ok m)
+  made_of_text g decls n all r d are m is =
+      let its : behind n all ≡ are.own = ap₂ behind are.counted are.whole ∙ behind_parts (carried_in ms f s) are.own in
+      subst (λ x. FlattenedAs ms ws raw (Ok x)) (sym (is
+      ∙ ap₂ (λ x y. made f x y all (behind n all)) r d
+      ∙ ap₂ (λ x y. made f (grammar_in ws f e s) (own_in ms f e) x y) are.whole its
+      ∙ ap (λ (y : Frame). made y (grammar_in ws y e s) (own_in ms y e) (and_more (carried_in ms y s) are.own) are.own) q))
+      (flattened e s are.own signed (lawful_there are.lawful) (subst (λ (y : Frame). OwnRead ws (context_in ms ws y e s) no_statements 1 raw.elements (Ok are.own)) q are.read))
+
+-- it includes modules that are there, and itself
+parts_are_next : (ms : List ModuleOf) (parts : List ℕ) → All (λ p. p < length ms) parts → All (λ p. p ≤ length ms) (all_parts ms parts)
+parts_are_next ms parts within = All-push (λ p. p ≤ length ms) parts (length ms) (λ k d l. omega (arith, within k d l)) (omega arith)
+
+pub is_next : (ms : List ModuleOf) (parts : List ℕ) (m : ModuleOf) → All (λ p. p < length ms) parts → m.parts ≡ all_parts ms parts → IsNext ms m
+is_next ms parts m within e = record { parts = subst (All (λ p. p ≤ length ms)) (sym e) (parts_are_next ms parts within) }

@@ -1,0 +1,14 @@
+use Rattle.std.proofs.Common.{[], ◌∷◌, ap, ◌∙◌}
+use Rattle.mau_prelude.specs.declared.module.PreludeModule.TheVariants.{TruthValue, Truth, Bool, Nat}
+use Rattle.mau_module.specs.Library.{truth_value, truth, bool}
+use Rattle.mau_module.specs.Prelude.{with_table, prelude}
+use Rattle.mau_module.proofs.library.Library.prelude.Goals as goal
+
+pub returns-clause-value : goal.returns-clause-value
+unfolding prelude
+returns-clause-value c =
+    c.in_ok-enter_table-4.ensures.modules
+    ∙ ap (λ ms. with_table ms (bool ∷ []) Nat) (c.in_ok-enter_table-3.ensures.modules
+    ∙ ap (λ ms. with_table ms (truth ∷ []) Bool) (c.in_ok-enter_table-2.ensures.modules
+    ∙ ap (λ ms. with_table ms (truth_value ∷ []) Truth) (c.in_ok-enter_table.ensures.modules
+    ∙ ap (λ ms. with_table ms [] TruthValue) c.new-library.ensures)))

@@ -1,0 +1,34 @@
+use Rattle.std.proofs.Common.{◌++◌, ap, subst, ◌∙◌}
+use Rattle.std.specs.Prelude.{All}
+use Rattle.mau_signature.specs.Faults.{HasSorts}
+use Rattle.mau_declare.specs.Flattened.{AreLower}
+use Rattle.mau_module.specs.Declarations.{hierarchy_over}
+use Rattle.mau_module.proofs.Tabled.{ordered_as, signed_as}
+use Rattle.mau_module.proofs.prelude.sign_table.Goals as goal
+
+pub returns-in-Ok-sign_declarations-clause-signature : goal.returns-in-Ok-sign_declarations-clause-signature
+returns-in-Ok-sign_declarations-clause-signature c =
+    signed_as c.args.library.now c.args.names.now c.args.parts.now c.args.pairs.now c.deref-2.result.now
+    (c.deref-2.ensures.value ∙ c.in_ok-extend_from_slice.ensures.items ∙ ap (λ ps. ps ++ c.args.pairs.now) c.in_ok-all.ensures.pairs)
+    c.in-Ok.poset c.in-Ok.ensures.ok c.args.own.items c.deref-5.result.now c.deref-5.ensures.value c.in-Ok-sign_declarations.signature c.in-Ok-sign_declarations.ensures.ok
+
+pub returns-in-Ok-sign_declarations-clause-hierarchy : goal.returns-in-Ok-sign_declarations-clause-hierarchy
+returns-in-Ok-sign_declarations-clause-hierarchy c =
+    c.in-Ok-sign_declarations.ensures.hierarchy
+    ∙ ordered_as c.args.library.now c.args.names.now c.args.parts.now c.args.pairs.now c.deref-2.result.now
+    (c.deref-2.ensures.value ∙ c.in_ok-extend_from_slice.ensures.items ∙ ap (λ ps. ps ++ c.args.pairs.now) c.in_ok-all.ensures.pairs)
+    c.in-Ok.poset c.in-Ok.ensures.ok
+
+pub returns-in-Ok-sign_declarations-clause-lower : goal.returns-in-Ok-sign_declarations-clause-lower
+returns-in-Ok-sign_declarations-clause-lower c =
+    subst (λ n. AreLower n (hierarchy_over c.args.library.now c.args.parts.now c.args.names.now c.args.pairs.now).pairs c.in_ok-lower.lower.items) c.len-sorts.ensures.count
+    (subst (λ ps. AreLower c.len-sorts.result ps c.in_ok-lower.lower.items)
+    (c.deref.ensures.value ∙ c.in_ok-extend_from_slice.ensures.items ∙ ap (λ ps. ps ++ c.args.pairs.now) c.in_ok-all.ensures.pairs) c.in_ok-lower.ensures)
+
+pub returns-in-Ok-sign_declarations-clause-sorts : goal.returns-in-Ok-sign_declarations-clause-sorts
+returns-in-Ok-sign_declarations-clause-sorts c =
+    subst (λ h. All (HasSorts h) c.args.own.items)
+    (ordered_as c.args.library.now c.args.names.now c.args.parts.now c.args.pairs.now c.deref-2.result.now
+    (c.deref-2.ensures.value ∙ c.in_ok-extend_from_slice.ensures.items ∙ ap (λ ps. ps ++ c.args.pairs.now) c.in_ok-all.ensures.pairs)
+    c.in-Ok.poset c.in-Ok.ensures.ok)
+    (subst (All (HasSorts c.in-Ok.poset)) c.deref-3.ensures.value (c.have_sorts.ensures c.if-not-have_sorts.false))

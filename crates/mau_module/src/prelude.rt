@@ -1,0 +1,269 @@
+//! The modules of the prelude, made from their tables.
+ghost use Rattle.std.specs.Prelude.{◌≡◌, ◌<◌, ◌≤◌, ℕ, List, length, fold, true, All, IfOk, OnOk};
+ghost use Rattle.mau_poset.specs.Order.{IsWithin};
+ghost use Rattle.mau_poset.specs.declared.TheConstants.{MAX_SORTS};
+ghost use Rattle.mau_signature.specs.Faults.{HasSorts, IsSort};
+ghost use Rattle.mau_declare.specs.Names.{with_name};
+ghost use Rattle.mau_declare.specs.Flattened.{AreLower};
+ghost use Rattle.mau_prelude.specs.Tables.{table_of};
+ghost use Rattle.mau_signed.specs.Signed.{signature_over};
+ghost use Rattle.mau_module.specs.Known.{AreKnown};
+ghost use Rattle.mau_module.specs.Included.{depth_over, parts_of, sorts_of};
+ghost use Rattle.mau_module.specs.Declarations.{hierarchy_over, given_over};
+ghost use Rattle.mau_module.specs.Library.{IsNext};
+ghost use Rattle.mau_module.specs.Prelude.{table_frame, table_module, with_table, prelude};
+
+use crate::MAX_DEPTH;
+use crate::context::grammar_over;
+use crate::declarations::pairs_of;
+use crate::frame::Frame;
+use crate::include::{depth_over, parts_of, sorts_of};
+use crate::library::{BOOL, Library, TRUTH, TRUTH_VALUE};
+use crate::module::Module;
+use crate::signing::{Signed, sign_declarations};
+use crate::statements::Statements;
+use crate::tables::carried;
+use mau_api::Equation;
+use mau_declare::{Names, lower_sorts};
+use mau_poset::{MAX_SORTS, Poset};
+use mau_prelude::{PreludeModule, table};
+use mau_signature::Decl;
+use mau_signed::order_sorts;
+use mau_terms::{NoMemory, Text};
+use std::alloc::Global;
+
+/// Adds names that are not there.
+fn add_texts(names: &mut Names, more: &[Text]) -> Result<(), NoMemory>
+    ensures { OnOk result (names.new ≡ fold with_name names.old more.now) }
+{
+    for name in more {
+        names.add(name.as_str())?;
+    }
+    Ok(())
+}
+
+/// What a module of the prelude includes that imports these, and the names of its sorts.
+fn table_frame(
+    alloc: Global,
+    library: &Library,
+    imports: &[usize],
+    sorts: &[Text],
+) -> Result<Frame, NoMemory>
+    requires imports { All (λ i. i < length library.now) imports.now }
+    ensures frame { IfOk result (λ f. f ≡ record { depth = depth_over library.now imports.now; parts = parts_of library.now imports.now; names = fold with_name (sorts_of library.now (parts_of library.now imports.now)) sorts.now }) }
+    ensures within { IfOk result (λ f. All (λ p. p < length library.now) f.parts) }
+    ensures known { IfOk result (λ f. AreKnown library.now f.names f.parts) }
+{
+    let depth = depth_over(library, imports);
+    let parts = parts_of(alloc, library, imports)?;
+    let mut names = sorts_of(alloc, library, &parts)?;
+    add_texts(&mut names, sorts)?;
+    Ok(Frame {
+        depth,
+        parts,
+        names,
+    })
+}
+
+/// Whether a sort or kind is there.
+fn is_sort(poset: &Poset, sort: u32) -> bool
+    ensures { result ≡ true → IsSort poset.now sort }
+{
+    sort < poset.sorts() + poset.kinds()
+}
+
+/// Whether these sorts and kinds are there.
+fn are_sorts(poset: &Poset, sorts: &[u32]) -> bool
+    ensures { result ≡ true → All (IsSort poset.now) sorts.now }
+{
+    for sort in sorts {
+        if !is_sort(poset, *sort) {
+            return false;
+        }
+    }
+    true
+}
+
+/// Whether the sorts and kinds of a declaration are there.
+fn has_sorts(poset: &Poset, decl: &Decl) -> bool
+    ensures { result ≡ true → HasSorts poset.now decl.now }
+{
+    are_sorts(poset, decl.args.items()) && is_sort(poset, decl.result)
+}
+
+/// Whether those of all declarations are there.
+fn have_sorts(poset: &Poset, decls: &[Decl]) -> bool
+    ensures { result ≡ true → All (HasSorts poset.now) decls.now }
+{
+    for decl in decls {
+        if !has_sorts(poset, decl) {
+            return false;
+        }
+    }
+    true
+}
+
+/// Whether pairs name sorts that are there.
+fn are_within(sorts: usize, pairs: &[(u32, u32)]) -> bool
+    ensures { result ≡ true → IsWithin pairs.now sorts }
+{
+    for pair in pairs {
+        if pair.0 as usize >= sorts || pair.1 as usize >= sorts {
+            return false;
+        }
+    }
+    true
+}
+
+/// The signature of a module of the prelude that has these subsort pairs and declarations itself. Where they are no lawful ones, there is
+/// none either: see `Library::prelude`.
+fn sign_table(
+    alloc: Global,
+    library: &Library,
+    names: &Names,
+    parts: &[usize],
+    pairs: &[(u32, u32)],
+    own: Vec<Decl>,
+) -> Result<Signed, NoMemory>
+    requires parts { All (λ p. p < length library.now) parts.now }
+    requires known { AreKnown library.now names.now parts.now }
+    ensures few { OnOk result (length names.now ≤ MAX_SORTS) }
+    ensures within { OnOk result (IsWithin pairs.now (length names.now)) }
+    ensures signature { IfOk result (λ s. s.signature ≡ signature_over (given_over library.now parts.now names.now (hierarchy_over library.now parts.now names.now pairs.now) own.items)) }
+    ensures hierarchy { IfOk result (λ s. s.signature.hierarchy ≡ hierarchy_over library.now parts.now names.now pairs.now) }
+    ensures lower { IfOk result (λ s. AreLower (length names.now) (hierarchy_over library.now parts.now names.now pairs.now).pairs s.lower.items) }
+    ensures own { IfOk result (λ s. s.own.items ≡ own.items) }
+    ensures sorts { IfOk result (λ s. All (HasSorts (hierarchy_over library.now parts.now names.now pairs.now)) s.own.items) }
+{
+    let sorts = names.len();
+    if sorts > MAX_SORTS as usize || !are_within(sorts, pairs) {
+        return Err(NoMemory);
+    }
+    let mut all = pairs_of(alloc, library, names, parts)?;
+    all.extend_from_slice(pairs)?;
+    let lower = lower_sorts(alloc, sorts as u32, &all)?;
+    let poset = match order_sorts(alloc, names, &all) {
+        Ok(poset) => poset,
+        Err(_) => return Err(NoMemory),
+    };
+    if !have_sorts(&poset, &own) {
+        return Err(NoMemory);
+    }
+    match sign_declarations(alloc, library, names, parts, &lower, poset, &own, None) {
+        Ok(signature) => Ok(Signed {
+            signature,
+            lower,
+            own,
+        }),
+        Err(_) => Err(NoMemory),
+    }
+}
+
+/// The module with this frame that declares these pairs, operators and equations itself.
+fn make_module(
+    alloc: Global,
+    library: &Library,
+    frame: Frame,
+    name: Text,
+    pairs: Vec<(u32, u32)>,
+    declarations: Vec<Decl>,
+    equations: Vec<Equation>,
+) -> Result<Module, NoMemory>
+    requires depth { frame.depth ≤ MAX_DEPTH }
+    requires parts { All (λ p. p < length library.now) frame.parts }
+    requires known { AreKnown library.now frame.names frame.parts }
+    ensures { (sorts : List (List ℕ)) → IfOk result (λ m. m ≡ table_module library.now frame (record { name = name; sorts = sorts; pairs = pairs.items; declarations = declarations.items; equations = equations.items })) }
+{
+    let signed = sign_table(
+        alloc,
+        library,
+        &frame.names,
+        &frame.parts,
+        &pairs,
+        declarations,
+    )?;
+    let grammar = grammar_over(alloc, &frame.names, &signed.signature, &[])?;
+    let mut statements = carried(
+        alloc,
+        library,
+        &frame.names,
+        &signed.signature,
+        &frame.parts,
+    )?;
+    let included = statements.counts();
+    statements.append(Statements::of_equations(alloc, equations))?;
+    Module::new(
+        alloc,
+        library.len(),
+        name,
+        frame,
+        signed,
+        grammar,
+        pairs,
+        included,
+        statements,
+    )
+}
+
+/// The module of a table over a library, where it imports these.
+fn table_module(
+    alloc: Global,
+    library: &Library,
+    imports: &[usize],
+    module: PreludeModule,
+) -> Result<Module, NoMemory>
+    requires imports { All (λ i. i < length library.now) imports.now }
+    ensures value { IfOk result (λ m. m ≡ table_module library.now (table_frame library.now imports.now (table_of «module»)) (table_of «module»)) }
+    ensures next { IfOk result (IsNext library.now) }
+{
+    let table = table(alloc, module)?;
+    let frame = table_frame(alloc, library, imports, &table.sorts)?;
+    if frame.depth > MAX_DEPTH {
+        return Err(NoMemory);
+    }
+    make_module(
+        alloc,
+        library,
+        frame,
+        table.name,
+        table.pairs,
+        table.declarations,
+        table.equations,
+    )
+}
+
+impl Library {
+    ghost use Rattle.std.specs.Prelude.{◌≡◌, ◌<◌, ◌+◌, length, All, IfOk, OnOk};
+    ghost use Rattle.mau_module.specs.Library.{HasPrelude};
+    ghost use Rattle.mau_module.specs.Prelude.{with_table, prelude};
+
+    /// Adds the module of a table, where it imports these.
+    fn enter_table(
+        &mut self,
+        alloc: Global,
+        imports: &[usize],
+        module: PreludeModule,
+    ) -> Result<(), NoMemory>
+        requires { All (λ i. i < length self.old) imports.now }
+        ensures modules { OnOk result (self.new ≡ with_table self.old imports.now «module») }
+        ensures count { OnOk result (length self.new ≡ length self.old + 1) }
+    {
+        let module = table_module(alloc, self, imports, module)?;
+        self.enter(module)
+    }
+
+    /// The library of a session's start: the four modules of the prelude, with the numbers 0 to 3. No text is read.
+    ///
+    /// It answers `NoMemory` also where a table were no lawful module; a test shows that all four are.
+    pub fn prelude(alloc: Global) -> Result<Library, NoMemory>
+        ensures value { IfOk result (λ l. l ≡ prelude) }
+        ensures count { IfOk result HasPrelude }
+    {
+        let mut library = Library::new(alloc);
+        library.enter_table(alloc, &[], PreludeModule::TruthValue)?;
+        library.enter_table(alloc, &[TRUTH_VALUE], PreludeModule::Truth)?;
+        library.enter_table(alloc, &[TRUTH], PreludeModule::Bool)?;
+        library.enter_table(alloc, &[BOOL], PreludeModule::Nat)?;
+        Ok(library)
+    }
+}

@@ -1,6 +1,0 @@
-use Rattle.std.proofs.Common.{◌≡◌, take}
-use Rattle.mau_reader.specs.Forms.{form_of}
-use Rattle.mau_reader.proofs.forms.read_form.Given as goal
-
-abbrev pub invariant-loop-token : goal.invariant-loop-token
-invariant-loop-token l = l.pieces.items ≡ form_of l.words (take l.token-index l.tokens)

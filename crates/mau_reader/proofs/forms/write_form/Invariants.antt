@@ -1,6 +1,0 @@
-use Rattle.std.proofs.Common.{◌≡◌, ◌++◌, take}
-use Rattle.mau_reader.specs.Forms.{form_text}
-use Rattle.mau_reader.proofs.forms.write_form.Given as goal
-
-abbrev pub invariant-loop-piece : goal.invariant-loop-piece
-invariant-loop-piece l = l.out.items ≡ l.fn.out.items ++ form_text (take l.piece-index l.piece-items)

@@ -1,6 +1,0 @@
-use Rattle.std.proofs.Common.{◌≡◌, map, take}
-use Rattle.mau_reader.specs.Forms.{form_of}
-use Rattle.mau_reader.proofs.operators.read_forms.Given as goal
-
-abbrev pub invariant-loop-form : goal.invariant-loop-form
-invariant-loop-form l = l.read.items ≡ map (form_of l.words) (take l.form-index l.forms)
