@@ -159,13 +159,13 @@ fn refuses_statements_beyond_the_limits(rt: HostRuntime) -> Result<(), Fail> {
 #[test]
 fn refuses_imports_that_are_too_deep(rt: HostRuntime) -> Result<(), Fail> {
     let alloc = rt.alloc();
-    let mut text = String::from_str(alloc, "fmod M1 is sort S . endfm\n")?;
-    let mut wanted = String::from_str(alloc, "[1] module M1\n")?;
+    let mut text = String::from_str(alloc, "fmod DEEP1 is sort S . endfm\n")?;
+    let mut wanted = String::from_str(alloc, "[1] module DEEP1\n")?;
     for i in 2..=33usize {
         let before = i - 1;
-        text.push_str(&format!(in alloc; "fmod M{i} is protecting M{before} . endfm\n")?)?;
+        text.push_str(&format!(in alloc; "fmod DEEP{i} is protecting DEEP{before} . endfm\n")?)?;
         if i <= 32 {
-            wanted.push_str(&format!(in alloc; "[{i}] module M{i}\n")?)?;
+            wanted.push_str(&format!(in alloc; "[{i}] module DEEP{i}\n")?)?;
         }
     }
     wanted.push_str("[33] refused: ImportTooDeep\n")?;
