@@ -1,2 +1,3 @@
 pub mod Shapes
 pub mod Kinds_kept
+pub mod Indexed

@@ -10,6 +10,8 @@ pub mod Parts
 pub mod Productions
 -- and all else of its grammar
 pub mod Grammar
+-- productions by their words
+pub mod Index
 -- names that stand once
 pub mod Names
 -- variables and numerals among tokens

@@ -7,8 +7,10 @@ ghost use Rattle.mau_signature.specs.Attributes.{has_number};
 ghost use Rattle.mau_grammar.specs.Production.{IsShaped};
 ghost use Rattle.mau_grammar.specs.Productions.{of_kinds, of_operators};
 ghost use Rattle.mau_grammar.specs.Grammar.{grammar_of, successors_to};
+ghost use Rattle.mau_grammar.specs.Index.{keyed, wordless};
 
 use crate::aliases::{Alias, Variable, variables_of};
+use crate::index::Index;
 use crate::operators::push_operators;
 use crate::parts::push_arguments;
 use crate::production::{Part, Production};
@@ -24,6 +26,7 @@ use std::marker::Model;
 #[derive(Drop)]
 pub struct Grammar {
     productions: Vec<Production>,
+    index: Index,
     sorts: Vec<SortName>,
     aliases: Vec<Variable>,
     numerals: Option<u32>,
@@ -48,8 +51,9 @@ impl Model for Grammar {
     } };
 
     ghost use Rattle.mau_grammar.specs.Grammar.{AreSound};
+    ghost use Rattle.mau_grammar.specs.Index.{IsIndexOf};
 
-    ghost invariant = { λ g. AreSound g.productions.items g.sorts.items };
+    ghost invariant = { λ g. AreSound g.productions.items g.sorts.items × IsIndexOf g.productions.items g.index };
 }
 
 /// The level of a term in parentheses: every place admits it.
@@ -159,10 +163,12 @@ impl Grammar {
     {
         let sorts = sort_names(alloc, sig.poset(), sorts)?;
         let productions = productions(alloc, sig, &sorts)?;
+        let index = Index::of(alloc, &productions)?;
         let aliases = variables_of(alloc, sig.poset(), aliases)?;
         let first_kind = sig.poset().sorts();
         Ok(Grammar {
             productions,
+            index,
             sorts,
             aliases,
             numerals: numerals(sig),
@@ -178,6 +184,20 @@ impl Grammar {
         ensures shaped { All IsShaped result.now }
     {
         &self.productions
+    }
+
+    /// The numbers of the productions that have this word for their key, which is one of their words, in order.
+    pub fn keyed(&self, word: &str) -> &[usize]
+        ensures value { result.now ≡ keyed self.now.productions word.now }
+    {
+        self.index.keyed(word)
+    }
+
+    /// The numbers of the productions that have no word, in order.
+    pub fn wordless(&self) -> &[usize]
+        ensures value { result.now ≡ wordless self.now.productions }
+    {
+        &self.index.wordless
     }
 
     /// The sorts by their numbers: their names and kinds.

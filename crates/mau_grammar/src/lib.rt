@@ -3,6 +3,7 @@
 
 mod aliases;
 mod grammar;
+mod index;
 mod operators;
 mod parts;
 mod precedence;

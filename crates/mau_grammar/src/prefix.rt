@@ -10,7 +10,7 @@ use mau_terms::NoMemory;
 use std::alloc::Global;
 
 /// Whether the word is one of the characters that are tokens of their own.
-fn is_special(word: &str) -> bool
+pub fn is_special(word: &str) -> bool
     ensures { result ≡ Rattle.mau_grammar.specs.Parts.is_special word.now }
 {
     matches!(word, "(" | ")" | "[" | "]" | "{" | "}" | ",")

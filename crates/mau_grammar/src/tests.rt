@@ -210,3 +210,26 @@ fn encloses_kinds_and_sorts(rt: HostRuntime) -> Result<(), Fail> {
     assert!(rt; !grammar.is_successor(mau_terms::OpId(1)));
     Ok(())
 }
+
+#[test]
+fn finds_productions_by_their_keys(rt: HostRuntime) -> Result<(), Fail> {
+    let alloc = rt.alloc();
+    let sums = grammar(
+        &rt,
+        alloc,
+        op(alloc, &["_", "+", "_"], &[0, 0], Attrs::none())?,
+    )?;
+    assert_eq!(rt; sums.keyed("+"), [0usize].as_slice());
+    assert_eq!(rt; sums.keyed("_+_"), [1usize].as_slice());
+    assert_eq!(rt; sums.keyed("("), [2usize].as_slice());
+    assert_eq!(rt; sums.keyed(".T"), [3usize].as_slice());
+    assert!(rt; sums.keyed("T").is_empty());
+    assert!(rt; sums.wordless().is_empty());
+    let lists = grammar(
+        &rt,
+        alloc,
+        op(alloc, &["_", "_"], &[0, 0], Attrs::none())?,
+    )?;
+    assert_eq!(rt; lists.wordless(), [0usize].as_slice());
+    Ok(())
+}

@@ -5,7 +5,6 @@ use Rattle.mau_terms.specs.Tree.{Tree, variable, numeral}
 use Rattle.mau_terms.specs.declared.ids.OpId.{OpId}
 use Rattle.mau_grammar.specs.declared.production.Part.{Part}
 use Rattle.mau_grammar.specs.declared.production.Part.TheVariants.{Word, Hole as Place}
-use Rattle.mau_grammar.specs.declared.production.Production.{Production as Written}
 use Rattle.mau_grammar.specs.Production.{word}
 use Rattle.mau_grammar.specs.Grammar.{GrammarOf}
 use Rattle.mau_grammar.specs.Leaves.{value_of}
@@ -15,7 +14,7 @@ use Rattle.mau_chart.specs.declared.grammar.Production.{Production}
 use Rattle.mau_chart.specs.declared.grammar.Leaf.{Leaf}
 use Rattle.mau_chart.specs.declared.grammar.Said.TheVariants.{Word as Silent, Var, Num}
 use Rattle.mau_chart.specs.Reads.{said_trees, made as made_by, Reads as Charts, leaf_read, form_read, Spells as Lines, nothing_spelled, piece_spelled}
-use Rattle.mau_parse.specs.Charted.{word_number, kind_number, ArePiecesOf, IsFormOf, AreFormsOf, leaf, var_id, IsLeafOf, word_leaf, numeral_leaf, variable_leaf, AreLeavesOf}
+use Rattle.mau_parse.specs.Charted.{word_number, kind_number, ArePiecesOf, AreThere, AreFormsOf, leaf, var_id, IsLeafOf, word_leaf, numeral_leaf, variable_leaf, AreLeavesOf}
 
 -- ---- words by their numbers
 
@@ -71,19 +70,13 @@ same_number (u ∷ us) v w n p q r = by (bytes_eq u v) (bytes_eq u w) refl refl 
 pub word_number-one : (ws : List (List ℕ)) (i : ℕ) (v w : List ℕ) → slice_get ws i ≡ Some v → word_number ws v ≡ word_number ws w → v ≡ w
 word_number-one ws i v w e h = same_number ws v w (word_number ws v) refl h (word_number-at ws i v e)
 
--- ---- productions by their places
+-- ---- productions
 
-form_there : (ws : List (List ℕ)) (ps : List Written) (qs : List Production) → AreFormsOf ws ps qs → (n : ℕ) (p : Written) → slice_get ps n ≡ Some p → (q : Production) × (slice_get qs n ≡ Some q) × IsFormOf ws p q
-form_there ws [] qs a n p e = absurd (none_some p e)
-form_there ws (x ∷ ps) [] a n p e = absurd a
-form_there ws (x ∷ ps) (q ∷ qs) a zero p e = (q, refl, subst (λ z. IsFormOf ws z q) (some_one x p e) a.0)
-form_there ws (x ∷ ps) (q ∷ qs) a (suc n) p e = form_there ws ps qs a.1 n p e
-
-pub form_back : (ws : List (List ℕ)) (ps : List Written) (qs : List Production) → AreFormsOf ws ps qs → (n : ℕ) (q : Production) → slice_get qs n ≡ Some q → (p : Written) × (slice_get ps n ≡ Some p) × IsFormOf ws p q
-form_back ws ps [] a n q e = absurd (none_some q e)
-form_back ws [] (x ∷ qs) a n q e = absurd a
-form_back ws (p ∷ ps) (x ∷ qs) a zero q e = (p, refl, subst (λ z. IsFormOf ws p z) (some_one x q e) a.0)
-form_back ws (p ∷ ps) (x ∷ qs) a (suc n) q e = form_back ws ps qs a.1 n q e
+-- what spells something is there
+spells_there : (g : GrammarOf) (ws : List (List ℕ)) (ps : List Part) (i j : ℕ) (ts : List Tree) → Spells g ws ps i j ts → AreThere ws ps
+spells_there g ws ps i j ts (spells_nothing h) = tt
+spells_there g ws ps i j ts (spells_word w rs h {j = b} {ts = us} e s) = ((h, e), spells_there g ws rs (h + 1) b us s)
+spells_there g ws ps i j ts (spells_place k u q rs {i = h} {m = m} {j = b} {ts = vs} {us = us} r l s) = (tt, spells_there g ws rs m b us s)
 
 made_same : (o : Option OpId) (ts : List Tree) → made_by o ts ≡ made o ts
 made_same None ts = refl
@@ -99,11 +92,13 @@ module _ (g : GrammarOf) (ws : List (List ℕ)) (qs : List Production) (ls : Lis
     reads_charts k q i j ts (reads_numeral h m w e f x) = leaf_charts (leaf (kind_number ws m) 1 h (h + 1) (Num (value_of w))) (numeral_leaf h m w e f x)
     reads_charts k q i j ts (reads_variable h m n r e f) = leaf_charts (leaf (kind_number ws r.kind) 1 h r.end (Var (var_id n r.sort))) (variable_leaf h m n r e f)
     reads_charts k q i j ts (reads_production n p {i = a} {j = b} {ts = us} e s) =
-        let x = form_there ws g.productions qs forms n p e in
-        let r : Charts qs ls x.0.kind x.0.level a b (made_by x.0.op us) = form_read n x.0 x.1 (spells_lines p.parts a b us s x.0.pieces.items x.2.pieces) in
-        let r2 : Charts qs ls (kind_number ws p.kind) x.0.level a b (made_by x.0.op us) = subst (λ z. Charts qs ls z x.0.level a b (made_by x.0.op us)) x.2.kind r in
-        let r3 : Charts qs ls (kind_number ws p.kind) p.level a b (made_by x.0.op us) = subst (λ z. Charts qs ls (kind_number ws p.kind) z a b (made_by x.0.op us)) x.2.level r2 in
-        subst (λ z. Charts qs ls (kind_number ws p.kind) p.level a b z) (ap (λ o. made_by o us) x.2.op ∙ made_same p.op us) r3
+        let there = forms.all n p e (spells_there g ws p.parts a b us s) in
+        let q = there.1 in
+        let form = there.3 in
+        let r : Charts qs ls q.kind q.level a b (made_by q.op us) = form_read there.0 q there.2 (spells_lines p.parts a b us s q.pieces.items form.pieces) in
+        let r2 : Charts qs ls (kind_number ws p.kind) q.level a b (made_by q.op us) = subst (λ z. Charts qs ls z q.level a b (made_by q.op us)) form.kind r in
+        let r3 : Charts qs ls (kind_number ws p.kind) p.level a b (made_by q.op us) = subst (λ z. Charts qs ls (kind_number ws p.kind) z a b (made_by q.op us)) form.level r2 in
+        subst (λ z. Charts qs ls (kind_number ws p.kind) p.level a b z) (ap (λ o. made_by o us) form.op ∙ made_same p.op us) r3
 
     spells_lines : (ps : List Part) (i j : ℕ) (ts : List Tree) → Spells g ws ps i j ts → (cs : List Piece) → ArePiecesOf ws ps cs → Lines qs ls cs i j ts
     spells_lines ps i j ts (spells_nothing h) [] a = nothing_spelled h
@@ -142,12 +137,14 @@ module _ (g : GrammarOf) (ws : List (List ℕ)) (qs : List Production) (ls : Lis
     pub charts_mean : (k q i j : ℕ) (ts : List Tree) → Charts qs ls k q i j ts → Means k q i j ts
     charts_mean k q i j ts (leaf_read n l e) = leaf_means l (leaves.right n l e)
     charts_mean k q i j ts (form_read n p {i = a} {j = b} {ts = us} e s) =
-        let x = form_back ws g.productions qs forms n p e in
-        let r : Reads g ws x.0.kind x.0.level a b (made x.0.op us) = reads_production n x.0 x.1 (lines_spell p.pieces.items a b us s x.0.parts x.2.pieces) in
-        let r2 : Reads g ws x.0.kind p.level a b (made_by p.op us) = subst (λ z. Reads g ws x.0.kind p.level a b z) (sym (made_same x.0.op us) ∙ ap (λ o. made_by o us) (sym x.2.op)) (subst (λ z. Reads g ws x.0.kind z a b (made x.0.op us)) (sym x.2.level) r) in
+        let back = forms.right n p e in
+        let w = back.1 in
+        let form = back.3 in
+        let r : Reads g ws w.kind w.level a b (made w.op us) = reads_production back.0 w back.2 (lines_spell p.pieces.items a b us s w.parts form.pieces) in
+        let r2 : Reads g ws w.kind p.level a b (made_by p.op us) = subst (λ z. Reads g ws w.kind p.level a b z) (sym (made_same w.op us) ∙ ap (λ o. made_by o us) (sym form.op)) (subst (λ z. Reads g ws w.kind z a b (made w.op us)) (sym form.level) r) in
         record {
-          term = λ m h. let z : x.0.kind ≡ m = omega (arith, h, x.2.kind) in subst (λ y. Reads g ws y p.level a b (made_by p.op us)) z r2;
-          word = λ v h. absurd (no_word x.0.kind v (sym x.2.kind ∙ h));
+          term = λ m h. let z : w.kind ≡ m = omega (arith, h, form.kind) in subst (λ y. Reads g ws y p.level a b (made_by p.op us)) z r2;
+          word = λ v h. absurd (no_word w.kind v (sym form.kind ∙ h));
         }
 
     lines_spell : (cs : List Piece) (i j : ℕ) (ts : List Tree) → Lines qs ls cs i j ts → (ps : List Part) → ArePiecesOf ws ps cs → Spells g ws ps i j ts

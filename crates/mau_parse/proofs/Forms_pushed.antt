@@ -1,22 +1,14 @@
--- Productions and their parts, one more at the end.
+-- The parts of a production, one more at the end; the number of a word.
 use Rattle.std.proofs.Common.{◌≡◌, ℕ, zero, suc, ◌+◌, ◌<◌, List, [], ◌∷◌, ◌++◌, length, get_or, drop, true, false, refl, ◌∙◌, ap, arith, bytes_eq, if◌then◌else◌}
 use Rattle.mau_grammar.specs.declared.production.Part.{Part}
-use Rattle.mau_grammar.specs.declared.production.Production.{Production as Written}
 use Rattle.mau_chart.specs.declared.grammar.Piece.{Piece}
-use Rattle.mau_chart.specs.declared.grammar.Production.{Production}
-use Rattle.mau_parse.specs.Charted.{word_number, IsPieceOf, ArePiecesOf, IsFormOf, AreFormsOf}
+use Rattle.mau_parse.specs.Charted.{word_number, IsPieceOf, ArePiecesOf}
 
 pub pieces_more : (ws : List (List ℕ)) (ps : List Part) (cs : List Piece) (p : Part) (c : Piece) → ArePiecesOf ws ps cs → IsPieceOf ws p c → ArePiecesOf ws (ps ++ p ∷ []) (cs ++ c ∷ [])
 pieces_more ws [] [] p c a x = (x, tt)
 pieces_more ws [] (d ∷ cs) p c a x = absurd a
 pieces_more ws (q ∷ ps) [] p c a x = absurd a
 pieces_more ws (q ∷ ps) (d ∷ cs) p c a x = (a.0, pieces_more ws ps cs p c a.1 x)
-
-pub forms_more : (ws : List (List ℕ)) (ps : List Written) (qs : List Production) (p : Written) (q : Production) → AreFormsOf ws ps qs → IsFormOf ws p q → AreFormsOf ws (ps ++ p ∷ []) (qs ++ q ∷ [])
-forms_more ws [] [] p q a x = (x, tt)
-forms_more ws [] (r ∷ qs) p q a x = absurd a
-forms_more ws (o ∷ ps) [] p q a x = absurd a
-forms_more ws (o ∷ ps) (r ∷ qs) p q a x = (a.0, forms_more ws ps qs p q a.1 x)
 
 -- the first words are others
 pub number_on : (v : List ℕ) (ws : List (List ℕ)) (w : List ℕ) → bytes_eq v w ≡ false → word_number (v ∷ ws) w ≡ word_number ws w + 1

@@ -1,6 +1,7 @@
 pub mod Charted
 pub mod Singles
 pub mod Forms_pushed
+pub mod Forms_found
 pub mod Values
 pub mod Renamed
 pub mod Overflowing

@@ -21,7 +21,6 @@ use Rattle.mau_parse.specs.Charted.{kind_number, IsFormOf, ArePiecesOf, AreForms
 use Rattle.mau_parse.specs.Goal.{lowest, highest, IsTree}
 use Rattle.mau_parse.specs.Found.{IsFound, IsSingle, AreSingle, IsNumberOf, AreNumbersOf}
 use Rattle.mau_parse.specs.Laws.{IsOneTree}
-use Rattle.mau_parse.proofs.Charted.{form_back}
 use Rattle.mau_parse.proofs.Singles.{charts_read_trees, shape_at}
 
 -- ---- each production has a piece
@@ -35,8 +34,8 @@ some_pieces ws p q f s e = s.some (by p.parts (subst (ArePiecesOf ws p.parts) e 
 
 pub forms_have_pieces : (ws : List (List ℕ)) (ps : List Written) (qs : List Production) → All IsShaped ps → AreFormsOf ws ps qs → AreForms qs
 forms_have_pieces ws ps qs shaped forms k q e =
-    let x = form_back ws ps qs forms k q e in
-    some_pieces ws x.0 q x.2 (shape_at ps shaped k x.0 x.1)
+    let back = forms.right k q e in
+    some_pieces ws back.1 q back.3 (shape_at ps shaped back.0 back.1 back.2)
 
 -- ---- one number
 
@@ -59,10 +58,10 @@ pub record IsCharted (g : GrammarOf) (ws : List (List ℕ)) (qs : List Productio
   pub forms : AreFormsOf ws g.productions qs
   pub leaves : AreLeavesOf g ws ls
 
-pub is_charted : (g : GrammarOf) (ws : List (List ℕ)) (ps : List Written) (qs rs : List Production) (ls ks : List Leaf) → ps ≡ g.productions → All IsShaped ps → qs ≡ rs → AreFormsOf ws ps rs → ls ≡ ks → AreLeavesOf g ws ks → IsCharted g ws qs ls
-is_charted g ws ps qs rs ls ks e shaped p forms q leaves = record {
-  shaped = subst (All IsShaped) e shaped;
-  forms = subst (AreFormsOf ws g.productions) (sym p) (subst (λ us. AreFormsOf ws us rs) e forms);
+pub is_charted : (g : GrammarOf) (ws : List (List ℕ)) (qs rs : List Production) (ls ks : List Leaf) → All IsShaped g.productions → qs ≡ rs → AreFormsOf ws g.productions rs → ls ≡ ks → AreLeavesOf g ws ks → IsCharted g ws qs ls
+is_charted g ws qs rs ls ks shaped p forms q leaves = record {
+  shaped = shaped;
+  forms = subst (AreFormsOf ws g.productions) (sym p) forms;
   leaves = subst (AreLeavesOf g ws) (sym q) leaves;
 }
 

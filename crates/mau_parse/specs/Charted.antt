@@ -1,4 +1,4 @@
--- Tokens, productions and leaves as a chart takes them. A word is a kind of its own: the place of the first token that reads it, or the
+-- Words, productions and leaves as a chart takes them. A word is a kind of its own: the place of the first token that reads it, or the
 -- number of tokens where none does. The kinds of terms have the numbers behind that.
 use Rattle.std.specs.Prelude.{◌≡◌, ℕ, ◌+◌, List, [], ◌∷◌, length, true, Some, bytes_eq, slice_get, if◌then◌else◌}
 use Rattle.mau_terms.specs.declared.ids.VarId.{VarId}
@@ -40,12 +40,28 @@ pub record IsFormOf (ws : List (List ℕ)) (p : Written) (q : Production) : Type
   pub op : q.op ≡ p.op
   pub pieces : ArePiecesOf ws p.parts q.pieces.items
 
--- each production in its place
-abbrev pub AreFormsOf : List (List ℕ) → List Written → List Production → Type 0
-AreFormsOf ws [] [] = Unit {0}
-AreFormsOf ws [] (q ∷ qs) = ⊥
-AreFormsOf ws (p ∷ ps) [] = ⊥
-AreFormsOf ws (p ∷ ps) (q ∷ qs) = IsFormOf ws p q × AreFormsOf ws ps qs
+-- a word of these that the text has
+abbrev pub IsThere : List (List ℕ) → Part → Type 0
+IsThere ws (Word w) = (i : ℕ) × (slice_get ws i ≡ Some w)
+IsThere ws (Place h) = Unit {0}
+
+-- the text has all words of a production, so that it may be read by it
+abbrev pub AreThere : List (List ℕ) → List Part → Type 0
+AreThere ws [] = Unit {0}
+AreThere ws (p ∷ ps) = IsThere ws p × AreThere ws ps
+
+-- one of these is the form of p
+abbrev pub HasForm : List (List ℕ) → List Production → Written → Type 0
+HasForm ws qs p = (n : ℕ) × (q : Production) × (slice_get qs n ≡ Some q) × IsFormOf ws p q
+
+-- one of these is what q is the form of
+abbrev pub IsOneOf : List (List ℕ) → List Written → Production → Type 0
+IsOneOf ws ps q = (n : ℕ) × (p : Written) × (slice_get ps n ≡ Some p) × IsFormOf ws p q
+
+-- all are forms of productions, and those are among them by which the text may be read
+pub record AreFormsOf (ws : List (List ℕ)) (ps : List Written) (qs : List Production) : Type 0 where
+  pub right : (n : ℕ) (q : Production) → slice_get qs n ≡ Some q → IsOneOf ws ps q
+  pub all : (n : ℕ) (p : Written) → slice_get ps n ≡ Some p → AreThere ws p.parts → HasForm ws qs p
 
 -- ---- leaves
 

@@ -6,6 +6,8 @@ pub mod Words
 pub mod TooLarge
 -- tokens, productions and leaves in a chart
 pub mod Charted
+-- those productions that may read a text, one more
+pub mod Forms
 -- the term of a tree of tokens
 pub mod Terms
 -- a successor of the greatest numeral

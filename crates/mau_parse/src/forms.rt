@@ -1,11 +1,13 @@
 //! The productions of a grammar, for a chart of some words.
-ghost use Rattle.std.specs.Prelude.{◌≡◌, ◌≤◌, ℕ, IfOk, length};
+ghost use Rattle.std.specs.Prelude.{◌≡◌, ◌≤◌, ℕ, All, IfOk, OnOk, IsTrue, length};
+ghost use Rattle.mau_grammar.specs.Production.{IsShaped};
 ghost use Rattle.mau_parse.specs.Charted;
-ghost use Rattle.mau_parse.specs.Charted.{IsPieceOf, IsFormOf, AreFormsOf};
+ghost use Rattle.mau_parse.specs.Charted.{IsPieceOf, IsFormOf, AreThere, AreFormsOf};
+ghost use Rattle.mau_parse.specs.Forms.{PutsForm, PutsForms};
 
 use crate::words::Words;
 use mau_chart::{Piece, Production};
-use mau_grammar::Part;
+use mau_grammar::{Grammar, Part};
 use mau_terms::NoMemory;
 use std::alloc::Global;
 
@@ -60,18 +62,78 @@ fn form_of(
     })
 }
 
-/// The productions for a chart of these words, each in its place.
-pub fn forms_of(
+/// Whether the words of a production all stand among these.
+fn are_there(words: &Words, parts: &[Part]) -> bool
+    ensures { AreThere words.now parts.now → IsTrue result }
+{
+    for part in parts {
+        if let Part::Word(word) = part {
+            if word_number(words, word.as_str()) == words.len() {
+                return false;
+            }
+        }
+    }
+    true
+}
+
+/// Puts the form of one production behind others, where the text may be read by it.
+fn push_form(
     alloc: Global,
     words: &Words,
     productions: &[mau_grammar::Production],
+    number: usize,
+    forms: &mut Vec<Production>,
+) -> Result<(), NoMemory>
+    requires { length words.now ≤ 1000 }
+    ensures { OnOk result (PutsForm words.now productions.now number forms.old.items forms.new.items) }
+{
+    match productions.get(number) {
+        None => Ok(()),
+        Some(production) => {
+            if are_there(words, production.parts.items()) {
+                forms.push(form_of(alloc, words, production)?)?;
+            }
+            Ok(())
+        }
+    }
+}
+
+/// Puts the forms of some productions behind others, where the text may be read by them.
+fn push_forms(
+    alloc: Global,
+    words: &Words,
+    productions: &[mau_grammar::Production],
+    numbers: &[usize],
+    forms: &mut Vec<Production>,
+) -> Result<(), NoMemory>
+    requires { length words.now ≤ 1000 }
+    ensures { OnOk result (PutsForms words.now productions.now numbers.now forms.old.items forms.new.items) }
+{
+    for number in numbers {
+        push_form(alloc, words, productions, *number, forms)?;
+    }
+    Ok(())
+}
+
+/// The productions for a chart of these words: those by which these may be read. They are looked up by the words, so those whose
+/// words aren't there cost nothing.
+pub fn forms_of(
+    alloc: Global,
+    words: &Words,
+    grammar: &Grammar,
 ) -> Result<Vec<Production>, NoMemory>
     requires { length words.now ≤ 1000 }
-    ensures { IfOk result (λ forms. AreFormsOf words.now productions.now forms.items) }
+    ensures shaped { IfOk result (λ _. All IsShaped grammar.now.productions) }
+    ensures forms { IfOk result (λ forms. AreFormsOf words.now grammar.now.productions forms.items) }
 {
-    let mut forms = Vec::with_capacity(alloc, productions.len())?;
-    for production in productions {
-        forms.push(form_of(alloc, words, production)?)?;
+    let productions = grammar.productions();
+    let mut forms = Vec::new(alloc);
+    push_forms(alloc, words, productions, grammar.wordless(), &mut forms)?;
+    for i in 0..words.len() {
+        let word = words.text(i);
+        if word_number(words, word) == i {
+            push_forms(alloc, words, productions, grammar.keyed(word), &mut forms)?;
+        }
     }
     Ok(forms)
 }

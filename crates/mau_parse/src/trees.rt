@@ -58,7 +58,7 @@ pub fn find(
     ensures found { IfOk result (λ r. IsFound grammar.now words.now goal r.0 r.2) }
 {
     let (leaves, pairs) = leaves_of(alloc, grammar, words)?;
-    let forms = forms_of(alloc, words, grammar.productions())?;
+    let forms = forms_of(alloc, words, grammar)?;
     let before = words.len() + 1;
     let low = before + lowest_kind(grammar, goal);
     let high = before + highest_kind(grammar, goal);

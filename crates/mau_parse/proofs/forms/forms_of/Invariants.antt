@@ -1,6 +1,5 @@
-use Rattle.std.proofs.Common.{take}
-use Rattle.mau_parse.specs.Charted.{AreFormsOf}
+use Rattle.mau_parse.specs.Forms.{HasFormsTo}
 use Rattle.mau_parse.proofs.forms.forms_of.Given as goal
 
-abbrev pub invariant-loop-production : goal.invariant-loop-production
-invariant-loop-production l = AreFormsOf l.words (take l.production-index l.productions) l.forms.items
+abbrev pub invariant-loop-i : goal.invariant-loop-i
+invariant-loop-i l = HasFormsTo l.words l.productions l.i l.forms.items
