@@ -23,7 +23,7 @@ fn are_digits(text: &str) -> bool
 }
 
 /// The number from 1 to 1,000,000,000,000 that a text is.
-fn bound_in(text: &str) -> Option<u64>
+pub fn bound_in(text: &str) -> Option<u64>
     ensures { result ≡ Bounds.bound_in text.now }
 {
     if !are_digits(text) {

@@ -1,12 +1,42 @@
 //! What the words of the command line mean.
 ghost use Rattle.std.specs.Prelude.{◌≡◌};
+ghost use Rattle.mau_session.specs.Meanings;
 ghost use Rattle.mau_session.specs.Meanings.{has_meaning};
 
+use crate::bounds::bound_in;
 use mau_terms::Text;
 
-/// Whether the words of the command line, without the program's name, have a meaning: only `run` has one so far.
+/// The budget of rewrites of each item where none is given.
+const DEFAULT_BUDGET: u64 = 1_000_000;
+
+/// A budget that is given: decimal digits without a leading 0, a number from 1 to 1,000,000,000,000.
+fn budget_in(word: &str) -> Option<u64>
+    ensures { result ≡ Meanings.budget_in word.now }
+{
+    let bytes = word.as_bytes();
+    if !bytes.is_empty() && bytes[0] == b'0' {
+        return None;
+    }
+    bound_in(word)
+}
+
+/// The budget of the session that the words of the command line, without the program's name, ask for. None where they have no meaning.
+fn budget_of(words: &[Text]) -> Option<u64>
+    ensures { result ≡ Meanings.budget_of words.now }
+{
+    if words.len() == 1 && words[0].as_str() == "run" {
+        return Some(DEFAULT_BUDGET);
+    }
+    if words.len() == 3 && words[0].as_str() == "run" && words[1].as_str() == "--limit" {
+        return budget_in(words[2].as_str());
+    }
+    None
+}
+
+/// Whether the words of the command line have a meaning: `run` alone, or `run`, `--limit` and a budget. No command evaluates yet, so no
+/// budget is used up.
 pub fn have_meaning(words: &[Text]) -> bool
     ensures { result ≡ has_meaning words.now }
 {
-    words.len() == 1 && words[0].as_str() == "run"
+    budget_of(words).is_some()
 }

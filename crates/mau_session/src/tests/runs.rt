@@ -50,6 +50,33 @@ fn reads_nothing_behind_an_item_that_quits(rt: HostRuntime) -> Result<(), Fail> 
 }
 
 #[test]
+fn takes_a_budget(rt: HostRuntime) -> Result<(), Fail> {
+    for budget in ["1", "1000000", "1000000000000"] {
+        let (bytes, status) = answer(rt.alloc(), &["run", "--limit", budget], "fmod A is endfm")?;
+        assert_eq!(rt; bytes.as_slice(), b"[1] module A\n".as_slice());
+        assert_eq!(rt; status, Status::Done);
+    }
+    for budget in [
+        "", "0", "01", "+1", "1 ", "1000000000001", "18446744073709551617", "x",
+    ] {
+        let (bytes, status) = answer(rt.alloc(), &["run", "--limit", budget], "fmod A is endfm")?;
+        assert!(rt; bytes.is_empty(), "nothing is written");
+        assert_eq!(rt; status, Status::Usage);
+    }
+    for words in [
+        ["run", "--limit=1"].as_slice(),
+        ["run", "--limit"].as_slice(),
+        ["--limit", "1", "run"].as_slice(),
+        ["run", "--limit", "1", "1"].as_slice(),
+    ] {
+        let (bytes, status) = answer(rt.alloc(), words, "fmod A is endfm")?;
+        assert!(rt; bytes.is_empty(), "nothing is written");
+        assert_eq!(rt; status, Status::Usage);
+    }
+    Ok(())
+}
+
+#[test]
 fn has_a_cause_for_each_status(rt: HostRuntime) -> Result<(), Fail> {
     let (bytes, status) = answer(rt.alloc(), &["run", "x"], F)?;
     assert!(rt; bytes.is_empty(), "nothing is written");
