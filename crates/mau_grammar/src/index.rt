@@ -91,10 +91,7 @@ fn wordless(alloc: Global, productions: &[Production]) -> Result<Vec<usize>, NoM
 }
 
 /// Numbers by the words that they stand with.
-fn grouped(
-    alloc: Global,
-    keys: &[(Text, usize)],
-) -> Result<HashMap<String, Vec<usize>>, NoMemory>
+fn grouped(alloc: Global, keys: &[(Text, usize)]) -> Result<HashMap<String, Vec<usize>>, NoMemory>
     ensures { IfOk result (λ groups. (w : List ℕ) → option_map_or (λ ns. ns.items) (get_by_text groups w) [] ≡ numbers_with w keys.now) }
 {
     let mut groups: HashMap<String, Vec<usize>> = HashMap::new(alloc);

@@ -225,11 +225,7 @@ fn finds_productions_by_their_keys(rt: HostRuntime) -> Result<(), Fail> {
     assert_eq!(rt; sums.keyed(".T"), [3usize].as_slice());
     assert!(rt; sums.keyed("T").is_empty());
     assert!(rt; sums.wordless().is_empty());
-    let lists = grammar(
-        &rt,
-        alloc,
-        op(alloc, &["_", "_"], &[0, 0], Attrs::none())?,
-    )?;
+    let lists = grammar(&rt, alloc, op(alloc, &["_", "_"], &[0, 0], Attrs::none())?)?;
     assert_eq!(rt; lists.wordless(), [0usize].as_slice());
     Ok(())
 }

@@ -57,7 +57,14 @@ fn takes_a_budget(rt: HostRuntime) -> Result<(), Fail> {
         assert_eq!(rt; status, Status::Done);
     }
     for budget in [
-        "", "0", "01", "+1", "1 ", "1000000000001", "18446744073709551617", "x",
+        "",
+        "0",
+        "01",
+        "+1",
+        "1 ",
+        "1000000000001",
+        "18446744073709551617",
+        "x",
     ] {
         let (bytes, status) = answer(rt.alloc(), &["run", "--limit", budget], "fmod A is endfm")?;
         assert!(rt; bytes.is_empty(), "nothing is written");
