@@ -55,11 +55,11 @@ module _ (ms : List ModuleOf) (f : Frame) (t : TableOf) where
   }
 
   pub made_of_table : (number : ℕ) (s : SignatureOf) (g : GrammarOf) (decls : List Decl) (n : Counts) (all : StatementsOf) → number ≡ length ms
-      → s ≡ signature_over (table_given ms f t) → g ≡ grammar_of s f.names [] → decls ≡ t.declarations → n ≡ counts_of (carried ms f.names s f.parts)
+      → s ≡ signature_over (table_given ms f t) → g ≡ grammar_of s f.names t.variables → decls ≡ t.declarations → n ≡ counts_of (carried ms f.names s f.parts)
       → all ≡ and_more (carried ms f.names s f.parts) (table_statements t) → made number s g decls all (behind n all) ≡ table_module ms f t
   made_of_table number s g decls n all l e r d c w =
       let its : behind n all ≡ table_statements t = ap₂ behind c w ∙ behind_parts (carried ms f.names s f.parts) (table_statements t) in
       ap (λ x. made x s g decls all (behind n all)) l
       ∙ ap₂ (λ x y. made (length ms) s x y all (behind n all)) r d
-      ∙ ap₂ (λ x y. made (length ms) s (grammar_of s f.names []) t.declarations x y) w its
-      ∙ ap (λ x. made (length ms) x (grammar_of x f.names []) t.declarations (and_more (carried ms f.names x f.parts) (table_statements t)) (table_statements t)) e
+      ∙ ap₂ (λ x y. made (length ms) s (grammar_of s f.names t.variables) t.declarations x y) w its
+      ∙ ap (λ x. made (length ms) x (grammar_of x f.names t.variables) t.declarations (and_more (carried ms f.names x f.parts) (table_statements t)) (table_statements t)) e

@@ -29,7 +29,7 @@ table_given ms f t = given_over ms f.parts f.names (hierarchy_over ms f.parts f.
 abbrev pub table_statements : TableOf → StatementsOf
 table_statements t = record { equations = t.equations; memberships = []; rules = [] }
 
--- the module of a table, in which no variable is declared
+-- the module of a table
 abbrev pub table_module : List ModuleOf → Frame → TableOf → ModuleOf
 table_module ms f t = let s = signature_over (table_given ms f t) in record {
   name = t.name;
@@ -37,7 +37,7 @@ table_module ms f t = let s = signature_over (table_given ms f t) in record {
   parts = all_parts ms f.parts;
   sorts = f.names;
   signature = s;
-  grammar = grammar_of s f.names [];
+  grammar = grammar_of s f.names t.variables;
   statements = and_more (carried ms f.names s f.parts) (table_statements t);
   own = record { pairs = t.pairs; declarations = t.declarations; statements = table_statements t };
 }

@@ -17,6 +17,8 @@ mod prelude;
 mod signing;
 mod statements;
 mod tables;
+#[cfg(test)]
+mod tests;
 mod truth;
 
 pub use fault::{Limit, ModuleFault};

@@ -25,6 +25,7 @@ use crate::statements::Statements;
 use crate::tables::carried;
 use mau_api::Equation;
 use mau_declare::{Names, lower_sorts};
+use mau_grammar::Alias;
 use mau_poset::{MAX_SORTS, Poset};
 use mau_prelude::{PreludeModule, table};
 use mau_signature::Decl;
@@ -103,6 +104,18 @@ fn have_sorts(poset: &Poset, decls: &[Decl]) -> bool
     true
 }
 
+/// Whether the sorts of declared variables are there.
+fn are_over(poset: &Poset, variables: &[Alias]) -> bool
+    ensures { result ≡ true → All (λ alias. IsSort poset.now alias.sort) variables.now }
+{
+    for alias in variables {
+        if !is_sort(poset, alias.sort) {
+            return false;
+        }
+    }
+    true
+}
+
 /// Whether pairs name sorts that are there.
 fn are_within(sorts: usize, pairs: &[(u32, u32)]) -> bool
     ensures { result ≡ true → IsWithin pairs.now sorts }
@@ -159,7 +172,7 @@ fn sign_table(
     }
 }
 
-/// The module with this frame that declares these pairs, operators and equations itself.
+/// The module with this frame that declares these pairs, operators, variables and equations itself.
 fn make_module(
     alloc: Global,
     library: &Library,
@@ -167,12 +180,13 @@ fn make_module(
     name: Text,
     pairs: Vec<(u32, u32)>,
     declarations: Vec<Decl>,
+    variables: Vec<Alias>,
     equations: Vec<Equation>,
 ) -> Result<Module, NoMemory>
     requires depth { frame.depth ≤ MAX_DEPTH }
     requires parts { All (λ p. p < length library.now) frame.parts }
     requires known { AreKnown library.now frame.names frame.parts }
-    ensures { (sorts : List (List ℕ)) → IfOk result (λ m. m ≡ table_module library.now frame (record { name = name; sorts = sorts; pairs = pairs.items; declarations = declarations.items; equations = equations.items })) }
+    ensures { (sorts : List (List ℕ)) → IfOk result (λ m. m ≡ table_module library.now frame (record { name = name; sorts = sorts; pairs = pairs.items; declarations = declarations.items; variables = variables.items; equations = equations.items })) }
 {
     let signed = sign_table(
         alloc,
@@ -182,7 +196,10 @@ fn make_module(
         &pairs,
         declarations,
     )?;
-    let grammar = grammar_over(alloc, &frame.names, &signed.signature, &[])?;
+    if !are_over(signed.signature.poset(), &variables) {
+        return Err(NoMemory);
+    }
+    let grammar = grammar_over(alloc, &frame.names, &signed.signature, &variables)?;
     let mut statements = carried(
         alloc,
         library,
@@ -228,6 +245,7 @@ fn table_module(
         table.name,
         table.pairs,
         table.declarations,
+        table.variables,
         table.equations,
     )
 }

@@ -3,8 +3,9 @@ use Rattle.std.specs.Prelude.{List, [], ◌∷◌, true, Some, codes}
 use Rattle.mau_signature.specs.Attributes.{no_attributes}
 use Rattle.mau_signature.specs.declared.attributes.Gather.TheVariants.{Upto, Below}
 use Rattle.mau_signature.specs.declared.decl.Decl.{Decl}
+use Rattle.mau_grammar.specs.declared.aliases.Alias.{Alias}
 use Rattle.mau_api.specs.declared.statements.Equation.{Equation}
-use Rattle.mau_prelude.specs.Rows.{bool, word_form, prefix_form, infix_form, declare, a, b, c, true_term, false_term, and, or, xor, not, implies, of_a, of_ab, of_abc, equation}
+use Rattle.mau_prelude.specs.Rows.{bool, word_form, prefix_form, infix_form, declare, declare_variable, a, b, c, true_term, false_term, and, or, xor, not, implies, of_a, of_ab, of_abc, equation}
 
 abbrev pub constants : List Decl
 constants =
@@ -27,7 +28,14 @@ connectives =
     ∷ declare (infix_form (codes "implies")) (bool ∷ bool ∷ []) bool (record no_attributes { prec = Some 61; gather = Some (Below ∷ Upto ∷ []) })
     ∷ []
 
--- vars A B C : Bool .
+abbrev pub variables : List Alias
+variables =
+    -- vars A B C : Bool .
+    declare_variable (codes "A") bool
+    ∷ declare_variable (codes "B") bool
+    ∷ declare_variable (codes "C") bool
+    ∷ []
+
 -- An operator binds its arguments by its precedence, and xor, which is associative, nests to the right.
 abbrev pub equations_of_and_and_xor : List Equation
 equations_of_and_and_xor =

@@ -7,6 +7,7 @@ use Rattle.mau_signature.specs.declared.attributes.Attrs.{Attrs}
 use Rattle.mau_signature.specs.declared.decl.Decl.{Decl}
 use Rattle.mau_signature.specs.declared.form.Piece.{Piece}
 use Rattle.mau_signature.specs.declared.form.Piece.TheVariants.{Hole, Word}
+use Rattle.mau_grammar.specs.declared.aliases.Alias.{Alias}
 use Rattle.mau_api.specs.declared.statements.Equation.{Equation}
 
 -- ---- sorts, by their numbers in the whole module
@@ -40,6 +41,10 @@ infix_form w = Hole ∷ Word w ∷ Hole ∷ []
 -- a form, the sorts of the arguments, the sort of the result, attributes
 abbrev pub declare : List Piece → List ℕ → ℕ → Attrs → Decl
 declare form args sort attrs = record { form = form; args = args; result = sort; attrs = attrs }
+
+-- a declared variable: its name and its sort
+abbrev pub declare_variable : List ℕ → ℕ → Alias
+declare_variable name sort = record { name = name; sort = sort }
 
 -- ---- terms of truth values
 

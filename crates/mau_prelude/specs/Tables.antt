@@ -2,18 +2,21 @@
 -- has also what its imports declare.
 use Rattle.std.specs.Prelude.{ℕ, List, [], ◌∷◌, ◌++◌, codes}
 use Rattle.mau_signature.specs.declared.decl.Decl.{Decl}
+use Rattle.mau_grammar.specs.declared.aliases.Alias.{Alias}
 use Rattle.mau_api.specs.declared.statements.Equation.{Equation}
-use Rattle.mau_prelude.specs.Booleans.{constants, connectives, equations_of_and_and_xor, equations_that_reduce_to_xor}
+use Rattle.mau_prelude.specs.Booleans.{constants, connectives, variables, equations_of_and_and_xor, equations_that_reduce_to_xor}
 use Rattle.mau_prelude.specs.Numbers.{number_pairs, sums, products, choices, comparisons}
 use Rattle.mau_prelude.specs.declared.module.PreludeModule.{PreludeModule}
 use Rattle.mau_prelude.specs.declared.module.PreludeModule.TheVariants.{TruthValue, Truth, Bool, Nat}
 
--- what a module declares: its name, its sorts in order, the pairs of a sort and one directly above it, its operators and its equations
+-- what a module declares: its name, its sorts in order, the pairs of a sort and one directly above it, its operators, its variables and its
+-- equations
 pub record TableOf : Type 0 where
   pub name : List ℕ
   pub sorts : List (List ℕ)
   pub pairs : List (ℕ × ℕ)
   pub declarations : List Decl
+  pub variables : List Alias
   pub equations : List Equation
 
 abbrev pub table_of : PreludeModule → TableOf
@@ -23,6 +26,7 @@ table_of TruthValue = record {
   sorts = codes "Bool" ∷ [];
   pairs = [];
   declarations = constants;
+  variables = [];
   equations = [];
 }
 -- fmod TRUTH is protecting TRUTH-VALUE . endfm
@@ -31,14 +35,16 @@ table_of Truth = record {
   sorts = [];
   pairs = [];
   declarations = [];
+  variables = [];
   equations = [];
 }
--- fmod BOOL is protecting TRUTH . and its operators and equations
+-- fmod BOOL is protecting TRUTH . and its operators, variables and equations
 table_of Bool = record {
   name = codes "BOOL";
   sorts = [];
   pairs = [];
   declarations = connectives;
+  variables = variables;
   equations = equations_of_and_and_xor ++ equations_that_reduce_to_xor;
 }
 -- fmod NAT is protecting BOOL . sorts Zero NzNat Nat . and its operators
@@ -47,5 +53,6 @@ table_of Nat = record {
   sorts = codes "Zero" ∷ codes "NzNat" ∷ codes "Nat" ∷ [];
   pairs = number_pairs;
   declarations = sums ++ (products ++ (choices ++ comparisons));
+  variables = [];
   equations = [];
 }

@@ -1,8 +1,9 @@
-//! The declarations of the modules of truth values.
+//! The declarations of the modules of truth values, and their variables.
 ghost use Rattle.std.specs.Prelude.{◌≡◌, IfOk};
-ghost use Rattle.mau_prelude.specs.Booleans.{constants, connectives};
+ghost use Rattle.mau_prelude.specs.Booleans.{constants, connectives, variables};
 
-use crate::rows::{BOOL, Rows, assoc_comm_at, gathering, precedence};
+use crate::rows::{BOOL, Rows, assoc_comm_at, gathering, precedence, variable};
+use mau_grammar::Alias;
 use mau_signature::{Decl, Gather};
 use mau_terms::NoMemory;
 use std::alloc::Global;
@@ -27,4 +28,15 @@ pub fn connectives(alloc: Global) -> Result<Vec<Decl>, NoMemory>
     let to_the_right = gathering(alloc, 61, Gather::Below, Gather::Upto)?;
     rows.between("implies", [BOOL, BOOL], BOOL, to_the_right)?;
     Ok(rows.list)
+}
+
+// The variables of `BOOL`.
+pub fn boolean_variables(alloc: Global) -> Result<Vec<Alias>, NoMemory>
+    ensures { IfOk result (λ rows. rows.items ≡ variables) }
+{
+    let mut rows = Vec::new(alloc);
+    rows.push(variable(alloc, "A", BOOL)?)?;
+    rows.push(variable(alloc, "B", BOOL)?)?;
+    rows.push(variable(alloc, "C", BOOL)?)?;
+    Ok(rows)
 }

@@ -2,12 +2,13 @@
 ghost use Rattle.std.specs.Prelude.{◌≡◌, IfOk};
 ghost use Rattle.mau_prelude.specs.Tables.{table_of};
 
-use crate::booleans::{connectives, constants};
+use crate::booleans::{boolean_variables, connectives, constants};
 use crate::equations::boolean_equations;
 use crate::numbers::number_declarations;
 use crate::rows::{NAT, NZ_NAT, ZERO};
 use crate::{PreludeModule, Table};
 use mau_api::Equation;
+use mau_grammar::Alias;
 use mau_signature::Decl;
 use mau_terms::{NoMemory, Text};
 use std::alloc::Global;
@@ -58,6 +59,15 @@ fn declarations(alloc: Global, module: PreludeModule) -> Result<Vec<Decl>, NoMem
     }
 }
 
+fn variables(alloc: Global, module: PreludeModule) -> Result<Vec<Alias>, NoMemory>
+    ensures { IfOk result (λ rows. rows.items ≡ (table_of «module»).variables) }
+{
+    match module {
+        PreludeModule::Bool => boolean_variables(alloc),
+        _ => Ok(Vec::new(alloc)),
+    }
+}
+
 fn equations(alloc: Global, module: PreludeModule) -> Result<Vec<Equation>, NoMemory>
     ensures { IfOk result (λ rows. rows.items ≡ (table_of «module»).equations) }
 {
@@ -73,6 +83,7 @@ pub fn table(alloc: Global, module: PreludeModule) -> Result<Table, NoMemory>
     ensures sorts { IfOk result (λ t. t.sorts.items ≡ (table_of «module»).sorts) }
     ensures pairs { IfOk result (λ t. t.pairs.items ≡ (table_of «module»).pairs) }
     ensures declarations { IfOk result (λ t. t.declarations.items ≡ (table_of «module»).declarations) }
+    ensures variables { IfOk result (λ t. t.variables.items ≡ (table_of «module»).variables) }
     ensures equations { IfOk result (λ t. t.equations.items ≡ (table_of «module»).equations) }
 {
     Ok(Table {
@@ -80,6 +91,7 @@ pub fn table(alloc: Global, module: PreludeModule) -> Result<Table, NoMemory>
         sorts: sorts(alloc, module)?,
         pairs: pairs(alloc, module)?,
         declarations: declarations(alloc, module)?,
+        variables: variables(alloc, module)?,
         equations: equations(alloc, module)?,
     })
 }

@@ -1,6 +1,7 @@
 //! The modules of the prelude, and what a module declares.
 
 use mau_api::Equation;
+use mau_grammar::Alias;
 use mau_signature::Decl;
 use mau_terms::Text;
 
@@ -28,6 +29,8 @@ pub struct Table {
     pub pairs: Vec<(u32, u32)>,
     /// The declarations of operators in order.
     pub declarations: Vec<Decl>,
+    /// The declared variables in order.
+    pub variables: Vec<Alias>,
     /// The equations in order.
     pub equations: Vec<Equation>,
 }

@@ -1,8 +1,9 @@
-//! The rows of the tables: sorts, declarations and attributes.
+//! The rows of the tables: sorts, declarations, attributes and variables.
 ghost use Rattle.std.specs.Prelude.{◌≡◌, ◌++◌, [], ◌∷◌, true, IfOk, OnOk};
 ghost use Rattle.mau_signature.specs.Attributes.{no_attributes};
-ghost use Rattle.mau_prelude.specs.Rows.{word_form, prefix_form, infix_form, declare};
+ghost use Rattle.mau_prelude.specs.Rows.{word_form, prefix_form, infix_form, declare, declare_variable};
 
+use mau_grammar::Alias;
 use mau_signature::{Attrs, Decl, Form, Gather, Piece};
 use mau_terms::{NoMemory, Seq, Text};
 use std::alloc::Global;
@@ -203,5 +204,15 @@ pub fn native(alloc: Global, attrs: Attrs, name: &str) -> Result<Attrs, NoMemory
     Ok(Attrs {
         builtin: Some(Text::new(alloc, name)?),
         ..attrs
+    })
+}
+
+// A declared variable.
+pub fn variable(alloc: Global, name: &str, sort: u32) -> Result<Alias, NoMemory>
+    ensures { IfOk result (λ v. v ≡ declare_variable name.now sort) }
+{
+    Ok(Alias {
+        name: Text::new(alloc, name)?,
+        sort,
     })
 }

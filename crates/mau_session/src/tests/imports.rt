@@ -220,6 +220,10 @@ fn matches_in_the_module_of_numbers(rt: HostRuntime) -> Result<(), Fail> {
             "match in BOOL\nMatcher 1\nA:Bool --> not false\nNo more matches.\n",
         ),
         (
+            "match in BOOL : A <=? true .",
+            "match in BOOL\nMatcher 1\nA:Bool --> true\nNo more matches.\n",
+        ),
+        (
             "match in TRUTH : X:Bool == Y:Bool <=? true == false .",
             "match in TRUTH\nMatcher 1\nX:Bool --> true\nY:Bool --> false\nNo more matches.\n",
         ),

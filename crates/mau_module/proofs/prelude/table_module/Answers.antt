@@ -2,6 +2,7 @@ use Rattle.std.proofs.Common.{◌≡◌, ℕ, List, [], ap, ap₂, ◌∙◌}
 use Rattle.std.specs.Prelude.{fold}
 use Rattle.std.proofs.lemmas.Result.{IfOk-weaker}
 use Rattle.mau_signature.specs.declared.decl.Decl.{Decl}
+use Rattle.mau_grammar.specs.declared.aliases.Alias.{Alias}
 use Rattle.mau_api.specs.declared.statements.Equation.{Equation}
 use Rattle.mau_prelude.specs.Tables.{TableOf, table_of}
 use Rattle.mau_declare.specs.Names.{with_name}
@@ -17,17 +18,19 @@ pub returns-clause-value : goal.returns-clause-value
 returns-clause-value c =
     let ms = c.args.library.now in
     let t = table_of c.args.«module» in
-    let each : List ℕ → List (ℕ × ℕ) → List Decl → List Equation → TableOf = λ x y z w. record { name = x; sorts = t.sorts; pairs = y; declarations = z; equations = w } in
+    let each : List ℕ → List (ℕ × ℕ) → List Decl → List Alias → List Equation → TableOf = λ x y z v w. record { name = x; sorts = t.sorts; pairs = y; declarations = z; variables = v; equations = w } in
     let over : List (List ℕ) → Frame = λ xs. record { depth = depth_over ms c.args.imports.now; parts = parts_of ms c.args.imports.now; names = fold with_name (sorts_of ms (parts_of ms c.args.imports.now)) xs } in
     let e = c.in_ok-table.ensures in
     let frame : c.in_ok-frame.frame ≡ table_frame ms c.args.imports.now t = c.in_ok-frame.ensures.frame ∙ ap over (c.deref.ensures.value ∙ e.sorts) in
     if_ok_is c.make_module.result
-    (table_module ms c.in_ok-frame.frame (each c.in_ok-table.table.name c.in_ok-table.table.pairs.items c.in_ok-table.table.declarations.items c.in_ok-table.table.equations.items))
+    (table_module ms c.in_ok-frame.frame (each c.in_ok-table.table.name c.in_ok-table.table.pairs.items c.in_ok-table.table.declarations.items c.in_ok-table.table.variables.items c.in_ok-table.table.equations.items))
     (table_module ms (table_frame ms c.args.imports.now t) t)
     (c.make_module.ensures t.sorts)
-    (ap (λ x. table_module ms x (each c.in_ok-table.table.name c.in_ok-table.table.pairs.items c.in_ok-table.table.declarations.items c.in_ok-table.table.equations.items)) frame
+    (ap (λ x. table_module ms x (each c.in_ok-table.table.name c.in_ok-table.table.pairs.items c.in_ok-table.table.declarations.items c.in_ok-table.table.variables.items c.in_ok-table.table.equations.items)) frame
     ∙ ap (table_module ms (table_frame ms c.args.imports.now t))
-    (ap₂ (λ x y. each x y c.in_ok-table.table.declarations.items c.in_ok-table.table.equations.items) e.name e.pairs ∙ ap₂ (λ x y. each t.name t.pairs x y) e.declarations e.equations))
+    (ap₂ (λ x y. each x y c.in_ok-table.table.declarations.items c.in_ok-table.table.variables.items c.in_ok-table.table.equations.items) e.name e.pairs
+    ∙ ap (λ x. each t.name t.pairs x c.in_ok-table.table.variables.items c.in_ok-table.table.equations.items) e.declarations
+    ∙ ap₂ (each t.name t.pairs t.declarations) e.variables e.equations))
 
 pub returns-clause-next : goal.returns-clause-next
 returns-clause-next c =
