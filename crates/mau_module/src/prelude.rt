@@ -3,10 +3,12 @@ ghost use Rattle.std.specs.Prelude.{◌≡◌, ◌<◌, ◌≤◌, ℕ, List, le
 ghost use Rattle.mau_poset.specs.Order.{IsWithin};
 ghost use Rattle.mau_poset.specs.declared.TheConstants.{MAX_SORTS};
 ghost use Rattle.mau_signature.specs.Faults.{HasSorts, IsSort};
+ghost use Rattle.mau_grammar.specs.Grammar.{grammar_of};
 ghost use Rattle.mau_declare.specs.Names.{with_name};
 ghost use Rattle.mau_declare.specs.Flattened.{AreLower};
 ghost use Rattle.mau_prelude.specs.Tables.{table_of};
 ghost use Rattle.mau_signed.specs.Signed.{signature_over};
+ghost use Rattle.mau_statement.specs.Context.{IsItsGrammar};
 ghost use Rattle.mau_module.specs.Known.{AreKnown};
 ghost use Rattle.mau_module.specs.Included.{depth_over, parts_of, sorts_of};
 ghost use Rattle.mau_module.specs.Declarations.{hierarchy_over, given_over};
@@ -25,10 +27,10 @@ use crate::statements::Statements;
 use crate::tables::carried;
 use mau_api::Equation;
 use mau_declare::{Names, lower_sorts};
-use mau_grammar::Alias;
+use mau_grammar::{Alias, Grammar};
 use mau_poset::{MAX_SORTS, Poset};
 use mau_prelude::{PreludeModule, table};
-use mau_signature::Decl;
+use mau_signature::{Decl, Signature};
 use mau_signed::order_sorts;
 use mau_terms::{NoMemory, Text};
 use std::alloc::Global;
@@ -172,6 +174,23 @@ fn sign_table(
     }
 }
 
+/// The grammar of a module of the prelude that declares these variables. Where the sort of one isn't there, there is none.
+fn table_grammar(
+    alloc: Global,
+    names: &Names,
+    signature: &Signature,
+    variables: &[Alias],
+) -> Result<Grammar, NoMemory>
+    requires { length names.now ≡ signature.now.hierarchy.sorts }
+    ensures value { IfOk result (λ g. g ≡ grammar_of signature.now names.now variables.now) }
+    ensures kept { IfOk result (IsItsGrammar names.now signature.now) }
+{
+    if !are_over(signature.poset(), variables) {
+        return Err(NoMemory);
+    }
+    grammar_over(alloc, names, signature, variables)
+}
+
 /// The module with this frame that declares these pairs, operators, variables and equations itself.
 fn make_module(
     alloc: Global,
@@ -196,10 +215,7 @@ fn make_module(
         &pairs,
         declarations,
     )?;
-    if !are_over(signed.signature.poset(), &variables) {
-        return Err(NoMemory);
-    }
-    let grammar = grammar_over(alloc, &frame.names, &signed.signature, &variables)?;
+    let grammar = table_grammar(alloc, &frame.names, &signed.signature, &variables)?;
     let mut statements = carried(
         alloc,
         library,

@@ -1,4 +1,4 @@
-use Rattle.std.proofs.Common.{◌<◌, [], length, refl, sym, ap, ap₂, subst, ◌∙◌}
+use Rattle.std.proofs.Common.{◌<◌, length, refl, sym, ap, ap₂, subst, ◌∙◌}
 use Rattle.std.specs.Prelude.{All}
 use Rattle.mau_prelude.specs.Tables.{TableOf}
 use Rattle.mau_signed.specs.Signed.{signature_over}
@@ -15,10 +15,10 @@ sign_table-requires-clause-known c = known_in c.args.library.now c.args.frame _ 
 
 pub carried-requires-clause-parts : goal.carried-requires-clause-parts
 carried-requires-clause-parts c =
-    subst (All (λ p. p < length c.args.library.now)) (sym (c.deref-3.ensures.value ∙ ap (λ (x : Frame). x.parts) c.frame.view_is)) c.requires.parts
+    subst (All (λ p. p < length c.args.library.now)) (sym (c.deref-4.ensures.value ∙ ap (λ (x : Frame). x.parts) c.frame.view_is)) c.requires.parts
 
 pub carried-requires-clause-known : goal.carried-requires-clause-known
-carried-requires-clause-known c = known_in c.args.library.now c.args.frame _ c.deref-3.result.now c.frame.view_is c.deref-3.ensures.value c.requires.known
+carried-requires-clause-known c = known_in c.args.library.now c.args.frame _ c.deref-4.result.now c.frame.view_is c.deref-4.ensures.value c.requires.known
 
 pub returns : goal.returns
 returns c = λ sorts.
@@ -27,11 +27,11 @@ returns c = λ sorts.
     let t : TableOf = record { name = c.args.name; sorts = sorts; pairs = c.args.pairs.items; declarations = c.args.declarations.items; variables = c.args.variables.items; equations = c.args.equations.items } in
     let s = c.in_ok-signed.signed.signature in
     let names = ap (λ (x : Frame). x.names) c.frame.view_is in
-    let whole = c.in_ok-statements.ensures ∙ carried_as ms f t c.frame.inside.names c.deref-3.result.now s names (c.deref-3.ensures.value ∙ ap (λ (x : Frame). x.parts) c.frame.view_is) in
+    let whole = c.in_ok-statements.ensures ∙ carried_as ms f t c.frame.inside.names c.deref-4.result.now s names (c.deref-4.ensures.value ∙ ap (λ (x : Frame). x.parts) c.frame.view_is) in
     if_ok_is c.new.result (made ms f t c.len.result s c.in_ok-grammar.grammar c.in_ok-signed.signed.own.items c.append.new.self (behind c.counts-included.result c.append.new.self)) (table_module ms f t) c.new.ensures
     (made_of_table ms f t c.len.result s c.in_ok-grammar.grammar c.in_ok-signed.signed.own.items c.counts-included.result c.append.new.self c.len.ensures.count
     (c.in_ok-signed.ensures.signature ∙ ap signature_over (given_as ms f t c.frame.inside.names c.deref.result.now c.deref-2.result.now c.args.declarations.items names
     (c.deref.ensures.value ∙ ap (λ (x : Frame). x.parts) c.frame.view_is) c.deref-2.ensures.value refl))
-    (c.in_ok-grammar.ensures.value ∙ ap₂ (grammar_of s) names c.deref-4.ensures.value) c.in_ok-signed.ensures.own
+    (c.in_ok-grammar.ensures.value ∙ ap₂ (grammar_of s) names c.deref-3.ensures.value) c.in_ok-signed.ensures.own
     (c.counts-included.ensures ∙ ap counts_of whole)
     (c.in_ok-append.ensures ∙ ap (and_more c.in_ok-statements.statements) c.of_equations.ensures ∙ ap (λ x. and_more x (table_statements t)) whole))
