@@ -36,6 +36,6 @@ module _ (h : Hierarchy) (bool kind : ℕ) (b : IsSort h bool) (k : IsSort h kin
   compared sign name = record { arguments = two kind kind k k; result = b }
 
   pub over_kind : (ds : List Decl) → All (HasSorts h) ds → All (HasSorts h) (ds ++ truth_over bool kind)
-  over_kind ds a = All-append (HasSorts h) ds (truth_over bool kind) a (All-append (HasSorts h) (if_declaration bool kind ∷ []) (comparison bool kind (codes "==") (codes "equal") ∷ comparison bool kind (codes "=/=") (codes "unequal") ∷ [])
-      (all_one (HasSorts h) (if_declaration bool kind) choice) (All-append (HasSorts h) (comparison bool kind (codes "==") (codes "equal") ∷ []) (comparison bool kind (codes "=/=") (codes "unequal") ∷ [])
-      (all_one (HasSorts h) (comparison bool kind (codes "==") (codes "equal")) (compared (codes "==") (codes "equal"))) (all_one (HasSorts h) (comparison bool kind (codes "=/=") (codes "unequal")) (compared (codes "=/=") (codes "unequal")))))
+  over_kind ds a = All-append (HasSorts h) ds (truth_over bool kind) a (All-append (HasSorts h) (if_declaration bool kind ∷ []) (comparison bool kind (codes "==") (codes "same") ∷ comparison bool kind (codes "=/=") (codes "differ") ∷ [])
+      (all_one (HasSorts h) (if_declaration bool kind) choice) (All-append (HasSorts h) (comparison bool kind (codes "==") (codes "same") ∷ []) (comparison bool kind (codes "=/=") (codes "differ") ∷ [])
+      (all_one (HasSorts h) (comparison bool kind (codes "==") (codes "same")) (compared (codes "==") (codes "same"))) (all_one (HasSorts h) (comparison bool kind (codes "=/=") (codes "differ")) (compared (codes "=/=") (codes "differ")))))

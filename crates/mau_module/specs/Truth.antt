@@ -16,7 +16,7 @@ if_declaration bool k = record {
   form = if_form;
   args = bool ∷ k ∷ k ∷ [];
   result = k;
-  attrs = record no_attributes { strat = Some (1 ∷ 0 ∷ []); builtin = Some (codes "if") };
+  attrs = record no_attributes { strat = Some (1 ∷ 0 ∷ []); builtin = Some (codes "branch") };
 }
 
 -- `t == u` and `t =/= u`
@@ -33,7 +33,7 @@ comparison bool k sign name = record {
 
 -- those over one kind, and over all kinds in the order of their numbers
 abbrev pub truth_over : ℕ → ℕ → List Decl
-truth_over bool k = if_declaration bool k ∷ comparison bool k (codes "==") (codes "equal") ∷ comparison bool k (codes "=/=") (codes "unequal") ∷ []
+truth_over bool k = if_declaration bool k ∷ comparison bool k (codes "==") (codes "same") ∷ comparison bool k (codes "=/=") (codes "differ") ∷ []
 
 abbrev pub truth_declarations : Hierarchy → ℕ → List Decl
 truth_declarations h bool = flat_map (truth_over bool) (range_with_len h.sorts (kinds h))

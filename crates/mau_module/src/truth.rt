@@ -49,7 +49,7 @@ fn if_declaration(alloc: Global, bool: u32, kind: u32) -> Result<Decl, NoMemory>
         result: kind,
         attrs: Attrs {
             strat: Some(Seq::new(Vec::from_array(alloc, [1, 0])?)),
-            builtin: Some(Text::new(alloc, "if")?),
+            builtin: Some(Text::new(alloc, "branch")?),
             ..Attrs::none()
         },
     })
@@ -85,8 +85,8 @@ fn add_truth_over(
     ensures sorts { OnOk result (All (HasSorts poset.now) decls.old.items → All (HasSorts poset.now) decls.new.items) }
 {
     decls.push(if_declaration(alloc, bool, kind)?)?;
-    decls.push(comparison(alloc, bool, kind, "==", "equal")?)?;
-    decls.push(comparison(alloc, bool, kind, "=/=", "unequal")?)?;
+    decls.push(comparison(alloc, bool, kind, "==", "same")?)?;
+    decls.push(comparison(alloc, bool, kind, "=/=", "differ")?)?;
     Ok(())
 }
 
