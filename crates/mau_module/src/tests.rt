@@ -27,11 +27,20 @@ fn flatten(
     }
 }
 
-/// Enters the module that a text says.
+/// Enters the module that a text of one item says.
 fn enter(alloc: Global, library: &mut Library, text: &str, rt: &impl Abort) -> Result<(), Fail> {
-    match flatten(alloc, library, text, rt)? {
-        Ok(module) => Ok(library.enter(module)?),
-        Err(_) => panic!(rt; "{text} is refused"),
+    assert!(rt; text.len() < 9000);
+    assert!(rt; library.len() >= 4);
+    let found = tokens(alloc, text.as_bytes())?;
+    let items = items(alloc, text.as_bytes(), &found)?;
+    assert_eq!(rt; items.len(), 1);
+    let words = Words::new(text, &found);
+    match &items[0].body {
+        Ok(RawBody::Module(raw)) => match library.flatten(alloc, &words, raw) {
+            Ok(module) => Ok(library.enter(module)?),
+            Err(_) => panic!(rt; "{text} is refused"),
+        },
+        _ => panic!(rt; "{text} is no module"),
     }
 }
 
