@@ -1,5 +1,5 @@
 //! Tests of the crates that list solutions: the values of parts, what a term can take as an argument, and the
-//! listings, over one signature.
+//! listings, over one signature. Without its tests it has what a term can take, by the axioms of the operator.
 #![tactic(auto)]
 
 #[cfg(test)]
@@ -18,5 +18,6 @@ mod notation;
 mod parts;
 #[cfg(test)]
 mod signature;
+pub mod taken;
 #[cfg(test)]
 mod values;

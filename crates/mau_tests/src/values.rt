@@ -1,6 +1,6 @@
 //! Rows of operators, terms and what they can take as an argument, in order, by hand.
-ghost use Rattle.std.specs.Prelude.{◌≡◌, true, IfOk, IfSome};
-ghost use Rattle.mau_terms.specs.Bare.{IsBare, IsBareIn};
+ghost use Rattle.std.specs.Prelude.{IfOk};
+ghost use Rattle.mau_terms.specs.Bare.{IsBareIn};
 ghost use Rattle.mau_terms.specs.Reading.{reading};
 ghost use Rattle.mau_terms.specs.View.{tree_of};
 ghost use Rattle.mau_signature.specs.Signature.{IsOperator, terms_over, theory_at};
@@ -11,36 +11,14 @@ ghost use Rattle.mau_canon.specs.Within.{StandsWithin};
 use crate::asking::numbers;
 use crate::notation::{operator, term};
 use crate::signature::example;
-use mau_acu::acu_values;
-use mau_assoc::assoc_values;
+use crate::taken::{is_of_kind, next_taken};
 use mau_canon::{build_bare, is_bare};
-use mau_free::free_values;
 use mau_signature::Signature;
 use mau_store::Store;
 use mau_terms::{Bare, NoMemory, OpId, TermId};
 use std::alloc::Global;
 use std::process::Abort;
 use std::test::Fail;
-
-/// The kind of the results of an operator.
-fn result_kind(sig: &Signature, op: OpId) -> u32
-    requires { IsOperator sig.now op.0 }
-    ensures { result ≡ (terms_over sig.now).result op.0 }
-{
-    match sig.declarations(op).first() {
-        Some(decl) => sig.poset().kind_of(decl.result),
-        None => unreachable!(),
-    }
-}
-
-/// Whether a term is of the kind of the results of an operator.
-fn is_of_kind(sig: &Signature, op: OpId, term: &Bare) -> bool
-    requires operator { IsOperator sig.now op.0 }
-    requires bare { IsBare (terms_over sig.now) (tree_of term.now) }
-    ensures { result ≡ true → IsBareIn (terms_over sig.now) (tree_of term.now) ((terms_over sig.now).result op.0) }
-{
-    sig.kind(term) == result_kind(sig, op)
-}
 
 /// An operator of the signature, and the number of a subject of the kind of its results.
 fn asked(
@@ -61,32 +39,6 @@ fn asked(
     assert!(rt; is_of_kind(sig, op, subject));
     let id = build_bare(store, sig, subject)?;
     Ok((op, id))
-}
-
-/// The next of what a term can take, by the call for the axioms of the operator.
-fn next_taken(
-    store: &mut Store,
-    sig: &Signature,
-    op: OpId,
-    argument: &Bare,
-    subject: TermId,
-    after: Option<TermId>,
-) -> Result<Option<TermId>, NoMemory>
-    requires operator { IsOperator sig.now op.0 }
-    requires subject { StandsWithin (theory_at sig.now) store.old subject.0 }
-    requires kind { IsBareIn (terms_over sig.now) (reading (theory_at sig.now) (tree_at store.old subject.0)) ((terms_over sig.now).result op.0) }
-    requires after { IfSome after (λ id. StandsWithin (theory_at sig.now) store.old id.0) }
-    ensures within { IfOk result (λ value. IfSome value (λ id. StandsWithin (theory_at sig.now) store.new id.0)) }
-    ensures extends { Extends store.old store.new }
-{
-    let theory = sig.theory(op);
-    if !theory.assoc {
-        free_values(store, sig, op, argument, subject, after)
-    } else if theory.comm {
-        acu_values(store, sig, op, argument, subject, after)
-    } else {
-        assoc_values(store, sig, op, argument, subject, after)
-    }
 }
 
 /// All that a term can take, each behind the one before it, twenty at most.

@@ -2,7 +2,7 @@ use Rattle.std.proofs.Common.{◌≡◌, ◌∙◌, subst, rules, tests}
 use Rattle.mau_terms.specs.Bare.{IsBareIn}
 use Rattle.mau_terms.specs.View.{tree_of}
 use Rattle.mau_signature.specs.Signature.{terms_over}
-use Rattle.mau_tests.proofs.values.is_of_kind.Goals as goal
+use Rattle.mau_tests.proofs.taken.is_of_kind.Goals as goal
 
 pub returns : goal.returns
 returns c h =
