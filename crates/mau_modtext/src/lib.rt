@@ -26,6 +26,3 @@ pub use raw::{
     TextFault,
 };
 pub use word::TokenList;
-
-#[cfg(test)]
-mod tests;

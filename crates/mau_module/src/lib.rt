@@ -17,8 +17,6 @@ mod prelude;
 mod signing;
 mod statements;
 mod tables;
-#[cfg(test)]
-mod tests;
 mod truth;
 
 pub use fault::{Limit, ModuleFault};

@@ -22,6 +22,3 @@ mod words;
 pub use fault::ParseFault;
 pub use goals::Goal;
 pub use reader::parse;
-
-#[cfg(test)]
-mod tests;

@@ -15,6 +15,3 @@ mod texts;
 pub use layout::Layout;
 pub use printer::Printer;
 pub use printing::show;
-
-#[cfg(test)]
-mod tests;

@@ -16,8 +16,6 @@ mod refusal;
 mod settled;
 mod show;
 mod state;
-#[cfg(test)]
-mod tests;
 mod top;
 mod transcript;
 

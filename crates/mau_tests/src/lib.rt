@@ -1,5 +1,5 @@
-//! Tests of the crates that list solutions: the values of parts, what a term can take as an argument, and the
-//! listings, over one signature. Without its tests it has what a term can take, by the axioms of the operator.
+//! Tests over the public calls of several crates: what listings give, over one signature with all axioms, and how terms are read and
+//! printed, over small ones. Without its tests it has what a term can take, by the axioms of the operator.
 #![tactic(auto)]
 
 #[cfg(test)]
@@ -18,6 +18,10 @@ mod notation;
 mod parts;
 #[cfg(test)]
 mod signature;
+#[cfg(test)]
+mod signed;
 pub mod taken;
+#[cfg(test)]
+mod texts;
 #[cfg(test)]
 mod values;

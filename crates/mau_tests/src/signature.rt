@@ -1,13 +1,8 @@
 //! The signature of the tests: an operator of each theory over the sort `Elt` of single elements and the sort `All` of all terms above
 //! it, the numerals, and sixty constants.
-ghost use Rattle.std.specs.Prelude.{◌≡◌, true, All};
-ghost use Rattle.std.specs.List.{list_any};
-ghost use Rattle.mau_poset.specs.Order.{kind_of};
-ghost use Rattle.mau_signature.specs.Faults.{HasSorts, IsSort, IsSuccessorIn, is_successor};
-
+use crate::signed::{form, op, signature, successor};
 use mau_poset::Poset;
-use mau_signature::{Attrs, Decl, Form, IdSpec, MAX_DECLARATIONS, Piece, Signature};
-use mau_terms::{Seq, Text};
+use mau_signature::{Attrs, Decl, IdSpec, Signature};
 use std::alloc::Global;
 use std::process::Abort;
 use std::test::Fail;
@@ -55,35 +50,13 @@ pub const FIRST: u32 = 17;
 /// The words of the sixty constants' names.
 const WORDS: [&str; 8] = ["p", "q", "r", "s", "t", "u", "v", "w"];
 
-fn form(alloc: Global, words: &[&str]) -> Result<Form, Fail> {
-    let mut pieces = Vec::new(alloc);
-    for word in words {
-        pieces.push(Piece::Word(Text::new(alloc, word)?))?;
-    }
-    Ok(Form::new(pieces))
-}
-
-fn constant(alloc: Global, words: &[&str], sort: u32) -> Result<Decl, Fail> {
-    Ok(Decl {
-        form: form(alloc, words)?,
-        args: Seq::new(Vec::new(alloc)),
-        result: sort,
-        attrs: Attrs::none(),
-    })
-}
-
-fn over(alloc: Global, name: &str, args: &[u32], attrs: Attrs) -> Result<Decl, Fail> {
-    Ok(Decl {
-        form: form(alloc, &[name])?,
-        args: Seq::new(args.to_vec(alloc)?),
-        result: ALL,
-        attrs,
-    })
+fn constant(alloc: Global, name: &str, sort: u32) -> Result<Decl, Fail> {
+    op(alloc, name, &[], sort, Attrs::none())
 }
 
 fn axioms(alloc: Global, assoc: bool, comm: bool, id: Option<&str>) -> Result<Attrs, Fail> {
     let id = match id {
-        Some(name) => Some(IdSpec::Const(form(alloc, &[name])?)),
+        Some(name) => Some(IdSpec::Const(form(alloc, name)?)),
         None => None,
     };
     Ok(Attrs {
@@ -102,34 +75,28 @@ fn over_two(
     comm: bool,
     id: Option<&str>,
 ) -> Result<Decl, Fail> {
-    over(alloc, name, &[ALL, ALL], axioms(alloc, assoc, comm, id)?)
-}
-
-fn successor(alloc: Global) -> Result<Decl, Fail> {
-    let attrs = Attrs {
-        builtin: Some(Text::new(alloc, "succ")?),
-        ..Attrs::none()
-    };
-    Ok(Decl {
-        form: form(alloc, &["s"])?,
-        args: Seq::new(Vec::from_array(alloc, [ALL])?),
-        result: ELT,
-        attrs,
-    })
+    op(
+        alloc,
+        name,
+        &[ALL, ALL],
+        ALL,
+        axioms(alloc, assoc, comm, id)?,
+    )
 }
 
 fn push_sixty(alloc: Global, decls: &mut Vec<Decl>) -> Result<(), Fail> {
     for i in 0..60 {
-        decls.push(constant(alloc, &[WORDS[i / 8], WORDS[i % 8]], ELT)?)?;
+        let name = format!(in alloc; "{} {}", WORDS[i / 8], WORDS[i % 8])?;
+        decls.push(constant(alloc, name.as_str(), ELT)?)?;
     }
     Ok(())
 }
 
 fn push_constants(alloc: Global, decls: &mut Vec<Decl>) -> Result<(), Fail> {
-    decls.push(constant(alloc, &["a"], ELT)?)?;
-    decls.push(constant(alloc, &["b"], ELT)?)?;
-    decls.push(constant(alloc, &["c"], ELT)?)?;
-    decls.push(constant(alloc, &["e"], ALL)?)?;
+    decls.push(constant(alloc, "a", ELT)?)?;
+    decls.push(constant(alloc, "b", ELT)?)?;
+    decls.push(constant(alloc, "c", ELT)?)?;
+    decls.push(constant(alloc, "e", ALL)?)?;
     Ok(())
 }
 
@@ -146,9 +113,9 @@ fn push_others(alloc: Global, decls: &mut Vec<Decl>) -> Result<(), Fail> {
     decls.push(over_two(alloc, "h", false, true, None)?)?;
     decls.push(over_two(alloc, "k", false, false, Some("e"))?)?;
     decls.push(over_two(alloc, "m", false, false, Some("n"))?)?;
-    decls.push(constant(alloc, &["n"], ALL)?)?;
+    decls.push(constant(alloc, "n", ALL)?)?;
     decls.push(over_two(alloc, "f", false, false, None)?)?;
-    decls.push(over(alloc, "g", &[ALL], Attrs::none())?)?;
+    decls.push(op(alloc, "g", &[ALL], ALL, Attrs::none())?)?;
     Ok(())
 }
 
@@ -157,48 +124,9 @@ fn declarations(alloc: Global) -> Result<Vec<Decl>, Fail> {
     push_constants(alloc, &mut decls)?;
     push_associative(alloc, &mut decls)?;
     push_others(alloc, &mut decls)?;
-    decls.push(successor(alloc)?)?;
+    decls.push(successor(alloc, "s", ALL, ELT)?)?;
     push_sixty(alloc, &mut decls)?;
     Ok(decls)
-}
-
-fn is_successor(decl: &Decl) -> bool
-    ensures { result ≡ is_successor decl.now.attrs }
-{
-    match &decl.attrs.builtin {
-        Some(text) => text.as_str() == "succ",
-        None => false,
-    }
-}
-
-/// The declaration is over the sorts of the poset, and the successor is in the kind of the sort 0.
-fn assert_one(rt: &impl Abort, poset: &Poset, decl: &Decl)
-    requires { IsSort poset.now 0 }
-    ensures sorts { HasSorts poset.now decl.now }
-    ensures successor { IsSuccessorIn poset.now (kind_of poset.now 0) decl.now }
-{
-    let count = poset.sorts() + poset.kinds();
-    assert!(rt; decl.result < count);
-    assert!(rt; decl.args.items().iter().all(|a| *a < count));
-    if is_successor(decl) {
-        let kind = poset.kind_of(0);
-        assert!(rt; decl.args.items().len() == 1);
-        assert!(rt; poset.kind_of(decl.args.items()[0]) == kind);
-        assert!(rt; poset.kind_of(decl.result) == kind);
-    }
-}
-
-/// The same of all declarations, and the successor is declared.
-fn assert_all(rt: &impl Abort, poset: &Poset, decls: &[Decl])
-    requires { IsSort poset.now 0 }
-    ensures sorts { All (HasSorts poset.now) decls.now }
-    ensures successors { All (IsSuccessorIn poset.now (kind_of poset.now 0)) decls.now }
-    ensures declared { list_any (λ d. is_successor d.attrs) decls.now ≡ true }
-{
-    for decl in decls {
-        assert_one(rt, poset, decl);
-    }
-    assert!(rt; decls.iter().any(|decl| is_successor(decl)));
 }
 
 /// a, b, c : -> Elt; e : -> All; u [assoc comm id: e], w [assoc comm], l [assoc id: e], v [assoc], i [comm id: e], h [comm], k [id: e] and
@@ -206,8 +134,5 @@ fn assert_all(rt: &impl Abort, poset: &Poset, decls: &[Decl])
 pub fn example(rt: &impl Abort, alloc: Global) -> Result<Signature, Fail> {
     let poset = Poset::build(alloc, 2, &[(ELT, ALL)])?;
     let decls = declarations(alloc)?;
-    assert!(rt; decls.len() <= MAX_DECLARATIONS);
-    assert!(rt; 0 < poset.sorts() + poset.kinds());
-    assert_all(rt, &poset, &decls);
-    Ok(Signature::build(alloc, poset, decls, Some((0, 0)))?)
+    signature(rt, alloc, poset, decls)
 }

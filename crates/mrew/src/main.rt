@@ -2,6 +2,8 @@
 #![tactic(auto)]
 
 mod hooks;
+#[cfg(test)]
+mod tests;
 
 use hooks::run_with_hooks;
 use mau_bytes::{StdSink, StdSource};

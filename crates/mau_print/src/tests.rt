@@ -1,3 +1,0 @@
-//! Terms that are read, printed and read again.
-mod printing;
-mod signature;

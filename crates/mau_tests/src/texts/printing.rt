@@ -1,0 +1,314 @@
+//! Texts of terms. Each row has a text that is read as a term, and the text as which the term is printed.
+ghost use Rattle.std.specs.Prelude.{List, ℕ, IfOk};
+ghost use Rattle.mau_grammar.specs.declared.aliases.Alias.{Alias};
+ghost use Rattle.mau_grammar.specs.Grammar.{IsGrammarOf};
+ghost use Rattle.mau_store.specs.Node.{IsOf};
+
+use super::modules::{Module, Row, chain, gathers, module_of, plain};
+use mau_canon::build_bare;
+use mau_parse::{Goal, parse};
+use mau_print::show;
+use mau_signature::Gather::{self, Any, Below, Upto};
+use mau_store::{NodeView, Store};
+use mau_terms::{OpId, TermId, Vars};
+use mau_tokens::tokens;
+use std::alloc::Global;
+use std::process::Abort;
+use std::test::Fail;
+
+/// The term that the text is, in the store.
+fn read(
+    rt: &impl Abort,
+    alloc: Global,
+    within: &Module,
+    vars: &mut Vars,
+    store: &mut Store,
+    text: &str,
+) -> Result<TermId, Fail>
+    requires { (names : List (List ℕ)) × (aliases : List Alias) × IsGrammarOf within.now.sig names aliases within.now.grammar }
+    ensures { IfOk result (λ id. IsOf store.new id.0) }
+{
+    assert!(rt; text.len() <= 16777216);
+    let found = tokens(alloc, text.as_bytes())?;
+    assert!(rt; found.len() > 0);
+    assert!(rt; vars.len() < 4000000000);
+    let term = match parse(alloc, &within.grammar, vars, Goal::AnyKind, text, &found) {
+        Ok(term) => term,
+        Err(_) => return Err("no term".into()),
+    };
+    match build_bare(store, &within.sig, &term) {
+        Ok(id) => Ok(id),
+        Err(_) => Err("no normal form".into()),
+    }
+}
+
+/// The text is read as a term that is printed as `wanted`, which is read as the same term where it has to be.
+fn assert_row(
+    rt: &impl Abort,
+    alloc: Global,
+    within: &Module,
+    text: &str,
+    wanted: &str,
+    reads: bool,
+) -> Result<(), Fail>
+    requires { (names : List (List ℕ)) × (aliases : List Alias) × IsGrammarOf within.now.sig names aliases within.now.grammar }
+{
+    let mut vars = Vars::new(alloc);
+    let mut store = Store::new(alloc);
+    let id = read(rt, alloc, within, &mut vars, &mut store, text)?;
+    let shown = show(alloc, &within.printer, &vars, &store, id)?;
+    assert_eq!(rt; shown.as_str(), wanted, "{text}");
+    if reads {
+        let again = read(rt, alloc, within, &mut vars, &mut store, shown.as_str())?;
+        assert!(rt; again == id, "{text}");
+    }
+    Ok(())
+}
+
+/// In the module of these operators each text is read as a term that is printed as the one beside it, which is read as the same term.
+fn assert_rows(
+    rt: &impl Abort,
+    alloc: Global,
+    operators: &[Row],
+    rows: &[(&str, &str)],
+) -> Result<(), Fail> {
+    let module = module_of(rt, alloc, operators)?;
+    for (text, wanted) in rows {
+        assert_row(rt, alloc, &module, text, wanted, true)?;
+    }
+    Ok(())
+}
+
+/// The same of rows that are printed so, and read as something else or as nothing.
+fn assert_printed(
+    rt: &impl Abort,
+    alloc: Global,
+    operators: &[Row],
+    rows: &[(&str, &str)],
+) -> Result<(), Fail> {
+    let module = module_of(rt, alloc, operators)?;
+    for (text, wanted) in rows {
+        assert_row(rt, alloc, &module, text, wanted, false)?;
+    }
+    Ok(())
+}
+
+/// Sums to the left.
+const LEFT: &str = "_+_(_+_(a, b), c)";
+/// And to the right.
+const RIGHT: &str = "_+_(a, _+_(b, c))";
+
+/// The sums with these gathers.
+fn sums<'a>(gather: &'a [Gather]) -> Row<'a> {
+    gathers("_ + _", &[0, 0], 41, gather)
+}
+
+#[test]
+fn parentheses_stand_where_a_precedence_is_not_admitted(rt: HostRuntime) -> Result<(), Fail> {
+    let alloc = rt.alloc();
+    for (gather, left, right) in [
+        ([Upto, Below], "a + b + c", "a + (b + c)"),
+        ([Below, Upto], "(a + b) + c", "a + b + c"),
+        ([Below, Below], "(a + b) + c", "a + (b + c)"),
+    ] {
+        assert_rows(
+            &rt,
+            alloc,
+            &[sums(&gather)],
+            &[(LEFT, left), (RIGHT, right)],
+        )?;
+    }
+    let both = [(LEFT, "a + b + c"), (RIGHT, "a + b + c")];
+    assert_printed(&rt, alloc, &[sums(&[Any, Upto])], &both)
+}
+
+#[test]
+fn lists_are_their_first_element_and_the_others(rt: HostRuntime) -> Result<(), Fail> {
+    assert_rows(
+        &rt,
+        rt.alloc(),
+        &[
+            chain("_ + _", 33, &[]),
+            chain("_ * _", 31, &[]),
+            chain("begin _ ; _ end", 0, &[]),
+            chain("_ ? _ !", 5, &[Any, Below]),
+            chain("list", 0, &[]),
+        ],
+        &[
+            ("a + b", "a + b"),
+            ("(a + b) + c", "a + b + c"),
+            ("(a + (b + c)) + a + b", "a + b + c + a + b"),
+            ("s (a + b + c)", "s (a + b + c)"),
+            ("s a + b", "s a + b"),
+            ("a * b * c + a * b", "a * b * c + a * b"),
+            ("(a + b + c) * a * (b + c)", "(a + b + c) * a * (b + c)"),
+            (
+                "begin a ; begin b ; c end end",
+                "begin a ; begin b ; c end end",
+            ),
+            (
+                "begin begin a ; b end ; begin c ; a end end",
+                "begin a ; begin b ; begin c ; a end end end",
+            ),
+            ("_?_!(a, b, c)", "a ? (b ? c !) !"),
+            ("_?_!(a, b, c, a)", "a ? (b ? (c ? a !) !) !"),
+            ("list(a, list(b, c + a), s b)", "list(a, b, c + a, s b)"),
+        ],
+    )
+}
+
+#[test]
+fn texts_that_several_things_have_are_told_apart(rt: HostRuntime) -> Result<(), Fail> {
+    let alloc = rt.alloc();
+    let names = [
+        plain("k", &[], 0),
+        plain("k", &[], 3),
+        plain("2", &[], 1),
+        plain("1", &[], 0),
+        plain("Z", &[], 2),
+        plain("f", &[0, 1], 0),
+        gathers("close _", &[0], 0, &[Below]),
+    ];
+    assert_rows(
+        &rt,
+        alloc,
+        &names,
+        &[
+            ("f(k, k)", "f((k).T, (k).U)"),
+            ("(k) .V", "(k).U"),
+            ("(2).U", "(2).U"),
+            ("f(2, 2)", "f((2).T, (2).U)"),
+            ("(Z).W", "(Z).U"),
+            ("f(Z, Z)", "f(Z:T, (Z).U)"),
+            ("f(3, X:W)", "f(3, X:W)"),
+            ("close (a)", "close (a)"),
+            ("close ((k).T)", "close (k).T"),
+            ("close (2)", "close (2).T"),
+            ("close (close (7))", "close (close (7))"),
+        ],
+    )?;
+    assert_printed(&rt, alloc, &names, &[("s 0", "(1).T")])
+}
+
+#[test]
+fn variables_have_sorts_or_kinds(rt: HostRuntime) -> Result<(), Fail> {
+    assert_rows(
+        &rt,
+        rt.alloc(),
+        &[plain("f", &[0, 1], 0)],
+        &[
+            ("Z", "Z:T"),
+            ("X:[T]", "X:[T]"),
+            ("Y:[W]", "Y:[U,V]"),
+            ("f(X:T, X:[V, W])", "f(X:T, X:[U,V])"),
+            ("s X:T", "s X:T"),
+            ("Y:Z:T", "Y:Z:T"),
+        ],
+    )
+}
+
+#[test]
+fn forms_are_their_words_and_arguments(rt: HostRuntime) -> Result<(), Fail> {
+    assert_rows(
+        &rt,
+        rt.alloc(),
+        &[
+            plain("if _ then _ else _ fi", &[0, 0, 0], 0),
+            plain("[ _ ]", &[0], 0),
+            plain("set { _ , _ }", &[0, 0], 0),
+            plain("two words", &[], 0),
+            plain("open [ ]", &[], 0),
+            plain("g h", &[0, 0], 0),
+            plain("not _", &[0], 0),
+            plain("_ == _", &[0, 0], 0),
+        ],
+        &[
+            (
+                "if a == b then [b] else not c fi",
+                "if a == b then [ b ] else not c fi",
+            ),
+            (
+                "if_then_else_fi(a, [b], [[c]])",
+                "if a then [ b ] else [ [ c ] ] fi",
+            ),
+            ("`[_`](a == b)", "[ a == b ]"),
+            ("set`{_`,_`}(a, b == c)", "set { a , b == c }"),
+            ("not (a == b)", "not (a == b)"),
+            ("not a == b", "not a == b"),
+            ("g h(two words, open [ ])", "g h(two words, open [ ])"),
+            ("not g h(a, not b)", "not g h(a, not b)"),
+            ("s s s X:T", "s s s X:T"),
+        ],
+    )
+}
+
+#[test]
+fn numerals_have_values(rt: HostRuntime) -> Result<(), Fail> {
+    assert_rows(
+        &rt,
+        rt.alloc(),
+        &[],
+        &[
+            ("0", "0"),
+            ("s 9", "10"),
+            ("s 119", "120"),
+            (
+                "s s 340282366920938463463374607431768211453",
+                "340282366920938463463374607431768211455",
+            ),
+        ],
+    )
+}
+
+/// So many times `word`, behind a text.
+fn push_times(text: &mut String, word: &str, count: u32) -> Result<(), Fail> {
+    for _ in 0..count {
+        text.push_str(word)?;
+    }
+    Ok(())
+}
+
+#[test]
+fn long_lists_are_printed(rt: HostRuntime) -> Result<(), Fail> {
+    let alloc = rt.alloc();
+    let mut text = String::from_str(alloc, "_?_!(a")?;
+    push_times(&mut text, ", b", 150)?;
+    push_times(&mut text, ", c)", 1)?;
+    let mut wanted = String::from_str(alloc, "a")?;
+    push_times(&mut wanted, " ? (b", 150)?;
+    push_times(&mut wanted, " ? c", 1)?;
+    push_times(&mut wanted, " !)", 150)?;
+    push_times(&mut wanted, " !", 1)?;
+    assert_rows(
+        &rt,
+        alloc,
+        &[chain("_ ? _ !", 5, &[Any, Below])],
+        &[(text.as_str(), wanted.as_str())],
+    )
+}
+
+/// `f` over a term of the store. It is the operator behind the constants.
+fn over(rt: &impl Abort, store: &mut Store, id: TermId) -> Result<TermId, Fail> {
+    assert!(rt; id.0 < store.len());
+    Ok(store.intern(NodeView::App(OpId(5), &[id]))?)
+}
+
+#[test]
+fn terms_of_the_greatest_depth_are_printed(rt: HostRuntime) -> Result<(), Fail> {
+    let alloc = rt.alloc();
+    let terms = module_of(&rt, alloc, &[plain("f", &[0], 0)])?;
+    let mut store = Store::new(alloc);
+    let vars = Vars::new(alloc);
+    let mut id = store.intern(NodeView::Num(0))?;
+    let mut wanted = String::new(alloc);
+    push_times(&mut wanted, "f(", 999)?;
+    push_times(&mut wanted, "0", 1)?;
+    push_times(&mut wanted, ")", 999)?;
+    for _ in 0..999 {
+        id = over(&rt, &mut store, id)?;
+    }
+    assert!(rt; id.0 < store.len());
+    let shown = show(alloc, &terms.printer, &vars, &store, id)?;
+    assert_eq!(rt; shown.as_str(), wanted.as_str());
+    Ok(())
+}
