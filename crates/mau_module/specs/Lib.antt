@@ -20,3 +20,5 @@ pub mod Faults
 pub mod Flattened
 pub mod Prelude
 pub mod Kept
+-- what holds of this
+pub mod Laws

@@ -1,5 +1,5 @@
 //! Whole modules: what a module of a text is over the modules that were accepted before, with all that it includes, and why it
-//! is none. A [`Library`] holds all accepted modules, those of the prelude first.
+//! is none. A [`Library`] holds all accepted modules, those of the prelude first. [`laws`] has what holds of this.
 #![tactic(auto)]
 
 mod context;
@@ -8,6 +8,7 @@ mod fault;
 mod flatten;
 mod frame;
 mod include;
+pub mod laws;
 mod library;
 mod limits;
 mod module;

@@ -1,6 +1,6 @@
 -- The laws of reading. What a chart of the tokens reads is exactly the trees of the tokens, the terms of trees are bare, their variables
--- come in the order of the tokens, and no two causes of answers hold together.
-use Rattle.std.specs.Prelude.{◌≡◌, ◌↔◌, ℕ, ◌+◌, ◌<◌, ◌≤◌, ◌^◌, Some, slice_get, List, [], ◌∷◌, All, length}
+-- come in the order of the tokens, no two causes of answers hold together, and tokens have one answer.
+use Rattle.std.specs.Prelude.{◌≡◌, ◌≢◌, ◌↔◌, ℕ, ◌+◌, ◌<◌, ◌≤◌, ◌^◌, Some, slice_get, List, [], ◌∷◌, All, length}
 use Rattle.mau_terms.specs.Tree.{Tree}
 use Rattle.mau_grammar.specs.Production.{IsShaped}
 use Rattle.mau_terms.specs.Bare.{IsBareIn}
@@ -11,14 +11,17 @@ use Rattle.mau_grammar.specs.declared.aliases.Alias.{Alias}
 use Rattle.mau_grammar.specs.Grammar.{GrammarOf, IsGrammarOf}
 use Rattle.mau_grammar.specs.Leaves.{Reading, pair_of, readings_at, pairs_of}
 use Rattle.mau_grammar.specs.Trees.{TreeOf}
+use Rattle.mau_tokens.specs.declared.token.Token.{Token}
 use Rattle.mau_chart.specs.declared.grammar.Production.{Production}
 use Rattle.mau_chart.specs.declared.grammar.Leaf.{Leaf}
 use Rattle.mau_chart.specs.Goal.{ReadsAs}
 use Rattle.mau_parse.specs.declared.goals.Goal.{Goal}
+use Rattle.mau_parse.specs.declared.fault.ParseFault.{ParseFault}
+use Rattle.mau_parse.specs.declared.fault.ParseFault.TheVariants.{NoMemory}
 use Rattle.mau_parse.specs.Charted.{kind_number, AreFormsOf, AreLeavesOf}
 use Rattle.mau_parse.specs.TooLarge.{AllSmall}
 use Rattle.mau_parse.specs.Goal.{lowest, highest, IsTree, IsOnlyTree, AreTwoTrees}
-use Rattle.mau_parse.specs.Parsed.{IsReadable, HasNoTree, HasLargeNumeral}
+use Rattle.mau_parse.specs.Parsed.{IsReadable, IsParsed, IsFault, HasNoTree, HasLargeNumeral, without_trees}
 use Rattle.mau_parse.specs.Terms.{pairs_in, IsTermOf}
 
 -- one tree, which is one of the tokens
@@ -78,3 +81,16 @@ pub record CausesExclude (g : GrammarOf) (ws : List (List ℕ)) (goal : Goal) : 
 
 abbrev pub CausesExcludeEachOther : Type 0
 CausesExcludeEachOther = (g : GrammarOf) (ws : List (List ℕ)) (goal : Goal) → CausesExclude g ws goal
+
+-- ---- tokens have one answer
+
+pub record HaveOneAnswer (g : GrammarOf) (ts : List Token) (ws : List (List ℕ)) (goal : Goal) (old : List (List ℕ × ℕ)) : Type 0 where
+  -- they are one term, which adds the same variables each time
+  pub term : (new new' : List (List ℕ × ℕ)) (b b' : Bare) → IsParsed g ws goal old new b → IsParsed g ws goal old new' b' → (new ≡ new') × (b ≡ b')
+  -- or have one fault, but for the two trees of an ambiguity
+  pub fault : (e f : ParseFault) → IsFault g ts ws goal old e → IsFault g ts ws goal old f → e ≢ NoMemory → f ≢ NoMemory → without_trees e ≡ without_trees f
+  -- and not both
+  pub neither : (new : List (List ℕ × ℕ)) (b : Bare) (f : ParseFault) → IsParsed g ws goal old new b → IsFault g ts ws goal old f → f ≢ NoMemory → ⊥
+
+abbrev pub AnswersAreOne : Type 0
+AnswersAreOne = (g : GrammarOf) (ts : List Token) (ws : List (List ℕ)) (goal : Goal) (old : List (List ℕ × ℕ)) → HaveOneAnswer g ts ws goal old

@@ -1,5 +1,5 @@
 //! What is proved of reading tokens. Each function does nothing and has a law for its contract.
-ghost use Rattle.mau_parse.specs.Laws.{ChartsReadTrees, TermsAreBare, VariablesAreInOrder, CausesExcludeEachOther};
+ghost use Rattle.mau_parse.specs.Laws.{ChartsReadTrees, TermsAreBare, VariablesAreInOrder, CausesExcludeEachOther, AnswersAreOne};
 
 /// What a chart of the tokens reads, by the forms of all productions and exactly the leaves of the tokens, is one tree each time, and
 /// these are exactly the trees of the tokens.
@@ -21,4 +21,9 @@ pub fn variables_are_in_order()
 /// No two causes of answers hold together, so each answer comes only where no other may.
 pub fn causes_exclude_each_other()
     ensures { CausesExcludeEachOther }
+{}
+
+/// Tokens are one term, which adds the same variables each time, or have one fault, but for the two trees of an ambiguity.
+pub fn answers_are_one()
+    ensures { AnswersAreOne }
 {}

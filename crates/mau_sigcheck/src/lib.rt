@@ -1,4 +1,5 @@
-//! Which signatures are accepted: the declarations of each operator, judged at all tuples of sorts and kinds.
+//! Which signatures are accepted: the declarations of each operator, judged at all tuples of sorts and kinds. [`laws`] has what
+//! holds of this.
 #![tactic(auto)]
 
 mod checker;
@@ -6,6 +7,7 @@ mod count;
 mod demand;
 mod fault;
 mod identity;
+pub mod laws;
 mod operators;
 mod walk;
 

@@ -15,3 +15,4 @@ pub mod Statements
 pub mod Faults
 -- what holds of each statement that is read
 pub mod Lawful
+pub mod Laws

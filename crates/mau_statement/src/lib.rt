@@ -1,6 +1,7 @@
 //! Statements of a module's text. [`read_statement`] reads an equation, a membership or a rule
 //! as typed terms and fragments, or says why it is none: a part is no term, a left side or a
-//! head may not be one, a variable is not bound, or there are too many parts.
+//! head may not be one, a variable is not bound, or there are too many parts. [`laws`] has what
+//! holds of this.
 #![tactic(auto)]
 
 mod binding;
@@ -8,6 +9,7 @@ mod condition;
 mod context;
 mod fault;
 mod judged;
+pub mod laws;
 mod part;
 mod reading;
 mod statement;
