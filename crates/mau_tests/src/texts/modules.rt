@@ -96,20 +96,19 @@ fn signature_of(rt: &impl Abort, alloc: Global, rows: &[Row]) -> Result<Signatur
     signature(rt, alloc, poset, decls)
 }
 
-/// The texts of these words.
-fn texts(alloc: Global, words: &[&str]) -> Result<Vec<Text>, NoMemory> {
-    let mut texts = Vec::new(alloc);
-    for word in words {
-        texts.push(Text::new(alloc, word)?)?;
-    }
-    Ok(texts)
-}
-
 /// The grammar of a signature over these sorts, in which the name Z is declared as a variable of the sort T.
 fn grammar(rt: &impl Abort, alloc: Global, sig: &Signature) -> Result<Grammar, Fail>
     ensures { IfOk result (λ g. (names : List (List ℕ)) × (aliases : List Alias) × IsGrammarOf sig.now names aliases g) }
 {
-    let names = texts(alloc, &["T", "U", "V", "W"])?;
+    let names = Vec::from_array(
+        alloc,
+        [
+            Text::new(alloc, "T")?,
+            Text::new(alloc, "U")?,
+            Text::new(alloc, "V")?,
+            Text::new(alloc, "W")?,
+        ],
+    )?;
     let alias = Alias {
         name: Text::new(alloc, "Z")?,
         sort: 0,
@@ -117,7 +116,6 @@ fn grammar(rt: &impl Abort, alloc: Global, sig: &Signature) -> Result<Grammar, F
     let aliases = Vec::from_array(alloc, [alias])?;
     let operators = sig.operators();
     assert!(rt; operators > 0);
-    assert!(rt; names.len() == 4);
     assert!(rt; sig.poset().sorts() == 4);
     Ok(Grammar::of(alloc, sig, &names, &aliases)?)
 }
@@ -128,7 +126,10 @@ pub fn module_of(rt: &impl Abort, alloc: Global, rows: &[Row]) -> Result<Module,
 {
     let sig = signature_of(rt, alloc, rows)?;
     let grammar = grammar(rt, alloc, &sig)?;
-    let kinds = texts(alloc, &["[T]", "[U,V]"])?;
+    let kinds = Vec::from_array(
+        alloc,
+        [Text::new(alloc, "[T]")?, Text::new(alloc, "[U,V]")?],
+    )?;
     let printer = Printer::of(alloc, &sig, &grammar, &kinds)?;
     Ok(Module {
         sig,
