@@ -303,11 +303,44 @@ fn limits_are_kept(rt: HostRuntime) -> Result<(), Fail> {
     )
 }
 
+/// The text is refused, and the variables are as many as before.
+fn assert_refused(
+    rt: &impl Abort,
+    alloc: Global,
+    grammar: &Grammar,
+    vars: &mut Vars,
+    text: &str,
+) -> Result<(), Fail> {
+    let before = vars.len();
+    let refused = read(rt, alloc, grammar, vars, Goal::AnyKind, text)?.is_err();
+    assert!(rt; refused, "{text}");
+    assert_eq!(rt; vars.len(), before, "{text}");
+    Ok(())
+}
+
+/// The text is read as this term, whose variables are numbered among those that are there.
+fn assert_read(
+    rt: &impl Abort,
+    alloc: Global,
+    grammar: &Grammar,
+    vars: &mut Vars,
+    text: &str,
+    wanted: &str,
+) -> Result<(), Fail> {
+    match read(rt, alloc, grammar, vars, Goal::AnyKind, text)? {
+        Ok(found) => {
+            let same = found.same(&term_of(alloc, wanted)?);
+            assert!(rt; same, "{text}");
+        }
+        Err(_) => assert!(rt; false, "{text}"),
+    }
+    Ok(())
+}
+
 #[test]
 fn variables_are_added_in_the_order_of_the_tokens(rt: HostRuntime) -> Result<(), Fail> {
     let alloc = rt.alloc();
     let module = module_of(&rt, alloc, &[plain("_ + _", &[0, 0], 0)])?;
-    let grammar = &module.grammar;
     let mut vars = Vars::new(alloc);
     vars.add("V", 0)?;
     for text in [
@@ -315,18 +348,17 @@ fn variables_are_added_in_the_order_of_the_tokens(rt: HostRuntime) -> Result<(),
         "X:T +",
         "s 340282366920938463463374607431768211455",
     ] {
-        let refused = read(&rt, alloc, grammar, &mut vars, Goal::AnyKind, text)?.is_err();
-        assert!(rt; refused, "{text}");
-        assert_eq!(rt; vars.len(), 1, "{text}");
+        assert_refused(&rt, alloc, &module.grammar, &mut vars, text)?;
     }
-    let text = "Y:Z:T + V:T";
-    let term = match read(&rt, alloc, grammar, &mut vars, Goal::AnyKind, text)? {
-        Ok(term) => term,
-        Err(_) => return Err("refused".into()),
-    };
+    assert_read(
+        &rt,
+        alloc,
+        &module.grammar,
+        &mut vars,
+        "Y:Z:T + V:T",
+        "Y X e2",
+    )?;
     assert_eq!(rt; vars.len(), 2);
     assert_eq!(rt; vars.get(VarId { index: 1, sort: 0 }), Some(("Y:Z", 0)));
-    let same = term.same(&term_of(alloc, "Y X e2")?);
-    assert!(rt; same);
     Ok(())
 }

@@ -260,25 +260,31 @@ fn numerals_have_values(rt: HostRuntime) -> Result<(), Fail> {
     )
 }
 
-/// So many times `word`, behind a text.
-fn push_times(text: &mut String, word: &str, count: u32) -> Result<(), Fail> {
-    for _ in 0..count {
-        text.push_str(word)?;
+/// Each of these words so many times.
+fn repeated(alloc: Global, parts: &[(&str, u32)]) -> Result<String, Fail> {
+    let mut text = String::new(alloc);
+    for (word, count) in parts {
+        for _ in 0..*count {
+            text.push_str(word)?;
+        }
     }
-    Ok(())
+    Ok(text)
 }
 
 #[test]
 fn long_lists_are_printed(rt: HostRuntime) -> Result<(), Fail> {
     let alloc = rt.alloc();
-    let mut text = String::from_str(alloc, "_?_!(a")?;
-    push_times(&mut text, ", b", 150)?;
-    push_times(&mut text, ", c)", 1)?;
-    let mut wanted = String::from_str(alloc, "a")?;
-    push_times(&mut wanted, " ? (b", 150)?;
-    push_times(&mut wanted, " ? c", 1)?;
-    push_times(&mut wanted, " !)", 150)?;
-    push_times(&mut wanted, " !", 1)?;
+    let text = repeated(alloc, &[("_?_!(a", 1), (", b", 150), (", c)", 1)])?;
+    let wanted = repeated(
+        alloc,
+        &[
+            ("a", 1),
+            (" ? (b", 150),
+            (" ? c", 1),
+            (" !)", 150),
+            (" !", 1),
+        ],
+    )?;
     assert_rows(
         &rt,
         alloc,
@@ -293,22 +299,35 @@ fn over(rt: &impl Abort, store: &mut Store, id: TermId) -> Result<TermId, Fail> 
     Ok(store.intern(NodeView::App(OpId(5), &[id]))?)
 }
 
+/// The numeral 0 under so many `f`.
+fn nested(rt: &impl Abort, store: &mut Store, count: u32) -> Result<TermId, Fail> {
+    let mut id = store.intern(NodeView::Num(0))?;
+    for _ in 0..count {
+        id = over(rt, store, id)?;
+    }
+    Ok(id)
+}
+
+/// The text of a term without variables, in the module of these operators.
+fn shown(
+    rt: &impl Abort,
+    alloc: Global,
+    operators: &[Row],
+    store: &Store,
+    id: TermId,
+) -> Result<String, Fail> {
+    let module = module_of(rt, alloc, operators)?;
+    assert!(rt; id.0 < store.len());
+    Ok(show(alloc, &module.printer, &Vars::new(alloc), store, id)?)
+}
+
 #[test]
 fn terms_of_the_greatest_depth_are_printed(rt: HostRuntime) -> Result<(), Fail> {
     let alloc = rt.alloc();
-    let terms = module_of(&rt, alloc, &[plain("f", &[0], 0)])?;
     let mut store = Store::new(alloc);
-    let vars = Vars::new(alloc);
-    let mut id = store.intern(NodeView::Num(0))?;
-    let mut wanted = String::new(alloc);
-    push_times(&mut wanted, "f(", 999)?;
-    push_times(&mut wanted, "0", 1)?;
-    push_times(&mut wanted, ")", 999)?;
-    for _ in 0..999 {
-        id = over(&rt, &mut store, id)?;
-    }
-    assert!(rt; id.0 < store.len());
-    let shown = show(alloc, &terms.printer, &vars, &store, id)?;
-    assert_eq!(rt; shown.as_str(), wanted.as_str());
+    let id = nested(&rt, &mut store, 999)?;
+    let text = shown(&rt, alloc, &[plain("f", &[0], 0)], &store, id)?;
+    let wanted = repeated(alloc, &[("f(", 999), ("0", 1), (")", 999)])?;
+    assert_eq!(rt; text.as_str(), wanted.as_str());
     Ok(())
 }
