@@ -193,6 +193,18 @@ fn reads_mixfix_terms(rt: HostRuntime) -> Result<(), Fail> {
 }
 
 #[test]
+fn refuses_a_word_that_is_a_constant_a_variable_and_a_numeral(rt: HostRuntime) -> Result<(), Fail> {
+    let text = "fmod M is protecting NAT . op 1 : -> Nat . var 1 : Nat . endfm match 1 <=? 0 .";
+    let (bytes, status) = answer(rt.alloc(), &["run"], text)?;
+    assert_eq!(rt;
+        bytes.as_slice(),
+        b"[1] module M\n[2] refused: Ambiguous 69\n".as_slice()
+    );
+    assert_eq!(rt; status, Status::Refused);
+    Ok(())
+}
+
+#[test]
 fn refuses_long_terms(rt: HostRuntime) -> Result<(), Fail> {
     let head = "fmod M is sort T . op a : -> T . op s_ : T -> T . endfm\nmatch";
     for (count, wanted) in [
