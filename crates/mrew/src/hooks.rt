@@ -1,7 +1,9 @@
 //! A run with the native operators of the program.
-ghost use Rattle.std.specs.Prelude.{◌≡◌};
+ghost use Rattle.std.specs.Prelude.{◌≡◌, ◌↔◌, ◌⊎◌, true, false, IfOk, OnErr};
 ghost use Rattle.mau_formula.specs.Expr.{value};
 ghost use Rattle.mau_formula.specs.Native.{formula_of};
+ghost use Rattle.mau_session.specs.Meanings.{has_meaning};
+ghost use Rattle.mau_session.specs.Run.{IsAnswered, IsCut};
 
 use mau_bytes::{Sink, Source};
 use mau_formula::{Hook, HookAnswer, HookTable, Native};
@@ -9,13 +11,22 @@ use mau_session::{Status, run};
 use mau_terms::{NoMemory, Text};
 use std::alloc::Global;
 
-/// Runs with all native operators on numbers, each a closure beside the formula that it computes.
+/// Runs with all native operators on numbers, each a closure beside the formula that it computes. The status tells what was read and written,
+/// as that of `run` does. Where memory is wanting for the operators, nothing is read or written.
 pub fn run_with_hooks<S: Source, K: Sink>(
     alloc: Global,
     words: &[Text],
     source: &mut S,
     sink: &mut K,
-) -> Result<Status, NoMemory> {
+) -> Result<Status, NoMemory>
+    ensures usage { IfOk result (λ s. (s ≡ Status.Usage) ↔ (has_meaning words.now ≡ false)) }
+    ensures done { IfOk result (λ s. s ≡ Status.Done → IsAnswered (S.left source.old) (S.left source.new) (K.written sink.old) (K.written sink.new) false) }
+    ensures refused { IfOk result (λ s. s ≡ Status.Refused → IsAnswered (S.left source.old) (S.left source.new) (K.written sink.old) (K.written sink.new) true) }
+    ensures prefix { IfOk result (λ s. s ≡ Status.WriteFault → IsCut (S.left source.old) (S.left source.new) (K.written sink.old) (K.written sink.new)) }
+    ensures unwritten { IfOk result (λ s. (s ≡ Status.Usage) ⊎ (s ≡ Status.ReadFault) ⊎ (s ≡ Status.NoMemory) ⊎ (s ≡ Status.InputTooLong)
+        → K.written sink.new ≡ K.written sink.old) }
+    ensures untouched { OnErr result ((S.left source.new ≡ S.left source.old) × (K.written sink.new ≡ K.written sink.old)) }
+{
     let mut hooks = HookTable::new(alloc);
     for native in Native::ALL {
         let name = Text::new(alloc, native.name())?;
