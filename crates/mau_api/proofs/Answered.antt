@@ -14,7 +14,7 @@ use Rattle.mau_terms.proofs.Chains.{chain_end, first_bare}
 use Rattle.mau_terms.proofs.Readings.{lead_norm}
 use Rattle.mau_terms.proofs.Law.{equal_norm, norm_equal}
 use Rattle.mau_terms.proofs.Wholes.{norm-reading}
-use Rattle.mau_terms.proofs.Solutions.{instances_by_norms, length-map}
+use Rattle.mau_terms.proofs.Solutions.{length-map, with_values_norms}
 use Rattle.mau_signature.specs.Signature.{SignatureOf, theory_at, terms_over}
 use Rattle.mau_api.specs.Found.{Question, Found, OfNorm, AgreesWith, IsWhole}
 use Rattle.mau_api.specs.Answers.{IsAnswer}
@@ -51,13 +51,6 @@ norms_normal th lawful (v ∷ vs) = (norm-norm th lawful v, norms_normal th lawf
 norms-norms : (th : ℕ → Theory) (vs : List Tree) → AreNorms th vs → map (norm th) vs ≡ vs
 norms-norms th [] n = refl
 norms-norms th (v ∷ vs) n = ap₂ (λ u us. u ∷ us) n.0 (norms-norms th vs n.1)
-
--- the normal form of an instance depends on those of the values
-with_same_norms : (th : ℕ → Theory) (p : Tree) (vs ws : List Tree) → map (norm th) vs ≡ map (norm th) ws → norm th (with_values p vs) ≡ norm th (with_values p ws)
-with_same_norms th p vs ws e =
-    let xs = variables p in
-    instances_by_norms th (value_at xs vs) (value_at xs ws)
-    (λ y. sym (value_mapped (norm th) (λ i r. refl) xs vs y) ∙ ap (λ us. value_at xs us y) e ∙ value_mapped (norm th) (λ i r. refl) xs ws y) p
 
 -- ---- bare instances
 
@@ -121,7 +114,7 @@ module _ (s : SignatureOf) (lawful : IsLawful (terms_over s)) (P : ℕ → Tree 
         normal = norms_normal th lawful.theories is.bare;
         bare = (b.0, subst (λ t. IsBareIn (terms_over s) t b.0) same read);
         whole =
-            with_same_norms th p vs is.bare (norms-norms th vs (norms_normal th lawful.theories is.bare))
+            with_values_norms th p vs is.bare (norms-norms th vs (norms_normal th lawful.theories is.bare))
             ∙ equal_norm (terms_over s) lawful is.solves.0.equal
             ∙ norm-reading-is th lawful.theories q.subject normal;
         sorts = sorts_of_norms s P xs is.bare is.solves.1;
@@ -140,7 +133,7 @@ module _ (s : SignatureOf) (lawful : IsLawful (terms_over s)) (P : ℕ → Tree 
           record {
             one_each = length-map (reading th) x.values ∙ is.one_each;
             equal = norm_equal (terms_over s) lawful (with_values p us) (reading th q.subject) is.bare bare
-                (with_same_norms th p us x.values (norms ∙ sym (norms-norms th x.values is.normal))
+                (with_values_norms th p us x.values (norms ∙ sym (norms-norms th x.values is.normal))
                 ∙ is.whole
                 ∙ sym (norm-reading-is th lawful.theories q.subject normal));
           },

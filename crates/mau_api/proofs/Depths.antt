@@ -1,7 +1,7 @@
 -- Under a pattern with a plain top, the value of no variable is the subject: it is less deep.
 use Rattle.std.proofs.Common.{◌≡◌, ℕ, suc, ◌+◌, ◌≤◌, ◌<◌, List, [], ◌∷◌, ◌++◌, length, Bool, true, false, nat_lt, if◌then◌else◌, Option, Some, None, inl, inr, ◌⊎◌, ⊎_elim, refl, sym, ◌∙◌, ap, ap₂, subst, arith}
 use Rattle.mau_terms.specs.Tree.{Tree, variable, numeral, apply, Trees, no_trees, tree, node, list_of}
-use Rattle.mau_terms.specs.Depth.{depth, depths, list_depth, depths-trees_of}
+use Rattle.mau_terms.specs.Depth.{depth, depths, list_depth}
 use Rattle.mau_terms.specs.Norm.{unit_tree, greatest_numeral, pieces, all_pieces, arrange, finish, made, build, norm, norms}
 use Rattle.mau_terms.specs.Lawful.{AreLawful}
 use Rattle.mau_terms.specs.Subst.{Variable, instance, instances, Occurs, OccursIn}
@@ -15,6 +15,7 @@ use Rattle.mau_terms.proofs.Finite.{AllIn, AllIn-arrange, in_arrange, length-arr
 use Rattle.mau_api.specs.Asked.{HasPlainTop}
 use Rattle.mau_api.proofs.Parts.{each_at, holds_of_part}
 use Rattle.mau_api.proofs.Valued.{part_of_built}
+use Rattle.mau_store.proofs.Depths.{depth-node}
 
 -- ---- depths
 
@@ -32,9 +33,6 @@ among_depth z [] h = absurd h
 among_depth z (t ∷ ts) (inl e) = let k : depth z ≡ depth t = ap depth e in omega arith
 among_depth z (t ∷ ts) (inr h) = omega (arith, among_depth z ts h)
 
-pub node_depth : (f : ℕ) (ts : List Tree) → depth (node f ts) ≡ suc (list_depth ts)
-node_depth f ts = ap suc (depths-trees_of ts)
-
 pub argument_depth : (t z : Tree) → IsIn z (arguments_of t) → depth z < depth t
 argument_depth (variable i s) z h = absurd h
 argument_depth (numeral n) z h = absurd h
@@ -44,10 +42,6 @@ argument_depth (apply f ts) z h = omega (arith, go ts h)
     go no_trees k = absurd k
     go (tree u us) (inl e) = let d : depth z ≡ depth u = ap depth e in omega arith
     go (tree u us) (inr k) = omega (arith, go us k)
-
-list_low : (n : ℕ) (ts : List Tree) → Each (λ u. depth u ≤ n) ts → list_depth ts ≤ n
-list_low n [] h = omega arith
-list_low n (t ∷ ts) h = let k = h.0 in omega (arith, list_low n ts h.1)
 
 -- ---- occurrences
 
@@ -82,7 +76,7 @@ module _ (th : ℕ → Theory) (f : ℕ) (zs : List Tree) (normal : Each (IsNorm
         number = λ n. positive t;
         itself = omega arith;
         argument = λ u h. omega (arith, argument_depth t u h);
-        list = λ a ts within. omega (arith, node_depth f ts, list_low_by ts within, positive t);
+        list = λ a ts within. omega (arith, depth-node f ts, list_low_by ts within, positive t);
       }) z (part_of_built th f z zs normal among)
     where
       list_low_by : (us : List Tree) → Each (λ u. IsIn u (arguments_of (build (th f) f zs))) us → suc (list_depth us) ≤ depth (build (th f) f zs)
@@ -158,7 +152,7 @@ module _ (th : ℕ → Theory) (lawful : AreLawful th) (x : Variable) where
     plain_deeper : (f : ℕ) (ys : List Tree) (z : Tree) → IsIn z ys → depth v ≤ depth z → (c : Bool) → depth v < depth (made false c None false f ys)
     plain_deeper f ys z h low c =
         let e : made false c None false f ys ≡ node f (arrange c ys) = ap (λ l. finish false None false f (arrange c l)) (free_pieces f ys) ∙ plain_finish f (arrange c ys) in
-        omega (arith, low, ap depth e, node_depth f (arrange c ys), among_depth z (arrange c ys) (in_arrange c z ys h))
+        omega (arith, low, ap depth e, depth-node f (arrange c ys), among_depth z (arrange c ys) (in_arrange c z ys h))
 
     -- one pattern among the arguments has the variable, and is less deep where it has a plain top
     abbrev OneDeeper : Trees → Type 0
@@ -174,8 +168,8 @@ module _ (th : ℕ → Theory) (lawful : AreLawful th) (x : Variable) where
         never (t ∷ []) s e h l long = absurd (deep id long)
           where
             deep : (u : Option Identity) → finish true u s f (t ∷ []) ≡ node f (t ∷ []) → ⊥
-            deep None k = let d : depth t ≡ depth (node f (t ∷ [])) = ap depth k in omega (arith, d, node_depth f (t ∷ []))
-            deep (Some i) k = let d : depth t ≡ depth (node f (t ∷ [])) = ap depth k in omega (arith, d, node_depth f (t ∷ []))
+            deep None k = let d : depth t ≡ depth (node f (t ∷ [])) = ap depth k in omega (arith, d, depth-node f (t ∷ []))
+            deep (Some i) k = let d : depth t ≡ depth (node f (t ∷ [])) = ap depth k in omega (arith, d, depth-node f (t ∷ []))
         never (t ∷ t' ∷ ts) s e h l long = absurd (omega arith)
 
         by : Split a id f z → z ≡ w

@@ -7,13 +7,10 @@ use Rattle.std.specs.declared.cmp.Ordering.{Ordering}
 use Rattle.std.specs.declared.cmp.Ordering.TheVariants.{Less}
 use Rattle.mau_terms.specs.Tree.{Tree}
 use Rattle.mau_terms.specs.Norm.{norm}
-use Rattle.mau_terms.specs.Lawful.{AreLawful}
 use Rattle.mau_terms.specs.Bare.{IsLawful}
 use Rattle.mau_terms.specs.Reading.{reading}
 use Rattle.mau_terms.specs.Subst.{variables}
 use Rattle.mau_terms.specs.Solution.{FitsAt, FitsWithin, assoc_top}
-use Rattle.mau_terms.specs.declared.theory.Theory.{Theory}
-use Rattle.mau_terms.proofs.Normal.{norm-norm}
 use Rattle.mau_terms.proofs.Solutions.{solutions_are_ordered, right_is_determined, length-map}
 use Rattle.mau_terms.proofs.Ties.{ties_are_equal}
 use Rattle.mau_signature.specs.Signature.{SignatureOf, theory_at, terms_over}
@@ -22,6 +19,7 @@ use Rattle.mau_api.specs.Found.{Question, Found, IsSolution}
 use Rattle.mau_api.specs.Next.{found_cmp, IsBehind, IsNext, AreNext, last_of}
 use Rattle.mau_api.specs.Asked.{BySort}
 use Rattle.mau_api.specs.Laws.{FoundAreOrdered, TiesAreOne, EntriesAreSorts, AllAreListed, FirstAscend}
+use Rattle.mau_canon.proofs.Standing.{map-norm-norm}
 
 pub found_are_ordered : FoundAreOrdered
 found_are_ordered th p = on_total (λ x. (x.left, x.values)) (solutions_are_ordered th p)
@@ -31,10 +29,6 @@ entries_are_sorts s known nodes table is r t has =
     subst (λ u. HasSort s known u r) has.tree (((is.entries has.number has.entry has.at).1.exact r).0 has.has)
 
 -- ---- ties
-
-norms_same : (th : ℕ → Theory) → AreLawful th → (ts : List Tree) → map (norm th) (map (norm th) ts) ≡ map (norm th) ts
-norms_same th lawful [] = refl
-norms_same th lawful (t ∷ ts) = ap₂ (λ u us. u ∷ us) (norm-norm th lawful t) (norms_same th lawful ts)
 
 found_is : (x y : Found) → x.left ≡ y.left → x.right ≡ y.right → x.values ≡ y.values → x ≡ y
 found_is x y l r v = λ i. record { left = l i; right = r i; values = v i }
@@ -67,7 +61,7 @@ ties_are_one c s lawful known q x y is it tie =
     let long : length x.values ≡ length (variables q.pattern) = ap length (sym one.1) ∙ length-map (norm th) one.0 ∙ one.2 in
     let as_long : length y.values ≡ length (variables q.pattern) = ap length (sym two.1) ∙ length-map (norm th) two.0 ∙ two.2 in
     let both = ties_are_equal th lawful.theories q.pattern (x.left, x.values) (y.left, y.values) long as_long tie in
-    let normal : (z : List Tree) (b : List Tree) → map (norm th) b ≡ z → map (norm th) z ≡ z = λ z b e. ap (map (norm th)) (sym e) ∙ norms_same th lawful.theories b ∙ e in
+    let normal : (z : List Tree) (b : List Tree) → map (norm th) b ≡ z → map (norm th) z ≡ z = λ z b e. ap (map (norm th)) (sym e) ∙ map-norm-norm th lawful.theories b ∙ e in
     let v : x.values ≡ y.values = sym (normal x.values one.0 one.1) ∙ both.1 ∙ normal y.values two.0 two.1 in
     found_is x y both.0 (same_right c s lawful P q x y is it both.0 v) v
 

@@ -9,9 +9,24 @@ use Rattle.mau_terms.specs.declared.theory.Theory.{Theory}
 use Rattle.mau_terms.proofs.Pieces.{Each}
 use Rattle.mau_store.specs.Node.{Node}
 use Rattle.mau_sorts.specs.Table.{Table}
-use Rattle.mau_api.specs.Asked.{IsTreeSettled, IsBelow, IsBelowOne, AreSettled, CanBeSettled}
+use Rattle.mau_api.specs.Asked.{IsTreeSettled, IsBelow, IsBelowOne}
 use Rattle.mau_api.specs.Values.{IsPartUnder, MayBeValue, MayBeValueOfOne}
 use Rattle.mau_api.proofs.Parts.{each_at, holds_of_part}
+
+-- ---- terms whose sorts can be settled
+
+-- t is settled, or it is a numeral or a list of an associative operator, and its arguments are settled
+abbrev pub AreSettled : List Node → Table → Trees → Type 0
+AreSettled nodes table no_trees = Unit {0}
+AreSettled nodes table (tree t ts) = IsTreeSettled nodes table t × AreSettled nodes table ts
+
+abbrev pub HasSettledArguments : (ℕ → Theory) → List Node → Table → Tree → Type 0
+HasSettledArguments th nodes table (variable i s) = ⊥
+HasSettledArguments th nodes table (numeral n) = Unit {0}
+HasSettledArguments th nodes table (apply f ts) = ((th f).assoc ≡ true) × AreSettled nodes table ts
+
+abbrev pub CanBeSettled : (ℕ → Theory) → List Node → Table → Tree → Type 0
+CanBeSettled th nodes table t = IsTreeSettled nodes table t ⊎ HasSettledArguments th nodes table t
 
 -- ---- subterms
 

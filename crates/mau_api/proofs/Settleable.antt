@@ -20,15 +20,16 @@ use Rattle.mau_signature.specs.Signature.{SignatureOf, IsOperator, theory_at, te
 use Rattle.mau_store.specs.Node.{Node, numeral_node, variable_node, operator_node, arguments, AreNodes, IsOf, AreOf}
 use Rattle.mau_store.specs.Trees.{tree_over, tree_at}
 use Rattle.mau_store.proofs.Standing.{tree_of_node}
+use Rattle.mau_store.proofs.Depths.{depth-node}
 use Rattle.mau_canon.proofs.Collected.{is_operator}
 use Rattle.mau_sorts.specs.Table.{Table, IsSettled, IsNodeOver}
 use Rattle.mau_api.specs.Answers.{IsAnswer}
-use Rattle.mau_api.specs.Asked.{Asked, question_in, IsTreeSettled, IsSettledFor, AreSettled, HasSettledArguments, CanBeSettled, IsNumeralOrList, HasPlainTop, IsSettleable}
+use Rattle.mau_api.specs.Asked.{Asked, question_in, IsTreeSettled, IsSettledFor, IsNumeralOrList, HasPlainTop, IsSettleable}
 use Rattle.mau_api.proofs.Entered.{number_settled}
 use Rattle.mau_api.specs.Values.{MayBeValue}
 use Rattle.mau_api.proofs.Valued.{value_may_be}
-use Rattle.mau_api.proofs.Readied.{fit_value}
-use Rattle.mau_api.proofs.Depths.{deeper, node_depth}
+use Rattle.mau_api.proofs.Readied.{AreSettled, HasSettledArguments, CanBeSettled, fit_value}
+use Rattle.mau_api.proofs.Depths.{deeper}
 
 -- ---- nodes
 
@@ -56,8 +57,8 @@ module _ (s : SignatureOf) (nodes : List Node) (are : AreNodes nodes) (table : T
   list_node f (t ∷ []) a normal bare lawful = absurd (deep (th f).id (subst (λ b. finish b (th f).id (th f).succ f (t ∷ []) ≡ node f (t ∷ [])) a normal.1.long))
     where
       deep : (u : Option Identity) → finish true u (th f).succ f (t ∷ []) ≡ node f (t ∷ []) → ⊥
-      deep None k = let d : depth t ≡ depth (node f (t ∷ [])) = ap depth k in omega (arith, d, node_depth f (t ∷ []))
-      deep (Some i) k = let d : depth t ≡ depth (node f (t ∷ [])) = ap depth k in omega (arith, d, node_depth f (t ∷ []))
+      deep None k = let d : depth t ≡ depth (node f (t ∷ [])) = ap depth k in omega (arith, d, depth-node f (t ∷ []))
+      deep (Some i) k = let d : depth t ≡ depth (node f (t ∷ [])) = ap depth k in omega (arith, d, depth-node f (t ∷ []))
   list_node f (t ∷ u ∷ ts) a normal bare lawful =
       let b : IsBare (terms_over s) (nest true f (readings th (trees_of (t ∷ u ∷ ts)))) = subst (λ c. IsBare (terms_over s) (nest c f (readings th (trees_of (t ∷ u ∷ ts))))) a bare in
       (is_operator s f b.1.0, omega arith)

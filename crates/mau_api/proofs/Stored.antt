@@ -10,7 +10,6 @@ use Rattle.mau_terms.specs.Finite.{IsIn}
 use Rattle.mau_terms.specs.declared.theory.Identity.{Identity}
 use Rattle.mau_terms.specs.declared.theory.Identity.TheVariants.{Const, Num}
 use Rattle.mau_poset.specs.Order.{kind_of}
-use Rattle.mau_signature.specs.declared.decl.Decl.{Decl}
 use Rattle.mau_signature.specs.Signature.{SignatureOf, IsOperator, terms_over, theory_at, theory_of}
 use Rattle.mau_store.specs.Node.{Node, numeral_node, variable_node, operator_node, AreNodes, IsOf, Extends}
 use Rattle.mau_store.specs.Trees.{tree_at, tree_over}
@@ -111,14 +110,15 @@ ready_at s nodes are table i there over settled = record {
 
 -- ---- what is below
 
+-- an argument by its place
+pub argument_number : (nodes : List Node) (ids : List ℕ) (z : Tree) → IsIn z (map (tree_at nodes) ids) → (k : ℕ) × (k < length ids) × (z ≡ tree_at nodes (get_or ids k 0))
+argument_number nodes [] z h = absurd h
+argument_number nodes (j ∷ ids) z (inl e) = (zero, omega arith, e)
+argument_number nodes (j ∷ ids) z (inr h) = let rest = argument_number nodes ids z h in let lt = rest.1 in (suc rest.0, omega (arith, lt), rest.2)
+
 module _ (nodes : List Node) (are : AreNodes nodes) (table : Table) (all : AllAreSettled nodes table) where
   pub tree_settled : (i : ℕ) → IsOf nodes i → IsTreeSettled nodes table (tree_at nodes i)
   tree_settled i there = record { number = i; there = there; tree = refl; settled = all i there }
-
-  argument_number : (ids : List ℕ) (z : Tree) → IsIn z (map (tree_at nodes) ids) → (k : ℕ) × (k < length ids) × (z ≡ tree_at nodes (get_or ids k 0))
-  argument_number [] z h = absurd h
-  argument_number (j ∷ ids) z (inl e) = (zero, omega arith, e)
-  argument_number (j ∷ ids) z (inr h) = let rest = argument_number ids z h in let lt = rest.1 in (suc rest.0, omega (arith, lt), rest.2)
 
   -- with fuel for the numbers below
   below_at : (n i : ℕ) → i < n → IsOf nodes i → (u : Tree) → IsBelow u (tree_at nodes i) → IsTreeSettled nodes table u
@@ -130,7 +130,7 @@ module _ (nodes : List Node) (are : AreNodes nodes) (table : Table) (all : AllAr
       by (variable_node k r) at c rest = absurd c
       by (operator_node f ids) at c rest =
           let z = below_node f (map (tree_at nodes) ids) u c in
-          let k = argument_number ids z.0 z.1 in
+          let k = argument_number nodes ids z.0 z.1 in
           let low = k.1 in
           let j = get_or ids k.0 0 in
           let older : j < i = are.closed i (operator_node f ids) at k.0 0 low in

@@ -120,19 +120,6 @@ pub record IsSettledFor (s : SignatureOf) (nodes : List Node) (table : Table) (a
   pub below : (u : Tree) → IsBelow u (tree_at nodes a.subject.0) → IsTreeSettled nodes table u
   pub subject : IsTreeSettled nodes table (tree_at nodes a.subject.0) ⊎ HasPlainTop (theory_at s) (norm (theory_at s) a.pattern)
 
--- t is settled, or it is a numeral or a list of an associative operator, and its arguments are settled
-abbrev pub AreSettled : List Node → Table → Trees → Type 0
-AreSettled nodes table no_trees = Unit {0}
-AreSettled nodes table (tree t ts) = IsTreeSettled nodes table t × AreSettled nodes table ts
-
-abbrev pub HasSettledArguments : (ℕ → Theory) → List Node → Table → Tree → Type 0
-HasSettledArguments th nodes table (variable i s) = ⊥
-HasSettledArguments th nodes table (numeral n) = Unit {0}
-HasSettledArguments th nodes table (apply f ts) = ((th f).assoc ≡ true) × AreSettled nodes table ts
-
-abbrev pub CanBeSettled : (ℕ → Theory) → List Node → Table → Tree → Type 0
-CanBeSettled th nodes table t = IsTreeSettled nodes table t ⊎ HasSettledArguments th nodes table t
-
 -- ---- what a listing may settle
 
 -- a numeral, or a list of an associative operator

@@ -1,5 +1,5 @@
 //! The first solutions of a listing.
-ghost use Rattle.std.specs.Prelude.{◌≡◌, ◌≤◌, ℕ, true, false, length, map, Some, None, IfOk, IfSome};
+ghost use Rattle.std.specs.Prelude.{◌≡◌, ◌≤◌, true, false, length, map, Some, None, IfOk};
 ghost use Rattle.std.specs.Option.{option_map};
 ghost use Rattle.mau_signature.specs.Signature.{theory_at};
 ghost use Rattle.mau_store.specs.Node.{Extends};

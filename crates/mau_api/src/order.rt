@@ -1,10 +1,9 @@
 //! The order of solutions.
-ghost use Rattle.std.specs.Prelude.{◌≡◌, ◌≤◌, length, All, IfSome};
+ghost use Rattle.std.specs.Prelude.{◌≡◌, ◌≤◌, length, IfSome};
 ghost use Rattle.std.specs.Cmp.Lexicographic.{slice_cmp};
 ghost use Rattle.mau_terms.specs.Solution.{list_cmp, value_key, value_keys};
 ghost use Rattle.mau_signature.specs.Signature.{IsOperator, theory_at};
-ghost use Rattle.mau_store.specs.Node.{AreOf};
-ghost use Rattle.mau_store.specs.Trees.{tree_at, trees_at, StandsForNorm};
+ghost use Rattle.mau_store.specs.Trees.{tree_at, trees_at};
 ghost use Rattle.mau_store.specs.View.{numbers};
 ghost use Rattle.mau_canon.specs.Within.{StandsWithin, StandWithin};
 ghost use Rattle.mau_api.specs.Places.{operator_number, under_all, AreUnderOperators};

@@ -1,5 +1,5 @@
 //! The variables of a pattern, with the operators under which they first occur.
-ghost use Rattle.std.specs.Prelude.{◌≡◌, All, None, [], map, length, IfOk, OnOk, IfSome, IsTrue};
+ghost use Rattle.std.specs.Prelude.{◌≡◌, All, None, [], map, IfOk, OnOk, IfSome};
 ghost use Rattle.std.specs.List.{list_any};
 ghost use Rattle.mau_terms.specs.Tree.{trees_of};
 ghost use Rattle.mau_terms.specs.Bare.{IsBare};

@@ -2,7 +2,7 @@
 use Rattle.std.proofs.Common.{◌≡◌, ℕ, zero, suc, ◌+◌, ◌<◌, ◌≤◌, nat_lt, nat_le, List, [], ◌∷◌, ◌++◌, Bool, true, false, ◌&&◌, ◌||◌, All, map, length, take, get_or, refl, sym, ap, ap₂, ◌∙◌, arith, append_assoc, Result, Ok, Err, IfOk, OnOk}
 use Rattle.std.proofs.lemmas.List.{map-append, take_more}
 use Rattle.std.proofs.lemmas.List.Elements.{All-nil, All-cons}
-use Rattle.std.proofs.lemmas.Bool.{ltb-true, leb-true}
+use Rattle.std.proofs.lemmas.Bool.{ltb-true, leb-true, and_parts}
 use Rattle.mau_terms.specs.Tree.{Tree, node, trees_of}
 use Rattle.mau_terms.specs.Subst.{Variable, instance}
 use Rattle.mau_terms.specs.Depth.{depth, list_depth, depths-trees_of}
@@ -33,13 +33,9 @@ bare_each s [] ks b = All-nil (λ x. IsBare s (tree_of x))
 bare_each s (x ∷ bs) [] b = absurd b
 bare_each s (x ∷ bs) (k ∷ ks) b = All-cons (λ y. IsBare s (tree_of y)) x bs (k, b.0) (bare_each s bs ks b.1)
 
-both_true : (a b : Bool) → (a && b) ≡ true → (a ≡ true) × (b ≡ true)
-both_true true b e = (refl, e)
-both_true false b e = absurd (cc)
-
 pub is_operator : (s : SignatureOf) (f : ℕ) → (terms_over s).has_operator f ≡ true → IsOperator s f
 is_operator s f e =
-    let both = both_true (nat_lt 0 f) (nat_le f (length s.declarations)) e in
+    let both = and_parts (nat_lt 0 f) (nat_le f (length s.declarations)) e in
     (ltb-true 0 f both.0, leb-true f (length s.declarations) both.1)
 
 -- ---- depths

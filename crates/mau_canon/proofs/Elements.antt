@@ -2,6 +2,7 @@
 use Rattle.std.proofs.Common.{◌≡◌, ℕ, ◌<◌, ◌≤◌, ◌==◌, List, [], ◌∷◌, ◌++◌, Bool, true, false, ◌&&◌, ◌||◌, if◌then◌else◌, Option, Some, map, length, take, get_or, ◌+◌, refl, sym, ap, ap₂, ◌∙◌, subst, arith, append_assoc, append-nil}
 use Rattle.std.proofs.lemmas.List.{map-append, take_more}
 use Rattle.std.proofs.lemmas.List.Elements.{All-nil, All-cons, All-head, All-tail}
+use Rattle.std.proofs.lemmas.Bool.{or_parts}
 use Rattle.mau_terms.specs.Tree.{Tree, variable, numeral, apply, Trees, no_trees, tree, node, list_of, trees_of}
 use Rattle.mau_terms.specs.Depth.{depth, depths}
 use Rattle.mau_terms.specs.Norm.{is_unit, elements, pieces, all_pieces, norm, holds_overflow, hold_overflow, is_greatest_numeral}
@@ -74,10 +75,6 @@ all_pieces-ids nodes a u f ids k d h =
 
 -- ---- elements within the limits
 
-pub or_false : (a b : Bool) → (a || b) ≡ false → (a ≡ false) × (b ≡ false)
-or_false true b e = absurd (cc)
-or_false false b e = (refl, e)
-
 module _ (th : ℕ → Theory) where
   -- a normal form within the limits
   pub record IsFine (t : Tree) : Type 0 where
@@ -87,7 +84,7 @@ module _ (th : ℕ → Theory) where
   fine_all : (ts : Trees) (n : ℕ) → depths ts ≤ n → n ≤ MAX_DEPTH → hold_overflow th ts ≡ false → Each (IsNormal th) (list_of ts) → Each IsFine (list_of ts)
   fine_all no_trees n d m o e = tt
   fine_all (tree t ts) n d m o e =
-      let both = or_false (holds_overflow th t) (hold_overflow th ts) o in (
+      let both = or_parts (holds_overflow th t) (hold_overflow th ts) o in (
         record { normal = normal_fixed th t e.0; within = record { shallow = omega arith; no_overflow = both.0 } },
         fine_all ts n (omega arith) m both.1 e.1,
       )
@@ -102,7 +99,7 @@ module _ (th : ℕ → Theory) where
           let n : IsNormal th (apply f ts) = subst (IsNormal th) (fine.normal ∙ e) (norm_normal th lawful t) in
           let d : depth (apply f ts) ≤ MAX_DEPTH = subst (λ v. depth v ≤ MAX_DEPTH) e fine.within.shallow in
           let o : holds_overflow th (apply f ts) ≡ false = ap (holds_overflow th) (sym e) ∙ fine.within.no_overflow in
-          subst (Each IsFine) (sym p) (fine_all ts (depths ts) (omega arith) (omega arith) ((or_false ((th f).succ && is_greatest_numeral ts) (hold_overflow th ts) o).1) (each_normal th ts n.0))
+          subst (Each IsFine) (sym p) (fine_all ts (depths ts) (omega arith) (omega arith) ((or_parts ((th f).succ && is_greatest_numeral ts) (hold_overflow th ts) o).1) (each_normal th ts n.0))
 
   stand : (nodes : List Node) (ids : List ℕ) → AreOf nodes ids → Each IsFine (trees_at nodes ids) → StandWithin th nodes ids
   stand nodes [] there e = All-nil (StandsWithin th nodes)

@@ -3,6 +3,7 @@ use Rattle.std.proofs.Common.{◌≡◌, ◌≤◌, ◌<◌, ◌⊎◌, inl, inr
 use Rattle.std.proofs.lemmas.List.Elements.{All-nil, All-cons, All-head, All-tail, All-map, All-push}
 use Rattle.std.proofs.lemmas.List.{map-append}
 use Rattle.std.proofs.lemmas.Option.{slice_get_within}
+use Rattle.std.proofs.lemmas.Bool.{or_parts}
 use Rattle.mau_terms.specs.Tree.{Tree, node, trees_of}
 use Rattle.mau_terms.specs.Depth.{depth, list_depth, depths-trees_of}
 use Rattle.mau_terms.specs.Norm.{norm, build, holds_overflow, hold_overflow, is_greatest_numeral}
@@ -24,7 +25,6 @@ use Rattle.mau_store.proofs.Standing.{tree_of_node, tree_at-extends}
 use Rattle.mau_canon.specs.declared.TheConstants.{MAX_DEPTH}
 use Rattle.mau_canon.specs.Within.{IsWithin, StandsWithin, StandWithin}
 use Rattle.mau_canon.specs.Laws.{OneNumberWhereEqual, ListStandsForNested, ArgumentsStandWithin, StandsWithinExtended}
-use Rattle.mau_canon.proofs.Elements.{or_false}
 
 pub one_number_where_equal : OneNumberWhereEqual
 one_number_where_equal s lawful t u bt bu old new are x i j p q e e' =
@@ -32,7 +32,7 @@ one_number_where_equal s lawful t u bt bu old new are x i j p q e e' =
 
 -- ---- nested uses
 
-map-norm-norm : (th : ℕ → Theory) → AreLawful th → (ts : List Tree) → map (norm th) (map (norm th) ts) ≡ map (norm th) ts
+pub map-norm-norm : (th : ℕ → Theory) → AreLawful th → (ts : List Tree) → map (norm th) (map (norm th) ts) ≡ map (norm th) ts
 map-norm-norm th lawful [] = refl
 map-norm-norm th lawful (t ∷ ts) = ap₂ (λ v vs. v ∷ vs) (norm-norm th lawful t) (map-norm-norm th lawful ts)
 
@@ -58,7 +58,7 @@ list_stands_for_nested th lawful f ts = by (th f).assoc refl ts
 each_within : (th : ℕ → Theory) (nodes : List Node) (ids : List ℕ) → AreOf nodes ids → StandForNorms th nodes ids → list_depth (trees_at nodes ids) ≤ MAX_DEPTH → hold_overflow th (trees_of (trees_at nodes ids)) ≡ false → StandWithin th nodes ids
 each_within th nodes [] there norms d o = All-nil (StandsWithin th nodes)
 each_within th nodes (i ∷ ids) there norms d o =
-    let parts = or_false (holds_overflow th (tree_at nodes i)) (hold_overflow th (trees_of (trees_at nodes ids))) o in
+    let parts = or_parts (holds_overflow th (tree_at nodes i)) (hold_overflow th (trees_of (trees_at nodes ids))) o in
     All-cons (StandsWithin th nodes) i ids
     (record {
       there = All-head (IsOf nodes) i ids there;
@@ -80,7 +80,7 @@ arguments_stand_within th lawful nodes are i n at stands = by n at (tree_of_node
         let low : i < suc i = omega arith in
         let within = slice_get_within nodes i (operator_node f ids) a in
         each_within th nodes ids (λ k v h. omega (arith, are.closed i (operator_node f ids) a k v h, within)) norms
-        (omega (arith, depths-trees_of ts)) (or_false ((th f).succ && is_greatest_numeral (trees_of ts)) (hold_overflow th (trees_of ts)) o).1
+        (omega (arith, depths-trees_of ts)) (or_parts ((th f).succ && is_greatest_numeral (trees_of ts)) (hold_overflow th (trees_of ts)) o).1
 
 pub stands_within_extended : StandsWithinExtended
 stands_within_extended th old new x i s =

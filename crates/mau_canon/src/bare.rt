@@ -6,7 +6,7 @@ ghost use Rattle.mau_terms.specs.Tree.{trees_of};
 ghost use Rattle.mau_terms.specs.Norm.{all_pieces, arrange, norm, holds_overflow, hold_overflow};
 ghost use Rattle.mau_terms.specs.Solution.{list_under, assoc_top};
 ghost use Rattle.mau_terms.specs.Bare.{IsBare};
-ghost use Rattle.mau_terms.specs.View.{tree_of, variable_of};
+ghost use Rattle.mau_terms.specs.View.{tree_of};
 ghost use Rattle.mau_terms.specs.Subst.{instance};
 ghost use Rattle.mau_signature.specs.Signature.{IsOperator, terms_over, theory_at};
 ghost use Rattle.mau_store.specs.Node.{AreOf, Extends};

@@ -2,7 +2,7 @@
 ghost use Rattle.std.specs.Prelude.{◌≡◌, ◌≤◌, false, IfOk, IfErr};
 ghost use Rattle.mau_terms.specs.Depth.{depth};
 ghost use Rattle.mau_terms.specs.Tree.{node};
-ghost use Rattle.mau_terms.specs.Norm.{norm, holds_overflow};
+ghost use Rattle.mau_terms.specs.Norm.{norm};
 ghost use Rattle.mau_signature.specs.Signature.{IsOperator, theory_at};
 ghost use Rattle.mau_store.specs.Node.{Extends, IsOf};
 ghost use Rattle.mau_store.specs.Trees.{StandsFor, tree_at, trees_at};

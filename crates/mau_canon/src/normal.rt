@@ -4,7 +4,7 @@ ghost use Rattle.mau_terms.specs.Tree.{trees_of};
 ghost use Rattle.mau_terms.specs.Norm.{unit_tree, all_pieces, finish, over_one, is_greatest_numeral};
 ghost use Rattle.mau_terms.specs.Order.{sort_trees};
 ghost use Rattle.mau_terms.specs.Solution.{over_list};
-ghost use Rattle.mau_store.specs.Node.{AreNodes, AreOf, Extends, IsOf};
+ghost use Rattle.mau_store.specs.Node.{AreOf, Extends, IsOf};
 ghost use Rattle.mau_store.specs.Trees.{tree_at, trees_at};
 ghost use Rattle.mau_store.specs.View.{numbers};
 ghost use Rattle.mau_canon.specs.Within.{IsNumberOf, is_overflow};

@@ -14,7 +14,7 @@ use Rattle.mau_chart.specs.declared.chart.Chart.{Chart}
 use Rattle.mau_chart.specs.declared.grammar.Item.{Item}
 use Rattle.mau_chart.specs.Chart.{Found, found, Has, Full, Offered, Grows, IsSame}
 use Rattle.mau_chart.proofs.Grows.{slice_get-end, slice_get-new, has_stays, full_stays}
-use Rattle.mau_chart.specs.Table.{table, seen, cells, found_of, IsThere, IsKnown, AreKnown, IsChart, HasOther, Put}
+use Rattle.mau_chart.specs.Table.{table, seen, cells, found_of, IsThere, IsKnown, AreKnown, HasOther, Put}
 
 pub cells_within : (rs : List Row) (i k : ℕ) → k < length (cells rs i) → i < length rs
 cells_within [] i k h = absurd (omega arith)
@@ -43,9 +43,6 @@ fact_at (f ∷ fs) (suc k) h = fact_at fs k (omega arith)
 pub had : (c : Chart) (i : ℕ) (it : Item) (e : ℕ) (f : Fact) → IsThere (cells c.rows.items i) f it e → Has (table c) i it e (trees_at c.store f.trees.items)
 had c i it e f h =
     (h.place.0, slice_get-seen c.store (cells c.rows.items i) h.place.0 f h.place.1 ∙ ap₂ (λ x y. Some (found x y (trees_at c.store f.trees.items))) h.item h.end)
-
-pub full : (c : Chart) (i : ℕ) (it : Item) (e : ℕ) (f : Fact) → IsChart c → IsThere (cells c.rows.items i) f it e → f.second ≡ true → Full (table c) i it e
-full c i it e f g h s = subst (λ y. Full (table c) i it y) h.end (subst (λ x. Full (table c) i x f.end) h.item ((g i h.place.0 f h.place.1).second s))
 
 -- the same facts over other rows
 module _ (ts : List Tree) (rs qs : List Row) (i : ℕ) (f : Fact) (p : Put rs qs i f) where
@@ -108,10 +105,6 @@ at_left : (ts us : List Tree) (i : ℕ) → i < length ts → tree_at (ts ++ us)
 at_left [] us i h = absurd (omega arith)
 at_left (t ∷ ts) us zero h = refl
 at_left (t ∷ ts) us (suc i) h = at_left ts us i (omega arith)
-
-pub at_end : (ts : List Tree) (t : Tree) → tree_at (ts ++ t ∷ []) (length ts) ≡ t
-at_end [] t = refl
-at_end (u ∷ ts) t = at_end ts t
 
 pub trees_left : (ts us : List Tree) (is : List TermId) → AllBelow (length ts) is → trees_at (ts ++ us) is ≡ trees_at ts is
 trees_left ts us [] h = refl

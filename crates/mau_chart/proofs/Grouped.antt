@@ -97,9 +97,6 @@ grouped_on gs w n g en eg y f p = by (eqb p.0 w) refl
 pub indexed_stays : {Z : Type 0} (old new : ℕ → List Found) (n i : ℕ) (index : List (Vec Group Z)) → Grows old new i → AreIndexed old n i index → AreIndexed new n i index
 indexed_stays old new n i index g a m h l x k d f e ef = a m h l x k d f (ap (λ r. slice_get r x) (sym (g.others m (λ q. absurd (omega (arith, h, q))))) ∙ e) ef
 
-pub indexed_none : {Z : Type 0} (rows : ℕ → List Found) (n i : ℕ) (index : List (Vec Group Z)) → n ≤ i → AreIndexed rows n i index
-indexed_none rows n i index h m l r = absurd (omega (arith, h, l, r))
-
 pub indexed_on : {Z : Type 0} (rows : ℕ → List Found) (n r i j : ℕ) (index : List (Vec Group Z)) (v : Vec Group Z) → r ≤ n → i ≡ n - r → j ≡ n - (r + 1) → length index ≡ r → AreIndexed rows n i index → AreGrouped rows i v.items → AreIndexed rows n j (index ++ v ∷ [])
 indexed_on rows n r i j index v le ei ej el a b m h l = by (eqb m i) refl
   where

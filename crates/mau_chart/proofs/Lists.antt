@@ -43,9 +43,6 @@ below_at n [] i d h l = absurd (omega arith)
 below_at n (t ∷ ts) zero d h l = h.0
 below_at n (t ∷ ts) (suc i) d h l = below_at n ts i d h.1 (omega arith)
 
-pub all_alike : (s : List Tree) (ts us : List TermId) (i : ℕ) → length ts ≡ length us → length ts ≤ i → trees_at s (take i ts) ≡ trees_at s (take i us) → trees_at s ts ≡ trees_at s us
-all_alike s ts us i e h q = ap (trees_at s) (sym (take_all i ts h)) ∙ q ∙ ap (trees_at s) (take_all i us (omega arith))
-
 pub more_alike_to : (s : List Tree) (ts us : List TermId) (i n : ℕ) (d : TermId) → n ≡ i + 1 → i < length ts → i < length us → trees_at s (take i ts) ≡ trees_at s (take i us) → tree_at s (get_or ts i d).0 ≡ tree_at s (get_or us i d).0 → trees_at s (take n ts) ≡ trees_at s (take n us)
 more_alike_to s ts us i n d w h k e q =
     let z : suc i ≡ n = omega (arith, w) in

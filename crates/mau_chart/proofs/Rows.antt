@@ -9,12 +9,9 @@ use Rattle.mau_chart.specs.declared.grammar.Leaf.{Leaf}
 use Rattle.mau_chart.specs.declared.grammar.Item.TheVariants.{Whole, Part}
 use Rattle.mau_chart.specs.Reads.{said_trees, Reads, leaf_read, Spells, nothing_spelled}
 use Rattle.mau_chart.specs.Chart.{Found, found, Covers, Offered, Grows, AreSound, AreLeaves, AreForms, IsDone, Begun, Ended, IsRow, Closed, Wants}
-use Rattle.mau_chart.proofs.Grows.{offered_grows, grows_not, grows_on, covers_stay}
+use Rattle.mau_chart.proofs.Grows.{offered_grows, grows_on, covers_stay}
 use Rattle.mau_chart.proofs.Step.{some_one}
 use Rattle.mau_chart.proofs.Trials.{offered_sound, processed_stays}
-
-pub begun_none : (ls : List Leaf) (old : ℕ → List Found) (i : ℕ) → Begun ls old old i 0
-begun_none ls old i = record { grows = grows_not old i; sound = λ ps s. s; covers = λ k l h. absurd (omega arith) }
 
 -- another leaf, which begins elsewhere
 pub begun_other : (ls : List Leaf) (old new : ℕ → List Found) (i n m : ℕ) (l : Leaf) → slice_get ls n ≡ Some l → l.start ≢ i → m ≡ n + 1 → Begun ls old new i n → Begun ls old new i m
@@ -50,9 +47,6 @@ begun_on ls old mid new i n m l e st em b o = record {
     by k q h eq sq true w =
         let z : l ≡ q = some_one l q (sym e ∙ ap (slice_get ls) (sym (eqb-true k n w)) ∙ eq) in
         subst (λ y. Covers new i (Whole y.kind y.level) y.end (said_trees y.said)) z o.covers
-
-pub ended_none : (ps : List Production) (ls : List Leaf) (old : ℕ → List Found) (i : ℕ) → Ended ps ls old old i 0
-ended_none ps ls old i = record { grows = grows_not old i; sound = λ s. s; covers = λ k l h. absurd (omega arith) }
 
 -- another production, which may not end here
 pub ended_other : (ps : List Production) (ls : List Leaf) (old new : ℕ → List Found) (i n m : ℕ) (p : Production) → slice_get ps n ≡ Some p → (Wants ps ls i (Part n (length p.pieces.items)) → ⊥) → m ≡ n + 1 → Ended ps ls old new i n → Ended ps ls old new i m

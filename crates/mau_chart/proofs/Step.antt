@@ -69,8 +69,3 @@ lift_only ps a to o number dot form s ea ef =
     let p : Part s.number 0 ≡ Part number dot = sym s.part ∙ ea in
     let f : s.form ≡ form = some_one s.form form (sym s.its ∙ ap (slice_get ps) (part_number s.number 0 number dot p) ∙ ef) in
     (sym (part_dot s.number 0 number dot p), s.whole ∙ ap (λ z. Whole z.kind z.level) f, s.op ∙ ap (λ z. z.op) f)
-
-pub lift_zero : (ps : List Production) (a to : Item) (o : Option OpId) (number dot : ℕ) → Lifts ps a to o → a ≡ Part number dot → (dot ≡ 0) × (number < length ps)
-lift_zero ps a to o number dot s ea =
-    let p : Part s.number 0 ≡ Part number dot = sym s.part ∙ ea in
-    (sym (part_dot s.number 0 number dot p), omega (arith, part_number s.number 0 number dot p, slice_get_within ps s.number s.form s.its))

@@ -1,8 +1,8 @@
 //! The chart of a text: what reads as what, from where to where.
-ghost use Rattle.std.specs.Prelude.{◌≡◌, ◌↔◌, ◌∷◌, ◌++◌, [], ◌<◌, ◌≤◌, ℕ, List, Some, IfOk, IfSome, OnOk, IsTrue, length};
+ghost use Rattle.std.specs.Prelude.{◌≡◌, ◌↔◌, ◌∷◌, ◌++◌, [], ◌<◌, ◌≤◌, Some, IfOk, IfSome, OnOk, IsTrue, length};
 ghost use Rattle.std.specs.List.{slice_get};
 ghost use Rattle.mau_chart.specs.Nodes.{AllBelow, NamesBelow, tree_at, trees_at, node_tree};
-ghost use Rattle.mau_chart.specs.Chart.{Found, found, Has, Full, Covers, Offered, Joined, Lifted, IsSame};
+ghost use Rattle.mau_chart.specs.Chart.{found, Full, Covers, Offered, Joined, Lifted, IsSame};
 ghost use Rattle.mau_chart.specs.Reads.{made, said_trees};
 ghost use Rattle.mau_chart.specs.Table.{table, cells, IsChart, IsThere, HasOther, Put};
 

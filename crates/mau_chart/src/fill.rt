@@ -7,7 +7,7 @@ ghost use Rattle.mau_chart.specs.declared.grammar.Leaf.{Leaf};
 ghost use Rattle.mau_chart.specs.declared.grammar.Production.{Production};
 ghost use Rattle.mau_chart.specs.declared.grammar.Item.TheVariants.{Whole, Part};
 ghost use Rattle.mau_chart.specs.Chart.{Found, Steps, StepsOnly, IsOne, IsAmong, Lifts, Completed, Combined, Grows, AreSound, AreLeaves, AreForms, Processed, IsDone, Begun, Ended, IsRow, IsEmpty, Closed, Wants, IsMask, IsAllowed};
-ghost use Rattle.mau_chart.specs.Groups.{IsGrouped, AreGrouped, AreIndexed};
+ghost use Rattle.mau_chart.specs.Groups.{IsGrouped, AreIndexed};
 ghost use Rattle.mau_chart.specs.Marks.{IsMarked, AllMarked};
 ghost use Rattle.mau_chart.specs.Table.{table, cells, IsChart};
 

@@ -1,5 +1,5 @@
 //! The parts of a row by what they wait for.
-ghost use Rattle.std.specs.Prelude.{◌≡◌, ◌<◌, ◌≤◌, ◌++◌, ◌∷◌, [], length, IfOk, OnOk, IfSome, IfNone};
+ghost use Rattle.std.specs.Prelude.{◌≡◌, ◌<◌, ◌≤◌, ◌++◌, ◌∷◌, [], IfOk, OnOk, IfSome};
 ghost use Rattle.mau_chart.specs.declared.grammar.Item.{Item};
 ghost use Rattle.mau_chart.specs.declared.places.Place.{Place};
 ghost use Rattle.mau_chart.specs.Groups.{HasPart, IsPlace, AreGrouped, groups_at};

@@ -1,11 +1,11 @@
 //! What a whole text reads as.
-ghost use Rattle.std.specs.Prelude.{◌≡◌, ◌↔◌, ◌<◌, ◌≤◌, ◌+◌, ℕ, IfOk, OnOk, Some, IsTrue, length};
+ghost use Rattle.std.specs.Prelude.{◌≡◌, ◌↔◌, ◌<◌, ◌≤◌, ◌+◌, IfOk, Some, IsTrue, length};
 ghost use Rattle.std.specs.List.{slice_get};
 ghost use Rattle.mau_chart.specs.Chart.{AreLeaves, AreForms, IsEmpty, Found};
 ghost use Rattle.mau_chart.specs.Goal.{IsGoal, IsExact, Scanned};
 ghost use Rattle.mau_chart.specs.Told.{AreThere, IsToldBy, IsReading};
 ghost use Rattle.mau_chart.specs.Nodes.{AllBelow, trees_at};
-ghost use Rattle.mau_chart.specs.Table.{table, cells, found_of, IsChart};
+ghost use Rattle.mau_chart.specs.Table.{table, cells, IsChart};
 
 use crate::chart::{Chart, Fact, Row};
 use crate::fill::{count_kinds, fill};

@@ -1,6 +1,6 @@
 //! Trees in a store, each once.
 ghost use Rattle.std.specs.Prelude.{◌≡◌, ◌↔◌, ◌<◌, [], length, IfOk, OnOk, IsTrue};
-ghost use Rattle.mau_chart.specs.Nodes.{tree_at, node_tree, AllBelow, NamesBelow, Extends};
+ghost use Rattle.mau_chart.specs.Nodes.{tree_at, node_tree, NamesBelow, Extends};
 
 use mau_store::{NodeView, Store};
 use mau_terms::{NoMemory, TermId};

@@ -58,16 +58,6 @@ module _ (t : List ℕ) (i : ℕ) (l : i < length t) where
         ∙ ap₂ (λ x y. cond x (ended w ++ Hole ∷ cut false [] bs) (cond y (ended w ++ cut true [] bs) (cut false (w ++ get_or t i 0 ∷ []) bs))) e f
         ∙ ap (λ v. cut false v bs) (sym longer)
 
--- at the end
-pub last_cut : (t : List ℕ) (begin : ℕ) (is_quoted : Bool) → begin ≤ length t → cut is_quoted (slice_range t begin (length t)) (drop (length t) t) ≡ ended (drop begin t)
-last_cut t begin is_quoted h =
-    let n : length t - begin ≡ length (drop begin t) = omega (arith, length-drop begin t) in
-    ap₂ (cut is_quoted) (ap (λ k. take k (drop begin t)) n ∙ take_all (length (drop begin t)) (drop begin t) (omega arith)) (drop_all t)
-  where
-    drop_all : (xs : List ℕ) → drop (length xs) xs ≡ []
-    drop_all [] = refl
-    drop_all (x ∷ xs) = drop_all xs
-
 -- ---- the loop over the bytes
 
 -- the first i bytes are cut into `out`, but for a word that begins at `from`; with the rest they are all pieces

@@ -1,3 +1,4 @@
+pub mod Once
 pub mod CountBefore
 pub mod Starts
 pub mod Ranges
@@ -7,5 +8,4 @@ pub mod Distinct
 pub mod Cutting
 pub mod Counting
 pub mod Numbers
-pub mod Counted
 pub mod Conflicts

@@ -1,5 +1,6 @@
 -- Lists with one more element in front and one more behind, and the instances of widened patterns.
 use Rattle.std.proofs.Common.{◌≡◌, ℕ, suc, List, [], ◌∷◌, ◌++◌, length, map, Bool, true, false, ◌||◌, if◌then◌else◌, refl, ◌∙◌, ap, ap₂, subst}
+use Rattle.std.proofs.lemmas.Bool.{or_right}
 use Rattle.mau_terms.specs.Tree.{Tree}
 use Rattle.mau_terms.specs.Subst.{Variable, same_variable, has_variable, variables, value_at, instance, with_values}
 use Rattle.mau_terms.specs.Solution.{HaveSorts}
@@ -181,15 +182,11 @@ end_has (x ∷ xs) b y n e = by (end_has xs b y n) (same_variable x y) e
     by ih true e = refl
     by ih false e = ih e
 
-or_true : (c d : Bool) → d ≡ true → (c || d) ≡ true
-or_true true d e = refl
-or_true false d e = e
-
 pub has_around : (h k : Bool) (a : Variable) (xs : List Variable) (b y : Variable) → has_variable xs y ≡ true → has_variable (around h k a xs b) y ≡ true
 has_around false false a xs b y e = e
 has_around false true a xs b y e = has_end xs b y e
-has_around true false a xs b y e = or_true (same_variable a y) (has_variable xs y) e
-has_around true true a xs b y e = or_true (same_variable a y) (has_variable (xs ++ b ∷ []) y) (has_end xs b y e)
+has_around true false a xs b y e = or_right (same_variable a y) (has_variable xs y) e
+has_around true true a xs b y e = or_right (same_variable a y) (has_variable (xs ++ b ∷ []) y) (has_end xs b y e)
 
 pub around_has : (h k : Bool) (a : Variable) (xs : List Variable) (b y : Variable) → same_variable a y ≡ false → same_variable b y ≡ false → has_variable (around h k a xs b) y ≡ true → has_variable xs y ≡ true
 around_has false false a xs b y m n e = e

@@ -7,11 +7,10 @@ use Rattle.mau_terms.specs.Reading.{reading}
 use Rattle.mau_terms.specs.Subst.{Variable, has_variable, value_at, variables, with_values}
 use Rattle.mau_terms.specs.Solution.{list_under, over_list, IsListOf, FitsAt, HaveSorts}
 use Rattle.mau_terms.specs.declared.theory.Theory.{Theory}
-use Rattle.mau_terms.specs.Lawful.{AreLawful}
 use Rattle.mau_terms.proofs.Pieces.{Each-append, IsPiece}
 use Rattle.mau_terms.proofs.Finite.{length-arrange}
 use Rattle.mau_terms.proofs.Wholes.{norm-reading}
-use Rattle.mau_terms.proofs.Normal.{IsNormal, norm_normal, norm-norm, whole_pieces}
+use Rattle.mau_terms.proofs.Normal.{IsNormal, norm_normal, whole_pieces}
 use Rattle.mau_terms.proofs.Chains.{first_bare}
 use Rattle.mau_terms.proofs.Law.{equal_norm}
 use Rattle.mau_terms.proofs.Solutions.{length-map, with_values_norms, list_of_made}
@@ -22,10 +21,7 @@ use Rattle.mau_extend.proofs.Widened.{Lacks, lacks, variables_widened}
 use Rattle.mau_extend.proofs.Lists.{own_list, no_list, each_piece, norm-widened}
 use Rattle.mau_extend.proofs.OfKind.{bare_within, top_assoc}
 use Rattle.mau_extend.proofs.Around.{IsAround, around_is, sorts_within, has_around, value_kept, with_values_widened}
-
-pub norms_twice : (th : ℕ → Theory) → AreLawful th → (ts : List Tree) → map (norm th) (map (norm th) ts) ≡ map (norm th) ts
-norms_twice th lawful [] = refl
-norms_twice th lawful (t ∷ ts) = ap₂ (λ u us. u ∷ us) (norm-norm th lawful t) (norms_twice th lawful ts)
+use Rattle.mau_canon.proofs.Standing.{map-norm-norm}
 
 module _ (s : SignatureOf) (lawful : IsLawful (terms_over s)) (P : ℕ → Tree → Type 0) (q : Question) (h k : Bool) (f : ℕ) (a b : Variable) (can : CanBeWidened s q h f a b) where
   abbrev th : ℕ → Theory
@@ -63,7 +59,7 @@ module _ (s : SignatureOf) (lawful : IsLawful (terms_over s)) (P : ℕ → Tree 
       let same : with_values wide is.bare ≡ widened h k f split.first inst split.last =
       ap (with_values wide) split.whole ∙ with_values_widened f a b q.pattern no_first can.last.free can.apart bs long split.first split.last h k in
       let norms : norm (theory_at s) inst ≡ norm (theory_at s) (with_values q.pattern vs) =
-      with_values_norms (theory_at s) q.pattern bs vs (sym (norms_twice (theory_at s) lawful.theories bs) ∙ ap (map (norm (theory_at s))) split.values) in
+      with_values_norms (theory_at s) q.pattern bs vs (sym (map-norm-norm (theory_at s) lawful.theories bs) ∙ ap (map (norm (theory_at s))) split.values) in
       sym (equal_norm (terms_over s) lawful is.solves.0.equal) ∙ ap (norm (theory_at s)) same
       ∙ norm-widened (theory_at s) lawful.theories f assoc h k split.first inst split.last
       ∙ ap₂ (λ us ws. over_list (theory_at s f) f (us ++ (list_under (theory_at s f) f (norm (theory_at s) inst) ++ ws)))
@@ -107,7 +103,7 @@ module _ (s : SignatureOf) (lawful : IsLawful (terms_over s)) (P : ℕ → Tree 
       ap (with_values wide) split.whole ∙ with_values_widened f a b q.pattern no_first can.last.free can.apart bs long split.first split.last h k in
       let names = variables_widened f a b q.pattern no_first can.last.free can.apart h k in
       let norms : norm (theory_at s) inst ≡ norm (theory_at s) (with_values q.pattern vs) =
-      with_values_norms (theory_at s) q.pattern bs vs (sym (norms_twice (theory_at s) lawful.theories bs) ∙ ap (map (norm (theory_at s))) split.values) in
+      with_values_norms (theory_at s) q.pattern bs vs (sym (map-norm-norm (theory_at s) lawful.theories bs) ∙ ap (map (norm (theory_at s))) split.values) in
       record {
         bare = bs;
         values = split.values;

@@ -1,6 +1,5 @@
 -- The laws of widened patterns. Each is proved: a public function of the module `laws` has it for its contract.
 use Rattle.std.specs.Prelude.{◌≡◌, ℕ, Bool, Some}
-use Rattle.mau_terms.specs.Tree.{Tree}
 use Rattle.mau_terms.specs.Norm.{norm}
 use Rattle.mau_terms.specs.Bare.{IsBare, IsLawful}
 use Rattle.mau_terms.specs.Reading.{reading}

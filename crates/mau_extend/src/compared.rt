@@ -11,7 +11,6 @@ ghost use Rattle.mau_canon.specs.Within.{StandWithin};
 ghost use Rattle.mau_api.specs.Places.{under_all, AreUnderOperators};
 ghost use Rattle.mau_api.specs.Asked.{found_in};
 ghost use Rattle.mau_api.specs.Next.{found_cmp, IsBehind};
-ghost use Rattle.mau_plain.specs.Tried.{ArePlacesOf};
 ghost use Rattle.mau_extend.specs.Widened.{IsWide};
 
 use mau_api::{Place, Solution, compare_lists, compare_values};

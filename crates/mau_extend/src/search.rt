@@ -1,10 +1,8 @@
 //! The search for the next solution with contexts, shape after shape.
 ghost use Rattle.std.specs.Prelude.{◌≡◌, List, All, Contains, length, Some, true, false, IfOk, IfSome, IfNone};
 ghost use Rattle.std.specs.Option.{option_map};
-ghost use Rattle.mau_terms.specs.Norm.{norm};
-ghost use Rattle.mau_terms.specs.Solution.{assoc_top};
 ghost use Rattle.mau_terms.specs.View.{tree_of};
-ghost use Rattle.mau_signature.specs.Signature.{IsOperator, theory_at};
+ghost use Rattle.mau_signature.specs.Signature.{theory_at};
 ghost use Rattle.mau_sorts.specs.HasSort.{Known};
 ghost use Rattle.mau_store.specs.Node.{IsOf};
 ghost use Rattle.mau_store.specs.View.{numbers};
@@ -23,11 +21,11 @@ use crate::facts::has_one_kind;
 use crate::narrowed::narrowed;
 use crate::shape::Shape;
 use mau_api::{Lister, Place, Solution};
-use mau_plain::{Trial, has_nodes, is_lawful};
+use mau_plain::{Trial, is_lawful};
 use mau_signature::Signature;
 use mau_sorts::SortTable;
 use mau_store::Store;
-use mau_terms::{NoMemory, OpId};
+use mau_terms::NoMemory;
 
 /// The next solution of a listing of the widened pattern.
 fn next_wide<L: Lister>(

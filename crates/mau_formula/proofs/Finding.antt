@@ -20,7 +20,3 @@ pub find_further : {X Y : Type 0} (f : X → Y) (test : Y → Bool) (xs : List X
     → find test (map f (drop i xs)) ≡ find test (map f (drop (i + 1) xs))
 find_further f test xs i x h e t =
     rw add-one (ap (λ ys. find test (map f ys)) (drop-cons xs i x h) ∙ first_fails test (f (get_or xs i x)) (map f (drop (suc i) xs)) (ap (λ y. test (f y)) (sym e) ∙ t))
-
--- nothing behind the last place
-pub find_none : {X Y : Type 0} (f : X → Y) (test : Y → Bool) (xs : List X) (i : ℕ) → length xs ≤ i → find test (map f (drop i xs)) ≡ None
-find_none f test xs i h = ap (λ ys. find test (map f ys)) (drop_all i xs h)

@@ -1,7 +1,6 @@
 //! Values on edges, and a table of hooks.
 use super::*;
 use mau_terms::Text;
-use std::alloc::Global;
 use std::test::Fail;
 
 const MAX: u128 = 340282366920938463463374607431768211455;

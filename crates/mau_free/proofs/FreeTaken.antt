@@ -1,21 +1,21 @@
 -- What a term can take as an argument of an operator that is not associative is just what is listed.
 use Rattle.std.proofs.Common.{◌≡◌, ℕ, ◌+◌, ◌-◌, ◌<◌, ◌≤◌, ◌==◌, ◌&&◌, nat_lt, List, [], ◌∷◌, ◌++◌, map, length, Bool, true, false, Option, Some, None, if◌then◌else◌, inl, inr, ◌⊎◌, refl, sym, ◌∙◌, ap, ap₂, subst, arith, eq-eqb, eqb-true}
 use Rattle.std.proofs.lemmas.Bool.{lt-ltb, ltb-true}
-use Rattle.mau_terms.specs.Tree.{Tree, variable, numeral, apply, Trees, no_trees, tree, node, list_of, trees_of}
+use Rattle.mau_terms.specs.Tree.{Tree, variable, numeral, apply, no_trees, tree, node, list_of, trees_of}
 use Rattle.mau_terms.specs.Norm.{greatest_numeral, unit_tree, elements, pieces, all_pieces, arrange, finish, over_one, build, norm}
-use Rattle.mau_terms.specs.Reading.{nest, reading, readings}
+use Rattle.mau_terms.specs.Reading.{nest, reading}
 use Rattle.mau_terms.specs.Bare.{TermSignature, IsBareIn, AreBareIn, IsBare, IsLawful}
 use Rattle.mau_terms.specs.CanTake.{CanTakeNormal}
 use Rattle.mau_terms.specs.Finite.{IsIn}
 use Rattle.mau_terms.specs.declared.theory.Identity.{Identity}
-use Rattle.mau_terms.specs.declared.theory.Identity.TheVariants.{Const, Num}
 use Rattle.mau_terms.specs.declared.theory.Theory.{Theory}
 use Rattle.mau_terms.proofs.Induction.{norm-node}
-use Rattle.mau_terms.proofs.Pieces.{Split, unit, many, one, split, Each, alone_element, arrange_none, arrange_one, unit_is_unit, list_of-trees_of}
+use Rattle.mau_terms.proofs.Pieces.{Split, unit, many, one, split, alone_element, arrange_none, arrange_one, unit_is_unit, list_of-trees_of}
 use Rattle.mau_terms.proofs.Normal.{IsNormal, norm_normal, normal_fixed, each_normal, unit_normal, finish_long}
 use Rattle.mau_terms.proofs.Finite.{in_left, in_right, in_arrange, length-arrange}
 use Rattle.mau_terms.proofs.Wholes.{norm-reading}
 use Rattle.mau_free.specs.Arguments.{arguments_at, one_before, beside_unit, taken_of}
+use Rattle.mau_parts.proofs.TakenLists.{readings_map, norms_of_readings}
 
 module _ (s : TermSignature) (lawful : IsLawful s) (f : ℕ) (a : (s.theory f).assoc ≡ false) (h : s.has_operator f ≡ true) where
   abbrev th : ℕ → Theory
@@ -23,14 +23,6 @@ module _ (s : TermSignature) (lawful : IsLawful s) (f : ℕ) (a : (s.theory f).a
 
   abbrev r : ℕ
   r = s.result f
-
-  readings_map : (ts : Trees) → readings s.theory ts ≡ map (reading s.theory) (list_of ts)
-  readings_map no_trees = refl
-  readings_map (tree t ts) = ap (λ w. reading th t ∷ w) (readings_map ts)
-
-  norms_of_readings : (ts : List Tree) → Each (IsNormal s.theory) ts → map (norm s.theory) (map (reading s.theory) ts) ≡ ts
-  norms_of_readings [] n = refl
-  norms_of_readings (t ∷ ts) n = ap₂ (λ v w. v ∷ w) (norm-reading th lawful.theories t n.0) (norms_of_readings ts n.1)
 
   -- f over bare arguments, which are not nested
   taken_by : (t v : Tree) (us zs : List Tree) → IsBareIn s (node f us) (s.result f) → map (norm s.theory) us ≡ zs → IsIn v zs → build (s.theory f) f zs ≡ t → CanTakeNormal s f t v
@@ -60,8 +52,8 @@ module _ (s : TermSignature) (lawful : IsLawful s) (f : ℕ) (a : (s.theory f).a
             let m : IsNormal s.theory (apply f ts) = subst (IsNormal th) top normal_t in
             let zs = list_of ts in
             let us = map (reading s.theory) zs in
-            let norms : map (norm s.theory) us ≡ zs = norms_of_readings zs (each_normal th ts m.0) in
-            let same : reading s.theory t ≡ node f us = ap (reading th) top ∙ ap₂ (λ c w. nest c f w) a (readings_map ts) in
+            let norms : map (norm s.theory) us ≡ zs = norms_of_readings s lawful zs (each_normal th ts m.0) in
+            let same : reading s.theory t ≡ node f us = ap (reading th) top ∙ ap₂ (λ c w. nest c f w) a (readings_map s ts) in
             taken_by t v us zs (subst (λ w. IsBareIn s w r) same b) norms i
             (ap (build (s.theory f) f) (sym norms) ∙ sym (norm-node th f us) ∙ ap (norm th) (sym same) ∙ norm-reading th lawful.theories t normal_t)
 
@@ -92,14 +84,6 @@ module _ (s : TermSignature) (lawful : IsLawful s) (f : ℕ) (a : (s.theory f).a
                 ap₂ (λ p q. finish p None q f (arrange c (numeral k ∷ []))) a es
                 ∙ ap (finish false None true f) (arrange_one c (numeral k))
                 ∙ ap (λ d. if d then numeral (k + 1) else node f (numeral k ∷ [])) (lt-ltb k greatest_numeral l)
-
-    reading_unit : (i : Identity) → reading s.theory (unit_tree i) ≡ unit_tree i
-    reading_unit (Const c) = by (s.theory c.0).assoc
-      where
-        by : (d : Bool) → nest d c.0 [] ≡ apply c.0 no_trees
-        by true = refl
-        by false = refl
-    reading_unit (Num m) = refl
 
     -- the identity beside t makes t
     unit_beside : (i : Identity) → (s.theory f).id ≡ Some i → build (s.theory f) f (unit_tree i ∷ t ∷ []) ≡ t

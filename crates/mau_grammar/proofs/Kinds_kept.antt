@@ -7,6 +7,7 @@ use Rattle.std.proofs.lemmas.Bool.Decides.{nat_tests}
 use Rattle.std.proofs.lemmas.List.{length-map}
 use Rattle.std.proofs.lemmas.List.Sums.{sum_by-cons}
 use Rattle.std.proofs.lemmas.List.Elements.{All-nil, All-cons, All-append, All-filter, All-map, All-push}
+use Rattle.std.proofs.lemmas.Option.{same_Some, none-some}
 use Rattle.mau_terms.specs.declared.ids.OpId.{OpId}
 use Rattle.mau_terms.specs.Bare.{IsLawful}
 use Rattle.mau_poset.specs.Order.{Hierarchy, kind_of, kinds}
@@ -25,22 +26,11 @@ use Rattle.mau_grammar.specs.declared.production.Part.{Part}
 use Rattle.mau_grammar.specs.declared.production.Part.TheVariants.{Word as Letters, Hole as Place}
 use Rattle.mau_grammar.specs.declared.production.Production.{Production}
 use Rattle.mau_grammar.specs.declared.sorts.SortName.{SortName}
-use Rattle.mau_grammar.specs.Production.{word, any, production}
+use Rattle.mau_grammar.specs.Production.{word, any, production, place_kinds}
 use Rattle.mau_grammar.specs.Parts.{parts_from, words_of, one_word, prefix_name, head_of, listed, in_parentheses}
 use Rattle.mau_grammar.specs.Productions.{operator, argument_kinds, level, is_written, written, list_kind, pair, chained, prefixed_by, with_head, prefixed, of_operator, of_operators, of_kinds, sorted, sort_names, productions_of}
 
-some_one : {A : Type 0} (x y : A) → Some x ≡ Some y → x ≡ y
-some_one x y e = cc
-
-none_some : {A : Type 0} (x : A) → ◌≡◌ {A = Option A} None (Some x) → ⊥
-none_some x e = cc
-
 -- ---- kinds of places
-
-abbrev pub place_kinds : List Part → List ℕ
-place_kinds [] = []
-place_kinds (Letters w ∷ ps) = place_kinds ps
-place_kinds (Place p ∷ ps) = p.kind ∷ place_kinds ps
 
 kinds-append : (ps qs : List Part) → place_kinds (ps ++ qs) ≡ place_kinds ps ++ place_kinds qs
 kinds-append [] qs = refl
@@ -56,9 +46,9 @@ head_kinds : (form : List Piece) (head : List Part) → head_of form ≡ Some he
 head_kinds form head e = by (holes form == 0) (prefix_name form) e
   where
     by : (b : Bool) (n : Option (List ℕ)) → (if b then Some (words_of form) else option_map one_word n) ≡ Some head → place_kinds head ≡ []
-    by true n q = subst (λ h. place_kinds h ≡ []) (some_one (words_of form) head q) (words_kinds form)
-    by false None q = absurd (none_some head q)
-    by false (Some w) q = subst (λ h. place_kinds h ≡ []) (some_one (one_word w) head q) refl
+    by true n q = subst (λ h. place_kinds h ≡ []) (same_Some (words_of form) head q) (words_kinds form)
+    by false None q = absurd (none-some head q)
+    by false (Some w) q = subst (λ h. place_kinds h ≡ []) (same_Some (one_word w) head q) refl
 
 listed_kinds : (b : Bool) (ks : List ℕ) (qs : List Part) → place_kinds (listed b ks ++ qs) ≡ ks ++ place_kinds qs
 listed_kinds b [] qs = refl
@@ -67,12 +57,6 @@ listed_kinds b (k ∷ ks) qs = ap (λ ls. k ∷ ls) (listed_kinds false ks qs)
 none_right : (ks : List ℕ) → ks ++ [] ≡ ks
 none_right [] = refl
 none_right (k ∷ ks) = ap (λ ls. k ∷ ls) (none_right ks)
-
-enclosed_kinds : (head : List Part) (ks : List ℕ) (qs : List Part) → place_kinds head ≡ [] → place_kinds qs ≡ [] → place_kinds ((head ++ in_parentheses ks) ++ qs) ≡ ks
-enclosed_kinds head ks qs e h =
-    kinds-append (head ++ in_parentheses ks) qs
-    ∙ ap₂ (λ a b. a ++ b) (kinds-append head (in_parentheses ks) ∙ ap₂ (λ a b. a ++ b) e (listed_kinds true ks (word (codes ")") ∷ []) ∙ none_right ks)) h
-    ∙ none_right ks
 
 behind_kinds : (head : List Part) (ks : List ℕ) → place_kinds head ≡ [] → place_kinds (head ++ in_parentheses ks) ≡ ks
 behind_kinds head ks e = kinds-append head (in_parentheses ks) ∙ ap₂ (λ a b. a ++ b) e (listed_kinds true ks (word (codes ")") ∷ []) ∙ none_right ks)
@@ -84,7 +68,7 @@ drop_all (k ∷ ks) zero h = absurd (omega arith)
 drop_all (k ∷ ks) (suc n) h = drop_all ks n (omega arith)
 
 -- as many holes as kinds are left: these are the kinds of the places
-form_kinds : (d : Decl) (ks : List ℕ) (form : List Piece) (n : ℕ) → n + holes form ≡ length ks → place_kinds (parts_from d ks form n) ≡ drop n ks
+pub form_kinds : (d : Decl) (ks : List ℕ) (form : List Piece) (n : ℕ) → n + holes form ≡ length ks → place_kinds (parts_from d ks form n) ≡ drop n ks
 form_kinds d ks [] n e = drop_all ks n (omega (arith, e))
 form_kinds d ks (Word w ∷ ps) n e = form_kinds d ks ps n (omega (arith, e, sum_by-cons (λ p. cond (is_hole p) 1 0) (Word w) ps))
 form_kinds d ks (Hole ∷ ps) n e =
@@ -176,12 +160,12 @@ pub record IsProper (s : SignatureOf) (p : Production) : Type 0 where
 
 made_proper : (s : SignatureOf) (k q f : ℕ) (ps : List Part) → IsMadeBy s f (production k q (operator f) ps) → IsProper s (production k q (operator f) ps)
 made_proper s k q f ps m = record {
-  made = λ g e. subst (λ (o : OpId). IsMadeBy s o.0 (production k q (operator f) ps)) (some_one (record { 0 = f }) g e) m;
-  same = λ e. absurd (none_some (record { 0 = f }) (sym e));
+  made = λ g e. subst (λ (o : OpId). IsMadeBy s o.0 (production k q (operator f) ps)) (same_Some (record { 0 = f }) g e) m;
+  same = λ e. absurd (none-some (record { 0 = f }) (sym e));
 }
 
 same_proper : (s : SignatureOf) (k q : ℕ) (ps : List Part) → map (meaning s) (place_kinds ps) ≡ meaning s k ∷ [] → IsProper s (production k q None ps)
-same_proper s k q ps m = record { made = λ g e. absurd (none_some g e); same = λ e. m }
+same_proper s k q ps m = record { made = λ g e. absurd (none-some g e); same = λ e. m }
 
 -- what is known of the operator f, whose first declaration is d
 record IsOwn (s : SignatureOf) (f : ℕ) (d : Decl) : Type 0 where

@@ -3,6 +3,7 @@ use Rattle.std.proofs.Common.{cond, ◌≡◌, ◌≢◌, ℕ, zero, suc, ◌+�
 use Rattle.std.specs.Option.{option_map}
 use Rattle.std.proofs.lemmas.List.Elements.{All-nil, All-cons, All-append}
 use Rattle.std.proofs.lemmas.List.Sums.{sum_by-append}
+use Rattle.std.proofs.lemmas.Option.{same_Some, none-some}
 use Rattle.mau_poset.specs.Order.{Hierarchy, kind_of, kinds}
 use Rattle.mau_signature.specs.declared.form.Piece.{Piece}
 use Rattle.mau_signature.specs.declared.form.Piece.TheVariants.{Hole, Word}
@@ -33,19 +34,13 @@ words_places [] = refl
 words_places (Hole ∷ ps) = words_places ps
 words_places (Word w ∷ ps) = words_places ps
 
-some_one : {A : Type 0} (x y : A) → Some x ≡ Some y → x ≡ y
-some_one x y e = cc
-
-none_some : {A : Type 0} (x : A) → ◌≡◌ {A = Option A} None (Some x) → ⊥
-none_some x e = cc
-
 head_places : (form : List Piece) (head : List Part) → head_of form ≡ Some head → places head ≡ 0
 head_places form head e = by (holes form == 0) (prefix_name form) e
   where
     by : (b : Bool) (n : Option (List ℕ)) → (if b then Some (words_of form) else option_map one_word n) ≡ Some head → places head ≡ 0
-    by true n q = subst (λ h. places h ≡ 0) (some_one (words_of form) head q) (words_places form)
-    by false None q = absurd (none_some head q)
-    by false (Some w) q = subst (λ h. places h ≡ 0) (some_one (one_word w) head q) refl
+    by true n q = subst (λ h. places h ≡ 0) (same_Some (words_of form) head q) (words_places form)
+    by false None q = absurd (none-some head q)
+    by false (Some w) q = subst (λ h. places h ≡ 0) (same_Some (one_word w) head q) refl
 
 -- ---- shapes
 
@@ -58,7 +53,7 @@ no_start p ps e = cc
 
 -- with an operator only a part is needed
 with_operator : (k q f : ℕ) (ps : List Part) → ps ≢ [] → IsShaped (production k q (operator f) ps)
-with_operator k q f ps n = record { some = n; one = λ e. absurd (none_some (record { 0 = f }) (sym e)) }
+with_operator k q f ps n = record { some = n; one = λ e. absurd (none-some (record { 0 = f }) (sym e)) }
 
 behind : (head : List Part) (ks : List ℕ) → head ++ in_parentheses ks ≢ []
 behind [] ks e = no_end _ (word (codes ")")) e

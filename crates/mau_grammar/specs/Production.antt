@@ -1,5 +1,5 @@
 -- Productions: the ways to write a term of a kind.
-use Rattle.std.specs.Prelude.{◌≡◌, ◌≢◌, ℕ, List, [], Bool, true, false, Option, None, count_by}
+use Rattle.std.specs.Prelude.{◌≡◌, ◌≢◌, ℕ, List, [], ◌∷◌, Bool, true, false, Option, None, count_by}
 use Rattle.mau_terms.specs.declared.ids.OpId.{OpId}
 use Rattle.mau_grammar.specs.declared.production.Part.{Part}
 use Rattle.mau_grammar.specs.declared.production.Part.TheVariants.{Word, Hole as Place}
@@ -31,6 +31,12 @@ is_place (Place h) = true
 -- how many places for terms there are
 abbrev pub places : List Part → ℕ
 places ps = count_by is_place ps
+
+-- the kinds of the places, in order
+abbrev pub place_kinds : List Part → List ℕ
+place_kinds [] = []
+place_kinds (Word w ∷ ps) = place_kinds ps
+place_kinds (Place h ∷ ps) = h.kind ∷ place_kinds ps
 
 -- A production has a part; and one without an operator has one place, whose term it is.
 pub record IsShaped (p : Production) : Type 0 where

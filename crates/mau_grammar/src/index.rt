@@ -1,5 +1,5 @@
 //! Productions by their words, so that a text is read by those alone that may read it.
-ghost use Rattle.std.specs.Prelude.{◌≡◌, [], ℕ, List, length, IfOk, OnOk, IfSome, IfNone};
+ghost use Rattle.std.specs.Prelude.{◌≡◌, [], ℕ, List, length, IfOk};
 ghost use Rattle.std.specs.Option.{option_map, option_map_or};
 ghost use Rattle.std.specs.HashMap.{get_by_text};
 ghost use Rattle.mau_grammar.specs.Index.{first_plain, first_word, key_of, key_at, keys_to, numbers_with, keyed, wordless, IsIndexOf};

@@ -1,10 +1,9 @@
 //! The productions of operators.
-ghost use Rattle.std.specs.Prelude.{◌≡◌, ◌≤◌, ◌<◌, ◌+◌, ◌++◌, ◌∷◌, [], List, OnOk, IfOk, not, length};
-ghost use Rattle.mau_poset.specs.Order.{Hierarchy, kinds};
+ghost use Rattle.std.specs.Prelude.{◌≡◌, ◌≤◌, ◌<◌, ◌+◌, ◌++◌, ◌∷◌, [], OnOk, IfOk, length};
+ghost use Rattle.mau_poset.specs.Order.{kinds};
 ghost use Rattle.mau_signature.specs.declared.decl.Decl.{Decl};
-ghost use Rattle.mau_signature.specs.Signature.{IsOperator, declarations_at};
 ghost use Rattle.mau_signature.specs.declared.TheConstants.{MAX_DECLARATIONS};
-ghost use Rattle.mau_grammar.specs.Productions.{written, prefixed, prefixed_by, of_operator, of_operators, list_kind, argument_kinds};
+ghost use Rattle.mau_grammar.specs.Productions.{written, prefixed, prefixed_by, of_operator, of_operators};
 
 use crate::parts::{parts_in_order, push_arguments};
 use crate::precedence::precedence;

@@ -1,7 +1,7 @@
 //! How loosely an operator binds, and which terms its places admit.
 ghost use Rattle.std.specs.Prelude.{◌≡◌, ◌<◌};
 ghost use Rattle.mau_signature.specs.Form.{is_hole};
-ghost use Rattle.mau_grammar.specs.Precedence.{is_hole_at, begins_with_hole, ends_with_hole, is_closed, is_end_hole, default_precedence, precedence, is_chain, default_gather, gather_in, admitted, upto};
+ghost use Rattle.mau_grammar.specs.Precedence.{is_hole_at, begins_with_hole, ends_with_hole, is_closed, is_end_hole, default_precedence, precedence, is_chain, default_gather, gather_in, upto};
 
 use mau_signature::{Decl, Form, Gather, Piece};
 

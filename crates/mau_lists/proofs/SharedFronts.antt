@@ -13,9 +13,14 @@ use Rattle.mau_store.specs.Trees.{tree_at}
 use Rattle.mau_lists.specs.declared.fronts.Window.{Window}
 use Rattle.mau_lists.specs.Terms.{by_tree, no_term}
 use Rattle.mau_lists.specs.Following.{next_front, after_front, next_part, least_of, cut, FitsIn}
-use Rattle.mau_lists.specs.Fronts.{ShareFront, BeginsAs, BeginAlike}
+use Rattle.mau_lists.specs.Fronts.{ShareFront, BeginAlike}
 use Rattle.mau_lists.proofs.Steps.{front_found, front_met, part_step, pair_ties}
 use Rattle.mau_lists.proofs.Least.{least_of-assoc}
+
+-- a part of items, by its place and length, begins as last does, but for the part's last element
+abbrev pub BeginsAs : List Node → List TermId → List TermId → Option (ℕ × ℕ) → Type 0
+BeginsAs nodes last items None = Unit {0}
+BeginsAs nodes last items (Some p) = ShareFront nodes last (drop p.0 items) (p.1 - 1)
 
 pub by_tree_total : (nodes : List Node) → IsTotalOrder (by_tree nodes)
 by_tree_total nodes = on_total (λ x. tree_at nodes x.0) tree_total

@@ -19,11 +19,6 @@ AreFronts nodes xs fronts n = (d : ℕ) → 0 < d → d < n → ShareFront nodes
 abbrev pub KnowsPlace : List Node → List TermId → List ℕ → ℕ → ℕ → Type 0
 KnowsPlace nodes xs fronts d n = 0 < d → d < n → (d < length fronts) × ShareFront nodes xs (drop d xs) (slice_index fronts d)
 
--- a part of items, by its place and length, begins as last does, but for the part's last element
-abbrev pub BeginsAs : List Node → List TermId → List TermId → Option (ℕ × ℕ) → Type 0
-BeginsAs nodes last items None = Unit {0}
-BeginsAs nodes last items (Some p) = ShareFront nodes last (drop p.0 items) (p.1 - 1)
-
 -- a part of items and the one of so many elements from start on begin alike, but for the last element of the shorter one
 abbrev pub BeginAlike : List Node → List TermId → ℕ → ℕ → Option (ℕ × ℕ) → Type 0
 BeginAlike nodes items start len None = Unit {0}

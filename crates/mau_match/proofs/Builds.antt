@@ -1,5 +1,6 @@
 -- What stood among an operator's arguments, by what was built of them.
 use Rattle.std.proofs.Common.{◌≡◌, ℕ, suc, ◌+◌, ◌≤◌, List, [], ◌∷◌, ◌++◌, length, Bool, true, false, ◌&&◌, nat_lt, Option, Some, None, inl, inr, ◌⊎◌, if◌then◌else◌, refl, sym, ◌∙◌, ap, ap₂, subst, arith}
+use Rattle.std.proofs.lemmas.Bool.{and_parts}
 use Rattle.mau_terms.specs.Tree.{Tree, variable, numeral, apply, node}
 use Rattle.mau_terms.specs.Norm.{greatest_numeral, unit_tree, pieces, all_pieces, arrange, finish, over_one, made, build}
 use Rattle.mau_terms.specs.Solution.{list_under}
@@ -9,11 +10,7 @@ use Rattle.mau_terms.specs.declared.theory.Theory.{Theory}
 use Rattle.mau_terms.proofs.Pieces.{Split, unit, many, one, split, Each, alone_element, arrange_one}
 use Rattle.mau_terms.proofs.Normal.{IsNormal, whole_all_pieces}
 use Rattle.mau_terms.proofs.Solutions.{list_of_made}
-use Rattle.mau_terms.proofs.Finite.{AllIn, AllIn-itself, AllIn-arrange, length-arrange, pieces_within}
-
-both_true : (a b : Bool) → (a && b) ≡ true → (a ≡ true) × (b ≡ true)
-both_true true b e = (refl, e)
-both_true false b e = cc
+use Rattle.mau_terms.proofs.Finite.{AllIn, AllIn-itself, AllIn-arrange, length-arrange}
 
 pub all_in : {A : Type 0} (xs ys : List A) (z : A) → AllIn xs ys → IsIn z xs → IsIn z ys
 all_in [] ys z a h = absurd h
@@ -33,19 +30,6 @@ pub data Built (h : Theory) (f : ℕ) (zs : List Tree) (v : Tree) : Type 0 where
 pieces_none : (f : ℕ) (zs : List Tree) → all_pieces false None f zs ≡ zs
 pieces_none f [] = refl
 pieces_none f (z ∷ zs) = ap₂ (λ a b. a ++ b) (alone_element f z) (pieces_none f zs)
-
--- each argument is the identity, or among the pieces
-unit_or_piece : (i : Identity) (f : ℕ) (z : Tree) (zs : List Tree) → IsIn z zs → (z ≡ unit_tree i) ⊎ IsIn z (all_pieces false (Some i) f zs)
-unit_or_piece i f z zs h = by (split false (Some i) f z)
-  where
-    by : Split false (Some i) f z → (z ≡ unit_tree i) ⊎ IsIn z (all_pieces false (Some i) f zs)
-    by (unit j e k p) = inl (k ∙ ap unit_tree (sym (let l : i ≡ j = cc in l)))
-    by (many ts e k p) = cc
-    by (one p) = inr ((subst (λ w. AllIn w (all_pieces false (Some i) f zs)) p (pieces_within false (Some i) f z zs h)).0)
-
-each_from : (P : Tree → Type 0) (zs : List Tree) → ((z : Tree) → IsIn z zs → P z) → Each P zs
-each_from P [] h = tt
-each_from P (z ∷ zs) h = (h z (inl refl), each_from P zs (λ y k. h y (inr k)))
 
 two_pieces : (i : Identity) (f : ℕ) (zs : List Tree) → length zs ≡ 2 → 2 ≤ length (all_pieces false (Some i) f zs) → all_pieces false (Some i) f zs ≡ zs
 two_pieces i f [] l m = absurd (omega (arith, l))
@@ -137,7 +121,7 @@ built_other th f zs a two = subst (λ b. Built (th f) f zs (made b c (th f).id s
         single (numeral n) i o = test (s && nat_lt n greatest_numeral) refl
           where
             test : (b : Bool) → (s && nat_lt n greatest_numeral) ≡ b → Built (th f) f zs (if b then numeral (n + 1) else node f (numeral n ∷ []))
-            test true e = counted n (both_true s (nat_lt n greatest_numeral) e).0 refl i
+            test true e = counted n (and_parts s (nat_lt n greatest_numeral) e).0 refl i
             test false e = put (numeral n ∷ []) _ i o refl
     none (t ∷ t' ∷ ys) i o = put (t ∷ t' ∷ ys) _ i o refl
 

@@ -1,5 +1,6 @@
 -- In each answer the value of a variable is of one of the parts that the walk gives.
 use Rattle.std.proofs.Common.{◌≡◌, ℕ, suc, List, [], ◌∷◌, ◌++◌, length, map, Bool, true, false, ◌||◌, Contains, inl, inr, if◌then◌else◌, refl, sym, ◌∙◌, ap, subst, arith}
+use Rattle.std.proofs.lemmas.Bool.{or_left, or_right}
 use Rattle.mau_terms.specs.Tree.{Tree, variable, numeral, apply, Trees, no_trees, tree}
 use Rattle.mau_terms.specs.Norm.{norm, norms}
 use Rattle.mau_terms.specs.Lawful.{AreLawful}
@@ -22,14 +23,6 @@ use Rattle.mau_match.specs.Laws.{PartsHoldAnswers}
 use Rattle.mau_match.proofs.Fair.{bare_fair}
 use Rattle.mau_match.proofs.Occurring.{occurring_among, instance_along, instances_along}
 use Rattle.mau_match.proofs.NothingMissed.{walk}
-
-or_left : (a b : Bool) → a ≡ true → (a || b) ≡ true
-or_left true b e = refl
-or_left false b e = cc
-
-or_right : (a b : Bool) → b ≡ true → (a || b) ≡ true
-or_right true b e = refl
-or_right false b e = e
 
 mutual
   pub occurs_has : (x : Variable) (p : Tree) → Occurs x p → occurs x p ≡ true

@@ -1,41 +1,17 @@
 -- Bare instances are fair.
 use Rattle.std.proofs.Common.{◌≡◌, ℕ, suc, List, [], ◌∷◌, length, true, None, inl, inr, refl, sym, ◌∙◌, ap, subst}
-use Rattle.mau_terms.specs.Tree.{Tree, variable, numeral, apply, Trees, no_trees, tree, list_of}
+use Rattle.mau_terms.specs.Tree.{Tree, variable, numeral, apply, Trees, no_trees, tree}
 use Rattle.mau_terms.specs.Norm.{norm, norms}
-use Rattle.mau_terms.specs.Reading.{reading, nest}
-use Rattle.mau_terms.specs.Bare.{TermSignature, IsBareIn, AreBareIn, IsBare, EqualModulo, same_term, one_step, IsLawful}
+use Rattle.mau_terms.specs.Bare.{TermSignature, IsBareIn, AreBareIn, IsBare, IsLawful}
 use Rattle.mau_terms.specs.Subst.{Variable, instance, instances}
 use Rattle.mau_terms.specs.Solution.{list_under}
 use Rattle.mau_terms.specs.Finite.{IsIn}
-use Rattle.mau_terms.proofs.Pieces.{Split, unit, many, one, split}
-use Rattle.mau_terms.proofs.Law.{equal_reading}
 use Rattle.mau_match.specs.Parts.{IsFairAt, IsFair, AreFair}
-
-bare_end : (s : TermSignature) {t u : Tree} → EqualModulo s t u → IsBare s u
-bare_end s (same_term b) = b
-bare_end s (one_step b x p) = bare_end s p
+use Rattle.mau_parts.proofs.TakenLists.{bare_filled}
 
 module _ (s : TermSignature) (lawful : IsLawful s) where
-  -- no bare term has the empty list of an associative operator as its normal form
-  never_empty : (t : Tree) → IsBare s t → (f : ℕ) → (s.theory f).assoc ≡ true → norm s.theory t ≡ apply f no_trees → ⊥
-  never_empty t b f a e = by (subst (λ w. IsBare s (reading s.theory w)) e (bare_end s (equal_reading s lawful t b)))
-    where
-      by : IsBare s (reading s.theory (apply f no_trees)) → ⊥
-      by h =
-          let b' : IsBare s (apply f no_trees) = subst (λ c. IsBare s (nest c f [])) a h in
-          subst (AreBareIn s no_trees) (lawful.assoc_kinds f a) b'.1.2
-
   pub filled : (t : Tree) → IsBare s t → (f : ℕ) → (s.theory f).assoc ≡ true → (s.theory f).id ≡ None → list_under (s.theory f) f (norm s.theory t) ≡ [] → ⊥
-  filled t b f a n e = by (split (s.theory f).assoc (s.theory f).id f (norm s.theory t))
-    where
-      by : Split (s.theory f).assoc (s.theory f).id f (norm s.theory t) → ⊥
-      by (unit i u k p) = cc
-      by (one p) = cc
-      by (many ts h k p) = none ts (sym p ∙ e) k
-        where
-          none : (ts : Trees) → list_of ts ≡ [] → norm s.theory t ≡ apply f ts → ⊥
-          none no_trees j k = never_empty t b f a k
-          none (tree v vs) j k = cc
+  filled t b f a n e = bare_filled s lawful f a t b n e
 
   as_long : (ts : Trees) (ks : List ℕ) → AreBareIn s ts ks → length (norms s.theory ts) ≡ length ks
   as_long no_trees [] b = refl

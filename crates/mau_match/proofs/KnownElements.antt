@@ -1,5 +1,6 @@
 -- What is known of the instance of a pattern by the values of some of its variables.
 use Rattle.std.proofs.Common.{◌≡◌, ℕ, List, [], ◌∷◌, ◌++◌, Bool, true, false, ◌&&◌, ◌==◌, if◌then◌else◌, refl, sym, ◌∙◌, ap, ap₂, subst, append_assoc, append-nil, eqb-true}
+use Rattle.std.proofs.lemmas.Bool.{and_parts}
 use Rattle.mau_terms.specs.Tree.{Tree, variable, numeral, apply, Trees, no_trees, tree}
 use Rattle.mau_terms.specs.Order.{sort_trees}
 use Rattle.mau_terms.specs.Norm.{all_pieces, arrange, build, norm, norms}
@@ -10,12 +11,9 @@ use Rattle.mau_terms.specs.declared.theory.Theory.{Theory}
 use Rattle.mau_terms.proofs.Sorting.{sort-sort}
 use Rattle.mau_terms.proofs.Normal.{norms_normal}
 use Rattle.mau_match.specs.Parts.{is_bound, are_bound, known, known_in}
-use Rattle.mau_match.proofs.Removal.{more_right, more_left, past}
+use Rattle.mau_match.proofs.Removal.{more_right}
 use Rattle.mau_match.proofs.Builds.{list_of_built}
-
-both_true : (a b : Bool) → (a && b) ≡ true → (a ≡ true) × (b ≡ true)
-both_true true b e = (refl, e)
-both_true false b e = cc
+use Rattle.mau_parts.proofs.Reached.{more_left, past}
 
 -- two lists, each of what is known and more
 joined : (a b k m l n : List Tree) → sort_trees a ≡ sort_trees (k ++ m) → sort_trees b ≡ sort_trees (l ++ n) → sort_trees (a ++ b) ≡ sort_trees ((k ++ l) ++ (m ++ n))
@@ -36,7 +34,7 @@ module _ (th : ℕ → Theory) (bound : List Variable) (g gg : Variable → Tree
     pub bound_norms : (ps : Trees) → are_bound bound ps ≡ true → norms th (instances g ps) ≡ norms th (instances gg ps)
     bound_norms no_trees b = refl
     bound_norms (tree p ps) b =
-        let e = both_true (is_bound bound p) (are_bound bound ps) b in
+        let e = and_parts (is_bound bound p) (are_bound bound ps) b in
         ap₂ (λ v w. v ∷ w) (bound_norm p e.0) (bound_norms ps e.1)
 
   pub bound_known : (f : ℕ) (p : Tree) → is_bound bound p ≡ true → known th bound g x f p ≡ list_under (th f) f (norm th (instance gg p))
@@ -92,7 +90,7 @@ module _ (th : ℕ → Theory) (bound : List Variable) (g gg : Variable → Tree
           record {
             more = h.more ++ k.more;
             same = joined (list_under (th f) f (norm th (instance gg p))) (all_pieces (th f).assoc (th f).id f (norms th (instances gg ps))) (known th bound g x f p) h.more (known_in th bound g x f ps) k.more h.same k.same;
-            none = λ b. let e = both_true (is_bound bound p) (are_bound bound ps) b in ap₂ (λ v w. v ++ w) (h.none e.0) (k.none e.1);
+            none = λ b. let e = and_parts (is_bound bound p) (are_bound bound ps) b in ap₂ (λ v w. v ++ w) (h.none e.0) (k.none e.1);
           }
 
 -- where a pattern is bound, all elements of its instance are known

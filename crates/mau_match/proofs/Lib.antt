@@ -1,5 +1,4 @@
 -- The lemmas.
-pub mod Sizes
 pub mod Places
 pub mod Adding
 pub mod Taking

@@ -11,21 +11,19 @@ use Rattle.mau_signature.specs.Signature.{SignatureOf, theory_at, terms_over}
 use Rattle.mau_store.specs.Node.{Node}
 use Rattle.mau_store.specs.Trees.{trees_at}
 use Rattle.mau_store.specs.View.{numbers}
-use Rattle.mau_canon.specs.Within.{StandWithin}
 use Rattle.mau_sorts.specs.HasSort.{Known}
 use Rattle.mau_sorts.specs.Table.{Table}
 use Rattle.mau_api.specs.declared.places.Place.{Place}
 use Rattle.mau_api.specs.declared.solution.Solution.{Solution}
 use Rattle.mau_api.specs.Found.{IsSolution}
 use Rattle.mau_api.specs.Next.{found_cmp, IsNext}
-use Rattle.mau_api.specs.Asked.{question_in, found_in, HasEntry, IsTableOf, BySort, IsGiven, CanBeLast, CanGoOn}
+use Rattle.mau_api.specs.Asked.{question_in, found_in, IsTableOf, BySort, CanBeLast, CanGoOn}
 use Rattle.mau_api.proofs.Growth.{trees_long}
-use Rattle.mau_api.proofs.Ordered.{entries_are_sorts}
 use Rattle.mau_plain.specs.Tried.{ArePlacesOf, asked_in, without_context}
 use Rattle.mau_plain.specs.declared.tried.Trial.{Trial}
 use Rattle.mau_match.specs.Listing.{order_at}
 use Rattle.mau_match.specs.Search.{IsFirst, IsEnd}
-use Rattle.mau_match.specs.Searched.{AreChosen, AnswerIn, last_in, IsFound}
+use Rattle.mau_match.specs.Searched.{AnswerIn, last_in, IsFound}
 use Rattle.mau_plain.proofs.Solved.{norms_stand}
 use Rattle.mau_terms.proofs.Ties.{places_length}
 use Rattle.mau_match.proofs.Order.{IsPointOf, first_is_next, end_is_end}
@@ -38,22 +36,6 @@ module _ (nodes : List Node) where
   last_found None (Some x) e = cc
   last_found (Some l) None e = cc
   last_found (Some l) (Some x) e = ap (option_map {U = List Tree} (λ (ids : List TermId). trees_at nodes (numbers ids))) (sym e)
-
-pub last_chosen : (s : SignatureOf) (nodes : List Node) (table : Table) (t : Trial) (o : Option (Bor (List TermId))) (x : Option Solution) → option_copied o ≡ option_map {U = List TermId} (λ y. y.values) x → IfSome x (CanBeLast false s nodes table (asked_in t))
-    → IfSome o (λ l. AreChosen s nodes table l.now)
-last_chosen s nodes table t None x e h = tt
-last_chosen s nodes table t (Some l) None e h = cc
-last_chosen s nodes table t (Some l) (Some x) e h =
-    let same : l.now ≡ x.values = cc in
-    subst (AreChosen s nodes table) (sym same) (record { within = h.values; settled = h.settled })
-
-pub last_each : (s : SignatureOf) (nodes : List Node) (ps : List Place) (o : Option (Bor (List TermId))) (x : Option Solution) → option_copied o ≡ option_map {U = List TermId} (λ y. y.values) x → IfSome x (λ y. StandWithin (theory_at s) nodes (numbers y.values) × (length y.values ≡ length ps))
-    → IfSome o (λ l. length l.now ≡ length ps)
-last_each s nodes ps None x e h = tt
-last_each s nodes ps (Some l) None e h = cc
-last_each s nodes ps (Some l) (Some x) e h =
-    let same : l.now ≡ x.values = cc in
-    subst (λ (ids : List TermId). length ids ≡ length ps) (sym same) h.1
 
 -- ---- the next solution
 

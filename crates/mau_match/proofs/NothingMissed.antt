@@ -37,11 +37,6 @@ no_unit_args : (f : ℕ) (us : Trees) (j : Identity) → apply f us ≡ unit_tre
 no_unit_args f us (Const c) e = ap list_of (same_args f c.0 us no_trees e)
 no_unit_args f us (Num n) e = cc
 
-each_piece_in : (P : Tree → Type 0) (zs : List Tree) (z : Tree) → Each P zs → IsIn z zs → P z
-each_piece_in P [] z p h = absurd h
-each_piece_in P (y ∷ zs) z p (inl e) = subst P (sym e) p.0
-each_piece_in P (y ∷ zs) z p (inr h) = each_piece_in P zs z p.1 h
-
 positive : (n : ℕ) → nat_lt 0 (n + 1) ≡ true
 positive n = lt-ltb 0 (n + 1) (omega arith)
 

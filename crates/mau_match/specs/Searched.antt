@@ -4,29 +4,22 @@ use Rattle.std.specs.Borrow.{Bor}
 use Rattle.std.specs.declared.cmp.Ordering.{Ordering}
 use Rattle.mau_terms.specs.Tree.{Tree}
 use Rattle.mau_terms.specs.View.{tree_of}
-use Rattle.mau_terms.specs.declared.ids.OpId.{OpId}
 use Rattle.mau_terms.specs.declared.ids.TermId.{TermId}
 use Rattle.mau_signature.specs.Signature.{SignatureOf, theory_at}
 use Rattle.mau_store.specs.Node.{Node, Extends}
 use Rattle.mau_store.specs.Trees.{tree_at, trees_at}
 use Rattle.mau_store.specs.View.{numbers}
-use Rattle.mau_canon.specs.Within.{StandsWithin, StandWithin}
+use Rattle.mau_canon.specs.Within.{StandWithin}
 use Rattle.mau_sorts.specs.HasSort.{Known}
 use Rattle.mau_sorts.specs.Table.{Table, IsSettled, AreOver, KeepsEntries}
 use Rattle.mau_api.specs.declared.places.Place.{Place}
-use Rattle.mau_api.specs.Places.{operator_number, under_all}
+use Rattle.mau_api.specs.Places.{under_all}
 use Rattle.mau_api.specs.Answers.{IsAnswer}
 use Rattle.mau_api.specs.Asked.{question_in, IsTableOf, BySort, MaySettle, CanGoOn}
 use Rattle.mau_plain.specs.Tried.{ArePlacesOf, asked_in}
 use Rattle.mau_plain.specs.declared.tried.Trial.{Trial}
-use Rattle.mau_parts.specs.Search.{IsLeastOrNone}
 use Rattle.mau_match.specs.Search.{IsFirst, IsEnd, IsFirstFrom, IsNoneFrom, Onward}
 use Rattle.mau_match.specs.Listing.{order_at}
-use Rattle.mau_match.specs.Walked.{parts_in}
-use Rattle.mau_parts.specs.Values.{by_key}
-use Rattle.mau_match.specs.Values.{IsValueOfAny}
-use Rattle.mau_parts.specs.Stored.{tree_in}
-use Rattle.mau_parts.specs.declared.part.Part.{Part as PartOfCode}
 
 -- the store and the table have grown, and nothing was settled but what a listing for this subject may settle
 pub record Grows (s : SignatureOf) (subject : Tree) (old new : List Node) (before after : Table) : Type 0 where
@@ -81,10 +74,3 @@ IsFoundFrom s known t ps old new chosen value after false = IsNoneFrom (order_of
 abbrev pub IsFoundWith : SignatureOf → Known → Trial → List Place → List Node → List Node → List TermId → TermId → Option (List Tree) → List TermId → Bool → Type 0
 IsFoundWith s known t ps old new chosen value last after true = IsFound s known t ps old new (chosen ++ value ∷ []) last after true
 IsFoundWith s known t ps old new chosen value last after false = IsEnd (order_of s ps) (Rest s known old t ps (chosen ++ value ∷ [])) (length (chosen ++ value ∷ [])) last
-
--- the least value of some parts behind another value, as far as one was found, while the store grows
-pub record IsLeastSoFar (s : SignatureOf) (old new : List Node) (under : Option OpId) (parts : List PartOfCode) (after found : Option TermId) : Type 0 where
-  pub extends : Extends old new
-  pub within : IfSome found (λ id. StandsWithin (theory_at s) new id.0)
-  pub value : IfSome found (λ id. IsValueOfAny (theory_at s) (parts_in old parts) (tree_at new id.0))
-  pub least : IsLeastOrNone (by_key (theory_at s) (operator_number under)) (IsValueOfAny (theory_at s) (parts_in old parts)) 0 (tree_in old after) (tree_in new found)

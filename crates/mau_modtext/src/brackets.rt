@@ -1,5 +1,5 @@
 //! Places outside brackets.
-ghost use Rattle.std.specs.Prelude.{◌≡◌, ◌<◌, ◌≤◌, ◌+◌, ◌==◌, ◌&&◌, codes, length, take, drop, IfSome};
+ghost use Rattle.std.specs.Prelude.{◌≡◌, ◌<◌, ◌≤◌, ◌+◌, ◌==◌, ◌&&◌, length, take, drop, IfSome};
 ghost use Rattle.mau_modtext.specs.Brackets;
 ghost use Rattle.mau_modtext.specs.Signs.{stands};
 

@@ -1,5 +1,5 @@
 //! Reading commands and settings.
-ghost use Rattle.std.specs.Prelude.{◌≡◌, ◌<◌, ◌≤◌, ◌+◌, length, drop, IfSome, Ok};
+ghost use Rattle.std.specs.Prelude.{◌≡◌, ◌<◌, ◌≤◌, ◌+◌, length, IfSome, Ok};
 ghost use Rattle.mau_modtext.specs.Commands;
 ghost use Rattle.mau_modtext.specs.Faults.{Reads};
 

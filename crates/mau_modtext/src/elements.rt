@@ -1,5 +1,5 @@
 //! Reading the elements of a module, and the module.
-ghost use Rattle.std.specs.Prelude.{◌≡◌, ◌<◌, ◌≤◌, length, take, drop, IfSome, IfOk, Ok, Some};
+ghost use Rattle.std.specs.Prelude.{◌≡◌, ◌<◌, ◌≤◌, length, IfOk, Ok, Some};
 ghost use Rattle.mau_modtext.specs.Faults.{Reads};
 ghost use Rattle.mau_modtext.specs.Modules;
 

@@ -87,7 +87,7 @@ struct NameReader {
 }
 
 impl PartReader<Token> for NameReader {
-    ghost use Rattle.std.specs.Prelude.{◌<◌, ◌≤◌, length, IfOk};
+    ghost use Rattle.std.specs.Prelude.{◌<◌, ◌≤◌, length};
     ghost use Rattle.mau_modtext.specs.Faults.{Reads};
     ghost use Rattle.mau_modtext.specs.Names.{one_name};
 

@@ -1,5 +1,5 @@
 //! Reading declarations of operators.
-ghost use Rattle.std.specs.Prelude.{◌≡◌, ◌≤◌, ◌<◌, ◌+◌, ◌∷◌, [], length, take, drop, IfSome, IfOk, Ok};
+ghost use Rattle.std.specs.Prelude.{◌≡◌, ◌≤◌, ◌<◌, ◌+◌, ◌∷◌, [], length, IfSome, IfOk, Ok};
 ghost use Rattle.mau_modtext.specs.Elements;
 ghost use Rattle.mau_modtext.specs.Faults.{Reads};
 

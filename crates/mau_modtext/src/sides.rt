@@ -1,7 +1,6 @@
 //! Reading terms, the two sides of a sign, and conditions.
-ghost use Rattle.std.specs.Prelude.{◌≡◌, ◌<◌, ◌≤◌, ◌+◌, length, drop, IfSome, Ok, Some};
+ghost use Rattle.std.specs.Prelude.{◌≡◌, ◌<◌, ◌≤◌, ◌+◌, length, IfSome, Ok, Some};
 ghost use Rattle.mau_modtext.specs.Faults.{Reads};
-ghost use Rattle.mau_modtext.specs.Signs.{stands};
 ghost use Rattle.mau_modtext.specs.Sides.{sides, sides_at, condition, fragment, fragment_part};
 
 use crate::brackets::{Sign, first_outside};
@@ -136,7 +135,7 @@ struct Fragments {
 }
 
 impl PartReader<RawFragment> for Fragments {
-    ghost use Rattle.std.specs.Prelude.{◌<◌, ◌≤◌, length, IfOk};
+    ghost use Rattle.std.specs.Prelude.{◌<◌, ◌≤◌, length};
     ghost use Rattle.mau_modtext.specs.Faults.{Reads};
     ghost use Rattle.mau_modtext.specs.Sides.{fragment_part};
 

@@ -1,5 +1,5 @@
 //! Reading imports, sorts, variables and names of strategies.
-ghost use Rattle.std.specs.Prelude.{◌≡◌, ◌≤◌, ◌<◌, ◌+◌, length, take, drop, false, true, [], IfOk, Ok};
+ghost use Rattle.std.specs.Prelude.{◌≡◌, ◌≤◌, ◌<◌, ◌+◌, length, drop, false, true, [], IfOk, Ok};
 ghost use Rattle.mau_modtext.specs.Elements;
 ghost use Rattle.mau_modtext.specs.Faults.{Reads};
 

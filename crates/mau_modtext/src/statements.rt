@@ -1,7 +1,6 @@
 //! Reading statements: a label, two sides, a condition and attributes.
-ghost use Rattle.std.specs.Prelude.{◌≡◌, ◌<◌, ◌≤◌, ◌+◌, ◌++◌, ◌∷◌, [], length, take, drop, true, All, IfSome, IfOk, OnOk, Ok};
+ghost use Rattle.std.specs.Prelude.{◌≡◌, ◌<◌, ◌≤◌, ◌+◌, ◌++◌, ◌∷◌, [], length, drop, true, All, IfSome, IfOk, OnOk, Ok};
 ghost use Rattle.mau_modtext.specs.Faults.{Reads};
-ghost use Rattle.mau_modtext.specs.Signs.{stands};
 ghost use Rattle.mau_modtext.specs.Words.{is_string};
 ghost use Rattle.mau_modtext.specs.Statements;
 ghost use Rattle.mau_modtext.specs.Statements.{statement_attribute};

@@ -1,5 +1,5 @@
 //! The words of a text: its tokens with what they read.
-ghost use Rattle.std.specs.Prelude.{◌≡◌, ◌++◌, map, codes, IfOk};
+ghost use Rattle.std.specs.Prelude.{◌≡◌, ◌++◌, map, IfOk};
 ghost use Rattle.mau_tokens.specs.Spans.{AreSpans};
 ghost use Rattle.mau_modtext.specs.Words.{words_of, is_word, is_string};
 

@@ -4,6 +4,7 @@ use Rattle.std.specs.Prelude.{bytes_eq, fold, All, slice_get, Some}
 use Rattle.std.specs.Option.{option_map_or}
 use Rattle.std.proofs.lemmas.List.Folds.{list_any-append}
 use Rattle.std.proofs.lemmas.Slice.Eq.{bytes_eq-Decides}
+use Rattle.std.proofs.lemmas.Bool.{or_left, or_right}
 use Rattle.mau_modtext.specs.Word.{Word}
 use Rattle.mau_tokens.specs.declared.token.Token.{Token}
 use Rattle.mau_modtext.specs.declared.raw.RawElement.{RawElement}
@@ -15,29 +16,22 @@ use Rattle.mau_module.specs.Modules.{ModuleOf}
 use Rattle.mau_module.specs.Included.{of_module, sorts_of}
 use Rattle.mau_module.specs.Known.{AreKnown}
 
-either : (a b : Bool) → a ≡ true → (a || b) ≡ true
-either a b h = ap (λ c. c || b) h
-
-second : (a b : Bool) → b ≡ true → (a || b) ≡ true
-second true b h = refl
-second false b h = h
-
 pub kept_one : (ns : List (List ℕ)) (y x : List ℕ) → has_name ns x ≡ true → has_name (with_name ns y) x ≡ true
 kept_one ns y x h = by (has_name ns y)
   where
     by : (b : Bool) → has_name (cond b ns (ns ++ y ∷ [])) x ≡ true
     by true = h
-    by false = list_any-append (bytes_eq x) ns (y ∷ []) ∙ either _ _ h
+    by false = list_any-append (bytes_eq x) ns (y ∷ []) ∙ or_left _ _ h
 
 pub there_one : (ns : List (List ℕ)) (y : List ℕ) → has_name (with_name ns y) y ≡ true
 there_one ns y = by (has_name ns y) refl
   where
     last : (bytes_eq y y || false) ≡ true
-    last = either _ _ ((bytes_eq-Decides y y).1 refl)
+    last = or_left _ _ ((bytes_eq-Decides y y).1 refl)
 
     by : (b : Bool) → has_name ns y ≡ b → has_name (cond b ns (ns ++ y ∷ [])) y ≡ true
     by true h = h
-    by false h = list_any-append (bytes_eq y) ns (y ∷ []) ∙ second _ _ last
+    by false h = list_any-append (bytes_eq y) ns (y ∷ []) ∙ or_right _ _ last
 
 -- ---- several names
 

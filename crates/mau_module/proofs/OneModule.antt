@@ -8,6 +8,7 @@ use Rattle.mau_modtext.specs.declared.raw.RawModule.{RawModule}
 use Rattle.mau_modtext.specs.declared.raw.RawStatement.{RawStatement}
 use Rattle.mau_declare.specs.Elements.{Elements, elements_of}
 use Rattle.mau_declare.specs.Flattened.{variable_at}
+use Rattle.mau_declare.proofs.Once.{some_none, some_once}
 use Rattle.mau_grammar.specs.Production.{IsShaped}
 use Rattle.mau_statement.specs.Context.{ContextOf}
 use Rattle.mau_statement.specs.Faults.{without_trees as without_trees_of_statement, told as told_of_statement}
@@ -16,7 +17,7 @@ use Rattle.mau_statement.specs.declared.fault.StatementFault.{StatementFault}
 use Rattle.mau_statement.specs.declared.statement.Statement.{Statement as StatementType}
 use Rattle.mau_statement.proofs.OneStatement.{shaped_of, statement_once}
 use Rattle.mau_signed.specs.Signed.{SignatureRead}
-use Rattle.mau_signed.proofs.OneSignature.{some_none, some_once, signature_once}
+use Rattle.mau_signed.proofs.OneSignature.{signature_once}
 use Rattle.mau_module.specs.declared.fault.ModuleFault.{ModuleFault}
 use Rattle.mau_module.specs.declared.fault.ModuleFault.TheVariants.{UnknownModule, TooLarge, UnknownSort, Signed, Statement}
 use Rattle.mau_module.specs.declared.TheConstants.{MAX_DEPTH}

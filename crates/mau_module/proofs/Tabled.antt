@@ -11,7 +11,7 @@ use Rattle.mau_signed.proofs.OneSignature.{signature_is}
 use Rattle.mau_module.specs.declared.statements.Counts.{Counts}
 use Rattle.mau_module.specs.Modules.{ModuleOf, StatementsOf, and_more, behind, counts_of}
 use Rattle.mau_module.specs.Included.{pairs_of}
-use Rattle.mau_module.specs.Framed.{Frame, all_parts}
+use Rattle.mau_module.specs.Framed.{Frame}
 use Rattle.mau_module.specs.Declarations.{hierarchy_over, given_over}
 use Rattle.mau_module.specs.Carried.{carried}
 use Rattle.mau_module.specs.Prelude.{table_given, table_statements, table_module}

@@ -1,7 +1,6 @@
 //! Modules from their text: what is read of one, in the order in which its faults are told.
 ghost use Rattle.std.specs.Prelude.{◌≡◌, ◌<◌, ◌≤◌, ◌+◌, length, All, Ok, Err, IfOk, IfErr, OnOk};
 ghost use Rattle.mau_signature.specs.Faults.{HasSorts};
-ghost use Rattle.mau_signature.specs.Signature.{SignatureOf};
 ghost use Rattle.mau_statement.specs.Context.{IsItsGrammar};
 ghost use Rattle.mau_poset.specs.declared.TheConstants.{MAX_SORTS};
 ghost use Rattle.mau_declare.specs.Elements.{AreOver, elements_of};

@@ -1,9 +1,9 @@
 //! The signature of a module over what it includes.
-ghost use Rattle.std.specs.Prelude.{◌≡◌, ◌<◌, ◌≤◌, ◌+◌, ◌++◌, ◌∷◌, [], length, true, All, Ok, Err, IfSome, IfOk, IfErr, OnOk};
+ghost use Rattle.std.specs.Prelude.{◌≡◌, ◌<◌, ◌≤◌, ◌+◌, ◌++◌, ◌∷◌, [], length, true, All, Ok, Err, IfSome, IfOk, IfErr};
 ghost use Rattle.std.specs.List.{list_any};
 ghost use Rattle.mau_poset.specs.Order.{IsPoset, IsWithin};
 ghost use Rattle.mau_poset.specs.declared.TheConstants.{MAX_SORTS};
-ghost use Rattle.mau_signature.specs.Faults.{HasSorts, IsSort, AreNumerals, IsSuccessorIn, is_successor};
+ghost use Rattle.mau_signature.specs.Faults.{HasSorts, AreNumerals, IsSuccessorIn, is_successor};
 ghost use Rattle.mau_declare.specs.Flattened.{AreLower};
 ghost use Rattle.mau_signed.specs.Signed.{SignatureRead};
 ghost use Rattle.mau_module.specs.Faults.{IfSigned};
@@ -11,7 +11,7 @@ ghost use Rattle.mau_declare.specs.Elements.{AreOver};
 ghost use Rattle.mau_declare.specs.Flattened.{declared_forms};
 ghost use Rattle.mau_module.specs.Included.{numeral_kind};
 ghost use Rattle.mau_module.specs.Known.{AreKnown};
-ghost use Rattle.mau_module.specs.Framed.{all_parts, included_declarations};
+ghost use Rattle.mau_module.specs.Framed.{included_declarations};
 ghost use Rattle.mau_module.specs.Declarations.{given_over};
 ghost use Rattle.mau_module.specs.Flattened.{hierarchy_in, own_in, given_in, conflict_in};
 

@@ -4,7 +4,7 @@ use Rattle.std.specs.Option.{option_map}
 use Rattle.std.proofs.lemmas.Bool.{cases_lt, lt-ltb}
 use Rattle.std.proofs.lemmas.List.{map-append}
 use Rattle.std.proofs.lemmas.List.Elements.{All-map, All-filter}
-use Rattle.std.proofs.lemmas.Option.{slice_get_within, slice_get-get_or}
+use Rattle.std.proofs.lemmas.Option.{slice_get_within, slice_get-get_or, same_Some, none-some}
 use Rattle.mau_terms.specs.Tree.{Tree, variable, tree, trees_of}
 use Rattle.mau_terms.specs.Norm.{greatest_numeral}
 use Rattle.mau_terms.specs.Bare.{TermSignature, IsBareIn, AreBareIn}
@@ -25,18 +25,18 @@ use Rattle.mau_grammar.specs.Productions.{sort_names}
 use Rattle.mau_grammar.specs.Grammar.{GrammarOf, variable_of, grammar_of, IsGrammarOf}
 use Rattle.mau_grammar.specs.Leaves.{is_numeral, value_of, Reading, as_alias, aliases_at, sort_from, sort_named, is_cut, with_sort, cut_at, cuts_to, if_kind, kind_with, kind_list, with_kind, kind_variable, readings_from, readings_at, pairs_of}
 use Rattle.mau_grammar.specs.Trees.{made, Reads, reads_numeral, reads_variable, reads_production, Spells, spells_nothing, spells_word, spells_place}
-use Rattle.mau_grammar.proofs.Kinds_kept.{place_kinds, base, meaning, meaning_kind, kind_in, IsProper, all_proper}
+use Rattle.mau_grammar.proofs.Kinds_kept.{base, meaning, meaning_kind, kind_in, IsProper, all_proper}
+use Rattle.mau_grammar.specs.Production.{place_kinds}
 use Rattle.mau_parse.specs.declared.goals.Goal.{Goal}
 use Rattle.mau_parse.specs.TooLarge.{AllSmall}
 use Rattle.mau_parse.specs.Terms.{pair_at, renamed, all_renamed}
 use Rattle.mau_parse.specs.Laws.{IsBareFor, TermsAreBare}
-use Rattle.mau_parse.proofs.Charted.{some_one, none_some}
 use Rattle.mau_parse.specs.Parsed.{IsParsed}
 use Rattle.mau_parse.specs.declared.fault.ParseFault.{ParseFault}
 use Rattle.mau_parse.proofs.Leaves_listed.{IsIn, in_none, in_one, in_parts, in_mapped}
 
 of_member : {A : Type 0} (P : A → Type 0) (xs : List A) (x : A) → All P xs → IsIn xs x → P x
-of_member P xs x a m = let h = slice_get_within xs m.0 x m.1 in subst P (some_one _ x (sym (slice_get-get_or xs m.0 x h) ∙ m.1)) (a m.0 x h)
+of_member P xs x a m = let h = slice_get_within xs m.0 x m.1 in subst P (same_Some _ x (sym (slice_get-get_or xs m.0 x h) ∙ m.1)) (a m.0 x h)
 
 -- ---- variables
 
@@ -46,13 +46,13 @@ HasKind h a k = IsSort h a × (kind_of h a ≡ k)
 
 -- a sort with its number
 sort_there : (h : Hierarchy) (a : ℕ) (names : List (List ℕ)) (w : List ℕ) (r : ℕ × ℕ) → sort_from (sort_names h a names) a w ≡ Some r → (r.0 < a + length names) × (kind_of h r.0 ≡ r.1)
-sort_there h a [] w r e = absurd (none_some r e)
+sort_there h a [] w r e = absurd (none-some r e)
 sort_there h a (v ∷ names) w r e = by (bytes_eq v w) e (λ q. sort_there h (a + 1) names w r q)
   where
     by : (b : Bool) → (if b then Some (a, kind_of h a) else sort_from (sort_names h (a + 1) names) (a + 1) w) ≡ Some r
         → (sort_from (sort_names h (a + 1) names) (a + 1) w ≡ Some r → (r.0 < (a + 1) + length names) × (kind_of h r.0 ≡ r.1)) → (r.0 < a + length (v ∷ names)) × (kind_of h r.0 ≡ r.1)
     by true q ih =
-        let p : (a, kind_of h a) ≡ r = some_one (a, kind_of h a) r q in
+        let p : (a, kind_of h a) ≡ r = same_Some (a, kind_of h a) r q in
         let number : a ≡ r.0 = ap (λ (x : ℕ × ℕ). x.0) p in
         let kind : kind_of h a ≡ r.1 = ap (λ (x : ℕ × ℕ). x.1) p in
         (omega (arith, number), sym (ap (kind_of h) number) ∙ kind)
@@ -93,28 +93,28 @@ module _ (h : Hierarchy) (names : List (List ℕ)) (named : length names ≡ h.s
       by (inr y) ih = cut_kind w i k r y
 
   list_kind : (us : List (List ℕ)) (i : ℕ) (r : ℕ × ℕ) → kind_list the_sorts us i ≡ Some r → HasKind h r.0 r.0
-  list_kind [] i r e = absurd (none_some r e)
-  list_kind (w ∷ []) i r e = absurd (none_some r e)
+  list_kind [] i r e = absurd (none-some r e)
+  list_kind (w ∷ []) i r e = absurd (none-some r e)
   list_kind (w ∷ m ∷ us) i r e = by (sort_named the_sorts w) refl e
     where
       of_kind : (s : ℕ × ℕ) → sort_named the_sorts w ≡ Some s → s.1 ≡ r.0 → HasKind h r.0 r.0
       of_kind s q p = subst (λ (n : ℕ). HasKind h n n) p (kind_is w s q)
 
       if_same : (b : Bool) (k : ℕ) (x : ℕ × ℕ) → nat_eq x.0 k ≡ b → (if b then Some x else None) ≡ Some r → k ≡ r.0
-      if_same true k x q p = sym (eqb-true x.0 k q) ∙ ap (λ (y : ℕ × ℕ). y.0) (some_one x r p)
-      if_same false k x q p = absurd (none_some r p)
+      if_same true k x q p = sym (eqb-true x.0 k q) ∙ ap (λ (y : ℕ × ℕ). y.0) (same_Some x r p)
+      if_same false k x q p = absurd (none-some r p)
 
       rest : (k : ℕ) (o : Option (ℕ × ℕ)) → if_kind k o ≡ Some r → k ≡ r.0
-      rest k None p = absurd (none_some r p)
+      rest k None p = absurd (none-some r p)
       rest k (Some x) p = if_same (nat_eq x.0 k) k x refl p
 
       marked : (b d : Bool) (s : ℕ × ℕ) → sort_named the_sorts w ≡ Some s → (if b then Some (s.1, i + 2) else (if d then if_kind s.1 (kind_list the_sorts us (i + 2)) else None)) ≡ Some r → HasKind h r.0 r.0
-      marked true d s q p = of_kind s q (ap (λ (y : ℕ × ℕ). y.0) (some_one (s.1, i + 2) r p))
+      marked true d s q p = of_kind s q (ap (λ (y : ℕ × ℕ). y.0) (same_Some (s.1, i + 2) r p))
       marked false true s q p = of_kind s q (rest s.1 (kind_list the_sorts us (i + 2)) p)
-      marked false false s q p = absurd (none_some r p)
+      marked false false s q p = absurd (none-some r p)
 
       by : (o : Option (ℕ × ℕ)) → sort_named the_sorts w ≡ o → kind_with o m i (kind_list the_sorts us (i + 2)) ≡ Some r → HasKind h r.0 r.0
-      by None q p = absurd (none_some r p)
+      by None q p = absurd (none-some r p)
       by (Some s) q p = marked (bytes_eq m (codes "]")) (bytes_eq m (codes ",")) s q p
 
   variable_kind : (w : List ℕ) (i : ℕ) (us : List (List ℕ)) (r : Reading) → IsIn (kind_variable the_sorts w i us) r → HasKind h r.sort r.kind
@@ -185,8 +185,8 @@ module _ (s : SignatureOf) (names : List (List ℕ)) (aliases : List Alias) (g :
       same ∙ ap Some (sym (meaning_kind s k (below s.numerals refl same)))
     where
       below : (o : Option (ℕ × ℕ)) → s.numerals ≡ o → option_map (λ p. kind_of s.hierarchy p.0) o ≡ Some k → k < base s
-      below None e q = absurd (none_some k q)
-      below (Some p) e q = omega (arith, kind_in s.hierarchy p.0 (zero_there s.hierarchy its.signature.source s.numerals its.signature.numerals p e), some_one (kind_of s.hierarchy p.0) k q)
+      below None e q = absurd (none-some k q)
+      below (Some p) e q = omega (arith, kind_in s.hierarchy p.0 (zero_there s.hierarchy its.signature.source s.numerals its.signature.numerals p e), same_Some (kind_of s.hierarchy p.0) k q)
 
   reading_kind : (i : ℕ) (r : Reading) → IsIn (readings_at g ws i) r → HasKind s.hierarchy r.sort r.kind
   reading_kind i r x = by (drop i ws) (subst (λ f. IsIn (readings_from f (drop i ws) i) r) its.made x)

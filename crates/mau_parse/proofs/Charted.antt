@@ -1,6 +1,7 @@
 -- What a chart reads is what the productions yield.
 use Rattle.std.proofs.Common.{◌≡◌, ℕ, zero, suc, ◌+◌, ◌≤◌, List, [], ◌∷◌, ◌++◌, length, Bool, true, false, Option, Some, None, add-one, refl, sym, ◌∙◌, ap, subst, arith, if◌then◌else◌, bytes_eq, slice_get}
 use Rattle.std.proofs.lemmas.Slice.Eq.{bytes_eq-Decides}
+use Rattle.std.proofs.lemmas.Option.{same_Some, none-some}
 use Rattle.mau_terms.specs.Tree.{Tree, variable, numeral}
 use Rattle.mau_terms.specs.declared.ids.OpId.{OpId}
 use Rattle.mau_grammar.specs.declared.production.Part.{Part}
@@ -18,12 +19,6 @@ use Rattle.mau_parse.specs.Charted.{word_number, kind_number, ArePiecesOf, AreTh
 
 -- ---- words by their numbers
 
-pub some_one : {A : Type 0} (x y : A) → Some x ≡ Some y → x ≡ y
-some_one x y e = cc
-
-pub none_some : {A : Type 0} (x : A) → ◌≡◌ {A = Option A} None (Some x) → ⊥
-none_some x e = cc
-
 pub word_number-small : (ws : List (List ℕ)) (w : List ℕ) → word_number ws w ≤ length ws
 word_number-small [] w = omega arith
 word_number-small (v ∷ ws) w = by (bytes_eq v w) (word_number-small ws w)
@@ -40,12 +35,12 @@ itself w = (bytes_eq-Decides w w).1 refl
 
 -- a word that some token reads is at its number
 pub word_number-at : (ws : List (List ℕ)) (i : ℕ) (w : List ℕ) → slice_get ws i ≡ Some w → slice_get ws (word_number ws w) ≡ Some w
-word_number-at [] i w e = absurd (none_some w e)
+word_number-at [] i w e = absurd (none-some w e)
 word_number-at (v ∷ ws) zero w e = by (bytes_eq v w) refl
   where
     by : (b : Bool) → bytes_eq v w ≡ b → slice_get (v ∷ ws) (if b then 0 else word_number ws w + 1) ≡ Some w
     by true q = e
-    by false q = absurd (never (sym q ∙ ap (λ z. bytes_eq z w) (some_one v w e) ∙ itself w))
+    by false q = absurd (never (sym q ∙ ap (λ z. bytes_eq z w) (same_Some v w e) ∙ itself w))
       where
         never : false ≡ true → ⊥
         never z = cc
@@ -57,7 +52,7 @@ word_number-at (v ∷ ws) (suc i) w e = by (bytes_eq v w) refl (word_number-at w
 
 -- and no other word has this number
 same_number : (us : List (List ℕ)) (v w : List ℕ) (n : ℕ) → word_number us v ≡ n → n ≡ word_number us w → slice_get us n ≡ Some v → v ≡ w
-same_number [] v w n p q r = absurd (none_some v r)
+same_number [] v w n p q r = absurd (none-some v r)
 same_number (u ∷ us) v w n p q r = by (bytes_eq u v) (bytes_eq u w) refl refl p q (λ x y. same_number us v w (word_number us v) refl x y)
   where
     by : (b c : Bool) → bytes_eq u v ≡ b → bytes_eq u w ≡ c → (if b then 0 else word_number us v + 1) ≡ n → n ≡ (if c then 0 else word_number us w + 1)

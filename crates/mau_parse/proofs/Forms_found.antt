@@ -1,6 +1,6 @@
 -- The productions that may read a text are found by its words.
 use Rattle.std.proofs.Common.{◌≡◌, ◌≢◌, ℕ, zero, suc, ◌+◌, ◌<◌, ◌≤◌, List, [], ◌∷◌, ◌++◌, length, get_or, drop, Bool, true, false, Option, Some, None, add-one, ◌⊎◌, inl, inr, append_assoc, append-nil, refl, sym, ◌∙◌, ap, subst, arith, slice_get, bytes_eq, if◌then◌else◌}
-use Rattle.std.proofs.lemmas.Option.{slice_get_within, slice_get-get_or}
+use Rattle.std.proofs.lemmas.Option.{slice_get_within, slice_get-get_or, same_Some, none-some}
 use Rattle.std.proofs.lemmas.Slice.Eq.{bytes_eq-Decides}
 use Rattle.std.specs.Option.{option_map_or}
 use Rattle.mau_store.proofs.Places.{slice_get-front}
@@ -13,8 +13,20 @@ use Rattle.mau_grammar.proofs.Indexed.{Stands, keyed_stands, wordless_stands, be
 use Rattle.mau_chart.specs.declared.grammar.Production.{Production}
 use Rattle.mau_parse.specs.Words.{text_at}
 use Rattle.mau_parse.specs.Charted.{word_number, IsFormOf, IsThere, AreThere, HasForm, IsOneOf, AreFormsOf}
-use Rattle.mau_parse.specs.Forms.{AllAreForms, HasFormAt, PutsForms, PutsForm, IsFoundBy, HasFormsTo}
-use Rattle.mau_parse.proofs.Charted.{some_one, none_some, word_number-at}
+use Rattle.mau_parse.specs.Forms.{AllAreForms, HasFormAt, PutsForms, PutsForm}
+use Rattle.mau_parse.proofs.Charted.{word_number-at}
+
+-- ---- forms that are found by words
+
+-- a production is found by the first i words: it has no word, or its key is one of them
+abbrev pub IsFoundBy : List (List ℕ) → ℕ → Option (List ℕ) → Type 0
+IsFoundBy ws i None = Unit {0}
+IsFoundBy ws i (Some w) = word_number ws w < i
+
+-- forms that are found by the first i words
+pub record HasFormsTo (ws : List (List ℕ)) (ps : List Written) (i : ℕ) (qs : List Production) : Type 0 where
+  pub right : AllAreForms ws ps qs
+  pub all : (n : ℕ) → IsFoundBy ws i (key_at ps n) → HasFormAt ws ps qs n
 
 -- ---- forms that are put behind others
 
@@ -26,11 +38,11 @@ pub form_kept : (ws : List (List ℕ)) (old more : List Production) (p : Written
 form_kept ws old more p h = (h.0, h.1, kept_at old more h.0 h.1 h.2, h.3)
 
 all_left : (ws : List (List ℕ)) (ps : List Written) → AllAreForms ws ps []
-all_left ws ps n q e = absurd (none_some q e)
+all_left ws ps n q e = absurd (none-some q e)
 
 all_one : (ws : List (List ℕ)) (ps : List Written) (q : Production) → IsOneOf ws ps q → AllAreForms ws ps (q ∷ [])
-all_one ws ps q h zero r e = subst (IsOneOf ws ps) (some_one q r e) h
-all_one ws ps q h (suc n) r e = absurd (none_some r e)
+all_one ws ps q h zero r e = subst (IsOneOf ws ps) (same_Some q r e) h
+all_one ws ps q h (suc n) r e = absurd (none-some r e)
 
 pub all_both : (ws : List (List ℕ)) (ps : List Written) (qs rs : List Production) → AllAreForms ws ps qs → AllAreForms ws ps rs → AllAreForms ws ps (qs ++ rs)
 all_both ws ps [] rs a b n r e = b n r e
@@ -43,7 +55,7 @@ puts_none ws ps n old e = record {
   more = [];
   behind = sym (append-nil old);
   right = all_left ws ps;
-  there = λ p h. absurd (none_some p (sym e ∙ h));
+  there = λ p h. absurd (none-some p (sym e ∙ h));
 }
 
 -- the text can't be read by it
@@ -52,7 +64,7 @@ puts_unread ws ps n old p e unread = record {
   more = [];
   behind = sym (append-nil old);
   right = all_left ws ps;
-  there = λ r h there. absurd (unread (subst (λ z. AreThere ws z.parts) (some_one r p (sym h ∙ e)) there));
+  there = λ r h there. absurd (unread (subst (λ z. AreThere ws z.parts) (same_Some r p (sym h ∙ e)) there));
 }
 
 last_at : (old : List Production) (q : Production) → slice_get (old ++ q ∷ []) (length old) ≡ Some q
@@ -65,19 +77,8 @@ puts_one ws ps n old new p q e form is = record {
   more = q ∷ [];
   behind = is;
   right = all_one ws ps q (n, p, e, form);
-  there = λ r h there. (length old, q, ap (λ z. slice_get z (length old)) is ∙ last_at old q, subst (λ z. IsFormOf ws z q) (some_one p r (sym e ∙ h)) form);
+  there = λ r h there. (length old, q, ap (λ z. slice_get z (length old)) is ∙ last_at old q, subst (λ z. IsFormOf ws z q) (same_Some p r (sym e ∙ h)) form);
 }
-
-pub puts_nothing : (ws : List (List ℕ)) (ps : List Written) (old : List Production) → PutsForms ws ps [] old old
-puts_nothing ws ps old = record {
-  more = [];
-  behind = sym (append-nil old);
-  right = all_left ws ps;
-  all = λ m n e. absurd (no n e);
-}
-  where
-    no : (n : ℕ) → ◌≡◌ {A = Option ℕ} None (Some n) → ⊥
-    no n e = cc
 
 -- an element of a list with one more at its end
 in_more : (ns : List ℕ) (n m k : ℕ) → slice_get (ns ++ n ∷ []) m ≡ Some k → (slice_get ns m ≡ Some k) ⊎ (n ≡ k)
@@ -120,7 +121,7 @@ at_number (v ∷ ws) w h = by (bytes_eq v w) refl (λ l. at_number ws w l) h
 is_text : (ws : List (List ℕ)) (w : List ℕ) (i : ℕ) → i < length ws → word_number ws w ≡ i → text_at ws i ≡ w
 is_text ws w i h e =
     let at : slice_get ws i ≡ Some w = subst (λ n. slice_get ws n ≡ Some w) e (at_number ws w (omega (arith, h, e))) in
-    some_one (text_at ws i) w (sym (slice_get-get_or ws i [] h) ∙ at)
+    same_Some (text_at ws i) w (sym (slice_get-get_or ws i [] h) ∙ at)
 
 -- a production whose number stands in a list that was put
 stands_form : (ws : List (List ℕ)) (ps : List Written) (ns : List ℕ) (old new : List Production) (n : ℕ) → PutsForms ws ps ns old new → (n < length ps → Stands ns n) → HasFormAt ws ps new n
@@ -176,18 +177,18 @@ forms_new ws ps i j old new h ej puts to = record {
 
 -- a key is one of the words of its production
 plain_there : (ws : List (List ℕ)) (parts : List Part) (w : List ℕ) → first_plain parts ≡ Some w → AreThere ws parts → IsThere ws (Word w)
-plain_there ws [] w e there = absurd (none_some w e)
+plain_there ws [] w e there = absurd (none-some w e)
 plain_there ws (Place h ∷ parts) w e there = plain_there ws parts w e there.1
 plain_there ws (Word v ∷ parts) w e there = by (is_special v) (λ q. plain_there ws parts w q there.1) e
   where
     by : (b : Bool) → (first_plain parts ≡ Some w → IsThere ws (Word w)) → (if b then first_plain parts else Some v) ≡ Some w → IsThere ws (Word w)
     by true rest q = rest q
-    by false rest q = subst (λ z. IsThere ws (Word z)) (some_one v w q) there.0
+    by false rest q = subst (λ z. IsThere ws (Word z)) (same_Some v w q) there.0
 
 word_there : (ws : List (List ℕ)) (parts : List Part) (w : List ℕ) → first_word parts ≡ Some w → AreThere ws parts → IsThere ws (Word w)
-word_there ws [] w e there = absurd (none_some w e)
+word_there ws [] w e there = absurd (none-some w e)
 word_there ws (Place h ∷ parts) w e there = word_there ws parts w e there.1
-word_there ws (Word v ∷ parts) w e there = subst (λ z. IsThere ws (Word z)) (some_one v w e) there.0
+word_there ws (Word v ∷ parts) w e there = subst (λ z. IsThere ws (Word z)) (same_Some v w e) there.0
 
 key_there : (ws : List (List ℕ)) (parts : List Part) (w : List ℕ) → key_of parts ≡ Some w → AreThere ws parts → IsThere ws (Word w)
 key_there ws parts w e there = by (first_plain parts) refl e

@@ -3,7 +3,7 @@ use Rattle.std.proofs.Common.{◌≡◌, ℕ, zero, suc, ◌+◌, ◌-◌, ◌<�
 use Rattle.std.specs.List.{list_any}
 use Rattle.std.proofs.lemmas.List.{length-drop, length-map, get_or-map, map_more, map-append}
 use Rattle.std.proofs.lemmas.List.Sums.{fold-append}
-use Rattle.std.proofs.lemmas.Option.{slice_get_within, slice_get-get_or, get_or_from_slice_get}
+use Rattle.std.proofs.lemmas.Option.{slice_get_within, slice_get-get_or, get_or_from_slice_get, same_Some, none-some}
 use Rattle.std.proofs.lemmas.Bool.{cases_lt}
 use Rattle.mau_terms.specs.Vars.{same_pair, place_of, with_pair, AreDistinct}
 use Rattle.mau_terms.proofs.Pairs.{same_pair-is, same_pair_itself, pairs_keep_places, AreDistinct-with_pair}
@@ -16,11 +16,10 @@ use Rattle.mau_chart.specs.declared.grammar.Said.TheVariants.{Word as Silent, Va
 use Rattle.mau_chart.specs.Chart.{IsLeaf, AreLeaves}
 use Rattle.mau_parse.specs.Words.{text_at}
 use Rattle.mau_parse.specs.Charted.{word_number, kind_number, leaf, var_id, IsLeafOf, word_leaf, numeral_leaf, variable_leaf, AreLeavesOf}
-use Rattle.mau_parse.specs.Listed.{word_at, numerals_at, variable_at, leaves_at, leaves_to, IsKnown}
+use Rattle.mau_parse.specs.Listed.{word_at, numerals_at, variable_at, leaves_at, IsKnown}
 use Rattle.mau_parse.specs.declared.readings.Reading.{Reading as CodeReading}
 use Rattle.mau_parse.specs.Readings.{seen, all_seen}
 use Rattle.mau_parse.specs.Terms.{added}
-use Rattle.mau_parse.proofs.Charted.{some_one, none_some}
 use Rattle.mau_parse.proofs.Renamed.{in_added, in_with, few_with}
 
 -- ---- members of a list
@@ -29,7 +28,7 @@ abbrev pub IsIn : {A : Type 0} → List A → A → Type 0
 IsIn xs x = (n : ℕ) × (slice_get xs n ≡ Some x)
 
 pub in_none : {A : Type 0} (x : A) → IsIn [] x → ⊥
-in_none x h = none_some x h.1
+in_none x h = none-some x h.1
 
 in_next : {A : Type 0} (x : A) (xs : List A) (y : A) → IsIn xs y → IsIn (x ∷ xs) y
 in_next x xs y h = (suc h.0, h.1)
@@ -38,7 +37,7 @@ in_left : {A : Type 0} (xs ys : List A) (y : A) → IsIn xs y → IsIn (xs ++ ys
 in_left xs ys y h = by xs h.0 h.1
   where
     by : (us : List _) (n : ℕ) → slice_get us n ≡ Some y → IsIn (us ++ ys) y
-    by [] n e = absurd (none_some y e)
+    by [] n e = absurd (none-some y e)
     by (u ∷ us) zero e = (zero, e)
     by (u ∷ us) (suc n) e = in_next u (us ++ ys) y (by us n e)
 
@@ -50,14 +49,14 @@ pub in_one : {A : Type 0} (x y : A) → IsIn (x ∷ []) y → x ≡ y
 in_one x y h = by h.0 h.1
   where
     by : (n : ℕ) → slice_get (x ∷ []) n ≡ Some y → x ≡ y
-    by zero e = some_one x y e
-    by (suc n) e = absurd (none_some y e)
+    by zero e = same_Some x y e
+    by (suc n) e = absurd (none-some y e)
 
 in_head : {A : Type 0} (x : A) (xs : List A) (y : A) → IsIn (x ∷ xs) y → (x ≡ y) ⊎ IsIn xs y
 in_head x xs y h = by h.0 h.1
   where
     by : (n : ℕ) → slice_get (x ∷ xs) n ≡ Some y → (x ≡ y) ⊎ IsIn xs y
-    by zero e = inl (some_one x y e)
+    by zero e = inl (same_Some x y e)
     by (suc n) e = inr (n, e)
 
 pub in_parts : {A : Type 0} (xs ys : List A) (y : A) → IsIn (xs ++ ys) y → IsIn xs y ⊎ IsIn ys y
@@ -72,16 +71,16 @@ in_map : {A B : Type 0} (f : A → B) (xs : List A) (x : A) → IsIn xs x → Is
 in_map f xs x h = by xs h.0 h.1
   where
     by : (us : List _) (n : ℕ) → slice_get us n ≡ Some x → IsIn (map f us) (f x)
-    by [] n e = absurd (none_some x e)
-    by (u ∷ us) zero e = (zero, ap (λ v. Some (f v)) (some_one u x e))
+    by [] n e = absurd (none-some x e)
+    by (u ∷ us) zero e = (zero, ap (λ v. Some (f v)) (same_Some u x e))
     by (u ∷ us) (suc n) e = in_next (f u) (map f us) (f x) (by us n e)
 
 pub in_mapped : {A B : Type 0} (f : A → B) (xs : List A) (y : B) → IsIn (map f xs) y → (x : A) × IsIn xs x × (f x ≡ y)
 in_mapped f xs y h = by xs h.0 h.1
   where
     by : (us : List _) (n : ℕ) → slice_get (map f us) n ≡ Some y → (x : _) × IsIn us x × (f x ≡ y)
-    by [] n e = absurd (none_some y e)
-    by (u ∷ us) zero e = (u, (zero, refl), some_one (f u) y e)
+    by [] n e = absurd (none-some y e)
+    by (u ∷ us) zero e = (u, (zero, refl), same_Some (f u) y e)
     by (u ∷ us) (suc n) e = let r = by us n e in (r.0, in_next u us r.0 r.1, r.2)
 
 -- ---- pairs
@@ -90,8 +89,8 @@ in_pairs : (xs ys : List (List ℕ × ℕ)) (y : List ℕ × ℕ) → IsIn ys y 
 in_pairs xs ys y h = by xs ys h.0 h.1
   where
     by : (us vs : List (List ℕ × ℕ)) (n : ℕ) → slice_get vs n ≡ Some y → list_any (same_pair y) (added us vs) ≡ true
-    by us [] n e = absurd (none_some y e)
-    by us (v ∷ vs) zero e = in_added (with_pair us v) vs y (subst (λ z. list_any (same_pair z) (with_pair us v) ≡ true) (some_one v y e) (in_with us v))
+    by us [] n e = absurd (none-some y e)
+    by us (v ∷ vs) zero e = in_added (with_pair us v) vs y (subst (λ z. list_any (same_pair z) (with_pair us v) ≡ true) (same_Some v y e) (in_with us v))
     by us (v ∷ vs) (suc n) e = by (with_pair us v) vs n e
 
 distinct_added : (xs ys : List (List ℕ × ℕ)) → AreDistinct xs → AreDistinct (added xs ys)
@@ -99,8 +98,8 @@ distinct_added xs [] d = d
 distinct_added xs (y ∷ ys) d = distinct_added (with_pair xs y) ys (AreDistinct-with_pair xs y d)
 
 pub any_there : (p : List ℕ × ℕ → Bool) (xs : List (List ℕ × ℕ)) (n : ℕ) (y : List ℕ × ℕ) → list_any p xs ≡ false → slice_get xs n ≡ Some y → p y ≡ false
-any_there p [] n y h e = absurd (none_some y e)
-any_there p (x ∷ xs) zero y h e = by (p x) h (ap p (some_one x y e))
+any_there p [] n y h e = absurd (none-some y e)
+any_there p (x ∷ xs) zero y h e = by (p x) h (ap p (same_Some x y e))
   where
     by : (b : Bool) → (b || list_any p xs) ≡ false → b ≡ p y → p y ≡ false
     by true q k = cc
@@ -113,9 +112,9 @@ any_there p (x ∷ xs) (suc n) y h e = by (p x) h (λ k. any_there p xs n y k e)
 
 -- where each pair is there once, a pair is at its place
 place_there : (xs : List (List ℕ × ℕ)) (n : ℕ) (y : List ℕ × ℕ) → AreDistinct xs → slice_get xs n ≡ Some y → place_of xs y ≡ n
-place_there [] n y d e = absurd (none_some y e)
+place_there [] n y d e = absurd (none-some y e)
 place_there (x ∷ xs) zero y d e =
-    let same : same_pair y x ≡ true = subst (λ z. same_pair y z ≡ true) (sym (some_one x y e)) (same_pair_itself y) in
+    let same : same_pair y x ≡ true = subst (λ z. same_pair y z ≡ true) (sym (same_Some x y e)) (same_pair_itself y) in
     ap (λ b. cond (not b) (1 + place_of xs y) 0) same
 place_there (x ∷ xs) (suc n) y d e = by (same_pair y x) refl (place_there xs n y d.1 e)
   where
@@ -134,7 +133,7 @@ place_known xs y h = subst (λ zs. slice_get zs (place_of xs y) ≡ Some y) (wit
 
 -- ---- the readings of a text
 
-below_suc : (i n : ℕ) → i < suc n → (i < n) ⊎ (i ≡ n)
+pub below_suc : (i n : ℕ) → i < suc n → (i < n) ⊎ (i ≡ n)
 below_suc i n h = elim (cases_lt i n) [ inl k ↦ inl k | inr k ↦ inr (omega arith) ]
 
 readings_before : (g : GrammarOf) (ws : List (List ℕ)) (n i : ℕ) (r : Reading) → i < n → IsIn (readings_at g ws i) r → IsIn (readings_to g ws n) r
@@ -197,6 +196,11 @@ here_right g ws i l h x =
         | inr z ↦ variable_right g ws i l h z
       ]
     ]
+
+-- the leaves at the first n places
+abbrev pub leaves_to : GrammarOf → List (List ℕ) → List (List ℕ × ℕ) → ℕ → List Leaf
+leaves_to g ws ps zero = []
+leaves_to g ws ps (suc n) = leaves_to g ws ps n ++ leaves_at g ws ps n
 
 all_right : (g : GrammarOf) (ws : List (List ℕ)) (n : ℕ) (l : Leaf) → n ≤ length ws → IsIn (leaves_to g ws (pairs_of g ws) n) l → IsLeafOf g ws l
 all_right g ws zero l h x = absurd (in_none l x)
@@ -270,26 +274,26 @@ few_more ps qs y e h = omega (arith, few_with ps y, ap length e)
 -- ---- leaves are within the text
 
 kinds_within : (ss : List SortName) (us : List (List ℕ)) (i : ℕ) (r : ℕ × ℕ) → kind_list ss us i ≡ Some r → (i < r.1) × (r.1 ≤ i + length us)
-kinds_within ss [] i r e = absurd (none_some r e)
-kinds_within ss (w ∷ []) i r e = absurd (none_some r e)
+kinds_within ss [] i r e = absurd (none-some r e)
+kinds_within ss (w ∷ []) i r e = absurd (none-some r e)
 kinds_within ss (w ∷ m ∷ us) i r e = by (sort_named ss w) e (λ x q. kinds_within ss us (i + 2) x q)
   where
     if_same : (b : Bool) (x : ℕ × ℕ) → (if b then Some x else None) ≡ Some r → x ≡ r
-    if_same true x q = some_one x r q
-    if_same false x q = absurd (none_some r q)
+    if_same true x q = same_Some x r q
+    if_same false x q = absurd (none-some r q)
 
     rest : (k : ℕ) (o : Option (ℕ × ℕ)) → if_kind k o ≡ Some r → ((x : ℕ × ℕ) → o ≡ Some x → (i + 2 < x.1) × (x.1 ≤ (i + 2) + length us)) → (i < r.1) × (r.1 ≤ i + length (w ∷ m ∷ us))
-    rest k None q ih = absurd (none_some r q)
+    rest k None q ih = absurd (none-some r q)
     rest k (Some x) q ih = let s = ap (λ (p : ℕ × ℕ). p.1) (if_same (nat_eq x.0 k) x q) in let b = ih x refl in (omega (arith, b.0, s), omega (arith, b.1, s))
 
     marked : (b d : Bool) (s : ℕ × ℕ) → (if b then Some (s.1, i + 2) else (if d then if_kind s.1 (kind_list ss us (i + 2)) else None)) ≡ Some r
         → ((x : ℕ × ℕ) → kind_list ss us (i + 2) ≡ Some x → (i + 2 < x.1) × (x.1 ≤ (i + 2) + length us)) → (i < r.1) × (r.1 ≤ i + length (w ∷ m ∷ us))
-    marked true d s q ih = let t = ap (λ (p : ℕ × ℕ). p.1) (some_one (s.1, i + 2) r q) in (omega (arith, t), omega (arith, t))
+    marked true d s q ih = let t = ap (λ (p : ℕ × ℕ). p.1) (same_Some (s.1, i + 2) r q) in (omega (arith, t), omega (arith, t))
     marked false true s q ih = rest s.1 (kind_list ss us (i + 2)) q ih
-    marked false false s q ih = absurd (none_some r q)
+    marked false false s q ih = absurd (none-some r q)
 
     by : (o : Option (ℕ × ℕ)) → kind_with o m i (kind_list ss us (i + 2)) ≡ Some r → ((x : ℕ × ℕ) → kind_list ss us (i + 2) ≡ Some x → (i + 2 < x.1) × (x.1 ≤ (i + 2) + length us)) → (i < r.1) × (r.1 ≤ i + length (w ∷ m ∷ us))
-    by None q ih = absurd (none_some r q)
+    by None q ih = absurd (none-some r q)
     by (Some s) q ih = marked (bytes_eq m (codes "]")) (bytes_eq m (codes ",")) s q ih
 
 -- the tokens of a variable at i, of which n follow i

@@ -1,6 +1,6 @@
 -- A list of terms one of which has the successor over the greatest numeral, and lists that are one term.
 use Rattle.std.proofs.Common.{◌≡◌, ◌≢◌, ℕ, ◌+◌, ◌≤◌, ◌<◌, zero, suc, List, [], ◌∷◌, ◌++◌, length, map, take, get_or, Bool, true, false, nat_eq, ◌&&◌, ◌||◌, refl, sym, ◌∙◌, ap, eqb-true, arith}
-use Rattle.mau_terms.specs.Tree.{Tree, variable, numeral, apply, Trees, no_trees, tree, trees_of, node}
+use Rattle.mau_terms.specs.Tree.{Tree, variable, numeral, apply, Trees, tree, trees_of, node}
 use Rattle.mau_terms.specs.Depth.{depth, list_depth, depths-trees_of}
 use Rattle.mau_terms.specs.Norm.{is_greatest_numeral}
 use Rattle.mau_terms.specs.View.{tree_of}
@@ -10,11 +10,6 @@ use Rattle.mau_signature.proofs.Lows.{take-step}
 use Rattle.mau_parse.specs.Overflow.{overflows, some_overflow}
 
 -- ---- one term
-
-pub greatest_one : (xs : List Bare) (x : Bare) → length xs ≡ 1 → x ≡ get_or xs 0 x → is_greatest_numeral (tree (tree_of x) no_trees) ≡ is_greatest_numeral (trees_of (map tree_of xs))
-greatest_one [] x n e = absurd (omega arith)
-greatest_one (y ∷ []) x n e = ap (λ z. is_greatest_numeral (tree (tree_of z) no_trees)) e
-greatest_one (y ∷ z ∷ xs) x n e = absurd (omega arith)
 
 not_greatest : (t u : Tree) (us : Trees) → is_greatest_numeral (tree t (tree u us)) ≡ false
 not_greatest (variable i s) u us = refl

@@ -2,7 +2,7 @@
 use Rattle.std.proofs.Common.{◌≡◌, ℕ, zero, suc, ◌+◌, List, [], ◌∷◌, ◌++◌, take, Bool, true, false, ◌&&◌, ◌||◌, if◌then◌else◌, Some, slice_get, refl, sym, ◌∙◌, ap, ap₂, subst}
 use Rattle.std.specs.List.{list_any}
 use Rattle.std.proofs.lemmas.List.{take_more}
-use Rattle.std.proofs.lemmas.Option.{slice_get_within, get_or_from_slice_get}
+use Rattle.std.proofs.lemmas.Option.{slice_get_within, get_or_from_slice_get, none-some}
 use Rattle.mau_terms.specs.Tree.{Tree, variable, numeral, apply, Trees, no_trees, tree}
 use Rattle.mau_terms.specs.Norm.{is_greatest_numeral}
 use Rattle.mau_terms.specs.Vars.{same_pair, with_pair, AreDistinct}
@@ -10,7 +10,6 @@ use Rattle.mau_terms.proofs.Pairs.{same_pair-is, same_pair_itself}
 use Rattle.mau_signature.specs.Attributes.{has_number}
 use Rattle.mau_parse.specs.Terms.{renamed, all_renamed}
 use Rattle.mau_parse.specs.Overflow.{overflows, some_overflow}
-use Rattle.mau_parse.proofs.Charted.{none_some}
 use Rattle.mau_parse.proofs.Leaves_listed.{any_there}
 
 -- ---- a copy
@@ -23,7 +22,7 @@ other_way x y h = by (same_pair x y) refl
     by true e = let k : same_pair y x ≡ true = subst (λ z. same_pair y z ≡ true) (sym (same_pair-is x y e)) (same_pair_itself y) in cc
 
 none_before : (xs : List (List ℕ × ℕ)) (i : ℕ) (x : List ℕ × ℕ) → AreDistinct xs → slice_get xs i ≡ Some x → list_any (same_pair x) (take i xs) ≡ false
-none_before [] i x d e = absurd (none_some x e)
+none_before [] i x d e = absurd (none-some x e)
 none_before (y ∷ xs) zero x d e = refl
 none_before (y ∷ xs) (suc i) x d e =
     ap₂ (λ a b. a || b) (other_way x y (any_there (same_pair y) xs i x d.0 e)) (none_before xs i x d.1 e)

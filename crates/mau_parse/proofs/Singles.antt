@@ -1,7 +1,7 @@
 -- A term has one tree.
 use Rattle.std.proofs.Common.{◌≡◌, ℕ, ◌+◌, ◌-◌, List, [], ◌∷◌, length, cond, Option, Some, None, All, refl, sym, ◌∙◌, ap, subst, arith, slice_get, length-append}
 use Rattle.std.proofs.lemmas.List.Sums.{sum_by-cons}
-use Rattle.std.proofs.lemmas.Option.{slice_get_within, slice_get-get_or}
+use Rattle.std.proofs.lemmas.Option.{slice_get_within, slice_get-get_or, same_Some}
 use Rattle.mau_terms.specs.Tree.{Tree, node}
 use Rattle.mau_terms.specs.declared.ids.OpId.{OpId}
 use Rattle.mau_grammar.specs.declared.production.Part.{Part}
@@ -13,12 +13,12 @@ use Rattle.mau_chart.specs.Goal.{ReadsAs}
 use Rattle.mau_chart.specs.Reads.{Reads as Charts}
 use Rattle.mau_parse.specs.Charted.{kind_number}
 use Rattle.mau_parse.specs.Laws.{IsOneTree, ChartsReadTrees}
-use Rattle.mau_parse.proofs.Charted.{some_one, reads_charts, charts_mean}
+use Rattle.mau_parse.proofs.Charted.{reads_charts, charts_mean}
 
 pub shape_at : (ps : List Written) → All IsShaped ps → (n : ℕ) (p : Written) → slice_get ps n ≡ Some p → IsShaped p
 shape_at ps a n p e =
     let h = slice_get_within ps n p e in
-    subst IsShaped (some_one _ p (sym (slice_get-get_or ps n p h) ∙ e)) (a n p h)
+    subst IsShaped (same_Some _ p (sym (slice_get-get_or ps n p h) ∙ e)) (a n p h)
 
 abbrev pub IsOne : List Tree → Type 0
 IsOne ts = (t : Tree) × (ts ≡ t ∷ [])

@@ -28,8 +28,3 @@ IsKnown ps r = list_any (same_pair (pair_of r)) ps ≡ true
 
 abbrev pub leaves_at : GrammarOf → List (List ℕ) → List (List ℕ × ℕ) → ℕ → List Leaf
 leaves_at g ws ps i = word_at ws i ∷ (numerals_at g.numerals ws i ++ map (variable_at ws ps i) (readings_at g ws i))
-
--- those at the first n places
-abbrev pub leaves_to : GrammarOf → List (List ℕ) → List (List ℕ × ℕ) → ℕ → List Leaf
-leaves_to g ws ps zero = []
-leaves_to g ws ps (suc n) = leaves_to g ws ps n ++ leaves_at g ws ps n

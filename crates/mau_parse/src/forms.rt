@@ -1,5 +1,5 @@
 //! The productions of a grammar, for a chart of some words.
-ghost use Rattle.std.specs.Prelude.{◌≡◌, ◌≤◌, ℕ, All, IfOk, OnOk, IsTrue, length};
+ghost use Rattle.std.specs.Prelude.{◌≡◌, ◌≤◌, All, IfOk, OnOk, IsTrue, length};
 ghost use Rattle.mau_grammar.specs.Production.{IsShaped};
 ghost use Rattle.mau_parse.specs.Charted;
 ghost use Rattle.mau_parse.specs.Charted.{IsPieceOf, IsFormOf, AreThere, AreFormsOf};

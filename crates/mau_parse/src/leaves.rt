@@ -1,5 +1,5 @@
 //! What words are by themselves: leaves of a chart.
-ghost use Rattle.std.specs.Prelude.{◌≡◌, ◌<◌, ◌≤◌, ◌+◌, ◌++◌, ◌∷◌, [], ℕ, length, map, OnOk, IfOk, All};
+ghost use Rattle.std.specs.Prelude.{◌≡◌, ◌<◌, ◌≤◌, ◌+◌, ◌++◌, ◌∷◌, [], length, map, OnOk, IfOk, All};
 ghost use Rattle.mau_grammar.specs.Leaves;
 ghost use Rattle.mau_parse.specs.Charted.{AreLeavesOf};
 ghost use Rattle.mau_parse.specs.Listed;
@@ -14,7 +14,7 @@ use crate::readings::{Reading, readings_at, readings_of};
 use crate::words::Words;
 use mau_chart::{Leaf, Said};
 use mau_grammar::Grammar;
-use mau_terms::{NoMemory, VarId, Vars};
+use mau_terms::{NoMemory, Vars};
 use std::alloc::Global;
 
 /// One more than the greatest number of pairs that are held: with more, no memory is left.

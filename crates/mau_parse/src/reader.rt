@@ -1,5 +1,5 @@
 //! The reader of terms.
-ghost use Rattle.std.specs.Prelude.{◌≡◌, ◌<◌, ◌≤◌, ◌+◌, length, IsSome, IfSome, IfNone, IfOk, IfErr, OnOk, OnErr};
+ghost use Rattle.std.specs.Prelude.{◌≡◌, ◌<◌, ◌≤◌, ◌+◌, length, IsSome, IfSome, IfNone, IfOk, IfErr, OnErr};
 ghost use Rattle.mau_tokens.specs.Spans.{AreSpans};
 ghost use Rattle.mau_parse.specs.Laws.{IsBareFor};
 ghost use Rattle.mau_parse.specs.Parsed.{IsReadable, IsParsed, IsTreeFault, IsFault};

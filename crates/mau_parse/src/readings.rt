@@ -1,5 +1,5 @@
 //! Words that are variables.
-ghost use Rattle.std.specs.Prelude.{◌≡◌, ◌<◌, ◌≤◌, ◌+◌, ◌++◌, length, drop, map, OnOk, IfOk};
+ghost use Rattle.std.specs.Prelude.{◌≡◌, ◌<◌, ◌≤◌, ◌+◌, ◌++◌, length, drop, OnOk, IfOk};
 ghost use Rattle.mau_grammar.specs.Leaves;
 ghost use Rattle.mau_parse.specs.Words.{text_at};
 ghost use Rattle.mau_parse.specs.Readings.{all_seen};

@@ -19,10 +19,6 @@ use Rattle.mau_parts.specs.Stored.{tree_in, AddsTerms}
 
 -- ---- answers
 
-pub IfOk-then : {T E : Type 0} (P Q : T → Type 0) → ((x : T) → P x → Q x) → (r : Result T E) → IfOk r P → IfOk r Q
-IfOk-then P Q h (Ok x) p = h x p
-IfOk-then P Q h (Err e) p = tt
-
 pub IfOk-both : {T E : Type 0} (P Q : T → Type 0) (r : Result T E) → IfOk r P → IfOk r Q → IfOk r (λ x. P x × Q x)
 IfOk-both P Q (Ok x) p q = (p, q)
 IfOk-both P Q (Err e) p q = tt
@@ -65,18 +61,22 @@ module _ (s : SignatureOf) where
     terms = trees_at-extends old new (numbers ids) e (stand_there (theory_at s) old (numbers ids) w) ∙ sym (append-nil (trees_at old (numbers ids)));
   }
 
-  pub adds_one_term : (old new : List Node) (before after : List TermId) (id : TermId) (t : Tree) → Extends old new → StandWithin (theory_at s) old (numbers before) → StandsWithin (theory_at s) new id.0 → after ≡ before ++ id ∷ [] → tree_at new id.0 ≡ t → AddsTerms s old new before after (t ∷ [])
-  adds_one_term old new before after id t e wb wm k m =
+  pub adds_some_terms : (old new : List Node) (before more after : List TermId) (ts : List Tree) → Extends old new → StandWithin (theory_at s) old (numbers before) → StandWithin (theory_at s) new (numbers more) → after ≡ before ++ more → trees_at new (numbers more) ≡ ts → AddsTerms s old new before after ts
+  adds_some_terms old new before more after ts e wb wm k m =
       let P = StandsWithin (theory_at s) new in
       let wb' = stand_within_extended (theory_at s) old new (numbers before) e wb in
       record {
         extends = e;
-        within = subst (λ ids. StandWithin (theory_at s) new (numbers ids)) (sym k) (subst (λ ns. StandWithin (theory_at s) new ns) (sym (map-append (λ i. i.0) before (id ∷ []))) (All-append P (numbers before) (id.0 ∷ []) wb' (All-cons P id.0 [] wm (All-nil P))));
+        within = subst (λ ids. StandWithin (theory_at s) new (numbers ids)) (sym k) (subst (λ ns. StandWithin (theory_at s) new ns) (sym (map-append (λ id. id.0) before more)) (All-append P (numbers before) (numbers more) wb' wm));
         terms =
             ap (λ ids. trees_at new (numbers ids)) k
-            ∙ trees_at-append new before (id ∷ [])
-            ∙ ap₂ (λ x y. x ++ y ∷ []) (trees_at-extends old new (numbers before) e (stand_there (theory_at s) old (numbers before) wb)) m;
+            ∙ trees_at-append new before more
+            ∙ ap₂ (λ x y. x ++ y) (trees_at-extends old new (numbers before) e (stand_there (theory_at s) old (numbers before) wb)) m;
       }
+
+  pub adds_one_term : (old new : List Node) (before after : List TermId) (id : TermId) (t : Tree) → Extends old new → StandWithin (theory_at s) old (numbers before) → StandsWithin (theory_at s) new id.0 → after ≡ before ++ id ∷ [] → tree_at new id.0 ≡ t → AddsTerms s old new before after (t ∷ [])
+  adds_one_term old new before after id t e wb wm k m =
+      adds_some_terms old new before (id ∷ []) after (t ∷ []) e wb (All-cons (StandsWithin (theory_at s) new) id.0 [] wm (All-nil (StandsWithin (theory_at s) new))) k (ap (λ y. y ∷ []) m)
 
   pub adds_both_terms : (a b c : List Node) (xs ys zs : List TermId) (ts us : List Tree) → AddsTerms s a b xs ys ts → AddsTerms s b c ys zs us → AddsTerms s a c xs zs (ts ++ us)
   adds_both_terms a b c xs ys zs ts us h k = record {

@@ -1,5 +1,6 @@
 -- Operators over items that are within the limits together.
 use Rattle.std.proofs.Common.{◌≡◌, ℕ, ◌≤◌, ◌<◌, List, [], ◌∷◌, Bool, true, false, ◌||◌, ◌&&◌, Option, Some, None, map, refl, sym, ◌∙◌, ap, ap₂, subst, arith}
+use Rattle.std.proofs.lemmas.Bool.{or_parts}
 use Rattle.mau_terms.specs.Tree.{Tree, node, trees_of}
 use Rattle.mau_terms.specs.Depth.{depth, list_depth, depths-trees_of}
 use Rattle.mau_terms.specs.Norm.{finish, build, norm, holds_overflow, hold_overflow}
@@ -15,7 +16,7 @@ use Rattle.mau_canon.specs.declared.TheConstants.{MAX_DEPTH}
 use Rattle.mau_canon.specs.declared.fault.BuildFault.{BuildFault}
 use Rattle.mau_canon.specs.declared.fault.BuildFault.TheVariants.{TooDeep, Overflow, NoMemory}
 use Rattle.mau_canon.specs.Within.{IsWithin, IsCause}
-use Rattle.mau_canon.proofs.Elements.{or_false, no_greatest}
+use Rattle.mau_canon.proofs.Elements.{no_greatest}
 
 module _ (th : ℕ → Theory) (f : ℕ) where
   norms_of_pieces : (ts : List Tree) → ArePieces th f ts → map (norm th) ts ≡ ts
@@ -56,7 +57,7 @@ module _ (th : ℕ → Theory) (f : ℕ) where
   pub all_below : (ts : List Tree) → hold_overflow th (trees_of ts) ≡ false → (d : ℕ) → list_depth ts ≤ d → Each (IsBelow d) ts
   all_below [] o d h = tt
   all_below (t ∷ ts) o d h =
-      let both = or_false (holds_overflow th t) (hold_overflow th (trees_of ts)) o in
+      let both = or_parts (holds_overflow th t) (hold_overflow th (trees_of ts)) o in
       (record { shallow = omega arith; no_overflow = both.0 }, all_below ts both.1 d (omega arith))
 
   depth_below : (ts : List Tree) (d : ℕ) → Each (IsBelow d) ts → list_depth ts ≤ d

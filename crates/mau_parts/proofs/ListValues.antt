@@ -2,6 +2,7 @@
 use Rattle.std.proofs.Common.{◌≡◌, ℕ, ◌<◌, ◌≤◌, List, [], ◌∷◌, ◌++◌, length, take, Bool, true, false, if◌then◌else◌, ◌&&◌, Option, Some, None, inl, inr, ◌⊎◌, refl, sym, ◌∙◌, ap, ap₂, subst, arith}
 use Rattle.std.specs.declared.cmp.Ordering.TheVariants.{Less}
 use Rattle.std.specs.Ordering.{is_gt}
+use Rattle.std.proofs.lemmas.Bool.{or_parts}
 use Rattle.mau_terms.specs.Tree.{Tree, node, trees_of}
 use Rattle.mau_terms.specs.Order.{tree_cmp, insert_tree, sort_trees}
 use Rattle.mau_terms.specs.Norm.{unit_tree, arrange, finish, norm, hold_overflow, is_greatest_numeral}
@@ -18,7 +19,6 @@ use Rattle.mau_terms.proofs.Solutions.{list_of_made}
 use Rattle.mau_terms.proofs.Finite.{over_its_list, finish_true_one, in_arrange, length-arrange}
 use Rattle.mau_canon.specs.declared.TheConstants.{MAX_DEPTH}
 use Rattle.mau_canon.specs.Within.{IsWithin}
-use Rattle.mau_canon.proofs.Elements.{or_false}
 use Rattle.mau_lists.specs.Lists.{IsSubList, IsFront, IsPart, IsNextOrEnd}
 use Rattle.mau_lists.specs.Terms.{IsBefore}
 use Rattle.mau_lists.proofs.Multisets.{sub_ascends}
@@ -109,7 +109,7 @@ from_insert x t (u ∷ us) h = by (λ k. from_insert x t us k) (is_gt (tree_cmp 
     by ih true (inr k) = elim (ih k) [ inl e ↦ inl e | inr l ↦ inr (inr l) ]
     by ih false k = k
 
-from_sort : (x : Tree) (ts : List Tree) → IsIn x (sort_trees ts) → IsIn x ts
+pub from_sort : (x : Tree) (ts : List Tree) → IsIn x (sort_trees ts) → IsIn x ts
 from_sort x [] h = h
 from_sort x (t ∷ ts) h = elim (from_insert x t (sort_trees ts) h) [ inl e ↦ inl e | inr k ↦ inr (from_sort x ts k) ]
 
@@ -361,7 +361,7 @@ module _ (th : ℕ → Theory) (lawful : AreLawful th) (f : ℕ) (a : (th f).ass
   -- less deep than the limit, where the operator over two or more is within it
   below_limit : (zs : List Tree) → 2 ≤ length zs → IsWithin th (node f zs) → (d : ℕ) × (d < MAX_DEPTH) × Each (IsBelow th f d) zs
   below_limit zs l w =
-      let h : hold_overflow th (trees_of zs) ≡ false = (or_false ((th f).succ && is_greatest_numeral (trees_of zs)) (hold_overflow th (trees_of zs)) w.no_overflow).1 in
+      let h : hold_overflow th (trees_of zs) ≡ false = (or_parts ((th f).succ && is_greatest_numeral (trees_of zs)) (hold_overflow th (trees_of zs)) w.no_overflow).1 in
       (list_depth zs, let k : list_depth zs < MAX_DEPTH = omega (arith, w.shallow, depths-trees_of zs) in k, all_below th f zs h (list_depth zs) (omega arith))
 
   node_of_long : (xs : List Tree) (d : ℕ) → d < MAX_DEPTH → Each (IsBelow th f d) xs → is_long xs ≡ true → IsWithin th (node f xs)

@@ -10,10 +10,10 @@ use Rattle.mau_lists.proofs.Multisets.{sub_lists_are_sub_multisets, sub_of_sorte
 use Rattle.mau_parts.specs.Parts.{Reach, whole, front, inside, Reaches}
 use Rattle.mau_parts.specs.Lists.{IsListIn}
 
-more_left : (a b c : List Tree) → sort_trees a ≡ sort_trees b → sort_trees (a ++ c) ≡ sort_trees (b ++ c)
+pub more_left : (a b c : List Tree) → sort_trees a ≡ sort_trees b → sort_trees (a ++ c) ≡ sort_trees (b ++ c)
 more_left a b c e = sym (sort_left a c) ∙ ap (λ w. sort_trees (w ++ c)) e ∙ sort_left b c
 
-past : (a b c : List Tree) → sort_trees (a ++ (b ++ c)) ≡ sort_trees (b ++ (a ++ c))
+pub past : (a b c : List Tree) → sort_trees (a ++ (b ++ c)) ≡ sort_trees (b ++ (a ++ c))
 past a b c = ap sort_trees (sym (append_assoc a b c)) ∙ more_left (a ++ b) (b ++ a) c (sort_swap a b) ∙ ap sort_trees (append_assoc b a c)
 
 -- a list that stands in such a reach of another is a sub-list of it, where both are sorted

@@ -47,10 +47,6 @@ some_unit th f t h e = by (th f).id refl e
     by None k e = absurd (cc)
     by (Some i) k e = ap (λ w. w ∷ []) (sym (h i k))
 
-pub no_unit : (u : Option Identity) → is_some u ≡ false → units_of u ≡ []
-no_unit None e = refl
-no_unit (Some i) e = cc
-
 -- ---- single items
 
 pub trees_alone : (nodes : List Node) (c : Bool) (r : Reach) (ids : List TermId) → trees_at nodes (numbers (alone_of c r ids)) ≡ alone_of c r (trees_at nodes (numbers ids))
@@ -60,14 +56,6 @@ trees_alone nodes false whole (i ∷ ids) = refl
 trees_alone nodes false front [] = refl
 trees_alone nodes false front (i ∷ ids) = refl
 trees_alone nodes false inside ids = refl
-
-pub alone_stand : (P : ℕ → Type 0) (c : Bool) (r : Reach) (ids : List TermId) → All P (numbers ids) → All P (numbers (alone_of c r ids))
-alone_stand P true r ids h = h
-alone_stand P false whole [] h = h
-alone_stand P false whole (i ∷ ids) h = All-take P 1 (numbers (i ∷ ids)) h
-alone_stand P false front [] h = h
-alone_stand P false front (i ∷ ids) h = All-take P 1 (numbers (i ∷ ids)) h
-alone_stand P false inside ids h = h
 
 -- ---- items
 
@@ -86,7 +74,7 @@ module _ (s : SignatureOf) (old new : List Node) (e : Extends old new) where
 
 -- ---- the next value
 
-place_of : (s : SignatureOf) (o : Option OpId) → IfSome o (λ op. IsListOperator s op.0) → IsPlace (theory_at s) (operator_number o)
+pub place_of : (s : SignatureOf) (o : Option OpId) → IfSome o (λ op. IsListOperator s op.0) → IsPlace (theory_at s) (operator_number o)
 place_of s None h = tt
 place_of s (Some op) h = h.assoc
 

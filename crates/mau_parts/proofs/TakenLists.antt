@@ -57,6 +57,25 @@ module _ (b : Bool) (u : Option Identity) (f : ℕ) where
       omega (arith, k, count zs s.1, length-append (pieces b u f z) (all_pieces b u f zs))
   less (z ∷ zs) v (inr h) s = omega (arith, some_length (pieces b u f z) s.0, less zs v h s.1, length-append (pieces b u f z) (all_pieces b u f zs))
 
+-- ---- readings
+
+module _ (s : TermSignature) where
+  pub readings_map : (ts : Trees) → readings s.theory ts ≡ map (reading s.theory) (list_of ts)
+  readings_map no_trees = refl
+  readings_map (tree t ts) = ap (λ w. reading s.theory t ∷ w) (readings_map ts)
+
+  pub reading_unit : (i : Identity) → reading s.theory (unit_tree i) ≡ unit_tree i
+  reading_unit (Const c) = by (s.theory c.0).assoc
+    where
+      by : (d : Bool) → nest d c.0 [] ≡ apply c.0 no_trees
+      by true = refl
+      by false = refl
+  reading_unit (Num n) = refl
+
+  pub norms_of_readings : IsLawful s → (ts : List Tree) → Each (IsNormal s.theory) ts → map (norm s.theory) (map (reading s.theory) ts) ≡ ts
+  norms_of_readings lawful [] n = refl
+  norms_of_readings lawful (t ∷ ts) n = ap₂ (λ v w. v ∷ w) (norm-reading s.theory lawful.theories t n.0) (norms_of_readings lawful ts n.1)
+
 -- ---- bare terms
 
 bare_end : (s : TermSignature) {t u : Tree} → EqualModulo s t u → IsBare s u
@@ -82,7 +101,7 @@ module _ (s : TermSignature) (lawful : IsLawful s) (f : ℕ) (a : (s.theory f).a
           let b' : IsBare s (apply f no_trees) = subst (λ c. IsBare s (nest c f [])) a h in
           subst (AreBareIn s no_trees) (lawful.assoc_kinds f a) b'.1.2
 
-  bare_filled : (t : Tree) → IsBare s t → (s.theory f).id ≡ None → list_under (s.theory f) f (norm s.theory t) ≡ [] → ⊥
+  pub bare_filled : (t : Tree) → IsBare s t → (s.theory f).id ≡ None → list_under (s.theory f) f (norm s.theory t) ≡ [] → ⊥
   bare_filled t b n e = by (split (s.theory f).assoc (s.theory f).id f (norm s.theory t))
     where
       by : Split (s.theory f).assoc (s.theory f).id f (norm s.theory t) → ⊥
@@ -165,18 +184,6 @@ module _ (s : TermSignature) (lawful : IsLawful s) (f : ℕ) (a : (s.theory f).a
 
   -- ---- a value of the part can be taken
 
-  readings_map : (ts : Trees) → readings s.theory ts ≡ map (reading s.theory) (list_of ts)
-  readings_map no_trees = refl
-  readings_map (tree t ts) = ap (λ w. reading th t ∷ w) (readings_map ts)
-
-  reading_unit : (i : Identity) → reading s.theory (unit_tree i) ≡ unit_tree i
-  reading_unit (Const c) = by (s.theory c.0).assoc
-    where
-      by : (d : Bool) → nest d c.0 [] ≡ apply c.0 no_trees
-      by true = refl
-      by false = refl
-  reading_unit (Num n) = refl
-
   abbrev IsFit : Tree → Type 0
   IsFit t = IsBareIn s (reading s.theory t) (s.result f)
 
@@ -201,12 +208,12 @@ module _ (s : TermSignature) (lawful : IsLawful s) (f : ℕ) (a : (s.theory f).a
       by (one p) = subst (Each IsFit) (sym p) (b, tt)
       by (many ts d e p) =
           let c : IsBareIn s (nest (s.theory f).assoc f (readings th ts)) r = subst (λ w. IsBareIn s (reading s.theory w) r) e b in
-          subst (Each IsFit) (sym p) (fit_nested (list_of ts) (subst (λ w. IsBareIn s (nest true f w) r) (readings_map ts) (subst (λ d. IsBareIn s (nest d f (readings th ts)) r) a c)))
+          subst (Each IsFit) (sym p) (fit_nested (list_of ts) (subst (λ w. IsBareIn s (nest true f w) r) (readings_map s ts) (subst (λ d. IsBareIn s (nest d f (readings th ts)) r) a c)))
 
   module _ (h : s.has_operator f ≡ true) where
     fit_nest : (t : Tree) (ts : List Tree) → Each IsFit (t ∷ ts) → IsFit (node f (t ∷ ts))
     fit_nest t ts b =
-        let e : readings th (tree t (trees_of ts)) ≡ map (reading s.theory) (t ∷ ts) = readings_map (tree t (trees_of ts)) ∙ ap (λ w. reading th t ∷ map (reading s.theory) w) (list_of-trees_of ts) in
+        let e : readings th (tree t (trees_of ts)) ≡ map (reading s.theory) (t ∷ ts) = readings_map s (tree t (trees_of ts)) ∙ ap (λ w. reading th t ∷ map (reading s.theory) w) (list_of-trees_of ts) in
         let c : IsBareIn s (nest true f (map (reading s.theory) (t ∷ ts))) r = all_made h (reading th t) (map (reading s.theory) ts) (map_fit (t ∷ ts) b) in
         subst (λ d. IsBareIn s (nest d f (readings th (tree t (trees_of ts)))) r) (sym a) (subst (λ w. IsBareIn s (nest true f w) r) (sym e) c)
 
@@ -216,7 +223,7 @@ module _ (s : TermSignature) (lawful : IsLawful s) (f : ℕ) (a : (s.theory f).a
       where
         none : (u : Option Identity) → (s.theory f).id ≡ u → (u ≡ None → ⊥) → IsFit (finish true u (s.theory f).succ f [])
         none None e k = absurd (k refl)
-        none (Some i) e k = subst (λ w. IsBareIn s w (s.result f)) (sym (reading_unit i)) (lawful.unit_kinds f i e).1
+        none (Some i) e k = subst (λ w. IsBareIn s w (s.result f)) (sym (reading_unit s i)) (lawful.unit_kinds f i e).1
 
         by : (xs : List Tree) → ((s.theory f).id ≡ None → xs ≡ [] → ⊥) → Each IsFit xs → IsFit (finish (s.theory f).assoc (s.theory f).id (s.theory f).succ f xs)
         by [] n b = subst (λ d. IsFit (finish d (s.theory f).id (s.theory f).succ f [])) (sym a) (none (s.theory f).id refl (λ e. n e refl))
@@ -233,18 +240,14 @@ module _ (s : TermSignature) (lawful : IsLawful s) (f : ℕ) (a : (s.theory f).a
 
     units_fit : (u : Option Identity) → (s.theory f).id ≡ u → Each IsFit (units_of u)
     units_fit None e = tt
-    units_fit (Some i) e = (subst (λ w. IsBareIn s w (s.result f)) (sym (reading_unit i)) (lawful.unit_kinds f i e).1, tt)
+    units_fit (Some i) e = (subst (λ w. IsBareIn s w (s.result f)) (sym (reading_unit s i)) (lawful.unit_kinds f i e).1, tt)
 
     units_pieces : (u : Option Identity) → all_pieces (s.theory f).assoc u f (units_of u) ≡ []
     units_pieces None = refl
     units_pieces (Some i) = append-nil (pieces (s.theory f).assoc (Some i) f (unit_tree i)) ∙ unit-pieces (s.theory f).assoc i f
 
-    norms_of_readings : (ts : List Tree) → Each (IsNormal s.theory) ts → map (norm s.theory) (map (reading s.theory) ts) ≡ ts
-    norms_of_readings [] n = refl
-    norms_of_readings (t ∷ ts) n = ap₂ (λ v w. v ∷ w) (norm-reading th lawful.theories t n.0) (norms_of_readings ts n.1)
-
     in_readings : (t : Tree) (ts : List Tree) → IsIn t ts → Each (IsNormal s.theory) ts → IsIn t (map (norm s.theory) (map (reading s.theory) ts))
-    in_readings t ts i n = subst (IsIn t) (sym (norms_of_readings ts n)) i
+    in_readings t ts i n = subst (IsIn t) (sym (norms_of_readings s lawful ts n)) i
 
     length_readings : (ts : List Tree) → length (map (reading s.theory) ts) ≡ length ts
     length_readings [] = refl
@@ -264,7 +267,7 @@ module _ (s : TermSignature) (lawful : IsLawful s) (f : ℕ) (a : (s.theory f).a
           two_at_least = λ k. two;
           bare = subst (λ d. IsBare s (nest d f us)) (sym a) (bare_nest ts (omega (arith, l)) b);
           taken = in_readings v ts i n;
-          whole = norm-nest th lawful.theories (s.theory f).assoc f refl us (λ k. two) ∙ ap (build (s.theory f) f) (norms_of_readings ts n) ∙ e;
+          whole = norm-nest th lawful.theories (s.theory f).assoc f refl us (λ k. two) ∙ ap (build (s.theory f) f) (norms_of_readings s lawful ts n) ∙ e;
         }
 
     pub value_taken : (t v : Tree) → norm s.theory t ≡ t → IsBareIn s (reading s.theory t) (s.result f) → IsValueOf s.theory (some_of inside f (list_under (s.theory f) f t)) v → ((s.theory f).id ≡ None → v ≡ t → ⊥) → CanTakeNormal s f t v

@@ -19,7 +19,7 @@ use Rattle.mau_parts.proofs.Keys.{key_total}
 use Rattle.mau_parts.proofs.Least.{Given}
 use Rattle.mau_parts.proofs.TakenLists.{taken_value, taken_less, value_taken}
 
-eq_equal : (o : Ordering) → is_eq o ≡ true → o ≡ Equal
+pub eq_equal : (o : Ordering) → is_eq o ≡ true → o ≡ Equal
 eq_equal Less e = cc
 eq_equal Equal e = refl
 eq_equal Greater e = cc

@@ -1,7 +1,7 @@
 //! Normal forms of an operator over lists of items.
 ghost use Rattle.std.specs.Prelude.{◌≡◌, IfOk};
 ghost use Rattle.mau_terms.specs.Solution.{over_list};
-ghost use Rattle.mau_signature.specs.Signature.{IsOperator, theory_at};
+ghost use Rattle.mau_signature.specs.Signature.{theory_at};
 ghost use Rattle.mau_store.specs.Node.{Extends};
 ghost use Rattle.mau_store.specs.Trees.{tree_at, trees_at};
 ghost use Rattle.mau_store.specs.View.{numbers};

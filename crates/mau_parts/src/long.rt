@@ -10,7 +10,6 @@ ghost use Rattle.mau_canon.specs.Within.{StandWithin};
 ghost use Rattle.mau_lists.specs.Lists.{IsSubList, IsFront, IsPart, IsNextOrEnd};
 ghost use Rattle.mau_lists.specs.Terms.{IsBefore, by_tree, AreSorted, IsNextSubList, IsNextPart};
 ghost use Rattle.mau_lists.specs.Following.{next_front};
-ghost use Rattle.mau_parts.specs.Parts.{front, inside};
 ghost use Rattle.mau_parts.specs.Stored.{reach_of, list_in, is_short_list};
 ghost use Rattle.mau_parts.specs.Lists.{IsLong, IsLongIn};
 

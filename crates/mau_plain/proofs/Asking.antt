@@ -9,13 +9,11 @@ use Rattle.mau_terms.specs.declared.ids.VarId.{VarId}
 use Rattle.mau_terms.proofs.Law.{equal_reading}
 use Rattle.mau_terms.proofs.Chains.{last_bare}
 use Rattle.mau_signature.specs.Signature.{SignatureOf, theory_at, terms_over}
-use Rattle.mau_store.specs.Node.{Node, Extends}
+use Rattle.mau_store.specs.Node.{Node}
 use Rattle.mau_store.specs.Trees.{tree_at}
 use Rattle.mau_canon.specs.Within.{StandsWithin}
-use Rattle.mau_sorts.specs.Table.{Table, AreOver, KeepsEntries}
-use Rattle.mau_api.specs.declared.solution.Solution.{Solution}
-use Rattle.mau_api.specs.Asked.{Asked, asks, IsSettledFor, IsGiven, CanGoOn}
-use Rattle.mau_api.proofs.Growth.{given_is_last, listings_go_on}
+use Rattle.mau_sorts.specs.Table.{Table, AreOver}
+use Rattle.mau_api.specs.Asked.{asks, IsSettledFor, CanGoOn}
 
 -- a listing may be asked for the normal form of a bare term
 pub may_be_asked : (c : Bool) (s : SignatureOf) → IsLawful (terms_over s) → (nodes : List Node) (table : Table) (p t : Tree) (bound : List (VarId × TermId)) (id : TermId) → IsBare (terms_over s) p → IsBare (terms_over s) t
@@ -32,10 +30,3 @@ may_be_asked c s lawful nodes table p t bound id pattern subject within tree bou
   over = over;
   given = tt;
 }
-
--- it goes on behind a solution that was given
-pub goes_on : (c : Bool) (s : SignatureOf) (old new : List Node) (before after : Table) → Extends old new → KeepsEntries before after → AreOver s.hierarchy after → (a : Asked) (last : Option Solution) → CanGoOn c s old before a last
-    → (x : Solution) → IsGiven c s new after a x → CanGoOn c s new after a (Some x)
-goes_on c s old new before after extends kept over a last can x given =
-    let go = listings_go_on c s old new before after extends kept over a last can in
-    record { askable = go.askable; settled = go.settled; over = go.over; given = given_is_last c s new after a x given }

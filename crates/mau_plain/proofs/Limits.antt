@@ -1,6 +1,7 @@
 -- What may have been an argument is within the limits, and is over elements of the term.
 use Rattle.std.proofs.Common.{◌≡◌, ℕ, suc, ◌≤◌, List, [], ◌∷◌, Bool, true, false, ◌&&◌, ◌||◌, Some, All, map, ◌⊎◌, inl, inr, refl, sym, ap, ap₂, ◌∙◌, subst, arith, lit≤}
 use Rattle.std.proofs.lemmas.List.Elements.{All-head, All-tail}
+use Rattle.std.proofs.lemmas.Bool.{or_parts}
 use Rattle.mau_terms.specs.Tree.{Tree, variable, numeral, apply, Trees, no_trees, tree, node, list_of, trees_of}
 use Rattle.mau_terms.specs.Depth.{list_depth}
 use Rattle.mau_terms.specs.Norm.{unit_tree, arrange, finish, build, norm, holds_overflow, hold_overflow, is_greatest_numeral}
@@ -15,11 +16,11 @@ use Rattle.mau_terms.proofs.Normal.{IsNormal, normal_fixed, normal_pieces, whole
 use Rattle.mau_terms.proofs.Pieces.{Each, IsPiece, arrange_none}
 use Rattle.mau_canon.specs.declared.TheConstants.{MAX_DEPTH}
 use Rattle.mau_canon.specs.Within.{IsWithin}
-use Rattle.mau_canon.proofs.Elements.{or_false}
 use Rattle.mau_api.specs.Values.{IsPartUnder, identity, itself, argument, one_less, list}
 use Rattle.mau_api.proofs.Parts.{holds_of_part}
 use Rattle.mau_plain.specs.Parts.{IsOverList, IsWordOf, IsBelowOrLess}
-use Rattle.mau_api.proofs.Depths.{node_depth, argument_depth}
+use Rattle.mau_api.proofs.Depths.{argument_depth}
+use Rattle.mau_store.proofs.Depths.{depth-node}
 
 -- ---- lists over elements
 
@@ -64,13 +65,13 @@ module _ (th : ℕ → Theory) (lawful : AreLawful th) (f : ℕ) (t : Tree) (wit
     where
       go : (us : Trees) → hold_overflow th us ≡ false → IsIn z (list_of us) → holds_overflow th z ≡ false
       go no_trees e k = absurd k
-      go (tree u us) e (inl k) = ap (holds_overflow th) k ∙ (or_false (holds_overflow th u) (hold_overflow th us) e).0
-      go (tree u us) e (inr k) = go us (or_false (holds_overflow th u) (hold_overflow th us) e).1 k
+      go (tree u us) e (inl k) = ap (holds_overflow th) k ∙ (or_parts (holds_overflow th u) (hold_overflow th us) e).0
+      go (tree u us) e (inr k) = go us (or_parts (holds_overflow th u) (hold_overflow th us) e).1 k
 
       by : (u : Tree) → holds_overflow th u ≡ false → IsIn z (arguments_of u) → holds_overflow th z ≡ false
       by (variable i s) e k = absurd k
       by (numeral n) e k = absurd k
-      by (apply g us) e k = go us (or_false ((th g).succ && is_greatest_numeral us) (hold_overflow th us) e).1 k
+      by (apply g us) e k = go us (or_parts ((th g).succ && is_greatest_numeral us) (hold_overflow th us) e).1 k
 
   unit_within : (i : Identity) → IsWithin th (unit_tree i)
   unit_within (Const c) = record { shallow = lit≤ tt; no_overflow = both_false ((th c.0).succ && false) false (and_false (th c.0).succ) refl }
@@ -78,7 +79,7 @@ module _ (th : ℕ → Theory) (lawful : AreLawful th) (f : ℕ) (t : Tree) (wit
 
   list_within : (th f).assoc ≡ true → (ts : List Tree) → Each (λ u. IsIn u (arguments_of t)) ts → IsWithin th (node f ts)
   list_within a ts all = record {
-    shallow = let low = within.shallow in omega (arith, node_depth f ts, deep ts all);
+    shallow = let low = within.shallow in omega (arith, depth-node f ts, deep ts all);
     no_overflow = both_false ((th f).succ && is_greatest_numeral (trees_of ts)) (hold_overflow th (trees_of ts)) (no_succ (th f).succ refl) (none ts all);
   }
     where

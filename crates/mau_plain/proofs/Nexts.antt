@@ -12,7 +12,7 @@ use Rattle.mau_terms.specs.declared.ids.TermId.{TermId}
 use Rattle.mau_terms.specs.declared.theory.Theory.{Theory}
 use Rattle.mau_signature.specs.Signature.{SignatureOf, theory_at, terms_over}
 use Rattle.mau_store.specs.Node.{Node, AreNodes, Extends}
-use Rattle.mau_store.specs.Trees.{tree_at, trees_at}
+use Rattle.mau_store.specs.Trees.{tree_at}
 use Rattle.mau_store.specs.View.{numbers}
 use Rattle.mau_store.proofs.Standing.{tree_at-extends}
 use Rattle.mau_store.proofs.Growth.{IsOf-extends}

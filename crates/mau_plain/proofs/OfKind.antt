@@ -10,20 +10,14 @@ use Rattle.mau_terms.specs.Norm.{norm, finish}
 use Rattle.mau_terms.specs.declared.ids.TermId.{TermId}
 use Rattle.mau_terms.specs.declared.theory.Identity.{Identity}
 use Rattle.mau_terms.specs.declared.theory.Theory.{Theory}
-use Rattle.mau_terms.proofs.Taken.{one_kind}
 use Rattle.mau_terms.proofs.Normal.{IsNormal, norm_normal}
 use Rattle.mau_signature.specs.Signature.{SignatureOf, IsOperator, theory_at, terms_over}
 use Rattle.mau_canon.proofs.Collected.{is_operator}
-use Rattle.mau_api.proofs.Depths.{node_depth}
 use Rattle.mau_plain.specs.Arguments.{AreArguments}
-use Rattle.mau_store.specs.Node.{Node, IsOf, AreOf}
+use Rattle.mau_store.specs.Node.{Node}
 use Rattle.mau_store.specs.Trees.{tree_at, trees_at}
 use Rattle.mau_store.specs.View.{numbers}
-
--- the kind that was found is that one
-pub of_kind : (s : TermSignature) (t : Tree) (o : Option ℕ) (k : ℕ) → IfSome o (IsBareIn s t) → IfNone o (¬ IsBare s t) → (o ≡ Some k) ↔ IsBareIn s t k
-of_kind s t None k some none = (λ e. absurd (cc), λ b. absurd (none (k, b)))
-of_kind s t (Some j) k some none = (λ e. let same : j ≡ k = cc in subst (IsBareIn s t) same some, λ b. ap Some (one_kind s t j k some b))
+use Rattle.mau_store.proofs.Depths.{depth-node}
 
 pub take_whole : {A : Type 0} (xs : List A) (n : ℕ) → length xs ≤ n → take n xs ≡ xs
 take_whole [] zero h = refl
@@ -32,11 +26,6 @@ take_whole (x ∷ xs) zero h = absurd (omega arith)
 take_whole (x ∷ xs) (suc n) h = ap (λ ys. x ∷ ys) (take_whole xs n (omega arith))
 
 -- ---- numbers in a list
-
-pub number_there : (nodes : List Node) (ids : List TermId) (i : ℕ) (d : TermId) → i < length ids → AreOf nodes (numbers ids) → IsOf nodes (get_or ids i d).0
-number_there nodes [] i d h there = absurd (omega arith)
-number_there nodes (x ∷ ids) zero d h there = All-head (IsOf nodes) x.0 (numbers ids) there
-number_there nodes (x ∷ ids) (suc i) d h there = number_there nodes ids i d (omega arith) (All-tail (IsOf nodes) x.0 (numbers ids) there)
 
 pub number_depth : (nodes : List Node) (ids : List TermId) (i : ℕ) (d : TermId) → i < length ids → depth (tree_at nodes (get_or ids i d).0) ≤ list_depth (trees_at nodes (numbers ids))
 number_depth nodes [] i d h = absurd (omega arith)
@@ -114,15 +103,6 @@ reading_node th a f ts e = ap₂ (λ b us. nest b f us) e (go ts)
     go [] = refl
     go (u ∷ us) = ap (λ vs. reading th u ∷ vs) (go us)
 
-pub none_left : {A : Type 0} (xs : List A) → length xs ≡ 0 → xs ≡ []
-none_left [] e = refl
-none_left (x ∷ xs) e = cc
-
-pub one_left : {A : Type 0} (xs : List A) (d : A) → length xs ≡ 1 → xs ≡ get_or xs 0 d ∷ []
-one_left [] d e = cc
-one_left (x ∷ []) d e = refl
-one_left (x ∷ y ∷ xs) d e = cc
-
 -- a list of two or more is of the kind of its operator, or of none
 module _ (s : TermSignature) (lawful : IsLawful s) (f : ℕ) (op : s.has_operator f ≡ true) (a : (s.theory f).assoc ≡ true) (R : Tree → Tree) where
   pub two_of_kind : (ts : List Tree) → 2 ≤ length ts → All (λ t. IsBareIn s (R t) (s.result f)) ts → IsBareIn s (nest true f (map R ts)) (s.result f)
@@ -148,8 +128,8 @@ module _ (s : SignatureOf) (lawful : IsLawful (terms_over s)) (f : ℕ) where
       normal = subst (IsNormal th) n (norm_normal th lawful.theories (node f (t ∷ [])))
 
       deep : (u : Option Identity) → finish true u (th f).succ f (t ∷ []) ≡ node f (t ∷ []) → ⊥
-      deep None k = let d : depth t ≡ depth (node f (t ∷ [])) = ap depth k in omega (arith, d, node_depth f (t ∷ []))
-      deep (Some i) k = let d : depth t ≡ depth (node f (t ∷ [])) = ap depth k in omega (arith, d, node_depth f (t ∷ []))
+      deep None k = let d : depth t ≡ depth (node f (t ∷ [])) = ap depth k in omega (arith, d, depth-node f (t ∷ []))
+      deep (Some i) k = let d : depth t ≡ depth (node f (t ∷ [])) = ap depth k in omega (arith, d, depth-node f (t ∷ []))
 
   module _ (ts : List Tree) (n : norm th (node f ts) ≡ node f ts) where
     -- what is read as a bare term is of an operator

@@ -33,8 +33,9 @@ use Rattle.mau_api.specs.Values.{MayBeValue}
 use Rattle.mau_api.specs.Found.{Found, AgreesWith}
 use Rattle.mau_api.specs.Answers.{IsAnswer}
 use Rattle.mau_api.specs.Next.{found_cmp, IsBehind}
-use Rattle.mau_api.specs.Asked.{Asked, CanBeSettled, bound_in, question_in, found_in, HasEntry, IsTableOf, BySort, IsSettleable, IsGiven, CanBeLast, CanGoOn}
+use Rattle.mau_api.specs.Asked.{Asked, bound_in, question_in, found_in, HasEntry, IsTableOf, BySort, IsSettleable, IsGiven, CanBeLast, CanGoOn}
 use Rattle.mau_api.proofs.Answered.{answer_is_solution}
+use Rattle.mau_api.proofs.Readied.{CanBeSettled}
 use Rattle.mau_api.proofs.Settleable.{settleable, values_fit}
 use Rattle.mau_api.proofs.Valued.{value_may_be}
 use Rattle.mau_plain.specs.Least.{values_cmp, IsBehindLast}

@@ -58,17 +58,6 @@ fn argument_sorts(sig: &Signature, op: OpId) -> &[u32]
     }
 }
 
-/// The kind of an operator's results.
-fn result_kind(sig: &Signature, op: OpId) -> u32
-    requires { IsOperator sig.now op.0 }
-    ensures { result ≡ (terms_over sig.now).result op.0 }
-{
-    match sig.declarations(op).first() {
-        Some(decl) => sig.poset().kind_of(decl.result),
-        None => unreachable!(),
-    }
-}
-
 /// The kind of a normal form, if it is read as a bare term.
 #[cycle(kinds)]
 pub fn kind_of(store: &Store, sig: &Signature, id: TermId) -> Option<u32>
@@ -86,7 +75,7 @@ pub fn kind_of(store: &Store, sig: &Signature, id: TermId) -> Option<u32>
             if !are_arguments(store, sig, op, args) {
                 return None;
             }
-            Some(result_kind(sig, op))
+            Some(sig.result_kind(op))
         }
     }
 }
@@ -99,7 +88,7 @@ fn are_arguments(store: &Store, sig: &Signature, op: OpId, args: &[TermId]) -> b
     ensures { IsTrue result ↔ AreArguments sig.now op.0 (trees_at store.now (numbers args.now)) }
 {
     if sig.theory(op).assoc {
-        args.len() >= 2 && are_of_kind(store, sig, args, result_kind(sig, op))
+        args.len() >= 2 && are_of_kind(store, sig, args, sig.result_kind(op))
     } else {
         are_of_kinds(store, sig, args, argument_sorts(sig, op))
     }

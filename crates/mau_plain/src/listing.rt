@@ -1,7 +1,6 @@
 //! The plain listing.
-ghost use Rattle.std.specs.Prelude.{◌≡◌, ℕ, List, [], All, Contains, false, map, IfOk, IfSome, None};
+ghost use Rattle.std.specs.Prelude.{◌≡◌, ℕ, List, [], All, Contains, false, IfOk, None};
 ghost use Rattle.std.specs.Option.{option_map};
-ghost use Rattle.mau_terms.specs.Tree.{Tree};
 ghost use Rattle.mau_terms.specs.View.{tree_of};
 ghost use Rattle.mau_terms.specs.declared.ids.TermId.{TermId};
 ghost use Rattle.mau_signature.specs.Signature.{theory_at};
@@ -11,7 +10,6 @@ ghost use Rattle.mau_store.specs.View.{numbers};
 ghost use Rattle.mau_sorts.specs.HasSort.{Known};
 ghost use Rattle.mau_sorts.specs.Table.{IsSettled, AreOver, KeepsEntries};
 ghost use Rattle.mau_canon.specs.Within.{StandWithin};
-ghost use Rattle.mau_api.specs.Places.{variables_in};
 ghost use Rattle.mau_api.specs.Found.{Found, IsSolution};
 ghost use Rattle.mau_api.specs.Next.{found_cmp, IsBehind};
 ghost use Rattle.mau_api.specs.Asked.{question_in, found_in, IsTableOf, BySort, MaySettle, CanGoOn};

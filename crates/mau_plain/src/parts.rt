@@ -1,16 +1,13 @@
 //! What the values of a pattern's variables may be.
-ghost use Rattle.std.specs.Prelude.{◌≡◌, ◌+◌, ◌⊎◌, ◌≤◌, ℕ, List, [], All, length, map, true, OnOk};
-ghost use Rattle.mau_terms.specs.Tree.{Tree, numeral, node};
-ghost use Rattle.mau_terms.specs.Norm.{norm};
+ghost use Rattle.std.specs.Prelude.{◌≡◌, ◌+◌, ◌⊎◌, ◌≤◌, [], All, map, OnOk};
 ghost use Rattle.mau_terms.specs.Bare.{IsBare, IsLawful};
-ghost use Rattle.mau_terms.specs.Finite.{IsIn, arguments_of};
 ghost use Rattle.mau_terms.specs.View.{tree_of};
 ghost use Rattle.mau_signature.specs.Signature.{IsOperator, terms_over, theory_at};
 ghost use Rattle.mau_store.specs.Node.{Extends};
 ghost use Rattle.mau_store.specs.Trees.{tree_at, trees_at};
 ghost use Rattle.mau_store.specs.View.{numbers};
-ghost use Rattle.mau_canon.specs.Within.{IsWithin, StandsWithin, StandWithin};
-ghost use Rattle.mau_api.specs.Values.{IsPartUnder, MayBeValue};
+ghost use Rattle.mau_canon.specs.Within.{StandsWithin, StandWithin};
+ghost use Rattle.mau_api.specs.Values.{IsPartUnder};
 ghost use Rattle.mau_plain.specs.Gathered.{Gathers};
 ghost use Rattle.mau_plain.specs.Parts.{IsBelowOrLess, IsOverList, IsOverOneList, IsWordOf, IsOfSome, IsOfSomeOfAll, IsPartOfOne};
 

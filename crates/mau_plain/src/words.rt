@@ -1,5 +1,5 @@
 //! All lists over some terms, up to a length.
-ghost use Rattle.std.specs.Prelude.{◌≡◌, ◌∷◌, ◌++◌, [], All, Contains, map, length, IfOk, OnOk};
+ghost use Rattle.std.specs.Prelude.{◌≡◌, ◌∷◌, ◌++◌, [], All, Contains, map, IfOk, OnOk};
 ghost use Rattle.mau_plain.specs.Words.{HasWords, each_longer};
 
 use mau_terms::{NoMemory, Seq, TermId};

@@ -13,9 +13,6 @@ use Rattle.mau_poset.specs.Table.{HasBit, TakesUp, Grew}
 pub bit_or_cases : (x y m : ℕ) → bit_at (bit_or x y) m ≡ 1 → (bit_at x m ≡ 1) ⊎ (bit_at y m ≡ 1)
 bit_or_cases x y m h = let e = bit_at_or x y m in grind (arith, e, bit_at-lt x m, bit_at-lt y m)
 
-pub bit_or_left : (x y m : ℕ) → bit_at x m ≡ 1 → bit_at (bit_or x y) m ≡ 1
-bit_or_left x y m h = omega (arith, bit_at_or x y m, bit_at-lt x m, bit_at-lt y m)
-
 pub bit_or_right : (x y m : ℕ) → bit_at y m ≡ 1 → bit_at (bit_or x y) m ≡ 1
 bit_or_right x y m h = omega (arith, bit_at_or x y m, bit_at-lt x m, bit_at-lt y m)
 

@@ -22,14 +22,13 @@ use Rattle.mau_signature.specs.Signature.{SignatureOf, declarations_at, argument
 use Rattle.mau_signature.proofs.Whole.{group_some}
 use Rattle.mau_grammar.specs.declared.aliases.Alias.{Alias}
 use Rattle.mau_grammar.specs.declared.production.Production.{Production}
-use Rattle.mau_grammar.specs.Production.{greatest_level, production}
+use Rattle.mau_grammar.specs.Production.{greatest_level, production, place_kinds}
 use Rattle.mau_grammar.specs.Precedence.{precedence}
 use Rattle.mau_grammar.specs.Parts.{parts_from, words_of, one_word, prefix_name, head_of, in_parentheses}
 use Rattle.mau_grammar.specs.Productions.{operator, argument_kinds, level, is_written, written, list_kind, pair, chained, prefixed_by, with_head, prefixed, of_operator, enclosed}
 use Rattle.mau_grammar.specs.Grammar.{GrammarOf}
-use Rattle.mau_grammar.proofs.Kinds_kept.{place_kinds as places_of, meaning, kind_in, IsProper, all_proper}
+use Rattle.mau_grammar.proofs.Kinds_kept.{meaning, kind_in, IsProper, all_proper, form_kinds}
 use Rattle.mau_print.specs.Layouts.{IsGrammarFor, form_words}
-use Rattle.mau_print.specs.Words.{place_kinds}
 use Rattle.mau_print.specs.Worded.{Source, form_parts}
 use Rattle.mau_print.specs.Readable.{HasWords, IsWritable}
 use Rattle.mau_print.proofs.Produced.{written-is}
@@ -67,24 +66,8 @@ all_sorted s i =
 
 -- ---- places
 
-drop_all : (ks : List ℕ) (n : ℕ) → length ks ≤ n → [] ≡ drop n ks
-drop_all [] zero h = refl
-drop_all [] (suc n) h = refl
-drop_all (k ∷ ks) zero h = absurd (omega arith)
-drop_all (k ∷ ks) (suc n) h = drop_all ks n (omega arith)
-
--- as many holes as kinds are left: these are the kinds of the places
-form_kinds : (d : Decl) (ks : List ℕ) (form : List Piece) (n : ℕ) → n + holes form ≡ length ks → place_kinds (parts_from d ks form n) ≡ drop n ks
-form_kinds d ks [] n e = drop_all ks n (omega (arith, e))
-form_kinds d ks (Word w ∷ ps) n e = form_kinds d ks ps n (omega (arith, e, sum_by-cons (λ p. cond (is_hole p) 1 0) (Word w) ps))
-form_kinds d ks (Hole ∷ ps) n e =
-    let more = sum_by-cons (λ p. cond (is_hole p) 1 0) Hole ps in
-    let within : n < length ks = omega (arith, e, more) in
-    let next : n + 1 ≡ suc n = omega arith in
-    ap (λ ls. get_or ks n 0 ∷ ls) (form_kinds d ks ps (n + 1) (omega (arith, e, more)) ∙ ap (λ m. drop m ks) next) ∙ sym (drop-cons ks n 0 within)
-
 -- as many places as holes
-place_count : (d : Decl) (ks : List ℕ) (form : List Piece) (n : ℕ) → length (places_of (parts_from d ks form n)) ≡ holes form
+place_count : (d : Decl) (ks : List ℕ) (form : List Piece) (n : ℕ) → length (place_kinds (parts_from d ks form n)) ≡ holes form
 place_count d ks [] n = refl
 place_count d ks (Word w ∷ ps) n = place_count d ks ps n ∙ omega (arith, sum_by-cons (λ p. cond (is_hole p) 1 0) (Word w) ps)
 place_count d ks (Hole ∷ ps) n = omega (arith, place_count d ks ps (n + 1), sum_by-cons (λ p. cond (is_hole p) 1 0) Hole ps)
@@ -187,7 +170,7 @@ module _ (x : Source) (names : List (List ℕ)) (aliases : List Alias) (wr : IsW
         let all : All (IsProper x.signature) x.grammar.productions = subst (λ (g : GrammarOf). All (IsProper x.signature) g.productions) (sym wr.grammar.made) (all_proper x.signature names wr.grammar.signature wr.grammar.lawful) in
         let proper : IsProper x.signature own_written = subst (IsProper x.signature) (get_or_from_slice_get x.grammar.productions p.0 own_written own_written p.1) (all p.0 own_written (slice_get_within x.grammar.productions p.0 own_written p.1)) in
         let same = (proper.made (record { 0 = f }) refl).arguments in
-        omega (arith, place_count d (argument_kinds x.signature.hierarchy d) d.form 0, ap length same, length-map (places_of (form_parts x d)) (meaning x.signature), ap length arguments_are, length-map d.args (kind_of x.signature.hierarchy))
+        omega (arith, place_count d (argument_kinds x.signature.hierarchy d) d.form 0, ap length same, length-map (place_kinds (form_parts x d)) (meaning x.signature), ap length arguments_are, length-map d.args (kind_of x.signature.hierarchy))
 
     pub kinds_are : is_written d ≡ true → place_kinds (form_parts x d) ≡ argument_kinds x.signature.hierarchy d
     kinds_are w = form_kinds d (argument_kinds x.signature.hierarchy d) d.form 0 (omega (arith, holes_are w, length-map d.args (kind_of x.signature.hierarchy)))

@@ -32,10 +32,6 @@ joined_end us vs a b (mark_first {ws = ws} {bs = bs} w s r) q e = subst (IsJoine
 joined_end us vs a b (plain_first {ws = ws} {bs = bs} w s f r) q e =
     subst (IsJoined (w ∷ (ws ++ vs))) (sym (append_assoc w bs b)) (plain_first w s (still_end bs b f e) (joined_end ws vs bs b r q e))
 
--- one behind the other, with a space between them
-pub joined_space : (us vs : List (List ℕ)) (a b : List ℕ) → IsJoined us a → IsJoined vs b → IsJoined (us ++ vs) (a ++ (codes " " ++ b))
-joined_space us vs a b p q = joined_end us vs a (codes " " ++ b) p (after_space q) refl
-
 -- ---- words
 
 pub joined_word : (w : List ℕ) (ws : List (List ℕ)) (bs : List ℕ) → IsFormWord w → is_end bs ≡ true → IsJoined ws bs → IsJoined (w ∷ ws) (w ++ bs)

@@ -10,13 +10,13 @@ use Rattle.mau_signature.specs.declared.decl.Decl.{Decl}
 use Rattle.mau_signature.specs.Form.{is_hole, holes}
 use Rattle.mau_grammar.specs.declared.production.Part.{Part}
 use Rattle.mau_grammar.specs.declared.production.Production.{Production}
-use Rattle.mau_grammar.specs.Production.{word, any, greatest_level}
+use Rattle.mau_grammar.specs.Production.{word, any, greatest_level, place_kinds}
 use Rattle.mau_grammar.specs.Parts.{parts_from, words_of, listed, in_parentheses}
 use Rattle.mau_grammar.specs.Productions.{operator, pair, enclosed}
 use Rattle.mau_grammar.specs.Grammar.{GrammarOf}
 use Rattle.mau_grammar.specs.Trees.{made}
 use Rattle.mau_print.specs.Layouts.{form_words}
-use Rattle.mau_print.specs.Words.{Phrase, phrase, enclosed_words, woven_words, place_kinds, ReadsHere, IsRead, AreRead}
+use Rattle.mau_print.specs.Words.{Phrase, phrase, enclosed_words, woven_words, ReadsHere, IsRead, AreRead}
 use Rattle.mau_print.specs.Worded.{rest_words, nested_words}
 use Rattle.mau_print.proofs.Windows.{SpellsHere, here_nothing, here_word, here_place, here_production}
 use Rattle.mau_print.proofs.Weaving.{woven_here}

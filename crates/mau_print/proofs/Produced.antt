@@ -17,12 +17,7 @@ use Rattle.mau_grammar.proofs.Shapes.{operators_more}
 use Rattle.mau_print.specs.Layouts.{IsGrammarFor, layout_of, layout_by}
 use Rattle.mau_print.specs.declared.layout.Layout.{Layout}
 use Rattle.mau_print.specs.Found.{IsProductionFor}
-
-below : (i n : ℕ) → i < suc n → (i < n) ⊎ (i ≡ n)
-below zero zero h = inr refl
-below zero (suc n) h = inl (omega arith)
-below (suc i) zero h = absurd (omega arith)
-below (suc i) (suc n) h = elim (below i n (omega arith)) [ inl l ↦ inl (omega arith) | inr e ↦ inr (ap suc e) ]
+use Rattle.mau_parse.proofs.Leaves_listed.{below_suc}
 
 -- those of the operator i + 1, and what stands around them
 abbrev pub Around : SignatureOf → ℕ → List Production → Type 0
@@ -42,7 +37,7 @@ around_by s n i (inr e) rec =
 
 pub around : (s : SignatureOf) (n i : ℕ) → i < n → Around s i (of_operators s n)
 around s zero i h = absurd (omega arith)
-around s (suc n) i h = around_by s n i (below i n h) (λ l. around s n i l)
+around s (suc n) i h = around_by s n i (below_suc i n h) (λ l. around s n i l)
 
 seam : (xs : List Production) (y : Production) (ys : List Production) → slice_get (xs ++ y ∷ ys) (length xs) ≡ Some y
 seam [] y ys = refl
@@ -113,6 +108,3 @@ layouts_more s g owned i d ds ls l low e old new =
 
 pub numerals_some : (s : SignatureOf) (g : GrammarOf) (z n : ℕ) → IsGrammarFor s g → s.numerals ≡ Some (z, n) → g.numerals ≡ Some (kind_of s.hierarchy z)
 numerals_some s g z n made e = ap (λ x. x.numerals) made.2 ∙ ap (option_map (λ p. kind_of s.hierarchy p.0)) e
-
-pub numerals_none : (s : SignatureOf) (g : GrammarOf) → IsGrammarFor s g → s.numerals ≡ None → g.numerals ≡ None
-numerals_none s g made e = ap (λ x. x.numerals) made.2 ∙ ap (option_map (λ p. kind_of s.hierarchy p.0)) e

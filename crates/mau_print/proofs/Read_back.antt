@@ -2,7 +2,7 @@
 use Rattle.std.proofs.Common.{◌≡◌, ℕ, zero, suc, ◌+◌, List, [], ◌∷◌, ◌++◌, Bool, true, false, cond, not, Some, length, slice_get, refl, sym, ap, ap₂, ◌∙◌, subst, arith}
 use Rattle.std.specs.List.{list_any}
 use Rattle.std.proofs.lemmas.List.{append-nil}
-use Rattle.std.proofs.lemmas.Option.{get_or_from_slice_get}
+use Rattle.std.proofs.lemmas.Option.{get_or_from_slice_get, same_Some, none-some}
 use Rattle.mau_terms.specs.Tree.{Tree, variable, numeral, apply, Trees, no_trees, tree}
 use Rattle.mau_terms.specs.Norm.{norm}
 use Rattle.mau_terms.specs.Reading.{reading}
@@ -26,7 +26,6 @@ use Rattle.mau_print.specs.Words.{Window}
 use Rattle.mau_print.specs.Worded.{Source, printer_for, worded}
 use Rattle.mau_print.specs.Readable.{HaveNames, IsWritable, ReadsAs}
 use Rattle.mau_print.specs.Laws.{TextsAreWords, TextsReadBack}
-use Rattle.mau_print.proofs.Sort_names.{some_is, none_is}
 use Rattle.mau_print.proofs.Small.{normal_small, given_read}
 use Rattle.mau_print.proofs.Text_words.{term_as}
 use Rattle.mau_print.proofs.Cut.{cut_from}
@@ -36,17 +35,17 @@ use Rattle.mau_print.proofs.Terms_read.{term_read}
 
 -- what stands at the place of a pair is this pair
 place_hit : (xs : Pairs) (y z : List ℕ × ℕ) → slice_get xs (place_of xs y) ≡ Some z → z ≡ y
-place_hit [] y z e = absurd (none_is z e)
+place_hit [] y z e = absurd (none-some z e)
 place_hit (x ∷ xs) y z e = by (same_pair y x) refl e (place_hit xs y z)
   where
     by : (b : Bool) → same_pair y x ≡ b → slice_get (x ∷ xs) (cond (not b) (1 + place_of xs y) 0) ≡ Some z → (slice_get xs (place_of xs y) ≡ Some z → z ≡ y) → z ≡ y
-    by true q e ih = sym (some_is x z e) ∙ sym (same_pair-is y x q)
+    by true q e ih = sym (same_Some x z e) ∙ sym (same_pair-is y x q)
     by false q e ih = let next : 1 + place_of xs y ≡ suc (place_of xs y) = omega arith in ih (sym (ap (slice_get (x ∷ xs)) next) ∙ e)
 
 -- the place of a pair that is there once
 place_own : (xs : Pairs) (i : ℕ) (y : List ℕ × ℕ) → AreDistinct xs → slice_get xs i ≡ Some y → place_of xs y ≡ i
-place_own [] i y d e = absurd (none_is y e)
-place_own (x ∷ xs) zero y d e = ap (λ b. cond (not b) (1 + place_of xs y) 0) (subst (λ z. same_pair y z ≡ true) (sym (some_is x y e)) (same_pair_itself y))
+place_own [] i y d e = absurd (none-some y e)
+place_own (x ∷ xs) zero y d e = ap (λ b. cond (not b) (1 + place_of xs y) 0) (subst (λ z. same_pair y z ≡ true) (sym (same_Some x y e)) (same_pair_itself y))
 place_own (x ∷ xs) (suc i) y d e = by (same_pair y x) refl (place_own xs i y d.1 e)
   where
     by : (b : Bool) → same_pair y x ≡ b → place_of xs y ≡ i → cond (not b) (1 + place_of xs y) 0 ≡ suc i

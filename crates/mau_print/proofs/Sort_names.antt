@@ -1,7 +1,7 @@
 -- Sorts by their names, and the first sort of a kind.
 use Rattle.std.proofs.Common.{◌≡◌, ◌≢◌, ℕ, zero, suc, ◌+◌, ◌==◌, List, [], ◌∷◌, Bool, true, false, cond, Option, Some, None, slice_get, bytes_eq, if◌then◌else◌, refl, sym, ap, ◌∙◌, arith, eqb-true}
 use Rattle.std.specs.Option.{option_map_or}
-use Rattle.std.proofs.lemmas.Option.{slice_get_within, get_or_from_slice_get}
+use Rattle.std.proofs.lemmas.Option.{slice_get_within, get_or_from_slice_get, same_Some, none-some}
 use Rattle.std.proofs.lemmas.Slice.Eq.{bytes_eq-Decides}
 use Rattle.mau_poset.specs.Order.{Hierarchy, kind_of}
 use Rattle.mau_grammar.specs.declared.sorts.SortName.{SortName}
@@ -10,12 +10,6 @@ use Rattle.mau_grammar.specs.Productions.{sort_names}
 use Rattle.mau_grammar.specs.Leaves.{sort_from}
 use Rattle.mau_print.specs.Layouts.{first_name, first_sort_name}
 use Rattle.mau_print.proofs.Present.{IsPresent}
-
-pub some_is : {A : Type 0} (x y : A) → Some x ≡ Some y → x ≡ y
-some_is x y e = cc
-
-pub none_is : {A : Type 0} (x : A) → ◌≡◌ {A = Option A} None (Some x) → ⊥
-none_is x e = cc
 
 -- ---- distinct names
 
@@ -29,9 +23,9 @@ once_first v names i w once e =
 
 -- the sort with the number i among those from a on
 pub sort_found : (h : Hierarchy) (a : ℕ) (names : List (List ℕ)) (i : ℕ) (w : List ℕ) → AreDistinct names → slice_get names i ≡ Some w → sort_from (sort_names h a names) a w ≡ Some (a + i, kind_of h (a + i))
-sort_found h a [] i w once e = absurd (none_is w e)
+sort_found h a [] i w once e = absurd (none-some w e)
 sort_found h a (v ∷ names) zero w once e =
-    let same : bytes_eq v w ≡ true = (bytes_eq-Decides v w).1 (some_is v w e) in
+    let same : bytes_eq v w ≡ true = (bytes_eq-Decides v w).1 (same_Some v w e) in
     let number : a ≡ a + 0 = omega arith in
     ap (λ b. cond b (Some (a, kind_of h a)) (sort_from (sort_names h (a + 1) names) (a + 1) w)) same ∙ ap (λ n. Some (n, kind_of h n)) number
 sort_found h a (v ∷ names) (suc i) w once e =
@@ -57,7 +51,7 @@ later s ss k name n = record { sort = n.sort; there = (suc n.there.0, n.there.1)
 
 -- where a sort of a kind has a name, the kind has a first sort
 pub first_named : (ss : List SortName) (a n k : ℕ) (w : List ℕ) → sort_from ss a w ≡ Some (n, k) → IsNamed ss k (first_sort_name ss k)
-first_named [] a n k w e = absurd (none_is (n, k) e)
+first_named [] a n k w e = absurd (none-some (n, k) e)
 first_named (s ∷ ss) a n k w e = by (bytes_eq s.name w) (s.kind == k) refl e (λ q. first_named ss (a + 1) n k w q)
   where
     by : (b c : Bool) → s.kind == k ≡ c → (if b then Some (a, s.kind) else sort_from ss (a + 1) w) ≡ Some (n, k)
@@ -65,7 +59,7 @@ first_named (s ∷ ss) a n k w e = by (bytes_eq s.name w) (s.kind == k) refl e (
         → IsNamed (s ∷ ss) k (option_map_or (λ v. v) (if c then Some s.name else first_name ss k) [])
     by b true q p ih = record { sort = s; there = (0, refl); kind = eqb-true s.kind k q; name = refl }
     by true false q p ih =
-        let same : s.kind ≡ k = ap (λ (x : ℕ × ℕ). x.1) (some_is (a, s.kind) (n, k) p) in
+        let same : s.kind ≡ k = ap (λ (x : ℕ × ℕ). x.1) (same_Some (a, s.kind) (n, k) p) in
         absurd (no_eq s.kind k q same)
       where
         no_eq : (x y : ℕ) → (x == y) ≡ false → x ≡ y → ⊥

@@ -3,18 +3,17 @@ use Rattle.std.proofs.Common.{◌≡◌, ◌≢◌, ℕ, ◌+◌, ◌-◌, ◌<�
 use Rattle.std.specs.Option.{option_map, option_map_or}
 use Rattle.std.proofs.lemmas.Bool.{ltb-true}
 use Rattle.std.proofs.lemmas.List.{length-map}
-use Rattle.std.proofs.lemmas.Option.{get_or_from_slice_get}
+use Rattle.std.proofs.lemmas.Option.{get_or_from_slice_get, same_Some, none-some}
 use Rattle.mau_poset.specs.Order.{kind_of, kinds}
 use Rattle.mau_poset.proofs.Orders.{kind_of-above}
 use Rattle.mau_terms.specs.Tree.{Tree, variable, numeral, apply, Trees, no_trees, tree, trees_of, node}
-use Rattle.mau_terms.specs.Depth.{depth}
 use Rattle.mau_terms.specs.Norm.{finish, greatest_numeral}
 use Rattle.mau_terms.specs.Bare.{TermSignature, IsBareIn, AreBareIn}
 use Rattle.mau_terms.specs.Reading.{nest_from, nest, reading, readings}
 use Rattle.mau_terms.specs.Vars.{place_of}
-use Rattle.mau_terms.specs.declared.theory.Identity.{Identity}
 use Rattle.mau_terms.specs.declared.theory.Theory.{Theory}
 use Rattle.mau_terms.proofs.Normal.{IsNormal, AreNormal}
+use Rattle.mau_terms.proofs.Wholes.{not_alone}
 use Rattle.mau_signature.specs.declared.decl.Decl.{Decl}
 use Rattle.mau_signature.specs.Form.{holes}
 use Rattle.mau_signature.specs.Faults.{IsSort}
@@ -27,15 +26,16 @@ use Rattle.mau_grammar.specs.Productions.{argument_kinds, level, enclosed}
 use Rattle.mau_grammar.specs.Grammar.{GrammarOf}
 use Rattle.mau_grammar.specs.Leaves.{pairs_of}
 use Rattle.mau_grammar.proofs.Kinds_kept.{kind_in}
+use Rattle.mau_grammar.specs.Production.{place_kinds}
 use Rattle.mau_parse.specs.Terms.{AreGiven, AllGiven, pair_at, renamed, all_renamed}
 use Rattle.mau_print.specs.Printed.{Pairs, variable_name, is_clash}
 use Rattle.mau_print.specs.Layouts.{form_words, head_text, owned_texts, is_shared, first_sort_name}
-use Rattle.mau_print.specs.Words.{Phrase, phrase, enclosed_words, with_mark, woven_words, place_kinds, ReadsHere, IsRead, AreRead}
+use Rattle.mau_print.specs.Words.{Phrase, phrase, enclosed_words, with_mark, woven_words, ReadsHere, IsRead, AreRead}
 use Rattle.mau_print.specs.Worded.{Source, printer_for, unambiguous_words, constant_words, variable_words, rest_words, nested_words, form_parts, words_by, words_over, worded, all_worded}
 use Rattle.mau_print.specs.Readable.{HasWords, HaveNames, NameKind, IsWritable}
 use Rattle.mau_print.proofs.Produced.{some_hole}
 use Rattle.mau_print.proofs.Present.{IsPresent, sorted_present}
-use Rattle.mau_print.proofs.Sort_names.{IsNamed, first_named, some_is, none_is}
+use Rattle.mau_print.proofs.Sort_names.{IsNamed, first_named}
 use Rattle.mau_print.proofs.Windows.{here_production, here_sorted}
 use Rattle.mau_print.proofs.Weaving.{woven_here}
 use Rattle.mau_print.proofs.Numerals.{numeral_here}
@@ -62,11 +62,6 @@ copies-map k g [] = refl
 copies-map k g (t ∷ ts) = ap (λ ks. k ∷ ks) (copies-map k g ts)
 
 -- ---- lists
-
--- no tree is its own only argument, so a list of one element isn't normal
-not_alone : (u : Option Identity) (s : Bool) (f : ℕ) (x : Tree) → finish true u s f (x ∷ []) ≡ node f (x ∷ []) → ⊥
-not_alone None s f x e = omega (arith, ap depth e)
-not_alone (Some i) s f x e = omega (arith, ap depth e)
 
 -- the elements of a nested list are bare
 nest_bare : (s : TermSignature) (f k : ℕ) → s.arguments f ≡ k ∷ k ∷ [] → (t : Tree) (us : List Tree) → IsBareIn s (nest_from f t us) k → AreBareIn s (trees_of (t ∷ us)) (copies k (t ∷ us))
@@ -336,8 +331,8 @@ module _ (x : Source) (names : List (List ℕ)) (aliases : List Alias) (wr : IsW
         subst (λ w. IsRead x.grammar whole k (unambiguous_words (is_clash (printer_for x) n) w (decimal n ∷ [])) (numeral n)) (sym (ap (λ o. option_map_or (first_sort_name x.grammar.sorts) o []) own)) read
       where
         kind_there : (o : Option (ℕ × ℕ)) → x.signature.numerals ≡ o → option_map (λ (p : ℕ × ℕ). kind_of x.signature.hierarchy p.0) o ≡ Some k → IsKind k
-        kind_there None f q = absurd (none_is k q)
-        kind_there (Some p) f q = (p.0, zero_there x.signature.hierarchy wr.grammar.signature.source x.signature.numerals wr.grammar.signature.numerals p f, some_is (kind_of x.signature.hierarchy p.0) k q)
+        kind_there None f q = absurd (none-some k q)
+        kind_there (Some p) f q = (p.0, zero_there x.signature.hierarchy wr.grammar.signature.source x.signature.numerals wr.grammar.signature.numerals p f, same_Some (kind_of x.signature.hierarchy p.0) k q)
 
     mutual
       pub term_read : (k : ℕ) (t : Tree) → IsNormal (theory_at x.signature) t → AreGiven ns t → IsBareIn (terms_over x.signature) (reading (theory_at x.signature) t) k

@@ -3,7 +3,7 @@ use Rattle.std.proofs.Common.{◌≡◌, ℕ, ◌+◌, ◌-◌, ◌<◌, ◌≤�
 use Rattle.std.specs.Option.{option_map_or}
 use Rattle.std.proofs.lemmas.Bool.{cases_lt, lt-ltb, le-ltb, eq-eqb}
 use Rattle.std.proofs.lemmas.List.{length-map, get_or_past}
-use Rattle.std.proofs.lemmas.Option.{slice_get_within, get_or_from_slice_get, slice_get_past}
+use Rattle.std.proofs.lemmas.Option.{slice_get_within, get_or_from_slice_get, slice_get_past, none-some}
 use Rattle.std.proofs.lemmas.List.Elements.{All-tail}
 use Rattle.std.proofs.lemmas.Slice.Eq.{bytes_eq-Decides}
 use Rattle.mau_poset.specs.Order.{Hierarchy, kind_of, kinds}
@@ -31,7 +31,6 @@ use Rattle.mau_print.specs.Worded.{Source, printer_for, kind_name, comma_names, 
 use Rattle.mau_print.specs.Readable.{IsPlain, IsFormWord, IsVariableName, HasWords, NameKind, HaveNames, IsWritable}
 use Rattle.mau_print.proofs.Joined.{IsJoined, no_words, after_space, mark_first, plain_first, is_end, spaced_end, joined_end, joined_word, one_word, joined_words, joined_enclosed, joined_in_parentheses}
 use Rattle.mau_print.proofs.Plain_words.{dotted, dot_alone, coloned}
-use Rattle.mau_print.proofs.Sort_names.{none_is}
 use Rattle.mau_print.proofs.Variables_here.{name_of-sort, name_of-kind}
 use Rattle.mau_print.proofs.Numerals.{decimal-plain}
 use Rattle.mau_print.proofs.Small.{AreSmall, AllSmall, slice_get-map}
@@ -103,23 +102,6 @@ parts_fit d ks (Letters w ∷ ps) n all = (all 0 [] (omega arith), parts_fit d k
 
 -- ---- arguments in parentheses
 
-rest_end : (xs : List Printed) → is_end (rest_texts false xs ++ codes ")") ≡ true
-rest_end [] = refl
-rest_end (x ∷ xs) = refl
-
-rest_as : (xs : List Printed) (ys : List Phrase) → AreWrittenAs xs ys → IsJoined (rest_words false ys ++ codes ")" ∷ []) (rest_texts false xs ++ codes ")")
-rest_as [] [] w = mark_first (codes ")") refl no_words
-rest_as [] (y ∷ ys) w = absurd w
-rest_as (x ∷ xs) [] w = absurd w
-rest_as (x ∷ xs) (y ∷ ys) w = mark_first (codes ",") refl (after_space (first_as x y xs ys w.0 (rest_as xs ys w.1)))
-  where
-    first_as : (x : Printed) (y : Phrase) (xs : List Printed) (ys : List Phrase) → IsWrittenAs x y → IsJoined (rest_words false ys ++ codes ")" ∷ []) (rest_texts false xs ++ codes ")")
-        → IsJoined ((y.words ++ rest_words false ys) ++ codes ")" ∷ []) ((x.text ++ rest_texts false xs) ++ codes ")")
-    first_as x y xs ys w r =
-        subst (λ us. IsJoined us ((x.text ++ rest_texts false xs) ++ codes ")")) (sym (append_assoc y.words (rest_words false ys) (codes ")" ∷ [])))
-        (subst (IsJoined (y.words ++ (rest_words false ys ++ codes ")" ∷ []))) (sym (append_assoc x.text (rest_texts false xs) (codes ")")))
-        (joined_end y.words (rest_words false ys ++ codes ")" ∷ []) x.text (rest_texts false xs ++ codes ")") w.text r (rest_end xs)))
-
 comma_as : (xs : List Printed) (ys : List Phrase) → AreWrittenAs xs ys → IsJoined (rest_words true ys) (comma_texts xs)
 comma_as [] [] w = no_words
 comma_as [] (y ∷ ys) w = absurd w
@@ -158,7 +140,7 @@ dotted_first h a (w ∷ names) k all = by (kind_of h a == k) (dotted_first h (a 
 -- ---- kinds
 
 named_plain : (h : Hierarchy) (a : ℕ) (names : List (List ℕ)) (w : List ℕ) (r : ℕ × ℕ) → All IsPlain names → sort_from (sort_names h a names) a w ≡ Some r → IsPlain w
-named_plain h a [] w r all e = absurd (none_is r e)
+named_plain h a [] w r all e = absurd (none-some r e)
 named_plain h a (v ∷ names) w r all e = by (bytes_eq v w) refl e (λ f. named_plain h (a + 1) names w r (All-tail IsPlain v names all) f)
   where
     by : (b : Bool) → bytes_eq v w ≡ b → cond b (Some (a, kind_of h a)) (sort_from (sort_names h (a + 1) names) (a + 1) w) ≡ Some r

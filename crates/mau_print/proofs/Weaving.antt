@@ -6,7 +6,8 @@ use Rattle.mau_grammar.specs.declared.production.Hole.{Hole}
 use Rattle.mau_grammar.specs.declared.production.Part.{Part}
 use Rattle.mau_grammar.specs.declared.production.Part.TheVariants.{Word, Hole as Place}
 use Rattle.mau_grammar.specs.Grammar.{GrammarOf}
-use Rattle.mau_print.specs.Words.{Phrase, enclosed_words, guarded_words, woven_words, place_kinds, IsRead, AreRead}
+use Rattle.mau_grammar.specs.Production.{place_kinds}
+use Rattle.mau_print.specs.Words.{Phrase, enclosed_words, guarded_words, woven_words, IsRead, AreRead}
 use Rattle.mau_print.proofs.Windows.{SpellsHere, here_nothing, here_word, here_place, here_enclosed}
 
 module _ (g : GrammarOf) (whole : List (List ℕ)) where

@@ -19,7 +19,7 @@ use Rattle.mau_parse.specs.Terms.{AreGiven}
 use Rattle.mau_grammar.specs.declared.aliases.Alias.{Alias}
 use Rattle.mau_grammar.specs.declared.production.Production.{Production}
 use Rattle.mau_grammar.specs.declared.sorts.SortName.{SortName}
-use Rattle.mau_grammar.specs.Production.{greatest_level}
+use Rattle.mau_grammar.specs.Production.{greatest_level, place_kinds}
 use Rattle.mau_grammar.specs.Productions.{sorted}
 use Rattle.mau_grammar.specs.Parts.{is_special}
 use Rattle.mau_grammar.specs.Leaves.{is_string}
@@ -27,7 +27,7 @@ use Rattle.mau_grammar.specs.Grammar.{GrammarOf}
 use Rattle.mau_print.specs.Printed.{PrinterOf, Pairs, shown}
 use Rattle.mau_print.specs.Worded.{Source, printer_for, worded}
 use Rattle.mau_print.specs.Readable.{IsPlain, IsVariableName, HaveNames, IsWritable, ReadsAs, IsTextOf}
-use Rattle.mau_print.specs.Words.{Phrase, with_mark, woven_words, place_kinds, ReadsHere, AreRead}
+use Rattle.mau_print.specs.Words.{Phrase, with_mark, woven_words, ReadsHere, AreRead}
 
 -- the words of a form over arguments, each in parentheses exactly where its level is not admitted, read as the operator over the arguments
 abbrev pub FormsRead : Type 0

@@ -34,12 +34,6 @@ woven_words (Word w ∷ ps) xs = w ∷ woven_words ps xs
 woven_words (Place h ∷ ps) [] = woven_words ps []
 woven_words (Place h ∷ ps) (x ∷ xs) = guarded_words h.upto x ++ woven_words ps xs
 
--- the kinds of the places
-abbrev pub place_kinds : List Part → List ℕ
-place_kinds [] = []
-place_kinds (Word w ∷ ps) = place_kinds ps
-place_kinds (Place h ∷ ps) = h.kind ∷ place_kinds ps
-
 -- ---- words at a place of a text
 
 -- the words ws stand in the text `whole` from the place i on

@@ -1,5 +1,5 @@
 //! Printers of signatures.
-ghost use Rattle.std.specs.Prelude.{◌≡◌, ◌==◌, ◌++◌, ◌+◌, ◌<◌, ◌≤◌, [], ℕ, List, true, map, length, count_by, unwrap_or, bytes_eq, string_bytes, IfOk};
+ghost use Rattle.std.specs.Prelude.{◌≡◌, ◌==◌, ◌++◌, ◌+◌, ◌<◌, ◌≤◌, [], ℕ, List, true, map, length, unwrap_or, string_bytes, IfOk};
 ghost use Rattle.std.specs.HashMap.{get_by_text};
 ghost use Rattle.std.specs.Option.{option_map_or};
 ghost use Rattle.mau_poset.specs.Order.{kinds};

@@ -1,6 +1,7 @@
 -- The part that a solution with contexts matches, and the lists around it: they are within the limits where the subject is.
 use Rattle.std.proofs.Common.{◌≡◌, inl, inr, ⊎_elim, ℕ, ◌<◌, ◌≤◌, ◌==◌, ◌&&◌, ◌||◌, if◌then◌else◌, suc, List, [], ◌∷◌, ◌++◌, length, map, Bool, true, false, Option, None, Some, refl, sym, ap, ap₂, ◌∙◌, subst, arith, length-append}
 use Rattle.std.proofs.lemmas.List.Elements.{All-head, All-tail}
+use Rattle.std.proofs.lemmas.Bool.{or_parts}
 use Rattle.mau_terms.specs.Tree.{Tree, variable, numeral, apply, node, list_of, trees_of}
 use Rattle.mau_terms.specs.Depth.{depth, depths}
 use Rattle.mau_terms.specs.Norm.{all_pieces, arrange, finish, norm, holds_overflow, hold_overflow, is_greatest_numeral}
@@ -25,7 +26,7 @@ use Rattle.mau_store.specs.View.{numbers}
 use Rattle.mau_canon.specs.declared.TheConstants.{MAX_DEPTH}
 use Rattle.mau_canon.specs.declared.fault.BuildFault.TheVariants.{TooDeep, Overflow}
 use Rattle.mau_canon.specs.Within.{IsWithin, IsCause, StandsWithin, StandWithin}
-use Rattle.mau_canon.proofs.Elements.{no_greatest, or_false}
+use Rattle.mau_canon.proofs.Elements.{no_greatest}
 use Rattle.mau_sorts.specs.Table.{IsTreeOver}
 use Rattle.mau_api.specs.declared.solution.Solution.{Solution}
 use Rattle.mau_api.specs.Found.{Found}
@@ -70,11 +71,11 @@ module _ (th : ℕ → Theory) where
   each_element : (ts : List Tree) → suc (depths (trees_of ts)) ≤ MAX_DEPTH → hold_overflow th (trees_of ts) ≡ false → Each IsElement ts
   each_element [] d o = tt
   each_element (t ∷ ts) d o =
-      let both = or_false (holds_overflow th t) (hold_overflow th (trees_of ts)) o in
+      let both = or_parts (holds_overflow th t) (hold_overflow th (trees_of ts)) o in
       (record { shallow = omega (arith, d); no_overflow = both.0 }, each_element ts (omega (arith, d)) both.1)
 
   elements_of : (f : ℕ) (ts : List Tree) → IsWithin th (node f ts) → Each IsElement ts
-  elements_of f ts w = each_element ts w.shallow ((or_false ((th f).succ && is_greatest_numeral (trees_of ts)) (hold_overflow th (trees_of ts)) w.no_overflow).1)
+  elements_of f ts w = each_element ts w.shallow ((or_parts ((th f).succ && is_greatest_numeral (trees_of ts)) (hold_overflow th (trees_of ts)) w.no_overflow).1)
 
   deep : (t : Tree) (ts : List Tree) → Each IsElement (t ∷ ts) → suc (depths (trees_of (t ∷ ts))) ≤ MAX_DEPTH
   deep t [] e = omega (arith, e.0.shallow)

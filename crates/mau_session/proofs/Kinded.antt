@@ -3,11 +3,9 @@ use Rattle.std.proofs.Common.{◌≡◌, ℕ, ◌<◌, ◌≤◌, Result, Ok, Er
 use Rattle.std.specs.Prelude.{IfOk}
 use Rattle.std.specs.Option.{option_map_or}
 use Rattle.mau_terms.specs.Tree.{Tree, variable, numeral, apply}
-use Rattle.mau_terms.specs.Bare.{IsBareIn, IsBare}
-use Rattle.mau_terms.specs.View.{tree_of}
+use Rattle.mau_terms.specs.Bare.{IsBareIn}
 use Rattle.mau_terms.specs.declared.bare.Bare.{Bare}
 use Rattle.mau_parse.specs.declared.goals.Goal.{Goal}
-use Rattle.mau_parse.specs.declared.goals.Goal.TheVariants.{AnyKind}
 use Rattle.mau_grammar.specs.Grammar.{GrammarOf}
 use Rattle.mau_parse.specs.Goal.{highest}
 use Rattle.mau_parse.specs.Laws.{IsBareFor}
@@ -20,13 +18,6 @@ pub kind_is : (m : ModuleOf) (t : Tree) (k : ℕ) → IsBareIn (terms_in m) t k 
 kind_is m (variable i s) k h = h.2
 kind_is m (numeral n) k h = ap (λ o. option_map_or (λ k. k) o 0) h.1
 kind_is m (apply f ts) k h = h.1
-
--- a term of any kind is bare, and lies in a kind that is there
-pub bare_of : (m : ModuleOf) (g : Goal) (b : Bare) → IsBareOf m g b → IsBare (terms_in m) (tree_of b)
-bare_of m g b h = (h.0, h.3)
-
-pub kind_there : (m : ModuleOf) (b : Bare) → IsBareOf m AnyKind b → kind_of_term m (tree_of b) < m.grammar.last_kind
-kind_there m b h = subst (λ k. k < m.grammar.last_kind) (sym (kind_is m (tree_of b) h.0 h.3)) h.2
 
 -- what the grammar of a module reads is bare
 pub bare_there : {E : Type 0} (m : ModuleOf) (g : GrammarOf) (goal : Goal) (r : Result Bare E) → g ≡ m.grammar → IsItsGrammar m.sorts m.signature m.grammar → IfOk r (IsBareFor g goal)

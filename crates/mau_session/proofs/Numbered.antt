@@ -3,6 +3,7 @@ use Rattle.std.proofs.Common.{◌≡◌, ℕ, suc, ◌<◌, ◌≤◌, ◌+◌, 
 use Rattle.std.specs.List.{list_any}
 use Rattle.std.proofs.lemmas.List.Sums.{fold-append}
 use Rattle.std.proofs.lemmas.Option.{get_or_from_slice_get}
+use Rattle.std.proofs.lemmas.Bool.{and_parts}
 use Rattle.mau_terms.specs.Tree.{Tree, variable, numeral, apply, Trees, no_trees, tree}
 use Rattle.mau_terms.specs.Subst.{variables, same_variable, has_variable, add_variables, add_all_variables}
 use Rattle.mau_terms.specs.Vars.{same_pair, place_of, with_pair}
@@ -20,10 +21,6 @@ use Rattle.mau_session.specs.Terms.{Pairs}
 use Rattle.mau_session.specs.Matching.{numbered_from}
 use Rattle.mau_session.proofs.Extending.{Extends, stays, twice, added_extends, kept_place}
 
-both : (a b : Bool) → (a && b) ≡ true → (a ≡ true) × (b ≡ true)
-both true b e = (refl, e)
-both false b e = absurd cc
-
 -- ---- a pair among the pairs, and its variable among the numbered ones
 
 later_place : (k n : ℕ) → nat_eq k (k + (1 + n)) ≡ false
@@ -40,7 +37,7 @@ has_numbered (y ∷ ns) k x = by (same_pair x y) refl (has_numbered ns (suc k) x
     by : (b : Bool) → same_pair x y ≡ b → has_variable (numbered_from (suc k) ns) (suc k + place_of ns x, x.1) ≡ list_any (same_pair x) ns
         → (same_variable (k, y.1) (k + cond (not b) (1 + place_of ns x) 0, x.1) || has_variable (numbered_from (suc k) ns) (k + cond (not b) (1 + place_of ns x) 0, x.1)) ≡ (b || list_any (same_pair x) ns)
     by true e h =
-        let s : nat_eq x.1 y.1 ≡ true = (both (bytes_eq x.0 y.0) (nat_eq x.1 y.1) e).1 in
+        let s : nat_eq x.1 y.1 ≡ true = (and_parts (bytes_eq x.0 y.0) (nat_eq x.1 y.1) e).1 in
         let q : nat_eq y.1 x.1 ≡ true = eq-eqb y.1 x.1 (sym (eqb-true x.1 y.1 s)) in
         let z : nat_eq k (k + 0) ≡ true = eq-eqb k (k + 0) (sym (add-zero k)) in
         ap₂ (λ a b. (a && b) || has_variable (numbered_from (suc k) ns) (k + 0, x.1)) z q
@@ -70,20 +67,6 @@ place_of-there (y ∷ ns) x e = by (same_pair x y) e (place_of-there ns x)
     by : (b : Bool) → (b || list_any (same_pair x) ns) ≡ true → (list_any (same_pair x) ns ≡ true → place_of ns x < length ns) → cond (not b) (1 + place_of ns x) 0 < suc (length ns)
     by true e f = omega arith
     by false e f = omega (arith, f e)
-
-pub place_within : (ns : Pairs) (x : List ℕ × ℕ) → place_of ns x < length (with_pair ns x)
-place_within ns x = by (list_any (same_pair x) ns) refl
-  where
-    by : (b : Bool) → list_any (same_pair x) ns ≡ b → place_of ns x < length (if b then ns else ns ++ x ∷ [])
-    by true e = place_of-there ns x e
-    by false e = omega (arith, place_of-new ns x e, length-append ns (x ∷ []))
-
-pub with_pair_longer : (ns : Pairs) (x : List ℕ × ℕ) → length ns ≤ length (with_pair ns x)
-with_pair_longer ns x = by (list_any (same_pair x) ns)
-  where
-    by : (b : Bool) → length ns ≤ length (if b then ns else ns ++ x ∷ [])
-    by true = omega arith
-    by false = omega (arith, length-append ns (x ∷ []))
 
 variable_added : (ns : Pairs) (x : List ℕ × ℕ) → (if has_variable (numbered_from 0 ns) (place_of ns x, x.1) then numbered_from 0 ns else numbered_from 0 ns ++ (place_of ns x, x.1) ∷ []) ≡ numbered_from 0 (with_pair ns x)
 variable_added ns x = by (list_any (same_pair x) ns) refl

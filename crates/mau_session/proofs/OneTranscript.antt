@@ -21,6 +21,7 @@ use Rattle.mau_modtext.specs.declared.raw.RawBody.TheVariants.{Quit}
 use Rattle.mau_modtext.specs.declared.raw.RawCommand.{RawCommand}
 use Rattle.mau_modtext.specs.declared.raw.Setting.{Setting}
 use Rattle.mau_declare.specs.Words.{index_at, token_text, token_index}
+use Rattle.mau_declare.proofs.Once.{yes_no}
 use Rattle.mau_module.specs.Modules.{ModuleOf}
 use Rattle.mau_module.specs.Library.{last_named}
 use Rattle.mau_tokens.specs.declared.token.Token.{Token}
@@ -41,9 +42,6 @@ use Rattle.mau_session.proofs.OneListing.{shows_once}
 use Rattle.mau_parse.proofs.OneReading.{AreOneTerm, term_once, term_no_fault, fault_once}
 use Rattle.mau_module.proofs.OneModule.{module_once}
 use Rattle.mau_session.proofs.OneFault.{shown_once, module_shown_once}
-
-yes_no : (b : Bool) → b ≡ true → b ≡ false → ⊥
-yes_no b t f = let e = sym t ∙ f in absurd cc
 
 -- ---- answers: the bytes, and whether it was refused
 

@@ -3,12 +3,11 @@ use Rattle.std.proofs.Common.{◌≡◌, ℕ, ◌≤◌, ◌+◌, List, [], ◌�
 use Rattle.std.proofs.lemmas.Bool.{ltb-true}
 use Rattle.std.specs.Option.{option_map}
 use Rattle.mau_terms.specs.Tree.{Tree, variable, numeral, apply, Trees, no_trees, tree, node, list_of, trees_of}
-use Rattle.mau_terms.specs.Depth.{depth}
 use Rattle.mau_terms.specs.Norm.{finish, norm}
 use Rattle.mau_terms.specs.Bare.{IsBareIn, AreBareIn, IsBare, IsLawful}
 use Rattle.mau_terms.specs.Reading.{nest, nest_from, reading, readings}
-use Rattle.mau_terms.specs.declared.theory.Identity.{Identity}
 use Rattle.mau_terms.proofs.Normal.{IsSettled, IsNormal, AreNormal, norm_normal}
+use Rattle.mau_terms.proofs.Wholes.{not_alone}
 use Rattle.mau_poset.specs.Order.{kinds, kind_of}
 use Rattle.mau_signature.specs.Signature.{SignatureOf, IsOperator, theory_at, terms_over}
 use Rattle.mau_canon.proofs.Collected.{is_operator}
@@ -17,11 +16,6 @@ use Rattle.mau_sorts.specs.Table.{IsTreeOver, AreTreesOver}
 some_mapped : {A B : Type 0} (f : A → B) (o : Option A) (b : B) → option_map f o ≡ Some b → is_some o ≡ true
 some_mapped f None b e = absurd (cc e)
 some_mapped f (Some a) b e = refl
-
--- no tree is its own only argument, so no list of one element is settled under an associative operator
-alone : (u : Option Identity) (s : Bool) (f : ℕ) (x : Tree) → finish true u s f (x ∷ []) ≡ node f (x ∷ []) → ⊥
-alone None s f x e = omega (arith, ap depth e)
-alone (Some i) s f x e = omega (arith, ap depth e)
 
 module _ (s : SignatureOf) (lawful : IsLawful (terms_over s)) where
   -- each, read as a bare term, is bare
@@ -54,7 +48,7 @@ module _ (s : SignatureOf) (lawful : IsLawful (terms_over s)) where
   top_parts false f ts a n k b = record { operator = is_operator s f b.0; two = λ e. absurd (cc e); parts = plain_parts ts ((terms_over s).arguments f) b.2 }
   top_parts true f no_trees a n k b = absurd (subst (AreBareIn (terms_over s) no_trees) (lawful.assoc_kinds f a) b.2)
   top_parts true f (tree t no_trees) a n k b =
-      absurd (alone (theory_at s f).id (theory_at s f).succ f t (subst (λ x. finish x (theory_at s f).id (theory_at s f).succ f (t ∷ []) ≡ node f (t ∷ [])) a n.long))
+      absurd (not_alone (theory_at s f).id (theory_at s f).succ f t (subst (λ x. finish x (theory_at s f).id (theory_at s f).succ f (t ∷ []) ≡ node f (t ∷ [])) a n.long))
   top_parts true f (tree t (tree u us)) a n k b =
       let p = list_parts f a t (tree u us) k b in
       record { operator = is_operator s f b.0; two = λ e. omega arith; parts = (p.0, p.1) }

@@ -2,7 +2,6 @@
 use Rattle.std.proofs.Common.{◌≡◌, ◌<◌, ℕ, zero, suc, List, [], ◌∷◌, inl, inr, ⊎_elim, map, length, get_or, slice_get, Some, refl, sym, ◌∙◌, subst, arith}
 use Rattle.mau_terms.specs.Tree.{Tree}
 use Rattle.mau_terms.specs.Bare.{IsLawful}
-use Rattle.mau_terms.specs.Finite.{IsIn}
 use Rattle.mau_signature.specs.Signature.{SignatureOf, terms_over}
 use Rattle.mau_store.specs.Node.{Node, numeral_node, variable_node, operator_node, arguments, AreNodes, IsOf}
 use Rattle.mau_store.specs.Trees.{tree_at, tree_over}
@@ -13,7 +12,7 @@ use Rattle.mau_sorts.proofs.Settling.{argument_over, is_ready}
 use Rattle.mau_api.specs.Asked.{Asked, IsTreeSettled, IsSettledFor, IsBelow}
 use Rattle.mau_api.specs.Prepared.{HasIdentities}
 use Rattle.mau_api.proofs.Readied.{below_node}
-use Rattle.mau_api.proofs.Stored.{unit_over}
+use Rattle.mau_api.proofs.Stored.{unit_over, argument_number}
 
 module _ (s : SignatureOf) (nodes : List Node) (are : AreNodes nodes) (table : Table) where
   -- a term over the signature is ready, where the older ones are settled
@@ -29,11 +28,6 @@ module _ (s : SignatureOf) (nodes : List Node) (are : AreNodes nodes) (table : T
     over_settled : (i : ℕ) → IsOf nodes i → IsTreeOver s (tree_at nodes i) → IsTreeSettled nodes table (tree_at nodes i)
     over_settled i there over = record { number = i; there = there; tree = refl; settled = all i there over }
 
-    argument_number : (ids : List ℕ) (z : Tree) → IsIn z (map (tree_at nodes) ids) → (k : ℕ) × (k < length ids) × (z ≡ tree_at nodes (get_or ids k 0))
-    argument_number [] z h = absurd h
-    argument_number (j ∷ ids) z (inl e) = (zero, omega arith, e)
-    argument_number (j ∷ ids) z (inr h) = let rest = argument_number ids z h in let lt = rest.1 in (suc rest.0, omega (arith, lt), rest.2)
-
     -- with fuel for the numbers below
     below_at : (n i : ℕ) → i < n → IsOf nodes i → IsTreeOver s (tree_at nodes i) → (u : Tree) → IsBelow u (tree_at nodes i) → IsTreeSettled nodes table u
     below_at zero i h there over u b = absurd (omega (arith, h))
@@ -48,7 +42,7 @@ module _ (s : SignatureOf) (nodes : List Node) (are : AreNodes nodes) (table : T
         by (variable_node k r) at c o rest = absurd c
         by (operator_node f ids) at c o rest =
             let z = below_node f (map (tree_at nodes) ids) u c in
-            let k = argument_number ids z.0 z.1 in
+            let k = argument_number nodes ids z.0 z.1 in
             let low = k.1 in
             let j = get_or ids k.0 0 in
             let older : j < i = are.closed i (operator_node f ids) at k.0 0 low in

@@ -1,18 +1,18 @@
 //! Reading the terms of a command, by the grammar of a module.
-ghost use Rattle.std.specs.Prelude.{◌≡◌, ◌≤◌, ◌<◌, ◌+◌, map, length, true, false, IfOk, IfErr};
+ghost use Rattle.std.specs.Prelude.{◌≡◌, ◌≤◌, ◌<◌, ◌+◌, map, length, false, IfOk, IfErr};
 ghost use Rattle.mau_terms.specs.Bare.{IsBare};
 ghost use Rattle.mau_terms.specs.View.{tree_of};
 ghost use Rattle.mau_tokens.specs.Laws.{text_of};
 ghost use Rattle.mau_tokens.specs.Spans.{AreSpans};
 ghost use Rattle.mau_parse.specs.Goal.{highest};
 ghost use Rattle.mau_session.specs.Commands;
-ghost use Rattle.mau_session.specs.Reading.{part_words, part_tokens, part_texts, TermReads, IsUnread, IsBareOf};
+ghost use Rattle.mau_session.specs.Reading.{part_tokens, part_texts, TermReads, IsUnread, IsBareOf};
 ghost use Rattle.mau_session.specs.Terms.{terms_in};
 
 use mau_declare::Words;
 use mau_module::Module;
 use mau_parse::{Goal, ParseFault, parse};
-use mau_terms::{Bare, OpId, Vars};
+use mau_terms::{Bare, Vars};
 use mau_tokens::Token;
 use std::alloc::Global;
 
@@ -58,25 +58,5 @@ pub fn kind_of_term(module: &Module, term: &Bare) -> u32
     requires { IsBare (terms_in module.now) (tree_of term.now) }
     ensures { result ≡ Rattle.mau_session.specs.Terms.kind_of_term module.now (tree_of term.now) }
 {
-    let signature = module.signature();
-    match term {
-        Bare::Var(variable) => signature.poset().kind_of(variable.sort),
-        Bare::Num(_) => match signature.numerals() {
-            Some((zero, _)) => signature.poset().kind_of(zero),
-            None => 0,
-        },
-        Bare::App(op, _) => result_kind(module, *op),
-    }
-}
-
-/// The kind of the result of an operator.
-fn result_kind(module: &Module, op: OpId) -> u32
-    requires { (terms_in module.now).has_operator op.0 ≡ true }
-    ensures { result ≡ (terms_in module.now).result op.0 }
-{
-    let signature = module.signature();
-    match signature.declarations(op).first() {
-        Some(decl) => signature.poset().kind_of(decl.result),
-        None => unreachable!(),
-    }
+    module.signature().kind(term)
 }

@@ -1,5 +1,5 @@
 //! Why an item is refused.
-ghost use Rattle.std.specs.Prelude.{◌≡◌, ◌≢◌, ◌++◌, codes, decimal, OnOk};
+ghost use Rattle.std.specs.Prelude.{◌≡◌, ◌≢◌, ◌++◌, decimal, OnOk};
 ghost use Rattle.mau_declare.specs.Words.{place_at};
 ghost use Rattle.mau_session.specs.Answers.{item_head, refusal_line, faulty_line, shown_text_fault, text_fault_line, fault_line, shown_parse_fault, parse_fault_line, limit_name, statement_limit_name, shown_statement_fault, shown_module_fault, module_fault_line};
 

@@ -7,7 +7,7 @@ use crate::refusal::write_fault;
 use mau_declare::Words;
 use mau_modtext::items;
 use mau_terms::NoMemory;
-use mau_tokens::{Token, TokenFault, tokens};
+use mau_tokens::{TokenFault, tokens};
 use std::alloc::Global;
 
 /// Whether memory was wanting.

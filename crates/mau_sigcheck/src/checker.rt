@@ -104,10 +104,7 @@ impl<'a> Checker<'a> {
         ensures value { result ≡ result_kind self.now op.0 }
         ensures kind { IsKind self.now.hierarchy result }
     {
-        match self.sig.declarations(op).first() {
-            Some(decl) => self.sig.poset().kind_of(decl.result),
-            None => unreachable!(),
-        }
+        self.sig.result_kind(op)
     }
 
     /// The sort of an operator for arguments of these sorts, if there is one.

@@ -1,5 +1,5 @@
 //! What an operator has to meet at each tuple of sorts.
-ghost use Rattle.std.specs.Prelude.{◌≡◌, ◌↔◌, IsTrue, IfSome, IfNone, All, ◌∷◌, []};
+ghost use Rattle.std.specs.Prelude.{◌≡◌, ◌↔◌, IsTrue, IfSome, All, ◌∷◌, []};
 ghost use Rattle.mau_signature.specs.Faults.{IsSort};
 ghost use Rattle.mau_signature.specs.Signature.{IsOperator};
 ghost use Rattle.mau_sigcheck.specs.Accepted.{BracketsAgreeAt, GivesFromLeft, GivesFromRight};

@@ -1,9 +1,8 @@
 //! The faults of a declaration.
-ghost use Rattle.std.specs.Prelude.{◌≡◌, ◌⊎◌, OnOk, IfErr, ◌+◌, ◌<◌, ◌≤◌, length, map, not, All, IfOk, IsTrue};
+ghost use Rattle.std.specs.Prelude.{◌≡◌, ◌⊎◌, OnOk, IfErr, ◌+◌, ◌<◌, ◌≤◌, map, All, IfOk};
 ghost use Rattle.std.specs.List.{list_all};
 ghost use Rattle.mau_poset.specs.Order.{kind_of};
-ghost use Rattle.mau_signature.specs.Attributes.{unite, united, names_argument, has_number, is_strategy, names_both_or_none};
-ghost use Rattle.mau_signature.specs.Names.{constant_of};
+ghost use Rattle.mau_signature.specs.Attributes.{unite, united, names_argument, is_strategy, names_both_or_none};
 ghost use Rattle.mau_signature.specs.Faults.{HasSorts, IsSort, has_wrong_arity, has_other_kind, is_pair_of_one, is_in_one_kind, kinds_suit, frozen_suits, gather_suits, attributes_suit, strategy_suits, is_kind_of_numerals, is_identity_in};
 ghost use Rattle.mau_signature.specs.Judged.{fault_among};
 ghost use Rattle.mau_signature.specs.Kinds.{HaveOneKind};

@@ -1,8 +1,8 @@
 //! One operator of a signature.
 ghost use Rattle.std.specs.Prelude.{◌≡◌, ◌≢◌, ◌+◌, ◌≤◌, ◌++◌, ◌∷◌, [], length, All, IfOk};
 ghost use Rattle.mau_poset.specs.Order.{kind_of};
-ghost use Rattle.mau_signature.specs.Attributes.{with_united, strategy_or_all, numbers_to};
-ghost use Rattle.mau_signature.specs.Faults.{HasSorts, IsSort, is_text};
+ghost use Rattle.mau_signature.specs.Attributes.{strategy_or_all, numbers_to};
+ghost use Rattle.mau_signature.specs.Faults.{HasSorts, is_text};
 ghost use Rattle.mau_signature.specs.Built.{IsWithinNumerals};
 ghost use Rattle.mau_signature.specs.Signature.{theory_of, strategy_of, identity_in};
 

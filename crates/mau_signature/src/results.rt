@@ -1,8 +1,8 @@
 //! The results of declarations that apply to sorts.
-ghost use Rattle.std.specs.Prelude.{◌≡◌, ◌≤◌, ◌↔◌, length, All, IfSome, IfNone, IsTrue};
+ghost use Rattle.std.specs.Prelude.{◌≡◌, ◌≤◌, ◌↔◌, All, IfSome, IsTrue};
 ghost use Rattle.mau_poset.specs.Order.{IsPoset, IsAtOrBelow};
 ghost use Rattle.mau_signature.specs.Faults.{HasSorts, IsSort};
-ghost use Rattle.mau_signature.specs.Signature.{AreAtOrBelow, Applies, IsLeastResult, AppliesNone, swapped};
+ghost use Rattle.mau_signature.specs.Signature.{AreAtOrBelow, Applies, swapped};
 ghost use Rattle.mau_signature.specs.Lowest.{IsBelowResults, IsLowestResult, IsLower};
 
 use crate::Decl;

@@ -1,5 +1,5 @@
 //! What a signature says of terms: declared results and kinds.
-ghost use Rattle.std.specs.Prelude.{◌≡◌, ◌<◌, ◌≤◌, length, All, IfSome, IfNone};
+ghost use Rattle.std.specs.Prelude.{◌≡◌, ◌<◌, ◌≤◌, All, IfSome, IfNone};
 ghost use Rattle.mau_poset.specs.Order.{kind_of};
 ghost use Rattle.mau_terms.specs.Bare.{IsBare, IsBareIn};
 ghost use Rattle.mau_terms.specs.View.{tree_of};

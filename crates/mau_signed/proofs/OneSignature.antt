@@ -8,15 +8,7 @@ use Rattle.mau_signature.specs.Signature.{SignatureOf}
 use Rattle.mau_signature.proofs.FirstFaults.{faults_are_one, faultless_have_none}
 use Rattle.mau_sigcheck.proofs.OneFault.{faults_once, accepted_no_fault}
 use Rattle.mau_signed.specs.Signed.{cycle_text, declaration_text, operator_fault_text, comes_first, IsDeclarationFault, declared_wrong, two_values_before, two_values_alone, signature_over, SignatureRead, on_cycle, declaration_at_fault, operator_at_fault, signature_read}
-
-yes_no : (b : Bool) → b ≡ true → b ≡ false → ⊥
-yes_no b t f = let e = sym t ∙ f in absurd cc
-
-pub some_none : {X : Type 0} {x : X} {o : Option X} → o ≡ Some x → o ≡ None → ⊥
-some_none t f = let e = sym t ∙ f in absurd cc
-
-pub some_once : {X : Type 0} {x y : X} {o : Option X} → o ≡ Some x → o ≡ Some y → x ≡ y
-some_once t f = let e = sym t ∙ f in cc
+use Rattle.mau_declare.proofs.Once.{yes_no, some_none, some_once}
 
 least_cycle_once : (pairs : List (ℕ × ℕ)) (a b c d : ℕ) → IsLeastCycle pairs a b → IsLeastCycle pairs c d → (a ≡ c) × (b ≡ d)
 least_cycle_once pairs a b c d f g = by (f.least c d g.on_cycle) (g.least a b f.on_cycle)

@@ -17,7 +17,7 @@ use Rattle.mau_store.specs.Trees.{tree_over, tree_at}
 use Rattle.mau_store.specs.View.{numbers}
 use Rattle.mau_sorts.specs.SortSets.{SortsOf, IsAbove, IsIn, IsOver, AreApart, IsKeptOf}
 use Rattle.mau_sorts.specs.HasSort.{Known, IsKnown, HasSort, AllHave, ListHas, Gives, NumeralHas, OfTwo}
-use Rattle.mau_sorts.specs.Table.{Table, entry_at, IsSettled, AreEntries, AreOver, IsKnownOf, AreSame, KeepsEntries, Settles}
+use Rattle.mau_sorts.specs.Table.{Table, entry_at, IsSettled, AreEntries, AreOver, IsKnownOf}
 use Rattle.mau_sorts.specs.Derived.{AllIn, ListIn, OverIn, set_or_none, sets, sets_at, NodeHasWith}
 use Rattle.mau_sorts.proofs.Derivations.{Gives-same}
 
@@ -139,9 +139,6 @@ numeral_set s h e n q same is exact r =
     let there = numeral_exact s n q r is in
     (λ a. there.0 (here.0 a), λ a. here.1 (there.1 a))
 
-pub over_list : (s : SignatureOf) (f : ℕ) (es : List SortsOf) (r : ℕ) → (theory_at s f).assoc ≡ true → ListIn s f es r ↔ OverIn s f es r
-over_list s f es r assoc = subst (λ b. ListIn s f es r ↔ MatchBool b (ListIn s f es r) (Gives s f (λ rs. AllIn s.hierarchy es rs) r)) (sym assoc) (λ a. a, λ a. a)
-
 pub over_all : (s : SignatureOf) (f : ℕ) (es : List SortsOf) (r : ℕ) → (theory_at s f).assoc ≡ false → Gives s f (AllIn s.hierarchy es) r ↔ OverIn s f es r
 over_all s f es r plain = subst (λ b. Gives s f (AllIn s.hierarchy es) r ↔ MatchBool b (ListIn s f es r) (Gives s f (λ rs. AllIn s.hierarchy es rs) r)) (sym plain) (λ a. a, λ a. a)
 
@@ -181,24 +178,3 @@ entered_value s nodes old new i n more e made entered there tree settled known e
       apart = made.apart;
       ascending = made.ascending;
     }
-
-pub entered_over : (h : Hierarchy) (old new : Table) (i : ℕ) (e : SortsOf) → IsOver h e → IsEntered old new i e → AreOver h old → AreOver h new
-entered_over h old new i e over entered old_over j d at_j = ⊎_elim
-    (λ (same : j ≡ i).
-    let e_is : Some d ≡ Some e = sym at_j ∙ ap (entry_at new) same ∙ entered.entered in
-    let d_is : d ≡ e = cc in subst (IsOver h) (sym d_is) over)
-    (λ (other : j ≢ i). old_over j d (sym (entered.others j other) ∙ at_j))
-    (cases_eq j i)
-
-pub entered_kept : (old new : Table) (i : ℕ) (e : SortsOf) → IsEntered old new i e → ¬ IsSettled old i → KeepsEntries old new
-entered_kept old new i e entered unsettled j d at_j = ⊎_elim
-    (λ (same : j ≡ i). absurd (unsettled (subst (IsSettled old) same (ap is_some at_j))))
-    (λ (other : j ≢ i). entered.others j other ∙ at_j)
-    (cases_eq j i)
-
-pub entered_settles : (old new : Table) (i : ℕ) (e : SortsOf) → IsEntered old new i e → Settles old new i
-entered_settles old new i e entered = record { settled = ap is_some entered.entered; others = entered.others }
-
--- the same table
-pub same_over : (h : Hierarchy) (old new : Table) → AreSame old new → AreOver h old → AreOver h new
-same_over h old new same over i e at_i = over i e (sym (same i) ∙ at_i)

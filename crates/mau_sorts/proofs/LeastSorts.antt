@@ -3,7 +3,7 @@ use Rattle.std.proofs.Common.{◌≡◌, ◌<◌, ◌≤◌, ◌+◌, ℕ, List,
 use Rattle.std.specs.Prelude.{◌↔◌, ◌≢◌, All, Contains, Bool, true, false, Option, Some, None, nat_lt, nat_le, ◌&&◌, ◌==◌, if◌then◌else◌}
 use Rattle.std.specs.Bool.{MatchBool}
 use Rattle.std.specs.Option.{option_map}
-use Rattle.std.proofs.lemmas.Bool.{cases_lt, ltb-true, leb-true}
+use Rattle.std.proofs.lemmas.Bool.{cases_lt, ltb-true, leb-true, and_parts}
 use Rattle.std.proofs.lemmas.List.Elements.{All-nil, All-cons, All-contains, All-head, All-tail}
 use Rattle.mau_poset.specs.Order.{Hierarchy, IsPoset, IsAtOrBelow, kind_of, kinds}
 use Rattle.mau_poset.proofs.Orders.{reflexive, transitive, kind_of-kind, kind_of-above, kind_of-in_range}
@@ -202,13 +202,9 @@ numeral_least s w n k (Some p) e kind = (r, least, in_kind (n == 0))
           (λ known. absurd (not_known h (numeral n) q known));
     }
 
-both_true : (a b : Bool) → (a && b) ≡ true → (a ≡ true) × (b ≡ true)
-both_true true b e = (refl, e)
-both_true false b e = absurd (cc)
-
 operator_by : (s : SignatureOf) (f : ℕ) → (nat_lt 0 f && nat_le f (length s.declarations)) ≡ true → IsOperator s f
 operator_by s f e =
-    let both = both_true (nat_lt 0 f) (nat_le f (length s.declarations)) e in
+    let both = and_parts (nat_lt 0 f) (nat_le f (length s.declarations)) e in
     (ltb-true 0 f both.0, leb-true f (length s.declarations) both.1)
 
 -- ---- two sets of sorts

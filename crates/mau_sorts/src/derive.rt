@@ -1,11 +1,10 @@
 //! The sorts of a node, by those of its arguments.
-ghost use Rattle.std.specs.Prelude.{◌≡◌, ◌↔◌, ◌<◌, ◌≤◌, ℕ, length, map, All, IfOk, OnOk, IsTrue, is_some};
+ghost use Rattle.std.specs.Prelude.{◌≡◌, ◌↔◌, ◌<◌, ◌≤◌, ℕ, length, All, IfOk, OnOk, IsTrue};
 ghost use Rattle.mau_poset.specs.Order.{IsAtOrBelow, kind_of};
 ghost use Rattle.mau_signature.specs.Faults.{HasSorts, IsSort};
-ghost use Rattle.mau_signature.specs.Signature.{IsOperator, declarations_at, result_of, swapped};
-ghost use Rattle.mau_sigcheck.specs.Tuples.{IsKind};
+ghost use Rattle.mau_signature.specs.Signature.{IsOperator, swapped};
 ghost use Rattle.mau_sorts.specs.SortSets.{IsIn, IsOver, AreApart, AreSorts};
-ghost use Rattle.mau_sorts.specs.HasSort.{Gives, NumeralHas, Suits};
+ghost use Rattle.mau_sorts.specs.HasSort.{Gives, Suits};
 ghost use Rattle.mau_sorts.specs.Derived.{AllIn, ListIn, sets, AddsResult};
 
 use crate::minimal::add;
@@ -74,18 +73,6 @@ pub(crate) fn of_sort(alloc: Global, poset: &Poset, sort: u32) -> Result<SortSet
     })
 }
 
-/// The kind of the result of an operator.
-fn result_kind(sig: &Signature, op: OpId) -> u32
-    requires { IsOperator sig.now op.0 }
-    ensures value { result ≡ kind_of sig.now.hierarchy (result_of (declarations_at sig.now op.0)) }
-    ensures kind { IsKind sig.now.hierarchy result }
-{
-    match sig.declarations(op).first() {
-        Some(decl) => sig.poset().kind_of(decl.result),
-        None => unreachable!(),
-    }
-}
-
 /// Adds the result of a declaration, if that suits and its result is a sort.
 fn add_result(
     alloc: Global,
@@ -131,7 +118,7 @@ pub(crate) fn given(
     }
     Ok(SortSet {
         minimal,
-        kind: result_kind(sig, op),
+        kind: sig.result_kind(op),
     })
 }
 

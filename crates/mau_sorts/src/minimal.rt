@@ -1,7 +1,7 @@
 //! Minimal sorts: lists of sorts of which none is below another.
 ghost use Rattle.std.specs.Prelude.{◌≡◌, ◌↔◌, ◌⊎◌, ◌<◌, ℕ, Contains, IsTrue, IfOk, OnOk};
 ghost use Rattle.std.specs.List.Sorted.{IsStrictlyIncreasing};
-ghost use Rattle.mau_poset.specs.Order.{IsPoset, IsAtOrBelow};
+ghost use Rattle.mau_poset.specs.Order.{IsAtOrBelow};
 ghost use Rattle.mau_signature.specs.Faults.{IsSort};
 ghost use Rattle.mau_sorts.specs.SortSets.{IsAbove, AreApart, AreNotAbove, AreSorts};
 

@@ -1,10 +1,7 @@
 //! Settling a term with all that is below it.
-ghost use Rattle.std.specs.Prelude.{◌≡◌, ◌↔◌, [], All, IsTrue, OnOk};
-ghost use Rattle.mau_poset.specs.Order.{IsPoset};
-ghost use Rattle.mau_signature.specs.Faults.{IsSort};
-ghost use Rattle.mau_signature.specs.Signature.{IsOperator};
-ghost use Rattle.mau_store.specs.Node.{IsOf, AreBelow, AreOf, arguments};
-ghost use Rattle.mau_store.specs.Trees.{tree_at, tree_over};
+ghost use Rattle.std.specs.Prelude.{◌≡◌, ◌↔◌, [], IsTrue, OnOk};
+ghost use Rattle.mau_store.specs.Node.{IsOf, arguments};
+ghost use Rattle.mau_store.specs.Trees.{tree_at};
 ghost use Rattle.mau_store.specs.View.{node_of, numbers};
 ghost use Rattle.mau_sorts.specs.Table.{IsSettled, AreEntries, AreOver, KeepsEntries, IsTreeOver};
 

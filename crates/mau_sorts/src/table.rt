@@ -1,5 +1,5 @@
 //! The sorts of a store's terms.
-ghost use Rattle.std.specs.Prelude.{◌≡◌, ◌↔◌, ◌≢◌, ◌≤◌, ℕ, [], length, true, is_some, All, Contains, IfOk, IfSome, IfNone, OnOk, OnErr, IsTrue, Some};
+ghost use Rattle.std.specs.Prelude.{◌≡◌, ◌↔◌, ◌≢◌, ◌≤◌, ℕ, [], length, true, is_some, All, IfOk, IfSome, IfNone, OnOk, OnErr, IsTrue, Some};
 ghost use Rattle.std.specs.Option.{option_map};
 ghost use Rattle.std.specs.List.Sorted.{IsStrictlyIncreasing};
 ghost use Rattle.mau_poset.specs.Order.{Hierarchy};
@@ -9,7 +9,7 @@ ghost use Rattle.mau_store.specs.Trees.{tree_at};
 ghost use Rattle.mau_store.specs.View.{node_of, numbers};
 ghost use Rattle.mau_sigcheck.specs.Accepted.{IsSortOfNumeral};
 ghost use Rattle.mau_sorts.specs.SortSets.{IsIn, IsOver, AreApart, AreSorts, shown_sort};
-ghost use Rattle.mau_sorts.specs.HasSort.{Known, HasSort};
+ghost use Rattle.mau_sorts.specs.HasSort.{Known};
 ghost use Rattle.mau_sorts.specs.Table.{entry_at, IsSettled, AreEntries, AreOver, IsKnownOf, IsNodeOver, IsReady, AreSame, KeepsEntries, Settles};
 ghost use Rattle.mau_sorts.specs.Derived.{NodeHas, NodeHasWith, sets, sets_at};
 

@@ -39,16 +39,6 @@ said P MembershipHead p = p
 said P UnboundVariable p = p
 said P NoMemory p = tt
 
--- a fault other than want of memory says something
-pub told : (P : StatementFault → Type 0) (e : StatementFault) → e ≢ NoMemory → IfFault P e → P e
-told P (LimitExceeded l) n p = p
-told P (Parse f) n p = p
-told P (UnknownSort k) n p = p
-told P LhsVariable n p = p
-told P MembershipHead n p = p
-told P UnboundVariable n p = p
-told P NoMemory n p = absurd (n refl)
-
 -- the fault of tokens that are no term
 module _ (ws : List Word) (g : GrammarOf) (ts : List Token) (goal : Goal) (ns : Pairs) (there : is_empty ws ts ≡ false) where
   read_fault : (f : ParseFault) → IsUnread ws g ts goal ns f → IfFault (PartUnread ws g ts goal ns) (fault_of f)

@@ -1,5 +1,3 @@
--- the size of terms
-pub mod Sizes
 -- tops of normal forms
 pub mod Topped
 -- what is read part by part

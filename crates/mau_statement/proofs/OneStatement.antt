@@ -22,6 +22,7 @@ use Rattle.mau_modtext.specs.declared.raw.RawStatement.{RawStatement}
 use Rattle.mau_modtext.specs.declared.raw.StatementKind.{StatementKind}
 use Rattle.mau_modtext.specs.declared.raw.StatementKind.TheVariants as Keyword
 use Rattle.mau_declare.proofs.Counting.{get_front, get_behind}
+use Rattle.mau_declare.proofs.Once.{yes_no, some_none, some_once}
 use Rattle.mau_grammar.specs.declared.aliases.Alias.{Alias}
 use Rattle.mau_grammar.specs.Production.{IsShaped}
 use Rattle.mau_grammar.specs.Productions.{sort_names}
@@ -44,15 +45,6 @@ use Rattle.mau_statement.specs.declared.statement.Statement.{Statement}
 use Rattle.mau_statement.specs.declared.fault.StatementFault.{StatementFault}
 use Rattle.mau_statement.specs.declared.fault.StatementFault.TheVariants.{Parse}
 use Rattle.mau_statement.proofs.Handed.{part_moved, term_moved}
-
-yes_no : (b : Bool) → b ≡ true → b ≡ false → ⊥
-yes_no b t f = let e = sym t ∙ f in absurd cc
-
-some_none : {X : Type 0} {x : X} {o : Option X} → o ≡ Some x → o ≡ None → ⊥
-some_none t f = let e = sym t ∙ f in absurd cc
-
-some_once : {X : Type 0} {x y : X} {o : Option X} → o ≡ Some x → o ≡ Some y → x ≡ y
-some_once t f = let e = sym t ∙ f in cc
 
 -- ---- lists
 

@@ -1,7 +1,5 @@
 //! Reading the fragments of a condition.
-ghost use Rattle.std.specs.Prelude.{◌≡◌, ◌<◌, ◌+◌, All, true, IfOk, IfErr};
-ghost use Rattle.mau_poset.specs.Order.{kinds};
-ghost use Rattle.mau_signature.specs.Signature.{terms_over};
+ghost use Rattle.std.specs.Prelude.{◌≡◌, ◌<◌, ◌+◌, All, IfOk, IfErr};
 ghost use Rattle.mau_terms.specs.Bare.{IsBare, IsBareIn};
 ghost use Rattle.mau_statement.specs.Context.{constant, terms_in};
 ghost use Rattle.mau_statement.specs.Conditions.{FragmentReads, FragmentUnread, ConditionReads, ConditionUnread};
@@ -16,21 +14,8 @@ use mau_api::Fragment;
 use mau_declare::Words;
 use mau_modtext::{FragmentKind, RawFragment};
 use mau_parse::Goal;
-use mau_signature::Signature;
 use mau_terms::{Args, Bare, OpId, Seq, Vars};
 use std::alloc::Global;
-
-/// The kind of the result of an operator.
-fn result_kind(signature: &Signature, op: OpId) -> u32
-    requires { (terms_over signature.now).has_operator op.0 ≡ true }
-    ensures value { result ≡ (terms_over signature.now).result op.0 }
-    ensures below { result < signature.now.hierarchy.sorts + kinds signature.now.hierarchy }
-{
-    match signature.declarations(op).first() {
-        Some(decl) => signature.poset().kind_of(decl.result),
-        None => unreachable!(),
-    }
-}
 
 /// The kind of the truth values.
 fn kind_of_truth(context: &Context, truth: OpId) -> u32
@@ -38,7 +23,7 @@ fn kind_of_truth(context: &Context, truth: OpId) -> u32
     ensures bare { IsBareIn (terms_in context.now) (constant truth) result }
     ensures below { result < context.now.grammar.last_kind }
 {
-    result_kind(context.signature(), truth)
+    context.signature().result_kind(truth)
 }
 
 /// A fragment that says that a term has a sort.

@@ -10,7 +10,7 @@ use Rattle.mau_terms.specs.declared.ids.TermId.{TermId}
 use Rattle.mau_terms.proofs.Examples.Signature.{theory}
 use Rattle.mau_store.specs.Node.{Node, numeral_node, variable_node, operator_node, arguments, IsOf, AreBelow, AreOf, IsShared, IsClosed, AreNodes, Extends}
 use Rattle.mau_store.specs.View.{numbers, node_of, stored_node}
-use Rattle.mau_store.specs.Trees.{tree_over, tree_or, add_tree, trees, tree_at, trees_at, StandsFor, StandsForNorm, StandForNorms, EachStandsForNorm}
+use Rattle.mau_store.specs.Trees.{tree_over, tree_or, add_tree, trees, tree_at, trees_at, StandsFor, StandsForNorm, StandForNorms}
 use Rattle.mau_store.specs.declared.node.NodeView.TheVariants.{Num, Var, App}
 use Rattle.mau_store.specs.declared.node.StoredNode.TheVariants.{Num as StoredNum, Var as StoredVar, App as StoredApp}
 
@@ -246,14 +246,3 @@ not_both_stand_for_norms h =
 
 none_stand_for_norms : StandForNorms theory [] []
 none_stand_for_norms = All-nil (StandsForNorm theory [])
-
-each_stands_for_norm : EachStandsForNorm theory (numeral_node 5 ∷ operator_node 3 [] ∷ [])
-each_stands_for_norm zero h = refl
-each_stands_for_norm (suc zero) h = refl
-each_stands_for_norm (suc (suc k)) h = absurd (omega (arith, h))
-
-each_of_none_stands_for_norm : EachStandsForNorm theory []
-each_of_none_stands_for_norm i h = absurd (omega (arith, h))
-
-not_each_stands_for_norm : EachStandsForNorm theory (numeral_node 5 ∷ operator_node 0 (0 ∷ []) ∷ []) → ⊥
-not_each_stands_for_norm h = let e = h 1 (lit< tt) in cc

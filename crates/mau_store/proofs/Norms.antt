@@ -8,12 +8,11 @@ use Rattle.mau_terms.specs.declared.theory.Theory.{Theory}
 use Rattle.mau_terms.proofs.Law.{law}
 use Rattle.mau_terms.proofs.Normal.{IsNormal, each_normal, norm_normal, normal_fixed}
 use Rattle.mau_terms.proofs.Pieces.{Each, list_of-trees_of}
-use Rattle.mau_store.specs.Node.{Node, numeral_node, variable_node, operator_node, arguments, IsOf, AreOf, AreNodes, Extends}
-use Rattle.mau_store.specs.Trees.{tree_over, tree_at, StandsForNorm, StandForNorms, EachStandsForNorm}
+use Rattle.mau_store.specs.Node.{Node, numeral_node, variable_node, operator_node, arguments, IsOf, AreOf, Extends}
+use Rattle.mau_store.specs.Trees.{tree_over, tree_at, StandsForNorm, StandForNorms}
 use Rattle.mau_store.specs.Laws.{OneNumberWhereEqual, ArgumentsStandForNorms}
-use Rattle.mau_store.proofs.Places.{place_push}
 use Rattle.mau_store.proofs.Standing.{tree_of_node, tree_at-extends}
-use Rattle.mau_store.proofs.Numbers.{one_number, node_there}
+use Rattle.mau_store.proofs.Numbers.{one_number}
 
 pub one_number_where_equal : OneNumberWhereEqual
 one_number_where_equal s lawful t u b b' nodes are i j p q e e' = (
@@ -47,16 +46,3 @@ StandsForNorm-extends th old new i x p n = subst (λ t. norm th t ≡ t) (sym (t
 
 pub StandForNorms-extends : (th : ℕ → Theory) (old new : List Node) (ids : List ℕ) → Extends old new → AreOf old ids → StandForNorms th old ids → StandForNorms th new ids
 StandForNorms-extends th old new ids x p n k d h = StandsForNorm-extends th old new _ x (p k d h) (n k d h)
-
--- one more node, which stands for a normal form
-pub EachStandsForNorm-added : (th : ℕ → Theory) (old new : List Node) (n : Node) (i : ℕ) → EachStandsForNorm th old → (new ≡ old) ⊎ (new ≡ old ++ n ∷ []) → AreNodes new → slice_get new i ≡ Some n → StandsForNorm th new i → EachStandsForNorm th new
-EachStandsForNorm-added th old new n i each (inl e) are at norm_is j p = subst (EachStandsForNorm th) (sym e) each j p
-EachStandsForNorm-added th old new n i each (inr e) are at norm_is j p =
-    let m = node_there new j p in
-    by m.0 m.1 (place_push old n m.0 j (ap (λ ns. slice_get ns j) (sym e) ∙ m.1))
-  where
-    by : (m : Node) → slice_get new j ≡ Some m → (slice_get old j ≡ Some m) ⊎ ((j ≡ length old) × (m ≡ n)) → StandsForNorm th new j
-    by m h (inl q) =
-        let was : IsOf old j = slice_get_within old j m q in
-        StandsForNorm-extends th old new j (n ∷ [], e) was (each j was)
-    by m h (inr q) = subst (StandsForNorm th new) (are.shared i j n at (h ∙ ap Some q.1)) norm_is

@@ -4,7 +4,7 @@ use Rattle.mau_terms.specs.Tree.{Tree, variable, numeral, node}
 use Rattle.mau_terms.specs.Norm.{norm}
 use Rattle.mau_terms.specs.declared.theory.Theory.{Theory}
 use Rattle.mau_terms.specs.Depth.{depth}
-use Rattle.mau_store.specs.Node.{Node, numeral_node, variable_node, operator_node, IsOf, AreNodes}
+use Rattle.mau_store.specs.Node.{Node, numeral_node, variable_node, operator_node, AreNodes}
 
 -- the tree of a node, where g gives the trees of its arguments
 abbrev pub tree_over : (ℕ → Tree) → Node → Tree
@@ -50,7 +50,3 @@ StandsForNorm th nodes i = norm th (tree_at nodes i) ≡ tree_at nodes i
 -- all of these numbers do
 abbrev pub StandForNorms : (ℕ → Theory) → List Node → List ℕ → Type 0
 StandForNorms th nodes ids = All (StandsForNorm th nodes) ids
-
--- each number of the store does
-abbrev pub EachStandsForNorm : (ℕ → Theory) → List Node → Type 0
-EachStandsForNorm th nodes = (i : ℕ) → IsOf nodes i → StandsForNorm th nodes i

@@ -55,10 +55,6 @@ pub chain_trans : {s : TermSignature} {k : ℕ} {t u v : Tree} → Chain s k t u
 chain_trans (stop b) q = q
 chain_trans (go b x p) q = go b x (chain_trans p q)
 
-pub chain_in_end : {s : TermSignature} {ks : List ℕ} {ts us : Trees} → ChainIn s ks ts us → AreBareIn s us ks
-chain_in_end (stop_in b) = b
-chain_in_end (go_in b x p) = chain_in_end p
-
 pub chain_in_trans : {s : TermSignature} {ks : List ℕ} {ts us vs : Trees} → ChainIn s ks ts us → ChainIn s ks us vs → ChainIn s ks ts vs
 chain_in_trans (stop_in b) q = q
 chain_in_trans (go_in b x p) q = go_in b x (chain_in_trans p q)

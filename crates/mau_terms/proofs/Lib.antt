@@ -26,6 +26,7 @@ pub mod Taken
 -- terms of the code, the variables of an item, and keys that stand for names
 pub mod Keyed
 pub mod Views
+pub mod Sizes
 pub mod Pairs
 -- computed cases of the definitions
 pub mod Examples

@@ -3,7 +3,7 @@ use Rattle.std.proofs.Common.{◌≡◌, ◌↔◌, ℕ, List, [], ◌∷◌, fa
 use Rattle.mau_terms.specs.Tree.{Tree, variable, numeral, apply, Trees, no_trees, tree, node, list_of}
 use Rattle.mau_terms.specs.Norm.{all_pieces, finish, made, norm, norms}
 use Rattle.mau_terms.specs.Axioms.{Axiom, associativity, commutativity, left_identity, right_identity, successor_of_numeral, AxiomStep, left_to_right, right_to_left, under_operator, AxiomStepIn, in_first, in_later}
-use Rattle.mau_terms.specs.Bare.{TermSignature, IsBare, EqualModulo, same_term, one_step, IsLawful, HasNoAxioms}
+use Rattle.mau_terms.specs.Bare.{TermSignature, IsBare, EqualModulo, same_term, one_step, HasNoAxioms}
 use Rattle.mau_terms.specs.declared.theory.Theory.{Theory}
 use Rattle.mau_terms.proofs.Pieces.{trees_of-list_of}
 
@@ -72,19 +72,3 @@ mutual
   pub plain_norms : (s : TermSignature) → HasNoAxioms s → (ts : Trees) → norms s.theory ts ≡ list_of ts
   plain_norms s plain no_trees = refl
   plain_norms s plain (tree t ts) = ap₂ (λ v w. v ∷ w) (plain_norm s plain t) (plain_norms s plain ts)
-
--- ---- such a signature is lawful
-
-pub plain_lawful : (s : TermSignature) → HasNoAxioms s → IsLawful s
-plain_lawful s plain = record {
-  theories = record {
-    succ_assoc = λ f e. plain.no_assoc f;
-    succ_comm = λ f e. plain.no_comm f;
-    succ_id = λ f e. plain.no_id f;
-    plain_unit = λ f c e. plain.no_id c.0;
-  };
-  assoc_kinds = λ f e. let h = plain.no_assoc f in cc;
-  comm_kinds = λ f e. let h = plain.no_comm f in cc;
-  unit_kinds = λ f i e. let h = plain.no_id f in cc;
-  succ_kinds = λ f e. let h = plain.no_succ f in cc;
-}

@@ -1,5 +1,5 @@
 //! Terms of a store by their texts, and asking listings.
-ghost use Rattle.std.specs.Prelude.{◌≡◌, List, All, Option, Bool, None, IfOk, OnOk};
+ghost use Rattle.std.specs.Prelude.{◌≡◌, All, Option, Bool, None, IfOk, OnOk};
 ghost use Rattle.mau_terms.specs.View.{tree_of};
 ghost use Rattle.mau_terms.specs.declared.ids.TermId.{TermId};
 ghost use Rattle.mau_terms.specs.declared.ids.VarId.{VarId};

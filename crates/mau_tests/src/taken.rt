@@ -15,24 +15,13 @@ use mau_signature::Signature;
 use mau_store::Store;
 use mau_terms::{Bare, NoMemory, OpId, TermId};
 
-/// The kind of the results of an operator.
-pub fn result_kind(sig: &Signature, op: OpId) -> u32
-    requires { IsOperator sig.now op.0 }
-    ensures { result ≡ (terms_over sig.now).result op.0 }
-{
-    match sig.declarations(op).first() {
-        Some(decl) => sig.poset().kind_of(decl.result),
-        None => unreachable!(),
-    }
-}
-
 /// Whether a term is of the kind of the results of an operator.
 pub fn is_of_kind(sig: &Signature, op: OpId, term: &Bare) -> bool
     requires operator { IsOperator sig.now op.0 }
     requires bare { IsBare (terms_over sig.now) (tree_of term.now) }
     ensures { result ≡ true → IsBareIn (terms_over sig.now) (tree_of term.now) ((terms_over sig.now).result op.0) }
 {
-    sig.kind(term) == result_kind(sig, op)
+    sig.kind(term) == sig.result_kind(op)
 }
 
 /// The next of what a term can take, by the call for the axioms of the operator.

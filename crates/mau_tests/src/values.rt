@@ -2,9 +2,7 @@
 ghost use Rattle.std.specs.Prelude.{IfOk};
 ghost use Rattle.mau_terms.specs.Bare.{IsBareIn};
 ghost use Rattle.mau_terms.specs.Reading.{reading};
-ghost use Rattle.mau_terms.specs.View.{tree_of};
 ghost use Rattle.mau_signature.specs.Signature.{IsOperator, terms_over, theory_at};
-ghost use Rattle.mau_store.specs.Node.{Extends};
 ghost use Rattle.mau_store.specs.Trees.{tree_at};
 ghost use Rattle.mau_canon.specs.Within.{StandsWithin};
 

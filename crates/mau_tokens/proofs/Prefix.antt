@@ -43,9 +43,6 @@ completes_too_long limit bs i e ts done (l, taken, piece) long = completes_fault
 pub completes_text : (limit : ℕ) (bs : List ℕ) (i : ℕ) (ts : List Token) → i ≡ length bs → Completes limit bs i ts → TokensFrom limit bs 0 (Ok ts)
 completes_text limit bs i ts end done = subst (TokensFrom limit bs 0) (behind-Ok ts) (done (Ok []) (text_ends i end))
 
-pub completes_nothing : (limit : ℕ) (bs : List ℕ) → Completes limit bs 0 []
-completes_nothing limit bs r rest = rest
-
 -- where a piece ends
 pub ends_within : (bs : List ℕ) (i e : ℕ) → EndsPiece bs i (Passed e) → e ≤ length bs
 ends_within bs i e (l, passed, piece) = piece.within

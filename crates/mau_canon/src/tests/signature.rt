@@ -2,7 +2,7 @@
 ghost use Rattle.std.specs.Prelude.{◌≡◌, true, All};
 ghost use Rattle.std.specs.List.{list_any};
 ghost use Rattle.mau_poset.specs.Order.{kind_of};
-ghost use Rattle.mau_signature.specs.Faults.{AreNumerals, HasSorts, IsSort, IsSuccessorIn, is_successor};
+ghost use Rattle.mau_signature.specs.Faults.{HasSorts, IsSort, IsSuccessorIn, is_successor};
 
 use mau_poset::Poset;
 use mau_signature::{Attrs, Decl, Form, IdSpec, MAX_DECLARATIONS, Piece, Signature};

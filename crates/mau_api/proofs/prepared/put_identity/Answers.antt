@@ -6,7 +6,6 @@ use Rattle.mau_terms.specs.declared.theory.Identity.TheVariants.{Const, Num}
 use Rattle.mau_signature.specs.Signature.{theory_at}
 use Rattle.mau_store.specs.Node.{numeral_node, operator_node}
 use Rattle.mau_canon.specs.Within.{IsNumberOf}
-use Rattle.mau_sorts.specs.Table.{IsTreeOver}
 use Rattle.mau_api.proofs.Stored.{unit_over, terms_more}
 use Rattle.mau_api.proofs.prepared.put_identity.Goals as goal
 

@@ -1,9 +1,8 @@
 use Rattle.std.proofs.Common.{◌≡◌, ◌⊎◌, ◌+◌, Option, Some, None, List, if◌then◌else◌, take, drop, sym, ◌∙◌, ap, subst, rules}
 use Rattle.mau_terms.specs.declared.ids.TermId.{TermId}
 use Rattle.mau_lists.specs.Following.{cut, FitsIn}
-use Rattle.mau_lists.specs.Fronts.{BeginsAs}
 use Rattle.mau_lists.proofs.Least.{least_of-none}
-use Rattle.mau_lists.proofs.SharedFronts.{by_tree_total, best_begins, best_fits, window_shared, window_before, best_least}
+use Rattle.mau_lists.proofs.SharedFronts.{BeginsAs, by_tree_total, best_begins, best_fits, window_shared, window_before, best_least}
 use Rattle.mau_lists.proofs.segments.least_behind.Goals as goal
 use Rattle.mau_lists.proofs.segments.least_behind.Goals.{then-is_behind, else-is_behind}
 

@@ -1,7 +1,8 @@
 use Rattle.std.proofs.Common.{◌≡◌, ◌≤◌, drop}
 use Rattle.mau_lists.specs.Terms.{by_tree}
 use Rattle.mau_lists.specs.Following.{next_part, least_of, cut, FitsIn}
-use Rattle.mau_lists.specs.Fronts.{ShareFront, BeginsAs}
+use Rattle.mau_lists.specs.Fronts.{ShareFront}
+use Rattle.mau_lists.proofs.SharedFronts.{BeginsAs}
 use Rattle.mau_lists.proofs.segments.least_behind.Given as goal
 
 abbrev pub invariant-loop-i : goal.invariant-loop-i

@@ -1,7 +1,8 @@
 use Rattle.mau_signature.specs.Signature.{theory_at}
 use Rattle.mau_store.specs.View.{numbers}
 use Rattle.mau_canon.specs.Within.{StandsWithin}
-use Rattle.mau_parts.proofs.Adding.{IfOk-then, IfSome-then, all_of_part}
+use Rattle.mau_canon.proofs.Collected.{IfOk-then}
+use Rattle.mau_parts.proofs.Adding.{IfSome-then, all_of_part}
 use Rattle.mau_parts.proofs.long.next_long.Goals as goal
 
 pub returns-in-Inside-clause-stand : goal.returns-in-Inside-clause-stand

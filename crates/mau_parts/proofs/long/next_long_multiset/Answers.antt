@@ -6,11 +6,12 @@ use Rattle.mau_store.specs.Trees.{trees_at}
 use Rattle.mau_store.specs.View.{numbers}
 use Rattle.mau_canon.specs.Within.{StandsWithin, StandWithin}
 use Rattle.mau_canon.proofs.Standing.{stand_there}
+use Rattle.mau_canon.proofs.Collected.{IfOk-then}
 use Rattle.mau_lists.specs.Lists.{IsSubList, IsNextOrEnd}
 use Rattle.mau_lists.specs.Terms.{IsBefore}
 use Rattle.mau_parts.specs.Lists.{IsLong}
 use Rattle.mau_parts.specs.Stored.{list_in}
-use Rattle.mau_parts.proofs.Adding.{IfOk-then, IfSome-then, all_of_sub_list}
+use Rattle.mau_parts.proofs.Adding.{IfSome-then, all_of_sub_list}
 use Rattle.mau_parts.proofs.ReachIds.{all_permuted}
 use Rattle.mau_parts.proofs.long.next_long_multiset.Goals as goal
 

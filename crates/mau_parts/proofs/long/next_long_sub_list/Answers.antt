@@ -3,9 +3,10 @@ use Rattle.mau_store.specs.Node.{IsOf}
 use Rattle.mau_store.specs.Trees.{trees_at}
 use Rattle.mau_store.specs.View.{numbers}
 use Rattle.mau_lists.specs.Lists.{IsSubList}
-use Rattle.mau_parts.proofs.Adding.{IfOk-then, IfSome-then, all_of_sub_list}
+use Rattle.mau_parts.proofs.Adding.{IfSome-then, all_of_sub_list}
 use Rattle.mau_parts.proofs.LongerIds.{found_start, found_sub_list}
 use Rattle.mau_parts.proofs.long.next_long_sub_list.Goals as goal
+use Rattle.mau_canon.proofs.Collected.{IfOk-then}
 
 pub sub_list_behind-requires-clause-last : goal.sub_list_behind-requires-clause-last
 sub_list_behind-requires-clause-last c =

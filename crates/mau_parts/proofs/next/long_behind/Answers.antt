@@ -7,9 +7,9 @@ use Rattle.mau_lists.specs.Terms.{IsBefore}
 use Rattle.mau_api.specs.Places.{operator_number}
 use Rattle.mau_parts.specs.Stored.{reach_of, tree_in, list_in}
 use Rattle.mau_parts.specs.Lists.{IsLongIn}
-use Rattle.mau_parts.proofs.Adding.{IfOk-then}
 use Rattle.mau_parts.proofs.ListValues.{least_long, none_long}
 use Rattle.mau_parts.proofs.next.long_behind.Goals as goal
+use Rattle.mau_canon.proofs.Collected.{IfOk-then}
 
 pub returns-in-Some-clause-next : goal.returns-in-Some-clause-next
 returns-in-Some-clause-next c =

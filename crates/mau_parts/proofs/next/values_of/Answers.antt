@@ -8,9 +8,9 @@ use Rattle.mau_parts.specs.Values.{IsValueOf, by_key}
 use Rattle.mau_parts.specs.Nearest.{HoldsNext}
 use Rattle.mau_parts.specs.Stored.{reach_of, part_in, tree_in, IsListOperator, AreItems, IsPartOver}
 use Rattle.mau_parts.specs.Lists.{whole_of}
-use Rattle.mau_parts.proofs.Adding.{IfOk-then}
 use Rattle.mau_parts.proofs.ListValues.{whole_holds}
 use Rattle.mau_parts.proofs.next.values_of.Goals as goal
+use Rattle.mau_canon.proofs.Collected.{IfOk-then}
 
 pub returns-in-Whole-clause-next : goal.returns-in-Whole-clause-next
 returns-in-Whole-clause-next c =

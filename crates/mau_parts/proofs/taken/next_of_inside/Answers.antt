@@ -4,11 +4,12 @@ use Rattle.mau_signature.specs.Signature.{theory_at, terms_over}
 use Rattle.mau_store.specs.Trees.{tree_at}
 use Rattle.mau_store.proofs.Standing.{tree_at-extends}
 use Rattle.mau_canon.proofs.Standing.{stands_within_extended}
+use Rattle.mau_canon.proofs.Collected.{IfOk-then}
 use Rattle.mau_parts.specs.Search.{IsLeastOrNone}
 use Rattle.mau_parts.specs.Values.{IsValueOf, by_key}
 use Rattle.mau_parts.specs.Stored.{part_in, tree_in}
 use Rattle.mau_parts.specs.Taken.{inside_part, is_tree}
-use Rattle.mau_parts.proofs.Adding.{IfOk-then, IfOk-both}
+use Rattle.mau_parts.proofs.Adding.{IfOk-both}
 use Rattle.mau_parts.proofs.Least.{Given}
 use Rattle.mau_parts.proofs.StoredValues.{part_stays, part_same, has_operator, given_some, given_in}
 use Rattle.mau_parts.proofs.TakenValues.{taken_first, taken_second}

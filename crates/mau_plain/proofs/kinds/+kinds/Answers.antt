@@ -9,9 +9,9 @@ use Rattle.mau_poset.specs.Order.{kind_of as kind_of_sort}
 use Rattle.mau_signature.specs.Signature.{SignatureOf, IsOperator, terms_over, theory_at}
 use Rattle.mau_store.specs.Trees.{tree_at, trees_at}
 use Rattle.mau_store.specs.View.{numbers}
+use Rattle.mau_store.proofs.Depths.{depth-node}
 use Rattle.mau_canon.proofs.Standing.{stand_at, arguments_stand_within}
 use Rattle.mau_terms.proofs.Taken.{one_kind}
-use Rattle.mau_api.proofs.Depths.{node_depth}
 use Rattle.mau_plain.proofs.OfKind.{take_whole, number_depth, all_more, all_at, bare_more, bare_at, as_many, bare_operator, bare_arguments, arguments_bare}
 use Rattle.mau_plain.proofs.kinds.+kinds.Goals as goal
 
@@ -32,7 +32,7 @@ pub kind_of-are_arguments-requires : goal.kind_of-are_arguments-requires
 kind_of-are_arguments-requires t c =
     let ts = trees_at c.args.store.now (numbers c.in-App.args.now) in
     let e : tree_at c.args.store.now c.args.id.0 ≡ node c.in-App.op.0 ts = c.in-App.ensures.tree in (
-      omega (arith, ap depth e, node_depth c.in-App.op.0 ts),
+      omega (arith, ap depth e, depth-node c.in-App.op.0 ts),
       (c.is_operator.ensures.value.0 (search rules), arguments_stand_within (theory_at c.args.sig.now) c.is_operator.ensures.lawful.theories c.args.store.now c.in-App.ensures.nodes c.args.id.0 _ c.in-App.ensures.node c.requires),
     )
 
@@ -63,7 +63,7 @@ kind_of-returns-else-not-are_arguments-clause-some t c =
     let e : tree_at c.args.store.now c.args.id.0 ≡ node f ts = c.in-App.ensures.tree in
     let normal = subst (λ u. norm th u ≡ u) e c.requires.normal in
     subst (λ u. IsBareIn (terms_over s) (reading th u) c.result_kind.result) (sym e)
-    (subst (IsBareIn (terms_over s) (reading th (node f ts))) (sym c.result_kind.ensures)
+    (subst (IsBareIn (terms_over s) (reading th (node f ts))) (sym c.result_kind.ensures.value)
     (arguments_bare s c.is_operator.ensures.lawful f ts normal (has_operator s f (c.is_operator.ensures.value.0 (search rules))) (c.are_arguments.ensures.0 (search rules))))
 
 -- ---- lists

@@ -1,5 +1,6 @@
-use Rattle.std.proofs.Common.{◌≡◌, subst, sym, ap, ◌∙◌}
+use Rattle.std.proofs.Common.{◌≡◌, ◌≤◌, subst, sym, ap, ◌∙◌}
 use Rattle.mau_poset.specs.Order.{kind_of}
+use Rattle.mau_poset.proofs.Orders.{kind_of-above}
 use Rattle.mau_signature.specs.Signature.{declarations_at, result_of}
 use Rattle.mau_sorts.specs.SortSets.{AreApart, AreSorts}
 use Rattle.mau_sorts.specs.Derived.{AllIn, sets, AddsResult}
@@ -26,3 +27,9 @@ pub returns-clause-exact : goal.returns-clause-exact
 returns-clause-exact c r =
     results_exact c.args.sig.now c.args.op.0 c.declarations-decl-items.result.now c.loop-decl.decl-index (AllIn c.args.sig.now.hierarchy (sets c.args.args.now))
     c.loop-decl.minimal.items c.result_kind.result c.loop-decl-test.false c.declarations-decl-items.ensures.value c.result_kind.ensures.value c.loop-decl.invariant r
+
+pub returns-clause-over : goal.returns-clause-over
+returns-clause-over c =
+    let h = c.args.sig.now.hierarchy in
+    let above : h.sorts ≤ c.result_kind.result = subst (λ k. h.sorts ≤ k) c.result_kind.ensures.own (kind_of-above h c.result_kind.result) in
+    record { minimal = c.loop-decl.invariant.sorts; kind = (above, c.result_kind.ensures.kind) }

@@ -1,5 +1,5 @@
 use Rattle.std.proofs.Common.{arith}
-use Rattle.mau_statement.proofs.Sizes.{size_of_node, size_of_first, size_of_rest}
+use Rattle.mau_terms.proofs.Sizes.{size_of_node, size_of_first, size_of_rest}
 use Rattle.mau_statement.proofs.binding.+add.Goals as goal
 
 pub add_variables-add_all_variables-requires : goal.add_variables-add_all_variables-requires

@@ -1,5 +1,5 @@
 use Rattle.mau_terms.specs.View.{tree_of}
-use Rattle.mau_statement.proofs.Sizes.{size, sizes_of}
+use Rattle.mau_terms.proofs.Sizes.{size, sizes_of}
 use Rattle.mau_statement.proofs.binding.+add.Given as goal
 
 abbrev pub decreases-add_variables : goal.decreases-add_variables

@@ -1,5 +1,5 @@
 use Rattle.std.proofs.Common.{arith}
-use Rattle.mau_statement.proofs.Sizes.{size_of_node, size_of_first, size_of_rest}
+use Rattle.mau_terms.proofs.Sizes.{size_of_node, size_of_first, size_of_rest}
 use Rattle.mau_statement.proofs.binding.+only.Goals as goal
 
 pub has_only-have_only-requires : goal.has_only-have_only-requires

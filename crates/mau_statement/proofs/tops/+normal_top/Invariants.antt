@@ -1,5 +1,5 @@
 use Rattle.mau_terms.specs.View.{tree_of}
-use Rattle.mau_statement.proofs.Sizes.{size}
+use Rattle.mau_terms.proofs.Sizes.{size}
 use Rattle.mau_statement.proofs.tops.+normal_top.Given as goal
 
 abbrev pub decreases-normal_top : goal.decreases-normal_top

@@ -8,4 +8,4 @@ pub returns : goal.returns
 returns c h =
     let s = terms_over c.args.sig.now in
     let same : c.kind.result ≡ c.result_kind.result = search (rules, tests) in
-    subst (IsBareIn s (tree_of c.args.term.now)) (same ∙ c.result_kind.ensures) c.kind.ensures.value
+    subst (IsBareIn s (tree_of c.args.term.now)) (same ∙ c.result_kind.ensures.value) c.kind.ensures.value
