@@ -1,5 +1,6 @@
 -- The native operators on numbers: their names, what they compute, and what their answers stand for.
-use Rattle.std.specs.Prelude.{ℕ, List, true, false, codes}
+use Rattle.std.specs.Prelude.{ℕ, List, [], ◌∷◌, true, false, map, codes}
+use Rattle.mau_formula.specs.Operator.{Operator}
 use Rattle.mau_formula.specs.Expr.{Expr, arg, lit, add, mul, monus, quo, rem, gcd, min_of, max_of, pow, if_less}
 use Rattle.mau_formula.specs.declared.formula.Gives.{Gives}
 use Rattle.mau_formula.specs.declared.formula.Gives.TheVariants.{Nat, Bool}
@@ -49,3 +50,10 @@ gives_of LessOrEqual = Bool
 gives_of Greater = Bool
 gives_of GreaterOrEqual = Bool
 gives_of _ = Nat
+
+-- all thirteen, and each of them as an operator
+abbrev pub natives : List Native
+natives = Sum ∷ Product ∷ Difference ∷ Quotient ∷ Remainder ∷ Power ∷ GreatestCommonDivisor ∷ Minimum ∷ Maximum ∷ Less ∷ LessOrEqual ∷ Greater ∷ GreaterOrEqual ∷ []
+
+abbrev pub native_operator : Native → Operator
+native_operator n = record { name = name_of n; formula = formula_of n; gives = gives_of n }

@@ -1,7 +1,8 @@
 //! A run with the native operators of the program.
-ghost use Rattle.std.specs.Prelude.{◌≡◌, ◌↔◌, ◌⊎◌, true, false, IfOk, OnErr};
+ghost use Rattle.std.specs.Prelude.{◌≡◌, ◌↔◌, ◌⊎◌, true, false, map, IfOk, OnErr};
 ghost use Rattle.mau_formula.specs.Expr.{value};
-ghost use Rattle.mau_formula.specs.Native.{formula_of};
+ghost use Rattle.mau_formula.specs.Native.{formula_of, native_operator, natives};
+ghost use Rattle.mau_formula.specs.Operators.{operators};
 ghost use Rattle.mau_session.specs.Meanings.{has_meaning};
 ghost use Rattle.mau_session.specs.Run.{IsAnswered, IsCut};
 
@@ -10,6 +11,11 @@ use mau_formula::{Hook, HookAnswer, HookTable, Native};
 use mau_session::{Status, run};
 use mau_terms::{NoMemory, Text};
 use std::alloc::Global;
+
+/// Asserts that a table has all native operators on numbers, in their order, and no other.
+fn assert_all(_hooks: &HookTable)
+    requires { operators _hooks.now ≡ map native_operator natives }
+{}
 
 /// Runs with all native operators on numbers, each a closure beside the formula that it computes. The status tells what was read and written,
 /// as that of `run` does. Where memory is wanting for the operators, nothing is read or written.
@@ -39,5 +45,6 @@ pub fn run_with_hooks<S: Source, K: Sink>(
             return Err(NoMemory);
         }
     }
+    assert_all(&hooks);
     Ok(run(alloc, &hooks, words, source, sink))
 }
