@@ -1,5 +1,5 @@
 -- Widened patterns as the code has them.
-use Rattle.std.specs.Prelude.{◌≡◌, ◌≢◌, ◌⊎◌, ℕ, List, All, length, Option, None, Some, Bool}
+use Rattle.std.specs.Prelude.{◌≡◌, ◌≢◌, ◌⊎◌, ◌<◌, ◌+◌, ◌^◌, ℕ, List, All, length, Option, None, Some, Bool}
 use Rattle.std.specs.declared.cmp.Ordering.{Ordering}
 use Rattle.std.specs.declared.cmp.Ordering.TheVariants.{Less}
 use Rattle.mau_terms.specs.Tree.{Tree}
@@ -28,6 +28,10 @@ use Rattle.mau_extend.specs.Widened.{widened, as_term, CanBeWidened, CanBeArgume
 pub record IsUnused (ps : List Place) (bound : List (VarId × TermId)) (i : ℕ) : Type 0 where
   pub in_pattern : All (λ p. p.variable.index ≢ i) ps
   pub beforehand : All (λ b. b.0.index ≢ i) bound
+
+-- no two indexes below 2^32 - 1 are unused
+abbrev pub AreUsedUp : List Place → List (VarId × TermId) → Type 0
+AreUsedUp ps bound = (i j : ℕ) → i < j → j + 1 < 2 ^ 32 → IsUnused ps bound i → IsUnused ps bound j → ⊥
 
 -- the pattern of the question can be widened so, with variables of the operator's kind
 pub record IsShapeOf (s : SignatureOf) (q : Question) (w : Shape) : Type 0 where

@@ -1,13 +1,14 @@
 //! Variables that neither a pattern nor the values beforehand have.
-ghost use Rattle.std.specs.Prelude.{◌≡◌, ◌<◌, ◌≤◌, ◌+◌, ◌^◌, false, IfSome};
-ghost use Rattle.mau_extend.specs.Extended.{IsUnused};
+ghost use Rattle.std.specs.Prelude.{◌≡◌, ◌<◌, ◌≤◌, ◌+◌, ◌^◌, ℕ, false, true, IfSome, None};
+ghost use Rattle.mau_extend.specs.Extended.{IsUnused, AreUsedUp};
 
 use mau_api::Place;
 use mau_terms::{TermId, VarId};
 
 /// Whether a variable with this index is among those of the places, or has a value beforehand.
 fn is_used(places: &[Place], bound: &[(VarId, TermId)], index: u32) -> bool
-    ensures { result ≡ false → IsUnused places.now bound.now index }
+    ensures unused { result ≡ false → IsUnused places.now bound.now index }
+    ensures used { result ≡ true → IsUnused places.now bound.now index → ⊥ }
 {
     if places.iter().any(|place| place.variable.index == index) {
         return true;
@@ -19,7 +20,9 @@ fn is_used(places: &[Place], bound: &[(VarId, TermId)], index: u32) -> bool
 fn free_index(places: &[Place], bound: &[(VarId, TermId)], from: u32) -> Option<u32>
     ensures unused { IfSome result (λ i. IsUnused places.now bound.now i) }
     ensures from { IfSome result (λ i. from ≤ i) }
+    ensures first { IfSome result (λ i. (k : ℕ) → from ≤ k → k < i → IsUnused places.now bound.now k → ⊥) }
     ensures small { IfSome result (λ i. i + 1 < 2 ^ 32) }
+    ensures none { result ≡ None → (i : ℕ) → from ≤ i → i + 1 < 2 ^ 32 → IsUnused places.now bound.now i → ⊥ }
 {
     for index in from..u32::MAX {
         if !is_used(places, bound, index) {
@@ -29,7 +32,8 @@ fn free_index(places: &[Place], bound: &[(VarId, TermId)], from: u32) -> Option<
     None
 }
 
-/// Two variables of a sort that are not used, the second with the greater index. There are none only where nearly all indexes are used.
+/// Two variables of a sort that are not used, the second with the greater index. There are none only where all indexes below
+/// 2^32 - 1 but one are used.
 pub fn free_variables(
     places: &[Place],
     bound: &[(VarId, TermId)],
@@ -40,6 +44,7 @@ pub fn free_variables(
     ensures last { IfSome result (λ p. IsUnused places.now bound.now p.1.index) }
     ensures apart { IfSome result (λ p. p.0.index < p.1.index) }
     ensures small { IfSome result (λ p. p.1.index < 2 ^ 32) }
+    ensures none { result ≡ None → AreUsedUp places.now bound.now }
 {
     let first = free_index(places, bound, 0)?;
     let last = free_index(places, bound, first + 1)?;

@@ -1,5 +1,5 @@
 //! Patterns that are widened by variables for their contexts.
-ghost use Rattle.std.specs.Prelude.{◌≡◌, List, Some, true, false, IfOk};
+ghost use Rattle.std.specs.Prelude.{◌≡◌, List, Some, true, false, IfOk, OnErr};
 ghost use Rattle.mau_terms.specs.Axioms.{binary};
 ghost use Rattle.mau_terms.specs.Norm.{norm};
 ghost use Rattle.mau_terms.specs.Bare.{IsBare};
@@ -9,7 +9,7 @@ ghost use Rattle.mau_signature.specs.Signature.{IsOperator, terms_over, theory_a
 ghost use Rattle.mau_store.specs.Node.{Node};
 ghost use Rattle.mau_api.specs.Asked.{question_in};
 ghost use Rattle.mau_plain.specs.Tried.{ArePlacesOf, asked_in};
-ghost use Rattle.mau_extend.specs.Extended.{IsShapeOf, shaped};
+ghost use Rattle.mau_extend.specs.Extended.{AreUsedUp, IsShapeOf, shaped};
 
 use crate::fresh::free_variables;
 use mau_api::Place;
@@ -28,7 +28,8 @@ pub struct Shape {
     pub last: VarId,
 }
 
-/// A shape for a pattern, with variables that it does not have. Out of memory stands for a pattern that has nearly all variables.
+/// A shape for a pattern, with variables that it does not have. Out of memory stands for a pattern that has nearly all variables:
+/// of the indexes below 2^32 - 1 one at most is unused.
 pub fn shape_of(
     sig: &Signature,
     trial: &Trial,
@@ -42,6 +43,7 @@ pub fn shape_of(
     requires top { assoc_top (theory_at sig.now) (norm (theory_at sig.now) (tree_of trial.now.pattern)) ≡ Some op.0 }
     requires places { ArePlacesOf sig.now (tree_of trial.now.pattern) places.now }
     requires alone { (theory_at sig.now op.0).comm ≡ true → left ≡ false }
+    ensures used_up { OnErr result (AreUsedUp places.now trial.now.bound.items) }
     ensures same { IfOk result (λ w. (w.op ≡ op) × (w.left ≡ left) × (w.right ≡ right)) }
     ensures shape { IfOk result (λ w. (nodes : List Node) → IsShapeOf sig.now (question_in nodes (asked_in trial.now)) w) }
 {

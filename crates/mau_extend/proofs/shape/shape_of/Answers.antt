@@ -1,12 +1,16 @@
-use Rattle.std.proofs.Common.{◌≡◌, ◌+◌, List, true, sym, ◌∙◌, arith, subst, lt-ltb}
+use Rattle.std.proofs.Common.{◌≡◌, ◌+◌, List, true, refl, sym, ◌∙◌, arith, subst, lt-ltb}
 use Rattle.mau_poset.specs.Order.{kinds}
 use Rattle.mau_signature.specs.Signature.{terms_over}
 use Rattle.mau_plain.specs.Tried.{asked_in}
 use Rattle.mau_terms.specs.declared.ids.TermId.{TermId}
 use Rattle.mau_terms.specs.declared.ids.VarId.{VarId}
-use Rattle.mau_extend.specs.Extended.{IsUnused}
+use Rattle.mau_extend.specs.Extended.{IsUnused, AreUsedUp}
 use Rattle.mau_extend.proofs.Unused.{other_index, unused_is_fresh}
 use Rattle.mau_extend.proofs.shape.shape_of.Goals as goal
+
+pub returns-in_default-clause-used_up : goal.returns-in_default-clause-used_up
+returns-in_default-clause-used_up c =
+    subst (λ (bs : List (VarId × TermId)). AreUsedUp c.args.places.now bs) c.deref.ensures.value (c.in_default.ensures.none refl)
 
 pub returns-clause-shape : goal.returns-clause-shape
 returns-clause-shape c = λ nodes.
