@@ -258,5 +258,6 @@ def module_text(own, pairs, declarations, with_nat=False):
 
 def difference(program, text, wanted):
     """The transcript of a text beside the lines that are wanted, or nothing where it has just these."""
-    got = subprocess.run([program, "run"], input=text.encode(), capture_output=True).stdout.decode().rstrip("\n").split("\n")
-    return None if got == wanted else "\n".join([text, *difflib.unified_diff(wanted, got, "oracle", "mrew", lineterm="", n=2)])
+    data = text if isinstance(text, bytes) else text.encode()
+    got = subprocess.run([program, "run"], input=data, capture_output=True).stdout.decode().split("\n")
+    return None if got == [*wanted, ""] else "\n".join([str(text), *difflib.unified_diff(wanted, got, "oracle", "mrew", lineterm="", n=2)])
