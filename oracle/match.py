@@ -124,7 +124,12 @@ def random_module(r):
         args, result = ((main, main), main) if r.random() < 0.6 else ((r.choice(sorts), r.choice(sorts)), r.choice(sorts))
         declarations.append((name, args, result, attrs))
         if r.random() < 0.3:
-            declarations.append((name, (r.choice(sorts), r.choice(sorts)), r.choice(sorts), {}))
+            # (attributes of an operator's declarations are united: some stand with the second one, or with both)
+            later = {word: attrs[word] for word in attrs if r.random() < 0.3}
+            for word in later:
+                if r.random() < 0.5:
+                    del attrs[word]
+            declarations.append((name, (r.choice(sorts), r.choice(sorts)), r.choice(sorts), later))
     if r.random() < 0.6:
         declarations.append((r.choice(["g", "!_", "_?", "<_>"]), (r.choice(sorts),), r.choice(sorts), {}))
     return own, pairs, declarations, with_nat
