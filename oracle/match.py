@@ -14,7 +14,8 @@ import random
 import sys
 
 sys.dont_write_bytecode = True
-from signature import BOOL, NAT, Signature, difference, module_text, numbered
+from modules import random_module, random_term, signature_of, suits
+from signature import difference, module_text, numbered
 
 # ---- solutions
 
@@ -90,80 +91,7 @@ def listed(sig, answer, variables, is_part, begin, bound):
     return out + ["No more matches." if found else "No match."], at, False
 
 
-# ---- random texts
-
-def random_module(r):
-    """Sorts, pairs and declarations of a module beside those of the prelude, and whether it includes NAT; or nothing where an operator doesn't suit its kinds."""
-    with_nat = r.random() < 0.3
-    shape = r.choice(["one sort", "lists", "lists", "any"])
-    own = {"one sort": ["S"], "lists": ["E", "L"], "any": ["A", "B", "C", "D"]}[shape]
-    pairs = [("E", "L")] if shape == "lists" else [(a, b) for a, b in itertools.combinations(own, 2) if shape == "any" and r.random() < 0.4]
-    r.shuffle(own)
-    if with_nat and r.random() < 0.6:
-        pairs.append(("Nat", r.choice([a for a in own if a != "E"])))
-    sorts = own + (["Nat"] if with_nat else [])
-    main = r.choice([a for a in own if not any(a == b for b, _ in pairs)])
-    declarations = [(c, (), r.choice(own), {}) for c in "abc"]
-    if r.random() < 0.2:
-        declarations.append(("a", (), r.choice(own), {}))
-    mixfix = r.random() < 0.6
-    for name, unit in list(zip(["_;_", "_@_", "_&_"] if mixfix else "fhk", ["none", "nil", "unit"]))[: r.choice([1, 2, 2, 3])]:
-        axioms = r.choice(["", "c", "a", "ac", "u", "cu", "au", "acu"])
-        attrs = {word: 1 for word in ("assoc", "comm") if word[0] in axioms}
-        if "u" in axioms:
-            e = r.choice([unit, "b", "c"])
-            attrs["id"] = ((e, ()), ())
-            if e == unit:
-                declarations.append((e, (), main if r.random() < 0.7 else r.choice(own), {}))
-            elif with_nat and r.random() < 0.3:
-                attrs["id"] = 0
-        if mixfix and r.random() < 0.4:
-            attrs["prec"] = r.randrange(20, 60)
-        if mixfix and r.random() < 0.3:
-            attrs["gather"] = r.choice("eE&") + r.choice("eE&")
-        args, result = ((main, main), main) if r.random() < 0.6 else ((r.choice(sorts), r.choice(sorts)), r.choice(sorts))
-        declarations.append((name, args, result, attrs))
-        if r.random() < 0.3:
-            # (attributes of an operator's declarations are united: some stand with the second one, or with both)
-            later = {word: attrs[word] for word in attrs if r.random() < 0.3}
-            for word in later:
-                if r.random() < 0.5:
-                    del attrs[word]
-            declarations.append((name, (r.choice(sorts), r.choice(sorts)), r.choice(sorts), later))
-    if r.random() < 0.6:
-        declarations.append((r.choice(["g", "!_", "_?", "<_>"]), (r.choice(sorts),), r.choice(sorts), {}))
-    return own, pairs, declarations, with_nat
-
-
-def suits(sig):
-    """Whether each operator's kinds and identity suit its axioms."""
-    for op in sig.of:
-        if any(sig.kind[r] != op.result for _, r in op.declared) or op.attrs.get("comm") and len(set(op.kinds)) > 1:
-            return False
-        if (op.attrs.get("assoc") or "id" in op.attrs) and {*op.kinds} != {op.result}:
-            return False
-        e = op.attrs.get("id")
-        if isinstance(e, tuple) and (e[0] not in sig.operators or sig.operators[e[0]].result != op.result) or e == 0 and sig.kind["Zero"] != op.result:
-            return False
-    return True
-
-
-def random_term(sig, r, kind, depth, pool, often):
-    """A random term of a kind; its variables are pairs, as ("v", pair)."""
-    fitting = [pair for pair in pool if sig.kind.get(pair[1], pair[1]) == kind]
-    if fitting and r.random() < often:
-        return ("v", r.choice(fitting))
-    if "Nat" in sig.sorts and kind == sig.kind["Nat"] and r.random() < 0.3:
-        return r.randrange(4)
-    found = [op for op in sig.of if op.result == kind and (depth > 0 or not op.kinds)]
-    if depth > 0 and any(op.kinds for op in found) and r.random() < 0.85:
-        found = [op for op in found if op.kinds]
-    if not found:
-        return None
-    op = r.choice(found)
-    args = tuple(random_term(sig, r, k, depth - 1, pool, often) for k in op.kinds)
-    return None if None in args else (op.key, args)
-
+# ---- random questions
 
 def size(term):
     return 1 if isinstance(term, int) or term[0] == "v" else 1 + sum(map(size, term[1]))
@@ -206,13 +134,11 @@ def random_question(sig, r):
 def compare(number, program):
     """What came of the text with a number: a word, and for one that was answered how many commands and solutions it had; or the two transcripts."""
     r = random.Random(number)
-    own, pairs, declarations, with_nat = random_module(r)
-    before = BOOL + (NAT if with_nat else [])
-    numerals = ["Zero", "NzNat", "Nat"] if with_nat else []
-    sig = Signature(["Bool", *numerals, *own], [("Zero", "Nat"), ("NzNat", "Nat")][: len(numerals)] + pairs, before + declarations)
+    module = random_module(r)
+    sig = signature_of(module)
     if not suits(sig):
         return "unsuited", None
-    text, wanted, item, shown = module_text(own, pairs, declarations, with_nat), ["[1] module M"], 1, 0
+    text, wanted, item, shown = module_text(*module), ["[1] module M"], 1, 0
     refusal = sig.refusal()
     if refusal:
         wanted = [f"[1] refused: {refusal}"]
@@ -224,7 +150,7 @@ def compare(number, program):
         pattern, subject = (numbered(it, variables) for it in question)
         answer = solutions(sig, pattern, subject, variables, is_part)
         source = [sig.source(it, variables) for it in (pattern, subject)]
-        if answer is None or len([op for op in sig.of if op.name == "a"]) > 1 and "a" in source:
+        if answer is None:
             continue
         shown += len(answer[2])
         command, bound = "xmatch" if is_part else "match", r.choice([None, None, 1, 2, 3])

@@ -79,7 +79,7 @@ def random_module(r):
     """Sorts and declarations of a module."""
     sorts = r.choice([["S"], ["S", "T"]])
     forms = r.sample(["_+_", "_*_", "!_", "_?", "__", "<_>", "if_then_else_", "_at_", "f", "_:_:_", "let_in_", "p q"], r.choice([2, 3, 4]))
-    constants = [*"abc", *[c for c in ("a", "d e") if r.random() < 0.2]]
+    constants = [*"abc", *(["d e"] if r.random() < 0.2 else [])]
     out = [(c, (), r.choice(sorts), {}) for c in constants]
     for form in forms:
         count = pieces(form).count("_") or 2

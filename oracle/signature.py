@@ -185,7 +185,7 @@ class Signature:
         if term[0] == "v":
             return self.variable(variables[term[1]])
         if not term[1]:
-            return f"({self.op(term).name}).{term[0][2]}" if len(term[0]) > 2 else self.op(term).name
+            return self.op(term).name
         return f"{self.op(term).name}({', '.join(self.source(x, variables) for x in term[1])})"
 
     def layout(self, op):
@@ -212,8 +212,7 @@ class Signature:
             return self.variable(variables[term[1]]), 0
         op, args = self.op(term), term[1]
         if not args:
-            alike = [it for it in self.of if it.name == op.name and not it.kinds]
-            return (f"({op.name}).{self.members(op.result)[0]}" if len(alike) > 1 else op.name), 0
+            return op.name, 0
         if "_" not in op.name:
             return f"{op.name}({', '.join(self.shown(x, variables)[0] for x in args)})", 0
         if len(args) > len(op.kinds):
