@@ -8,6 +8,7 @@ it and gives its operators further axioms. Each is accepted, or refused with its
 includes, or of its own ones in their order. Terms are in prefix form.
 """
 import random
+import re
 import sys
 
 sys.dont_write_bytecode = True
@@ -122,7 +123,8 @@ def random_statement(sig, r):
     keyword, kind = r.choice(["eq", "eq", "mb", "rl"]), any_kind()
     left = make(kind, 0.6 if r.random() < 0.8 else 0.9)
     usual = lambda k: k if r.random() < 0.95 else any_kind()
-    right = r.choice([a for a in sig.sorts if sig.kind[a] == usual(kind)] or sig.sorts) if keyword == "mb" else make(usual(kind), 0.3)
+    asked = usual(kind)
+    right = r.choice([a for a in sig.sorts if sig.kind[a] == asked]) if keyword == "mb" else make(asked, 0.3)
     fragments = []
     for _ in range(r.choice([0, 0, 0, 1, 2])):
         way, k = r.choice(["=", ":=", ":", "Bool", *(["=>"] if keyword == "rl" else [])]), any_kind()
@@ -169,8 +171,7 @@ def compare(number, program):
             fault = "MembershipHead 0"
         answers.append("[2] refused: " + fault if fault else "[2] module N")
     other = difference(program, text, answers)
-    words = [next((word for word in it.split() if word[-1].islower() and word not in ("refused:", "of")), it) for it in answers]
-    return (["different"], other) if other else (words, None)
+    return (["different"], other) if other else ([re.search(r"\b(module|[A-Z]\w{3,})", it)[0] for it in answers], None)
 
 
 def main():
