@@ -1,0 +1,157 @@
+#!/usr/bin/env python3
+"""Compares how `mrew run` keeps its state between items with a plain reading of the specification, written apart from the code and its proofs.
+
+usage: oracle/sessions.py PROGRAM FIRST LAST
+
+For each number from FIRST on and below LAST it makes a text of small modules, some at fault and some of an earlier name, which include
+each other, of listings with and without bounds, and of continue, select and settings. What matters is the state: the accepted modules,
+the current one, what continue goes on with, and the exit status.
+"""
+import random
+import subprocess
+import sys
+
+sys.dont_write_bytecode = True
+from signature import difference
+
+NAMES = ["A", "B", "C", "BOOL", "NAT"]
+BOUNDS = [None, None, 1, 1, 1, 1, 2, 2, 3, 0, 10**12, 10**12 + 1, 10**40]
+
+
+class Module:
+    """A module with constants over one sort, its own and those of its imports; each has the name of its module and its version."""
+
+    def __init__(self, name, constants):
+        self.name, self.constants = name, constants
+
+
+class Session:
+    def __init__(self):
+        self.modules = {name: Module(name, []) for name in ("TRUTH-VALUE", "TRUTH", "BOOL", "NAT")}
+        self.current, self.listing, self.text, self.lines, self.refused = "NAT", None, "", [], False
+
+    def answer(self, text, lines):
+        """An item with its lines, the first without its number."""
+        self.text += text
+        item = self.text.count(" .\n") + self.text.count("endfm\n")
+        self.lines += [f"[{item}] {lines[0]}", *lines[1:]]
+        self.refused |= lines[0].startswith("refused: ")
+
+    def module(self, r, version):
+        """A module of lists over constants; a fault is an unknown import, an unknown sort, or a cycle."""
+        name = r.choice(NAMES)
+        imports = r.sample(sorted({*self.modules, r.choice(NAMES), r.choice(["A", "D"])}), r.choice([0, 0, 1, 1, 2]))
+        unknown = [it for it in imports if it not in self.modules]
+        fault = r.choice(["", "", "", "", "", "", "sort", "cycle"])
+        own = [f"k{version}{c}" for c in "ab"[: r.choice([1, 2])]]
+        text = f"fmod {name} is {''.join(f'{r.choice(MODES)} {it} . ' for it in imports)}sort S . ops {' '.join(own)} : -> S . op nil : -> S . op __ : S S -> S [assoc id: nil] . "
+        begin = len((self.text + text).encode())
+        if fault == "sort":
+            text += "op x : T -> S . "
+            fault = f"UnknownSort {begin + len('op x : ')}"
+        elif fault == "cycle":
+            text += "subsort S < S . "
+            fault = "Cycle S S"
+        fault = f"UnknownModule {unknown[0]}" if unknown else fault
+        if not fault:
+            included = []
+            for it in imports:
+                included += [c for c in self.modules[it].constants if c not in included]
+            self.modules[name], self.current = Module(name, included + own), name
+        # (no full stop of an element ends a line, so the items are counted by their ends)
+        self.answer(text + "endfm\n", [f"refused: {fault}" if fault else f"module {name}"])
+
+    def match(self, r):
+        named, bound = r.choice([None, None, None, None, None, None, *self.modules, *NAMES, "D"]), r.choice(BOUNDS)
+        name = named or self.current
+        head = f"match{'' if bound is None else f' [{bound}]'}{f' in {named} :' if named else ''} "
+        module = self.modules.get(name)
+        # (a constant that was never there has no reading)
+        constants = r.sample(module.constants, min(len(module.constants), r.choice([1, 2, 3]))) if module else []
+        goal = constants or ["none"]
+        pattern, subject = "X:S Y:S", " ".join(goal)
+        text = f"{head}{pattern} <=? {subject} .\n"
+        if not module:
+            lines = [f"refused: UnknownModule {name}"]
+        elif bound is not None and not 1 <= bound <= 10**12:
+            lines = ["refused: BadBound"]
+        elif not constants:
+            lines = [f"refused: NoParse {len((self.text + head).encode())}"]
+        else:
+            self.listing = [module.name, goal, 0]
+            lines = [f"match in {module.name}", *self.listed(bound)]
+        self.answer(text, lines)
+
+    def listed(self, bound):
+        """The next solutions of a list as two lists, by the length of the first."""
+        _, goal, at = self.listing
+        show = lambda items: " ".join(items) or "nil"
+        out, begin = [], at
+        while at <= len(goal) and at - begin != bound:
+            out += [f"Matcher {at + 1}", f"X:S --> {show(goal[:at])}", f"Y:S --> {show(goal[at:])}"]
+            at += 1
+        self.listing = [*self.listing[:2], at]
+        if at - begin == bound:
+            return out + ["Bound reached."]
+        self.listing = None
+        return out + ["No more matches."]
+
+    def go_on(self, r):
+        bound = r.choice(BOUNDS)
+        if bound is not None and not 1 <= bound <= 10**12:
+            lines = ["refused: BadBound"]
+        elif not self.listing:
+            lines = ["refused: NothingToContinue"]
+        else:
+            name = self.listing[0]
+            lines = [f"continue in {name}", *self.listed(bound)]
+        self.answer(f"{r.choice(['continue', 'cont'])}{'' if bound is None else f' {bound}'} .\n", lines)
+
+    def select(self, r):
+        name = r.choice([*self.modules, *NAMES, "D"])
+        if name in self.modules:
+            self.current = name
+        self.answer(f"select {name} .\n", ["ok" if name in self.modules else f"refused: UnknownModule {name}"])
+
+    def other(self, r):
+        text, line = r.choice([("set show stats off", "ok"), ("set print mixfix on", "ok"), ("set trace off", "ok"), ("show modules", f"refused: Unsupported show {len(self.text.encode())}"),
+                               ("reduce in D : a", None), ("foo", f"refused: Unexpected {len(self.text.encode())}")])
+        if line is None:
+            line = f"refused: NotBuilt reduce {len(self.text.encode())}" if "D" in self.modules else "refused: UnknownModule D"
+        self.answer(text + " .\n", [line])
+
+
+MODES = ["protecting", "pr", "extending", "ex", "including", "inc"]
+
+
+def compare(number, program):
+    """The kinds of answers that a text has, or the two transcripts."""
+    r, session = random.Random(number), Session()
+    for version in range(r.randrange(4, 30)):
+        usual = ["go_on"] * 6 if session.listing else ["match"] * 5
+        step = "module" if version < 3 else r.choice(["module", "match", "go_on", "select", "other", *usual])
+        if step == "module":
+            session.module(r, version)
+        else:
+            getattr(session, step)(r)
+    other = difference(program, session.text, session.lines)
+    status = subprocess.run([program, "run"], input=session.text.encode(), capture_output=True).returncode
+    if not other and status != session.refused:
+        other = f"{session.text}\nstatus {status}"
+    return [line.split("] ", 1)[1].split(" in ")[0].split()[0 if "refused" not in line else 1] for line in session.lines if line[0] == "["], other
+
+
+def main():
+    program, first, last = sys.argv[1], int(sys.argv[2]), int(sys.argv[3])
+    came = {}
+    for number in range(first, last):
+        words, other = compare(number, program)
+        for word in ["different"] if other else words:
+            came[word] = came.get(word, 0) + 1
+        if other:
+            print(f"text {number}:\n{other}\n")
+    print(f"texts {last - first}, answers {came}")
+    sys.exit("different" in came)
+
+
+main()
