@@ -1,5 +1,7 @@
 //! A run with the native operators of the program.
-ghost use Rattle.std.specs.Prelude.{◌≡◌, ◌↔◌, ◌⊎◌, true, false, map, IfOk, OnErr};
+ghost use Rattle.std.specs.Prelude.{◌≡◌, ◌≤◌, ◌↔◌, ◌⊎◌, ℕ, List, length, true, false, map, IfOk, OnErr};
+ghost use Rattle.std.specs.Io.KnownBytes.{prepend_known};
+ghost use Rattle.mau_bytes.specs.Faults.{Rose};
 ghost use Rattle.mau_formula.specs.Expr.{value};
 ghost use Rattle.mau_formula.specs.Native.{formula_of, native_operator, natives};
 ghost use Rattle.mau_formula.specs.Operators.{operators};
@@ -17,8 +19,8 @@ fn assert_all(_hooks: &HookTable)
     requires { operators _hooks.now ≡ map native_operator natives }
 {}
 
-/// Runs with all native operators on numbers, each a closure beside the formula that it computes. The status tells what was read and written,
-/// as that of `run` does. Where memory is wanting for the operators, nothing is read or written.
+/// Runs with all native operators on numbers, each a closure beside the formula that it computes. The status tells all that that of `run`
+/// does. Where memory is wanting for the operators, the source and the sink stay as they are.
 pub fn run_with_hooks<S: Source, K: Sink>(
     alloc: Global,
     words: &[Text],
@@ -26,12 +28,21 @@ pub fn run_with_hooks<S: Source, K: Sink>(
     sink: &mut K,
 ) -> Result<Status, NoMemory>
     ensures usage { IfOk result (λ s. (s ≡ Status.Usage) ↔ (has_meaning words.now ≡ false)) }
+    ensures unread { IfOk result (λ s. s ≡ Status.Usage → S.left source.new ≡ S.left source.old) }
+    ensures read_fault { IfOk result (λ s. s ≡ Status.ReadFault → Rose (S.faults source.old) (S.faults source.new)) }
+    ensures write_fault { IfOk result (λ s. s ≡ Status.WriteFault → Rose (K.faults sink.old) (K.faults sink.new)) }
+    ensures taken { IfOk result (λ s. (bytes : List ℕ) × (S.left source.old ≡ prepend_known bytes (S.left source.new)) × (length bytes ≤ 16777217)
+        × ((s ≡ Status.InputTooLong) ↔ (length bytes ≡ 16777217))) }
+    ensures unwritten { IfOk result (λ s. (s ≡ Status.Usage) ⊎ (s ≡ Status.ReadFault) ⊎ (s ≡ Status.NoMemory) ⊎ (s ≡ Status.InputTooLong)
+        → K.written sink.new ≡ K.written sink.old) }
     ensures done { IfOk result (λ s. s ≡ Status.Done → IsAnswered (S.left source.old) (S.left source.new) (K.written sink.old) (K.written sink.new) false) }
     ensures refused { IfOk result (λ s. s ≡ Status.Refused → IsAnswered (S.left source.old) (S.left source.new) (K.written sink.old) (K.written sink.new) true) }
     ensures prefix { IfOk result (λ s. s ≡ Status.WriteFault → IsCut (S.left source.old) (S.left source.new) (K.written sink.old) (K.written sink.new)) }
-    ensures unwritten { IfOk result (λ s. (s ≡ Status.Usage) ⊎ (s ≡ Status.ReadFault) ⊎ (s ≡ Status.NoMemory) ⊎ (s ≡ Status.InputTooLong)
-        → K.written sink.new ≡ K.written sink.old) }
-    ensures untouched { OnErr result ((S.left source.new ≡ S.left source.old) × (K.written sink.new ≡ K.written sink.old)) }
+    ensures complete { IfOk result (λ s. has_meaning words.now ≡ true → (Rose (S.faults source.old) (S.faults source.new) → ⊥)
+        → (Rose (K.faults sink.old) (K.faults sink.new) → ⊥)
+        → ((bytes : List ℕ) → S.left source.old ≡ prepend_known bytes (S.left source.new) → length bytes ≤ 16777216)
+        → (s ≡ Status.Done) ⊎ (s ≡ Status.Refused) ⊎ (s ≡ Status.NoMemory)) }
+    ensures untouched { OnErr result ((source.new ≡ source.old) × (sink.new ≡ sink.old)) }
 {
     let mut hooks = HookTable::new(alloc);
     for native in Native::ALL {

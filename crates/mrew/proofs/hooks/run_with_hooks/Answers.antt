@@ -1,4 +1,4 @@
-use Rattle.std.proofs.Common.{rules, ◌≡◌, ◌++◌, ◌∷◌, [], map, take, get_or, sym, ap, ◌∙◌}
+use Rattle.std.proofs.Common.{rules, ◌≡◌, ◌++◌, ◌∷◌, [], map, get_or, sym, ap, ◌∙◌}
 use Rattle.std.proofs.lemmas.List.{map_more, take_all}
 use Rattle.mau_formula.specs.declared.native.Native.TheVariants.{Sum}
 use Rattle.mau_formula.specs.Native.{native_operator, natives}
