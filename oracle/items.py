@@ -10,7 +10,7 @@ import random
 import sys
 
 sys.dont_write_bytecode = True
-from signature import difference
+from comparing import compare_texts, difference
 
 SEPARATORS, SPECIAL = " \t\r\n\f", "()[]{},"
 UNSUPPORTED = ["load", "in", "view", "fth", "th", "sth", "search", "srewrite", "srew", "unify", "narrow", "omod", "show"]
@@ -101,7 +101,8 @@ def transcript(data):
 def random_text(r):
     """Pieces side by side, most with a separator or a full stop between them."""
     plain = ["a", "b", "ab", "é", "∀x", "`", "``", "`(", "`)", "`,", "*", "**", "-", "--", "\\", "->", "a.b", ".a"]
-    pieces = [*plain, *plain, *SPECIAL, *UNSUPPORTED, "set include", "set extend", "***", "---", "***(", "---(", "***( ( )", ")", '"', '"a"', '"\\"', '""', "***a\n", "---b\n"]
+    signs = ["***", "---", "***(", "---(", "***( ( )", ")", '"', '"a"', '"\\"', '""', "***a\n", "---b\n"]
+    pieces = [*plain, *plain, *SPECIAL, *UNSUPPORTED, "set include", "set extend", *signs]
     rare = ["quit", "q", "eof", "\x80", "\xff", "x" * 1024, "x" * 1025, "é" * 512, "é" * 513, '"' + "y" * 1022 + '"', '"' + "y" * 1023 + '"']
     between = [" ", " ", " ", "\n", "\t", "\r", "\f", "", " . ", " .\n", ".\n"]
     out = []
@@ -112,20 +113,10 @@ def random_text(r):
     return b"".join(out) + r.choice([b"", b" .\n", b"\n"])
 
 
-def main():
-    program, first, last = sys.argv[1], int(sys.argv[2]), int(sys.argv[3])
-    came = {}
-    for number in range(first, last):
-        data = random_text(random.Random(number))
-        wanted = transcript(data)
-        other = difference(program, data, wanted)
-        if other:
-            print(f"text {number}:\n{other}\n")
-        for line in ["different"] if other else wanted:
-            word = line if other else line.split("refused: ")[1].split()[0]
-            came[word] = came.get(word, 0) + 1
-    print(f"texts {last - first}, answers {came}")
-    sys.exit("different" in came)
+def compare(number, program):
+    data = random_text(random.Random(number))
+    wanted = transcript(data)
+    return [line.split("refused: ")[1].split()[0] for line in wanted], difference(program, data, wanted)
 
 
-main()
+compare_texts(compare)

@@ -14,8 +14,9 @@ import random
 import sys
 
 sys.dont_write_bytecode = True
+from comparing import compare_texts, difference
 from modules import random_module, random_term, signature_of, suits
-from signature import difference, module_text, numbered
+from signature import module_text, numbered
 
 # ---- solutions
 
@@ -132,12 +133,11 @@ def random_question(sig, r):
 
 
 def compare(number, program):
-    """What came of the text with a number: a word, and for one that was answered how many commands and solutions it had; or the two transcripts."""
     r = random.Random(number)
     module = random_module(r)
     sig = signature_of(module)
     if not suits(sig):
-        return "unsuited", None
+        return ["unsuited"], None
     text, wanted, item, shown = module_text(*module), ["[1] module M"], 1, 0
     refusal = sig.refusal()
     if refusal:
@@ -164,24 +164,8 @@ def compare(number, program):
             if goes_on:
                 command, bound = "continue", r.choice([None, 1, 2, 5])
                 text += f"continue{f' {bound}' if bound else ''} .\n"
-    other = difference(program, text, wanted)
-    if other:
-        return "different", other
-    return ("refused", None) if refusal else ("answered", (item - 1, shown))
+    had = {"refused": 1} if refusal else {"answered": 1, "commands": item - 1, "solutions": shown}
+    return had, difference(program, text, wanted)
 
 
-def main():
-    program, first, last = sys.argv[1], int(sys.argv[2]), int(sys.argv[3])
-    came, commands, shown = {}, 0, 0
-    for number in range(first, last):
-        word, more = compare(number, program)
-        came[word] = came.get(word, 0) + 1
-        if word == "different":
-            print(f"text {number}:\n{more}\n")
-        if word == "answered":
-            commands, shown = commands + more[0], shown + more[1]
-    print(f"texts {came}, commands {commands}, solutions {shown}")
-    sys.exit("different" in came)
-
-
-main()
+compare_texts(compare)

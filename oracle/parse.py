@@ -13,12 +13,8 @@ import random
 import sys
 
 sys.dont_write_bytecode = True
-from signature import BOOL, Signature, difference, module_text, numbered
-
-
-def pieces(form):
-    """The words of a form, with `_` for its holes."""
-    return form.replace("_", " _ ").split()
+from comparing import compare_texts, difference
+from signature import BOOL, Signature, module_text, numbered, pieces
 
 
 def trees(sig, tokens):
@@ -119,12 +115,11 @@ def random_tokens(sig, r, kind, depth, care):
 
 
 def compare(number, program):
-    """What came of the text with a number: a word, and for each term that was read whether it had no tree, one or several; or the two transcripts."""
     r = random.Random(number)
     sorts, declarations = random_module(r)
     sig = Signature(["Bool", *sorts], [], BOOL + declarations)
     if any(op.attrs.get("assoc") and {*op.kinds} != {op.result} for op in sig.of) or any(sig.kind[x] != op.result for op in sig.of for _, x in op.declared):
-        return "unsuited", []
+        return ["unsuited"], None
     text, wanted, words = module_text(sorts, [], declarations), ["[1] module M"], []
     for item in range(2, 14):
         kind = sig.kind[r.choice(sorts)]
@@ -140,29 +135,14 @@ def compare(number, program):
         text += f"{head}{' '.join(tokens)} .\n"
         found = {term for k, term, _ in trees(sig, tuple(tokens)) if k == kind}
         if len(found) != 1:
-            words.append("ambiguous" if found else "none")
+            words.append("several trees" if found else "no tree")
             wanted.append(f"[{item}] refused: {'Ambiguous' if found else 'NoParse'} {begin}")
             continue
-        words.append("one")
+        words.append("one tree")
         variables = [("V", kind)]
         term = numbered(found.pop(), variables)
         wanted += [f"[{item}] match in M", "Matcher 1", f"V:{kind}] --> {sig.shown(sig.norm(term), variables)[0]}", "No more matches."]
-    other = difference(program, text, wanted)
-    return ("different", [other]) if other else ("answered", words)
+    return words, difference(program, text, wanted)
 
 
-def main():
-    program, first, last = sys.argv[1], int(sys.argv[2]), int(sys.argv[3])
-    came, texts = {}, {}
-    for number in range(first, last):
-        word, more = compare(number, program)
-        came[word] = came.get(word, 0) + 1
-        for it in more if word == "answered" else []:
-            texts[it] = texts.get(it, 0) + 1
-        if word == "different":
-            print(f"text {number}:\n{more[0]}\n")
-    print(f"texts {came}, terms by their trees {texts}")
-    sys.exit("different" in came)
-
-
-main()
+compare_texts(compare)

@@ -8,13 +8,13 @@ each other, of listings with and without bounds, and of continue, select and set
 the current one, what continue goes on with, and the exit status.
 """
 import random
-import subprocess
 import sys
 
 sys.dont_write_bytecode = True
-from signature import difference
+from comparing import compare_texts, difference
 
 NAMES = ["A", "B", "C", "BOOL", "NAT"]
+MODES = ["protecting", "pr", "extending", "ex", "including", "inc"]
 BOUNDS = [None, None, 1, 1, 1, 1, 2, 2, 3, 0, 10**12, 10**12 + 1, 10**40]
 
 
@@ -28,14 +28,14 @@ class Module:
 class Session:
     def __init__(self):
         self.modules = {name: Module(name, []) for name in ("TRUTH-VALUE", "TRUTH", "BOOL", "NAT")}
-        self.current, self.listing, self.text, self.lines, self.refused = "NAT", None, "", [], False
+        self.current, self.listing, self.text, self.lines, self.items, self.words = "NAT", None, "", [], 0, []
 
     def answer(self, text, lines):
         """An item with its lines, the first without its number."""
         self.text += text
-        item = self.text.count(" .\n") + self.text.count("endfm\n")
-        self.lines += [f"[{item}] {lines[0]}", *lines[1:]]
-        self.refused |= lines[0].startswith("refused: ")
+        self.items += 1
+        self.lines += [f"[{self.items}] {lines[0]}", *lines[1:]]
+        self.words.append(lines[0].removeprefix("refused: ").split()[0])
 
     def module(self, r, version):
         """A module of lists over constants; a fault is an unknown import, an unknown sort, or a cycle."""
@@ -44,7 +44,8 @@ class Session:
         unknown = [it for it in imports if it not in self.modules]
         fault = r.choice(["", "", "", "", "", "", "sort", "cycle"])
         own = [f"k{version}{c}" for c in "ab"[: r.choice([1, 2])]]
-        text = f"fmod {name} is {''.join(f'{r.choice(MODES)} {it} . ' for it in imports)}sort S . ops {' '.join(own)} : -> S . op nil : -> S . op __ : S S -> S [assoc id: nil] . "
+        text = f"fmod {name} is {''.join(f'{r.choice(MODES)} {it} . ' for it in imports)}sort S . ops {' '.join(own)} : -> S . "
+        text += "op nil : -> S . op __ : S S -> S [assoc id: nil] . "
         begin = len((self.text + text).encode())
         if fault == "sort":
             text += "op x : T -> S . "
@@ -58,7 +59,6 @@ class Session:
             for it in imports:
                 included += [c for c in self.modules[it].constants if c not in included]
             self.modules[name], self.current = Module(name, included + own), name
-        # (no full stop of an element ends a line, so the items are counted by their ends)
         self.answer(text + "endfm\n", [f"refused: {fault}" if fault else f"module {name}"])
 
     def match(self, r):
@@ -114,18 +114,15 @@ class Session:
         self.answer(f"select {name} .\n", ["ok" if name in self.modules else f"refused: UnknownModule {name}"])
 
     def other(self, r):
-        text, line = r.choice([("set show stats off", "ok"), ("set print mixfix on", "ok"), ("set trace off", "ok"), ("show modules", f"refused: Unsupported show {len(self.text.encode())}"),
-                               ("reduce in D : a", None), ("foo", f"refused: Unexpected {len(self.text.encode())}")])
+        at = len(self.text.encode())
+        text, line = r.choice([("set show stats off", "ok"), ("set print mixfix on", "ok"), ("set trace off", "ok"), ("foo", f"refused: Unexpected {at}"),
+                               ("show modules", f"refused: Unsupported show {at}"), ("reduce in D : a", None)])
         if line is None:
-            line = f"refused: NotBuilt reduce {len(self.text.encode())}" if "D" in self.modules else "refused: UnknownModule D"
+            line = f"refused: NotBuilt reduce {at}" if "D" in self.modules else "refused: UnknownModule D"
         self.answer(text + " .\n", [line])
 
 
-MODES = ["protecting", "pr", "extending", "ex", "including", "inc"]
-
-
 def compare(number, program):
-    """The kinds of answers that a text has, or the two transcripts."""
     r, session = random.Random(number), Session()
     for version in range(r.randrange(4, 30)):
         usual = ["go_on"] * 6 if session.listing else ["match"] * 5
@@ -134,24 +131,7 @@ def compare(number, program):
             session.module(r, version)
         else:
             getattr(session, step)(r)
-    other = difference(program, session.text, session.lines)
-    status = subprocess.run([program, "run"], input=session.text.encode(), capture_output=True).returncode
-    if not other and status != session.refused:
-        other = f"{session.text}\nstatus {status}"
-    return [line.split("] ", 1)[1].split(" in ")[0].split()[0 if "refused" not in line else 1] for line in session.lines if line[0] == "["], other
+    return session.words, difference(program, session.text, session.lines)
 
 
-def main():
-    program, first, last = sys.argv[1], int(sys.argv[2]), int(sys.argv[3])
-    came = {}
-    for number in range(first, last):
-        words, other = compare(number, program)
-        for word in ["different"] if other else words:
-            came[word] = came.get(word, 0) + 1
-        if other:
-            print(f"text {number}:\n{other}\n")
-    print(f"texts {last - first}, answers {came}")
-    sys.exit("different" in came)
-
-
-main()
+compare_texts(compare)

@@ -1,7 +1,5 @@
 """Signatures and terms as the definitions mean them, written apart from the code: sorts, normal forms, their order, their text."""
-import difflib
 import itertools
-import subprocess
 
 # ---- signatures: what the declarations of a module say
 
@@ -9,11 +7,19 @@ BOOL = [("true", (), "Bool", {}), ("false", (), "Bool", {}), ("_and_", ("Bool", 
         ("_or_", ("Bool", "Bool"), "Bool", {"assoc": 1, "comm": 1, "prec": 59}), ("_xor_", ("Bool", "Bool"), "Bool", {"assoc": 1, "comm": 1, "prec": 57}),
         ("not_", ("Bool",), "Bool", {"prec": 53}), ("_implies_", ("Bool", "Bool"), "Bool", {"prec": 61, "gather": "eE"})]
 NAT = [("s_", ("Nat",), "NzNat", {}), ("_+_", ("NzNat", "Nat"), "NzNat", {"assoc": 1, "comm": 1, "prec": 33}), ("_+_", ("Nat", "Nat"), "Nat", {}),
-       ("sd", ("Nat", "Nat"), "Nat", {"comm": 1}), ("_*_", ("NzNat", "NzNat"), "NzNat", {"assoc": 1, "comm": 1, "prec": 31}), ("_*_", ("Nat", "Nat"), "Nat", {})]
+       ("sd", ("Nat", "Nat"), "Nat", {"comm": 1}), ("_*_", ("NzNat", "NzNat"), "NzNat", {"assoc": 1, "comm": 1, "prec": 31}),
+       ("_*_", ("Nat", "Nat"), "Nat", {})]
+
+
+def pieces(form):
+    """The words of a form, with `_` for its holes."""
+    return form.replace("_", " _ ").split()
+
 
 class Operator:
-    def __init__(self, name, number):
-        self.name, self.number, self.declared, self.attrs = name, number, [], {}
+    def __init__(self, key, result, number):
+        self.key, (self.name, self.kinds), self.result, self.number = key, key, result, number
+        self.declared, self.attrs = [], {}
 
 
 class Signature:
@@ -36,8 +42,7 @@ class Signature:
         self.operators = {}
         for name, args, result, attrs in declarations:
             key = name, tuple(self.kind[a] for a in args)
-            op = self.operators.setdefault(key, Operator(name, len(self.operators)))
-            op.key, op.kinds, op.result = key, key[1], self.kind[result]
+            op = self.operators.setdefault(key, Operator(key, self.kind[result], len(self.operators)))
             op.declared.append((args, result))
             op.attrs.update(attrs)
         self.of = list(self.operators.values())
@@ -117,12 +122,12 @@ class Signature:
             return items[0] + 1
         return (key, tuple(items))
 
-    def norm(self, term, values={}):
-        """The normal form of a term with these normal forms for its variables."""
+    def norm(self, term, values=None):
+        """The normal form of a term, with these normal forms for its variables, if they are given."""
         if isinstance(term, int):
             return term
         if term[0] == "v":
-            return values.get(term[1], term)
+            return (values or {}).get(term[1], term)
         return self.over(term[0], [self.norm(x, values) for x in term[1]])
 
     def items(self, key, term):
@@ -190,7 +195,7 @@ class Signature:
 
     def layout(self, op):
         """The precedence and the gather pattern of an operator, given or by default."""
-        words = op.name.replace("_", " _ ").split()
+        words = pieces(op.name)
         ends = [words[0] == "_", words[-1] == "_"]
         default = 0 if not any(ends) else 15 if len(op.kinds) == 1 else 41
         if "gather" in op.attrs:
@@ -217,7 +222,7 @@ class Signature:
             return f"{op.name}({', '.join(self.shown(x, variables)[0] for x in args)})", 0
         if len(args) > len(op.kinds):
             args = (args[0], (term[0], args[1:]))
-        words, (level, gather) = op.name.replace("_", " _ ").split(), self.layout(op)
+        words, (level, gather) = pieces(op.name), self.layout(op)
         rest, admits = list(args), list(gather)
         for at, word in enumerate(words):
             if word == "_":
@@ -253,10 +258,3 @@ def module_text(own, pairs, declarations, with_nat=False):
             words.append(f"gather ({' '.join(attrs['gather'])})")
         out.append(f"op {name} : {' '.join(args)} -> {result}{' [' + ' '.join(words) + ']' if words else ''} .")
     return "\n".join(out + ["endfm", ""])
-
-
-def difference(program, text, wanted):
-    """The transcript of a text beside the lines that are wanted, or nothing where it has just these."""
-    data = text if isinstance(text, bytes) else text.encode()
-    got = subprocess.run([program, "run"], input=data, capture_output=True).stdout.decode().split("\n")
-    return None if got == [*wanted, ""] else "\n".join([str(text), *difflib.unified_diff(wanted, got, "oracle", "mrew", lineterm="", n=2)])

@@ -12,8 +12,9 @@ import re
 import sys
 
 sys.dont_write_bytecode = True
+from comparing import compare_texts, difference
 from modules import random_module, random_term, signature_of, suits
-from signature import BOOL, NAT, Signature, difference, module_text
+from signature import BOOL, NAT, Signature, module_text, numbered
 
 
 def pairs_of(term):
@@ -24,13 +25,8 @@ def pairs_of(term):
 
 
 def top_of(sig, term):
-    """The normal form of a term whose variables are pairs; these compare by their names here, which matters for no fault."""
-    names = sorted(pairs_of(term))
-
-    def numbered(t):
-        return t if isinstance(t, int) else ("v", names.index(t[1])) if t[0] == "v" else (t[0], tuple(map(numbered, t[1])))
-
-    return sig.norm(numbered(term))
+    """The normal form of a term whose variables are pairs."""
+    return sig.norm(numbered(term, []))
 
 
 def kind_of(sig, term):
@@ -61,13 +57,14 @@ class Statement:
         """Adds the statement to a text, and gives its terms in the order in which they are read: place, term, kind that is asked for or nothing."""
         read = []
 
-        def put(it, kind=None, last=False):
+        def put(it, kind=None):
             nonlocal text
             if isinstance(it, str):
                 text += it
             else:
                 read.append((len(text.encode()), it, kind))
-                text += source(sig, it)
+                variables = []
+                text += sig.source(numbered(it, variables), variables)
 
         sign = {"eq": " = ", "mb": " : ", "rl": " => "}[self.keyword]
         put(("c" if self.fragments else "") + self.keyword + " ")
@@ -106,15 +103,6 @@ class Statement:
         return None
 
 
-def source(sig, term):
-    """A term as input, its variables with their sorts."""
-    if isinstance(term, int):
-        return str(term)
-    if term[0] == "v":
-        return sig.variable(term[1])
-    return sig.op(term).name + (f"({', '.join(source(sig, x) for x in term[1])})" if term[1] else "")
-
-
 def random_statement(sig, r):
     kinds = sorted({sig.kind[a] for a in sig.sorts if a != "Bool"})
     pool = [(name, r.choice(sig.sorts) if r.random() < 0.9 else r.choice(kinds)) for name in r.sample("XYZW", r.choice([1, 2, 3]))]
@@ -137,7 +125,6 @@ def random_statement(sig, r):
 
 
 def compare(number, program):
-    """What came of the text with a number: the answers of its two modules, or the two transcripts."""
     r = random.Random(number)
     module = random_module(r)
     own, pairs, declarations, with_nat = module
@@ -170,21 +157,7 @@ def compare(number, program):
         if not fault and any(it.keyword == "mb" and is_no_head(wider, it.left) for it in statements):
             fault = "MembershipHead 0"
         answers.append("[2] refused: " + fault if fault else "[2] module N")
-    other = difference(program, text, answers)
-    return (["different"], other) if other else ([re.search(r"\b(module|[A-Z]\w{3,})", it)[0] for it in answers], None)
+    return [re.search(r"\b(module|[A-Z]\w{3,})", it)[0] for it in answers], difference(program, text, answers)
 
 
-def main():
-    program, first, last = sys.argv[1], int(sys.argv[2]), int(sys.argv[3])
-    came = {}
-    for number in range(first, last):
-        words, other = compare(number, program)
-        for word in words:
-            came[word] = came.get(word, 0) + 1
-        if other:
-            print(f"text {number}:\n{other}\n")
-    print(f"texts {last - first}, answers {came}")
-    sys.exit("different" in came)
-
-
-main()
+compare_texts(compare)
