@@ -1,28 +1,21 @@
--- Lemmas of listings, lowest first.
+-- The proofs of the laws, lowest first, and what crates above use of them.
 
--- stores and tables that grow
-pub mod Growth
--- lists that are compared
-pub mod Compared
--- the variables of a pattern
-pub mod Placed
--- the first solutions
-pub mod Chains
--- the order of solutions, and whole listings
-pub mod Ordered
--- one more entry of a table
-pub mod Entered
--- values of answers can be settled
-pub mod Settleable
--- solutions and answers
-pub mod Answered
--- what values may be
-pub mod Valued
--- what may be an argument, by cases
-pub mod Parts
--- the sorts of what may be a value
-pub mod Readied
--- values under a plain top
-pub mod Depths
--- what is put into a store and settled
-pub mod Stored
+-- the sorts of a program, and what is built in
+pub mod Chained
+pub mod DeclaredSorts
+pub mod BuiltIns
+-- what an evaluator goes by
+pub mod LawfulMeanings
+-- what is told
+pub mod ToldRuns
+-- listings and computed lists of solutions
+pub mod Remaining
+pub mod Bridge
+pub mod Wholes
+pub mod Started
+-- sorts that are known where terms are settled
+pub mod ValuesFit
+pub mod KnownSorts
+pub mod KeepsDerived
+-- computed cases of the definitions
+pub mod Examples

@@ -1,18 +1,25 @@
--- What listings of solutions mean, to be read in this order.
+-- What a user of evaluators and watchers has to read, in this order.
 
--- questions, and what solves them
-pub mod Found
--- solutions by normal forms alone
+-- a program, as the definitions of evaluation see it: the sorts of its signature, what is built in, its statements
+pub mod SortLists
+pub mod BuiltIns
+pub mod Programs
+-- what an evaluator goes by
+pub mod Meanings
+-- terms that may be evaluated, and contexts
+pub mod Terms
+-- what is told: the variables of a statement, events, and the runs that they tell
+pub mod Variables
+pub mod Events
+pub mod Told
+-- what the answers of an evaluator say
 pub mod Answers
--- what values may be
-pub mod Values
--- the next solution, and the first ones
-pub mod Next
--- questions and solutions by the numbers of a store, and the sorts of its terms
-pub mod Asked
--- what is proved of these
-pub mod Laws
--- the variables of a pattern, as the code has them
-pub mod Places
--- what is settled beforehand
-pub mod Prepared
+pub mod Faults
+-- Laws for the crates above: no call's contract cites these files.
+
+-- what the view of a program gives is exact
+pub mod Exact
+-- listings, and computed lists of solutions
+pub mod Remaining
+-- sorts that are known where terms are settled
+pub mod KnownSorts

@@ -1,25 +1,23 @@
-//! Listings of solutions: what solves a pattern and a subject, the trait that each listing implements, and what listings share. Statements of
-//! modules.
+//! What the layers above the listings share: programs, listings, who evaluates over them, and who is told of the steps.
 #![tactic(auto)]
 
+mod evaluator;
 mod first;
 pub mod laws;
-mod lister;
-mod order;
-mod places;
-mod prepared;
-mod settle;
-mod solution;
-mod statements;
+mod results;
+mod step;
+mod watcher;
 
-pub use first::{FirstSolutions, first_solutions};
-pub use lister::{Lister, WholeLister};
-pub use order::{compare_lists, compare_values, value_key_of};
-pub use places::{Place, places_of};
-pub use prepared::{put_identities, settle_store};
-pub use settle::settle_value;
-pub use solution::Solution;
-pub use statements::{Equation, Fragment, Membership, Program, Rule};
-
-#[cfg(test)]
-mod tests;
+pub use evaluator::Evaluator;
+pub use first::{first_derived, solutions_in_value};
+pub use mau_listing::{
+    FirstSolutions, Lister, Solution, WholeLister, compare_lists, compare_values, first_solutions,
+    has_nodes, is_lawful, places_of, put_identities, settle_store, settle_value, value_key_of,
+};
+pub use mau_program::{
+    Assign, Equation, Fragment, Membership, PartUse, Program, Rule, StratDecl, StratDef, Strategy,
+    StrategyForm, TestKind,
+};
+pub use results::{EvalEnd, Reduced};
+pub use step::{Inner, Place, Statement, Step};
+pub use watcher::{StepWatcher, Unwatched};

@@ -21,45 +21,9 @@ use Rattle.mau_terms.proofs.Pieces.{arrange_left, arrange_right}
 use Rattle.mau_terms.proofs.Solutions.{list_of_made}
 use Rattle.mau_terms.proofs.Taken.{are_normal}
 use Rattle.mau_signature.specs.Signature.{SignatureOf, IsOperator, terms_over}
-use Rattle.mau_canon.specs.Within.{is_overflow}
+use Rattle.mau_canon.specs.Judging.{is_overflow}
 use Rattle.mau_canon.proofs.Elements.{all_pieces-more}
 use Rattle.mau_canon.proofs.Overflows.{some-append, hold-trees_of, holds-build, test_fails}
-
--- ---- bare terms
-
--- the arguments of a bare term are bare terms
-pub bare_each : (s : TermSignature) (bs : List Bare) (ks : List ℕ) → AreBareIn s (trees_of (map tree_of bs)) ks → All (λ b. IsBare s (tree_of b)) bs
-bare_each s [] ks b = All-nil (λ x. IsBare s (tree_of x))
-bare_each s (x ∷ bs) [] b = absurd b
-bare_each s (x ∷ bs) (k ∷ ks) b = All-cons (λ y. IsBare s (tree_of y)) x bs (k, b.0) (bare_each s bs ks b.1)
-
-pub is_operator : (s : SignatureOf) (f : ℕ) → (terms_over s).has_operator f ≡ true → IsOperator s f
-is_operator s f e =
-    let both = and_parts (nat_lt 0 f) (nat_le f (length s.declarations)) e in
-    (ltb-true 0 f both.0, leb-true f (length s.declarations) both.1)
-
--- ---- depths
-
-pub bare_node : (b : Bare) (op : OpId) (ts : List Tree) (xs : List Bare) → b ≡ App op ts → map tree_of xs ≡ ts → tree_of b ≡ node op.0 (map tree_of xs)
-bare_node b op ts xs e m = ap tree_of e ∙ ap (node op.0) (sym m)
-
-pub depth_of_node : (b : Bare) (f : ℕ) (xs : List Bare) → tree_of b ≡ node f (map tree_of xs) → depth (tree_of b) ≡ suc (list_depth (map tree_of xs))
-depth_of_node b f xs e = ap depth e ∙ ap suc (depths-trees_of (map tree_of xs))
-
-pub at_most_list : (xs : List Bare) (i : ℕ) (x : Bare) → i < length xs → depth (tree_of (get_or xs i x)) ≤ list_depth (map tree_of xs)
-at_most_list [] i x h = absurd (omega arith)
-at_most_list (y ∷ xs) zero x h = omega arith
-at_most_list (y ∷ xs) (suc i) x h = omega (arith, at_most_list xs i x (omega arith))
-
--- ---- answers
-
-pub IfOk-then : {T E : Type 0} (P Q : T → Type 0) → ((x : T) → P x → Q x) → (r : Result T E) → IfOk r P → IfOk r Q
-IfOk-then P Q h (Ok x) p = h x p
-IfOk-then P Q h (Err e) p = tt
-
-pub OnOk-then : {T E : Type 0} (P Q : Type 0) → (P → Q) → (r : Result T E) → OnOk r P → OnOk r Q
-OnOk-then P Q h (Ok x) p = h p
-OnOk-then P Q h (Err e) p = tt
 
 -- ---- lists
 
@@ -72,7 +36,7 @@ one_more c old ps p mid now before more =
     ∙ arrange_left c (old ++ ps) p
     ∙ ap (arrange c) (append_assoc old ps p)
 
-or_none : (a : Bool) → (a || false) ≡ a
+pub or_none : (a : Bool) → (a || false) ≡ a
 or_none true = refl
 or_none false = refl
 

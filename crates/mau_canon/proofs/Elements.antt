@@ -19,7 +19,8 @@ use Rattle.mau_store.specs.View.{numbers}
 use Rattle.mau_terms.specs.declared.ids.OpId.{OpId}
 use Rattle.mau_terms.specs.declared.ids.TermId.{TermId}
 use Rattle.mau_canon.specs.declared.TheConstants.{MAX_DEPTH}
-use Rattle.mau_canon.specs.Within.{IsWithin, StandsWithin, StandWithin}
+use Rattle.mau_canon.specs.Within.{IsWithin}
+use Rattle.mau_canon.specs.Standing.{StandsWithin, StandWithin}
 
 -- ---- one term
 

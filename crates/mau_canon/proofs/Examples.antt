@@ -5,7 +5,9 @@ use Rattle.mau_terms.specs.Norm.{greatest_numeral}
 use Rattle.mau_terms.specs.declared.theory.Theory.{Theory}
 use Rattle.mau_store.specs.Node.{Node, operator_node}
 use Rattle.mau_canon.specs.declared.fault.BuildFault.TheVariants.{TooDeep, Overflow, NoMemory}
-use Rattle.mau_canon.specs.Within.{IsWithin, IsCause, StandsWithin, IsNumberOf, is_overflow, IsJudged}
+use Rattle.mau_canon.specs.Within.{IsWithin, IsCause}
+use Rattle.mau_canon.specs.Judging.{is_overflow, IsJudged}
+use Rattle.mau_canon.specs.Standing.{StandsWithin, IsNumberOf}
 
 -- the operator 8 is the successor, and no operator has another axiom
 abbrev theory : ℕ → Theory

@@ -15,21 +15,23 @@ use Rattle.mau_store.specs.Trees.{tree_at, StandsFor}
 use Rattle.mau_canon.specs.declared.TheConstants.{MAX_DEPTH}
 use Rattle.mau_canon.specs.declared.fault.BuildFault.{BuildFault}
 use Rattle.mau_canon.specs.declared.fault.BuildFault.TheVariants.{TooDeep, Overflow, NoMemory}
-use Rattle.mau_canon.specs.Within.{StandsWithin, IsCause, IsJudged, is_overflow}
+use Rattle.mau_canon.specs.Standing.{StandsWithin}
+use Rattle.mau_canon.specs.Within.{IsCause}
+use Rattle.mau_canon.specs.Judging.{IsJudged, is_overflow}
 use Rattle.mau_canon.proofs.Elements.{IsFine}
 use Rattle.mau_canon.proofs.Overflows.{some_overflow, holds-build}
 
 -- ---- an operator over normal forms
 
 module _ (th : ℕ → Theory) where
-  norms_fixed : (ts : List Tree) → Each (IsFine th) ts → map (norm th) ts ≡ ts
+  pub norms_fixed : (ts : List Tree) → Each (IsFine th) ts → map (norm th) ts ≡ ts
   norms_fixed [] e = refl
   norms_fixed (t ∷ ts) e = ap₂ (λ v vs. v ∷ vs) (e.0.normal) (norms_fixed ts e.1)
 
   pub norm-fine : (f : ℕ) (ts : List Tree) → Each (IsFine th) ts → norm th (node f ts) ≡ build (th f) f ts
   norm-fine f ts e = norm-node th f ts ∙ ap (build (th f) f) (norms_fixed ts e)
 
-  none_overflows : (ts : List Tree) → Each (IsFine th) ts → some_overflow th ts ≡ false
+  pub none_overflows : (ts : List Tree) → Each (IsFine th) ts → some_overflow th ts ≡ false
   none_overflows [] e = refl
   none_overflows (t ∷ ts) e = ap₂ (λ x y. x || y) e.0.within.no_overflow (none_overflows ts e.1)
 

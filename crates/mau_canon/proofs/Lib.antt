@@ -8,8 +8,12 @@ pub mod Overflows
 pub mod Judged
 -- what is collected from bare terms
 pub mod Collected
--- lists of bare terms
-pub mod BareLists
+-- instances in their contexts
+pub mod Between
+-- normal forms read as bare terms
+pub mod Nesting
+-- what a term within the limits was built of
+pub mod Depths
 -- the laws
 pub mod Standing
 -- values of variables

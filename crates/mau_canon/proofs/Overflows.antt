@@ -9,7 +9,7 @@ use Rattle.mau_terms.specs.declared.theory.Identity.{Identity}
 use Rattle.mau_terms.specs.declared.theory.Identity.TheVariants.{Const, Num}
 use Rattle.mau_terms.proofs.Pieces.{Split, unit, many, one, split, alone_element}
 use Rattle.std.specs.Ordering.{is_gt}
-use Rattle.mau_canon.specs.Within.{is_overflow}
+use Rattle.mau_canon.specs.Judging.{is_overflow}
 
 or_swap : (a b c : Bool) → (a || (b || c)) ≡ (b || (a || c))
 or_swap true true c = refl

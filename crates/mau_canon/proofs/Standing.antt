@@ -23,7 +23,8 @@ use Rattle.mau_store.proofs.Growth.{IsOf-extends}
 use Rattle.mau_store.proofs.Norms.{one_number_where_equal as one_number, arguments_stand_for_norms, StandsForNorm-extends}
 use Rattle.mau_store.proofs.Standing.{tree_of_node, tree_at-extends}
 use Rattle.mau_canon.specs.declared.TheConstants.{MAX_DEPTH}
-use Rattle.mau_canon.specs.Within.{IsWithin, StandsWithin, StandWithin}
+use Rattle.mau_canon.specs.Within.{IsWithin}
+use Rattle.mau_canon.specs.Standing.{StandsWithin, StandWithin}
 use Rattle.mau_canon.specs.Laws.{OneNumberWhereEqual, ListStandsForNested, ArgumentsStandWithin, StandsWithinExtended}
 
 pub one_number_where_equal : OneNumberWhereEqual

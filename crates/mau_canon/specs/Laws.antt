@@ -1,5 +1,5 @@
 -- The laws of built terms. Each is proved: a public function of the module `laws` has it for its contract.
-use Rattle.std.specs.Prelude.{◌≡◌, ◌↔◌, ℕ, List, Some, map, slice_get}
+use Rattle.std.specs.Prelude.{◌≡◌, ◌↔◌, ℕ, List, All, Some, map, slice_get}
 use Rattle.mau_terms.specs.Tree.{Tree, node}
 use Rattle.mau_terms.specs.Norm.{norm}
 use Rattle.mau_terms.specs.Reading.{nest}
@@ -8,7 +8,8 @@ use Rattle.mau_terms.specs.Bare.{TermSignature, IsBare, EqualModulo, IsLawful}
 use Rattle.mau_terms.specs.declared.theory.Theory.{Theory}
 use Rattle.mau_store.specs.Node.{Node, arguments, IsOf, AreNodes, Extends}
 use Rattle.mau_store.specs.Trees.{StandsFor}
-use Rattle.mau_canon.specs.Within.{StandsWithin, StandWithin}
+use Rattle.mau_canon.specs.Within.{IsWithin}
+use Rattle.mau_canon.specs.Standing.{StandsWithin, StandWithin}
 
 -- ---- equal terms
 
@@ -35,6 +36,12 @@ abbrev pub ArgumentsStandWithin : Type 0
 ArgumentsStandWithin =
     (th : ℕ → Theory) → AreLawful th → (nodes : List Node) → AreNodes nodes → (i : ℕ) (n : Node) → slice_get nodes i ≡ Some n →
     StandsWithin th nodes i → StandWithin th nodes (arguments n)
+
+-- what is within the limits was built of normal forms within the limits
+abbrev pub ArgumentsAreWithin : Type 0
+ArgumentsAreWithin =
+    (th : ℕ → Theory) → AreLawful th → (f : ℕ) (ts : List Tree) → All (λ t. norm th t ≡ t) ts →
+    IsWithin th (norm th (node f ts)) → All (IsWithin th) ts
 
 -- they stay what they are in a store that grows
 abbrev pub StandsWithinExtended : Type 0

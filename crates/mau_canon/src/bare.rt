@@ -12,7 +12,8 @@ ghost use Rattle.mau_signature.specs.Signature.{IsOperator, terms_over, theory_a
 ghost use Rattle.mau_store.specs.Node.{AreOf, Extends};
 ghost use Rattle.mau_store.specs.Trees.{StandsFor, StandsForNorm, trees_at};
 ghost use Rattle.mau_store.specs.View.{numbers};
-ghost use Rattle.mau_canon.specs.Within.{IsNumberOf, StandsWithin, StandWithin, IsCause};
+ghost use Rattle.mau_canon.specs.Standing.{IsNumberOf, StandsWithin, StandWithin};
+ghost use Rattle.mau_canon.specs.Within.{IsCause};
 ghost use Rattle.mau_canon.specs.Values.{values_in};
 
 use crate::BuildFault;
@@ -147,7 +148,7 @@ fn collect_all(
 
 /// The same of one term. Below an associative operator the terms are collected one by one.
 #[cycle(bare)]
-fn collect(
+pub(crate) fn collect(
     store: &mut Store,
     sig: &Signature,
     op: OpId,

@@ -7,7 +7,9 @@ ghost use Rattle.mau_signature.specs.Signature.{IsOperator, theory_at};
 ghost use Rattle.mau_store.specs.Node.{Extends, IsOf};
 ghost use Rattle.mau_store.specs.Trees.{StandsFor, tree_at, trees_at};
 ghost use Rattle.mau_store.specs.View.{numbers};
-ghost use Rattle.mau_canon.specs.Within.{StandsWithin, StandWithin, IsCause, IsJudged};
+ghost use Rattle.mau_canon.specs.Standing.{StandsWithin, StandWithin};
+ghost use Rattle.mau_canon.specs.Within.{IsCause};
+ghost use Rattle.mau_canon.specs.Judging.{IsJudged};
 
 use crate::normal::{is_overflow, joined, normal_form};
 use crate::{BuildFault, MAX_DEPTH};

@@ -8,7 +8,7 @@ ghost use Rattle.mau_signature.specs.Signature.{IsOperator, theory_at};
 ghost use Rattle.mau_store.specs.Node.{AreOf, IsOf};
 ghost use Rattle.mau_store.specs.Trees.{tree_at, tree_over, trees_at};
 ghost use Rattle.mau_store.specs.View.{node_of, numbers};
-ghost use Rattle.mau_canon.specs.Within.{StandsWithin, StandWithin};
+ghost use Rattle.mau_canon.specs.Standing.{StandsWithin, StandWithin};
 
 use mau_signature::Signature;
 use mau_store::{NodeView, Store};

@@ -7,7 +7,8 @@ ghost use Rattle.mau_terms.specs.Solution.{over_list};
 ghost use Rattle.mau_store.specs.Node.{AreOf, Extends, IsOf};
 ghost use Rattle.mau_store.specs.Trees.{tree_at, trees_at};
 ghost use Rattle.mau_store.specs.View.{numbers};
-ghost use Rattle.mau_canon.specs.Within.{IsNumberOf, is_overflow};
+ghost use Rattle.mau_canon.specs.Standing.{IsNumberOf};
+ghost use Rattle.mau_canon.specs.Judging.{is_overflow};
 
 use crate::list::pieces;
 use mau_store::{NodeView, Store};

@@ -6,7 +6,7 @@ ghost use Rattle.mau_signature.specs.Signature.{theory_at};
 ghost use Rattle.mau_store.specs.Node.{Node, Extends};
 ghost use Rattle.mau_store.specs.Trees.{tree_at};
 ghost use Rattle.mau_store.specs.View.{numbers};
-ghost use Rattle.mau_canon.specs.Within.{StandsWithin, StandWithin};
+ghost use Rattle.mau_canon.specs.Standing.{StandsWithin, StandWithin};
 ghost use Rattle.mau_canon.specs.Values.{values_in};
 
 use mau_signature::Signature;

@@ -12,9 +12,9 @@ use Rattle.mau_chart.specs.declared.chart.Fact.{Fact}
 use Rattle.mau_chart.specs.declared.chart.Row.{Row}
 use Rattle.mau_chart.specs.declared.chart.Chart.{Chart}
 use Rattle.mau_chart.specs.declared.grammar.Item.{Item}
-use Rattle.mau_chart.specs.Chart.{Found, found, Has, Full, Offered, Grows, IsSame}
+use Rattle.mau_chart.specs.Chart.{Edge, edge, Has, Full, Offered, Grows, IsSame}
 use Rattle.mau_chart.proofs.Grows.{slice_get-end, slice_get-new, has_stays, full_stays}
-use Rattle.mau_chart.specs.Table.{table, seen, cells, found_of, IsThere, IsKnown, AreKnown, HasOther, Put}
+use Rattle.mau_chart.specs.Table.{table, seen, cells, edge_of, IsThere, IsKnown, AreKnown, HasOther, Put}
 
 pub cells_within : (rs : List Row) (i k : ℕ) → k < length (cells rs i) → i < length rs
 cells_within [] i k h = absurd (omega arith)
@@ -31,8 +31,8 @@ cells_past [] i h = refl
 cells_past (r ∷ rs) zero h = absurd (omega arith)
 cells_past (r ∷ rs) (suc i) h = cells_past rs i (omega arith)
 
-pub slice_get-seen : (ts : List Tree) (fs : List Fact) (k : ℕ) (f : Fact) → slice_get fs k ≡ Some f → slice_get (map (found_of ts) fs) k ≡ Some (found_of ts f)
-slice_get-seen ts fs k f e = slice_get-map (found_of ts) fs k ∙ ap (option_map (found_of ts)) e
+pub slice_get-seen : (ts : List Tree) (fs : List Fact) (k : ℕ) (f : Fact) → slice_get fs k ≡ Some f → slice_get (map (edge_of ts) fs) k ≡ Some (edge_of ts f)
+slice_get-seen ts fs k f e = slice_get-map (edge_of ts) fs k ∙ ap (option_map (edge_of ts)) e
 
 pub fact_at : (fs : List Fact) (k : ℕ) → k < length fs → (f : Fact) × (slice_get fs k ≡ Some f)
 fact_at [] k h = absurd (omega arith)
@@ -42,23 +42,23 @@ fact_at (f ∷ fs) (suc k) h = fact_at fs k (omega arith)
 -- a fact that stands there is had
 pub had : (c : Chart) (i : ℕ) (it : Item) (e : ℕ) (f : Fact) → IsThere (cells c.rows.items i) f it e → Has (table c) i it e (trees_at c.store f.trees.items)
 had c i it e f h =
-    (h.place.0, slice_get-seen c.store (cells c.rows.items i) h.place.0 f h.place.1 ∙ ap₂ (λ x y. Some (found x y (trees_at c.store f.trees.items))) h.item h.end)
+    (h.place.0, slice_get-seen c.store (cells c.rows.items i) h.place.0 f h.place.1 ∙ ap₂ (λ x y. Some (edge x y (trees_at c.store f.trees.items))) h.item h.end)
 
 -- the same facts over other rows
 module _ (ts : List Tree) (rs qs : List Row) (i : ℕ) (f : Fact) (p : Put rs qs i f) where
-  pub put_seen : seen ts qs i ≡ seen ts rs i ++ found_of ts f ∷ []
-  put_seen = ap (map (found_of ts)) p.there ∙ map-append (found_of ts) (cells rs i) (f ∷ [])
+  pub put_seen : seen ts qs i ≡ seen ts rs i ++ edge_of ts f ∷ []
+  put_seen = ap (map (edge_of ts)) p.there ∙ map-append (edge_of ts) (cells rs i) (f ∷ [])
 
   pub put_others : (m : ℕ) → m ≢ i → seen ts qs m ≡ seen ts rs m
-  put_others m h = ap (map (found_of ts)) (p.others m h)
+  put_others m h = ap (map (edge_of ts)) (p.others m h)
 
   pub put_grows : Grows (seen ts rs) (seen ts qs) i
-  put_grows = record { others = put_others; more = (found_of ts f ∷ [], put_seen) }
+  put_grows = record { others = put_others; more = (edge_of ts f ∷ [], put_seen) }
 
   pub put_has : Has (seen ts qs) i f.item f.end (trees_at ts f.trees.items)
-  put_has = (length (seen ts rs i), ap (λ r. slice_get r (length (seen ts rs i))) put_seen ∙ slice_get-end (seen ts rs i) (found_of ts f))
+  put_has = (length (seen ts rs i), ap (λ r. slice_get r (length (seen ts rs i))) put_seen ∙ slice_get-end (seen ts rs i) (edge_of ts f))
 
-  pub put_offered : Offered (seen ts rs) (seen ts qs) i (found_of ts f)
+  pub put_offered : Offered (seen ts rs) (seen ts qs) i (edge_of ts f)
   put_offered = record { others = put_others; more = inr put_seen; covers = inl put_has }
 
   stays_known : (m : ℕ) (g : Fact) → IsKnown ts rs m g → IsKnown ts qs m g
@@ -114,9 +114,9 @@ below_more : (m n : ℕ) (is : List TermId) → m ≤ n → AllBelow m is → Al
 below_more m n [] l h = tt
 below_more m n (i ∷ is) l h = (omega (arith, l, h.0), below_more m n is l h.1)
 
-seen_same : (ts us : List Tree) (fs : List Fact) → ((k : ℕ) (f : Fact) → slice_get fs k ≡ Some f → AllBelow (length ts) f.trees.items) → map (found_of (ts ++ us)) fs ≡ map (found_of ts) fs
+seen_same : (ts us : List Tree) (fs : List Fact) → ((k : ℕ) (f : Fact) → slice_get fs k ≡ Some f → AllBelow (length ts) f.trees.items) → map (edge_of (ts ++ us)) fs ≡ map (edge_of ts) fs
 seen_same ts us [] h = refl
-seen_same ts us (f ∷ fs) h = ap₂ (λ x y. found f.item f.end x ∷ y) (trees_left ts us f.trees.items (h 0 f refl)) (seen_same ts us fs (λ k g e. h (suc k) g e))
+seen_same ts us (f ∷ fs) h = ap₂ (λ x y. edge f.item f.end x ∷ y) (trees_left ts us f.trees.items (h 0 f refl)) (seen_same ts us fs (λ k g e. h (suc k) g e))
 
 pub more_same : (ts us : List Tree) (rs : List Row) → AreKnown ts rs → (m : ℕ) → seen (ts ++ us) rs m ≡ seen ts rs m
 more_same ts us rs a m = seen_same ts us (cells rs m) (λ k f e. (a m k f e).below)
@@ -130,14 +130,14 @@ more_known ts us rs a i k f e = record {
       );
 }
   where
-    has_same : (old new : ℕ → List Found) (i : ℕ) → IsSame old new → (it : Item) (e : ℕ) → Full old i it e → Full new i it e
+    has_same : (old new : ℕ → List Edge) (i : ℕ) → IsSame old new → (it : Item) (e : ℕ) → Full old i it e → Full new i it e
     has_same old new i s it e g =
         (g.0, g.1, (g.2.0, ap (λ r. slice_get r g.2.0) (s i) ∙ g.2.1), (g.3.0, ap (λ r. slice_get r g.3.0) (s i) ∙ g.3.1), g.4)
 
-pub seen_at : (ts : List Tree) (fs : List Fact) (k : ℕ) (f : Found) (g : Fact) → slice_get fs k ≡ Some g → slice_get (map (found_of ts) fs) k ≡ Some f → found_of ts g ≡ f
-seen_at ts fs k f g e h = one (found_of ts g) f (sym (slice_get-seen ts fs k g e) ∙ h)
+pub seen_at : (ts : List Tree) (fs : List Fact) (k : ℕ) (f : Edge) (g : Fact) → slice_get fs k ≡ Some g → slice_get (map (edge_of ts) fs) k ≡ Some f → edge_of ts g ≡ f
+seen_at ts fs k f g e h = one (edge_of ts g) f (sym (slice_get-seen ts fs k g e) ∙ h)
   where
-    one : (x y : Found) → Some x ≡ Some y → x ≡ y
+    one : (x y : Edge) → Some x ≡ Some y → x ≡ y
     one x y e = cc
 
 pub cells_push : (rs : List Row) (r : Row) → r.facts.items ≡ [] → ((i : ℕ) → cells rs i ≡ []) → (i : ℕ) → cells (rs ++ r ∷ []) i ≡ []

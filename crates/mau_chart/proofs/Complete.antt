@@ -11,7 +11,7 @@ use Rattle.mau_chart.specs.declared.grammar.Item.{Item}
 use Rattle.mau_chart.specs.declared.grammar.Item.TheVariants.{Whole, Part}
 use Rattle.mau_chart.specs.declared.grammar.Leaf.{Leaf}
 use Rattle.mau_chart.specs.Reads.{made, Reads, leaf_read, form_read, Spells, nothing_spelled, piece_spelled}
-use Rattle.mau_chart.specs.Chart.{Found, Has, Covers, Closed, AreLeaves, AreForms, IsWanted}
+use Rattle.mau_chart.specs.Chart.{Edge, Has, Covers, Closed, AreLeaves, AreForms, IsWanted}
 
 -- a reading goes forth
 mutual
@@ -42,16 +42,16 @@ mutual
   spells_within ps ls n a b cs i j ts h (piece_spelled c ds q r l s) = spells_within ps ls n a b _ _ _ _ (reads_within ps ls n a b _ _ _ _ _ r) s
 
 -- covers two, covers one
-either : (rows : (ℕ → List Found)) (i : ℕ) (it : Item) (e : ℕ) (ts us vs : List Tree) → ts ≢ us → Covers rows i it e ts → Covers rows i it e us → Covers rows i it e vs
+either : (rows : (ℕ → List Edge)) (i : ℕ) (it : Item) (e : ℕ) (ts us vs : List Tree) → ts ≢ us → Covers rows i it e ts → Covers rows i it e us → Covers rows i it e vs
 either rows i it e ts us vs n (inl a) (inl b) = inr (ts, us, a, b, n)
 either rows i it e ts us vs n (inr a) b = inr a
 either rows i it e ts us vs n (inl a) (inr b) = inr b
 
-one : (rows : (ℕ → List Found)) (i : ℕ) (it : Item) (e : ℕ) (ts : List Tree) → Covers rows i it e ts → (us : List Tree) × Has rows i it e us
+one : (rows : (ℕ → List Edge)) (i : ℕ) (it : Item) (e : ℕ) (ts : List Tree) → Covers rows i it e ts → (us : List Tree) × Has rows i it e us
 one rows i it e ts (inl a) = (ts, a)
 one rows i it e ts (inr a) = (a.0, a.2)
 
-module _ (rows : (ℕ → List Found)) (h m j : ℕ) (a b c : Item) (close : (ts us : List Tree) → Has rows h a m ts → Has rows m b j us → Covers rows h c j (ts ++ us)) where
+module _ (rows : (ℕ → List Edge)) (h m j : ℕ) (a b c : Item) (close : (ts us : List Tree) → Has rows h a m ts → Has rows m b j us → Covers rows h c j (ts ++ us)) where
   joined : (ts us : List Tree) → Covers rows h a m ts → Covers rows m b j us → Covers rows h c j (ts ++ us)
   joined ts us (inl x) (inl y) = close ts us x y
   joined ts us (inr x) y =
@@ -74,7 +74,7 @@ made_one (Some f) ts us e = trees_of-one ts us (ap arguments e)
     arguments (numeral n ∷ vs) = no_trees
     arguments (apply g vs ∷ ws) = vs
 
-module _ (rows : (ℕ → List Found)) (h j : ℕ) (a c : Item) (o : Option OpId) (close : (ts : List Tree) → Has rows h a j ts → Covers rows h c j (made o ts)) where
+module _ (rows : (ℕ → List Edge)) (h j : ℕ) (a c : Item) (o : Option OpId) (close : (ts : List Tree) → Has rows h a j ts → Covers rows h c j (made o ts)) where
   lifted : (ts : List Tree) → Covers rows h a j ts → Covers rows h c j (made o ts)
   lifted ts (inl x) = close ts x
   lifted ts (inr x) = either rows h c j (made o x.0) (made o x.1) (made o ts) (λ e. x.4 (made_one o x.0 x.1 e)) (close x.0 x.2) (close x.1 x.3)
@@ -86,7 +86,7 @@ slice_get-front : (cs : List Piece) (c : Piece) (ds : List Piece) → slice_get 
 slice_get-front [] c ds = refl
 slice_get-front (b ∷ cs) c ds = slice_get-front cs c ds
 
-module _ (ps : List Production) (ls : List Leaf) (n : ℕ) (rows : (ℕ → List Found)) (leaves : AreLeaves ls n) (forms : AreForms ps) (closed : Closed ps ls n rows 0) where
+module _ (ps : List Production) (ls : List Leaf) (n : ℕ) (rows : (ℕ → List Edge)) (leaves : AreLeaves ls n) (forms : AreForms ps) (closed : Closed ps ls n rows 0) where
   mutual
     pub reads_covered : (k q i j : ℕ) (ts : List Tree) → Reads ps ls k q i j ts → j ≤ n → Covers rows i (Whole k q) j ts
     reads_covered k q i j ts (leaf_read h l e) w = closed.leaves h l e (omega arith)

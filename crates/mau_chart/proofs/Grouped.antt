@@ -8,7 +8,7 @@ use Rattle.mau_chart.specs.declared.places.Group.{Group}
 use Rattle.mau_chart.specs.declared.places.Place.{Place}
 use Rattle.mau_chart.specs.Groups.{HasPart, groups_at, AreGrouped, AreIndexed, IsGrouped}
 use Rattle.std.proofs.lemmas.Option.{slice_get_within}
-use Rattle.mau_chart.specs.Chart.{Found, Grows, IsOne, IsAmong, place_of}
+use Rattle.mau_chart.specs.Chart.{Edge, Grows, IsOne, IsAmong, place_of}
 use Rattle.mau_chart.proofs.Grows.{slice_get-left, slice_get-end}
 use Rattle.mau_chart.proofs.Step.{some_one}
 
@@ -75,14 +75,14 @@ module _ (gs : List Group) (x : Place) (h : Group) (ep : h.parts.items ≡ x ∷
 
 -- ---- one more place, one more group
 
-pub among_one : (places : List Place) (part : Item) (p : Place) (z n y : ℕ) (g : Found) → n ≡ z + 1 → slice_get places z ≡ Some p → IsAmong places part n y g → IsAmong places part z y g ⊎ IsOne p.at part y g
+pub among_one : (places : List Place) (part : Item) (p : Place) (z n y : ℕ) (g : Edge) → n ≡ z + 1 → slice_get places z ≡ Some p → IsAmong places part n y g → IsAmong places part z y g ⊎ IsOne p.at part y g
 among_one places part p z n y g en ep a = by (eqb a.0.0 z) refl
   where
     by : (t : Bool) → eqb a.0.0 z ≡ t → IsAmong places part z y g ⊎ IsOne p.at part y g
     by false q = let x : a.0.0 ≢ z = eqb-false a.0.0 z q in inl ((a.0.0, omega (arith, a.0.1, en, x), a.0.2), a.1)
     by true q = inr (ap (λ v. v.at) (some_one (place_of y g) p (sym a.0.2 ∙ ap (slice_get places) (eqb-true a.0.0 z q) ∙ ep)), a.1)
 
-pub grouped_on : (gs : List Group) (w n : ℕ) (g : Group) → n ≡ w + 1 → slice_get gs w ≡ Some g → (y : ℕ) (f : Found) → IsGrouped gs n y f → IsGrouped gs w y f ⊎ IsAmong g.parts.items g.item (length g.parts.items) y f
+pub grouped_on : (gs : List Group) (w n : ℕ) (g : Group) → n ≡ w + 1 → slice_get gs w ≡ Some g → (y : ℕ) (f : Edge) → IsGrouped gs n y f → IsGrouped gs w y f ⊎ IsAmong g.parts.items g.item (length g.parts.items) y f
 grouped_on gs w n g en eg y f p = by (eqb p.0 w) refl
   where
     by : (t : Bool) → eqb p.0 w ≡ t → IsGrouped gs w y f ⊎ IsAmong g.parts.items g.item (length g.parts.items) y f
@@ -94,10 +94,10 @@ grouped_on gs w n g en eg y f p = by (eqb p.0 w) refl
 
 -- ---- rows that are grouped
 
-pub indexed_stays : {Z : Type 0} (old new : ℕ → List Found) (n i : ℕ) (index : List (Vec Group Z)) → Grows old new i → AreIndexed old n i index → AreIndexed new n i index
+pub indexed_stays : {Z : Type 0} (old new : ℕ → List Edge) (n i : ℕ) (index : List (Vec Group Z)) → Grows old new i → AreIndexed old n i index → AreIndexed new n i index
 indexed_stays old new n i index g a m h l x k d f e ef = a m h l x k d f (ap (λ r. slice_get r x) (sym (g.others m (λ q. absurd (omega (arith, h, q))))) ∙ e) ef
 
-pub indexed_on : {Z : Type 0} (rows : ℕ → List Found) (n r i j : ℕ) (index : List (Vec Group Z)) (v : Vec Group Z) → r ≤ n → i ≡ n - r → j ≡ n - (r + 1) → length index ≡ r → AreIndexed rows n i index → AreGrouped rows i v.items → AreIndexed rows n j (index ++ v ∷ [])
+pub indexed_on : {Z : Type 0} (rows : ℕ → List Edge) (n r i j : ℕ) (index : List (Vec Group Z)) (v : Vec Group Z) → r ≤ n → i ≡ n - r → j ≡ n - (r + 1) → length index ≡ r → AreIndexed rows n i index → AreGrouped rows i v.items → AreIndexed rows n j (index ++ v ∷ [])
 indexed_on rows n r i j index v le ei ej el a b m h l = by (eqb m i) refl
   where
     by : (t : Bool) → eqb m i ≡ t → AreGrouped rows m (groups_at (index ++ v ∷ []) (n - m))
@@ -111,10 +111,10 @@ indexed_on rows n r i j index v le ei ej el a b m h l = by (eqb m i) refl
         subst (AreGrouped rows m) (sym (groups_at-front index v (n - m) p)) (a m (omega (arith, x, ei, ej, h, le)) l)
 
 -- the first n places of the row are grouped
-abbrev pub AreGroupedTo : (ℕ → List Found) → ℕ → List Group → ℕ → Type 0
-AreGroupedTo rows m gs n = (x k d : ℕ) (f : Found) → x < n → slice_get (rows m) x ≡ Some f → f.item ≡ Part k (suc d) → HasPart gs f.item (place_of x f)
+abbrev pub AreGroupedTo : (ℕ → List Edge) → ℕ → List Group → ℕ → Type 0
+AreGroupedTo rows m gs n = (x k d : ℕ) (f : Edge) → x < n → slice_get (rows m) x ≡ Some f → f.item ≡ Part k (suc d) → HasPart gs f.item (place_of x f)
 
-pub grouped_more : (rows : ℕ → List Found) (m : ℕ) (old new : List Group) (x n : ℕ) (f : Found) → n ≡ x + 1 → slice_get (rows m) x ≡ Some f → ((it : Item) (y : Place) → HasPart old it y → HasPart new it y) → ((k d : ℕ) → f.item ≡ Part k (suc d) → HasPart new f.item (place_of x f)) → AreGroupedTo rows m old x → AreGroupedTo rows m new n
+pub grouped_more : (rows : ℕ → List Edge) (m : ℕ) (old new : List Group) (x n : ℕ) (f : Edge) → n ≡ x + 1 → slice_get (rows m) x ≡ Some f → ((it : Item) (y : Place) → HasPart old it y → HasPart new it y) → ((k d : ℕ) → f.item ≡ Part k (suc d) → HasPart new f.item (place_of x f)) → AreGroupedTo rows m old x → AreGroupedTo rows m new n
 grouped_more rows m old new x n f en ef keep there a y k d g h e eg = by (eqb y x) refl
   where
     by : (t : Bool) → eqb y x ≡ t → HasPart new g.item (place_of y g)

@@ -11,12 +11,12 @@ use Rattle.mau_chart.specs.declared.grammar.Item.TheVariants.{Whole, Part}
 use Rattle.mau_chart.specs.declared.reading.Answer.{Answer}
 use Rattle.mau_chart.specs.declared.reading.Answer.TheVariants.{Nothing, One, Two}
 use Rattle.mau_chart.specs.Reads.{Reads}
-use Rattle.mau_chart.specs.Chart.{Found, found, Has, Covers, AreSound, AreLeaves, AreForms, IsRight, Closed}
+use Rattle.mau_chart.specs.Chart.{Edge, edge, Has, Covers, AreSound, AreLeaves, AreForms, IsRight, Closed}
 use Rattle.mau_chart.specs.Goal.{IsGoal, GoalAt, Scanned, ReadsAs, IsExact}
 use Rattle.mau_chart.proofs.Complete.{reads_covered}
 use Rattle.mau_chart.proofs.Step.{some_one}
 
-module _ (low high n : ℕ) (rows : ℕ → List Found) where
+module _ (low high n : ℕ) (rows : ℕ → List Edge) where
   one_goal : (k : ℕ) (ts us : List Tree) → GoalAt low high n rows k ts → GoalAt low high n rows k us → ts ≡ us
   one_goal k ts us a b = sym a.3 ∙ ap (λ f. f.trees) (some_one a.0 b.0 (sym a.1 ∙ b.1)) ∙ b.3
 
@@ -34,7 +34,7 @@ module _ (low high n : ℕ) (rows : ℕ → List Found) where
       by j ts h a true q = one_goal k ts vs (subst (λ z. GoalAt low high n rows z ts) (eqb-true j k q) a) g ∙ sym e ∙ one_goal i us s.0 gi s.1
       by j ts h a false q = let x : j ≢ k = eqb-false j k q in s.2 j ts (omega (arith, h, em, x)) a
 
-  pub no_goal : (k m : ℕ) (f : Found) (r : Answer) → m ≡ k + 1 → slice_get (rows 0) k ≡ Some f → (IsGoal low high n f.item f.end → ⊥) → Scanned low high n rows k r → Scanned low high n rows m r
+  pub no_goal : (k m : ℕ) (f : Edge) (r : Answer) → m ≡ k + 1 → slice_get (rows 0) k ≡ Some f → (IsGoal low high n f.item f.end → ⊥) → Scanned low high n rows k r → Scanned low high n rows m r
   no_goal k m f (Two a b) em e d s = s
   no_goal k m f Nothing em e d s = λ j ts h a. by j ts h a (eqb j k) refl
     where
@@ -48,7 +48,7 @@ module _ (low high n : ℕ) (rows : ℕ → List Found) where
       by j ts h a false q = let x : j ≢ k = eqb-false j k q in s.2 j ts (omega (arith, h, em, x)) a
 
 -- what was found is all that is read
-module _ (ps : List Production) (ls : List Leaf) (n low high : ℕ) (al : AreLeaves ls n) (af : AreForms ps) (rows : ℕ → List Found) (sound : AreSound ps ls rows) (closed : Closed ps ls n rows 0) where
+module _ (ps : List Production) (ls : List Leaf) (n low high : ℕ) (al : AreLeaves ls n) (af : AreForms ps) (rows : ℕ → List Edge) (sound : AreSound ps ls rows) (closed : Closed ps ls n rows 0) where
   goal_reads : (k : ℕ) (ts : List Tree) → GoalAt low high n rows k ts → ReadsAs ps ls n low high ts
   goal_reads k ts g = subst (ReadsAs ps ls n low high) g.3 (by g.0.item g.0.end g.0.trees (sound 0 k g.0 g.1) g.2)
     where
@@ -57,10 +57,10 @@ module _ (ps : List Production) (ls : List Leaf) (n low high : ℕ) (al : AreLea
       by (Part a q) e us r h = absurd h
 
   goal_of : (k q : ℕ) (ts : List Tree) → low ≤ k → k < high → (h : Has rows 0 (Whole k q) n ts) → GoalAt low high n rows h.0 ts
-  goal_of k q ts l u h = (found (Whole k q) n ts, h.1, (l, u, refl), refl)
+  goal_of k q ts l u h = (edge (Whole k q) n ts, h.1, (l, u, refl), refl)
 
   has_within : (it : Item) (e : ℕ) (ts : List Tree) → (h : Has rows 0 it e ts) → h.0 < length (rows 0)
-  has_within it e ts h = slice_get_within (rows 0) h.0 (found it e ts) h.1
+  has_within it e ts h = slice_get_within (rows 0) h.0 (edge it e ts) h.1
 
   pub scanned_exact : (r : Answer) → Scanned low high n rows (length (rows 0)) r → IsExact ps ls n low high rows r
   scanned_exact Nothing s = λ ts a. by ts a (reads_covered ps ls n rows al af closed a.0 a.1 0 n ts a.4 (omega arith))

@@ -6,14 +6,14 @@ use Rattle.mau_chart.specs.declared.grammar.Production.{Production}
 use Rattle.mau_chart.specs.declared.grammar.Leaf.{Leaf}
 use Rattle.mau_chart.specs.declared.reading.Answer.{Answer}
 use Rattle.mau_chart.specs.declared.reading.Answer.TheVariants.{Nothing, One, Two}
-use Rattle.mau_chart.specs.declared.reading.Reading.{Reading}
-use Rattle.mau_chart.specs.declared.reading.Reading.TheVariants.{Nothing as NoReading, One as OneReading, Two as TwoReadings}
-use Rattle.mau_chart.specs.Chart.{Found}
+use Rattle.mau_chart.specs.declared.reading.Forest.{Forest}
+use Rattle.mau_chart.specs.declared.reading.Forest.TheVariants.{Nothing as NoReading, One as OneReading, Two as TwoReadings}
+use Rattle.mau_chart.specs.Chart.{Edge}
 use Rattle.mau_chart.specs.Goal.{GoalAt, ReadsAs, IsExact}
 use Rattle.mau_chart.specs.Nodes.{trees_at}
-use Rattle.mau_chart.specs.Told.{IsReading, AreThere, AreTreesAt, IsToldBy}
+use Rattle.mau_chart.specs.Told.{IsForest, AreThere, AreTreesAt, IsToldBy}
 
-module _ (ps : List Production) (ls : List Leaf) (n low high : ℕ) (ts : List Tree) (rows : ℕ → List Found) where
+module _ (ps : List Production) (ls : List Leaf) (n low high : ℕ) (ts : List Tree) (rows : ℕ → List Edge) where
   pub exact_there : (a : Answer) → IsExact ps ls n low high rows a → AreThere rows a
   exact_there Nothing e = tt
   exact_there (One j) e = slice_get_within (rows 0) j e.1.0 e.1.1
@@ -22,7 +22,7 @@ module _ (ps : List Production) (ls : List Leaf) (n low high : ℕ) (ts : List T
   goal_trees : (k : ℕ) (us vs : List Tree) → GoalAt low high n rows k us → AreTreesAt ts rows k vs → us ≡ vs
   goal_trees k us vs g a = sym g.3 ∙ sym (a g.0 g.1)
 
-  pub told_exact : (a : Answer) (r : Reading) → IsToldBy ts rows a r → IsExact ps ls n low high rows a → IsReading ps ls n low high ts r
+  pub told_exact : (a : Answer) (r : Forest) → IsToldBy ts rows a r → IsExact ps ls n low high rows a → IsForest ps ls n low high ts r
   told_exact Nothing NoReading t e = e
   told_exact Nothing (OneReading x) t e = absurd t
   told_exact Nothing (TwoReadings x y) t e = absurd t

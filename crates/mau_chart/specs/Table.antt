@@ -7,20 +7,20 @@ use Rattle.mau_chart.specs.declared.chart.Fact.{Fact}
 use Rattle.mau_chart.specs.declared.chart.Row.{Row}
 use Rattle.mau_chart.specs.declared.chart.Chart.{Chart}
 use Rattle.mau_chart.specs.declared.grammar.Item.{Item}
-use Rattle.mau_chart.specs.Chart.{Found, found, Has, Full}
+use Rattle.mau_chart.specs.Chart.{Edge, edge, Has, Full}
 
 abbrev pub cells : List Row → ℕ → List Fact
 cells [] i = []
 cells (r ∷ rs) zero = r.facts.items
 cells (r ∷ rs) (suc i) = cells rs i
 
-abbrev pub found_of : List Tree → Fact → Found
-found_of ts f = found f.item f.end (trees_at ts f.trees.items)
+abbrev pub edge_of : List Tree → Fact → Edge
+edge_of ts f = edge f.item f.end (trees_at ts f.trees.items)
 
-abbrev pub seen : List Tree → List Row → ℕ → List Found
-seen ts rs i = map (found_of ts) (cells rs i)
+abbrev pub seen : List Tree → List Row → ℕ → List Edge
+seen ts rs i = map (edge_of ts) (cells rs i)
 
-abbrev pub table : Chart → ℕ → List Found
+abbrev pub table : Chart → ℕ → List Edge
 table c = seen c.store c.rows.items
 
 pub record IsKnown (ts : List Tree) (rs : List Row) (i : ℕ) (f : Fact) : Type 0 where
@@ -41,7 +41,7 @@ pub record IsThere (fs : List Fact) (f : Fact) (it : Item) (e : ℕ) : Type 0 wh
   pub end : f.end ≡ e
 
 -- there is one with other trees
-abbrev pub HasOther : (ℕ → List Found) → ℕ → Item → ℕ → List Tree → Type 0
+abbrev pub HasOther : (ℕ → List Edge) → ℕ → Item → ℕ → List Tree → Type 0
 HasOther rows i it e ts = (us : List Tree) × Has rows i it e us × (us ≢ ts)
 
 -- the fact was put at the end of the row i

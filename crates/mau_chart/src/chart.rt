@@ -2,7 +2,7 @@
 ghost use Rattle.std.specs.Prelude.{◌≡◌, ◌↔◌, ◌∷◌, ◌++◌, [], ◌<◌, ◌≤◌, Some, IfOk, IfSome, OnOk, IsTrue, length};
 ghost use Rattle.std.specs.List.{slice_get};
 ghost use Rattle.mau_chart.specs.Nodes.{AllBelow, NamesBelow, tree_at, trees_at, node_tree};
-ghost use Rattle.mau_chart.specs.Chart.{found, Full, Covers, Offered, Joined, Lifted, IsSame};
+ghost use Rattle.mau_chart.specs.Chart.{edge, Full, Covers, Offered, Joined, Lifted, IsSame};
 ghost use Rattle.mau_chart.specs.Reads.{made, said_trees};
 ghost use Rattle.mau_chart.specs.Table.{table, cells, IsChart, IsThere, HasOther, Put};
 
@@ -155,7 +155,7 @@ impl Chart {
         ensures chart { OnOk result (IsChart self.new) }
         ensures store { OnOk result (self.new.store ≡ self.old.store) }
         ensures rows { OnOk result (length self.new.rows.items ≡ length self.old.rows.items) }
-        ensures offered { OnOk result (Offered (table self.old) (table self.new) i (found item end (trees_at self.old.store trees.items))) }
+        ensures offered { OnOk result (Offered (table self.old) (table self.new) i (edge item end (trees_at self.old.store trees.items))) }
     {
         match self.is_news(slot, i, item, end, &trees) {
             News::Old => Ok(()),
@@ -319,7 +319,7 @@ impl Chart {
         requires row { i < length self.old.rows.items }
         ensures chart { OnOk result (IsChart self.new) }
         ensures rows { OnOk result (length self.new.rows.items ≡ length self.old.rows.items) }
-        ensures offered { OnOk result (Offered (table self.old) (table self.new) i (found item end (said_trees said))) }
+        ensures offered { OnOk result (Offered (table self.old) (table self.new) i (edge item end (said_trees said))) }
     {
         let trees = self.speak(alloc, said)?;
         self.offer(slot, i, item, end, trees)?;

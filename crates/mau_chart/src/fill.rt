@@ -6,7 +6,7 @@ ghost use Rattle.mau_chart.specs.declared.grammar.Item.{Item};
 ghost use Rattle.mau_chart.specs.declared.grammar.Leaf.{Leaf};
 ghost use Rattle.mau_chart.specs.declared.grammar.Production.{Production};
 ghost use Rattle.mau_chart.specs.declared.grammar.Item.TheVariants.{Whole, Part};
-ghost use Rattle.mau_chart.specs.Chart.{Found, Steps, StepsOnly, IsOne, IsAmong, Lifts, Completed, Combined, Grows, AreSound, AreLeaves, AreForms, Processed, IsDone, Begun, Ended, IsRow, IsEmpty, Closed, Wants, IsMask, IsAllowed};
+ghost use Rattle.mau_chart.specs.Chart.{Edge, Steps, StepsOnly, IsOne, IsAmong, Lifts, Completed, Combined, Grows, AreSound, AreLeaves, AreForms, Processed, IsDone, Begun, Ended, IsRow, IsEmpty, Closed, Wants, IsMask, IsAllowed};
 ghost use Rattle.mau_chart.specs.Groups.{IsGrouped, AreIndexed};
 ghost use Rattle.mau_chart.specs.Marks.{IsMarked, AllMarked};
 ghost use Rattle.mau_chart.specs.Table.{table, cells, IsChart};
@@ -158,7 +158,7 @@ fn try_part(
     requires chart { IsChart chart.old }
     requires row { i < length chart.old.rows.items }
     requires first { k < length (cells chart.old.rows.items i) }
-    requires steps { (f : Found) → slice_get (table chart.old i) k ≡ Some f → Steps productions.now f.item part item }
+    requires steps { (f : Edge) → slice_get (table chart.old i) k ≡ Some f → Steps productions.now f.item part item }
     requires only { StepsOnly productions.now leaves.now (table chart.old) i k part item }
     ensures chart { OnOk result (IsChart chart.new) }
     ensures rows { OnOk result (length chart.new.rows.items ≡ length chart.old.rows.items) }
@@ -192,7 +192,7 @@ fn try_place(
     requires chart { IsChart chart.old }
     requires row { i < length chart.old.rows.items }
     requires first { k < length (cells chart.old.rows.items i) }
-    requires steps { (f : Found) → slice_get (table chart.old i) k ≡ Some f → Steps productions.now f.item part item }
+    requires steps { (f : Edge) → slice_get (table chart.old i) k ≡ Some f → Steps productions.now f.item part item }
     requires only { StepsOnly productions.now leaves.now (table chart.old) i k part item }
     requires mark { (mark.old.row ≡ i) × (mark.old.item ≡ item) }
     requires marked { IsMarked (table chart.old) mark.old }
@@ -241,7 +241,7 @@ fn combine_places(
     requires row { i < length chart.old.rows.items }
     requires first { k < length (cells chart.old.rows.items i) }
     requires other { m ≢ i }
-    requires steps { (f : Found) → slice_get (table chart.old i) k ≡ Some f → Steps productions.now f.item part item }
+    requires steps { (f : Edge) → slice_get (table chart.old i) k ≡ Some f → Steps productions.now f.item part item }
     requires only { StepsOnly productions.now leaves.now (table chart.old) i k part item }
     requires mark { (mark.old.row ≡ i) × (mark.old.item ≡ item) }
     requires marked { IsMarked (table chart.old) mark.old }
@@ -332,7 +332,7 @@ fn combine_group(
     requires mask { IsMask productions.now leaves.now i mask.now }
     requires row { i < length chart.old.rows.items }
     requires first { k < length (cells chart.old.rows.items i) }
-    requires whole { (f : Found) → slice_get (table chart.old i) k ≡ Some f → f.item ≡ whole }
+    requires whole { (f : Edge) → slice_get (table chart.old i) k ≡ Some f → f.item ≡ whole }
     requires other { m ≢ i }
     requires some { 0 < length marks.old }
     requires marked { AllMarked (table chart.old) marks.old }
@@ -388,7 +388,7 @@ fn combine(
     requires mask { IsMask productions.now leaves.now i mask.now }
     requires row { i < length chart.old.rows.items }
     requires first { k < length (cells chart.old.rows.items i) }
-    requires whole { (f : Found) → slice_get (table chart.old i) k ≡ Some f → f.item ≡ whole }
+    requires whole { (f : Edge) → slice_get (table chart.old i) k ≡ Some f → f.item ≡ whole }
     requires other { m ≢ i }
     requires some { 0 < length marks.old }
     requires marked { AllMarked (table chart.old) marks.old }

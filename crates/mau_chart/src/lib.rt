@@ -11,8 +11,5 @@ mod reading;
 mod trees;
 
 pub use grammar::{Leaf, Piece, Production, Said};
-pub use reading::{Reading, read};
+pub use reading::{Forest, read};
 pub use trees::Trees;
-
-#[cfg(test)]
-mod tests;

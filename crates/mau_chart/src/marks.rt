@@ -2,7 +2,7 @@
 ghost use Rattle.std.specs.Prelude.{◌≡◌, ◌⊎◌, ◌↔◌, ◌<◌, ◌≤◌, ℕ, List, [], Some, OnOk, IfOk, IsTrue, true, false, get_or, length, max};
 ghost use Rattle.std.specs.List.{slice_get};
 ghost use Rattle.mau_chart.specs.declared.places.Place.{Place};
-ghost use Rattle.mau_chart.specs.Chart.{Found};
+ghost use Rattle.mau_chart.specs.Chart.{Edge};
 ghost use Rattle.mau_chart.specs.Marks.{AllMarked};
 ghost use Rattle.mau_chart.specs.Places.{IsStretch};
 
@@ -14,7 +14,7 @@ use std::alloc::Global;
 /// So many marks, and at least one, of nothing.
 pub fn no_marks(alloc: Global, count: usize) -> Result<Vec<Mark>, NoMemory>
     ensures count { IfOk result (λ marks. length marks.items ≡ max count 1) }
-    ensures marked { IfOk result (λ marks. (rows : ℕ → List Found) → AllMarked rows marks.items) }
+    ensures marked { IfOk result (λ marks. (rows : ℕ → List Edge) → AllMarked rows marks.items) }
 {
     let mut marks = Vec::new(alloc);
     marks.push(no_mark(alloc))?;

@@ -1,9 +1,9 @@
 //! What a whole text reads as.
 ghost use Rattle.std.specs.Prelude.{◌≡◌, ◌↔◌, ◌<◌, ◌≤◌, ◌+◌, IfOk, Some, IsTrue, length};
 ghost use Rattle.std.specs.List.{slice_get};
-ghost use Rattle.mau_chart.specs.Chart.{AreLeaves, AreForms, IsEmpty, Found};
+ghost use Rattle.mau_chart.specs.Chart.{AreLeaves, AreForms, IsEmpty, Edge};
 ghost use Rattle.mau_chart.specs.Goal.{IsGoal, IsExact, Scanned};
-ghost use Rattle.mau_chart.specs.Told.{AreThere, IsToldBy, IsReading};
+ghost use Rattle.mau_chart.specs.Told.{AreThere, IsToldBy, IsForest};
 ghost use Rattle.mau_chart.specs.Nodes.{AllBelow, trees_at};
 ghost use Rattle.mau_chart.specs.Table.{table, cells, IsChart};
 
@@ -36,7 +36,7 @@ fn alike(chart: &Chart, j: usize, k: usize) -> bool
     requires chart { IsChart chart.now }
     requires first { j < length (cells chart.now.rows.items 0) }
     requires second { k < length (cells chart.now.rows.items 0) }
-    ensures { (f g : Found) → slice_get (table chart.now 0) j ≡ Some f → slice_get (table chart.now 0) k ≡ Some g → IsTrue result ↔ f.trees ≡ g.trees }
+    ensures { (f g : Edge) → slice_get (table chart.now 0) j ≡ Some f → slice_get (table chart.now 0) k ≡ Some g → IsTrue result ↔ f.trees ≡ g.trees }
 {
     chart.same(&chart.fact(0, j).trees, &chart.fact(0, k).trees)
 }
@@ -168,7 +168,7 @@ fn answer_of(
 
 /// The readings of a text, by the numbers of their trees: none, exactly one, or two that differ.
 #[derive(Drop)]
-pub enum Reading {
+pub enum Forest {
     Nothing,
     One(Vec<TermId>),
     Two(Vec<TermId>, Vec<TermId>),
@@ -179,23 +179,23 @@ fn trees_of(alloc: Global, chart: &Chart, k: usize) -> Result<Vec<TermId>, NoMem
     requires chart { IsChart chart.now }
     requires there { k < length (cells chart.now.rows.items 0) }
     ensures below { IfOk result (λ ids. AllBelow (length chart.now.store) ids.items) }
-    ensures value { IfOk result (λ ids. (f : Found) → slice_get (table chart.now 0) k ≡ Some f → trees_at chart.now.store ids.items ≡ f.trees) }
+    ensures value { IfOk result (λ ids. (f : Edge) → slice_get (table chart.now 0) k ≡ Some f → trees_at chart.now.store ids.items ≡ f.trees) }
 {
     Ok(Vec::from_slice(alloc, &chart.fact(0, k).trees)?)
 }
 
 /// The readings that the answer tells.
-fn reading_of(alloc: Global, chart: &Chart, answer: Answer) -> Result<Reading, NoMemory>
+fn reading_of(alloc: Global, chart: &Chart, answer: Answer) -> Result<Forest, NoMemory>
     requires chart { IsChart chart.now }
     requires there { AreThere (table chart.now) answer }
     ensures { IfOk result (λ reading. IsToldBy chart.now.store (table chart.now) answer reading) }
 {
     match answer {
-        Answer::Nothing => Ok(Reading::Nothing),
-        Answer::One(j) => Ok(Reading::One(trees_of(alloc, chart, j)?)),
+        Answer::Nothing => Ok(Forest::Nothing),
+        Answer::One(j) => Ok(Forest::One(trees_of(alloc, chart, j)?)),
         Answer::Two(j, k) => {
             let first = trees_of(alloc, chart, j)?;
-            Ok(Reading::Two(first, trees_of(alloc, chart, k)?))
+            Ok(Forest::Two(first, trees_of(alloc, chart, k)?))
         }
     }
 }
@@ -213,11 +213,11 @@ pub fn read(
     n: usize,
     low: usize,
     high: usize,
-) -> Result<(Trees, Reading), NoMemory>
+) -> Result<(Trees, Forest), NoMemory>
     requires short { n < 4294967296 }
     requires leaves { AreLeaves leaves.now n }
     requires forms { AreForms productions.now }
-    ensures { IfOk result (λ r. IsReading productions.now leaves.now n low high r.0 r.1) }
+    ensures { IfOk result (λ r. IsForest productions.now leaves.now n low high r.0 r.1) }
 {
     let (chart, answer) = answer_of(alloc, productions, leaves, n, low, high)?;
     let reading = reading_of(alloc, &chart, answer)?;

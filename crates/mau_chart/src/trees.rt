@@ -1,5 +1,5 @@
 //! Trees in a store, each once.
-ghost use Rattle.std.specs.Prelude.{◌≡◌, ◌↔◌, ◌<◌, [], length, IfOk, OnOk, IsTrue};
+ghost use Rattle.std.specs.Prelude.{◌≡◌, ◌↔◌, ◌<◌, [], length, IfOk, OnOk, OnErr, IsTrue};
 ghost use Rattle.mau_chart.specs.Nodes.{tree_at, node_tree, NamesBelow, Extends};
 
 use mau_store::{NodeView, Store};
@@ -41,12 +41,13 @@ impl Trees {
         }
     }
 
-    /// The number of the tree of a node, whose arguments are trees of this store.
+    /// The number of the tree of a node, whose arguments are trees of this store. Out of memory, the trees stay as they were.
     pub fn add(&mut self, node: NodeView<'_>) -> Result<TermId, NoMemory>
         requires { NamesBelow (length self.old) node }
         ensures extends { OnOk result (Extends self.old self.new) }
         ensures below { IfOk result (λ id. id.0 < length self.new) }
         ensures tree { IfOk result (λ id. tree_at self.new id.0 ≡ node_tree self.old node.entry) }
+        ensures unchanged { OnErr result (self.new ≡ self.old) }
     {
         let id = self.store.intern(node)?;
         Ok(id)

@@ -5,7 +5,7 @@ use Rattle.std.specs.Str.{IsUtf8, IsCharBoundary}
 use Rattle.std.proofs.lemmas.Str.{IsCharBoundary-after_ascii}
 use Rattle.std.proofs.lemmas.Bool.{eqb-true, and_parts}
 use Rattle.std.proofs.Math.Seq.{drop-cons, take-suc}
-use Rattle.std.proofs.lemmas.List.{length-drop, get_or-drop, take_all, append_assoc}
+use Rattle.std.proofs.lemmas.List.{length-drop, get_or-drop, append_assoc}
 use Rattle.mau_signature.specs.declared.form.Piece.{Piece}
 use Rattle.mau_signature.specs.declared.form.Piece.TheVariants.{Hole}
 use Rattle.mau_modtext.specs.Forms.{is_special_byte, begins_special}

@@ -7,5 +7,4 @@ pub mod Listed
 pub mod Distinct
 pub mod Cutting
 pub mod Counting
-pub mod Numbers
 pub mod Conflicts

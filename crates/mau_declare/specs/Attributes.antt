@@ -2,6 +2,7 @@
 use Rattle.std.specs.Prelude.{ℕ, List, [], ◌∷◌, Bool, true, false, ◌||◌, min, map, fold, if◌then◌else◌, Option, Some, None, codes}
 use Rattle.std.specs.List.{filter_map, list_any}
 use Rattle.std.specs.Str.{bytes_eq}
+use Rattle.mau_numerals.specs.Numerals.{number_up_to}
 use Rattle.mau_tokens.specs.declared.token.Token.{Token}
 use Rattle.mau_signature.specs.declared.attributes.Attrs.{Attrs}
 use Rattle.mau_signature.specs.declared.attributes.Gather.{Gather}
@@ -12,7 +13,6 @@ use Rattle.mau_modtext.specs.Word.{Word}
 use Rattle.mau_modtext.specs.declared.raw.RawAttr.{RawAttr}
 use Rattle.mau_declare.specs.Words.{token_text}
 use Rattle.mau_declare.specs.Forms.{form_of}
-use Rattle.mau_declare.specs.Numerals.{number_up_to}
 
 -- ---- values
 

@@ -2,6 +2,7 @@
 use Rattle.std.specs.Prelude.{◌≡◌, ◌==◌, ℕ, ◌+◌, ◌<◌, Option, Some, None, option_map, List, [], ◌∷◌, ◌++◌, length, map, filter, Bool, false, ◌&&◌, ◌||◌, not, nat_lt, if◌then◌else◌, get_or, codes, slice_get}
 use Rattle.std.specs.List.{list_any, range_with_len, flat_map}
 use Rattle.std.specs.Option.{option_map_or}
+use Rattle.mau_numerals.specs.Numerals.{number_up_to}
 use Rattle.mau_poset.specs.Order.{Hierarchy, kind_of, kinds}
 use Rattle.mau_terms.specs.Norm.{greatest_numeral}
 use Rattle.mau_signature.specs.declared.attributes.Attrs.{Attrs}
@@ -16,7 +17,6 @@ use Rattle.mau_declare.specs.declared.element.SortUse.{SortUse}
 use Rattle.mau_declare.specs.declared.element.Operators.{Operators}
 use Rattle.mau_declare.specs.declared.element.Declared.{Declared}
 use Rattle.mau_declare.specs.Words.{text_at}
-use Rattle.mau_declare.specs.Numerals.{number_up_to}
 
 -- ---- declarations
 

@@ -1,3 +1,7 @@
+-- What the elements of a module's text declare.
+
+-- ---- what a user of the crate has to read, in this order
+
 pub mod Words
 pub mod Names
 pub mod Sorts
@@ -5,7 +9,6 @@ pub mod Imports
 pub mod Counts
 pub mod Readings
 pub mod Forms
-pub mod Numerals
 pub mod Attributes
 pub mod Statements
 pub mod Elements

@@ -4,9 +4,9 @@ ghost use Rattle.mau_signature.specs.Attributes.{numbers_to};
 ghost use Rattle.mau_declare.specs.Attributes;
 
 use crate::forms::read_form;
-use crate::numerals::small_number;
 use crate::words::Words;
 use mau_modtext::RawAttr;
+use mau_numerals::small_number;
 use mau_signature::{Attrs, Gather, IdSpec};
 use mau_terms::{NoMemory, Seq};
 use mau_tokens::Token;
@@ -17,7 +17,7 @@ fn read_precedence(words: &Words, value: &[Token]) -> Option<u8>
     ensures { result ≡ Attributes.precedence_in words.now value.now }
 {
     match value.split_first() {
-        Some((token, _)) => small_number(words.token_text(*token), 127),
+        Some((token, _)) => small_number(words.token_text(*token).as_bytes(), 127),
         None => None,
     }
 }
@@ -54,7 +54,7 @@ fn read_numbers(alloc: Global, words: &Words, value: &[Token]) -> Result<Seq<u8>
 {
     let mut numbers = Vec::new(alloc);
     for token in value {
-        match small_number(words.token_text(*token), 255) {
+        match small_number(words.token_text(*token).as_bytes(), 255) {
             Some(number) => numbers.push(number)?,
             None => (),
         }

@@ -7,9 +7,9 @@ ghost use Rattle.mau_declare.specs.Flattened.{declared_forms, meant, numeral_of,
 ghost use Rattle.mau_declare.specs.Elements.{IsOver, AreOver};
 
 use crate::element::{Declared, Elements, Operators, SortUse};
-use crate::numerals::great_number;
 use crate::words::Words;
 use mau_grammar::Alias;
+use mau_numerals::great_number;
 use mau_poset::Poset;
 use mau_signature::{Attrs, Decl, Form, IdSpec, Piece};
 use mau_terms::{NoMemory, Seq, Text};
@@ -83,7 +83,7 @@ fn numeral_of(form: &Form) -> Option<u128>
     ensures { result ≡ numeral_of form.now }
 {
     match form.pieces() {
-        [Piece::Word(word)] => great_number(word.as_str()),
+        [Piece::Word(word)] => great_number(word.as_str().as_bytes()),
         _ => None,
     }
 }

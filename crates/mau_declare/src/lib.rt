@@ -12,7 +12,6 @@ mod forms;
 mod imports;
 mod lists;
 mod names;
-mod numerals;
 mod operators;
 mod sort_names;
 mod sorts;

@@ -12,6 +12,7 @@ pub mod Accepted
 pub mod Ends
 pub mod Unused
 pub mod Growing
+pub mod Falling
 pub mod Starting
 pub mod Looping
 pub mod Merging

@@ -17,21 +17,22 @@ use Rattle.mau_store.specs.Node.{Node, Extends}
 use Rattle.mau_store.specs.Trees.{tree_at}
 use Rattle.mau_store.specs.View.{numbers}
 use Rattle.mau_store.proofs.Standing.{tree_at-extends}
-use Rattle.mau_canon.specs.Within.{StandWithin}
+use Rattle.mau_canon.specs.Standing.{StandWithin}
 use Rattle.mau_canon.proofs.Standing.{stand_among, stand_within_extended}
 use Rattle.mau_terms.proofs.Solutions.{length-map}
 use Rattle.mau_sorts.specs.HasSort.{Known}
 use Rattle.mau_sorts.specs.Table.{Table, IsSettled}
-use Rattle.mau_api.specs.declared.solution.Solution.{Solution}
-use Rattle.mau_api.specs.declared.places.Place.{Place}
-use Rattle.mau_api.specs.Found.{Question, Found, IsSolution}
-use Rattle.mau_api.specs.Next.{found_cmp, IsBehind, IsNext}
-use Rattle.mau_api.specs.Asked.{Asked, question_in, found_in, IsAskable, HasPlainTop, HasEntry, IsTableOf, BySort, IsGiven, CanBeLast, CanGoOn}
-use Rattle.mau_api.proofs.Growth.{question_same, last_found_same, listings_go_on, trees_long}
-use Rattle.mau_api.specs.Places.{variables_in}
-use Rattle.mau_plain.specs.Tried.{asked_in, ArePlacesOf}
-use Rattle.mau_plain.proofs.Nexts.{numbers_among}
-use Rattle.mau_plain.specs.declared.tried.Trial.{Trial}
+use Rattle.mau_listing.specs.declared.solution.Solution.{Solution}
+use Rattle.mau_listing.specs.declared.places.Place.{Place}
+use Rattle.mau_listing.specs.Question.{Question, IsSolution}
+use Rattle.mau_listing.specs.Matcher.{Matcher}
+use Rattle.mau_listing.specs.Next.{matcher_cmp, IsBehind, IsNext}
+use Rattle.mau_listing.specs.Asked.{Asked, question_in, matcher_in, IsAskable, HasPlainTop, HasEntry, IsTableOf, BySort, IsGiven, CanBeLast, CanGoOn}
+use Rattle.mau_listing.proofs.Growth.{question_same, last_found_same, listings_go_on, trees_long}
+use Rattle.mau_listing.specs.Places.{variables_in}
+use Rattle.mau_trial.specs.Tried.{asked_in, ArePlacesOf}
+use Rattle.mau_trial.proofs.Among.{numbers_among}
+use Rattle.mau_trial.specs.declared.tried.Trial.{Trial}
 use Rattle.mau_match.specs.Searched.{Grows}
 use Rattle.mau_extend.specs.declared.shape.Shape.{Shape}
 use Rattle.mau_extend.specs.Widened.{around, as_term, IsFresh, IsWide}
@@ -136,7 +137,7 @@ module _ (s : SignatureOf) (lawful : IsLawful (terms_over s)) (t : Trial) (w : S
       same_wide : question_in now (shaped_asked w (asked_in t)) ≡ question_in start (shaped_asked w (asked_in t))
       same_wide = question_same start now grows.extends s (shaped_asked w (asked_in t)) (wide_can start before shape can None tt).askable
 
-      last_now : option_map (found_in now) t.last ≡ option_map (found_in start) t.last
+      last_now : option_map (matcher_in now) t.last ≡ option_map (matcher_in start) t.last
       last_now = last_found_same start now grows.extends s true before (asked_in t) t.last can.given
 
       subject_now : tree_at now t.subject.0 ≡ tree_at start t.subject.0
@@ -144,37 +145,37 @@ module _ (s : SignatureOf) (lawful : IsLawful (terms_over s)) (t : Trial) (w : S
 
     module _ (kinds : (p : ℕ × ℕ) → s.numerals ≡ Some p → kind_of s.hierarchy p.0 ≡ kind_of s.hierarchy p.1) (known : Known) (is_table : IsTableOf s known start before)
         (now : List Node) (table : Table) (grows : Grows s (tree_at start t.subject.0) start now before table)
-        (given : Option Solution) (ahead : IsAheadOf s known (question_in start (asked_in t)) w (option_map (found_in start) t.last) (option_map (found_in now) given))
+        (given : Option Solution) (ahead : IsAheadOf s known (question_in start (asked_in t)) w (option_map (matcher_in start) t.last) (option_map (matcher_in now) given))
         (new : List Node) (answer : Option Solution)
-        (next : IsTableOf s known now table → IsNext (IsSolution false s (BySort s known) (question_in now (shaped_asked w (asked_in t)))) (found_cmp (theory_at s) (shaped w (asked_in t).pattern)) (option_map (found_in now) given) (option_map (found_in new) answer)) where
-      next_here : IsNext (IsSolution false s (BySort s known) (question_in start (shaped_asked w (asked_in t)))) (found_cmp (theory_at s) (shaped w (asked_in t).pattern)) (option_map (found_in now) given) (option_map (found_in new) answer)
+        (next : IsTableOf s known now table → IsNext (IsSolution false s (BySort s known) (question_in now (shaped_asked w (asked_in t)))) (matcher_cmp (theory_at s) (shaped w (asked_in t).pattern)) (option_map (matcher_in now) given) (option_map (matcher_in new) answer)) where
+      next_here : IsNext (IsSolution false s (BySort s known) (question_in start (shaped_asked w (asked_in t)))) (matcher_cmp (theory_at s) (shaped w (asked_in t).pattern)) (option_map (matcher_in now) given) (option_map (matcher_in new) answer)
       next_here =
-          subst (λ (u : Question). IsNext (IsSolution false s (BySort s known) u) (found_cmp (theory_at s) (shaped w (asked_in t).pattern)) (option_map (found_in now) given) (option_map (found_in new) answer)) (same_wide now table grows)
+          subst (λ (u : Question). IsNext (IsSolution false s (BySort s known) u) (matcher_cmp (theory_at s) (shaped w (asked_in t).pattern)) (option_map (matcher_in now) given) (option_map (matcher_in new) answer)) (same_wide now table grows)
           (next (grows.table known is_table))
 
-      pub no_more : answer ≡ None → IsNextShaped s known (question_in start (asked_in t)) w (option_map (found_in start) t.last) None
+      pub no_more : answer ≡ None → IsNextShaped s known (question_in start (asked_in t)) w (option_map (matcher_in start) t.last) None
       no_more e =
           none_left s lawful kinds known (question_in start (asked_in t)) can.askable.subject.normal can.askable.bare w.left w.right w.op.0 (variable_of w.first) (variable_of w.last) shape.can shape.first_sort shape.last_sort
-          (option_map (found_in start) t.last) (option_map (found_in now) given) ahead
-          (subst (λ (o : Option Solution). IsNext (IsSolution false s (BySort s known) (question_in start (shaped_asked w (asked_in t)))) (found_cmp (theory_at s) (shaped w (asked_in t).pattern)) (option_map (found_in now) given) (option_map (found_in new) o)) e next_here)
+          (option_map (matcher_in start) t.last) (option_map (matcher_in now) given) ahead
+          (subst (λ (o : Option Solution). IsNext (IsSolution false s (BySort s known) (question_in start (shaped_asked w (asked_in t)))) (matcher_cmp (theory_at s) (shaped w (asked_in t).pattern)) (option_map (matcher_in now) given) (option_map (matcher_in new) o)) e next_here)
 
       module _ (after : Table) (further : Grows s (tree_at start t.subject.0) start new before after) (y : Solution) (e : answer ≡ Some y) where
-        next_one : IsNext (IsSolution false s (BySort s known) (question_in start (shaped_asked w (asked_in t)))) (found_cmp (theory_at s) (shaped w (asked_in t).pattern)) (option_map (found_in now) given) (Some (found_in new y))
-        next_one = subst (λ (o : Option Solution). IsNext (IsSolution false s (BySort s known) (question_in start (shaped_asked w (asked_in t)))) (found_cmp (theory_at s) (shaped w (asked_in t).pattern)) (option_map (found_in now) given) (option_map (found_in new) o)) e next_here
+        next_one : IsNext (IsSolution false s (BySort s known) (question_in start (shaped_asked w (asked_in t)))) (matcher_cmp (theory_at s) (shaped w (asked_in t).pattern)) (option_map (matcher_in now) given) (Some (matcher_in new y))
+        next_one = subst (λ (o : Option Solution). IsNext (IsSolution false s (BySort s known) (question_in start (shaped_asked w (asked_in t)))) (matcher_cmp (theory_at s) (shaped w (asked_in t).pattern)) (option_map (matcher_in now) given) (option_map (matcher_in new) o)) e next_here
 
-        pub found_one : (x : Solution) → IsAccepted s new (asked_in t) w t.last y x → IsNextShaped s known (question_in start (asked_in t)) w (option_map (found_in start) t.last) (Some (found_in new x))
+        pub found_one : (x : Solution) → IsAccepted s new (asked_in t) w t.last y x → IsNextShaped s known (question_in start (asked_in t)) w (option_map (matcher_in start) t.last) (Some (matcher_in new x))
         found_one x is =
             accepted s lawful kinds known (question_in start (asked_in t)) can.askable.subject.normal can.askable.bare w.left w.right w.op.0 (variable_of w.first) (variable_of w.last) shape.can shape.first_sort shape.last_sort
-            (option_map (found_in start) t.last) (option_map (found_in now) given) ahead (found_in new y) (found_in new x) next_one is.narrowed
-            (subst (λ u. IsWide (theory_at s w.op.0) w.op.0 u (found_in new x)) (subject_now new after further) is.wide)
-            (subst (λ o. IsBehind (found_cmp (theory_at s) (asked_in t).pattern) o (found_in new x)) (last_now new after further) is.behind)
+            (option_map (matcher_in start) t.last) (option_map (matcher_in now) given) ahead (matcher_in new y) (matcher_in new x) next_one is.narrowed
+            (subst (λ u. IsWide (theory_at s w.op.0) w.op.0 u (matcher_in new x)) (subject_now new after further) is.wide)
+            (subst (λ o. IsBehind (matcher_cmp (theory_at s) (asked_in t).pattern) o (matcher_in new x)) (last_now new after further) is.behind)
 
-        pub goes_on : IsRefused s new (asked_in t) w t.last y → IsAheadOf s known (question_in start (asked_in t)) w (option_map (found_in start) t.last) (Some (found_in new y))
+        pub goes_on : IsRefused s new (asked_in t) w t.last y → IsAheadOf s known (question_in start (asked_in t)) w (option_map (matcher_in start) t.last) (Some (matcher_in new y))
         goes_on is =
             skipped s lawful kinds known (question_in start (asked_in t)) can.askable.subject.normal can.askable.bare w.left w.right w.op.0 (variable_of w.first) (variable_of w.last) shape.can shape.first_sort shape.last_sort
-            (option_map (found_in start) t.last) (option_map (found_in now) given) ahead (found_in new y) is.0 next_one is.1
+            (option_map (matcher_in start) t.last) (option_map (matcher_in now) given) ahead (matcher_in new y) is.0 next_one is.1
             (λ v b. is.2 (subst (λ u. IsWide (theory_at s w.op.0) w.op.0 u is.0) (sym (subject_now new after further)) v)
-            (subst (λ o. IsBehind (found_cmp (theory_at s) (asked_in t).pattern) o is.0) (sym (last_now new after further)) b))
+            (subst (λ o. IsBehind (matcher_cmp (theory_at s) (asked_in t).pattern) o is.0) (sym (last_now new after further)) b))
 
     -- an accepted one was given
     pub given_one : (new : List Node) (after : Table) → Grows s (tree_at start t.subject.0) start new before after → (y x : Solution) → IsGiven false s new after (shaped_asked w (asked_in t)) y → IsAccepted s new (asked_in t) w t.last y x
@@ -188,7 +189,7 @@ module _ (s : SignatureOf) (lawful : IsLawful (terms_over s)) (t : Trial) (w : S
           settled = numbers_among (IsSettled after) y.values x.values is.settled among;
           solves =
               narrow_solves s lawful (HasEntry s new after) (question_in new (asked_in t)) can_there.askable.subject.normal w.left w.right w.op.0 (variable_of w.first) (variable_of w.last) (shape_now new after further).can
-              (found_in new y) (found_in new x) is.solves acc.narrowed acc.wide;
+              (matcher_in new y) (matcher_in new x) is.solves acc.narrowed acc.wide;
         }
 
     -- the last solution, in a store that has grown
@@ -198,8 +199,8 @@ module _ (s : SignatureOf) (lawful : IsLawful (terms_over s)) (t : Trial) (w : S
         by : (o : Option Solution) → IfSome o (IsGiven true s start before (asked_in t)) → IfSome o (λ x. StandWithin (theory_at s) now (numbers x.values) × (length x.values ≡ length ps))
         by None h = tt
         by (Some x) h =
-            let fits : FitsUnder (terms_over s) w.op.0 (question_in start (asked_in t)).pattern (reading (theory_at s) (question_in start (asked_in t)).subject) h.solves.bare (found_in start x).left (found_in start x).right =
-            subst (λ o. FitsAt (terms_over s) o (question_in start (asked_in t)).pattern (reading (theory_at s) (question_in start (asked_in t)).subject) h.solves.bare (found_in start x).left (found_in start x).right) shape.can.top h.solves.solves.0 in (
+            let fits : FitsUnder (terms_over s) w.op.0 (question_in start (asked_in t)).pattern (reading (theory_at s) (question_in start (asked_in t)).subject) h.solves.bare (matcher_in start x).left (matcher_in start x).right =
+            subst (λ o. FitsAt (terms_over s) o (question_in start (asked_in t)).pattern (reading (theory_at s) (question_in start (asked_in t)).subject) h.solves.bare (matcher_in start x).left (matcher_in start x).right) shape.can.top h.solves.solves.0 in (
               stand_within_extended (theory_at s) start now (numbers x.values) extends h.values,
               sym (trees_long start x.values) ∙ ap (λ ts. length ts) (sym h.solves.values) ∙ length-map (norm (theory_at s)) h.solves.bare ∙ fits.one_each
                   ∙ sym (ap (λ xs. length xs) places.variables) ∙ named_long ps,
@@ -214,17 +215,17 @@ module _ (s : SignatureOf) (t : Trial) (start mid : List Node) (before table : T
   same_question : question_in mid (asked_in t) ≡ question_in start (asked_in t)
   same_question = question_same start mid grows.extends s (asked_in t) can.askable
 
-  same_last : option_map (found_in mid) t.last ≡ option_map (found_in start) t.last
+  same_last : option_map (matcher_in mid) t.last ≡ option_map (matcher_in start) t.last
   same_last = last_found_same start mid grows.extends s true before (asked_in t) t.last can.given
 
   -- what holds of the question and the last solution there holds here
-  pub here : (P : Question → Option Found → Type 0) → P (question_in mid (asked_in t)) (option_map (found_in mid) t.last) → P (question_in start (asked_in t)) (option_map (found_in start) t.last)
-  here P h = subst (λ q. P q (option_map (found_in start) t.last)) same_question (subst (P (question_in mid (asked_in t))) same_last h)
+  pub here : (P : Question → Option Matcher → Type 0) → P (question_in mid (asked_in t)) (option_map (matcher_in mid) t.last) → P (question_in start (asked_in t)) (option_map (matcher_in start) t.last)
+  here P h = subst (λ q. P q (option_map (matcher_in start) t.last)) same_question (subst (P (question_in mid (asked_in t))) same_last h)
 
-  pub there : (P : Question → Option Found → Type 0) → P (question_in start (asked_in t)) (option_map (found_in start) t.last) → P (question_in mid (asked_in t)) (option_map (found_in mid) t.last)
-  there P h = subst (λ q. P q (option_map (found_in mid) t.last)) (sym same_question) (subst (P (question_in start (asked_in t))) (sym same_last) h)
+  pub there : (P : Question → Option Matcher → Type 0) → P (question_in start (asked_in t)) (option_map (matcher_in start) t.last) → P (question_in mid (asked_in t)) (option_map (matcher_in mid) t.last)
+  there P h = subst (λ q. P q (option_map (matcher_in mid) t.last)) (sym same_question) (subst (P (question_in start (asked_in t))) (sym same_last) h)
 
 -- the next one of a shape is the next one with these contexts
-pub of_shape : (s : SignatureOf) (known : Known) (q : Question) (w : Shape) (h k : Bool) (op : OpId) → w.op ≡ op → w.left ≡ h → w.right ≡ k → (last o : Option Found) → IsNextShaped s known q w last o → IsNextOf s known q h k op.0 last o
+pub of_shape : (s : SignatureOf) (known : Known) (q : Question) (w : Shape) (h k : Bool) (op : OpId) → w.op ≡ op → w.left ≡ h → w.right ≡ k → (last o : Option Matcher) → IsNextShaped s known q w last o → IsNextOf s known q h k op.0 last o
 of_shape s known q w h k op eo eh ek last o next =
     subst (λ (i : OpId). IsNextOf s known q h k i.0 last o) eo (subst (λ c. IsNextOf s known q h c w.op.0 last o) ek (subst (λ c. IsNextOf s known q c w.right w.op.0 last o) eh next))

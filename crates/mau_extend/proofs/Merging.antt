@@ -15,15 +15,16 @@ use Rattle.mau_signature.specs.Signature.{SignatureOf, theory_at, terms_over}
 use Rattle.mau_store.specs.Node.{Node, Extends}
 use Rattle.mau_sorts.specs.HasSort.{Known}
 use Rattle.mau_sorts.specs.Table.{Table, KeepsEntries}
-use Rattle.mau_api.specs.declared.solution.Solution.{Solution}
-use Rattle.mau_api.specs.declared.places.Place.{Place}
-use Rattle.mau_api.specs.Found.{Question, Found, IsPart}
-use Rattle.mau_api.specs.Next.{found_cmp, IsBehind}
-use Rattle.mau_api.specs.Asked.{question_in, found_in, IsAskable, BySort, IsGiven}
-use Rattle.mau_api.proofs.Growth.{given_kept, last_found_same, trees_long}
-use Rattle.mau_api.proofs.Ordered.{ties_are_one, found_are_ordered}
-use Rattle.mau_plain.specs.Tried.{asked_in, ArePlacesOf}
-use Rattle.mau_plain.specs.declared.tried.Trial.{Trial}
+use Rattle.mau_listing.specs.declared.solution.Solution.{Solution}
+use Rattle.mau_listing.specs.declared.places.Place.{Place}
+use Rattle.mau_listing.specs.Question.{Question, IsPart}
+use Rattle.mau_listing.specs.Matcher.{Matcher}
+use Rattle.mau_listing.specs.Next.{matcher_cmp, IsBehind}
+use Rattle.mau_listing.specs.Asked.{question_in, matcher_in, IsAskable, BySort, IsGiven}
+use Rattle.mau_listing.proofs.Growth.{given_kept, last_found_same, trees_long}
+use Rattle.mau_listing.proofs.Ordered.{ties_are_one, matchers_are_ordered}
+use Rattle.mau_trial.specs.Tried.{asked_in, ArePlacesOf}
+use Rattle.mau_trial.specs.declared.tried.Trial.{Trial}
 use Rattle.mau_extend.specs.Widened.{IsNextAmong}
 use Rattle.mau_extend.specs.Extended.{IsListed, IsLesser}
 use Rattle.mau_extend.proofs.Looping.{named_long}
@@ -41,69 +42,69 @@ module _ {K : Type 0} (cmp : K → K → Ordering) (total : IsTotalOrder cmp) wh
 
 -- ---- two answers
 
-module _ (s : SignatureOf) (lawful : IsLawful (terms_over s)) (known : Known) (q : Question) (last : Option Found) where
-  abbrev Is : Found → Type 0
+module _ (s : SignatureOf) (lawful : IsLawful (terms_over s)) (known : Known) (q : Question) (last : Option Matcher) where
+  abbrev Is : Matcher → Type 0
   Is = IsPart s (BySort s known) q
 
-  abbrev cmp : Found → Found → Ordering
-  cmp = found_cmp (theory_at s) q.pattern
+  abbrev cmp : Matcher → Matcher → Ordering
+  cmp = matcher_cmp (theory_at s) q.pattern
 
-  total : IsTotalOrder (found_cmp (theory_at s) q.pattern)
-  total = found_are_ordered (theory_at s) q.pattern
+  total : IsTotalOrder (matcher_cmp (theory_at s) q.pattern)
+  total = matchers_are_ordered (theory_at s) q.pattern
 
-  module _ (C C1 C2 : Found → Type 0) (split : (x : Found) → C x → C1 x ⊎ C2 x) (real : (x : Found) → C x → IsPart s (BySort s known) q x) where
-    pub merged : (o1 o2 o : Option Found) → IsNextAmong (IsPart s (BySort s known) q) C1 (found_cmp (theory_at s) q.pattern) last o1 → IsNextAmong (IsPart s (BySort s known) q) C2 (found_cmp (theory_at s) q.pattern) last o2
-        → IsLesser (found_cmp (theory_at s) q.pattern) o1 o2 o → IsNextAmong (IsPart s (BySort s known) q) C (found_cmp (theory_at s) q.pattern) last o
+  module _ (C C1 C2 : Matcher → Type 0) (split : (x : Matcher) → C x → C1 x ⊎ C2 x) (real : (x : Matcher) → C x → IsPart s (BySort s known) q x) where
+    pub merged : (o1 o2 o : Option Matcher) → IsNextAmong (IsPart s (BySort s known) q) C1 (matcher_cmp (theory_at s) q.pattern) last o1 → IsNextAmong (IsPart s (BySort s known) q) C2 (matcher_cmp (theory_at s) q.pattern) last o2
+        → IsLesser (matcher_cmp (theory_at s) q.pattern) o1 o2 o → IsNextAmong (IsPart s (BySort s known) q) C (matcher_cmp (theory_at s) q.pattern) last o
     merged None None o n1 n2 e =
-        subst (IsNextAmong (IsPart s (BySort s known) q) C (found_cmp (theory_at s) q.pattern) last) (sym e)
+        subst (IsNextAmong (IsPart s (BySort s known) q) C (matcher_cmp (theory_at s) q.pattern) last) (sym e)
         (λ x c behind. by x (split x c) behind)
       where
-        by : (x : Found) → C1 x ⊎ C2 x → IsBehind (found_cmp (theory_at s) q.pattern) last x → ⊥
+        by : (x : Matcher) → C1 x ⊎ C2 x → IsBehind (matcher_cmp (theory_at s) q.pattern) last x → ⊥
         by x (inl c) behind = n1 x c behind
         by x (inr c) behind = n2 x c behind
     merged None (Some y) o n1 n2 e =
-        subst (IsNextAmong (IsPart s (BySort s known) q) C (found_cmp (theory_at s) q.pattern) last) (sym e)
+        subst (IsNextAmong (IsPart s (BySort s known) q) C (matcher_cmp (theory_at s) q.pattern) last) (sym e)
         (record { is_one = n2.is_one; behind = n2.behind; least = λ z c behind. by z (split z c) behind })
       where
-        by : (z : Found) → C1 z ⊎ C2 z → IsBehind (found_cmp (theory_at s) q.pattern) last z → (found_cmp (theory_at s) q.pattern y z ≡ Less) ⊎ (y ≡ z)
+        by : (z : Matcher) → C1 z ⊎ C2 z → IsBehind (matcher_cmp (theory_at s) q.pattern) last z → (matcher_cmp (theory_at s) q.pattern y z ≡ Less) ⊎ (y ≡ z)
         by z (inl c) behind = absurd (n1 z c behind)
         by z (inr c) behind = n2.least z c behind
     merged (Some x) None o n1 n2 e =
-        subst (IsNextAmong (IsPart s (BySort s known) q) C (found_cmp (theory_at s) q.pattern) last) (sym e)
+        subst (IsNextAmong (IsPart s (BySort s known) q) C (matcher_cmp (theory_at s) q.pattern) last) (sym e)
         (record { is_one = n1.is_one; behind = n1.behind; least = λ z c behind. by z (split z c) behind })
       where
-        by : (z : Found) → C1 z ⊎ C2 z → IsBehind (found_cmp (theory_at s) q.pattern) last z → (found_cmp (theory_at s) q.pattern x z ≡ Less) ⊎ (x ≡ z)
+        by : (z : Matcher) → C1 z ⊎ C2 z → IsBehind (matcher_cmp (theory_at s) q.pattern) last z → (matcher_cmp (theory_at s) q.pattern x z ≡ Less) ⊎ (x ≡ z)
         by z (inl c) behind = n1.least z c behind
         by z (inr c) behind = absurd (n2 z c behind)
     merged (Some x) (Some y) o n1 n2 (inl e) =
-        subst (IsNextAmong (IsPart s (BySort s known) q) C (found_cmp (theory_at s) q.pattern) last) (sym e.1)
+        subst (IsNextAmong (IsPart s (BySort s known) q) C (matcher_cmp (theory_at s) q.pattern) last) (sym e.1)
         (record { is_one = n2.is_one; behind = n2.behind; least = λ z c behind. by z (split z c) behind })
       where
-        further : (z : Found) → (found_cmp (theory_at s) q.pattern x z ≡ Less) ⊎ (x ≡ z) → (found_cmp (theory_at s) q.pattern y z ≡ Less) ⊎ (y ≡ z)
+        further : (z : Matcher) → (matcher_cmp (theory_at s) q.pattern x z ≡ Less) ⊎ (x ≡ z) → (matcher_cmp (theory_at s) q.pattern y z ≡ Less) ⊎ (y ≡ z)
         further z (inl l) = inl (total.trans y x z e.0 l)
-        further z (inr l) = inl (subst (λ w. found_cmp (theory_at s) q.pattern y w ≡ Less) l e.0)
+        further z (inr l) = inl (subst (λ w. matcher_cmp (theory_at s) q.pattern y w ≡ Less) l e.0)
 
-        by : (z : Found) → C1 z ⊎ C2 z → IsBehind (found_cmp (theory_at s) q.pattern) last z → (found_cmp (theory_at s) q.pattern y z ≡ Less) ⊎ (y ≡ z)
+        by : (z : Matcher) → C1 z ⊎ C2 z → IsBehind (matcher_cmp (theory_at s) q.pattern) last z → (matcher_cmp (theory_at s) q.pattern y z ≡ Less) ⊎ (y ≡ z)
         by z (inl c) behind = further z (n1.least z c behind)
         by z (inr c) behind = n2.least z c behind
     merged (Some x) (Some y) o n1 n2 (inr e) =
-        subst (IsNextAmong (IsPart s (BySort s known) q) C (found_cmp (theory_at s) q.pattern) last) (sym e.1)
+        subst (IsNextAmong (IsPart s (BySort s known) q) C (matcher_cmp (theory_at s) q.pattern) last) (sym e.1)
         (record { is_one = n1.is_one; behind = n1.behind; least = λ z c behind. by z (split z c) behind })
       where
-        step : (z : Found) → (found_cmp (theory_at s) q.pattern x y ≡ Less) ⊎ (found_cmp (theory_at s) q.pattern x y ≡ Equal) → (found_cmp (theory_at s) q.pattern y z ≡ Less) ⊎ (y ≡ z)
-            → (found_cmp (theory_at s) q.pattern x z ≡ Less) ⊎ (x ≡ z)
+        step : (z : Matcher) → (matcher_cmp (theory_at s) q.pattern x y ≡ Less) ⊎ (matcher_cmp (theory_at s) q.pattern x y ≡ Equal) → (matcher_cmp (theory_at s) q.pattern y z ≡ Less) ⊎ (y ≡ z)
+            → (matcher_cmp (theory_at s) q.pattern x z ≡ Less) ⊎ (x ≡ z)
         step z (inl l) (inl m) = inl (total.trans x y z l m)
-        step z (inl l) (inr m) = inl (subst (λ w. found_cmp (theory_at s) q.pattern x w ≡ Less) m l)
+        step z (inl l) (inr m) = inl (subst (λ w. matcher_cmp (theory_at s) q.pattern x w ≡ Less) m l)
         step z (inr t) d =
             let one : x ≡ y = ties_are_one true s lawful known q x y n1.is_one n2.is_one t in
-            subst (λ w. (found_cmp (theory_at s) q.pattern w z ≡ Less) ⊎ (w ≡ z)) (sym one) d
+            subst (λ w. (matcher_cmp (theory_at s) q.pattern w z ≡ Less) ⊎ (w ≡ z)) (sym one) d
 
-        by : (z : Found) → C1 z ⊎ C2 z → IsBehind (found_cmp (theory_at s) q.pattern) last z → (found_cmp (theory_at s) q.pattern x z ≡ Less) ⊎ (x ≡ z)
+        by : (z : Matcher) → C1 z ⊎ C2 z → IsBehind (matcher_cmp (theory_at s) q.pattern) last z → (matcher_cmp (theory_at s) q.pattern x z ≡ Less) ⊎ (x ≡ z)
         by z (inl c) behind = n1.least z c behind
-        by z (inr c) behind = step z (less_or (found_cmp (theory_at s) q.pattern) total x y e.0) (n2.least z c behind)
+        by z (inr c) behind = step z (less_or (matcher_cmp (theory_at s) q.pattern) total x y e.0) (n2.least z c behind)
 
   -- fewer others
-  pub fewer : (C D : Found → Type 0) → ((x : Found) → D x → C x) → (o : Option Found) → IsNextAmong (IsPart s (BySort s known) q) C (found_cmp (theory_at s) q.pattern) last o → IsNextAmong (IsPart s (BySort s known) q) D (found_cmp (theory_at s) q.pattern) last o
+  pub fewer : (C D : Matcher → Type 0) → ((x : Matcher) → D x → C x) → (o : Option Matcher) → IsNextAmong (IsPart s (BySort s known) q) C (matcher_cmp (theory_at s) q.pattern) last o → IsNextAmong (IsPart s (BySort s known) q) D (matcher_cmp (theory_at s) q.pattern) last o
   fewer C D f None n = λ x d. n x (f x d)
   fewer C D f (Some x) n = record { is_one = n.is_one; behind = n.behind; least = λ z d. n.least z (f z d) }
 
@@ -114,7 +115,7 @@ module _ (s : SignatureOf) (t : Trial) (old new : List Node) (before after : Tab
   some_kept None h = tt
   some_kept (Some x) h = given_kept old new extends before after kept true s (asked_in t) askable x h
 
-  pub some_same : (o : Option Solution) → IfSome o (IsGiven true s old before (asked_in t)) → option_map (found_in new) o ≡ option_map (found_in old) o
+  pub some_same : (o : Option Solution) → IfSome o (IsGiven true s old before (asked_in t)) → option_map (matcher_in new) o ≡ option_map (matcher_in old) o
   some_same o h = last_found_same old new extends s true before (asked_in t) o h
 
 module _ (s : SignatureOf) (t : Trial) (f : ℕ) (top : assoc_top (theory_at s) (norm (theory_at s) (tree_of t.pattern)) ≡ Some f) (ps : List Place) (places : ArePlacesOf s (tree_of t.pattern) ps) where
@@ -123,8 +124,8 @@ module _ (s : SignatureOf) (t : Trial) (f : ℕ) (top : assoc_top (theory_at s) 
   some_listed nodes table None h = tt
   some_listed nodes table (Some x) h =
       let q = question_in nodes (asked_in t) in
-      let fits : FitsUnder (terms_over s) f q.pattern (reading (theory_at s) q.subject) h.solves.bare (found_in nodes x).left (found_in nodes x).right =
-      subst (λ o. FitsAt (terms_over s) o q.pattern (reading (theory_at s) q.subject) h.solves.bare (found_in nodes x).left (found_in nodes x).right) top h.solves.solves.0 in
+      let fits : FitsUnder (terms_over s) f q.pattern (reading (theory_at s) q.subject) h.solves.bare (matcher_in nodes x).left (matcher_in nodes x).right =
+      subst (λ o. FitsAt (terms_over s) o q.pattern (reading (theory_at s) q.subject) h.solves.bare (matcher_in nodes x).left (matcher_in nodes x).right) top h.solves.solves.0 in
       record {
         values = h.values;
         one_each =

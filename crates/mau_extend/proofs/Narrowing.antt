@@ -1,5 +1,5 @@
 -- A solution of the widened question is one of the question, with contexts.
-use Rattle.std.proofs.Common.{◌≡◌, ◌≤◌, ◌+◌, ◌⊎◌, ℕ, List, [], ◌∷◌, ◌++◌, length, length-append, map, Bool, true, false, refl, sym, ◌∙◌, ap, ap₂, subst}
+use Rattle.std.proofs.Common.{◌≡◌, ◌≤◌, ◌+◌, ◌⊎◌, ℕ, List, [], ◌++◌, length, length-append, map, Bool, true, false, refl, sym, ◌∙◌, ap, ap₂, subst}
 use Rattle.mau_terms.specs.Tree.{Tree}
 use Rattle.mau_terms.specs.Norm.{norm}
 use Rattle.mau_terms.specs.Bare.{IsBare, IsLawful}
@@ -15,7 +15,8 @@ use Rattle.mau_terms.proofs.Chains.{first_bare}
 use Rattle.mau_terms.proofs.Law.{equal_norm}
 use Rattle.mau_terms.proofs.Solutions.{length-map, with_values_norms, list_of_made}
 use Rattle.mau_signature.specs.Signature.{SignatureOf, theory_at, terms_over}
-use Rattle.mau_api.specs.Found.{Question, Found, OfNorm, IsWhole, IsPart}
+use Rattle.mau_listing.specs.Question.{Question, OfNorm, IsWhole, IsPart}
+use Rattle.mau_listing.specs.Matcher.{Matcher}
 use Rattle.mau_extend.specs.Widened.{widened, around, context_list, as_term, widened_question, CanBeWidened, narrowed}
 use Rattle.mau_extend.proofs.Widened.{Lacks, lacks, variables_widened}
 use Rattle.mau_extend.proofs.Lists.{own_list, no_list, each_piece, norm-widened}
@@ -48,7 +49,7 @@ module _ (s : SignatureOf) (lawful : IsLawful (terms_over s)) (P : ℕ → Tree 
   same_context false t l e = refl
 
   -- what the subject is of
-  pub whole_of : (y : Found) → IsWhole s P (widened_question h k f a b q) y → (l : Tree) (vs : List Tree) (r : Tree) → y.values ≡ around h k l vs r → length vs ≡ length (variables q.pattern)
+  pub whole_of : (y : Matcher) → IsWhole s P (widened_question h k f a b q) y → (l : Tree) (vs : List Tree) (r : Tree) → y.values ≡ around h k l vs r → length vs ≡ length (variables q.pattern)
       → norm (theory_at s) (reading (theory_at s) q.subject)
       ≡ over_list (theory_at s f) f (context_list h (theory_at s f) f l ++ (list_under (theory_at s f) f (norm (theory_at s) (with_values q.pattern vs)) ++ context_list k (theory_at s f) f r))
   whole_of y is l vs r values each =
@@ -66,7 +67,7 @@ module _ (s : SignatureOf) (lawful : IsLawful (terms_over s)) (P : ℕ → Tree 
       (same_context h (norm (theory_at s) split.first) l split.at_first) (same_context k (norm (theory_at s) split.last) r split.at_last)
       ∙ ap (λ t. over_list (theory_at s f) f (context_list h (theory_at s f) f l ++ (list_under (theory_at s f) f t ++ context_list k (theory_at s f) f r))) norms
 
-  contexts_normal : (y : Found) → IsWhole s P (widened_question h k f a b q) y → (l : Tree) (vs : List Tree) (r : Tree) → y.values ≡ around h k l vs r
+  contexts_normal : (y : Matcher) → IsWhole s P (widened_question h k f a b q) y → (l : Tree) (vs : List Tree) (r : Tree) → y.values ≡ around h k l vs r
       → IsListOf (theory_at s) f (context_list h (theory_at s f) f l) × IsListOf (theory_at s) f (context_list k (theory_at s f) f r)
   contexts_normal y is l vs r values =
       let split : IsAround (norm (theory_at s)) h k l vs r is.bare = around_is (norm (theory_at s)) h k l vs r is.bare q.pattern (is.values ∙ values) in (
@@ -75,7 +76,7 @@ module _ (s : SignatureOf) (lawful : IsLawful (terms_over s)) (P : ℕ → Tree 
       )
 
   -- how long the list of the subject is
-  pub long_of : norm (theory_at s) q.subject ≡ q.subject → (y : Found) → IsWhole s P (widened_question h k f a b q) y → (l : Tree) (vs : List Tree) (r : Tree) → y.values ≡ around h k l vs r → length vs ≡ length (variables q.pattern)
+  pub long_of : norm (theory_at s) q.subject ≡ q.subject → (y : Matcher) → IsWhole s P (widened_question h k f a b q) y → (l : Tree) (vs : List Tree) (r : Tree) → y.values ≡ around h k l vs r → length vs ≡ length (variables q.pattern)
       → length (list_under (theory_at s f) f q.subject)
       ≡ length (context_list h (theory_at s f) f l) + (length (list_under (theory_at s f) f (norm (theory_at s) (with_values q.pattern vs))) + length (context_list k (theory_at s f) f r))
   long_of normal y is l vs r values each =
@@ -91,7 +92,7 @@ module _ (s : SignatureOf) (lawful : IsLawful (terms_over s)) (P : ℕ → Tree 
       ∙ length-arrange (theory_at s f).comm (left ++ (m ++ right))
       ∙ length-append left (m ++ right) ∙ ap (λ n. length left + n) (length-append m right)
 
-  pub narrow : (y : Found) → IsWhole s P (widened_question h k f a b q) y → (l : Tree) (vs : List Tree) (r : Tree) → y.values ≡ around h k l vs r → length vs ≡ length (variables q.pattern)
+  pub narrow : (y : Matcher) → IsWhole s P (widened_question h k f a b q) y → (l : Tree) (vs : List Tree) (r : Tree) → y.values ≡ around h k l vs r → length vs ≡ length (variables q.pattern)
       → (2 ≤ length (list_under (theory_at s f) f (norm (theory_at s) (with_values q.pattern vs)))) ⊎ ((context_list h (theory_at s f) f l ≡ []) × (context_list k (theory_at s f) f r ≡ []))
       → IsPart s P q (narrowed h k (theory_at s f) f l vs r)
   narrow y is l vs r values each part =

@@ -9,7 +9,8 @@ use Rattle.mau_terms.proofs.Normal.{norm-norm}
 use Rattle.mau_terms.proofs.Solutions.{length-map}
 use Rattle.mau_terms.proofs.Ties.{places_length}
 use Rattle.mau_signature.specs.Signature.{SignatureOf, theory_at, terms_over}
-use Rattle.mau_api.specs.Found.{Question, Found, IsWhole, IsPart}
+use Rattle.mau_listing.specs.Question.{Question, IsWhole, IsPart}
+use Rattle.mau_listing.specs.Matcher.{Matcher}
 use Rattle.mau_extend.specs.Widened.{around, context_list, widened_question, CanBeWidened, IsNarrowed, IsWide}
 use Rattle.mau_extend.proofs.Widened.{lacks, variables_widened}
 use Rattle.mau_extend.proofs.Around.{IsAround, around_is}
@@ -65,7 +66,7 @@ module _ {A B : Type 0} where
 -- ---- one solution
 
 module _ (s : SignatureOf) (lawful : IsLawful (terms_over s)) (P : ℕ → Tree → Type 0) (q : Question) (normal : norm (theory_at s) q.subject ≡ q.subject) (h k : Bool) (f : ℕ) (a b : Variable) (can : CanBeWidened s q h f a b) where
-  module _ (y x : Found) (solves : IsWhole s P (widened_question h k f a b q) y) (is : IsNarrowed h k (theory_at s f) f y x) where
+  module _ (y x : Matcher) (solves : IsWhole s P (widened_question h k f a b q) y) (is : IsNarrowed h k (theory_at s f) f y x) where
     names_long : length x.values ≡ length (variables q.pattern)
     names_long =
         around_long_back h k is.left x.values is.right a (variables q.pattern) b
@@ -76,10 +77,10 @@ module _ (s : SignatureOf) (lawful : IsLawful (terms_over s)) (P : ℕ → Tree 
     narrow_long = names_long ∙ sym (places_length (theory_at s) q.pattern)
 
     pub left_is : x.left ≡ context_list h (theory_at s f) f is.left
-    left_is = ap (λ (z : Found). z.left) is.same
+    left_is = ap (λ (z : Matcher). z.left) is.same
 
     pub right_is : x.right ≡ context_list k (theory_at s f) f is.right
-    right_is = ap (λ (z : Found). z.right) is.same
+    right_is = ap (λ (z : Matcher). z.right) is.same
 
     left_norm : h ≡ true → norm (theory_at s) is.left ≡ is.left
     left_norm e =

@@ -21,18 +21,19 @@ use Rattle.mau_store.specs.Node.{Node}
 use Rattle.mau_store.specs.Trees.{tree_at, trees_at}
 use Rattle.mau_store.specs.View.{numbers}
 use Rattle.mau_store.proofs.Growth.{trees_at-extends}
-use Rattle.mau_canon.specs.Within.{StandsWithin, StandWithin}
+use Rattle.mau_canon.specs.Standing.{StandsWithin, StandWithin}
 use Rattle.mau_canon.proofs.Standing.{stands_within_extended, stand_within_extended, stand_there}
 use Rattle.mau_sorts.specs.HasSort.{Known}
 use Rattle.mau_sorts.specs.Table.{Table, IsSettled}
-use Rattle.mau_api.specs.declared.solution.Solution.{Solution}
-use Rattle.mau_api.specs.Found.{Question, Found, IsPart}
-use Rattle.mau_api.specs.Next.{found_cmp, IsBehind}
-use Rattle.mau_api.specs.Asked.{question_in, found_in, HasEntry, IsTableOf, BySort, IsPoint, IsGiven, CanGoOn}
-use Rattle.mau_api.proofs.Growth.{IsSolution-then, settled_kept, trees_long}
-use Rattle.mau_api.proofs.Ordered.{entries_are_sorts}
-use Rattle.mau_plain.specs.Tried.{asked_in, without_context}
-use Rattle.mau_plain.specs.declared.tried.Trial.{Trial}
+use Rattle.mau_listing.specs.declared.solution.Solution.{Solution}
+use Rattle.mau_listing.specs.Question.{Question, IsPart}
+use Rattle.mau_listing.specs.Matcher.{Matcher}
+use Rattle.mau_listing.specs.Next.{matcher_cmp, IsBehind}
+use Rattle.mau_listing.specs.Asked.{question_in, matcher_in, HasEntry, IsTableOf, BySort, IsPoint, IsGiven, CanGoOn}
+use Rattle.mau_listing.proofs.Growth.{IsSolution-then, settled_kept, trees_long}
+use Rattle.mau_listing.proofs.Ordered.{entries_are_sorts}
+use Rattle.mau_trial.specs.Tried.{asked_in, without_context}
+use Rattle.mau_trial.specs.declared.tried.Trial.{Trial}
 use Rattle.mau_match.specs.Searched.{Grows}
 use Rattle.mau_extend.specs.declared.shape.Shape.{Shape}
 use Rattle.mau_extend.specs.Widened.{around, before_last}
@@ -85,10 +86,10 @@ module _ (s : SignatureOf) (lawful : IsLawful (terms_over s)) (old : List Node) 
   given : IsGiven true s old before (asked_in t) x
   given = subst (λ o. IfSome o (IsGiven true s old before (asked_in t))) last can.given
 
-  pub nowhere : w.left ≡ false → x.left ≢ [] → (known : Known) → (z : Found) → IsShaped s known (question_in old (asked_in t)) w z → IsBehind (found_cmp (theory_at s) (question_in old (asked_in t)).pattern) (Some (found_in old x)) z → ⊥
-  nowhere e some known z is behind = by x.left some (found_in old x).left refl z.left (is.1.left.none e) behind
+  pub nowhere : w.left ≡ false → x.left ≢ [] → (known : Known) → (z : Matcher) → IsShaped s known (question_in old (asked_in t)) w z → IsBehind (matcher_cmp (theory_at s) (question_in old (asked_in t)).pattern) (Some (matcher_in old x)) z → ⊥
+  nowhere e some known z is behind = by x.left some (matcher_in old x).left refl z.left (is.1.left.none e) behind
     where
-      by : (ids : List TermId) → ids ≢ [] → (ls : List Tree) → ls ≡ trees_at old (numbers ids) → (zs : List Tree) → zs ≡ [] → found_cmp (theory_at s) (question_in old (asked_in t)).pattern (record { left = ls; right = (found_in old x).right; values = (found_in old x).values }) (record { left = zs; right = z.right; values = z.values }) ≡ Less → ⊥
+      by : (ids : List TermId) → ids ≢ [] → (ls : List Tree) → ls ≡ trees_at old (numbers ids) → (zs : List Tree) → zs ≡ [] → matcher_cmp (theory_at s) (question_in old (asked_in t)).pattern (record { left = ls; right = (matcher_in old x).right; values = (matcher_in old x).values }) (record { left = zs; right = z.right; values = z.values }) ≡ Less → ⊥
       by [] n ls e zs d b = n refl
       by (id ∷ ids) n [] e zs d b = cc
       by (id ∷ ids) n (l ∷ ls) e [] d b = cc
@@ -97,18 +98,18 @@ module _ (s : SignatureOf) (lawful : IsLawful (terms_over s)) (old : List Node) 
   module _ (new : List Node) (after : Table) (grows : Grows s (tree_at old t.subject.0) old new before after) (first : TermId)
       (value : w.left ≡ true → tree_at new first.0 ≡ norm (theory_at s) (node w.op.0 (trees_at old (numbers x.left)))) where
     pub ahead : (kinds : (p : ℕ × ℕ) → s.numerals ≡ Some p → kind_of s.hierarchy p.0 ≡ kind_of s.hierarchy p.1) (known : Known) → IsTableOf s known old before → (w.left ≡ false → x.left ≡ [])
-        → IsAheadOf s known (question_in old (asked_in t)) w (Some (found_in old x)) (Some (found_in new (without_context (around w.left w.right first x.values t.subject))))
+        → IsAheadOf s known (question_in old (asked_in t)) w (Some (matcher_in old x)) (Some (matcher_in new (without_context (around w.left w.right first x.values t.subject))))
     ahead kinds known table none =
-        let part : IsPart s (BySort s known) (question_in old (asked_in t)) (found_in old x) =
-        IsSolution-then true s (HasEntry s old before) (BySort s known) (entries_are_sorts s known old before table) (question_in old (asked_in t)) (found_in old x) given.solves in
-        let fits : FitsUnder (terms_over s) w.op.0 (question_in old (asked_in t)).pattern (reading (theory_at s) (question_in old (asked_in t)).subject) part.bare (found_in old x).left (found_in old x).right =
-        subst (λ o. FitsAt (terms_over s) o (question_in old (asked_in t)).pattern (reading (theory_at s) (question_in old (asked_in t)).subject) part.bare (found_in old x).left (found_in old x).right) shape.can.top part.solves.0 in
+        let part : IsPart s (BySort s known) (question_in old (asked_in t)) (matcher_in old x) =
+        IsSolution-then true s (HasEntry s old before) (BySort s known) (entries_are_sorts s known old before table) (question_in old (asked_in t)) (matcher_in old x) given.solves in
+        let fits : FitsUnder (terms_over s) w.op.0 (question_in old (asked_in t)).pattern (reading (theory_at s) (question_in old (asked_in t)).subject) part.bare (matcher_in old x).left (matcher_in old x).right =
+        subst (λ o. FitsAt (terms_over s) o (question_in old (asked_in t)).pattern (reading (theory_at s) (question_in old (asked_in t)).subject) part.bare (matcher_in old x).left (matcher_in old x).right) shape.can.top part.solves.0 in
         let l = trees_at old (numbers x.left) in
         let over : norm (theory_at s) (node w.op.0 l) ≡ over_list (theory_at s w.op.0) w.op.0 l =
         norm-list (theory_at s) w.op.0 l (each_piece (theory_at s) lawful.theories w.op.0 assoc l fits.left_list.pieces) fits.left_list.pieces in
         ahead_of_point s lawful kinds known (question_in old (asked_in t)) can.askable.subject.normal can.askable.bare w.left w.right w.op.0 (variable_of w.first) (variable_of w.last) shape.can shape.first_sort shape.last_sort
-        (found_in old x) part (λ e. ap (λ (ids : List TermId). trees_at old (numbers ids)) (none e)) (tree_at new t.subject.0)
-        (found_in new (without_context (around w.left w.right first x.values t.subject))) refl
+        (matcher_in old x) part (λ e. ap (λ (ids : List TermId). trees_at old (numbers ids)) (none e)) (tree_at new t.subject.0)
+        (matcher_in new (without_context (around w.left w.right first x.values t.subject))) refl
         (terms_around new w.left w.right first x.values t.subject
         ∙ ap (λ vs. around w.left w.right (tree_at new first.0) vs (tree_at new t.subject.0)) (trees_at-extends old new (numbers x.values) grows.extends (stand_there (theory_at s) old (numbers x.values) given.values))
         ∙ same_first w.left w.right (tree_at new first.0) (over_list (theory_at s w.op.0) w.op.0 l) (trees_at old (numbers x.values)) (tree_at new t.subject.0) (λ e. value e ∙ over))
@@ -138,4 +139,4 @@ module _ (s : SignatureOf) (lawful : IsLawful (terms_over s)) (old : List Node) 
         each =
             sym (trees_long old x.values) ∙ ap (λ ts. length ts) (sym given.solves.values)
             ∙ length-map (norm (theory_at s)) given.solves.bare
-            ∙ (subst (λ o. FitsAt (terms_over s) o (question_in old (asked_in t)).pattern (reading (theory_at s) (question_in old (asked_in t)).subject) given.solves.bare (found_in old x).left (found_in old x).right) shape.can.top given.solves.solves.0).one_each
+            ∙ (subst (λ o. FitsAt (terms_over s) o (question_in old (asked_in t)).pattern (reading (theory_at s) (question_in old (asked_in t)).subject) given.solves.bare (matcher_in old x).left (matcher_in old x).right) shape.can.top given.solves.solves.0).one_each

@@ -8,9 +8,9 @@ use Rattle.mau_terms.specs.declared.ids.TermId.{TermId}
 use Rattle.mau_terms.specs.declared.ids.VarId.{VarId}
 use Rattle.mau_signature.specs.Signature.{SignatureOf, terms_over}
 use Rattle.mau_store.specs.Node.{Node}
-use Rattle.mau_api.specs.declared.places.Place.{Place}
-use Rattle.mau_api.specs.Places.{variables_in}
-use Rattle.mau_api.specs.Asked.{Asked, bound_in, question_in}
+use Rattle.mau_listing.specs.declared.places.Place.{Place}
+use Rattle.mau_listing.specs.Places.{variables_in}
+use Rattle.mau_listing.specs.Asked.{Asked, bound_in, question_in}
 use Rattle.mau_extend.specs.Widened.{IsFresh}
 use Rattle.mau_extend.specs.Extended.{IsUnused}
 

@@ -9,8 +9,8 @@ use Rattle.mau_terms.specs.Norm.{norm}
 use Rattle.mau_terms.specs.Subst.{Variable, same_variable, has_variable, variables}
 use Rattle.mau_terms.specs.Solution.{add_places, places, value_key, value_keys, list_cmp, list_under}
 use Rattle.mau_terms.specs.declared.theory.Theory.{Theory}
-use Rattle.mau_api.specs.Found.{Found}
-use Rattle.mau_api.specs.Next.{found_cmp}
+use Rattle.mau_listing.specs.Matcher.{Matcher}
+use Rattle.mau_listing.specs.Next.{matcher_cmp}
 use Rattle.mau_extend.specs.Widened.{widened, around, behind_first, before_last, as_term}
 use Rattle.mau_extend.proofs.Widened.{Lacks, places_widened}
 use Rattle.mau_extend.proofs.Around.{map_around}
@@ -81,10 +81,10 @@ module _ (th : ℕ → Theory) where
     last_inside false l xs r = refl
 
     -- x and x' stand for y and y', whose values are around theirs
-    pub wide_cmp : (h k : Bool) (y y' x x' : Found) (u u' r r' : Tree) → y.left ≡ [] → y'.left ≡ [] → y.values ≡ around h k u x.values r → y'.values ≡ around h k u' x'.values r'
+    pub wide_cmp : (h k : Bool) (y y' x x' : Matcher) (u u' r r' : Tree) → y.left ≡ [] → y'.left ≡ [] → y.values ≡ around h k u x.values r → y'.values ≡ around h k u' x'.values r'
         → length x.values ≡ length (places th p) → length x'.values ≡ length (places th p)
         → (h ≡ true → list_under (th f) f (norm th u) ≡ x.left) → (h ≡ true → list_under (th f) f (norm th u') ≡ x'.left) → (h ≡ false → x.left ≡ []) → (h ≡ false → x'.left ≡ [])
-        → found_cmp th (widened h k f (as_term a) p (as_term b)) y y' ≡ then_last k (found_cmp th p x x') (list_under (th f) f (norm th r)) (list_under (th f) f (norm th r'))
+        → matcher_cmp th (widened h k f (as_term a) p (as_term b)) y y' ≡ then_last k (matcher_cmp th p x x') (list_under (th f) f (norm th r)) (list_under (th f) f (norm th r'))
     wide_cmp h k y y' x x' u u' r r' n n' v v' l l' e e' d d' =
         let os = places th p in
         let K = value_keys th os x.values in

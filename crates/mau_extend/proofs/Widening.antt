@@ -14,7 +14,8 @@ use Rattle.mau_terms.proofs.Solutions.{length-map, list_of_made}
 use Rattle.mau_terms.proofs.Wholes.{over_list_normal, norm-reading}
 use Rattle.mau_terms.proofs.Normal.{normal_fixed}
 use Rattle.mau_signature.specs.Signature.{SignatureOf, theory_at, terms_over}
-use Rattle.mau_api.specs.Found.{Question, Found, OfNorm, IsWhole, IsPart}
+use Rattle.mau_listing.specs.Question.{Question, OfNorm, IsWhole, IsPart}
+use Rattle.mau_listing.specs.Matcher.{Matcher}
 use Rattle.mau_extend.specs.Widened.{widened, around, context_list, as_term, widened_question, CanBeWidened, CanBeArgument}
 use Rattle.mau_extend.proofs.Widened.{Lacks, lacks, variables_widened}
 use Rattle.mau_extend.proofs.Lists.{each_piece, list_back, norm-widened}
@@ -65,9 +66,9 @@ module _ (s : SignatureOf) (lawful : IsLawful (terms_over s)) (P : ℕ → Tree 
       → IsBareIn (terms_over s) (reading (theory_at s) (over_list (theory_at s f) f ts)) ((terms_over s).result f)
   argument_bare c ts l d each e = over_bare (terms_over s) lawful f assoc has ts l each (d.there e)
 
-  pub widen : (x : Found) → IsPart s P q x → CanBeArgument h (theory_at s f) x.left → CanBeArgument k (theory_at s f) x.right
+  pub widen : (x : Matcher) → IsPart s P q x → CanBeArgument h (theory_at s f) x.left → CanBeArgument k (theory_at s f) x.right
       → ((v : Tree) → norm (theory_at s) v ≡ v → IsBareIn (terms_over s) (reading (theory_at s) v) ((terms_over s).result f) → P a.1 v × P b.1 v)
-      → (y : Found) → y.left ≡ [] → y.right ≡ [] → y.values ≡ around h k (over_list (theory_at s f) f x.left) x.values (over_list (theory_at s f) f x.right)
+      → (y : Matcher) → y.left ≡ [] → y.right ≡ [] → y.values ≡ around h k (over_list (theory_at s f) f x.left) x.values (over_list (theory_at s f) f x.right)
       → IsWhole s P (widened_question h k f a b q) y
   widen x is at_left at_right of_kind y no_left no_right values =
       let wide = widened h k f (as_term a) q.pattern (as_term b) in

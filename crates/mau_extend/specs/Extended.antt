@@ -10,15 +10,16 @@ use Rattle.mau_signature.specs.Signature.{SignatureOf, IsOperator, theory_at, te
 use Rattle.mau_store.specs.Node.{Node}
 use Rattle.mau_store.specs.Trees.{tree_at}
 use Rattle.mau_store.specs.View.{numbers}
-use Rattle.mau_canon.specs.Within.{StandWithin}
-use Rattle.mau_api.specs.declared.solution.Solution.{Solution}
+use Rattle.mau_canon.specs.Standing.{StandWithin}
+use Rattle.mau_listing.specs.declared.solution.Solution.{Solution}
 use Rattle.std.specs.Option.{option_map}
 use Rattle.mau_sorts.specs.HasSort.{Known}
-use Rattle.mau_api.specs.declared.places.Place.{Place}
-use Rattle.mau_api.specs.Found.{Question, Found, IsPart}
-use Rattle.mau_api.specs.Next.{found_cmp, IsBehind}
+use Rattle.mau_listing.specs.declared.places.Place.{Place}
+use Rattle.mau_listing.specs.Question.{Question, IsPart}
+use Rattle.mau_listing.specs.Matcher.{Matcher}
+use Rattle.mau_listing.specs.Next.{matcher_cmp, IsBehind}
 use Rattle.mau_sorts.specs.Table.{Table}
-use Rattle.mau_api.specs.Asked.{Asked, BySort, IsPoint, found_in}
+use Rattle.mau_listing.specs.Asked.{Asked, BySort, IsPoint, matcher_in}
 use Rattle.mau_extend.specs.declared.shape.Shape.{Shape}
 use Rattle.mau_extend.specs.declared.start.Start.{Start}
 use Rattle.mau_extend.specs.declared.start.Start.TheVariants.{Nowhere, First, Behind}
@@ -49,18 +50,18 @@ abbrev pub shaped_asked : Shape → Asked → Asked
 shaped_asked w a = record a { pattern = shaped w a.pattern }
 
 -- the solutions that this shape is for
-abbrev pub IsShaped : SignatureOf → Known → Question → Shape → Found → Type 0
+abbrev pub IsShaped : SignatureOf → Known → Question → Shape → Matcher → Type 0
 IsShaped s known q w x = IsPart s (BySort s known) q x × HasShape w.left w.right (theory_at s w.op.0) x
 
 -- all solutions of this shape behind the last one stand behind the given one of the widened pattern
-abbrev pub IsAheadOf : SignatureOf → Known → Question → Shape → Option Found → Option Found → Type 0
+abbrev pub IsAheadOf : SignatureOf → Known → Question → Shape → Option Matcher → Option Matcher → Type 0
 IsAheadOf s known q w last given =
-    (x : Found) → IsShaped s known q w x → IsBehind (found_cmp (theory_at s) q.pattern) last x →
-    IsBehind (found_cmp (theory_at s) (shaped w q.pattern)) given (widened_found w.left w.right (theory_at s w.op.0) w.op.0 x)
+    (x : Matcher) → IsShaped s known q w x → IsBehind (matcher_cmp (theory_at s) q.pattern) last x →
+    IsBehind (matcher_cmp (theory_at s) (shaped w q.pattern)) given (widened_found w.left w.right (theory_at s w.op.0) w.op.0 x)
 
 -- the answer is the least solution behind the last one, as far as those of this shape are concerned
-abbrev pub IsNextShaped : SignatureOf → Known → Question → Shape → Option Found → Option Found → Type 0
-IsNextShaped s known q w = IsNextAmong (IsPart s (BySort s known) q) (IsShaped s known q w) (found_cmp (theory_at s) q.pattern)
+abbrev pub IsNextShaped : SignatureOf → Known → Question → Shape → Option Matcher → Option Matcher → Type 0
+IsNextShaped s known q w = IsNextAmong (IsPart s (BySort s known) q) (IsShaped s known q w) (matcher_cmp (theory_at s) q.pattern)
 
 -- ---- where a listing of the widened pattern goes on
 
@@ -71,34 +72,34 @@ CanStart s nodes table a First = Unit {0}
 CanStart s nodes table a (Behind y) = IsPoint s nodes table a y
 
 -- nowhere, where no solution of this shape stands behind the last one; else all of these stand behind it
-abbrev pub IsStartOf : SignatureOf → Known → Question → Shape → Option Found → List Node → Start → Type 0
-IsStartOf s known q w last nodes Nowhere = (x : Found) → IsShaped s known q w x → IsBehind (found_cmp (theory_at s) q.pattern) last x → ⊥
+abbrev pub IsStartOf : SignatureOf → Known → Question → Shape → Option Matcher → List Node → Start → Type 0
+IsStartOf s known q w last nodes Nowhere = (x : Matcher) → IsShaped s known q w x → IsBehind (matcher_cmp (theory_at s) q.pattern) last x → ⊥
 IsStartOf s known q w last nodes First = IsAheadOf s known q w last None
-IsStartOf s known q w last nodes (Behind y) = IsAheadOf s known q w last (Some (found_in nodes y))
+IsStartOf s known q w last nodes (Behind y) = IsAheadOf s known q w last (Some (matcher_in nodes y))
 
 -- ---- which solutions of the widened pattern count
 
 -- x is what the solution y of the widened pattern is; its contexts are wide enough, and it stands behind the last one
 pub record IsAccepted (s : SignatureOf) (nodes : List Node) (a : Asked) (w : Shape) (last : Option Solution) (y x : Solution) : Type 0 where
-  pub narrowed : IsNarrowed w.left w.right (theory_at s w.op.0) w.op.0 (found_in nodes y) (found_in nodes x)
-  pub wide : IsWide (theory_at s w.op.0) w.op.0 (tree_at nodes a.subject.0) (found_in nodes x)
-  pub behind : IsBehind (found_cmp (theory_at s) a.pattern) (option_map (found_in nodes) last) (found_in nodes x)
+  pub narrowed : IsNarrowed w.left w.right (theory_at s w.op.0) w.op.0 (matcher_in nodes y) (matcher_in nodes x)
+  pub wide : IsWide (theory_at s w.op.0) w.op.0 (tree_at nodes a.subject.0) (matcher_in nodes x)
+  pub behind : IsBehind (matcher_cmp (theory_at s) a.pattern) (option_map (matcher_in nodes) last) (matcher_in nodes x)
 
 -- what the solution y of the widened pattern is does not count
 abbrev pub IsRefused : SignatureOf → List Node → Asked → Shape → Option Solution → Solution → Type 0
 IsRefused s nodes a w last y =
-    (x : Found) × IsNarrowed w.left w.right (theory_at s w.op.0) w.op.0 (found_in nodes y) x
-    × (IsWide (theory_at s w.op.0) w.op.0 (tree_at nodes a.subject.0) x → IsBehind (found_cmp (theory_at s) a.pattern) (option_map (found_in nodes) last) x → ⊥)
+    (x : Matcher) × IsNarrowed w.left w.right (theory_at s w.op.0) w.op.0 (matcher_in nodes y) x
+    × (IsWide (theory_at s w.op.0) w.op.0 (tree_at nodes a.subject.0) x → IsBehind (matcher_cmp (theory_at s) a.pattern) (option_map (matcher_in nodes) last) x → ⊥)
 
 -- ---- the next solution
 
 -- the same for all shapes with these contexts
-abbrev pub IsNextOf : SignatureOf → Known → Question → Bool → Bool → ℕ → Option Found → Option Found → Type 0
-IsNextOf s known q h k f = IsNextAmong (IsPart s (BySort s known) q) (λ x. IsPart s (BySort s known) q x × HasShape h k (theory_at s f) x) (found_cmp (theory_at s) q.pattern)
+abbrev pub IsNextOf : SignatureOf → Known → Question → Bool → Bool → ℕ → Option Matcher → Option Matcher → Type 0
+IsNextOf s known q h k f = IsNextAmong (IsPart s (BySort s known) q) (λ x. IsPart s (BySort s known) q x × HasShape h k (theory_at s f) x) (matcher_cmp (theory_at s) q.pattern)
 
 -- as far as solutions are concerned whose left context is one of these
-abbrev pub IsNextBeside : SignatureOf → Known → Question → Bool → ℕ → Option Found → Option Found → Type 0
-IsNextBeside s known q h f = IsNextAmong (IsPart s (BySort s known) q) (λ x. IsPart s (BySort s known) q x × CanBeArgument h (theory_at s f) x.left) (found_cmp (theory_at s) q.pattern)
+abbrev pub IsNextBeside : SignatureOf → Known → Question → Bool → ℕ → Option Matcher → Option Matcher → Type 0
+IsNextBeside s known q h f = IsNextAmong (IsPart s (BySort s known) q) (λ x. IsPart s (BySort s known) q x × CanBeArgument h (theory_at s f) x.left) (matcher_cmp (theory_at s) q.pattern)
 
 -- the values of x are normal forms within the limits, one for each place
 pub record IsListed (s : SignatureOf) (nodes : List Node) (ps : List Place) (x : Solution) : Type 0 where
@@ -106,7 +107,7 @@ pub record IsListed (s : SignatureOf) (nodes : List Node) (ps : List Place) (x :
   pub one_each : length x.values ≡ length ps
 
 -- the least of what is there
-abbrev pub IsLesser : (Found → Found → Ordering) → Option Found → Option Found → Option Found → Type 0
+abbrev pub IsLesser : (Matcher → Matcher → Ordering) → Option Matcher → Option Matcher → Option Matcher → Type 0
 IsLesser cmp None other o = o ≡ other
 IsLesser cmp (Some x) None o = o ≡ Some x
 IsLesser cmp (Some x) (Some y) o = ((cmp y x ≡ Less) × (o ≡ Some y)) ⊎ ((cmp y x ≡ Less → ⊥) × (o ≡ Some x))

@@ -12,8 +12,9 @@ use Rattle.mau_terms.specs.Solution.{assoc_top, list_under, over_list}
 use Rattle.mau_terms.specs.declared.theory.Identity.{Identity}
 use Rattle.mau_terms.specs.declared.theory.Theory.{Theory}
 use Rattle.mau_signature.specs.Signature.{SignatureOf, theory_at, terms_over}
-use Rattle.mau_api.specs.Found.{Question, Found}
-use Rattle.mau_api.specs.Next.{IsBehind}
+use Rattle.mau_listing.specs.Question.{Question}
+use Rattle.mau_listing.specs.Matcher.{Matcher}
+use Rattle.mau_listing.specs.Next.{IsBehind}
 
 -- ---- terms and lists
 
@@ -81,38 +82,38 @@ pub record CanBeArgument (h : Bool) (t : Theory) (ts : List Tree) : Type 0 where
   pub there : h ≡ true → ts ≡ [] → (i : Identity) × (t.id ≡ Some i)
   pub none : h ≡ false → ts ≡ []
 
-pub record HasShape (h k : Bool) (t : Theory) (x : Found) : Type 0 where
+pub record HasShape (h k : Bool) (t : Theory) (x : Matcher) : Type 0 where
   pub left : CanBeArgument h t x.left
   pub right : CanBeArgument k t x.right
 
 -- the solution of the widened pattern that x is
-abbrev pub widened_found : Bool → Bool → Theory → ℕ → Found → Found
+abbrev pub widened_found : Bool → Bool → Theory → ℕ → Matcher → Matcher
 widened_found h k t f x = record { left = []; right = []; values = around h k (over_list t f x.left) x.values (over_list t f x.right) }
 
 -- the solution with the values vs between the contexts l and r
-abbrev pub narrowed : Bool → Bool → Theory → ℕ → Tree → List Tree → Tree → Found
+abbrev pub narrowed : Bool → Bool → Theory → ℕ → Tree → List Tree → Tree → Matcher
 narrowed h k t f l vs r = record { left = context_list h t f l; right = context_list k t f r; values = vs }
 
 -- x is what the solution y of the widened pattern is
-pub record IsNarrowed (h k : Bool) (t : Theory) (f : ℕ) (y x : Found) : Type 0 where
+pub record IsNarrowed (h k : Bool) (t : Theory) (f : ℕ) (y x : Matcher) : Type 0 where
   pub left : Tree
   pub right : Tree
   pub values : y.values ≡ around h k left x.values right
   pub same : x ≡ narrowed h k t f left x.values right
 
 -- the contexts leave two elements of the subject at least, or there are none
-abbrev pub IsWide : Theory → ℕ → Tree → Found → Type 0
+abbrev pub IsWide : Theory → ℕ → Tree → Matcher → Type 0
 IsWide t f subject x = (length x.left + length x.right ≡ 0) ⊎ (length x.left + length x.right + 2 ≤ length (list_under t f subject))
 
 -- ---- the next solution of a shape
 
 -- x is one that `Is` holds of, behind the last one, and none that `Other` holds of stands between
-pub record IsLeastAmong (Is Other : Found → Type 0) (cmp : Found → Found → Ordering) (last : Option Found) (x : Found) : Type 0 where
+pub record IsLeastAmong (Is Other : Matcher → Type 0) (cmp : Matcher → Matcher → Ordering) (last : Option Matcher) (x : Matcher) : Type 0 where
   pub is_one : Is x
   pub behind : IsBehind cmp last x
-  pub least : (y : Found) → Other y → IsBehind cmp last y → (cmp x y ≡ Less) ⊎ (x ≡ y)
+  pub least : (y : Matcher) → Other y → IsBehind cmp last y → (cmp x y ≡ Less) ⊎ (x ≡ y)
 
 -- the answer is such a one, or no other stands behind the last one
-abbrev pub IsNextAmong : (Is Other : Found → Type 0) → (Found → Found → Ordering) → Option Found → Option Found → Type 0
-IsNextAmong Is Other cmp last None = (x : Found) → Other x → IsBehind cmp last x → ⊥
+abbrev pub IsNextAmong : (Is Other : Matcher → Type 0) → (Matcher → Matcher → Ordering) → Option Matcher → Option Matcher → Type 0
+IsNextAmong Is Other cmp last None = (x : Matcher) → Other x → IsBehind cmp last x → ⊥
 IsNextAmong Is Other cmp last (Some x) = IsLeastAmong Is Other cmp last x

@@ -7,14 +7,14 @@ ghost use Rattle.mau_signature.specs.Signature.{IsOperator, theory_at};
 ghost use Rattle.mau_store.specs.Node.{IsOf};
 ghost use Rattle.mau_store.specs.Trees.{tree_at};
 ghost use Rattle.mau_store.specs.View.{numbers};
-ghost use Rattle.mau_canon.specs.Within.{StandWithin};
-ghost use Rattle.mau_api.specs.Places.{under_all, AreUnderOperators};
-ghost use Rattle.mau_api.specs.Asked.{found_in};
-ghost use Rattle.mau_api.specs.Next.{found_cmp, IsBehind};
+ghost use Rattle.mau_canon.specs.Standing.{StandWithin};
+ghost use Rattle.mau_listing.specs.Places.{under_all, AreUnderOperators};
+ghost use Rattle.mau_listing.specs.Asked.{matcher_in};
+ghost use Rattle.mau_listing.specs.Next.{matcher_cmp, IsBehind};
 ghost use Rattle.mau_extend.specs.Widened.{IsWide};
 
-use mau_api::{Place, Solution, compare_lists, compare_values};
 use mau_canon::list_of;
+use mau_listing::{Place, Solution, compare_lists, compare_values};
 use mau_signature::Signature;
 use mau_store::Store;
 use mau_terms::{OpId, TermId};
@@ -33,7 +33,7 @@ pub fn compare_found(
     requires other { StandWithin (theory_at sig.now) store.now (numbers other.now.values) }
     requires one_each { length one.now.values ≡ length places.now }
     requires other_each { length other.now.values ≡ length places.now }
-    ensures { (p : Tree) → under_all places.now ≡ places_by (theory_at sig.now) p → result ≡ found_cmp (theory_at sig.now) p (found_in store.now one.now) (found_in store.now other.now) }
+    ensures { (p : Tree) → under_all places.now ≡ places_by (theory_at sig.now) p → result ≡ matcher_cmp (theory_at sig.now) p (matcher_in store.now one.now) (matcher_in store.now other.now) }
 {
     let order = compare_lists(store, one.left.items(), other.left.items());
     if order != Ordering::Equal {
@@ -56,7 +56,7 @@ pub fn is_behind(
     requires last_each { IfSome last.now (λ x. length x.values ≡ length places.now) }
     requires each { length solution.now.values ≡ length places.now }
     ensures { (p : Tree) → under_all places.now ≡ places_by (theory_at sig.now) p →
-        IsTrue result ↔ IsBehind (found_cmp (theory_at sig.now) p) (option_map (found_in store.now) last.now) (found_in store.now solution.now) }
+        IsTrue result ↔ IsBehind (matcher_cmp (theory_at sig.now) p) (option_map (matcher_in store.now) last.now) (matcher_in store.now solution.now) }
 {
     match last {
         Some(last) => compare_found(store, sig, places, last, solution) == Ordering::Less,
@@ -74,7 +74,7 @@ pub fn is_wide(
 ) -> bool
     requires operator { IsOperator sig.now op.0 }
     requires subject { IsOf store.now subject.0 }
-    ensures { IsTrue result ↔ IsWide (theory_at sig.now op.0) op.0 (tree_at store.now subject.0) (found_in store.now solution.now) }
+    ensures { IsTrue result ↔ IsWide (theory_at sig.now op.0) op.0 (tree_at store.now subject.0) (matcher_in store.now solution.now) }
 {
     let whole = list_of(store, sig, op, &subject).len();
     let contexts = solution.left.items().len() + solution.right.items().len();

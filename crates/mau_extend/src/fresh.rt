@@ -2,7 +2,7 @@
 ghost use Rattle.std.specs.Prelude.{◌≡◌, ◌<◌, ◌≤◌, ◌+◌, ◌^◌, ℕ, false, true, IfSome, None};
 ghost use Rattle.mau_extend.specs.Extended.{IsUnused, AreUsedUp};
 
-use mau_api::Place;
+use mau_listing::Place;
 use mau_terms::{TermId, VarId};
 
 /// Whether a variable with this index is among those of the places, or has a value beforehand.

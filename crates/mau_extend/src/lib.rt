@@ -2,7 +2,6 @@
 #![tactic(auto)]
 
 mod compared;
-mod facts;
 mod fresh;
 pub mod laws;
 mod listing;

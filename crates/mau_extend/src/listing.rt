@@ -1,23 +1,24 @@
 //! The listing of solutions with contexts.
-ghost use Rattle.std.specs.Prelude.{◌≡◌, false, true, IfOk, IfSome};
+ghost use Rattle.std.specs.Prelude.{◌≡◌, ◌<◌, false, true, IfOk, IfSome, Some};
 ghost use Rattle.std.specs.Option.{option_map};
 ghost use Rattle.mau_terms.specs.View.{tree_of};
 ghost use Rattle.mau_signature.specs.Signature.{theory_at};
 ghost use Rattle.mau_sorts.specs.HasSort.{Known};
-ghost use Rattle.mau_api.specs.Found.{IsSolution};
-ghost use Rattle.mau_api.specs.Next.{found_cmp, IsNext};
-ghost use Rattle.mau_api.specs.Asked.{question_in, found_in, IsTableOf, BySort, IsGiven, CanGoOn};
-ghost use Rattle.mau_plain.specs.Tried.{asked_in};
+ghost use Rattle.mau_listing.specs.Question.{IsSolution};
+ghost use Rattle.mau_listing.specs.Next.{matcher_cmp, IsNext};
+ghost use Rattle.mau_listing.specs.Asked.{question_in, matcher_in, IsTableOf, BySort, IsGiven, CanGoOn};
+ghost use Rattle.mau_listing.specs.Finite.{count_left};
+ghost use Rattle.mau_trial.specs.Tried.{asked_in};
 ghost use Rattle.mau_match.specs.Searched.{Grows, subject_in};
 
 use crate::next::{next_part, next_whole};
-use mau_api::{Lister, Solution, WholeLister};
 use mau_canon::assoc_top;
-use mau_plain::{Trial, copy_bound};
+use mau_listing::{Lister, Solution, WholeLister};
 use mau_signature::Signature;
 use mau_sorts::SortTable;
 use mau_store::Store;
 use mau_terms::{Bare, Duplicate, NoMemory, TermId, VarId};
+use mau_trial::{Trial, copy_bound};
 use std::alloc::Global;
 use std::marker::PhantomData;
 
@@ -40,8 +41,9 @@ fn next_with_contexts<L: Lister + Drop>(
     requires can { CanGoOn true sig.now store.old sorts.old (asked_in trial.now) trial.now.last }
     ensures next { (known : Known) → IsTableOf sig.now known store.old sorts.old → IfOk result (λ o.
         IsNext (IsSolution true sig.now (BySort sig.now known) (question_in store.old (asked_in trial.now)))
-        (found_cmp (theory_at sig.now) (tree_of trial.now.pattern)) (option_map (found_in store.old) trial.now.last) (option_map (found_in store.new) o)) }
+        (matcher_cmp (theory_at sig.now) (tree_of trial.now.pattern)) (option_map (matcher_in store.old) trial.now.last) (option_map (matcher_in store.new) o)) }
     ensures given { IfOk result (λ o. IfSome o (IsGiven true sig.now store.new sorts.new (asked_in trial.now))) }
+    ensures falls { IfOk result (λ o. IfSome o (λ x. count_left sig.now store.new (asked_in trial.now) (Some x) < count_left sig.now store.old (asked_in trial.now) trial.now.last)) }
     ensures grows { Grows sig.now (subject_in store.old trial.now) store.old store.new sorts.old sorts.new }
 {
     match assoc_top(store.allocator(), sig, &trial.pattern)? {
@@ -52,7 +54,7 @@ fn next_with_contexts<L: Lister + Drop>(
 
 impl<L: WholeLister + Drop> Lister for ExtListing<L> {
     ghost use Rattle.std.specs.Prelude.{true};
-    ghost use Rattle.mau_plain.specs.Tried.{asked_in};
+    ghost use Rattle.mau_trial.specs.Tried.{asked_in};
 
     ghost with_context = { true };
 

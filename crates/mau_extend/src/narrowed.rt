@@ -4,13 +4,13 @@ ghost use Rattle.mau_terms.specs.declared.ids.TermId.{TermId};
 ghost use Rattle.mau_signature.specs.Signature.{IsOperator, theory_at};
 ghost use Rattle.mau_store.specs.Trees.{tree_at, trees_at};
 ghost use Rattle.mau_store.specs.View.{numbers};
-ghost use Rattle.mau_canon.specs.Within.{StandsWithin, StandWithin};
-ghost use Rattle.mau_api.specs.Asked.{found_in};
+ghost use Rattle.mau_canon.specs.Standing.{StandsWithin, StandWithin};
+ghost use Rattle.mau_listing.specs.Asked.{matcher_in};
 ghost use Rattle.mau_extend.specs.Widened.{around, context_list, IsNarrowed};
 
 use crate::shape::Shape;
-use mau_api::Solution;
 use mau_canon::list_of;
+use mau_listing::Solution;
 use mau_signature::Signature;
 use mau_store::Store;
 use mau_terms::{NoMemory, OpId, Seq, TermId};
@@ -67,7 +67,7 @@ pub fn narrowed(
     requires operator { IsOperator sig.now shape.op.0 }
     requires within { StandWithin (theory_at sig.now) store.now (numbers found.now.values) }
     requires around { (l r : TermId) × (vs : List TermId) × (found.now.values ≡ around shape.left shape.right l vs r) }
-    ensures narrowed { IfOk result (λ x. IsNarrowed shape.left shape.right (theory_at sig.now shape.op.0) shape.op.0 (found_in store.now found.now) (found_in store.now x)) }
+    ensures narrowed { IfOk result (λ x. IsNarrowed shape.left shape.right (theory_at sig.now shape.op.0) shape.op.0 (matcher_in store.now found.now) (matcher_in store.now x)) }
     ensures left { IfOk result (λ x. StandWithin (theory_at sig.now) store.now (numbers x.left)) }
     ensures right { IfOk result (λ x. StandWithin (theory_at sig.now) store.now (numbers x.right)) }
     ensures among { IfOk result (λ x. All (Contains found.now.values) x.values) }

@@ -1,5 +1,5 @@
 //! The next solution with contexts, over a listing of those without.
-ghost use Rattle.std.specs.Prelude.{◌≡◌, ◌⊎◌, [], IsSome, Some, None, true, false, IfOk, IfSome};
+ghost use Rattle.std.specs.Prelude.{◌≡◌, ◌⊎◌, ◌<◌, [], IsSome, Some, None, true, false, IfOk, IfSome};
 ghost use Rattle.std.specs.Option.{option_map};
 ghost use Rattle.mau_terms.specs.Norm.{norm};
 ghost use Rattle.mau_terms.specs.Tree.{Tree};
@@ -7,24 +7,25 @@ ghost use Rattle.mau_terms.specs.Solution.{assoc_top, places as places_by};
 ghost use Rattle.mau_terms.specs.View.{tree_of};
 ghost use Rattle.mau_signature.specs.Signature.{IsOperator, theory_at};
 ghost use Rattle.mau_sorts.specs.HasSort.{Known};
-ghost use Rattle.mau_api.specs.Found.{IsSolution};
-ghost use Rattle.mau_api.specs.Next.{found_cmp, IsNext};
-ghost use Rattle.mau_api.specs.Asked.{question_in, found_in, IsTableOf, BySort, IsGiven, CanGoOn};
-ghost use Rattle.mau_plain.specs.Tried.{ArePlacesOf, asked_in};
+ghost use Rattle.mau_listing.specs.Question.{IsSolution};
+ghost use Rattle.mau_listing.specs.Next.{matcher_cmp, IsBehind, IsNext};
+ghost use Rattle.mau_listing.specs.Asked.{question_in, matcher_in, IsTableOf, BySort, IsGiven, CanGoOn};
+ghost use Rattle.mau_listing.specs.Finite.{count_left};
+ghost use Rattle.mau_trial.specs.Tried.{ArePlacesOf, asked_in};
 ghost use Rattle.mau_match.specs.Searched.{Grows, subject_in};
-ghost use Rattle.mau_api.specs.Places.{under_all, AreUnderOperators};
+ghost use Rattle.mau_listing.specs.Places.{under_all, AreUnderOperators};
 ghost use Rattle.mau_extend.specs.Extended.{IsNextOf, IsNextBeside, IsListed, IsLesser};
 
 use crate::compared::compare_found;
 use crate::search::first_accepted;
 use crate::shape::{shape_of, shaped};
 use crate::start::{Start, start_of};
-use mau_api::{Lister, Place, Solution, places_of};
-use mau_plain::{Trial, is_lawful};
+use mau_listing::{Lister, Place, Solution, is_lawful, places_of};
 use mau_signature::Signature;
 use mau_sorts::SortTable;
 use mau_store::Store;
 use mau_terms::{NoMemory, OpId};
+use mau_trial::Trial;
 use std::alloc::Global;
 use std::cmp::Ordering;
 
@@ -46,8 +47,9 @@ pub fn next_of_shape<L: Lister + Drop>(
     requires alone { (theory_at sig.now op.0).comm ≡ true → left ≡ false }
     requires can { CanGoOn true sig.now store.old sorts.old (asked_in trial.now) trial.now.last }
     ensures next { (known : Known) → IsTableOf sig.now known store.old sorts.old → IfOk result (λ o.
-        IsNextOf sig.now known (question_in store.old (asked_in trial.now)) left right op.0 (option_map (found_in store.old) trial.now.last) (option_map (found_in store.new) o)) }
+        IsNextOf sig.now known (question_in store.old (asked_in trial.now)) left right op.0 (option_map (matcher_in store.old) trial.now.last) (option_map (matcher_in store.new) o)) }
     ensures given { IfOk result (λ o. IfSome o (IsGiven true sig.now store.new sorts.new (asked_in trial.now))) }
+    ensures behind { IfOk result (λ o. IfSome (option_map (matcher_in store.new) o) (IsBehind (matcher_cmp (theory_at sig.now) (tree_of trial.now.pattern)) (option_map (matcher_in store.old) trial.now.last))) }
     ensures grows { Grows sig.now (subject_in store.old trial.now) store.old store.new sorts.old sorts.new }
 {
     is_lawful(sig);
@@ -79,7 +81,7 @@ fn lesser(
     requires operators { AreUnderOperators sig.now places.now }
     requires one { IfSome one (IsListed sig.now store.now places.now) }
     requires other { IfSome other (IsListed sig.now store.now places.now) }
-    ensures lesser { (p : Tree) → under_all places.now ≡ places_by (theory_at sig.now) p → IsLesser (found_cmp (theory_at sig.now) p) (option_map (found_in store.now) one) (option_map (found_in store.now) other) (option_map (found_in store.now) result) }
+    ensures lesser { (p : Tree) → under_all places.now ≡ places_by (theory_at sig.now) p → IsLesser (matcher_cmp (theory_at sig.now) p) (option_map (matcher_in store.now) one) (option_map (matcher_in store.now) other) (option_map (matcher_in store.now) result) }
     ensures among { (result ≡ one) ⊎ (result ≡ other) }
 {
     let Some(first) = &one else {
@@ -112,8 +114,9 @@ fn next_beside<L: Lister + Drop>(
     requires alone { (theory_at sig.now op.0).comm ≡ true → left ≡ false }
     requires can { CanGoOn true sig.now store.old sorts.old (asked_in trial.now) trial.now.last }
     ensures next { (known : Known) → IsTableOf sig.now known store.old sorts.old → IfOk result (λ o.
-        IsNextBeside sig.now known (question_in store.old (asked_in trial.now)) left op.0 (option_map (found_in store.old) trial.now.last) (option_map (found_in store.new) o)) }
+        IsNextBeside sig.now known (question_in store.old (asked_in trial.now)) left op.0 (option_map (matcher_in store.old) trial.now.last) (option_map (matcher_in store.new) o)) }
     ensures given { IfOk result (λ o. IfSome o (IsGiven true sig.now store.new sorts.new (asked_in trial.now))) }
+    ensures behind { IfOk result (λ o. IfSome (option_map (matcher_in store.new) o) (IsBehind (matcher_cmp (theory_at sig.now) (tree_of trial.now.pattern)) (option_map (matcher_in store.old) trial.now.last))) }
     ensures grows { Grows sig.now (subject_in store.old trial.now) store.old store.new sorts.old sorts.new }
 {
     is_lawful(sig);
@@ -149,8 +152,9 @@ fn next_apart<L: Lister + Drop>(
     requires can { CanGoOn true sig.now store.old sorts.old (asked_in trial.now) trial.now.last }
     ensures next { (known : Known) → IsTableOf sig.now known store.old sorts.old → IfOk result (λ o.
         IsNext (IsSolution true sig.now (BySort sig.now known) (question_in store.old (asked_in trial.now)))
-        (found_cmp (theory_at sig.now) (tree_of trial.now.pattern)) (option_map (found_in store.old) trial.now.last) (option_map (found_in store.new) o)) }
+        (matcher_cmp (theory_at sig.now) (tree_of trial.now.pattern)) (option_map (matcher_in store.old) trial.now.last) (option_map (matcher_in store.new) o)) }
     ensures given { IfOk result (λ o. IfSome o (IsGiven true sig.now store.new sorts.new (asked_in trial.now))) }
+    ensures behind { IfOk result (λ o. IfSome (option_map (matcher_in store.new) o) (IsBehind (matcher_cmp (theory_at sig.now) (tree_of trial.now.pattern)) (option_map (matcher_in store.old) trial.now.last))) }
     ensures grows { Grows sig.now (subject_in store.old trial.now) store.old store.new sorts.old sorts.new }
 {
     is_lawful(sig);
@@ -177,8 +181,9 @@ pub fn next_part<L: Lister + Drop>(
     requires can { CanGoOn true sig.now store.old sorts.old (asked_in trial.now) trial.now.last }
     ensures next { (known : Known) → IsTableOf sig.now known store.old sorts.old → IfOk result (λ o.
         IsNext (IsSolution true sig.now (BySort sig.now known) (question_in store.old (asked_in trial.now)))
-        (found_cmp (theory_at sig.now) (tree_of trial.now.pattern)) (option_map (found_in store.old) trial.now.last) (option_map (found_in store.new) o)) }
+        (matcher_cmp (theory_at sig.now) (tree_of trial.now.pattern)) (option_map (matcher_in store.old) trial.now.last) (option_map (matcher_in store.new) o)) }
     ensures given { IfOk result (λ o. IfSome o (IsGiven true sig.now store.new sorts.new (asked_in trial.now))) }
+    ensures falls { IfOk result (λ o. IfSome o (λ x. count_left sig.now store.new (asked_in trial.now) (Some x) < count_left sig.now store.old (asked_in trial.now) trial.now.last)) }
     ensures grows { Grows sig.now (subject_in store.old trial.now) store.old store.new sorts.old sorts.new }
 {
     let places = places_of(store.allocator(), sig, &trial.pattern)?;
@@ -204,8 +209,9 @@ pub fn next_whole<L: Lister + Drop>(
     requires can { CanGoOn true sig.now store.old sorts.old (asked_in trial.now) trial.now.last }
     ensures next { (known : Known) → IsTableOf sig.now known store.old sorts.old → IfOk result (λ o.
         IsNext (IsSolution true sig.now (BySort sig.now known) (question_in store.old (asked_in trial.now)))
-        (found_cmp (theory_at sig.now) (tree_of trial.now.pattern)) (option_map (found_in store.old) trial.now.last) (option_map (found_in store.new) o)) }
+        (matcher_cmp (theory_at sig.now) (tree_of trial.now.pattern)) (option_map (matcher_in store.old) trial.now.last) (option_map (matcher_in store.new) o)) }
     ensures given { IfOk result (λ o. IfSome o (IsGiven true sig.now store.new sorts.new (asked_in trial.now))) }
+    ensures falls { IfOk result (λ o. IfSome o (λ x. count_left sig.now store.new (asked_in trial.now) (Some x) < count_left sig.now store.old (asked_in trial.now) trial.now.last)) }
     ensures grows { Grows sig.now (subject_in store.old trial.now) store.old store.new sorts.old sorts.new }
 {
     let mut listing: L = listing_of(store.allocator(), trial, sig)?;

@@ -1,5 +1,5 @@
 //! The search for the next solution with contexts, shape after shape.
-ghost use Rattle.std.specs.Prelude.{◌≡◌, List, All, Contains, length, Some, true, false, IfOk, IfSome, IfNone};
+ghost use Rattle.std.specs.Prelude.{◌≡◌, ◌<◌, List, All, Contains, length, Some, true, false, IfOk, IfSome, IfNone, OnSome};
 ghost use Rattle.std.specs.Option.{option_map};
 ghost use Rattle.mau_terms.specs.View.{tree_of};
 ghost use Rattle.mau_signature.specs.Signature.{theory_at};
@@ -7,25 +7,25 @@ ghost use Rattle.mau_sorts.specs.HasSort.{Known};
 ghost use Rattle.mau_store.specs.Node.{IsOf};
 ghost use Rattle.mau_store.specs.View.{numbers};
 ghost use Rattle.mau_terms.specs.declared.ids.TermId.{TermId};
-ghost use Rattle.mau_canon.specs.Within.{StandWithin};
-ghost use Rattle.mau_api.specs.Found.{IsSolution};
-ghost use Rattle.mau_api.specs.Next.{found_cmp, IsNext};
-ghost use Rattle.mau_api.specs.Asked.{question_in, found_in, last_after, IsTableOf, BySort, IsGiven, CanBeLast, CanGoOn};
+ghost use Rattle.mau_canon.specs.Standing.{StandWithin};
+ghost use Rattle.mau_listing.specs.Question.{IsSolution};
+ghost use Rattle.mau_listing.specs.Next.{matcher_cmp, IsBehind, IsNext};
+ghost use Rattle.mau_listing.specs.Finite.{count_left};
+ghost use Rattle.mau_listing.specs.Asked.{question_in, matcher_in, last_after, IsTableOf, BySort, IsGiven, CanBeLast, CanGoOn};
 ghost use Rattle.mau_extend.specs.Widened.{around};
-ghost use Rattle.mau_plain.specs.Tried.{ArePlacesOf, asked_in};
+ghost use Rattle.mau_trial.specs.Tried.{ArePlacesOf, asked_in};
 ghost use Rattle.mau_match.specs.Searched.{Grows, subject_in};
 ghost use Rattle.mau_extend.specs.Extended.{IsShapeOf, IsAheadOf, IsNextShaped, IsAccepted, IsRefused, shaped, shaped_asked};
 
 use crate::compared::{is_behind, is_wide};
-use crate::facts::has_one_kind;
 use crate::narrowed::narrowed;
 use crate::shape::Shape;
-use mau_api::{Lister, Place, Solution};
-use mau_plain::{Trial, is_lawful};
+use mau_listing::{Lister, Place, Solution, is_lawful};
 use mau_signature::Signature;
 use mau_sorts::SortTable;
 use mau_store::Store;
 use mau_terms::NoMemory;
+use mau_trial::Trial;
 
 /// The next solution of a listing of the widened pattern.
 fn next_wide<L: Lister>(
@@ -42,10 +42,12 @@ fn next_wide<L: Lister>(
     requires ready { CanGoOn false sig.now store.old sorts.old (shaped_asked shape (asked_in trial.now)) (L.given listing.old) }
     ensures next { (known : Known) → IsTableOf sig.now known store.old sorts.old → IfOk result (λ answer.
         IsNext (IsSolution false sig.now (BySort sig.now known) (question_in store.old (shaped_asked shape (asked_in trial.now))))
-        (found_cmp (theory_at sig.now) (shaped shape (tree_of trial.now.pattern)))
-        (option_map (found_in store.old) (L.given listing.old)) (option_map (found_in store.new) answer)) }
+        (matcher_cmp (theory_at sig.now) (shaped shape (tree_of trial.now.pattern)))
+        (option_map (matcher_in store.old) (L.given listing.old)) (option_map (matcher_in store.new) answer)) }
     ensures solves { IfOk result (λ answer. IfSome answer (IsGiven false sig.now store.new sorts.new (shaped_asked shape (asked_in trial.now)))) }
     ensures given { IfOk result (λ answer. L.given listing.new ≡ last_after (L.given listing.old) answer) }
+    ensures falls { IfOk result (λ answer. OnSome answer (count_left sig.now store.new (shaped_asked shape (asked_in trial.now)) (L.given listing.new)
+        < count_left sig.now store.old (shaped_asked shape (asked_in trial.now)) (L.given listing.old))) }
     ensures asked { L.asked listing.new ≡ shaped_asked shape (asked_in trial.now) }
     ensures signature { L.is_for listing.new sig.now }
     ensures grows { Grows sig.now (subject_in store.old trial.now) store.old store.new sorts.old sorts.new }
@@ -86,7 +88,7 @@ fn accepted(
 }
 
 /// The first solution of a listing of the widened pattern that is one with contexts behind the last solution, where all such stand behind
-/// the listing's last one. Out of memory stands also for 2^64 - 1 solutions that are none.
+/// the listing's last one.
 pub fn first_accepted<L: Lister>(
     trial: &Trial,
     places: &[Place],
@@ -104,20 +106,17 @@ pub fn first_accepted<L: Lister>(
     requires can { CanGoOn true sig.now store.old sorts.old (asked_in trial.now) trial.now.last }
     requires given { IfSome (L.given listing.old) (CanBeLast false sig.now store.old sorts.old (shaped_asked shape (asked_in trial.now))) }
     ensures next { (known : Known) → IsTableOf sig.now known store.old sorts.old →
-        IsAheadOf sig.now known (question_in store.old (asked_in trial.now)) shape (option_map (found_in store.old) trial.now.last) (option_map (found_in store.old) (L.given listing.old)) → IfOk result (λ o.
-        IsNextShaped sig.now known (question_in store.old (asked_in trial.now)) shape (option_map (found_in store.old) trial.now.last) (option_map (found_in store.new) o)) }
+        IsAheadOf sig.now known (question_in store.old (asked_in trial.now)) shape (option_map (matcher_in store.old) trial.now.last) (option_map (matcher_in store.old) (L.given listing.old)) → IfOk result (λ o.
+        IsNextShaped sig.now known (question_in store.old (asked_in trial.now)) shape (option_map (matcher_in store.old) trial.now.last) (option_map (matcher_in store.new) o)) }
     ensures given { IfOk result (λ o. IfSome o (IsGiven true sig.now store.new sorts.new (asked_in trial.now))) }
+    ensures behind { IfOk result (λ o. IfSome (option_map (matcher_in store.new) o) (IsBehind (matcher_cmp (theory_at sig.now) (tree_of trial.now.pattern)) (option_map (matcher_in store.old) trial.now.last))) }
     ensures grows { Grows sig.now (subject_in store.old trial.now) store.old store.new sorts.old sorts.new }
 {
     is_lawful(sig);
-    has_one_kind(sig);
-    for _ in 0..u64::MAX {
-        let Some(found) = next_wide(trial, shape, listing, store, sig, sorts)? else {
-            return Ok(None);
-        };
+    while let Some(found) = next_wide(trial, shape, listing, store, sig, sorts)? {
         if let Some(solution) = accepted(trial, places, shape, store, sig, &found)? {
             return Ok(Some(solution));
         }
     }
-    Err(NoMemory)
+    Ok(None)
 }

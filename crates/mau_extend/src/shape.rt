@@ -7,15 +7,15 @@ ghost use Rattle.mau_terms.specs.Solution.{assoc_top};
 ghost use Rattle.mau_terms.specs.View.{tree_of};
 ghost use Rattle.mau_signature.specs.Signature.{IsOperator, terms_over, theory_at};
 ghost use Rattle.mau_store.specs.Node.{Node};
-ghost use Rattle.mau_api.specs.Asked.{question_in};
-ghost use Rattle.mau_plain.specs.Tried.{ArePlacesOf, asked_in};
+ghost use Rattle.mau_listing.specs.Asked.{question_in};
+ghost use Rattle.mau_trial.specs.Tried.{ArePlacesOf, asked_in};
 ghost use Rattle.mau_extend.specs.Extended.{AreUsedUp, IsShapeOf, shaped};
 
 use crate::fresh::free_variables;
-use mau_api::Place;
-use mau_plain::Trial;
+use mau_listing::Place;
 use mau_signature::Signature;
 use mau_terms::{Args, Bare, NoMemory, OpId, VarId};
+use mau_trial::Trial;
 use std::alloc::Global;
 
 /// How a pattern is widened: under which operator, whether by a left and by a right context, and the variables for them.

@@ -7,24 +7,23 @@ ghost use Rattle.mau_signature.specs.Signature.{IsOperator, theory_at};
 ghost use Rattle.mau_store.specs.Node.{IsOf};
 ghost use Rattle.mau_store.specs.Trees.{tree_at, trees_at};
 ghost use Rattle.mau_store.specs.View.{numbers};
-ghost use Rattle.mau_canon.specs.Within.{StandsWithin, StandWithin};
+ghost use Rattle.mau_canon.specs.Standing.{StandsWithin, StandWithin};
 ghost use Rattle.mau_sorts.specs.HasSort.{Known};
 ghost use Rattle.mau_sorts.specs.Table.{IsSettled, AreOver};
-ghost use Rattle.mau_api.specs.Asked.{question_in, found_in, IsTableOf, CanGoOn};
-ghost use Rattle.mau_plain.specs.Tried.{asked_in, without_context};
+ghost use Rattle.mau_listing.specs.Asked.{question_in, matcher_in, IsTableOf, CanGoOn};
+ghost use Rattle.mau_trial.specs.Tried.{asked_in, without_context};
 ghost use Rattle.mau_match.specs.Searched.{Grows, subject_in};
 ghost use Rattle.mau_extend.specs.Widened.{around};
 ghost use Rattle.mau_extend.specs.Extended.{IsShapeOf, CanStart, IsStartOf, shaped_asked};
 
-use crate::facts::has_one_kind;
 use crate::shape::Shape;
-use mau_api::{Solution, settle_value};
 use mau_canon::{BuildFault, from_list};
-use mau_plain::{Trial, has_nodes, is_lawful};
+use mau_listing::{Solution, has_nodes, is_lawful, settle_value};
 use mau_signature::Signature;
 use mau_sorts::SortTable;
 use mau_store::Store;
 use mau_terms::{NoMemory, OpId, Seq, TermId};
+use mau_trial::Trial;
 use std::alloc::Global;
 
 /// Where a listing of a widened pattern goes on: nowhere, as nothing is left, from the first solution on, or behind a point.
@@ -168,12 +167,11 @@ pub fn start_of(
     requires shape { IsShapeOf sig.now (question_in store.old (asked_in trial.now)) shape }
     requires can { CanGoOn true sig.now store.old sorts.old (asked_in trial.now) trial.now.last }
     ensures start { (known : Known) → IsTableOf sig.now known store.old sorts.old → IfOk result (λ start.
-        IsStartOf sig.now known (question_in store.old (asked_in trial.now)) shape (option_map (found_in store.old) trial.now.last) store.new start) }
+        IsStartOf sig.now known (question_in store.old (asked_in trial.now)) shape (option_map (matcher_in store.old) trial.now.last) store.new start) }
     ensures point { IfOk result (CanStart sig.now store.new sorts.new (shaped_asked shape (asked_in trial.now))) }
     ensures grows { Grows sig.now (subject_in store.old trial.now) store.old store.new sorts.old sorts.new }
 {
     is_lawful(sig);
-    has_one_kind(sig);
     has_nodes(store);
     let Some(last) = &trial.last else {
         return Ok(Start::First);

@@ -1,200 +1,59 @@
-//! Values on edges, and a table of hooks.
+//! A table of hooks takes one hook of a name.
+ghost use Rattle.std.specs.Prelude.{◌≡◌, IfOk};
+ghost use Rattle.mau_formula.specs.Expr.{value};
+ghost use Rattle.mau_formula.specs.Native.{formula_of};
+
 use super::*;
-use mau_terms::Text;
+use mau_terms::{NoMemory, Text};
+use std::alloc::Global;
+use std::process::Abort;
 use std::test::Fail;
 
-const MAX: u128 = 340282366920938463463374607431768211455;
-
-const HALF: u128 = 170141183460469231731687303715884105728;
-
-/// Two arguments, and what is answered.
-type Row = (Native, u128, u128, HookAnswer);
-
-const ROWS: [Row; 61] = [
-    (Native::Sum, 0, 0, HookAnswer::Value(0)),
-    (Native::Sum, HALF, HALF - 1, HookAnswer::Value(MAX)),
-    (Native::Sum, HALF, HALF, HookAnswer::Overflow),
-    (Native::Sum, MAX, 0, HookAnswer::Value(MAX)),
-    (Native::Sum, MAX, 1, HookAnswer::Overflow),
-    (Native::Product, 0, MAX, HookAnswer::Value(0)),
-    (Native::Product, 1, MAX, HookAnswer::Value(MAX)),
-    (Native::Product, HALF, 2, HookAnswer::Overflow),
-    (Native::Product, HALF - 1, 2, HookAnswer::Value(MAX - 1)),
-    (
-        Native::Product,
-        18446744073709551616,
-        18446744073709551616,
-        HookAnswer::Overflow,
-    ),
-    (Native::Difference, 0, MAX, HookAnswer::Value(MAX)),
-    (Native::Difference, MAX, 0, HookAnswer::Value(MAX)),
-    (Native::Difference, HALF, HALF, HookAnswer::Value(0)),
-    (Native::Difference, 3, 7, HookAnswer::Value(4)),
-    (Native::Quotient, 7, 2, HookAnswer::Value(3)),
-    (Native::Quotient, 0, 0, HookAnswer::NoValue),
-    (Native::Quotient, MAX, 0, HookAnswer::NoValue),
-    (Native::Quotient, MAX, 1, HookAnswer::Value(MAX)),
-    (Native::Quotient, MAX, MAX, HookAnswer::Value(1)),
-    (Native::Remainder, 7, 2, HookAnswer::Value(1)),
-    (Native::Remainder, 0, 0, HookAnswer::NoValue),
-    (Native::Remainder, MAX, 0, HookAnswer::NoValue),
-    (Native::Remainder, MAX, HALF, HookAnswer::Value(HALF - 1)),
-    (Native::Remainder, 5, MAX, HookAnswer::Value(5)),
-    (Native::Power, 0, 0, HookAnswer::Value(1)),
-    (Native::Power, MAX, 0, HookAnswer::Value(1)),
-    (Native::Power, 0, MAX, HookAnswer::Value(0)),
-    (Native::Power, 1, MAX, HookAnswer::Value(1)),
-    (Native::Power, MAX, 1, HookAnswer::Value(MAX)),
-    (Native::Power, MAX, 2, HookAnswer::Overflow),
-    (Native::Power, 2, 127, HookAnswer::Value(HALF)),
-    (Native::Power, 2, 128, HookAnswer::Overflow),
-    (Native::Power, 2, 4294967296, HookAnswer::Overflow),
-    (
-        Native::Power,
-        3,
-        80,
-        HookAnswer::Value(147808829414345923316083210206383297601),
-    ),
-    (Native::Power, 3, 81, HookAnswer::Overflow),
-    (
-        Native::Power,
-        18446744073709551615,
-        2,
-        HookAnswer::Value(340282366920938463426481119284349108225),
-    ),
-    (Native::Power, 18446744073709551616, 2, HookAnswer::Overflow),
-    (Native::GreatestCommonDivisor, 0, 0, HookAnswer::Value(0)),
-    (Native::GreatestCommonDivisor, 0, 5, HookAnswer::Value(5)),
-    (Native::GreatestCommonDivisor, 5, 0, HookAnswer::Value(5)),
-    (Native::GreatestCommonDivisor, 12, 18, HookAnswer::Value(6)),
-    (
-        Native::GreatestCommonDivisor,
-        MAX,
-        HALF,
-        HookAnswer::Value(1),
-    ),
-    (
-        Native::GreatestCommonDivisor,
-        MAX,
-        MAX,
-        HookAnswer::Value(MAX),
-    ),
-    (Native::Minimum, 0, MAX, HookAnswer::Value(0)),
-    (Native::Minimum, HALF, HALF - 1, HookAnswer::Value(HALF - 1)),
-    (Native::Maximum, 0, MAX, HookAnswer::Value(MAX)),
-    (Native::Maximum, HALF, HALF - 1, HookAnswer::Value(HALF)),
-    (Native::Less, 0, 1, HookAnswer::Value(1)),
-    (Native::Less, 1, 1, HookAnswer::Value(0)),
-    (Native::Less, MAX, HALF, HookAnswer::Value(0)),
-    (Native::LessOrEqual, 0, 1, HookAnswer::Value(1)),
-    (Native::LessOrEqual, 1, 1, HookAnswer::Value(1)),
-    (Native::LessOrEqual, MAX, HALF, HookAnswer::Value(0)),
-    (Native::Greater, 0, 1, HookAnswer::Value(0)),
-    (Native::Greater, 1, 1, HookAnswer::Value(0)),
-    (Native::Greater, MAX, HALF, HookAnswer::Value(1)),
-    (Native::GreaterOrEqual, 0, 1, HookAnswer::Value(0)),
-    (Native::GreaterOrEqual, 1, 1, HookAnswer::Value(1)),
-    (Native::GreaterOrEqual, MAX, HALF, HookAnswer::Value(1)),
-    (Native::Minimum, 0, 0, HookAnswer::Value(0)),
-    (Native::Maximum, 0, 0, HookAnswer::Value(0)),
-];
-
-const NAMES: [(Native, &str, Gives); 13] = [
-    (Native::Sum, "nat-add", Gives::Nat),
-    (Native::Product, "nat-mul", Gives::Nat),
-    (Native::Difference, "nat-sd", Gives::Nat),
-    (Native::Quotient, "nat-quo", Gives::Nat),
-    (Native::Remainder, "nat-rem", Gives::Nat),
-    (Native::Power, "nat-pow", Gives::Nat),
-    (Native::GreatestCommonDivisor, "nat-gcd", Gives::Nat),
-    (Native::Minimum, "nat-min", Gives::Nat),
-    (Native::Maximum, "nat-max", Gives::Nat),
-    (Native::Less, "nat-lt", Gives::Bool),
-    (Native::LessOrEqual, "nat-le", Gives::Bool),
-    (Native::Greater, "nat-gt", Gives::Bool),
-    (Native::GreaterOrEqual, "nat-ge", Gives::Bool),
-];
-
-#[test]
-fn each_formula_has_its_values_on_edges(rt: HostRuntime) -> Result<(), Fail> {
-    for (native, a, b, answer) in ROWS {
-        assert_eq!(rt; native.call(a, b), answer);
-    }
-    Ok(())
+/// The hook of a native operator, by another name.
+fn hook(alloc: Global, native: Native, name: &str) -> Result<Hook, NoMemory> {
+    let name = Text::new(alloc, name)?;
+    let formula = native.formula(alloc)?;
+    let call = move |a: u128, b: u128| -> HookAnswer
+        ensures { result ≡ value (formula_of native) a b }
+    { native.call(a, b) };
+    Ok(Hook::new(name, formula, native.gives(), Box::new(alloc, call)?))
 }
 
-#[test]
-fn each_native_operator_has_its_name(rt: HostRuntime) -> Result<(), Fail> {
-    for (native, name, gives) in NAMES {
-        assert_eq!(rt; native.name(), name);
-        assert_eq!(rt; native.gives(), gives);
-    }
-    assert_eq!(rt; Native::ALL.len(), NAMES.len());
-    Ok(())
-}
-
-#[test]
-fn a_formula_is_written_out(rt: HostRuntime) -> Result<(), Fail> {
-    let formula = Native::LessOrEqual.formula(rt.alloc())?;
-    match &formula {
-        Formula::IfLess(a, b, then, otherwise) => {
-            assert!(rt; matches!(&**a, Formula::Arg(true)));
-            assert!(rt; matches!(&**b, Formula::Arg(false)));
-            assert!(rt; matches!(&**then, Formula::Lit(0)));
-            assert!(rt; matches!(&**otherwise, Formula::Lit(1)));
+/// Adds a hook. It is refused exactly where it has to be, and then it is given back.
+fn add(rt: &impl Abort, table: &mut HookTable, hook: Hook, name: &str, is_refused: bool) {
+    match table.add(hook) {
+        Ok(()) => assert!(rt; !is_refused, "{name}"),
+        Err(HookFault::Duplicate(hook)) => {
+            assert!(rt; is_refused, "{name}");
+            assert_eq!(rt; hook.name(), name);
         }
-        _ => assert!(rt; false),
+        Err(HookFault::NoMemory(_)) => panic!(rt; "no memory"),
     }
-    Ok(())
+}
+
+/// The hook of a name, if there is one, gives this of 2 and 3.
+fn gives(rt: &impl Abort, table: &HookTable, name: &str, wanted: Option<HookAnswer>) {
+    let found = match table.find(name) {
+        Some(hook) => Some(hook.call(2, 3)),
+        None => None,
+    };
+    assert_eq!(rt; found, wanted, "{name}");
 }
 
 #[test]
 fn a_table_has_one_hook_of_a_name(rt: HostRuntime) -> Result<(), Fail> {
-    let alloc = rt.alloc();
-    let mut table = HookTable::new(alloc);
-    assert!(rt; table.find("nat-pow").is_none());
-    let power = Hook::new(
-        Text::new(alloc, Native::Power.name())?,
-        Native::Power.formula(alloc)?,
-        Native::Power.gives(),
-        Box::new(alloc, |a, b| power(a, b))?,
-    );
-    let less = Hook::new(
-        Text::new(alloc, Native::Less.name())?,
-        Native::Less.formula(alloc)?,
-        Native::Less.gives(),
-        Box::new(alloc, |a, b| less(a, b))?,
-    );
-    assert!(rt; table.add(power).is_ok());
-    assert!(rt; table.add(less).is_ok());
-    match table.find("nat-lt") {
-        Some(hook) => {
-            assert_eq!(rt; hook.name(), "nat-lt");
-            assert_eq!(rt; hook.gives(), Gives::Bool);
-            assert_eq!(rt; hook.call(2, 3), HookAnswer::Value(1));
-            assert!(rt; matches!(hook.formula(), Formula::IfLess(_, _, _, _)));
-        }
-        None => assert!(rt; false),
+    let mut table = HookTable::new(rt.alloc());
+    gives(&rt, &table, "nat-pow", None);
+    for (native, name, is_refused) in [
+        (Native::Power, "nat-pow", false),
+        (Native::Less, "nat-lt", false),
+        (Native::Sum, "nat-pow", true),
+    ] {
+        let hook = hook(rt.alloc(), native, name)?;
+        add(&rt, &mut table, hook, name, is_refused);
     }
-    let again = Hook::new(
-        Text::new(alloc, "nat-pow")?,
-        Native::Sum.formula(alloc)?,
-        Gives::Nat,
-        Box::new(alloc, |a, b| sum(a, b))?,
-    );
-    match table.add(again) {
-        Ok(()) => assert!(rt; false),
-        Err(fault) => match fault {
-            HookFault::Duplicate(hook) => {
-                assert_eq!(rt; hook.name(), "nat-pow");
-                assert_eq!(rt; hook.call(2, 3), HookAnswer::Value(5));
-            }
-            HookFault::NoMemory(_hook) => assert!(rt; false),
-        },
-    }
-    match table.find("nat-pow") {
-        Some(hook) => assert_eq!(rt; hook.call(2, 3), HookAnswer::Value(8)),
-        None => assert!(rt; false),
-    }
+    gives(&rt, &table, "nat-pow", Some(HookAnswer::Value(8)));
+    gives(&rt, &table, "nat-lt", Some(HookAnswer::Value(1)));
+    gives(&rt, &table, "nat-le", None);
     Ok(())
 }

@@ -10,11 +10,11 @@ use Rattle.mau_terms.proofs.Normal.{IsNormal, normal_fixed}
 use Rattle.mau_terms.proofs.Finite.{each_in}
 use Rattle.mau_terms.proofs.Taken.{are_normal}
 use Rattle.std.specs.Prelude.{map}
-use Rattle.mau_parts.specs.Search.{IsLeastOrNone}
-use Rattle.mau_parts.specs.Values.{by_key}
-use Rattle.mau_parts.specs.Nearest.{nearest_of}
-use Rattle.mau_parts.proofs.Keys.{key_total, key_ties}
-use Rattle.mau_parts.proofs.Least.{Given, nearest_is_next, holds_all, holds_as}
+use Rattle.mau_domains.specs.Search.{IsLeastOrNone}
+use Rattle.mau_domains.specs.Values.{by_key}
+use Rattle.mau_domains.specs.Nearest.{nearest_of}
+use Rattle.mau_domains.proofs.Keys.{key_total, key_ties}
+use Rattle.mau_domains.proofs.Least.{Given, nearest_is_next, holds_all, holds_as}
 use Rattle.mau_free.specs.Arguments.{taken_of}
 use Rattle.mau_free.proofs.FreeTaken.{listed_taken, taken_listed}
 

@@ -15,7 +15,7 @@ use Rattle.mau_terms.proofs.Normal.{IsNormal, norm_normal, normal_fixed, each_no
 use Rattle.mau_terms.proofs.Finite.{in_left, in_right, in_arrange, length-arrange}
 use Rattle.mau_terms.proofs.Wholes.{norm-reading}
 use Rattle.mau_free.specs.Arguments.{arguments_at, one_before, beside_unit, taken_of}
-use Rattle.mau_parts.proofs.TakenLists.{readings_map, norms_of_readings}
+use Rattle.mau_domains.proofs.TakenLists.{readings_map, norms_of_readings}
 
 module _ (s : TermSignature) (lawful : IsLawful s) (f : ℕ) (a : (s.theory f).assoc ≡ false) (h : s.has_operator f ≡ true) where
   abbrev th : ℕ → Theory

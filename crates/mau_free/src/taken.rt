@@ -5,8 +5,8 @@ ghost use Rattle.mau_signature.specs.Signature.{IsOperator, theory_at};
 ghost use Rattle.mau_store.specs.Node.{Extends};
 ghost use Rattle.mau_store.specs.Trees.{tree_at, trees_at};
 ghost use Rattle.mau_store.specs.View.{numbers};
-ghost use Rattle.mau_canon.specs.Within.{StandsWithin, StandWithin};
-ghost use Rattle.mau_parts.specs.Stored.{AddsTerms};
+ghost use Rattle.mau_canon.specs.Standing.{StandsWithin, StandWithin};
+ghost use Rattle.mau_domains.specs.Stored.{AddsTerms};
 ghost use Rattle.mau_free.specs.Arguments.{arguments_at, one_before, beside_unit, taken_of};
 
 use mau_signature::Signature;

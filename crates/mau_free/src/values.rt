@@ -6,13 +6,13 @@ ghost use Rattle.mau_terms.specs.CanTake.{CanTakeNormal};
 ghost use Rattle.mau_signature.specs.Signature.{IsOperator, terms_over, theory_at};
 ghost use Rattle.mau_store.specs.Node.{Extends};
 ghost use Rattle.mau_store.specs.Trees.{tree_at};
-ghost use Rattle.mau_canon.specs.Within.{StandsWithin};
-ghost use Rattle.mau_parts.specs.Search.{IsLeastOrNone};
-ghost use Rattle.mau_parts.specs.Values.{by_key};
-ghost use Rattle.mau_parts.specs.Stored.{tree_in};
+ghost use Rattle.mau_canon.specs.Standing.{StandsWithin};
+ghost use Rattle.mau_domains.specs.Search.{IsLeastOrNone};
+ghost use Rattle.mau_domains.specs.Values.{by_key};
+ghost use Rattle.mau_domains.specs.Stored.{tree_in};
 
 use crate::taken::all_taken;
-use mau_parts::nearest_behind;
+use mau_domains::nearest_behind;
 use mau_signature::Signature;
 use mau_store::Store;
 use mau_terms::{Bare, NoMemory, OpId, TermId};

@@ -1,3 +1,3 @@
 pub mod Shapes
-pub mod Kinds_kept
+pub mod KindsKept
 pub mod Indexed

@@ -1,45 +1,30 @@
--- Variables and numerals among the tokens of a text. Places are numbers of tokens; a token is its bytes.
-use Rattle.std.specs.Prelude.{ℕ, zero, suc, ◌+◌, ◌-◌, ◌*◌, ◌==◌, nat_lt, nat_le, List, [], ◌∷◌, ◌++◌, length, map, filter, take, drop, fold, Bool, false, not, ◌&&◌, ◌||◌, Option, Some, None, codes, bytes_eq, slice_index, if◌then◌else◌}
-use Rattle.std.specs.List.{list_all}
+-- Variables among the tokens of a text. Places are numbers of tokens; a token is its bytes.
+use Rattle.std.specs.Prelude.{ℕ, zero, suc, ◌+◌, ◌-◌, ◌==◌, nat_lt, List, [], ◌∷◌, ◌++◌, length, map, filter, take, drop, fold, Bool, not, ◌&&◌, Option, Some, None, codes, bytes_eq, slice_index, if◌then◌else◌}
 use Rattle.mau_terms.specs.Vars.{with_pair}
 use Rattle.mau_grammar.specs.declared.sorts.SortName.{SortName}
 use Rattle.mau_grammar.specs.declared.aliases.Variable.{Variable}
 use Rattle.mau_grammar.specs.Grammar.{GrammarOf}
 
--- ---- numerals
-
-abbrev pub is_digit : ℕ → Bool
-is_digit b = nat_le 48 b && nat_le b 57
-
--- decimal digits without a leading zero, or 0
-abbrev pub is_numeral : List ℕ → Bool
-is_numeral [] = false
-is_numeral (b ∷ bs) = list_all is_digit (b ∷ bs) && (not (b == 48) || length bs == 0)
-
--- its value
-abbrev pub value_of : List ℕ → ℕ
-value_of w = fold (λ n b. 10 * n + (b - 48)) 0 w
-
 -- ---- variables
 
 -- tokens that are a variable, up to before `end`: its name, the number of its sort or kind, and the number of its kind
-pub record Reading : Type 0 where
+pub record VariableReading : Type 0 where
   pub name : List ℕ
   pub sort : ℕ
   pub kind : ℕ
   pub end : ℕ
 
-abbrev pub reading : List ℕ → ℕ → ℕ → ℕ → Reading
+abbrev pub reading : List ℕ → ℕ → ℕ → ℕ → VariableReading
 reading w s k e = record { name = w; sort = s; kind = k; end = e }
 
-abbrev pub pair_of : Reading → List ℕ × ℕ
+abbrev pub pair_of : VariableReading → List ℕ × ℕ
 pair_of r = (r.name, r.sort)
 
 -- a declared name at the place i
-abbrev pub as_alias : ℕ → Variable → Reading
+abbrev pub as_alias : ℕ → Variable → VariableReading
 as_alias i v = reading v.name v.sort v.kind (i + 1)
 
-abbrev pub aliases_at : List Variable → List ℕ → ℕ → List Reading
+abbrev pub aliases_at : List Variable → List ℕ → ℕ → List VariableReading
 aliases_at vs w i = map (as_alias i) (filter (λ v. bytes_eq v.name w) vs)
 
 -- the sort with this name: its number, and its kind
@@ -58,16 +43,16 @@ is_string w = slice_index w 0 == 34
 abbrev pub is_cut : List ℕ → ℕ → Bool
 is_cut w k = (slice_index w k == 58 && nat_lt 0 k) && (not (is_string w) && not (bytes_eq (take k w) (codes "HOLE")))
 
-abbrev pub with_sort : List ℕ → ℕ → Option (ℕ × ℕ) → List Reading
+abbrev pub with_sort : List ℕ → ℕ → Option (ℕ × ℕ) → List VariableReading
 with_sort x e None = []
 with_sort x e (Some s) = reading x s.0 s.1 e ∷ []
 
 -- `X:S`, cut at the colon at k
-abbrev pub cut_at : List SortName → List ℕ → ℕ → ℕ → List Reading
+abbrev pub cut_at : List SortName → List ℕ → ℕ → ℕ → List VariableReading
 cut_at ss w i k = if is_cut w k then with_sort (take k w) (i + 1) (sort_named ss (drop (k + 1) w)) else []
 
 -- cut at one of the first n bytes
-abbrev pub cuts_to : List SortName → List ℕ → ℕ → ℕ → List Reading
+abbrev pub cuts_to : List SortName → List ℕ → ℕ → ℕ → List VariableReading
 cuts_to ss w i zero = []
 cuts_to ss w i (suc n) = cuts_to ss w i n ++ cut_at ss w i n
 
@@ -89,12 +74,12 @@ kind_list ss [] i = None
 kind_list ss (w ∷ []) i = None
 kind_list ss (w ∷ m ∷ ws) i = kind_with (sort_named ss w) m i (kind_list ss ws (i + 2))
 
-abbrev pub with_kind : List ℕ → Option (ℕ × ℕ) → List Reading
+abbrev pub with_kind : List ℕ → Option (ℕ × ℕ) → List VariableReading
 with_kind x None = []
 with_kind x (Some r) = reading x r.0 r.0 r.1 ∷ []
 
 -- `X:` at the place i, and behind it ws: `[` and a list of sorts of a kind
-abbrev pub kind_variable : List SortName → List ℕ → ℕ → List (List ℕ) → List Reading
+abbrev pub kind_variable : List SortName → List ℕ → ℕ → List (List ℕ) → List VariableReading
 kind_variable ss w i [] = []
 kind_variable ss w i (m ∷ ws) =
     if is_cut w (length w - 1) && bytes_eq m (codes "[") then with_kind (take (length w - 1) w) (kind_list ss ws (i + 2))
@@ -103,19 +88,19 @@ kind_variable ss w i (m ∷ ws) =
 -- ---- all
 
 -- what the token w at the place i is the beginning of, where ws stand behind it
-abbrev pub readings_of : GrammarOf → List ℕ → ℕ → List (List ℕ) → List Reading
+abbrev pub readings_of : GrammarOf → List ℕ → ℕ → List (List ℕ) → List VariableReading
 readings_of g w i ws = aliases_at g.aliases w i ++ (cuts_to g.sorts w i (length w) ++ kind_variable g.sorts w i ws)
 
 -- the variables that begin at the place i; the tokens from there on are ws
-abbrev pub readings_from : GrammarOf → List (List ℕ) → ℕ → List Reading
+abbrev pub readings_from : GrammarOf → List (List ℕ) → ℕ → List VariableReading
 readings_from g [] i = []
 readings_from g (w ∷ ws) i = readings_of g w i ws
 
-abbrev pub readings_at : GrammarOf → List (List ℕ) → ℕ → List Reading
+abbrev pub readings_at : GrammarOf → List (List ℕ) → ℕ → List VariableReading
 readings_at g ws i = readings_from g (drop i ws) i
 
 -- those that begin at one of the first n places
-abbrev pub readings_to : GrammarOf → List (List ℕ) → ℕ → List Reading
+abbrev pub readings_to : GrammarOf → List (List ℕ) → ℕ → List VariableReading
 readings_to g ws zero = []
 readings_to g ws (suc n) = readings_to g ws n ++ readings_at g ws n
 

@@ -1,5 +1,7 @@
 -- How the terms of a signature are written, to be read in this order.
 
+-- ---- what a user of the crate has to read, in this order
+
 -- productions
 pub mod Production
 -- precedences, and what holes admit
@@ -14,7 +16,7 @@ pub mod Grammar
 pub mod Index
 -- names that stand once
 pub mod Names
--- variables and numerals among tokens
+-- variables among tokens
 pub mod Leaves
 -- the trees of some tokens
 pub mod Trees

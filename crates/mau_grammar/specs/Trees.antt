@@ -1,12 +1,14 @@
 -- The trees of some tokens: what the productions yield for exactly these tokens.
 use Rattle.std.specs.Prelude.{◌≡◌, ℕ, ◌+◌, ◌≤◌, ◌<◌, List, [], ◌∷◌, ◌++◌, length, true, Option, Some, None, slice_get}
+use Rattle.std.specs.Str.Parse.{digits_value}
+use Rattle.mau_numerals.specs.Numerals.{is_numeral}
 use Rattle.mau_terms.specs.Tree.{Tree, variable, numeral, node}
 use Rattle.mau_terms.specs.declared.ids.OpId.{OpId}
 use Rattle.mau_grammar.specs.declared.production.Part.{Part}
 use Rattle.mau_grammar.specs.declared.production.Production.{Production}
 use Rattle.mau_grammar.specs.Production.{word, place}
 use Rattle.mau_grammar.specs.Grammar.{GrammarOf}
-use Rattle.mau_grammar.specs.Leaves.{is_numeral, value_of, Reading, pair_of, readings_at, pairs_of}
+use Rattle.mau_grammar.specs.Leaves.{VariableReading, pair_of, readings_at, pairs_of}
 
 -- what a production makes of the terms at its places: its operator over them, or without an operator the terms themselves
 abbrev pub made : Option OpId → List Tree → List Tree
@@ -19,8 +21,8 @@ made (Some f) ts = node f.0 ts ∷ []
 mutual
   pub data Reads (g : GrammarOf) (ws : List (List ℕ)) : ℕ → ℕ → ℕ → ℕ → List Tree → Type 0 where
     reads_numeral : (i k : ℕ) (w : List ℕ) → slice_get ws i ≡ Some w → is_numeral w ≡ true → g.numerals ≡ Some k
-        → Reads g ws k 1 i (i + 1) (numeral (value_of w) ∷ [])
-    reads_variable : (i m n : ℕ) (r : Reading) → slice_get (readings_at g ws i) m ≡ Some r → slice_get (pairs_of g ws) n ≡ Some (pair_of r)
+        → Reads g ws k 1 i (i + 1) (numeral (digits_value 10 w) ∷ [])
+    reads_variable : (i m n : ℕ) (r : VariableReading) → slice_get (readings_at g ws i) m ≡ Some r → slice_get (pairs_of g ws) n ≡ Some (pair_of r)
         → Reads g ws r.kind 1 i r.end (variable n r.sort ∷ [])
     reads_production : (n : ℕ) (p : Production) {i j : ℕ} {ts : List Tree} → slice_get g.productions n ≡ Some p → Spells g ws p.parts i j ts
         → Reads g ws p.kind p.level i j (made p.op ts)

@@ -15,6 +15,3 @@ pub use aliases::{Alias, Variable};
 pub use grammar::Grammar;
 pub use production::{Hole, Part, Production};
 pub use sorts::SortName;
-
-#[cfg(test)]
-mod tests;

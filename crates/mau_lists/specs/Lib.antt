@@ -1,5 +1,7 @@
 -- Sub-lists and contiguous parts, to be read in this order.
 
+-- ---- what a user of the crate has to read, in this order
+
 -- kinds of lists, the order of lists, the next list
 pub mod Lists
 -- the same of lists of terms, by their numbers
@@ -13,7 +15,9 @@ pub mod Listed
 pub mod Runs
 -- what the code computes, and what it keeps
 pub mod Following
-pub mod Kept
-pub mod Fronts
 -- what is proved of these
 pub mod Laws
+-- ---- what only inner contracts and proofs cite
+
+pub mod Kept
+pub mod Fronts

@@ -11,6 +11,3 @@ mod sub_lists;
 pub use segments::Segments;
 pub use sorted::are_sorted;
 pub use sub_lists::SubLists;
-
-#[cfg(test)]
-mod tests;

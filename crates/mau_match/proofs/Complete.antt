@@ -12,11 +12,11 @@ use Rattle.mau_terms.specs.declared.theory.Theory.{Theory}
 use Rattle.mau_terms.proofs.Variables.{same-is, same_itself, values_of_variables, variables_occur, EachVar}
 use Rattle.mau_terms.proofs.Solutions.{all_instances_by_norms}
 use Rattle.mau_signature.specs.Signature.{SignatureOf, terms_over, theory_at}
-use Rattle.mau_api.specs.Found.{Question}
-use Rattle.mau_api.specs.Answers.{IsAnswer}
-use Rattle.mau_api.specs.Asked.{BySort}
-use Rattle.mau_api.proofs.Answered.{norm-reading-is}
-use Rattle.mau_parts.specs.Parts.{just}
+use Rattle.mau_listing.specs.Question.{Question}
+use Rattle.mau_listing.specs.Answers.{IsAnswer}
+use Rattle.mau_listing.specs.Asked.{BySort}
+use Rattle.mau_listing.proofs.Answered.{norm-reading-is}
+use Rattle.mau_domains.specs.Parts.{just}
 use Rattle.mau_match.specs.Parts.{AnyOf, occurs, occurs_among, parts_of, IsFairAt, IsFair, AreFair}
 use Rattle.mau_match.specs.Given.{given_variables, given_at}
 use Rattle.mau_match.specs.Laws.{PartsHoldAnswers}

@@ -1,5 +1,5 @@
 -- A pattern that matches a part of a list.
-use Rattle.std.proofs.Common.{◌≡◌, ℕ, List, [], ◌∷◌, ◌++◌, Bool, true, false, refl, sym, ◌∙◌, ap, subst, append-nil}
+use Rattle.std.proofs.Common.{◌≡◌, ℕ, List, [], ◌∷◌, ◌++◌, Bool, true, false, refl, sym, ◌∙◌, ap}
 use Rattle.mau_terms.specs.Tree.{Tree}
 use Rattle.mau_terms.specs.Norm.{arrange, norm}
 use Rattle.mau_terms.specs.Lawful.{AreLawful}
@@ -10,7 +10,7 @@ use Rattle.mau_terms.specs.declared.theory.Theory.{Theory}
 use Rattle.mau_terms.proofs.Pieces.{Each, Each-append, IsPiece, arrange-arrange}
 use Rattle.mau_terms.proofs.Normal.{norm_normal, whole_pieces}
 use Rattle.mau_terms.proofs.Solutions.{list_of_made}
-use Rattle.mau_parts.specs.Parts.{front, some_of, IsOf}
+use Rattle.mau_domains.specs.Parts.{front, some_of, IsOf}
 
 each_piece : (th : ℕ → Theory) (f : ℕ) (ts : List Tree) → ArePieces th f ts → Each (IsPiece (th f).assoc (th f).id f) ts
 each_piece th f [] p = tt

@@ -1,5 +1,5 @@
 -- Bare instances are fair.
-use Rattle.std.proofs.Common.{◌≡◌, ℕ, suc, List, [], ◌∷◌, length, true, None, inl, inr, refl, sym, ◌∙◌, ap, subst}
+use Rattle.std.proofs.Common.{◌≡◌, ℕ, suc, List, [], ◌∷◌, length, true, None, inl, inr, refl, sym, ◌∙◌, ap}
 use Rattle.mau_terms.specs.Tree.{Tree, variable, numeral, apply, Trees, no_trees, tree}
 use Rattle.mau_terms.specs.Norm.{norm, norms}
 use Rattle.mau_terms.specs.Bare.{TermSignature, IsBareIn, AreBareIn, IsBare, IsLawful}
@@ -7,7 +7,7 @@ use Rattle.mau_terms.specs.Subst.{Variable, instance, instances}
 use Rattle.mau_terms.specs.Solution.{list_under}
 use Rattle.mau_terms.specs.Finite.{IsIn}
 use Rattle.mau_match.specs.Parts.{IsFairAt, IsFair, AreFair}
-use Rattle.mau_parts.proofs.TakenLists.{bare_filled}
+use Rattle.mau_domains.proofs.TakenLists.{bare_filled}
 
 module _ (s : TermSignature) (lawful : IsLawful s) where
   pub filled : (t : Tree) → IsBare s t → (f : ℕ) → (s.theory f).assoc ≡ true → (s.theory f).id ≡ None → list_under (s.theory f) f (norm s.theory t) ≡ [] → ⊥

@@ -1,5 +1,5 @@
 -- What is known of the instance of a pattern by the values of some of its variables.
-use Rattle.std.proofs.Common.{◌≡◌, ℕ, List, [], ◌∷◌, ◌++◌, Bool, true, false, ◌&&◌, ◌==◌, if◌then◌else◌, refl, sym, ◌∙◌, ap, ap₂, subst, append_assoc, append-nil, eqb-true}
+use Rattle.std.proofs.Common.{◌≡◌, ℕ, List, [], ◌∷◌, ◌++◌, Bool, true, false, ◌==◌, if◌then◌else◌, refl, sym, ◌∙◌, ap, ap₂, subst, append_assoc, append-nil, eqb-true}
 use Rattle.std.proofs.lemmas.Bool.{and_parts}
 use Rattle.mau_terms.specs.Tree.{Tree, variable, numeral, apply, Trees, no_trees, tree}
 use Rattle.mau_terms.specs.Order.{sort_trees}
@@ -13,7 +13,7 @@ use Rattle.mau_terms.proofs.Normal.{norms_normal}
 use Rattle.mau_match.specs.Parts.{is_bound, are_bound, known, known_in}
 use Rattle.mau_match.proofs.Removal.{more_right}
 use Rattle.mau_match.proofs.Builds.{list_of_built}
-use Rattle.mau_parts.proofs.Reached.{more_left, past}
+use Rattle.mau_domains.proofs.Reached.{more_left, past}
 
 -- two lists, each of what is known and more
 joined : (a b k m l n : List Tree) → sort_trees a ≡ sort_trees (k ++ m) → sort_trees b ≡ sort_trees (l ++ n) → sort_trees (a ++ b) ≡ sort_trees ((k ++ l) ++ (m ++ n))

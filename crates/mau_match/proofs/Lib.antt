@@ -24,6 +24,7 @@ pub mod LeastValues
 pub mod Left
 pub mod SearchFound
 pub mod Testing
-pub mod Searching
 pub mod Order
+pub mod Behind
+pub mod Searching
 pub mod Listed

@@ -11,29 +11,29 @@ use Rattle.mau_store.specs.Node.{Node}
 use Rattle.mau_store.specs.Trees.{tree_at, trees_at}
 use Rattle.mau_store.specs.View.{numbers}
 use Rattle.mau_sorts.specs.HasSort.{Known}
-use Rattle.mau_api.specs.declared.places.Place.{Place}
-use Rattle.mau_api.specs.Places.{variables_in}
-use Rattle.mau_api.specs.Found.{Question}
-use Rattle.mau_api.specs.Asked.{IsAskable, BySort, question_in}
-use Rattle.mau_api.proofs.Answered.{normal_is}
-use Rattle.mau_plain.specs.Tried.{ArePlacesOf, asked_in}
-use Rattle.mau_plain.specs.declared.tried.Trial.{Trial}
-use Rattle.mau_plain.proofs.Longer.{in_map}
-use Rattle.mau_parts.specs.Parts.{just}
+use Rattle.mau_listing.specs.declared.places.Place.{Place}
+use Rattle.mau_listing.specs.Places.{variables_in}
+use Rattle.mau_listing.specs.Question.{Question}
+use Rattle.mau_listing.specs.Asked.{IsAskable, BySort, question_in}
+use Rattle.mau_listing.proofs.Answered.{normal_is}
+use Rattle.mau_trial.specs.Tried.{ArePlacesOf, asked_in}
+use Rattle.mau_trial.specs.declared.tried.Trial.{Trial}
+use Rattle.mau_trial.proofs.Among.{in_map}
+use Rattle.mau_domains.specs.Parts.{just}
 use Rattle.mau_match.specs.Parts.{occurs, parts_of}
 use Rattle.mau_match.specs.Given.{given_variables, given_at}
 use Rattle.mau_match.specs.Searched.{AnswerIn}
 use Rattle.mau_match.specs.Walked.{parts_in, bound_of, values_of, target_of, AddsParts, IsRefused, walked}
 use Rattle.mau_match.specs.Values.{IsValueOfAny}
-use Rattle.mau_parts.specs.Stored.{IsPartOver}
+use Rattle.mau_domains.specs.Stored.{IsPartOver}
 use Rattle.mau_match.specs.declared.part.Given.{Given}
-use Rattle.mau_parts.specs.declared.part.Part.{Part as PartOfCode}
-use Rattle.mau_parts.specs.declared.part.Part.TheVariants.{One}
+use Rattle.mau_domains.specs.declared.part.Part.{Part as PartOfCode}
+use Rattle.mau_domains.specs.declared.part.Part.TheVariants.{One}
 use Rattle.mau_match.proofs.Answering.{bound_is, value_normal, walked_value, none_refused, occurs_at}
 use Rattle.mau_match.proofs.GivenFor.{names, names_split, names_long, given_names, given_is}
 use Rattle.mau_match.proofs.Good.{IsTerm, AreItemsOf, items_kept, AllGood, good}
 use Rattle.mau_match.proofs.PartsOver.{parts_over}
-use Rattle.mau_api.proofs.Growth.{trees_long}
+use Rattle.mau_listing.proofs.Growth.{trees_long}
 
 -- stands for a missing place, and is never meant
 abbrev pub no_place : Place

@@ -13,7 +13,7 @@ use Rattle.mau_terms.proofs.Pieces.{unit_is_unit, Split, unit, many, one, split,
 use Rattle.mau_terms.proofs.Normal.{IsNormal, norms_normal, build_normal}
 use Rattle.mau_terms.proofs.Finite.{in_left, in_right, length-arrange, length_within, each_in, over_its_list, finish_true_one}
 use Rattle.mau_terms.proofs.Variables.{same-is}
-use Rattle.mau_parts.specs.Parts.{Reach, whole, Part, just, some_of, Reaches, IsOf}
+use Rattle.mau_domains.specs.Parts.{Reach, whole, Part, just, some_of, Reaches, IsOf}
 use Rattle.mau_match.specs.Parts.{AnyOf, headed, folded_by, occurs, occurs_among, lists_in, alone_in, folded_parts, apart_from, is_bound, any_of, lists_of, own_part, rest_behind, parts_of, parts_among, parts_at, parts_any, parts_folded, IsFairAt, IsFair, AreFair}
 use Rattle.mau_match.proofs.Builds.{all_in, Built, placed, counted, folded, IsFolded, built_other, list_of_built}
 use Rattle.mau_match.proofs.KnownElements.{bound_norm}

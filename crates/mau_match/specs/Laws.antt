@@ -8,10 +8,10 @@ use Rattle.mau_terms.specs.Solution.{FitsUnder, list_under}
 use Rattle.mau_terms.specs.Finite.{each_of}
 use Rattle.mau_signature.specs.Signature.{SignatureOf, terms_over, theory_at}
 use Rattle.mau_sorts.specs.HasSort.{Known}
-use Rattle.mau_api.specs.Found.{Question}
-use Rattle.mau_api.specs.Asked.{BySort}
-use Rattle.mau_api.specs.Answers.{IsAnswer}
-use Rattle.mau_parts.specs.Parts.{Part, just, some_of, front, IsOf}
+use Rattle.mau_listing.specs.Question.{Question}
+use Rattle.mau_listing.specs.Asked.{BySort}
+use Rattle.mau_listing.specs.Answers.{IsAnswer}
+use Rattle.mau_domains.specs.Parts.{Part, just, some_of, front, IsOf}
 use Rattle.mau_match.specs.Parts.{occurs_among, AnyOf, parts_of}
 use Rattle.mau_match.specs.Taken.{first_with, taken}
 use Rattle.mau_match.specs.Given.{given_variables, given_at}

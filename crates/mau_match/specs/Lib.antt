@@ -1,11 +1,22 @@
--- The definitions of the walk over a pattern and of the search over its variables, to be read in this order.
+-- The contract of the listing is that of the trait of all listings. What a user of the laws has to read, in this order.
 
-pub mod Search
+-- the parts of a subject that the walk over a pattern gives
 pub mod Parts
-pub mod Given
-pub mod Listing
+-- one step of the walk
 pub mod Taken
-pub mod Walked
-pub mod Values
-pub mod Searched
+-- the values that are known while a variable is given one
+pub mod Given
+-- what is proved of these
 pub mod Laws
+-- ---- what only inner contracts and proofs cite
+
+-- the first list behind another one, value after value
+pub mod Search
+-- the order of the values at each place
+pub mod Listing
+-- the walk over the terms of a store
+pub mod Walked
+-- values of several parts
+pub mod Values
+-- the search over a store that grows
+pub mod Searched

@@ -1,5 +1,5 @@
 -- What the search over the variables of a pattern needs, keeps and finds.
-use Rattle.std.specs.Prelude.{◌≡◌, ◌++◌, ℕ, List, [], ◌∷◌, All, Bool, true, false, Option, None, Some, IfSome, length}
+use Rattle.std.specs.Prelude.{◌≡◌, ◌++◌, ℕ, List, [], ◌∷◌, All, Bool, true, false, Option, None, Some, length}
 use Rattle.std.specs.Borrow.{Bor}
 use Rattle.std.specs.declared.cmp.Ordering.{Ordering}
 use Rattle.mau_terms.specs.Tree.{Tree}
@@ -9,16 +9,16 @@ use Rattle.mau_signature.specs.Signature.{SignatureOf, theory_at}
 use Rattle.mau_store.specs.Node.{Node, Extends}
 use Rattle.mau_store.specs.Trees.{tree_at, trees_at}
 use Rattle.mau_store.specs.View.{numbers}
-use Rattle.mau_canon.specs.Within.{StandWithin}
+use Rattle.mau_canon.specs.Standing.{StandWithin}
 use Rattle.mau_sorts.specs.HasSort.{Known}
 use Rattle.mau_sorts.specs.Table.{Table, IsSettled, AreOver, KeepsEntries}
-use Rattle.mau_api.specs.declared.places.Place.{Place}
-use Rattle.mau_api.specs.Places.{under_all}
-use Rattle.mau_api.specs.Answers.{IsAnswer}
-use Rattle.mau_api.specs.Asked.{question_in, IsTableOf, BySort, MaySettle, CanGoOn}
-use Rattle.mau_plain.specs.Tried.{ArePlacesOf, asked_in}
-use Rattle.mau_plain.specs.declared.tried.Trial.{Trial}
-use Rattle.mau_match.specs.Search.{IsFirst, IsEnd, IsFirstFrom, IsNoneFrom, Onward}
+use Rattle.mau_listing.specs.declared.places.Place.{Place}
+use Rattle.mau_listing.specs.Places.{under_all}
+use Rattle.mau_listing.specs.Answers.{IsAnswer}
+use Rattle.mau_listing.specs.Asked.{question_in, IsTableOf, IsClosedTable, BySort, MaySettle, CanGoOn}
+use Rattle.mau_trial.specs.Tried.{ArePlacesOf, asked_in}
+use Rattle.mau_trial.specs.declared.tried.Trial.{Trial}
+use Rattle.mau_match.specs.Search.{IsBehind, IsHeadBehind, IsFirst, IsEnd, IsFirstFrom, IsNoneFrom, Onward}
 use Rattle.mau_match.specs.Listing.{order_at}
 
 -- the store and the table have grown, and nothing was settled but what a listing for this subject may settle
@@ -28,6 +28,7 @@ pub record Grows (s : SignatureOf) (subject : Tree) (old new : List Node) (befor
   pub kept : KeepsEntries before after
   pub over : AreOver s.hierarchy after
   pub table : (known : Known) → IsTableOf s known old before → IsTableOf s known new after
+  pub closed : IsClosedTable old before → IsClosedTable new after
 
 abbrev pub subject_in : List Node → Trial → Tree
 subject_in nodes t = tree_at nodes t.subject.0
@@ -74,3 +75,11 @@ IsFoundFrom s known t ps old new chosen value after false = IsNoneFrom (order_of
 abbrev pub IsFoundWith : SignatureOf → Known → Trial → List Place → List Node → List Node → List TermId → TermId → Option (List Tree) → List TermId → Bool → Type 0
 IsFoundWith s known t ps old new chosen value last after true = IsFound s known t ps old new (chosen ++ value ∷ []) last after true
 IsFoundWith s known t ps old new chosen value last after false = IsEnd (order_of s ps) (Rest s known old t ps (chosen ++ value ∷ [])) (length (chosen ++ value ∷ [])) last
+
+-- other values are put behind the chosen ones, and these stand behind the last ones, whatever is known of sorts
+abbrev pub GoesBehind : SignatureOf → List Place → List Node → List TermId → Option (List Tree) → List TermId → Type 0
+GoesBehind s ps nodes chosen last after = (ys : List TermId) × (after ≡ chosen ++ ys) × IsBehind (order_of s ps) (length chosen) last (trees_at nodes (numbers ys))
+
+-- the same of others whose first one stands behind a value
+abbrev pub GoesBehindFrom : SignatureOf → List Place → List Node → List TermId → Option Tree → List TermId → Type 0
+GoesBehindFrom s ps nodes chosen value after = (ys : List TermId) × (after ≡ chosen ++ ys) × IsHeadBehind (order_of s ps) (length chosen) value (trees_at nodes (numbers ys))

@@ -1,6 +1,5 @@
 pub mod ItemLemmas
 pub mod Labels
-pub mod NumeralLemmas
 pub mod Outside
 pub mod PartLemmas
 pub mod Readings

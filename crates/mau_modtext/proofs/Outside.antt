@@ -1,5 +1,5 @@
 -- Looking for a place outside brackets: one word further.
-use Rattle.std.proofs.Common.{◌≡◌, ℕ, suc, ◌+◌, ◌-◌, ◌≤◌, List, ◌∷◌, Bool, true, false, ◌&&◌, cond, Option, Some, None, option_map, refl, ap, ◌∙◌, arith, nat_eq}
+use Rattle.std.proofs.Common.{ℕ, ◌+◌, Option, option_map}
 
 -- what is found from a place on, as a place of the whole
 abbrev pub shifted : ℕ → Option ℕ → Option ℕ

@@ -1,10 +1,10 @@
 -- Commands and settings.
 use Rattle.std.specs.Prelude.{ℕ, ◌+◌, ◌==◌, List, [], ◌∷◌, take, drop, Bool, true, false, ◌&&◌, ◌||◌, Option, Some, None, Ok, Err, if◌then◌else◌, codes}
+use Rattle.mau_numerals.specs.Numerals.{is_numeral}
 use Rattle.mau_tokens.specs.declared.token.Token.{Token}
 use Rattle.mau_modtext.specs.Word.{Word}
 use Rattle.mau_modtext.specs.Words.{is_word, place}
-use Rattle.mau_modtext.specs.Numerals.{is_numeral}
-use Rattle.mau_modtext.specs.Faults.{Reading, and_then}
+use Rattle.mau_modtext.specs.Faults.{OrFault, and_then}
 use Rattle.mau_modtext.specs.Brackets.{begins, first_outside}
 use Rattle.mau_modtext.specs.Signs.{stands}
 use Rattle.mau_modtext.specs.Sides.{place_or, unexpected, some_tokens, sides, condition}
@@ -71,34 +71,34 @@ abbrev pub condition_length : List Word → ℕ
 condition_length ws = if begins (codes "s.t.") ws then 1 else 2
 
 -- the subject, and the condition whose sign stands at i
-abbrev pub subject_at : ℕ → List Word → Option ℕ → Reading (List Token × List RawFragment)
+abbrev pub subject_at : ℕ → List Word → Option ℕ → OrFault (List Token × List RawFragment)
 subject_at stop ws None = and_then (some_tokens stop ws) (λ subject. Ok (subject, []))
 subject_at stop ws (Some i) =
     and_then (some_tokens (place_or stop (drop i ws)) (take i ws)) (λ subject.
     and_then (condition false stop (drop (condition_length (drop i ws)) (drop i ws))) (λ cond.
     Ok (subject, cond)))
 
-abbrev pub subject : ℕ → List Word → Reading (List Token × List RawFragment)
+abbrev pub subject : ℕ → List Word → OrFault (List Token × List RawFragment)
 subject stop ws = subject_at stop ws (first_outside (stands Condition) ws)
 
 -- pattern and subject, parted by `<=?` at i
-abbrev pub match_at : ℕ → List Word → Option ℕ → Reading Body
+abbrev pub match_at : ℕ → List Word → Option ℕ → OrFault Body
 match_at stop ws None = unexpected stop
 match_at stop ws (Some i) =
     and_then (some_tokens (place_or stop (drop i ws)) (take i ws)) (λ pattern.
     and_then (subject stop (drop (i + 1) ws)) (λ s.
     Ok (pattern, s.0, s.1)))
 
-abbrev pub match_body : ℕ → List Word → Reading Body
+abbrev pub match_body : ℕ → List Word → OrFault Body
 match_body stop ws = match_at stop ws (first_outside (stands Subject) ws)
 
-abbrev pub term_body : ℕ → List Word → Reading Body
+abbrev pub term_body : ℕ → List Word → OrFault Body
 term_body stop ws = and_then (some_tokens stop ws) (λ t. Ok (t, [], []))
 
-abbrev pub using_body : ℕ → List Word → Reading Body
+abbrev pub using_body : ℕ → List Word → OrFault Body
 using_body stop ws = and_then (sides stop stop Using ws) (λ s. Ok (s.0, s.1, []))
 
-abbrev pub body : CommandKind → ℕ → List Word → Reading Body
+abbrev pub body : CommandKind → ℕ → List Word → OrFault Body
 body Match stop ws = match_body stop ws
 body Xmatch stop ws = match_body stop ws
 body Dsrewrite stop ws = using_body stop ws
@@ -109,11 +109,11 @@ raw_command kind at n ws behind b =
     record { at = at; kind = kind; bound = bound_of n ws; gas = gas_of n ws; «module» = module_of behind; first = b.0; second = b.1; cond = b.2 }
 
 -- the command with a bound of n words; ws are the words between keyword and full stop
-abbrev pub command_behind : CommandKind → ℕ → ℕ → List Word → ℕ → Reading RawCommand
+abbrev pub command_behind : CommandKind → ℕ → ℕ → List Word → ℕ → OrFault RawCommand
 command_behind kind at stop ws n =
     and_then (body kind stop (behind_module (drop n ws))) (λ b. Ok (raw_command kind at n ws (drop n ws) b))
 
-abbrev pub command : CommandKind → ℕ → ℕ → List Word → Reading RawCommand
+abbrev pub command : CommandKind → ℕ → ℕ → List Word → OrFault RawCommand
 command kind at stop ws = command_behind kind at stop ws (bound_length kind ws)
 
 -- ---- continue
@@ -122,29 +122,29 @@ abbrev pub raw_continue : ℕ → Option Token → RawCommand
 raw_continue at bound = record { at = at; kind = Continue; bound = bound; gas = None; «module» = None; first = []; second = []; cond = [] }
 
 -- the word behind which nothing stands
-abbrev pub only : {X : Type 0} → X → List Word → Reading X
+abbrev pub only : {X : Type 0} → X → List Word → OrFault X
 only x [] = Ok x
 only x (w ∷ ws) = unexpected (place w)
 
 -- an optional number
-abbrev pub continue : ℕ → List Word → Reading RawCommand
+abbrev pub continue : ℕ → List Word → OrFault RawCommand
 continue at [] = Ok (raw_continue at None)
 continue at (w ∷ ws) = if is_numeral w.text then only (raw_continue at (Some w.token)) ws else unexpected (place w)
 
 -- ---- settings
 
-abbrev pub select : ℕ → List Word → Reading Setting
+abbrev pub select : ℕ → List Word → OrFault Setting
 select stop [] = unexpected stop
 select stop (w ∷ ws) = only (Select w.text) ws
 
-abbrev pub trace : ℕ → List Word → Reading Setting
+abbrev pub trace : ℕ → List Word → OrFault Setting
 trace stop [] = unexpected stop
 trace stop (w ∷ ws) =
     if is_word (codes "on") w then only (Trace true) ws
     else (if is_word (codes "off") w then only (Trace false) ws else unexpected (place w))
 
 -- `set`, which stands at `at`
-abbrev pub setting : ℕ → ℕ → List Word → Reading Setting
+abbrev pub setting : ℕ → ℕ → List Word → OrFault Setting
 setting at stop [] = unexpected stop
 setting at stop (w ∷ ws) =
     if is_word (codes "trace") w then trace stop ws

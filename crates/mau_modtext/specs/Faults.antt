@@ -6,11 +6,11 @@ use Rattle.mau_modtext.specs.declared.fault.ReadFault.{ReadFault}
 use Rattle.mau_modtext.specs.declared.fault.ReadFault.TheVariants.{Fault as Faulty, NoMemory}
 
 -- what words say, or the first fault
-abbrev pub Reading : Type 0 → Type 0
-Reading X = Result X Fault
+abbrev pub OrFault : Type 0 → Type 0
+OrFault X = Result X Fault
 
 -- an answer is this reading; want of memory says nothing
-abbrev pub Reads : {X : Type 0} → Result X ReadFault → Reading X → Type 0
+abbrev pub Reads : {X : Type 0} → Result X ReadFault → OrFault X → Type 0
 Reads (Ok x) r = r ≡ Ok x
 Reads (Err (Faulty f)) r = r ≡ Err f
 Reads (Err NoMemory) r = Unit {0}
@@ -21,7 +21,7 @@ IfFault (Faulty f) P = P f
 IfFault NoMemory P = Unit {0}
 
 -- a reading, and then what follows from it
-abbrev pub and_then : {X Y : Type 0} → Reading X → (X → Reading Y) → Reading Y
+abbrev pub and_then : {X Y : Type 0} → OrFault X → (X → OrFault Y) → OrFault Y
 and_then (Ok x) more = more x
 and_then (Err f) more = Err f
 
@@ -34,7 +34,7 @@ abbrev pub earlier : Fault → Fault → Fault
 earlier f g = if nat_lt (fault_place g) (fault_place f) then g else f
 
 -- two readings side by side: of two faults the earlier is named
-abbrev pub both : {X Y : Type 0} → Reading X → Reading Y → Reading (X × Y)
+abbrev pub both : {X Y : Type 0} → OrFault X → OrFault Y → OrFault (X × Y)
 both (Ok x) (Ok y) = Ok (x, y)
 both (Ok x) (Err g) = Err g
 both (Err f) (Ok y) = Err f

@@ -2,7 +2,7 @@
 use Rattle.std.specs.Prelude.{◌≡◌, ℕ, suc, ◌+◌, nat_lt, List, [], ◌∷◌, length, take, drop, ◌||◌, Option, Some, None, option_map, Result, Ok, Err, if◌then◌else◌, codes}
 use Rattle.mau_modtext.specs.Word.{Word}
 use Rattle.mau_modtext.specs.Words.{is_word}
-use Rattle.mau_modtext.specs.Faults.{Reading, and_then}
+use Rattle.mau_modtext.specs.Faults.{OrFault, and_then}
 use Rattle.mau_modtext.specs.Brackets.{first_outside}
 use Rattle.mau_modtext.specs.Signs.{stands}
 use Rattle.mau_modtext.specs.Names.{words_before}
@@ -90,7 +90,7 @@ item_length QuitWord ws = Some (length ws)
 item_length _ ws = option_map suc (first_outside (stands Stop) ws)
 
 -- what an item says whose keyword stands at `at` and its last word at `last`; ws are the words between
-abbrev pub body_by : Keyword → ℕ → ℕ → List Word → Reading RawBody
+abbrev pub body_by : Keyword → ℕ → ℕ → List Word → OrFault RawBody
 body_by (ModuleWord kind) at last ws = and_then (module_inside kind at last ws) (λ x. Ok (Module x))
 body_by QuitWord at last ws = Ok Quit
 body_by (CommandWord kind) at last ws = and_then (command kind at last ws) (λ x. Ok (Command x))
@@ -101,7 +101,7 @@ body_by (Named feature) at last ws = Err (UnsupportedAt feature at)
 body_by Other at last ws = unexpected at
 
 -- the item of all these words; a word that is its own end is the keyword too
-abbrev pub body_of : Keyword → List Word → Reading RawBody
+abbrev pub body_of : Keyword → List Word → OrFault RawBody
 body_of keyword ws = body_by keyword (place_or 0 ws) (last_place 0 ws) (without_last (drop 1 ws))
 
 abbrev pub text_fault : Fault → TextFault
@@ -109,7 +109,7 @@ text_fault (UnexpectedAt at) = Unexpected at
 text_fault (UnsupportedAt feature at) = Unsupported (name_of feature) at
 
 -- what an item says, or its first fault
-abbrev pub said : Reading RawBody → Result RawBody TextFault
+abbrev pub said : OrFault RawBody → Result RawBody TextFault
 said (Ok b) = Ok b
 said (Err f) = Err (text_fault f)
 
@@ -122,7 +122,7 @@ abbrev pub item_by : Keyword → List Word → RawItem × ℕ
 item_by keyword ws = item_at keyword ws (item_length keyword ws)
 
 -- the item with which the words begin
-abbrev pub item_part : List Word → Reading (RawItem × ℕ)
+abbrev pub item_part : List Word → OrFault (RawItem × ℕ)
 item_part [] = Ok (record { at = 0; body = Ok Quit }, 0)
 item_part (w ∷ ws) = Ok (item_by (keyword_of w) (w ∷ ws))
 

@@ -3,7 +3,7 @@ use Rattle.std.specs.Prelude.{ℕ, ◌+◌, List, [], ◌∷◌, take, drop, Boo
 use Rattle.mau_tokens.specs.declared.token.Token.{Token}
 use Rattle.mau_modtext.specs.Word.{Word}
 use Rattle.mau_modtext.specs.Words.{is_word, place}
-use Rattle.mau_modtext.specs.Faults.{Reading, and_then}
+use Rattle.mau_modtext.specs.Faults.{OrFault, and_then}
 use Rattle.mau_modtext.specs.Brackets.{first_outside}
 use Rattle.mau_modtext.specs.Signs.{stands}
 use Rattle.mau_modtext.specs.Parts.{parts}
@@ -51,7 +51,7 @@ keyword_of kind w =
     else Other))))))))))))))
 
 -- an element whose keyword stands at `at`; ws are the words between it and the full stop
-abbrev pub element_by : Keyword → ℕ → ℕ → List Word → Reading RawElement
+abbrev pub element_by : Keyword → ℕ → ℕ → List Word → OrFault RawElement
 element_by ImportWord at stop ws = and_then (import_name stop ws) (λ x. Ok (Import x))
 element_by SortsWord at stop ws = and_then (declared_sorts stop ws) (λ x. Ok (Sorts x))
 element_by SubsortsWord at stop ws = and_then (subsorts stop ws) (λ x. Ok (Subsorts x))
@@ -63,26 +63,26 @@ element_by StratsWord at stop ws = and_then (strats at stop ws) (λ x. Ok (Strat
 element_by Other at stop ws = unexpected at
 
 -- the element of the words before its full stop
-abbrev pub element : ModuleKind → ℕ → List Word → Reading RawElement
+abbrev pub element : ModuleKind → ℕ → List Word → OrFault RawElement
 element kind stop [] = unexpected stop
 element kind stop (w ∷ ws) = element_by (keyword_of kind w) (place w) stop ws
 
 -- an element up to the first full stop outside brackets; where that is missing, the module's last token is at fault
-abbrev pub element_part_at : ModuleKind → ℕ → List Word → Option ℕ → Reading (RawElement × ℕ)
+abbrev pub element_part_at : ModuleKind → ℕ → List Word → Option ℕ → OrFault (RawElement × ℕ)
 element_part_at kind last ws None = unexpected last
 element_part_at kind last ws (Some i) = and_then (element kind (place_or last (drop i ws)) (take i ws)) (λ e. Ok (e, i + 1))
 
-abbrev pub element_part : ModuleKind → ℕ → List Word → Reading (RawElement × ℕ)
+abbrev pub element_part : ModuleKind → ℕ → List Word → OrFault (RawElement × ℕ)
 element_part kind last ws = element_part_at kind last ws (first_outside (stands Stop) ws)
 
 -- behind the name: `is`, and elements
-abbrev pub module_behind : ModuleKind → ℕ → ℕ → Token → List Word → Reading RawModule
+abbrev pub module_behind : ModuleKind → ℕ → ℕ → Token → List Word → OrFault RawModule
 module_behind kind at last name [] = unexpected last
 module_behind kind at last name (w ∷ ws) =
     if is_word (codes "is") w then and_then (parts (element_part kind last) ws) (λ es. Ok (record { at = at; kind = kind; name = name; elements = es }))
     else unexpected (place w)
 
 -- the words between keyword and end word, whose place is `last`
-abbrev pub module_inside : ModuleKind → ℕ → ℕ → List Word → Reading RawModule
+abbrev pub module_inside : ModuleKind → ℕ → ℕ → List Word → OrFault RawModule
 module_inside kind at last [] = unexpected last
 module_inside kind at last (w ∷ ws) = if is_name w then module_behind kind at last w.token ws else unexpected (place w)

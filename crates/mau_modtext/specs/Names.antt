@@ -1,12 +1,12 @@
 -- Names that are declared, and places where names end.
 use Rattle.std.specs.Prelude.{ℕ, suc, ◌-◌, ◌==◌, List, [], ◌∷◌, length, slice_get, Bool, true, false, not, ◌&&◌, ◌||◌, Option, Some, None, Ok, if◌then◌else◌, codes}
 use Rattle.std.specs.List.{list_any}
+use Rattle.mau_numerals.specs.Numerals.{is_up_to}
 use Rattle.mau_tokens.specs.declared.token.Token.{Token}
 use Rattle.mau_modtext.specs.Word.{Word}
 use Rattle.mau_modtext.specs.Words.{is_word, is_string, place}
-use Rattle.mau_modtext.specs.Numerals.{is_up_to}
 use Rattle.mau_modtext.specs.Brackets.{opens, closes}
-use Rattle.mau_modtext.specs.Faults.{Reading}
+use Rattle.mau_modtext.specs.Faults.{OrFault}
 use Rattle.mau_modtext.specs.Parts.{parts}
 use Rattle.mau_modtext.specs.Sides.{unexpected}
 use Rattle.mau_modtext.specs.Forms.{is_form_word}
@@ -42,12 +42,12 @@ is_of Strategy w = true
 is_of Form w = is_form_word w.text
 
 -- a name of one word
-abbrev pub one_name : NameKind → List Word → Reading (Token × ℕ)
+abbrev pub one_name : NameKind → List Word → OrFault (Token × ℕ)
 one_name kind [] = unexpected 0
 one_name kind (w ∷ ws) = if is_of kind w then Ok (w.token, 1) else unexpected (place w)
 
 -- names, one at least
-abbrev pub names : NameKind → ℕ → List Word → Reading (List Token)
+abbrev pub names : NameKind → ℕ → List Word → OrFault (List Token)
 names kind behind [] = unexpected behind
 names kind behind (w ∷ ws) = parts (one_name kind) (w ∷ ws)
 

@@ -4,7 +4,7 @@ use Rattle.std.specs.Option.{option_or}
 use Rattle.mau_tokens.specs.declared.token.Token.{Token}
 use Rattle.mau_modtext.specs.Word.{Word}
 use Rattle.mau_modtext.specs.Words.{is_word, place, tokens, is_string}
-use Rattle.mau_modtext.specs.Faults.{Reading, and_then, both}
+use Rattle.mau_modtext.specs.Faults.{OrFault, and_then, both}
 use Rattle.mau_modtext.specs.Brackets.{begins, first_outside, depth_behind}
 use Rattle.mau_modtext.specs.Signs.{stands}
 use Rattle.mau_modtext.specs.Parts.{parts}
@@ -27,7 +27,7 @@ abbrev pub attribute : List Word → ℕ → RawAttr × ℕ
 attribute ws n = (record { name = tokens (take 1 ws); value = tokens (take (n - 1) (drop 1 ws)) }, n)
 
 -- an attribute of two words, the second of which passes the test
-abbrev pub with_word : (Word → Bool) → ℕ → List Word → List Word → Reading (RawAttr × ℕ)
+abbrev pub with_word : (Word → Bool) → ℕ → List Word → List Word → OrFault (RawAttr × ℕ)
 with_word test behind ws [] = unexpected behind
 with_word test behind ws (v ∷ vs) = if test v then Ok (attribute ws 2) else unexpected (place v)
 
@@ -40,7 +40,7 @@ is_definition Definition = true
 is_definition _ = false
 
 -- the attribute with which the words begin, where `behind` is the place of the closing bracket
-abbrev pub statement_attribute : StatementKind → ℕ → List Word → Reading (RawAttr × ℕ)
+abbrev pub statement_attribute : StatementKind → ℕ → List Word → OrFault (RawAttr × ℕ)
 statement_attribute kind behind [] = unexpected behind
 statement_attribute kind behind (w ∷ ws) =
     if is_word (codes "label") w then with_word (λ _. true) behind (w ∷ ws) ws
@@ -132,16 +132,16 @@ sign_of Definition = Assigns
 abbrev pub Core : Type 0
 Core = (List Token × List Token) × List RawFragment
 
-abbrev pub unconditional : Head → ℕ → List Word → Reading Core
+abbrev pub unconditional : Head → ℕ → List Word → OrFault Core
 unconditional h behind ws = and_then (sides h.stop behind (sign_of h.kind) ws) (λ s. Ok (s, []))
 
 -- where no `if` stays open, or several do, the keyword is at fault
-abbrev pub conditional : Head → ℕ → List Word → Option ℕ → Reading Core
+abbrev pub conditional : Head → ℕ → List Word → Option ℕ → OrFault Core
 conditional h behind ws None = unexpected h.at
 conditional h behind ws (Some i) =
     both (sides h.stop (place_or behind (drop i ws)) (sign_of h.kind) (take i ws)) (condition (is_rule h.kind) behind (drop (i + 1) ws))
 
-abbrev pub core : Head → ℕ → List Word → Reading Core
+abbrev pub core : Head → ℕ → List Word → OrFault Core
 core h behind ws = if h.has_if then conditional h behind ws (condition_place ws) else unconditional h behind ws
 
 -- the place of the last word
@@ -153,15 +153,15 @@ raw_statement h label attrs p =
     record { at = h.at; kind = h.kind; label = option_or label (label_given attrs); left = p.0.0.0; right = p.0.0.1; cond = p.0.1; attrs = p.1 }
 
 -- the statement whose words behind keyword and label are these; its attributes begin at a
-abbrev pub statement_at : Head → Option Token → List Word → Option ℕ → Reading RawStatement
+abbrev pub statement_at : Head → Option Token → List Word → Option ℕ → OrFault RawStatement
 statement_at h label ws a =
     and_then (both (core h (behind_core h.stop ws a) (before_attributes ws a))
     (parts (statement_attribute h.kind (last_place h.stop ws)) (in_attributes ws a))) (λ p.
     Ok (raw_statement h label (in_attributes ws a) p))
 
-abbrev pub statement_behind : Head → Option Token → List Word → Reading RawStatement
+abbrev pub statement_behind : Head → Option Token → List Word → OrFault RawStatement
 statement_behind h label ws = statement_at h label ws (first_outside (stands Attributes) ws)
 
 -- the statement of the words between its keyword and its full stop
-abbrev pub statement : Head → List Word → Reading RawStatement
+abbrev pub statement : Head → List Word → OrFault RawStatement
 statement h ws = statement_behind h (label_before ws) (behind_label ws (label_before ws))

@@ -2,18 +2,20 @@
 ghost use Rattle.std.specs.Prelude.{◌≡◌, ◌≤◌, ◌<◌, ◌+◌, ◌∷◌, length, drop, IfSome, IfOk, Ok};
 ghost use Rattle.mau_modtext.specs.Attributes;
 ghost use Rattle.mau_modtext.specs.Faults.{Reads};
-ghost use Rattle.mau_modtext.specs.Numerals.{is_up_to as numeral_up_to};
+ghost use Rattle.mau_numerals.specs.Numerals.{is_up_to as numeral_up_to};
 ghost use Rattle.mau_modtext.specs.Statements;
 
-use crate::brackets::{Sign, begins, behind, closing, first_outside, front};
+use crate::brackets::{
+    Sign, begins, begins_operator_attribute, behind, closing, first_outside, front,
+};
 use crate::fault::{Fault, Feature, ReadFault};
 use crate::names::{End, words_before};
-use crate::numerals::is_up_to;
 use crate::parts::{PartReader, read_parts};
 use crate::raw::RawAttr;
 use crate::sides::{place_or, unexpected};
 use crate::statements::{attribute, metadata_attribute};
 use crate::word::Word;
+use mau_numerals::is_up_to;
 use mau_terms::Seq;
 use std::alloc::Global;
 
@@ -163,18 +165,31 @@ pub fn or_all(words: &[Word], found: Option<usize>) -> usize
     }
 }
 
-/// An identity: the words of its term behind `id:`.
+/// How many words stand before the next attribute outside brackets.
+fn to_attribute(words: &[Word]) -> usize
+    ensures count { result ≡ Attributes.to_attribute words.now }
+    ensures within { result ≤ length words.now }
+{
+    or_all(words, first_outside(words, Sign::OperatorAttribute))
+}
+
+/// An identity: the words of its term behind `id:`, of which the first may be any.
 fn identity(alloc: Global, words: &[Word], place: u32) -> Result<(RawAttr, usize), ReadFault>
     requires { 0 < length words.now }
     ensures reads { Reads result (Attributes.identity_at place words.now (drop 1 words.now)) }
     ensures count { IfOk result (λ p. (0 < p.1) × (p.1 ≤ length words.now)) }
 {
     let rest = behind(words, 1);
-    let count = or_all(rest, first_outside(rest, Sign::OperatorAttribute));
-    if count == 0 {
-        return unexpected(place_or(rest, place));
+    match rest.split_first() {
+        Some((_, others)) => {
+            if begins_operator_attribute(rest) {
+                attribute(alloc, words, to_attribute(others) + 2)
+            } else {
+                attribute(alloc, words, to_attribute(rest) + 1)
+            }
+        }
+        None => unexpected(place),
     }
-    attribute(alloc, words, count + 1)
 }
 
 /// `left id:` or `right id:`, which is known by its name alone.
@@ -200,7 +215,7 @@ fn precedence(alloc: Global, words: &[Word], place: u32) -> Result<(RawAttr, usi
 {
     match behind(words, 1).split_first() {
         Some((value, _)) => {
-            if is_up_to(value.text(), 127) {
+            if is_up_to(value.text().as_bytes(), 127) {
                 attribute(alloc, words, 2)
             } else {
                 unexpected(value.place())

@@ -82,7 +82,7 @@ fn begins_attribute(words: &[Word]) -> bool
 }
 
 /// Whether an attribute of an operator begins here.
-fn begins_operator_attribute(words: &[Word]) -> bool
+pub fn begins_operator_attribute(words: &[Word]) -> bool
     ensures { result ≡ Rattle.mau_modtext.specs.Signs.begins_operator_attribute words.now }
 {
     match words.split_first() {

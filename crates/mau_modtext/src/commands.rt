@@ -5,11 +5,11 @@ ghost use Rattle.mau_modtext.specs.Faults.{Reads};
 
 use crate::brackets::{Sign, begins, behind, first_outside};
 use crate::fault::{Fault, Feature, ReadFault};
-use crate::numerals::is_numeral;
 use crate::raw::{CommandKind, RawCommand, RawFragment, Setting};
 use crate::sides::{place_or, read_condition, read_sides, some_tokens, unexpected};
 use crate::statements::first_token;
 use crate::word::{TokenList, Word};
+use mau_numerals::is_numeral;
 use mau_terms::{Seq, Text};
 use mau_tokens::Token;
 use std::alloc::Global;
@@ -18,7 +18,7 @@ fn begins_numeral(words: &[Word]) -> bool
     ensures { result ≡ Commands.begins_numeral words.now }
 {
     match words.split_first() {
-        Some((word, _)) => is_numeral(word.text()),
+        Some((word, _)) => is_numeral(word.text().as_bytes()),
         None => false,
     }
 }
@@ -274,7 +274,7 @@ pub fn read_continue(alloc: Global, at: u32, words: &[Word]) -> Result<RawComman
 {
     match words.split_first() {
         Some((word, rest)) => {
-            if is_numeral(word.text()) {
+            if is_numeral(word.text().as_bytes()) {
                 only(raw_continue(alloc, at, Some(word.token())), rest)
             } else {
                 unexpected(word.place())

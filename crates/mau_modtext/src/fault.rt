@@ -1,7 +1,7 @@
 //! Why words don't read.
 ghost use Rattle.std.specs.Prelude.{◌≡◌, Ok, Err};
 ghost use Rattle.mau_modtext.specs.Faults;
-ghost use Rattle.mau_modtext.specs.Faults.{Reading, Reads};
+ghost use Rattle.mau_modtext.specs.Faults.{OrFault, Reads};
 
 use mau_terms::NoMemory;
 use std::alloc::{AllocError, AllocFailed};
@@ -156,7 +156,7 @@ pub fn both<X: Drop, Y: Drop>(
     first: Result<X, ReadFault>,
     second: Result<Y, ReadFault>,
 ) -> Result<(X, Y), ReadFault>
-    ensures { (r : Reading X) → (s : Reading Y) → Reads first r → Reads second s → Reads result (Faults.both r s) }
+    ensures { (r : OrFault X) → (s : OrFault Y) → Reads first r → Reads second s → Reads result (Faults.both r s) }
 {
     match first {
         Ok(x) => match second {

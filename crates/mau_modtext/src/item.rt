@@ -6,7 +6,7 @@ ghost use Rattle.mau_modtext.specs.Words.{words_of as all_words};
 ghost use Rattle.mau_modtext.specs.Brackets;
 ghost use Rattle.mau_modtext.specs.Names;
 ghost use Rattle.mau_modtext.specs.Signs.{stands};
-ghost use Rattle.mau_modtext.specs.Faults.{Reads, Reading};
+ghost use Rattle.mau_modtext.specs.Faults.{Reads, OrFault};
 ghost use Rattle.mau_modtext.specs.Items;
 ghost use Rattle.mau_modtext.specs.Items.{AreItems};
 
@@ -194,7 +194,7 @@ fn said(
     alloc: Global,
     body: Result<RawBody, ReadFault>,
 ) -> Result<Result<RawBody, TextFault>, NoMemory>
-    ensures { (r : Reading RawBody) → Reads body r → IfOk result (λ b. b ≡ Items.said r) }
+    ensures { (r : OrFault RawBody) → Reads body r → IfOk result (λ b. b ≡ Items.said r) }
 {
     match body {
         Ok(body) => Ok(Ok(body)),

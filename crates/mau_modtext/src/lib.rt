@@ -10,7 +10,6 @@ mod forms;
 mod item;
 pub mod laws;
 mod names;
-mod numerals;
 mod operators;
 mod parts;
 mod raw;

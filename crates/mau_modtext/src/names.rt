@@ -5,10 +5,10 @@ ghost use Rattle.mau_modtext.specs.Names;
 
 use crate::fault::ReadFault;
 use crate::forms::is_form_word;
-use crate::numerals::is_up_to;
 use crate::parts::{PartReader, read_parts};
 use crate::sides::unexpected;
 use crate::word::{TokenList, Word};
+use mau_numerals::is_up_to;
 use mau_tokens::Token;
 use std::alloc::Global;
 
@@ -135,7 +135,7 @@ fn ends(end: End, word: &Word) -> bool
         End::StrategyNames => word.is(":") || word.is("@"),
         End::At => word.is("@"),
         End::NoGather => !is_gather(word),
-        End::NoEntry => !is_up_to(word.text(), 255),
+        End::NoEntry => !is_up_to(word.text().as_bytes(), 255),
         End::EndFmod => word.is("endfm"),
         End::EndMod => word.is("endm"),
         End::EndSmod => word.is("endsm"),

@@ -1,7 +1,7 @@
 //! Reading parts that follow one another.
 ghost use Rattle.std.specs.Prelude.{◌≡◌, ◌<◌, ◌≤◌, ◌+◌, ℕ, List, length, IfOk, IfErr, Ok, Err};
 ghost use Rattle.mau_modtext.specs.Word.{Word as Read};
-ghost use Rattle.mau_modtext.specs.Faults.{Reading, Reads, IfFault};
+ghost use Rattle.mau_modtext.specs.Faults.{OrFault, Reads, IfFault};
 ghost use Rattle.mau_modtext.specs.Parts.{parts};
 
 use crate::fault::ReadFault;
@@ -11,7 +11,7 @@ use std::alloc::Global;
 
 /// What reads the part with which words begin.
 pub trait PartReader<T> {
-    ghost part: { Self → List Read → Reading (T × ℕ) };
+    ghost part: { Self → List Read → OrFault (T × ℕ) };
 
     /// The part, and of how many words it is.
     fn read(&self, alloc: Global, words: &[Word]) -> Result<(T, usize), ReadFault>

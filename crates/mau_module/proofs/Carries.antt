@@ -7,9 +7,9 @@ use Rattle.mau_poset.specs.Order.{Hierarchy, kinds}
 use Rattle.mau_signature.specs.declared.decl.Decl.{Decl}
 use Rattle.mau_signature.specs.Signature.{SignatureOf}
 use Rattle.mau_signature.specs.Faults.{IsSort, HasSorts}
-use Rattle.mau_carry.specs.declared.carry.Tables.{Tables}
-use Rattle.mau_carry.specs.Tables.{numbers_in}
-use Rattle.mau_carry.specs.Carried.{Numbers, declaration_to, operator_to}
+use Rattle.mau_renumber.specs.declared.carry.Tables.{Tables}
+use Rattle.mau_renumber.specs.Tables.{numbers_in}
+use Rattle.mau_renumber.specs.Carried.{Numbers, declaration_to, operator_to}
 use Rattle.mau_module.specs.Modules.{ModuleOf}
 use Rattle.mau_module.specs.Included.{number_from}
 use Rattle.mau_module.specs.Carried.{numbers_from}

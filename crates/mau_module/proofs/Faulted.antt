@@ -5,7 +5,7 @@ use Rattle.mau_modtext.specs.Word.{Word}
 use Rattle.mau_modtext.specs.declared.raw.RawModule.{RawModule}
 use Rattle.mau_declare.specs.Imports.{imports}
 use Rattle.mau_declare.specs.Elements.{Elements, elements_of}
-use Rattle.mau_signed.specs.Signed.{SignatureRead}
+use Rattle.mau_signing.specs.Signed.{SignatureRead}
 use Rattle.mau_module.specs.declared.fault.Limit.{Limit}
 use Rattle.mau_module.specs.declared.fault.ModuleFault.{ModuleFault}
 use Rattle.mau_module.specs.declared.fault.ModuleFault.TheVariants.{UnknownModule, ImportTooDeep, TooLarge, UnknownSort, Signed, Statement, NoMemory}

@@ -1,5 +1,5 @@
 -- A module of a text, or the fault of one of its statements, from what was read of it in turn.
-use Rattle.std.proofs.Common.{◌≡◌, ◌<◌, ◌≤◌, ◌+◌, ℕ, List, [], ◌∷◌, ◌++◌, length, refl, sym, ap, ap₂, subst, ◌∙◌, drop, arith}
+use Rattle.std.proofs.Common.{◌≡◌, ◌<◌, ◌≤◌, ℕ, List, length, sym, ap, ap₂, subst, ◌∙◌, arith}
 use Rattle.std.specs.Prelude.{All, Ok, Err}
 use Rattle.std.proofs.Math.Seq.{drop-append_seam}
 use Rattle.std.proofs.lemmas.List.Elements.{All-push}
@@ -8,9 +8,6 @@ use Rattle.mau_modtext.specs.declared.raw.RawModule.{RawModule}
 use Rattle.mau_signature.specs.declared.decl.Decl.{Decl}
 use Rattle.mau_signature.specs.Signature.{SignatureOf}
 use Rattle.mau_grammar.specs.Grammar.{GrammarOf}
-use Rattle.mau_api.specs.declared.statements.Equation.{Equation}
-use Rattle.mau_api.specs.declared.statements.Membership.{Membership}
-use Rattle.mau_api.specs.declared.statements.Rule.{Rule}
 use Rattle.mau_declare.specs.Words.{token_text}
 use Rattle.mau_declare.specs.Elements.{Elements}
 use Rattle.mau_statement.specs.declared.fault.StatementFault.{StatementFault}
@@ -38,9 +35,13 @@ statement_told P Q h NoMemory w = w
 -- the statements behind those of the parts
 pub behind_parts : (a b : StatementsOf) → behind (counts_of a) (and_more a b) ≡ b
 behind_parts a b =
-    let each : List Equation → List Membership → List Rule → StatementsOf = λ x y z. record { equations = x; memberships = y; rules = z } in
-    ap₂ (λ x y. each x y (drop (length a.rules) (a.rules ++ b.rules))) (drop-append_seam a.equations b.equations) (drop-append_seam a.memberships b.memberships)
-    ∙ ap (each b.equations b.memberships) (drop-append_seam a.rules b.rules)
+    λ i. record {
+      equations = drop-append_seam a.equations b.equations i;
+      memberships = drop-append_seam a.memberships b.memberships i;
+      rules = drop-append_seam a.rules b.rules i;
+      strategies = drop-append_seam a.strategies b.strategies i;
+      strats = drop-append_seam a.strats b.strats i;
+    }
 
 -- what is read over the frame of the text
 module _ (ms : List ModuleOf) (ws : List Word) (raw : RawModule) (f : Frame) (q : f ≡ frame_of ms ws raw) (e : Elements) (s : SignatureOf) (signed : IsSigned ms ws raw e s) where

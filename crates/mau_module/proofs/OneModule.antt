@@ -16,8 +16,8 @@ use Rattle.mau_statement.specs.Statements.{StatementRead}
 use Rattle.mau_statement.specs.declared.fault.StatementFault.{StatementFault}
 use Rattle.mau_statement.specs.declared.statement.Statement.{Statement as StatementType}
 use Rattle.mau_statement.proofs.OneStatement.{shaped_of, statement_once}
-use Rattle.mau_signed.specs.Signed.{SignatureRead}
-use Rattle.mau_signed.proofs.OneSignature.{signature_once}
+use Rattle.mau_signing.specs.Signed.{SignatureRead}
+use Rattle.mau_signing.proofs.OneSignature.{signature_once}
 use Rattle.mau_module.specs.declared.fault.ModuleFault.{ModuleFault}
 use Rattle.mau_module.specs.declared.fault.ModuleFault.TheVariants.{UnknownModule, TooLarge, UnknownSort, Signed, Statement}
 use Rattle.mau_module.specs.declared.TheConstants.{MAX_DEPTH}

@@ -9,10 +9,10 @@ use Rattle.mau_signature.specs.declared.decl.Decl.{Decl}
 use Rattle.mau_declare.specs.Elements.{Elements}
 use Rattle.mau_declare.specs.declared.element.Operators.{Operators}
 use Rattle.mau_declare.specs.Flattened.{declarations, declared_forms, first_conflict}
-use Rattle.mau_signed.specs.Signed.{SignatureRead, on_cycle}
-use Rattle.mau_signed.specs.Refusals.{IfRefused, IsCycleRefusal}
-use Rattle.mau_signed.specs.declared.fault.SignFault.{SignFault}
-use Rattle.mau_signed.specs.declared.fault.SignFault.TheVariants.{Refused, NoMemory}
+use Rattle.mau_signing.specs.Signed.{SignatureRead, on_cycle}
+use Rattle.mau_signing.specs.Refusals.{IfRefused, IsCycleRefusal}
+use Rattle.mau_signing.specs.declared.fault.SignFault.{SignFault}
+use Rattle.mau_signing.specs.declared.fault.SignFault.TheVariants.{Refused, NoMemory}
 use Rattle.mau_module.specs.declared.fault.ModuleFault.{ModuleFault}
 use Rattle.mau_module.specs.declared.fault.ModuleFault.TheVariants.{UnknownModule, ImportTooDeep, TooLarge, UnknownSort, Signed, Statement, NoMemory as OutOfMemory}
 use Rattle.mau_module.specs.Faults.{IfSigned, fault_of}

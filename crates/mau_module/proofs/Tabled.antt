@@ -1,13 +1,13 @@
 -- The signature of a table, and its module, from what was made of it in turn.
-use Rattle.std.proofs.Common.{◌≡◌, ◌++◌, ◌∷◌, [], ℕ, List, None, length, sym, ap, ap₂, ◌∙◌}
+use Rattle.std.proofs.Common.{◌≡◌, ◌++◌, ◌∷◌, [], ℕ, List, None, length, ap, ap₂, ◌∙◌}
 use Rattle.std.specs.Prelude.{Result, Ok, Err, IfOk}
 use Rattle.mau_poset.specs.Order.{Hierarchy}
 use Rattle.mau_signature.specs.declared.decl.Decl.{Decl}
 use Rattle.mau_signature.specs.Signature.{SignatureOf}
 use Rattle.mau_grammar.specs.Grammar.{GrammarOf, grammar_of}
 use Rattle.mau_prelude.specs.Tables.{TableOf}
-use Rattle.mau_signed.specs.Signed.{SignatureRead, signature_over}
-use Rattle.mau_signed.proofs.OneSignature.{signature_is}
+use Rattle.mau_signing.specs.Signed.{SignatureRead, signature_over}
+use Rattle.mau_signing.proofs.OneSignature.{signature_is}
 use Rattle.mau_module.specs.declared.statements.Counts.{Counts}
 use Rattle.mau_module.specs.Modules.{ModuleOf, StatementsOf, and_more, behind, counts_of}
 use Rattle.mau_module.specs.Included.{pairs_of}

@@ -2,7 +2,8 @@
 use Rattle.std.specs.Prelude.{ℕ, List, map, fold, slice_get}
 use Rattle.std.specs.Option.{option_map_or}
 use Rattle.mau_signature.specs.Signature.{SignatureOf}
-use Rattle.mau_carry.specs.Carried.{Numbers, operator_to, equation_to, membership_to, rule_to}
+use Rattle.mau_renumber.specs.Carried.{Numbers, operator_to, equation_to, membership_to, rule_to}
+use Rattle.mau_renumber.specs.Strategies.{definition_to, strategy_declaration_to}
 use Rattle.mau_module.specs.Modules.{ModuleOf, StatementsOf, no_statements, and_more}
 use Rattle.mau_module.specs.Included.{number_from}
 
@@ -13,12 +14,14 @@ numbers_from m names s = record {
   operator = operator_to (number_from m names s.hierarchy) m.signature s;
 }
 
--- statements in other numbers
+-- statements and declared strategies in other numbers
 abbrev pub carried_from : Numbers → StatementsOf → StatementsOf
 carried_from n a = record {
   equations = map (equation_to n) a.equations;
   memberships = map (membership_to n) a.memberships;
   rules = map (rule_to n) a.rules;
+  strategies = map (definition_to n) a.strategies;
+  strats = map (strategy_declaration_to n) a.strats;
 }
 
 -- those that a module declares itself, over a signature whose sorts have these names

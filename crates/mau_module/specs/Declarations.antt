@@ -4,7 +4,7 @@ use Rattle.std.specs.List.{flat_map}
 use Rattle.mau_poset.specs.Order.{Hierarchy}
 use Rattle.mau_signature.specs.declared.decl.Decl.{Decl}
 use Rattle.mau_signature.specs.Faults.{Given}
-use Rattle.mau_carry.specs.Carried.{declaration_to}
+use Rattle.mau_renumber.specs.Carried.{declaration_to}
 use Rattle.mau_module.specs.Modules.{ModuleOf}
 use Rattle.mau_module.specs.Numbering.{number_in}
 use Rattle.mau_module.specs.Included.{of_module, number_from, pairs_of, numerals_of, has_truth}

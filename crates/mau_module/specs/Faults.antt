@@ -2,8 +2,8 @@
 use Rattle.std.specs.Prelude.{ℕ, List, Result, Ok, Err}
 use Rattle.mau_statement.specs.declared.fault.StatementFault.{StatementFault}
 use Rattle.mau_statement.specs.Faults.{without_trees as without_trees_of_statement}
-use Rattle.mau_signed.specs.declared.fault.SignFault.{SignFault}
-use Rattle.mau_signed.specs.declared.fault.SignFault.TheVariants.{Refused, NoMemory as NoMemoryOfSign}
+use Rattle.mau_signing.specs.declared.fault.SignFault.{SignFault}
+use Rattle.mau_signing.specs.declared.fault.SignFault.TheVariants.{Refused, NoMemory as NoMemoryOfSign}
 use Rattle.mau_module.specs.declared.fault.ModuleFault.{ModuleFault}
 use Rattle.mau_module.specs.declared.fault.ModuleFault.TheVariants.{Signed, Statement, NoMemory}
 use Rattle.mau_module.specs.Modules.{ModuleOf}

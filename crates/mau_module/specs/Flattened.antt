@@ -16,7 +16,7 @@ use Rattle.mau_declare.specs.Elements.{Elements, elements_of}
 use Rattle.mau_declare.specs.Flattened.{declarations, first_conflict, variable_at}
 use Rattle.mau_statement.specs.Context.{ContextOf}
 use Rattle.mau_statement.specs.declared.fault.StatementFault.{StatementFault}
-use Rattle.mau_signed.specs.Signed.{SignatureRead}
+use Rattle.mau_signing.specs.Signed.{SignatureRead}
 use Rattle.mau_module.specs.declared.fault.Limit.{Limit}
 use Rattle.mau_module.specs.declared.fault.ModuleFault.{ModuleFault}
 use Rattle.mau_module.specs.declared.fault.ModuleFault.TheVariants.{UnknownModule, ImportTooDeep, TooLarge, UnknownSort, Signed, Statement}

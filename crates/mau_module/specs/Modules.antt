@@ -3,27 +3,38 @@ use Rattle.std.specs.Prelude.{ℕ, List, [], ◌++◌, drop, ◌+◌, length}
 use Rattle.mau_signature.specs.declared.decl.Decl.{Decl}
 use Rattle.mau_signature.specs.Signature.{SignatureOf}
 use Rattle.mau_grammar.specs.Grammar.{GrammarOf}
-use Rattle.mau_api.specs.declared.statements.Equation.{Equation}
-use Rattle.mau_api.specs.declared.statements.Membership.{Membership}
-use Rattle.mau_api.specs.declared.statements.Rule.{Rule}
+use Rattle.mau_program.specs.declared.statements.Equation.{Equation}
+use Rattle.mau_program.specs.declared.statements.Membership.{Membership}
+use Rattle.mau_program.specs.declared.statements.Rule.{Rule}
+use Rattle.mau_program.specs.declared.definitions.StratDef.{StratDef}
+use Rattle.mau_program.specs.declared.definitions.StratDecl.{StratDecl}
 use Rattle.mau_module.specs.declared.statements.Counts.{Counts}
 
--- statements, each kind in order
+-- Statements, each kind in order: equations, memberships, rules, and the definitions of strategies. Beside them the strategies that are
+-- declared.
 pub record StatementsOf : Type 0 where
   pub equations : List Equation
   pub memberships : List Membership
   pub rules : List Rule
+  pub strategies : List StratDef
+  pub strats : List StratDecl
 
 abbrev pub no_statements : StatementsOf
-no_statements = record { equations = []; memberships = []; rules = [] }
+no_statements = record { equations = []; memberships = []; rules = []; strategies = []; strats = [] }
 
 -- some statements, and then others
 abbrev pub and_more : StatementsOf → StatementsOf → StatementsOf
-and_more a b = record { equations = a.equations ++ b.equations; memberships = a.memberships ++ b.memberships; rules = a.rules ++ b.rules }
+and_more a b = record {
+  equations = a.equations ++ b.equations;
+  memberships = a.memberships ++ b.memberships;
+  rules = a.rules ++ b.rules;
+  strategies = a.strategies ++ b.strategies;
+  strats = a.strats ++ b.strats;
+}
 
--- how many they are
+-- how many statements they are; a declared strategy is none
 abbrev pub statement_total : StatementsOf → ℕ
-statement_total a = length a.equations + length a.memberships + length a.rules
+statement_total a = length a.equations + length a.memberships + length a.rules + length a.strategies
 
 -- What a module itself declares, beside its sorts: subsort pairs, operators and statements. Its numbers are those of the whole module.
 pub record PartOf : Type 0 where
@@ -50,9 +61,21 @@ pub record ModuleOf : Type 0 where
 
 -- ---- the statements that a module adds to those of the modules that it includes
 
--- the statements behind so many
+-- the statements and declared strategies behind so many
 abbrev pub behind : Counts → StatementsOf → StatementsOf
-behind n a = record { equations = drop n.equations a.equations; memberships = drop n.memberships a.memberships; rules = drop n.rules a.rules }
+behind n a = record {
+  equations = drop n.equations a.equations;
+  memberships = drop n.memberships a.memberships;
+  rules = drop n.rules a.rules;
+  strategies = drop n.strategies a.strategies;
+  strats = drop n.strats a.strats;
+}
 
 abbrev pub counts_of : StatementsOf → Counts
-counts_of a = record { equations = length a.equations; memberships = length a.memberships; rules = length a.rules }
+counts_of a = record {
+  equations = length a.equations;
+  memberships = length a.memberships;
+  rules = length a.rules;
+  strategies = length a.strategies;
+  strats = length a.strats;
+}

@@ -6,8 +6,8 @@ use Rattle.mau_declare.specs.Names.{with_name}
 use Rattle.mau_prelude.specs.declared.module.PreludeModule.{PreludeModule}
 use Rattle.mau_prelude.specs.declared.module.PreludeModule.TheVariants.{TruthValue, Truth, Bool, Nat}
 use Rattle.mau_prelude.specs.Tables.{TableOf, table_of}
-use Rattle.mau_signed.specs.Signed.{signature_over}
-use Rattle.mau_module.specs.Modules.{ModuleOf, StatementsOf, and_more}
+use Rattle.mau_signing.specs.Signed.{signature_over}
+use Rattle.mau_module.specs.Modules.{ModuleOf, StatementsOf, no_statements, and_more}
 use Rattle.mau_module.specs.Library.{truth_value, truth, bool}
 use Rattle.mau_module.specs.Included.{depth_over, parts_of, sorts_of}
 use Rattle.mau_module.specs.Framed.{Frame, all_parts}
@@ -26,8 +26,9 @@ table_frame ms imports t = record {
 abbrev pub table_given : List ModuleOf → Frame → TableOf → Given
 table_given ms f t = given_over ms f.parts f.names (hierarchy_over ms f.parts f.names t.pairs) t.declarations
 
+-- it states equations alone
 abbrev pub table_statements : TableOf → StatementsOf
-table_statements t = record { equations = t.equations; memberships = []; rules = [] }
+table_statements t = record no_statements { equations = t.equations }
 
 -- the module of a table
 abbrev pub table_module : List ModuleOf → Frame → TableOf → ModuleOf

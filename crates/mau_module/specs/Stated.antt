@@ -3,8 +3,8 @@ use Rattle.std.specs.Prelude.{◌≡◌, ℕ, suc, List, [], ◌∷◌, ◌++◌
 use Rattle.mau_terms.specs.View.{tree_of}
 use Rattle.mau_terms.specs.Bare.{IsBare}
 use Rattle.mau_signature.specs.Signature.{SignatureOf, theory_at, terms_over}
-use Rattle.mau_api.specs.declared.statements.Equation.{Equation as EquationType}
-use Rattle.mau_api.specs.declared.statements.Membership.{Membership as MembershipType}
+use Rattle.mau_program.specs.declared.statements.Equation.{Equation as EquationType}
+use Rattle.mau_program.specs.declared.statements.Membership.{Membership as MembershipType}
 use Rattle.mau_modtext.specs.Word.{Word}
 use Rattle.mau_modtext.specs.declared.raw.RawElement.{RawElement}
 use Rattle.mau_modtext.specs.declared.raw.RawElement.TheVariants.{Statement as StatementElement}
@@ -50,7 +50,8 @@ with_statement a (Equation e) = record a { equations = a.equations ++ e ∷ [] }
 with_statement a (Membership m) = record a { memberships = a.memberships ++ m ∷ [] }
 with_statement a (Rule r) = record a { rules = a.rules ++ r ∷ [] }
 
--- the equation, membership or rule that an element is; definitions of strategies are not read
+-- The equation, membership or rule that an element is. Declarations and definitions of strategies are not read, so a module has none of
+-- its own.
 abbrev pub if_read : StatementKind → RawStatement → Option RawStatement
 if_read Definition raw = None
 if_read _ raw = Some raw

@@ -16,10 +16,9 @@ use crate::declarations::has_part;
 use crate::frame::Frame;
 use crate::library::{Library, TRUTH};
 use crate::numbering::number_in;
-use mau_canon::is_bare;
 use mau_declare::{Elements, Names, Words, variables};
 use mau_grammar::{Alias, Grammar};
-use mau_signature::{Attrs, Decl, Form, Piece, Signature};
+use mau_signature::{Attrs, Decl, Form, Piece, Signature, is_bare};
 use mau_terms::{Args, Bare, NoMemory, OpId, Seq, Text};
 use std::alloc::Global;
 

@@ -29,15 +29,17 @@ pub struct Library {
 impl Model for Library {
     ghost use Rattle.std.specs.Prelude.{List};
     ghost use Rattle.std.specs.Coded.{codes};
-    ghost use Rattle.mau_api.specs.contracts.statements.Equation as equation;
-    ghost use Rattle.mau_api.specs.contracts.statements.Membership as membership;
-    ghost use Rattle.mau_api.specs.contracts.statements.Rule as rule;
+    ghost use Rattle.mau_program.specs.contracts.statements.Equation as equation;
+    ghost use Rattle.mau_program.specs.contracts.statements.Membership as membership;
+    ghost use Rattle.mau_program.specs.contracts.statements.Rule as rule;
+    ghost use Rattle.mau_program.specs.contracts.definitions.StratDef as definition;
+    ghost use Rattle.mau_program.specs.contracts.definitions.StratDecl as strat;
     ghost use Rattle.mau_module.specs.Modules.{ModuleOf};
     ghost use Rattle.mau_module.specs.Library.{IsLibrary};
 
     ghost Value = { List ModuleOf };
 
-    ghost coded = { Prim.hlevel (codes, equation.the_row.coded, membership.the_row.coded, rule.the_row.coded) };
+    ghost coded = { Prim.hlevel (codes, equation.the_row.coded, membership.the_row.coded, rule.the_row.coded, definition.the_row.coded, strat.the_row.coded) };
 
     ghost view = { λ l. l.modules.items };
 

@@ -32,6 +32,7 @@ fn own_statements(module: &Module) -> usize
         .len()
         .saturating_add(module.own_memberships().len())
         .saturating_add(module.own_rules().len())
+        .saturating_add(module.own_strategies().len())
 }
 
 /// How many statements some modules have themselves, as far as numbers go.

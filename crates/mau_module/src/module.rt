@@ -5,16 +5,16 @@ use crate::context::texts_of;
 use crate::frame::Frame;
 use crate::signing::Signed;
 use crate::statements::{Counts, Statements};
-use mau_api::{Equation, Membership, Program, Rule};
 use mau_declare::{Names, kind_names, write_sort};
 use mau_grammar::Grammar;
+use mau_program::{Equation, Membership, Program, Rule, StratDecl, StratDef};
 use mau_signature::{Decl, Signature};
 use mau_terms::{NoMemory, Seq, Text};
 use std::alloc::Global;
 use std::marker::Model;
 
 /// A module that was accepted, with all that it includes: its name, its sorts by their names, its signature, how its terms are written,
-/// and its statements.
+/// its statements, and the strategies that are declared.
 #[derive(Drop)]
 pub struct Module {
     name: Text,
@@ -25,26 +25,30 @@ pub struct Module {
     lower: Vec<bool>,
     grammar: Grammar,
     program: Program,
+    // the strategies that are declared
+    strats: Vec<StratDecl>,
     // what the module itself declares
     pairs: Vec<(u32, u32)>,
     declarations: Vec<Decl>,
-    // how many of the statements are those of modules that it includes
+    // how many of the statements and declared strategies are those of modules that it includes
     included: Counts,
 }
 
 impl Model for Module {
     ghost use Rattle.std.specs.Coded.{codes};
-    ghost use Rattle.mau_api.specs.contracts.statements.Equation as equation;
-    ghost use Rattle.mau_api.specs.contracts.statements.Membership as membership;
-    ghost use Rattle.mau_api.specs.contracts.statements.Rule as rule;
+    ghost use Rattle.mau_program.specs.contracts.statements.Equation as equation;
+    ghost use Rattle.mau_program.specs.contracts.statements.Membership as membership;
+    ghost use Rattle.mau_program.specs.contracts.statements.Rule as rule;
+    ghost use Rattle.mau_program.specs.contracts.definitions.StratDef as definition;
+    ghost use Rattle.mau_program.specs.contracts.definitions.StratDecl as strat;
     ghost use Rattle.mau_module.specs.Modules.{ModuleOf, StatementsOf, behind};
     ghost use Rattle.mau_module.specs.Kept.{IsKept};
 
     ghost Value = { ModuleOf };
 
-    ghost coded = { Prim.hlevel (codes, equation.the_row.coded, membership.the_row.coded, rule.the_row.coded) };
+    ghost coded = { Prim.hlevel (codes, equation.the_row.coded, membership.the_row.coded, rule.the_row.coded, definition.the_row.coded, strat.the_row.coded) };
 
-    ghost view = { λ m. let all : StatementsOf = record { equations = m.program.equations; memberships = m.program.memberships; rules = m.program.rules } in record {
+    ghost view = { λ m. let all : StatementsOf = record { equations = m.program.equations; memberships = m.program.memberships; rules = m.program.rules; strategies = m.program.strategies; strats = m.strats.items } in record {
       name = m.name;
       depth = m.depth;
       parts = m.parts.items;
@@ -123,7 +127,9 @@ impl Module {
                 equations: Seq::new(statements.equations),
                 memberships: Seq::new(statements.memberships),
                 rules: Seq::new(statements.rules),
+                strategies: Seq::new(statements.strategies),
             },
+            strats: statements.strats,
             pairs,
             declarations: signed.own,
             included,
@@ -198,6 +204,20 @@ impl Module {
         self.program.rules.items()
     }
 
+    /// The definitions of all strategies, in order.
+    pub fn strategies(&self) -> &[StratDef]
+        ensures { result.now ≡ self.now.statements.strategies }
+    {
+        self.program.strategies.items()
+    }
+
+    /// All strategies that are declared, in order.
+    pub fn strats(&self) -> &[StratDecl]
+        ensures { result.now ≡ self.now.statements.strats }
+    {
+        &self.strats
+    }
+
     /// The subsort pairs that the module itself declares.
     pub fn own_pairs(&self) -> &[(u32, u32)]
         ensures pairs { result.now ≡ self.now.own.pairs }
@@ -233,6 +253,20 @@ impl Module {
         ensures { result.now ≡ self.now.own.statements.rules }
     {
         rest(self.program.rules.items(), self.included.rules)
+    }
+
+    /// The definitions of strategies of the module itself.
+    pub fn own_strategies(&self) -> &[StratDef]
+        ensures { result.now ≡ self.now.own.statements.strategies }
+    {
+        rest(self.program.strategies.items(), self.included.strategies)
+    }
+
+    /// The strategies that the module itself declares.
+    pub fn own_strats(&self) -> &[StratDecl]
+        ensures { result.now ≡ self.now.own.statements.strats }
+    {
+        rest(&self.strats, self.included.strats)
     }
 
     /// The names of the kinds, in the order of their numbers.

@@ -12,11 +12,10 @@ use crate::fault::ModuleFault;
 use crate::library::Library;
 use crate::statements::Statements;
 use crate::tables::carried;
-use mau_api::{Equation, Membership};
-use mau_canon::is_bare;
 use mau_declare::{Names, Words};
 use mau_modtext::{RawElement, RawStatement, StatementKind};
-use mau_signature::Signature;
+use mau_program::{Equation, Membership};
+use mau_signature::{Signature, is_bare};
 use mau_statement::{Context, StatementFault, is_head, is_left_side, read_statement};
 use std::alloc::Global;
 

@@ -5,7 +5,7 @@ ghost use Rattle.mau_poset.specs.Order.{IsPoset, IsWithin};
 ghost use Rattle.mau_poset.specs.declared.TheConstants.{MAX_SORTS};
 ghost use Rattle.mau_signature.specs.Faults.{HasSorts, AreNumerals, IsSuccessorIn, is_successor};
 ghost use Rattle.mau_declare.specs.Flattened.{AreLower};
-ghost use Rattle.mau_signed.specs.Signed.{SignatureRead};
+ghost use Rattle.mau_signing.specs.Signed.{SignatureRead};
 ghost use Rattle.mau_module.specs.Faults.{IfSigned};
 ghost use Rattle.mau_declare.specs.Elements.{AreOver};
 ghost use Rattle.mau_declare.specs.Flattened.{declared_forms};
@@ -24,7 +24,7 @@ use crate::numbering::number_in;
 use mau_declare::{Elements, Names, add_declarations, first_conflict, lower_sorts};
 use mau_poset::Poset;
 use mau_signature::{Decl, MAX_DECLARATIONS, Signature};
-use mau_signed::{SignFault, order_sorts, sign};
+use mau_signing::{SignFault, order_sorts, sign};
 use mau_terms::NoMemory;
 use std::alloc::Global;
 

@@ -1,38 +1,52 @@
-//! Statements of a module, each kind in order.
-use mau_api::{Equation, Membership, Rule};
+//! Statements of a module, each kind in order, and the strategies that it declares.
+use mau_program::{Equation, Membership, Rule, StratDecl, StratDef};
 use mau_statement::Statement;
 use mau_terms::NoMemory;
 use std::alloc::Global;
 use std::marker::Model;
 
-/// Statements, each kind in order.
+/// Statements, each kind in order, and declared strategies.
 #[derive(Drop)]
 pub struct Statements {
     pub equations: Vec<Equation>,
     pub memberships: Vec<Membership>,
     pub rules: Vec<Rule>,
+    /// The definitions of strategies.
+    pub strategies: Vec<StratDef>,
+    /// The strategies that are declared.
+    pub strats: Vec<StratDecl>,
 }
 
 impl Model for Statements {
     ghost use Rattle.std.specs.Coded.{codes};
-    ghost use Rattle.mau_api.specs.contracts.statements.Equation as equation;
-    ghost use Rattle.mau_api.specs.contracts.statements.Membership as membership;
-    ghost use Rattle.mau_api.specs.contracts.statements.Rule as rule;
+    ghost use Rattle.mau_program.specs.contracts.statements.Equation as equation;
+    ghost use Rattle.mau_program.specs.contracts.statements.Membership as membership;
+    ghost use Rattle.mau_program.specs.contracts.statements.Rule as rule;
+    ghost use Rattle.mau_program.specs.contracts.definitions.StratDef as definition;
+    ghost use Rattle.mau_program.specs.contracts.definitions.StratDecl as strat;
     ghost use Rattle.mau_module.specs.Modules.{StatementsOf};
 
     ghost Value = { StatementsOf };
 
-    ghost coded = { Prim.hlevel (codes, equation.the_row.coded, membership.the_row.coded, rule.the_row.coded) };
+    ghost coded = { Prim.hlevel (codes, equation.the_row.coded, membership.the_row.coded, rule.the_row.coded, definition.the_row.coded, strat.the_row.coded) };
 
-    ghost view = { λ s. record { equations = s.equations.items; memberships = s.memberships.items; rules = s.rules.items } };
+    ghost view = { λ s. record {
+      equations = s.equations.items;
+      memberships = s.memberships.items;
+      rules = s.rules.items;
+      strategies = s.strategies.items;
+      strats = s.strats.items;
+    } };
 }
 
-/// How many statements of each kind.
+/// How many statements of each kind, and how many declared strategies.
 #[derive(Clone, Copy, Drop, Debug)]
 pub struct Counts {
     pub equations: usize,
     pub memberships: usize,
     pub rules: usize,
+    pub strategies: usize,
+    pub strats: usize,
 }
 
 impl Statements {
@@ -48,17 +62,21 @@ impl Statements {
             equations: Vec::new(alloc),
             memberships: Vec::new(alloc),
             rules: Vec::new(alloc),
+            strategies: Vec::new(alloc),
+            strats: Vec::new(alloc),
         }
     }
 
     /// These equations alone.
     pub fn of_equations(alloc: Global, equations: Vec<Equation>) -> Statements
-        ensures { result ≡ record { equations = equations.items; memberships = []; rules = [] } }
+        ensures { result ≡ record no_statements { equations = equations.items } }
     {
         Statements {
             equations,
             memberships: Vec::new(alloc),
             rules: Vec::new(alloc),
+            strategies: Vec::new(alloc),
+            strats: Vec::new(alloc),
         }
     }
 
@@ -81,6 +99,8 @@ impl Statements {
         self.equations.append(&mut more.equations)?;
         self.memberships.append(&mut more.memberships)?;
         self.rules.append(&mut more.rules)?;
+        self.strategies.append(&mut more.strategies)?;
+        self.strats.append(&mut more.strats)?;
         Ok(())
     }
 
@@ -92,6 +112,8 @@ impl Statements {
             equations: self.equations.len(),
             memberships: self.memberships.len(),
             rules: self.rules.len(),
+            strategies: self.strategies.len(),
+            strats: self.strats.len(),
         }
     }
 }

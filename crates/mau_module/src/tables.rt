@@ -1,20 +1,21 @@
-//! The numbers that operators have in another module, and the statements of all parts in the numbers of a module.
+//! The numbers that operators have in another module, and the statements and declared strategies of all parts in the numbers of a module.
 ghost use Rattle.std.specs.Prelude.{◌≡◌, ◌<◌, ◌≤◌, ◌++◌, length, map, true, All, IfOk, OnOk};
 ghost use Rattle.mau_poset.specs.declared.TheConstants.{MAX_SORTS};
 ghost use Rattle.mau_declare.specs.Names.{has_name};
 ghost use Rattle.mau_module.specs.Known.{AreKnown};
 ghost use Rattle.mau_module.specs.Modules.{no_statements, and_more};
-ghost use Rattle.mau_carry.specs.Tables.{numbers_in};
-ghost use Rattle.mau_carry.specs.Carried.{equation_to, membership_to, rule_to};
+ghost use Rattle.mau_renumber.specs.Tables.{numbers_in};
+ghost use Rattle.mau_renumber.specs.Carried.{equation_to, membership_to, rule_to};
+ghost use Rattle.mau_renumber.specs.Strategies.{definition_to, strategy_declaration_to};
 ghost use Rattle.mau_module.specs.Carried.{numbers_from, carried, carried_from};
 
 use crate::library::Library;
 use crate::module::Module;
 use crate::numbering::number_table;
 use crate::statements::Statements;
-use mau_api::{Equation, Membership, Rule};
-use mau_carry::{Tables, operator_table};
 use mau_declare::Names;
+use mau_program::{Equation, Membership, Rule, StratDecl, StratDef};
+use mau_renumber::{Tables, operator_table};
 use mau_signature::Signature;
 use mau_terms::NoMemory;
 use std::alloc::Global;
@@ -81,7 +82,37 @@ fn add_rules(
     Ok(())
 }
 
-/// Adds the statements that a module itself has, in these numbers.
+/// Adds definitions of strategies in these numbers.
+fn add_strategies(
+    alloc: Global,
+    tables: &Tables,
+    strategies: &[StratDef],
+    out: &mut Vec<StratDef>,
+) -> Result<(), NoMemory>
+    ensures { OnOk result (out.new.items ≡ out.old.items ++ map (definition_to (numbers_in tables.now)) strategies.now) }
+{
+    for strategy in strategies {
+        out.push(tables.definition(alloc, strategy)?)?;
+    }
+    Ok(())
+}
+
+/// Adds declared strategies in these numbers.
+fn add_strats(
+    alloc: Global,
+    tables: &Tables,
+    strats: &[StratDecl],
+    out: &mut Vec<StratDecl>,
+) -> Result<(), NoMemory>
+    ensures { OnOk result (out.new.items ≡ out.old.items ++ map (strategy_declaration_to (numbers_in tables.now)) strats.now) }
+{
+    for strat in strats {
+        out.push(tables.strategy_declaration(alloc, strat)?)?;
+    }
+    Ok(())
+}
+
+/// Adds the statements and declared strategies that a module itself has, in these numbers.
 fn add_carried(
     alloc: Global,
     module: &Module,
@@ -103,16 +134,25 @@ fn add_carried(
         &mut statements.memberships,
     )?;
     add_rules(alloc, tables, module.own_rules(), &mut statements.rules)?;
+    add_strategies(
+        alloc,
+        tables,
+        module.own_strategies(),
+        &mut statements.strategies,
+    )?;
+    add_strats(alloc, tables, module.own_strats(), &mut statements.strats)?;
     Ok(())
 }
 
-/// Whether a module has no statement itself.
+/// Whether a module itself has no statement and declares no strategy.
 fn has_none(module: &Module) -> bool
     ensures { result ≡ true → «module».now.own.statements ≡ no_statements }
 {
     module.own_equations().is_empty()
         && module.own_memberships().is_empty()
         && module.own_rules().is_empty()
+        && module.own_strategies().is_empty()
+        && module.own_strats().is_empty()
 }
 
 /// The statements of some modules over a signature whose sorts have these names.

@@ -2,20 +2,21 @@
 use Rattle.std.proofs.Common.{◌≡◌, ℕ, zero, suc, ◌+◌, ◌≤◌, List, [], ◌∷◌, ◌++◌, length, Bool, true, false, Option, Some, None, add-one, refl, sym, ◌∙◌, ap, subst, arith, if◌then◌else◌, bytes_eq, slice_get}
 use Rattle.std.proofs.lemmas.Slice.Eq.{bytes_eq-Decides}
 use Rattle.std.proofs.lemmas.Option.{same_Some, none-some}
+use Rattle.std.specs.Str.Parse.{digits_value}
 use Rattle.mau_terms.specs.Tree.{Tree, variable, numeral}
 use Rattle.mau_terms.specs.declared.ids.OpId.{OpId}
 use Rattle.mau_grammar.specs.declared.production.Part.{Part}
 use Rattle.mau_grammar.specs.declared.production.Part.TheVariants.{Word, Hole as Place}
 use Rattle.mau_grammar.specs.Production.{word}
 use Rattle.mau_grammar.specs.Grammar.{GrammarOf}
-use Rattle.mau_grammar.specs.Leaves.{value_of}
 use Rattle.mau_grammar.specs.Trees.{made, Reads, reads_numeral, reads_variable, reads_production, Spells, spells_nothing, spells_word, spells_place}
 use Rattle.mau_chart.specs.declared.grammar.Piece.{Piece}
 use Rattle.mau_chart.specs.declared.grammar.Production.{Production}
 use Rattle.mau_chart.specs.declared.grammar.Leaf.{Leaf}
 use Rattle.mau_chart.specs.declared.grammar.Said.TheVariants.{Word as Silent, Var, Num}
 use Rattle.mau_chart.specs.Reads.{said_trees, made as made_by, Reads as Charts, leaf_read, form_read, Spells as Lines, nothing_spelled, piece_spelled}
-use Rattle.mau_parse.specs.Charted.{word_number, kind_number, ArePiecesOf, AreThere, AreFormsOf, leaf, var_id, IsLeafOf, word_leaf, numeral_leaf, variable_leaf, AreLeavesOf}
+use Rattle.mau_parse.specs.Charted.{word_number, kind_number, ArePiecesOf, AreThere, AreFormsOf, leaf, IsLeafOf, word_leaf, numeral_leaf, variable_leaf, AreLeavesOf}
+use Rattle.mau_parse.specs.VariableIds.{var_id}
 
 -- ---- words by their numbers
 
@@ -84,7 +85,7 @@ module _ (g : GrammarOf) (ws : List (List ℕ)) (qs : List Production) (ls : Lis
 
   mutual
     pub reads_charts : (k q i j : ℕ) (ts : List Tree) → Reads g ws k q i j ts → Charts qs ls (kind_number ws k) q i j ts
-    reads_charts k q i j ts (reads_numeral h m w e f x) = leaf_charts (leaf (kind_number ws m) 1 h (h + 1) (Num (value_of w))) (numeral_leaf h m w e f x)
+    reads_charts k q i j ts (reads_numeral h m w e f x) = leaf_charts (leaf (kind_number ws m) 1 h (h + 1) (Num (digits_value 10 w))) (numeral_leaf h m w e f x)
     reads_charts k q i j ts (reads_variable h m n r e f) = leaf_charts (leaf (kind_number ws r.kind) 1 h r.end (Var (var_id n r.sort))) (variable_leaf h m n r e f)
     reads_charts k q i j ts (reads_production n p {i = a} {j = b} {ts = us} e s) =
         let there = forms.all n p e (spells_there g ws p.parts a b us s) in
@@ -120,7 +121,7 @@ module _ (g : GrammarOf) (ws : List (List ℕ)) (qs : List Production) (ls : Lis
     word = λ v h. (e ∙ ap Some (word_number-one ws i w v e h), refl, refl);
   }
   leaf_means l (numeral_leaf i k w e f x) = record {
-    term = λ m h. let z : k ≡ m = omega (arith, h) in subst (λ y. Reads g ws y 1 i (i + 1) (numeral (value_of w) ∷ [])) z (reads_numeral i k w e f x);
+    term = λ m h. let z : k ≡ m = omega (arith, h) in subst (λ y. Reads g ws y 1 i (i + 1) (numeral (digits_value 10 w) ∷ [])) z (reads_numeral i k w e f x);
     word = λ v h. absurd (no_word k v h);
   }
   leaf_means l (variable_leaf i m n r e f) = record {

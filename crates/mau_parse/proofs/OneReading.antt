@@ -22,7 +22,7 @@ use Rattle.mau_parse.specs.Goal.{IsTree, IsOnlyTree, AreTwoTrees}
 use Rattle.mau_parse.specs.Terms.{added, pairs_in, renamed}
 use Rattle.mau_parse.specs.Overflow.{overflows}
 use Rattle.mau_parse.specs.Parsed.{IsReadable, BeginsAt, IsParsed, HasLargeNumeral, IsFault, without_trees}
-use Rattle.mau_parse.proofs.Leaves_listed.{reading_within}
+use Rattle.mau_parse.proofs.LeavesListed.{reading_within}
 use Rattle.mau_parse.proofs.Singles.{shape_at}
 
 -- ---- terms

@@ -1,12 +1,14 @@
 -- Words, productions and leaves as a chart takes them. A word is a kind of its own: the place of the first token that reads it, or the
 -- number of tokens where none does. The kinds of terms have the numbers behind that.
 use Rattle.std.specs.Prelude.{◌≡◌, ℕ, ◌+◌, List, [], ◌∷◌, length, true, Some, bytes_eq, slice_get, if◌then◌else◌}
-use Rattle.mau_terms.specs.declared.ids.VarId.{VarId}
+use Rattle.std.specs.Str.Parse.{digits_value}
+use Rattle.mau_numerals.specs.Numerals.{is_numeral}
 use Rattle.mau_grammar.specs.declared.production.Part.{Part}
 use Rattle.mau_grammar.specs.declared.production.Part.TheVariants.{Word, Hole as Place}
 use Rattle.mau_grammar.specs.declared.production.Production.{Production as Written}
 use Rattle.mau_grammar.specs.Grammar.{GrammarOf}
-use Rattle.mau_grammar.specs.Leaves.{is_numeral, value_of, Reading, pair_of, readings_at, pairs_of}
+use Rattle.mau_grammar.specs.Leaves.{VariableReading, pair_of, readings_at, pairs_of}
+use Rattle.mau_parse.specs.VariableIds.{var_id}
 use Rattle.mau_chart.specs.declared.grammar.Piece.{Piece}
 use Rattle.mau_chart.specs.declared.grammar.Production.{Production}
 use Rattle.mau_chart.specs.declared.grammar.Leaf.{Leaf}
@@ -68,15 +70,12 @@ pub record AreFormsOf (ws : List (List ℕ)) (ps : List Written) (qs : List Prod
 abbrev pub leaf : ℕ → ℕ → ℕ → ℕ → Said → Leaf
 leaf k q i j s = record { kind = k; level = q; start = i; end = j; said = s }
 
-abbrev pub var_id : ℕ → ℕ → VarId
-var_id n s = record { index = n; sort = s }
-
 -- what a token, or some of them, are by themselves: a word, a numeral, or a variable
 pub data IsLeafOf (g : GrammarOf) (ws : List (List ℕ)) : Leaf → Type 0 where
   word_leaf : (i : ℕ) (w : List ℕ) → slice_get ws i ≡ Some w → IsLeafOf g ws (leaf (word_number ws w) 0 i (i + 1) Silent)
   numeral_leaf : (i k : ℕ) (w : List ℕ) → slice_get ws i ≡ Some w → is_numeral w ≡ true → g.numerals ≡ Some k
-      → IsLeafOf g ws (leaf (kind_number ws k) 1 i (i + 1) (Num (value_of w)))
-  variable_leaf : (i m n : ℕ) (r : Reading) → slice_get (readings_at g ws i) m ≡ Some r → slice_get (pairs_of g ws) n ≡ Some (pair_of r)
+      → IsLeafOf g ws (leaf (kind_number ws k) 1 i (i + 1) (Num (digits_value 10 w)))
+  variable_leaf : (i m n : ℕ) (r : VariableReading) → slice_get (readings_at g ws i) m ≡ Some r → slice_get (pairs_of g ws) n ≡ Some (pair_of r)
       → IsLeafOf g ws (leaf (kind_number ws r.kind) 1 i r.end (Var (var_id n r.sort)))
 
 -- the leaves are exactly these

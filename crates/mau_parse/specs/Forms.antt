@@ -1,5 +1,5 @@
 -- Forms of productions that are put behind others, where a text may be read by them.
-use Rattle.std.specs.Prelude.{◌≡◌, ℕ, ◌<◌, List, ◌++◌, Option, Some, None, slice_get}
+use Rattle.std.specs.Prelude.{◌≡◌, ℕ, List, ◌++◌, Some, slice_get}
 use Rattle.mau_grammar.specs.declared.production.Production.{Production as Written}
 use Rattle.mau_chart.specs.declared.grammar.Production.{Production}
 use Rattle.mau_parse.specs.Charted.{AreThere, HasForm, IsOneOf}

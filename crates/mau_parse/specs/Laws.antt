@@ -9,7 +9,7 @@ use Rattle.mau_terms.specs.declared.bare.Bare.{Bare}
 use Rattle.mau_signature.specs.Signature.{SignatureOf, terms_over}
 use Rattle.mau_grammar.specs.declared.aliases.Alias.{Alias}
 use Rattle.mau_grammar.specs.Grammar.{GrammarOf, IsGrammarOf}
-use Rattle.mau_grammar.specs.Leaves.{Reading, pair_of, readings_at, pairs_of}
+use Rattle.mau_grammar.specs.Leaves.{VariableReading, pair_of, readings_at, pairs_of}
 use Rattle.mau_grammar.specs.Trees.{TreeOf}
 use Rattle.mau_tokens.specs.declared.token.Token.{Token}
 use Rattle.mau_chart.specs.declared.grammar.Production.{Production}
@@ -59,7 +59,7 @@ abbrev pub AreSeenAt : GrammarOf → List (List ℕ) → List ℕ → List (List
 AreSeenAt g ws [] [] = Unit {0}
 AreSeenAt g ws [] (y ∷ ys) = ⊥
 AreSeenAt g ws (i ∷ is) [] = ⊥
-AreSeenAt g ws (i ∷ is) (y ∷ ys) = ((m : ℕ) × (r : Reading) × (slice_get (readings_at g ws i) m ≡ Some r) × (pair_of r ≡ y)) × AreSeenAt g ws is ys
+AreSeenAt g ws (i ∷ is) (y ∷ ys) = ((m : ℕ) × (r : VariableReading) × (slice_get (readings_at g ws i) m ≡ Some r) × (pair_of r ≡ y)) × AreSeenAt g ws is ys
 
 -- so are the variables of a tree, from left to right: in this order they are added to an item
 abbrev pub VariablesAreInOrder : Type 0

@@ -1,13 +1,13 @@
 -- Readings of words as variables, as the code has them.
 use Rattle.std.specs.Prelude.{ℕ, ◌+◌, ◌-◌, List, length, map, nat_lt, Bool, ◌&&◌, codes, bytes_eq}
-use Rattle.mau_grammar.specs.Leaves.{Reading as Seen, reading, is_cut}
+use Rattle.mau_grammar.specs.Leaves.{VariableReading as Seen, reading, is_cut}
 use Rattle.mau_parse.specs.Words.{text_at}
-use Rattle.mau_parse.specs.declared.readings.Reading.{Reading}
+use Rattle.mau_parse.specs.declared.readings.VariableReading.{VariableReading}
 
-abbrev pub seen : Reading → Seen
+abbrev pub seen : VariableReading → Seen
 seen r = reading r.name.now r.sort r.kind r.end
 
-abbrev pub all_seen : List Reading → List Seen
+abbrev pub all_seen : List VariableReading → List Seen
 all_seen rs = map seen rs
 
 -- `X:` and `[` stand at the place i

@@ -5,7 +5,7 @@ use Rattle.mau_terms.specs.Tree.{Tree, variable, numeral, apply, Trees, no_trees
 use Rattle.mau_terms.specs.Vars.{with_pair, place_of, IsGiven}
 use Rattle.mau_terms.specs.View.{tree_of}
 use Rattle.mau_terms.specs.declared.bare.Bare.{Bare}
-use Rattle.mau_parse.specs.Charted.{var_id}
+use Rattle.mau_parse.specs.VariableIds.{var_id}
 
 -- the pair at a place; past the end one that is never meant
 abbrev pub pair_at : List (List ℕ × ℕ) → ℕ → List ℕ × ℕ

@@ -1,13 +1,14 @@
 -- Numerals of 2^128 or more.
 use Rattle.std.specs.Prelude.{◌≡◌, ℕ, ◌≤◌, ◌<◌, ◌^◌, List, true, Option, Some, None, slice_get}
-use Rattle.mau_grammar.specs.Leaves.{is_numeral, value_of}
+use Rattle.std.specs.Str.Parse.{digits_value}
+use Rattle.mau_numerals.specs.Numerals.{is_numeral}
 
 -- the word at i is one
 pub record IsTooLarge (ws : List (List ℕ)) (i : ℕ) : Type 0 where
   pub word : List ℕ
   pub there : slice_get ws i ≡ Some word
   pub numeral : is_numeral word ≡ true
-  pub large : 2 ^ 128 ≤ value_of word
+  pub large : 2 ^ 128 ≤ digits_value 10 word
 
 -- and none before it is
 abbrev pub IsFirstTooLarge : List (List ℕ) → ℕ → Type 0

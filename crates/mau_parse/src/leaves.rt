@@ -9,11 +9,11 @@ ghost use Rattle.mau_parse.specs.Terms.{added};
 ghost use Rattle.mau_parse.specs.TooLarge.{AllSmall};
 
 use crate::forms::word_number;
-use crate::numerals::{is_numeral, value_of};
-use crate::readings::{Reading, readings_at, readings_of};
+use crate::readings::{VariableReading, readings_at, readings_of};
 use crate::words::Words;
 use mau_chart::{Leaf, Said};
 use mau_grammar::Grammar;
+use mau_numerals::great_number;
 use mau_terms::{NoMemory, Vars};
 use std::alloc::Global;
 
@@ -21,7 +21,7 @@ use std::alloc::Global;
 const MAX_PAIRS: usize = 4294967294;
 
 /// The pairs of name and sort of some variables, each once.
-fn pairs_of(alloc: Global, readings: &[Reading<'_>]) -> Result<Vars, NoMemory>
+fn pairs_of(alloc: Global, readings: &[VariableReading<'_>]) -> Result<Vars, NoMemory>
     ensures ok { IfOk result (λ pairs. pairs ≡ added [] (map Leaves.pair_of (all_seen readings.now))) }
     ensures few { IfOk result (λ pairs. length pairs < 4294967295) }
 {
@@ -65,12 +65,8 @@ fn push_numeral(
     let Some(kind) = numerals else {
         return Ok(());
     };
-    let word = words.text(i);
-    if !is_numeral(word) {
-        return Ok(());
-    }
-    match value_of(word) {
-        None => unreachable!(),
+    match great_number(words.text(i).as_bytes()) {
+        None => Ok(()),
         Some(value) => {
             out.push(Leaf {
                 kind: words.len() + 1 + kind as usize,
@@ -90,7 +86,7 @@ fn push_variable(
     pairs: &mut Vars,
     words: &Words,
     i: usize,
-    reading: &Reading<'_>,
+    reading: &VariableReading<'_>,
 ) -> Result<(), NoMemory>
     requires few { length words.now ≤ 1000 }
     requires room { length pairs.old < 4294967295 }
@@ -115,7 +111,7 @@ fn push_variables(
     pairs: &mut Vars,
     words: &Words,
     i: usize,
-    readings: &[Reading<'_>],
+    readings: &[VariableReading<'_>],
 ) -> Result<(), NoMemory>
     requires few { length words.now ≤ 1000 }
     requires room { length pairs.old < 4294967295 }

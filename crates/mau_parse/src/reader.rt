@@ -10,7 +10,7 @@ use crate::fault::ParseFault;
 use crate::goals::Goal;
 use crate::numerals::first_too_large;
 use crate::results::{one_term, two_terms};
-use crate::trees::{Found, find};
+use crate::trees::{Parses, find};
 use crate::words::Words;
 use mau_grammar::Grammar;
 use mau_terms::{Bare, Vars};
@@ -50,9 +50,9 @@ fn read_words(
 {
     let (trees, pairs, found) = find(alloc, grammar, words, goal)?;
     match found {
-        Found::Nothing => Err(ParseFault::NoParse(at)),
-        Found::One(id) => one_term(alloc, grammar, &trees, id, &pairs, vars, at),
-        Found::Two(first, second) => {
+        Parses::Nothing => Err(ParseFault::NoParse(at)),
+        Parses::One(id) => one_term(alloc, grammar, &trees, id, &pairs, vars, at),
+        Parses::Two(first, second) => {
             let (one, other) = two_terms(alloc, &trees, first, second, &pairs, vars)?;
             Err(ParseFault::Ambiguous(at, one, other))
         }

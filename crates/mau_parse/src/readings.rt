@@ -11,7 +11,7 @@ use std::alloc::Global;
 
 /// Words that are a variable, up to before `end`: its name, the number of its sort or kind, and the number of its kind.
 #[derive(Clone, Copy)]
-pub struct Reading<'a> {
+pub struct VariableReading<'a> {
     pub name: &'a str,
     pub sort: u32,
     pub kind: u32,
@@ -45,7 +45,7 @@ fn is_cut(word: &str, colon: usize) -> bool
 
 /// Puts the declared variables with this name behind other readings, for the word at the place `i`.
 fn push_aliases<'a>(
-    out: &mut Vec<Reading<'a>>,
+    out: &mut Vec<VariableReading<'a>>,
     grammar: &'a Grammar,
     word: &str,
     i: usize,
@@ -55,7 +55,7 @@ fn push_aliases<'a>(
 {
     for alias in grammar.aliases() {
         if alias.name.as_str() == word {
-            out.push(Reading {
+            out.push(VariableReading {
                 name: alias.name.as_str(),
                 sort: alias.sort,
                 kind: alias.kind,
@@ -68,7 +68,7 @@ fn push_aliases<'a>(
 
 /// Puts `X:S`, cut at this place, behind other readings.
 fn push_cut<'a>(
-    out: &mut Vec<Reading<'a>>,
+    out: &mut Vec<VariableReading<'a>>,
     grammar: &Grammar,
     word: &'a str,
     i: usize,
@@ -80,7 +80,7 @@ fn push_cut<'a>(
 {
     if is_cut(word, colon) {
         if let Some((sort, kind)) = sort_named(grammar, &word[colon + 1..]) {
-            out.push(Reading {
+            out.push(VariableReading {
                 name: &word[..colon],
                 sort,
                 kind,
@@ -93,7 +93,7 @@ fn push_cut<'a>(
 
 /// Puts `X:S`, cut at each colon, behind other readings.
 fn push_cuts<'a>(
-    out: &mut Vec<Reading<'a>>,
+    out: &mut Vec<VariableReading<'a>>,
     grammar: &Grammar,
     word: &'a str,
     i: usize,
@@ -165,7 +165,7 @@ fn begins_kind(words: &Words, i: usize) -> bool
 
 /// Puts `X:` `[` .. `]`, where the words at a place begin it, behind other readings.
 fn push_kind_variable<'a>(
-    out: &mut Vec<Reading<'a>>,
+    out: &mut Vec<VariableReading<'a>>,
     grammar: &Grammar,
     words: &Words<'a>,
     i: usize,
@@ -179,7 +179,7 @@ fn push_kind_variable<'a>(
     }
     let word = words.text(i);
     if let Some((kind, end)) = kind_list(grammar, words, i + 2) {
-        out.push(Reading {
+        out.push(VariableReading {
             name: &word[..word.len() - 1],
             sort: kind,
             kind,
@@ -191,7 +191,7 @@ fn push_kind_variable<'a>(
 
 /// Puts the variables that begin at a place behind other readings.
 fn push_readings<'a>(
-    out: &mut Vec<Reading<'a>>,
+    out: &mut Vec<VariableReading<'a>>,
     grammar: &'a Grammar,
     words: &Words<'a>,
     i: usize,
@@ -212,7 +212,7 @@ pub fn readings_at<'a>(
     grammar: &'a Grammar,
     words: &Words<'a>,
     i: usize,
-) -> Result<Vec<Reading<'a>>, NoMemory>
+) -> Result<Vec<VariableReading<'a>>, NoMemory>
     requires within { i < length words.now }
     requires few { length words.now ≤ 1000 }
     ensures ok { IfOk result (λ found. all_seen found.items ≡ Leaves.readings_at grammar.now words.now i) }
@@ -228,7 +228,7 @@ pub fn readings_of<'a>(
     alloc: Global,
     grammar: &'a Grammar,
     words: &Words<'a>,
-) -> Result<Vec<Reading<'a>>, NoMemory>
+) -> Result<Vec<VariableReading<'a>>, NoMemory>
     requires { length words.now ≤ 1000 }
     ensures ok { IfOk result (λ found. all_seen found.items ≡ Leaves.readings_to grammar.now words.now (length words.now)) }
 {

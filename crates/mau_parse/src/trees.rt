@@ -1,21 +1,21 @@
 //! The trees of some words.
 ghost use Rattle.std.specs.Prelude.{◌≡◌, ◌≤◌, length, IfOk};
 ghost use Rattle.mau_grammar.specs.Leaves;
-ghost use Rattle.mau_parse.specs.Found.{IsFound, IsSingle, AreSingle, IsNumberOf, AreNumbersOf};
+ghost use Rattle.mau_parse.specs.Parses.{AreParses, IsSingle, AreSingle, IsNumberOf, AreNumbersOf};
 ghost use Rattle.mau_parse.specs.TooLarge.{AllSmall};
 
 use crate::forms::forms_of;
 use crate::goals::{Goal, highest_kind, lowest_kind};
 use crate::leaves::leaves_of;
 use crate::words::Words;
-use mau_chart::{Reading, Trees, read};
+use mau_chart::{Forest, Trees, read};
 use mau_grammar::Grammar;
 use mau_terms::{NoMemory, TermId, Vars};
 use std::alloc::Global;
 
 /// The trees of some words, by their numbers in a store: none, one alone, or two that differ.
 #[derive(Clone, Copy)]
-pub enum Found {
+pub enum Parses {
     Nothing,
     One(TermId),
     Two(TermId, TermId),
@@ -31,16 +31,16 @@ fn number_of(trees: &Trees, ids: &[TermId]) -> TermId
 }
 
 /// The numbers of the readings, each of which is one tree.
-fn numbers_of(trees: &Trees, reading: &Reading) -> Found
+fn numbers_of(trees: &Trees, reading: &Forest) -> Parses
     requires { AreSingle trees.now reading.now }
     ensures { AreNumbersOf trees.now reading.now result }
 {
     match reading {
-        Reading::Nothing => Found::Nothing,
-        Reading::One(ids) => Found::One(number_of(trees, ids)),
-        Reading::Two(first, second) => {
+        Forest::Nothing => Parses::Nothing,
+        Forest::One(ids) => Parses::One(number_of(trees, ids)),
+        Forest::Two(first, second) => {
             let one = number_of(trees, first);
-            Found::Two(one, number_of(trees, second))
+            Parses::Two(one, number_of(trees, second))
         }
     }
 }
@@ -51,11 +51,11 @@ pub fn find(
     grammar: &Grammar,
     words: &Words,
     goal: Goal,
-) -> Result<(Trees, Vars, Found), NoMemory>
+) -> Result<(Trees, Vars, Parses), NoMemory>
     requires few { length words.now ≤ 1000 }
     requires small { AllSmall grammar.now.numerals words.now }
     ensures pairs { IfOk result (λ r. r.1 ≡ Leaves.pairs_of grammar.now words.now) }
-    ensures found { IfOk result (λ r. IsFound grammar.now words.now goal r.0 r.2) }
+    ensures found { IfOk result (λ r. AreParses grammar.now words.now goal r.0 r.2) }
 {
     let (leaves, pairs) = leaves_of(alloc, grammar, words)?;
     let forms = forms_of(alloc, words, grammar)?;

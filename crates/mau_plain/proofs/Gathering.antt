@@ -5,7 +5,7 @@ use Rattle.std.proofs.lemmas.List.Elements.{All-nil, All-cons, All-append}
 use Rattle.mau_terms.specs.Tree.{Tree, trees_of}
 use Rattle.mau_terms.specs.View.{tree_of}
 use Rattle.mau_terms.specs.declared.bare.Bare.{Bare}
-use Rattle.mau_api.specs.Values.{MayBeValue, MayBeValueOfOne}
+use Rattle.mau_listing.specs.Values.{MayBeValue, MayBeValueOfOne}
 use Rattle.mau_terms.specs.Finite.{IsIn}
 use Rattle.mau_terms.specs.declared.ids.TermId.{TermId}
 use Rattle.mau_terms.specs.declared.theory.Theory.{Theory}
@@ -14,7 +14,7 @@ use Rattle.mau_store.specs.Node.{Node, Extends}
 use Rattle.mau_store.specs.Trees.{tree_at, trees_at}
 use Rattle.mau_store.specs.View.{numbers}
 use Rattle.mau_store.proofs.Growth.{extension_is_preorder, trees_at-extends}
-use Rattle.mau_canon.specs.Within.{StandsWithin, StandWithin}
+use Rattle.mau_canon.specs.Standing.{StandsWithin, StandWithin}
 use Rattle.mau_canon.proofs.Standing.{stand_within_extended, stand_there}
 use Rattle.mau_canon.proofs.Elements.{trees_at-append}
 use Rattle.mau_plain.specs.Gathered.{Gathers}
@@ -75,9 +75,6 @@ contains_more (y ∷ xs) (suc i) d x h (suc k, lt, e) =
     (λ (c : Contains (take i xs) x). let low = c.1 in inl (suc c.0, omega arith, c.2))
     (λ (same : x ≡ get_or xs i d). inr same)
     (contains_more xs i d x (omega arith) (k, omega arith, e))
-
-pub contains_none : {A : Type 0} (x : A) → Contains [] x → ⊥
-contains_none x c = let lt = c.1 in omega arith
 
 -- one term of the store is added
 pub gathers_one : (th : ℕ → Theory) (nodes : List Node) (before after : List TermId) (id : TermId) → StandWithin th nodes (numbers before) → StandsWithin th nodes id.0 → after ≡ before ++ id ∷ []

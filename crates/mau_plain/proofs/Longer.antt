@@ -1,6 +1,7 @@
 -- Lists that get longer.
 use Rattle.std.proofs.Common.{◌≡◌, ℕ, zero, suc, ◌<◌, List, [], ◌∷◌, ◌++◌, All, Contains, map, length, take, get_or, refl, sym, ap, ◌∙◌, subst, arith, append_assoc, append-nil}
 use Rattle.std.proofs.lemmas.List.Elements.{All-nil, All-cons, All-head, All-tail, All-append, All-contains_itself}
+use Rattle.mau_trial.proofs.Among.{in_map}
 use Rattle.mau_plain.specs.Words.{HasWords, each_longer}
 
 module _ {A : Type 0} where
@@ -21,11 +22,6 @@ module _ {A : Type 0} where
   in_right : (x : A) (xs ys : List A) → Contains ys x → Contains (xs ++ ys) x
   in_right x [] ys c = c
   in_right x (z ∷ xs) ys c = let rest = in_right x xs ys c in let lt = rest.1 in (suc rest.0, omega arith, rest.2)
-
-pub in_map : {A B : Type 0} (f : A → B) (x : A) (xs : List A) → Contains xs x → Contains (map f xs) (f x)
-in_map f x [] c = let below = c.1 in absurd (omega arith)
-in_map f x (z ∷ xs) (zero, h, e) = (zero, omega arith, ap f e)
-in_map f x (z ∷ xs) (suc k, h, e) = let rest = in_map f x xs (k, omega arith, e) in let lt = rest.1 in (suc rest.0, omega arith, rest.2)
 
 module _ {A : Type 0} (xs : List A) where
   longer_has : (x : A) (w : List A) (ws : List (List A)) → Contains xs x → Contains ws w → Contains (each_longer xs ws) (x ∷ w)

@@ -7,8 +7,8 @@ use Rattle.mau_signature.specs.Signature.{SignatureOf}
 use Rattle.mau_store.specs.Node.{Node}
 use Rattle.mau_store.specs.View.{numbers}
 use Rattle.mau_sorts.specs.Table.{Table, IsSettled, KeepsEntries}
-use Rattle.mau_api.specs.Asked.{IsSettleable}
-use Rattle.mau_api.proofs.Growth.{settled_kept}
+use Rattle.mau_listing.specs.Asked.{IsSettleable}
+use Rattle.mau_listing.proofs.Growth.{settled_kept}
 use Rattle.mau_plain.specs.Settled.{AddsSettled}
 use Rattle.mau_plain.proofs.Gathering.{contains_more}
 

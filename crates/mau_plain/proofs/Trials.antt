@@ -1,44 +1,34 @@
 -- Trials of values, in a store that grows, one after another.
-use Rattle.std.proofs.Common.{◌≡◌, ◌<◌, ◌++◌, ℕ, suc, List, [], ◌∷◌, Option, None, Some, IfSome, All, Contains, inl, inr, ⊎_elim, map, length, take, get_or, sym, ap₂, ◌∙◌, subst}
+use Rattle.std.proofs.Common.{◌≡◌, ◌<◌, ◌++◌, ℕ, suc, List, [], ◌∷◌, Option, None, Some, IfSome, All, Contains, inl, inr, ⊎_elim, length, take, get_or, sym, ap₂, ◌∙◌, subst}
 use Rattle.std.proofs.lemmas.List.Elements.{All-push, Contains-push, Contains-get_or}
 use Rattle.std.specs.Cmp.Lexicographic.{slice_cmp}
 use Rattle.std.specs.declared.cmp.Ordering.{Ordering}
 use Rattle.mau_terms.specs.Solution.{list_cmp, value_keys}
-use Rattle.mau_terms.specs.Norm.{norm}
-use Rattle.mau_terms.specs.Bare.{IsBare}
 use Rattle.mau_terms.specs.Tree.{Tree}
-use Rattle.mau_terms.specs.Reading.{reading}
-use Rattle.mau_terms.specs.Subst.{with_values}
-use Rattle.mau_terms.specs.View.{tree_of}
 use Rattle.mau_terms.specs.declared.ids.TermId.{TermId}
-use Rattle.mau_signature.specs.Signature.{SignatureOf, theory_at, terms_over}
+use Rattle.mau_signature.specs.Signature.{SignatureOf, theory_at}
 use Rattle.mau_store.specs.Node.{Node, Extends}
 use Rattle.mau_store.specs.Trees.{tree_at, trees_at}
 use Rattle.mau_store.specs.View.{numbers}
 use Rattle.mau_store.proofs.Standing.{tree_at-extends}
 use Rattle.mau_store.proofs.Growth.{trees_at-extends}
 use Rattle.mau_sorts.specs.Table.{Table}
-use Rattle.mau_canon.specs.Within.{StandWithin}
+use Rattle.mau_canon.specs.Standing.{StandWithin}
 use Rattle.mau_canon.proofs.Standing.{stand_there, stand_within_extended, stands_within_extended}
-use Rattle.mau_api.specs.declared.places.Place.{Place}
-use Rattle.mau_api.specs.declared.solution.Solution.{Solution}
-use Rattle.mau_api.specs.Places.{under_all}
+use Rattle.mau_listing.specs.declared.places.Place.{Place}
+use Rattle.mau_listing.specs.declared.solution.Solution.{Solution}
+use Rattle.mau_listing.specs.Places.{under_all}
+use Rattle.mau_trial.proofs.Trials.{tried_by}
 use Rattle.mau_plain.specs.Least.{IsBehindLast}
-use Rattle.mau_plain.specs.Tried.{IsTried, IsTriedBehind, IsReadyToTry, AddsTried, asked_in}
-use Rattle.mau_plain.specs.declared.tried.Trial.{Trial}
+use Rattle.mau_trial.specs.Tried.{IsReadyToTry}
+use Rattle.mau_plain.specs.Behind.{IsTriedBehind, AddsTried}
+use Rattle.mau_trial.specs.declared.tried.Trial.{Trial}
 use Rattle.mau_plain.proofs.Gathering.{contains_more}
 use Rattle.mau_plain.proofs.Settling.{push_kept}
 
 -- ---- in a store that has grown
 
 module _ (s : SignatureOf) (table : Table) (t : Trial) (ps : List Place) (one other : List Node) (vs : List TermId) (values : trees_at one (numbers vs) ≡ trees_at other (numbers vs)) (subject : tree_at one t.subject.0 ≡ tree_at other t.subject.0) where
-  pub tried_by : IsTried s one table (asked_in t) ps vs → IsTried s other table (asked_in t) ps vs
-  tried_by is = record {
-    each = is.each;
-    bare = subst (λ ws. IsBare (terms_over s) (with_values (tree_of t.pattern) (map (reading (theory_at s)) ws))) values is.bare;
-    whole = subst (λ u. norm (theory_at s) (with_values (tree_of t.pattern) (trees_at other (numbers vs))) ≡ u) subject (subst (λ ws. norm (theory_at s) (with_values (tree_of t.pattern) ws) ≡ tree_at one t.subject.0) values is.whole);
-  }
-
   behind_by : (o : Option Solution) → IfSome o (λ x. trees_at one (numbers x.values) ≡ trees_at other (numbers x.values)) → IsBehindLast (theory_at s) (under_all ps) one o vs → IsBehindLast (theory_at s) (under_all ps) other o vs
   behind_by None h is = tt
   behind_by (Some x) h is = sym (ap₂ (λ us ws. by us ws) h values) ∙ is
@@ -47,7 +37,7 @@ module _ (s : SignatureOf) (table : Table) (t : Trial) (ps : List Place) (one ot
       by us ws = slice_cmp list_cmp (value_keys (theory_at s) (under_all ps) us) (value_keys (theory_at s) (under_all ps) ws)
 
   pub tried_behind_by : IfSome t.last (λ x. trees_at one (numbers x.values) ≡ trees_at other (numbers x.values)) → IsTriedBehind s one table t ps vs → IsTriedBehind s other table t ps vs
-  tried_behind_by h is = record { tried = tried_by is.tried; behind = behind_by t.last h is.behind }
+  tried_behind_by h is = record { tried = tried_by s table t ps one other vs values subject is.tried; behind = behind_by t.last h is.behind }
 
 module _ (s : SignatureOf) (table : Table) (t : Trial) (ps : List Place) (old new : List Node) (extends : Extends old new) (ready : IsReadyToTry s old table t ps) where
   last_same : (o : Option Solution) → IfSome o (λ x. StandWithin (theory_at s) old (numbers x.values) × (length x.values ≡ length ps)) → IfSome o (λ x. trees_at new (numbers x.values) ≡ trees_at old (numbers x.values))

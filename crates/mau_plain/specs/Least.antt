@@ -9,7 +9,7 @@ use Rattle.mau_terms.specs.declared.theory.Theory.{Theory}
 use Rattle.mau_store.specs.Node.{Node}
 use Rattle.mau_store.specs.Trees.{trees_at}
 use Rattle.mau_store.specs.View.{numbers}
-use Rattle.mau_api.specs.declared.solution.Solution.{Solution}
+use Rattle.mau_listing.specs.declared.solution.Solution.{Solution}
 
 -- the order of values of variables that first occur under these operators
 abbrev pub values_cmp : (ℕ → Theory) → List (Option ℕ) → List Node → List TermId → List TermId → Ordering

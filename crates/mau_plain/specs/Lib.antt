@@ -1,9 +1,8 @@
--- What the plain listing computes, to be read in this order.
+-- A user of the plain listing has to read nothing here: its contract is that of the trait of all listings.
+-- ---- what only inner contracts and proofs cite
 
 -- lists over some elements
 pub mod Words
--- arguments by their kinds
-pub mod Arguments
 -- terms that are gathered
 pub mod Gathered
 -- what is gathered of a term
@@ -12,5 +11,5 @@ pub mod Parts
 pub mod Settled
 -- the order of lists of values
 pub mod Least
--- lists of values that are tried
-pub mod Tried
+-- lists of values that are tried, one after another
+pub mod Behind

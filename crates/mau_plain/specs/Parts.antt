@@ -10,7 +10,7 @@ use Rattle.mau_store.specs.Node.{Node}
 use Rattle.mau_store.specs.Trees.{trees_at}
 use Rattle.mau_store.specs.View.{numbers}
 use Rattle.mau_canon.specs.Within.{IsWithin}
-use Rattle.mau_api.specs.Values.{IsPartUnder, MayBeValue, MayBeValueOfOne}
+use Rattle.mau_listing.specs.Values.{IsPartUnder, MayBeValue, MayBeValueOfOne}
 
 -- z is the normal form of f over these, and within the limits
 abbrev pub IsOverList : (ℕ → Theory) → ℕ → List Tree → Tree → Type 0

@@ -3,11 +3,11 @@ ghost use Rattle.std.specs.Prelude.{◌≡◌, ◌↔◌, ◌<◌, [], All, get_
 ghost use Rattle.std.specs.declared.cmp.Ordering.TheVariants.{Less};
 ghost use Rattle.mau_signature.specs.Signature.{theory_at};
 ghost use Rattle.mau_store.specs.View.{numbers};
-ghost use Rattle.mau_canon.specs.Within.{StandWithin};
-ghost use Rattle.mau_api.specs.Places.{under_all, AreUnderOperators};
+ghost use Rattle.mau_canon.specs.Standing.{StandWithin};
+ghost use Rattle.mau_listing.specs.Places.{under_all, AreUnderOperators};
 ghost use Rattle.mau_plain.specs.Least.{values_cmp, IsBehindLast, IsLeastOf};
 
-use mau_api::{Place, Solution, compare_values};
+use mau_listing::{Place, Solution, compare_values};
 use mau_signature::Signature;
 use mau_store::Store;
 use mau_terms::{Seq, TermId};

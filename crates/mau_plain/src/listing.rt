@@ -9,23 +9,25 @@ ghost use Rattle.mau_store.specs.Trees.{tree_at};
 ghost use Rattle.mau_store.specs.View.{numbers};
 ghost use Rattle.mau_sorts.specs.HasSort.{Known};
 ghost use Rattle.mau_sorts.specs.Table.{IsSettled, AreOver, KeepsEntries};
-ghost use Rattle.mau_canon.specs.Within.{StandWithin};
-ghost use Rattle.mau_api.specs.Found.{Found, IsSolution};
-ghost use Rattle.mau_api.specs.Next.{found_cmp, IsBehind};
-ghost use Rattle.mau_api.specs.Asked.{question_in, found_in, IsTableOf, BySort, MaySettle, CanGoOn};
-ghost use Rattle.mau_plain.specs.Tried.{ArePlacesOf, HasNumberIn, IsTriedBehind, asked_in, without_context};
+ghost use Rattle.mau_canon.specs.Standing.{StandWithin};
+ghost use Rattle.mau_listing.specs.Matcher.{Matcher};
+ghost use Rattle.mau_listing.specs.Question.{IsSolution};
+ghost use Rattle.mau_listing.specs.Next.{matcher_cmp, IsBehind};
+ghost use Rattle.mau_listing.specs.Asked.{question_in, matcher_in, IsTableOf, IsClosedTable, BySort, MaySettle, CanGoOn};
+ghost use Rattle.mau_trial.specs.Tried.{ArePlacesOf, asked_in, without_context};
+ghost use Rattle.mau_plain.specs.Behind.{HasNumberIn, IsTriedBehind};
 
-use crate::facts::{has_nodes, is_lawful};
+use crate::among::tried_among;
 use crate::least::least_of;
 use crate::parts::push_candidates;
 use crate::settled::settled_among;
-use crate::tried::{Trial, copy_bound, solution_of, tried_among, variables_of};
 use crate::words::all_words;
-use mau_api::{Lister, Place, Solution, WholeLister, places_of};
+use mau_listing::{Lister, Place, Solution, WholeLister, has_nodes, is_lawful, places_of};
 use mau_signature::Signature;
 use mau_sorts::SortTable;
 use mau_store::Store;
 use mau_terms::{Bare, Duplicate, NoMemory, Seq, TermId, VarId};
+use mau_trial::{Trial, copy_bound, solution_of, variables_of};
 use std::alloc::Global;
 
 /// A listing without contexts that tries all lists of values there are, for each solution anew. It is slow, and a yardstick for
@@ -45,13 +47,14 @@ fn settled_candidates(
     requires ready { CanGoOn false sig.now store.old sorts.old (asked_in trial.now) trial.now.last }
     ensures within { IfOk result (λ out. StandWithin (theory_at sig.now) store.new (numbers out.items)) }
     ensures settled { IfOk result (λ out. All (IsSettled sorts.new) (numbers out.items)) }
-    ensures all { (known : Known) → IsTableOf sig.now known store.old sorts.old → IfOk result (λ out. (x : Found) →
+    ensures all { (known : Known) → IsTableOf sig.now known store.old sorts.old → IfOk result (λ out. (x : Matcher) →
         IsSolution false sig.now (BySort sig.now known) (question_in store.old (asked_in trial.now)) x → All (HasNumberIn store.new out.items) x.values) }
     ensures extends { Extends store.old store.new }
     ensures entries { (i : ℕ) → IsSettled sorts.new i → MaySettle sig.now store.new sorts.old (tree_at store.old trial.now.subject.0) i }
     ensures kept { KeepsEntries sorts.old sorts.new }
     ensures over { AreOver sig.now.hierarchy sorts.new }
     ensures table { (known : Known) → IsTableOf sig.now known store.old sorts.old → IsTableOf sig.now known store.new sorts.new }
+    ensures closed { IsClosedTable store.old sorts.old → IsClosedTable store.new sorts.new }
 {
     is_lawful(sig);
     let mut candidates = Vec::new(store.allocator());
@@ -79,15 +82,16 @@ fn tried_lists(
     ensures tried { IfOk result (λ out. All (IsTriedBehind sig.now store.new sorts.new trial.now places.now) out.items) }
     ensures within { IfOk result (λ out. All (λ l. StandWithin (theory_at sig.now) store.new (numbers l)) out.items) }
     ensures settled { IfOk result (λ out. All (λ l. All (IsSettled sorts.new) (numbers l)) out.items) }
-    ensures all { (known : Known) → IsTableOf sig.now known store.old sorts.old → IfOk result (λ out. (x : Found) →
+    ensures all { (known : Known) → IsTableOf sig.now known store.old sorts.old → IfOk result (λ out. (x : Matcher) →
         IsSolution false sig.now (BySort sig.now known) (question_in store.old (asked_in trial.now)) x →
-        IsBehind (found_cmp (theory_at sig.now) (tree_of trial.now.pattern)) (option_map (found_in store.old) trial.now.last) x →
-        (l : List TermId) × Contains out.items l × (found_in store.new (without_context l) ≡ x)) }
+        IsBehind (matcher_cmp (theory_at sig.now) (tree_of trial.now.pattern)) (option_map (matcher_in store.old) trial.now.last) x →
+        (l : List TermId) × Contains out.items l × (matcher_in store.new (without_context l) ≡ x)) }
     ensures extends { Extends store.old store.new }
     ensures entries { (i : ℕ) → IsSettled sorts.new i → MaySettle sig.now store.new sorts.old (tree_at store.old trial.now.subject.0) i }
     ensures kept { KeepsEntries sorts.old sorts.new }
     ensures over { AreOver sig.now.hierarchy sorts.new }
     ensures table { (known : Known) → IsTableOf sig.now known store.old sorts.old → IsTableOf sig.now known store.new sorts.new }
+    ensures closed { IsClosedTable store.old sorts.old → IsClosedTable store.new sorts.new }
 {
     is_lawful(sig);
     let alloc = store.allocator();
@@ -100,7 +104,7 @@ fn tried_lists(
 
 impl Lister for PlainListing {
     ghost use Rattle.std.specs.Prelude.{false};
-    ghost use Rattle.mau_plain.specs.Tried.{asked_in};
+    ghost use Rattle.mau_trial.specs.Tried.{asked_in};
 
     ghost with_context = { false };
 

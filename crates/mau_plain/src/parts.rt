@@ -6,8 +6,8 @@ ghost use Rattle.mau_signature.specs.Signature.{IsOperator, terms_over, theory_a
 ghost use Rattle.mau_store.specs.Node.{Extends};
 ghost use Rattle.mau_store.specs.Trees.{tree_at, trees_at};
 ghost use Rattle.mau_store.specs.View.{numbers};
-ghost use Rattle.mau_canon.specs.Within.{StandsWithin, StandWithin};
-ghost use Rattle.mau_api.specs.Values.{IsPartUnder};
+ghost use Rattle.mau_canon.specs.Standing.{StandsWithin, StandWithin};
+ghost use Rattle.mau_listing.specs.Values.{IsPartUnder};
 ghost use Rattle.mau_plain.specs.Gathered.{Gathers};
 ghost use Rattle.mau_plain.specs.Parts.{IsBelowOrLess, IsOverList, IsOverOneList, IsWordOf, IsOfSome, IsOfSomeOfAll, IsPartOfOne};
 

@@ -6,10 +6,10 @@ ghost use Rattle.mau_store.specs.Trees.{tree_at};
 ghost use Rattle.mau_store.specs.View.{numbers};
 ghost use Rattle.mau_sorts.specs.HasSort.{Known};
 ghost use Rattle.mau_sorts.specs.Table.{IsSettled, AreOver, KeepsEntries};
-ghost use Rattle.mau_api.specs.Asked.{IsSettleable, IsTableOf, MaySettle};
+ghost use Rattle.mau_listing.specs.Asked.{IsSettleable, IsTableOf, IsClosedTable, MaySettle};
 ghost use Rattle.mau_plain.specs.Settled.{AddsSettled};
 
-use mau_api::settle_value;
+use mau_listing::settle_value;
 use mau_signature::Signature;
 use mau_sorts::SortTable;
 use mau_store::Store;
@@ -31,6 +31,7 @@ fn push_settled(
     ensures kept { KeepsEntries sorts.old sorts.new }
     ensures over { AreOver sig.now.hierarchy sorts.new }
     ensures table { (known : Known) → IsTableOf sig.now known store.now sorts.old → IsTableOf sig.now known store.now sorts.new }
+    ensures closed { IsClosedTable store.now sorts.old → IsClosedTable store.now sorts.new }
 {
     if out.contains(&id) {
         return Ok(());
@@ -59,6 +60,7 @@ pub fn settled_among(
     ensures kept { KeepsEntries sorts.old sorts.new }
     ensures over { AreOver sig.now.hierarchy sorts.new }
     ensures table { (known : Known) → IsTableOf sig.now known store.now sorts.old → IsTableOf sig.now known store.now sorts.new }
+    ensures closed { IsClosedTable store.now sorts.old → IsClosedTable store.now sorts.new }
 {
     let mut out = Vec::new(store.allocator());
     for id in ids {

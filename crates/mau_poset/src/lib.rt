@@ -14,6 +14,3 @@ pub use poset::Poset;
 
 /// The greatest number of sorts that a poset may have.
 pub const MAX_SORTS: u32 = 16_384;
-
-#[cfg(test)]
-mod tests;

@@ -4,7 +4,7 @@ use Rattle.mau_signature.specs.Attributes.{no_attributes}
 use Rattle.mau_signature.specs.declared.attributes.Gather.TheVariants.{Upto, Below}
 use Rattle.mau_signature.specs.declared.decl.Decl.{Decl}
 use Rattle.mau_grammar.specs.declared.aliases.Alias.{Alias}
-use Rattle.mau_api.specs.declared.statements.Equation.{Equation}
+use Rattle.mau_program.specs.declared.statements.Equation.{Equation}
 use Rattle.mau_prelude.specs.Rows.{bool, word_form, prefix_form, infix_form, declare, declare_variable, a, b, c, true_term, false_term, and, or, xor, not, implies, of_a, of_ab, of_abc, equation}
 
 abbrev pub constants : List Decl

@@ -8,7 +8,7 @@ use Rattle.mau_signature.specs.declared.decl.Decl.{Decl}
 use Rattle.mau_signature.specs.declared.form.Piece.{Piece}
 use Rattle.mau_signature.specs.declared.form.Piece.TheVariants.{Hole, Word}
 use Rattle.mau_grammar.specs.declared.aliases.Alias.{Alias}
-use Rattle.mau_api.specs.declared.statements.Equation.{Equation}
+use Rattle.mau_program.specs.declared.statements.Equation.{Equation}
 
 -- ---- sorts, by their numbers in the whole module
 

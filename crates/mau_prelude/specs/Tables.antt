@@ -3,7 +3,7 @@
 use Rattle.std.specs.Prelude.{ℕ, List, [], ◌∷◌, ◌++◌, codes}
 use Rattle.mau_signature.specs.declared.decl.Decl.{Decl}
 use Rattle.mau_grammar.specs.declared.aliases.Alias.{Alias}
-use Rattle.mau_api.specs.declared.statements.Equation.{Equation}
+use Rattle.mau_program.specs.declared.statements.Equation.{Equation}
 use Rattle.mau_prelude.specs.Booleans.{constants, connectives, variables, equations_of_and_and_xor, equations_that_reduce_to_xor}
 use Rattle.mau_prelude.specs.Numbers.{number_pairs, sums, products, choices, comparisons}
 use Rattle.mau_prelude.specs.declared.module.PreludeModule.{PreludeModule}

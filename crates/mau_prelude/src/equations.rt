@@ -6,7 +6,7 @@ ghost use Rattle.mau_prelude.specs.Rows.{a, bare_of, bool, of_a, of_ab, of_abc, 
 ghost use Rattle.mau_prelude.specs.Booleans.{equations_of_and_and_xor, equations_that_reduce_to_xor};
 
 use crate::rows::BOOL;
-use mau_api::Equation;
+use mau_program::Equation;
 use mau_terms::{Args, Bare, NoMemory, OpId, Seq, VarId, Vars};
 use std::alloc::Global;
 

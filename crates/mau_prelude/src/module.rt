@@ -1,7 +1,7 @@
 //! The modules of the prelude, and what a module declares.
 
-use mau_api::Equation;
 use mau_grammar::Alias;
+use mau_program::Equation;
 use mau_signature::Decl;
 use mau_terms::Text;
 

@@ -11,7 +11,7 @@ use Rattle.mau_tokens.specs.Ending.{parts_word, may_end, least_size, IsPiece}
 use Rattle.mau_tokens.specs.TokensOf.{TokensFrom, text_ends, passes, takes}
 use Rattle.mau_grammar.specs.Parts.{is_special}
 use Rattle.mau_parse.specs.Words.{texts_of}
-use Rattle.mau_print.proofs.Plain_words.{IsNoSign, IsWhole, whole_of, begins_again, sign_back}
+use Rattle.mau_print.proofs.PlainWords.{IsNoSign, IsWhole, whole_of, begins_again, sign_back}
 use Rattle.mau_print.proofs.Joined.{IsJoined, no_words, after_space, mark_first, plain_first, is_end}
 
 -- ---- special characters

@@ -20,8 +20,8 @@ use Rattle.mau_grammar.specs.Grammar.{grammar_of, IsGrammarOf}
 use Rattle.mau_print.specs.Printed.{shown}
 use Rattle.mau_print.specs.Worded.{Source, printer_for}
 use Rattle.mau_print.specs.Readable.{IsPlain, IsFormWord, NamesSortIn, HasWords, NameKind, IsWritable, ReadsAs}
-use Rattle.mau_print.proofs.Plain_words.{plain_of}
-use Rattle.mau_print.proofs.Read_back.{texts_read_back}
+use Rattle.mau_print.proofs.PlainWords.{plain_of}
+use Rattle.mau_print.proofs.ReadBack.{texts_read_back}
 
 -- ---- the module
 

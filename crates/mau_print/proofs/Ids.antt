@@ -10,7 +10,8 @@ use Rattle.mau_store.specs.Node.{Node, IsOf, AreOf, AreBelow}
 use Rattle.mau_store.specs.Trees.{tree_at}
 use Rattle.mau_store.specs.View.{numbers}
 use Rattle.mau_print.specs.declared.layout.Layout.{Layout}
-use Rattle.mau_print.specs.Printed.{PrinterOf, Pairs, printed, all_printed, printed_at, printed_all, trees_of_ids, layout_at, over}
+use Rattle.mau_print.specs.Printed.{PrinterOf, Pairs, printed, all_printed, layout_at, over}
+use Rattle.mau_print.specs.PrintedIds.{printed_at, printed_all, trees_of_ids}
 
 pub older_there : (nodes : List Node) (i : ℕ) (ids : List ℕ) → IsOf nodes i → AreBelow i ids → AreOf nodes ids
 older_there nodes i ids there older k d below = omega (arith, older k d below)

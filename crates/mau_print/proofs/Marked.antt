@@ -13,7 +13,7 @@ use Rattle.mau_print.specs.declared.layout.Layout.{Layout}
 use Rattle.mau_print.specs.declared.layout.Layout.TheVariants.{Constant, Prefix, Form, Chain}
 use Rattle.mau_print.specs.Printed.{with_sort, unambiguous}
 use Rattle.mau_print.specs.Layouts.{is_numeral_in, is_shared, as_constant, first_sort_name, head_text, layout_by}
-use Rattle.mau_print.specs.Found.{IsProductionFor, production_layout}
+use Rattle.mau_print.specs.Beforehand.{IsProductionFor, production_layout}
 
 pub shared_many : (g : GrammarOf) (owned : List (List ℕ)) (w : List ℕ) (n : ℕ) → n ≡ count_by (bytes_eq w) owned → 1 < n → true ≡ is_shared g owned w
 shared_many g owned w n e h = let t : nat_lt 1 n ≡ true = grind (arith, nat_tests) in sym (ap (λ m. nat_lt 1 m || is_numeral_in g w) (sym e) ∙ ap (λ b. b || is_numeral_in g w) t)

@@ -1,5 +1,5 @@
 -- The production of an operator with holes, among all productions of its signature.
-use Rattle.std.proofs.Common.{◌≡◌, ◌≢◌, ℕ, zero, suc, ◌+◌, ◌-◌, ◌<◌, ◌==◌, ◌⊎◌, inl, inr, List, [], ◌∷◌, ◌++◌, Bool, true, false, cond, not, ◌&&◌, ◌||◌, Some, None, length, get_or, slice_get, refl, sym, ap, ◌∙◌, subst, append_assoc, add-one, arith, ap₂, map, take, drop, eq-eqb}
+use Rattle.std.proofs.Common.{◌≡◌, ◌≢◌, ℕ, zero, suc, ◌+◌, ◌-◌, ◌<◌, ◌==◌, ◌⊎◌, inl, inr, List, [], ◌∷◌, ◌++◌, Bool, true, false, cond, not, ◌&&◌, ◌||◌, Some, length, get_or, slice_get, refl, sym, ap, ◌∙◌, subst, append_assoc, add-one, arith, ap₂, map, take, drop, eq-eqb}
 use Rattle.std.proofs.lemmas.List.{append-nil, length-append, map-append, take_more}
 use Rattle.std.specs.Option.{option_map}
 use Rattle.std.proofs.lemmas.Bool.Decides.{nat_tests}
@@ -16,8 +16,8 @@ use Rattle.mau_grammar.specs.Grammar.{GrammarOf}
 use Rattle.mau_grammar.proofs.Shapes.{operators_more}
 use Rattle.mau_print.specs.Layouts.{IsGrammarFor, layout_of, layout_by}
 use Rattle.mau_print.specs.declared.layout.Layout.{Layout}
-use Rattle.mau_print.specs.Found.{IsProductionFor}
-use Rattle.mau_parse.proofs.Leaves_listed.{below_suc}
+use Rattle.mau_print.specs.Beforehand.{IsProductionFor}
+use Rattle.mau_parse.proofs.LeavesListed.{below_suc}
 
 -- those of the operator i + 1, and what stands around them
 abbrev pub Around : SignatureOf → ℕ → List Production → Type 0

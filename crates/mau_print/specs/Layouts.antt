@@ -2,6 +2,7 @@
 use Rattle.std.specs.Prelude.{◌≡◌, Some, None, ℕ, ◌+◌, ◌<◌, ◌==◌, get_or, nat_lt, List, [], ◌∷◌, ◌++◌, Bool, ◌&&◌, ◌||◌, Option, length, map, filter, fold, count_by, bytes_eq, is_some, if◌then◌else◌}
 use Rattle.std.specs.List.{list_any}
 use Rattle.std.specs.Option.{option_map_or}
+use Rattle.mau_numerals.specs.Numerals.{is_numeral}
 use Rattle.mau_poset.specs.Order.{Hierarchy, kind_of}
 use Rattle.mau_signature.specs.declared.decl.Decl.{Decl}
 use Rattle.mau_signature.specs.declared.form.Piece.{Piece}
@@ -13,7 +14,6 @@ use Rattle.mau_grammar.specs.declared.aliases.Alias.{Alias}
 use Rattle.mau_grammar.specs.Parts.{parts_in_order}
 use Rattle.mau_grammar.specs.Productions.{argument_kinds, level}
 use Rattle.mau_grammar.specs.Grammar.{GrammarOf, grammar_of}
-use Rattle.mau_grammar.specs.Leaves.{is_numeral}
 use Rattle.mau_print.specs.declared.layout.Layout.{Layout}
 use Rattle.mau_print.specs.declared.layout.Layout.TheVariants.{Constant, Prefix, Form, Chain}
 use Rattle.mau_print.specs.Written.{Printed, joined}

@@ -1,11 +1,8 @@
 -- How a term is printed, where it is known how each operator is written.
-use Rattle.std.specs.Prelude.{ℕ, ◌-◌, List, [], ◌∷◌, ◌++◌, Bool, Option, slice_get, map, nat_eq, codes, decimal, bytes_eq, if◌then◌else◌}
+use Rattle.std.specs.Prelude.{ℕ, ◌-◌, List, [], ◌∷◌, ◌++◌, Bool, Option, slice_get, nat_eq, codes, decimal, bytes_eq, if◌then◌else◌}
 use Rattle.std.specs.List.{list_any}
 use Rattle.std.specs.Option.{option_map_or}
 use Rattle.mau_terms.specs.Tree.{Tree, variable, numeral, apply, Trees, no_trees, tree}
-use Rattle.mau_terms.specs.declared.ids.TermId.{TermId}
-use Rattle.mau_store.specs.Node.{Node}
-use Rattle.mau_store.specs.Trees.{tree_at, trees_at}
 use Rattle.mau_store.specs.View.{numbers}
 use Rattle.mau_print.specs.declared.layout.Layout.{Layout}
 use Rattle.mau_print.specs.declared.layout.Layout.TheVariants.{Constant, Prefix, Form, Chain}
@@ -84,16 +81,6 @@ abbrev mutual
   pub all_printed : PrinterOf → Pairs → Trees → List Printed
   all_printed p ns no_trees = []
   all_printed p ns (tree t ts) = printed p ns t ∷ all_printed p ns ts
-
--- a term of a store, and several
-abbrev pub printed_at : PrinterOf → Pairs → List Node → TermId → Printed
-printed_at p ns nodes id = printed p ns (tree_at nodes id.0)
-
-abbrev pub trees_of_ids : List Node → List TermId → List Tree
-trees_of_ids nodes ids = trees_at nodes (numbers ids)
-
-abbrev pub printed_all : PrinterOf → Pairs → List Node → List TermId → List Printed
-printed_all p ns nodes ids = map (printed_at p ns nodes) ids
 
 -- the text of a term, by its normal form
 abbrev pub shown : PrinterOf → Pairs → Tree → List ℕ

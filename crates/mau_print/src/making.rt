@@ -10,7 +10,7 @@ ghost use Rattle.mau_print.specs.Printed;
 ghost use Rattle.mau_print.specs.Printed.{unambiguous};
 ghost use Rattle.mau_print.specs.Layouts;
 ghost use Rattle.mau_print.specs.Layouts.{IsGrammarFor, as_constant, first_sort_name, layout_by, layout_of, printer_of};
-ghost use Rattle.mau_print.specs.Found.{AreKnown, IsProductionFor, production_layout};
+ghost use Rattle.mau_print.specs.Beforehand.{AreKnown, IsProductionFor, production_layout};
 ghost use Rattle.mau_grammar.specs.Grammar.{GrammarOf};
 
 use crate::layout::Layout;

@@ -6,7 +6,8 @@ ghost use Rattle.mau_store.specs.Trees.{tree_at};
 ghost use Rattle.mau_grammar.specs.Production.{places};
 ghost use Rattle.mau_print.specs.Written.{in_parentheses, guarded, gap, pieces, spaced, nested, opening, closing, times, IsSecondPlace, comma_texts};
 ghost use Rattle.mau_print.specs.Readable.{IsTextOf};
-ghost use Rattle.mau_print.specs.Printed.{Pairs, shown, printed_at, printed_all, variable_name, variable_text, numeral_printed};
+ghost use Rattle.mau_print.specs.Printed.{Pairs, shown, variable_name, variable_text, numeral_printed};
+ghost use Rattle.mau_print.specs.PrintedIds.{printed_at, printed_all};
 
 use crate::layout::Layout;
 use crate::printer::Printer;

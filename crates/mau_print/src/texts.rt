@@ -1,14 +1,13 @@
 //! The texts of constants and declared variables, and which of them several things have.
-ghost use Rattle.std.specs.Prelude.{◌≡◌, ◌++◌, ◌==◌, ◌||◌, not, [], ℕ, List, map, filter, fold, count_by, unwrap_or, bytes_eq, string_bytes, OnOk, IfOk};
-ghost use Rattle.std.specs.List.{list_all};
+ghost use Rattle.std.specs.Prelude.{◌≡◌, ◌++◌, [], ℕ, List, map, filter, fold, count_by, unwrap_or, bytes_eq, string_bytes, OnOk, IfOk};
 ghost use Rattle.std.specs.HashMap.{get_by_text};
-ghost use Rattle.mau_grammar.specs.Leaves;
 ghost use Rattle.mau_print.specs.Layouts;
 ghost use Rattle.mau_print.specs.Written.{joined};
 ghost use Rattle.mau_print.specs.Layouts.{form_words, constant_texts, all_constant_texts, is_numeral_in, with_text};
 
 use indexmap::IndexSet;
 use mau_grammar::{Grammar, Variable};
+use mau_numerals::is_numeral;
 use mau_signature::{Decl, Form, Piece, Signature};
 use mau_terms::{NoMemory, OpId};
 use std::alloc::Global;
@@ -101,38 +100,11 @@ pub fn count_texts(alloc: Global, texts: &[String]) -> Result<Counts, NoMemory>
     Ok(counts)
 }
 
-/// Whether all bytes are decimal digits.
-fn are_digits(bytes: &[u8]) -> bool
-    ensures { result ≡ list_all Leaves.is_digit bytes.now }
-{
-    bytes.iter().all(|byte| byte.is_ascii_digit())
-}
-
-/// Whether a numeral of so many digits may have this first one.
-fn may_begin(first: u8, len: usize) -> bool
-    ensures { result ≡ (not (first == 48) || (len == 1)) }
-{
-    first != b'0' || len == 1
-}
-
-/// Whether the text is a numeral: decimal digits without a leading zero, or 0.
-fn is_numeral(text: &str) -> bool
-    ensures { result ≡ Leaves.is_numeral text.now }
-{
-    let bytes = text.as_bytes();
-    if bytes.is_empty() {
-        return false;
-    }
-    let digits = are_digits(bytes);
-    let begins = may_begin(bytes[0], bytes.len());
-    digits && begins
-}
-
 /// Whether there are numerals, and the text is one.
 pub fn is_numeral_in(grammar: &Grammar, text: &str) -> bool
     ensures { result ≡ Layouts.is_numeral_in grammar.now text.now }
 {
-    grammar.numerals().is_some() && is_numeral(text)
+    grammar.numerals().is_some() && is_numeral(text.as_bytes())
 }
 
 /// Adds a text at the end, unless it is there.

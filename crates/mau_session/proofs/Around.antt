@@ -25,17 +25,18 @@ use Rattle.mau_store.specs.Trees.{tree_at, trees_at}
 use Rattle.mau_store.specs.View.{numbers}
 use Rattle.mau_canon.specs.declared.TheConstants.{MAX_DEPTH}
 use Rattle.mau_canon.specs.declared.fault.BuildFault.TheVariants.{TooDeep, Overflow}
-use Rattle.mau_canon.specs.Within.{IsWithin, IsCause, StandsWithin, StandWithin}
+use Rattle.mau_canon.specs.Within.{IsWithin, IsCause}
+use Rattle.mau_canon.specs.Standing.{StandsWithin, StandWithin}
 use Rattle.mau_canon.proofs.Elements.{no_greatest}
-use Rattle.mau_sorts.specs.Table.{IsTreeOver}
-use Rattle.mau_api.specs.declared.solution.Solution.{Solution}
-use Rattle.mau_api.specs.Found.{Found}
-use Rattle.mau_api.specs.Asked.{found_in, IsGiven}
+use Rattle.mau_signature.specs.OverSignature.{IsTreeOver}
+use Rattle.mau_listing.specs.declared.solution.Solution.{Solution}
+use Rattle.mau_listing.specs.Matcher.{Matcher}
+use Rattle.mau_listing.specs.Asked.{matcher_in, IsGiven}
 use Rattle.mau_session.specs.Answers.{is_whole}
 use Rattle.mau_session.specs.Parts.{IsContext}
-use Rattle.mau_session.specs.Query.{asked_for, IsReady}
+use Rattle.mau_session.specs.KeptQuery.{asked_for, IsReady}
 use Rattle.mau_session.specs.declared.query.Query.{Query}
-use Rattle.mau_session.proofs.OverSignature.{norm_over}
+use Rattle.mau_signature.proofs.OverSignature.{norm_over}
 
 -- ---- lists within the limits
 
@@ -161,7 +162,7 @@ top_assoc th (apply g ts) f e = by (th g).assoc refl e
     by false h k = absurd cc
 
 -- the subject is the operator f over a list, and the part of it that is matched and what stands around that are within the limits
-pub record IsAround (s : SignatureOf) (p t : Tree) (x : Found) : Type 0 where
+pub record IsAround (s : SignatureOf) (p t : Tree) (x : Matcher) : Type 0 where
   pub op : ℕ
   pub top : assoc_top (theory_at s) (norm (theory_at s) p) ≡ Some op
   pub operator : IsOperator s op
@@ -171,15 +172,15 @@ pub record IsAround (s : SignatureOf) (p t : Tree) (x : Found) : Type 0 where
   pub left : IsContext s op x.left
   pub right : IsContext s op x.right
 
-not_whole : (x : Found) → is_whole x ≡ false → (x.left ≡ []) × (x.right ≡ []) → ⊥
+not_whole : (x : Matcher) → is_whole x ≡ false → (x.left ≡ []) × (x.right ≡ []) → ⊥
 not_whole x e h = let w : is_whole x ≡ true = ap₂ (λ (l r : List Tree). (length l == 0) && (length r == 0)) h.0 h.1 in absurd cc
 
-module _ (s : SignatureOf) (q : Query) (ready : IsReady s q) (x : Solution) (given : IsGiven true s q.store q.sorts (asked_for q) x) (around : is_whole (found_in q.store x) ≡ false) where
+module _ (s : SignatureOf) (q : Query) (ready : IsReady s q) (x : Solution) (given : IsGiven true s q.store q.sorts (asked_for q) x) (around : is_whole (matcher_in q.store x) ≡ false) where
   abbrev axioms : ℕ → Theory
   axioms = theory_at s
 
-  abbrev here : Found
-  here = found_in q.store x
+  abbrev here : Matcher
+  here = matcher_in q.store x
 
   -- the subject
   abbrev subject : Tree

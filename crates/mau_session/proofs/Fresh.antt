@@ -10,17 +10,18 @@ use Rattle.mau_terms.proofs.Law.{equal_reading}
 use Rattle.mau_signature.specs.Signature.{SignatureOf, theory_at, terms_over}
 use Rattle.mau_store.specs.Node.{Node, AreNodes, IsOf}
 use Rattle.mau_store.specs.Trees.{StandsFor, tree_at}
-use Rattle.mau_canon.specs.Within.{StandsWithin}
-use Rattle.mau_sorts.specs.Table.{Table, AreOver, AreEntries, IsSettled, IsTreeOver}
-use Rattle.mau_api.specs.Asked.{CanGoOn}
-use Rattle.mau_api.specs.Prepared.{HasIdentities}
+use Rattle.mau_canon.specs.Standing.{StandsWithin}
+use Rattle.mau_sorts.specs.Table.{empty_table, Table, AreOver, AreEntries, IsSettled}
+use Rattle.mau_signature.specs.OverSignature.{IsTreeOver}
+use Rattle.mau_listing.specs.Asked.{CanGoOn}
+use Rattle.mau_listing.specs.Prepared.{HasIdentities}
 use Rattle.mau_session.specs.Matching.{numbered_from}
-use Rattle.mau_session.specs.Query.{asked_for, IsReady}
+use Rattle.mau_session.specs.KeptQuery.{asked_for, IsReady}
 use Rattle.mau_session.specs.declared.query.Query.{Query}
-use Rattle.mau_session.proofs.OverSignature.{norm_over}
+use Rattle.mau_signature.proofs.OverSignature.{norm_over}
 use Rattle.mau_session.proofs.Settling.{settled_for}
 
-pub no_entries : (s : SignatureOf) (nodes : List Node) (table : Table) → table ≡ [] → AreEntries s [] nodes table
+pub no_entries : (s : SignatureOf) (nodes : List Node) (table : Table) → table ≡ empty_table → AreEntries s [] nodes table
 no_entries s nodes table e = subst (AreEntries s [] nodes) (sym e) (λ i entry at. absurd (cc at))
 
 module _ (s : SignatureOf) (lawful : IsLawful (terms_over s)) (q : Query) (none : q.last ≡ None) (pattern : IsBare (terms_over s) (tree_of q.pattern)) (subject : IsBare (terms_over s) (tree_of q.subject))

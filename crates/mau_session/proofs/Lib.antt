@@ -1,4 +1,3 @@
-pub mod OverSignature
 pub mod Settling
 pub mod Listed
 pub mod Around

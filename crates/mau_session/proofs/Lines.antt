@@ -6,7 +6,7 @@ use Rattle.mau_terms.specs.Vars.{IsGiven}
 use Rattle.mau_terms.specs.Subst.{Variable}
 use Rattle.mau_module.specs.Modules.{ModuleOf}
 use Rattle.mau_session.specs.Terms.{Pairs}
-use Rattle.mau_session.specs.Query.{id_tree, id_trees}
+use Rattle.mau_session.specs.KeptQuery.{id_tree, id_trees}
 use Rattle.mau_store.specs.Node.{Node}
 use Rattle.mau_session.specs.Matching.{numbered_from}
 use Rattle.mau_session.specs.Answers.{value_line, value_lines}

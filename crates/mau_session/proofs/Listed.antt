@@ -18,18 +18,20 @@ use Rattle.mau_store.specs.View.{numbers}
 use Rattle.mau_store.proofs.Standing.{tree_at-extends}
 use Rattle.mau_canon.proofs.Standing.{stand_there}
 use Rattle.mau_sorts.specs.Table.{Table, AreOver, KeepsEntries}
-use Rattle.mau_api.specs.declared.solution.Solution.{Solution}
-use Rattle.mau_api.specs.Found.{Question, Found}
-use Rattle.mau_api.specs.Found
-use Rattle.mau_api.specs.Next
-use Rattle.mau_api.specs.Next.{found_cmp, IsLeastBehind}
-use Rattle.mau_api.specs.Asked.{Asked, question_in, found_in, IsTableOf, BySort, IsGiven, CanBeLast}
-use Rattle.mau_api.proofs.Growth.{found_same, given_is_last, last_of_store, given_of_store, listings_go_on, trees_long}
-use Rattle.mau_plain.proofs.Nexts.{table_grown}
+use Rattle.mau_sorts.proofs.Settling.{kept_same}
+use Rattle.mau_listing.specs.declared.solution.Solution.{Solution}
+use Rattle.mau_listing.specs.Question.{Question}
+use Rattle.mau_listing.specs.Matcher.{Matcher}
+use Rattle.mau_listing.specs.Question
+use Rattle.mau_listing.specs.Next
+use Rattle.mau_listing.specs.Next.{matcher_cmp, IsLeastBehind}
+use Rattle.mau_listing.specs.Asked.{Asked, question_in, matcher_in, IsTableOf, BySort, IsGiven, CanBeLast}
+use Rattle.mau_listing.proofs.Growth.{found_same, given_is_last, last_of_store, given_of_store, listings_go_on, trees_long}
+use Rattle.mau_listing.proofs.Growth.{table_grown}
 use Rattle.mau_module.specs.Modules.{ModuleOf}
 use Rattle.mau_session.specs.Terms.{terms_in}
 use Rattle.mau_session.specs.Matching.{IsSolution}
-use Rattle.mau_session.specs.Query.{asked_for, query_of, IsReady}
+use Rattle.mau_session.specs.KeptQuery.{asked_for, query_of, IsReady}
 use Rattle.mau_session.specs.Next.{IsNext, NoneIsBehind}
 use Rattle.mau_session.specs.declared.query.Query.{Query}
 
@@ -74,10 +76,10 @@ module _ (m : ModuleOf) (lawful : IsLawful (terms_in m)) (p t : Tree) (bare : Is
     part = is.part;
   }
 
-  abbrev IsFound : Bool → Found → Type 0
-  IsFound w = Found.IsSolution w m.signature (BySort m.signature []) (question p (norm (terms_in m).theory t))
+  abbrev IsFound : Bool → Matcher → Type 0
+  IsFound w = Question.IsSolution w m.signature (BySort m.signature []) (question p (norm (terms_in m).theory t))
 
-  solution_in : (w : Bool) (x : Found) → IsSolution m w p t x → IsFound w x
+  solution_in : (w : Bool) (x : Matcher) → IsSolution m w p t x → IsFound w x
   solution_in false x is = record {
     bare = is.values;
     values = is.normal;
@@ -93,7 +95,7 @@ module _ (m : ModuleOf) (lawful : IsLawful (terms_in m)) (p t : Tree) (bare : Is
     agrees = λ b among. absurd (let low : among.0 < 0 = among.1 in omega arith);
   }
 
-  solution_from : (w : Bool) (x : Found) → IsFound w x → IsSolution m w p t x
+  solution_from : (w : Bool) (x : Matcher) → IsFound w x → IsSolution m w p t x
   solution_from false x is = record { values = is.bare; normal = is.values; solves = ((fits_from is.bare is.solves.0, is.solves.1), is.no_left, is.no_right) }
   solution_from true x is = record {
     values = is.bare;
@@ -101,42 +103,42 @@ module _ (m : ModuleOf) (lawful : IsLawful (terms_in m)) (p t : Tree) (bare : Is
     solves = (within_from (assoc_top (terms_in m).theory (norm (terms_in m).theory p)) is.bare x.left x.right is.solves.0, is.solves.1);
   }
 
-  none_behind : (w : Bool) (last : Option Found) → Next.IsNext (IsFound w) (found_cmp (terms_in m).theory p) last None → NoneIsBehind m w p t last
+  none_behind : (w : Bool) (last : Option Matcher) → Next.IsNext (IsFound w) (matcher_cmp (terms_in m).theory p) last None → NoneIsBehind m w p t last
   none_behind w last none x is behind = none x (solution_in w x is) behind
 
-  next_behind : (w : Bool) (last : Option Found) (x : Found) → IsLeastBehind (IsFound w) (found_cmp (terms_in m).theory p) last x → IsNext m w p t last x
+  next_behind : (w : Bool) (last : Option Matcher) (x : Matcher) → IsLeastBehind (IsFound w) (matcher_cmp (terms_in m).theory p) last x → IsNext m w p t last x
   next_behind w last x is = record { is_one = solution_from w x is.is_one; behind = is.behind; least = λ y solved behind. is.least y (solution_in w y solved) behind }
 
 -- ---- queries
 
 module _ (m : ModuleOf) (q : Query) (ready : IsReady m.signature q) where
-  abbrev Answers : Question → Option Found → Type 0
+  abbrev Answers : Question → Option Matcher → Type 0
   Answers u o =
-      Next.IsNext (Found.IsSolution q.with_context m.signature (BySort m.signature []) u) (found_cmp (terms_in m).theory (tree_of q.pattern)) (option_map (found_in q.store) q.last) o
+      Next.IsNext (Question.IsSolution q.with_context m.signature (BySort m.signature []) u) (matcher_cmp (terms_in m).theory (tree_of q.pattern)) (option_map (matcher_in q.store) q.last) o
 
   same_question : question (tree_of q.pattern) (tree_at q.store q.number.0) ≡ question (tree_of q.pattern) (norm (terms_in m).theory (tree_of q.subject))
   same_question = ap (question (tree_of q.pattern)) ready.stands
 
-  pub nothing_next : (o : Option Found) → o ≡ None → Answers (question_in q.store (asked_for q)) o → NoneIsBehind m q.with_context (tree_of q.pattern) (tree_of q.subject) (query_of q).last
+  pub nothing_next : (o : Option Matcher) → o ≡ None → Answers (question_in q.store (asked_for q)) o → NoneIsBehind m q.with_context (tree_of q.pattern) (tree_of q.subject) (query_of q).last
   nothing_next o e answer =
       let none = subst (Answers (question_in q.store (asked_for q))) e answer in
-      none_behind m ready.lawful (tree_of q.pattern) (tree_of q.subject) ready.subject q.with_context (option_map (found_in q.store) q.last) (subst (λ u. Answers u None) same_question none)
+      none_behind m ready.lawful (tree_of q.pattern) (tree_of q.subject) ready.subject q.with_context (option_map (matcher_in q.store) q.last) (subst (λ u. Answers u None) same_question none)
 
-  pub something_next : (x : Found) (o : Option Found) → o ≡ Some x → Answers (question_in q.store (asked_for q)) o
+  pub something_next : (x : Matcher) (o : Option Matcher) → o ≡ Some x → Answers (question_in q.store (asked_for q)) o
       → IsNext m q.with_context (tree_of q.pattern) (tree_of q.subject) (query_of q).last x
   something_next x o e answer =
       let some = subst (Answers (question_in q.store (asked_for q))) e answer in
-      next_behind m ready.lawful (tree_of q.pattern) (tree_of q.subject) ready.subject q.with_context (option_map (found_in q.store) q.last) x (subst (λ u. Answers u (Some x)) same_question some)
+      next_behind m ready.lawful (tree_of q.pattern) (tree_of q.subject) ready.subject q.with_context (option_map (matcher_in q.store) q.last) x (subst (λ u. Answers u (Some x)) same_question some)
 
   -- what a listing of these answers
-  pub answers_here : (w : Bool) (s : SignatureOf) (a : Asked) (last : Option Solution) → w ≡ q.with_context → s ≡ m.signature → a ≡ asked_for q → last ≡ q.last → (o : Option Found)
-      → Next.IsNext (Found.IsSolution w s (BySort s []) (question_in q.store a)) (found_cmp (theory_at s) a.pattern) (option_map (found_in q.store) last) o
+  pub answers_here : (w : Bool) (s : SignatureOf) (a : Asked) (last : Option Solution) → w ≡ q.with_context → s ≡ m.signature → a ≡ asked_for q → last ≡ q.last → (o : Option Matcher)
+      → Next.IsNext (Question.IsSolution w s (BySort s []) (question_in q.store a)) (matcher_cmp (theory_at s) a.pattern) (option_map (matcher_in q.store) last) o
       → Answers (question_in q.store (asked_for q)) o
   answers_here w s a last ew es ea el o h =
-      subst (λ l. Next.IsNext (Found.IsSolution q.with_context m.signature (BySort m.signature []) (question_in q.store (asked_for q))) (found_cmp (theory_at m.signature) (asked_for q).pattern) (option_map (found_in q.store) l) o) el
-      (subst (λ b. Next.IsNext (Found.IsSolution q.with_context m.signature (BySort m.signature []) (question_in q.store b)) (found_cmp (theory_at m.signature) b.pattern) (option_map (found_in q.store) last) o) ea
-      (subst (λ r. Next.IsNext (Found.IsSolution q.with_context r (BySort r []) (question_in q.store a)) (found_cmp (theory_at r) a.pattern) (option_map (found_in q.store) last) o) es
-      (subst (λ v. Next.IsNext (Found.IsSolution v s (BySort s []) (question_in q.store a)) (found_cmp (theory_at s) a.pattern) (option_map (found_in q.store) last) o) ew h)))
+      subst (λ l. Next.IsNext (Question.IsSolution q.with_context m.signature (BySort m.signature []) (question_in q.store (asked_for q))) (matcher_cmp (theory_at m.signature) (asked_for q).pattern) (option_map (matcher_in q.store) l) o) el
+      (subst (λ b. Next.IsNext (Question.IsSolution q.with_context m.signature (BySort m.signature []) (question_in q.store b)) (matcher_cmp (theory_at m.signature) b.pattern) (option_map (matcher_in q.store) last) o) ea
+      (subst (λ r. Next.IsNext (Question.IsSolution q.with_context r (BySort r []) (question_in q.store a)) (matcher_cmp (theory_at r) a.pattern) (option_map (matcher_in q.store) last) o) es
+      (subst (λ v. Next.IsNext (Question.IsSolution v s (BySort s []) (question_in q.store a)) (matcher_cmp (theory_at s) a.pattern) (option_map (matcher_in q.store) last) o) ew h)))
 
   pub given_here : (w : Bool) (s : SignatureOf) (a : Asked) → w ≡ q.with_context → s ≡ m.signature → a ≡ asked_for q → (store : List Node) (sorts : Table) (x : Solution)
       → IsGiven w s store sorts a x → IsGiven q.with_context m.signature store sorts (asked_for q) x
@@ -164,7 +166,7 @@ module _ (m : ModuleOf) (q : Query) (ready : IsReady m.signature q) where
     pub grown_same : query_of grown ≡ query_of q
     grown_same = ap (λ o. record (query_of q) { last = o }) (by q.last ready.can.given)
       where
-        by : (o : Option Solution) → IfSome o (CanBeLast q.with_context m.signature q.store q.sorts (asked_for q)) → option_map (found_in store) o ≡ option_map (found_in q.store) o
+        by : (o : Option Solution) → IfSome o (CanBeLast q.with_context m.signature q.store q.sorts (asked_for q)) → option_map (matcher_in store) o ≡ option_map (matcher_in q.store) o
         by None g = refl
         by (Some x) g =
             let there = last_of_store q.with_context m.signature q.store q.sorts (asked_for q) x g in
@@ -183,7 +185,7 @@ module _ (m : ModuleOf) (q : Query) (ready : IsReady m.signature q) (x : Solutio
       by false is = is.one_each
       by true is =
           sym (trees_long q.store x.values) ∙ ap length (sym is.solves.values) ∙ length-map is.solves.bare (norm (theory_at m.signature))
-          ∙ each (assoc_top (theory_at m.signature) (norm (theory_at m.signature) (tree_of q.pattern))) is.solves.bare (found_in q.store x).left (found_in q.store x).right is.solves.solves.0
+          ∙ each (assoc_top (theory_at m.signature) (norm (theory_at m.signature) (tree_of q.pattern))) is.solves.bare (matcher_in q.store x).left (matcher_in q.store x).right is.solves.solves.0
         where
           each : (o : Option ℕ) (vs left right : List Tree) → FitsAt (terms_in m) o (tree_of q.pattern) (reading (theory_at m.signature) (tree_at q.store q.number.0)) vs left right
               → length vs ≡ length (variables (tree_of q.pattern))
@@ -200,7 +202,7 @@ module _ (m : ModuleOf) (q : Query) (ready : IsReady m.signature q) (x : Solutio
         let last = given_is_last q.with_context m.signature q.store q.sorts (asked_for q) x given in
         record {
           lawful = ready.lawful;
-          can = listings_go_on q.with_context m.signature q.store store q.sorts q.sorts extends (λ i e h. h) ready.can.over (asked_for q) (Some x)
+          can = listings_go_on q.with_context m.signature q.store store q.sorts q.sorts extends (kept_same q.sorts) ready.can.over (asked_for q) (Some x)
               (record { askable = ready.can.askable; settled = ready.can.settled; over = ready.can.over; given = last });
           table = table_grown m.signature [] q.store store extends q.sorts ready.table;
           stands = tree_at-extends q.store store q.number.0 extends ready.can.askable.subject.there ∙ ready.stands;
@@ -210,5 +212,5 @@ module _ (m : ModuleOf) (q : Query) (ready : IsReady m.signature q) (x : Solutio
           small = ready.small;
         }
 
-    pub advanced_same : found_in store x ≡ found_in q.store x
+    pub advanced_same : matcher_in store x ≡ matcher_in q.store x
     advanced_same = let there = given_of_store q.with_context m.signature q.store q.sorts (asked_for q) x given in found_same q.store store extends x there.left there.right there.values

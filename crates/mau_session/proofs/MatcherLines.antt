@@ -8,13 +8,13 @@ use Rattle.mau_store.specs.Node.{Node, Extends}
 use Rattle.mau_store.specs.Trees.{trees_at}
 use Rattle.mau_store.specs.View.{numbers}
 use Rattle.mau_store.proofs.Growth.{trees_at-extends}
-use Rattle.mau_api.specs.declared.solution.Solution.{Solution}
-use Rattle.mau_api.specs.Asked.{found_in, IsGiven}
+use Rattle.mau_listing.specs.declared.solution.Solution.{Solution}
+use Rattle.mau_listing.specs.Asked.{matcher_in, IsGiven}
 use Rattle.mau_module.specs.Modules.{ModuleOf}
 use Rattle.mau_session.specs.Terms.{Pairs}
 use Rattle.mau_session.specs.Matching.{numbered_from}
 use Rattle.mau_session.specs.Answers.{substitution_lines, part_lines, matcher_lines}
-use Rattle.mau_session.specs.Query.{id_trees, asked_for, IsReady}
+use Rattle.mau_session.specs.KeptQuery.{id_trees, asked_for, IsReady}
 use Rattle.mau_session.specs.declared.query.Query.{Query}
 use Rattle.mau_session.proofs.Listed.{given_there, given_each}
 
@@ -38,10 +38,10 @@ module _ (m : ModuleOf) (q : Query) (ready : IsReady m.signature q) (x : Solutio
   same_variables = ap (λ n. numbered_from 0 (take n q.vars)) (given_each m q ready x given) ∙ sym ready.numbered
 
   pub matcher_written : (ns : Pairs) (ids : List TermId) (n : ℕ) (o a b c : List ℕ) → ns ≡ q.vars → ids ≡ x.values → n ≡ q.shown + 1 → a ≡ o ++ codes "Matcher " ++ decimal n ++ codes "\n"
-      → b ≡ a ++ part_lines m q.vars q.with_context p (found_in q.store x) → c ≡ b ++ values ids ns
-      → c ≡ o ++ matcher_lines m q.vars q.with_context p (q.shown + 1) (found_in q.store x)
+      → b ≡ a ++ part_lines m q.vars q.with_context p (matcher_in q.store x) → c ≡ b ++ values ids ns
+      → c ≡ o ++ matcher_lines m q.vars q.with_context p (q.shown + 1) (matcher_in q.store x)
   matcher_written ns ids n o a b c same_vars same_ids number first second third =
-      let part = part_lines m q.vars q.with_context p (found_in q.store x) in
+      let part = part_lines m q.vars q.with_context p (matcher_in q.store x) in
       let lines = substitution_lines m q.vars (variables p) (trees_at q.store (numbers x.values)) in
       third
       ∙ ap₂ (λ (w : List ℕ) (vs : List ℕ). w ++ vs) (second ∙ ap (λ w. w ++ part) (first ∙ three_parts o (codes "Matcher ") (decimal n) (codes "\n") ∙ ap (λ n. o ++ heading n) number))

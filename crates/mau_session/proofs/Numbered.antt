@@ -16,7 +16,7 @@ use Rattle.mau_parse.specs.declared.goals.Goal.{Goal}
 use Rattle.mau_parse.specs.Goal.{lowest, highest}
 use Rattle.mau_parse.specs.Parsed.{IsParsed}
 use Rattle.mau_parse.specs.Terms.{pair_at, pairs_in, all_pairs, added, renamed, all_renamed, AreGiven, AllGiven}
-use Rattle.mau_parse.proofs.Trees_given.{tree_given}
+use Rattle.mau_parse.proofs.TreesGiven.{tree_given}
 use Rattle.mau_session.specs.Terms.{Pairs}
 use Rattle.mau_session.specs.Matching.{numbered_from}
 use Rattle.mau_session.proofs.Extending.{Extends, stays, twice, added_extends, kept_place}

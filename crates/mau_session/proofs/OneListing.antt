@@ -6,8 +6,8 @@ use Rattle.std.specs.Ordering.{ordering_reverse}
 use Rattle.std.specs.declared.cmp.Ordering.{Ordering}
 use Rattle.std.specs.declared.cmp.Ordering.TheVariants.{Less, Equal, Greater}
 use Rattle.mau_terms.specs.Tree.{Tree}
-use Rattle.mau_api.specs.Found.{Found}
-use Rattle.mau_api.proofs.Ordered.{found_are_ordered}
+use Rattle.mau_listing.specs.Matcher.{Matcher}
+use Rattle.mau_listing.proofs.Ordered.{matchers_are_ordered}
 use Rattle.mau_module.specs.Modules.{ModuleOf}
 use Rattle.mau_session.specs.Terms.{terms_in}
 use Rattle.mau_session.specs.Matching.{IsSolution, IsBefore, IsBehind, AreFirst, AreAll, class_of, Shows, shows_all, shows_first}
@@ -26,15 +26,15 @@ contains_cases x y xs among = by among.0 among.1 among.2
     by (suc k) h e = inr (k, omega (arith, h), e)
 
 module _ (m : ModuleOf) (w : Bool) (p t : Tree) where
-  never_before : (xs : Found) → IsBefore m p xs xs → ⊥
-  never_before xs h = own_reverse _ ((found_are_ordered (terms_in m).theory p).antisymm xs xs) h
+  never_before : (xs : Matcher) → IsBefore m p xs xs → ⊥
+  never_before xs h = own_reverse _ ((matchers_are_ordered (terms_in m).theory p).antisymm xs xs) h
 
-  not_both : (xs ys : Found) → IsBefore m p xs ys → IsBefore m p ys xs → ⊥
+  not_both : (xs ys : Matcher) → IsBefore m p xs ys → IsBefore m p ys xs → ⊥
   not_both xs ys h k = never_before xs (before_trans m p xs ys xs h k)
 
   -- ---- the rest of a listing
 
-  rest_first : (last : Option Found) (xs : Found) (found : List Found) → AreFirst m w p t last (xs ∷ found) → AreFirst m w p t (Some xs) found
+  rest_first : (last : Option Matcher) (xs : Matcher) (found : List Matcher) → AreFirst m w p t last (xs ∷ found) → AreFirst m w p t (Some xs) found
   rest_first last xs found f = record {
     solutions = All-tail (IsSolution m w p t) xs found f.solutions;
     behind = λ k d h. f.ascending 0 (suc k) d (omega arith) (omega (arith, h));
@@ -47,7 +47,7 @@ module _ (m : ModuleOf) (w : Bool) (p t : Tree) where
         (f.others ys is (behind_trans m p last xs ys (All-head (IsBehind m p last) xs found f.behind) before));
   }
 
-  rest_all : (last : Option Found) (xs : Found) (found : List Found) → AreAll m w p t last (xs ∷ found) → AreAll m w p t (Some xs) found
+  rest_all : (last : Option Matcher) (xs : Matcher) (found : List Matcher) → AreAll m w p t last (xs ∷ found) → AreAll m w p t (Some xs) found
   rest_all last xs found a = record {
     first = rest_first last xs found a.first;
     complete = λ vs left right solves before.
@@ -59,7 +59,7 @@ module _ (m : ModuleOf) (w : Bool) (p t : Tree) where
   -- ---- two listings
 
   -- the first of one is the first of the other, or behind it
-  same_or_behind : (last : Option Found) (xs ys : Found) (f g : List Found) → AreFirst m w p t last (xs ∷ f) → AreFirst m w p t last (ys ∷ g) → (ys ≡ xs) ⊎ IsBefore m p ys xs
+  same_or_behind : (last : Option Matcher) (xs ys : Matcher) (f g : List Matcher) → AreFirst m w p t last (xs ∷ f) → AreFirst m w p t last (ys ∷ g) → (ys ≡ xs) ⊎ IsBefore m p ys xs
   same_or_behind last xs ys f g a b =
       ⊎_elim
       (λ (among : Contains (ys ∷ g) xs).
@@ -67,13 +67,13 @@ module _ (m : ModuleOf) (w : Bool) (p t : Tree) where
       (λ (all : All (λ zs. IsBefore m p zs xs) (ys ∷ g)). inr (All-head (λ zs. IsBefore m p zs xs) ys g all))
       (b.others xs (All-head (IsSolution m w p t) xs f a.solutions) (All-head (IsBehind m p last) xs f a.behind))
 
-  first_same : (last : Option Found) (xs ys : Found) (f g : List Found) → AreFirst m w p t last (xs ∷ f) → AreFirst m w p t last (ys ∷ g) → xs ≡ ys
+  first_same : (last : Option Matcher) (xs ys : Matcher) (f g : List Matcher) → AreFirst m w p t last (xs ∷ f) → AreFirst m w p t last (ys ∷ g) → xs ≡ ys
   first_same last xs ys f g a b =
       ⊎_elim (λ (same : ys ≡ xs). sym same)
       (λ (before : IsBefore m p ys xs). ⊎_elim (λ (same : xs ≡ ys). same) (λ (behind : IsBefore m p xs ys). absurd (not_both xs ys behind before)) (same_or_behind last ys xs g f b a))
       (same_or_behind last xs ys f g a b)
 
-  firsts_same : (last : Option Found) (f g : List Found) → AreFirst m w p t last f → AreFirst m w p t last g → length f ≡ length g → f ≡ g
+  firsts_same : (last : Option Matcher) (f g : List Matcher) → AreFirst m w p t last f → AreFirst m w p t last g → length f ≡ length g → f ≡ g
   firsts_same last [] [] a b e = refl
   firsts_same last [] (ys ∷ g) a b e = absurd (omega (arith, e))
   firsts_same last (xs ∷ f) [] a b e = absurd (omega (arith, e))
@@ -83,7 +83,7 @@ module _ (m : ModuleOf) (w : Bool) (p t : Tree) where
       (firsts_same (Some xs) f g (rest_first last xs f a) (subst (λ zs. AreFirst m w p t (Some zs) g) (sym same) (rest_first last ys g b)) (omega (arith, e)))
 
   -- no listing of first solutions is longer than all
-  none_longer : (last : Option Found) (f g : List Found) → AreAll m w p t last f → AreFirst m w p t last g → length f < length g → ⊥
+  none_longer : (last : Option Matcher) (f g : List Matcher) → AreAll m w p t last f → AreFirst m w p t last g → length f < length g → ⊥
   none_longer last f [] a b h = omega (arith, h)
   none_longer last [] (ys ∷ g) a b h =
       let is = All-head (IsSolution m w p t) ys g b.solutions in
@@ -95,11 +95,11 @@ module _ (m : ModuleOf) (w : Bool) (p t : Tree) where
       let same = first_same last xs ys f g a.first b in
       none_longer (Some xs) f g (rest_all last xs f a) (subst (λ zs. AreFirst m w p t (Some zs) g) (sym same) (rest_first last ys g b)) (omega (arith, h))
 
-  pub record AreOneListing (f g : List Found) (e d : Bool) : Type 0 where
+  pub record AreOneListing (f g : List Matcher) (e d : Bool) : Type 0 where
     pub found : f ≡ g
     pub ended : e ≡ d
 
-  pub shows_once : (last : Option Found) (most : Option ℕ) (f g : List Found) (e d : Bool) → Shows m w p t last most f e → Shows m w p t last most g d → AreOneListing f g e d
+  pub shows_once : (last : Option Matcher) (most : Option ℕ) (f g : List Matcher) (e d : Bool) → Shows m w p t last most f e → Shows m w p t last most g d → AreOneListing f g e d
   shows_once last _ _ _ _ _ (shows_all most f a h) (shows_all most' g b k) =
       let as_long : length f ≡ length g =
       ⊎_elim (λ (low : length f < length g). absurd (none_longer last f g a b.first low))

@@ -8,16 +8,16 @@ use Rattle.mau_terms.specs.Solution.{assoc_top}
 use Rattle.mau_store.specs.Node.{Node}
 use Rattle.mau_store.specs.Trees.{trees_at}
 use Rattle.mau_store.specs.View.{numbers}
-use Rattle.mau_api.specs.declared.solution.Solution.{Solution}
-use Rattle.mau_api.specs.Found.{Found}
-use Rattle.mau_api.specs.Asked.{found_in}
-use Rattle.mau_api.proofs.Growth.{trees_long}
+use Rattle.mau_listing.specs.declared.solution.Solution.{Solution}
+use Rattle.mau_listing.specs.Matcher.{Matcher}
+use Rattle.mau_listing.specs.Asked.{matcher_in}
+use Rattle.mau_listing.proofs.Growth.{trees_long}
 use Rattle.mau_module.specs.Modules.{ModuleOf}
 use Rattle.mau_session.specs.Terms.{Pairs, terms_in}
 use Rattle.mau_session.specs.Shown.{printer_in}
 use Rattle.mau_session.specs.Answers.{is_whole, term_line, context_line, context_lines, right_label, part_lines}
 
-pub whole_same : (nodes : List Node) (x : Solution) → is_whole (found_in nodes x) ≡ ((length x.left == 0) && (length x.right == 0))
+pub whole_same : (nodes : List Node) (x : Solution) → is_whole (matcher_in nodes x) ≡ ((length x.left == 0) && (length x.right == 0))
 whole_same nodes x = ap₂ (λ (m n : ℕ). (m == 0) && (n == 0)) (trees_long nodes x.left) (trees_long nodes x.right)
 
 no_context_lines : (m : ModuleOf) (ns : Pairs) (o : Option ℕ) (left right vs : List Tree) → ((length left == 0) && (length right == 0)) ≡ true
@@ -34,7 +34,7 @@ abbrev the_whole : List ℕ
 the_whole = codes "Matched portion = (whole)\n"
 
 -- the whole has no contexts
-pub whole_lines : (m : ModuleOf) (ns : Pairs) (p : Tree) (x : Found) → is_whole x ≡ true → part_lines m ns true p x ≡ the_whole
+pub whole_lines : (m : ModuleOf) (ns : Pairs) (p : Tree) (x : Matcher) → is_whole x ≡ true → part_lines m ns true p x ≡ the_whole
 whole_lines m ns p x e =
     ap₂ (λ (b : Bool) (more : List ℕ). (if b then the_whole else term_line (printer_in m) ns matched (norm (terms_in m).theory (with_values p x.values))) ++ more) e
     (no_context_lines m ns (assoc_top (terms_in m).theory (norm (terms_in m).theory p)) x.left x.right x.values e)
@@ -48,11 +48,11 @@ module _ (m : ModuleOf) (ns : Pairs) (p : Tree) (old new : List Node) (x : Solut
   contexts left right = context_line m ns op (codes "Left context") left ++ context_line m ns op (right_label ((terms_in m).theory op).comm) right
 
   -- a part is shown, and then its contexts
-  pub part_written : (o a b : List ℕ) → is_whole (found_in old x) ≡ false → assoc_top (terms_in m).theory (norm (terms_in m).theory p) ≡ Some op
+  pub part_written : (o a b : List ℕ) → is_whole (matcher_in old x) ≡ false → assoc_top (terms_in m).theory (norm (terms_in m).theory p) ≡ Some op
       → trees_at new (numbers x.left) ≡ trees_at old (numbers x.left) → trees_at new (numbers x.right) ≡ trees_at old (numbers x.right) → a ≡ o ++ portion
-      → b ≡ a ++ contexts (trees_at new (numbers x.left)) (trees_at new (numbers x.right)) → b ≡ o ++ part_lines m ns true p (found_in old x)
+      → b ≡ a ++ contexts (trees_at new (numbers x.left)) (trees_at new (numbers x.right)) → b ≡ o ++ part_lines m ns true p (matcher_in old x)
   part_written o a b around top l r first rest =
       rest
       ∙ ap₂ (λ w z. w ++ z) first (ap₂ contexts l r)
       ∙ append_assoc o portion (contexts (trees_at old (numbers x.left)) (trees_at old (numbers x.right)))
-      ∙ ap (λ w. o ++ w) (sym (ap₂ (λ (c : Bool) (t : Option ℕ). (if c then the_whole else portion) ++ context_lines m ns t (found_in old x)) around top))
+      ∙ ap (λ w. o ++ w) (sym (ap₂ (λ (c : Bool) (t : Option ℕ). (if c then the_whole else portion) ++ context_lines m ns t (matcher_in old x)) around top))

@@ -2,7 +2,7 @@
 use Rattle.std.proofs.Common.{◌≡◌, ℕ, suc, ◌+◌, ◌<◌, List, [], ◌∷◌, ◌++◌, length, Bool, true, false, Option, None, Some, refl, sym, ap, ap₂, ◌∙◌, subst, arith, append_assoc, append-nil, length-append, add-zero}
 use Rattle.std.specs.Prelude.{unwrap_or}
 use Rattle.mau_terms.specs.Tree.{Tree}
-use Rattle.mau_api.specs.Found.{Found}
+use Rattle.mau_listing.specs.Matcher.{Matcher}
 use Rattle.mau_module.specs.Modules.{ModuleOf}
 use Rattle.mau_session.specs.Terms.{Pairs}
 use Rattle.mau_session.specs.Matching.{AreFewer, last_shown, shows_all, shows_first}
@@ -12,13 +12,13 @@ use Rattle.mau_session.specs.Next.{IsNext, NoneIsBehind, ShowsNext, shows_one, s
 use Rattle.mau_session.proofs.Showing.{AreShown, none_shown, one_shown, all_shown}
 
 pub record IsProgress (m : ModuleOf) (q now : QueryOf) (n : ℕ) (old new : List ℕ) : Type 0 where
-  pub found : List Found
+  pub found : List Matcher
   pub shown : AreShown m q.with_context q.pattern q.subject q.last (last_shown q.last found) found
   pub after : now ≡ shown_more q found
   pub count : length found ≡ n
   pub gained : new ≡ old ++ all_matchers m q.variables q.with_context q.pattern (q.shown + 1) found
 
-matchers-push : (m : ModuleOf) (ns : Pairs) (w : Bool) (p : Tree) (i : ℕ) (found : List Found) (xs : Found)
+matchers-push : (m : ModuleOf) (ns : Pairs) (w : Bool) (p : Tree) (i : ℕ) (found : List Matcher) (xs : Matcher)
     → all_matchers m ns w p i (found ++ xs ∷ []) ≡ all_matchers m ns w p i found ++ matcher_lines m ns w p (i + length found) xs
 matchers-push m ns w p i [] xs = append-nil (matcher_lines m ns w p i xs) ∙ ap (λ k. matcher_lines m ns w p k xs) (sym (add-zero i))
 matchers-push m ns w p i (ys ∷ found) xs =
@@ -57,7 +57,7 @@ module _ (m : ModuleOf) (q : QueryOf) (old : List ℕ) where
             ∙ ap (λ bytes. old ++ bytes) (sym (matchers-push m q.variables q.with_context q.pattern (q.shown + 1) f xs));
       }
 
-  fewer : (most : Option ℕ) (end n : ℕ) (found : List Found) → n < unwrap_or most end → length found ≡ n → AreFewer found most
+  fewer : (most : Option ℕ) (end n : ℕ) (found : List Matcher) → n < unwrap_or most end → length found ≡ n → AreFewer found most
   fewer None end n found h e = tt
   fewer (Some k) end n found h e = omega (arith, h, e)
 

@@ -7,12 +7,14 @@ use Rattle.mau_store.specs.Node.{Node, numeral_node, variable_node, operator_nod
 use Rattle.mau_store.specs.Trees.{tree_at, tree_over}
 use Rattle.mau_store.proofs.Standing.{tree_of_node}
 use Rattle.mau_store.proofs.Numbers.{node_there}
-use Rattle.mau_sorts.specs.Table.{Table, IsSettled, IsReady, IsTreeOver}
+use Rattle.mau_sorts.specs.Table.{Table, IsSettled, IsReady}
+use Rattle.mau_signature.specs.OverSignature.{IsTreeOver}
 use Rattle.mau_sorts.proofs.Settling.{argument_over, is_ready}
-use Rattle.mau_api.specs.Asked.{Asked, IsTreeSettled, IsSettledFor, IsBelow}
-use Rattle.mau_api.specs.Prepared.{HasIdentities}
-use Rattle.mau_api.proofs.Readied.{below_node}
-use Rattle.mau_api.proofs.Stored.{unit_over, argument_number}
+use Rattle.mau_listing.specs.Asked.{Asked, IsTreeSettled, IsSettledFor, IsBelow}
+use Rattle.mau_listing.specs.Prepared.{HasIdentities}
+use Rattle.mau_listing.proofs.Readied.{below_node}
+use Rattle.mau_listing.proofs.Closed.{argument_number}
+use Rattle.mau_listing.proofs.Stored.{unit_over}
 
 module _ (s : SignatureOf) (nodes : List Node) (are : AreNodes nodes) (table : Table) where
   -- a term over the signature is ready, where the older ones are settled

@@ -3,8 +3,8 @@ use Rattle.std.proofs.Common.{◌≡◌, ◌⊎◌, inl, inr, ⊎_elim, suc, Boo
 use Rattle.std.proofs.lemmas.List.Elements.{All-nil, All-head, All-tail, All-push, Contains-append_left, Contains-push}
 use Rattle.std.proofs.lemmas.List.Kept.{AllPairs-cons}
 use Rattle.mau_terms.specs.Tree.{Tree}
-use Rattle.mau_api.specs.Found.{Found}
-use Rattle.mau_api.proofs.Ordered.{found_are_ordered}
+use Rattle.mau_listing.specs.Matcher.{Matcher}
+use Rattle.mau_listing.proofs.Ordered.{matchers_are_ordered}
 use Rattle.mau_module.specs.Modules.{ModuleOf}
 use Rattle.mau_session.specs.Terms.{terms_in}
 use Rattle.mau_session.specs.Matching.{IsSolution, IsBefore, IsBehind, AreFirst, AreAll, class_of, last_shown}
@@ -12,10 +12,10 @@ use Rattle.mau_session.specs.Next.{IsNext, NoneIsBehind}
 
 -- ---- the order
 
-pub before_trans : (m : ModuleOf) (p : Tree) (xs ys zs : Found) → IsBefore m p xs ys → IsBefore m p ys zs → IsBefore m p xs zs
-before_trans m p xs ys zs a b = (found_are_ordered (terms_in m).theory p).trans xs ys zs a b
+pub before_trans : (m : ModuleOf) (p : Tree) (xs ys zs : Matcher) → IsBefore m p xs ys → IsBefore m p ys zs → IsBefore m p xs zs
+before_trans m p xs ys zs a b = (matchers_are_ordered (terms_in m).theory p).trans xs ys zs a b
 
-pub behind_trans : (m : ModuleOf) (p : Tree) (last : Option Found) (xs ys : Found) → IsBehind m p last xs → IsBefore m p xs ys → IsBehind m p last ys
+pub behind_trans : (m : ModuleOf) (p : Tree) (last : Option Matcher) (xs ys : Matcher) → IsBehind m p last xs → IsBefore m p xs ys → IsBehind m p last ys
 behind_trans m p None xs ys a b = tt
 behind_trans m p (Some zs) xs ys a b = before_trans m p zs xs ys a b
 
@@ -31,17 +31,17 @@ All-last : {X : Type 0} (P : X → Type 0) (xs : List X) (x : X) → All P (xs +
 All-last P [] x all = All-head P x [] all
 All-last P (y ∷ xs) x all = All-last P xs x (All-tail P y (xs ++ x ∷ []) all)
 
-last_shown-push : (last : Option Found) (found : List Found) (xs : Found) → last_shown last (found ++ xs ∷ []) ≡ Some xs
+last_shown-push : (last : Option Matcher) (found : List Matcher) (xs : Matcher) → last_shown last (found ++ xs ∷ []) ≡ Some xs
 last_shown-push last [] xs = refl
 last_shown-push last (ys ∷ found) xs = last_shown-push (Some ys) found xs
 
-module _ (m : ModuleOf) (w : Bool) (p t : Tree) (last : Option Found) where
+module _ (m : ModuleOf) (w : Bool) (p t : Tree) (last : Option Matcher) where
   -- found was shown behind `last`, and then `now` is the last one: what comes behind it is what comes behind `last` and all of them
-  pub record AreShown (now : Option Found) (found : List Found) : Type 0 where
+  pub record AreShown (now : Option Matcher) (found : List Matcher) : Type 0 where
     pub first : AreFirst m w p t last found
     pub now_is : last_shown last found ≡ now
-    pub covers : (xs : Found) → IsBehind m p now xs → IsBehind m p last xs × All (λ ys. IsBefore m p ys xs) found
-    pub reaches : (xs : Found) → IsBehind m p last xs → All (λ ys. IsBefore m p ys xs) found → IsBehind m p now xs
+    pub covers : (xs : Matcher) → IsBehind m p now xs → IsBehind m p last xs × All (λ ys. IsBefore m p ys xs) found
+    pub reaches : (xs : Matcher) → IsBehind m p last xs → All (λ ys. IsBefore m p ys xs) found → IsBehind m p now xs
 
   pub none_shown : AreShown last []
   none_shown = record {
@@ -56,7 +56,7 @@ module _ (m : ModuleOf) (w : Bool) (p t : Tree) (last : Option Found) where
     reaches = λ xs behind all. behind;
   }
 
-  pub one_shown : (now : Option Found) (found : List Found) (xs : Found) → AreShown now found → IsNext m w p t now xs → AreShown (Some xs) (found ++ xs ∷ [])
+  pub one_shown : (now : Option Matcher) (found : List Matcher) (xs : Matcher) → AreShown now found → IsNext m w p t now xs → AreShown (Some xs) (found ++ xs ∷ [])
   one_shown now found xs shown next =
       let here = shown.covers xs next.behind in
       record {
@@ -71,7 +71,7 @@ module _ (m : ModuleOf) (w : Bool) (p t : Tree) (last : Option Found) where
         reaches = λ ys behind all. All-last (λ zs. IsBefore m p zs ys) found xs all;
       }
     where
-      by : (ys : Found) → IsSolution m w p t ys → IsBehind m p last ys → Contains found ys ⊎ All (λ zs. IsBefore m p zs ys) found
+      by : (ys : Matcher) → IsSolution m w p t ys → IsBehind m p last ys → Contains found ys ⊎ All (λ zs. IsBefore m p zs ys) found
           → Contains (found ++ xs ∷ []) ys ⊎ All (λ zs. IsBefore m p zs ys) (found ++ xs ∷ [])
       by ys is behind (inl among) = inl (Contains-append_left found (xs ∷ []) ys among)
       by ys is behind (inr all) =
@@ -80,7 +80,7 @@ module _ (m : ModuleOf) (w : Bool) (p t : Tree) (last : Option Found) where
           (λ (same : xs ≡ ys). inl (subst (Contains (found ++ xs ∷ [])) same (Contains-push found xs)))
           (next.least ys is (shown.reaches ys behind all))
 
-  pub all_shown : (now : Option Found) (found : List Found) → AreShown now found → NoneIsBehind m w p t now → AreAll m w p t last found
+  pub all_shown : (now : Option Matcher) (found : List Matcher) → AreShown now found → NoneIsBehind m w p t now → AreAll m w p t last found
   all_shown now found shown none = record {
     first = shown.first;
     complete = λ vs left right solves behind.

@@ -6,7 +6,7 @@ use Rattle.mau_terms.specs.declared.ids.VarId.{VarId}
 use Rattle.mau_terms.specs.Vars.{IsGiven}
 use Rattle.mau_terms.specs.Subst.{Variable}
 use Rattle.mau_session.specs.Terms.{Pairs}
-use Rattle.mau_session.specs.Query.{id_tree, id_trees}
+use Rattle.mau_session.specs.KeptQuery.{id_tree, id_trees}
 use Rattle.mau_store.specs.Node.{Node}
 use Rattle.mau_session.specs.Matching.{numbered_from}
 

@@ -4,7 +4,7 @@ use Rattle.mau_terms.specs.Tree.{Tree}
 use Rattle.mau_terms.specs.Norm.{norm}
 use Rattle.mau_terms.specs.Subst.{Variable, variables, with_values}
 use Rattle.mau_terms.specs.Solution.{assoc_top, over_list}
-use Rattle.mau_api.specs.Found.{Found}
+use Rattle.mau_listing.specs.Matcher.{Matcher}
 use Rattle.mau_tokens.specs.declared.token.TokenFault.{TokenFault}
 use Rattle.mau_tokens.specs.declared.token.TokenFault.TheVariants.{NotUtf8, OpenComment, OpenString, TokenTooLong, NoMemory}
 use Rattle.mau_statement.specs.declared.fault.Limit.{Limit as StatementLimit}
@@ -144,11 +144,11 @@ abbrev pub term_line : PrinterOf → Pairs → List ℕ → Tree → List ℕ
 term_line printer ns label t = label ++ codes " = " ++ shown printer ns t ++ codes "\n"
 
 -- both contexts are empty
-abbrev pub is_whole : Found → Bool
+abbrev pub is_whole : Matcher → Bool
 is_whole x = (length x.left == 0) && (length x.right == 0)
 
 -- the part of the subject that is matched, which is the instance of the pattern p, or that it is the whole
-abbrev pub portion_line : ModuleOf → Pairs → Tree → Found → List ℕ
+abbrev pub portion_line : ModuleOf → Pairs → Tree → Matcher → List ℕ
 portion_line m ns p x =
     if is_whole x then codes "Matched portion = (whole)\n"
     else term_line (printer_in m) ns (codes "Matched portion") (norm (terms_in m).theory (with_values p x.values))
@@ -163,21 +163,21 @@ abbrev pub right_label : Bool → List ℕ
 right_label comm = if comm then codes "Rest" else codes "Right context"
 
 -- the contexts of a solution, where f is the associative operator at the top of the pattern's normal form, if it has one
-abbrev pub context_lines : ModuleOf → Pairs → Option ℕ → Found → List ℕ
+abbrev pub context_lines : ModuleOf → Pairs → Option ℕ → Matcher → List ℕ
 context_lines m ns None x = []
 context_lines m ns (Some f) x = context_line m ns f (codes "Left context") x.left ++ context_line m ns f (right_label ((terms_in m).theory f).comm) x.right
 
 -- what a solution with contexts shows of them, which one without does not
-abbrev pub part_lines : ModuleOf → Pairs → Bool → Tree → Found → List ℕ
+abbrev pub part_lines : ModuleOf → Pairs → Bool → Tree → Matcher → List ℕ
 part_lines m ns false p x = []
 part_lines m ns true p x = portion_line m ns p x ++ context_lines m ns (assoc_top (terms_in m).theory (norm (terms_in m).theory p)) x
 
 -- the solution with the number i, where w says whether it has contexts
-abbrev pub matcher_lines : ModuleOf → Pairs → Bool → Tree → ℕ → Found → List ℕ
+abbrev pub matcher_lines : ModuleOf → Pairs → Bool → Tree → ℕ → Matcher → List ℕ
 matcher_lines m ns w p i x = codes "Matcher " ++ decimal i ++ codes "\n" ++ part_lines m ns w p x ++ substitution_lines m ns (variables p) x.values
 
 -- the solutions, numbered from i on
-abbrev pub all_matchers : ModuleOf → Pairs → Bool → Tree → ℕ → List Found → List ℕ
+abbrev pub all_matchers : ModuleOf → Pairs → Bool → Tree → ℕ → List Matcher → List ℕ
 all_matchers m ns w p i [] = []
 all_matchers m ns w p i (x ∷ found) = matcher_lines m ns w p i x ++ all_matchers m ns w p (i + 1) found
 
@@ -188,7 +188,7 @@ last_line true zero = codes "No match.\n"
 last_line true (suc n) = codes "No more matches.\n"
 
 -- what a listing shows, behind so many solutions that it has shown before
-abbrev pub listing_lines : ModuleOf → Pairs → Bool → Tree → ℕ → List Found → Bool → List ℕ
+abbrev pub listing_lines : ModuleOf → Pairs → Bool → Tree → ℕ → List Matcher → Bool → List ℕ
 listing_lines m ns w p before found ended = all_matchers m ns w p (before + 1) found ++ last_line ended (before + length found)
 
 -- what a command is called whose solutions have contexts, and one whose solutions have none

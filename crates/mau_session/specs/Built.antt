@@ -9,7 +9,7 @@ use Rattle.mau_modtext.specs.declared.raw.CommandKind.{CommandKind}
 use Rattle.mau_modtext.specs.declared.raw.CommandKind.TheVariants.{Match, Xmatch, Continue}
 use Rattle.mau_modtext.specs.declared.raw.TextFault.{TextFault}
 use Rattle.mau_modtext.specs.declared.raw.TextFault.TheVariants.{Unended}
-use Rattle.mau_api.specs.declared.statements.Membership.{Membership}
+use Rattle.mau_program.specs.declared.statements.Membership.{Membership}
 use Rattle.mau_declare.specs.Words.{text_at}
 use Rattle.mau_module.specs.Modules.{ModuleOf}
 use Rattle.mau_session.specs.declared.refusal.Refusal.TheVariants.{NotBuilt}

@@ -4,7 +4,7 @@ use Rattle.mau_terms.specs.Tree.{Tree}
 use Rattle.mau_terms.specs.Norm.{norm}
 use Rattle.mau_canon.specs.declared.fault.BuildFault.TheVariants.{TooDeep, Overflow}
 use Rattle.mau_canon.specs.Within.{IsWithin, IsCause}
-use Rattle.mau_api.specs.Found.{Found}
+use Rattle.mau_listing.specs.Matcher.{Matcher}
 use Rattle.mau_modtext.specs.Word.{Word}
 use Rattle.mau_modtext.specs.declared.raw.RawItem.{RawItem}
 use Rattle.mau_modtext.specs.declared.raw.RawBody.{RawBody}
@@ -24,7 +24,7 @@ use Rattle.mau_session.specs.Transcript.{TermsAnswer, MatchAnswer, ContinueAnswe
 
 -- the bytes gained are the lines of the listing
 pub record GainsListing (m : ModuleOf) (ns : Pairs) (w : Bool) (p t : Tree) (most : Option ℕ) (left : OutcomeOf) (old new : List ℕ) : Type 0 where
-  pub found : List Found
+  pub found : List Matcher
   pub ended : Bool
   pub listing : Shows m w p t None most found ended
   pub leaves : left ≡ left_by ended (shown_more (asked_first w p t ns) found)
@@ -64,7 +64,7 @@ pub record GainsMatch (ws : List Word) (st : StateOf) (k i : ℕ) (c : RawComman
 pub record GainsOn (st : StateOf) (k : ℕ) (g : GoingOf) (most : Option ℕ) (next : StateOf) (old new : List ℕ) (refused : Bool) : Type 0 where
   pub «module» : ModuleOf
   pub there : slice_get st.modules g.number ≡ Some «module»
-  pub found : List Found
+  pub found : List Matcher
   pub ended : Bool
   pub shows : Shows «module» g.query.with_context g.query.pattern g.query.subject g.query.last most found ended
   pub after : next ≡ state_after st g.number (left_by ended (shown_more g.query found))

@@ -1,18 +1,31 @@
+-- What the program answers.
+
+-- ---- what a user of the crate has to read, in this order
+
+-- the terms of commands, how they are read and shown
 pub mod Terms
 pub mod Reading
 pub mod Shown
+-- commands, and what answers them
 pub mod Matching
 pub mod Commands
 pub mod Answers
 pub mod Built
+-- what is kept between items
 pub mod Query
-pub mod Parts
-pub mod Next
 pub mod State
 pub mod Bounds
+-- the bytes of all answers, and the program
 pub mod Transcript
-pub mod Gains
 pub mod Meanings
 pub mod Run
 pub mod Statuses
+-- what is proved of these
 pub mod Laws
+-- ---- what only inner contracts and proofs cite
+
+pub mod Parts
+pub mod Next
+pub mod Gains
+pub mod KeptQuery
+pub mod KeptState

@@ -1,20 +1,15 @@
 -- The state between items: the modules that were accepted, the current one, and what `continue` goes on with.
-use Rattle.std.specs.Prelude.{◌≡◌, ℕ, ◌<◌, Bool, true, false, List, [], ◌∷◌, ◌++◌, length, Option, None, Some, IfSome, slice_get}
-use Rattle.std.specs.Option.{option_map}
+use Rattle.std.specs.Prelude.{◌≡◌, ℕ, Bool, true, false, List, [], ◌∷◌, ◌++◌, length, Option, None, Some}
 use Rattle.mau_tokens.specs.declared.token.Token.{Token}
 use Rattle.mau_modtext.specs.Word.{Word}
 use Rattle.mau_modtext.specs.declared.raw.RawCommand.{RawCommand}
 use Rattle.mau_declare.specs.Words.{token_text, token_index}
 use Rattle.mau_module.specs.Modules.{ModuleOf}
-use Rattle.mau_module.specs.Library.{HasPrelude, last_named, nat}
+use Rattle.mau_module.specs.Library.{last_named, nat}
 use Rattle.mau_module.specs.Prelude.{prelude}
-use Rattle.mau_session.specs.Query.{QueryOf, query_of, IsReady}
+use Rattle.mau_session.specs.Query.{QueryOf}
 use Rattle.mau_session.specs.declared.refusal.Refusal.{Refusal}
 use Rattle.mau_session.specs.declared.refusal.Refusal.TheVariants.{UnknownModule}
-use Rattle.mau_session.specs.declared.state.State.{State}
-use Rattle.mau_session.specs.declared.state.Going.{Going}
-use Rattle.mau_session.specs.declared.state.Outcome.{Outcome}
-use Rattle.mau_session.specs.declared.state.Outcome.TheVariants.{Refused, Ended, GoesOn}
 
 -- what `continue` goes on with: a query over the module with this number
 pub record GoingOf : Type 0 where
@@ -81,34 +76,3 @@ abbrev pub state_after : StateOf → ℕ → OutcomeOf → StateOf
 state_after st i is_refused = st
 state_after st i has_ended = record st { going = None }
 state_after st i (goes_on q) = record st { going = Some (record { number = i; query = q }) }
-
--- ---- what the code keeps
-
-abbrev pub going_of : Going → GoingOf
-going_of g = record { number = g.number; query = query_of g.query }
-
-abbrev pub state_of : State → StateOf
-state_of s = record { modules = s.library; current = s.current; going = option_map going_of s.going }
-
-abbrev pub outcome_of : Outcome → OutcomeOf
-outcome_of Refused = is_refused
-outcome_of Ended = has_ended
-outcome_of (GoesOn q) = goes_on (query_of q)
-
--- the query is ready over the module with a number
-pub record IsReadyAt (ms : List ModuleOf) (g : Going) : Type 0 where
-  pub «module» : ModuleOf
-  pub there : slice_get ms g.number ≡ Some «module»
-  pub ready : IsReady «module».signature g.query
-
--- the modules of the prelude are there, the current module is one, and so is that of what goes on
-pub record IsReadyState (s : State) : Type 0 where
-  pub prelude : HasPrelude s.library
-  pub current : s.current < length s.library
-  pub going : IfSome s.going (IsReadyAt s.library)
-
--- what goes on is ready over a module
-abbrev pub IsReadyOutcome : ModuleOf → Outcome → Type 0
-IsReadyOutcome m Refused = Unit {0}
-IsReadyOutcome m Ended = Unit {0}
-IsReadyOutcome m (GoesOn q) = IsReady m.signature q

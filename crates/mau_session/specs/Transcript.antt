@@ -5,7 +5,7 @@ use Rattle.mau_terms.specs.declared.bare.Bare.{Bare}
 use Rattle.mau_terms.specs.Norm.{norm}
 use Rattle.mau_canon.specs.declared.fault.BuildFault.TheVariants.{TooDeep, Overflow}
 use Rattle.mau_canon.specs.Within.{IsWithin, IsCause}
-use Rattle.mau_api.specs.Found.{Found}
+use Rattle.mau_listing.specs.Matcher.{Matcher}
 use Rattle.mau_tokens.specs.declared.token.Token.{Token}
 use Rattle.mau_tokens.specs.declared.token.TokenFault.{TokenFault}
 use Rattle.mau_tokens.specs.TokensOf.{TokensOf}
@@ -61,7 +61,7 @@ pub data TermsAnswer (ws : List Word) (m : ModuleOf) (k : ℕ) (c : RawCommand) 
       → IsCause (terms_in m).theory (norm (terms_in m).theory (tree_of t)) TooDeep → TermsAnswer ws m k c most has_ended (match_head k (has_context c.kind) m ++ too_deep_line)
   overflows : (p : Bare) (ns : Pairs) (t : Bare) (os : Pairs) → PatternReads ws m c p ns → SubjectReads ws m c p ns t os
       → IsCause (terms_in m).theory (norm (terms_in m).theory (tree_of t)) Overflow → TermsAnswer ws m k c most has_ended (match_head k (has_context c.kind) m ++ overflow_line)
-  listed : (p : Bare) (ns : Pairs) (t : Bare) (os : Pairs) (found : List Found) (ended : Bool) → PatternReads ws m c p ns → SubjectReads ws m c p ns t os
+  listed : (p : Bare) (ns : Pairs) (t : Bare) (os : Pairs) (found : List Matcher) (ended : Bool) → PatternReads ws m c p ns → SubjectReads ws m c p ns t os
       → IsWithin (terms_in m).theory (norm (terms_in m).theory (tree_of t)) → Shows m (has_context c.kind) (tree_of p) (tree_of t) None most found ended
       → TermsAnswer ws m k c most (left_by ended (shown_more (asked_first (has_context c.kind) (tree_of p) (tree_of t) os) found))
       (match_head k (has_context c.kind) m ++ listing_lines m os (has_context c.kind) (tree_of p) 0 found ended)
@@ -85,7 +85,7 @@ pub data MatchAnswer (ws : List Word) (st : StateOf) (k i : ℕ) (c : RawCommand
 pub data ContinueAnswer (ws : List Word) (st : StateOf) (k : ℕ) (c : RawCommand) : StateOf → List ℕ → Bool → Type 0 where
   number_refused : (r : Refusal) → bound_of ws c.bound ≡ Err r → ContinueAnswer ws st k c st (refusal_line k ws r) true
   nothing_to_continue : (most : Option ℕ) → bound_of ws c.bound ≡ Ok most → st.going ≡ None → ContinueAnswer ws st k c st (refusal_line k ws NothingToContinue) true
-  continued : (most : Option ℕ) (g : GoingOf) (m : ModuleOf) (found : List Found) (ended : Bool) → bound_of ws c.bound ≡ Ok most → st.going ≡ Some g
+  continued : (most : Option ℕ) (g : GoingOf) (m : ModuleOf) (found : List Matcher) (ended : Bool) → bound_of ws c.bound ≡ Ok most → st.going ≡ Some g
       → slice_get st.modules g.number ≡ Some m → Shows m g.query.with_context g.query.pattern g.query.subject g.query.last most found ended
       → ContinueAnswer ws st k c (state_after st g.number (left_by ended (shown_more g.query found)))
       (continue_head k m ++ listing_lines m g.query.variables g.query.with_context g.query.pattern g.query.shown found ended) false

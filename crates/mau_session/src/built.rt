@@ -3,9 +3,9 @@ ghost use Rattle.std.specs.Prelude.{◌≡◌, ◌↔◌, true, Ok};
 ghost use Rattle.mau_modtext.specs.declared.raw.RawBody.TheVariants as RawBody;
 ghost use Rattle.mau_session.specs.Built;
 
-use mau_api::Membership;
 use mau_modtext::{CommandKind, ModuleKind, RawBody, RawItem, TextFault};
 use mau_module::Module;
+use mau_program::Membership;
 
 /// Whether modules of this kind are built.
 pub fn is_built_module(kind: ModuleKind) -> bool

@@ -3,9 +3,9 @@ ghost use Rattle.std.specs.Prelude.{◌≡◌, ◌+◌, ◌++◌, ◌<◌, ◌�
 ghost use Rattle.mau_terms.specs.View.{tree_of};
 ghost use Rattle.mau_store.specs.Node.{Extends, IsOf, AreOf};
 ghost use Rattle.mau_store.specs.View.{numbers};
-ghost use Rattle.mau_api.specs.Asked.{found_in, IsGiven};
+ghost use Rattle.mau_listing.specs.Asked.{matcher_in, IsGiven};
 ghost use Rattle.mau_session.specs.Matching.{numbered_from};
-ghost use Rattle.mau_session.specs.Query.{id_tree, id_trees, query_of, asked_for, IsReady};
+ghost use Rattle.mau_session.specs.KeptQuery.{id_tree, id_trees, query_of, asked_for, IsReady};
 ghost use Rattle.mau_session.specs.Answers.{value_line, value_lines, substitution_lines, matcher_lines, last_line};
 ghost use Rattle.mau_session.specs.Next.{ShowsNext, GainsMatchers, GainsShown};
 ghost use Rattle.mau_session.specs.Shown.{printer_in};
@@ -13,8 +13,8 @@ ghost use Rattle.mau_session.specs.Shown.{printer_in};
 use crate::part::write_part;
 use crate::query::Query;
 use crate::show::{printer_of, write_term, write_variable};
-use mau_api::{Lister, Solution};
 use mau_declare::{write_number, write_text};
+use mau_listing::{Lister, Solution};
 use mau_module::Module;
 use mau_print::Printer;
 use mau_store::Store;
@@ -117,7 +117,7 @@ fn show_solution(
     requires given { IsGiven query.old.with_context module.now.signature query.old.store query.old.sorts (asked_for query.old) solution }
     ensures shown { OnOk result (query.new ≡ record query.old { store = query.new.store; last = Some solution; shown = query.old.shown + 1 }) }
     ensures extends { Extends query.old.store query.new.store }
-    ensures gained { OnOk result (out.new.items ≡ out.old.items ++ matcher_lines module.now query.old.vars query.old.with_context (tree_of query.old.pattern) (query.old.shown + 1) (found_in query.old.store solution)) }
+    ensures gained { OnOk result (out.new.items ≡ out.old.items ++ matcher_lines module.now query.old.vars query.old.with_context (tree_of query.old.pattern) (query.old.shown + 1) (matcher_in query.old.store solution)) }
     ensures ready { OnOk result (IsReady module.now.signature query.new) }
 {
     let number = query.shown.checked_add(1).ok_or(NoMemory)?;

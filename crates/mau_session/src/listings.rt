@@ -1,6 +1,6 @@
 //! Which listing answers a query.
 ghost use Rattle.std.specs.Prelude.{OnOk, IfOk};
-ghost use Rattle.mau_session.specs.Query.{query_of, IsReady};
+ghost use Rattle.mau_session.specs.KeptQuery.{query_of, IsReady};
 ghost use Rattle.mau_session.specs.Next.{GainsShown};
 
 use crate::listing::show;

@@ -10,24 +10,25 @@ ghost use Rattle.mau_signature.specs.Signature.{IsOperator, terms_over, theory_a
 ghost use Rattle.mau_store.specs.Node.{Extends, IsOf, Node};
 ghost use Rattle.mau_store.specs.Trees.{tree_at, trees_at};
 ghost use Rattle.mau_store.specs.View.{numbers};
-ghost use Rattle.mau_canon.specs.Within.{IsNumberOf, IsWithin, StandWithin};
-ghost use Rattle.mau_api.specs.Asked.{found_in, IsGiven};
+ghost use Rattle.mau_canon.specs.Standing.{IsNumberOf, StandWithin};
+ghost use Rattle.mau_canon.specs.Within.{IsWithin};
+ghost use Rattle.mau_listing.specs.Asked.{matcher_in, IsGiven};
 ghost use Rattle.mau_session.specs.Answers.{term_line, context_line, part_lines, right_label};
 ghost use Rattle.mau_session.specs.Parts.{IsContext};
-ghost use Rattle.mau_session.specs.Query.{asked_for, IsReady};
+ghost use Rattle.mau_session.specs.KeptQuery.{asked_for, IsReady};
 ghost use Rattle.mau_session.specs.Shown.{printer_in};
 
 use crate::query::Query;
 use crate::show::write_term;
-use mau_api::{Solution, places_of};
 use mau_canon::{BuildFault, build_instance, from_list};
 use mau_declare::write_text;
+use mau_listing::{Solution, places_of};
 use mau_module::Module;
-use mau_plain::variables_of;
 use mau_print::Printer;
 use mau_signature::Signature;
 use mau_store::{NodeView, Store};
 use mau_terms::{Bare, NoMemory, OpId, TermId, Vars};
+use mau_trial::variables_of;
 use std::alloc::Global;
 
 /// Writes a term behind its label.
@@ -203,7 +204,7 @@ fn operator_of(store: &Store, id: TermId) -> OpId
 
 /// Whether a solution matches the whole subject.
 fn is_whole(solution: &Solution) -> bool
-    ensures { (nodes : List Node) → result ≡ Rattle.mau_session.specs.Answers.is_whole (found_in nodes solution.now) }
+    ensures { (nodes : List Node) → result ≡ Rattle.mau_session.specs.Answers.is_whole (matcher_in nodes solution.now) }
 {
     solution.left.items().is_empty() && solution.right.items().is_empty()
 }
@@ -221,7 +222,7 @@ pub fn write_part(
     requires printer { printer.now ≡ printer_in module.now }
     requires ready { IsReady module.now.signature query.old }
     requires given { IsGiven query.old.with_context module.now.signature query.old.store query.old.sorts (asked_for query.old) solution.now }
-    ensures gained { OnOk result (out.new.items ≡ out.old.items ++ part_lines module.now query.old.vars query.old.with_context (tree_of query.old.pattern) (found_in query.old.store solution.now)) }
+    ensures gained { OnOk result (out.new.items ≡ out.old.items ++ part_lines module.now query.old.vars query.old.with_context (tree_of query.old.pattern) (matcher_in query.old.store solution.now)) }
     ensures query { query.new ≡ record query.old { store = query.new.store } }
     ensures extends { Extends query.old.store query.new.store }
 {

@@ -7,11 +7,11 @@ ghost use Rattle.mau_terms.specs.View.{tree_of};
 ghost use Rattle.mau_signature.specs.Signature.{terms_over, theory_at};
 ghost use Rattle.mau_canon.specs.Within.{IsWithin, IsCause};
 ghost use Rattle.mau_session.specs.Matching.{numbered_from};
-ghost use Rattle.mau_session.specs.Query.{query_of, IsReady};
+ghost use Rattle.mau_session.specs.KeptQuery.{query_of, IsReady};
 
 use crate::settled::settle_terms;
-use mau_api::{Solution, put_identities};
 use mau_canon::{BuildFault, build_bare};
+use mau_listing::{Solution, put_identities};
 use mau_signature::Signature;
 use mau_sorts::SortTable;
 use mau_store::Store;

@@ -2,7 +2,8 @@
 ghost use Rattle.std.specs.Prelude.{◌≡◌, ℕ, [], OnOk};
 ghost use Rattle.mau_store.specs.Node.{AreNodes, IsOf};
 ghost use Rattle.mau_store.specs.Trees.{tree_at};
-ghost use Rattle.mau_sorts.specs.Table.{IsSettled, IsReady, AreEntries, AreOver, IsTreeOver, KeepsEntries};
+ghost use Rattle.mau_sorts.specs.Table.{IsSettled, IsReady, AreEntries, AreOver, KeepsEntries};
+ghost use Rattle.mau_signature.specs.OverSignature.{IsTreeOver};
 
 use mau_signature::Signature;
 use mau_sorts::SortTable;

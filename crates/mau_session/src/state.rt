@@ -2,7 +2,8 @@
 ghost use Rattle.std.specs.Prelude.{◌≡◌, ◌<◌, ℕ, length, true, false, slice_get, IfOk, IfErr, OnOk, Some, None};
 ghost use Rattle.mau_module.specs.Modules.{ModuleOf};
 ghost use Rattle.mau_module.specs.Library.{last_named, IsNext};
-ghost use Rattle.mau_session.specs.State.{at_first, accepted, selected, IsChosen, IsUnknown, state_of, state_after, outcome_of, refuses, IsReadyState, IsReadyOutcome};
+ghost use Rattle.mau_session.specs.State.{at_first, accepted, selected, IsChosen, IsUnknown, state_after, refuses};
+ghost use Rattle.mau_session.specs.KeptState.{state_of, outcome_of, IsReadyState, IsReadyOutcome};
 
 use crate::query::Query;
 use crate::refusal::Refusal;

@@ -5,8 +5,8 @@ use Rattle.mau_terms.specs.declared.theory.Identity.{Identity}
 use Rattle.mau_terms.specs.declared.theory.Identity.TheVariants.{Const, Num}
 use Rattle.mau_terms.specs.Norm.{unit_tree}
 use Rattle.mau_terms.specs.Bare.{IsLawful, IsBareIn}
-use Rattle.mau_signature.proofs.Same.{both_true}
 use Rattle.std.proofs.lemmas.Bool.Decides.{nat_tests}
+use Rattle.std.proofs.lemmas.Bool.{and_parts}
 use Rattle.mau_signature.specs.Signature.{SignatureOf, theory_at, terms_over}
 use Rattle.mau_sigcheck.specs.Tuples.{IsInKind}
 use Rattle.mau_sigcheck.specs.Accepted.{Gives, IsStrictlyBelow, GivesBelow, Lowers, HasIdentityOfSort, IsSortOfIdentity, LowersSort, KeepsSorts, result_kind}
@@ -36,7 +36,7 @@ identity_there s n identity id lawful is_id is_some =
   where
     by : (i : Identity) (k : ℕ) → IsBareIn (terms_over s) (unit_tree i) k → IsIdentityOver s i
     by (Const e) k bare =
-        let there = both_true (nat_lt 0 e.0) (nat_le e.0 (length s.declarations)) bare.0 in
+        let there = and_parts (nat_lt 0 e.0) (nat_le e.0 (length s.declarations)) bare.0 in
         let above : nat_lt 0 e.0 ≡ true = there.0 in
         let below : nat_le e.0 (length s.declarations) ≡ true = there.1 in
         (grind (arith, nat_tests), grind (arith, nat_tests))

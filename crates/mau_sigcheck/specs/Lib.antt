@@ -1,5 +1,14 @@
+-- Which signatures are accepted.
+
+-- ---- what a user of the crate has to read, in this order
+
+-- tuples of sorts and kinds
 pub mod Tuples
+-- accepted signatures, and why one is not
 pub mod Accepted
 pub mod Faults
-pub mod Checking
+-- what is proved of these
 pub mod Laws
+-- ---- what only inner contracts and proofs cite
+
+pub mod Checking

@@ -14,8 +14,5 @@ mod walk;
 pub use fault::CheckFault;
 pub use operators::check;
 
-#[cfg(test)]
-mod tests;
-
 /// The greatest number of tuples and triples that are checked for one operator.
 pub const MAX_TUPLES: u64 = 4_000_000;

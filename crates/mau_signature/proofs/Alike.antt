@@ -2,6 +2,7 @@
 use Rattle.std.proofs.Common.{◌≡◌, ℕ, ◌-◌, ◌<◌, ◌≤◌, List, [], ◌∷◌, ◌++◌, Bool, true, false, length, map, get_or, All, refl, sym, ◌∙◌, ap, subst, arith}
 use Rattle.std.proofs.lemmas.List.Elements.{All-nil, All-cons, All-map, All-filter, All-same, All-head, All-tail, All-get_or, filter_passes}
 use Rattle.std.proofs.lemmas.List.{length-map}
+use Rattle.std.proofs.lemmas.Bool.{or_parts}
 use Rattle.mau_poset.specs.Order.{Hierarchy, kind_of}
 use Rattle.mau_signature.specs.declared.decl.Decl.{Decl}
 use Rattle.mau_signature.specs.declared.operator.Entry.{Entry}
@@ -12,7 +13,7 @@ use Rattle.mau_signature.specs.Signature.{SignatureOf, IsAlike, IsOperator}
 use Rattle.mau_signature.specs.Faults.{Given, IsFaultless, no_declaration, one_more, has_wrong_arity, has_other_kind, mismatches_kind, is_at_fault}
 use Rattle.mau_signature.specs.Kinds.{HaveOneKind}
 use Rattle.mau_signature.specs.Built.{AreAlike, declarations_in}
-use Rattle.mau_signature.proofs.Same.{same_operator-is, either_false}
+use Rattle.mau_signature.proofs.Same.{same_operator-is}
 use Rattle.mau_signature.proofs.KindLemmas.{HaveOneKind-end}
 use Rattle.mau_signature.proofs.Grouped.{passes, fails}
 use Rattle.mau_signature.proofs.Whole.{few_arguments}
@@ -20,7 +21,7 @@ use Rattle.mau_signature.proofs.Whole.{few_arguments}
 -- ---- results
 
 right_kind : (g : Given) (earlier : List Decl) (d : Decl) → is_at_fault g earlier d ≡ false → has_other_kind g.hierarchy earlier (kind_of g.hierarchy d.result) ≡ false
-right_kind g earlier d e = (either_false (mismatches_kind g earlier d) _ ((either_false (has_wrong_arity d) _ e).1)).0
+right_kind g earlier d e = (or_parts (mismatches_kind g earlier d) _ ((or_parts (has_wrong_arity d) _ e).1)).0
 
 step_kinds : (g : Given) (f : Operator) (ds : List Decl) (d : Decl) → HaveOneKind g.hierarchy (declarations_of g.hierarchy ds f) → is_at_fault g (declarations_of g.hierarchy ds (operator_of g.hierarchy d)) d ≡ false → HaveOneKind g.hierarchy (declarations_of g.hierarchy (ds ++ d ∷ []) f)
 step_kinds g f ds d one e = by (same_operator f (operator_of h d)) refl

@@ -6,7 +6,8 @@ use Rattle.mau_signature.specs.declared.fault.SigFault.TheVariants.{KindMismatch
 use Rattle.mau_signature.specs.Names.{operator_of, declarations_of}
 use Rattle.mau_signature.specs.Faults.{Given, has_wrong_arity, mismatches_kind, conflicts, has_bad_strategy, lacks_identity, is_at_fault, IsFaultless, no_declaration, one_more, HasWrongArity, MismatchesKind, Conflicts, HasBadStrategy, LacksIdentity, IsFirstAtFault}
 use Rattle.mau_signature.specs.Judged.{fault_of, IsFirstFault}
-use Rattle.mau_signature.specs.Laws.{IsFaultOf, FaultsAreOne, FaultlessHaveNone}
+use Rattle.mau_signature.specs.FaultOf.{IsFaultOf}
+use Rattle.mau_signature.specs.Laws.{FaultsAreOne, FaultlessHaveNone}
 use Rattle.mau_signature.proofs.Causes.{tried, IsCause, CauseIn}
 
 -- ---- lists that are one, split at two places

@@ -4,6 +4,7 @@ use Rattle.std.specs.Prelude.{filter, fold, position}
 use Rattle.std.proofs.lemmas.List.{length-map}
 use Rattle.std.specs.List.{list_any, position_or_len}
 use Rattle.std.proofs.lemmas.List.Elements.{filter-append, All-head, All-tail, All-nil, All-same, All-replicate, All-push, All-set}
+use Rattle.std.proofs.lemmas.Bool.{or_parts}
 use Rattle.mau_poset.specs.Order.{Hierarchy, kind_of}
 use Rattle.mau_signature.specs.declared.decl.Decl.{Decl}
 use Rattle.mau_signature.specs.Names.{Operator, operator_of, same_operator, with_operator, operators_of, declarations_of, place_of}
@@ -15,7 +16,7 @@ use Rattle.mau_signature.specs.Judged.{fault_among, fault_of}
 use Rattle.mau_signature.proofs.Causes.{not_at_fault}
 use Rattle.mau_signature.proofs.KindLemmas.{HaveOneKind-end}
 use Rattle.mau_signature.specs.Kinds.{HaveOneKind}
-use Rattle.mau_signature.proofs.Same.{same_operator-is, same_operator_itself, same_operator_back, either_false}
+use Rattle.mau_signature.proofs.Same.{same_operator-is, same_operator_itself, same_operator_back}
 
 -- where the groups stand after the declarations that are done
 pub record IsGrouped (g : Given) (fs : List Operator) (done : List Decl) (held : List (List Decl)) (count : ℕ) (rest : List Decl) : Type 0 where
@@ -37,7 +38,7 @@ fails p xs x h = filter-append p xs (x ∷ []) ∙ ap (λ b. filter p xs ++ (if 
 others_stay : (h : Hierarchy) (done : List Decl) (d : Decl) (fs : List Operator) → list_any (same_operator (operator_of h d)) fs ≡ false → map (declarations_of h (done ++ d ∷ [])) fs ≡ map (declarations_of h done) fs
 others_stay h done d [] e = refl
 others_stay h done d (f ∷ fs) e =
-    let p = either_false (same_operator (operator_of h d) f) (list_any (same_operator (operator_of h d)) fs) e in
+    let p = or_parts (same_operator (operator_of h d) f) (list_any (same_operator (operator_of h d)) fs) e in
     ap₂ (λ x xs. x ∷ xs)
     (fails (λ x. same_operator f (operator_of h x)) done d (same_operator_back (operator_of h d) f p.0))
     (others_stay h done d fs p.1)

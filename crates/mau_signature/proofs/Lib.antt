@@ -1,3 +1,4 @@
+pub mod Operators
 pub mod Same
 pub mod United
 pub mod KindLemmas
@@ -10,3 +11,4 @@ pub mod Lows
 pub mod Alike
 pub mod Settled
 pub mod Lawful
+pub mod OverSignature

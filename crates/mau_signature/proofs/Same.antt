@@ -8,6 +8,7 @@ use Rattle.std.specs.Cmp.Lexicographic.{pointwise}
 use Rattle.std.specs.Str.{bytes_eq}
 use Rattle.std.proofs.lemmas.Bool.Decides.{Decides-eqb}
 use Rattle.std.proofs.lemmas.Slice.Eq.{bytes_eq-Decides, slice_eq-Decides}
+use Rattle.std.proofs.lemmas.Bool.{and_parts, or_parts}
 use Rattle.mau_signature.specs.declared.form.Piece.{Piece}
 use Rattle.mau_signature.specs.declared.form.Piece.TheVariants.{Hole, Word}
 use Rattle.mau_signature.specs.declared.names.Key.{Key}
@@ -15,14 +16,6 @@ use Rattle.mau_signature.specs.Form.{same_piece, same_form}
 use Rattle.mau_signature.specs.Names.{Operator, same_operator, with_operator}
 use Rattle.mau_signature.specs.Keys.{piece_of, pieces_of, operator_of_key}
 use Rattle.mau_signature.specs.Distinct.{AreDistinct}
-
-pub both_true : (a b : Bool) → (a && b) ≡ true → (a ≡ true) × (b ≡ true)
-both_true true b e = (refl, e)
-both_true false b e = cc
-
-pub either_false : (a b : Bool) → (a || b) ≡ false → (a ≡ false) × (b ≡ false)
-either_false true b e = cc
-either_false false b e = (refl, e)
 
 -- ---- pieces and forms
 
@@ -52,8 +45,8 @@ an_operator form arguments constant = record { form = form; arguments = argument
 
 pub same_operator-is : (f g : Operator) → same_operator f g ≡ true → f ≡ g
 same_operator-is f g e =
-    let p = both_true (same_form f.form g.form) (pointwise nat_eq f.arguments g.arguments && option_eq nat_eq f.constant g.constant) e in
-    let q = both_true (pointwise nat_eq f.arguments g.arguments) (option_eq nat_eq f.constant g.constant) p.1 in
+    let p = and_parts (same_form f.form g.form) (pointwise nat_eq f.arguments g.arguments && option_eq nat_eq f.constant g.constant) e in
+    let q = and_parts (pointwise nat_eq f.arguments g.arguments) (option_eq nat_eq f.constant g.constant) p.1 in
     let a = (same_form-Decides f.form g.form).0 p.0 in
     let b = (numbers-Decides f.arguments g.arguments).0 q.0 in
     let c = (option-Decides f.constant g.constant).0 q.1 in
@@ -76,13 +69,13 @@ same_operator_back f g e = by (same_operator g f) refl
 none_at_end : (f : Operator) (fs : List Operator) (g : Operator) → list_any (same_operator f) fs ≡ false → same_operator f g ≡ false → list_any (same_operator f) (fs ++ g ∷ []) ≡ false
 none_at_end f [] g h k = ap (λ b. b || false) k
 none_at_end f (x ∷ fs) g h k =
-    let p = either_false (same_operator f x) (list_any (same_operator f) fs) h in
+    let p = or_parts (same_operator f x) (list_any (same_operator f) fs) h in
     ap₂ (λ a b. a || b) p.0 (none_at_end f fs g p.1 k)
 
 distinct_end : (fs : List Operator) (g : Operator) → AreDistinct fs → list_any (same_operator g) fs ≡ false → AreDistinct (fs ++ g ∷ [])
 distinct_end [] g d h = (refl, tt)
 distinct_end (f ∷ fs) g d h =
-    let p = either_false (same_operator g f) (list_any (same_operator g) fs) h in
+    let p = or_parts (same_operator g f) (list_any (same_operator g) fs) h in
     (none_at_end f fs g d.0 (same_operator_back g f p.0), distinct_end fs g d.1 p.1)
 
 pub AreDistinct-with : (fs : List Operator) (g : Operator) → AreDistinct fs → AreDistinct (with_operator fs g)

@@ -3,6 +3,7 @@ use Rattle.std.proofs.Common.{◌≡◌, ℕ, nat_eq, List, [], ◌∷◌, ◌++
 use Rattle.std.specs.Prelude.{is_some}
 use Rattle.std.specs.Option.{option_map}
 use Rattle.std.proofs.lemmas.List.Elements.{All-head, All-tail, All-nil, All-cons}
+use Rattle.std.proofs.lemmas.Bool.{and_parts, or_parts}
 use Rattle.mau_poset.specs.Order.{Hierarchy, kind_of}
 use Rattle.mau_signature.specs.declared.attributes.Attrs.{Attrs}
 use Rattle.mau_signature.specs.declared.decl.Decl.{Decl}
@@ -10,7 +11,7 @@ use Rattle.mau_signature.specs.Names.{Operator, operator_of, same_operator, oper
 use Rattle.mau_signature.specs.Attributes.{first_given, unite, united, has_two_values}
 use Rattle.mau_signature.specs.Signature.{result_of}
 use Rattle.mau_signature.specs.Faults.{Given, AreNumerals, is_text, is_successor, successor, IsFaultless, no_declaration, one_more, is_at_fault, mismatches_kind, conflicts, has_bad_strategy, lacks_identity, has_wrong_arity, has_other_kind, is_pair_of_one, is_in_one_kind, kinds_suit, gather_suits, frozen_suits, attributes_suit, is_identity_in}
-use Rattle.mau_signature.proofs.Same.{both_true, either_false, numbers-Decides, same_operator-is}
+use Rattle.mau_signature.proofs.Same.{numbers-Decides, same_operator-is}
 use Rattle.mau_signature.proofs.KindLemmas.{not_false}
 use Rattle.mau_signature.proofs.United.{united-end}
 use Rattle.mau_signature.proofs.Grouped.{passes, fails}
@@ -55,14 +56,14 @@ faultless_is_right : (g : Given) (earlier : List Decl) (d : Decl) → is_at_faul
 faultless_is_right g earlier d e =
     let h : Hierarchy = g.hierarchy in
     let a : Attrs = unite (united earlier) d.attrs in
-    let p = either_false (has_wrong_arity d) _ e in
-    let q = either_false (mismatches_kind g earlier d) _ p.1 in
-    let r = either_false (conflicts g earlier d) _ q.1 in
-    let t = either_false (has_bad_strategy earlier d) (lacks_identity g earlier d) r.1 in
-    let suit : attributes_suit h a d ≡ true = not_false (attributes_suit h a d) ((either_false (has_two_values (united earlier) d.attrs) (not (attributes_suit h a d)) r.0).1) in
+    let p = or_parts (has_wrong_arity d) _ e in
+    let q = or_parts (mismatches_kind g earlier d) _ p.1 in
+    let r = or_parts (conflicts g earlier d) _ q.1 in
+    let t = or_parts (has_bad_strategy earlier d) (lacks_identity g earlier d) r.1 in
+    let suit : attributes_suit h a d ≡ true = not_false (attributes_suit h a d) ((or_parts (has_two_values (united earlier) d.attrs) (not (attributes_suit h a d)) r.0).1) in
     record {
       kind = q.0;
-      kinds = (both_true (kinds_suit h a d) (gather_suits (length d.args) a.gather && frozen_suits a.assoc (length d.args) a.frozen) suit).0;
+      kinds = (and_parts (kinds_suit h a d) (gather_suits (length d.args) a.gather && frozen_suits a.assoc (length d.args) a.frozen) suit).0;
       identity = not_false (is_identity_in h (operators_of h g.declarations) g.numerals (kind_of h d.result) a.id) t.1;
     }
 
@@ -91,14 +92,14 @@ kind_before h [] d e s = cc
 kind_before h (x ∷ group) d e s =
     eqb-true (kind_of h x.result) (kind_of h d.result)
     (not_false (nat_eq (kind_of h x.result) (kind_of h d.result))
-    ((either_false (not (nat_eq (kind_of h x.result) (kind_of h d.result))) (has_other_kind h group (kind_of h d.result)) e).0))
+    ((or_parts (not (nat_eq (kind_of h x.result) (kind_of h d.result))) (has_other_kind h group (kind_of h d.result)) e).0))
 
 kind_at_end : (h : Hierarchy) (group : List Decl) (d : Decl) → has_other_kind h group (kind_of h d.result) ≡ false → kind_of h (result_of (group ++ d ∷ [])) ≡ kind_of h d.result
 kind_at_end h [] d e = refl
 kind_at_end h (x ∷ group) d e =
     eqb-true (kind_of h x.result) (kind_of h d.result)
     (not_false (nat_eq (kind_of h x.result) (kind_of h d.result))
-    ((either_false (not (nat_eq (kind_of h x.result) (kind_of h d.result))) (has_other_kind h group (kind_of h d.result)) e).0))
+    ((or_parts (not (nat_eq (kind_of h x.result) (kind_of h d.result))) (has_other_kind h group (kind_of h d.result)) e).0))
 
 one_settled : (h : Hierarchy) (fs : List Operator) (numerals : Option (ℕ × ℕ)) (f : Operator) (group : List Decl) (d : Decl) →
     AreSettled h fs numerals f group → IsRight h fs numerals group d → IsSuccessorRight h numerals d → f.arguments ≡ map (kind_of h) d.args →
@@ -106,9 +107,9 @@ one_settled : (h : Hierarchy) (fs : List Operator) (numerals : Option (ℕ × �
 one_settled h fs numerals f group d before right successor_right kinds_are =
     let a : Attrs = unite (united group) d.attrs in
     let k : ℕ = kind_of h d.result in
-    let p = both_true (if a.assoc then is_in_one_kind h d else true)
+    let p = and_parts (if a.assoc then is_in_one_kind h d else true)
     ((if a.comm then is_pair_of_one (map (kind_of h) d.args) else true) && (if is_some a.id then is_in_one_kind h d else true)) right.kinds in
-    let q = both_true (if a.comm then is_pair_of_one (map (kind_of h) d.args) else true) (if is_some a.id then is_in_one_kind h d else true) p.1 in
+    let q = and_parts (if a.comm then is_pair_of_one (map (kind_of h) d.args) else true) (if is_some a.id then is_in_one_kind h d else true) p.1 in
     record {
       assoc = λ e. kinds_are ∙ one_kind h d (if_so a.assoc (is_in_one_kind h d) p.0 e);
       comm = λ e. let pair = pair_of_one (map (kind_of h) d.args) (if_so a.comm (is_pair_of_one (map (kind_of h) d.args)) q.0 e) in (pair.0, kinds_are ∙ pair.1);

@@ -5,6 +5,7 @@ use Rattle.std.specs.List.{list_any}
 use Rattle.std.proofs.lemmas.List.{length-map}
 use Rattle.std.proofs.lemmas.Bool.Decides.{nat_tests}
 use Rattle.std.proofs.lemmas.List.Elements.{All-map, All-nil, All-push, All-same, All-filter, All-weaker, All-head, All-tail}
+use Rattle.std.proofs.lemmas.Bool.{or_parts}
 use Rattle.mau_poset.specs.Order.{Hierarchy, kind_of}
 use Rattle.mau_signature.specs.declared.decl.Decl.{Decl}
 use Rattle.mau_signature.specs.declared.operator.Entry.{Entry}
@@ -13,7 +14,7 @@ use Rattle.mau_signature.specs.Names.{Operator, operator_of, same_operator, with
 use Rattle.mau_signature.specs.Faults.{Given, HasSorts, IsSort, AreNumerals, IsFaultless, no_declaration, one_more, has_wrong_arity, is_at_fault}
 use Rattle.mau_signature.specs.Signature.{SignatureOf, signature_of}
 use Rattle.mau_signature.specs.Built.{HasZero, HasOthers, declarations_in}
-use Rattle.mau_signature.proofs.Same.{same_operator_itself, either_false}
+use Rattle.mau_signature.proofs.Same.{same_operator_itself}
 
 abbrev pub HasFewArguments : Decl → Type 0
 HasFewArguments d = length d.args ≤ 16
@@ -23,8 +24,8 @@ not_more n e = grind (arith, nat_tests)
 
 no_wrong_arity : (g : Given) (earlier : List Decl) (d : Decl) → is_at_fault g earlier d ≡ false → HasFewArguments d
 no_wrong_arity g earlier d e =
-    let right : has_wrong_arity d ≡ false = (either_false (has_wrong_arity d) _ e).0 in
-    not_more (length d.args) ((either_false (nat_lt 16 (length d.args)) _ right).0)
+    let right : has_wrong_arity d ≡ false = (or_parts (has_wrong_arity d) _ e).0 in
+    not_more (length d.args) ((or_parts (nat_lt 16 (length d.args)) _ right).0)
 
 pub few_arguments : (g : Given) (ds : List Decl) → IsFaultless g ds → All HasFewArguments ds
 few_arguments g _ no_declaration = All-nil HasFewArguments

@@ -2,11 +2,11 @@
 use Rattle.std.specs.Prelude.{◌≡◌, ℕ, ◌≤◌, Some, All}
 use Rattle.mau_terms.specs.Norm.{greatest_numeral}
 use Rattle.mau_terms.specs.Bare.{IsLawful}
+use Rattle.mau_signature.specs.FaultOf.{IsFaultOf}
 use Rattle.mau_signature.specs.declared.attributes.IdSpec.TheVariants.{Num}
 use Rattle.mau_signature.specs.declared.decl.Decl.{Decl}
 use Rattle.mau_signature.specs.declared.fault.SigFault.{SigFault}
-use Rattle.mau_signature.specs.declared.fault.SigFault.TheVariants.{KindMismatch, AttrConflict, BadStrat, IdNotConstant, Arity, NoMemory}
-use Rattle.mau_signature.specs.Faults.{Given, AreNumerals, IsFaultless, HasWrongArity, MismatchesKind, Conflicts, HasBadStrategy, LacksIdentity, IsFirstAtFault}
+use Rattle.mau_signature.specs.Faults.{Given, AreNumerals, IsFaultless}
 use Rattle.mau_signature.specs.Signature.{signature_of, terms_over}
 
 -- where the identity is a numeral, it has at most 128 bits
@@ -20,15 +20,6 @@ FaultlessAreLawful =
     IsFaultless g g.declarations → IsLawful (terms_over (signature_of g.hierarchy g.declarations g.numerals))
 
 -- ---- faults
-
--- the first declaration at fault is the one that is named, with this as its first fault
-abbrev pub IsFaultOf : Given → SigFault → Type 0
-IsFaultOf g (Arity i) = IsFirstAtFault g HasWrongArity i
-IsFaultOf g (KindMismatch i) = IsFirstAtFault g (MismatchesKind g) i
-IsFaultOf g (AttrConflict i) = IsFirstAtFault g (Conflicts g) i
-IsFaultOf g (BadStrat i) = IsFirstAtFault g (HasBadStrategy g) i
-IsFaultOf g (IdNotConstant i) = IsFirstAtFault g (LacksIdentity g) i
-IsFaultOf g NoMemory = ⊥
 
 -- declarations have one fault at most
 abbrev pub FaultsAreOne : Type 0

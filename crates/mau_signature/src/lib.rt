@@ -2,6 +2,7 @@
 #![tactic(auto)]
 
 mod attributes;
+mod bare;
 mod build;
 mod decl;
 mod fault;
@@ -16,6 +17,7 @@ mod signature;
 mod terms;
 
 pub use attributes::{Attrs, Gather, IdSpec};
+pub use bare::is_bare;
 pub use decl::Decl;
 pub use fault::SigFault;
 pub use form::{Form, Piece};
@@ -26,6 +28,3 @@ pub const MAX_DECLARATIONS: usize = 1_100_000;
 
 /// The greatest number of arguments of an operator.
 pub const MAX_ARITY: usize = 16;
-
-#[cfg(test)]
-mod tests;

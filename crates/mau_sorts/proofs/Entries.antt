@@ -1,6 +1,6 @@
 -- Tables of sorts: what an entry says of its term, by the entries of the arguments.
 use Rattle.std.proofs.Common.{◌≡◌, ◌<◌, ◌+◌, ℕ, zero, suc, List, [], ◌∷◌, ◌++◌, ⊎_elim, inl, inr, length, map, take, get_or, refl, sym, ap, ◌∙◌, subst, arith}
-use Rattle.std.specs.Prelude.{◌↔◌, ◌⊎◌, ◌≢◌, All, Bool, true, false, Option, Some, None, is_some}
+use Rattle.std.specs.Prelude.{◌↔◌, ◌⊎◌, ◌≢◌, All, Bool, true, false, Option, Some, None, is_some, slice_index_or}
 use Rattle.std.specs.Bool.{MatchBool}
 use Rattle.std.proofs.lemmas.Bool.{cases_eq}
 use Rattle.std.proofs.lemmas.List.{take_more, get_or-map, map-append}
@@ -23,7 +23,7 @@ use Rattle.mau_sorts.proofs.Derivations.{Gives-same}
 
 -- ---- entries
 
-pub entry_push : (t : Table) (j : ℕ) → entry_at (t ++ None ∷ []) j ≡ entry_at t j
+pub entry_push : (t : List (Option SortsOf)) (j : ℕ) → slice_index_or (t ++ None ∷ []) j None ≡ slice_index_or t j None
 entry_push [] zero = refl
 entry_push [] (suc j) = refl
 entry_push (x ∷ t) zero = refl

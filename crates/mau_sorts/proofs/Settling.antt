@@ -1,15 +1,20 @@
 -- Settling a term with all that is below it.
-use Rattle.std.proofs.Common.{◌≡◌, ◌<◌, ◌≤◌, ℕ, zero, suc, List, [], ◌∷◌, length, map, get_or, refl, sym, ap, ◌∙◌, subst, below_more, ◌+◌, arith}
-use Rattle.std.specs.Prelude.{All, Some, is_some, slice_get}
+use Rattle.std.proofs.Common.{◌≡◌, ◌<◌, ◌≤◌, ℕ, zero, suc, List, [], ◌∷◌, ◌++◌, length, map, get_or, refl, sym, ap, ◌∙◌, subst, below_more, ◌+◌, set, get_or-set_same, get_or-set_other, Option, None, arith, append-nil, append_assoc, inl, inr}
+use Rattle.std.specs.Prelude.{◌≢◌, ◌⊎◌, All, AllPairs, Contains, Some, true, false, is_some, slice_get}
+use Rattle.std.proofs.lemmas.Bool.{cases_eq}
+use Rattle.std.proofs.lemmas.List.Elements.{Contains-append_left, Contains-append_right, Contains-append_cases}
+use Rattle.std.proofs.lemmas.List.Quantifiers.{all_pairs_push}
 use Rattle.std.proofs.lemmas.List.{get_or_default}
 use Rattle.mau_terms.specs.Tree.{Tree, trees_of}
 use Rattle.mau_terms.proofs.Pieces.{list_of-trees_of}
 use Rattle.mau_signature.specs.Signature.{SignatureOf}
 use Rattle.mau_store.specs.Node.{Node, numeral_node, variable_node, operator_node, arguments, IsOf}
 use Rattle.mau_store.specs.Trees.{tree_over, tree_at}
+use Rattle.mau_sorts.specs.SortSets.{SortsOf}
 use Rattle.mau_sorts.specs.HasSort.{Known}
 use Rattle.mau_sorts.proofs.Entries.{settled_entry}
-use Rattle.mau_sorts.specs.Table.{Table, entry_at, IsSettled, AreEntries, IsNodeOver, IsReady, AreSame, KeepsEntries, IsTreeOver, AreTreesOver, IsKnownOf}
+use Rattle.mau_sorts.specs.Table.{Table, kept_in, entry_at, IsSettled, AreEntries, IsNodeOver, IsReady, AreSame, KeepsEntries, Settles, IsOrdered, IsKnownOf}
+use Rattle.mau_signature.specs.OverSignature.{IsTreeOver, AreTreesOver}
 
 map_length : (g : ℕ → Tree) (ids : List ℕ) → length (map g ids) ≡ length ids
 map_length g [] = refl
@@ -55,9 +60,62 @@ is_ready s nodes t i n there at_i tree over settled = record {
 pub nothing_known : (t : Tree) → IsKnownOf [] t []
 nothing_known t r = (λ among. absurd (let below : among.0 < 0 = among.1 in omega arith), λ among. absurd (let below : among.0 < 0 = among.1 in omega arith))
 
+-- ---- tables that grow
+
+pub kept_same : (t : Table) → KeepsEntries t t
+kept_same t = record { entries = λ i e at_i. at_i; order = ([], sym (append-nil t.order)) }
+
+pub kept_on : (a b c : Table) → KeepsEntries a b → KeepsEntries b c → KeepsEntries a c
+kept_on a b c first second = record {
+  entries = λ i e at_i. second.entries i e (first.entries i e at_i);
+  order = (first.order.0 ++ second.order.0, second.order.1 ∙ ap (λ xs. xs ++ second.order.0) first.order.1 ∙ append_assoc a.order first.order.0 second.order.0);
+}
+
+-- one more is settled
+pub kept_settled : (old new : Table) (i : ℕ) → ¬ IsSettled old i → Settles old new i → KeepsEntries old new
+kept_settled old new i un more = record {
+  entries = λ j e at_j. more.others j (λ same. un (subst (IsSettled old) same (ap is_some at_j))) ∙ at_j;
+  order = (i ∷ [], more.order);
+}
+
+pub kept_unchanged : (old new : Table) → AreSame old new → KeepsEntries old new
+kept_unchanged old new same = record { entries = λ i e at_i. same.entries i ∙ at_i; order = ([], same.order ∙ sym (append-nil old.order)) }
+
+-- an order with one more
+pub ordered_more : (old new : Table) (i : ℕ) → ¬ IsSettled old i → Settles old new i → IsOrdered old → IsOrdered new
+ordered_more old new i un more was = record {
+  settled = λ j. (forth j (cases_eq j i), back j);
+  once = subst (AllPairs (λ j k. j ≢ k)) (sym more.order) (all_pairs_push (λ j k. j ≢ k) old.order i was.once apart);
+}
+  where
+    forth : (j : ℕ) → (j ≡ i) ⊎ (j ≡ i → ⊥) → IsSettled new j → Contains new.order j
+    forth j (inl e) s = subst (λ xs. Contains xs j) (sym more.order) (Contains-append_right old.order (i ∷ []) j (0, omega arith, sym e))
+    forth j (inr e) s =
+        let other : entry_at new j ≡ entry_at old j = more.others j e in
+        subst (λ xs. Contains xs j) (sym more.order) (Contains-append_left old.order (i ∷ []) j ((was.settled j).0 (ap is_some (sym other) ∙ s)))
+
+    among : (j : ℕ) → Contains old.order j ⊎ Contains (i ∷ []) j → IsSettled new j
+    among j (inl x) = let s = (was.settled j).1 x in ap is_some (more.others j (λ same. un (subst (IsSettled old) same s))) ∙ s
+    among j (inr w) = let z : w.0 ≡ 0 = omega (arith, w.1) in subst (IsSettled new) (ap (λ k. get_or (i ∷ []) k j) (sym z) ∙ w.2) more.settled
+
+    back : (j : ℕ) → Contains new.order j → IsSettled new j
+    back j x = among j (Contains-append_cases old.order (i ∷ []) j (subst (λ xs. Contains xs j) more.order x))
+
+    apart : (k : ℕ) (d : ℕ) → k < length old.order → get_or old.order k d ≢ i
+    apart k d h same = un ((was.settled i).1 (k, h, get_or_default old.order k i d h ∙ same))
+
+-- the table after one more entry
+pub one_settled : (xs ys : List (Option SortsOf)) (before after : List ℕ) (i : ℕ) (e : SortsOf) → i < length ys → ((j : ℕ) → get_or ys j None ≡ get_or xs j None) → after ≡ before ++ i ∷ []
+    → Settles (kept_in xs before) (kept_in (set ys i (Some e)) after) i
+one_settled xs ys before after i e h same order = record {
+  settled = ap is_some (get_or-set_same ys i (Some e) None h);
+  others = λ j n. get_or-set_other ys i j (Some e) None n ∙ same j;
+  order = order;
+}
+
 pub entries_same : (s : SignatureOf) (known : Known) (nodes : List Node) (old new : Table) → AreSame old new → AreEntries s known nodes old → AreEntries s known nodes new
-entries_same s known nodes old new same entries i e at_i = entries i e (sym (same i) ∙ at_i)
+entries_same s known nodes old new same entries i e at_i = entries i e (sym (same.entries i) ∙ at_i)
 
 pub settled_more : (old new : Table) (ids : List ℕ) (i : ℕ) → KeepsEntries old new → ((k : ℕ) → k < i → IsSettled old (get_or ids k 0)) → IsSettled new (get_or ids i 0)
     → (k : ℕ) → k < i + 1 → IsSettled new (get_or ids k 0)
-settled_more old new ids i kept had here = below_more (λ k. IsSettled new (get_or ids k 0)) i (λ k below. ap is_some (kept _ _ (settled_entry (entry_at old (get_or ids k 0)) (had k below)))) here
+settled_more old new ids i kept had here = below_more (λ k. IsSettled new (get_or ids k 0)) i (λ k below. ap is_some (kept.entries _ _ (settled_entry (entry_at old (get_or ids k 0)) (had k below)))) here

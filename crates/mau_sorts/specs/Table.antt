@@ -1,21 +1,31 @@
 -- Tables of the sorts of a store's terms.
-use Rattle.std.specs.Prelude.{◌≡◌, ◌≢◌, ◌↔◌, ◌≤◌, ℕ, List, All, Contains, true, length, Option, Some, None, is_some, slice_get, slice_index_or}
-use Rattle.mau_terms.specs.Tree.{Tree, variable, numeral, apply, Trees, no_trees, tree, list_of}
+use Rattle.std.specs.Prelude.{◌≡◌, ◌≢◌, ◌↔◌, ◌≤◌, ℕ, List, [], ◌∷◌, ◌++◌, All, AllPairs, Contains, true, length, Option, Some, None, is_some, slice_get, slice_index_or}
+use Rattle.mau_terms.specs.Tree.{Tree}
 use Rattle.mau_poset.specs.Order.{Hierarchy}
 use Rattle.mau_signature.specs.Faults.{IsSort}
 use Rattle.mau_signature.specs.Signature.{SignatureOf, IsOperator, theory_at}
+use Rattle.mau_signature.specs.OverSignature.{IsTreeOver}
 use Rattle.mau_store.specs.Node.{Node, numeral_node, variable_node, operator_node, arguments, IsOf}
 use Rattle.mau_store.specs.Trees.{tree_at}
 use Rattle.mau_sorts.specs.SortSets.{SortsOf, IsOver, IsKeptOf}
 use Rattle.mau_sorts.specs.HasSort.{Known, HasSort}
 
--- for each number of a store what is kept of the sorts of its term, as far as they are settled
-abbrev pub Table : Type 0
-Table = List (Option SortsOf)
+-- for each number of a store what is kept of the sorts of its term, as far as they are settled, and the numbers in the order in which
+-- they were settled
+pub record Table : Type 0 where
+  pub entries : List (Option SortsOf)
+  pub order : List ℕ
+
+abbrev pub kept_in : List (Option SortsOf) → List ℕ → Table
+kept_in entries order = record { entries = entries; order = order }
+
+-- the table in which nothing is settled
+abbrev pub empty_table : Table
+empty_table = record { entries = []; order = [] }
 
 -- what stands at a number; nothing stands past the end
 abbrev pub entry_at : Table → ℕ → Option SortsOf
-entry_at table i = slice_index_or table i None
+entry_at table i = slice_index_or table.entries i None
 
 abbrev pub IsSettled : Table → ℕ → Type 0
 IsSettled table i = is_some (entry_at table i) ≡ true
@@ -49,30 +59,27 @@ pub record IsReady (s : SignatureOf) (nodes : List Node) (table : Table) (i : �
   pub arguments : (n : Node) → slice_get nodes i ≡ Some n → All (IsSettled table) (arguments n)
 
 -- nothing is changed
-abbrev pub AreSame : Table → Table → Type 0
-AreSame old new = (i : ℕ) → entry_at new i ≡ entry_at old i
+pub record AreSame (old new : Table) : Type 0 where
+  pub entries : (i : ℕ) → entry_at new i ≡ entry_at old i
+  pub order : new.order ≡ old.order
 
--- the entries that were there stay as they were; others may have come
-abbrev pub KeepsEntries : Table → Table → Type 0
-KeepsEntries old new = (i : ℕ) (e : SortsOf) → entry_at old i ≡ Some e → entry_at new i ≡ Some e
+-- the entries that were there stay as they were, and in their order; others may have come behind them
+pub record KeepsEntries (old new : Table) : Type 0 where
+  pub entries : (i : ℕ) (e : SortsOf) → entry_at old i ≡ Some e → entry_at new i ≡ Some e
+  pub order : (more : List ℕ) × (new.order ≡ old.order ++ more)
 
--- the number i gets an entry, and all others keep what they had
+-- the number i gets an entry, behind the others, which keep what they had
 pub record Settles (old new : Table) (i : ℕ) : Type 0 where
   pub settled : IsSettled new i
   pub others : (j : ℕ) → j ≢ i → entry_at new j ≡ entry_at old j
+  pub order : new.order ≡ old.order ++ i ∷ []
+
+-- the order has each number that is settled, and no other, once
+pub record IsOrdered (table : Table) : Type 0 where
+  pub settled : (i : ℕ) → IsSettled table i ↔ Contains table.order i
+  pub once : AllPairs (λ i j. i ≢ j) table.order
 
 -- ---- terms over a signature
-
--- each node of the tree is one that a term over the signature has
-abbrev mutual
-  pub IsTreeOver : SignatureOf → Tree → Type 0
-  IsTreeOver s (variable i p) = IsSort s.hierarchy p
-  IsTreeOver s (numeral n) = is_some s.numerals ≡ true
-  IsTreeOver s (apply f ts) = IsOperator s f × ((theory_at s f).assoc ≡ true → 2 ≤ length (list_of ts)) × AreTreesOver s ts
-
-  pub AreTreesOver : SignatureOf → Trees → Type 0
-  AreTreesOver s no_trees = Unit {0}
-  AreTreesOver s (tree t ts) = IsTreeOver s t × AreTreesOver s ts
 
 -- each term of the store is one over the signature
 abbrev pub EachIsOver : SignatureOf → List Node → Type 0

@@ -12,6 +12,3 @@ mod table;
 
 pub use ready::are_terms;
 pub use table::SortTable;
-
-#[cfg(test)]
-mod tests;

@@ -3,7 +3,8 @@ ghost use Rattle.std.specs.Prelude.{◌≡◌, ◌↔◌, [], IsTrue, OnOk};
 ghost use Rattle.mau_store.specs.Node.{IsOf, arguments};
 ghost use Rattle.mau_store.specs.Trees.{tree_at};
 ghost use Rattle.mau_store.specs.View.{node_of, numbers};
-ghost use Rattle.mau_sorts.specs.Table.{IsSettled, AreEntries, AreOver, KeepsEntries, IsTreeOver};
+ghost use Rattle.mau_sorts.specs.Table.{IsSettled, AreEntries, AreOver, KeepsEntries};
+ghost use Rattle.mau_signature.specs.OverSignature.{IsTreeOver};
 
 use crate::SortTable;
 use mau_signature::Signature;

@@ -1,5 +1,5 @@
 //! The sorts of a store's terms.
-ghost use Rattle.std.specs.Prelude.{◌≡◌, ◌↔◌, ◌≢◌, ◌≤◌, ℕ, [], length, true, is_some, All, IfOk, IfSome, IfNone, OnOk, OnErr, IsTrue, Some};
+ghost use Rattle.std.specs.Prelude.{◌≡◌, ◌↔◌, ◌≢◌, ◌≤◌, ◌∷◌, ◌++◌, ℕ, [], length, slice_index_or, None, true, is_some, All, IfOk, IfSome, IfNone, OnOk, OnErr, IsTrue, Some};
 ghost use Rattle.std.specs.Option.{option_map};
 ghost use Rattle.std.specs.List.Sorted.{IsStrictlyIncreasing};
 ghost use Rattle.mau_poset.specs.Order.{Hierarchy};
@@ -10,7 +10,7 @@ ghost use Rattle.mau_store.specs.View.{node_of, numbers};
 ghost use Rattle.mau_sigcheck.specs.Accepted.{IsSortOfNumeral};
 ghost use Rattle.mau_sorts.specs.SortSets.{IsIn, IsOver, AreApart, AreSorts, shown_sort};
 ghost use Rattle.mau_sorts.specs.HasSort.{Known};
-ghost use Rattle.mau_sorts.specs.Table.{entry_at, IsSettled, AreEntries, AreOver, IsKnownOf, IsNodeOver, IsReady, AreSame, KeepsEntries, Settles};
+ghost use Rattle.mau_sorts.specs.Table.{empty_table, IsOrdered, entry_at, IsSettled, AreEntries, AreOver, IsKnownOf, IsNodeOver, IsReady, AreSame, KeepsEntries, Settles};
 ghost use Rattle.mau_sorts.specs.Derived.{NodeHas, NodeHasWith, sets, sets_at};
 
 use crate::derive::{given, of_list, of_sort};
@@ -27,26 +27,39 @@ use std::marker::Model;
 pub struct SortTable {
     alloc: Global,
     entries: Vec<Option<SortSet>>,
+    order: Vec<TermId>,
 }
 
 impl Model for SortTable {
-    ghost use Rattle.mau_sorts.specs.Table.{Table};
+    ghost use Rattle.mau_store.specs.View.{numbers};
+    ghost use Rattle.mau_sorts.specs.Table.{Table, IsOrdered, kept_in};
 
     ghost Value = { Table };
 
-    ghost view = { λ t. t.entries.items };
+    ghost view = { λ t. kept_in t.entries.items (numbers t.order.items) };
+
+    ghost invariant = { λ t. IsOrdered (kept_in t.entries.items (numbers t.order.items)) };
 }
 
 impl SortTable {
     /// A table in which nothing is settled. What is entered later is allocated by `alloc`.
     pub fn new(alloc: Global) -> SortTable
-        ensures value { result ≡ [] }
+        ensures value { result ≡ empty_table }
         ensures over { (h : Hierarchy) → AreOver h result }
     {
         SortTable {
             alloc,
             entries: Vec::new(alloc),
+            order: Vec::new(alloc),
         }
+    }
+
+    /// The numbers of the terms that are settled, in the order in which they were settled, each once.
+    pub fn settled(&self) -> &[TermId]
+        ensures value { numbers result.now ≡ self.now.order }
+        ensures ordered { IsOrdered self.now }
+    {
+        &self.order
     }
 
     /// Enters the minimal sorts of a term: those that declarations give it by the sorts of its arguments, and the sorts `more`. A
@@ -198,12 +211,15 @@ impl SortTable {
 
     /// Keeps the set of a term.
     fn enter(&mut self, store: &Store, id: TermId, set: SortSet) -> Result<(), NoMemory>
-        requires { IsOf store.now id.0 }
+        requires there { IsOf store.now id.0 }
+        requires unsettled { ¬ IsSettled self.old id.0 }
         ensures ok { OnOk result (entry_at self.new id.0 ≡ Some set) }
         ensures others { OnOk result ((j : ℕ) → j ≢ id.0 → entry_at self.new j ≡ entry_at self.old j) }
+        ensures order { OnOk result (self.new.order ≡ self.old.order ++ id.0 ∷ []) }
         ensures unchanged { OnErr result (AreSame self.old self.new) }
     {
         make_room(&mut self.entries, store.len())?;
+        self.order.push(id)?;
         self.entries[id.0] = Some(set);
         Ok(())
     }
@@ -212,7 +228,7 @@ impl SortTable {
 /// Makes room for so many entries.
 fn make_room(entries: &mut Vec<Option<SortSet>>, count: usize) -> Result<(), NoMemory>
     ensures room { OnOk result (count ≤ length entries.new.items) }
-    ensures same { AreSame entries.old.items entries.new.items }
+    ensures same { (i : ℕ) → slice_index_or entries.new.items i None ≡ slice_index_or entries.old.items i None }
 {
     for _index in entries.len()..count {
         entries.push(None)?;

@@ -31,11 +31,11 @@ use Rattle.mau_grammar.proofs.Shapes.{all_shaped}
 use Rattle.mau_parse.specs.declared.goals.Goal.{Goal}
 use Rattle.mau_parse.specs.declared.goals.Goal.TheVariants.{AnyKind, Kind}
 use Rattle.mau_parse.proofs.OneReading.{AreOneTerm, term_once, term_no_fault, fault_once, nothing_reads}
-use Rattle.mau_api.specs.declared.statements.Fragment.{Fragment}
-use Rattle.mau_api.specs.declared.statements.Fragment.TheVariants.{Equal, Match, Sort, Reach}
-use Rattle.mau_api.specs.declared.statements.Equation.{Equation}
-use Rattle.mau_api.specs.declared.statements.Membership.{Membership}
-use Rattle.mau_api.specs.declared.statements.Rule.{Rule}
+use Rattle.mau_program.specs.declared.statements.Fragment.{Fragment}
+use Rattle.mau_program.specs.declared.statements.Fragment.TheVariants.{Equal, Match, Sort, Reach}
+use Rattle.mau_program.specs.declared.statements.Equation.{Equation}
+use Rattle.mau_program.specs.declared.statements.Membership.{Membership}
+use Rattle.mau_program.specs.declared.statements.Rule.{Rule}
 use Rattle.mau_statement.specs.Context.{ContextOf, terms_in, constant}
 use Rattle.mau_statement.specs.Parts.{Pairs, part_words, part_tokens, part_texts, TermReads, PartUnread, nothing_there, no_term, PairReads, PairUnread, first_unread, second_unread}
 use Rattle.mau_statement.specs.Conditions.{FragmentReads, equal_reads, match_reads, reach_reads, sort_reads, truth_reads, FragmentUnread, equal_unread, match_unread, reach_unread, tested_unread, no_sort, truth_unread, no_truth, ConditionReads, none_read, one_more_reads, ConditionUnread}

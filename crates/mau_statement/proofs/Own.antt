@@ -14,13 +14,13 @@ use Rattle.mau_parse.specs.Goal.{lowest, highest}
 use Rattle.mau_parse.specs.Parsed.{IsParsed}
 use Rattle.mau_parse.specs.Terms.{pair_at, pairs_in, all_pairs, added, renamed, all_renamed, AreGiven, AllGiven}
 use Rattle.mau_parse.proofs.Renamed.{IsIn, in_with, in_added}
-use Rattle.mau_parse.proofs.Trees_given.{tree_given}
+use Rattle.mau_parse.proofs.TreesGiven.{tree_given}
 use Rattle.mau_modtext.specs.Word.{Word}
 use Rattle.mau_tokens.specs.declared.token.Token.{Token}
 use Rattle.mau_modtext.specs.declared.raw.RawFragment.{RawFragment}
 use Rattle.mau_modtext.specs.declared.raw.RawStatement.{RawStatement}
-use Rattle.mau_api.specs.declared.statements.Fragment.{Fragment}
-use Rattle.mau_api.specs.declared.statements.Fragment.TheVariants.{Equal, Match, Sort, Reach}
+use Rattle.mau_program.specs.declared.statements.Fragment.{Fragment}
+use Rattle.mau_program.specs.declared.statements.Fragment.TheVariants.{Equal, Match, Sort, Reach}
 use Rattle.mau_statement.specs.Context.{ContextOf}
 use Rattle.mau_statement.specs.Parts.{Pairs, PairReads}
 use Rattle.mau_statement.specs.Conditions.{FragmentReads, equal_reads, match_reads, reach_reads, sort_reads, truth_reads, ConditionReads, none_read, one_more_reads}

@@ -4,8 +4,8 @@ use Rattle.std.specs.Prelude.{List, [], ◌∷◌, Bool, true, ◌&&◌, fold}
 use Rattle.mau_terms.specs.Tree.{Tree, variable, numeral, apply, Trees, no_trees, tree}
 use Rattle.mau_terms.specs.Subst.{Variable, has_variable, add_variables, variables}
 use Rattle.mau_terms.specs.View.{tree_of}
-use Rattle.mau_api.specs.declared.statements.Fragment.{Fragment}
-use Rattle.mau_api.specs.declared.statements.Fragment.TheVariants.{Equal, Match, Sort, Reach}
+use Rattle.mau_program.specs.declared.statements.Fragment.{Fragment}
+use Rattle.mau_program.specs.declared.statements.Fragment.TheVariants.{Equal, Match, Sort, Reach}
 use Rattle.mau_statement.specs.declared.statement.Statement.{Statement}
 use Rattle.mau_statement.specs.declared.statement.Statement.TheVariants.{Equation, Membership, Rule}
 

@@ -7,8 +7,8 @@ use Rattle.mau_terms.specs.declared.bare.Bare.TheVariants.{App}
 use Rattle.mau_modtext.specs.Word.{Word}
 use Rattle.mau_modtext.specs.declared.raw.RawFragment.{RawFragment}
 use Rattle.mau_modtext.specs.declared.raw.FragmentKind.TheVariants as Sign
-use Rattle.mau_api.specs.declared.statements.Fragment.{Fragment}
-use Rattle.mau_api.specs.declared.statements.Fragment.TheVariants.{Equal, Match, Sort, Reach}
+use Rattle.mau_program.specs.declared.statements.Fragment.{Fragment}
+use Rattle.mau_program.specs.declared.statements.Fragment.TheVariants.{Equal, Match, Sort, Reach}
 use Rattle.mau_parse.specs.declared.goals.Goal.TheVariants.{AnyKind, Kind}
 use Rattle.mau_parse.specs.declared.fault.ParseFault.TheVariants.{NoParse}
 use Rattle.mau_statement.specs.Context.{ContextOf, terms_in, constant}

@@ -6,9 +6,9 @@ use Rattle.mau_terms.specs.View.{tree_of}
 use Rattle.mau_terms.specs.declared.bare.Bare.{Bare}
 use Rattle.mau_parse.specs.Terms.{AreGiven}
 use Rattle.mau_signature.specs.Signature.{SignatureOf, theory_at, terms_over}
-use Rattle.mau_api.specs.declared.statements.Fragment.{Fragment}
-use Rattle.mau_api.specs.declared.statements.Fragment.TheVariants.{Equal, Match, Sort, Reach}
-use Rattle.mau_api.specs.declared.statements.Membership.{Membership as MembershipOf}
+use Rattle.mau_program.specs.declared.statements.Fragment.{Fragment}
+use Rattle.mau_program.specs.declared.statements.Fragment.TheVariants.{Equal, Match, Sort, Reach}
+use Rattle.mau_program.specs.declared.statements.Membership.{Membership as MembershipOf}
 use Rattle.mau_statement.specs.declared.statement.Statement.{Statement}
 use Rattle.mau_statement.specs.declared.statement.Statement.TheVariants.{Equation, Membership, Rule}
 use Rattle.mau_statement.specs.Statements.{head_fault, has_unbound}

@@ -1,5 +1,7 @@
 -- Statements of a module's text: what they read as, what they may say, and why a text is none. To be read in this order.
 
+-- ---- what a user of the crate has to read, in this order
+
 -- what statements are read over
 pub mod Context
 -- terms and sorts that tokens are

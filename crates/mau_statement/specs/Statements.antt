@@ -14,9 +14,9 @@ use Rattle.mau_modtext.specs.declared.raw.RawStatement.{RawStatement}
 use Rattle.mau_modtext.specs.declared.raw.StatementKind.TheVariants as Kind
 use Rattle.mau_declare.specs.Words.{token_text}
 use Rattle.mau_parse.specs.declared.goals.Goal.TheVariants.{Kind as InKind}
-use Rattle.mau_api.specs.declared.statements.Equation.{Equation}
-use Rattle.mau_api.specs.declared.statements.Membership.{Membership}
-use Rattle.mau_api.specs.declared.statements.Rule.{Rule}
+use Rattle.mau_program.specs.declared.statements.Equation.{Equation}
+use Rattle.mau_program.specs.declared.statements.Membership.{Membership}
+use Rattle.mau_program.specs.declared.statements.Rule.{Rule}
 use Rattle.mau_statement.specs.Context.{ContextOf}
 use Rattle.mau_statement.specs.Parts.{Pairs, TermReads, PartUnread, PairReads, PairUnread, begin_of, sort_named}
 use Rattle.mau_statement.specs.Conditions.{ConditionReads, ConditionUnread}

@@ -6,7 +6,7 @@ ghost use Rattle.mau_terms.specs.View.{tree_of, variable_of};
 ghost use Rattle.mau_statement.specs.Binding;
 
 use crate::statement::Statement;
-use mau_api::Fragment;
+use mau_program::Fragment;
 use mau_terms::{Bare, NoMemory, VarId};
 use std::alloc::Global;
 

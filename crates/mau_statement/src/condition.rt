@@ -10,10 +10,10 @@ ghost use Rattle.mau_modtext.specs.declared.raw.FragmentKind.TheVariants as Sign
 use crate::context::Context;
 use crate::fault::StatementFault;
 use crate::part::{no_term, read_pair, read_part, sort_named, unknown_sort};
-use mau_api::Fragment;
 use mau_declare::Words;
 use mau_modtext::{FragmentKind, RawFragment};
 use mau_parse::Goal;
+use mau_program::Fragment;
 use mau_terms::{Args, Bare, OpId, Seq, Vars};
 use std::alloc::Global;
 

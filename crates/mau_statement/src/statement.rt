@@ -2,7 +2,7 @@
 ghost use Rattle.std.specs.Prelude.{◌≡◌, length};
 ghost use Rattle.mau_statement.specs.Statements.{variables_of, is_executable};
 
-use mau_api::{Equation, Membership, Rule};
+use mau_program::{Equation, Membership, Rule};
 
 /// A statement of a module.
 #[derive(Drop)]

@@ -1,5 +1,7 @@
 -- What the numbers of shared terms mean, to be read in this order.
 
+-- ---- what a user of the crate has to read, in this order
+
 -- nodes, stores as lists of nodes, and the extension of a store
 pub mod Node
 -- values of the code as nodes

@@ -9,6 +9,3 @@ mod store;
 
 pub use node::NodeView;
 pub use store::Store;
-
-#[cfg(test)]
-mod tests;

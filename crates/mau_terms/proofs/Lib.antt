@@ -1,5 +1,7 @@
 -- The proofs of the laws, and of what the code does, lowest first.
 
+-- answers of calls
+pub mod Outcomes
 -- induction over trees, orders, sorted lists, pieces of lists
 pub mod Orders
 pub mod Sorting
@@ -19,6 +21,7 @@ pub mod Plain
 pub mod Wholes
 -- solutions, their order, finiteness; what a subject can take
 pub mod Variables
+pub mod Instances
 pub mod Finite
 pub mod Solutions
 pub mod Ties
@@ -28,5 +31,7 @@ pub mod Keyed
 pub mod Views
 pub mod Sizes
 pub mod Pairs
+pub mod BareTerms
+pub mod BareLists
 -- computed cases of the definitions
 pub mod Examples

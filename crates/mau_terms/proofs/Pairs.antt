@@ -2,22 +2,15 @@
 use Rattle.std.proofs.Common.{◌≡◌, ℕ, ◌+◌, zero, suc, nat_eq, List, [], ◌∷◌, ◌++◌, Bool, true, false, ◌&&◌, ◌||◌, if◌then◌else◌, cond, not, map, slice_get, Some, refl, sym, ◌∙◌, ap, ap₂, subst, eqb-true, eq-eqb, arith}
 use Rattle.std.specs.List.{list_any, position_or_len}
 use Rattle.std.proofs.lemmas.Slice.Eq.{bytes_eq-Decides}
+use Rattle.std.proofs.lemmas.Bool.{and_parts, or_parts}
 use Rattle.mau_terms.specs.Laws.{PairsKeepPlaces}
 use Rattle.mau_terms.specs.Vars.{same_pair, place_of, with_pair, AreDistinct}
 
 -- ---- the test of two pairs
 
-both_true : (a b : Bool) → (a && b) ≡ true → (a ≡ true) × (b ≡ true)
-both_true true b e = (refl, e)
-both_true false b e = cc
-
-either_false : (a b : Bool) → (a || b) ≡ false → (a ≡ false) × (b ≡ false)
-either_false true b e = cc
-either_false false b e = (refl, e)
-
 pub same_pair-is : (x y : List ℕ × ℕ) → same_pair x y ≡ true → x ≡ y
 same_pair-is x y e =
-    let p = both_true _ (nat_eq x.1 y.1) e in
+    let p = and_parts _ (nat_eq x.1 y.1) e in
     ap₂ (λ (a : List ℕ) (b : ℕ). let v : List ℕ × ℕ = (a, b) in v) ((bytes_eq-Decides x.0 y.0).0 p.0) (eqb-true x.1 y.1 p.1)
 
 pub same_pair_itself : (x : List ℕ × ℕ) → same_pair x x ≡ true
@@ -35,13 +28,13 @@ same_pair_back x y e = by (same_pair y x) refl
 none_at_end : (y : List ℕ × ℕ) (xs : List (List ℕ × ℕ)) (x : List ℕ × ℕ) → list_any (same_pair y) xs ≡ false → same_pair y x ≡ false → list_any (same_pair y) (xs ++ x ∷ []) ≡ false
 none_at_end y [] x h k = ap (λ b. b || false) k
 none_at_end y (z ∷ xs) x h k =
-    let p = either_false (same_pair y z) (list_any (same_pair y) xs) h in
+    let p = or_parts (same_pair y z) (list_any (same_pair y) xs) h in
     ap₂ (λ a b. a || b) p.0 (none_at_end y xs x p.1 k)
 
 distinct_end : (xs : List (List ℕ × ℕ)) (x : List ℕ × ℕ) → AreDistinct xs → list_any (same_pair x) xs ≡ false → AreDistinct (xs ++ x ∷ [])
 distinct_end [] x d h = (refl, tt)
 distinct_end (y ∷ xs) x d h =
-    let p = either_false (same_pair x y) (list_any (same_pair x) xs) h in
+    let p = or_parts (same_pair x y) (list_any (same_pair x) xs) h in
     (none_at_end y xs x d.0 (same_pair_back x y p.0), distinct_end xs x d.1 p.1)
 
 pub AreDistinct-with_pair : (xs : List (List ℕ × ℕ)) (x : List ℕ × ℕ) → AreDistinct xs → AreDistinct (with_pair xs x)
@@ -67,7 +60,7 @@ place_found (y ∷ xs) x h = by (same_pair x y) refl (place_found xs x)
 place_new : (xs : List (List ℕ × ℕ)) (x : List ℕ × ℕ) → list_any (same_pair x) xs ≡ false → slice_get (xs ++ x ∷ []) (place_of xs x) ≡ Some x
 place_new [] x h = refl
 place_new (y ∷ xs) x h =
-    let p = either_false (same_pair x y) (list_any (same_pair x) xs) h in
+    let p = or_parts (same_pair x y) (list_any (same_pair x) xs) h in
     let next : place_of (y ∷ xs) x ≡ suc (place_of xs x) = ap (λ b. cond (not b) (1 + place_of xs x) 0) p.0 ∙ omega arith in
     ap (slice_get (y ∷ (xs ++ x ∷ []))) next ∙ place_new xs x p.1
 

@@ -3,6 +3,7 @@ use Rattle.std.proofs.Common.{◌≡◌, ℕ, List, [], ◌∷◌, ◌++◌, Boo
 use Rattle.mau_terms.specs.Tree.{Tree, variable, numeral, apply, Trees, no_trees, tree, node, list_of, trees_of}
 use Rattle.mau_terms.specs.Order.{insert_tree, sort_trees, tree_cmp}
 use Rattle.std.specs.Ordering.{is_gt}
+use Rattle.std.proofs.lemmas.Bool.{and_parts}
 use Rattle.mau_terms.specs.Norm.{unit_tree, is_unit, elements, pieces, arrange, finish}
 use Rattle.mau_terms.specs.declared.theory.Identity.{Identity}
 use Rattle.mau_terms.specs.declared.theory.Identity.TheVariants.{Const, Num}
@@ -34,10 +35,6 @@ unit_found (Some (Num n)) (apply g ts) e = cc
 
 -- ---- the pieces of a tree
 
-both_true : (a b : Bool) → (a && b) ≡ true → (a ≡ true) × (b ≡ true)
-both_true true b e = (refl, e)
-both_true false b e = cc
-
 pub data Split (a : Bool) (u : Option Identity) (f : ℕ) (t : Tree) : Type 0 where
   unit : (i : Identity) → u ≡ Some i → t ≡ unit_tree i → pieces a u f t ≡ [] → Split a u f t
   many : (ts : Trees) → a ≡ true → t ≡ apply f ts → pieces a u f t ≡ list_of ts → Split a u f t
@@ -56,7 +53,7 @@ split a u f t = by (is_unit u t) refl
       where
         at : (b : Bool) → (a && (g == f)) ≡ b → Split a u f t
         at true k =
-            let p = both_true a (g == f) k in
+            let p = and_parts a (g == f) k in
             many ts p.0 (e ∙ ap (λ x. apply x ts) (eqb-true g f p.1)) (no_unit a u f t h ∙ ap (elements a f) e ∙ ap (λ b. if b then list_of ts else apply g ts ∷ []) k)
         at false k = one (no_unit a u f t h ∙ ap (elements a f) e ∙ ap (λ b. if b then list_of ts else apply g ts ∷ []) k ∙ ap (λ w. w ∷ []) (sym e))
 

@@ -7,11 +7,11 @@ use Rattle.mau_terms.specs.Tree.{Tree}
 use Rattle.mau_terms.specs.Order.{tree_cmp}
 use Rattle.mau_terms.specs.Norm.{unit_tree, norm, build, arrange}
 use Rattle.mau_terms.specs.Lawful.{AreLawful}
-use Rattle.mau_terms.specs.Bare.{TermSignature, IsBare, EqualModulo, IsLawful, HasNoAxioms}
-use Rattle.mau_terms.specs.Subst.{Variable, variables, instance}
+use Rattle.mau_terms.specs.Bare.{TermSignature, IsBare, IsBareIn, EqualModulo, IsLawful, HasNoAxioms}
+use Rattle.mau_terms.specs.Subst.{Variable, variables, instance, with_values}
 use Rattle.mau_terms.specs.Finite.{IsIn}
 use Rattle.mau_terms.specs.Reading.{reading}
-use Rattle.mau_terms.specs.Solution.{Fits, FitsWithin, ArePieces, list_under, over_list, solution_cmp}
+use Rattle.mau_terms.specs.Solution.{Fits, FitsWithin, HaveSorts, ArePieces, list_under, over_list, solution_cmp}
 use Rattle.mau_terms.specs.CanTake.{CanTake, CanTakeNormal}
 use Rattle.mau_terms.specs.Vars.{place_of, with_pair}
 use Rattle.mau_terms.specs.declared.theory.Identity.{Identity}
@@ -53,6 +53,12 @@ EqualWhereSame =
 -- where no operator has an axiom, each tree is a normal form
 abbrev pub PlainIsNormal : Type 0
 PlainIsNormal = (s : TermSignature) → HasNoAxioms s → (t : Tree) → norm s.theory t ≡ t
+
+-- the instance of a bare term by values that lie in the kinds of their variables' sorts is a bare term of the same kind
+abbrev pub InstancesAreBare : Type 0
+InstancesAreBare =
+    (s : TermSignature) (p : Tree) (k : ℕ) → IsBareIn s p k → (vs : List Tree) →
+    HaveSorts (λ r v. IsBareIn s v (s.kind_of r)) (variables p) vs → IsBareIn s (with_values p vs) k
 
 -- the normal form of an instance depends on the normal forms of the values alone
 abbrev pub InstancesByNorms : Type 0

@@ -1,5 +1,7 @@
 -- The definitions on which every layer stands, to be read in this order.
 
+-- ---- what a user of the crate has to read, in this order
+
 -- trees, and the values of the code as trees
 pub mod Tree
 pub mod View
@@ -20,7 +22,9 @@ pub mod CanTake
 pub mod Vars
 -- what is proved of all these
 pub mod Laws
--- what only the laws of finiteness, and only the contracts, need
+-- what lies within finitely many trees
 pub mod Finite
+-- ---- what only inner contracts and proofs cite
+
 pub mod Code
 pub mod Falls

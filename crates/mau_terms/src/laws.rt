@@ -1,6 +1,6 @@
 //! What is proved of the definitions: of equality, normal forms, solutions and their orders. Each function does nothing and has a
 //! law for its contract; the laws are stated in `specs/Laws.antt`.
-ghost use Rattle.mau_terms.specs.Laws.{EqualWhereNormsAre, EqualIsEquivalence, NormIsNormal, NormIsEqual, EqualWhereSame, PlainIsNormal, InstancesByNorms, ListOfTwo, IdentityHasNoElements, ListsNest, OverListIsEqual, TreesAreOrdered, SolutionsAreOrdered, TiesAreEqual, RightIsDetermined, SolutionsAreFinite, SolutionsWithinAreFinite, CanTakeByNorms, TakenAreFinite, PairsKeepPlaces};
+ghost use Rattle.mau_terms.specs.Laws.{EqualWhereNormsAre, EqualIsEquivalence, NormIsNormal, NormIsEqual, EqualWhereSame, PlainIsNormal, InstancesAreBare, InstancesByNorms, ListOfTwo, IdentityHasNoElements, ListsNest, OverListIsEqual, TreesAreOrdered, SolutionsAreOrdered, TiesAreEqual, RightIsDetermined, SolutionsAreFinite, SolutionsWithinAreFinite, CanTakeByNorms, TakenAreFinite, PairsKeepPlaces};
 
 /// Two bare terms over a lawful signature are equal modulo the axioms exactly where their normal forms are the same tree.
 pub fn equal_where_norms_are()
@@ -30,6 +30,11 @@ pub fn equal_where_same()
 /// Over a signature without axioms, each tree is a normal form.
 pub fn plain_is_normal()
     ensures { PlainIsNormal }
+{}
+
+/// An instance of a bare term by values of the kinds of its variables is a bare term of the same kind.
+pub fn instances_are_bare()
+    ensures { InstancesAreBare }
 {}
 
 /// The normal form of an instance depends on the normal forms of the values alone.

@@ -7,8 +7,6 @@
 
 pub mod laws;
 mod scan;
-#[cfg(test)]
-mod tests;
 mod token;
 
 pub use scan::tokens;

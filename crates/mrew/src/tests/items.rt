@@ -316,9 +316,9 @@ const ATTRIBUTES: [Row; 44] = [
         Answer::Unexpected,
     ),
     (
-        "fmod M is op f : S S -> S [id: ",
-        "assoc] . endfm",
-        Answer::Unexpected,
+        "fmod M is op f : S S -> S [id: assoc] . endfm",
+        "",
+        Answer::Reads,
     ),
     (
         "fmod M is op f : S S -> S [id: none foo] . endfm",

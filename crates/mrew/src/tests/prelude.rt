@@ -1,8 +1,8 @@
 //! Modules over the prelude: the prelude's own beside their texts, and what is found to be at fault.
-use mau_api::Equation;
 use mau_declare::Words;
 use mau_modtext::{RawBody, items};
 use mau_module::{Library, Module, ModuleFault};
+use mau_program::Equation;
 use mau_tokens::tokens;
 use std::alloc::Global;
 use std::process::Abort;

@@ -13,7 +13,7 @@ fn refuses_by_name_and_place(rt: HostRuntime) -> Result<(), Fail> {
         ),
         (
             "fmod G is sort S . op f : S S -> S [id: idem] . endfm",
-            "[1] refused: Unexpected 40\n",
+            "[1] refused: IdNotConstant f\n",
         ),
         (
             "fmod I is sort S . op f : S S -> S [idem] . endfm",

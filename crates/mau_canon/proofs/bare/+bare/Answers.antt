@@ -15,10 +15,13 @@ use Rattle.mau_store.specs.Node.{IsOf, AreOf}
 use Rattle.mau_store.specs.Trees.{tree_at, trees_at}
 use Rattle.mau_store.specs.View.{numbers}
 use Rattle.mau_store.proofs.Growth.{extension_is_preorder, trees_at-extends}
-use Rattle.mau_canon.specs.Within.{is_overflow}
+use Rattle.mau_canon.specs.Judging.{is_overflow}
 use Rattle.mau_canon.specs.Values.{values_in}
 use Rattle.mau_canon.proofs.Elements.{trees_at-append}
-use Rattle.mau_canon.proofs.Collected.{bare_each, is_operator, bare_node, depth_of_node, at_most_list, IfOk-then, OnOk-then, one_more, pieces-norms-more, hold-norms-more, norm-collected, holds-collected, collect_nested, holds_nested}
+use Rattle.mau_terms.proofs.BareTerms.{bare_each, bare_node, depth_of_node, at_most_list}
+use Rattle.mau_signature.proofs.Operators.{is_operator}
+use Rattle.mau_terms.proofs.Outcomes.{IfOk-then, OnOk-then}
+use Rattle.mau_canon.proofs.Collected.{one_more, pieces-norms-more, hold-norms-more, norm-collected, holds-collected, collect_nested, holds_nested}
 use Rattle.mau_canon.proofs.Standing.{stand_within_extended}
 use Rattle.mau_canon.proofs.Values.{values_in-extends}
 use Rattle.mau_canon.proofs.bare.+bare.Goals as goal

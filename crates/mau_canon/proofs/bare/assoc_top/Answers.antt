@@ -16,7 +16,7 @@ use Rattle.mau_store.specs.Node.{Node}
 use Rattle.mau_terms.specs.Subst.{instance}
 use Rattle.mau_terms.specs.declared.theory.Theory.{Theory}
 use Rattle.mau_canon.specs.Values.{values_in}
-use Rattle.mau_canon.proofs.Collected.{is_operator}
+use Rattle.mau_signature.proofs.Operators.{is_operator}
 use Rattle.mau_canon.proofs.Values.{instance_of_none}
 use Rattle.mau_canon.proofs.bare.assoc_top.Goals as goal
 

@@ -4,7 +4,7 @@ use Rattle.mau_terms.specs.Norm.{norm, holds_overflow}
 use Rattle.mau_signature.specs.Signature.{theory_at}
 use Rattle.mau_store.specs.Trees.{tree_at, trees_at}
 use Rattle.mau_store.specs.View.{numbers}
-use Rattle.mau_canon.specs.Within.{is_overflow}
+use Rattle.mau_canon.specs.Judging.{is_overflow}
 use Rattle.mau_canon.proofs.Elements.{fine_each}
 use Rattle.mau_canon.proofs.Judged.{norm-joined, holds-fine, answer_stands, answer_within, answer_refused}
 use Rattle.mau_canon.proofs.builder.build.Goals as goal

@@ -3,7 +3,7 @@ use Rattle.std.proofs.lemmas.List.{length-map}
 use Rattle.std.proofs.lemmas.Option.{slice_get_read}
 use Rattle.mau_chart.specs.Chart.{IsAmong}
 use Rattle.mau_chart.specs.Groups.{IsGrouped}
-use Rattle.mau_chart.specs.Table.{table, cells, found_of}
+use Rattle.mau_chart.specs.Table.{table, cells, edge_of}
 use Rattle.mau_chart.proofs.Grouped.{grouped_on}
 use Rattle.mau_chart.proofs.Trials.{old_place, combined_on}
 use Rattle.mau_chart.proofs.fill.combine.Goals as goal
@@ -11,7 +11,7 @@ use Rattle.mau_chart.proofs.fill.combine.Goals as goal
 pub combine_group-requires-clause-whole : goal.combine_group-requires-clause-whole
 combine_group-requires-clause-whole c f e =
     let s = c.args.chart.now in
-    let h : c.args.k < length (table s c.args.i) = omega (arith, c.requires.first, length-map (cells s.rows.items c.args.i) (found_of s.store)) in
+    let h : c.args.k < length (table s c.args.i) = omega (arith, c.requires.first, length-map (cells s.rows.items c.args.i) (edge_of s.store)) in
     c.requires.whole f (old_place (table s) (table c.loop-w.chart) c.args.i c.loop-w.invariant.combined.grows c.args.k f h e)
 
 pub loop-w-preserved : goal.loop-w-preserved

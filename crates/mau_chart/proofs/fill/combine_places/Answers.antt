@@ -3,7 +3,7 @@ use Rattle.std.specs.List.{slice_get}
 use Rattle.std.proofs.lemmas.List.{length-map}
 use Rattle.std.proofs.lemmas.Option.{slice_get-get_or}
 use Rattle.mau_chart.specs.Chart.{IsOne, IsAmong}
-use Rattle.mau_chart.specs.Table.{table, cells, found_of}
+use Rattle.mau_chart.specs.Table.{table, cells, edge_of}
 use Rattle.mau_chart.proofs.Grouped.{among_one}
 use Rattle.mau_chart.proofs.Marked.{among_marked}
 use Rattle.mau_chart.proofs.Trials.{old_place, steps_only_stays, combined_none, combined_full, combined_on}
@@ -31,13 +31,13 @@ loop-z-init c =
 pub try_place-requires-clause-steps : goal.try_place-requires-clause-steps
 try_place-requires-clause-steps c f e =
     let s = c.args.chart.now in
-    let h : c.args.k < length (table s c.args.i) = omega (arith, c.requires.first, length-map (cells s.rows.items c.args.i) (found_of s.store)) in
+    let h : c.args.k < length (table s c.args.i) = omega (arith, c.requires.first, length-map (cells s.rows.items c.args.i) (edge_of s.store)) in
     c.requires.steps f (old_place (table s) (table c.loop-z.chart) c.args.i c.loop-z.invariant.combined.grows c.args.k f h e)
 
 pub try_place-requires-clause-only : goal.try_place-requires-clause-only
 try_place-requires-clause-only c =
     let s = c.args.chart.now in
-    let h : c.args.k < length (table s c.args.i) = omega (arith, c.requires.first, length-map (cells s.rows.items c.args.i) (found_of s.store)) in
+    let h : c.args.k < length (table s c.args.i) = omega (arith, c.requires.first, length-map (cells s.rows.items c.args.i) (edge_of s.store)) in
     steps_only_stays c.args.productions.now c.args.leaves.now (table s) (table c.loop-z.chart) c.args.i c.args.k c.args.part c.args.item c.loop-z.invariant.combined.grows h c.requires.only
 
 pub loop-z-preserved : goal.loop-z-preserved

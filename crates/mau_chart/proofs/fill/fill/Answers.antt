@@ -1,5 +1,5 @@
 use Rattle.std.proofs.Common.{length-append, ◌∷◌, ◌≡◌, ◌<◌, ◌+◌, ◌-◌, suc, [], refl, sym, ◌∙◌, ap, map, length, subst, arith, rules}
-use Rattle.mau_chart.specs.Table.{table, found_of}
+use Rattle.mau_chart.specs.Table.{table, edge_of}
 use Rattle.mau_chart.proofs.Cells.{cells_past}
 use Rattle.mau_chart.specs.Groups.{AreIndexed}
 use Rattle.mau_chart.specs.Marks.{AllMarked}
@@ -50,7 +50,7 @@ returns-clause-closed c =
     let s = c.loop-r.chart in
     let z : n + 1 - c.loop-r.r ≡ 0 = omega (arith, c.loop-r-test.false, c.len-rows.ensures, c.requires.rows, c.args.chart.now.rows.ok.0) in
     rows_closed c.args.productions.now c.args.leaves.now n c.requires.leaves (table s)
-    (λ h l. ap (map (found_of s.store)) (cells_past s.rows.items h (omega (arith, l, c.loop-r.invariant.rows))))
+    (λ h l. ap (map (edge_of s.store)) (cells_past s.rows.items h (omega (arith, l, c.loop-r.invariant.rows))))
     (subst (AreRows c.args.productions.now c.args.leaves.now (table s) n) z c.loop-r.invariant.full)
 
 pub fill_row-requires-clause-index : goal.fill_row-requires-clause-index

@@ -1,6 +1,6 @@
 use Rattle.std.proofs.Common.{◌<◌, refl, ◌∙◌, length, arith}
 use Rattle.std.proofs.lemmas.List.{length-map}
-use Rattle.mau_chart.specs.Table.{table, cells, found_of}
+use Rattle.mau_chart.specs.Table.{table, cells, edge_of}
 use Rattle.mau_chart.proofs.Grows.{grows_on}
 use Rattle.mau_chart.proofs.Grouped.{indexed_stays}
 use Rattle.mau_chart.proofs.Trials.{done_on}
@@ -11,7 +11,7 @@ loop-k-preserved c =
     let s = c.loop-k.chart in
     let n = c.process.new.chart in
     let e = c.in_ok-process.ensures in
-    let l : c.loop-k.k < length (table s c.args.i) = omega (arith, length-map (cells s.rows.items c.args.i) (found_of s.store), c.count.ensures, c.if-k-count.false) in
+    let l : c.loop-k.k < length (table s c.args.i) = omega (arith, length-map (cells s.rows.items c.args.i) (edge_of s.store), c.count.ensures, c.if-k-count.false) in
     record {
       chart = e.chart;
       rows = e.rows ∙ c.loop-k.invariant.rows;

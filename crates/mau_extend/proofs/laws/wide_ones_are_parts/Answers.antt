@@ -1,4 +1,4 @@
-use Rattle.mau_api.specs.Asked.{BySort}
+use Rattle.mau_listing.specs.Asked.{BySort}
 use Rattle.mau_extend.proofs.OneNarrowed.{narrow_solves}
 use Rattle.mau_extend.proofs.laws.wide_ones_are_parts.Goals as goal
 

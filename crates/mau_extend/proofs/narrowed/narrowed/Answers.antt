@@ -6,15 +6,15 @@ use Rattle.mau_store.specs.Trees.{tree_at, trees_at}
 use Rattle.mau_store.specs.View.{numbers}
 use Rattle.mau_store.specs.Node.{Node}
 use Rattle.mau_terms.specs.declared.theory.Theory.{Theory}
-use Rattle.mau_canon.specs.Within.{StandWithin}
+use Rattle.mau_canon.specs.Standing.{StandWithin}
 use Rattle.mau_canon.proofs.Standing.{stand_at}
-use Rattle.mau_api.specs.Asked.{found_in}
+use Rattle.mau_listing.specs.Asked.{matcher_in}
 use Rattle.mau_extend.specs.Widened.{around, context_list, narrowed}
 use Rattle.mau_extend.proofs.Ends.{around_ends, none_around, terms_around}
 use Rattle.mau_extend.proofs.narrowed.narrowed.Goals as goal
 
 three : (nodes : List Node) (t : Theory) (f : ℕ) (h k : Bool) (l r : Tree) (left right values : List TermId) → trees_at nodes (numbers left) ≡ context_list h t f l → trees_at nodes (numbers right) ≡ context_list k t f r
-    → found_in nodes (record { left = left; right = right; values = values }) ≡ narrowed h k t f l (trees_at nodes (numbers values)) r
+    → matcher_in nodes (record { left = left; right = right; values = values }) ≡ narrowed h k t f l (trees_at nodes (numbers values)) r
 three nodes t f h k l r left right values e d = λ i. record { left = e i; right = d i; values = trees_at nodes (numbers values) }
 
 some_there : (xs : List TermId) → (length xs == 0) ≡ false → 0 < length xs

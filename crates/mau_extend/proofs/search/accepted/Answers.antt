@@ -4,7 +4,7 @@ use Rattle.mau_store.specs.Trees.{trees_at}
 use Rattle.mau_store.specs.View.{numbers}
 use Rattle.mau_terms.specs.declared.ids.TermId.{TermId}
 use Rattle.mau_canon.proofs.Standing.{stand_among}
-use Rattle.mau_api.proofs.Growth.{trees_long}
+use Rattle.mau_listing.proofs.Growth.{trees_long}
 use Rattle.mau_extend.proofs.OneNarrowed.{around_long_back}
 use Rattle.mau_extend.proofs.search.accepted.Goals as goal
 

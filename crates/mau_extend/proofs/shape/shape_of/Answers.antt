@@ -1,7 +1,7 @@
 use Rattle.std.proofs.Common.{◌≡◌, ◌+◌, List, true, refl, sym, ◌∙◌, arith, subst, lt-ltb}
 use Rattle.mau_poset.specs.Order.{kinds}
 use Rattle.mau_signature.specs.Signature.{terms_over}
-use Rattle.mau_plain.specs.Tried.{asked_in}
+use Rattle.mau_trial.specs.Tried.{asked_in}
 use Rattle.mau_terms.specs.declared.ids.TermId.{TermId}
 use Rattle.mau_terms.specs.declared.ids.VarId.{VarId}
 use Rattle.mau_extend.specs.Extended.{IsUnused, AreUsedUp}

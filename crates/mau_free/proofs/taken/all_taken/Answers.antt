@@ -3,8 +3,8 @@ use Rattle.mau_signature.specs.Signature.{theory_at}
 use Rattle.mau_store.specs.Trees.{tree_at}
 use Rattle.mau_store.proofs.Standing.{tree_at-extends}
 use Rattle.mau_canon.proofs.Standing.{stands_within_extended}
-use Rattle.mau_parts.specs.Stored.{AddsTerms}
-use Rattle.mau_parts.proofs.Adding.{adds_both_terms}
+use Rattle.mau_domains.specs.Stored.{AddsTerms}
+use Rattle.mau_domains.proofs.Adding.{adds_both_terms}
 use Rattle.mau_free.specs.Arguments.{one_before, beside_unit}
 use Rattle.mau_free.proofs.taken.all_taken.Goals as goal
 

@@ -4,7 +4,7 @@ use Rattle.mau_terms.proofs.Pieces.{list_of-trees_of}
 use Rattle.mau_signature.specs.Signature.{theory_at}
 use Rattle.mau_store.specs.Trees.{trees_at}
 use Rattle.mau_store.specs.View.{numbers}
-use Rattle.mau_canon.specs.Within.{StandWithin}
+use Rattle.mau_canon.specs.Standing.{StandWithin}
 use Rattle.mau_canon.proofs.Standing.{arguments_stand_within}
 use Rattle.mau_free.specs.Arguments.{arguments_at}
 use Rattle.mau_free.proofs.taken.arguments_of.Goals as goal

@@ -5,8 +5,8 @@ use Rattle.mau_terms.specs.Norm.{norm}
 use Rattle.mau_signature.specs.Signature.{theory_at}
 use Rattle.mau_store.specs.Trees.{tree_at}
 use Rattle.mau_canon.specs.Within.{IsWithin}
-use Rattle.mau_parts.specs.Stored.{AddsTerms}
-use Rattle.mau_parts.proofs.Adding.{adds_one_term}
+use Rattle.mau_domains.specs.Stored.{AddsTerms}
+use Rattle.mau_domains.proofs.Adding.{adds_one_term}
 use Rattle.mau_free.specs.Arguments.{one_before}
 use Rattle.mau_free.proofs.taken.push_before.Goals as goal
 

@@ -5,8 +5,8 @@ use Rattle.mau_store.specs.Trees.{tree_at}
 use Rattle.mau_store.proofs.Growth.{extension_is_preorder}
 use Rattle.mau_store.proofs.Standing.{tree_at-extends}
 use Rattle.mau_canon.proofs.Standing.{stands_within_extended}
-use Rattle.mau_parts.specs.Stored.{AddsTerms}
-use Rattle.mau_parts.proofs.Adding.{adds_one_term, adds_both_terms}
+use Rattle.mau_domains.specs.Stored.{AddsTerms}
+use Rattle.mau_domains.proofs.Adding.{adds_one_term, adds_both_terms}
 use Rattle.mau_free.specs.Arguments.{beside_unit}
 use Rattle.mau_free.proofs.taken.push_unit.Goals as goal
 

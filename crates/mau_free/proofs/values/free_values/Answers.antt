@@ -4,13 +4,13 @@ use Rattle.mau_signature.specs.Signature.{theory_at, terms_over}
 use Rattle.mau_store.specs.Trees.{tree_at, trees_at}
 use Rattle.mau_store.specs.View.{numbers}
 use Rattle.mau_canon.proofs.Standing.{stands_within_extended}
-use Rattle.mau_parts.specs.Search.{IsLeastOrNone}
-use Rattle.mau_parts.specs.Values.{by_key}
-use Rattle.mau_parts.specs.Nearest.{nearest_of}
-use Rattle.mau_parts.specs.Stored.{tree_in}
-use Rattle.mau_parts.proofs.Adding.{IfSome-then, tree_in-extends}
-use Rattle.mau_parts.proofs.Least.{Given}
-use Rattle.mau_parts.proofs.StoredValues.{given_some, has_operator}
+use Rattle.mau_domains.specs.Search.{IsLeastOrNone}
+use Rattle.mau_domains.specs.Values.{by_key}
+use Rattle.mau_domains.specs.Nearest.{nearest_of}
+use Rattle.mau_domains.specs.Stored.{tree_in}
+use Rattle.mau_domains.proofs.Adding.{IfSome-then, tree_in-extends}
+use Rattle.mau_domains.proofs.Least.{Given}
+use Rattle.mau_domains.proofs.StoredValues.{given_some, has_operator}
 use Rattle.mau_free.specs.Arguments.{taken_of}
 use Rattle.mau_free.proofs.FreeNext.{nearest_taken}
 use Rattle.mau_free.proofs.values.free_values.Goals as goal

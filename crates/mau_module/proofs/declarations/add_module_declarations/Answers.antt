@@ -3,7 +3,7 @@ use Rattle.std.specs.Prelude.{All}
 use mathlib.Core.Path.{fun_ext}
 use Rattle.std.proofs.lemmas.List.Elements.{All-push}
 use Rattle.mau_signature.specs.Faults.{HasSorts}
-use Rattle.mau_carry.specs.Carried.{declaration_to}
+use Rattle.mau_renumber.specs.Carried.{declaration_to}
 use Rattle.mau_module.specs.Included.{number_from}
 use Rattle.mau_declare.proofs.Counting.{added_more}
 use Rattle.mau_module.proofs.Carries.{has_sorts_to}

@@ -1,6 +1,6 @@
 use Rattle.std.proofs.Common.{◌≡◌, ◌++◌, take, map, All}
 use Rattle.mau_signature.specs.Faults.{HasSorts}
-use Rattle.mau_carry.specs.Carried.{declaration_to}
+use Rattle.mau_renumber.specs.Carried.{declaration_to}
 use Rattle.mau_module.specs.Included.{number_from}
 use Rattle.mau_module.proofs.declarations.add_module_declarations.Given as goal
 

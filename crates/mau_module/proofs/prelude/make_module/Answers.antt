@@ -1,7 +1,7 @@
 use Rattle.std.proofs.Common.{◌<◌, length, refl, sym, ap, ap₂, subst, ◌∙◌}
 use Rattle.std.specs.Prelude.{All}
 use Rattle.mau_prelude.specs.Tables.{TableOf}
-use Rattle.mau_signed.specs.Signed.{signature_over}
+use Rattle.mau_signing.specs.Signed.{signature_over}
 use Rattle.mau_grammar.specs.Grammar.{grammar_of}
 use Rattle.mau_module.specs.Modules.{counts_of, and_more, behind}
 use Rattle.mau_module.specs.Framed.{Frame}

@@ -3,7 +3,7 @@ use Rattle.std.specs.Prelude.{fold}
 use Rattle.std.proofs.lemmas.Result.{IfOk-weaker}
 use Rattle.mau_signature.specs.declared.decl.Decl.{Decl}
 use Rattle.mau_grammar.specs.declared.aliases.Alias.{Alias}
-use Rattle.mau_api.specs.declared.statements.Equation.{Equation}
+use Rattle.mau_program.specs.declared.statements.Equation.{Equation}
 use Rattle.mau_prelude.specs.Tables.{TableOf, table_of}
 use Rattle.mau_declare.specs.Names.{with_name}
 use Rattle.mau_module.specs.Modules.{ModuleOf}

@@ -1,8 +1,8 @@
 use Rattle.std.proofs.Common.{◌++◌, ap, ◌∙◌, Err}
 use Rattle.mau_declare.specs.Flattened.{declarations}
 use Rattle.mau_module.specs.Declarations.{given_over}
-use Rattle.mau_signed.specs.Signed.{SignatureRead}
-use Rattle.mau_signed.specs.Refusals.{IsCycleRefusal}
+use Rattle.mau_signing.specs.Signed.{SignatureRead}
+use Rattle.mau_signing.specs.Refusals.{IsCycleRefusal}
 use Rattle.mau_module.specs.Framed.{Frame}
 use Rattle.mau_module.specs.Flattened.{given_in, conflict_in}
 use Rattle.mau_module.proofs.Signatures.{known_in, if_signed_then, signed_fault, on_cycle_read, own_is, read_in}

@@ -1,6 +1,6 @@
 use Rattle.std.proofs.Common.{◌≡◌, ◌++◌, take, map}
-use Rattle.mau_carry.specs.Carried.{membership_to}
-use Rattle.mau_carry.specs.Tables.{numbers_in}
+use Rattle.mau_renumber.specs.Carried.{membership_to}
+use Rattle.mau_renumber.specs.Tables.{numbers_in}
 use Rattle.mau_module.proofs.tables.add_memberships.Given as goal
 
 abbrev pub invariant-loop-membership : goal.invariant-loop-membership

@@ -1,7 +1,7 @@
 use Rattle.std.proofs.Common.{get_or, ap, ◌∙◌}
 use Rattle.mau_poset.specs.Order.{Hierarchy}
 use Rattle.mau_signature.specs.Signature.{SignatureOf}
-use Rattle.mau_carry.specs.Carried.{operator_to}
+use Rattle.mau_renumber.specs.Carried.{operator_to}
 use Rattle.mau_module.specs.Included.{number_from}
 use Rattle.mau_module.proofs.Carries.{tables_are}
 use Rattle.mau_module.proofs.tables.tables_from.Goals as goal

@@ -1,6 +1,6 @@
 use Rattle.std.proofs.Common.{subst, sym, ◌∙◌, ap}
 use Rattle.mau_parse.specs.Charted.{word_number, IsThere}
-use Rattle.mau_parse.proofs.Forms_found.{part_there, not_there}
+use Rattle.mau_parse.proofs.FormsFound.{part_there, not_there}
 use Rattle.mau_parse.proofs.forms.are_there.Goals as goal
 
 pub returns-then-word_number-len : goal.returns-then-word_number-len

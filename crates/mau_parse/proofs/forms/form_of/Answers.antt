@@ -1,7 +1,7 @@
 use Rattle.std.proofs.Common.{◌++◌, ◌∷◌, [], take, sym, subst}
 use Rattle.mau_signature.proofs.Lows.{take-step}
 use Rattle.mau_parse.specs.Charted.{ArePiecesOf}
-use Rattle.mau_parse.proofs.Forms_pushed.{pieces_more}
+use Rattle.mau_parse.proofs.FormsPushed.{pieces_more}
 use Rattle.mau_parse.proofs.forms.form_of.Goals as goal
 
 pub loop-part-preserved : goal.loop-part-preserved

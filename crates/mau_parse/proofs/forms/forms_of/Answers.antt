@@ -3,7 +3,7 @@ use Rattle.mau_grammar.specs.Index.{keyed, wordless}
 use Rattle.mau_parse.specs.Forms.{PutsForms}
 use Rattle.mau_parse.specs.Charted.{word_number, AreFormsOf}
 use Rattle.mau_parse.specs.Words.{text_at}
-use Rattle.mau_parse.proofs.Forms_found.{HasFormsTo, forms_first, forms_again, forms_new, forms_found}
+use Rattle.mau_parse.proofs.FormsFound.{HasFormsTo, forms_first, forms_again, forms_new, forms_found}
 use Rattle.mau_parse.proofs.forms.forms_of.Goals as goal
 use Rattle.mau_parse.proofs.forms.forms_of.Goals.{then-word_number-i+in_ok-push_forms-2, else-word_number-i}
 

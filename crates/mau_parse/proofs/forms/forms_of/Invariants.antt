@@ -1,4 +1,4 @@
-use Rattle.mau_parse.proofs.Forms_found.{HasFormsTo}
+use Rattle.mau_parse.proofs.FormsFound.{HasFormsTo}
 use Rattle.mau_parse.proofs.forms.forms_of.Given as goal
 
 abbrev pub invariant-loop-i : goal.invariant-loop-i

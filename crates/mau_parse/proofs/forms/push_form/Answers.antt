@@ -2,7 +2,7 @@ use Rattle.std.proofs.Common.{Some, sym, subst, ap, ◌∙◌}
 use Rattle.std.proofs.lemmas.Bool.{false≢true}
 use Rattle.std.proofs.lemmas.Option.{slice_get-get_or, slice_get_past}
 use Rattle.mau_parse.specs.Charted.{AreThere}
-use Rattle.mau_parse.proofs.Forms_found.{puts_none, puts_unread, puts_one}
+use Rattle.mau_parse.proofs.FormsFound.{puts_none, puts_unread, puts_one}
 use Rattle.mau_parse.proofs.forms.push_form.Goals as goal
 
 pub returns-in-None : goal.returns-in-None

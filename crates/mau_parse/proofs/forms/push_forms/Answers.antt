@@ -1,7 +1,7 @@
 use Rattle.std.proofs.Common.{take, get_or, sym, subst}
 use Rattle.std.proofs.lemmas.List.{take_more}
 use Rattle.mau_parse.specs.Forms.{PutsForms}
-use Rattle.mau_parse.proofs.Forms_found.{puts_more}
+use Rattle.mau_parse.proofs.FormsFound.{puts_more}
 use Rattle.mau_parse.proofs.forms.push_forms.Goals as goal
 
 pub loop-number-preserved : goal.loop-number-preserved

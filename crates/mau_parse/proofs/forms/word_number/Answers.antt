@@ -1,5 +1,5 @@
 use Rattle.std.proofs.Common.{◌+◌, refl, sym, ◌∙◌, ap, arith, bytes_eq}
-use Rattle.mau_parse.proofs.Forms_pushed.{found_at, passed_at}
+use Rattle.mau_parse.proofs.FormsPushed.{found_at, passed_at}
 use Rattle.mau_parse.proofs.forms.word_number.Goals as goal
 
 pub returns-then-eq : goal.returns-then-eq

@@ -1,7 +1,7 @@
 use Rattle.std.proofs.Common.{◌≡◌, ℕ, length, sym, ◌∙◌, ap, subst, arith}
 use Rattle.mau_grammar.specs.Leaves.{pairs_of}
 use Rattle.mau_parse.specs.Charted.{AreLeavesOf}
-use Rattle.mau_parse.proofs.Leaves_listed.{leaves_to, leaves_are}
+use Rattle.mau_parse.proofs.LeavesListed.{leaves_to, leaves_are}
 use Rattle.mau_parse.proofs.leaves.leaves_of.Goals as goal
 
 pub returns-clause-leaves : goal.returns-clause-leaves

@@ -1,6 +1,6 @@
 use Rattle.std.proofs.Common.{◌≡◌, ◌<◌, length}
 use Rattle.mau_grammar.specs.Leaves.{pairs_of}
-use Rattle.mau_parse.proofs.Leaves_listed.{leaves_to}
+use Rattle.mau_parse.proofs.LeavesListed.{leaves_to}
 use Rattle.mau_parse.proofs.leaves.leaves_of.Given as goal
 
 abbrev pub invariant-loop-i : goal.invariant-loop-i

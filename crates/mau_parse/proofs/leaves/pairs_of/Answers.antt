@@ -1,5 +1,5 @@
 use Rattle.std.proofs.Common.{◌∙◌, arith}
-use Rattle.mau_parse.proofs.Leaves_listed.{pairs_step, few_more}
+use Rattle.mau_parse.proofs.LeavesListed.{pairs_step, few_more}
 use Rattle.mau_parse.proofs.leaves.pairs_of.Goals as goal
 
 pub loop-reading-preserved : goal.loop-reading-preserved

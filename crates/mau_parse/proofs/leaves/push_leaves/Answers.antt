@@ -1,7 +1,7 @@
 use Rattle.std.proofs.Common.{◌∙◌, sym, ap, subst, All}
 use Rattle.mau_parse.specs.Readings.{all_seen}
 use Rattle.mau_parse.specs.Listed.{IsKnown}
-use Rattle.mau_parse.proofs.Leaves_listed.{readings_known}
+use Rattle.mau_parse.proofs.LeavesListed.{readings_known}
 use Rattle.mau_parse.proofs.leaves.push_leaves.Goals as goal
 
 pub push_variables-requires-clause-known : goal.push_variables-requires-clause-known

@@ -1,4 +1,4 @@
-use Rattle.mau_parse.proofs.Leaves_listed.{known_at}
+use Rattle.mau_parse.proofs.LeavesListed.{known_at}
 use Rattle.mau_parse.proofs.leaves.push_variables.Goals as goal
 
 pub push_variable-requires-clause-known : goal.push_variable-requires-clause-known

@@ -1,8 +1,8 @@
 use Rattle.std.proofs.Common.{◌≤◌, length, ap, subst, arith}
 use Rattle.mau_parse.specs.TooLarge.{IsFirstTooLarge}
 use Rattle.mau_parse.specs.Words.{texts_of}
-use Rattle.mau_parse.proofs.Bare_terms.{parsed_bare}
-use Rattle.mau_parse.proofs.Read_words.{fault_at, large_there, begins}
+use Rattle.mau_parse.proofs.BareTerms.{parsed_bare}
+use Rattle.mau_parse.proofs.ReadWords.{fault_at, large_there, begins}
 use Rattle.mau_parse.proofs.reader.parse.Goals as goal
 
 pub returns-in-Some-clause-fault : goal.returns-in-Some-clause-fault

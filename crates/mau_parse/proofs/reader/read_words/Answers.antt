@@ -1,12 +1,12 @@
 use Rattle.std.proofs.Common.{refl, subst, arith}
 use Rattle.mau_chart.specs.Nodes.{tree_at}
-use Rattle.mau_parse.specs.Found.{IsFound}
-use Rattle.mau_parse.proofs.Read_words.{given_in, few_in, one_parsed, one_fault, one_few}
+use Rattle.mau_parse.specs.Parses.{AreParses}
+use Rattle.mau_parse.proofs.ReadWords.{given_in, few_in, one_parsed, one_fault, one_few}
 use Rattle.mau_parse.proofs.reader.read_words.Goals as goal
 
 pub returns-in-Nothing-clause-fault : goal.returns-in-Nothing-clause-fault
 returns-in-Nothing-clause-fault c =
-    let none = subst (IsFound c.args.grammar.now c.args.words.now c.args.goal c.in_ok-trees.trees) c.in-Nothing.is c.in_ok-trees.ensures.found in
+    let none = subst (AreParses c.args.grammar.now c.args.words.now c.args.goal c.in_ok-trees.trees) c.in-Nothing.is c.in_ok-trees.ensures.found in
     (record { readable = c.requires.readable; none = none }, refl)
 
 pub one_term-requires-clause-given : goal.one_term-requires-clause-given
@@ -17,7 +17,7 @@ one_term-requires-clause-given c =
     let ps = c.in_ok-trees.pairs in
     let same = c.in_ok-trees.ensures.pairs in
     let t = tree_at c.in_ok-trees.trees c.in-One.id.0 in
-    let only = (subst (IsFound g ws goal c.in_ok-trees.trees) c.in-One.is c.in_ok-trees.ensures.found).1 in
+    let only = (subst (AreParses g ws goal c.in_ok-trees.trees) c.in-One.is c.in_ok-trees.ensures.found).1 in
     given_in g ws goal ps same t only.tree
 
 pub one_term-requires-clause-few : goal.one_term-requires-clause-few
@@ -28,7 +28,7 @@ one_term-requires-clause-few c =
     let ps = c.in_ok-trees.pairs in
     let same = c.in_ok-trees.ensures.pairs in
     let t = tree_at c.in_ok-trees.trees c.in-One.id.0 in
-    let only = (subst (IsFound g ws goal c.in_ok-trees.trees) c.in-One.is c.in_ok-trees.ensures.found).1 in
+    let only = (subst (AreParses g ws goal c.in_ok-trees.trees) c.in-One.is c.in_ok-trees.ensures.found).1 in
     omega (arith, few_in g ws goal ps same t only.tree)
 
 pub returns-in-One-clause-term : goal.returns-in-One-clause-term
@@ -39,7 +39,7 @@ returns-in-One-clause-term c =
     let ps = c.in_ok-trees.pairs in
     let same = c.in_ok-trees.ensures.pairs in
     let t = tree_at c.in_ok-trees.trees c.in-One.id.0 in
-    let only = (subst (IsFound g ws goal c.in_ok-trees.trees) c.in-One.is c.in_ok-trees.ensures.found).1 in
+    let only = (subst (AreParses g ws goal c.in_ok-trees.trees) c.in-One.is c.in_ok-trees.ensures.found).1 in
     let e = c.one_term.ensures in
     one_parsed g ws goal ps same c.args.vars.now c.one_term.new.vars t c.one_term.result c.requires.readable only e.term e.small
 
@@ -51,7 +51,7 @@ returns-in-One-clause-few c =
     let ps = c.in_ok-trees.pairs in
     let same = c.in_ok-trees.ensures.pairs in
     let t = tree_at c.in_ok-trees.trees c.in-One.id.0 in
-    let only = (subst (IsFound g ws goal c.in_ok-trees.trees) c.in-One.is c.in_ok-trees.ensures.found).1 in
+    let only = (subst (AreParses g ws goal c.in_ok-trees.trees) c.in-One.is c.in_ok-trees.ensures.found).1 in
     let e = c.one_term.ensures in
     one_few g ws goal ps same c.args.vars.now c.one_term.new.vars t c.one_term.result only e.term e.unchanged
 
@@ -63,7 +63,7 @@ returns-in-One-clause-fault c =
     let ps = c.in_ok-trees.pairs in
     let same = c.in_ok-trees.ensures.pairs in
     let t = tree_at c.in_ok-trees.trees c.in-One.id.0 in
-    let only = (subst (IsFound g ws goal c.in_ok-trees.trees) c.in-One.is c.in_ok-trees.ensures.found).1 in
+    let only = (subst (AreParses g ws goal c.in_ok-trees.trees) c.in-One.is c.in_ok-trees.ensures.found).1 in
     one_fault g ws goal ps same c.args.vars.now t c.args.at c.one_term.result c.requires.readable only c.one_term.ensures.fault
 
 pub two_terms-requires-clause-first_given : goal.two_terms-requires-clause-first_given
@@ -75,7 +75,7 @@ two_terms-requires-clause-first_given c =
     let same = c.in_ok-trees.ensures.pairs in
     let t = tree_at c.in_ok-trees.trees c.in-Two.first.0 in
     let u = tree_at c.in_ok-trees.trees c.in-Two.second.0 in
-    let both = (subst (IsFound g ws goal c.in_ok-trees.trees) c.in-Two.is c.in_ok-trees.ensures.found).2 in
+    let both = (subst (AreParses g ws goal c.in_ok-trees.trees) c.in-Two.is c.in_ok-trees.ensures.found).2 in
     given_in g ws goal ps same t both.first
 
 pub two_terms-requires-clause-second_given : goal.two_terms-requires-clause-second_given
@@ -87,7 +87,7 @@ two_terms-requires-clause-second_given c =
     let same = c.in_ok-trees.ensures.pairs in
     let t = tree_at c.in_ok-trees.trees c.in-Two.first.0 in
     let u = tree_at c.in_ok-trees.trees c.in-Two.second.0 in
-    let both = (subst (IsFound g ws goal c.in_ok-trees.trees) c.in-Two.is c.in_ok-trees.ensures.found).2 in
+    let both = (subst (AreParses g ws goal c.in_ok-trees.trees) c.in-Two.is c.in_ok-trees.ensures.found).2 in
     given_in g ws goal ps same u both.second
 
 pub two_terms-requires-clause-first_few : goal.two_terms-requires-clause-first_few
@@ -99,7 +99,7 @@ two_terms-requires-clause-first_few c =
     let same = c.in_ok-trees.ensures.pairs in
     let t = tree_at c.in_ok-trees.trees c.in-Two.first.0 in
     let u = tree_at c.in_ok-trees.trees c.in-Two.second.0 in
-    let both = (subst (IsFound g ws goal c.in_ok-trees.trees) c.in-Two.is c.in_ok-trees.ensures.found).2 in
+    let both = (subst (AreParses g ws goal c.in_ok-trees.trees) c.in-Two.is c.in_ok-trees.ensures.found).2 in
     omega (arith, few_in g ws goal ps same t both.first)
 
 pub two_terms-requires-clause-second_few : goal.two_terms-requires-clause-second_few
@@ -111,5 +111,5 @@ two_terms-requires-clause-second_few c =
     let same = c.in_ok-trees.ensures.pairs in
     let t = tree_at c.in_ok-trees.trees c.in-Two.first.0 in
     let u = tree_at c.in_ok-trees.trees c.in-Two.second.0 in
-    let both = (subst (IsFound g ws goal c.in_ok-trees.trees) c.in-Two.is c.in_ok-trees.ensures.found).2 in
+    let both = (subst (AreParses g ws goal c.in_ok-trees.trees) c.in-Two.is c.in_ok-trees.ensures.found).2 in
     omega (arith, few_in g ws goal ps same u both.second)

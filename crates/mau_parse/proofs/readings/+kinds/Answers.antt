@@ -1,6 +1,6 @@
 use Rattle.std.proofs.Common.{sym, ◌∙◌, ap, arith}
 use Rattle.mau_grammar.specs.Leaves.{sort_named}
-use Rattle.mau_parse.proofs.Kinds_listed.{kinds_short, kinds_next}
+use Rattle.mau_parse.proofs.KindsListed.{kinds_short, kinds_next}
 use Rattle.mau_parse.proofs.readings.+kinds.Goals as goal
 use Rattle.mau_parse.proofs.readings.+kinds.Goals.{then-from-len-via-then-from-len, then-from-len-via-else-from-len+then-from-len-2}
 

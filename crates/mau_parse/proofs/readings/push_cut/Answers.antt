@@ -1,6 +1,6 @@
 use Rattle.std.proofs.Common.{sym, ◌∙◌, arith}
 use Rattle.std.proofs.lemmas.Str.{IsCharBoundary-after_ascii}
-use Rattle.mau_parse.proofs.Kinds_listed.{cut_colon}
+use Rattle.mau_parse.proofs.KindsListed.{cut_colon}
 use Rattle.mau_parse.proofs.readings.push_cut.Goals as goal
 
 pub range_from-requires : goal.range_from-requires

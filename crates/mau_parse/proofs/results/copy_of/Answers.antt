@@ -1,5 +1,5 @@
 use Rattle.std.proofs.Common.{◌≡◌, ℕ, List, Some, slice_get, subst, ◌∙◌}
-use Rattle.mau_parse.proofs.Results_right.{copied_more}
+use Rattle.mau_parse.proofs.ResultsRight.{copied_more}
 use Rattle.mau_parse.proofs.results.copy_of.Goals as goal
 
 pub loop-i-preserved : goal.loop-i-preserved

@@ -1,7 +1,7 @@
 use Rattle.std.proofs.Common.{sym, ◌∙◌, ap, refl}
 use Rattle.mau_chart.specs.Nodes.{tree_at}
 use Rattle.mau_parse.specs.Overflow.{overflows}
-use Rattle.mau_parse.proofs.Results_right.{overflows-renamed}
+use Rattle.mau_parse.proofs.ResultsRight.{overflows-renamed}
 use Rattle.mau_parse.proofs.results.one_term.Goals as goal
 
 pub returns-then-overflows-clause-fault : goal.returns-then-overflows-clause-fault

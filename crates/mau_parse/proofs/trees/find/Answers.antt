@@ -1,7 +1,7 @@
 use Rattle.std.proofs.Common.{sym, subst, arith}
 use Rattle.mau_chart.specs.Chart.{AreLeaves}
-use Rattle.mau_parse.proofs.Trees_found.{is_charted, forms_have_pieces, told_so, readings_single, readings_found}
-use Rattle.mau_parse.proofs.Leaves_listed.{leaves_within}
+use Rattle.mau_parse.proofs.TreesFound.{is_charted, forms_have_pieces, told_so, readings_single, readings_found}
+use Rattle.mau_parse.proofs.LeavesListed.{leaves_within}
 use Rattle.mau_parse.proofs.trees.find.Goals as goal
 
 pub read-requires-clause-leaves : goal.read-requires-clause-leaves

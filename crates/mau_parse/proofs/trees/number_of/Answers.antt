@@ -1,4 +1,4 @@
-use Rattle.mau_parse.proofs.Trees_found.{number_of_first}
+use Rattle.mau_parse.proofs.TreesFound.{number_of_first}
 use Rattle.mau_parse.proofs.trees.number_of.Goals as goal
 
 pub returns : goal.returns

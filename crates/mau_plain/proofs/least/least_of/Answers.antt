@@ -1,9 +1,9 @@
 use Rattle.std.proofs.Common.{◌≡◌, suc, [], get_or, take, add-one, sym, ap₂, ◌∙◌, subst, arith, rules}
 use Rattle.std.proofs.lemmas.List.{get_or_default}
 use Rattle.mau_signature.specs.Signature.{theory_at}
-use Rattle.mau_api.specs.Places.{under_all}
+use Rattle.mau_listing.specs.Places.{under_all}
 use Rattle.mau_plain.specs.Least.{values_cmp, IsLeastOf}
-use Rattle.mau_plain.proofs.OfKind.{take_whole}
+use Rattle.mau_trial.proofs.OfKind.{take_whole}
 use Rattle.mau_plain.proofs.Leasts.{least_taken, least_kept}
 use Rattle.mau_plain.proofs.least.least_of.Goals as goal
 use Rattle.mau_plain.proofs.least.least_of.Goals.{then-comes_before, else-comes_before}

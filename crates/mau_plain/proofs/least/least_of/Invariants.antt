@@ -1,6 +1,6 @@
 use Rattle.std.proofs.Common.{◌<◌, [], get_or, length, take}
 use Rattle.mau_signature.specs.Signature.{theory_at}
-use Rattle.mau_api.specs.Places.{under_all}
+use Rattle.mau_listing.specs.Places.{under_all}
 use Rattle.mau_plain.specs.Least.{IsLeastOf}
 use Rattle.mau_plain.proofs.least.least_of.Given as goal
 

@@ -3,8 +3,11 @@ use Rattle.std.proofs.lemmas.Result.{IfOk-weaker}
 use Rattle.mau_signature.specs.Signature.{theory_at}
 use Rattle.mau_store.proofs.Standing.{tree_at-extends}
 use Rattle.mau_canon.proofs.Standing.{stand_among}
-use Rattle.mau_api.specs.Asked.{MaySettle}
-use Rattle.mau_plain.proofs.Nexts.{table_grown, all_gathered}
+use Rattle.mau_listing.specs.Asked.{MaySettle}
+use Rattle.mau_sorts.proofs.Settling.{kept_same}
+use Rattle.mau_listing.proofs.Closed.{closed_stay}
+use Rattle.mau_listing.proofs.Growth.{table_grown}
+use Rattle.mau_plain.proofs.Nexts.{all_gathered}
 use Rattle.mau_plain.proofs.listing.settled_candidates.Goals as goal
 
 pub returns-in_err-push_candidates-clause-table : goal.returns-in_err-push_candidates-clause-table
@@ -26,7 +29,7 @@ returns-clause-all c = λ known table.
     let gathered = c.push_candidates.new.out.items in
     IfOk-weaker c.settled_among.result _ _
     (λ out complete x is.
-    all_gathered s c.is_lawful.ensures old new c.push_candidates.ensures.extends c.has_nodes.ensures c.args.sorts.now c.args.sorts.now (λ i e h. h) c.requires.ready.over c.args.trial.now c.requires.ready c.new-candidates.result.items gathered out.items
+    all_gathered s c.is_lawful.ensures.lawful old new c.push_candidates.ensures.extends c.has_nodes.ensures c.args.sorts.now c.args.sorts.now (kept_same c.args.sorts.now) c.requires.ready.over c.args.trial.now c.requires.ready c.new-candidates.result.items gathered out.items
     c.in_ok-push_candidates.ensures.ok
     (λ id there can. complete id (subst (λ ids. Contains ids id) (sym c.deref.ensures.value) there) can)
     known x is)
@@ -41,3 +44,10 @@ returns-clause-entries c = λ i is.
 pub returns-clause-table : goal.returns-clause-table
 returns-clause-table c = λ known table.
     c.settled_among.ensures.table known (table_grown c.args.sig.now known c.args.store.now c.push_candidates.new.store c.push_candidates.ensures.extends c.args.sorts.now table)
+
+pub returns-in_err-push_candidates-clause-closed : goal.returns-in_err-push_candidates-clause-closed
+returns-in_err-push_candidates-clause-closed c = closed_stay c.args.store.now c.push_candidates.new.store c.args.sorts.now c.push_candidates.ensures.extends
+
+pub returns-clause-closed : goal.returns-clause-closed
+returns-clause-closed c = λ is.
+    c.settled_among.ensures.closed (closed_stay c.args.store.now c.push_candidates.new.store c.args.sorts.now c.push_candidates.ensures.extends is)

@@ -6,18 +6,20 @@ use Rattle.mau_store.specs.Node.{IsOf}
 use Rattle.mau_store.specs.Trees.{tree_at}
 use Rattle.mau_store.specs.View.{numbers}
 use Rattle.mau_sorts.specs.Table.{IsSettled}
-use Rattle.mau_canon.specs.Within.{StandsWithin, StandWithin}
+use Rattle.mau_canon.specs.Standing.{StandsWithin, StandWithin}
 use Rattle.mau_canon.proofs.Standing.{stand_there, stand_within_extended}
-use Rattle.mau_api.proofs.Growth.{found_same}
-use Rattle.mau_plain.specs.Tried.{without_context}
+use Rattle.mau_trial.specs.Tried.{without_context}
 use Rattle.mau_plain.specs.Words.{HasWords}
 use Rattle.mau_plain.proofs.Trials.{tried_kept}
-use Rattle.mau_plain.proofs.Nexts.{all_one, lists_among, all_among, if_ok_both, table_grown, may_settle_grown, ready_to_try, solution_is_tried}
+use Rattle.mau_trial.proofs.Among.{all_one}
+use Rattle.mau_plain.proofs.Nexts.{lists_among, all_among, if_ok_both, solution_is_tried, to_try}
+use Rattle.mau_listing.proofs.Closed.{closed_stay}
+use Rattle.mau_listing.proofs.Growth.{found_same, table_grown, may_settle_grown}
 use Rattle.mau_plain.proofs.listing.tried_lists.Goals as goal
 
 pub tried_among-requires-clause-ready : goal.tried_among-requires-clause-ready
 tried_among-requires-clause-ready c =
-    ready_to_try c.args.sig.now c.is_lawful.ensures c.args.store.now c.settled_candidates.new.store c.settled_candidates.ensures.extends c.has_nodes.ensures c.args.sorts.now c.settled_candidates.new.sorts
+    to_try c.args.sig.now c.is_lawful.ensures.lawful c.args.store.now c.settled_candidates.new.store c.settled_candidates.ensures.extends c.has_nodes.ensures c.args.sorts.now c.settled_candidates.new.sorts
     c.settled_candidates.ensures.kept c.settled_candidates.ensures.over c.args.trial.now c.requires.ready c.args.places.now c.requires.places
 
 pub tried_among-requires-clause-values : goal.tried_among-requires-clause-values
@@ -47,7 +49,7 @@ returns-clause-tried c =
     let lists = c.deref-3.result.now in
     let within = within_before c in
     let ready =
-    ready_to_try s c.is_lawful.ensures c.args.store.now mid c.settled_candidates.ensures.extends c.has_nodes.ensures c.args.sorts.now table c.settled_candidates.ensures.kept c.settled_candidates.ensures.over c.args.trial.now c.requires.ready
+    to_try s c.is_lawful.ensures.lawful c.args.store.now mid c.settled_candidates.ensures.extends c.has_nodes.ensures c.args.sorts.now table c.settled_candidates.ensures.kept c.settled_candidates.ensures.over c.args.trial.now c.requires.ready
     c.args.places.now c.requires.places in
     IfOk-weaker c.tried_among.result _ _
     (λ out h k d lt.
@@ -84,7 +86,7 @@ returns-clause-all c = λ known table.
     IfOk-weaker c.tried_among.result _ _
     (λ out all x is behind.
     let found =
-    solution_is_tried s c.is_lawful.ensures c.args.store.now mid c.settled_candidates.ensures.extends c.has_nodes.ensures c.args.sorts.now sorts c.settled_candidates.ensures.kept c.settled_candidates.ensures.over c.args.trial.now c.requires.ready
+    solution_is_tried s c.is_lawful.ensures.lawful c.args.store.now mid c.settled_candidates.ensures.extends c.has_nodes.ensures c.args.sorts.now sorts c.settled_candidates.ensures.kept c.settled_candidates.ensures.over c.args.trial.now c.requires.ready
     places c.requires.places known (c.settled_candidates.ensures.table known table) settled c.in_ok-settled.ensures.within c.in_ok-settled.ensures.settled lists has x is behind (c.in_ok-settled.ensures.all known table x is) in
     let l = found.0 in
     let there = subst (λ ls. Contains ls l) (sym c.deref-3.ensures.value) found.1 in
@@ -99,3 +101,7 @@ returns-clause-entries c = λ i is.
 pub returns-clause-table : goal.returns-clause-table
 returns-clause-table c = λ known t.
     table_grown c.args.sig.now known c.settled_candidates.new.store c.tried_among.new.store c.tried_among.ensures.extends c.settled_candidates.new.sorts (c.settled_candidates.ensures.table known t)
+
+pub returns-clause-closed : goal.returns-clause-closed
+returns-clause-closed c = λ is.
+    closed_stay c.settled_candidates.new.store c.tried_among.new.store c.settled_candidates.new.sorts c.tried_among.ensures.extends (c.settled_candidates.ensures.closed is)

@@ -8,10 +8,11 @@ use Rattle.mau_signature.specs.Signature.{terms_over, theory_at}
 use Rattle.mau_store.specs.Trees.{trees_at}
 use Rattle.mau_store.specs.View.{numbers}
 use Rattle.mau_store.proofs.Growth.{extension_is_preorder, trees_at-extends}
-use Rattle.mau_canon.specs.Within.{StandWithin}
-use Rattle.mau_canon.proofs.Collected.{bare_each, bare_node, depth_of_node, at_most_list, OnOk-then}
+use Rattle.mau_canon.specs.Standing.{StandWithin}
+use Rattle.mau_terms.proofs.BareTerms.{bare_each, bare_node, depth_of_node, at_most_list}
+use Rattle.mau_terms.proofs.Outcomes.{OnOk-then}
 use Rattle.mau_canon.proofs.Standing.{stand_within_extended, stand_there}
-use Rattle.mau_api.specs.Values.{MayBeValue, MayBeValueOfOne}
+use Rattle.mau_listing.specs.Values.{MayBeValue, MayBeValueOfOne}
 use Rattle.mau_plain.specs.Gathered.{Gathers}
 use Rattle.mau_plain.specs.Parts.{IsOfSome, IsOfSomeOfAll}
 use Rattle.mau_plain.proofs.Gathering.{gathers_none, gathers_more, gathers_grown, gathers_then, gathers_both, of_one_more}

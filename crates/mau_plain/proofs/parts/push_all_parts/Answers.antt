@@ -4,9 +4,9 @@ use Rattle.mau_signature.specs.Signature.{theory_at}
 use Rattle.mau_store.specs.Trees.{tree_at, trees_at}
 use Rattle.mau_store.specs.View.{numbers}
 use Rattle.mau_store.proofs.Standing.{tree_at-extends}
-use Rattle.mau_canon.specs.Within.{StandsWithin}
+use Rattle.mau_canon.specs.Standing.{StandsWithin}
 use Rattle.mau_canon.proofs.Standing.{stand_at, stands_within_extended}
-use Rattle.mau_api.specs.Values.{IsPartUnder}
+use Rattle.mau_listing.specs.Values.{IsPartUnder}
 use Rattle.mau_plain.specs.Parts.{IsPartOfOne}
 use Rattle.mau_plain.proofs.Gathering.{gathers_none, gathers_then, gathers_both, in_more}
 use Rattle.mau_plain.proofs.parts.push_all_parts.Goals as goal

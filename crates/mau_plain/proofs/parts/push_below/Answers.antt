@@ -9,7 +9,8 @@ use Rattle.mau_signature.specs.Signature.{theory_at}
 use Rattle.mau_store.specs.Trees.{tree_at, trees_at}
 use Rattle.mau_store.specs.View.{numbers}
 use Rattle.mau_store.proofs.Growth.{extension_is_preorder}
-use Rattle.mau_canon.specs.Within.{IsWithin, StandsWithin}
+use Rattle.mau_canon.specs.Within.{IsWithin}
+use Rattle.mau_canon.specs.Standing.{StandsWithin}
 use Rattle.mau_canon.proofs.Standing.{arguments_stand_within}
 use Rattle.mau_plain.specs.Parts.{IsBelowOrLess}
 use Rattle.mau_plain.proofs.Gathering.{gathers_more, gathers_then}

@@ -8,7 +8,7 @@ use Rattle.mau_signature.specs.Signature.{theory_at}
 use Rattle.mau_store.specs.Trees.{trees_at}
 use Rattle.mau_store.specs.View.{numbers}
 use Rattle.mau_canon.specs.declared.TheConstants.{MAX_DEPTH}
-use Rattle.mau_canon.specs.Within.{StandsWithin}
+use Rattle.mau_canon.specs.Standing.{StandsWithin}
 use Rattle.mau_plain.specs.Parts.{IsOverList}
 use Rattle.mau_plain.proofs.Gathering.{gathers_more, gathers_grown, gathers_then}
 use Rattle.mau_plain.proofs.parts.push_list.Goals as goal

@@ -4,10 +4,11 @@ use Rattle.mau_signature.specs.Signature.{theory_at}
 use Rattle.mau_store.specs.Trees.{trees_at}
 use Rattle.mau_store.specs.View.{numbers}
 use Rattle.mau_store.proofs.Growth.{trees_at-extends}
-use Rattle.mau_canon.specs.Within.{StandWithin}
+use Rattle.mau_canon.specs.Standing.{StandWithin}
 use Rattle.mau_canon.proofs.Standing.{stand_within_extended, stand_there}
 use Rattle.mau_plain.specs.Parts.{IsOverList, IsOverOneList}
-use Rattle.mau_plain.proofs.Gathering.{gathers_none, gathers_then, gathers_both, contains_more, contains_none}
+use Rattle.mau_plain.proofs.Gathering.{gathers_none, gathers_then, gathers_both, contains_more}
+use Rattle.mau_trial.proofs.Among.{contains_none}
 use Rattle.mau_plain.proofs.parts.push_lists.Goals as goal
 
 pub loop-list-init : goal.loop-list-init

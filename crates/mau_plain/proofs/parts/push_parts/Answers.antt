@@ -4,7 +4,7 @@ use Rattle.mau_store.specs.Trees.{tree_at}
 use Rattle.mau_store.proofs.Growth.{extension_is_preorder}
 use Rattle.mau_store.proofs.Standing.{tree_at-extends}
 use Rattle.mau_canon.proofs.Standing.{stands_within_extended}
-use Rattle.mau_api.specs.Values.{IsPartUnder}
+use Rattle.mau_listing.specs.Values.{IsPartUnder}
 use Rattle.mau_plain.specs.Gathered.{Gathers}
 use Rattle.mau_plain.specs.Parts.{IsOverList, IsWordOf, IsBelowOrLess}
 use Rattle.mau_plain.proofs.Gathering.{gathers_one, gathers_then, gathers_both}

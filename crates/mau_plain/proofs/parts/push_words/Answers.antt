@@ -12,7 +12,7 @@ use Rattle.mau_store.specs.Node.{Node}
 use Rattle.mau_store.specs.Trees.{tree_at, trees_at}
 use Rattle.mau_store.specs.View.{numbers}
 use Rattle.mau_canon.proofs.Standing.{stand_among}
-use Rattle.mau_api.proofs.Answered.{normal_is}
+use Rattle.mau_listing.proofs.Answered.{normal_is}
 use Rattle.mau_plain.specs.Parts.{IsOverOneList, IsWordOf}
 use Rattle.mau_plain.proofs.Gathering.{gathers_then}
 use Rattle.mau_plain.proofs.Limits.{over_elements}

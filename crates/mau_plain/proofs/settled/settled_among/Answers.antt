@@ -1,7 +1,8 @@
 use Rattle.std.proofs.Common.{Contains, take, ⊎_elim, inr, add-one, subst, sym, arith}
 use Rattle.mau_terms.specs.declared.ids.TermId.{TermId}
 use Rattle.mau_sorts.specs.Table.{IsSettled}
-use Rattle.mau_plain.proofs.OfKind.{take_whole}
+use Rattle.mau_sorts.proofs.Settling.{kept_on}
+use Rattle.mau_trial.proofs.OfKind.{take_whole}
 use Rattle.mau_plain.proofs.Settling.{settled_more, among_more, complete_more}
 use Rattle.mau_plain.proofs.settled.settled_among.Goals as goal
 
@@ -25,13 +26,17 @@ loop-id-preserved c =
           (subst (λ n. Contains (take n ids) x) (add-one i) there) can;
       entries = λ j is.
           ⊎_elim (λ (before : IsSettled old j). inv.entries j before) (λ h. inr h) (c.push_settled.ensures.entries j is);
-      kept = λ j e h. c.push_settled.ensures.kept j e (inv.kept j e h);
+      kept = kept_on start old new inv.kept c.push_settled.ensures.kept;
       over = c.push_settled.ensures.over;
       table = λ known t. c.push_settled.ensures.table known (inv.table known t);
+      closed = λ is. c.push_settled.ensures.closed (inv.closed is);
     }
 
 pub returns-in_err-push_settled-clause-table : goal.returns-in_err-push_settled-clause-table
 returns-in_err-push_settled-clause-table c = λ known t. c.push_settled.ensures.table known (c.loop-id.invariant.table known t)
+
+pub returns-in_err-push_settled-clause-closed : goal.returns-in_err-push_settled-clause-closed
+returns-in_err-push_settled-clause-closed c = λ is. c.push_settled.ensures.closed (c.loop-id.invariant.closed is)
 
 pub returns-clause-complete : goal.returns-clause-complete
 returns-clause-complete c = λ id there can.

@@ -4,7 +4,7 @@ use Rattle.mau_store.specs.Trees.{tree_at}
 use Rattle.mau_store.specs.View.{numbers}
 use Rattle.mau_sorts.specs.HasSort.{Known}
 use Rattle.mau_sorts.specs.Table.{IsSettled, AreOver, KeepsEntries}
-use Rattle.mau_api.specs.Asked.{IsSettleable, IsTableOf, MaySettle}
+use Rattle.mau_listing.specs.Asked.{IsSettleable, IsTableOf, IsClosedTable, MaySettle}
 use Rattle.mau_plain.proofs.settled.settled_among.Given as goal
 
 abbrev pub invariant-loop-id : goal.invariant-loop-id
@@ -16,4 +16,5 @@ invariant-loop-id l = record {
   kept : KeepsEntries l.fn.sorts l.sorts;
   over : AreOver l.sig.hierarchy l.sorts;
   table : (known : Known) → IsTableOf l.sig known l.store l.fn.sorts → IsTableOf l.sig known l.store l.sorts;
+  closed : IsClosedTable l.store l.fn.sorts → IsClosedTable l.store l.sorts;
 }

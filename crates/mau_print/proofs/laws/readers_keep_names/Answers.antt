@@ -1,4 +1,4 @@
-use Rattle.mau_print.proofs.Names_written.{readers_keep_names}
+use Rattle.mau_print.proofs.NamesWritten.{readers_keep_names}
 use Rattle.mau_print.proofs.laws.readers_keep_names.Goals as goal
 
 pub returns : goal.returns

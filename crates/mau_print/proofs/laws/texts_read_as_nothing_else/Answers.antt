@@ -1,4 +1,4 @@
-use Rattle.mau_print.proofs.Read_again.{texts_read_as_nothing_else}
+use Rattle.mau_print.proofs.ReadAgain.{texts_read_as_nothing_else}
 use Rattle.mau_print.proofs.laws.texts_read_as_nothing_else.Goals as goal
 
 pub returns : goal.returns

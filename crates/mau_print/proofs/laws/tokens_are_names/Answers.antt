@@ -1,4 +1,4 @@
-use Rattle.mau_print.proofs.Names_written.{tokens_are_names}
+use Rattle.mau_print.proofs.NamesWritten.{tokens_are_names}
 use Rattle.mau_print.proofs.laws.tokens_are_names.Goals as goal
 
 pub returns : goal.returns

@@ -3,7 +3,7 @@ use Rattle.std.proofs.Math.Seq.{take-length}
 use Rattle.mau_poset.specs.Order.{Hierarchy}
 use Rattle.mau_signature.specs.Signature.{declarations_at}
 use Rattle.mau_print.specs.Layouts.{layout_of, layout_by}
-use Rattle.mau_print.specs.Found.{IsProductionFor}
+use Rattle.mau_print.specs.Beforehand.{IsProductionFor}
 use Rattle.mau_print.proofs.Produced.{written_there, first_of, count_more, layouts_more}
 use Rattle.mau_print.proofs.making.layouts.Goals as goal
 

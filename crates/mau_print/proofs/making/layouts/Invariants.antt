@@ -1,7 +1,7 @@
 use Rattle.std.proofs.Common.{◌≡◌, ◌≤◌, ◌*◌, ℕ, List, length, map, take}
 use Rattle.mau_grammar.specs.Productions.{of_operators}
 use Rattle.mau_print.specs.Layouts.{layout_of}
-use Rattle.mau_print.specs.Found.{AreKnown}
+use Rattle.mau_print.specs.Beforehand.{AreKnown}
 use Rattle.mau_print.proofs.making.layouts.Given as goal
 
 abbrev pub invariant-loop-i : goal.invariant-loop-i

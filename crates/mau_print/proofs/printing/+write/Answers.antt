@@ -8,7 +8,7 @@ use Rattle.mau_store.specs.View.{numbers}
 use Rattle.mau_store.specs.Trees.{tree_at}
 use Rattle.mau_store.proofs.Arguments.{id_below}
 use Rattle.mau_print.specs.declared.layout.Layout.TheVariants.{Prefix, Form, Chain}
-use Rattle.mau_print.specs.Printed.{printed_at, printed_all, trees_of_ids}
+use Rattle.mau_print.specs.PrintedIds.{printed_at, printed_all, trees_of_ids}
 use Rattle.mau_print.specs.Written.{in_parentheses, comma_texts, woven, nested}
 use Rattle.mau_print.proofs.Ids.{older_there, at_most, at_most_rest, node_falls, there_rest, rest_is, printed_over}
 use Rattle.mau_print.proofs.Chains.{nested-short, nested-one_place, chain-step}

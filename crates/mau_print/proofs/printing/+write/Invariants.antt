@@ -2,7 +2,7 @@ use Rattle.std.proofs.Common.{true, ◌≡◌, ◌++◌, ◌+◌, ◌*◌, ◌�
 use Rattle.mau_terms.specs.Depth.{depth, list_depth}
 use Rattle.mau_store.specs.Trees.{tree_at}
 use Rattle.mau_print.specs.Written.{spaced, pieces, nested, closing, times, rest_texts, IsSecondPlace}
-use Rattle.mau_print.specs.Printed.{printed_all, trees_of_ids}
+use Rattle.mau_print.specs.PrintedIds.{printed_all, trees_of_ids}
 use Rattle.mau_print.proofs.printing.+write.Given as goal
 
 abbrev pub decreases-write_term : goal.decreases-write_term

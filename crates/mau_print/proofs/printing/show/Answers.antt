@@ -2,7 +2,7 @@ use Rattle.std.proofs.Common.{◌≡◌, ◌++◌, sym, ap, ◌∙◌, subst, st
 use Rattle.mau_store.specs.Trees.{tree_at}
 use Rattle.mau_print.specs.Printed.{shown}
 use Rattle.mau_print.specs.Readable.{IsTextOf}
-use Rattle.mau_print.proofs.Read_back.{texts_read_back}
+use Rattle.mau_print.proofs.ReadBack.{texts_read_back}
 use Rattle.mau_print.proofs.printing.show.Goals as goal
 
 pub returns-clause-reads : goal.returns-clause-reads

@@ -1,4 +1,4 @@
-use Rattle.mau_print.proofs.First_names.{noted-more}
+use Rattle.mau_print.proofs.FirstNames.{noted-more}
 use Rattle.mau_print.proofs.sorts.first_names.Goals as goal
 
 pub loop-sort-preserved : goal.loop-sort-preserved

@@ -2,7 +2,7 @@ use Rattle.std.proofs.Common.{sym, subst}
 use Rattle.std.specs.Prelude.{IfOk}
 use Rattle.std.proofs.lemmas.Result.{IfOk-weaker}
 use Rattle.mau_session.specs.Gains.{GainsBody}
-use Rattle.mau_session.specs.State.{state_of}
+use Rattle.mau_session.specs.KeptState.{state_of}
 use Rattle.mau_session.specs.Transcript.{setting_answered}
 use Rattle.mau_session.proofs.answer.answer_body.Goals as goal
 

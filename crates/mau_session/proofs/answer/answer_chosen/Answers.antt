@@ -1,5 +1,6 @@
 use Rattle.std.proofs.Common.{sym, ◌∙◌, subst}
-use Rattle.mau_session.specs.State.{state_of, outcome_of, state_after}
+use Rattle.mau_session.specs.KeptState.{state_of, outcome_of}
+use Rattle.mau_session.specs.State.{state_after}
 use Rattle.mau_session.specs.Gains.{ChosenAnswer, chosen_not_built, chosen_refused, chosen_answered}
 use Rattle.mau_session.proofs.Answering.{refused_with}
 use Rattle.mau_session.proofs.answer.answer_chosen.Goals as goal

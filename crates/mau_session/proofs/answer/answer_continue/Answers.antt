@@ -1,7 +1,7 @@
 use Rattle.std.proofs.Common.{◌≡◌, Some, None, IfOk, sym, ap, ◌∙◌, subst}
 use Rattle.std.specs.Option.{option_map}
 use Rattle.std.proofs.lemmas.Result.{IfOk-weaker}
-use Rattle.mau_session.specs.State.{state_of, going_of}
+use Rattle.mau_session.specs.KeptState.{state_of, going_of}
 use Rattle.mau_session.specs.Gains.{GainsContinue}
 use Rattle.mau_session.specs.Transcript.{number_refused, nothing_to_continue}
 use Rattle.mau_session.proofs.Answering.{refused_with, continues}

@@ -1,5 +1,5 @@
 use Rattle.std.proofs.lemmas.Result.{IfOk-weaker}
-use Rattle.mau_session.specs.State.{state_of}
+use Rattle.mau_session.specs.KeptState.{state_of}
 use Rattle.mau_session.proofs.Answering.{item_says, item_fails}
 use Rattle.mau_session.proofs.answer.answer_item.Goals as goal
 

@@ -2,7 +2,7 @@ use Rattle.std.proofs.Common.{◌≡◌, ℕ, suc, ◌+◌, ◌<◌, List, [], �
 use Rattle.std.proofs.lemmas.List.{drop_all}
 use Rattle.std.proofs.Math.Seq.{drop-cons}
 use Rattle.mau_modtext.specs.declared.raw.RawItem.{RawItem}
-use Rattle.mau_session.specs.State.{state_of}
+use Rattle.mau_session.specs.KeptState.{state_of}
 use Rattle.mau_session.specs.Transcript.{ItemsAnswer, items_end, item_quits}
 use Rattle.mau_session.proofs.Answering.{one_more, all_answered, or_first}
 use Rattle.mau_session.proofs.answer.answer_items.Goals as goal

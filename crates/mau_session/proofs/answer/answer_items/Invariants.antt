@@ -1,5 +1,6 @@
 use Rattle.std.proofs.Common.{ℕ, ◌+◌, ◌≤◌, List, ◌++◌, Bool, ◌||◌, drop}
-use Rattle.mau_session.specs.State.{state_of, at_first, IsReadyState}
+use Rattle.mau_session.specs.KeptState.{state_of, IsReadyState}
+use Rattle.mau_session.specs.State.{at_first}
 use Rattle.mau_session.specs.Transcript.{ItemsAnswer}
 use Rattle.mau_session.proofs.answer.answer_items.Given as goal
 

@@ -4,8 +4,8 @@ use Rattle.mau_terms.specs.Norm.{norm}
 use Rattle.mau_canon.specs.declared.fault.BuildFault.TheVariants.{TooDeep, Overflow}
 use Rattle.mau_canon.specs.Within.{IsWithin, IsCause}
 use Rattle.mau_signature.specs.Signature.{theory_at}
-use Rattle.mau_session.specs.Query.{query_of}
-use Rattle.mau_session.specs.State.{outcome_of}
+use Rattle.mau_session.specs.KeptQuery.{query_of}
+use Rattle.mau_session.specs.KeptState.{outcome_of}
 use Rattle.mau_session.specs.Gains.{gains_solutions, gains_too_deep, gains_overflow}
 use Rattle.mau_session.proofs.Answering.{gains_listing}
 use Rattle.mau_session.proofs.answer.answer_listing.Goals as goal

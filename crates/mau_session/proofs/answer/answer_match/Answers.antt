@@ -2,7 +2,7 @@ use Rattle.std.proofs.Common.{◌≡◌, None, true, sym, subst}
 use Rattle.std.proofs.lemmas.Result.{IfOk-weaker}
 use Rattle.mau_session.specs.Answers.{refusal_line}
 use Rattle.mau_session.specs.Commands.{unbuilt}
-use Rattle.mau_session.specs.State.{state_of}
+use Rattle.mau_session.specs.KeptState.{state_of}
 use Rattle.mau_session.specs.Transcript.{MatchAnswer, command_not_built, module_unknown}
 use Rattle.mau_session.proofs.Answering.{refused_with, gains_chosen}
 use Rattle.mau_session.proofs.answer.answer_match.Goals as goal

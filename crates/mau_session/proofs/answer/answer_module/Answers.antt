@@ -1,7 +1,7 @@
 use Rattle.std.proofs.Common.{◌∙◌, sym, subst, false, Err}
 use Rattle.mau_modtext.specs.declared.raw.RawBody.TheVariants.{Module}
 use Rattle.mau_module.specs.Flattened.{FlattenedAs}
-use Rattle.mau_session.specs.State.{state_of}
+use Rattle.mau_session.specs.KeptState.{state_of}
 use Rattle.mau_session.specs.Transcript.{module_not_built, module_accepted, module_refused}
 use Rattle.mau_session.specs.Gains.{GainsBody}
 use Rattle.mau_session.proofs.Answering.{refused_with}

@@ -1,7 +1,7 @@
 use Rattle.std.proofs.Common.{true, false, sym, subst}
 use Rattle.mau_modtext.specs.declared.raw.Setting.TheVariants as Setting
 use Rattle.mau_session.specs.Answers.{ok_line, unknown_module_line}
-use Rattle.mau_session.specs.State.{state_of}
+use Rattle.mau_session.specs.KeptState.{state_of}
 use Rattle.mau_session.specs.Transcript.{SettingAnswer, module_selected, selects_none}
 use Rattle.mau_session.proofs.Answering.{answered_with, refused_with}
 use Rattle.mau_session.proofs.answer.answer_select.Goals as goal

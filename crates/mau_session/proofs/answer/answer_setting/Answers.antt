@@ -2,7 +2,7 @@ use Rattle.std.proofs.Common.{◌≡◌, Bool, true, false, IfOk, sym, ap, ◌�
 use Rattle.mau_modtext.specs.declared.raw.Setting.{Setting as SettingOf}
 use Rattle.mau_modtext.specs.declared.raw.Setting.TheVariants.{Trace}
 use Rattle.mau_session.specs.Gains.{GainsSetting}
-use Rattle.mau_session.specs.State.{state_of}
+use Rattle.mau_session.specs.KeptState.{state_of}
 use Rattle.mau_session.specs.Transcript.{trace_not_built, trace_off, changes_nothing}
 use Rattle.mau_session.proofs.Answering.{answered_with, refused_with}
 use Rattle.mau_session.proofs.answer.answer_setting.Goals as goal

@@ -4,7 +4,7 @@ use Rattle.std.proofs.lemmas.List.{length-append}
 use Rattle.std.proofs.lemmas.Result.{IfOk-weaker}
 use Rattle.mau_session.specs.Reading.{IsUnread, TermReads, part_texts}
 use Rattle.mau_session.specs.Matching.{numbered_from}
-use Rattle.mau_session.specs.State.{outcome_of, IsReadyOutcome}
+use Rattle.mau_session.specs.KeptState.{outcome_of, IsReadyOutcome}
 use Rattle.mau_session.specs.declared.state.Outcome.TheVariants.{Refused}
 use Rattle.mau_terms.specs.View.{tree_of}
 use Rattle.mau_session.specs.Answers.{match_head}

@@ -1,7 +1,7 @@
 use Rattle.std.proofs.Common.{subst}
 use Rattle.mau_parse.specs.declared.goals.Goal.TheVariants.{AnyKind}
 use Rattle.mau_session.specs.Reading.{IsUnread}
-use Rattle.mau_session.specs.State.{outcome_of, IsReadyOutcome}
+use Rattle.mau_session.specs.KeptState.{outcome_of, IsReadyOutcome}
 use Rattle.mau_session.specs.declared.state.Outcome.TheVariants.{Refused}
 use Rattle.mau_session.specs.Gains.{GainsTerms}
 use Rattle.mau_session.specs.Transcript.{pattern_refused}

@@ -1,7 +1,7 @@
 use Rattle.std.proofs.Common.{true, sym, subst}
 use Rattle.mau_modtext.specs.declared.raw.RawBody.TheVariants.{Command}
 use Rattle.mau_session.specs.Answers.{refusal_line}
-use Rattle.mau_session.specs.State.{state_of}
+use Rattle.mau_session.specs.KeptState.{state_of}
 use Rattle.mau_session.specs.Transcript.{BodyAnswer, other_unknown, other_not_built}
 use Rattle.mau_session.proofs.Answering.{refused_with}
 use Rattle.mau_session.proofs.answer.answer_unbuilt.Goals as goal

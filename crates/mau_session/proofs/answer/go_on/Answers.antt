@@ -1,6 +1,7 @@
 use Rattle.std.proofs.Common.{ap, ◌∙◌}
-use Rattle.mau_session.specs.Query.{query_of}
-use Rattle.mau_session.specs.State.{state_of, going_of, state_after, refuses}
+use Rattle.mau_session.specs.KeptQuery.{query_of}
+use Rattle.mau_session.specs.KeptState.{state_of, going_of}
+use Rattle.mau_session.specs.State.{state_after, refuses}
 use Rattle.mau_session.proofs.Answering.{gains_on}
 use Rattle.mau_session.proofs.answer.go_on.Goals as goal
 

@@ -1,4 +1,4 @@
-use Rattle.mau_session.specs.Query.{query_of}
+use Rattle.mau_session.specs.KeptQuery.{query_of}
 use Rattle.mau_session.proofs.Progress.{with_last_line}
 use Rattle.mau_session.proofs.listing.show.Goals as goal
 

@@ -3,7 +3,7 @@ use Rattle.mau_terms.specs.declared.ids.TermId.{TermId}
 use Rattle.mau_store.specs.Node.{AreOf}
 use Rattle.mau_store.specs.View.{numbers}
 use Rattle.mau_store.proofs.Growth.{AreOf-extends}
-use Rattle.mau_session.specs.Query.{IsReady}
+use Rattle.mau_session.specs.KeptQuery.{IsReady}
 use Rattle.mau_session.specs.declared.query.Query.{Query}
 use Rattle.mau_session.proofs.Listed.{given_there, given_each, advanced_ready}
 use Rattle.mau_session.proofs.MatcherLines.{matcher_written}

@@ -1,6 +1,6 @@
 use Rattle.std.proofs.Common.{◌≡◌, ◌<◌, ◌+◌, false, refl, sym, ap, ◌∙◌, subst, arith}
 use Rattle.std.specs.Prelude.{unwrap_or}
-use Rattle.mau_session.specs.Query.{query_of}
+use Rattle.mau_session.specs.KeptQuery.{query_of}
 use Rattle.mau_session.specs.Next.{ShowsNext, GainsMatchers}
 use Rattle.mau_session.proofs.Progress.{no_progress, more_progress, ended_progress, bounded_progress}
 use Rattle.mau_session.proofs.listing.show_solutions.Goals as goal

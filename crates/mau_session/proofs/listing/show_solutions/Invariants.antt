@@ -1,5 +1,5 @@
 use Rattle.std.proofs.Common.{◌≡◌}
-use Rattle.mau_session.specs.Query.{query_of, asked_for, IsReady}
+use Rattle.mau_session.specs.KeptQuery.{query_of, asked_for, IsReady}
 use Rattle.mau_session.proofs.Progress.{IsProgress}
 use Rattle.mau_session.proofs.listing.show_solutions.Given as goal
 

@@ -1,5 +1,5 @@
 use Rattle.std.proofs.Common.{◌++◌, ◌∙◌, ap, codes}
-use Rattle.mau_session.specs.Query.{id_tree}
+use Rattle.mau_session.specs.KeptQuery.{id_tree}
 use Rattle.mau_print.specs.Printed.{shown}
 use Rattle.mau_session.specs.Shown.{shown_variable, printer_in}
 use Rattle.mau_session.proofs.Lines.{four_parts}

@@ -1,5 +1,5 @@
 use Rattle.std.proofs.Common.{get_or, ◌++◌, ◌+◌, ◌∙◌, ap, sym, drop, take, length, append_assoc, append-nil, arith}
-use Rattle.mau_session.specs.Query.{id_tree, id_trees}
+use Rattle.mau_session.specs.KeptQuery.{id_tree, id_trees}
 use Rattle.mau_session.proofs.Stored.{argument_there}
 use Rattle.mau_session.specs.Answers.{value_line, value_lines}
 use Rattle.mau_session.specs.Matching.{numbered_from}

@@ -1,5 +1,5 @@
 use Rattle.std.proofs.Common.{◌≡◌, ◌++◌, drop, take, length}
-use Rattle.mau_session.specs.Query.{id_trees}
+use Rattle.mau_session.specs.KeptQuery.{id_trees}
 use Rattle.mau_session.specs.Answers.{value_lines}
 use Rattle.mau_session.specs.Matching.{numbered_from}
 use Rattle.mau_session.proofs.listing.write_values.Given as goal

@@ -5,7 +5,7 @@ use Rattle.mau_signature.specs.Signature.{theory_at}
 use Rattle.mau_store.specs.Trees.{trees_at}
 use Rattle.mau_store.specs.View.{numbers}
 use Rattle.mau_canon.specs.Within.{IsWithin, IsCause}
-use Rattle.mau_api.proofs.Growth.{trees_long}
+use Rattle.mau_listing.proofs.Growth.{trees_long}
 use Rattle.mau_session.proofs.Around.{norm_of_list, not_too_deep, no_overflow}
 use Rattle.mau_session.proofs.part.over_context.Goals as goal
 

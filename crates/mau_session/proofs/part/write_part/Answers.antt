@@ -9,12 +9,13 @@ use Rattle.mau_store.specs.Trees.{trees_at}
 use Rattle.mau_store.specs.View.{numbers}
 use Rattle.mau_store.proofs.Growth.{trees_at-extends}
 use Rattle.mau_store.proofs.Standing.{tree_at-extends}
-use Rattle.mau_canon.specs.Within.{IsWithin, StandWithin}
+use Rattle.mau_canon.specs.Within.{IsWithin}
+use Rattle.mau_canon.specs.Standing.{StandWithin}
 use Rattle.mau_canon.proofs.Standing.{stand_there, stand_within_extended}
-use Rattle.mau_api.specs.Asked.{found_in, IsGiven}
+use Rattle.mau_listing.specs.Asked.{matcher_in, IsGiven}
 use Rattle.mau_session.specs.Answers.{term_line, context_line, right_label, part_lines}
 use Rattle.mau_session.specs.Parts.{IsContext}
-use Rattle.mau_session.specs.Query.{asked_for}
+use Rattle.mau_session.specs.KeptQuery.{asked_for}
 use Rattle.mau_session.specs.Shown.{printer_in}
 use Rattle.mau_session.proofs.Around.{is_around}
 use Rattle.mau_session.proofs.PartLines.{whole_lines, part_written}
@@ -24,7 +25,7 @@ pub returns-then-is_whole-clause-gained : goal.returns-then-is_whole-clause-gain
 returns-then-is_whole-clause-gained c =
     let m = c.args.module.now in
     let q = c.args.query.now in
-    let found = found_in q.store c.args.solution.now in
+    let found = matcher_in q.store c.args.solution.now in
     on_ok_weaker c.write_text.result
     (λ e.
     e
@@ -136,4 +137,4 @@ returns-clause-gained c =
     on_ok_weaker c.write_contexts.result
     (λ e.
     part_written m q.vars p q.store new x around.op o a b no around.top same_left same_right first (e ∙ ap₂ (contexts c.operator_of-op.result.0) c.items-2.ensures c.items-3.ensures ∙ ap (λ f. contexts f x.left x.right) op)
-    ∙ ap (λ w. o ++ part_lines m q.vars w p (found_in q.store x)) (sym c.if-not-query.false)) c.write_contexts.ensures.gained
+    ∙ ap (λ w. o ++ part_lines m q.vars w p (matcher_in q.store x)) (sym c.if-not-query.false)) c.write_contexts.ensures.gained

@@ -1,8 +1,9 @@
 use Rattle.std.proofs.Common.{◌≡◌, ◌<◌, ◌≤◌, ⊎_elim, sym, subst, arith}
 use Rattle.std.proofs.lemmas.Bool.{cases_lt}
 use Rattle.mau_store.specs.Trees.{tree_at}
-use Rattle.mau_sorts.specs.Table.{IsSettled, IsTreeOver}
-use Rattle.mau_api.proofs.Growth.{settled_kept}
+use Rattle.mau_sorts.specs.Table.{IsSettled}
+use Rattle.mau_signature.specs.OverSignature.{IsTreeOver}
+use Rattle.mau_listing.proofs.Growth.{settled_kept}
 use Rattle.mau_session.proofs.Settling.{ready_over}
 use Rattle.mau_session.proofs.settled.settle_terms.Goals as goal
 

@@ -1,6 +1,7 @@
 use Rattle.std.proofs.Common.{ℕ, [], ◌<◌}
 use Rattle.mau_store.specs.Trees.{tree_at}
-use Rattle.mau_sorts.specs.Table.{IsSettled, AreEntries, AreOver, IsTreeOver}
+use Rattle.mau_sorts.specs.Table.{IsSettled, AreEntries, AreOver}
+use Rattle.mau_signature.specs.OverSignature.{IsTreeOver}
 use Rattle.mau_session.proofs.settled.settle_terms.Given as goal
 
 abbrev pub invariant-loop-i : goal.invariant-loop-i

@@ -1,7 +1,7 @@
 use Rattle.std.proofs.Common.{subst, sym, refl, below_more, arith}
 use Rattle.mau_store.specs.Trees.{tree_at}
 use Rattle.mau_store.specs.View.{node_of}
-use Rattle.mau_sorts.specs.Table.{IsTreeOver}
+use Rattle.mau_signature.specs.OverSignature.{IsTreeOver}
 use Rattle.mau_sorts.proofs.Settling.{node_over, tree_from}
 use Rattle.mau_sorts.proofs.ready.are_terms.Goals as goal
 

@@ -1,7 +1,7 @@
 use Rattle.std.proofs.Common.{map, sym, subst, ◌∙◌, ap}
 use Rattle.mau_terms.specs.View.{tree_of}
 use Rattle.mau_terms.specs.declared.bare.Bare.TheVariants.{App}
-use Rattle.mau_api.specs.declared.statements.Fragment.TheVariants.{Equal}
+use Rattle.mau_program.specs.declared.statements.Fragment.TheVariants.{Equal}
 use Rattle.mau_parse.specs.declared.goals.Goal.TheVariants.{Kind}
 use Rattle.mau_parse.specs.declared.fault.ParseFault.TheVariants.{NoParse}
 use Rattle.mau_statement.specs.declared.fault.StatementFault.TheVariants.{Parse}

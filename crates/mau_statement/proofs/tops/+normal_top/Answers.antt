@@ -4,7 +4,8 @@ use Rattle.mau_terms.specs.Bare.{IsBare}
 use Rattle.mau_terms.specs.Norm.{norm}
 use Rattle.mau_terms.specs.View.{tree_of}
 use Rattle.mau_signature.specs.Signature.{terms_over, theory_at}
-use Rattle.mau_canon.proofs.Collected.{bare_node, is_operator}
+use Rattle.mau_terms.proofs.BareTerms.{bare_node}
+use Rattle.mau_signature.proofs.Operators.{is_operator}
 use Rattle.mau_statement.specs.Tops.{top_of, IsTopOver, over_one_top, over_two_top}
 use Rattle.mau_statement.proofs.Topped.{list_none, list_one, list_two, list_many, one_over, two_over}
 use Rattle.mau_statement.proofs.tops.+normal_top.Goals as goal

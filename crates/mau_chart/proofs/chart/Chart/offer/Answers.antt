@@ -1,5 +1,5 @@
 use Rattle.std.proofs.Common.{sym, subst}
-use Rattle.mau_chart.specs.Chart.{Offered, found}
+use Rattle.mau_chart.specs.Chart.{Offered, edge}
 use Rattle.mau_chart.specs.Table.{table, seen, AreKnown, HasOther}
 use Rattle.mau_chart.specs.Nodes.{trees_at}
 use Rattle.mau_chart.proofs.Cells.{put_offered, put_known, put_second}
@@ -16,7 +16,7 @@ pub returns-in_ok-put-in-First-clause-offered : goal.returns-in_ok-put-in-First-
 returns-in_ok-put-in-First-clause-offered c =
     let s = c.args.self.now in
     let n = c.put.new.self in
-    subst (λ ts. Offered (table s) (seen ts n.rows.items) c.args.i (found c.args.item c.args.end (trees_at s.store c.args.trees.items))) (sym c.in_ok-put-in-First.ensures.store) (put_offered s.store s.rows.items n.rows.items c.args.i _ c.in_ok-put-in-First.ensures.put)
+    subst (λ ts. Offered (table s) (seen ts n.rows.items) c.args.i (edge c.args.item c.args.end (trees_at s.store c.args.trees.items))) (sym c.in_ok-put-in-First.ensures.store) (put_offered s.store s.rows.items n.rows.items c.args.i _ c.in_ok-put-in-First.ensures.put)
 
 pub returns-in_ok-put-in-Second-clause-chart : goal.returns-in_ok-put-in-Second-clause-chart
 returns-in_ok-put-in-Second-clause-chart c =
@@ -29,4 +29,4 @@ pub returns-in_ok-put-in-Second-clause-offered : goal.returns-in_ok-put-in-Secon
 returns-in_ok-put-in-Second-clause-offered c =
     let s = c.args.self.now in
     let n = c.put-in-Second.new.self in
-    subst (λ ts. Offered (table s) (seen ts n.rows.items) c.args.i (found c.args.item c.args.end (trees_at s.store c.args.trees.items))) (sym c.in_ok-put-in-Second.ensures.store) (put_offered s.store s.rows.items n.rows.items c.args.i _ c.in_ok-put-in-Second.ensures.put)
+    subst (λ ts. Offered (table s) (seen ts n.rows.items) c.args.i (edge c.args.item c.args.end (trees_at s.store c.args.trees.items))) (sym c.in_ok-put-in-Second.ensures.store) (put_offered s.store s.rows.items n.rows.items c.args.i _ c.in_ok-put-in-Second.ensures.put)

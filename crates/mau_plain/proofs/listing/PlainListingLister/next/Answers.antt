@@ -1,4 +1,4 @@
-use Rattle.std.proofs.Common.{◌≡◌, ◌<◌, List, [], All, Contains, length, get_or, false, sym, ap, ◌∙◌, subst}
+use Rattle.std.proofs.Common.{◌≡◌, ◌<◌, List, [], All, Contains, length, get_or, false, Some, sym, ap, ◌∙◌, subst}
 use Rattle.std.specs.Option.{option_map}
 use Rattle.std.proofs.lemmas.List.{get_or_default}
 use Rattle.std.proofs.lemmas.List.Elements.{Contains-get_or}
@@ -7,17 +7,20 @@ use Rattle.mau_terms.specs.declared.ids.TermId.{TermId}
 use Rattle.mau_signature.specs.Signature.{theory_at}
 use Rattle.mau_store.specs.View.{numbers}
 use Rattle.mau_sorts.specs.Table.{IsSettled}
-use Rattle.mau_canon.specs.Within.{StandWithin}
-use Rattle.mau_api.specs.declared.solution.Solution.{Solution}
-use Rattle.mau_api.specs.Places.{under_all}
-use Rattle.mau_api.specs.Found.{IsSolution}
-use Rattle.mau_api.specs.Next.{found_cmp, IsLeastBehind}
-use Rattle.mau_api.specs.Asked.{BySort, IsGiven, question_in, found_in}
+use Rattle.mau_canon.specs.Standing.{StandWithin}
+use Rattle.mau_listing.specs.declared.solution.Solution.{Solution}
+use Rattle.mau_listing.specs.Places.{under_all}
+use Rattle.mau_listing.specs.Question.{IsSolution}
+use Rattle.mau_listing.specs.Next.{matcher_cmp, IsLeastBehind}
+use Rattle.mau_listing.specs.Asked.{BySort, IsGiven, question_in, matcher_in}
+use Rattle.mau_listing.specs.Finite.{count_left}
 use Rattle.mau_plain.specs.Least.{IsLeastOf}
-use Rattle.mau_plain.specs.Tried.{IsFor, IsTriedBehind, ArePlacesOf, asked_in, without_context}
-use Rattle.mau_plain.proofs.Gathering.{contains_none}
-use Rattle.mau_plain.proofs.AtEach.{each_long}
-use Rattle.mau_plain.proofs.Nexts.{all_one, is_given, is_least}
+use Rattle.mau_trial.specs.Tried.{IsFor, ArePlacesOf, asked_in, without_context}
+use Rattle.mau_plain.specs.Behind.{IsTriedBehind}
+use Rattle.mau_trial.proofs.Among.{contains_none}
+use Rattle.mau_trial.proofs.AtEach.{each_long}
+use Rattle.mau_trial.proofs.Among.{all_one}
+use Rattle.mau_plain.proofs.Nexts.{is_given, is_least, leaves_fewer}
 use Rattle.mau_plain.proofs.listing.PlainListingLister.next.Goals as goal
 
 pub least_of-requires-clause-each : goal.least_of-requires-clause-each
@@ -73,15 +76,25 @@ returns-clause-next c = λ known table.
     let old = c.args.store.now in
     let new = c.tried_lists.new.store in
     let least =
-    is_least s c.is_lawful.ensures old new c.tried_lists.ensures.extends c.has_nodes.ensures c.args.sorts.now c.tried_lists.new.sorts c.tried_lists.ensures.kept c.tried_lists.ensures.over c.args.self.now.trial c.requires.ready
+    is_least s c.is_lawful.ensures.lawful old new c.tried_lists.ensures.extends c.has_nodes.ensures c.args.sorts.now c.tried_lists.new.sorts c.tried_lists.ensures.kept c.tried_lists.ensures.over c.args.self.now.trial c.requires.ready
     c.in_ok-places.places.items (places_are c) (the_list c) (within_is c) (settled_is c) (tried_is c) known (c.tried_lists.ensures.table known table) c.in_ok-tried.tried.items (least_is c)
     (λ x is behind. let found = c.in_ok-tried.ensures.all known table x is behind in (found.0, found.1, found.2)) in
     let t = c.args.self.now.trial in
-    subst (λ (x : Solution). IsLeastBehind (IsSolution false s (BySort s known) (question_in old (asked_in t))) (found_cmp (theory_at s) (tree_of t.pattern)) (option_map (found_in old) t.last) (found_in new x)) (sym (solution_is c)) least
+    subst (λ (x : Solution). IsLeastBehind (IsSolution false s (BySort s known) (question_in old (asked_in t))) (matcher_cmp (theory_at s) (tree_of t.pattern)) (option_map (matcher_in old) t.last) (matcher_in new x)) (sym (solution_is c)) least
 
 pub returns-clause-solves : goal.returns-clause-solves
 returns-clause-solves c =
     let s = c.args.sig.now in
     subst (IsGiven false s c.tried_lists.new.store c.tried_lists.new.sorts (asked_in c.args.self.now.trial)) (sym (solution_is c))
-    (is_given s c.is_lawful.ensures c.args.store.now c.tried_lists.new.store c.tried_lists.ensures.extends c.has_nodes.ensures c.args.sorts.now c.tried_lists.new.sorts c.tried_lists.ensures.kept c.tried_lists.ensures.over c.args.self.now.trial c.requires.ready
+    (is_given s c.is_lawful.ensures.lawful c.args.store.now c.tried_lists.new.store c.tried_lists.ensures.extends c.has_nodes.ensures c.args.sorts.now c.tried_lists.new.sorts c.tried_lists.ensures.kept c.tried_lists.ensures.over c.args.self.now.trial c.requires.ready
+    c.in_ok-places.places.items (places_are c) (the_list c) (within_is c) (settled_is c) (tried_is c))
+
+pub returns-clause-falls : goal.returns-clause-falls
+returns-clause-falls c =
+    let s = c.args.sig.now in
+    let old = c.args.store.now in
+    let new = c.tried_lists.new.store in
+    let t = c.args.self.now.trial in
+    subst (λ (x : Solution). count_left s new (asked_in t) (Some x) < count_left s old (asked_in t) t.last) (sym (c.in_ok-copy-in-Some.ensures ∙ solution_is c))
+    (leaves_fewer s c.is_lawful.ensures.lawful old new c.tried_lists.ensures.extends c.has_nodes.ensures c.args.sorts.now c.tried_lists.new.sorts c.tried_lists.ensures.kept c.tried_lists.ensures.over t c.requires.ready
     c.in_ok-places.places.items (places_are c) (the_list c) (within_is c) (settled_is c) (tried_is c))

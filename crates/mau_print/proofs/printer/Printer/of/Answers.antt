@@ -2,7 +2,7 @@ use Rattle.std.proofs.Common.{◌≡◌, ◌++◌, ◌∙◌, ap, map, filter, f
 use Rattle.mau_print.specs.declared.layout.Layout.{Layout}
 use Rattle.mau_print.specs.Printed.{PrinterOf}
 use Rattle.mau_print.specs.Layouts.{owned_texts, is_numeral_in, with_text}
-use Rattle.mau_print.specs.Found.{AreKnown}
+use Rattle.mau_print.specs.Beforehand.{AreKnown}
 use Rattle.mau_print.proofs.printer.Printer.of.Goals as goal
 
 same_printer : (ls ms : List Layout) (ns us cs ds : List (List ℕ)) (v w : List ℕ) → ls ≡ ms → ns ≡ us → cs ≡ ds → v ≡ w

@@ -2,7 +2,7 @@ use Rattle.std.proofs.Common.{◌≡◌, ℕ, ◌<◌, List, [], ◌∷◌, ◌+
 use Rattle.std.proofs.lemmas.List.{length-append}
 use Rattle.mau_module.specs.Modules.{ModuleOf}
 use Rattle.mau_module.specs.Library.{HasPrelude}
-use Rattle.mau_session.specs.State.{IsReadyAt}
+use Rattle.mau_session.specs.KeptState.{IsReadyAt}
 use Rattle.mau_session.specs.declared.state.Going.{Going}
 use Rattle.mau_session.proofs.Naming.{there_still}
 use Rattle.mau_session.proofs.state.State.accept.Goals as goal

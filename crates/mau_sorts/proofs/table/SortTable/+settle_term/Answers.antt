@@ -4,9 +4,10 @@ use Rattle.mau_terms.specs.declared.ids.TermId.{TermId}
 use Rattle.mau_store.specs.Node.{arguments}
 use Rattle.mau_store.specs.Trees.{tree_at}
 use Rattle.mau_store.specs.View.{node_of, numbers}
-use Rattle.mau_sorts.specs.Table.{IsSettled, IsTreeOver}
+use Rattle.mau_sorts.specs.Table.{IsSettled}
+use Rattle.mau_signature.specs.OverSignature.{IsTreeOver}
 use Rattle.mau_sorts.proofs.Entries.{numbers_length}
-use Rattle.mau_sorts.proofs.Settling.{argument_over, is_ready, nothing_known, entries_same, settled_more}
+use Rattle.mau_sorts.proofs.Settling.{argument_over, is_ready, nothing_known, entries_same, settled_more, kept_on}
 use Rattle.mau_sorts.proofs.table.SortTable.+settle_term.Goals as goal
 
 pub settle_term-requires : goal.settle_term-requires
@@ -43,7 +44,7 @@ loop-arg-preserved t c =
           (subst (IsSettled c.settle_term.new.self) (sym number) c.in_ok-settle_term.ensures.ok);
       value = λ entries. c.in_ok-settle_term.ensures.value (c.loop-arg.invariant.value entries);
       over = c.in_ok-settle_term.ensures.over;
-      kept = λ j e at_j. c.in_ok-settle_term.ensures.kept j e (c.loop-arg.invariant.kept j e at_j);
+      kept = kept_on c.args.self.now c.loop-arg.self c.settle_term.new.self c.loop-arg.invariant.kept c.in_ok-settle_term.ensures.kept;
     }
 
 pub settle_declared-requires-clause-ready : goal.settle_declared-requires-clause-ready
@@ -60,3 +61,9 @@ returns-in_err-settle_declared-clause-value t c entries =
 
 pub returns-clause-value : goal.returns-clause-value
 returns-clause-value t c entries = c.in_ok-settle_declared.ensures.value [] (c.loop-arg.invariant.value entries) (nothing_known (tree_at c.args.store.now c.args.id.0))
+
+pub returns-in_err-settle_term-clause-kept : goal.returns-in_err-settle_term-clause-kept
+returns-in_err-settle_term-clause-kept t c = kept_on c.args.self.now c.loop-arg.self c.settle_term.new.self c.loop-arg.invariant.kept c.in_err-settle_term.ensures.kept
+
+pub returns-clause-kept : goal.returns-clause-kept
+returns-clause-kept t c = kept_on c.args.self.now c.loop-arg.self c.settle_declared.new.self c.loop-arg.invariant.kept c.in_ok-settle_declared.ensures.kept

@@ -1,4 +1,0 @@
-use Rattle.mau_api.proofs.settle.is_numeral_or_list.Goals as goal
-
-pub theory-requires : goal.theory-requires
-theory-requires c = (c.requires.over _ c.in-App.ensures.node).0

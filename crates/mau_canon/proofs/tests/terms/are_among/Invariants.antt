@@ -1,5 +1,0 @@
-use Rattle.std.proofs.Common.{All, Contains, take}
-use Rattle.mau_canon.proofs.tests.terms.are_among.Given as goal
-
-abbrev pub invariant-loop-term : goal.invariant-loop-term
-invariant-loop-term l = All (Contains l.ids) (take l.term-index l.terms)

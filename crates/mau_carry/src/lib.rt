@@ -1,9 +1,0 @@
-//! Declarations and statements in the numbers of a module that includes theirs: sorts, kinds and operators have other numbers
-//! there, and a variable keeps its name.
-#![tactic(auto)]
-
-mod carry;
-mod numbers;
-
-pub use carry::Tables;
-pub use numbers::{declaration_to, operator_table};

@@ -1,0 +1,5 @@
+use Rattle.mau_facts.proofs.Law.{documents_are_writable}
+use Rattle.mau_facts.proofs.laws.documents_are_writable.Goals as goal
+
+pub returns : goal.returns
+returns c = documents_are_writable

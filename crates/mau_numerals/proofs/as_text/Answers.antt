@@ -1,0 +1,6 @@
+use Rattle.std.proofs.lemmas.Str.{IsUtf8-from_ascii}
+use Rattle.mau_numerals.proofs.Numbers.{digits_are_ascii}
+use Rattle.mau_numerals.proofs.as_text.Goals as goal
+
+pub unreachable-requires : goal.unreachable-requires
+unreachable-requires c = c.in-Err.ensures.cases.0 (IsUtf8-from_ascii c.args.digits.now (digits_are_ascii c.args.digits.now c.requires))

@@ -1,0 +1,3 @@
+-- The proofs of what the code does.
+pub mod Parts
+pub mod Variables

@@ -1,6 +1,0 @@
-use Rattle.std.proofs.Common.{◌≡◌, ◌++◌, drop}
-use Rattle.mau_signed.specs.Signed.{sorts_text}
-use Rattle.mau_signed.proofs.refusal.write_sorts.Given as goal
-
-abbrev pub invariant-loop-sort : goal.invariant-loop-sort
-invariant-loop-sort l = l.out.items ++ sorts_text l.sorts l.poset (drop l.sort-index l.tuple) ≡ l.fn.out.items ++ sorts_text l.sorts l.poset l.tuple

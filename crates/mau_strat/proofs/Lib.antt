@@ -1,0 +1,10 @@
+pub mod Opens
+pub mod Turns
+pub mod Stacks
+pub mod Goes
+pub mod Inserted
+pub mod Linked
+pub mod Interning
+pub mod Apart
+pub mod Kept
+pub mod FormsApart
