@@ -106,7 +106,7 @@ module _ {A C S : Type 0} (w : Words A C S) where
   AreKnown (f ∷ fs) = IsKnown f × AreKnown fs
 
   -- all handles are known, and each is given what it asks
-  pub record HoldsIn (asked : Due) (frames : List (Frame A C S)) (next : Control A C S) : Type 0 where
-    pub frames : AreKnown frames
-    pub next : IsKnownNext next
-    pub chained : AreChained asked frames (comes_to next)
+  pub record HoldsIn (asked : Due) (fs : List (Frame A C S)) (c : Control A C S) : Type 0 where
+    pub frames : AreKnown fs
+    pub next : IsKnownNext c
+    pub chained : AreChained asked fs (comes_to c)

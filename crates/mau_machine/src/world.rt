@@ -41,7 +41,11 @@ pub trait World {
     ghost grows: { Self → List Node → Self → List Node → Type 0 };
 
     /// The operator, the arguments, and the places of those that are evaluated; `None` for a numeral or a variable.
-    fn arguments(&self, store: &Store, term: TermId) -> Result<Option<(OpId, Vec<TermId>, Vec<usize>)>, NoMemory>
+    fn arguments(
+        &self,
+        store: &Store,
+        term: TermId,
+    ) -> Result<Option<(OpId, Vec<TermId>, Vec<usize>)>, NoMemory>
         requires ready { ready self.now store.now }
         requires term { (words self.now store.now).knows_term term.0 }
         ensures leaf { IfOk result (λ o. IfNone o (IsLeaf ((words self.now store.now).tree term.0))) }
@@ -50,7 +54,13 @@ pub trait World {
         ensures known { IfOk result (λ o. IfSome o (λ x. (words self.now store.now).knows_operands x.0.0 x.1.items)) };
 
     /// The operator over arguments, and whether the top has changed.
-    fn build(&mut self, store: &mut Store, op: OpId, args: &[TermId], order: &[usize]) -> Result<(TermId, bool), EvalEnd>
+    fn build(
+        &mut self,
+        store: &mut Store,
+        op: OpId,
+        args: &[TermId],
+        order: &[usize],
+    ) -> Result<(TermId, bool), EvalEnd>
         requires ready { ready self.old store.old }
         requires operands { (words self.old store.old).knows_operands op.0 args.now }
         ensures value { (b : ℕ) → IfOk result (λ x. within_limits (words self.new store.new).rules.program.sign.theory
@@ -74,7 +84,12 @@ pub trait World {
         ensures grows { grows self.old store.old self.new store.new };
 
     /// The next candidate: the number of its condition, and the values of its variables.
-    fn attempt(&mut self, store: &mut Store, term: TermId, attempts: &mut Self::Attempts) -> Result<Option<(usize, Self::Binding)>, EvalEnd>
+    fn attempt(
+        &mut self,
+        store: &mut Store,
+        term: TermId,
+        attempts: &mut Self::Attempts,
+    ) -> Result<Option<(usize, Self::Binding)>, EvalEnd>
         requires ready { ready self.old store.old }
         requires term { (words self.old store.old).knows_value term.0 }
         requires attempts { (words self.old store.old).knows_attempts term.0 attempts.old }
@@ -115,7 +130,14 @@ pub trait World {
         ensures { (nodes : List Node) → Asks (words self.now nodes).rules condition at result };
 
     /// The left or the right side of a fragment under a binding.
-    fn side(&mut self, store: &mut Store, condition: usize, at: usize, right: bool, binding: &Self::Binding) -> Result<TermId, EvalEnd>
+    fn side(
+        &mut self,
+        store: &mut Store,
+        condition: usize,
+        at: usize,
+        right: bool,
+        binding: &Self::Binding,
+    ) -> Result<TermId, EvalEnd>
         requires ready { ready self.old store.old }
         requires side { HasSide (words self.old store.old).rules condition at right }
         requires binding { (words self.old store.old).knows_binding condition at binding.now }
@@ -135,7 +157,13 @@ pub trait World {
         ensures { result ≡ same_tree ((words self.now store.now).tree left.0) ((words self.now store.now).tree right.0) };
 
     /// Whether a value has the sort that a fragment asks.
-    fn sorted(&mut self, store: &mut Store, condition: usize, at: usize, value: TermId) -> Result<bool, NoMemory>
+    fn sorted(
+        &mut self,
+        store: &mut Store,
+        condition: usize,
+        at: usize,
+        value: TermId,
+    ) -> Result<bool, NoMemory>
         requires ready { ready self.old store.old }
         requires asks { Asks (words self.old store.old).rules condition at Goal.Sort }
         requires value { (words self.old store.old).knows_value value.0 }
@@ -143,7 +171,14 @@ pub trait World {
         ensures grows { grows self.old store.old self.new store.new };
 
     /// The solutions of a fragment `p := u` under a binding, where `u` has the value given.
-    fn choices(&mut self, store: &mut Store, condition: usize, at: usize, binding: Self::Binding, value: TermId) -> Result<Self::Choices, NoMemory>
+    fn choices(
+        &mut self,
+        store: &mut Store,
+        condition: usize,
+        at: usize,
+        binding: Self::Binding,
+        value: TermId,
+    ) -> Result<Self::Choices, NoMemory>
         requires ready { ready self.old store.old }
         requires asks { Asks (words self.old store.old).rules condition at Goal.Matching }
         requires binding { (words self.old store.old).knows_binding condition at binding }
@@ -153,7 +188,13 @@ pub trait World {
         ensures grows { grows self.old store.old self.new store.new };
 
     /// The binding by the next one, for the fragments behind.
-    fn choose(&mut self, store: &mut Store, condition: usize, at: usize, choices: &mut Self::Choices) -> Result<Option<Self::Binding>, NoMemory>
+    fn choose(
+        &mut self,
+        store: &mut Store,
+        condition: usize,
+        at: usize,
+        choices: &mut Self::Choices,
+    ) -> Result<Option<Self::Binding>, NoMemory>
         requires ready { ready self.old store.old }
         requires choices { (words self.old store.old).knows_choices condition at choices.old }
         ensures none { (k b : ℕ) → IfOk result (λ o. IfNone o ((words self.new store.new).unchosen choices.old k condition at b ≡ done None 0 b)) }
