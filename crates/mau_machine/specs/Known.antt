@@ -1,7 +1,9 @@
 -- What is known of all handles in frames and in what is done next, and that each frame is given what it waits for.
 use Rattle.std.specs.Prelude.{◌≡◌, ℕ, zero, suc, List, [], ◌∷◌, Bool, Option, Some, None}
-use Rattle.mau_terms.specs.declared.ids.TermId.{TermId}
-use Rattle.mau_machine.specs.Words.{Words, Asks, kind_of, IsSolution}
+use Rattle.mau_terms.specs.Tree.{Tree}
+use Rattle.mau_terms.specs.Bare.{TermSignature}
+use Rattle.mau_evaluation.specs.Listing.{kind_at}
+use Rattle.mau_machine.specs.Words.{Words, Asks, kind_of, trees, IsSolution}
 use Rattle.mau_machine.specs.declared.goal.Goal.TheVariants as Goals
 use Rattle.mau_machine.specs.declared.frame.Frame.{Frame}
 use Rattle.mau_machine.specs.declared.frame.Frame.TheVariants as Waiting
@@ -28,20 +30,20 @@ Suits (answer_to e) any_value = ⊥
 Suits (answer_to e) (value_of k) = ⊥
 Suits (answer_to e) (answer_to d) = d ≡ e
 
+-- the kind of the term at a place
+abbrev pub kind_in : TermSignature → List Tree → ℕ → Option ℕ
+kind_in s [] i = None
+kind_in s (t ∷ ts) zero = kind_at s t
+kind_in s (t ∷ ts) (suc i) = kind_in s ts i
+
 module _ {A C S : Type 0} (w : Words A C S) where
   -- the kind of the operator f over its arguments
   abbrev pub kind_under : ℕ → Option ℕ
   kind_under f = Some (w.rules.program.sign.result f)
 
-  -- the kind of the term at a place
-  abbrev pub kind_in : List TermId → ℕ → Option ℕ
-  kind_in [] i = None
-  kind_in (t ∷ ts) zero = kind_of w t.0
-  kind_in (t ∷ ts) (suc i) = kind_in ts i
-
   -- what a frame waits for
   abbrev pub asks : Frame A C S → Due
-  asks (Waiting.Argument a i) = value_of (kind_in a.args.items i)
+  asks (Waiting.Argument a i) = value_of (kind_in w.rules.program.sign (trees w a.args.items) i)
   asks (Waiting.Again t) = value_of (kind_of w t.0)
   asks (Waiting.Left c) = any_value
   asks (Waiting.Right c t) = any_value

@@ -70,7 +70,7 @@ pub record Words (A C S : Type 0) : Type 1 where
 pub record Keeps {A C S : Type 0} (w w' : Words A C S) : Type 0 where
   pub rules : w'.rules ≡ w.rules
   pub terms : (t : ℕ) → w.knows_term t → w'.knows_term t × (w'.tree t ≡ w.tree t)
-  pub values : (t : ℕ) → w.knows_value t → w'.knows_value t
+  pub values : (t : ℕ) → w.knows_value t → w'.knows_value t × (w'.tree t ≡ w.tree t)
   pub operands : (f : ℕ) (ts : List TermId) → w.knows_operands f ts → w'.knows_operands f ts × (map (λ t. w'.tree t.0) ts ≡ map (λ t. w.tree t.0) ts)
   pub bindings : (e i : ℕ) (σ : S) → w.knows_binding e i σ → w'.knows_binding e i σ × (w'.bound σ ≡ w.bound σ)
   pub attempts : (t : ℕ) (a : A) → w.knows_attempts t a → w'.knows_attempts t a × ((k b : ℕ) → w'.untried a k b ≡ w.untried a k b)
