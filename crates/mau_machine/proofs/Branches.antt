@@ -1,5 +1,5 @@
 -- The lemmas of the loop's branches, over plain variables.
-use Rattle.std.proofs.Common.{◌≡◌, ℕ, zero, suc, ◌+◌, ◌-◌, ◌<◌, ◌≤◌, min, List, [], ◌∷◌, ◌++◌, map, drop, set, get_or, length, Bool, true, false, Option, Some, None, refl, sym, ◌∙◌, ap, subst, arith, le-ltb, nat_lt, drop-cons}
+use Rattle.std.proofs.Common.{◌≡◌, ℕ, zero, suc, ◌+◌, ◌-◌, ◌<◌, ◌≤◌, min, List, [], ◌∷◌, ◌++◌, map, drop, set, get_or, length, Bool, true, false, Option, Some, None, refl, sym, ◌∙◌, ap, subst, arith, le-ltb, nat_lt, drop-cons, Result, Ok, Err, IfOk, IfErr}
 use Rattle.std.specs.Option.{option_map}
 use Rattle.mau_terms.specs.Tree.{Tree, variable, numeral, apply, node, trees_of, list_of}
 use Rattle.mau_terms.specs.Norm.{norm, build, holds_overflow}
@@ -13,8 +13,8 @@ use Rattle.mau_evaluation.specs.Listing.{same_tree, keep, solutions}
 use Rattle.mau_evaluation.specs.Evaluation.{Binding, Level, levels, solve, go_from, at_top, on_normal, admit, admitted, within_limits, in_places, put_value, order_of, top_changed, at, put, has_number, look_up, extend, agree, have_sorts}
 use Rattle.mau_evaluation.proofs.Falls.{evaluation_goes_on}
 use Rattle.mau_api.specs.declared.results.EvalEnd.{EvalEnd}
-use Rattle.mau_machine.specs.Words.{greatest_count, capped, IsEnd, Rules, Words, trees, IsLeaf, IsUntried, IsSorted, rest_of, eval_on, sorts_on, solve_on, applied_on, choose_from, side_of, side_by, sort_in, pattern_in, goal_of, Asks}
-use Rattle.mau_machine.specs.Machine.{Waits, argument, left_side, right_side, sorting, matching, choice, trying, Reply, gave, held, failed, as_value, as_answer, from_built, on_arguments, on_attempts, after, goes_on}
+use Rattle.mau_machine.specs.Words.{greatest_count, capped, IsEnd, Rules, Words, trees, IsLeaf, IsUntried, IsSorted, rest_of, eval_on, sorts_on, solve_on, settle_on, applied_on, choose_from, side_of, side_by, sort_in, pattern_in, goal_of, Asks}
+use Rattle.mau_machine.specs.Machine.{Waits, argument, again, left_side, right_side, sorting, matching, choice, trying, Reply, gave, held, failed, as_value, as_answer, from_built, on_arguments, on_attempts, after, goes_on}
 use Rattle.mau_machine.specs.declared.goal.Goal.{Goal}
 use Rattle.mau_machine.specs.declared.goal.Goal.TheVariants as Goals
 use Rattle.mau_machine.proofs.Counts.{zero_more, counted_zero, counted_twice, go_on_counted, answer_zero, answer_twice, value_ends, answer_ends, first_ends, try_ends, same_ends, counted_ends, min_twice}
@@ -422,3 +422,47 @@ module _ (R : Rules) where
 
   pub choice_held : (unchosen : Run (Option Binding)) (n r b s : ℕ) (σ : Binding) → s ≡ min (n + r) greatest_count → capped (after R (choice unchosen n) (held σ) r b) ≡ capped (done (held σ) s b)
   choice_held unchosen n r b s σ e = ap (λ m. done (held σ) m b) (min_twice (n + r) greatest_count ∙ ap (λ m. min m greatest_count) (sym e))
+
+  -- ---- a term whose top has changed
+
+  pub again_waits : (o : Outcome Tree) → as_value o ≡ goes_on R again (as_value o)
+  again_waits (done v r b) = refl
+  again_waits (ended e) = refl
+
+  pub begun : (k : ℕ) (t : Tree) (untried : Run (Option Tree)) → ((b : ℕ) → ((ss : List ℕ) × (settle_on R k t b ≡ done ss 0 b)) × (untried b ≡ applied_on R k t b)) → (r b : ℕ) →
+      as_value (counted r (from_built R k false t b)) ≡ as_value (counted r (on_attempts R k t untried b))
+  begun k t untried h r b =
+      ap (λ o. as_value (counted r o))
+      (ap (go_on (λ ss. and_then (applied_on R k t) (from k t))) (h b).0.1
+      ∙ (counted_zero (and_then (applied_on R k t) (from k t) b)
+      ∙ ap (go_on (from k t)) (sym (h b).1)))
+
+-- ---- from the slices that `build` was given
+
+module _ {A C S : Type 0} (w : Words A C S) where
+  pub built_from : (k f : ℕ) (order order' : List ℕ) (ids ids' : List TermId) (n : ℕ) (t : Tree) (changed flag : Bool) (b : ℕ) → length order ≤ n → order' ≡ order → ids' ≡ ids → flag ≡ changed →
+      within_limits w.rules.program.sign.theory (build (w.rules.program.sign.theory f) f (trees w ids')) b ≡ done t 0 b → flag ≡ top_changed (w.rules.program.sign.theory f) order' f (trees w ids') t →
+      on_arguments w.rules k f order (drop n order) (trees w ids) b ≡ from_built w.rules k changed t b
+  built_from k f order order' ids ids' n t changed flag b h o i g e c =
+      built w.rules k f (trees w ids) order n t changed b h (subst (λ z. within_limits w.rules.program.sign.theory (build (w.rules.program.sign.theory f) f (trees w z)) b ≡ done t 0 b) i e)
+      (sym g ∙ (c ∙ (ap (λ z. top_changed (w.rules.program.sign.theory f) z f (trees w ids') t) o ∙ ap (λ z. top_changed (w.rules.program.sign.theory f) order f (trees w z) t) i)))
+
+  pub built_ends_from : (k f : ℕ) (order : List ℕ) (ids ids' : List TermId) (n b : ℕ) (e : EvalEnd) → length order ≤ n → ids' ≡ ids →
+      IsEnd (within_limits w.rules.program.sign.theory (build (w.rules.program.sign.theory f) f (trees w ids')) b) e → IsEnd (on_arguments w.rules k f order (drop n order) (trees w ids) b) e
+  built_ends_from k f order ids ids' n b e h i d =
+      built_ends w.rules k f (trees w ids) order n b e h (subst (λ z. IsEnd (within_limits w.rules.program.sign.theory (build (w.rules.program.sign.theory f) f (trees w z)) b) e) i d)
+
+-- ---- sides, as results
+
+module _ (R : Rules) where
+  pub sides : (k : ℕ) → (k ≡ 0 → ⊥) → (t : Tree) (b : ℕ) (tree : TermId → Tree) (r : Result TermId EvalEnd) → ((j b : ℕ) → IfOk r (λ u. eval_on R (suc j) t b ≡ eval_on R (suc j) (tree u) b)) →
+      IfOk r (λ u. eval_on R k t b ≡ eval_on R k (tree u) b)
+  sides k h t b tree (Ok u) e = side_at R k h t (tree u) b e
+  sides k h t b tree (Err d) e = tt
+
+  pub sides_end : (k : ℕ) → (k ≡ 0 → ⊥) → (t : Tree) (b : ℕ) (r : Result TermId EvalEnd) → ((j b : ℕ) → IfErr r (IsEnd (eval_on R (suc j) t b))) → IfErr r (IsEnd (eval_on R k t b))
+  sides_end k h t b (Ok u) e = tt
+  sides_end k h t b (Err d) e = ends_at R k h t b d e
+
+pub one : (n : ℕ) → suc n ≡ n + 1
+one n = omega arith

@@ -123,15 +123,15 @@ solution_is o σ r b h e = by o (e ∙ ap (λ n. done (held σ) n b) (min_small 
 pub none_is : (o : Outcome (Option Binding)) (r b : ℕ) → capped (as_answer o) ≡ capped (done failed r b) → (q : ℕ) × (o ≡ done None q b)
 none_is (done (Some τ) q c) r b e = absurd (no e)
   where
-    no : done {A = Reply} (held τ) (min q greatest_count) c ≡ done failed (min r greatest_count) b → ⊥
+    no : done (held τ) (min q greatest_count) c ≡ done failed (min r greatest_count) b → ⊥
     no e = cc
 none_is (done None q c) r b e = (q, ap (done None q) (left e))
   where
-    left : done {A = Reply} failed (min 0 greatest_count) c ≡ done failed (min r greatest_count) b → c ≡ b
+    left : done failed (min 0 greatest_count) c ≡ done failed (min r greatest_count) b → c ≡ b
     left e = cc
 none_is (ended d) r b e = absurd (no e)
   where
-    no : ended {A = Reply} d ≡ done failed (min r greatest_count) b → ⊥
+    no : ended d ≡ done failed (min r greatest_count) b → ⊥
     no e = cc
 
 value_end : (o : Outcome Tree) (d : End) → capped (as_value o) ≡ ended d → o ≡ ended d

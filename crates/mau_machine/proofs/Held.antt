@@ -1,5 +1,5 @@
 -- Frames and tasks of which all is known, in states that come of one another.
-use Rattle.std.proofs.Common.{◌≡◌, ℕ, zero, suc, ◌<◌, ◌≤◌, List, [], ◌∷◌, ◌++◌, map, length, Option, Some, None, refl, sym, ◌∙◌, ap, subst, arith}
+use Rattle.std.proofs.Common.{◌≡◌, ℕ, zero, suc, ◌<◌, ◌≤◌, List, [], ◌∷◌, ◌++◌, map, length, Option, Some, None, refl, sym, ◌∙◌, ap, subst, arith, get_or, Result, Ok, Err, IfOk}
 use Rattle.mau_terms.specs.declared.ids.TermId.{TermId}
 use Rattle.mau_terms.specs.Tree.{Tree}
 use Rattle.mau_evaluation.specs.Run.{Outcome}
@@ -7,7 +7,10 @@ use Rattle.mau_evaluation.specs.Listing.{kind_at}
 use Rattle.mau_machine.specs.Words.{Words, Keeps, Rules, kind_of, trees, Asks, IsSolution}
 use Rattle.mau_machine.specs.Machine.{Waits, argument, left_side, right_side, sorting, matching, choice, trying, Task, evaluates, arguments, looks_at_top, attempts, solves, chooses, has_value, holds, Reply, goes_on, comes, waits_in, task_in, through, whole}
 use Rattle.mau_machine.specs.Known.{Due, any_value, value_of, answer_to, Suits, kind_under, kind_in, asks, yields, comes_to, AreChained, IsKnown, IsKnownNext, AreKnown, HoldsIn}
+use Rattle.mau_api.specs.declared.results.EvalEnd.{EvalEnd}
+use Rattle.mau_machine.specs.Steps.{StayKnown}
 use Rattle.mau_machine.specs.declared.goal.Goal.{Goal}
+use Rattle.mau_machine.specs.declared.goal.Goal.TheVariants as Goals
 use Rattle.mau_machine.specs.declared.frame.Frame.{Frame}
 use Rattle.mau_machine.specs.declared.frame.Frame.TheVariants as Waiting
 use Rattle.mau_machine.specs.declared.frame.Control.{Control}
@@ -64,20 +67,20 @@ module _ {A C S : Type 0} (w : Words A C S) where
 -- ---- states that come of one another
 
 module _ {A C S : Type 0} (w w' : Words A C S) (k : Keeps w w') where
-  same_kind : (t : ℕ) → w.knows_term t → kind_of w' t ≡ kind_of w t
+  pub same_kind : (t : ℕ) → w.knows_term t → kind_of w' t ≡ kind_of w t
   same_kind t h = ap (λ R. kind_at R.program.sign (w'.tree t)) k.rules ∙ ap (kind_at w.rules.program.sign) (k.terms t h).1
 
   same_under : (f : ℕ) → kind_under w' f ≡ kind_under w f
   same_under f = ap (λ R. Some (R.program.sign.result f)) k.rules
 
-  same_value_kind : (t : ℕ) → w.knows_value t → kind_of w' t ≡ kind_of w t
+  pub same_value_kind : (t : ℕ) → w.knows_value t → kind_of w' t ≡ kind_of w t
   same_value_kind t h = ap (λ R. kind_at R.program.sign (w'.tree t)) k.rules ∙ ap (kind_at w.rules.program.sign) (k.values t h).1
 
-  asks_on : (e i : ℕ) (g : Goal) → Asks w.rules e i g → Asks w'.rules e i g
+  pub asks_on : (e i : ℕ) (g : Goal) → Asks w.rules e i g → Asks w'.rules e i g
   asks_on e i g h = subst (λ R. Asks R e i g) (sym k.rules) h
 
-  solution_on : (e : ℕ) (σ : S) → IsSolution w e σ → IsSolution w' e σ
-  solution_on e σ h = (h.0, (k.bindings e h.0 σ h.1).0, asks_on e h.0 Rattle.mau_machine.specs.declared.goal.Goal.TheVariants.Nothing h.2)
+  pub solution_on : (e : ℕ) (σ : S) → IsSolution w e σ → IsSolution w' e σ
+  solution_on e σ h = (h.0, (k.bindings e h.0 σ h.1).0, asks_on e h.0 Goals.Nothing h.2)
 
   known_on : (f : Frame A C S) → IsKnown w f → IsKnown w' f
   known_on (Waiting.Argument a i) h = (k.operands a.op.0 a.args.items h).0
@@ -188,3 +191,51 @@ module _ {A C S : Type 0} (w w' : Words A C S) (k : Keeps w w') where
   same_whole asked fs c h r b =
       same_through fs (comes w'.rules (task_in w' c) r b) h.frames
       ∙ ap (through w fs) (ap (λ R. comes R (task_in w' c) r b) k.rules ∙ ap (λ x. comes w.rules x r b) (same_task c h.next))
+
+  -- ---- results of the parts of the loop
+
+  pub known_result : (fs : List (Frame A C S)) (c : Control A C S) (r : Result (Control A C S) EvalEnd) → IfOk r (λ d. IsKnownNext w' d × (comes_to w' d ≡ comes_to w' c)) → IfOk r (StayKnown w w' fs c fs)
+  known_result fs c (Ok d) h = λ asked q. held_on w' asked fs c d (held_later asked fs c q) h.0 h.1
+  known_result fs c (Err e) h = tt
+
+  pub popped_known : (fs gs : List (Frame A C S)) (c : Control A C S) (f : Frame A C S) (r : Result (Control A C S) EvalEnd) → fs ≡ gs ++ f ∷ [] →
+      IfOk r (λ d. IsKnownNext w' d × (comes_to w' d ≡ yields w' f)) → IfOk r (StayKnown w w' fs c gs)
+  popped_known fs gs c f (Ok d) g h = λ asked q. held_popped w' asked fs gs c d f g (held_later asked fs c q) h.0 h.1
+  popped_known fs gs c f (Err e) g h = tt
+
+-- a state comes of itself
+pub same_state : {A C S : Type 0} (w : Words A C S) → Keeps w w
+same_state w = record {
+  rules = refl;
+  terms = λ t h. (h, refl);
+  values = λ t h. (h, refl);
+  operands = λ f ts h. (h, refl);
+  bindings = λ e i σ h. (h, refl);
+  attempts = λ t a h. (h, λ k b. refl);
+  candidates = λ t e a h. (h, λ σ. refl);
+  choices = λ e i c h. (h, λ k b. refl);
+}
+
+-- ---- arguments
+
+module _ {A C S : Type 0} (w : Words A C S) where
+  pub kind_at_place : (ids : List TermId) (i : ℕ) (x : TermId) → i < length ids → x ≡ get_or ids i x → kind_of w x.0 ≡ kind_in w.rules.program.sign (trees w ids) i
+  kind_at_place [] i x h e = absurd (omega (arith, h))
+  kind_at_place (y ∷ ids) zero x h e = ap (λ z. kind_of w z.0) e
+  kind_at_place (y ∷ ids) (suc i) x h e = kind_at_place ids i x (omega (arith, h)) e
+
+  -- the last frame waits on as another one
+  pub held_swapped : (asked : Due) (fs gs hs : List (Frame A C S)) (c d : Control A C S) (f h : Frame A C S) → fs ≡ gs ++ f ∷ [] → hs ≡ gs ++ h ∷ [] → HoldsIn w asked fs c → IsKnown w h → IsKnownNext w d → yields w h ≡ yields w f →
+      Suits (asks w h) (comes_to w d) → HoldsIn w asked hs d
+  held_swapped asked fs gs hs c d f h p q H k n y s =
+      let G : HoldsIn w asked (gs ++ f ∷ []) c = subst (λ z. HoldsIn w asked z c) p H in
+      subst (λ z. HoldsIn w asked z d) (sym q) (record {
+        frames = known_pushed w gs h (known_popped w gs f G.frames).0 k;
+        next = n;
+        chained = chained_pushed w asked gs h (comes_to w d) (subst (λ z. AreChained w asked gs z) (sym y) (chained_popped w asked gs f (comes_to w c) G.chained).0) s;
+      })
+
+  pub kind_at_get : (ids : List TermId) (i : ℕ) (d : TermId) → i < length ids → kind_of w (get_or ids i d).0 ≡ kind_in w.rules.program.sign (trees w ids) i
+  kind_at_get [] i d h = absurd (omega (arith, h))
+  kind_at_get (y ∷ ids) zero d h = refl
+  kind_at_get (y ∷ ids) (suc i) d h = kind_at_get ids i d (omega (arith, h))

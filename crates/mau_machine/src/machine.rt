@@ -130,7 +130,7 @@ fn run<W: World>(
         (whole (W.words world.new store.new) [] last machine.new.rewrites budget.new)) }
     ensures ends { IfErr result (IsEnd (whole (W.words world.old store.old) machine.old.frames.items task machine.old.rewrites budget.old)) }
     ensures known { IfOk result (StayKnown (W.words world.old store.old) (W.words world.new store.new) machine.old.frames.items task []) }
-    ensures small { machine.new.rewrites ≤ greatest_count }
+    ensures small { OnOk result (machine.new.rewrites ≤ greatest_count) }
     ensures falls { budget.new ≤ budget.old }
     ensures grows { W.grows world.old store.old world.new store.new }
 {
@@ -139,6 +139,7 @@ fn run<W: World>(
     let mut task = task;
     for _ in 0..u64::MAX {
         if is_last(&task) && machine.frames.as_slice().is_empty() {
+            let _rewrites = machine.rewrites;
             return Ok(task);
         }
         match step::<W>(world, store, machine, task, budget) {

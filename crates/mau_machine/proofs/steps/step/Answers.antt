@@ -1,37 +1,88 @@
+use Rattle.std.proofs.Common.{◌≡◌, ℕ, zero, suc, ◌+◌, ◌-◌, ◌<◌, ◌≤◌, ◌++◌, ◌∷◌, [], length, drop, get_or, set, Some, None, true, false, Ok, Err, refl, sym, ◌∙◌, ap, subst, rules, arith, le_trans, inl, inr}
+use Rattle.std.specs.Prelude.{IfOk, IfErr, IfSome, IfNone}
+use Rattle.std.specs.Option.{option_map}
+use Rattle.std.proofs.lemmas.Option.{slice_get_read, slice_get-get_or}
+use Rattle.std.specs.Vec.{with_item}
+use Rattle.mau_terms.specs.Tree.{node}
+use Rattle.mau_evaluation.specs.Run.{done, ended, counted, counted_if, or_go_on, try_on, gives, where_true}
+use Rattle.mau_evaluation.specs.Evaluation.{order_of}
+use Rattle.mau_api.specs.declared.results.EvalEnd.TheVariants as Ended
+use Rattle.mau_machine.specs.Words.{capped, IsEnd, trees, eval_on, solve_on, side_of, goal_of, rest_of, Asks, IsLeaf, IsSorted, IsSolution, HasSideBy}
+use Rattle.mau_machine.specs.Machine.{gave, held, failed, as_value, as_answer, on_arguments, on_attempts, from_built, argument, again, left_side, right_side, sorting, matching, choice, trying, after, goes_on, comes, waits_in, task_in, through, whole}
+use Rattle.mau_machine.specs.Known.{value_of, answer_to, asks, yields, comes_to, IsKnown, IsKnownNext, HoldsIn, kind_in}
+use Rattle.mau_machine.specs.Steps.{IsAlike, StayKnown, AreHeld}
+use Rattle.mau_machine.specs.declared.goal.Goal.TheVariants as Goals
+use Rattle.mau_machine.specs.declared.frame.Condition.{Condition}
+use Rattle.mau_machine.specs.declared.frame.Choosing.{Choosing}
+use Rattle.mau_machine.specs.declared.frame.Frame.TheVariants as Waiting
+use Rattle.mau_machine.specs.declared.frame.Control.TheVariants as Next
+use Rattle.mau_machine.proofs.Counts.{value_ends, answer_ends, first_ends, try_ends, same_ends, any_end, value_is, solution_is, none_is, value_ends_as, answer_ends_as, ends_alike, counted_zero, answer_zero}
+use Rattle.mau_machine.proofs.Through.{alike, pushed, alike_pushed, alike_popped, ends_through, ends_popped, alike_result, ends_result, popped_result, last_is}
+use Rattle.mau_machine.proofs.Branches.{dropped, none_left, at_trees, no_tree, put_trees, put_none, opened_leaf, opened, one_argument, no_argument, built_from, built_ends_from, one_tried, none_tried, tried_ends, one_chosen, equality, sort_test, match, equality_ends, sort_test_ends, match_ends, second_side, second_side_ends, sorts_tested, side_at, ends_at, no_levels, spends, stops, spend_ends, choice_held, again_waits, begun, sides, sides_end, one}
+use Rattle.mau_machine.proofs.Held.{known_pushed, known_popped, held_on, held_pushed, held_popped, held_swapped, last_known, held_later, same_whole, known_result, popped_known, same_state, kind_at_place, kind_at_get, same_kind, same_value_kind, asks_on, solution_on}
 use Rattle.mau_machine.proofs.steps.step.Goals as goal
 
 pub returns-in-Eval-clause-goes : goal.returns-in-Eval-clause-goes
-returns-in-Eval-clause-goes g c = ?
+returns-in-Eval-clause-goes g c =
+    let w = (g.W.World.words c.args.world.now c.args.store.now) in
+    subst (λ z. IfOk c.open.result (λ next. IsAlike (whole w c.args.machine.now.frames.items z c.args.machine.now.rewrites c.args.budget.now) (whole w c.args.machine.now.frames.items next c.args.machine.now.rewrites c.args.budget.now))) (sym c.in-Eval.is)
+    (alike_result w c.args.machine.now.frames.items (comes w.rules (task_in w (Next.Eval c.in-Eval.level c.in-Eval.term)) c.args.machine.now.rewrites c.args.budget.now) (λ next. comes w.rules (task_in w next) c.args.machine.now.rewrites c.args.budget.now) c.open.result (c.open.ensures.goes c.args.machine.now.rewrites c.args.budget.now))
 
 pub returns-in-Eval-clause-ends : goal.returns-in-Eval-clause-ends
-returns-in-Eval-clause-ends g c = ?
-
-pub returns-in-Evaluating-clause-ends : goal.returns-in-Evaluating-clause-ends
-returns-in-Evaluating-clause-ends g c = ?
+returns-in-Eval-clause-ends g c =
+    let w = (g.W.World.words c.args.world.now c.args.store.now) in
+    subst (λ z. IfErr c.open.result (IsEnd (whole w c.args.machine.now.frames.items z c.args.machine.now.rewrites c.args.budget.now))) (sym c.in-Eval.is)
+    (ends_result w c.args.machine.now.frames.items (comes w.rules (task_in w (Next.Eval c.in-Eval.level c.in-Eval.term)) c.args.machine.now.rewrites c.args.budget.now) c.open.result (c.open.ensures.ends c.args.machine.now.rewrites c.args.budget.now))
 
 pub returns-in-Top-clause-goes : goal.returns-in-Top-clause-goes
-returns-in-Top-clause-goes g c = ?
+returns-in-Top-clause-goes g c =
+    let w = (g.W.World.words c.args.world.now c.args.store.now) in
+    let w' = (g.W.World.words c.look.new.world c.look.new.store) in
+    let k = (g.met.W.World.keeps c.args.world.now c.look.new.world c.args.store.now c.look.new.store c.look.ensures.grows) in
+    subst (λ z. IfOk c.look.result (λ next. IsAlike (whole w' c.args.machine.now.frames.items z c.args.machine.now.rewrites c.args.budget.now) (whole w' c.args.machine.now.frames.items next c.args.machine.now.rewrites c.args.budget.now))) (sym c.in-Top.is)
+    (alike_result w' c.args.machine.now.frames.items (comes w'.rules (task_in w' (Next.Top c.in-Top.level c.in-Top.term)) c.args.machine.now.rewrites c.args.budget.now) (λ next. comes w'.rules (task_in w' next) c.args.machine.now.rewrites c.args.budget.now) c.look.result (c.look.ensures.goes c.args.machine.now.rewrites c.args.budget.now))
 
 pub returns-in-Top-clause-ends : goal.returns-in-Top-clause-ends
-returns-in-Top-clause-ends g c = ?
+returns-in-Top-clause-ends g c =
+    c.look.ensures.ends _
 
 pub returns-in-Top-clause-known : goal.returns-in-Top-clause-known
-returns-in-Top-clause-known g c = ?
+returns-in-Top-clause-known g c =
+    let w = (g.W.World.words c.args.world.now c.args.store.now) in
+    let w' = (g.W.World.words c.look.new.world c.look.new.store) in
+    let k = (g.met.W.World.keeps c.args.world.now c.look.new.world c.args.store.now c.look.new.store c.look.ensures.grows) in
+    subst (λ z. IfOk c.look.result (StayKnown w w' c.args.machine.now.frames.items z c.args.machine.now.frames.items)) (sym c.in-Top.is) (known_result w w' k c.args.machine.now.frames.items (Next.Top c.in-Top.level c.in-Top.term) c.look.result c.look.ensures.known)
+
+pub returns-in-Evaluating-clause-ends : goal.returns-in-Evaluating-clause-ends
+returns-in-Evaluating-clause-ends g c =
+    let w' = (g.W.World.words c.go_on.new.world c.go_on.new.store) in
+    subst (λ z. IfErr c.go_on.result (IsEnd (whole w' c.args.machine.now.frames.items z c.args.machine.now.rewrites c.args.budget.now))) (sym c.in-Evaluating.is) (c.go_on.ensures.ends c.args.budget.now)
 
 pub returns-in-Attempt-clause-goes : goal.returns-in-Attempt-clause-goes
-returns-in-Attempt-clause-goes g c = ?
+returns-in-Attempt-clause-goes g c =
+    let w' = (g.W.World.words c.attempt.new.world c.attempt.new.store) in
+    subst (λ z. IfOk c.attempt.result (λ next. IsAlike (whole w' c.args.machine.now.frames.items z c.args.machine.now.rewrites c.args.budget.now) (whole w' c.attempt.new.machine.frames.items next c.attempt.new.machine.rewrites c.args.budget.now))) (sym c.in-Attempt.is) (c.attempt.ensures.goes c.args.budget.now)
 
 pub returns-in-Attempt-clause-ends : goal.returns-in-Attempt-clause-ends
-returns-in-Attempt-clause-ends g c = ?
+returns-in-Attempt-clause-ends g c =
+    let w' = (g.W.World.words c.attempt.new.world c.attempt.new.store) in
+    subst (λ z. IfErr c.attempt.result (IsEnd (whole w' c.args.machine.now.frames.items z c.args.machine.now.rewrites c.args.budget.now))) (sym c.in-Attempt.is) (c.attempt.ensures.ends c.args.budget.now)
 
 pub returns-in-Solve-clause-ends : goal.returns-in-Solve-clause-ends
-returns-in-Solve-clause-ends g c = ?
+returns-in-Solve-clause-ends g c =
+    let w' = (g.W.World.words c.solve.new.world c.solve.new.store) in
+    subst (λ z. IfErr c.solve.result (IsEnd (whole w' c.args.machine.now.frames.items z c.args.machine.now.rewrites c.args.budget.now))) (sym c.in-Solve.is) (c.solve.ensures.ends c.args.budget.now)
 
 pub returns-in-Choose-clause-ends : goal.returns-in-Choose-clause-ends
-returns-in-Choose-clause-ends g c = ?
+returns-in-Choose-clause-ends g c =
+    let w' = (g.W.World.words c.choose.new.world c.choose.new.store) in
+    subst (λ z. IfErr c.choose.result (IsEnd (whole w' c.args.machine.now.frames.items z c.args.machine.now.rewrites c.args.budget.now))) (sym c.in-Choose.is) (c.choose.ensures.ends c.args.budget.now)
 
 pub returns-in-Value-clause-ends : goal.returns-in-Value-clause-ends
-returns-in-Value-clause-ends g c = ?
+returns-in-Value-clause-ends g c =
+    let w' = (g.W.World.words c.give.new.world c.give.new.store) in
+    subst (λ z. IfErr c.give.result (IsEnd (whole w' c.args.machine.now.frames.items z c.args.machine.now.rewrites c.args.budget.now))) (sym c.in-Value.is) (c.give.ensures.ends c.args.budget.now)
 
 pub returns-in-Failed-clause-ends : goal.returns-in-Failed-clause-ends
-returns-in-Failed-clause-ends g c = ?
+returns-in-Failed-clause-ends g c =
+    c.fail.ensures.ends _
