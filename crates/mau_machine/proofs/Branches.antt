@@ -1,5 +1,6 @@
 -- The lemmas of the loop's branches, over plain variables.
-use Rattle.std.proofs.Common.{◌≡◌, ℕ, zero, suc, ◌+◌, ◌-◌, ◌<◌, ◌≤◌, min, List, [], ◌∷◌, ◌++◌, map, drop, set, get_or, length, Bool, true, false, Option, Some, None, refl, sym, ◌∙◌, ap, subst, arith, le-ltb, nat_lt, drop-cons, Result, Ok, Err, IfOk, IfErr}
+use Rattle.std.proofs.Common.{◌≡◌, ℕ, zero, suc, ◌+◌, ◌-◌, ◌<◌, ◌≤◌, min, List, [], ◌∷◌, drop, set, get_or, length, Bool, true, false, Option, Some, None, refl, sym, ◌∙◌, ap, subst, rules, arith, le-ltb, drop-cons, Result, Ok, Err, IfOk, IfErr}
+use Rattle.std.specs.Prelude.{◌==◌}
 use Rattle.std.specs.Option.{option_map}
 use Rattle.mau_terms.specs.Tree.{Tree, variable, numeral, apply, node, trees_of, list_of}
 use Rattle.mau_terms.specs.Norm.{norm, build, holds_overflow}
@@ -7,15 +8,14 @@ use Rattle.mau_terms.specs.Depth.{depth}
 use Rattle.mau_terms.specs.Subst.{variables, instance}
 use Rattle.mau_terms.specs.declared.ids.TermId.{TermId}
 use Rattle.mau_canon.specs.Within.{IsWithin}
-use Rattle.mau_evaluation.specs.Run.{Outcome, done, ended, Run, stopped, too_deep, counted, counted_if, go_on, and_then, and_try, try_on, or_go_on, gives, choose, spend, where_true, first_of}
+use Rattle.mau_evaluation.specs.Run.{Outcome, done, ended, Run, stopped, too_deep, counted, counted_if, go_on, and_then, and_try, try_on, or_go_on, gives, spend, where_true, first_of}
 use Rattle.mau_evaluation.specs.Program.{Fragment, equals, matches, has_sort, reaches, Program}
 use Rattle.mau_evaluation.specs.Listing.{same_tree, keep, solutions}
 use Rattle.mau_evaluation.specs.Evaluation.{Binding, Level, levels, solve, go_from, at_top, on_normal, admit, admitted, within_limits, in_places, put_value, order_of, top_changed, at, put, has_number, look_up, extend, agree, have_sorts}
 use Rattle.mau_evaluation.proofs.Falls.{evaluation_goes_on}
 use Rattle.mau_api.specs.declared.results.EvalEnd.{EvalEnd}
-use Rattle.mau_machine.specs.Words.{greatest_count, capped, IsEnd, Rules, Words, trees, IsLeaf, IsUntried, IsSorted, rest_of, eval_on, sorts_on, solve_on, settle_on, applied_on, choose_from, side_of, side_by, sort_in, pattern_in, goal_of, Asks}
-use Rattle.mau_machine.specs.Machine.{Waits, argument, again, left_side, right_side, sorting, matching, choice, trying, Reply, gave, held, failed, as_value, as_answer, from_built, on_arguments, on_attempts, after, goes_on}
-use Rattle.mau_machine.specs.declared.goal.Goal.{Goal}
+use Rattle.mau_machine.specs.Words.{greatest_count, capped, IsEnd, Rules, Words, trees, IsLeaf, IsSorted, rest_of, eval_on, sorts_on, solve_on, settle_on, applied_on, choose_from, side_of, side_by, sort_in, pattern_in, goal_of, Asks}
+use Rattle.mau_machine.specs.Machine.{argument, again, left_side, right_side, sorting, matching, choice, trying, Reply, gave, held, failed, as_value, as_answer, from_built, on_arguments, on_attempts, after, goes_on}
 use Rattle.mau_machine.specs.declared.goal.Goal.TheVariants as Goals
 use Rattle.mau_machine.proofs.Counts.{zero_more, counted_zero, counted_twice, go_on_counted, answer_zero, answer_twice, value_ends, answer_ends, first_ends, try_ends, same_ends, counted_ends, min_twice}
 
@@ -466,3 +466,13 @@ module _ (R : Rules) where
 
 pub one : (n : ℕ) → suc n ≡ n + 1
 one n = omega arith
+
+pub empty_is : {X : Type 0} (xs ys : List X) → xs ≡ ys → true ≡ (length xs == 0) → ys ≡ []
+empty_is {X = X} xs ys e h = by ys (h ∙ ap (λ zs. length zs == 0) e)
+  where
+    by : (ys : List X) → true ≡ (length ys == 0) → ys ≡ []
+    by [] h = refl
+    by (y ∷ ys) h = absurd (no (length ys) h)
+      where
+        no : (n : ℕ) → true ≡ (suc n == 0) → ⊥
+        no n h = search (rules, h)

@@ -1,5 +1,5 @@
 -- Counts and ends of outcomes.
-use Rattle.std.proofs.Common.{◌≡◌, ℕ, zero, suc, ◌+◌, ◌≤◌, min, Bool, Option, Some, None, refl, sym, ◌∙◌, ap, subst, arith, Result, Ok, Err, IfErr}
+use Rattle.std.proofs.Common.{◌≡◌, ℕ, ◌+◌, ◌≤◌, min, Option, Some, None, refl, sym, ◌∙◌, ap, subst, arith, Result, IfErr}
 use Rattle.mau_terms.specs.Tree.{Tree}
 use Rattle.mau_evaluation.specs.Run.{End, Outcome, done, ended, Run, stopped, too_deep, overflowed, counted, counted_if, go_on, try_on}
 use Rattle.mau_evaluation.specs.Evaluation.{Binding}

@@ -1,12 +1,11 @@
 -- Frames and tasks of which all is known, in states that come of one another.
-use Rattle.std.proofs.Common.{◌≡◌, ℕ, zero, suc, ◌<◌, ◌≤◌, List, [], ◌∷◌, ◌++◌, map, length, Option, Some, None, refl, sym, ◌∙◌, ap, subst, arith, get_or, Result, Ok, Err, IfOk}
+use Rattle.std.proofs.Common.{◌≡◌, ℕ, zero, suc, ◌<◌, List, [], ◌∷◌, ◌++◌, length, Some, refl, sym, ◌∙◌, ap, subst, arith, get_or, Result, Ok, Err, IfOk}
 use Rattle.mau_terms.specs.declared.ids.TermId.{TermId}
-use Rattle.mau_terms.specs.Tree.{Tree}
 use Rattle.mau_evaluation.specs.Run.{Outcome}
 use Rattle.mau_evaluation.specs.Listing.{kind_at}
-use Rattle.mau_machine.specs.Words.{Words, Keeps, Rules, kind_of, trees, Asks, IsSolution}
-use Rattle.mau_machine.specs.Machine.{Waits, argument, left_side, right_side, sorting, matching, choice, trying, Task, evaluates, arguments, looks_at_top, attempts, solves, chooses, has_value, holds, Reply, goes_on, comes, waits_in, task_in, through, whole}
-use Rattle.mau_machine.specs.Known.{Due, any_value, value_of, answer_to, Suits, kind_under, kind_in, asks, yields, comes_to, AreChained, IsKnown, IsKnownNext, AreKnown, HoldsIn}
+use Rattle.mau_machine.specs.Words.{Words, Keeps, kind_of, trees, Asks, IsSolution}
+use Rattle.mau_machine.specs.Machine.{argument, left_side, right_side, sorting, matching, choice, trying, evaluates, arguments, looks_at_top, attempts, solves, chooses, has_value, holds, Reply, goes_on, comes, waits_in, task_in, through, whole}
+use Rattle.mau_machine.specs.Known.{Due, value_of, Suits, kind_under, kind_in, asks, yields, comes_to, AreChained, IsKnown, IsKnownNext, AreKnown, HoldsIn}
 use Rattle.mau_api.specs.declared.results.EvalEnd.{EvalEnd}
 use Rattle.mau_machine.specs.Steps.{StayKnown}
 use Rattle.mau_machine.specs.declared.goal.Goal.{Goal}
@@ -239,3 +238,10 @@ module _ {A C S : Type 0} (w : Words A C S) where
   kind_at_get [] i d h = absurd (omega (arith, h))
   kind_at_get (y ∷ ids) zero d h = refl
   kind_at_get (y ∷ ids) (suc i) d h = kind_at_get ids i d (omega (arith, h))
+
+  -- a machine in which nothing waits
+  pub entered : (fs : List (Frame A C S)) (c : Control A C S) (n b : ℕ) → fs ≡ [] → n ≡ 0 → whole w [] c 0 b ≡ whole w fs c n b
+  entered fs c n b e z = ap (λ m. whole w [] c m b) (sym z) ∙ ap (λ gs. whole w gs c n b) (sym e)
+
+  pub held_first : (asked : Due) (fs : List (Frame A C S)) (c : Control A C S) → fs ≡ [] → IsKnownNext w c → Suits asked (comes_to w c) → HoldsIn w asked fs c
+  held_first asked fs c e k s = subst (λ gs. HoldsIn w asked gs c) (sym e) (record { frames = tt; next = k; chained = s })

@@ -1,8 +1,6 @@
 -- Outcomes that go through frames.
-use Rattle.std.proofs.Common.{◌≡◌, ℕ, zero, suc, ◌+◌, min, List, [], ◌∷◌, ◌++◌, map, Bool, true, false, Option, Some, None, refl, sym, ◌∙◌, ap, subst, Result, Ok, Err, IfOk, IfErr}
-use Rattle.mau_terms.specs.Tree.{Tree}
-use Rattle.mau_evaluation.specs.Run.{End, Outcome, done, ended, Run, stopped, too_deep, overflowed, counted, spend}
-use Rattle.mau_evaluation.specs.Evaluation.{Binding}
+use Rattle.std.proofs.Common.{◌≡◌, ℕ, suc, ◌+◌, min, List, [], ◌∷◌, ◌++◌, refl, sym, ◌∙◌, ap, subst, Result, Ok, Err, IfOk, IfErr}
+use Rattle.mau_evaluation.specs.Run.{End, Outcome, done, ended, stopped, too_deep, overflowed, counted, spend}
 use Rattle.mau_api.specs.declared.results.EvalEnd.{EvalEnd}
 use Rattle.mau_api.specs.declared.results.EvalEnd.TheVariants.{Stopped, TooDeep, Overflow, NoMemory}
 use Rattle.mau_machine.specs.Words.{greatest_count, capped, IsEnd, Rules, Words, eval_on}

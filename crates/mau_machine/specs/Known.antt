@@ -1,5 +1,5 @@
 -- What is known of all handles in frames and in what is done next, and that each frame is given what it waits for.
-use Rattle.std.specs.Prelude.{◌≡◌, ℕ, zero, suc, List, [], ◌∷◌, Bool, Option, Some, None}
+use Rattle.std.specs.Prelude.{◌≡◌, ℕ, zero, suc, List, [], ◌∷◌, Option, Some, None}
 use Rattle.mau_terms.specs.Tree.{Tree}
 use Rattle.mau_terms.specs.Bare.{TermSignature}
 use Rattle.mau_evaluation.specs.Listing.{kind_at}

@@ -1,5 +1,5 @@
 -- What the loop's frames and its next task mean: computations that go on with outcomes.
-use Rattle.std.specs.Prelude.{◌≡◌, ℕ, zero, suc, ◌+◌, List, [], ◌∷◌, map, drop, Bool, true, false, Option, Some, None}
+use Rattle.std.specs.Prelude.{ℕ, suc, ◌+◌, List, [], ◌∷◌, drop, Bool, true, false, Option, Some, None}
 use Rattle.mau_terms.specs.Tree.{Tree}
 use Rattle.mau_terms.specs.Norm.{build}
 use Rattle.mau_evaluation.specs.Run.{Outcome, done, ended, Run, stopped, counted, counted_if, and_then, and_try, choose, spend, where_true}

@@ -1,9 +1,7 @@
 -- What a step of the loop does.
-use Rattle.std.specs.Prelude.{◌≡◌, ℕ, List}
+use Rattle.std.specs.Prelude.{◌≡◌, List}
 use Rattle.mau_evaluation.specs.Run.{Outcome}
-use Rattle.mau_api.specs.declared.results.EvalEnd.{EvalEnd}
-use Rattle.mau_machine.specs.Words.{Words, capped, IsEnd}
-use Rattle.mau_machine.specs.Machine.{Reply, whole}
+use Rattle.mau_machine.specs.Words.{Words, capped}
 use Rattle.mau_machine.specs.Known.{Due, HoldsIn}
 use Rattle.mau_machine.specs.declared.frame.Frame.{Frame}
 use Rattle.mau_machine.specs.declared.frame.Control.{Control}

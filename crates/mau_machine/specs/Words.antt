@@ -1,5 +1,5 @@
 -- What a world's handles stand for, and what its calls say of them.
-use Rattle.std.specs.Prelude.{◌≡◌, ℕ, suc, ◌^◌, ◌-◌, ◌⊎◌, min, List, [], ◌∷◌, map, drop, Bool, true, false, Option, Some, None, if◌then◌else◌}
+use Rattle.std.specs.Prelude.{◌≡◌, ℕ, suc, ◌^◌, ◌-◌, ◌⊎◌, min, List, [], ◌∷◌, map, drop, Bool, true, false, Option, if◌then◌else◌}
 use Rattle.mau_terms.specs.Tree.{Tree, variable, numeral, apply}
 use Rattle.mau_terms.specs.Subst.{variables, instance}
 use Rattle.mau_terms.specs.declared.ids.TermId.{TermId}
