@@ -19,12 +19,10 @@ use Rattle.mau_listing.proofs.Answered.{norm-reading-is}
 use Rattle.mau_domains.specs.Parts.{just}
 use Rattle.mau_match.specs.Parts.{AnyOf, occurs, occurs_among, parts_of, IsFairAt, IsFair, AreFair}
 use Rattle.mau_match.specs.Given.{given_variables, given_at}
-use Rattle.mau_match.specs.Laws.{PartsHoldAnswers, AnswersPass}
+use Rattle.mau_match.specs.Laws.{PartsHoldAnswers}
 use Rattle.mau_match.proofs.Fair.{bare_fair}
 use Rattle.mau_match.proofs.Occurring.{occurring_among, instance_along, instances_along}
 use Rattle.mau_match.proofs.NothingMissed.{walk}
-use Rattle.mau_match.proofs.NothingRefused.{not_refused}
-use Rattle.mau_match.specs.MayMatch.{may_match}
 
 mutual
   pub occurs_has : (x : Variable) (p : Tree) → Occurs x p → occurs x p ≡ true
@@ -164,17 +162,6 @@ module _ (s : SignatureOf) (lawful : IsLawful (terms_over s)) (P : ℕ → Tree 
       let whole : norm th (instance gg p) ≡ q.subject = ap (norm th) (sym (instance_along F gg p same)) ∙ a.whole in
       let found : AnyOf th (parts_of th ys g x p (just q.subject)) (norm th (gg x)) = walk th lawful.theories ys g gg x agree p fair (occurs_has x p occ) (just q.subject) whole in
       subst (AnyOf th (parts_of th ys g x p (just q.subject))) (ap (norm th) at ∙ norm_at th vs u us a.normal) found
-
-  pub answer_passes : may_match (theory_at s) (given_variables q xs) (given_at q xs vs) x q.pattern (just q.subject) ≡ true
-  answer_passes =
-      let th = theory_at s in
-      let p = q.pattern in
-      let ys = given_variables q xs in
-      let whole : norm th (instance gg p) ≡ q.subject = ap (norm th) (sym (instance_along F gg p same)) ∙ a.whole in
-      not_refused th lawful.theories ys g gg x agree p fair (just q.subject) whole
-
-pub answers_pass : AnswersPass
-answers_pass s lawful known q xs x zs ev vs l u us a = answer_passes s lawful (BySort s known) q xs x zs ev vs l u us a
 
 pub parts_hold_answers : PartsHoldAnswers
 parts_hold_answers s lawful known q xs x zs ev vs l u us a = value_is_of_part s lawful (BySort s known) q xs x zs ev vs l u us a

@@ -9,8 +9,6 @@ pub mod KnownElements
 pub mod Sound
 pub mod Lengths
 pub mod NothingMissed
-pub mod NothingRefused
-pub mod MayTerms
 pub mod Extension
 pub mod Fair
 pub mod Occurring

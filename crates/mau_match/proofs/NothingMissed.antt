@@ -1,6 +1,6 @@
 -- The walk over a pattern misses no value that its variable has in a solution.
 use Rattle.std.proofs.Common.{◌≡◌, ℕ, ◌+◌, ◌-◌, ◌≤◌, List, [], ◌∷◌, ◌++◌, length, map, Bool, true, false, not, ◌&&◌, ◌||◌, ◌==◌, nat_lt, Option, Some, None, inl, inr, ◌⊎◌, if◌then◌else◌, refl, sym, ◌∙◌, ap, ap₂, subst, append-nil, arith, length-append, eqb-true, eq-eqb, lt-ltb}
-use Rattle.mau_terms.specs.Tree.{Tree, variable, numeral, apply, node, Trees, no_trees, tree, list_of, trees_of}
+use Rattle.mau_terms.specs.Tree.{Tree, variable, numeral, apply, Trees, no_trees, tree, list_of, trees_of}
 use Rattle.mau_terms.specs.Norm.{unit_tree, is_unit, all_pieces, arrange, finish, build, norm, norms}
 use Rattle.mau_terms.specs.Lawful.{AreLawful}
 use Rattle.mau_terms.specs.Subst.{Variable, has_variable, instance, instances}
@@ -15,7 +15,7 @@ use Rattle.mau_terms.proofs.Finite.{in_left, in_right, length-arrange, length_wi
 use Rattle.mau_terms.proofs.Variables.{same-is}
 use Rattle.mau_domains.specs.Parts.{Reach, whole, Part, just, some_of, Reaches, IsOf}
 use Rattle.mau_match.specs.Parts.{AnyOf, headed, folded_by, occurs, occurs_among, lists_in, alone_in, folded_parts, apart_from, is_bound, any_of, lists_of, own_part, rest_behind, parts_of, parts_among, parts_at, parts_any, parts_folded, IsFairAt, IsFair, AreFair}
-use Rattle.mau_match.proofs.Builds.{all_in, arranged_list, Built, placed, counted, folded, IsFolded, built_other, list_of_built}
+use Rattle.mau_match.proofs.Builds.{all_in, Built, placed, counted, folded, IsFolded, built_other, list_of_built}
 use Rattle.mau_match.proofs.KnownElements.{bound_norm}
 use Rattle.mau_match.proofs.Lengths.{not_too_few}
 use Rattle.mau_match.proofs.Sound.{any_left, any_right, any_each, any_each_part, any_just, in_each, one_reaches, owns, rests, AnyRest}
@@ -37,7 +37,7 @@ no_unit_args : (f : ℕ) (us : Trees) (j : Identity) → apply f us ≡ unit_tre
 no_unit_args f us (Const c) e = ap list_of (same_args f c.0 us no_trees e)
 no_unit_args f us (Num n) e = cc
 
-pub positive : (n : ℕ) → nat_lt 0 (n + 1) ≡ true
+positive : (n : ℕ) → nat_lt 0 (n + 1) ≡ true
 positive n = lt-ltb 0 (n + 1) (omega arith)
 
 either_true : (a b : Bool) → (a || b) ≡ true → a ≡ false → b ≡ true
@@ -47,10 +47,10 @@ either_true false b e h = e
 module _ (th : ℕ → Theory) (lawful : AreLawful th) (bound : List Variable) (g gg : Variable → Tree) (x : Variable) (agree : (y : Variable) → has_variable bound y ≡ true → norm th (g y) ≡ norm th (gg y)) where
   -- ---- an associative operator
 
-  abbrev pub Way : ℕ → List Tree → Part → Type 0
+  abbrev Way : ℕ → List Tree → Part → Type 0
   Way f zs q = ((l : Reach × List Tree) × IsIn l (lists_in th f q) × Reaches (th f).comm l.0 (all_pieces (th f).assoc (th f).id f zs) l.1) ⊎ (IsIn q (apart_from th f q) × ((i : Identity) × ((th f).id ≡ Some i) × IsFolded i zs (build (th f) f zs)))
 
-  pub ways : (f : ℕ) → (th f).assoc ≡ true → (zs : List Tree) → Each (IsNormal th) zs → IsFairAt th f zs → (q : Part) → IsOf th q (build (th f) f zs) → Way f zs q
+  ways : (f : ℕ) → (th f).assoc ≡ true → (zs : List Tree) → Each (IsNormal th) zs → IsFairAt th f zs → (q : Part) → IsOf th q (build (th f) f zs) → Way f zs q
   ways f a zs n fair q h = by q h
     where
       c : Bool
@@ -212,13 +212,13 @@ module _ (th : ℕ → Theory) (lawful : AreLawful th) (bound : List Variable) (
       by (many us b k p) = absurd (nope h us b k)
       by (unit i u k p) = in_left v (units_of (th h).id) ts (subst (λ w. IsIn v (units_of w)) (sym u) (inl k))
 
-  abbrev pub OtherWay : ℕ → List Tree → Part → Type 0
+  abbrev OtherWay : ℕ → List Tree → Part → Type 0
   OtherWay f zs q =
       IsIn zs (each_of (lists_of th f) (alone_in th q))
       ⊎ ((z : Tree) → IsIn z zs → AnyOf th (each_of (any_of th f) (alone_in th q)) z)
       ⊎ ((i : Identity) × ((th f).id ≡ Some i) × IsFolded i zs (build (th f) f zs))
 
-  pub other_ways : (f : ℕ) → (th f).assoc ≡ false → (zs : List Tree) → IsFairAt th f zs → (q : Part) → IsOf th q (build (th f) f zs) → OtherWay f zs q
+  other_ways : (f : ℕ) → (th f).assoc ≡ false → (zs : List Tree) → IsFairAt th f zs → (q : Part) → IsOf th q (build (th f) f zs) → OtherWay f zs q
   other_ways f a zs fair q o = by (built_other th f zs a fair.two_by_unit)
     where
       v : Tree
@@ -256,49 +256,7 @@ module _ (th : ℕ → Theory) (lawful : AreLawful th) (bound : List Variable) (
               inl (in_each (lists_of th f) v alone zs there
               (subst (λ t. IsIn zs (lists_of th f t)) (sym e)
               (subst (λ d. IsIn zs (if d then list_of (trees_of es) ∷ [] else [])) (sym (ap₂ (λ p r. p && not r) (eq-eqb f f refl) w))
-              (inl (arranged_list (th f).comm zs es w nc ∙ sym (list_of-trees_of es))))))
-
-  -- the arguments zs are what a term has below f: a successor's, or those of a comm operator in some order
-  abbrev pub IsBelowTop : ℕ → List Tree → Tree → Type 0
-  IsBelowTop f zs v =
-      ((n : ℕ) × ((th f).succ ≡ true) × (v ≡ numeral (n + 1)) × ((z : Tree) → IsIn z zs → z ≡ numeral n))
-      ⊎ (((th f).comm ≡ true) × ((es : List Tree) × (v ≡ node f es) × (arrange true zs ≡ es)))
-
-  abbrev pub OwnWay : ℕ → List Tree → Part → Type 0
-  OwnWay f zs q =
-      IsIn zs (each_of (lists_of th f) (alone_in th q))
-      ⊎ ((IsIn (build (th f) f zs) (alone_in th q) × IsBelowTop f zs (build (th f) f zs))
-      ⊎ ((i : Identity) × ((th f).id ≡ Some i) × IsFolded i zs (build (th f) f zs)))
-
-  pub own_ways : (f : ℕ) → (th f).assoc ≡ false → (zs : List Tree) → IsFairAt th f zs → (q : Part) → IsOf th q (build (th f) f zs) → OwnWay f zs q
-  own_ways f a zs fair q o = by (built_other th f zs a fair.two_by_unit)
-    where
-      v : Tree
-      v = build (th f) f zs
-
-      by : Built (th f) f zs v → OwnWay f zs q
-      by (folded i u e) = inr (inr (i, u, e))
-      by (counted n s e i) =
-          let nope : (h : ℕ) (us : Trees) → (th h).assoc ≡ true → v ≡ apply h us → ⊥ = (λ h us b k. let j : numeral (n + 1) ≡ apply h us = sym e ∙ k in cc) in
-          inr (inl (alone_is q v nope o, inl (n, s, e, λ z k. elim (all_in zs (numeral n ∷ []) z i k) [ inl w ↦ w | inr w ↦ absurd w ])))
-      by (placed es e i nc) = at (th f).comm refl
-        where
-          nope : (h : ℕ) (us : Trees) → (th h).assoc ≡ true → v ≡ apply h us → ⊥
-          nope h us b k =
-              let j : f ≡ h = head_op f h (trees_of es) us (sym e ∙ k) in
-              let b' : (th f).assoc ≡ true = subst (λ w. (th w).assoc ≡ true) (sym j) b in
-              cc
-
-          there : IsIn v (alone_in th q)
-          there = alone_is q v nope o
-
-          at : (c : Bool) → (th f).comm ≡ c → OwnWay f zs q
-          at true w = inr (inl (there, inr (w, (es, e, subst (λ d. arrange d zs ≡ es) w nc))))
-          at false w =
-              inl (in_each (lists_of th f) v (alone_in th q) zs there
-              (subst (λ t. IsIn zs (lists_of th f t)) (sym e)
-              (subst (λ d. IsIn zs (if d then list_of (trees_of es) ∷ [] else [])) (sym (ap₂ (λ p r. p && not r) (eq-eqb f f refl) w))
-              (inl (arranged_list (th f).comm zs es w nc ∙ sym (list_of-trees_of es))))))
+              (inl (nc w ∙ sym (list_of-trees_of es))))))
 
   -- ---- the walk
 

@@ -13,7 +13,6 @@ use Rattle.mau_listing.specs.Asked.{BySort}
 use Rattle.mau_listing.specs.Answers.{IsAnswer}
 use Rattle.mau_domains.specs.Parts.{Part, just, some_of, front, IsOf}
 use Rattle.mau_match.specs.Parts.{occurs_among, AnyOf, parts_of}
-use Rattle.mau_match.specs.MayMatch.{may_match}
 use Rattle.mau_match.specs.Taken.{first_with, taken}
 use Rattle.mau_match.specs.Given.{given_variables, given_at}
 
@@ -25,15 +24,6 @@ PartsHoldAnswers =
     (xs : List Variable) (x : Variable) (zs : List Variable) → variables q.pattern ≡ xs ++ x ∷ zs →
     (vs : List Tree) → length xs ≡ length vs → (u : Tree) (us : List Tree) → IsAnswer s (BySort s known) q (vs ++ u ∷ us) →
     AnyOf (theory_at s) (parts_of (theory_at s) (given_variables q xs) (given_at q xs vs) x q.pattern (just q.subject)) u
-
--- where an answer begins with the values vs of the variables xs, the pattern passes the test with these: one that does not pass is that of
--- no answer
-abbrev pub AnswersPass : Type 0
-AnswersPass =
-    (s : SignatureOf) → IsLawful (terms_over s) → (known : Known) (q : Question) →
-    (xs : List Variable) (x : Variable) (zs : List Variable) → variables q.pattern ≡ xs ++ x ∷ zs →
-    (vs : List Tree) → length xs ≡ length vs → (u : Tree) (us : List Tree) → IsAnswer s (BySort s known) q (vs ++ u ∷ us) →
-    may_match (theory_at s) (given_variables q xs) (given_at q xs vs) x q.pattern (just q.subject) ≡ true
 
 -- with a left and a right context the same walk serves, from what stands behind the left one
 abbrev pub PartWithContexts : Type 0

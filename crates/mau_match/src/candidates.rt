@@ -23,11 +23,13 @@ ghost use Rattle.mau_match.specs.Searched.{AnswerIn};
 use crate::Given;
 use crate::choices::push;
 use crate::may_match::may_match;
+use crate::single::by_sort;
 use crate::walk::parts_for;
 use mau_canon::BuildFault;
 use mau_domains::{Part, next_value};
 use mau_listing::{Place, compare_lists, is_lawful, value_key_of};
 use mau_signature::Signature;
+use mau_sorts::SortTable;
 use mau_store::Store;
 use mau_terms::{NoMemory, OpId, Seq, TermId, VarId};
 use mau_trial::Trial;
@@ -116,6 +118,7 @@ fn walked_candidates(
     places: &[Place],
     store: &mut Store,
     sig: &Signature,
+    sorts: &SortTable,
     chosen: &[TermId],
 ) -> Result<Option<Vec<Part>>, NoMemory>
     requires askable { IsAskable sig.now store.old (asked_in trial.now) }
@@ -139,7 +142,7 @@ fn walked_candidates(
     let front = &places[..chosen.len()];
     let given = given_for(store.allocator(), &trial.bound, front, chosen, target)?;
     match parts_for(store, sig, &given, &trial.pattern, trial.subject) {
-        Ok(parts) => Ok(Some(parts)),
+        Ok(parts) => Ok(Some(by_sort(store, sig, sorts, target.sort, parts)?)),
         Err(BuildFault::NoMemory) => Err(NoMemory),
         Err(BuildFault::TooDeep) => Ok(None),
         Err(BuildFault::Overflow) => Ok(None),
@@ -166,7 +169,7 @@ fn may_answer(
     let target = places[chosen.len()].variable;
     let front = &places[..chosen.len()];
     let given = given_for(store.allocator(), &trial.bound, front, chosen, target)?;
-    may_match(store, sig, &given, &trial.pattern, trial.subject)
+    may_match(store, sig, &given, &trial.pattern, &Part::One(trial.subject))
 }
 
 /// The parts that the value of the next variable may be of, and none where no answer begins with the chosen values.
@@ -175,6 +178,7 @@ pub fn candidates(
     places: &[Place],
     store: &mut Store,
     sig: &Signature,
+    sorts: &SortTable,
     chosen: &[TermId],
 ) -> Result<Option<Vec<Part>>, NoMemory>
     requires askable { IsAskable sig.now store.old (asked_in trial.now) }
@@ -189,7 +193,7 @@ pub fn candidates(
     ensures extends { Extends store.old store.new }
 {
     if may_answer(trial, places, store, sig, chosen)? {
-        walked_candidates(trial, places, store, sig, chosen)
+        walked_candidates(trial, places, store, sig, sorts, chosen)
     } else {
         Ok(None)
     }
