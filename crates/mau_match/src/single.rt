@@ -96,7 +96,6 @@ fn is_single(store: &Store, sig: &Signature, sorts: &SortTable, op: OpId, sort: 
 
 /// The operator of the first list part of which not the whole is meant.
 fn list_operator(parts: &[Part]) -> Option<OpId>
-    ensures { IfSome result (λ op. ..) }
 {
     for part in parts {
         match part {
