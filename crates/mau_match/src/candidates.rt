@@ -23,13 +23,11 @@ ghost use Rattle.mau_match.specs.Searched.{AnswerIn};
 use crate::Given;
 use crate::choices::push;
 use crate::may_match::may_match;
-use crate::single::by_sort;
 use crate::walk::parts_for;
 use mau_canon::BuildFault;
 use mau_domains::{Part, next_value};
 use mau_listing::{Place, compare_lists, is_lawful, value_key_of};
 use mau_signature::Signature;
-use mau_sorts::SortTable;
 use mau_store::Store;
 use mau_terms::{NoMemory, OpId, Seq, TermId, VarId};
 use mau_trial::Trial;
@@ -118,7 +116,6 @@ fn walked_candidates(
     places: &[Place],
     store: &mut Store,
     sig: &Signature,
-    sorts: &SortTable,
     chosen: &[TermId],
 ) -> Result<Option<Vec<Part>>, NoMemory>
     requires askable { IsAskable sig.now store.old (asked_in trial.now) }
@@ -142,7 +139,7 @@ fn walked_candidates(
     let front = &places[..chosen.len()];
     let given = given_for(store.allocator(), &trial.bound, front, chosen, target)?;
     match parts_for(store, sig, &given, &trial.pattern, trial.subject) {
-        Ok(parts) => Ok(Some(by_sort(store, sig, sorts, target.sort, parts)?)),
+        Ok(parts) => Ok(Some(parts)),
         Err(BuildFault::NoMemory) => Err(NoMemory),
         Err(BuildFault::TooDeep) => Ok(None),
         Err(BuildFault::Overflow) => Ok(None),
@@ -178,7 +175,6 @@ pub fn candidates(
     places: &[Place],
     store: &mut Store,
     sig: &Signature,
-    sorts: &SortTable,
     chosen: &[TermId],
 ) -> Result<Option<Vec<Part>>, NoMemory>
     requires askable { IsAskable sig.now store.old (asked_in trial.now) }
@@ -193,7 +189,7 @@ pub fn candidates(
     ensures extends { Extends store.old store.new }
 {
     if may_answer(trial, places, store, sig, chosen)? {
-        walked_candidates(trial, places, store, sig, sorts, chosen)
+        walked_candidates(trial, places, store, sig, chosen)
     } else {
         Ok(None)
     }

@@ -1,17 +1,18 @@
 //! Whether a pattern may be of a part, by what is known of its variables: where it may not, no values of the others make it so.
-ghost use Rattle.std.specs.Prelude.{◌≡◌, ◌∷◌, [], ⊥, map, None, All, true, false, IfOk, IfErr, IfSome, IfNone};
+ghost use Rattle.std.specs.Prelude.{◌≡◌, ◌∷◌, [], List, map, None, Some, All, true, false, IfOk, IfErr, IfSome, IfNone};
 ghost use Rattle.mau_terms.specs.Tree.{Tree, apply, trees_of, node};
 ghost use Rattle.mau_terms.specs.Bare.{IsBare};
 ghost use Rattle.mau_terms.specs.Finite.{IsIn};
 ghost use Rattle.mau_terms.specs.View.{tree_of};
+ghost use Rattle.mau_terms.specs.declared.theory.Identity.{Identity};
 ghost use Rattle.mau_signature.specs.Signature.{IsOperator, theory_at, terms_over};
-ghost use Rattle.mau_store.specs.Node.{Extends};
+ghost use Rattle.mau_store.specs.Node.{Node, Extends};
 ghost use Rattle.mau_store.specs.Trees.{tree_at, trees_at};
 ghost use Rattle.mau_store.specs.View.{numbers};
 ghost use Rattle.mau_canon.specs.Standing.{StandsWithin, StandWithin};
-ghost use Rattle.mau_domains.specs.Parts.{just, IsOf};
+ghost use Rattle.mau_domains.specs.Parts.{Part as PartOf, just, IsOf};
 ghost use Rattle.mau_domains.specs.Stored.{part_in};
-ghost use Rattle.mau_match.specs.Parts.{headed, is_bound, known_in, without_all};
+ghost use Rattle.mau_match.specs.Parts.{headed, apart_from, is_bound, known_in, without_all};
 ghost use Rattle.mau_match.specs.Possible.{IsNever, AreNever, AreNeverSorted, AreNeverJoined, IsNeverAmong, AreNeverAmong};
 ghost use Rattle.mau_match.specs.Walked.{IsPartWithin, IsSpanWithin, AreGivenWithin, bound_of, values_of, target_of, span_in};
 
@@ -294,18 +295,27 @@ fn may_list(
     ensures refused { IfOk result (λ b. b ≡ false → IsNever sig.now store.old given.now (apply op.0 (trees_of (map tree_of patterns.now))) (part_in store.old part.now)) }
     ensures extends { Extends store.old store.new }
 {
-    if is_apart(op, part) && sig.theory(op).id.is_some() {
+    is_lawful(sig);
+    if may_fold(sig, op, part) {
         return Ok(true);
     }
     let spans = spans_in(store, sig, op, part)?;
     may_be_some(store, sig, given, op, patterns, &spans)
 }
 
-/// Whether a part is a list of another operator.
-fn is_apart(op: OpId, part: &Part) -> bool {
+/// Whether an operator over two arguments may be of a part since one of them is the identity.
+fn may_fold(sig: &Signature, op: OpId, part: &Part) -> bool
+    requires operator { IsOperator sig.now op.0 }
+    ensures { result ≡ false → (nodes : List Node) (q : PartOf) (i : Identity) → IsIn q (apart_from (theory_at sig.now) op.0 (part_in nodes part.now)) → (theory_at sig.now op.0).id ≡ Some i → ⊥ }
+{
     match part {
         Part::One(_) => false,
-        Part::ListOf(_, top, _) => op != *top,
+        Part::ListOf(_, top, _) => {
+            if op == *top {
+                return false;
+            }
+            sig.theory(op).id.is_some()
+        }
     }
 }
 
@@ -411,6 +421,7 @@ fn may_each(
 ) -> Result<bool, NoMemory>
     requires operator { IsOperator sig.now op.0 }
     requires assoc { (theory_at sig.now op.0).assoc ≡ true }
+    requires comm { (theory_at sig.now op.0).comm ≡ true }
     requires bare { All (λ p. IsBare (terms_over sig.now) (tree_of p)) patterns.now }
     requires values { AreGivenWithin sig.now store.old given.now }
     requires items { StandWithin (theory_at sig.now) store.old (numbers items.now) }
@@ -441,6 +452,7 @@ fn may_take(
 ) -> Result<bool, NoMemory>
     requires operator { IsOperator sig.now op.0 }
     requires assoc { (theory_at sig.now op.0).assoc ≡ true }
+    requires comm { (theory_at sig.now op.0).comm ≡ true }
     requires bare { IsBare (terms_over sig.now) (tree_of pattern.now) }
     requires values { AreGivenWithin sig.now store.old given.now }
     requires items { StandWithin (theory_at sig.now) store.old (numbers items.now) }
