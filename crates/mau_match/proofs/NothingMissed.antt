@@ -270,9 +270,9 @@ module _ (th : ℕ → Theory) (lawful : AreLawful th) (bound : List Variable) (
       by (counted n s e i) = alone_is q v (λ h us b k. let j : numeral (n + 1) ≡ apply h us = sym e ∙ k in cc) o
       by (placed es e i nc) =
           alone_is q v (λ h us b k.
-              let j : f ≡ h = head_op f h (trees_of es) us (sym e ∙ k) in
-              let b' : (th f).assoc ≡ true = subst (λ w. (th w).assoc ≡ true) (sym j) b in
-              cc) o
+          let j : f ≡ h = head_op f h (trees_of es) us (sym e ∙ k) in
+          let b' : (th f).assoc ≡ true = subst (λ w. (th w).assoc ≡ true) (sym j) b in
+          cc) o
 
   -- if it is not the successor either, it is built of just these arguments
   pub only_placed : (f : ℕ) → (th f).assoc ≡ false → (th f).succ ≡ false → (th f).id ≡ None → (zs : List Tree) → IsFairAt th f zs → build (th f) f zs ≡ node f (arrange (th f).comm zs)

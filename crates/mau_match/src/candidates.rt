@@ -166,7 +166,13 @@ fn may_answer(
     let target = places[chosen.len()].variable;
     let front = &places[..chosen.len()];
     let given = given_for(store.allocator(), &trial.bound, front, chosen, target)?;
-    may_match(store, sig, &given, &trial.pattern, &Part::One(trial.subject))
+    may_match(
+        store,
+        sig,
+        &given,
+        &trial.pattern,
+        &Part::One(trial.subject),
+    )
 }
 
 /// The parts that the value of the next variable may be of, and none where no answer begins with the chosen values.
