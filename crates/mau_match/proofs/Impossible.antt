@@ -1,10 +1,10 @@
 -- What a test refuses is never so: elements of lists that are known and those that are not.
-use Rattle.std.proofs.Common.{◌≡◌, ℕ, List, [], ◌∷◌, ◌++◌, Bool, true, false, Option, Some, None, refl, sym, ◌∙◌, ap, subst, append_assoc}
+use Rattle.std.proofs.Common.{◌≡◌, ℕ, List, ◌++◌, Bool, true, false, Some, None, refl, sym, ◌∙◌, ap, subst, append_assoc}
 use Rattle.mau_terms.specs.Tree.{Tree, Trees}
 use Rattle.mau_terms.specs.Order.{sort_trees}
 use Rattle.mau_terms.specs.Norm.{all_pieces, norm, norms}
 use Rattle.mau_terms.specs.Lawful.{AreLawful}
-use Rattle.mau_terms.specs.Subst.{Variable, has_variable, instance, instances}
+use Rattle.mau_terms.specs.Subst.{Variable, has_variable, instances}
 use Rattle.mau_terms.specs.declared.theory.Theory.{Theory}
 use Rattle.mau_domains.specs.Parts.{Reach, inside, Reaches}
 use Rattle.mau_domains.proofs.Reached.{more_left, past}

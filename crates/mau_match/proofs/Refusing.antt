@@ -1,12 +1,12 @@
 -- What is refused step by step, while the store grows, is never so.
-use Rattle.std.proofs.Common.{◌≡◌, ◌⊎◌, ℕ, ◌+◌, ◌-◌, ◌==◌, ◌<◌, ◌≤◌, List, [], ◌∷◌, ◌++◌, map, length, take, drop, get_or, Bool, true, false, Option, Some, None, inl, inr, if◌then◌else◌, refl, sym, ◌∙◌, ap, ap₂, subst, arith, eq-eqb}
+use Rattle.std.proofs.Common.{◌≡◌, ◌⊎◌, ℕ, ◌+◌, ◌-◌, ◌==◌, ◌<◌, ◌≤◌, List, [], ◌∷◌, ◌++◌, map, length, take, drop, get_or, Bool, true, false, Some, None, inl, inr, if◌then◌else◌, refl, sym, ◌∙◌, ap, ap₂, subst, arith, eq-eqb}
 use Rattle.std.specs.Ordering.{is_gt}
 use Rattle.std.proofs.lemmas.List.{take_more, take_rest, map-append}
-use Rattle.mau_terms.specs.Tree.{Tree, variable, numeral, apply, node, Trees, no_trees, tree, trees_of}
+use Rattle.mau_terms.specs.Tree.{Tree, apply, node, Trees, tree, trees_of}
 use Rattle.mau_terms.specs.Order.{tree_cmp}
 use Rattle.mau_terms.specs.Norm.{all_pieces, arrange, build, norm, norms}
 use Rattle.mau_terms.specs.Lawful.{AreLawful}
-use Rattle.mau_terms.specs.Subst.{Variable, has_variable, instance, instances}
+use Rattle.mau_terms.specs.Subst.{Variable, instance, instances}
 use Rattle.mau_terms.specs.Solution.{list_under}
 use Rattle.mau_terms.specs.Finite.{IsIn}
 use Rattle.mau_terms.specs.View.{tree_of}
@@ -21,12 +21,11 @@ use Rattle.mau_store.specs.Node.{Node, Extends}
 use Rattle.mau_store.specs.Trees.{tree_at, trees_at}
 use Rattle.mau_store.specs.View.{numbers}
 use Rattle.mau_store.proofs.Growth.{trees_at-extends}
-use Rattle.mau_canon.specs.Standing.{StandWithin}
 use Rattle.mau_canon.proofs.Standing.{stand_there}
 use Rattle.mau_canon.proofs.Values.{values_in-extends}
-use Rattle.mau_domains.specs.Parts.{Reach, whole, front, inside, Part, just, IsOf, Reaches}
+use Rattle.mau_domains.specs.Parts.{Reach, inside, Part, just, IsOf, Reaches}
 use Rattle.mau_domains.specs.Stored.{reach_of}
-use Rattle.mau_match.specs.Parts.{headed, is_bound, are_bound, alone_in, lists_in, apart_from, known_in, without_all, least_lengths, too_few_for, IsFair, AreFair}
+use Rattle.mau_match.specs.Parts.{headed, is_bound, are_bound, alone_in, lists_in, apart_from, known_in, without_all, least_lengths, too_few_for, IsFair}
 use Rattle.mau_match.specs.Possible.{Agrees, AgreesIn, IsNever, AreNever, AreNeverSorted, AreNeverJoined, IsNeverAmong, AreNeverAmong, free, frees}
 use Rattle.mau_match.specs.Walked.{bound_of, values_of, target_of, span_in, AreGivenWithin, IsSpanWithin}
 use Rattle.mau_match.specs.declared.part.Given.{Given}

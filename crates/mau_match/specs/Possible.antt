@@ -1,5 +1,5 @@
 -- Values of all variables by which a pattern may be of a part, where some of them are known: what no test may overlook.
-use Rattle.std.specs.Prelude.{◌≡◌, ℕ, List, [], ◌++◌, Bool, true, ◌==◌, if◌then◌else◌}
+use Rattle.std.specs.Prelude.{◌≡◌, ℕ, List, [], ◌++◌, true, ◌==◌, if◌then◌else◌}
 use Rattle.mau_terms.specs.Tree.{Tree, variable, numeral, apply, Trees, no_trees, tree}
 use Rattle.mau_terms.specs.Norm.{norm, norms, all_pieces, arrange}
 use Rattle.mau_terms.specs.Subst.{Variable, has_variable, instance, instances}

@@ -1,4 +1,4 @@
-use Rattle.std.proofs.Common.{◌≡◌, ◌==◌, ◌+◌, ◌-◌, ◌∷◌, ◌++◌, [], ℕ, List, IfSome, Option, Some, None, true, false, All, length, take, drop, get_or, map, inl, inr, ◌⊎◌, refl, sym, ap, ap₂, ◌∙◌, subst, arith}
+use Rattle.std.proofs.Common.{◌≡◌, ◌==◌, ◌+◌, ◌-◌, ◌∷◌, ◌++◌, [], List, IfSome, Option, Some, None, true, false, length, take, drop, get_or, map, inl, inr, refl, sym, ap, ap₂, ◌∙◌, subst, arith}
 use Rattle.std.proofs.Common.{is_some}
 use Rattle.std.proofs.lemmas.List.{take_all}
 use Rattle.std.proofs.lemmas.List.Elements.{All-nil, All-cons}
@@ -24,11 +24,11 @@ use Rattle.mau_listing.proofs.Growth.{trees_long}
 use Rattle.mau_domains.specs.Parts.{Reach, just, inside, Reaches}
 use Rattle.mau_domains.specs.Stored.{part_in, reach_of}
 use Rattle.mau_match.specs.Parts.{is_bound, are_bound, known_in, without_all, least_lengths, too_few_for, alone_in}
-use Rattle.mau_match.specs.Possible.{free, IsNever, AreNever, AreNeverSorted, AreNeverJoined, IsNeverAmong, AreNeverAmong}
+use Rattle.mau_match.specs.Possible.{free, IsNever, AreNever, AreNeverSorted, AreNeverJoined, AreNeverAmong}
 use Rattle.mau_match.specs.Walked.{bound_of, values_of, target_of, span_in, IsSpanWithin}
-use Rattle.mau_match.proofs.Adding.{bare_arguments, bare_first, bare_rest, first_and_rest, trees_more, part_stays}
+use Rattle.mau_match.proofs.Adding.{bare_arguments, bare_first, bare_rest, first_and_rest, trees_more}
 use Rattle.mau_match.proofs.Taking.{stand_cut, only_these}
-use Rattle.mau_match.proofs.Refusing.{never_before, joined_before, span_stays, spans_more, in_more, never_at_pair, never_at_stand, never_at_other, never_alone, never_sorted, never_first, never_rest, never_none, never_first_among, never_rest_among, are_before, among_before, ids_split, two_ids, never_listed, never_few, never_joined, never_there, free_other, free_same}
+use Rattle.mau_match.proofs.Refusing.{never_before, joined_before, span_stays, spans_more, in_more, never_at_pair, never_at_stand, never_alone, never_sorted, never_rest, never_rest_among, are_before, among_before, ids_split, two_ids, never_listed, never_few, never_joined, never_there, free_other}
 use Rattle.mau_match.proofs.may_match.+may.Goals as goal
 
 abbrev no_term : TermId

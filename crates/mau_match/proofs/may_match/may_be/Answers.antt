@@ -1,6 +1,5 @@
 use Rattle.std.proofs.Common.{◌≡◌, true, false, sym, ◌∙◌, ap, subst}
 use Rattle.std.specs.Ordering.{is_eq}
-use Rattle.mau_terms.specs.Order.{tree_cmp}
 use Rattle.mau_store.specs.Trees.{tree_at}
 use Rattle.mau_domains.specs.Parts.{IsOf}
 use Rattle.mau_domains.specs.Stored.{part_in}
