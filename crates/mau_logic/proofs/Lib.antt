@@ -1,0 +1,2 @@
+pub mod MoreSorts
+pub mod ToldRuns

@@ -7,3 +7,6 @@ pub mod Says
 pub mod Shown
 -- justified facts and sections
 pub mod Justified
+-- what can stand in a justified section
+pub mod Derivable
+pub mod Replaced
