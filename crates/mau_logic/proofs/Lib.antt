@@ -1,2 +1,5 @@
 pub mod MoreSorts
 pub mod ToldRuns
+pub mod SortKinds
+pub mod Instances
+pub mod FactKinds
