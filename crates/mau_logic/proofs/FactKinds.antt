@@ -10,10 +10,8 @@ use Rattle.mau_terms.specs.Bare.{IsBareIn, IsLawful, EqualModulo}
 use Rattle.mau_terms.specs.Subst.{Variable, value_at, instance}
 use Rattle.mau_terms.specs.Solution.{HaveSorts}
 use Rattle.mau_terms.specs.View.{tree_of}
-use Rattle.mau_terms.proofs.Chains.{chain_end}
 use Rattle.mau_terms.proofs.Law.{equal_norm}
 use Rattle.mau_terms.proofs.Normal.{norm_normal}
-use Rattle.mau_terms.proofs.Readings.{lead_norm}
 use Rattle.mau_terms.proofs.Taken.{one_kind, equal_kind}
 use Rattle.mau_signature.specs.Signature.{SignatureOf, theory_at, terms_over}
 use Rattle.mau_sigcheck.specs.Built.{IsBuiltAndAccepted}
@@ -27,6 +25,7 @@ use Rattle.mau_logic.specs.Shown.{known_by, HasSortBy}
 use Rattle.mau_logic.specs.Justified.{membership_variables}
 use Rattle.mau_logic.specs.Derivable.{Follows, same, by_equation, by_rule, by_built_in, under, chain, declared, member, Derivable, derives, AreDerivable, no_facts, one_fact}
 use Rattle.mau_logic.proofs.SortKinds.{below_kind, AreInKinds, sort_kind}
+use Rattle.mau_logic.proofs.NormalTerms.{read_bare}
 use Rattle.mau_logic.proofs.Instances.{instance_in, have_values}
 
 -- a term that has a sort by a fact lies in its kind
@@ -40,10 +39,6 @@ AreKinded s [] = Unit {0}
 AreKinded s (x ∷ xs) = IsKinded s x × AreKinded s xs
 
 module _ (s : SignatureOf) (accepted : IsBuiltAndAccepted s) (lawful : IsLawful (terms_over s)) where
-  -- a bare term's normal form, read as a bare term, lies in its kind
-  pub read_bare : (t : Tree) (k : ℕ) → IsBareIn (terms_over s) t k → IsBareIn (terms_over s) (reading (theory_at s) (norm (theory_at s) t)) k
-  read_bare t k b = chain_end (lead_norm (terms_over s) lawful k t b)
-
   known_kinds : (us : List Says) → AreKinded s us → AreInKinds s accepted (known_by s us)
   known_kinds [] h t r k (i, l, e) b = absurd (omega arith)
   known_kinds (leads d u v ∷ us) h t r k c b = known_kinds us h.1 t r k c b
@@ -51,14 +46,14 @@ module _ (s : SignatureOf) (accepted : IsBuiltAndAccepted s) (lawful : IsLawful 
   known_kinds (of_sort u q ∷ us) h t r k (zero, l, e) b =
       let et : norm (theory_at s) u ≡ t = ap (λ (z : Tree × ℕ). z.0) e in
       let er : q ≡ r = ap (λ (z : Tree × ℕ). z.1) e in
-      one_kind (terms_over s) (reading (theory_at s) t) (kind_of s.hierarchy r) k (subst (λ v. IsBareIn (terms_over s) (reading (theory_at s) v) (kind_of s.hierarchy r)) et (read_bare u (kind_of s.hierarchy r) (subst (λ z. IsBareIn (terms_over s) u (kind_of s.hierarchy z)) er h.0))) b
+      one_kind (terms_over s) (reading (theory_at s) t) (kind_of s.hierarchy r) k (subst (λ v. IsBareIn (terms_over s) (reading (theory_at s) v) (kind_of s.hierarchy r)) et (read_bare s lawful u (kind_of s.hierarchy r) (subst (λ z. IsBareIn (terms_over s) u (kind_of s.hierarchy z)) er h.0))) b
   known_kinds (of_sort u q ∷ us) h t r k (suc i, l, e) b = known_kinds us h.1 t r k (i, omega arith, e) b
 
   -- a term with a sort that facts give lies in the sort's kind
   pub sorted_kind : (us : List Says) → AreKinded s us → (t : Tree) (r k : ℕ) → IsBareIn (terms_over s) t k → HasSortBy s us r t → IsBareIn (terms_over s) t (kind_of s.hierarchy r)
   sorted_kind us h t r k b has =
       subst (IsBareIn (terms_over s) t)
-      (sym (sort_kind s accepted (known_by s us) (known_kinds us h) (norm (theory_at s) t) r k (norm_normal (theory_at s) lawful.theories t) (read_bare t k b) has)) b
+      (sym (sort_kind s accepted (known_by s us) (known_kinds us h) (norm (theory_at s) t) r k (norm_normal (theory_at s) lawful.theories t) (read_bare s lawful t k b) has)) b
 
   pub values_kinds : (us : List Says) → AreKinded s us → (xs : List Variable) (vs : List Tree) → All (IsBareWithin s) vs → HaveSorts (HasSortBy s us) xs vs →
       HaveSorts (λ r v. IsBareIn (terms_over s) v (kind_of s.hierarchy r)) xs vs
