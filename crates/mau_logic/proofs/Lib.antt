@@ -6,3 +6,4 @@ pub mod Instances
 pub mod FactKinds
 pub mod Fitted
 pub mod Rebuilt
+pub mod BuiltSteps
