@@ -83,8 +83,8 @@ module _ (p : Program) (hooks : List Operator) (lawful : IsLawful (terms_over p.
     term = (
       (context.0, context.1),
       subst (IsWithin (theory_at p.sig)) (e ∙ sym (norm-reading-is (theory_at p.sig) lawful.theories b e))
-      (hole_within (theory_at p.sig) lawful.theories b c (λ q. differ (sym context.2 ∙ q))
-      (subst (IsWithin (theory_at p.sig)) (read_norm p.sig lawful t n ∙ sym to) n.term.1)),
+          (hole_within (theory_at p.sig) lawful.theories b c (λ q. differ (sym context.2 ∙ q))
+          (subst (IsWithin (theory_at p.sig)) (read_norm p.sig lawful t n ∙ sym to) n.term.1)),
     );
   }
     where
@@ -102,36 +102,36 @@ module _ (p : Program) (hooks : List Operator) (lawful : IsLawful (terms_over p.
       (b : IsNormalTerm p.sig (apply f (trees_of us))) (gives : native_by (built_in_at p.sig hooks f) (theory_at p.sig f) f us ≡ value a) (after : norm (theory_at p.sig) a ≡ x.after)
       (context : IsContextFor (terms_over p.sig) (reading (theory_at p.sig) (apply f (trees_of us))) x.context)
     where
-    before_norms : norm (theory_at p.sig) x.before ≡ norm (theory_at p.sig) (reading (theory_at p.sig) (apply f (trees_of us)))
-    before_norms = ap (norm (theory_at p.sig)) is ∙ b.normal ∙ sym (read_norm p.sig lawful (apply f (trees_of us)) b)
+      before_norms : norm (theory_at p.sig) x.before ≡ norm (theory_at p.sig) (reading (theory_at p.sig) (apply f (trees_of us)))
+      before_norms = ap (norm (theory_at p.sig)) is ∙ b.normal ∙ sym (read_norm p.sig lawful (apply f (trees_of us)) b)
 
-    after_norms : norm (theory_at p.sig) x.after ≡ norm (theory_at p.sig) (reading (theory_at p.sig) (norm (theory_at p.sig) a))
-    after_norms = ap (norm (theory_at p.sig)) (sym after) ∙ norm-norm (theory_at p.sig) lawful.theories a
-        ∙ sym (norm-reading-is (theory_at p.sig) lawful.theories (norm (theory_at p.sig) a) (norm-norm (theory_at p.sig) lawful.theories a))
+      after_norms : norm (theory_at p.sig) x.after ≡ norm (theory_at p.sig) (reading (theory_at p.sig) (norm (theory_at p.sig) a))
+      after_norms = ap (norm (theory_at p.sig)) (sym after) ∙ norm-norm (theory_at p.sig) lawful.theories a
+          ∙ sym (norm-reading-is (theory_at p.sig) lawful.theories (norm (theory_at p.sig) a) (norm-norm (theory_at p.sig) lawful.theories a))
 
-    answer_in : IsBareIn (terms_over p.sig) (reading (theory_at p.sig) (norm (theory_at p.sig) a)) context.0
-    answer_in = kinds f us a context.0 b context.1 gives
+      answer_in : IsBareIn (terms_over p.sig) (reading (theory_at p.sig) (norm (theory_at p.sig) a)) context.0
+      answer_in = kinds f us a context.0 b context.1 gives
 
-    built_by : IsLed p hooks false t u
-    built_by = record {
-      by_equations = true;
-      kind = λ _. refl;
-      from = n;
-      to = o.normal;
-      same_kind = context_kind p.sig lawful t u x.context (reading (theory_at p.sig) (apply f (trees_of us))) x.before x.after
-          (reading (theory_at p.sig) (apply f (trees_of us))) (reading (theory_at p.sig) (norm (theory_at p.sig) a)) n o.context context context.1 answer_in before_norms o.from after_norms o.to;
-      fact = derives [] no_facts (by_built_in f x.context (reading (theory_at p.sig) t) (reading (theory_at p.sig) u) (map (reading (theory_at p.sig)) us) o.context n.term o.normal.term
-          (read_each us (arguments_normal p.sig lawful f us b)) (record {
-        operator = is_operator p.sig f (reading_top (terms_over p.sig) f (trees_of us) context.0 (normal_of p.sig lawful (apply f (trees_of us)) b) context.1).0;
-        whole = reading (theory_at p.sig) (apply f (trees_of us));
-        over_arguments = over_readings p.sig lawful f us (normal_of p.sig lawful (apply f (trees_of us)) b) b.term.0;
-        answer = a;
-        gives = answers_of_readings p.sig lawful hooks f us b.normal ∙ gives;
-        context = context;
-        from = (in_context p.sig lawful t x.context (reading (theory_at p.sig) (apply f (trees_of us))) x.before (reading (theory_at p.sig) (apply f (trees_of us))) n o.context context context.1 before_norms o.from).0;
-        to = (in_context p.sig lawful u x.context (reading (theory_at p.sig) (apply f (trees_of us))) x.after (reading (theory_at p.sig) (norm (theory_at p.sig) a)) o.normal o.context context answer_in after_norms o.to).1;
-      }));
-    }
+      built_by : IsLed p hooks false t u
+      built_by = record {
+        by_equations = true;
+        kind = λ _. refl;
+        from = n;
+        to = o.normal;
+        same_kind = context_kind p.sig lawful t u x.context (reading (theory_at p.sig) (apply f (trees_of us))) x.before x.after
+            (reading (theory_at p.sig) (apply f (trees_of us))) (reading (theory_at p.sig) (norm (theory_at p.sig) a)) n o.context context context.1 answer_in before_norms o.from after_norms o.to;
+        fact = derives [] no_facts (by_built_in f x.context (reading (theory_at p.sig) t) (reading (theory_at p.sig) u) (map (reading (theory_at p.sig)) us) o.context n.term o.normal.term
+            (read_each us (arguments_normal p.sig lawful f us b)) (record {
+              operator = is_operator p.sig f (reading_top (terms_over p.sig) f (trees_of us) context.0 (normal_of p.sig lawful (apply f (trees_of us)) b) context.1).0;
+              whole = reading (theory_at p.sig) (apply f (trees_of us));
+              over_arguments = over_readings p.sig lawful f us (normal_of p.sig lawful (apply f (trees_of us)) b) b.term.0;
+              answer = a;
+              gives = answers_of_readings p.sig lawful hooks f us b.normal ∙ gives;
+              context = context;
+              from = (in_context p.sig lawful t x.context (reading (theory_at p.sig) (apply f (trees_of us))) x.before (reading (theory_at p.sig) (apply f (trees_of us))) n o.context context context.1 before_norms o.from).0;
+              to = (in_context p.sig lawful u x.context (reading (theory_at p.sig) (apply f (trees_of us))) x.after (reading (theory_at p.sig) (norm (theory_at p.sig) a)) o.normal o.context context answer_in after_norms o.to).1;
+            }));
+      }
 
   pub built : (f : ℕ) (x : StepOf) (t u : Tree) → IsNormalTerm p.sig t → norm (theory_at p.sig) x.before ≡ x.before → IsBuiltStep p hooks f x → LeadsOver p.sig x t u → IsLed p hooks false t u
   built f x t u n nb h o =

@@ -78,8 +78,8 @@ module _ (p : Program) (hooks : List Operator) (accepted : IsBuiltAndAccepted p.
   follows_kind us h _ (declared t r b has) = sorted_kind p.sig accepted lawful us h t r b.0.0 b.0.1 has
   follows_kind us h _ (member n m t r vs at b bvs is) =
       let left = instance_in (terms_over p.sig) (value_at (membership_variables m) vs)
-          (have_values (terms_over p.sig) (membership_variables m) vs (values_kinds p.sig accepted lawful us h (membership_variables m) vs bvs is.sorted))
-          (tree_of m.left) (kind_of p.sig.hierarchy m.sort) (heads n m at) in
+      (have_values (terms_over p.sig) (membership_variables m) vs (values_kinds p.sig accepted lawful us h (membership_variables m) vs bvs is.sorted))
+      (tree_of m.left) (kind_of p.sig.hierarchy m.sort) (heads n m at) in
       let kind = equal_kind (terms_over p.sig) lawful t (instance (value_at (membership_variables m) vs) (tree_of m.left)) b.0.0 (kind_of p.sig.hierarchy m.sort) b.0.1 left (equal_norm (terms_over p.sig) lawful is.head) in
       subst (IsBareIn (terms_over p.sig) t) (kind ∙ sym (below_kind p.sig accepted m.sort r is.sort)) b.0.1
 

@@ -59,57 +59,57 @@ module _ (s : SignatureOf) (lawful : IsLawful (terms_over s)) where
 module _ (p : Program) (hooks : List Operator) (accepted : IsBuiltAndAccepted p.sig) (lawful : IsLawful (terms_over p.sig)) (heads : HaveKindedHeads p)
     (P : ℕ → Tree → Type 0) (sorted : (r : ℕ) (t : Tree) → P r t → IsSorted p hooks r t)
   where
-  values_in : (xs : List Variable) (vs : List Tree) → HaveSorts P xs vs → All (IsNormalTerm p.sig) vs →
-      HaveSorts (λ r v. IsBareIn (terms_over p.sig) v (kind_of p.sig.hierarchy r)) xs (map (reading (theory_at p.sig)) vs)
-  values_in [] vs h n = tt
-  values_in (x ∷ xs) [] h n = absurd h
-  values_in (x ∷ xs) (v ∷ vs) h n =
-      let a = sorted x.1 v h.0 in
-      let w = All-head (IsNormalTerm p.sig) v vs n in (
-        sorted_kind p.sig accepted lawful a.uses (facts_kind p hooks accepted lawful heads a.derivable) (reading (theory_at p.sig) v) x.1 w.term.0.0 w.term.0.1 a.sorted,
-        values_in xs vs h.1 (All-tail (IsNormalTerm p.sig) v vs n),
-      )
-
-  read_values : (vs : List Tree) → All (IsNormalTerm p.sig) vs → map (norm (theory_at p.sig)) (map (reading (theory_at p.sig)) vs) ≡ map (norm (theory_at p.sig)) vs
-  read_values vs n = read_norms p.sig lawful vs n ∙ sym (own_norms p.sig lawful vs n)
-
-  module _ (xs : List Variable) (vs : List Tree) (h : HaveSorts P xs vs) (n : All (IsNormalTerm p.sig) vs) where
-    abbrev told : Variable → Tree
-    told = value_at xs vs
-
-    abbrev read : Variable → Tree
-    read = value_at xs (map (reading (theory_at p.sig)) vs)
-
-    read_in : (t : Tree) (k : ℕ) → IsBareIn (terms_over p.sig) t k → IsBareIn (terms_over p.sig) (instance read t) k
-    read_in t k b = instance_in (terms_over p.sig) read (have_values (terms_over p.sig) xs (map (reading (theory_at p.sig)) vs) (values_in xs vs h n)) t k b
-
-    instance_norms : (t : Tree) → norm (theory_at p.sig) (instance told t) ≡ norm (theory_at p.sig) (instance read t)
-    instance_norms t = instances_by_norms (theory_at p.sig) told read (value_norms (theory_at p.sig) xs vs (map (reading (theory_at p.sig)) vs) (sym (read_values vs n))) t
-
-    are_readings : AreReadings p.sig told read
-    are_readings t a b e na =
-        let bare : IsBare (terms_over p.sig) (instance read t) = (b.0, read_in t b.0 b.1) in
-        let norms : norm (theory_at p.sig) (instance read t) ≡ norm (theory_at p.sig) (reading (theory_at p.sig) a) = sym (instance_norms t) ∙ e ∙ sym (read_norm p.sig lawful a na) in (
-          norm_equal (terms_over p.sig) lawful (instance read t) (reading (theory_at p.sig) a) bare na.term.0 norms,
-          norm_equal (terms_over p.sig) lawful (reading (theory_at p.sig) a) (instance read t) na.term.0 bare (sym norms),
+    values_in : (xs : List Variable) (vs : List Tree) → HaveSorts P xs vs → All (IsNormalTerm p.sig) vs →
+        HaveSorts (λ r v. IsBareIn (terms_over p.sig) v (kind_of p.sig.hierarchy r)) xs (map (reading (theory_at p.sig)) vs)
+    values_in [] vs h n = tt
+    values_in (x ∷ xs) [] h n = absurd h
+    values_in (x ∷ xs) (v ∷ vs) h n =
+        let a = sorted x.1 v h.0 in
+        let w = All-head (IsNormalTerm p.sig) v vs n in (
+          sorted_kind p.sig accepted lawful a.uses (facts_kind p hooks accepted lawful heads a.derivable) (reading (theory_at p.sig) v) x.1 w.term.0.0 w.term.0.1 a.sorted,
+          values_in xs vs h.1 (All-tail (IsNormalTerm p.sig) v vs n),
         )
 
-  pub fit : (xs : List Variable) (left right : Tree) (x : StepOf) (t u : Tree) → AreOfOneKind p.sig left right → IsNormalTerm p.sig t → IsInstance p.sig P xs left right x → LeadsOver p.sig x t u → IsFit p xs left right x t u
-  fit xs left right x t u kinds n i o =
-      let vs = map (reading (theory_at p.sig)) x.values in
-      let context = i.context in
-      let same : kinds.0 ≡ context.0 = one_kind (terms_over p.sig) left kinds.0 context.0 kinds.1 context.1 in
-      let bl : IsBareIn (terms_over p.sig) (instance (value_at xs vs) left) context.0 = read_in xs x.values i.sorted o.values left context.0 context.1 in
-      let br : IsBareIn (terms_over p.sig) (instance (value_at xs vs) right) context.0 = read_in xs x.values i.sorted o.values right context.0 (subst (IsBareIn (terms_over p.sig) right) same kinds.2) in
-      let before : norm (theory_at p.sig) x.before ≡ norm (theory_at p.sig) (instance (value_at xs vs) left) =
-      ap (norm (theory_at p.sig)) (sym i.before) ∙ norm-norm (theory_at p.sig) lawful.theories (instance (value_at xs x.values) left) ∙ instance_norms xs x.values i.sorted o.values left in
-      let after : norm (theory_at p.sig) x.after ≡ norm (theory_at p.sig) (instance (value_at xs vs) right) =
-      ap (norm (theory_at p.sig)) (sym i.after) ∙ norm-norm (theory_at p.sig) lawful.theories (instance (value_at xs x.values) right) ∙ instance_norms xs x.values i.sorted o.values right in
-      record {
-        values = read_terms p.sig lawful x.values o.values;
-        one_each = length-map (reading (theory_at p.sig)) x.values ∙ i.one_each;
-        before = (in_context p.sig lawful t x.context left x.before (instance (value_at xs vs) left) n o.context context bl before o.from).0;
-        after = (in_context p.sig lawful u x.context left x.after (instance (value_at xs vs) right) o.normal o.context context br after o.to).1;
-        same_kind = context_kind p.sig lawful t u x.context left x.before x.after (instance (value_at xs vs) left) (instance (value_at xs vs) right) n o.context context bl br before o.from after o.to;
-        instances = are_readings xs x.values i.sorted o.values;
-      }
+    read_values : (vs : List Tree) → All (IsNormalTerm p.sig) vs → map (norm (theory_at p.sig)) (map (reading (theory_at p.sig)) vs) ≡ map (norm (theory_at p.sig)) vs
+    read_values vs n = read_norms p.sig lawful vs n ∙ sym (own_norms p.sig lawful vs n)
+
+    module _ (xs : List Variable) (vs : List Tree) (h : HaveSorts P xs vs) (n : All (IsNormalTerm p.sig) vs) where
+      abbrev told : Variable → Tree
+      told = value_at xs vs
+
+      abbrev read : Variable → Tree
+      read = value_at xs (map (reading (theory_at p.sig)) vs)
+
+      read_in : (t : Tree) (k : ℕ) → IsBareIn (terms_over p.sig) t k → IsBareIn (terms_over p.sig) (instance read t) k
+      read_in t k b = instance_in (terms_over p.sig) read (have_values (terms_over p.sig) xs (map (reading (theory_at p.sig)) vs) (values_in xs vs h n)) t k b
+
+      instance_norms : (t : Tree) → norm (theory_at p.sig) (instance told t) ≡ norm (theory_at p.sig) (instance read t)
+      instance_norms t = instances_by_norms (theory_at p.sig) told read (value_norms (theory_at p.sig) xs vs (map (reading (theory_at p.sig)) vs) (sym (read_values vs n))) t
+
+      are_readings : AreReadings p.sig told read
+      are_readings t a b e na =
+          let bare : IsBare (terms_over p.sig) (instance read t) = (b.0, read_in t b.0 b.1) in
+          let norms : norm (theory_at p.sig) (instance read t) ≡ norm (theory_at p.sig) (reading (theory_at p.sig) a) = sym (instance_norms t) ∙ e ∙ sym (read_norm p.sig lawful a na) in (
+            norm_equal (terms_over p.sig) lawful (instance read t) (reading (theory_at p.sig) a) bare na.term.0 norms,
+            norm_equal (terms_over p.sig) lawful (reading (theory_at p.sig) a) (instance read t) na.term.0 bare (sym norms),
+          )
+
+    pub fit : (xs : List Variable) (left right : Tree) (x : StepOf) (t u : Tree) → AreOfOneKind p.sig left right → IsNormalTerm p.sig t → IsInstance p.sig P xs left right x → LeadsOver p.sig x t u → IsFit p xs left right x t u
+    fit xs left right x t u kinds n i o =
+        let vs = map (reading (theory_at p.sig)) x.values in
+        let context = i.context in
+        let same : kinds.0 ≡ context.0 = one_kind (terms_over p.sig) left kinds.0 context.0 kinds.1 context.1 in
+        let bl : IsBareIn (terms_over p.sig) (instance (value_at xs vs) left) context.0 = read_in xs x.values i.sorted o.values left context.0 context.1 in
+        let br : IsBareIn (terms_over p.sig) (instance (value_at xs vs) right) context.0 = read_in xs x.values i.sorted o.values right context.0 (subst (IsBareIn (terms_over p.sig) right) same kinds.2) in
+        let before : norm (theory_at p.sig) x.before ≡ norm (theory_at p.sig) (instance (value_at xs vs) left) =
+        ap (norm (theory_at p.sig)) (sym i.before) ∙ norm-norm (theory_at p.sig) lawful.theories (instance (value_at xs x.values) left) ∙ instance_norms xs x.values i.sorted o.values left in
+        let after : norm (theory_at p.sig) x.after ≡ norm (theory_at p.sig) (instance (value_at xs vs) right) =
+        ap (norm (theory_at p.sig)) (sym i.after) ∙ norm-norm (theory_at p.sig) lawful.theories (instance (value_at xs x.values) right) ∙ instance_norms xs x.values i.sorted o.values right in
+        record {
+          values = read_terms p.sig lawful x.values o.values;
+          one_each = length-map (reading (theory_at p.sig)) x.values ∙ i.one_each;
+          before = (in_context p.sig lawful t x.context left x.before (instance (value_at xs vs) left) n o.context context bl before o.from).0;
+          after = (in_context p.sig lawful u x.context left x.after (instance (value_at xs vs) right) o.normal o.context context br after o.to).1;
+          same_kind = context_kind p.sig lawful t u x.context left x.before x.after (instance (value_at xs vs) left) (instance (value_at xs vs) right) n o.context context bl br before o.from after o.to;
+          instances = are_readings xs x.values i.sorted o.values;
+        }

@@ -7,3 +7,4 @@ pub mod FactKinds
 pub mod Fitted
 pub mod Rebuilt
 pub mod BuiltSteps
+pub mod Examples

@@ -55,7 +55,7 @@ module _ (s : SignatureOf) (known more : Known) (i : (x : Tree × ℕ) → Conta
     list_more f (tree t no_trees) r h = has_more t r h
     list_more f (tree t (tree u us)) r h =
         gives_more s f (λ rs. OfTwo (λ a b. HasSort s known t a × ListHas s known f (tree u us) b) rs) (λ rs. OfTwo (λ a b. HasSort s more t a × ListHas s more f (tree u us) b) rs) r
-            (two_more (λ a b. HasSort s known t a × ListHas s known f (tree u us) b) (λ a b. HasSort s more t a × ListHas s more f (tree u us) b) (λ a b k. (has_more t a k.0, list_more f (tree u us) b k.1))) h
+        (two_more (λ a b. HasSort s known t a × ListHas s known f (tree u us) b) (λ a b. HasSort s more t a × ListHas s more f (tree u us) b) (λ a b k. (has_more t a k.0, list_more f (tree u us) b k.1))) h
 
 -- ---- what facts tell
 

@@ -186,10 +186,10 @@ module _ (p : Program) (hooks : List Operator) (lawful : IsLawful (terms_over p.
       let many = λ (a : (theory_at p.sig f).assoc ≡ true). subst (λ l. 2 ≤ l) (same_length r ts us h ∙ sym (length-map (reading (theory_at p.sig)) us)) (two_or_more p.sig lawful f ts normal n.term.0 a) in (
         is_operator p.sig f (reading_top (terms_over p.sig) f (trees_of ts) n.term.0.0 normal n.term.0.1).0,
         with_some (over p.sig f (map (reading (theory_at p.sig)) ts)) (reading (theory_at p.sig) (apply f (trees_of ts))) (EqualModulo (terms_over p.sig) (reading (theory_at p.sig) (apply f (trees_of ts))))
-        (over_readings p.sig lawful f ts normal n.term.0) (same_term n.term.0),
+            (over_readings p.sig lawful f ts normal n.term.0) (same_term n.term.0),
         with_some (over p.sig f (map (reading (theory_at p.sig)) us)) whole (λ v. EqualModulo (terms_over p.sig) v (reading (theory_at p.sig) (build (theory_at p.sig f) f us)))
-        (over_some p.sig f (map (reading (theory_at p.sig)) us) many)
-        (norm_equal (terms_over p.sig) lawful whole (reading (theory_at p.sig) (build (theory_at p.sig f) f us)) (n.term.0.0, alike n.term.0.0 n.term.0.1) m.term.0
-        (norms ∙ sym (read_norm p.sig lawful (build (theory_at p.sig f) f us) m))),
+            (over_some p.sig f (map (reading (theory_at p.sig)) us) many)
+            (norm_equal (terms_over p.sig) lawful whole (reading (theory_at p.sig) (build (theory_at p.sig f) f us)) (n.term.0.0, alike n.term.0.0 n.term.0.1) m.term.0
+            (norms ∙ sym (read_norm p.sig lawful (build (theory_at p.sig f) f us) m))),
         λ k b. subst (λ t. IsBareIn (terms_over p.sig) (reading (theory_at p.sig) t) k) norms (read_bare p.sig lawful whole k (alike k b)),
       )
