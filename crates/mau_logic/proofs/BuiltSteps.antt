@@ -2,7 +2,7 @@
 use Rattle.std.proofs.Common.{◌≡◌, ℕ, List, [], ◌∷◌, ◌++◌, map, Bool, true, false, ◌==◌, refl, sym, ap, ◌∙◌, subst, if◌then◌else◌}
 use Rattle.std.specs.Prelude.{All}
 use Rattle.std.proofs.lemmas.List.Elements.{All-nil, All-cons, All-head, All-tail}
-use Rattle.mau_terms.specs.Tree.{Tree, variable, numeral, apply, Trees, no_trees, tree, node, trees_of, list_of}
+use Rattle.mau_terms.specs.Tree.{Tree, variable, numeral, apply, Trees, no_trees, tree, trees_of}
 use Rattle.mau_terms.specs.Norm.{norm, norms, build}
 use Rattle.mau_terms.specs.Reading.{reading}
 use Rattle.mau_terms.specs.Bare.{IsBareIn, IsLawful}
@@ -23,7 +23,7 @@ use Rattle.mau_evaluation.specs.Evaluation.{native, native_by}
 use Rattle.mau_evaluation.proofs.BareTerms.{norm-reading-is}
 use Rattle.mau_program.specs.declared.program.Program.{Program}
 use Rattle.mau_api.specs.Programs.{program_over}
-use Rattle.mau_api.specs.BuiltIns.{built_answer, built_in_at}
+use Rattle.mau_api.specs.BuiltIns.{built_in_at}
 use Rattle.mau_api.specs.Terms.{IsBareWithin, IsNormalTerm, hole_index, filler, fill, holes, holes_in, IsContextFor}
 use Rattle.mau_api.specs.Told.{StepOf, IsBuiltStep, LeadsOver}
 use Rattle.mau_api.proofs.BuiltIns.{answers_of_readings}

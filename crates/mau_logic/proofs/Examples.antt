@@ -1,13 +1,12 @@
 -- Computed sections. A module with the sort S, constants a and b, an operator g on S, a commutative operator f on two of S, and the equation a = b.
-use Rattle.std.proofs.Common.{◌≡◌, ℕ, zero, suc, ◌<◌, ◌≤◌, ◌-◌, List, [], ◌∷◌, length, map, get_or, Bool, true, false, Option, Some, None, inl, inr, refl, sym, ap, ◌∙◌, subst, arith, lit<, lit≤}
-use Rattle.std.specs.Prelude.{All, codes, slice_get, take}
+use Rattle.std.proofs.Common.{◌≡◌, ℕ, zero, suc, ◌<◌, ◌≤◌, ◌-◌, List, [], ◌∷◌, map, get_or, true, false, Option, Some, None, inl, refl, sym, subst, arith, lit<, lit≤}
+use Rattle.std.specs.Prelude.{codes, slice_get, take}
 use Rattle.std.proofs.lemmas.List.Elements.{All-nil}
-use Rattle.mau_poset.specs.Order.{Hierarchy, kind_of, first_sort, kinds_before, no_step}
+use Rattle.mau_poset.specs.Order.{kind_of, first_sort, kinds_before, no_step}
 use Rattle.mau_terms.specs.Tree.{Tree, variable, apply, no_trees, tree}
 use Rattle.mau_terms.specs.Norm.{norm}
 use Rattle.mau_terms.specs.Axioms.{left_to_right, commutativity}
 use Rattle.mau_terms.specs.Bare.{IsBareIn, IsLawful, EqualModulo, same_term, one_step}
-use Rattle.mau_terms.specs.declared.bare.Bare.{Bare}
 use Rattle.mau_terms.specs.declared.bare.Bare.TheVariants.{App as Over}
 use Rattle.mau_terms.proofs.Law.{equal_norm}
 use Rattle.mau_signature.specs.Attributes.{no_attributes}
@@ -15,14 +14,13 @@ use Rattle.mau_signature.specs.declared.decl.Decl.{Decl}
 use Rattle.mau_signature.specs.declared.form.Piece.TheVariants.{Word, Hole}
 use Rattle.mau_signature.specs.Signature.{SignatureOf, terms_over, theory_at, attributes_of, arguments_of, result_of, identity_in}
 use Rattle.mau_signature.specs.Faults.{is_successor}
-use Rattle.mau_program.specs.declared.statements.Equation.{Equation}
 use Rattle.mau_program.specs.declared.program.Program.{Program}
-use Rattle.mau_facts.specs.declared.document.TermLine.TheVariants.{Num, Var, App}
+use Rattle.mau_facts.specs.declared.document.TermLine.TheVariants.{Var, App}
 use Rattle.mau_facts.specs.declared.document.Fact.{Fact}
 use Rattle.mau_facts.specs.declared.document.Fact.TheVariants.{Same, Step, Under, Chain, SortDecl}
 use Rattle.mau_facts.specs.declared.document.Section.{Section}
 use Rattle.mau_api.specs.Terms.{IsBareWithin, hole_index}
-use Rattle.mau_logic.specs.Lines.{cut, in_brackets, is_hole, pair_of, over, section_terms}
+use Rattle.mau_logic.specs.Lines.{cut, in_brackets, is_hole, section_terms}
 use Rattle.mau_logic.specs.Says.{Says, leads, of_sort, all_said}
 use Rattle.mau_logic.specs.Justified.{IsJustified, IsJustifiedSection, IsFirstUnjustified}
 

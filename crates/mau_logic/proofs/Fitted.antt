@@ -1,5 +1,5 @@
 -- A told step of a statement, by the readings of its values: both ends are the instances in the context, up to the axioms.
-use Rattle.std.proofs.Common.{◌≡◌, ℕ, List, [], ◌∷◌, length, map, refl, sym, ap, ◌∙◌, subst}
+use Rattle.std.proofs.Common.{◌≡◌, ℕ, List, [], ◌∷◌, map, refl, sym, ap, ◌∙◌, subst}
 use Rattle.std.specs.Prelude.{All}
 use Rattle.std.proofs.lemmas.List.Elements.{All-head, All-tail}
 use Rattle.mau_poset.specs.Order.{kind_of}
@@ -17,11 +17,11 @@ use Rattle.mau_signature.specs.Signature.{SignatureOf, theory_at, terms_over}
 use Rattle.mau_sigcheck.specs.Built.{IsBuiltAndAccepted}
 use Rattle.mau_formula.specs.Operator.{Operator}
 use Rattle.mau_program.specs.declared.program.Program.{Program}
-use Rattle.mau_api.specs.Terms.{IsBareWithin, IsNormalTerm, filler, fill, holes, IsContextFor}
+use Rattle.mau_api.specs.Terms.{IsBareWithin, IsNormalTerm, filler, fill, IsContextFor}
 use Rattle.mau_api.specs.Told.{StepOf, IsInstance, LeadsOver}
 use Rattle.mau_logic.specs.Derivable.{IsSorted}
 use Rattle.mau_logic.proofs.SortKinds.{is_kind}
-use Rattle.mau_logic.proofs.Instances.{HasValue, instance_in, have_values, AreAll, fill_in, filler_norms, value_norms}
+use Rattle.mau_logic.proofs.Instances.{instance_in, have_values, AreAll, fill_in, filler_norms, value_norms}
 use Rattle.mau_logic.proofs.NormalTerms.{read_bare, read_norm, read_norms, own_norms, read_terms}
 use Rattle.mau_logic.proofs.FactKinds.{sorted_kind, HaveKindedHeads, facts_kind}
 use Rattle.mau_logic.proofs.ToldRuns.{AreOfOneKind, AreReadings, IsFit}

@@ -1,8 +1,7 @@
 -- Instances by values that are bare terms of the kinds of their variables, and contexts that are filled.
 use Rattle.std.proofs.Common.{◌≡◌, ℕ, List, [], ◌∷◌, ◌++◌, map, Bool, true, false, ◌==◌, inl, inr, ◌⊎◌, refl, sym, ap, ◌∙◌, subst, if◌then◌else◌}
 use Rattle.mau_terms.specs.Tree.{Tree, variable, numeral, apply, Trees, no_trees, tree}
-use Rattle.mau_terms.specs.Norm.{norm, norms}
-use Rattle.mau_terms.specs.Reading.{reading}
+use Rattle.mau_terms.specs.Norm.{norm}
 use Rattle.mau_terms.specs.Bare.{TermSignature, IsBareIn, AreBareIn}
 use Rattle.mau_terms.specs.Subst.{Variable, same_variable, value_at, instance, instances}
 use Rattle.mau_terms.specs.Solution.{HaveSorts}

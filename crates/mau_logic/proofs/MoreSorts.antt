@@ -1,14 +1,13 @@
 -- What more facts tell of sorts is no less.
-use Rattle.std.proofs.Common.{◌≡◌, ℕ, zero, suc, List, [], ◌∷◌, ◌++◌, Bool, true, false, ◌⊎◌, inl, inr, refl, sym, ap, ◌∙◌, subst, arith}
+use Rattle.std.proofs.Common.{◌≡◌, ℕ, zero, suc, List, [], ◌∷◌, Bool, true, false, ◌⊎◌, inl, inr, refl, ap, ◌∙◌, subst, arith}
 use Rattle.std.specs.Prelude.{Contains}
 use Rattle.std.specs.Bool.{MatchBool}
 use Rattle.std.proofs.lemmas.List.Elements.{Contains-append_left, Contains-append_right, Contains-append_cases}
 use Rattle.mau_terms.specs.Tree.{Tree, variable, numeral, apply, Trees, no_trees, tree}
 use Rattle.mau_terms.specs.Norm.{norm}
-use Rattle.mau_poset.specs.Order.{Hierarchy}
 use Rattle.mau_signature.specs.declared.decl.Decl.{Decl}
-use Rattle.mau_signature.specs.Signature.{SignatureOf, theory_at, declarations_at}
-use Rattle.mau_sorts.specs.HasSort.{Known, IsKnown, Suits, IsDeclared, Gives, OfTwo, HasSort, AllHave, ListHas}
+use Rattle.mau_signature.specs.Signature.{SignatureOf, theory_at}
+use Rattle.mau_sorts.specs.HasSort.{Known, IsKnown, Suits, Gives, OfTwo, HasSort, AllHave, ListHas}
 use Rattle.mau_logic.specs.Says.{Says, leads, of_sort, says_nothing}
 use Rattle.mau_logic.specs.Shown.{known_by, HasSortBy}
 

@@ -3,9 +3,9 @@ use Rattle.std.proofs.Common.{◌≡◌, ℕ, suc, ◌≤◌, List, [], ◌∷�
 use Rattle.std.specs.Prelude.{All, nat_lt}
 use Rattle.std.proofs.lemmas.Bool.{le-ltb}
 use Rattle.std.proofs.lemmas.List.Elements.{All-nil, All-cons, All-head, All-tail}
-use Rattle.mau_terms.specs.Tree.{Tree, apply, Trees, no_trees, tree, node, trees_of, list_of}
+use Rattle.mau_terms.specs.Tree.{Tree, apply, no_trees, node, trees_of}
 use Rattle.mau_terms.specs.Norm.{norm, build, finish}
-use Rattle.mau_terms.specs.Reading.{nest, nest_from, reading, readings}
+use Rattle.mau_terms.specs.Reading.{nest, nest_from, reading}
 use Rattle.mau_terms.specs.Bare.{IsBare, IsBareIn, AreBareIn, IsLawful, EqualModulo, same_term}
 use Rattle.mau_terms.proofs.Induction.{norm-node}
 use Rattle.mau_terms.proofs.Law.{norm_equal}
@@ -22,7 +22,7 @@ use Rattle.mau_canon.proofs.Nesting.{readings_each}
 use Rattle.mau_canon.proofs.Standing.{list_stands_for_nested}
 use Rattle.mau_formula.specs.Operator.{Operator}
 use Rattle.mau_program.specs.declared.program.Program.{Program}
-use Rattle.mau_api.specs.Terms.{IsBareWithin, IsNormalTerm}
+use Rattle.mau_api.specs.Terms.{IsNormalTerm}
 use Rattle.mau_logic.specs.Lines.{over}
 use Rattle.mau_logic.specs.Justified.{With}
 use Rattle.mau_logic.specs.Derivable.{IsLed}

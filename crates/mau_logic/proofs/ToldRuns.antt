@@ -1,5 +1,5 @@
 -- What is told of a run is led by a derivable fact from where the run begins to where it ends, by what is known of one step.
-use Rattle.std.proofs.Common.{◌≡◌, ℕ, zero, suc, ◌+◌, List, [], ◌∷◌, ◌++◌, length, map, Bool, true, false, ◌&&◌, Option, Some, refl, sym, ap, ◌∙◌, subst, arith}
+use Rattle.std.proofs.Common.{◌≡◌, ℕ, zero, suc, List, [], ◌∷◌, ◌++◌, length, map, Bool, true, false, ◌&&◌, Option, Some, refl, sym, ap, ◌∙◌, subst, arith}
 use Rattle.std.specs.Prelude.{All, Contains, slice_get}
 use Rattle.std.specs.List.{slice_set}
 use Rattle.std.proofs.lemmas.List.Elements.{Contains-append_left, Contains-append_right}
@@ -10,7 +10,6 @@ use Rattle.mau_terms.specs.Bare.{IsBare, IsBareIn, EqualModulo, same_term}
 use Rattle.mau_terms.specs.Subst.{Variable, value_at, instance}
 use Rattle.mau_terms.specs.Solution.{HaveSorts}
 use Rattle.mau_terms.specs.View.{tree_of}
-use Rattle.mau_terms.specs.declared.ids.OpId.{OpId}
 use Rattle.mau_signature.specs.Signature.{SignatureOf, IsOperator, theory_at, terms_over}
 use Rattle.mau_formula.specs.Operator.{Operator}
 use Rattle.mau_program.specs.declared.statements.Fragment.{Fragment}
@@ -18,13 +17,13 @@ use Rattle.mau_program.specs.declared.statements.Fragment.TheVariants.{Equal, Ma
 use Rattle.mau_program.specs.declared.program.Program.{Program}
 use Rattle.mau_api.specs.declared.step.Place.TheVariants.{Fragment as OfFragment}
 use Rattle.mau_api.specs.Variables.{numbered}
-use Rattle.mau_api.specs.Terms.{IsBareWithin, IsNormalTerm, fill, IsContextFor}
+use Rattle.mau_api.specs.Terms.{IsBareWithin, IsNormalTerm, fill}
 use Rattle.mau_api.specs.Told.{Told, enters, leaves, steps, StepOf, IsInstance, IsBuiltStep, LeadsOver, Leads, stands, on_whole, on_arguments, by_equation as told_equation, by_rule as told_rule, by_built_in as told_built_in, LeadsIn, all_stand, in_one, Shown, nothing_to_show, shows_equal, shows_match, shows_sort}
 use Rattle.mau_logic.specs.Lines.{over}
 use Rattle.mau_logic.specs.Says.{Says, leads, all_equational}
 use Rattle.mau_logic.specs.Shown.{HasSortBy, LeadsTo, Shows, ShowsAll}
-use Rattle.mau_logic.specs.Justified.{With, Uses, IsUnder, Lead, LeadOn}
-use Rattle.mau_logic.specs.Derivable.{Follows, same, by_equation, by_rule, under, chain, Derivable, derives, AreDerivable, no_facts, one_fact, IsSorted, IsLed}
+use Rattle.mau_logic.specs.Justified.{With, Uses, Lead}
+use Rattle.mau_logic.specs.Derivable.{same, by_equation, by_rule, under, chain, derives, AreDerivable, no_facts, one_fact, IsSorted, IsLed}
 use Rattle.mau_logic.specs.Replaced.{ReplaceNormal}
 use Rattle.mau_logic.proofs.MoreSorts.{more_sorts}
 
