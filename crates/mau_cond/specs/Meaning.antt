@@ -51,6 +51,19 @@ pub data AreSortedFrom (own : Solution → Bool) (f : Tree → Run (List ℕ)) (
   before : (x : Solution) (ys zs : List Solution) → own x ≡ false → AreSortedFrom own f xs ys zs → AreSortedFrom own f xs (x ∷ ys) zs
   here : (x : Solution) (ys zs : List Solution) → own x ≡ true → AreKnownToHave f xs x true → AreSorted f xs ys zs → AreSortedFrom own f xs (x ∷ ys) (x ∷ zs)
 
+-- ---- counts
+
+-- all that was counted
+abbrev pub total : List Station → List Left → ℕ → ℕ
+total [] xs r = r
+total (s ∷ ss) [] r = r
+total (s ∷ ss) (x ∷ xs) r = x.before + total ss xs r
+
+-- a term is evaluated, and then k goes on with its value and its count
+abbrev pub evaluated : (Tree → ℕ → Run (Option Binding)) → Outcome Tree → Outcome (Option Binding)
+evaluated k (done v q b) = k v q b
+evaluated k (ended e) = ended e
+
 module _ (P : Program) (l : Level) where
   -- the solutions of p in v that agree with σ and have their sorts; behind a solution of the condition, from its own one on
   abbrev pub AreTaken : Option Binding → Binding → Tree → Tree → List Solution → Type 0
@@ -147,17 +160,6 @@ module _ (P : Program) (l : Level) where
         through c σ (all_stations p) lefts (counted_if r (at_value last (drop p.at c) σ (tree_at nodes) p.stage w b))
 
     -- ---- what comes of an answer
-
-    -- all that was counted
-    abbrev pub total : List Station → List Left → ℕ → ℕ
-    total [] xs r = r
-    total (s ∷ ss) [] r = r
-    total (s ∷ ss) (x ∷ xs) r = x.before + total ss xs r
-
-    -- a term is evaluated, and then k goes on with its value and its count
-    abbrev pub evaluated : (Tree → ℕ → Run (Option Binding)) → Outcome Tree → Outcome (Option Binding)
-    evaluated k (done v q b) = k v q b
-    evaluated k (ended e) = ended e
 
     -- a solution was found; where one behind the last one is looked for, it is that one, and what is left goes on
     abbrev pub found : Path → Path → Option Binding → List Left → ℕ → Binding → Run (Option Binding)

@@ -50,11 +50,24 @@ abbrev pub AreNested : ℕ → List Station → ℕ → Type 0
 AreNested low [] high = low ≤ high
 AreNested low (s ∷ ss) high = (low ≤ s.bound) × AreNested s.bound ss high
 
+-- values are told of the terms that a fragment has
+abbrev pub IsToldOf : Stage → Option Fragment → Type 0
+IsToldOf (First v) (Some (Part.Equal t u)) = Unit {0}
+IsToldOf (First v) (Some (Part.Sort t s)) = Unit {0}
+IsToldOf (First v) f = ⊥
+IsToldOf (Both v w) (Some (Part.Equal t u)) = Unit {0}
+IsToldOf (Both v w) f = ⊥
+IsToldOf k f = Unit {0}
+
 pub record IsPath (p : Path) : Type 0 where
   -- the places of fragments are numbers of 32 bits
   pub few : length p.cond ≤ 4294967295
   pub matching : All (λ (s : Station). IsMatching (slice_get p.cond s.at)) (all_stations p)
   pub nested : AreNested 0 (all_stations p) (length p.bound)
+  -- what was bound behind the one that is due is gone
+  pub due : (s : Station) → p.stage ≡ Due s → s.bound ≡ length p.bound
+  pub told : IsToldOf p.stage (slice_get p.cond p.at)
+  pub over : p.stage ≡ Failed → p.stations ≡ []
 
 -- ---- what is asked
 

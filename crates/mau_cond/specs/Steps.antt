@@ -27,6 +27,14 @@ abbrev pub decided : Path → Bool → Path
 decided p true = opened p (suc p.at)
 decided p false = failing p
 
+-- a solution is due, or no matching fragment is left
+abbrev pub IsWaiting : Stage → Type 0
+IsWaiting Open = ⊥
+IsWaiting (First v) = ⊥
+IsWaiting (Both v w) = ⊥
+IsWaiting (Due s) = Unit {0}
+IsWaiting Failed = Unit {0}
+
 -- what is asked where the next solution of a matching fragment is due
 abbrev pub due_ask : Stage → Ask
 due_ask (Due s) = Match s.at s.value
@@ -39,7 +47,7 @@ first_term f = term_by Open (Some f)
 -- a path goes on from `before` by an answer
 pub record IsAnswered (s : SignatureOf) (nodes : List Node) (table : Table) (before after : Path) (answer : Ask) : Type 0 where
   pub goes : Goes s nodes table before after answer
-  pub answer : IsAnswer after answer
+  pub asked : IsAnswer after answer
   pub known : IsKnown s nodes table after
   pub given : IsKnownAnswer s nodes table answer
   pub again : AwaitsValue before → (after ≡ before) × IsNoSolution answer

@@ -38,9 +38,13 @@ pub struct CondRun<'c> {
 }
 
 impl<'c> Model for CondRun<'c> {
+    ghost use Rattle.std.specs.Coded.{codes};
+    ghost use Rattle.mau_terms.specs.Code.{tree_code};
     ghost use Rattle.mau_cond.specs.Path.{Path, IsPath};
 
     ghost Value = { Path };
+
+    ghost coded = { Prim.hlevel (codes, tree_code) };
 
     ghost view = { λ r. record { cond = r.cond.now; bound = r.bound; stations = r.stations.items; at = r.at; stage = r.stage } };
 
@@ -98,8 +102,9 @@ impl<'c> CondRun<'c> {
         ensures unchanged { OnErr result (self.new ≡ self.old) }
         ensures extends { Extends store.old store.new }
     {
+        let at = self.at;
         match self.stage {
-            Stage::Open => self.look(store, sig, sorts, self.at),
+            Stage::Open => self.look(store, sig, sorts, at),
             Stage::First(value) => self.with_first(store, sig, sorts, value),
             Stage::Both(left, right) => self.with_both(store, sig, sorts, left, right),
             Stage::Due(_) | Stage::Failed => Ok(self.due()),

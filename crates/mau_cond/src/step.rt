@@ -1,5 +1,5 @@
 //! What is looked at when a run is asked, and what changes when it is told.
-ghost use Rattle.std.specs.Prelude.{◌≡◌, ◌<◌, ◌≤◌, ◌+◌, ◌++◌, ◌∷◌, ◌↔◌, ℕ, suc, [], List, map, drop, length, slice_get, All, Option, Some, None, IfOk, IfErr, IfSome, IfNone, OnOk, OnErr, IsTrue};
+ghost use Rattle.std.specs.Prelude.{◌≡◌, ◌⊎◌, ◌<◌, ◌≤◌, ◌+◌, ◌++◌, ◌∷◌, ◌↔◌, ℕ, suc, [], List, map, drop, length, slice_get, All, Option, Some, None, IfOk, IfErr, IfSome, IfNone, OnOk, OnErr, IsTrue};
 ghost use Rattle.std.specs.Option.{option_map};
 ghost use Rattle.mau_terms.specs.Norm.{norm};
 ghost use Rattle.mau_terms.specs.Bare.{IsBare};
@@ -14,10 +14,10 @@ ghost use Rattle.mau_sorts.specs.Table.{Table, AreOver, IsSettled, entry_at};
 ghost use Rattle.mau_evaluation.specs.Evaluation.{look_up};
 ghost use Rattle.mau_api.specs.Terms.{IsTerm};
 ghost use Rattle.mau_api.specs.Answers.{binding_in, IsValueOf};
-ghost use Rattle.mau_cond.specs.Path.{IsAnswer, IsAsked, IsNoSolution, AwaitsValue, AwaitsSolution, IsOver, IsMatching, term_by};
+ghost use Rattle.mau_cond.specs.Path.{IsAnswer, IsAsked, IsNoSolution, AwaitsValue, AwaitsSolution, IsMatching, IsPath, term_by};
 ghost use Rattle.mau_cond.specs.Meaning.{SameWhole, Ends, TakesValue, TakesSolution};
 ghost use Rattle.mau_cond.specs.Known.{IsKnown, IsToldValue};
-ghost use Rattle.mau_cond.specs.Steps.{opened, failing, decided, due_ask, first_term, IsAnswered};
+ghost use Rattle.mau_cond.specs.Steps.{opened, failing, decided, due_ask, first_term, IsWaiting, IsAnswered};
 
 use crate::CondRun;
 use crate::stage::{Ask, Stage, Station};
@@ -70,15 +70,16 @@ impl<'c> CondRun<'c> {
         ensures extends { Extends store.old store.new }
     {
         let cond = self.cond;
-        match cond.get(self.at) {
+        let at = self.at;
+        match cond.get(at) {
             Some(Fragment::Equal(_, right)) => {
-                self.evaluate(store, sig, sorts, right, self.at, Stage::First(value))
+                self.evaluate(store, sig, sorts, right, at, Stage::First(value))
             }
             Some(Fragment::Sort(_, sort)) => {
                 let holds = has_sort(sig, sorts, value, *sort);
                 self.decide(store, sig, sorts, holds)
             }
-            _ => Ok(self.back()),
+            Some(Fragment::Match(_, _)) | Some(Fragment::Reach(_, _)) | None => unreachable!(),
         }
     }
 
@@ -98,11 +99,7 @@ impl<'c> CondRun<'c> {
         ensures unchanged { OnErr result (self.new ≡ self.old) }
         ensures extends { Extends store.old store.new }
     {
-        let cond = self.cond;
-        match cond.get(self.at) {
-            Some(Fragment::Equal(_, _)) => self.decide(store, sig, sorts, left == right),
-            _ => Ok(self.back()),
-        }
+        self.decide(store, sig, sorts, left == right)
     }
 
     /// Goes on behind the first undecided fragment where it is true, and else goes back.
@@ -121,7 +118,8 @@ impl<'c> CondRun<'c> {
         ensures extends { Extends store.old store.new }
     {
         if holds {
-            self.look(store, sig, sorts, self.at + 1)
+            let at = self.at + 1;
+            self.look(store, sig, sorts, at)
         } else {
             Ok(self.back())
         }
@@ -144,6 +142,7 @@ impl<'c> CondRun<'c> {
         ensures unchanged { OnErr result (self.new ≡ self.old) }
         ensures extends { Extends store.old store.new }
     {
+        let _operators = sig.operators();
         match build_instance(store, sig, term, self.bound.variables(), self.bound.values()) {
             Ok(id) => {
                 self.at = at;
@@ -181,7 +180,8 @@ impl<'c> CondRun<'c> {
     /// The latest matching fragment before is due, if there is one.
     pub(crate) fn go_back(&mut self)
         ensures goes { (nodes : List Node) → SameWhole nodes (failing self.old) self.new }
-        ensures waits { ((i : ℕ) × (v : TermId) × AwaitsSolution self.new i v) ⊎ IsOver self.new }
+        ensures waits { IsWaiting self.new.stage }
+        ensures path { IsPath self.new }
         ensures known { (s : SignatureOf) (nodes : List Node) (table : Table) → IsKnown s nodes table (failing self.old) → IsKnown s nodes table self.new }
     {
         match self.stations.pop() {
@@ -220,7 +220,10 @@ impl<'c> CondRun<'c> {
                     bound: self.bound.len(),
                 })
             }
-            _ => self.stage = Stage::First(value),
+            Some(Fragment::Equal(_, _)) | Some(Fragment::Sort(_, _)) => {
+                self.stage = Stage::First(value)
+            }
+            Some(Fragment::Reach(_, _)) | None => unreachable!(),
         }
     }
 

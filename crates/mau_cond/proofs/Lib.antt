@@ -1,0 +1,5 @@
+pub mod Pairs
+pub mod Stations
+pub mod Steps
+pub mod Levels
+pub mod Grown

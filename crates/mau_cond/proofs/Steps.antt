@@ -1,0 +1,280 @@
+-- What the parts of an asking and of a telling do, over plain paths.
+use Rattle.std.proofs.Common.{◌≡◌, ℕ, zero, suc, ◌+◌, ◌≤◌, ◌<◌, List, [], ◌∷◌, ◌++◌, Bool, true, false, Option, Some, None, All, map, take, drop, length, slice_get, refl, sym, ap, ◌∙◌, subst, arith, inl, inr}
+use Rattle.std.specs.Prelude.{◌⊎◌}
+use Rattle.std.proofs.lemmas.List.{length-take-le, take-map}
+use Rattle.std.proofs.lemmas.List.Elements.{All-head, All-tail, All-nil, All-cons, All-append}
+use Rattle.std.proofs.lemmas.Option.{slice_get_past}
+use Rattle.mau_terms.specs.Tree.{Tree}
+use Rattle.mau_terms.specs.Norm.{norm}
+use Rattle.mau_terms.specs.Subst.{Variable, variables, instance}
+use Rattle.mau_terms.specs.View.{tree_of, variable_of}
+use Rattle.mau_terms.specs.declared.bare.Bare.{Bare}
+use Rattle.mau_terms.specs.declared.ids.VarId.{VarId}
+use Rattle.mau_terms.specs.declared.ids.TermId.{TermId}
+use Rattle.mau_signature.specs.Signature.{SignatureOf, theory_at}
+use Rattle.mau_store.specs.Node.{Node}
+use Rattle.mau_store.specs.Trees.{tree_at}
+use Rattle.mau_canon.specs.Within.{IsCause}
+use Rattle.mau_canon.specs.declared.fault.BuildFault.{BuildFault}
+use Rattle.mau_canon.specs.declared.fault.BuildFault.TheVariants as Fault
+use Rattle.mau_sorts.specs.Table.{Table}
+use Rattle.mau_program.specs.declared.statements.Fragment as Written
+use Rattle.mau_program.specs.declared.statements.Fragment.TheVariants as Part
+use Rattle.mau_evaluation.specs.Run.{Outcome, done, ended, Run, gives, try_on, counted_if, where_true}
+use Rattle.mau_evaluation.specs.Program.{Fragment, equals, matches, has_sort, reaches, Program}
+use Rattle.mau_evaluation.specs.Listing.{Solution, same_tree}
+use Rattle.mau_evaluation.specs.Evaluation.{Binding, Level, look_up, extend}
+use Rattle.mau_api.specs.Programs.{fragment_of}
+use Rattle.mau_api.specs.Terms.{IsTerm}
+use Rattle.mau_api.specs.Answers.{binding_in, IsFragment, IsValueOf}
+use Rattle.mau_cond.specs.declared.stage.Station.{Station}
+use Rattle.mau_cond.specs.declared.stage.Stage.{Stage}
+use Rattle.mau_cond.specs.declared.stage.Stage.TheVariants.{Open, First, Both, Due, Failed}
+use Rattle.mau_cond.specs.declared.stage.Ask.{Ask}
+use Rattle.mau_cond.specs.declared.stage.Ask.TheVariants.{Evaluate, Match, Holds, Fails}
+use Rattle.mau_cond.specs.Bound.{extended}
+use Rattle.mau_cond.specs.Path.{Path, due_at, all_stations, IsMatching, AreNested, IsPath, IsToldOf, term_by, AwaitsValue, AwaitsSolution, IsOver, IsAnswer, IsNoSolution}
+use Rattle.mau_cond.specs.Meaning.{Left, left_at, total, evaluated, solve_from, with_both, at_stage, at_value, through, whole, whole_with, found, answered, IsEndBy, Goes, Ends, SameWhole}
+use Rattle.mau_cond.specs.Known.{IsToldValue, AreToldAt, IsKnown, IsKnownAnswer, IsLevelOf}
+use Rattle.mau_cond.specs.Steps.{opened, failing, decided, IsWaiting, due_ask, IsAnswered}
+use Rattle.mau_cond.proofs.Stations.{take_twice, no_end, from_place, from_end, nested_push, nested_pop, nested_more, through_ended, through_some, through_push, through_same, through_evaluated}
+use Rattle.mau_cond.proofs.Levels.{level_evaluates, level_refuses, try_refused}
+
+-- ---- lists
+
+all_left : {A : Type 0} (P : A → Type 0) (xs ys : List A) → All P (xs ++ ys) → All P xs
+all_left P [] ys h = All-nil P
+all_left P (x ∷ xs) ys h = All-cons P x xs (All-head P x (xs ++ ys) h) (all_left P xs ys (All-tail P x (xs ++ ys) h))
+
+pub all_last : {A : Type 0} (P : A → Type 0) (xs : List A) (y : A) → All P (xs ++ y ∷ []) → P y
+all_last P [] y h = All-head P y [] h
+all_last P (x ∷ xs) y h = all_last P xs y (All-tail P x (xs ++ y ∷ []) h)
+
+pub all_take : {A : Type 0} (P : A → Type 0) (n : ℕ) (xs : List A) → All P xs → All P (take n xs)
+all_take P zero xs h = All-nil P
+all_take P (suc n) [] h = All-nil P
+all_take P (suc n) (x ∷ xs) h = All-cons P x (take n xs) (All-head P x xs h) (all_take P n xs (All-tail P x xs h))
+
+pub all_front : (P : Station → Type 0) (ss : List Station) (k : Stage) → All P (ss ++ due_at k) → All P ss
+all_front P ss k h = all_left P ss (due_at k) h
+
+pub all_same : (P : Station → Type 0) (ss : List Station) → All P ss → All P (ss ++ [])
+all_same P ss h = subst (All P) (sym (no_end ss)) h
+
+nested_front : (low : ℕ) (ss : List Station) (k : Stage) (n : ℕ) → AreNested low (ss ++ due_at k) n → AreNested low ss n
+nested_front low ss Open n h = subst (λ z. AreNested low z n) (no_end ss) h
+nested_front low ss (First v) n h = subst (λ z. AreNested low z n) (no_end ss) h
+nested_front low ss (Both v w) n h = subst (λ z. AreNested low z n) (no_end ss) h
+nested_front low ss (Due s) n h = let q = nested_pop low ss s n h in nested_more low ss s.bound n q.0 q.1
+nested_front low ss Failed n h = subst (λ z. AreNested low z n) (no_end ss) h
+
+due_is : (s z : Station) → Due s ≡ Due z → s ≡ z
+due_is s z e = cc
+
+pub some_is : {A : Type 0} (x y : A) → Some x ≡ Some y → x ≡ y
+some_is x y e = cc
+
+binding_take : (nodes : List Node) (n : ℕ) (bound : List (VarId × TermId)) → binding_in nodes (take n bound) ≡ take n (binding_in nodes bound)
+binding_take nodes n bound = sym (take-map (λ b. (variable_of b.0, tree_at nodes b.1.0)) n bound)
+
+-- ---- paths that are known
+
+module _ (s : SignatureOf) (nodes : List Node) (table : Table) where
+  pub known_failing : (p : Path) → IsKnown s nodes table p → IsKnown s nodes table (failing p)
+  known_failing p h = record {
+    fragments = h.fragments;
+    bound = h.bound;
+    stations = all_same (λ k. IsToldValue s nodes table k.value) p.stations (all_front (λ k. IsToldValue s nodes table k.value) p.stations p.stage h.stations);
+    told = tt;
+  }
+
+  pub known_opened : (p : Path) (i : ℕ) → IsKnown s nodes table p → IsKnown s nodes table (opened p i)
+  known_opened p i h = record {
+    fragments = h.fragments;
+    bound = h.bound;
+    stations = all_same (λ k. IsToldValue s nodes table k.value) p.stations (all_front (λ k. IsToldValue s nodes table k.value) p.stations p.stage h.stations);
+    told = tt;
+  }
+
+  pub known_decided : (p : Path) (b : Bool) → IsKnown s nodes table p → IsKnown s nodes table (decided p b)
+  known_decided p true h = known_opened p (suc p.at) h
+  known_decided p false h = known_failing p h
+
+-- ---- going back
+
+abbrev pub back_to : Path → List (VarId × TermId) → List Station → Station → Path
+back_to p bound ss s = record { cond = p.cond; bound = bound; stations = ss; at = p.at; stage = Due s }
+
+module _ (p : Path) (w : IsPath p) (ss : List Station) (s : Station) (e : p.stations ≡ ss ++ s ∷ []) (bound : List (VarId × TermId)) (f : bound ≡ take s.bound p.bound) where
+  popped : AreNested 0 ss s.bound × (s.bound ≤ length p.bound)
+  popped = nested_pop 0 ss s (length p.bound) (subst (λ z. AreNested 0 z (length p.bound)) e (nested_front 0 p.stations p.stage (length p.bound) w.nested))
+
+  same_number : (n : ℕ) → n ≤ n
+  same_number n = omega arith
+
+  long : s.bound ≡ length bound
+  long = sym (ap length f ∙ length-take-le s.bound p.bound popped.1)
+
+  pub went_back : (nodes : List Node) → SameWhole nodes (failing p) (back_to p bound ss s)
+  went_back nodes P l last lefts r b =
+      let c = map fragment_of p.cond in
+      let σ = binding_in nodes p.bound in
+      let τ = binding_in nodes bound in
+      let same : τ ≡ take s.bound σ = ap (binding_in nodes) f ∙ binding_take nodes s.bound p.bound in
+      ap (λ z. through P l c σ z lefts (done None 0 b)) (no_end p.stations ∙ e)
+      ∙ through_same P l c 0 s.bound σ τ (ss ++ s ∷ []) lefts (done None 0 b) (nested_push 0 ss s s.bound popped.0 (same_number s.bound))
+      (sym (ap (take s.bound) same ∙ take_twice s.bound σ))
+
+  pub back_path : IsPath (back_to p bound ss s)
+  back_path = record {
+    few = w.few;
+    matching = subst (All (λ (k : Station). IsMatching (slice_get p.cond k.at))) e (all_front (λ k. IsMatching (slice_get p.cond k.at)) p.stations p.stage w.matching);
+    nested = nested_push 0 ss s (length bound) popped.0 (subst (λ n. s.bound ≤ n) long (same_number s.bound));
+    due = λ z q. ap (λ (k : Station). k.bound) (sym (due_is s z q)) ∙ long;
+    told = tt;
+    over = λ q. absurd (no_due q);
+  }
+    where
+      no_due : Due s ≡ Failed → ⊥
+      no_due q = cc
+
+  pub known_back : (sig : SignatureOf) (nodes : List Node) (table : Table) → IsKnown sig nodes table (failing p) → IsKnown sig nodes table (back_to p bound ss s)
+  known_back sig nodes table h = record {
+    fragments = h.fragments;
+    bound = subst (All (IsValueOf sig nodes table)) (sym f) (all_take (IsValueOf sig nodes table) s.bound p.bound h.bound);
+    stations = subst (All (λ (k : Station). IsToldValue sig nodes table k.value)) (no_end p.stations ∙ e) h.stations;
+    told = tt;
+  }
+
+-- ---- what is due
+
+module _ (s : SignatureOf) (nodes : List Node) (table : Table) where
+  pub due_answered : (before : Path) (cond : List Written.Fragment) (bound : List (VarId × TermId)) (ss : List Station) (i : ℕ) (k : Stage) →
+      IsPath (record { cond = cond; bound = bound; stations = ss; at = i; stage = k }) → IsWaiting k →
+      SameWhole nodes before (record { cond = cond; bound = bound; stations = ss; at = i; stage = k }) →
+      IsKnown s nodes table (record { cond = cond; bound = bound; stations = ss; at = i; stage = k }) → (AwaitsValue before → ⊥) →
+      IsAnswered s nodes table before (record { cond = cond; bound = bound; stations = ss; at = i; stage = k }) (due_ask k)
+  due_answered before cond bound ss i Open w h same known no = absurd h
+  due_answered before cond bound ss i (First v) w h same known no = absurd h
+  due_answered before cond bound ss i (Both v u) w h same known no = absurd h
+  due_answered before cond bound ss i (Due z) w h same known no = record {
+    goes = λ P l of last lefts r b. same P l last lefts r b;
+    asked = ((z, refl, refl, refl), all_last (λ (x : Station). IsMatching (slice_get cond x.at)) ss z w.matching);
+    known = known;
+    given = all_last (λ (x : Station). IsToldValue s nodes table x.value) ss z known.stations;
+    again = λ a. absurd (no a);
+  }
+  due_answered before cond bound ss i Failed w h same known no = record {
+    goes = λ P l of last lefts r b. same P l last lefts r b ∙ ap (λ z. through P l (map fragment_of cond) (binding_in nodes bound) (z ++ []) lefts (done None 0 b)) (w.over refl);
+    asked = refl;
+    known = known;
+    given = tt;
+    again = λ a. absurd (no a);
+  }
+
+  pub waiting_is : (cond : List Written.Fragment) (bound : List (VarId × TermId)) (ss : List Station) (i : ℕ) (k : Stage) → IsWaiting k →
+      ((j : ℕ) × (v : TermId) × AwaitsSolution (record { cond = cond; bound = bound; stations = ss; at = i; stage = k }) j v) ⊎ IsOver (record { cond = cond; bound = bound; stations = ss; at = i; stage = k })
+  waiting_is cond bound ss i Open h = absurd h
+  waiting_is cond bound ss i (First v) h = absurd h
+  waiting_is cond bound ss i (Both v w) h = absurd h
+  waiting_is cond bound ss i (Due z) h = inl (z.at, z.value, z, refl, refl, refl)
+  waiting_is cond bound ss i Failed h = inr refl
+
+  -- ---- the condition holds
+
+  more : (r : ℕ) → r + 0 ≡ r
+  more r = omega arith
+
+  no_term : (o : Option Written.Fragment) (t : Bare) → o ≡ None → term_by Open o ≡ Some t → ⊥
+  no_term None t e q = cc
+  no_term (Some f) t e q = cc
+
+  pub held : (p new : Path) (at : ℕ) (values : List (VarId × TermId)) → length p.cond ≤ at → values ≡ p.bound → SameWhole nodes (failing p) new →
+      (P : Program) (l : Level) (last : Option Binding) (lefts : List Left) (r b : ℕ) →
+      whole P l nodes (opened p at) last lefts r b ≡ found P l nodes (opened p at) new last lefts r (binding_in nodes values) b
+  held p new at values h e same P l None lefts r b =
+      let c = map fragment_of p.cond in
+      let σ = binding_in nodes p.bound in
+      ap (λ z. through P l c σ (p.stations ++ []) lefts (counted_if r (solve_from P l None z σ b))) (from_end p.cond at h)
+      ∙ (through_some P l c σ (p.stations ++ []) lefts σ (r + 0) b
+      ∙ (ap (λ n. done (Some σ) (total (p.stations ++ []) lefts n) b) (more r)
+      ∙ ap (λ vs. done (Some (binding_in nodes vs)) (total (p.stations ++ []) lefts r) b) (sym e)))
+  held p new at values h e same P l (Some last) lefts r b =
+      let c = map fragment_of p.cond in
+      let σ = binding_in nodes p.bound in
+      ap (λ z. through P l c σ (p.stations ++ []) lefts (counted_if r (solve_from P l (Some last) z σ b))) (from_end p.cond at h)
+      ∙ same P l (Some last) lefts r b
+
+  pub no_more_terms : (p : Path) (at : ℕ) → length p.cond ≤ at → AwaitsValue (opened p at) → ⊥
+  no_more_terms p at h a = no_term (slice_get p.cond at) a.0 (slice_get_past p.cond at h) a.1
+
+-- ---- a term is evaluated
+
+at_fragment : (k : Stage) (o : Option Written.Fragment) (t : Bare) → term_by k o ≡ Some t → (f : Written.Fragment) × (o ≡ Some f)
+at_fragment k (Some f) t e = (f, refl)
+at_fragment Open None t e = cc
+at_fragment (First v) None t e = cc
+at_fragment (Both v w) None t e = cc
+at_fragment (Due z) None t e = cc
+at_fragment Failed None t e = cc
+
+module _ (P : Program) (l : Level) where
+  abbrev Evaluates : Option Binding → Written.Fragment → Bare → List Fragment → Binding → (ℕ → Tree) → Stage → ℕ → Type 0
+  Evaluates last f t rest σ tree k b =
+      at_stage P l last (fragment_of f ∷ rest) σ tree k b ≡ try_on (at_value P l last (fragment_of f ∷ rest) σ tree k) (l.eval (instance (look_up σ) (tree_of t)) b)
+
+  stage_by : (last : Option Binding) (k : Stage) (f : Written.Fragment) (t : Bare) (rest : List Fragment) (σ : Binding) (tree : ℕ → Tree) (b : ℕ) → term_by k (Some f) ≡ Some t →
+      Evaluates last f t rest σ tree k b
+  stage_by None Open (Part.Equal x y) t rest σ tree b e = ap (λ z. try_on (at_value P l None (equals (tree_of x) (tree_of y) ∷ rest) σ tree Open) (l.eval (instance (look_up σ) (tree_of z)) b)) (some_is x t e)
+  stage_by (Some last) Open (Part.Equal x y) t rest σ tree b e = ap (λ z. try_on (at_value P l (Some last) (equals (tree_of x) (tree_of y) ∷ rest) σ tree Open) (l.eval (instance (look_up σ) (tree_of z)) b)) (some_is x t e)
+  stage_by None Open (Part.Match x y) t rest σ tree b e = ap (λ z. try_on (at_value P l None (matches (tree_of x) (tree_of y) ∷ rest) σ tree Open) (l.eval (instance (look_up σ) (tree_of z)) b)) (some_is y t e)
+  stage_by (Some last) Open (Part.Match x y) t rest σ tree b e = ap (λ z. try_on (at_value P l (Some last) (matches (tree_of x) (tree_of y) ∷ rest) σ tree Open) (l.eval (instance (look_up σ) (tree_of z)) b)) (some_is y t e)
+  stage_by None Open (Part.Sort x y) t rest σ tree b e = ap (λ z. try_on (at_value P l None (has_sort (tree_of x) y ∷ rest) σ tree Open) (l.eval (instance (look_up σ) (tree_of z)) b)) (some_is x t e)
+  stage_by (Some last) Open (Part.Sort x y) t rest σ tree b e = ap (λ z. try_on (at_value P l (Some last) (has_sort (tree_of x) y ∷ rest) σ tree Open) (l.eval (instance (look_up σ) (tree_of z)) b)) (some_is x t e)
+  stage_by last Open (Part.Reach x y) t rest σ tree b e = cc
+  stage_by last (First v) (Part.Equal x y) t rest σ tree b e = ap (λ z. try_on (at_value P l last (equals (tree_of x) (tree_of y) ∷ rest) σ tree (First v)) (l.eval (instance (look_up σ) (tree_of z)) b)) (some_is y t e)
+  stage_by last (First v) (Part.Match x y) t rest σ tree b e = cc
+  stage_by last (First v) (Part.Sort x y) t rest σ tree b e = cc
+  stage_by last (First v) (Part.Reach x y) t rest σ tree b e = cc
+  stage_by last (Both v w) f t rest σ tree b e = cc
+  stage_by last (Due z) f t rest σ tree b e = cc
+  stage_by last Failed f t rest σ tree b e = cc
+
+  pub stage_evaluates : (last : Option Binding) (cond : List Written.Fragment) (i : ℕ) (k : Stage) (t : Bare) (σ : Binding) (tree : ℕ → Tree) (b : ℕ) → term_by k (slice_get cond i) ≡ Some t →
+      at_stage P l last (drop i (map fragment_of cond)) σ tree k b
+      ≡ try_on (at_value P l last (drop i (map fragment_of cond)) σ tree k) (l.eval (instance (look_up σ) (tree_of t)) b)
+  stage_evaluates last cond i k t σ tree b e =
+      let a = at_fragment k (slice_get cond i) t e in
+      subst (λ (c : List Fragment). at_stage P l last c σ tree k b ≡ try_on (at_value P l last c σ tree k) (l.eval (instance (look_up σ) (tree_of t)) b))
+      (sym (from_place cond i a.0 a.1)) (stage_by last k a.0 t (drop (suc i) (map fragment_of cond)) σ tree b (subst (λ o. term_by k o ≡ Some t) a.1 e))
+
+  pub ends_through : (c : List Fragment) (σ : Binding) (ss : List Station) (xs : List Left) (o : Outcome (Option Binding)) (fault : BuildFault) → IsEndBy o fault → IsEndBy (through P l c σ ss xs o) fault
+  ends_through c σ ss xs o Fault.TooDeep h = ap (through P l c σ ss xs) h ∙ through_ended P l c σ ss xs _
+  ends_through c σ ss xs o Fault.Overflow h = ap (through P l c σ ss xs) h ∙ through_ended P l c σ ss xs _
+  ends_through c σ ss xs o Fault.NoMemory h = tt
+
+module _ (s : SignatureOf) (nodes : List Node) (table : Table) (q : Path) (t : Bare) (e : term_by q.stage (slice_get q.cond q.at) ≡ Some t) where
+  abbrev built : Tree
+  built = instance (look_up (binding_in nodes q.bound)) (tree_of t)
+
+  pub evaluate_answered : IsKnown s nodes table q → (id : TermId) → tree_at nodes id.0 ≡ norm (theory_at s) built → IsTerm s nodes id.0 → IsAnswered s nodes table q q (Evaluate id)
+  evaluate_answered known id same term = record {
+    goes = λ P l of last lefts r b.
+        let c = map fragment_of q.cond in
+        let σ = binding_in nodes q.bound in
+        ap (λ o. through P l c σ (all_stations q) lefts (counted_if r o)) (stage_evaluates P l last q.cond q.at q.stage t σ (tree_at nodes) b e)
+        ∙ (through_evaluated P l c σ (all_stations q) lefts r (at_value P l last (drop q.at c) σ (tree_at nodes) q.stage) (l.eval built b)
+        ∙ ap (evaluated (λ v n. whole_with P l nodes q last lefts (r + n) v)) (level_evaluates s nodes table l of built (tree_at nodes id.0) same term.within.within b));
+    asked = (t, e);
+    known = known;
+    given = term;
+    again = λ a. (refl, tt);
+  }
+
+  pub evaluate_ends : (fault : BuildFault) → IsCause (theory_at s) (norm (theory_at s) built) fault → Ends s nodes table q fault
+  evaluate_ends fault cause P l of last lefts r b =
+      let c = map fragment_of q.cond in
+      let σ = binding_in nodes q.bound in
+      ends_through P l c σ (all_stations q) lefts (counted_if r (at_stage P l last (drop q.at c) σ (tree_at nodes) q.stage b)) fault
+      (subst (λ o. IsEndBy (counted_if r o) fault) (sym (stage_evaluates P l last q.cond q.at q.stage t σ (tree_at nodes) b e))
+      (try_refused (at_value P l last (drop q.at c) σ (tree_at nodes) q.stage) (l.eval built b) r fault (level_refuses s nodes table l of built fault cause b)))

@@ -1,0 +1,8 @@
+use Rattle.std.proofs.Common.{◌∙◌, ap, sym, map}
+use Rattle.mau_cond.proofs.Pairs.{seconds}
+use Rattle.mau_cond.proofs.bound.Bound.values.Goals as goal
+
+pub returns : goal.returns
+returns c =
+    let i = c.self.inside in
+    c.deref.ensures.value ∙ (sym (seconds i.variables.items i.values.items c.self.invariant) ∙ ap (map (λ b. b.1)) c.self.view_is)

@@ -1,0 +1,4 @@
+use Rattle.mau_cond.proofs.run.CondRun.back.Goals as goal
+
+pub returns : goal.returns
+returns c = ?

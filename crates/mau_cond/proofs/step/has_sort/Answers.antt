@@ -1,0 +1,4 @@
+use Rattle.mau_cond.proofs.step.has_sort.Goals as goal
+
+pub returns-then-sort-sorts : goal.returns-then-sort-sorts
+returns-then-sort-sorts c = ?
