@@ -80,3 +80,9 @@ looked_up nodes (b ∷ bound) x = ap (λ t. if same_variable (variable_of b.0) x
 pub instance_bound : (nodes : List Node) (bound : List (VarId × TermId)) (t : Tree) →
     instance (values_in nodes (map (λ b. b.0) bound) (map (λ b. b.1) bound)) t ≡ instance (look_up (binding_in nodes bound)) t
 instance_bound nodes bound t = instance_same (values_in nodes (map (λ b. b.0) bound) (map (λ b. b.1) bound)) (look_up (binding_in nodes bound)) (λ x. sym (looked_up nodes bound x)) t
+
+-- an instance by the values in two lists is one by the binding, in a store that has grown
+pub built_bound : (old new : List Node) (bound : List (VarId × TermId)) (xs : List VarId) (ids : List TermId) (t : Tree) → xs ≡ map (λ b. b.0) bound → ids ≡ map (λ b. b.1) bound →
+    binding_in new bound ≡ binding_in old bound → instance (values_in old xs ids) t ≡ instance (look_up (binding_in new bound)) t
+built_bound old new bound xs ids t e f g =
+    ap₂ (λ ys is. instance (values_in old ys is) t) e f ∙ (instance_bound old bound t ∙ ap (λ σ. instance (look_up σ) t) (sym g))

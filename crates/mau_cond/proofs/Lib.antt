@@ -1,5 +1,7 @@
 pub mod Pairs
 pub mod Stations
-pub mod Steps
 pub mod Levels
 pub mod Grown
+pub mod Instances
+pub mod Steps
+pub mod Tellings

@@ -2,7 +2,7 @@
 use Rattle.std.proofs.Common.{◌≡◌, ℕ, zero, suc, ◌+◌, ◌≤◌, ◌<◌, List, [], ◌∷◌, ◌++◌, Bool, true, false, Option, Some, None, All, map, take, drop, length, slice_get, refl, sym, ap, ◌∙◌, subst, arith, inl, inr}
 use Rattle.std.specs.Prelude.{◌⊎◌}
 use Rattle.std.proofs.lemmas.List.{length-take-le, take-map}
-use Rattle.std.proofs.lemmas.List.Elements.{All-head, All-tail, All-nil, All-cons, All-append}
+use Rattle.std.proofs.lemmas.List.Elements.{All-head, All-tail, All-nil, All-cons, All-take}
 use Rattle.std.proofs.lemmas.Option.{slice_get_past}
 use Rattle.mau_terms.specs.Tree.{Tree}
 use Rattle.mau_terms.specs.Norm.{norm}
@@ -49,11 +49,6 @@ all_left P (x ∷ xs) ys h = All-cons P x xs (All-head P x (xs ++ ys) h) (all_le
 pub all_last : {A : Type 0} (P : A → Type 0) (xs : List A) (y : A) → All P (xs ++ y ∷ []) → P y
 all_last P [] y h = All-head P y [] h
 all_last P (x ∷ xs) y h = all_last P xs y (All-tail P x (xs ++ y ∷ []) h)
-
-pub all_take : {A : Type 0} (P : A → Type 0) (n : ℕ) (xs : List A) → All P xs → All P (take n xs)
-all_take P zero xs h = All-nil P
-all_take P (suc n) [] h = All-nil P
-all_take P (suc n) (x ∷ xs) h = All-cons P x (take n xs) (All-head P x xs h) (all_take P n xs (All-tail P x xs h))
 
 pub all_front : (P : Station → Type 0) (ss : List Station) (k : Stage) → All P (ss ++ due_at k) → All P ss
 all_front P ss k h = all_left P ss (due_at k) h
@@ -141,7 +136,7 @@ module _ (p : Path) (w : IsPath p) (ss : List Station) (s : Station) (e : p.stat
   pub known_back : (sig : SignatureOf) (nodes : List Node) (table : Table) → IsKnown sig nodes table (failing p) → IsKnown sig nodes table (back_to p bound ss s)
   known_back sig nodes table h = record {
     fragments = h.fragments;
-    bound = subst (All (IsValueOf sig nodes table)) (sym f) (all_take (IsValueOf sig nodes table) s.bound p.bound h.bound);
+    bound = subst (All (IsValueOf sig nodes table)) (sym f) (All-take (IsValueOf sig nodes table) s.bound p.bound h.bound);
     stations = subst (All (λ (k : Station). IsToldValue sig nodes table k.value)) (no_end p.stations ∙ e) h.stations;
     told = tt;
   }
@@ -154,22 +149,22 @@ module _ (s : SignatureOf) (nodes : List Node) (table : Table) where
       SameWhole nodes before (record { cond = cond; bound = bound; stations = ss; at = i; stage = k }) →
       IsKnown s nodes table (record { cond = cond; bound = bound; stations = ss; at = i; stage = k }) → (AwaitsValue before → ⊥) →
       IsAnswered s nodes table before (record { cond = cond; bound = bound; stations = ss; at = i; stage = k }) (due_ask k)
-  due_answered before cond bound ss i Open w h same known no = absurd h
-  due_answered before cond bound ss i (First v) w h same known no = absurd h
-  due_answered before cond bound ss i (Both v u) w h same known no = absurd h
-  due_answered before cond bound ss i (Due z) w h same known no = record {
+  due_answered before cond bound ss i Open w h same known none = absurd h
+  due_answered before cond bound ss i (First v) w h same known none = absurd h
+  due_answered before cond bound ss i (Both v u) w h same known none = absurd h
+  due_answered before cond bound ss i (Due z) w h same known none = record {
     goes = λ P l of last lefts r b. same P l last lefts r b;
     asked = ((z, refl, refl, refl), all_last (λ (x : Station). IsMatching (slice_get cond x.at)) ss z w.matching);
     known = known;
     given = all_last (λ (x : Station). IsToldValue s nodes table x.value) ss z known.stations;
-    again = λ a. absurd (no a);
+    again = λ a. absurd (none a);
   }
-  due_answered before cond bound ss i Failed w h same known no = record {
+  due_answered before cond bound ss i Failed w h same known none = record {
     goes = λ P l of last lefts r b. same P l last lefts r b ∙ ap (λ z. through P l (map fragment_of cond) (binding_in nodes bound) (z ++ []) lefts (done None 0 b)) (w.over refl);
     asked = refl;
     known = known;
     given = tt;
-    again = λ a. absurd (no a);
+    again = λ a. absurd (none a);
   }
 
   pub waiting_is : (cond : List Written.Fragment) (bound : List (VarId × TermId)) (ss : List Station) (i : ℕ) (k : Stage) → IsWaiting k →
@@ -177,7 +172,7 @@ module _ (s : SignatureOf) (nodes : List Node) (table : Table) where
   waiting_is cond bound ss i Open h = absurd h
   waiting_is cond bound ss i (First v) h = absurd h
   waiting_is cond bound ss i (Both v w) h = absurd h
-  waiting_is cond bound ss i (Due z) h = inl (z.at, z.value, z, refl, refl, refl)
+  waiting_is cond bound ss i (Due z) h = inl (z.at, z.value, (z, refl, refl, refl))
   waiting_is cond bound ss i Failed h = inr refl
 
   -- ---- the condition holds
@@ -278,3 +273,9 @@ module _ (s : SignatureOf) (nodes : List Node) (table : Table) (q : Path) (t : B
       ends_through P l c σ (all_stations q) lefts (counted_if r (at_stage P l last (drop q.at c) σ (tree_at nodes) q.stage b)) fault
       (subst (λ o. IsEndBy (counted_if r o) fault) (sym (stage_evaluates P l last q.cond q.at q.stage t σ (tree_at nodes) b e))
       (try_refused (at_value P l last (drop q.at c) σ (tree_at nodes) q.stage) (l.eval built b) r fault (level_refuses s nodes table l of built fault cause b)))
+
+none_is : (t : Bare) → None ≡ Some t → ⊥
+none_is t e = cc
+
+pub failing_awaits : (p : Path) → AwaitsValue (failing p) → ⊥
+failing_awaits p a = none_is a.0 a.1
