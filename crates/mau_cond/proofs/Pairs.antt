@@ -1,11 +1,14 @@
 -- Variables with their values, in two lists and as pairs.
-use Rattle.std.proofs.Common.{◌≡◌, ℕ, zero, suc, ◌≤◌, List, [], ◌∷◌, ◌++◌, Bool, true, false, ◌||◌, if◌then◌else◌, map, take, drop, length, refl, sym, ap, ◌∙◌, arith, append_assoc}
+use Rattle.std.proofs.Common.{◌≡◌, ℕ, zero, suc, ◌+◌, ◌<◌, ◌≤◌, List, [], ◌∷◌, ◌++◌, Bool, true, false, ◌||◌, if◌then◌else◌, All, map, take, length, get_or, refl, sym, ap, ap₂, ◌∙◌, arith}
+use Rattle.std.proofs.Math.Seq.{take-length}
+use Rattle.std.proofs.lemmas.List.Elements.{All-head, All-tail, All-nil, All-cons, All-append}
 use Rattle.std.specs.List.{zip, list_any}
 use Rattle.mau_terms.specs.Subst.{same_variable}
 use Rattle.mau_terms.specs.View.{variable_of}
 use Rattle.mau_terms.specs.declared.ids.VarId.{VarId}
 use Rattle.mau_terms.specs.declared.ids.TermId.{TermId}
 use Rattle.mau_cond.specs.Bound.{is_bound, extended}
+use Rattle.mau_cond.proofs.Lists.{take_less, take_front}
 
 -- ---- two lists
 
@@ -48,3 +51,46 @@ bound_here [] ys x e = refl
 bound_here (z ∷ xs) [] x e = absurd (omega (arith, e))
 bound_here (z ∷ xs) (y ∷ ys) x e = ap (λ b. same_variable (variable_of z) (variable_of x) || b) (bound_here xs ys x (omega (arith, e)))
 
+
+long_end : (bs : List (VarId × TermId)) (b : VarId × TermId) → length (bs ++ b ∷ []) ≡ suc (length bs)
+long_end [] b = refl
+long_end (x ∷ bs) b = ap suc (long_end bs b)
+
+-- more are added behind those that there are
+pub added : (more bs : List (VarId × TermId)) → (take (length bs) (extended bs more) ≡ bs) × (length bs ≤ length (extended bs more))
+added [] bs = (take-length bs, same (length bs))
+  where
+    same : (n : ℕ) → n ≤ n
+    same n = omega arith
+added (b ∷ more) bs = by (is_bound bs b.0)
+  where
+    by : (w : Bool) → (take (length bs) (extended (if w then bs else bs ++ b ∷ []) more) ≡ bs) × (length bs ≤ length (extended (if w then bs else bs ++ b ∷ []) more))
+    by true = added more bs
+    by false =
+        let q = added more (bs ++ b ∷ []) in
+        let n = long_end bs b in
+        let less : length bs ≤ length (bs ++ b ∷ []) = omega (arith, n) in
+        (take_less (length bs) (length (bs ++ b ∷ [])) (extended (bs ++ b ∷ []) more) (bs ++ b ∷ []) less (q.0 ∙ sym (take-length (bs ++ b ∷ []))) ∙ take_front (length bs) bs (b ∷ []) refl,
+        omega (arith, less, q.1))
+
+pub all_extended : (P : VarId × TermId → Type 0) (more bs : List (VarId × TermId)) → All P bs → All P more → All P (extended bs more)
+all_extended P [] bs h k = h
+all_extended P (b ∷ more) bs h k = by (is_bound bs b.0)
+  where
+    by : (w : Bool) → All P (extended (if w then bs else bs ++ b ∷ []) more)
+    by true = all_extended P more bs h (All-tail P b more k)
+    by false = all_extended P more (bs ++ b ∷ []) (All-append P bs (b ∷ []) h (All-cons P b [] (All-head P b more k) (All-nil P))) (All-tail P b more k)
+
+-- ---- a loop over two lists
+
+next_one : (i : ℕ) → suc i ≡ i + 1
+next_one i = omega arith
+
+pub pairs_next : {A B : Type 0} (xs : List A) (ys : List B) (i : ℕ) (x : A) (y : B) → i < length xs → length xs ≡ length ys → x ≡ get_or xs i x → y ≡ get_or ys i y →
+    take i (zip xs ys) ++ (x, y) ∷ [] ≡ take (i + 1) (zip xs ys)
+pairs_next [] ys i x y h e p q = absurd (omega (arith, h))
+pairs_next (a ∷ xs) [] i x y h e p q = absurd (omega (arith, e))
+pairs_next (a ∷ xs) (b ∷ ys) zero x y h e p q = ap₂ (λ u v. (u, v) ∷ []) p q
+pairs_next (a ∷ xs) (b ∷ ys) (suc i) x y h e p q =
+    ap (λ zs. (a, b) ∷ zs) (pairs_next xs ys i x y (omega (arith, h)) (omega (arith, e)) p q)
+    ∙ ap (λ n. take n ((a, b) ∷ zip xs ys)) (ap suc (sym (next_one i)) ∙ next_one (suc i))

@@ -1,5 +1,5 @@
 -- What the parts of an asking and of a telling do, over plain paths.
-use Rattle.std.proofs.Common.{◌≡◌, ℕ, zero, suc, ◌+◌, ◌≤◌, ◌<◌, List, [], ◌∷◌, ◌++◌, Bool, true, false, Option, Some, None, All, map, take, drop, length, slice_get, refl, sym, ap, ◌∙◌, subst, arith, inl, inr}
+use Rattle.std.proofs.Common.{◌≡◌, ℕ, zero, suc, ◌+◌, ◌≤◌, ◌<◌, List, [], ◌∷◌, ◌++◌, Bool, true, false, Option, Some, None, All, map, take, drop, length, slice_get, refl, sym, ap, ◌∙◌, subst, arith, inl, inr, Result, Ok, Err, IfOk, IfErr}
 use Rattle.std.specs.Prelude.{◌⊎◌}
 use Rattle.std.proofs.lemmas.List.{length-take-le, take-map}
 use Rattle.std.proofs.lemmas.List.Elements.{All-head, All-tail, All-nil, All-cons, All-take}
@@ -37,7 +37,8 @@ use Rattle.mau_cond.specs.Path.{Path, due_at, all_stations, IsMatching, AreNeste
 use Rattle.mau_cond.specs.Meaning.{Left, left_at, total, evaluated, solve_from, with_both, at_stage, at_value, through, whole, whole_with, found, answered, IsEndBy, Goes, Ends, SameWhole}
 use Rattle.mau_cond.specs.Known.{IsToldValue, AreToldAt, IsKnown, IsKnownAnswer, IsLevelOf}
 use Rattle.mau_cond.specs.Steps.{opened, failing, decided, IsWaiting, due_ask, IsAnswered}
-use Rattle.mau_cond.proofs.Stations.{take_twice, no_end, from_place, from_end, nested_push, nested_pop, nested_more, through_ended, through_some, through_push, through_same, through_evaluated}
+use Rattle.mau_cond.proofs.Lists.{take_twice, no_end}
+use Rattle.mau_cond.proofs.Stations.{from_place, from_end, nested_push, nested_pop, nested_more, through_ended, through_some, through_push, through_same, through_evaluated}
 use Rattle.mau_cond.proofs.Levels.{level_evaluates, level_refuses, try_refused}
 
 -- ---- lists
@@ -56,7 +57,7 @@ all_front P ss k h = all_left P ss (due_at k) h
 pub all_same : (P : Station → Type 0) (ss : List Station) → All P ss → All P (ss ++ [])
 all_same P ss h = subst (All P) (sym (no_end ss)) h
 
-nested_front : (low : ℕ) (ss : List Station) (k : Stage) (n : ℕ) → AreNested low (ss ++ due_at k) n → AreNested low ss n
+pub nested_front : (low : ℕ) (ss : List Station) (k : Stage) (n : ℕ) → AreNested low (ss ++ due_at k) n → AreNested low ss n
 nested_front low ss Open n h = subst (λ z. AreNested low z n) (no_end ss) h
 nested_front low ss (First v) n h = subst (λ z. AreNested low z n) (no_end ss) h
 nested_front low ss (Both v w) n h = subst (λ z. AreNested low z n) (no_end ss) h
@@ -279,3 +280,125 @@ none_is t e = cc
 
 pub failing_awaits : (p : Path) → AwaitsValue (failing p) → ⊥
 failing_awaits p a = none_is a.0 a.1
+
+-- ---- paths of which nothing is due
+
+first_told : (v : TermId) (o : Option Written.Fragment) (t : Bare) → term_by (First v) o ≡ Some t → IsToldOf (First v) o
+first_told v None t e = absurd (none_is t e)
+first_told v (Some (Part.Equal x y)) t e = tt
+first_told v (Some (Part.Match x y)) t e = absurd (none_is t e)
+first_told v (Some (Part.Sort x y)) t e = tt
+first_told v (Some (Part.Reach x y)) t e = absurd (none_is t e)
+
+module _ (p : Path) (w : IsPath p) where
+  pub plain_path : (i : ℕ) (k : Stage) → due_at k ≡ [] → IsToldOf k (slice_get p.cond i) → ((z : Station) → k ≡ Due z → ⊥) → (k ≡ Failed → ⊥) →
+      IsPath (record { cond = p.cond; bound = p.bound; stations = p.stations; at = i; stage = k })
+  plain_path i k none told due over = record {
+    few = w.few;
+    matching = subst (λ z. All (λ (x : Station). IsMatching (slice_get p.cond x.at)) (p.stations ++ z)) (sym none)
+        (all_same (λ x. IsMatching (slice_get p.cond x.at)) p.stations (all_front (λ x. IsMatching (slice_get p.cond x.at)) p.stations p.stage w.matching));
+    nested = subst (λ z. AreNested 0 (p.stations ++ z) (length p.bound)) (sym none)
+        (subst (λ z. AreNested 0 z (length p.bound)) (sym (no_end p.stations)) (nested_front 0 p.stations p.stage (length p.bound) w.nested));
+    due = λ z q. absurd (due z q);
+    told = told;
+    over = λ q. absurd (over q);
+  }
+
+  pub asked_path : (i : ℕ) (k : Stage) (t : Bare) → term_by k (slice_get p.cond i) ≡ Some t →
+      IsPath (record { cond = p.cond; bound = p.bound; stations = p.stations; at = i; stage = k })
+  asked_path i Open t e = plain_path i Open refl tt open_due open_over
+    where
+      open_due : (z : Station) → Open ≡ Due z → ⊥
+      open_due z q = cc
+      open_over : Open ≡ Failed → ⊥
+      open_over q = cc
+  asked_path i (First v) t e = plain_path i (First v) refl (first_told v (slice_get p.cond i) t e) first_due first_over
+    where
+      first_due : (z : Station) → First v ≡ Due z → ⊥
+      first_due z q = cc
+      first_over : First v ≡ Failed → ⊥
+      first_over q = cc
+  asked_path i (Both v u) t e = absurd (none_is t e)
+  asked_path i (Due z) t e = absurd (none_is t e)
+  asked_path i Failed t e = absurd (none_is t e)
+
+  pub first_path : (v : TermId) → IsToldOf (First v) (slice_get p.cond p.at) → IsPath (record { cond = p.cond; bound = p.bound; stations = p.stations; at = p.at; stage = First v })
+  first_path v told = plain_path p.at (First v) refl told first_due first_over
+    where
+      first_due : (z : Station) → First v ≡ Due z → ⊥
+      first_due z q = cc
+      first_over : First v ≡ Failed → ⊥
+      first_over q = cc
+
+-- ---- a fragment is decided
+
+-- over each level the paths have the same to compute
+abbrev pub SameOver : SignatureOf → List Node → Table → Path → Path → Type 0
+SameOver s nodes table p q =
+    (P : Program) (l : Level) → IsLevelOf s nodes table l → (last : Option Binding) (lefts : List Left) (r b : ℕ) → whole P l nodes p last lefts r b ≡ whole P l nodes q last lefts r b
+
+module _ (s : SignatureOf) (nodes : List Node) (table : Table) where
+  answered_same : (P : Program) (l : Level) (p q new : Path) (a : Ask) → all_stations q ≡ all_stations p → (last : Option Binding) (lefts : List Left) (r b : ℕ) →
+      answered P l nodes q new a last lefts r b ≡ answered P l nodes p new a last lefts r b
+  answered_same P l p q new (Evaluate t) e last lefts r b = refl
+  answered_same P l p q new (Match i v) e last lefts r b = refl
+  answered_same P l p q new (Holds values) e None lefts r b = ap (λ z. done (Some (binding_in nodes values.items)) (total z lefts r) b) e
+  answered_same P l p q new (Holds values) e (Some last) lefts r b = refl
+  answered_same P l p q new Fails e last lefts r b = refl
+
+  pub answered_as : (p q new : Path) (a : Ask) → SameOver s nodes table p q → all_stations q ≡ all_stations p → (AwaitsValue p → ⊥) → IsAnswered s nodes table q new a → IsAnswered s nodes table p new a
+  answered_as p q new a same e none h = record {
+    goes = λ P l of last lefts r b. same P l of last lefts r b ∙ (h.goes P l of last lefts r b ∙ answered_same P l p q new a e last lefts r b);
+    asked = h.asked;
+    known = h.known;
+    given = h.given;
+    again = λ w. absurd (none w);
+  }
+
+  pub ends_as : (p q : Path) (fault : BuildFault) → SameOver s nodes table p q → Ends s nodes table q fault → Ends s nodes table p fault
+  ends_as p q fault same h P l of last lefts r b = subst (λ o. IsEndBy o fault) (sym (same P l of last lefts r b)) (h P l of last lefts r b)
+
+  module _ (p : Path) (v w : TermId) (e : p.stage ≡ Both v w) (t u : Bare) (f : slice_get p.cond p.at ≡ Some (Part.Equal t u)) where
+    abbrev mk : Stage → Path
+    mk k = record { cond = p.cond; bound = p.bound; stations = p.stations; at = p.at; stage = k }
+
+    pub both_same : (holds : Bool) → holds ≡ same_tree (tree_at nodes v.0) (tree_at nodes w.0) → SameOver s nodes table p (decided p holds)
+    both_same holds h P l of last lefts r b =
+        let c = map fragment_of p.cond in
+        let σ = binding_in nodes p.bound in
+        ap (λ k. whole P l nodes (mk k) last lefts r b) e
+        ∙ (ap (λ z. through P l c σ (p.stations ++ []) lefts (counted_if r (with_both P l last z σ (tree_at nodes v.0) (tree_at nodes w.0) b))) (from_place p.cond p.at (Part.Equal t u) f)
+        ∙ (ap (λ z. through P l c σ (p.stations ++ []) lefts (counted_if r (where_true z (solve_from P l last (drop (suc p.at) c) σ) b))) (sym h)
+        ∙ by holds))
+      where
+        by : (z : Bool) → through P l (map fragment_of p.cond) (binding_in nodes p.bound) (p.stations ++ []) lefts (counted_if r (where_true z (solve_from P l last (drop (suc p.at) (map fragment_of p.cond)) (binding_in nodes p.bound)) b))
+            ≡ whole P l nodes (decided p z) last lefts r b
+        by true = refl
+        by false = refl
+
+    pub both_stations : (holds : Bool) → all_stations (decided p holds) ≡ all_stations p
+    both_stations true = ap (λ k. p.stations ++ due_at k) (sym e)
+    both_stations false = ap (λ k. p.stations ++ due_at k) (sym e)
+
+    pub both_awaits : AwaitsValue p → ⊥
+    both_awaits a = none_is a.0 (subst (λ k. term_by k (slice_get p.cond p.at) ≡ Some a.0) e a.1)
+
+-- a result is Ok and goes over
+pub if_ok : {A E : Type 0} {P Q : A → Type 0} → ((x : A) → P x → Q x) → (r : Result A E) → IfOk r P → IfOk r Q
+if_ok f (Ok x) h = f x h
+if_ok f (Err e) h = tt
+
+pub if_err : {A E : Type 0} {P Q : E → Type 0} → ((x : E) → P x → Q x) → (r : Result A E) → IfErr r P → IfErr r Q
+if_err f (Ok x) h = tt
+if_err f (Err e) h = f e h
+
+both_is : (v w : TermId) (o : Option Written.Fragment) → IsToldOf (Both v w) o → (t : Bare) × (u : Bare) × (o ≡ Some (Part.Equal t u))
+both_is v w None h = absurd h
+both_is v w (Some (Part.Equal t u)) h = (t, u, refl)
+both_is v w (Some (Part.Match t u)) h = absurd h
+both_is v w (Some (Part.Sort t u)) h = absurd h
+both_is v w (Some (Part.Reach t u)) h = absurd h
+
+-- the fragment of which both values were told is an equality
+pub both_equal : (p : Path) → IsPath p → (v w : TermId) → p.stage ≡ Both v w → (t : Bare) × (u : Bare) × (slice_get p.cond p.at ≡ Some (Part.Equal t u))
+both_equal p h v w e = both_is v w (slice_get p.cond p.at) (subst (λ k. IsToldOf k (slice_get p.cond p.at)) e h.told)

@@ -26,3 +26,8 @@ returns-in-Some-clause-known c =
     λ s nodes table h. known_back p c.self.invariant c.pop.new.self.items c.in-Some.station c.in-Some.ensures.items c.keep.new.self c.keep.ensures s nodes table
     (subst (λ (z : Path). IsKnown s nodes table (failing z)) (sym c.self.view_is) h)
 
+pub returns-in-Some-clause-path : goal.returns-in-Some-clause-path
+returns-in-Some-clause-path c =
+    let i = c.self.inside in
+    let p : Path = record { cond = i.cond.now; bound = i.bound; stations = i.stations.items; at = i.at; stage = i.stage } in
+    back_path p c.self.invariant c.pop.new.self.items c.in-Some.station c.in-Some.ensures.items c.keep.new.self c.keep.ensures
