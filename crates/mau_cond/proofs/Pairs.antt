@@ -62,12 +62,13 @@ added [] bs = (take-length bs, same (length bs))
   where
     same : (n : ℕ) → n ≤ n
     same n = omega arith
-added (b ∷ more) bs = by (is_bound bs b.0)
+added (b ∷ more) bs = by (is_bound bs b.0) (added more)
   where
-    by : (w : Bool) → (take (length bs) (extended (if w then bs else bs ++ b ∷ []) more) ≡ bs) × (length bs ≤ length (extended (if w then bs else bs ++ b ∷ []) more))
-    by true = added more bs
-    by false =
-        let q = added more (bs ++ b ∷ []) in
+    by : (w : Bool) → ((cs : List (VarId × TermId)) → (take (length cs) (extended cs more) ≡ cs) × (length cs ≤ length (extended cs more))) →
+        (take (length bs) (extended (if w then bs else bs ++ b ∷ []) more) ≡ bs) × (length bs ≤ length (extended (if w then bs else bs ++ b ∷ []) more))
+    by true h = h bs
+    by false h =
+        let q = h (bs ++ b ∷ []) in
         let n = long_end bs b in
         let less : length bs ≤ length (bs ++ b ∷ []) = omega (arith, n) in
         (take_less (length bs) (length (bs ++ b ∷ [])) (extended (bs ++ b ∷ []) more) (bs ++ b ∷ []) less (q.0 ∙ sym (take-length (bs ++ b ∷ []))) ∙ take_front (length bs) bs (b ∷ []) refl,
@@ -75,11 +76,11 @@ added (b ∷ more) bs = by (is_bound bs b.0)
 
 pub all_extended : (P : VarId × TermId → Type 0) (more bs : List (VarId × TermId)) → All P bs → All P more → All P (extended bs more)
 all_extended P [] bs h k = h
-all_extended P (b ∷ more) bs h k = by (is_bound bs b.0)
+all_extended P (b ∷ more) bs h k = by (is_bound bs b.0) (λ cs g. all_extended P more cs g (All-tail P b more k))
   where
-    by : (w : Bool) → All P (extended (if w then bs else bs ++ b ∷ []) more)
-    by true = all_extended P more bs h (All-tail P b more k)
-    by false = all_extended P more (bs ++ b ∷ []) (All-append P bs (b ∷ []) h (All-cons P b [] (All-head P b more k) (All-nil P))) (All-tail P b more k)
+    by : (w : Bool) → ((cs : List (VarId × TermId)) → All P cs → All P (extended cs more)) → All P (extended (if w then bs else bs ++ b ∷ []) more)
+    by true g = g bs h
+    by false g = g (bs ++ b ∷ []) (All-append P bs (b ∷ []) h (All-cons P b [] (All-head P b more k) (All-nil P)))
 
 -- ---- a loop over two lists
 
