@@ -6,3 +6,5 @@ pub mod Grown
 pub mod Instances
 pub mod Steps
 pub mod Tellings
+pub mod Ranges
+pub mod Building
