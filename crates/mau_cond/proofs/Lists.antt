@@ -25,9 +25,3 @@ pub no_end : {A : Type 0} (xs : List A) → xs ++ [] ≡ xs
 no_end [] = refl
 no_end (x ∷ xs) = ap (λ zs. x ∷ zs) (no_end xs)
 
-
-pub take_over : {A : Type 0} (n : ℕ) (xs : List A) → length xs ≤ n → take n xs ≡ xs
-take_over zero [] h = refl
-take_over zero (x ∷ xs) h = absurd (omega (arith, h))
-take_over (suc n) [] h = refl
-take_over (suc n) (x ∷ xs) h = ap (λ zs. x ∷ zs) (take_over n xs (omega (arith, h)))

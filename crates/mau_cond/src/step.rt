@@ -79,7 +79,9 @@ impl<'c> CondRun<'c> {
                 let holds = has_sort(sig, sorts, value, *sort);
                 self.decide(store, sig, sorts, holds)
             }
-            Some(Fragment::Match(_, _)) | Some(Fragment::Reach(_, _)) | None => unreachable!(),
+            Some(Fragment::Match(_, _)) => unreachable!(),
+            Some(Fragment::Reach(_, _)) => unreachable!(),
+            None => unreachable!(),
         }
     }
 
@@ -99,6 +101,7 @@ impl<'c> CondRun<'c> {
         ensures unchanged { OnErr result (self.new ≡ self.old) }
         ensures extends { Extends store.old store.new }
     {
+        let _nodes = store.len();
         self.decide(store, sig, sorts, left == right)
     }
 
@@ -220,10 +223,10 @@ impl<'c> CondRun<'c> {
                     bound: self.bound.len(),
                 })
             }
-            Some(Fragment::Equal(_, _)) | Some(Fragment::Sort(_, _)) => {
-                self.stage = Stage::First(value)
-            }
-            Some(Fragment::Reach(_, _)) | None => unreachable!(),
+            Some(Fragment::Equal(_, _)) => self.stage = Stage::First(value),
+            Some(Fragment::Sort(_, _)) => self.stage = Stage::First(value),
+            Some(Fragment::Reach(_, _)) => unreachable!(),
+            None => unreachable!(),
         }
     }
 

@@ -1,6 +1,6 @@
 use Rattle.std.proofs.Common.{◌≡◌, ◌<◌, ◌≤◌, ◌+◌, ◌++◌, ◌∷◌, [], length, take, sym, ap, ◌∙◌, arith, rules}
 use Rattle.std.specs.Vec.{vec_len}
-use Rattle.mau_cond.proofs.Lists.{take_over}
+use Rattle.std.proofs.lemmas.List.{take_all}
 use Rattle.mau_cond.proofs.Pairs.{zipped_length, pairs_next}
 use Rattle.mau_cond.proofs.bound.Bound.pairs.Goals as goal
 
@@ -9,7 +9,7 @@ returns c =
     let i = c.self.inside in
     let long : vec_len i.variables ≡ length i.variables.items = search rules in
     let same : length i.variables.items ≡ length c.args.self.now = zipped_length i.variables.items i.values.items c.self.invariant ∙ ap length c.self.view_is in
-    c.loop-index.invariant ∙ take_over c.loop-index.index c.args.self.now (omega (arith, c.loop-index-test.false, c.len-index-end.ensures, long, same))
+    c.loop-index.invariant ∙ take_all c.loop-index.index c.args.self.now (omega (arith, c.loop-index-test.false, c.len-index-end.ensures, long, same))
 
 pub loop-index-preserved : goal.loop-index-preserved
 loop-index-preserved c =

@@ -13,9 +13,9 @@ returns-in-Ok-clause-answered c = λ s table h.
     let values : c.in-Ok.values.items ≡ p.bound = c.in-Ok.ensures ∙ ap (λ (z : Path). z.bound) c.self.view_is in
     let k = known_failing s nodes table (opened p c.args.at) h in
     record {
-      goes = λ P l of last lefts r b. held s nodes table p n c.args.at c.in-Ok.values.items c.requires values (c.go_back.ensures.goes nodes) P l last lefts r b;
+      goes = λ P l of last lefts r b. held s nodes table p n c.args.at c.in-Ok.values.items c.requires.end values (c.go_back.ensures.goes nodes) P l last lefts r b;
       asked = waiting_is s nodes table n.cond n.bound n.stations n.at n.stage c.go_back.ensures.waits;
       known = c.go_back.ensures.known s nodes table (record { fragments = k.fragments; bound = k.bound; stations = k.stations; told = tt });
       given = subst (All (IsValueOf s nodes table)) (sym values) h.bound;
-      again = λ a. absurd (no_more_terms s nodes table p c.args.at c.requires a);
+      again = λ a. absurd (no_more_terms s nodes table p c.args.at c.requires.end a);
     }
