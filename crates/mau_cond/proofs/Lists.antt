@@ -1,5 +1,7 @@
 -- Beginnings of lists.
-use Rattle.std.proofs.Common.{◌≡◌, ℕ, zero, suc, ◌≤◌, List, [], ◌∷◌, ◌++◌, take, length, refl, sym, ap, ◌∙◌, arith}
+use Rattle.std.proofs.Common.{◌≡◌, ℕ, zero, suc, ◌≤◌, List, [], ◌∷◌, ◌++◌, true, false, Some, None, take, length, get_or, slice_get, ltb, refl, sym, ap, ◌∙◌, arith, Bool}
+use Rattle.std.proofs.lemmas.Bool.{ltb-true, ltb-false}
+use Rattle.std.proofs.lemmas.Option.{slice_get_read, slice_get_past}
 
 pub take_less : {A : Type 0} (m n : ℕ) (xs ys : List A) → m ≤ n → take n xs ≡ take n ys → take m xs ≡ take m ys
 take_less {A = A} m n xs ys h e = sym (twice m n xs h) ∙ (ap (take m) e ∙ twice m n ys h)
@@ -25,3 +27,10 @@ pub no_end : {A : Type 0} (xs : List A) → xs ++ [] ≡ xs
 no_end [] = refl
 no_end (x ∷ xs) = ap (λ zs. x ∷ zs) (no_end xs)
 
+
+-- an element that was read
+pub read_place : {A : Type 0} (xs : List A) (i : ℕ) (x y : A) → true ≡ ltb i (length xs) → x ≡ get_or xs i x → x ≡ y → slice_get xs i ≡ Some y
+read_place xs i x y w e f = slice_get_read xs (length xs) i x refl (ltb-true i (length xs) (sym w)) e ∙ ap (λ z. Some z) f
+
+pub read_end : {A : Type 0} (xs : List A) (i : ℕ) → false ≡ ltb i (length xs) → slice_get xs i ≡ None
+read_end xs i w = slice_get_past xs i (ltb-false i (length xs) (sym w))

@@ -2,7 +2,7 @@
 use Rattle.std.proofs.Common.{◌≡◌, ℕ, zero, suc, ◌+◌, ◌≤◌, ◌<◌, List, [], ◌∷◌, ◌++◌, Bool, true, false, Option, Some, None, All, map, take, drop, length, slice_get, refl, sym, ap, ◌∙◌, subst, arith, inl, inr, Result, Ok, Err, IfOk, IfErr}
 use Rattle.std.specs.Prelude.{◌⊎◌}
 use Rattle.std.proofs.lemmas.List.{length-take-le, take-map}
-use Rattle.std.proofs.lemmas.List.Elements.{All-head, All-tail, All-nil, All-cons, All-take}
+use Rattle.std.proofs.lemmas.List.Elements.{All-head, All-tail, All-nil, All-cons, All-take, All-append}
 use Rattle.std.proofs.lemmas.Option.{slice_get_past}
 use Rattle.mau_terms.specs.Tree.{Tree}
 use Rattle.mau_terms.specs.Norm.{norm}
@@ -402,3 +402,60 @@ both_is v w (Some (Part.Reach t u)) h = absurd h
 -- the fragment of which both values were told is an equality
 pub both_equal : (p : Path) → IsPath p → (v w : TermId) → p.stage ≡ Both v w → (t : Bare) × (u : Bare) × (slice_get p.cond p.at ≡ Some (Part.Equal t u))
 both_equal p h v w e = both_is v w (slice_get p.cond p.at) (subst (λ k. IsToldOf k (slice_get p.cond p.at)) e h.told)
+
+-- ---- what was told has terms
+
+open_reach : (k : Stage) (o : Option Written.Fragment) (a b t : Bare) → k ≡ Open → o ≡ Some (Part.Reach a b) → term_by k o ≡ Some t → ⊥
+open_reach k o a b t e f h = none_is t (subst (λ z. term_by Open z ≡ Some t) f (subst (λ z. term_by z o ≡ Some t) e h))
+
+pub awaits_reach : (p : Path) (a b : Bare) → p.stage ≡ Open → slice_get p.cond p.at ≡ Some (Part.Reach a b) → AwaitsValue p → ⊥
+awaits_reach p a b e f h = open_reach p.stage (slice_get p.cond p.at) a b h.0 e f h.1
+
+pub awaits_end : (p : Path) → p.stage ≡ Open → slice_get p.cond p.at ≡ None → AwaitsValue p → ⊥
+awaits_end p e f h = none_is h.0 (subst (λ z. term_by Open z ≡ Some h.0) f (subst (λ z. term_by z (slice_get p.cond p.at) ≡ Some h.0) e h.1))
+
+first_is : (v : TermId) (o : Option Written.Fragment) (t : Bare) → term_by (First v) o ≡ Some t → (a : Bare) × (b : Bare) × (o ≡ Some (Part.Equal a b))
+first_is v None t e = absurd (none_is t e)
+first_is v (Some (Part.Equal a b)) t e = (a, b, refl)
+first_is v (Some (Part.Match a b)) t e = absurd (none_is t e)
+first_is v (Some (Part.Sort a b)) t e = absurd (none_is t e)
+first_is v (Some (Part.Reach a b)) t e = absurd (none_is t e)
+
+-- the right side of an equality is awaited
+pub awaits_second : (p : Path) (v : TermId) → p.stage ≡ First v → AwaitsValue p → (a : Bare) × (b : Bare) × (slice_get p.cond p.at ≡ Some (Part.Equal a b))
+awaits_second p v e h = first_is v (slice_get p.cond p.at) h.0 (subst (λ z. term_by z (slice_get p.cond p.at) ≡ Some h.0) e h.1)
+
+-- ---- u in p := u has a value
+
+module _ (p : Path) (w : IsPath p) (v : TermId) (n : ℕ) (e : n ≡ length p.bound) (m : IsMatching (slice_get p.cond p.at)) where
+  abbrev station : Station
+  station = record { at = p.at; value = v; bound = n }
+
+  abbrev Matching : Station → Type 0
+  Matching x = IsMatching (slice_get p.cond x.at)
+
+  pub station_path : IsPath (record { cond = p.cond; bound = p.bound; stations = p.stations; at = p.at; stage = Due station })
+  station_path = record {
+    few = w.few;
+    matching = All-append Matching p.stations (station ∷ []) (all_front Matching p.stations p.stage w.matching) (All-cons Matching station [] m (All-nil Matching));
+    nested = nested_push 0 p.stations station (length p.bound) (subst (λ z. AreNested 0 p.stations z) (sym e) (nested_front 0 p.stations p.stage (length p.bound) w.nested)) less;
+    due = λ z q. ap (λ (k : Station). k.bound) (sym (due_is station z q)) ∙ e;
+    told = tt;
+    over = λ q. absurd (no_due q);
+  }
+    where
+      less : n ≤ length p.bound
+      less = omega (arith, e)
+      no_due : Due station ≡ Failed → ⊥
+      no_due q = cc
+
+  pub station_known : (s : SignatureOf) (nodes : List Node) (table : Table) → IsKnown s nodes table p → IsToldValue s nodes table v →
+      IsKnown s nodes table (record { cond = p.cond; bound = p.bound; stations = p.stations; at = p.at; stage = Due station })
+  station_known s nodes table h k =
+      let Q : Station → Type 0 = λ x. IsToldValue s nodes table x.value in
+      record {
+        fragments = h.fragments;
+        bound = h.bound;
+        stations = All-append Q p.stations (station ∷ []) (all_front Q p.stations p.stage h.stations) (All-cons Q station [] k (All-nil Q));
+        told = tt;
+      }

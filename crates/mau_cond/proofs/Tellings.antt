@@ -66,6 +66,12 @@ matching_is (Some (Part.Match t u)) h = (t, u, refl)
 matching_is (Some (Part.Sort t u)) h = absurd h
 matching_is (Some (Part.Reach t u)) h = absurd h
 
+-- a path that stands at a stage
+pub takes_at : (nodes : List Node) (p new : Path) (k : Stage) (v : Tree) → p.stage ≡ k →
+    TakesValue nodes (record { cond = p.cond; bound = p.bound; stations = p.stations; at = p.at; stage = k }) new v → TakesValue nodes p new v
+takes_at nodes p new k v e h =
+    subst (λ z. TakesValue nodes (record { cond = p.cond; bound = p.bound; stations = p.stations; at = p.at; stage = z }) new v) (sym e) h
+
 -- ---- values
 
 module _ (P : Program) (l : Level) where
