@@ -1,6 +1,7 @@
 -- What the parts of an asking and of a telling do, over plain paths.
-use Rattle.std.proofs.Common.{◌≡◌, ℕ, zero, suc, ◌+◌, ◌≤◌, ◌<◌, List, [], ◌∷◌, ◌++◌, Bool, true, false, Option, Some, None, All, map, take, drop, length, slice_get, refl, sym, ap, ◌∙◌, subst, arith, inl, inr, Result, Ok, Err, IfOk, IfErr}
-use Rattle.std.specs.Prelude.{◌⊎◌}
+use Rattle.std.proofs.Common.{◌≡◌, ℕ, zero, suc, ◌+◌, ◌≤◌, ◌<◌, List, [], ◌∷◌, ◌++◌, Bool, true, false, Option, Some, None, All, map, take, drop, length, slice_get, refl, sym, ap, ◌∙◌, subst, arith, inl, inr, Result, Ok, Err, IfOk, IfErr, eqb, eq-eqb}
+use Rattle.std.specs.Prelude.{◌⊎◌, ◌↔◌, IsTrue, OnErr, is_some}
+use Rattle.std.proofs.lemmas.Bool.{eqb-true}
 use Rattle.std.proofs.lemmas.List.{length-take-le, take-map}
 use Rattle.std.proofs.lemmas.List.Elements.{All-head, All-tail, All-nil, All-cons, All-take, All-append}
 use Rattle.std.proofs.lemmas.Option.{slice_get_past}
@@ -12,18 +13,22 @@ use Rattle.mau_terms.specs.declared.bare.Bare.{Bare}
 use Rattle.mau_terms.specs.declared.ids.VarId.{VarId}
 use Rattle.mau_terms.specs.declared.ids.TermId.{TermId}
 use Rattle.mau_signature.specs.Signature.{SignatureOf, theory_at}
-use Rattle.mau_store.specs.Node.{Node}
+use Rattle.mau_store.specs.Node.{Node, IsOf, AreNodes}
+use Rattle.mau_store.proofs.Numbers.{one_number}
 use Rattle.mau_store.specs.Trees.{tree_at}
 use Rattle.mau_canon.specs.Within.{IsCause}
 use Rattle.mau_canon.specs.declared.fault.BuildFault.{BuildFault}
 use Rattle.mau_canon.specs.declared.fault.BuildFault.TheVariants as Fault
-use Rattle.mau_sorts.specs.Table.{Table}
+use Rattle.mau_sorts.specs.SortSets.{SortsOf, IsIn}
+use Rattle.mau_sorts.specs.Table.{Table, entry_at}
 use Rattle.mau_program.specs.declared.statements.Fragment as Written
 use Rattle.mau_program.specs.declared.statements.Fragment.TheVariants as Part
 use Rattle.mau_evaluation.specs.Run.{Outcome, done, ended, Run, gives, try_on, counted_if, where_true}
 use Rattle.mau_evaluation.specs.Program.{Fragment, equals, matches, has_sort, reaches, Program}
 use Rattle.mau_evaluation.specs.Listing.{Solution, same_tree}
-use Rattle.mau_evaluation.specs.Evaluation.{Binding, Level, look_up, extend}
+use Rattle.mau_evaluation.specs.Evaluation.{Binding, Level, look_up, extend, has_number}
+use Rattle.mau_evaluation.proofs.Still.{same_tree_itself}
+use Rattle.mau_evaluation.proofs.Reduced.{same_tree_true}
 use Rattle.mau_api.specs.Programs.{fragment_of}
 use Rattle.mau_api.specs.Terms.{IsTerm}
 use Rattle.mau_api.specs.Answers.{binding_in, IsFragment, IsValueOf}
@@ -34,11 +39,11 @@ use Rattle.mau_cond.specs.declared.stage.Ask.{Ask}
 use Rattle.mau_cond.specs.declared.stage.Ask.TheVariants.{Evaluate, Match, Holds, Fails}
 use Rattle.mau_cond.specs.Bound.{extended}
 use Rattle.mau_cond.specs.Path.{Path, due_at, all_stations, IsMatching, AreNested, IsPath, IsToldOf, term_by, AwaitsValue, AwaitsSolution, IsOver, IsAnswer, IsNoSolution}
-use Rattle.mau_cond.specs.Meaning.{Left, left_at, total, evaluated, solve_from, with_both, at_stage, at_value, through, whole, whole_with, found, answered, IsEndBy, Goes, Ends, SameWhole}
+use Rattle.mau_cond.specs.Meaning.{Left, left_at, total, evaluated, solve_from, with_first, with_both, at_stage, at_value, through, whole, whole_with, found, answered, IsEndBy, Goes, Ends, SameWhole}
 use Rattle.mau_cond.specs.Known.{IsToldValue, AreToldAt, IsKnown, IsKnownAnswer, IsLevelOf}
 use Rattle.mau_cond.specs.Steps.{opened, failing, decided, IsWaiting, due_ask, IsAnswered}
 use Rattle.mau_cond.proofs.Lists.{take_twice, no_end}
-use Rattle.mau_cond.proofs.Stations.{from_place, from_end, nested_push, nested_pop, nested_more, through_ended, through_some, through_push, through_same, through_evaluated}
+use Rattle.mau_cond.proofs.Stations.{from_place, from_end, nested_push, nested_pop, nested_more, counted_twice, through_ended, through_some, through_push, through_same, through_evaluated}
 use Rattle.mau_cond.proofs.Levels.{level_evaluates, level_refuses, try_refused}
 
 -- ---- lists
@@ -383,14 +388,14 @@ module _ (s : SignatureOf) (nodes : List Node) (table : Table) where
     pub both_awaits : AwaitsValue p → ⊥
     both_awaits a = none_is a.0 (subst (λ k. term_by k (slice_get p.cond p.at) ≡ Some a.0) e a.1)
 
--- a result is Ok and goes over
-pub if_ok : {A E : Type 0} {P Q : A → Type 0} → ((x : A) → P x → Q x) → (r : Result A E) → IfOk r P → IfOk r Q
-if_ok f (Ok x) h = f x h
-if_ok f (Err e) h = tt
+-- a fact goes over from what a result holds
+pub if_ok : {A E : Type 0} (P Q : A → Type 0) → ((x : A) → P x → Q x) → (r : Result A E) → IfOk r P → IfOk r Q
+if_ok P Q f (Ok x) h = f x h
+if_ok P Q f (Err e) h = tt
 
-pub if_err : {A E : Type 0} {P Q : E → Type 0} → ((x : E) → P x → Q x) → (r : Result A E) → IfErr r P → IfErr r Q
-if_err f (Ok x) h = tt
-if_err f (Err e) h = f e h
+pub if_err : {A E : Type 0} (P Q : E → Type 0) → ((x : E) → P x → Q x) → (r : Result A E) → IfErr r P → IfErr r Q
+if_err P Q f (Ok x) h = tt
+if_err P Q f (Err e) h = f e h
 
 both_is : (v w : TermId) (o : Option Written.Fragment) → IsToldOf (Both v w) o → (t : Bare) × (u : Bare) × (o ≡ Some (Part.Equal t u))
 both_is v w None h = absurd h
@@ -459,3 +464,69 @@ module _ (p : Path) (w : IsPath p) (v : TermId) (n : ℕ) (e : n ≡ length p.bo
         stations = All-append Q p.stations (station ∷ []) (all_front Q p.stations p.stage h.stations) (All-cons Q station [] k (All-nil Q));
         told = tt;
       }
+
+-- ---- equal terms
+
+pub numbers_same : (nodes : List Node) → AreNodes nodes → (i j : ℕ) → IsOf nodes i → IsOf nodes j → (w : Bool) → w ≡ eqb i j → w ≡ same_tree (tree_at nodes i) (tree_at nodes j)
+numbers_same nodes are i j h k w e = e ∙ by (eqb i j) refl
+  where
+    other : eqb i j ≡ false → (v : Bool) → same_tree (tree_at nodes i) (tree_at nodes j) ≡ v → false ≡ same_tree (tree_at nodes i) (tree_at nodes j)
+    other f false q = sym q
+    other f true q =
+        let p : true ≡ false = sym (eq-eqb i j (one_number nodes are i j h k (same_tree_true (tree_at nodes i) (tree_at nodes j) q))) ∙ f in cc
+
+    by : (v : Bool) → eqb i j ≡ v → v ≡ same_tree (tree_at nodes i) (tree_at nodes j)
+    by true f = sym (same_tree_itself (tree_at nodes i)) ∙ ap (λ n. same_tree (tree_at nodes i) (tree_at nodes n)) (eqb-true i j f)
+    by false f = other f (same_tree (tree_at nodes i) (tree_at nodes j)) refl
+
+-- ---- t : s is decided
+
+both_ways : (a b : Bool) → (a ≡ true → b ≡ true) → (b ≡ true → a ≡ true) → a ≡ b
+both_ways true b f g = sym (f refl)
+both_ways false true f g = g refl
+both_ways false false f g = refl
+
+pub some_of : {A : Type 0} (o : Option A) → is_some o ≡ true → (x : A) × (o ≡ Some x)
+some_of None e = cc
+some_of (Some x) e = (x, refl)
+
+module _ (s : SignatureOf) (nodes : List Node) (table : Table) (p : Path) (v : TermId) (e : p.stage ≡ First v) (t : Bare) (n : ℕ) (f : slice_get p.cond p.at ≡ Some (Part.Sort t n)) where
+  abbrev stands : Stage → Path
+  stands k = record { cond = p.cond; bound = p.bound; stations = p.stations; at = p.at; stage = k }
+
+  pub sort_same : IsTerm s nodes v.0 → (holds : Bool) (sorts : SortsOf) → entry_at table v.0 ≡ Some sorts → IsTrue holds ↔ IsIn s.hierarchy sorts n → SameOver s nodes table p (decided p holds)
+  sort_same term holds sorts at iff P l of last lefts r b =
+      let c = map fragment_of p.cond in
+      let σ = binding_in nodes p.bound in
+      let k = of.entries v.0 sorts at term in
+      let rest = solve_from P l last (drop (suc p.at) c) σ in
+      let same : has_number k.sorts n ≡ holds = both_ways (has_number k.sorts n) holds (λ h. iff.1 ((k.exact n).1 h)) (λ h. (k.exact n).0 (iff.0 h)) in
+      ap (λ z. whole P l nodes (stands z) last lefts r b) e
+      ∙ (ap (λ z. through P l c σ (p.stations ++ []) lefts (counted_if r (with_first P l last z σ (tree_at nodes v.0) b))) (from_place p.cond p.at (Part.Sort t n) f)
+      ∙ (ap (λ o. through P l c σ (p.stations ++ []) lefts (counted_if r (try_on (λ ss. where_true (has_number ss n) rest) o))) (k.known b)
+      ∙ (ap (through P l c σ (p.stations ++ []) lefts) (counted_twice r 0 (where_true (has_number k.sorts n) rest b))
+      ∙ (ap (λ m. through P l c σ (p.stations ++ []) lefts (counted_if m (where_true (has_number k.sorts n) rest b))) (zero_more r)
+      ∙ (ap (λ z. through P l c σ (p.stations ++ []) lefts (counted_if r (where_true z rest b))) same
+      ∙ by holds)))))
+    where
+      zero_more : (r : ℕ) → r + 0 ≡ r
+      zero_more r = omega arith
+
+      by : (z : Bool) → through P l (map fragment_of p.cond) (binding_in nodes p.bound) (p.stations ++ []) lefts (counted_if r (where_true z (solve_from P l last (drop (suc p.at) (map fragment_of p.cond)) (binding_in nodes p.bound)) b))
+          ≡ whole P l nodes (decided p z) last lefts r b
+      by true = refl
+      by false = refl
+
+  pub sort_stations : (holds : Bool) → all_stations (decided p holds) ≡ all_stations p
+  sort_stations true = ap (λ k. p.stations ++ due_at k) (sym e)
+  sort_stations false = ap (λ k. p.stations ++ due_at k) (sym e)
+
+  pub sort_awaits : AwaitsValue p → ⊥
+  sort_awaits a = none_is a.0 (subst (λ o. term_by (First v) o ≡ Some a.0) f (subst (λ k. term_by k (slice_get p.cond p.at) ≡ Some a.0) e a.1))
+
+-- ---- what stays known
+
+pub known_after : (s : SignatureOf) (nodes : List Node) (table : Table) (q old after : Path) (r : Result Ask BuildFault) → IfOk r (IsAnswered s nodes table q after) → OnErr r (after ≡ old) →
+    IsKnown s nodes table old → IsKnown s nodes table after
+known_after s nodes table q old after (Ok a) h e k = h.known
+known_after s nodes table q old after (Err f) h e k = subst (IsKnown s nodes table) (sym e) k

@@ -107,7 +107,8 @@ impl<'c> CondRun<'c> {
             Stage::Open => self.look(store, sig, sorts, at),
             Stage::First(value) => self.with_first(store, sig, sorts, value),
             Stage::Both(left, right) => self.with_both(store, sig, sorts, left, right),
-            Stage::Due(_) | Stage::Failed => Ok(self.due()),
+            Stage::Due(_) => Ok(self.due()),
+            Stage::Failed => Ok(self.due()),
         }
     }
 
@@ -137,7 +138,7 @@ impl<'c> CondRun<'c> {
         match values {
             Some(told) => self.tell_some(&told),
             None => {
-                self.go_back();
+                self.tell_none();
                 Ok(())
             }
         }

@@ -15,7 +15,7 @@ ghost use Rattle.mau_evaluation.specs.Evaluation.{look_up};
 ghost use Rattle.mau_api.specs.Terms.{IsTerm};
 ghost use Rattle.mau_api.specs.Answers.{binding_in, IsValueOf};
 ghost use Rattle.mau_cond.specs.Path.{IsAnswer, IsAsked, IsNoSolution, AwaitsValue, AwaitsSolution, IsMatching, IsPath, term_by};
-ghost use Rattle.mau_cond.specs.Meaning.{SameWhole, Ends, TakesValue, TakesSolution};
+ghost use Rattle.mau_cond.specs.Meaning.{SameWhole, Ends, TakesValue, TakesSolution, TakesNone};
 ghost use Rattle.mau_cond.specs.Known.{IsKnown, IsToldValue};
 ghost use Rattle.mau_cond.specs.Steps.{opened, failing, decided, due_ask, first_term, IsWaiting, IsAnswered};
 
@@ -95,6 +95,7 @@ impl<'c> CondRun<'c> {
         right: TermId,
     ) -> Result<Ask, BuildFault>
         requires both { self.old.stage ≡ Stage.Both left right }
+        requires path { IsPath self.old }
         requires known { IsKnown sig.now store.old sorts.now self.old }
         ensures answered { IfOk result (IsAnswered sig.now store.new sorts.now self.old self.new) }
         ensures ends { IfErr result (Ends sig.now store.new sorts.now self.old) }
@@ -180,8 +181,18 @@ impl<'c> CondRun<'c> {
         self.due()
     }
 
+    /// No solution is left of the fragment that is due.
+    pub(crate) fn tell_none(&mut self)
+        requires asked { (i : ℕ) × (v : TermId) × AwaitsSolution self.old i v }
+        ensures goes { (nodes : List Node) → TakesNone nodes self.old self.new }
+        ensures known { (s : SignatureOf) (nodes : List Node) (table : Table) → IsKnown s nodes table self.old → IsKnown s nodes table self.new }
+    {
+        let _stage = self.stage;
+        self.go_back();
+    }
+
     /// The latest matching fragment before is due, if there is one.
-    pub(crate) fn go_back(&mut self)
+    fn go_back(&mut self)
         ensures goes { (nodes : List Node) → SameWhole nodes (failing self.old) self.new }
         ensures waits { IsWaiting self.new.stage }
         ensures path { IsPath self.new }

@@ -6,7 +6,7 @@ use Rattle.mau_cond.specs.Path.{Path, IsPath}
 use Rattle.mau_cond.specs.Meaning.{TakesSolution}
 use Rattle.mau_cond.specs.Known.{IsKnown}
 use Rattle.mau_cond.proofs.Pairs.{added}
-use Rattle.mau_cond.proofs.Tellings.{at_path, solution_told, told_path, told_known}
+use Rattle.mau_cond.proofs.Tellings.{solution_told, told_path, told_known}
 use Rattle.mau_cond.proofs.run.CondRun.tell_some.Goals as goal
 
 pub invariant_of-self-in-Ok-push : goal.invariant_of-self-in-Ok-push
