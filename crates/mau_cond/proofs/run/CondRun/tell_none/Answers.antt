@@ -12,8 +12,8 @@ pub returns-clause-goes : goal.returns-clause-goes
 returns-clause-goes c = λ nodes.
     let i = c.self.inside in
     let p = c.args.self.now in
-    let s = c.requires.2.0 in
-    let e = c.requires.2.1 in
+    let s = c.requires.asked.2.0 in
+    let e = c.requires.asked.2.1 in
     let w : IsPath p = subst IsPath c.self.view_is c.self.invariant in
     let at : Stage → Path = λ k. record { cond = p.cond; bound = p.bound; stations = p.stations; at = p.at; stage = k } in
     subst (λ k. TakesNone nodes (at k) c.go_back.new.self) (sym e)
