@@ -1,6 +1,5 @@
 -- The term that is evaluated next, as it is built.
-use Rattle.std.proofs.Common.{◌≡◌, ℕ, List, Option, Some, map, slice_get, refl, sym, ap, ap₂, ◌∙◌, subst}
-use Rattle.mau_terms.specs.Tree.{Tree}
+use Rattle.std.proofs.Common.{◌≡◌, List, Some, map, slice_get, sym, ap, ap₂, ◌∙◌, subst}
 use Rattle.mau_terms.specs.Norm.{norm}
 use Rattle.mau_terms.specs.Bare.{IsBare, IsLawful}
 use Rattle.mau_terms.specs.Reading.{reading}
@@ -11,7 +10,7 @@ use Rattle.mau_terms.specs.declared.ids.VarId.{VarId}
 use Rattle.mau_terms.specs.declared.ids.TermId.{TermId}
 use Rattle.mau_signature.specs.Signature.{SignatureOf, theory_at, terms_over}
 use Rattle.mau_store.specs.Node.{Node, Extends}
-use Rattle.mau_store.specs.Trees.{tree_at, StandsFor}
+use Rattle.mau_store.specs.Trees.{StandsFor}
 use Rattle.mau_canon.specs.Standing.{StandsWithin}
 use Rattle.mau_canon.specs.Within.{IsCause}
 use Rattle.mau_canon.specs.Values.{values_in}

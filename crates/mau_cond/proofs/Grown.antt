@@ -1,5 +1,5 @@
 -- Paths in a store that grows.
-use Rattle.std.proofs.Common.{◌≡◌, ℕ, zero, suc, List, [], ◌∷◌, ◌++◌, Option, Some, All, map, refl, sym, ap, ap₂, ◌∙◌, subst}
+use Rattle.std.proofs.Common.{◌≡◌, ℕ, List, [], ◌∷◌, All, map, refl, sym, ap, ap₂, ◌∙◌, subst}
 use Rattle.std.proofs.lemmas.List.Elements.{All-head, All-tail, All-nil, All-cons}
 use Rattle.mau_terms.specs.Tree.{Tree}
 use Rattle.mau_terms.specs.Bare.{IsBare, IsBareIn}
@@ -9,14 +9,14 @@ use Rattle.mau_terms.specs.View.{variable_of}
 use Rattle.mau_terms.specs.declared.ids.VarId.{VarId}
 use Rattle.mau_terms.specs.declared.ids.TermId.{TermId}
 use Rattle.mau_signature.specs.Signature.{SignatureOf, theory_at, terms_over}
-use Rattle.mau_store.specs.Node.{Node, IsOf, Extends}
+use Rattle.mau_store.specs.Node.{Node, Extends}
 use Rattle.mau_store.specs.Trees.{tree_at}
 use Rattle.mau_store.specs.View.{numbers}
 use Rattle.mau_store.proofs.Standing.{tree_at-extends}
 use Rattle.mau_store.proofs.Growth.{IsOf-extends}
 use Rattle.mau_canon.specs.Standing.{StandsWithin, StandWithin}
 use Rattle.mau_canon.proofs.Standing.{stands_within_extended}
-use Rattle.mau_sorts.specs.Table.{Table, IsSettled, KeepsEntries}
+use Rattle.mau_sorts.specs.Table.{Table, KeepsEntries}
 use Rattle.mau_listing.specs.Asked.{HasEntry}
 use Rattle.mau_listing.proofs.Growth.{settled_kept}
 use Rattle.mau_api.specs.Terms.{IsTerm}

@@ -1,33 +1,26 @@
 -- What a level gives for terms and instances.
-use Rattle.std.proofs.Common.{◌≡◌, ℕ, zero, suc, ◌+◌, ◌<◌, ◌≤◌, List, [], ◌∷◌, ◌++◌, Bool, true, false, if◌then◌else◌, Option, Some, None, All, IsOk, map, length, refl, sym, ap, ap₂, ◌∙◌, subst, arith, le-ltb}
+use Rattle.std.proofs.Common.{◌≡◌, ℕ, ◌+◌, List, [], ◌∷◌, false, if◌then◌else◌, Option, map, refl, sym, ap, ap₂, ◌∙◌, arith, le-ltb}
 use Rattle.std.proofs.lemmas.Bool.{lt-ltb}
-use Rattle.std.proofs.lemmas.List.Elements.{All-head, All-tail, All-nil, All-cons}
 use Rattle.mau_terms.specs.Tree.{Tree}
 use Rattle.mau_terms.specs.Depth.{depth}
 use Rattle.mau_terms.specs.Norm.{norm, holds_overflow}
-use Rattle.mau_terms.specs.Bare.{TermSignature, IsBareIn, IsBare, IsLawful}
-use Rattle.mau_terms.specs.Laws.{AreNorms}
-use Rattle.mau_terms.specs.Subst.{Variable, same_variable, value_at, instance}
+use Rattle.mau_terms.specs.Subst.{Variable, same_variable, instance}
 use Rattle.mau_terms.specs.View.{variable_of}
 use Rattle.mau_terms.specs.declared.ids.VarId.{VarId}
 use Rattle.mau_terms.specs.declared.ids.TermId.{TermId}
 use Rattle.mau_terms.specs.declared.theory.Theory.{Theory}
-use Rattle.mau_signature.specs.Signature.{SignatureOf, theory_at, terms_over}
-use Rattle.mau_store.specs.Node.{Node, Extends}
-use Rattle.mau_store.specs.Trees.{tree_at, trees_at}
-use Rattle.mau_store.specs.View.{numbers}
-use Rattle.mau_canon.specs.Standing.{StandsWithin, StandWithin}
+use Rattle.mau_signature.specs.Signature.{SignatureOf, theory_at}
+use Rattle.mau_store.specs.Node.{Node}
+use Rattle.mau_store.specs.Trees.{tree_at}
 use Rattle.mau_canon.specs.Within.{IsWithin, IsCause}
 use Rattle.mau_canon.specs.Values.{values_in}
 use Rattle.mau_canon.specs.declared.fault.BuildFault.{BuildFault}
 use Rattle.mau_canon.specs.declared.fault.BuildFault.TheVariants as Fault
 use Rattle.mau_sorts.specs.Table.{Table}
-use Rattle.mau_evaluation.specs.Run.{Outcome, done, ended, End, Run, too_deep, overflowed, counted, go_on, try_on, counted_if}
-use Rattle.mau_evaluation.specs.Program.{Program}
-use Rattle.mau_evaluation.specs.Evaluation.{Binding, Level, look_up, admit, admitted, within_limits}
+use Rattle.mau_evaluation.specs.Run.{Outcome, done, ended, Run, counted, go_on, try_on, counted_if}
+use Rattle.mau_evaluation.specs.Evaluation.{Level, look_up, admitted, within_limits}
 use Rattle.mau_evaluation.proofs.BareTerms.{instance_same}
-use Rattle.mau_api.specs.Terms.{IsTerm}
-use Rattle.mau_api.specs.Answers.{binding_in, IsValueOf}
+use Rattle.mau_api.specs.Answers.{binding_in}
 use Rattle.mau_cond.specs.Meaning.{IsEndBy}
 use Rattle.mau_cond.specs.Known.{IsLevelOf}
 

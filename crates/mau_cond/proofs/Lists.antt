@@ -1,5 +1,5 @@
 -- Beginnings of lists.
-use Rattle.std.proofs.Common.{◌≡◌, ℕ, zero, suc, ◌≤◌, List, [], ◌∷◌, ◌++◌, true, false, Some, None, take, length, get_or, slice_get, ltb, refl, sym, ap, ◌∙◌, arith, Bool}
+use Rattle.std.proofs.Common.{◌≡◌, ℕ, zero, suc, ◌≤◌, List, [], ◌∷◌, ◌++◌, true, false, Some, None, take, length, get_or, slice_get, ltb, refl, sym, ap, ◌∙◌, arith}
 use Rattle.std.proofs.lemmas.Bool.{ltb-true, ltb-false}
 use Rattle.std.proofs.lemmas.Option.{slice_get_read, slice_get_past}
 
@@ -26,7 +26,6 @@ take_front (suc n) (x ∷ xs) ys h = ap (λ zs. x ∷ zs) (take_front n xs ys (o
 pub no_end : {A : Type 0} (xs : List A) → xs ++ [] ≡ xs
 no_end [] = refl
 no_end (x ∷ xs) = ap (λ zs. x ∷ zs) (no_end xs)
-
 
 -- an element that was read
 pub read_place : {A : Type 0} (xs : List A) (i : ℕ) (x y : A) → true ≡ ltb i (length xs) → x ≡ get_or xs i x → x ≡ y → slice_get xs i ≡ Some y

@@ -51,7 +51,6 @@ bound_here [] ys x e = refl
 bound_here (z ∷ xs) [] x e = absurd (omega (arith, e))
 bound_here (z ∷ xs) (y ∷ ys) x e = ap (λ b. same_variable (variable_of z) (variable_of x) || b) (bound_here xs ys x (omega (arith, e)))
 
-
 long_end : (bs : List (VarId × TermId)) (b : VarId × TermId) → length (bs ++ b ∷ []) ≡ suc (length bs)
 long_end [] b = refl
 long_end (x ∷ bs) b = ap suc (long_end bs b)
@@ -70,9 +69,10 @@ added (b ∷ more) bs = by (is_bound bs b.0) (added more)
     by false h =
         let q = h (bs ++ b ∷ []) in
         let n = long_end bs b in
-        let less : length bs ≤ length (bs ++ b ∷ []) = omega (arith, n) in
-        (take_less (length bs) (length (bs ++ b ∷ [])) (extended (bs ++ b ∷ []) more) (bs ++ b ∷ []) less (q.0 ∙ sym (take-length (bs ++ b ∷ []))) ∙ take_front (length bs) bs (b ∷ []) refl,
-        omega (arith, less, q.1))
+        let less : length bs ≤ length (bs ++ b ∷ []) = omega (arith, n) in (
+          take_less (length bs) (length (bs ++ b ∷ [])) (extended (bs ++ b ∷ []) more) (bs ++ b ∷ []) less (q.0 ∙ sym (take-length (bs ++ b ∷ []))) ∙ take_front (length bs) bs (b ∷ []) refl,
+          omega (arith, less, q.1),
+        )
 
 pub all_extended : (P : VarId × TermId → Type 0) (more bs : List (VarId × TermId)) → All P bs → All P more → All P (extended bs more)
 all_extended P [] bs h k = h

@@ -1,10 +1,9 @@
 -- A number that is no sort and no kind is in no set.
-use Rattle.std.proofs.Common.{◌≡◌, ℕ, ◌+◌, ◌<◌, ◌≤◌, List, All, subst, arith, inl, inr}
-use Rattle.std.specs.Prelude.{◌⊎◌, Contains}
-use Rattle.mau_poset.specs.Order.{Hierarchy, IsPoset, Leads, kinds, kind_of, IsAtOrBelow}
+use Rattle.std.proofs.Common.{ℕ, ◌+◌, ◌<◌, ◌≤◌, subst, arith, inl, inr}
+use Rattle.mau_poset.specs.Order.{Hierarchy, IsPoset, kinds, IsAtOrBelow}
 use Rattle.mau_poset.proofs.Chains.{Chain-within}
 use Rattle.mau_poset.proofs.Orders.{kind_of-in_range}
-use Rattle.mau_sorts.specs.SortSets.{SortsOf, IsAbove, IsIn, IsOver}
+use Rattle.mau_sorts.specs.SortSets.{SortsOf, IsIn, IsOver}
 
 pub out_of_range : (h : Hierarchy) → IsPoset h → (e : SortsOf) → IsOver h e → (r : ℕ) → h.sorts + kinds h ≤ r → IsIn h e r → ⊥
 out_of_range h poset e over r far (inl (m, at, below)) =

@@ -1,19 +1,17 @@
 -- What comes through matching fragments.
-use Rattle.std.proofs.Common.{◌≡◌, ℕ, zero, suc, ◌+◌, ◌≤◌, List, [], ◌∷◌, ◌++◌, Bool, true, false, Option, Some, None, map, take, drop, length, slice_get, refl, sym, ap, ap₂, ◌∙◌, subst, arith}
-use Rattle.std.proofs.lemmas.List.{length-take-le}
+use Rattle.std.proofs.Common.{◌≡◌, ℕ, zero, suc, ◌+◌, ◌≤◌, List, [], ◌∷◌, ◌++◌, Bool, true, false, Option, Some, None, map, take, drop, length, slice_get, refl, ap, ap₂, ◌∙◌, arith}
 use Rattle.mau_terms.specs.Tree.{Tree}
 use Rattle.mau_terms.specs.Subst.{variables}
-use Rattle.mau_terms.specs.declared.bare.Bare.{Bare}
 use Rattle.mau_program.specs.declared.statements.Fragment as Written
-use Rattle.mau_evaluation.specs.Run.{Outcome, done, ended, End, Run, gives, and_try, try_on, or_go_on, or_else, first_of, where_true, counted_if, choose}
-use Rattle.mau_evaluation.specs.Program.{Fragment, equals, matches, has_sort, reaches, Program}
+use Rattle.mau_evaluation.specs.Run.{Outcome, done, ended, End, Run, and_try, try_on, or_go_on, or_else, first_of, where_true, counted_if, choose}
+use Rattle.mau_evaluation.specs.Program.{Fragment, matches, Program}
 use Rattle.mau_evaluation.specs.Listing.{Solution}
 use Rattle.mau_evaluation.specs.Evaluation.{Binding, Level, have_sorts, extend, own_and_after}
 use Rattle.mau_api.specs.Programs.{fragment_of}
 use Rattle.mau_cond.specs.declared.stage.Station.{Station}
 use Rattle.mau_cond.specs.Path.{AreNested}
 use Rattle.mau_cond.proofs.Lists.{take_less}
-use Rattle.mau_cond.specs.Meaning.{Left, left_at, total, evaluated, AreKnownToHave, AreSorted, no_more, has, lacks, AreSortedFrom, before, here, solve_from, tried, chosen, left_gives, goes_on, through}
+use Rattle.mau_cond.specs.Meaning.{Left, left_at, total, evaluated, AreKnownToHave, AreSorted, no_more, has, lacks, AreSortedFrom, before, here, solve_from, tried, chosen, goes_on, through}
 
 -- ---- the fragments from a place on
 

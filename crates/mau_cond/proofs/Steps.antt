@@ -1,5 +1,5 @@
 -- What the parts of an asking and of a telling do, over plain paths.
-use Rattle.std.proofs.Common.{◌≡◌, ℕ, zero, suc, ◌+◌, ◌≤◌, ◌<◌, List, [], ◌∷◌, ◌++◌, Bool, true, false, Option, Some, None, All, map, take, drop, length, slice_get, refl, sym, ap, ◌∙◌, subst, arith, inl, inr, Result, Ok, Err, IfOk, IfErr, eqb, eq-eqb}
+use Rattle.std.proofs.Common.{◌≡◌, ℕ, suc, ◌+◌, ◌≤◌, List, [], ◌∷◌, ◌++◌, Bool, true, false, Option, Some, None, All, map, take, drop, length, slice_get, refl, sym, ap, ◌∙◌, subst, arith, inl, inr, Result, Ok, Err, IfOk, IfErr, eqb, eq-eqb}
 use Rattle.std.specs.Prelude.{◌⊎◌, ◌↔◌, IsTrue, OnErr, is_some}
 use Rattle.std.proofs.lemmas.Bool.{eqb-true}
 use Rattle.std.proofs.lemmas.List.{length-take-le, take-map}
@@ -7,7 +7,7 @@ use Rattle.std.proofs.lemmas.List.Elements.{All-head, All-tail, All-nil, All-con
 use Rattle.std.proofs.lemmas.Option.{slice_get_past}
 use Rattle.mau_terms.specs.Tree.{Tree}
 use Rattle.mau_terms.specs.Norm.{norm}
-use Rattle.mau_terms.specs.Subst.{Variable, variables, instance}
+use Rattle.mau_terms.specs.Subst.{instance}
 use Rattle.mau_terms.specs.View.{tree_of, variable_of}
 use Rattle.mau_terms.specs.declared.bare.Bare.{Bare}
 use Rattle.mau_terms.specs.declared.ids.VarId.{VarId}
@@ -23,27 +23,26 @@ use Rattle.mau_sorts.specs.SortSets.{SortsOf, IsIn}
 use Rattle.mau_sorts.specs.Table.{Table, entry_at}
 use Rattle.mau_program.specs.declared.statements.Fragment as Written
 use Rattle.mau_program.specs.declared.statements.Fragment.TheVariants as Part
-use Rattle.mau_evaluation.specs.Run.{Outcome, done, ended, Run, gives, try_on, counted_if, where_true}
-use Rattle.mau_evaluation.specs.Program.{Fragment, equals, matches, has_sort, reaches, Program}
-use Rattle.mau_evaluation.specs.Listing.{Solution, same_tree}
-use Rattle.mau_evaluation.specs.Evaluation.{Binding, Level, look_up, extend, has_number}
+use Rattle.mau_evaluation.specs.Run.{Outcome, done, try_on, counted_if, where_true}
+use Rattle.mau_evaluation.specs.Program.{Fragment, equals, matches, has_sort, Program}
+use Rattle.mau_evaluation.specs.Listing.{same_tree}
+use Rattle.mau_evaluation.specs.Evaluation.{Binding, Level, look_up, has_number}
 use Rattle.mau_evaluation.proofs.Still.{same_tree_itself}
 use Rattle.mau_evaluation.proofs.Reduced.{same_tree_true}
 use Rattle.mau_api.specs.Programs.{fragment_of}
 use Rattle.mau_api.specs.Terms.{IsTerm}
-use Rattle.mau_api.specs.Answers.{binding_in, IsFragment, IsValueOf}
+use Rattle.mau_api.specs.Answers.{binding_in, IsValueOf}
 use Rattle.mau_cond.specs.declared.stage.Station.{Station}
 use Rattle.mau_cond.specs.declared.stage.Stage.{Stage}
 use Rattle.mau_cond.specs.declared.stage.Stage.TheVariants.{Open, First, Both, Due, Failed}
 use Rattle.mau_cond.specs.declared.stage.Ask.{Ask}
 use Rattle.mau_cond.specs.declared.stage.Ask.TheVariants.{Evaluate, Match, Holds, Fails}
-use Rattle.mau_cond.specs.Bound.{extended}
-use Rattle.mau_cond.specs.Path.{Path, due_at, all_stations, IsMatching, AreNested, IsPath, IsToldOf, term_by, AwaitsValue, AwaitsSolution, IsOver, IsAnswer, IsNoSolution}
-use Rattle.mau_cond.specs.Meaning.{Left, left_at, total, evaluated, solve_from, with_first, with_both, at_stage, at_value, through, whole, whole_with, found, answered, IsEndBy, Goes, Ends, SameWhole}
-use Rattle.mau_cond.specs.Known.{IsToldValue, AreToldAt, IsKnown, IsKnownAnswer, IsLevelOf}
+use Rattle.mau_cond.specs.Path.{Path, due_at, all_stations, IsMatching, AreNested, IsPath, IsToldOf, term_by, AwaitsValue, AwaitsSolution, IsOver}
+use Rattle.mau_cond.specs.Meaning.{Left, total, evaluated, solve_from, with_first, with_both, at_stage, at_value, through, whole, whole_with, found, answered, IsEndBy, Ends, SameWhole}
+use Rattle.mau_cond.specs.Known.{IsToldValue, IsKnown, IsLevelOf}
 use Rattle.mau_cond.specs.Steps.{opened, failing, decided, IsWaiting, due_ask, IsAnswered}
 use Rattle.mau_cond.proofs.Lists.{take_twice, no_end}
-use Rattle.mau_cond.proofs.Stations.{from_place, from_end, nested_push, nested_pop, nested_more, counted_twice, through_ended, through_some, through_push, through_same, through_evaluated}
+use Rattle.mau_cond.proofs.Stations.{from_place, from_end, nested_push, nested_pop, nested_more, counted_twice, through_ended, through_some, through_same, through_evaluated}
 use Rattle.mau_cond.proofs.Levels.{level_evaluates, level_refuses, try_refused}
 
 -- ---- lists
@@ -315,12 +314,14 @@ module _ (p : Path) (w : IsPath p) where
     where
       open_due : (z : Station) → Open ≡ Due z → ⊥
       open_due z q = cc
+
       open_over : Open ≡ Failed → ⊥
       open_over q = cc
   asked_path i (First v) t e = plain_path i (First v) refl (first_told v (slice_get p.cond i) t e) first_due first_over
     where
       first_due : (z : Station) → First v ≡ Due z → ⊥
       first_due z q = cc
+
       first_over : First v ≡ Failed → ⊥
       first_over q = cc
   asked_path i (Both v u) t e = absurd (none_is t e)
@@ -332,6 +333,7 @@ module _ (p : Path) (w : IsPath p) where
     where
       first_due : (z : Station) → First v ≡ Due z → ⊥
       first_due z q = cc
+
       first_over : First v ≡ Failed → ⊥
       first_over q = cc
 
@@ -451,6 +453,7 @@ module _ (p : Path) (w : IsPath p) (v : TermId) (n : ℕ) (e : n ≡ length p.bo
     where
       less : n ≤ length p.bound
       less = omega (arith, e)
+
       no_due : Due station ≡ Failed → ⊥
       no_due q = cc
 

@@ -1,9 +1,9 @@
 -- What a path has to compute once it was told a value or a solution.
-use Rattle.std.proofs.Common.{◌≡◌, ℕ, zero, suc, ◌+◌, ◌≤◌, List, [], ◌∷◌, ◌++◌, Bool, true, false, if◌then◌else◌, Option, Some, None, All, map, take, drop, length, slice_get, ◌||◌, refl, sym, ap, ◌∙◌, subst, arith}
+use Rattle.std.proofs.Common.{◌≡◌, ℕ, suc, ◌≤◌, List, [], ◌∷◌, ◌++◌, Bool, true, false, if◌then◌else◌, Option, Some, None, All, map, take, drop, length, slice_get, ◌||◌, refl, sym, ap, ◌∙◌, subst, arith}
 use Rattle.std.proofs.Math.Seq.{take-length}
 use Rattle.std.proofs.lemmas.List.{take-map}
 use Rattle.mau_terms.specs.Tree.{Tree}
-use Rattle.mau_terms.specs.Subst.{Variable, variables, same_variable}
+use Rattle.mau_terms.specs.Subst.{variables, same_variable}
 use Rattle.mau_terms.specs.View.{tree_of, variable_of}
 use Rattle.mau_terms.specs.declared.bare.Bare.{Bare}
 use Rattle.mau_terms.specs.declared.ids.VarId.{VarId}
@@ -14,8 +14,8 @@ use Rattle.mau_store.specs.Trees.{tree_at}
 use Rattle.mau_sorts.specs.Table.{Table}
 use Rattle.mau_program.specs.declared.statements.Fragment as Written
 use Rattle.mau_program.specs.declared.statements.Fragment.TheVariants as Part
-use Rattle.mau_evaluation.specs.Run.{Outcome, done, ended, Run, gives, counted_if, or_go_on, first_of}
-use Rattle.mau_evaluation.specs.Program.{Fragment, equals, matches, has_sort, reaches, Program}
+use Rattle.mau_evaluation.specs.Run.{done, counted_if}
+use Rattle.mau_evaluation.specs.Program.{Fragment, matches, Program}
 use Rattle.mau_evaluation.specs.Listing.{Solution, keep, solutions}
 use Rattle.mau_evaluation.specs.Evaluation.{Binding, Level, extend, binds, agree}
 use Rattle.mau_api.specs.Programs.{fragment_of}
@@ -24,14 +24,14 @@ use Rattle.mau_cond.specs.declared.stage.Station.{Station}
 use Rattle.mau_cond.specs.declared.stage.Stage.{Stage}
 use Rattle.mau_cond.specs.declared.stage.Stage.TheVariants.{Open, First, Both, Due, Failed}
 use Rattle.mau_cond.specs.Bound.{is_bound, extended}
-use Rattle.mau_cond.specs.Path.{Path, due_at, all_stations, IsMatching, AreNested, IsPath, term_by, AwaitsValue}
-use Rattle.mau_cond.specs.Meaning.{Left, left_at, AreTaken, solve_from, matched, with_first, tried, chosen, left_gives, goes_on, through, whole, LeftAfter, IsTold, SameWhole, TakesValue, TakesSolution, TakesNone}
+use Rattle.mau_cond.specs.Path.{Path, IsMatching, AreNested, IsPath}
+use Rattle.mau_cond.specs.Meaning.{Left, left_at, AreTaken, solve_from, matched, with_first, tried, chosen, goes_on, through, whole, LeftAfter, IsTold, SameWhole, TakesValue, TakesSolution, TakesNone}
 use Rattle.mau_cond.specs.Known.{IsToldValue, IsKnown}
 use Rattle.mau_cond.specs.Steps.{failing}
-use Rattle.mau_cond.proofs.Lists.{take_less, no_end}
+use Rattle.mau_cond.proofs.Lists.{no_end}
 use Rattle.mau_cond.proofs.Pairs.{added, all_extended}
-use Rattle.mau_cond.proofs.Stations.{from_place, nested_push, nested_pop, nested_more, through_push, through_same, one_told, chosen_sorted, chosen_from}
-use Rattle.mau_cond.proofs.Steps.{all_front, all_same, all_last, nested_front}
+use Rattle.mau_cond.proofs.Stations.{from_place, nested_push, nested_pop, through_push, through_same, one_told, chosen_sorted, chosen_from}
+use Rattle.mau_cond.proofs.Steps.{all_last}
 
 -- ---- bindings
 
@@ -156,10 +156,10 @@ module _ (nodes : List Node) (cond : List Written.Fragment) (bound : List (VarId
         let o = tried P l last p rest σ x b in
         let whole_bound = binding_all nodes s.bound bound (w.due s refl) in
         let same : τ ≡ extend σ (variables p) x.values =
-            ap (binding_in nodes) e ∙ (extended_is nodes told bound ∙ (ap (λ ys. extend σ ys (map (λ y. tree_at nodes y.1.0) told)) k.0 ∙ ap (extend σ (variables p)) k.1)) in
+        ap (binding_in nodes) e ∙ (extended_is nodes told bound ∙ (ap (λ ys. extend σ ys (map (λ y. tree_at nodes y.1.0) told)) k.0 ∙ ap (extend σ (variables p)) k.1)) in
         let front : take s.bound τ ≡ σ =
-            take-map (λ y. (variable_of y.0, tree_at nodes y.1.0)) s.bound bound'
-            ∙ ap (binding_in nodes) (ap (take s.bound) e ∙ (ap (λ n. take n (extended bound told)) (w.due s refl) ∙ (added told bound).0)) in
+        take-map (λ y. (variable_of y.0, tree_at nodes y.1.0)) s.bound bound'
+        ∙ ap (binding_in nodes) (ap (take s.bound) e ∙ (ap (λ n. take n (extended bound told)) (w.due s refl) ∙ (added told bound).0)) in
         through_push P l c σ ss lefts s L (done None 0 b) h
         ∙ (ap (λ z. through P l c σ ss lefts (goes_on P l z (take s.bound σ) L (done None 0 b))) place
         ∙ (ap (λ z. through P l c σ ss lefts (goes_on P l (matches p u ∷ rest) z L (done None 0 b))) whole_bound
@@ -185,7 +185,7 @@ module _ (nodes : List Node) (cond : List Written.Fragment) (bound : List (VarId
         IsPath (record { cond = cond; bound = bound'; stations = ss'; at = j; stage = Open })
     told_path told bound' ss' j e f =
         let more : s.bound ≤ length bound' =
-            let q = (added told bound).1 in let m = nested.1 in let n : length (extended bound told) ≡ length bound' = ap length (sym e) in omega (arith, q, m, n) in
+        let q = (added told bound).1 in let m = nested.1 in let n : length (extended bound told) ≡ length bound' = ap length (sym e) in omega (arith, q, m, n) in
         record {
           few = w.few;
           matching = subst (All (λ (x : Station). IsMatching (slice_get cond x.at))) (sym (no_end ss' ∙ f)) w.matching;
@@ -197,6 +197,7 @@ module _ (nodes : List Node) (cond : List Written.Fragment) (bound : List (VarId
       where
         open_due : (z : Station) → Open ≡ Due z → ⊥
         open_due z q = cc
+
         open_over : Open ≡ Failed → ⊥
         open_over q = cc
 

@@ -1,6 +1,5 @@
 -- Variables with their values, in two lists.
-use Rattle.std.specs.Prelude.{◌≡◌, ℕ, List, [], ◌∷◌, ◌++◌, length, Bool, true, false, ◌||◌, if◌then◌else◌}
-use Rattle.std.specs.List.{zip}
+use Rattle.std.specs.Prelude.{List, [], ◌∷◌, ◌++◌, Bool, false, ◌||◌, if◌then◌else◌}
 use Rattle.mau_terms.specs.Subst.{same_variable}
 use Rattle.mau_terms.specs.View.{variable_of}
 use Rattle.mau_terms.specs.declared.ids.VarId.{VarId}

@@ -1,15 +1,14 @@
 -- What the parts of an asking do.
-use Rattle.std.specs.Prelude.{◌≡◌, ℕ, suc, List, Bool, true, false, Option, Some, None}
+use Rattle.std.specs.Prelude.{◌≡◌, ℕ, suc, List, Bool, true, false, Option, Some}
 use Rattle.mau_terms.specs.declared.bare.Bare.{Bare}
 use Rattle.mau_signature.specs.Signature.{SignatureOf}
 use Rattle.mau_store.specs.Node.{Node}
 use Rattle.mau_sorts.specs.Table.{Table}
 use Rattle.mau_program.specs.declared.statements.Fragment.{Fragment}
-use Rattle.mau_cond.specs.declared.stage.Station.{Station}
 use Rattle.mau_cond.specs.declared.stage.Stage.{Stage}
 use Rattle.mau_cond.specs.declared.stage.Stage.TheVariants.{Open, First, Both, Due, Failed}
 use Rattle.mau_cond.specs.declared.stage.Ask.{Ask}
-use Rattle.mau_cond.specs.declared.stage.Ask.TheVariants.{Evaluate, Match, Holds, Fails}
+use Rattle.mau_cond.specs.declared.stage.Ask.TheVariants.{Match, Fails}
 use Rattle.mau_cond.specs.Path.{Path, term_by, AwaitsValue, IsAnswer, IsNoSolution}
 use Rattle.mau_cond.specs.Meaning.{Goes}
 use Rattle.mau_cond.specs.Known.{IsKnown, IsKnownAnswer}

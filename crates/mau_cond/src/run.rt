@@ -57,7 +57,11 @@ const MAX_FRAGMENTS: usize = 4_294_967_295;
 impl<'c> CondRun<'c> {
     /// A run of a condition under some values of its variables. It still has to compute the first solution, or the first one behind a
     /// solution that was found earlier. A condition with more fragments than can be numbered doesn't fit into memory.
-    pub fn start(alloc: Global, cond: &'c [Fragment], bound: &[(VarId, TermId)]) -> Result<CondRun<'c>, NoMemory>
+    pub fn start(
+        alloc: Global,
+        cond: &'c [Fragment],
+        bound: &[(VarId, TermId)],
+    ) -> Result<CondRun<'c>, NoMemory>
         ensures starts { (P : Program) (l : Level) (nodes : List Node) (last : Option Binding) (r b : ℕ) → IfOk result (λ run.
             whole P l nodes run last [] r b ≡ counted_if r (solve_from P l last (map fragment_of cond.now) (binding_in nodes bound.now) b)) }
         ensures none { IfOk result (λ run. run.stations ≡ []) }

@@ -147,7 +147,13 @@ impl<'c> CondRun<'c> {
         ensures extends { Extends store.old store.new }
     {
         let _operators = sig.operators();
-        match build_instance(store, sig, term, self.bound.variables(), self.bound.values()) {
+        match build_instance(
+            store,
+            sig,
+            term,
+            self.bound.variables(),
+            self.bound.values(),
+        ) {
             Ok(id) => {
                 self.at = at;
                 self.stage = stage;

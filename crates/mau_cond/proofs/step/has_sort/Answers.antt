@@ -1,4 +1,4 @@
-use Rattle.std.proofs.Common.{◌≡◌, ◌+◌, ◌≤◌, false, true, arith, subst, sym}
+use Rattle.std.proofs.Common.{◌≡◌, ◌+◌, ◌≤◌, false, true, arith, subst}
 use Rattle.mau_poset.specs.Order.{kinds, IsPoset}
 use Rattle.mau_cond.proofs.Ranges.{out_of_range}
 use Rattle.mau_cond.proofs.step.has_sort.Goals as goal

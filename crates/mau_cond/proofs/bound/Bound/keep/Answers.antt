@@ -1,4 +1,4 @@
-use Rattle.std.proofs.Common.{◌∙◌, ap, ap₂, sym, take}
+use Rattle.std.proofs.Common.{◌∙◌, ap, ap₂, take}
 use Rattle.std.specs.List.{zip}
 use Rattle.mau_cond.proofs.Pairs.{zipped_take}
 use Rattle.mau_cond.proofs.bound.Bound.keep.Goals as goal

@@ -1,6 +1,6 @@
-use Rattle.std.proofs.Common.{true, false, sym, subst}
+use Rattle.std.proofs.Common.{sym, subst}
 use Rattle.mau_cond.specs.Known.{IsKnown}
-use Rattle.mau_cond.specs.Steps.{decided, failing, opened, IsAnswered}
+use Rattle.mau_cond.specs.Steps.{decided, IsAnswered}
 use Rattle.mau_cond.proofs.run.CondRun.decide.Goals as goal
 
 pub look-requires : goal.look-requires

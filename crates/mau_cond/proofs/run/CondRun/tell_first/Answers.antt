@@ -1,4 +1,4 @@
-use Rattle.std.proofs.Common.{◌≡◌, Some, None, slice_get, sym, ap, ◌∙◌, subst}
+use Rattle.std.proofs.Common.{◌≡◌, Some, slice_get, sym, ap, ◌∙◌, subst}
 use Rattle.mau_store.specs.Trees.{tree_at}
 use Rattle.mau_program.specs.declared.statements.Fragment.TheVariants as Part
 use Rattle.mau_cond.specs.declared.stage.Stage.TheVariants.{Open, First, Due}

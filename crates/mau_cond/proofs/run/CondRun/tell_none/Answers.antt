@@ -1,9 +1,7 @@
-use Rattle.std.proofs.Common.{◌≡◌, sym, ap, ◌∙◌, subst}
+use Rattle.std.proofs.Common.{sym, subst}
 use Rattle.mau_cond.specs.declared.stage.Stage.{Stage}
-use Rattle.mau_cond.specs.declared.stage.Stage.TheVariants.{Due}
 use Rattle.mau_cond.specs.Path.{Path, IsPath}
-use Rattle.mau_cond.specs.Meaning.{TakesNone, SameWhole}
-use Rattle.mau_cond.specs.Steps.{failing}
+use Rattle.mau_cond.specs.Meaning.{TakesNone}
 use Rattle.mau_cond.proofs.Steps.{known_failing}
 use Rattle.mau_cond.proofs.Tellings.{none_told}
 use Rattle.mau_cond.proofs.run.CondRun.tell_none.Goals as goal

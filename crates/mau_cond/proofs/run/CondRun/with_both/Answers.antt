@@ -1,4 +1,4 @@
-use Rattle.std.proofs.Common.{◌≡◌, sym, ap, ap₂, ◌∙◌, subst}
+use Rattle.std.proofs.Common.{◌≡◌, sym, ap₂, ◌∙◌, subst}
 use Rattle.std.proofs.lemmas.Option.{slice_get_within}
 use Rattle.mau_program.specs.declared.statements.Fragment.TheVariants as Part
 use Rattle.mau_store.specs.Trees.{tree_at}
@@ -30,8 +30,8 @@ returns-clause-answered c =
     let there = told.0.0.within.there in
     let here = told.1.0.within.there in
     let holds : c.eq.result ≡ same_tree (tree_at new v.0) (tree_at new w.0) =
-        numbers_same old c.len-nodes.ensures.nodes v.0 w.0 there here c.eq.result c.eq.ensures
-        ∙ sym (ap₂ same_tree (tree_at-extends old new v.0 c.decide.ensures.extends there) (tree_at-extends old new w.0 c.decide.ensures.extends here)) in
+    numbers_same old c.len-nodes.ensures.nodes v.0 w.0 there here c.eq.result c.eq.ensures
+    ∙ sym (ap₂ same_tree (tree_at-extends old new v.0 c.decide.ensures.extends there) (tree_at-extends old new w.0 c.decide.ensures.extends here)) in
     if_ok (IsAnswered s new table (decided p c.eq.result) c.decide.new.self) (IsAnswered s new table p c.decide.new.self)
     (λ a h. answered_as s new table p (decided p c.eq.result) c.decide.new.self a (both_same s new table p v w c.requires.both f.0 f.1 f.2 c.eq.result holds)
     (both_stations s new table p v w c.requires.both f.0 f.1 f.2 c.eq.result) (both_awaits s new table p v w c.requires.both f.0 f.1 f.2) h)
@@ -51,7 +51,7 @@ returns-clause-ends c =
     let there = told.0.0.within.there in
     let here = told.1.0.within.there in
     let holds : c.eq.result ≡ same_tree (tree_at new v.0) (tree_at new w.0) =
-        numbers_same old c.len-nodes.ensures.nodes v.0 w.0 there here c.eq.result c.eq.ensures
-        ∙ sym (ap₂ same_tree (tree_at-extends old new v.0 c.decide.ensures.extends there) (tree_at-extends old new w.0 c.decide.ensures.extends here)) in
+    numbers_same old c.len-nodes.ensures.nodes v.0 w.0 there here c.eq.result c.eq.ensures
+    ∙ sym (ap₂ same_tree (tree_at-extends old new v.0 c.decide.ensures.extends there) (tree_at-extends old new w.0 c.decide.ensures.extends here)) in
     if_err (Ends s new table (decided p c.eq.result)) (Ends s new table p)
     (λ e h. ends_as s new table p (decided p c.eq.result) e (both_same s new table p v w c.requires.both f.0 f.1 f.2 c.eq.result holds) h) c.decide.result c.decide.ensures.ends

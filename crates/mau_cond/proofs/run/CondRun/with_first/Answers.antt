@@ -1,4 +1,4 @@
-use Rattle.std.proofs.Common.{◌≡◌, Some, slice_get, sym, ap, ◌∙◌, subst}
+use Rattle.std.proofs.Common.{◌≡◌, Some, slice_get, ap, ◌∙◌, subst}
 use Rattle.mau_program.specs.declared.statements.Fragment.TheVariants as Part
 use Rattle.mau_sorts.proofs.Settling.{kept_same}
 use Rattle.mau_cond.specs.declared.stage.Stage.TheVariants.{First}
@@ -37,7 +37,7 @@ returns-in-Some-Sort-clause-answered c =
     let i = c.self.inside in
     let f = c.in-Some-Sort in
     let read : slice_get p.cond p.at ≡ Some (Part.Sort f.field-0-0 f.sort) =
-        subst (λ (z : Path). slice_get z.cond z.at ≡ Some (Part.Sort f.field-0-0 f.sort)) c.self.view_is (read_place i.cond.now i.at f.field-0.now (Part.Sort f.field-0-0 f.sort) f.ensures.lookup.0 f.ensures.lookup.1 f.field-0-is) in
+    subst (λ (z : Path). slice_get z.cond z.at ≡ Some (Part.Sort f.field-0-0 f.sort)) c.self.view_is (read_place i.cond.now i.at f.field-0.now (Part.Sort f.field-0-0 f.sort) f.ensures.lookup.0 f.ensures.lookup.1 f.field-0-is) in
     let told = subst (AreToldAt s new table) c.requires.first (known_grown s c.args.store.now new table table c.decide.ensures.extends (kept_same table) p c.requires.known).told in
     let entry = some_of _ told.1 in
     if_ok (IsAnswered s new table (decided p c.has_sort-holds.result) c.decide.new.self) (IsAnswered s new table p c.decide.new.self)
@@ -56,7 +56,7 @@ returns-in-Some-Sort-clause-ends c =
     let i = c.self.inside in
     let f = c.in-Some-Sort in
     let read : slice_get p.cond p.at ≡ Some (Part.Sort f.field-0-0 f.sort) =
-        subst (λ (z : Path). slice_get z.cond z.at ≡ Some (Part.Sort f.field-0-0 f.sort)) c.self.view_is (read_place i.cond.now i.at f.field-0.now (Part.Sort f.field-0-0 f.sort) f.ensures.lookup.0 f.ensures.lookup.1 f.field-0-is) in
+    subst (λ (z : Path). slice_get z.cond z.at ≡ Some (Part.Sort f.field-0-0 f.sort)) c.self.view_is (read_place i.cond.now i.at f.field-0.now (Part.Sort f.field-0-0 f.sort) f.ensures.lookup.0 f.ensures.lookup.1 f.field-0-is) in
     let told = subst (AreToldAt s new table) c.requires.first (known_grown s c.args.store.now new table table c.decide.ensures.extends (kept_same table) p c.requires.known).told in
     let entry = some_of _ told.1 in
     if_err (Ends s new table (decided p c.has_sort-holds.result)) (Ends s new table p)
