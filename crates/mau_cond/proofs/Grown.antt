@@ -1,5 +1,5 @@
 -- Paths in a store that grows.
-use Rattle.std.proofs.Common.{◌≡◌, ℕ, List, [], ◌∷◌, All, map, refl, sym, ap, ap₂, ◌∙◌, subst}
+use Rattle.std.proofs.Common.{◌≡◌, ℕ, List, [], ◌∷◌, ◌++◌, Option, All, map, drop, refl, sym, ap, ap₂, ◌∙◌, subst}
 use Rattle.std.proofs.lemmas.List.Elements.{All-head, All-tail, All-nil, All-cons}
 use Rattle.mau_terms.specs.Tree.{Tree}
 use Rattle.mau_terms.specs.Bare.{IsBare, IsBareIn}
@@ -17,15 +17,21 @@ use Rattle.mau_store.proofs.Growth.{IsOf-extends}
 use Rattle.mau_canon.specs.Standing.{StandsWithin, StandWithin}
 use Rattle.mau_canon.proofs.Standing.{stands_within_extended}
 use Rattle.mau_sorts.specs.Table.{Table, KeepsEntries}
+use Rattle.mau_sorts.proofs.Settling.{kept_same}
+use Rattle.mau_evaluation.specs.Run.{done, Run, counted_if}
+use Rattle.mau_evaluation.specs.Program.{Fragment, Program}
+use Rattle.mau_evaluation.specs.Evaluation.{Binding, Level}
 use Rattle.mau_listing.specs.Asked.{HasEntry}
 use Rattle.mau_listing.proofs.Growth.{settled_kept}
+use Rattle.mau_api.specs.Programs.{fragment_of}
 use Rattle.mau_api.specs.Terms.{IsTerm}
 use Rattle.mau_api.specs.Answers.{binding_in, IsValueOf}
 use Rattle.mau_cond.specs.declared.stage.Station.{Station}
 use Rattle.mau_cond.specs.declared.stage.Stage.{Stage}
 use Rattle.mau_cond.specs.declared.stage.Stage.TheVariants.{Open, First, Both, Due, Failed}
 use Rattle.mau_cond.specs.Path.{Path, all_stations}
-use Rattle.mau_cond.specs.Known.{IsToldValue, AreToldAt, IsKnown}
+use Rattle.mau_cond.specs.Meaning.{Left, with_first, with_both, at_stage, at_value, through, whole, whole_with}
+use Rattle.mau_cond.specs.Known.{IsToldValue, AreToldAt, IsKnown, IsLevelOf}
 
 pub each : {A : Type 0} (P Q : A → Type 0) → ((x : A) → P x → Q x) → (xs : List A) → All P xs → All Q xs
 each P Q f xs h k d lt = f _ (h k d lt)
@@ -87,3 +93,52 @@ module _ (s : SignatureOf) (nodes : List Node) (table : Table) where
   values_stand (b ∷ bound) h =
       All-cons (StandsWithin (theory_at s) nodes) b.1.0 (numbers (map (λ (x : VarId × TermId). x.1) bound)) (All-head (IsValueOf s nodes table) b bound h).term.within
       (values_stand bound (All-tail (IsValueOf s nodes table) b bound h))
+
+-- what a path has to compute stays the same in a store that grows
+module _ (s : SignatureOf) (old new : List Node) (table : Table) (extends : Extends old new) (p : Path) (known : IsKnown s old table p) where
+  same_tree_at : (v : TermId) → IsToldValue s old table v → tree_at new v.0 ≡ tree_at old v.0
+  same_tree_at v h = tree_at-extends old new v.0 extends h.0.within.there
+
+  same_stage : (P : Program) (l : Level) (last : Option Binding) (c : List Fragment) (σ : Binding) (k : Stage) → AreToldAt s old table k → at_stage P l last c σ (tree_at new) k ≡ at_stage P l last c σ (tree_at old) k
+  same_stage P l last c σ Open h = refl
+  same_stage P l last c σ (First v) h = ap (with_first P l last c σ) (same_tree_at v h)
+  same_stage P l last c σ (Both v w) h = ap₂ (with_both P l last c σ) (same_tree_at v h.0) (same_tree_at w h.1)
+  same_stage P l last c σ (Due k) h = refl
+  same_stage P l last c σ Failed h = refl
+
+  same_value : (P : Program) (l : Level) (last : Option Binding) (c : List Fragment) (σ : Binding) (k : Stage) (u : Tree) → AreToldAt s old table k →
+      at_value P l last c σ (tree_at new) k u ≡ at_value P l last c σ (tree_at old) k u
+  same_value P l last c σ Open u h = refl
+  same_value P l last c σ (First v) u h = ap (λ t. with_both P l last c σ t u) (same_tree_at v h)
+  same_value P l last c σ (Both v w) u h = refl
+  same_value P l last c σ (Due k) u h = refl
+  same_value P l last c σ Failed u h = refl
+
+  same_bound : binding_in new p.bound ≡ binding_in old p.bound
+  same_bound = bound_grown s old new table table extends (kept_same table) p.bound known.bound
+
+  pub whole_grown : (P : Program) (l : Level) (last : Option Binding) (lefts : List Left) (r b : ℕ) → whole P l new p last lefts r b ≡ whole P l old p last lefts r b
+  whole_grown P l last lefts r b =
+      let c = map fragment_of p.cond in
+      ap (λ σ. through P l c σ (all_stations p) lefts (counted_if r (at_stage P l last (drop p.at c) σ (tree_at new) p.stage b))) same_bound
+      ∙ ap (λ (f : Run (Option Binding)). through P l c (binding_in old p.bound) (all_stations p) lefts (counted_if r (f b))) (same_stage P l last (drop p.at c) (binding_in old p.bound) p.stage known.told)
+
+  pub whole_with_grown : (P : Program) (l : Level) (last : Option Binding) (lefts : List Left) (r : ℕ) (u : Tree) (b : ℕ) → whole_with P l new p last lefts r u b ≡ whole_with P l old p last lefts r u b
+  whole_with_grown P l last lefts r u b =
+      let c = map fragment_of p.cond in
+      ap (λ σ. through P l c σ (all_stations p) lefts (counted_if r (at_value P l last (drop p.at c) σ (tree_at new) p.stage u b))) same_bound
+      ∙ ap (λ (f : Run (Option Binding)). through P l c (binding_in old p.bound) (all_stations p) lefts (counted_if r (f b))) (same_value P l last (drop p.at c) (binding_in old p.bound) p.stage u known.told)
+
+-- a level of what has grown is one of what was before
+pub level_before : (s : SignatureOf) (old new : List Node) (before after : Table) → Extends old new → KeepsEntries before after → (l : Level) → IsLevelOf s new after l → IsLevelOf s old before l
+level_before s old new before after extends kept l of = record {
+  admits = of.admits;
+  entries = λ i e at term.
+      let h = of.entries i e (kept.entries i e at) (term_grown s old new before after extends kept i term) in
+      let same = tree_at-extends old new i extends term.within.there in
+      record {
+        sorts = h.sorts;
+        known = subst (λ t. (b : ℕ) → l.sorts t b ≡ done h.sorts 0 b) same h.known;
+        exact = h.exact;
+      };
+}

@@ -1,6 +1,6 @@
 -- What the parts of an asking and of a telling do, over plain paths.
 use Rattle.std.proofs.Common.{◌≡◌, ℕ, suc, ◌+◌, ◌≤◌, List, [], ◌∷◌, ◌++◌, Bool, true, false, Option, Some, None, All, map, take, drop, length, slice_get, refl, sym, ap, ◌∙◌, subst, arith, inl, inr, Result, Ok, Err, IfOk, IfErr, eqb, eq-eqb}
-use Rattle.std.specs.Prelude.{◌⊎◌, ◌↔◌, IsTrue, OnErr, is_some}
+use Rattle.std.specs.Prelude.{◌⊎◌, ◌↔◌, IsTrue, OnErr, OnOk, is_some}
 use Rattle.std.proofs.lemmas.Bool.{eqb-true}
 use Rattle.std.proofs.lemmas.List.{length-take-le, take-map}
 use Rattle.std.proofs.lemmas.List.Elements.{All-head, All-tail, All-nil, All-cons, All-take, All-append}
@@ -153,20 +153,23 @@ module _ (s : SignatureOf) (nodes : List Node) (table : Table) where
       IsPath (record { cond = cond; bound = bound; stations = ss; at = i; stage = k }) → IsWaiting k →
       SameWhole nodes before (record { cond = cond; bound = bound; stations = ss; at = i; stage = k }) →
       IsKnown s nodes table (record { cond = cond; bound = bound; stations = ss; at = i; stage = k }) → (AwaitsValue before → ⊥) →
+      ss ++ due_at k ≡ all_stations before →
       IsAnswered s nodes table before (record { cond = cond; bound = bound; stations = ss; at = i; stage = k }) (due_ask k)
-  due_answered before cond bound ss i Open w h same known none = absurd h
-  due_answered before cond bound ss i (First v) w h same known none = absurd h
-  due_answered before cond bound ss i (Both v u) w h same known none = absurd h
-  due_answered before cond bound ss i (Due z) w h same known none = record {
+  due_answered before cond bound ss i Open w h same known none st = absurd h
+  due_answered before cond bound ss i (First v) w h same known none st = absurd h
+  due_answered before cond bound ss i (Both v u) w h same known none st = absurd h
+  due_answered before cond bound ss i (Due z) w h same known none st = record {
     goes = λ P l of last lefts r b. same P l last lefts r b;
     asked = ((z, refl, refl, refl), all_last (λ (x : Station). IsMatching (slice_get cond x.at)) ss z w.matching);
+    stations = st;
     known = known;
     given = all_last (λ (x : Station). IsToldValue s nodes table x.value) ss z known.stations;
     again = λ a. absurd (none a);
   }
-  due_answered before cond bound ss i Failed w h same known none = record {
+  due_answered before cond bound ss i Failed w h same known none st = record {
     goes = λ P l of last lefts r b. same P l last lefts r b ∙ ap (λ z. through P l (map fragment_of cond) (binding_in nodes bound) (z ++ []) lefts (done None 0 b)) (w.over refl);
     asked = refl;
+    stations = st;
     known = known;
     given = tt;
     again = λ a. absurd (none a);
@@ -266,6 +269,7 @@ module _ (s : SignatureOf) (nodes : List Node) (table : Table) (q : Path) (t : B
         ∙ (through_evaluated P l c σ (all_stations q) lefts r (at_value P l last (drop q.at c) σ (tree_at nodes) q.stage) (l.eval built b)
         ∙ ap (evaluated (λ v n. whole_with P l nodes q last lefts (r + n) v)) (level_evaluates s nodes table l of built (tree_at nodes id.0) same term.within.within b));
     asked = (t, e);
+    stations = refl;
     known = known;
     given = term;
     again = λ a. (refl, tt);
@@ -357,6 +361,7 @@ module _ (s : SignatureOf) (nodes : List Node) (table : Table) where
   answered_as p q new a same e none h = record {
     goes = λ P l of last lefts r b. same P l of last lefts r b ∙ (h.goes P l of last lefts r b ∙ answered_same P l p q new a e last lefts r b);
     asked = h.asked;
+    stations = h.stations ∙ e;
     known = h.known;
     given = h.given;
     again = λ w. absurd (none w);
@@ -533,3 +538,8 @@ pub known_after : (s : SignatureOf) (nodes : List Node) (table : Table) (q old a
     IsKnown s nodes table old → IsKnown s nodes table after
 known_after s nodes table q old after (Ok a) h e k = h.known
 known_after s nodes table q old after (Err f) h e k = subst (IsKnown s nodes table) (sym e) k
+
+pub stations_after : (s : SignatureOf) (nodes : List Node) (table : Table) (q old after : Path) (r : Result Ask BuildFault) → all_stations q ≡ all_stations old → IfOk r (IsAnswered s nodes table q after) →
+    OnOk r (all_stations after ≡ all_stations old)
+stations_after s nodes table q old after (Ok a) e h = h.stations ∙ e
+stations_after s nodes table q old after (Err f) e h = tt

@@ -9,7 +9,7 @@ use Rattle.mau_cond.specs.declared.stage.Stage.{Stage}
 use Rattle.mau_cond.specs.declared.stage.Stage.TheVariants.{Open, First, Both, Due, Failed}
 use Rattle.mau_cond.specs.declared.stage.Ask.{Ask}
 use Rattle.mau_cond.specs.declared.stage.Ask.TheVariants.{Match, Fails}
-use Rattle.mau_cond.specs.Path.{Path, term_by, AwaitsValue, IsAnswer, IsNoSolution}
+use Rattle.mau_cond.specs.Path.{Path, all_stations, term_by, AwaitsValue, IsAnswer, IsNoSolution}
 use Rattle.mau_cond.specs.Meaning.{Goes}
 use Rattle.mau_cond.specs.Known.{IsKnown, IsKnownAnswer}
 
@@ -47,6 +47,7 @@ first_term f = term_by Open (Some f)
 pub record IsAnswered (s : SignatureOf) (nodes : List Node) (table : Table) (before after : Path) (answer : Ask) : Type 0 where
   pub goes : Goes s nodes table before after answer
   pub asked : IsAnswer after answer
+  pub stations : all_stations after ≡ all_stations before
   pub known : IsKnown s nodes table after
   pub given : IsKnownAnswer s nodes table answer
   pub again : AwaitsValue before → (after ≡ before) × IsNoSolution answer

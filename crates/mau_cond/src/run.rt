@@ -11,7 +11,7 @@ ghost use Rattle.mau_evaluation.specs.Listing.{Solution as Listed};
 ghost use Rattle.mau_evaluation.specs.Evaluation.{Binding, Level};
 ghost use Rattle.mau_api.specs.Programs.{fragment_of};
 ghost use Rattle.mau_api.specs.Answers.{binding_in, IsFragment, IsValueOf};
-ghost use Rattle.mau_cond.specs.Path.{IsAnswer, IsAsked, IsNoSolution, AwaitsValue, AwaitsSolution};
+ghost use Rattle.mau_cond.specs.Path.{all_stations, IsAnswer, IsAsked, IsNoSolution, AwaitsValue, AwaitsSolution};
 ghost use Rattle.mau_cond.specs.Meaning.{solve_from, whole, Goes, Ends, TakesValue, TakesSolution, TakesNone};
 ghost use Rattle.mau_cond.specs.Known.{IsKnown, IsKnownAnswer, IsToldValue, IsLevelOf};
 
@@ -100,6 +100,7 @@ impl<'c> CondRun<'c> {
         ensures goes { IfOk result (Goes sig.now store.new sorts.now self.old self.new) }
         ensures ends { IfErr result (Ends sig.now store.new sorts.now self.old) }
         ensures answer { IfOk result (IsAnswer self.new) }
+        ensures stations { OnOk result (all_stations self.new ≡ all_stations self.old) }
         ensures known { IsKnown sig.now store.new sorts.now self.new }
         ensures given { IfOk result (IsKnownAnswer sig.now store.new sorts.now) }
         ensures again { IsAsked self.old → IfOk result (λ answer. (self.new ≡ self.old) × IsNoSolution answer) }
@@ -116,10 +117,18 @@ impl<'c> CondRun<'c> {
         }
     }
 
+    /// The variables that have values where the path stands, for who lists the solutions of the fragment that is due.
+    pub fn bound(&self, alloc: Global) -> Result<Vec<(VarId, TermId)>, NoMemory>
+        ensures { IfOk result (λ bound. bound.items ≡ self.now.bound) }
+    {
+        self.bound.pairs(alloc)
+    }
+
     /// The value of the term that was asked.
     pub fn tell_value(&mut self, value: TermId)
         requires asked { AwaitsValue self.old }
         ensures goes { (nodes : List Node) → TakesValue nodes self.old self.new (tree_at nodes value.0) }
+        ensures stations { self.new.stations ≡ self.old.stations }
         ensures known { (s : SignatureOf) (nodes : List Node) (table : Table) → IsKnown s nodes table self.old → IsToldValue s nodes table value
             → IsKnown s nodes table self.new }
     {
@@ -135,6 +144,8 @@ impl<'c> CondRun<'c> {
         requires asked { (i : ℕ) × (v : TermId) × AwaitsSolution self.old i v }
         ensures some { OnOk result (IfSome values (λ told. (nodes : List Node) → TakesSolution nodes self.old self.new told.items)) }
         ensures none { OnOk result (IfNone values ((nodes : List Node) → TakesNone nodes self.old self.new)) }
+        ensures kept { OnOk result (IfSome values (λ _. all_stations self.new ≡ all_stations self.old)) }
+        ensures gone { OnOk result (IfNone values (all_stations self.new ≡ self.old.stations)) }
         ensures known { (s : SignatureOf) (nodes : List Node) (table : Table) → IsKnown s nodes table self.old
             → IfSome values (λ told. All (IsValueOf s nodes table) told.items) → IsKnown s nodes table self.new }
         ensures unchanged { OnErr result (self.new ≡ self.old) }

@@ -14,7 +14,7 @@ ghost use Rattle.mau_sorts.specs.Table.{Table, AreOver, IsSettled, entry_at};
 ghost use Rattle.mau_evaluation.specs.Evaluation.{look_up};
 ghost use Rattle.mau_api.specs.Terms.{IsTerm};
 ghost use Rattle.mau_api.specs.Answers.{binding_in, IsValueOf};
-ghost use Rattle.mau_cond.specs.Path.{IsAnswer, IsAsked, IsNoSolution, AwaitsValue, AwaitsSolution, IsMatching, IsPath, term_by};
+ghost use Rattle.mau_cond.specs.Path.{all_stations, IsAnswer, IsAsked, IsNoSolution, AwaitsValue, AwaitsSolution, IsMatching, IsPath, term_by};
 ghost use Rattle.mau_cond.specs.Meaning.{SameWhole, Ends, TakesValue, TakesSolution, TakesNone};
 ghost use Rattle.mau_cond.specs.Known.{IsKnown, IsToldValue};
 ghost use Rattle.mau_cond.specs.Steps.{opened, failing, decided, due_ask, first_term, IsWaiting, IsAnswered};
@@ -191,6 +191,7 @@ impl<'c> CondRun<'c> {
     pub(crate) fn tell_none(&mut self)
         requires asked { (i : ℕ) × (v : TermId) × AwaitsSolution self.old i v }
         ensures goes { (nodes : List Node) → TakesNone nodes self.old self.new }
+        ensures stations { all_stations self.new ≡ self.old.stations }
         ensures known { (s : SignatureOf) (nodes : List Node) (table : Table) → IsKnown s nodes table self.old → IsKnown s nodes table self.new }
     {
         let _stage = self.stage;
@@ -201,6 +202,7 @@ impl<'c> CondRun<'c> {
     fn go_back(&mut self)
         ensures goes { (nodes : List Node) → SameWhole nodes (failing self.old) self.new }
         ensures waits { IsWaiting self.new.stage }
+        ensures stations { all_stations self.new ≡ self.old.stations }
         ensures path { IsPath self.new }
         ensures known { (s : SignatureOf) (nodes : List Node) (table : Table) → IsKnown s nodes table (failing self.old) → IsKnown s nodes table self.new }
     {
@@ -229,6 +231,7 @@ impl<'c> CondRun<'c> {
         requires open { self.old.stage ≡ Stage.Open }
         requires asked { AwaitsValue self.old }
         ensures goes { (nodes : List Node) → TakesValue nodes self.old self.new (tree_at nodes value.0) }
+        ensures stations { self.new.stations ≡ self.old.stations }
         ensures known { (s : SignatureOf) (nodes : List Node) (table : Table) → IsKnown s nodes table self.old → IsToldValue s nodes table value
             → IsKnown s nodes table self.new }
     {
@@ -251,6 +254,7 @@ impl<'c> CondRun<'c> {
     pub(crate) fn tell_some(&mut self, told: &[(VarId, TermId)]) -> Result<(), NoMemory>
         requires asked { (i : ℕ) × (v : TermId) × AwaitsSolution self.old i v }
         ensures goes { OnOk result ((nodes : List Node) → TakesSolution nodes self.old self.new told.now) }
+        ensures stations { OnOk result (all_stations self.new ≡ all_stations self.old) }
         ensures known { (s : SignatureOf) (nodes : List Node) (table : Table) → IsKnown s nodes table self.old → All (IsValueOf s nodes table) told.now
             → IsKnown s nodes table self.new }
         ensures unchanged { OnErr result (self.new ≡ self.old) }

@@ -1,4 +1,4 @@
-use Rattle.std.proofs.Common.{sym, subst}
+use Rattle.std.proofs.Common.{sym, ap, ◌∙◌, subst}
 use Rattle.mau_cond.specs.Path.{Path}
 use Rattle.mau_cond.specs.Meaning.{SameWhole}
 use Rattle.mau_cond.specs.Known.{IsKnown}
@@ -31,3 +31,6 @@ returns-in-Some-clause-path c =
     let i = c.self.inside in
     let p : Path = record { cond = i.cond.now; bound = i.bound; stations = i.stations.items; at = i.at; stage = i.stage } in
     back_path p c.self.invariant c.pop.new.self.items c.in-Some.station c.in-Some.ensures.items c.keep.new.self c.keep.ensures
+
+pub returns-in-Some-clause-stations : goal.returns-in-Some-clause-stations
+returns-in-Some-clause-stations c = sym c.in-Some.ensures.items ∙ ap (λ (z : Path). z.stations) c.self.view_is
