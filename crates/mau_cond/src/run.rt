@@ -48,7 +48,8 @@ impl<'c> Model for CondRun<'c> {
 
     ghost view = { λ r. record { cond = r.cond.now; bound = r.bound; stations = r.stations.items; at = r.at; stage = r.stage } };
 
-    ghost invariant = { λ r. IsPath (record { cond = r.cond.now; bound = r.bound; stations = r.stations.items; at = r.at; stage = r.stage }) };
+    ghost invariant = { λ r.
+        IsPath (record { cond = r.cond.now; bound = r.bound; stations = r.stations.items; at = r.at; stage = r.stage }) };
 }
 
 /// The greatest number of fragments that are numbered.
@@ -63,9 +64,11 @@ impl<'c> CondRun<'c> {
         bound: &[(VarId, TermId)],
     ) -> Result<CondRun<'c>, NoMemory>
         ensures starts { (P : Program) (l : Level) (nodes : List Node) (last : Option Binding) (r b : ℕ) → IfOk result (λ run.
-            whole P l nodes run last [] r b ≡ counted_if r (solve_from P l last (map fragment_of cond.now) (binding_in nodes bound.now) b)) }
+            whole P l nodes run last [] r b
+            ≡ counted_if r (solve_from P l last (map fragment_of cond.now) (binding_in nodes bound.now) b)) }
         ensures none { IfOk result (λ run. run.stations ≡ []) }
-        ensures known { (s : SignatureOf) (nodes : List Node) (table : Table) → All (IsFragment s) cond.now → All (IsValueOf s nodes table) bound.now
+        ensures known { (s : SignatureOf) (nodes : List Node) (table : Table) →
+            All (IsFragment s) cond.now → All (IsValueOf s nodes table) bound.now
             → IfOk result (IsKnown s nodes table) }
     {
         if cond.len() > MAX_FRAGMENTS {
@@ -129,8 +132,8 @@ impl<'c> CondRun<'c> {
         requires asked { AwaitsValue self.old }
         ensures goes { (nodes : List Node) → TakesValue nodes self.old self.new (tree_at nodes value.0) }
         ensures stations { self.new.stations ≡ self.old.stations }
-        ensures known { (s : SignatureOf) (nodes : List Node) (table : Table) → IsKnown s nodes table self.old → IsToldValue s nodes table value
-            → IsKnown s nodes table self.new }
+        ensures known { (s : SignatureOf) (nodes : List Node) (table : Table) →
+            IsKnown s nodes table self.old → IsToldValue s nodes table value → IsKnown s nodes table self.new }
     {
         match self.stage {
             Stage::Open => self.tell_first(value),
@@ -146,7 +149,8 @@ impl<'c> CondRun<'c> {
         ensures none { OnOk result (IfNone values ((nodes : List Node) → TakesNone nodes self.old self.new)) }
         ensures kept { OnOk result (IfSome values (λ _. all_stations self.new ≡ all_stations self.old)) }
         ensures gone { OnOk result (IfNone values (all_stations self.new ≡ self.old.stations)) }
-        ensures known { (s : SignatureOf) (nodes : List Node) (table : Table) → IsKnown s nodes table self.old
+        ensures known { (s : SignatureOf) (nodes : List Node) (table : Table) →
+            IsKnown s nodes table self.old
             → IfSome values (λ told. All (IsValueOf s nodes table) told.items) → IsKnown s nodes table self.new }
         ensures unchanged { OnErr result (self.new ≡ self.old) }
     {

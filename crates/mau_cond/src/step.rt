@@ -166,7 +166,8 @@ impl<'c> CondRun<'c> {
     /// The condition holds; then it goes back.
     fn hold(&mut self, store: &Store, at: usize) -> Result<Ask, BuildFault>
         requires end { length self.old.cond ≤ at }
-        ensures answered { (s : SignatureOf) (table : Table) → IsKnown s store.now table (opened self.old at) → IfOk result (IsAnswered s store.now table (opened self.old at) self.new) }
+        ensures answered { (s : SignatureOf) (table : Table) →
+            IsKnown s store.now table (opened self.old at) → IfOk result (IsAnswered s store.now table (opened self.old at) self.new) }
         ensures fault { IfErr result (λ fault. fault ≡ BuildFault.NoMemory) }
         ensures unchanged { OnErr result (self.new ≡ self.old) }
     {
@@ -181,7 +182,8 @@ impl<'c> CondRun<'c> {
 
     /// Goes back, and asks what is due.
     fn back(&mut self) -> Ask
-        ensures answered { (s : SignatureOf) (nodes : List Node) (table : Table) → IsKnown s nodes table (failing self.old) → IsAnswered s nodes table (failing self.old) self.new result }
+        ensures answered { (s : SignatureOf) (nodes : List Node) (table : Table) →
+            IsKnown s nodes table (failing self.old) → IsAnswered s nodes table (failing self.old) self.new result }
     {
         self.go_back();
         self.due()
@@ -192,7 +194,8 @@ impl<'c> CondRun<'c> {
         requires asked { (i : ℕ) × (v : TermId) × AwaitsSolution self.old i v }
         ensures goes { (nodes : List Node) → TakesNone nodes self.old self.new }
         ensures stations { all_stations self.new ≡ self.old.stations }
-        ensures known { (s : SignatureOf) (nodes : List Node) (table : Table) → IsKnown s nodes table self.old → IsKnown s nodes table self.new }
+        ensures known { (s : SignatureOf) (nodes : List Node) (table : Table) →
+            IsKnown s nodes table self.old → IsKnown s nodes table self.new }
     {
         let _stage = self.stage;
         self.go_back();
@@ -204,7 +207,8 @@ impl<'c> CondRun<'c> {
         ensures waits { IsWaiting self.new.stage }
         ensures stations { all_stations self.new ≡ self.old.stations }
         ensures path { IsPath self.new }
-        ensures known { (s : SignatureOf) (nodes : List Node) (table : Table) → IsKnown s nodes table (failing self.old) → IsKnown s nodes table self.new }
+        ensures known { (s : SignatureOf) (nodes : List Node) (table : Table) →
+            IsKnown s nodes table (failing self.old) → IsKnown s nodes table self.new }
     {
         match self.stations.pop() {
             Some(station) => {
@@ -232,8 +236,8 @@ impl<'c> CondRun<'c> {
         requires asked { AwaitsValue self.old }
         ensures goes { (nodes : List Node) → TakesValue nodes self.old self.new (tree_at nodes value.0) }
         ensures stations { self.new.stations ≡ self.old.stations }
-        ensures known { (s : SignatureOf) (nodes : List Node) (table : Table) → IsKnown s nodes table self.old → IsToldValue s nodes table value
-            → IsKnown s nodes table self.new }
+        ensures known { (s : SignatureOf) (nodes : List Node) (table : Table) →
+            IsKnown s nodes table self.old → IsToldValue s nodes table value → IsKnown s nodes table self.new }
     {
         match self.cond.get(self.at) {
             Some(Fragment::Match(_, _)) => {
@@ -255,8 +259,8 @@ impl<'c> CondRun<'c> {
         requires asked { (i : ℕ) × (v : TermId) × AwaitsSolution self.old i v }
         ensures goes { OnOk result ((nodes : List Node) → TakesSolution nodes self.old self.new told.now) }
         ensures stations { OnOk result (all_stations self.new ≡ all_stations self.old) }
-        ensures known { (s : SignatureOf) (nodes : List Node) (table : Table) → IsKnown s nodes table self.old → All (IsValueOf s nodes table) told.now
-            → IsKnown s nodes table self.new }
+        ensures known { (s : SignatureOf) (nodes : List Node) (table : Table) →
+            IsKnown s nodes table self.old → All (IsValueOf s nodes table) told.now → IsKnown s nodes table self.new }
         ensures unchanged { OnErr result (self.new ≡ self.old) }
     {
         match self.stage {
