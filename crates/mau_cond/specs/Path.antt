@@ -111,3 +111,21 @@ IsNoSolution (Evaluate t) = Unit {0}
 IsNoSolution (Match i v) = Unit {0}
 IsNoSolution (Holds values) = ⊥
 IsNoSolution Fails = Unit {0}
+
+-- ---- what is told
+
+-- what was told of the fragment at i, where n variables are bound, once v was told
+abbrev pub stage_with : ℕ → ℕ → TermId → Stage → Option Fragment → Stage
+stage_with i n v Open (Some (Part.Match q u)) = Due (record { at = i; value = v; bound = n })
+stage_with i n v (First u) f = Both u v
+stage_with i n v k f = First v
+
+-- the path once the value was told that was asked
+abbrev pub with_value : Path → TermId → Path
+with_value p v = record {
+  cond = p.cond;
+  bound = p.bound;
+  stations = p.stations;
+  at = p.at;
+  stage = stage_with p.at (length p.bound) v p.stage (slice_get p.cond p.at);
+}

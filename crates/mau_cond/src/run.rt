@@ -11,7 +11,7 @@ ghost use Rattle.mau_evaluation.specs.Listing.{Solution as Listed};
 ghost use Rattle.mau_evaluation.specs.Evaluation.{Binding, Level};
 ghost use Rattle.mau_api.specs.Programs.{fragment_of};
 ghost use Rattle.mau_api.specs.Answers.{binding_in, IsFragment, IsValueOf};
-ghost use Rattle.mau_cond.specs.Path.{all_stations, IsAnswer, IsAsked, IsNoSolution, AwaitsValue, AwaitsSolution};
+ghost use Rattle.mau_cond.specs.Path.{all_stations, IsAnswer, IsAsked, with_value, IsNoSolution, AwaitsValue, AwaitsSolution};
 ghost use Rattle.mau_cond.specs.Meaning.{solve_from, whole, Goes, Ends, TakesValue, TakesSolution, TakesNone};
 ghost use Rattle.mau_cond.specs.Known.{IsKnown, IsKnownAnswer, IsToldValue, IsLevelOf};
 
@@ -104,6 +104,7 @@ impl<'c> CondRun<'c> {
         ensures ends { IfErr result (Ends sig.now store.new sorts.now self.old) }
         ensures answer { IfOk result (IsAnswer self.new) }
         ensures stations { OnOk result (all_stations self.new ≡ all_stations self.old) }
+        ensures cond { self.new.cond ≡ self.old.cond }
         ensures known { IsKnown sig.now store.new sorts.now self.new }
         ensures given { IfOk result (IsKnownAnswer sig.now store.new sorts.now) }
         ensures again { IsAsked self.old → IfOk result (λ answer. (self.new ≡ self.old) × IsNoSolution answer) }
@@ -131,7 +132,7 @@ impl<'c> CondRun<'c> {
     pub fn tell_value(&mut self, value: TermId)
         requires asked { AwaitsValue self.old }
         ensures goes { (nodes : List Node) → TakesValue nodes self.old self.new (tree_at nodes value.0) }
-        ensures stations { self.new.stations ≡ self.old.stations }
+        ensures path { self.new ≡ with_value self.old value }
         ensures known { (s : SignatureOf) (nodes : List Node) (table : Table) →
             IsKnown s nodes table self.old → IsToldValue s nodes table value → IsKnown s nodes table self.new }
     {
@@ -148,6 +149,7 @@ impl<'c> CondRun<'c> {
         ensures some { OnOk result (IfSome values (λ told. (nodes : List Node) → TakesSolution nodes self.old self.new told.items)) }
         ensures none { OnOk result (IfNone values ((nodes : List Node) → TakesNone nodes self.old self.new)) }
         ensures kept { OnOk result (IfSome values (λ _. all_stations self.new ≡ all_stations self.old)) }
+        ensures cond { self.new.cond ≡ self.old.cond }
         ensures gone { OnOk result (IfNone values (all_stations self.new ≡ self.old.stations)) }
         ensures known { (s : SignatureOf) (nodes : List Node) (table : Table) →
             IsKnown s nodes table self.old

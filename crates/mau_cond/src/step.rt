@@ -14,7 +14,7 @@ ghost use Rattle.mau_sorts.specs.Table.{Table, AreOver, IsSettled, entry_at};
 ghost use Rattle.mau_evaluation.specs.Evaluation.{look_up};
 ghost use Rattle.mau_api.specs.Terms.{IsTerm};
 ghost use Rattle.mau_api.specs.Answers.{binding_in, IsValueOf};
-ghost use Rattle.mau_cond.specs.Path.{all_stations, IsAnswer, IsAsked, IsNoSolution, AwaitsValue, AwaitsSolution, IsMatching, IsPath, term_by};
+ghost use Rattle.mau_cond.specs.Path.{all_stations, IsAnswer, IsAsked, IsNoSolution, AwaitsValue, AwaitsSolution, IsMatching, IsPath, with_value, term_by};
 ghost use Rattle.mau_cond.specs.Meaning.{SameWhole, Ends, TakesValue, TakesSolution, TakesNone};
 ghost use Rattle.mau_cond.specs.Known.{IsKnown, IsToldValue};
 ghost use Rattle.mau_cond.specs.Steps.{opened, failing, decided, due_ask, first_term, IsWaiting, IsAnswered};
@@ -40,6 +40,7 @@ impl<'c> CondRun<'c> {
         requires known { IsKnown sig.now store.old sorts.now (opened self.old at) }
         ensures answered { IfOk result (IsAnswered sig.now store.new sorts.now (opened self.old at) self.new) }
         ensures ends { IfErr result (Ends sig.now store.new sorts.now (opened self.old at)) }
+        ensures cond { self.new.cond ≡ self.old.cond }
         ensures unchanged { OnErr result (self.new ≡ self.old) }
         ensures extends { Extends store.old store.new }
     {
@@ -66,6 +67,7 @@ impl<'c> CondRun<'c> {
         requires over { AreOver sig.now.hierarchy sorts.now }
         ensures answered { IfOk result (IsAnswered sig.now store.new sorts.now self.old self.new) }
         ensures ends { IfErr result (Ends sig.now store.new sorts.now self.old) }
+        ensures cond { self.new.cond ≡ self.old.cond }
         ensures unchanged { OnErr result (self.new ≡ self.old) }
         ensures extends { Extends store.old store.new }
     {
@@ -99,6 +101,7 @@ impl<'c> CondRun<'c> {
         requires known { IsKnown sig.now store.old sorts.now self.old }
         ensures answered { IfOk result (IsAnswered sig.now store.new sorts.now self.old self.new) }
         ensures ends { IfErr result (Ends sig.now store.new sorts.now self.old) }
+        ensures cond { self.new.cond ≡ self.old.cond }
         ensures unchanged { OnErr result (self.new ≡ self.old) }
         ensures extends { Extends store.old store.new }
     {
@@ -118,6 +121,7 @@ impl<'c> CondRun<'c> {
         requires known { IsKnown sig.now store.old sorts.now (decided self.old holds) }
         ensures answered { IfOk result (IsAnswered sig.now store.new sorts.now (decided self.old holds) self.new) }
         ensures ends { IfErr result (Ends sig.now store.new sorts.now (decided self.old holds)) }
+        ensures cond { self.new.cond ≡ self.old.cond }
         ensures unchanged { OnErr result (self.new ≡ self.old) }
         ensures extends { Extends store.old store.new }
     {
@@ -143,6 +147,7 @@ impl<'c> CondRun<'c> {
         requires known { IsKnown sig.now store.old sorts.now (record self.old { at = at; stage = stage }) }
         ensures answered { IfOk result (IsAnswered sig.now store.new sorts.now (record self.old { at = at; stage = stage }) self.new) }
         ensures ends { IfErr result (Ends sig.now store.new sorts.now (record self.old { at = at; stage = stage })) }
+        ensures cond { self.new.cond ≡ self.old.cond }
         ensures unchanged { OnErr result (self.new ≡ self.old) }
         ensures extends { Extends store.old store.new }
     {
@@ -169,6 +174,7 @@ impl<'c> CondRun<'c> {
         ensures answered { (s : SignatureOf) (table : Table) →
             IsKnown s store.now table (opened self.old at) → IfOk result (IsAnswered s store.now table (opened self.old at) self.new) }
         ensures fault { IfErr result (λ fault. fault ≡ BuildFault.NoMemory) }
+        ensures cond { self.new.cond ≡ self.old.cond }
         ensures unchanged { OnErr result (self.new ≡ self.old) }
     {
         match self.bound.pairs(store.allocator()) {
@@ -182,6 +188,7 @@ impl<'c> CondRun<'c> {
 
     /// Goes back, and asks what is due.
     fn back(&mut self) -> Ask
+        ensures cond { self.new.cond ≡ self.old.cond }
         ensures answered { (s : SignatureOf) (nodes : List Node) (table : Table) →
             IsKnown s nodes table (failing self.old) → IsAnswered s nodes table (failing self.old) self.new result }
     {
@@ -194,6 +201,7 @@ impl<'c> CondRun<'c> {
         requires asked { (i : ℕ) × (v : TermId) × AwaitsSolution self.old i v }
         ensures goes { (nodes : List Node) → TakesNone nodes self.old self.new }
         ensures stations { all_stations self.new ≡ self.old.stations }
+        ensures cond { self.new.cond ≡ self.old.cond }
         ensures known { (s : SignatureOf) (nodes : List Node) (table : Table) →
             IsKnown s nodes table self.old → IsKnown s nodes table self.new }
     {
@@ -206,6 +214,7 @@ impl<'c> CondRun<'c> {
         ensures goes { (nodes : List Node) → SameWhole nodes (failing self.old) self.new }
         ensures waits { IsWaiting self.new.stage }
         ensures stations { all_stations self.new ≡ self.old.stations }
+        ensures cond { self.new.cond ≡ self.old.cond }
         ensures path { IsPath self.new }
         ensures known { (s : SignatureOf) (nodes : List Node) (table : Table) →
             IsKnown s nodes table (failing self.old) → IsKnown s nodes table self.new }
@@ -235,7 +244,7 @@ impl<'c> CondRun<'c> {
         requires open { self.old.stage ≡ Stage.Open }
         requires asked { AwaitsValue self.old }
         ensures goes { (nodes : List Node) → TakesValue nodes self.old self.new (tree_at nodes value.0) }
-        ensures stations { self.new.stations ≡ self.old.stations }
+        ensures path { self.new ≡ with_value self.old value }
         ensures known { (s : SignatureOf) (nodes : List Node) (table : Table) →
             IsKnown s nodes table self.old → IsToldValue s nodes table value → IsKnown s nodes table self.new }
     {
@@ -261,6 +270,7 @@ impl<'c> CondRun<'c> {
         ensures stations { OnOk result (all_stations self.new ≡ all_stations self.old) }
         ensures known { (s : SignatureOf) (nodes : List Node) (table : Table) →
             IsKnown s nodes table self.old → All (IsValueOf s nodes table) told.now → IsKnown s nodes table self.new }
+        ensures cond { self.new.cond ≡ self.old.cond }
         ensures unchanged { OnErr result (self.new ≡ self.old) }
     {
         match self.stage {

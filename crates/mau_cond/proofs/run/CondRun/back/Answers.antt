@@ -6,6 +6,7 @@ use Rattle.mau_cond.proofs.run.CondRun.back.Goals as goal
 
 pub returns : goal.returns
 returns c = record {
+  cond = c.go_back.ensures.cond;
   answered = λ s nodes table h.
       let n = c.go_back.new.self in
       subst (IsAnswered s nodes table (failing c.args.self.now) n) (sym c.due.ensures.value)
