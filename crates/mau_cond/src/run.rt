@@ -66,7 +66,7 @@ impl<'c> CondRun<'c> {
         ensures starts { (P : Program) (l : Level) (nodes : List Node) (last : Option Binding) (r b : ℕ) → IfOk result (λ run.
             whole P l nodes run last [] r b
             ≡ counted_if r (solve_from P l last (map fragment_of cond.now) (binding_in nodes bound.now) b)) }
-        ensures none { IfOk result (λ run. run.stations ≡ []) }
+        ensures begins { IfOk result (λ run. run ≡ record { cond = cond.now; bound = bound.now; stations = []; at = 0; stage = Stage.Open }) }
         ensures known { (s : SignatureOf) (nodes : List Node) (table : Table) →
             All (IsFragment s) cond.now → All (IsValueOf s nodes table) bound.now
             → IfOk result (IsKnown s nodes table) }
