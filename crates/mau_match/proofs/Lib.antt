@@ -22,6 +22,7 @@ pub mod Answering
 pub mod PartsOver
 pub mod GivenFor
 pub mod NextVariable
+pub mod Singles
 pub mod LeastValues
 pub mod Left
 pub mod SearchFound
