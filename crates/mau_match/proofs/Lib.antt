@@ -8,6 +8,7 @@ pub mod Builds
 pub mod KnownElements
 pub mod Sound
 pub mod Lengths
+pub mod Shares
 pub mod NothingMissed
 pub mod Impossible
 pub mod Refusing
