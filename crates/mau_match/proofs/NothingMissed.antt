@@ -19,7 +19,7 @@ use Rattle.mau_match.proofs.Builds.{all_in, arranged_list, Built, placed, counte
 use Rattle.mau_match.proofs.KnownElements.{bound_norm}
 use Rattle.mau_match.proofs.Lengths.{not_too_few}
 use Rattle.mau_match.proofs.Shares.{takes}
-use Rattle.mau_match.proofs.Sound.{any_left, any_right, any_each, any_each_part, any_just, in_each, one_reaches, owns, rests, AnyRest}
+use Rattle.mau_match.proofs.Sound.{any_left, any_right, any_each, any_each_part, any_just, in_each, one_reaches, rests, AnyRest}
 
 no_elements : (ts : List Tree) → length ts ≤ 0 → ts ≡ []
 no_elements [] h = refl

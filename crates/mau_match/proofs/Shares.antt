@@ -13,7 +13,7 @@ use Rattle.mau_terms.specs.Finite.{IsIn}
 use Rattle.mau_terms.specs.declared.theory.Theory.{Theory}
 use Rattle.mau_terms.proofs.Variables.{same-is}
 use Rattle.mau_domains.specs.Parts.{Reach, whole, front, inside, Leaves, Reaches, some_of}
-use Rattle.mau_match.specs.Parts.{AnyOf, same_tree, without, without_all, weaker, from_some, is_bound, are_bound, known_in, how_many, every, copies, copies_in, is_own, are_own, is_itself, own_part, shared_part, taken_part}
+use Rattle.mau_match.specs.Parts.{AnyOf, same_tree, without, without_all, weaker, from_some, is_bound, are_bound, known_in, how_many, every, copies, copies_in, is_own, are_own, own_part, shared_part, taken_part}
 use Rattle.mau_match.specs.Possible.{free, frees}
 use Rattle.mau_match.proofs.Removal.{same_is, same_itself, Less1, is_without, LessAll, is_without_all}
 use Rattle.mau_match.proofs.KnownElements.{frees_known}

@@ -1,5 +1,5 @@
 -- An operator whose lists have a sort in no case; values of parts of which they are left out.
-use Rattle.std.proofs.Common.{◌≡◌, ◌<◌, ℕ, List, [], ◌∷◌, ◌++◌, Bool, true, false, Option, Some, None, Contains, All, map, take, inl, inr, ◌⊎◌, ◌==◌, refl, sym, ◌∙◌, ap, ap₂, subst, arith, eq-eqb}
+use Rattle.std.proofs.Common.{◌≡◌, ℕ, List, [], ◌∷◌, ◌++◌, Bool, true, false, Option, Some, None, Contains, All, map, take, inl, inr, ◌⊎◌, refl, sym, ◌∙◌, ap, ap₂, subst, arith, eq-eqb}
 use Rattle.std.proofs.lemmas.List.{map-append}
 use Rattle.std.proofs.lemmas.List.Elements.{All-append, All-nil, All-cons, All-head, All-tail, All-take, All-weaker, All-contains_itself}
 use Rattle.std.specs.Bool.{MatchBool}
@@ -26,11 +26,11 @@ use Rattle.mau_canon.specs.Standing.{StandsWithin, StandWithin}
 use Rattle.mau_canon.proofs.Standing.{stand_among, stand_there, stand_within_extended}
 use Rattle.mau_canon.proofs.Elements.{trees_at-append}
 use Rattle.mau_sorts.specs.SortSets.{SortsOf, IsIn as IsInSet}
-use Rattle.mau_sorts.specs.HasSort.{Known, HasSort, IsKnown, Gives, ListHas, AllHave}
-use Rattle.mau_sorts.specs.Table.{Table, entry_at, IsSettled}
+use Rattle.mau_sorts.specs.HasSort.{Known, HasSort, Gives, ListHas, AllHave}
+use Rattle.mau_sorts.specs.Table.{Table, entry_at}
 use Rattle.mau_listing.specs.Asked.{IsTableOf}
 use Rattle.mau_listing.proofs.Answered.{normal_is}
-use Rattle.mau_domains.specs.Lists.{is_long, alone_of}
+use Rattle.mau_domains.specs.Lists.{alone_of}
 use Rattle.mau_domains.specs.Parts.{Reach, whole, front, inside, Part, just, some_of, Reaches}
 use Rattle.mau_domains.specs.Values.{IsValueOf}
 use Rattle.mau_domains.specs.Stored.{IsListOperator, AreItems, IsPartOver, part_in}

@@ -1,5 +1,4 @@
-use Rattle.std.proofs.Common.{length, subst, sym, ◌∙◌, arith}
-use Rattle.std.proofs.lemmas.Result.{IfOk-weaker}
+use Rattle.std.proofs.Common.{length}
 use Rattle.mau_terms.specs.View.{tree_of}
 use Rattle.mau_signature.specs.Signature.{theory_at}
 use Rattle.mau_store.specs.View.{numbers}

@@ -1,4 +1,4 @@
-use Rattle.std.proofs.Common.{IfSome, All, List, inr, sym, subst}
+use Rattle.std.proofs.Common.{All, List, inr, sym, subst}
 use Rattle.std.proofs.lemmas.Result.{IfOk-weaker}
 use Rattle.mau_signature.specs.Signature.{theory_at}
 use Rattle.mau_sorts.specs.HasSort.{HasSort}

@@ -1,4 +1,4 @@
-use Rattle.std.proofs.Common.{◌<◌, length, Contains, sym, subst, arith}
+use Rattle.std.proofs.Common.{◌<◌, Contains, sym, subst, arith}
 use Rattle.mau_poset.specs.Order.{IsAtOrBelow}
 use Rattle.mau_match.proofs.single.is_never_declared.Goals as goal
 

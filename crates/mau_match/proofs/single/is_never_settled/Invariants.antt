@@ -1,4 +1,4 @@
-use Rattle.std.proofs.Common.{◌≡◌, ◌<◌, ℕ, Some, None, true, get_or}
+use Rattle.std.proofs.Common.{◌≡◌, ◌<◌, ℕ, Some, true, get_or}
 use Rattle.mau_sorts.specs.SortSets.{SortsOf, IsIn}
 use Rattle.mau_sorts.specs.Table.{entry_at}
 use Rattle.mau_store.specs.Node.{IsOf}

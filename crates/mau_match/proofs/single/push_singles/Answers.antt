@@ -1,4 +1,4 @@
-use Rattle.std.proofs.Common.{◌++◌, sym, ap, ◌∙◌, subst}
+use Rattle.std.proofs.Common.{◌++◌, ap, ◌∙◌}
 use Rattle.mau_terms.specs.Finite.{units_of}
 use Rattle.mau_terms.proofs.Outcomes.{OnOk-then}
 use Rattle.mau_signature.specs.Signature.{theory_at}

@@ -1,15 +1,13 @@
-use Rattle.std.proofs.Common.{◌≡◌, ◌==◌, ◌∷◌, [], ◌++◌, ℕ, List, true, sym, ap, ◌∙◌, subst, eqb-true}
-use Rattle.mau_terms.specs.Tree.{Tree}
+use Rattle.std.proofs.Common.{◌≡◌, ◌∷◌, [], ◌++◌, List, sym, ap, ◌∙◌, subst, eqb-true}
 use Rattle.mau_terms.specs.declared.ids.TermId.{TermId}
 use Rattle.mau_terms.proofs.Outcomes.{OnOk-then}
 use Rattle.mau_signature.specs.Signature.{theory_at}
 use Rattle.mau_store.specs.Trees.{trees_at}
 use Rattle.mau_store.specs.View.{numbers}
 use Rattle.mau_domains.specs.Parts.{some_of}
-use Rattle.mau_domains.specs.Stored.{part_in, reach_of, IsPartOver}
+use Rattle.mau_domains.specs.Stored.{part_in, reach_of}
 use Rattle.mau_domains.specs.Values.{IsValueOf}
-use Rattle.mau_domains.specs.declared.part.Part.TheVariants.{One}
-use Rattle.mau_match.specs.Single.{IsNoList, Covers}
+use Rattle.mau_match.specs.Single.{IsNoList}
 use Rattle.mau_match.proofs.Singles.{covers_less, covers_one}
 use Rattle.mau_match.proofs.single.push_split.Goals as goal
 

@@ -1,7 +1,6 @@
-use Rattle.std.proofs.Common.{◌≡◌, ◌+◌, ◌∷◌, [], ◌++◌, ℕ, List, All, take, inl, inr, ◌⊎◌, sym, ap, ◌∙◌, subst}
+use Rattle.std.proofs.Common.{◌≡◌, ◌+◌, ◌∷◌, [], ◌++◌, All, take, inl, inr, sym, ap, ◌∙◌, subst}
 use Rattle.std.proofs.lemmas.List.{take_all}
 use Rattle.std.proofs.lemmas.List.Elements.{All-nil}
-use Rattle.mau_terms.specs.Tree.{Tree}
 use Rattle.mau_signature.specs.Signature.{theory_at}
 use Rattle.mau_store.proofs.Growth.{extension_is_preorder}
 use Rattle.mau_domains.specs.Stored.{part_in, IsPartOver}

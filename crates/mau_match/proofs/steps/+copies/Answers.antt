@@ -1,6 +1,4 @@
-use Rattle.std.proofs.Common.{◌≡◌, ◌-◌, ◌+◌, map, take, drop, length, ap, sym, ◌∙◌, arith}
-use Rattle.mau_terms.specs.Tree.{trees_of}
-use Rattle.mau_terms.specs.View.{tree_of}
+use Rattle.std.proofs.Common.{arith}
 use Rattle.mau_terms.proofs.Sizes.{size_of_node, size_of_first, size_of_rest}
 use Rattle.mau_match.proofs.steps.+copies.Goals as goal
 

@@ -1,4 +1,4 @@
-use Rattle.std.proofs.Common.{◌≡◌, ◌+◌, true, false, take, get_or, if◌then◌else◌, sym, ◌∙◌, ap, arith}
+use Rattle.std.proofs.Common.{◌≡◌, ◌+◌, take, get_or, if◌then◌else◌, sym, ◌∙◌, ap, arith}
 use Rattle.std.specs.Ordering.{is_eq}
 use Rattle.mau_terms.specs.declared.ids.TermId.{TermId}
 use Rattle.mau_store.specs.Trees.{tree_at, trees_at}
