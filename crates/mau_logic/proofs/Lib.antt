@@ -8,3 +8,4 @@ pub mod Fitted
 pub mod Rebuilt
 pub mod BuiltSteps
 pub mod Examples
+pub mod BuiltAnswers

@@ -10,3 +10,4 @@ pub mod Justified
 -- what can stand in a justified section
 pub mod Derivable
 pub mod Replaced
+pub mod BuiltKinds
