@@ -1,11 +1,11 @@
 -- What is built in gives terms of the kind of its operator.
-use Rattle.std.proofs.Common.{◌≡◌, ℕ, suc, ◌≤◌, ◌==◌, List, [], ◌∷◌, map, length, Bool, true, false, Option, Some, None, inl, inr, ◌⊎◌, refl, sym, ap, ap₂, ◌∙◌, subst, arith, if◌then◌else◌}
+use Rattle.std.proofs.Common.{◌≡◌, ℕ, suc, ◌≤◌, ◌==◌, List, [], ◌∷◌, map, Bool, true, false, Option, Some, None, inl, inr, ◌⊎◌, refl, sym, ap, ap₂, ◌∙◌, subst, arith, if◌then◌else◌}
 use Rattle.std.specs.Prelude.{All, Contains, codes, bytes_eq, find}
 use Rattle.std.proofs.lemmas.List.Elements.{All-contains}
-use Rattle.mau_terms.specs.Tree.{Tree, variable, numeral, apply, Trees, no_trees, tree, node, trees_of, list_of}
-use Rattle.mau_terms.specs.Norm.{norm, build, finish, arrange, unit_tree, greatest_numeral}
+use Rattle.mau_terms.specs.Tree.{Tree, numeral, apply, no_trees, node, trees_of}
+use Rattle.mau_terms.specs.Norm.{norm, build, finish, arrange, greatest_numeral}
 use Rattle.mau_terms.specs.Reading.{nest, nest_from, reading}
-use Rattle.mau_terms.specs.Bare.{IsBare, IsBareIn, AreBareIn, IsLawful}
+use Rattle.mau_terms.specs.Bare.{IsBareIn, AreBareIn, IsLawful}
 use Rattle.mau_terms.specs.declared.theory.Theory.{Theory}
 use Rattle.mau_terms.specs.declared.theory.Identity.{Identity}
 use Rattle.mau_terms.proofs.Induction.{norm-node}
@@ -16,7 +16,7 @@ use Rattle.mau_terms.proofs.Wholes.{reading_top}
 use Rattle.mau_signature.proofs.Operators.{is_operator}
 use Rattle.mau_signature.specs.declared.form.Piece.TheVariants.{Word}
 use Rattle.mau_signature.specs.Names.{constant_of, place_of}
-use Rattle.mau_signature.specs.Signature.{SignatureOf, IsOperator, theory_at, terms_over}
+use Rattle.mau_signature.specs.Signature.{SignatureOf, theory_at, terms_over}
 use Rattle.mau_canon.proofs.Standing.{list_stands_for_nested}
 use Rattle.mau_formula.specs.Operator.{Operator}
 use Rattle.mau_formula.specs.declared.formula.Gives.{Gives}
@@ -29,7 +29,7 @@ use Rattle.mau_evaluation.specs.Program.{Answer, no_value, value, too_large, Bui
 use Rattle.mau_evaluation.specs.Evaluation.{native_on, native_by, over_rest, before_rest}
 use Rattle.mau_evaluation.specs.Listing.{same_tree}
 use Rattle.mau_program.specs.declared.program.Program.{Program}
-use Rattle.mau_api.specs.BuiltIns.{constant_in, true_in, false_in, result_kind, answer_in, function_of, IsBuiltIn, is_branch, is_same, is_differ, is_native, IsNative, built_in_at}
+use Rattle.mau_api.specs.BuiltIns.{constant_in, true_in, false_in, result_kind, answer_in, IsBuiltIn, is_branch, is_same, is_differ, is_native, built_in_at}
 use Rattle.mau_api.specs.Terms.{IsNormalTerm}
 use Rattle.mau_api.proofs.BuiltIns.{built_ins_are_named}
 use Rattle.mau_logic.specs.BuiltKinds.{GivesNumerals, HasTruthIn, HasAnswersIn, IsDeclaredAsBuilt, AreDeclaredAsBuilt}

@@ -9,3 +9,4 @@ pub mod Rebuilt
 pub mod BuiltSteps
 pub mod Examples
 pub mod BuiltAnswers
+pub mod LedRuns

@@ -1,5 +1,5 @@
 -- What built-ins ask of the declarations of their operators, and of native operators, to give terms of the operator's kind.
-use Rattle.std.specs.Prelude.{◌≡◌, ℕ, ◌≤◌, List, [], ◌∷◌, All, Some, codes}
+use Rattle.std.specs.Prelude.{◌≡◌, ℕ, ◌≤◌, [], ◌∷◌, Some, codes}
 use Rattle.mau_terms.specs.Norm.{greatest_numeral}
 use Rattle.mau_terms.specs.Bare.{IsBareIn}
 use Rattle.mau_signature.specs.Signature.{SignatureOf, IsOperator, terms_over}

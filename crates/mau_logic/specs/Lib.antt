@@ -9,5 +9,9 @@ pub mod Shown
 pub mod Justified
 -- what can stand in a justified section
 pub mod Derivable
-pub mod Replaced
+-- what is asked of programs, of native operators and of told runs
 pub mod BuiltKinds
+pub mod WellFormed
+pub mod Replaced
+-- what is proved of all these
+pub mod Laws

@@ -1,0 +1,41 @@
+-- The laws of derivations. Each is proved: a public function of the module `laws` has it for its contract.
+use Rattle.std.specs.Prelude.{◌≡◌, ℕ, List, Bool, All, map}
+use Rattle.mau_terms.specs.Tree.{Tree}
+use Rattle.mau_terms.specs.Norm.{norm}
+use Rattle.mau_terms.specs.Reading.{reading}
+use Rattle.mau_terms.specs.Bare.{IsLawful}
+use Rattle.mau_signature.specs.Signature.{theory_at, terms_over}
+use Rattle.mau_sorts.specs.HasSort.{Known, HasSort}
+use Rattle.mau_formula.specs.Operator.{Operator}
+use Rattle.mau_program.specs.declared.program.Program.{Program}
+use Rattle.mau_api.specs.Terms.{IsNormalTerm}
+use Rattle.mau_store.specs.Node.{Node}
+use Rattle.mau_sorts.specs.Table.{Table, AreEntries}
+use Rattle.mau_api.specs.Events.{Event}
+use Rattle.mau_api.specs.Told.{told_in, IsToldRun}
+use Rattle.mau_logic.specs.Says.{of_sort}
+use Rattle.mau_logic.specs.Derivable.{Derivable, IsSorted, IsLed}
+use Rattle.mau_logic.specs.Replaced.{ReplaceNormal}
+use Rattle.mau_logic.specs.BuiltKinds.{GivesNumerals}
+use Rattle.mau_logic.specs.WellFormed.{IsWellFormed}
+
+-- ---- what is told
+
+-- the normal form has a sort that a derivable fact tells
+abbrev pub IsTold : Program → List Operator → Tree × ℕ → Type 0
+IsTold p hooks e = (norm (theory_at p.sig) e.0 ≡ e.0) × Derivable p hooks (of_sort (reading (theory_at p.sig) e.0) e.1)
+
+-- a sort of a normal form by declarations, and by what is known besides, is shown by facts where that is told by facts
+abbrev pub SortsAreShown : Type 0
+SortsAreShown =
+    (p : Program) → IsLawful (terms_over p.sig) → (hooks : List Operator) (known : Known) → All (IsTold p hooks) known →
+    (r : ℕ) (t : Tree) → norm (theory_at p.sig) t ≡ t → HasSort p.sig known t r → IsSorted p hooks r t
+
+-- Each told run is led by one derivable fact from its start to its end: where the entries of the table say what sorts terms have by declarations and by
+-- what facts tell, each step replaces a normal form, and native operators give numerals for numerals.
+abbrev pub RunsAreLed : Type 0
+RunsAreLed =
+    (p : Program) → IsWellFormed p → (hooks : List Operator) → All GivesNumerals hooks → (known : Known) → All (IsTold p hooks) known →
+    (nodes : List Node) (table : Table) → AreEntries p.sig known nodes table →
+    (rules : Bool) (t u : Tree) (told : List Event) → IsNormalTerm p.sig t → ReplaceNormal p.sig (map (told_in nodes) told) →
+    IsToldRun p hooks nodes table rules t told u → IsLed p hooks rules t u
