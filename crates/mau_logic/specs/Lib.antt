@@ -13,5 +13,7 @@ pub mod Derivable
 pub mod BuiltKinds
 pub mod WellFormed
 pub mod Replaced
+-- rewriting logic: which sentences follow from the statements of a program
+pub mod Deduction
 -- what is proved of all these
 pub mod Laws
