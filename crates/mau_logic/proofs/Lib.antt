@@ -10,3 +10,5 @@ pub mod BuiltSteps
 pub mod Examples
 pub mod BuiltAnswers
 pub mod LedRuns
+pub mod Congruence
+pub mod SortsHold
