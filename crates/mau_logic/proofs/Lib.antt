@@ -12,3 +12,4 @@ pub mod BuiltAnswers
 pub mod LedRuns
 pub mod Congruence
 pub mod SortsHold
+pub mod SectionFacts

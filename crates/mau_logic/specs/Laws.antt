@@ -1,10 +1,12 @@
 -- The laws of derivations. Each is proved: a public function of the module `laws` has it for its contract.
-use Rattle.std.specs.Prelude.{◌≡◌, ℕ, List, Bool, All, map}
+use Rattle.std.specs.Prelude.{◌≡◌, ℕ, List, [], ◌∷◌, Bool, true, false, All, map}
 use Rattle.mau_terms.specs.Tree.{Tree}
 use Rattle.mau_terms.specs.Norm.{norm}
 use Rattle.mau_terms.specs.Reading.{reading}
 use Rattle.mau_terms.specs.Bare.{IsLawful}
 use Rattle.mau_signature.specs.Signature.{theory_at, terms_over}
+use Rattle.mau_sigcheck.specs.Built.{IsBuiltAndAccepted}
+use Rattle.mau_facts.specs.declared.document.Section.{Section}
 use Rattle.mau_sorts.specs.HasSort.{Known, HasSort}
 use Rattle.mau_formula.specs.Operator.{Operator}
 use Rattle.mau_program.specs.declared.program.Program.{Program}
@@ -13,8 +15,11 @@ use Rattle.mau_store.specs.Node.{Node}
 use Rattle.mau_sorts.specs.Table.{Table, AreEntries}
 use Rattle.mau_api.specs.Events.{Event}
 use Rattle.mau_api.specs.Told.{told_in, IsToldRun}
-use Rattle.mau_logic.specs.Says.{of_sort}
+use Rattle.mau_logic.specs.Lines.{section_terms}
+use Rattle.mau_logic.specs.Says.{Says, leads, of_sort, says_nothing, all_said}
+use Rattle.mau_logic.specs.Justified.{IsJustifiedSection}
 use Rattle.mau_logic.specs.Derivable.{Derivable, IsSorted, IsLed}
+use Rattle.mau_logic.specs.Deduction.{equals, belongs, rewrites, Holds}
 use Rattle.mau_logic.specs.Replaced.{ReplaceNormal}
 use Rattle.mau_logic.specs.BuiltKinds.{GivesNumerals}
 use Rattle.mau_logic.specs.WellFormed.{IsWellFormed}
@@ -39,3 +44,33 @@ RunsAreLed =
     (nodes : List Node) (table : Table) → AreEntries p.sig known nodes table →
     (rules : Bool) (t u : Tree) (told : List Event) → IsNormalTerm p.sig t → ReplaceNormal p.sig (map (told_in nodes) told) →
     IsToldRun p hooks nodes table rules t told u → IsLed p hooks rules t u
+
+-- ---- what facts mean
+
+-- what is said of each is so
+abbrev pub Each : (Says → Type 0) → List Says → Type 0
+Each P [] = Unit {0}
+Each P (x ∷ xs) = P x × Each P xs
+
+-- all that a justified section says is derivable
+abbrev pub SectionsAreDerivable : Type 0
+SectionsAreDerivable =
+    (p : Program) (hooks : List Operator) (x : Section) → IsJustifiedSection p hooks x → Each (Derivable p hooks) (all_said (section_terms p x) x.facts)
+
+-- what a fact says holds in rewriting logic: as an equation where it is by equations alone, else as a rewrite, or as a sort of a term
+abbrev pub IsDeduced : Program → List Operator → Says → Type 0
+IsDeduced p hooks (leads true t u) = Holds p hooks (equals t u)
+IsDeduced p hooks (leads false t u) = Holds p hooks (rewrites t u)
+IsDeduced p hooks (of_sort t r) = Holds p hooks (belongs t r)
+IsDeduced p hooks says_nothing = Unit {0}
+
+-- derivable facts hold
+abbrev pub FactsHold : Type 0
+FactsHold =
+    (p : Program) → IsBuiltAndAccepted p.sig → IsLawful (terms_over p.sig) → (hooks : List Operator) (x : Says) → Derivable p hooks x → IsDeduced p hooks x
+
+-- and so does all that a justified section says
+abbrev pub SectionsAreSound : Type 0
+SectionsAreSound =
+    (p : Program) → IsBuiltAndAccepted p.sig → IsLawful (terms_over p.sig) → (hooks : List Operator) (x : Section) → IsJustifiedSection p hooks x →
+    Each (IsDeduced p hooks) (all_said (section_terms p x) x.facts)
