@@ -43,50 +43,50 @@ module _ (p : Program) (hooks : List Operator) where
   module _ (R : Tree → Tree → Sentence) (itself : (t : Tree) → IsBare (terms_over p.sig) t → Holds p hooks (R t t))
       (goes_up : (f : ℕ) (ts us : Trees) → IsBare (terms_over p.sig) (apply f ts) → IsBare (terms_over p.sig) (apply f us) → AllHold p hooks (between R ts us) → Holds p hooks (R (apply f ts) (apply f us)))
     where
-    module _ (v w : Tree) (h : Holds p hooks (R v w)) where
-      mutual
-        pub context_holds : (c : Tree) → IsBare (terms_over p.sig) (fill c v) → IsBare (terms_over p.sig) (fill c w) → Holds p hooks (R (fill c v) (fill c w))
-        context_holds (variable i r) b d = by (i == hole_index) b d
-          where
-            by : (o : Bool) → IsBare (terms_over p.sig) (if o then v else variable i r) → IsBare (terms_over p.sig) (if o then w else variable i r) → Holds p hooks (R (if o then v else variable i r) (if o then w else variable i r))
-            by true x y = h
-            by false x y = itself (variable i r) x
-        context_holds (numeral n) b d = itself (numeral n) b
-        context_holds (apply f cs) b d = goes_up f (instances (filler v) cs) (instances (filler w) cs) b d (contexts_hold cs ((terms_over p.sig).arguments f) b.1.2 d.1.2)
+      module _ (v w : Tree) (h : Holds p hooks (R v w)) where
+        mutual
+          pub context_holds : (c : Tree) → IsBare (terms_over p.sig) (fill c v) → IsBare (terms_over p.sig) (fill c w) → Holds p hooks (R (fill c v) (fill c w))
+          context_holds (variable i r) b d = by (i == hole_index) b d
+            where
+              by : (o : Bool) → IsBare (terms_over p.sig) (if o then v else variable i r) → IsBare (terms_over p.sig) (if o then w else variable i r) → Holds p hooks (R (if o then v else variable i r) (if o then w else variable i r))
+              by true x y = h
+              by false x y = itself (variable i r) x
+          context_holds (numeral n) b d = itself (numeral n) b
+          context_holds (apply f cs) b d = goes_up f (instances (filler v) cs) (instances (filler w) cs) b d (contexts_hold cs ((terms_over p.sig).arguments f) b.1.2 d.1.2)
 
-        contexts_hold : (cs : Trees) (ks : List ℕ) → AreBareIn (terms_over p.sig) (instances (filler v) cs) ks → AreBareIn (terms_over p.sig) (instances (filler w) cs) ks →
-            AllHold p hooks (between R (instances (filler v) cs) (instances (filler w) cs))
-        contexts_hold no_trees ks b d = none_holds
-        contexts_hold (tree c cs) [] b d = absurd b
-        contexts_hold (tree c cs) (k ∷ ks) b d = one_holds (context_holds c (k, b.0) (k, d.0)) (contexts_hold cs ks b.1 d.1)
+          contexts_hold : (cs : Trees) (ks : List ℕ) → AreBareIn (terms_over p.sig) (instances (filler v) cs) ks → AreBareIn (terms_over p.sig) (instances (filler w) cs) ks →
+              AllHold p hooks (between R (instances (filler v) cs) (instances (filler w) cs))
+          contexts_hold no_trees ks b d = none_holds
+          contexts_hold (tree c cs) [] b d = absurd b
+          contexts_hold (tree c cs) (k ∷ ks) b d = one_holds (context_holds c (k, b.0) (k, d.0)) (contexts_hold cs ks b.1 d.1)
 
-    second_bare : (t u : Tree) (ks : List ℕ) → AreBareIn (terms_over p.sig) (tree t (tree u no_trees)) ks → IsBare (terms_over p.sig) u
-    second_bare t u [] b = absurd b
-    second_bare t u (k ∷ []) b = absurd b.1
-    second_bare t u (k ∷ m ∷ ks) b = (m, b.1.0)
+      second_bare : (t u : Tree) (ks : List ℕ) → AreBareIn (terms_over p.sig) (tree t (tree u no_trees)) ks → IsBare (terms_over p.sig) u
+      second_bare t u [] b = absurd b
+      second_bare t u (k ∷ []) b = absurd b.1
+      second_bare t u (k ∷ m ∷ ks) b = (m, b.1.0)
 
-    from_holds : (f : ℕ) (t u : Tree) (ts us : List Tree) → Pairwise (λ x y. Holds p hooks (R x y)) (t ∷ ts) (u ∷ us) →
-        IsBare (terms_over p.sig) (nest_from f t ts) → IsBare (terms_over p.sig) (nest_from f u us) → Holds p hooks (R (nest_from f t ts) (nest_from f u us))
-    from_holds f t u [] [] h b d = h.0
-    from_holds f t u [] (u' ∷ us) h b d = absurd h.1
-    from_holds f t u (t' ∷ ts) [] h b d = absurd h.1
-    from_holds f t u (t' ∷ ts) (u' ∷ us) h b d =
-        goes_up f (tree t (tree (nest_from f t' ts) no_trees)) (tree u (tree (nest_from f u' us) no_trees)) b d
-        (one_holds h.0 (one_holds (from_holds f t' u' ts us h.1 (second_bare t (nest_from f t' ts) ((terms_over p.sig).arguments f) b.1.2) (second_bare u (nest_from f u' us) ((terms_over p.sig).arguments f) d.1.2)) none_holds))
+      from_holds : (f : ℕ) (t u : Tree) (ts us : List Tree) → Pairwise (λ x y. Holds p hooks (R x y)) (t ∷ ts) (u ∷ us) →
+          IsBare (terms_over p.sig) (nest_from f t ts) → IsBare (terms_over p.sig) (nest_from f u us) → Holds p hooks (R (nest_from f t ts) (nest_from f u us))
+      from_holds f t u [] [] h b d = h.0
+      from_holds f t u [] (u' ∷ us) h b d = absurd h.1
+      from_holds f t u (t' ∷ ts) [] h b d = absurd h.1
+      from_holds f t u (t' ∷ ts) (u' ∷ us) h b d =
+          goes_up f (tree t (tree (nest_from f t' ts) no_trees)) (tree u (tree (nest_from f u' us) no_trees)) b d
+          (one_holds h.0 (one_holds (from_holds f t' u' ts us h.1 (second_bare t (nest_from f t' ts) ((terms_over p.sig).arguments f) b.1.2) (second_bare u (nest_from f u' us) ((terms_over p.sig).arguments f) d.1.2)) none_holds))
 
-    each_holds : (ts us : List Tree) → Pairwise (λ x y. Holds p hooks (R x y)) ts us → AllHold p hooks (between R (trees_of ts) (trees_of us))
-    each_holds [] [] h = none_holds
-    each_holds [] (u ∷ us) h = absurd h
-    each_holds (t ∷ ts) [] h = absurd h
-    each_holds (t ∷ ts) (u ∷ us) h = one_holds h.0 (each_holds ts us h.1)
+      each_holds : (ts us : List Tree) → Pairwise (λ x y. Holds p hooks (R x y)) ts us → AllHold p hooks (between R (trees_of ts) (trees_of us))
+      each_holds [] [] h = none_holds
+      each_holds [] (u ∷ us) h = absurd h
+      each_holds (t ∷ ts) [] h = absurd h
+      each_holds (t ∷ ts) (u ∷ us) h = one_holds h.0 (each_holds ts us h.1)
 
-    pub nest_holds : (f : ℕ) (a : Bool) (ts us : List Tree) → Pairwise (λ x y. Holds p hooks (R x y)) ts us →
-        IsBare (terms_over p.sig) (nest a f ts) → IsBare (terms_over p.sig) (nest a f us) → Holds p hooks (R (nest a f ts) (nest a f us))
-    nest_holds f true [] [] h b d = itself (apply f no_trees) b
-    nest_holds f true [] (u ∷ us) h b d = absurd h
-    nest_holds f true (t ∷ ts) [] h b d = absurd h
-    nest_holds f true (t ∷ ts) (u ∷ us) h b d = from_holds f t u ts us h b d
-    nest_holds f false ts us h b d = goes_up f (trees_of ts) (trees_of us) b d (each_holds ts us h)
+      pub nest_holds : (f : ℕ) (a : Bool) (ts us : List Tree) → Pairwise (λ x y. Holds p hooks (R x y)) ts us →
+          IsBare (terms_over p.sig) (nest a f ts) → IsBare (terms_over p.sig) (nest a f us) → Holds p hooks (R (nest a f ts) (nest a f us))
+      nest_holds f true [] [] h b d = itself (apply f no_trees) b
+      nest_holds f true [] (u ∷ us) h b d = absurd h
+      nest_holds f true (t ∷ ts) [] h b d = absurd h
+      nest_holds f true (t ∷ ts) (u ∷ us) h b d = from_holds f t u ts us h b d
+      nest_holds f false ts us h b d = goes_up f (trees_of ts) (trees_of us) b d (each_holds ts us h)
 
 -- ---- what stands in a hole of a bare term is bare
 

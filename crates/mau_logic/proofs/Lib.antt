@@ -13,3 +13,4 @@ pub mod LedRuns
 pub mod Congruence
 pub mod SortsHold
 pub mod SectionFacts
+pub mod Sound

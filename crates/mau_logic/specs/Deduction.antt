@@ -76,7 +76,6 @@ mutual
         IsBare (terms_over p.sig) (instance g (tree_of e.left)) → IsBare (terms_over p.sig) (instance g (tree_of e.right)) → Holds p hooks (equals (instance g (tree_of e.left)) (instance g (tree_of e.right)))
     by_built_in : (f : ℕ) (ts : List Tree) (whole answer : Tree) → over p.sig f ts ≡ Some whole → built_answer p.sig hooks f ts ≡ value answer →
         IsBare (terms_over p.sig) whole → IsBare (terms_over p.sig) (reading (theory_at p.sig) (norm (theory_at p.sig) answer)) → Holds p hooks (equals whole (reading (theory_at p.sig) (norm (theory_at p.sig) answer)))
-
     -- sorts: of variables, numerals and operators, the kind of each term, and what is above a sort
     variable_has : (i r : ℕ) → IsBare (terms_over p.sig) (variable i r) → Holds p hooks (belongs (variable i r) r)
     numeral_has : (n r : ℕ) → IsBare (terms_over p.sig) (numeral n) → IsSortOfNumeral p.sig.numerals n r → Holds p hooks (belongs (numeral n) r)
@@ -87,7 +86,6 @@ mutual
     equal_has : {t u : Tree} {r : ℕ} → Holds p hooks (equals t u) → Holds p hooks (belongs t r) → Holds p hooks (belongs u r)
     by_membership : (n : ℕ) (m : Membership) (g : Variable → Tree) → numbered p.memberships n ≡ Some m → AllHold p hooks (well_sorted g (membership_variables m)) → AllHold p hooks (conditions_of g m.cond) →
         IsBare (terms_over p.sig) (instance g (tree_of m.left)) → Holds p hooks (belongs (instance g (tree_of m.left)) m.sort)
-
     -- rewriting: reflexivity, congruence, replacement, transitivity, of terms up to equality
     stays : {t : Tree} → IsBare (terms_over p.sig) t → Holds p hooks (rewrites t t)
     rewrites_under : (f : ℕ) (ts us : Trees) → IsBare (terms_over p.sig) (apply f ts) → IsBare (terms_over p.sig) (apply f us) → AllHold p hooks (between rewrites ts us) → Holds p hooks (rewrites (apply f ts) (apply f us))

@@ -1,12 +1,27 @@
-//! What is proved of the definitions of this crate. Each function does nothing and has a law for its contract.
-ghost use Rattle.mau_logic.specs.Laws.{RunsAreLed, SortsAreShown};
+//! What is proved of the definitions of this crate. Each function does nothing and has a law for its contract; the laws are stated in `specs/Laws.antt`.
+ghost use Rattle.mau_logic.specs.Laws.{RunsAreLed, SortsAreShown, SectionsAreDerivable, FactsHold, SectionsAreSound};
+
+/// A sort by declarations, and by what facts tell of other terms, is shown by these facts.
+pub fn sorts_are_shown()
+    ensures { SortsAreShown }
+{}
 
 /// Each told run is led by one derivable fact from its start to its end.
 pub fn runs_are_led()
     ensures { RunsAreLed }
 {}
 
-/// A sort by declarations, and by what facts tell of other terms, is shown by these facts.
-pub fn sorts_are_shown()
-    ensures { SortsAreShown }
+/// All that a justified section says is derivable.
+pub fn sections_are_derivable()
+    ensures { SectionsAreDerivable }
+{}
+
+/// What a derivable fact says holds in rewriting logic.
+pub fn facts_hold()
+    ensures { FactsHold }
+{}
+
+/// All that a justified section says holds in rewriting logic.
+pub fn sections_are_sound()
+    ensures { SectionsAreSound }
 {}
