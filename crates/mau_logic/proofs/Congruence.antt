@@ -3,10 +3,10 @@ use Rattle.std.proofs.Common.{◌≡◌, ℕ, List, [], ◌∷◌, ◌++◌, Boo
 use Rattle.mau_terms.specs.Tree.{Tree, variable, numeral, apply, Trees, no_trees, tree, trees_of}
 use Rattle.mau_terms.specs.Reading.{nest, nest_from}
 use Rattle.mau_terms.specs.Axioms.{AxiomStep, left_to_right, right_to_left, under_operator, AxiomStepIn, in_first, in_later}
-use Rattle.mau_terms.specs.Bare.{TermSignature, IsBare, IsBareIn, AreBareIn, EqualModulo, same_term, one_step}
+use Rattle.mau_terms.specs.Bare.{TermSignature, IsBare, AreBareIn, EqualModulo, same_term, one_step}
 use Rattle.mau_terms.specs.Subst.{instances}
 use Rattle.mau_terms.proofs.Chains.{first_bare}
-use Rattle.mau_signature.specs.Signature.{SignatureOf, theory_at, terms_over}
+use Rattle.mau_signature.specs.Signature.{theory_at, terms_over}
 use Rattle.mau_formula.specs.Operator.{Operator}
 use Rattle.mau_program.specs.declared.program.Program.{Program}
 use Rattle.mau_api.specs.Terms.{hole_index, filler, fill, holes, holes_in}

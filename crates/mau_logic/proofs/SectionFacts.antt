@@ -1,5 +1,5 @@
 -- Each fact of a justified section follows from facts before it, so all that it says is derivable.
-use Rattle.std.proofs.Common.{◌≡◌, ℕ, zero, suc, ◌<◌, ◌-◌, List, [], ◌∷◌, ◌++◌, length, Bool, true, false, not, Option, Some, None, refl, sym, ap, ◌∙◌, subst, arith}
+use Rattle.std.proofs.Common.{◌≡◌, ℕ, zero, suc, ◌<◌, ◌-◌, List, [], ◌∷◌, ◌++◌, length, Bool, true, false, not, Option, Some, None, refl, sym, ap, subst, arith}
 use Rattle.std.specs.Prelude.{All, fold, take, slice_get}
 use Rattle.std.specs.Option.{option_map, option_and_then}
 use Rattle.mau_terms.specs.Tree.{Tree}
@@ -15,9 +15,9 @@ use Rattle.mau_facts.specs.declared.document.Fact.TheVariants.{Same, Step, Built
 use Rattle.mau_api.specs.Variables.{numbered}
 use Rattle.mau_api.specs.Terms.{IsBareWithin}
 use Rattle.mau_logic.specs.Lines.{all_numbered, term_at, terms_at, section_terms}
-use Rattle.mau_logic.specs.Says.{Says, leads, of_sort, says_nothing, leads_if, of_sort_if, all_equational, start_of, end_of, or_none, facts_at, said, all_said}
+use Rattle.mau_logic.specs.Says.{Says, leads, of_sort, says_nothing, leads_if, of_sort_if, all_equational, start_of, end_of, or_none, facts_at, said}
 use Rattle.mau_logic.specs.Shown.{HasSortBy}
-use Rattle.mau_logic.specs.Justified.{With, UsesEquation, UsesRule, UsesStatement, UsesBuilt, IsUnder, LeadOn, IsMember, IsSortNumber, IsJustified, AreJustified}
+use Rattle.mau_logic.specs.Justified.{With, UsesEquation, UsesRule, UsesStatement, UsesBuilt, IsUnder, LeadOn, IsMember, IsSortNumber, IsJustified}
 use Rattle.mau_logic.specs.Derivable.{Follows, same, by_equation, by_rule, by_built_in, under, chain, declared, member, Derivable, derives, AreDerivable, no_facts, one_fact}
 use Rattle.mau_logic.specs.Laws.{Each, SectionsAreDerivable}
 

@@ -1,19 +1,18 @@
 -- A sort that declarations give, by what is known besides, is deduced where that is.
-use Rattle.std.proofs.Common.{◌≡◌, ℕ, suc, List, [], ◌∷◌, length, map, Bool, true, false, inl, inr, ◌⊎◌, refl, sym, ap, ◌∙◌, subst}
+use Rattle.std.proofs.Common.{◌≡◌, ℕ, suc, List, [], ◌∷◌, length, Bool, true, false, inl, inr, ◌⊎◌, refl, sym, ap, ◌∙◌, subst}
 use Rattle.std.specs.Prelude.{Contains}
 use Rattle.std.specs.Bool.{MatchBool}
 use Rattle.std.proofs.lemmas.List.Elements.{All-contains}
-use Rattle.mau_poset.specs.Order.{kind_of}
 use Rattle.mau_terms.specs.Tree.{Tree, variable, numeral, apply, Trees, no_trees, tree, trees_of, list_of}
 use Rattle.mau_terms.specs.Reading.{nest, nest_from, reading, readings}
 use Rattle.mau_terms.specs.Axioms.{binary, commutativity}
 use Rattle.mau_terms.specs.Bare.{IsBare, IsBareIn, AreBareIn, IsLawful}
 use Rattle.mau_terms.proofs.Leads.{two_bare, two_made}
 use Rattle.mau_signature.specs.declared.decl.Decl.{Decl}
-use Rattle.mau_signature.specs.Signature.{SignatureOf, IsOperator, IsAlike, declarations_at, theory_at, result_of, attributes_of, swapped, terms_over}
+use Rattle.mau_signature.specs.Signature.{IsOperator, IsAlike, declarations_at, theory_at, swapped, terms_over}
 use Rattle.mau_signature.proofs.Operators.{is_operator}
 use Rattle.mau_sigcheck.specs.Built.{IsBuiltAndAccepted}
-use Rattle.mau_sorts.specs.HasSort.{Known, IsKnown, HasSort, AllHave, ListHas, Gives, IsDeclared, OfTwo}
+use Rattle.mau_sorts.specs.HasSort.{Known, IsKnown, HasSort, AllHave, ListHas, Gives, OfTwo}
 use Rattle.mau_formula.specs.Operator.{Operator}
 use Rattle.mau_program.specs.declared.program.Program.{Program}
 use Rattle.mau_logic.specs.Deduction.{Sentence, belongs, all_belong, Holds, by_axiom, variable_has, numeral_has, operator_has, kind_has, above_has, equal_has, AllHold, none_holds, one_holds}

@@ -1,12 +1,11 @@
 -- What derivable facts say holds in rewriting logic.
-use Rattle.std.proofs.Common.{◌≡◌, ℕ, zero, suc, List, [], ◌∷◌, ◌++◌, length, map, Bool, true, false, ◌&&◌, ◌||◌, Option, Some, None, inl, inr, ◌⊎◌, refl, sym, ap, ◌∙◌, subst, arith, if◌then◌else◌}
+use Rattle.std.proofs.Common.{◌≡◌, ℕ, zero, suc, List, [], ◌∷◌, length, Bool, true, false, ◌&&◌, ◌||◌, Some, None, refl, sym, ap, ◌∙◌, subst, arith, if◌then◌else◌}
 use Rattle.std.specs.Prelude.{All, Contains, nat_lt}
 use Rattle.std.proofs.lemmas.List.Elements.{All-head, All-tail}
-use Rattle.mau_poset.specs.Order.{IsAtOrBelow}
-use Rattle.mau_terms.specs.Tree.{Tree, variable, numeral, apply, Trees, no_trees, tree, trees_of}
+use Rattle.mau_terms.specs.Tree.{Tree}
 use Rattle.mau_terms.specs.Norm.{norm}
 use Rattle.mau_terms.specs.Reading.{nest, reading}
-use Rattle.mau_terms.specs.Bare.{IsBare, IsBareIn, IsLawful, EqualModulo}
+use Rattle.mau_terms.specs.Bare.{IsBare, IsLawful, EqualModulo}
 use Rattle.mau_terms.specs.Subst.{Variable, same_variable, has_variable, value_at, instance}
 use Rattle.mau_terms.specs.Solution.{HaveSorts}
 use Rattle.mau_terms.specs.View.{tree_of}
@@ -25,9 +24,9 @@ use Rattle.mau_api.specs.Terms.{IsBareWithin, fill, holes, IsContextFor}
 use Rattle.mau_logic.specs.Lines.{over}
 use Rattle.mau_logic.specs.Says.{Says, leads, of_sort, says_nothing, all_equational, start_of, end_of}
 use Rattle.mau_logic.specs.Shown.{known_by, HasSortBy, LeadsTo, Shows, ShowsAll}
-use Rattle.mau_logic.specs.Justified.{With, Uses, UsesBuilt, Lead, IsUnder, LeadOn, membership_variables, IsMember}
+use Rattle.mau_logic.specs.Justified.{With, Lead, IsUnder, LeadOn, membership_variables}
 use Rattle.mau_logic.specs.Derivable.{Follows, same, by_equation as follows_equation, by_rule as follows_rule, by_built_in as follows_built_in, under, chain, declared, member, Derivable, derives, AreDerivable, no_facts, one_fact}
-use Rattle.mau_logic.specs.Deduction.{Sentence, equals, belongs, rewrites, between, well_sorted, condition_of, conditions_of, Holds, equal_itself, equal_back, equal_onward, equal_under, by_axiom, by_equation, by_built_in, variable_has, numeral_has, operator_has, kind_has, above_has, equal_has, by_membership, stays, rewrites_under, by_rule, rewrites_onward, rewrites_equal, AllHold, none_holds, one_holds}
+use Rattle.mau_logic.specs.Deduction.{Sentence, equals, belongs, rewrites, well_sorted, condition_of, conditions_of, Holds, equal_itself, equal_back, equal_onward, equal_under, by_axiom, by_equation, by_built_in, variable_has, numeral_has, operator_has, kind_has, above_has, equal_has, by_membership, stays, rewrites_under, by_rule, rewrites_onward, rewrites_equal, AllHold, none_holds, one_holds}
 use Rattle.mau_logic.specs.Laws.{Each, IsDeduced, FactsHold, SectionsAreSound}
 use Rattle.mau_logic.proofs.MoreSorts.{told_by}
 use Rattle.mau_logic.proofs.NormalTerms.{read_bare}

@@ -5,7 +5,7 @@
 -- 360, 2006.)
 use Rattle.std.specs.Prelude.{◌≡◌, ℕ, List, [], ◌∷◌, length, map, Contains, Some}
 use Rattle.mau_poset.specs.Order.{IsAtOrBelow}
-use Rattle.mau_terms.specs.Tree.{Tree, variable, numeral, apply, Trees, no_trees, tree, list_of}
+use Rattle.mau_terms.specs.Tree.{Tree, variable, numeral, apply, Trees, tree, list_of}
 use Rattle.mau_terms.specs.Norm.{norm}
 use Rattle.mau_terms.specs.Reading.{reading}
 use Rattle.mau_terms.specs.Axioms.{Axiom}
