@@ -14,3 +14,4 @@ pub mod Congruence
 pub mod SortsHold
 pub mod SectionFacts
 pub mod Sound
+pub mod Literals

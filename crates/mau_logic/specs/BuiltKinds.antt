@@ -4,7 +4,7 @@ use Rattle.mau_terms.specs.Norm.{greatest_numeral}
 use Rattle.mau_terms.specs.Bare.{IsBareIn}
 use Rattle.mau_signature.specs.Signature.{SignatureOf, IsOperator, terms_over}
 use Rattle.mau_formula.specs.Operator.{Operator}
-use Rattle.mau_formula.specs.Expr.{value}
+use Rattle.mau_formula.specs.Expr.{Expr, arg, lit, add, mul, monus, quo, rem, gcd, min_of, max_of, pow, if_less, value}
 use Rattle.mau_formula.specs.Native.{name_of, gives_of}
 use Rattle.mau_formula.specs.declared.native.Native.{Native}
 use Rattle.mau_formula.specs.declared.formula.Gives.{Gives}
@@ -35,3 +35,18 @@ pub record IsDeclaredAsBuilt (s : SignatureOf) (f : ℕ) : Type 0 where
 
 abbrev pub AreDeclaredAsBuilt : SignatureOf → Type 0
 AreDeclaredAsBuilt s = (f : ℕ) → IsOperator s f → IsDeclaredAsBuilt s f
+
+-- the numbers that stand in a formula are numerals
+abbrev pub HasNumerals : Expr → Type 0
+HasNumerals (arg b) = Unit {0}
+HasNumerals (lit n) = n ≤ greatest_numeral
+HasNumerals (add f g) = HasNumerals f × HasNumerals g
+HasNumerals (mul f g) = HasNumerals f × HasNumerals g
+HasNumerals (monus f g) = HasNumerals f × HasNumerals g
+HasNumerals (quo f g) = HasNumerals f × HasNumerals g
+HasNumerals (rem f g) = HasNumerals f × HasNumerals g
+HasNumerals (gcd f g) = HasNumerals f × HasNumerals g
+HasNumerals (min_of f g) = HasNumerals f × HasNumerals g
+HasNumerals (max_of f g) = HasNumerals f × HasNumerals g
+HasNumerals (pow f g) = HasNumerals f × HasNumerals g
+HasNumerals (if_less f g x y) = HasNumerals f × HasNumerals g × HasNumerals x × HasNumerals y

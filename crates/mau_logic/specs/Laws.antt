@@ -9,6 +9,8 @@ use Rattle.mau_sigcheck.specs.Built.{IsBuiltAndAccepted}
 use Rattle.mau_facts.specs.declared.document.Section.{Section}
 use Rattle.mau_sorts.specs.HasSort.{Known, HasSort}
 use Rattle.mau_formula.specs.Operator.{Operator}
+use Rattle.mau_formula.specs.Native.{native_operator}
+use Rattle.mau_formula.specs.declared.native.Native.{Native}
 use Rattle.mau_program.specs.declared.program.Program.{Program}
 use Rattle.mau_api.specs.Terms.{IsNormalTerm}
 use Rattle.mau_store.specs.Node.{Node}
@@ -21,7 +23,7 @@ use Rattle.mau_logic.specs.Justified.{IsJustifiedSection}
 use Rattle.mau_logic.specs.Derivable.{Derivable, IsSorted, IsLed}
 use Rattle.mau_logic.specs.Deduction.{equals, belongs, rewrites, Holds}
 use Rattle.mau_logic.specs.Replaced.{ReplaceNormal}
-use Rattle.mau_logic.specs.BuiltKinds.{GivesNumerals}
+use Rattle.mau_logic.specs.BuiltKinds.{GivesNumerals, HasNumerals}
 use Rattle.mau_logic.specs.WellFormed.{IsWellFormed}
 
 -- ---- what is told
@@ -74,3 +76,13 @@ abbrev pub SectionsAreSound : Type 0
 SectionsAreSound =
     (p : Program) → IsBuiltAndAccepted p.sig → IsLawful (terms_over p.sig) → (hooks : List Operator) (x : Section) → IsJustifiedSection p hooks x →
     Each (IsDeduced p hooks) (all_said (section_terms p x) x.facts)
+
+-- ---- native operators
+
+-- a formula of numerals gives numerals for numerals
+abbrev pub LiteralsGiveNumerals : Type 0
+LiteralsGiveNumerals = (o : Operator) → HasNumerals o.formula → GivesNumerals o
+
+-- and so do the native operators
+abbrev pub NativesGiveNumerals : Type 0
+NativesGiveNumerals = (n : Native) → GivesNumerals (native_operator n)

@@ -1,5 +1,5 @@
 //! What is proved of the definitions of this crate. Each function does nothing and has a law for its contract; the laws are stated in `specs/Laws.antt`.
-ghost use Rattle.mau_logic.specs.Laws.{RunsAreLed, SortsAreShown, SectionsAreDerivable, FactsHold, SectionsAreSound};
+ghost use Rattle.mau_logic.specs.Laws.{RunsAreLed, SortsAreShown, SectionsAreDerivable, FactsHold, SectionsAreSound, LiteralsGiveNumerals, NativesGiveNumerals};
 
 /// A sort by declarations, and by what facts tell of other terms, is shown by these facts.
 pub fn sorts_are_shown()
@@ -24,4 +24,14 @@ pub fn facts_hold()
 /// All that a justified section says holds in rewriting logic.
 pub fn sections_are_sound()
     ensures { SectionsAreSound }
+{}
+
+/// A formula over numerals gives numerals for numerals.
+pub fn literals_give_numerals()
+    ensures { LiteralsGiveNumerals }
+{}
+
+/// So do the native operators.
+pub fn natives_give_numerals()
+    ensures { NativesGiveNumerals }
 {}
