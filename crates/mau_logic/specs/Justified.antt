@@ -58,6 +58,11 @@ UsesEquation s e = Uses s (statement_variables (tree_of e.left) e.cond (tree_of 
 abbrev pub UsesRule : SignatureOf → Rule → Tree → Tree → Tree → List Tree → List Says → Type 0
 UsesRule s q = Uses s (statement_variables (tree_of q.left) q.cond (tree_of q.right)) (tree_of q.left) (tree_of q.right) q.cond
 
+-- that of the rule with a number, where the Bool is true, or else of the equation
+abbrev pub UsesStatement : Program → Bool → ℕ → Tree → Tree → Tree → List Tree → List Says → Type 0
+UsesStatement p true n c t u vs us = With (numbered p.rules n) λ q. UsesRule p.sig q c t u vs us
+UsesStatement p false n c t u vs us = With (numbered p.equations n) λ e. UsesEquation p.sig e c t u vs us
+
 -- one use of what is built in of the operator f, over the terms ts; what it gives is a normal form
 pub record UsesBuilt (s : SignatureOf) (hooks : List Operator) (f : ℕ) (c t u : Tree) (ts : List Tree) : Type 0 where
   pub operator : IsOperator s f
@@ -119,11 +124,7 @@ IsJustified p hooks terms before (Same t u axioms) = WithTerm p.sig terms t λ x
 IsJustified p hooks terms before (Step f) =
     WithTerm p.sig terms f.context λ c. WithTerm p.sig terms f.from λ t. WithTerm p.sig terms f.to λ u.
     WithTerms p.sig terms f.bind λ vs. With (all_numbered before f.uses) λ us.
-    by f.rule c t u vs us
-  where
-    by : Bool → Tree → Tree → Tree → List Tree → List Says → Type 0
-    by true c t u vs us = With (numbered p.rules f.number) λ q. UsesRule p.sig q c t u vs us
-    by false c t u vs us = With (numbered p.equations f.number) λ e. UsesEquation p.sig e c t u vs us
+    UsesStatement p f.rule f.number c t u vs us
 IsJustified p hooks terms before (Built f) =
     WithTerm p.sig terms f.context λ c. WithTerm p.sig terms f.from λ t. WithTerm p.sig terms f.to λ u.
     WithTerms p.sig terms f.args λ ts. UsesBuilt p.sig hooks f.op c t u ts

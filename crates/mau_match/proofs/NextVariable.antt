@@ -13,11 +13,12 @@ use Rattle.mau_canon.specs.Standing.{StandWithin}
 use Rattle.mau_canon.proofs.Standing.{stand_there}
 use Rattle.mau_listing.specs.Answers.{IsAnswer}
 use Rattle.mau_listing.proofs.Growth.{question_same}
+use Rattle.mau_terms.specs.Solution.{HaveSorts}
 use Rattle.mau_match.specs.Possible.{Agrees, IsNever}
 use Rattle.mau_match.proofs.Complete.{not_impossible}
 use Rattle.mau_store.specs.Trees.{tree_at, trees_at}
 use Rattle.mau_store.specs.View.{numbers}
-use Rattle.mau_sorts.specs.HasSort.{Known}
+use Rattle.mau_sorts.specs.HasSort.{Known, HasSort}
 use Rattle.mau_listing.specs.declared.places.Place.{Place}
 use Rattle.mau_listing.specs.Places.{variables_in}
 use Rattle.mau_listing.specs.Question.{Question}
@@ -36,7 +37,7 @@ use Rattle.mau_domains.specs.Stored.{IsPartOver}
 use Rattle.mau_match.specs.declared.part.Given.{Given}
 use Rattle.mau_domains.specs.declared.part.Part.{Part as PartOfCode}
 use Rattle.mau_domains.specs.declared.part.Part.TheVariants.{One}
-use Rattle.mau_match.proofs.Answering.{bound_is, value_normal, walked_value, none_refused, occurs_at}
+use Rattle.mau_match.proofs.Answering.{sorts_at, bound_is, value_normal, walked_value, none_refused, occurs_at}
 use Rattle.mau_match.proofs.GivenFor.{names, names_split, names_long, given_names, given_is}
 use Rattle.mau_match.proofs.Good.{IsTerm, AreItemsOf, items_kept, AllGood, good}
 use Rattle.mau_match.proofs.PartsOver.{parts_over}
@@ -84,6 +85,10 @@ module _ (s : SignatureOf) (lawful : IsLawful (terms_over s)) (old : List Node) 
   bound_value_is value among known u us a =
       let same = bound_is s lawful (BySort s known) q ask.pattern xs (variable_of x) zs names_are vs as_many u us a (tree_at old value.0) (in_map {B = Variable × Tree} (λ (b : VarId × TermId). (variable_of b.0, tree_at old b.1.0)) (x, value) t.bound.items among) in
       inl (record { normal = value_normal s lawful (BySort s known) q ask.pattern xs (variable_of x) zs names_are vs as_many u us a; of = same; filled = tt })
+
+  -- the value of the variable has its sort
+  pub next_sort : (known : Known) (u : Tree) (us : List Tree) → AnswerIn s known old t (trees_at old (numbers chosen) ++ u ∷ us) → HasSort s known u (get_or ps (length chosen) no_place).variable.sort
+  next_sort known u us a = sorts_at (BySort s known) xs (variable_of x) zs vs u us as_many (subst (λ ys. HaveSorts (BySort s known) ys (vs ++ u ∷ us)) names_are a.sorts)
 
   module _ (g : Given) (ev : g.variables ≡ map {B = VarId} (λ b. b.0) t.bound.items ++ variables_in (take (length chosen) ps)) (el : g.values ≡ map {B = TermId} (λ b. b.1) t.bound.items ++ chosen) (et : g.target ≡ (get_or ps (length chosen) no_place).variable) where
     walked_is : walked s old g (tree_of t.pattern) (just (tree_at old t.subject.0)) ≡ parts_of (theory_at s) (given_variables q xs) (given_at q xs vs) (variable_of x) (tree_of t.pattern) (just (tree_at old t.subject.0))

@@ -20,5 +20,7 @@ pub mod Listing
 pub mod Walked
 -- values of several parts
 pub mod Values
+-- operators whose lists have a sort in no case
+pub mod Single
 -- the search over a store that grows
 pub mod Searched

@@ -10,7 +10,8 @@ ghost use Rattle.mau_store.specs.Trees.{tree_at, trees_at};
 ghost use Rattle.mau_store.specs.View.{numbers};
 ghost use Rattle.mau_canon.specs.Standing.{StandsWithin, StandWithin};
 ghost use Rattle.mau_sorts.specs.HasSort.{Known};
-ghost use Rattle.mau_listing.specs.Asked.{IsAskable};
+ghost use Rattle.mau_sorts.specs.Table.{AreOver};
+ghost use Rattle.mau_listing.specs.Asked.{IsAskable, IsTableOf};
 ghost use Rattle.mau_listing.specs.Places.{operator_number, variables_in};
 ghost use Rattle.mau_trial.specs.Tried.{ArePlacesOf, asked_in};
 ghost use Rattle.mau_domains.specs.Search.{IsLeastOrNone, first_of};
@@ -23,11 +24,13 @@ ghost use Rattle.mau_match.specs.Searched.{AnswerIn};
 use crate::Given;
 use crate::choices::push;
 use crate::may_match::may_match;
+use crate::single::by_sort;
 use crate::walk::parts_for;
 use mau_canon::BuildFault;
 use mau_domains::{Part, next_value};
 use mau_listing::{Place, compare_lists, is_lawful, value_key_of};
 use mau_signature::Signature;
+use mau_sorts::SortTable;
 use mau_store::Store;
 use mau_terms::{NoMemory, OpId, Seq, TermId, VarId};
 use mau_trial::Trial;
@@ -181,23 +184,33 @@ pub fn candidates(
     places: &[Place],
     store: &mut Store,
     sig: &Signature,
+    sorts: &SortTable,
     chosen: &[TermId],
 ) -> Result<Option<Vec<Part>>, NoMemory>
     requires askable { IsAskable sig.now store.old (asked_in trial.now) }
     requires places { ArePlacesOf sig.now (tree_of trial.now.pattern) places.now }
+    requires over { AreOver sig.now.hierarchy sorts.now }
     requires chosen { StandWithin (theory_at sig.now) store.old (numbers chosen.now) }
     requires room { length chosen.now < length places.now }
     ensures within { IfOk result (λ o. IfSome o (λ parts. All (IsPartOver sig.now store.new) parts.items)) }
-    ensures some { (known : Known) (u : Tree) (us : List Tree) → AnswerIn sig.now known store.old trial.now (trees_at store.old (numbers chosen.now) ++ u ∷ us) →
+    ensures some { (known : Known) (u : Tree) (us : List Tree) → IsTableOf sig.now known store.old sorts.now →
+        AnswerIn sig.now known store.old trial.now (trees_at store.old (numbers chosen.now) ++ u ∷ us) →
         IfOk result (λ o. IfSome o (λ parts. IsValueOfAny (theory_at sig.now) (parts_in store.new parts.items) u)) }
     ensures none { (known : Known) (u : Tree) (us : List Tree) → AnswerIn sig.now known store.old trial.now (trees_at store.old (numbers chosen.now) ++ u ∷ us) →
         IfOk result (λ o. IfNone o ⊥) }
     ensures extends { Extends store.old store.new }
 {
-    if may_answer(trial, places, store, sig, chosen)? {
-        walked_candidates(trial, places, store, sig, chosen)
-    } else {
-        Ok(None)
+    is_lawful(sig);
+    if !may_answer(trial, places, store, sig, chosen)? {
+        return Ok(None);
+    }
+    match walked_candidates(trial, places, store, sig, chosen)? {
+        Some(parts) => {
+            let sort = places[chosen.len()].variable.sort;
+            let found = by_sort(store, sig, sorts, sort, parts)?;
+            Ok(Some(found))
+        }
+        None => Ok(None),
     }
 }
 

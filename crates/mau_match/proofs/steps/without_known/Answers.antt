@@ -6,7 +6,7 @@ use Rattle.mau_canon.specs.Standing.{StandWithin}
 use Rattle.mau_canon.proofs.Standing.{stand_among, stand_within_extended}
 use Rattle.mau_match.specs.Parts.{without_all}
 use Rattle.mau_match.proofs.Taking.{taken_out}
-use Rattle.mau_match.proofs.may_match.without_known.Goals as goal
+use Rattle.mau_match.proofs.steps.without_known.Goals as goal
 
 pub returns-then-remove_all-clause-some : goal.returns-then-remove_all-clause-some
 returns-then-remove_all-clause-some c =
