@@ -6,5 +6,14 @@ pub mod Kinds
 pub mod Ends
 -- which arguments are evaluated
 pub mod Orders
+-- variables with their values
+pub mod Bindings
+-- contexts
+pub mod Contexts
 -- what native operators answer
 pub mod Answered
+
+-- ---- what only inner contracts and proofs cite
+
+-- arguments that have changed places
+pub mod Exchanged

@@ -1,6 +1,7 @@
 //! The arguments of a term, and the order in which they are evaluated.
-ghost use Rattle.std.specs.Prelude.{◌≡◌, ◌×◌, ℕ, List, length, IfOk, IfSome, IfNone};
+ghost use Rattle.std.specs.Prelude.{◌≡◌, ℕ, List, length, IfOk, IfSome, IfNone};
 ghost use Rattle.mau_terms.specs.Tree.{Tree, node};
+ghost use Rattle.mau_terms.specs.Bare.{IsLawful};
 ghost use Rattle.mau_signature.specs.Signature.{IsOperator, declarations_at, strategy_of, terms_over};
 ghost use Rattle.mau_store.specs.Trees.{tree_at, trees_at};
 ghost use Rattle.mau_store.specs.View.{numbers};
@@ -76,7 +77,8 @@ pub fn open(
     sig: &Signature,
     term: TermId,
 ) -> Result<Option<Opened>, NoMemory>
-    requires { IsTerm sig.now store.now term.0 }
+    requires lawful { IsLawful (terms_over sig.now) }
+    requires term { IsTerm sig.now store.now term.0 }
     ensures leaf { IfOk result (λ o. IfNone o (IsLeaf (tree_at store.now term.0))) }
     ensures node { IfOk result (λ o. IfSome o (λ x. tree_at store.now term.0 ≡ node x.op.0 (trees_at store.now (numbers x.args.items)))) }
     ensures order { IfOk result (λ o. IfSome o (λ x. x.order.items ≡ order_in sig.now x.op.0 (trees_at store.now (numbers x.args.items)))) }

@@ -2,9 +2,13 @@
 #![tactic(auto)]
 
 mod arguments;
+mod binding;
 mod natives;
-mod rebuild;
+mod rebuilding;
+mod replacing;
 
 pub use arguments::{Opened, open, order_of};
+pub use binding::Binding;
 pub use natives::{Answered, Hooks, Natives};
-pub use rebuild::{Rebuilt, rebuild};
+pub use rebuilding::{Rebuilt, rebuild};
+pub use replacing::{instance, replace};

@@ -12,6 +12,7 @@ ghost use Rattle.mau_evaluation.specs.Run.{done};
 ghost use Rattle.mau_evaluation.specs.Evaluation.{count_up, names_all, within_limits, top_changed};
 ghost use Rattle.mau_reduce.specs.Kinds.{IsTermIn, AreUnder};
 ghost use Rattle.mau_reduce.specs.Ends.{IsEnd};
+ghost use Rattle.mau_reduce.specs.Exchanged.{AreExchanged};
 
 use mau_api::EvalEnd;
 use mau_canon::build;
@@ -39,7 +40,10 @@ fn names_all(order: &[usize], count: usize) -> bool
 }
 
 /// Whether two arguments stand in each other's places.
-fn are_exchanged(ids: &[TermId], args: &[TermId]) -> bool {
+fn are_exchanged(ids: &[TermId], args: &[TermId]) -> bool
+    ensures exchanged { result ≡ true → AreExchanged ids.now args.now }
+    ensures not_exchanged { result ≡ false → AreExchanged ids.now args.now → ⊥ }
+{
     ids.len() == 2 && args.len() == 2 && ids[0] == args[1] && ids[1] == args[0]
 }
 
@@ -52,6 +56,7 @@ fn top_changed(
     args: &[TermId],
     built: TermId,
 ) -> bool
+    requires lawful { IsLawful (terms_over sig.now) }
     requires under { AreUnder sig.now store.now op.0 (numbers args.now) }
     requires built { StandsWithin (theory_at sig.now) store.now built.0 }
     requires is { tree_at store.now built.0 ≡ norm (theory_at sig.now) (node op.0 (trees_at store.now (numbers args.now))) }
@@ -71,7 +76,10 @@ fn top_changed(
     if ids == args {
         return false;
     }
-    if !sig.theory(op).comm || !are_exchanged(ids, args) {
+    if !sig.theory(op).comm {
+        return true;
+    }
+    if !are_exchanged(ids, args) {
         return true;
     }
     !order.is_empty() && !names_all(order, args.len())
@@ -85,7 +93,8 @@ pub fn rebuild(
     args: &[TermId],
     order: &[usize],
 ) -> Result<Rebuilt, EvalEnd>
-    requires { AreUnder sig.now store.old op.0 (numbers args.now) }
+    requires lawful { IsLawful (terms_over sig.now) }
+    requires under { AreUnder sig.now store.old op.0 (numbers args.now) }
     ensures value { (b : ℕ) → IfOk result (λ x.
         within_limits (theory_at sig.now) (build (theory_at sig.now op.0) op.0 (trees_at store.old (numbers args.now))) b ≡ done (tree_at store.new x.term.0) 0 b) }
     ensures changed { IfOk result (λ x. x.changed ≡ top_changed (theory_at sig.now op.0) order.now op.0 (trees_at store.old (numbers args.now)) (tree_at store.new x.term.0)) }

@@ -1,8 +1,10 @@
 -- Kinds of terms that are taken apart and built again.
-use Rattle.std.proofs.Common.{◌≡◌, ℕ, zero, suc, ◌<◌, ◌≤◌, List, [], ◌∷◌, Bool, true, false, All, Some, map, length, get_or, slice_get, refl, sym, ap, ◌∙◌, subst, arith, set, length-set}
+use Rattle.std.proofs.Common.{◌≡◌, ℕ, zero, suc, ◌<◌, ◌≤◌, List, [], ◌∷◌, Bool, true, false, All, Some, map, length, get_or, slice_get, ◌&&◌, refl, sym, ap, ap₂, ◌∙◌, subst, arith}
+use Rattle.std.proofs.Math.ListN.{set, length-set, get_or-map}
 use Rattle.std.specs.Bool.{MatchBool}
-use Rattle.std.proofs.lemmas.List.{map-set}
-use Rattle.std.proofs.lemmas.List.Elements.{All-set}
+use Rattle.std.proofs.lemmas.List.{map-set, length-map}
+use Rattle.std.proofs.lemmas.List.Elements.{All-set, All-head, All-tail, All-get_or}
+use Rattle.std.proofs.lemmas.Bool.{lt-ltb, le-leb}
 use Rattle.mau_terms.specs.Tree.{Tree, node, trees_of}
 use Rattle.mau_terms.specs.Norm.{norm}
 use Rattle.mau_terms.specs.Bare.{TermSignature, IsBareIn, AreBareIn, IsLawful}
@@ -15,12 +17,13 @@ use Rattle.mau_terms.proofs.Taken.{one_kind, equal_kind}
 use Rattle.mau_terms.proofs.Wholes.{reading_top}
 use Rattle.mau_terms.proofs.Normal.{IsNormal}
 use Rattle.mau_signature.specs.Signature.{SignatureOf, IsOperator, theory_at, terms_over}
-use Rattle.mau_store.specs.Node.{Node, AreNodes, arguments, operator_node}
+use Rattle.mau_store.specs.Node.{Node, AreNodes, Extends, arguments, operator_node}
 use Rattle.mau_store.specs.Trees.{tree_at, trees_at}
 use Rattle.mau_store.specs.View.{numbers}
-use Rattle.mau_store.proofs.Standing.{tree_of_node}
+use Rattle.mau_store.proofs.Standing.{tree_of_node, tree_at-extends}
+use Rattle.mau_store.proofs.Growth.{trees_at-extends}
 use Rattle.mau_canon.specs.Standing.{StandsWithin, StandWithin}
-use Rattle.mau_canon.proofs.Standing.{arguments_stand_within, list_stands_for_nested}
+use Rattle.mau_canon.proofs.Standing.{arguments_stand_within, list_stands_for_nested, stands_within_extended, stand_within_extended, stand_there}
 use Rattle.mau_listing.proofs.Answered.{normal_is}
 use Rattle.mau_evaluation.proofs.BareTerms.{norms-readings}
 use Rattle.mau_trial.specs.Arguments.{AreArguments}
@@ -38,7 +41,7 @@ kind_of_norm s lawful b k bare =
 -- the numbers stand for normal forms
 pub norms_of : (th : ℕ → Theory) (nodes : List Node) (ids : List ℕ) → StandWithin th nodes ids → AreNorms th (trees_at nodes ids)
 norms_of th nodes [] h = tt
-norms_of th nodes (i ∷ ids) h = ((h 0 i (omega arith, refl)).normal, norms_of th nodes ids (λ k x c. h (suc k) x (omega (arith, c.0), c.1)))
+norms_of th nodes (i ∷ ids) h = ((All-head (StandsWithin th nodes) i ids h).normal, norms_of th nodes ids (All-tail (StandsWithin th nodes) i ids h))
 
 module _ (s : SignatureOf) (lawful : IsLawful (terms_over s)) where
   abbrev th : ℕ → Theory
@@ -71,16 +74,18 @@ module _ (s : SignatureOf) (lawful : IsLawful (terms_over s)) where
       by true e h = two_of_kind (terms_over s) lawful f op e (reading th) ts h.0 h.1
 
   has_operator : (f : ℕ) → IsOperator s f → (terms_over s).has_operator f ≡ true
-  has_operator f h = ?
+  has_operator f h = ap₂ (λ a b. a && b) (lt-ltb 0 f h.0) (le-leb f (length s.declarations) h.1)
+
+  pub built_kind : (f : ℕ) (ts : List Tree) → (terms_over s).has_operator f ≡ true → AreNorms th ts → AreArguments s f ts → IsBareIn (terms_over s) (reading th (norm th (node f ts))) ((terms_over s).result f)
+  built_kind f ts op norms args =
+      let rs = map (reading th) ts in
+      let b = nested_bare f ts op args in
+      let e : norm th (node f ts) ≡ norm th (nest (th f).assoc f rs)
+      = ap (λ us. norm th (node f us)) (sym (norms-readings th lawful.theories ts norms)) ∙ list_stands_for_nested th lawful.theories f rs in
+      subst (λ t. IsBareIn (terms_over s) (reading th t) ((terms_over s).result f)) (sym e) (kind_of_norm (terms_over s) lawful (nest (th f).assoc f rs) ((terms_over s).result f) b)
 
   pub built_in_kind : (nodes : List Node) (f : ℕ) (ids : List ℕ) → AreUnder s nodes f ids → IsBareIn (terms_over s) (reading th (norm th (node f (trees_at nodes ids)))) ((terms_over s).result f)
-  built_in_kind nodes f ids under =
-      let ts = trees_at nodes ids in
-      let rs = map (reading th) ts in
-      let b = nested_bare f ts (has_operator f under.operator) under.kinds in
-      let e : norm th (node f ts) ≡ norm th (nest (th f).assoc f rs)
-      = ap (λ us. norm th (node f us)) (sym (norms-readings th lawful.theories ts (norms_of th nodes ids under.within))) ∙ list_stands_for_nested th lawful.theories f rs in
-      subst (λ t. IsBareIn (terms_over s) (reading th t) ((terms_over s).result f)) (sym e) (kind_of_norm (terms_over s) lawful (nest (th f).assoc f rs) ((terms_over s).result f) b)
+  built_in_kind nodes f ids under = built_kind f (trees_at nodes ids) (has_operator f under.operator) (norms_of th nodes ids under.within) under.kinds
 
 -- ---- an argument with another one of its kind in its place
 
@@ -92,18 +97,51 @@ module _ (s : TermSignature) (R : Tree → Tree) (k : ℕ) (v : Tree) where
   put_bare (t ∷ ts) (j ∷ ks) (suc i) d h b c all = (all.0, put_bare ts ks i d (omega arith) b c all.1)
 
   put_all : (r : ℕ) (ts : List Tree) (i : ℕ) (d : Tree) → i < length ts → IsBareIn s (R (get_or ts i d)) k → IsBareIn s (R v) k → All (λ t. IsBareIn s (R t) r) ts → All (λ t. IsBareIn s (R t) r) (set ts i v)
-  put_all r ts i d h b c all = All-set (λ t. IsBareIn s (R t) r) ts i v (subst (IsBareIn s (R v)) (one_kind s (R (get_or ts i d)) k r b ?) c) all
+  put_all r ts i d h b c all = All-set (λ t. IsBareIn s (R t) r) ts i v (subst (IsBareIn s (R v)) (one_kind s (R (get_or ts i d)) k r b (All-get_or (λ t. IsBareIn s (R t) r) ts i d h all)) c) all
 
-pub under_put : (s : SignatureOf) (nodes : List Node) (f k : ℕ) (ids : List ℕ) (i v : ℕ) → i < length ids → IsTermIn s nodes k (get_or ids i 0) → IsTermIn s nodes k v → AreUnder s nodes f ids → AreUnder s nodes f (set ids i v)
-under_put s nodes f k ids i v h old new under = record {
+pub under_put : (s : SignatureOf) (nodes : List Node) (f k : ℕ) (ids : List ℕ) (i d v : ℕ) → i < length ids → IsTermIn s nodes k (get_or ids i d) → IsTermIn s nodes k v → AreUnder s nodes f ids → AreUnder s nodes f (set ids i v)
+under_put s nodes f k ids i d v h old new under = record {
   operator = under.operator;
   within = All-set (StandsWithin (theory_at s) nodes) ids i v new.within under.within;
   kinds = subst (λ ts. AreArguments s f ts) (sym (map-set (tree_at nodes) ids i v)) (by (theory_at s f).assoc under.kinds);
 }
   where
+    R : Tree → Tree
+    R = reading (theory_at s)
+
+    ts : List Tree
+    ts = trees_at nodes ids
+
+    low : i < length ts
+    low = omega (arith, h, length-map ids (tree_at nodes))
+
+    first : IsBareIn (terms_over s) (R (get_or ts i (tree_at nodes d))) k
+    first = subst (λ t. IsBareIn (terms_over s) (R t) k) (sym (get_or-map (tree_at nodes) ids i d)) old.bare
+
     by : (a : Bool)
-        → MatchBool a ((2 ≤ length (trees_at nodes ids)) × All (λ t. IsBareIn (terms_over s) (reading (theory_at s) t) ((terms_over s).result f)) (trees_at nodes ids)) (AreBareIn (terms_over s) (trees_of (map (reading (theory_at s)) (trees_at nodes ids))) ((terms_over s).arguments f))
-        → MatchBool a ((2 ≤ length (set (trees_at nodes ids) i (tree_at nodes v))) × All (λ t. IsBareIn (terms_over s) (reading (theory_at s) t) ((terms_over s).result f)) (set (trees_at nodes ids) i (tree_at nodes v)))
-            (AreBareIn (terms_over s) (trees_of (map (reading (theory_at s)) (set (trees_at nodes ids) i (tree_at nodes v)))) ((terms_over s).arguments f))
-    by true all = ?
-    by false all = ?
+        → MatchBool a ((2 ≤ length ts) × All (λ t. IsBareIn (terms_over s) (R t) ((terms_over s).result f)) ts) (AreBareIn (terms_over s) (trees_of (map R ts)) ((terms_over s).arguments f))
+        → MatchBool a ((2 ≤ length (set ts i (tree_at nodes v))) × All (λ t. IsBareIn (terms_over s) (R t) ((terms_over s).result f)) (set ts i (tree_at nodes v)))
+            (AreBareIn (terms_over s) (trees_of (map R (set ts i (tree_at nodes v)))) ((terms_over s).arguments f))
+    by true all = (omega (arith, all.0, length-set ts i (tree_at nodes v)), put_all (terms_over s) R k (tree_at nodes v) ((terms_over s).result f) ts i (tree_at nodes d) low first new.bare all.1)
+    by false all = put_bare (terms_over s) R k (tree_at nodes v) ts ((terms_over s).arguments f) i (tree_at nodes d) low first new.bare all
+
+-- ---- in a store that grows
+
+pub tree_kept : (th : ℕ → Theory) (old new : List Node) (i : ℕ) → Extends old new → StandsWithin th old i → tree_at new i ≡ tree_at old i
+tree_kept th old new i x h = tree_at-extends old new i x h.there
+
+pub term_kept : (s : SignatureOf) (old new : List Node) (k i : ℕ) → Extends old new → IsTermIn s old k i → IsTermIn s new k i
+term_kept s old new k i x h = record {
+  within = stands_within_extended (theory_at s) old new x i h.within;
+  bare = subst (λ t. IsBareIn (terms_over s) (reading (theory_at s) t) k) (sym (tree_kept (theory_at s) old new i x h.within)) h.bare;
+}
+
+pub trees_kept : (th : ℕ → Theory) (old new : List Node) (ids : List ℕ) → Extends old new → StandWithin th old ids → trees_at new ids ≡ trees_at old ids
+trees_kept th old new ids x h = trees_at-extends old new ids x (stand_there th old ids h)
+
+pub under_kept : (s : SignatureOf) (old new : List Node) (f : ℕ) (ids : List ℕ) → Extends old new → AreUnder s old f ids → AreUnder s new f ids
+under_kept s old new f ids x h = record {
+  operator = h.operator;
+  within = stand_within_extended (theory_at s) old new ids x h.within;
+  kinds = subst (AreArguments s f) (sym (trees_kept (theory_at s) old new ids x h.within)) h.kinds;
+}
