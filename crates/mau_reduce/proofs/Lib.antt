@@ -12,3 +12,9 @@ pub mod Limits
 pub mod Bound
 -- contexts
 pub mod Around
+-- tables of sorts
+pub mod PlainTables
+-- sorts without memberships
+pub mod PlainSorts
+-- solutions that are left
+pub mod Leftover

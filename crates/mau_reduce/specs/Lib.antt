@@ -1,5 +1,7 @@
 -- What evaluation over a store is made of, to be read in this order.
 
+-- what is asked of a program
+pub mod Reducible
 -- terms by their kinds
 pub mod Kinds
 -- how a computation ends
@@ -10,6 +12,10 @@ pub mod Orders
 pub mod Bindings
 -- contexts
 pub mod Contexts
+-- tables of sorts
+pub mod Tables
+-- equations that are tried
+pub mod Trying
 -- what native operators answer
 pub mod Answered
 

@@ -6,9 +6,11 @@ mod binding;
 mod natives;
 mod rebuilding;
 mod replacing;
+mod settling;
 
 pub use arguments::{Opened, open, order_of};
 pub use binding::Binding;
 pub use natives::{Answered, Hooks, Natives};
 pub use rebuilding::{Rebuilt, rebuild};
 pub use replacing::{instance, replace};
+pub use settling::{settle, settle_identities};
