@@ -18,3 +18,8 @@ pub mod PlainTables
 pub mod PlainSorts
 -- solutions that are left
 pub mod Leftover
+-- kinds and contexts of solutions
+pub mod SortKinds
+pub mod Fitting
+-- candidates
+pub mod Candidates

@@ -1,5 +1,5 @@
 -- Equations that are tried at the top of a term, one solution after another.
-use Rattle.std.specs.Prelude.{ℕ, suc, List, [], ◌∷◌, ◌++◌, Bool, true, false, ◌&&◌, not, if◌then◌else◌, Option, Some, None, slice_get}
+use Rattle.std.specs.Prelude.{◌≡◌, ℕ, suc, length, List, [], ◌∷◌, ◌++◌, Bool, true, false, ◌&&◌, not, if◌then◌else◌, Option, Some, None, slice_get}
 use Rattle.mau_terms.specs.Tree.{Tree}
 use Rattle.mau_store.specs.Node.{Node}
 use Rattle.mau_store.specs.Trees.{trees_at}
@@ -9,6 +9,11 @@ use Rattle.mau_listing.specs.declared.solution.Solution as Given
 use Rattle.mau_evaluation.specs.Run.{Run, gives, and_try, or_else, first_of}
 use Rattle.mau_evaluation.specs.Program.{Equation, Program}
 use Rattle.mau_evaluation.specs.Listing.{Solution, keep, compare, solutions_within}
+use Rattle.mau_terms.specs.Subst.{variables}
+use Rattle.mau_signature.specs.Signature.{SignatureOf, theory_at}
+use Rattle.mau_canon.specs.Standing.{StandWithin}
+use Rattle.mau_reduce.specs.Bindings.{HaveKinds}
+use Rattle.mau_reduce.specs.Contexts.{AreContexts}
 use Rattle.mau_evaluation.specs.Evaluation.{levels, solve, apply_for, binding_of, replaced}
 
 -- a solution by numbers, over the nodes of a store
@@ -31,6 +36,13 @@ applied_by P B k e t xs = first_of (apply_for P (levels P B k) (levels P B (suc 
 -- the same by the solution x alone, whose values have their sorts
 abbrev pub candidate_gives : Program → ℕ → ℕ → Equation → Tree → Solution → Run (Option Tree)
 candidate_gives P B k e t x = and_try (solve P (levels P B k) e.cond (binding_of e.left x)) λ o. gives (replaced P.sign.theory e t x o)
+
+-- a solution of the left side p in t, by numbers: its contexts stand around a part of t, and its values, one for each variable of p, are terms of their kinds
+pub record IsCandidate (s : SignatureOf) (nodes : List Node) (p t : Tree) (x : Given.Solution) : Type 0 where
+  pub contexts : AreContexts s nodes t (numbers x.left) (numbers x.right)
+  pub one_each : length x.values ≡ length (variables p)
+  pub within : StandWithin (theory_at s) nodes (numbers x.values)
+  pub kinds : HaveKinds s (variables p) (trees_at nodes (numbers x.values))
 
 -- what the equation with the number i makes of t, counted from 0
 abbrev pub applied_number : Program → ℕ → ℕ → Tree → ℕ → Run (Option Tree)

@@ -7,6 +7,7 @@ mod natives;
 mod rebuilding;
 mod replacing;
 mod settling;
+mod trying;
 
 pub use arguments::{Opened, open, order_of};
 pub use binding::Binding;
