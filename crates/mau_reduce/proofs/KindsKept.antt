@@ -29,6 +29,8 @@ use Rattle.mau_evaluation.proofs.BareTerms.{norms-readings}
 use Rattle.mau_trial.specs.Arguments.{AreArguments}
 use Rattle.mau_trial.proofs.OfKind.{two_of_kind, bare_operator, bare_arguments}
 use Rattle.mau_terms.specs.declared.ids.TermId.{TermId}
+use Rattle.mau_terms.specs.Bare.{IsBare}
+use Rattle.mau_api.specs.Terms.{IsTerm}
 use Rattle.mau_reduce.specs.Kinds.{IsTermIn, AreUnder}
 
 -- the reading of a normal form is of the kind of each bare term with this normal form
@@ -121,7 +123,7 @@ under_put s nodes f k ids i d v h old new under = record {
     by : (a : Bool)
         → MatchBool a ((2 ≤ length ts) × All (λ t. IsBareIn (terms_over s) (R t) ((terms_over s).result f)) ts) (AreBareIn (terms_over s) (trees_of (map R ts)) ((terms_over s).arguments f))
         → MatchBool a ((2 ≤ length (set ts i (tree_at nodes v))) × All (λ t. IsBareIn (terms_over s) (R t) ((terms_over s).result f)) (set ts i (tree_at nodes v)))
-            (AreBareIn (terms_over s) (trees_of (map R (set ts i (tree_at nodes v)))) ((terms_over s).arguments f))
+        (AreBareIn (terms_over s) (trees_of (map R (set ts i (tree_at nodes v)))) ((terms_over s).arguments f))
     by true all = (omega (arith, all.0, length-set ts i (tree_at nodes v)), put_all (terms_over s) R k (tree_at nodes v) ((terms_over s).result f) ts i (tree_at nodes d) low first new.bare all.1)
     by false all = put_bare (terms_over s) R k (tree_at nodes v) ts ((terms_over s).arguments f) i (tree_at nodes d) low first new.bare all
 
@@ -144,4 +146,10 @@ under_kept s old new f ids x h = record {
   operator = h.operator;
   within = stand_within_extended (theory_at s) old new ids x h.within;
   kinds = subst (AreArguments s f) (sym (trees_kept (theory_at s) old new ids x h.within)) h.kinds;
+}
+
+pub is_term_kept : (s : SignatureOf) (old new : List Node) (i : ℕ) → Extends old new → IsTerm s old i → IsTerm s new i
+is_term_kept s old new i x h = record {
+  within = stands_within_extended (theory_at s) old new x i h.within;
+  bare = subst (λ t. IsBare (terms_over s) (reading (theory_at s) t)) (sym (tree_kept (theory_at s) old new i x h.within)) h.bare;
 }

@@ -118,7 +118,7 @@ module _ (c : Solution → Solution → Ordering) (total : IsTotalOrder c) where
             }
         by below true k false h =
             let at : head (if false then y ∷ keep test (keep (behind last) ys) else keep test (keep (behind last) ys)) ≡ Some x =
-                sym (ap (λ d. head (keep test (if d then y ∷ keep (behind last) ys else keep (behind last) ys))) k ∙ ap (λ d. head (if d then y ∷ keep test (keep (behind last) ys) else keep test (keep (behind last) ys))) h) ∙ e in
+            sym (ap (λ d. head (keep test (if d then y ∷ keep (behind last) ys else keep (behind last) ys))) k ∙ ap (λ d. head (if d then y ∷ keep test (keep (behind last) ys) else keep test (keep (behind last) ys))) h) ∙ e in
             let p = below at in
             record {
               there = inr p.there;
@@ -130,7 +130,7 @@ module _ (c : Solution → Solution → Ordering) (total : IsTotalOrder c) where
             }
         by below true k true h =
             let at : Some y ≡ Some x =
-                sym (ap (λ d. head (keep test (if d then y ∷ keep (behind last) ys else keep (behind last) ys))) k ∙ ap (λ d. head (if d then y ∷ keep test (keep (behind last) ys) else keep test (keep (behind last) ys))) h) ∙ e in
+            sym (ap (λ d. head (keep test (if d then y ∷ keep (behind last) ys else keep (behind last) ys))) k ∙ ap (λ d. head (if d then y ∷ keep test (keep (behind last) ys) else keep test (keep (behind last) ys))) h) ∙ e in
             let same : y ≡ x = cc in
             let own : keep (behind (Some y)) (y ∷ ys) ≡ ys = ap (λ d. if d then y ∷ keep (behind (Some y)) ys else keep (behind (Some y)) ys) (not_itself y) ∙ all_after y ys ascends.0 in
             let others : keep (behind last) ys ≡ ys = all_behind last y ys k ascends.0 in
@@ -193,17 +193,17 @@ module _ (Is : Matcher → Type 0) (th : ℕ → Theory) (p : Tree) (test : Solu
   left_behind ascends left last = record {
     each = λ m. (
       (λ i.
-      let y = from_map as_matcher (after last) m i in
-      let a = from_keep test y.0 (keep (comes_behind (compare th p) last) xs) y.1 in
-      let b = from_keep (comes_behind (compare th p) last) y.0 xs a.0 in (
-        ((left.each m).0 (subst (λ w. IsIn w (map as_matcher (keep test xs))) (sym y.2) (in_map as_matcher y.0 (keep test xs) (in_keep test y.0 xs b.0 a.1)))).0,
-        subst (IsBehind Cmp (option_map as_matcher last)) (sym y.2) (behind_so last y.0 b.1),
-      )),
+          let y = from_map as_matcher (after last) m i in
+          let a = from_keep test y.0 (keep (comes_behind (compare th p) last) xs) y.1 in
+          let b = from_keep (comes_behind (compare th p) last) y.0 xs a.0 in (
+            ((left.each m).0 (subst (λ w. IsIn w (map as_matcher (keep test xs))) (sym y.2) (in_map as_matcher y.0 (keep test xs) (in_keep test y.0 xs b.0 a.1)))).0,
+            subst (IsBehind Cmp (option_map as_matcher last)) (sym y.2) (behind_so last y.0 b.1),
+          )),
       (λ h.
-      let y = from_map as_matcher (keep test xs) m ((left.each m).1 (h.0, tt)) in
-      let a = from_keep test y.0 xs y.1 in
-      let b = so_behind last y.0 (subst (IsBehind Cmp (option_map as_matcher last)) y.2 h.1) in
-      subst (λ w. IsIn w (map as_matcher (after last))) (sym y.2)
+          let y = from_map as_matcher (keep test xs) m ((left.each m).1 (h.0, tt)) in
+          let a = from_keep test y.0 xs y.1 in
+          let b = so_behind last y.0 (subst (IsBehind Cmp (option_map as_matcher last)) y.2 h.1) in
+          subst (λ w. IsIn w (map as_matcher (after last))) (sym y.2)
           (in_map as_matcher y.0 (after last) (in_keep test y.0 (keep (comes_behind (compare th p) last) xs) (in_keep (comes_behind (compare th p) last) y.0 xs a.0 b) a.1))),
     );
     ascend = ascend_kept test (keep (comes_behind (compare th p) last) xs) (ascend_kept (comes_behind (compare th p) last) xs (as_matchers xs ascends));

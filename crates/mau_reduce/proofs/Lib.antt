@@ -23,3 +23,5 @@ pub mod SortKinds
 pub mod Fitting
 -- candidates
 pub mod Candidates
+-- equations by their numbers
+pub mod Numbered

@@ -138,6 +138,7 @@ module _ (p : Typed.Program) (hooks : List Operator) (accepted : IsBuiltAndAccep
 
   mutual
     unfolding plain_in
+
     exact_in : (n : ℕ) (t : Tree) → size t ≤ n → IsTreeOver s t → IsExact n t
     exact_in zero t h over = λ r. absurd (positive t h)
     exact_in (suc n) (variable i q) h over = λ r. both_ways (P.above q) (variable i q) r _ (sorts_above_are_all s.hierarchy accepted.poset q over r)

@@ -62,7 +62,6 @@ cases zero = few (omega arith)
 cases (suc zero) = few (omega arith)
 cases (suc (suc n)) = many (omega arith)
 
-
 module _ (u : Option Identity) (succ : Bool) (f : ℕ) where
   -- what is made of one piece or of none is no list
   few_no_list : (qs : List Tree) → Each (IsPiece true u f) qs → length qs < 2 → IsNoList f (finish true u succ f qs)

@@ -18,7 +18,6 @@ pub mod Tables
 pub mod Trying
 -- what native operators answer
 pub mod Answered
-
 -- ---- what only inner contracts and proofs cite
 
 -- arguments that have changed places

@@ -1,7 +1,13 @@
 -- Equations that are tried at the top of a term, one solution after another.
 use Rattle.std.specs.Prelude.{◌≡◌, ℕ, suc, length, List, [], ◌∷◌, ◌++◌, Bool, true, false, ◌&&◌, not, if◌then◌else◌, Option, Some, None, slice_get}
 use Rattle.mau_terms.specs.Tree.{Tree}
+use Rattle.mau_terms.specs.View.{tree_of}
+use Rattle.mau_terms.specs.declared.ids.TermId.{TermId}
 use Rattle.mau_store.specs.Node.{Node}
+use Rattle.mau_sorts.specs.Table.{Table}
+use Rattle.mau_listing.specs.Asked.{Asked, asks, CanGoOn}
+use Rattle.mau_program.specs.declared.program.Program as Typed
+use Rattle.mau_program.specs.declared.statements.Equation as Written
 use Rattle.mau_store.specs.Trees.{trees_at}
 use Rattle.mau_store.specs.View.{numbers}
 use Rattle.mau_listing.specs.Finite.{comes_behind}
@@ -44,9 +50,49 @@ pub record IsCandidate (s : SignatureOf) (nodes : List Node) (p t : Tree) (x : G
   pub within : StandWithin (theory_at s) nodes (numbers x.values)
   pub kinds : HaveKinds s (variables p) (trees_at nodes (numbers x.values))
 
+-- what an equation makes of t, if there is one
+abbrev pub applied_one : Program → ℕ → ℕ → Tree → Option Equation → Run (Option Tree)
+applied_one P B k t (Some e) = applied_by P B k e t (solutions_within P.sign e.left t)
+applied_one P B k t None = gives None
+
 -- what the equation with the number i makes of t, counted from 0
 abbrev pub applied_number : Program → ℕ → ℕ → Tree → ℕ → Run (Option Tree)
-applied_number P B k t i = elim (slice_get P.equations i) [ Some e ↦ applied_by P B k e t (solutions_within P.sign e.left t) | None ↦ gives None ]
+applied_number P B k t i = applied_one P B k t (slice_get P.equations i)
+
+-- what is left of it behind the last solution
+abbrev pub left_of_one : Program → ℕ → ℕ → Tree → Option Solution → Option Equation → Run (Option Tree)
+left_of_one P B k t last (Some e) = applied_by P B k e t (solutions_behind P e t last)
+left_of_one P B k t last None = gives None
+
+abbrev pub left_of_number : Program → ℕ → ℕ → Tree → ℕ → Option Solution → Run (Option Tree)
+left_of_number P B k t i last = left_of_one P B k t last (slice_get P.equations i)
+
+-- what is left of an equation behind its last solution, and then the equations with these numbers
+abbrev pub left_of_all : Program → ℕ → ℕ → Tree → ℕ → Option Solution → List ℕ → Run (Option Tree)
+left_of_all P B k t i last is = or_else (left_of_number P B k t i last) (first_of (applied_number P B k t) is)
+
+-- The equation with the number i is tried at the top of a term: a listing with contexts, if c, was asked for its left side there, is one for this signature, and
+-- can go on behind its last solution
+pub record IsTried (c : Bool) (p : Typed.Program) (nodes : List Node) (table : Table) (term : TermId) (i : ℕ) (asks_for : Asked) (last : Option Given.Solution) (is_for : Type 0) : Type 0 where
+  pub equation : Written.Equation
+  pub at : slice_get p.equations i ≡ Some equation
+  pub asked : asks_for ≡ asks (tree_of equation.left) [] term
+  pub signature : is_for
+  pub ready : CanGoOn c p.sig nodes table asks_for last
+
+-- x is a candidate for the equation with the number i
+pub record IsFound (p : Typed.Program) (nodes : List Node) (t : Tree) (i : ℕ) (x : Given.Solution) : Type 0 where
+  pub equation : Written.Equation
+  pub at : slice_get p.equations i ≡ Some equation
+  pub candidate : IsCandidate p.sig nodes (tree_of equation.left) t x
+
+-- what it gives
+abbrev pub one_gives : Program → ℕ → ℕ → Tree → Solution → Option Equation → Run (Option Tree)
+one_gives P B k t x (Some e) = candidate_gives P B k e t x
+one_gives P B k t x None = gives None
+
+abbrev pub number_gives : Program → ℕ → ℕ → Tree → ℕ → Solution → Run (Option Tree)
+number_gives P B k t i x = one_gives P B k t x (slice_get P.equations i)
 
 -- the numbers from n on of the executable equations, of those with owise or of those without
 abbrev pub numbers_of : Bool → ℕ → List Equation → List ℕ

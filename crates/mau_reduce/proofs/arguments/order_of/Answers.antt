@@ -20,7 +20,7 @@ pub returns : goal.returns
 returns c =
     IfOk-then (λ v. (ts : List Tree) → length ts ≡ c.args.count → v.items ≡ count_up 0 ts) (λ v. (ts : List Tree) → length ts ≡ c.args.count → v.items ≡ order_in c.args.sig.now c.args.op.0 ts)
     (λ v p ts e. p ts e ∙ order_all (theory_at c.args.sig.now c.args.op.0).assoc c.in_ok-named.named.items (places_of (strategy_of (declarations_at c.args.sig.now c.args.op.0))) ts
-        (ap (λ h. h.assoc) (sym c.theory.ensures.value) ∙ c.if-not-theory.false)
-        (c.in_ok-named.ensures ∙ ap places_of c.strat.ensures.value)
-        (λ h. eqb-false (vec_len c.in_ok-named.named) 0 (sym c.is_empty.ensures ∙ c.if-is_empty.false) (omega (arith, h, c.in_ok-named.named.ok.0))))
+    (ap (λ h. h.assoc) (sym c.theory.ensures.value) ∙ c.if-not-theory.false)
+    (c.in_ok-named.ensures ∙ ap places_of c.strat.ensures.value)
+    (λ h. eqb-false (vec_len c.in_ok-named.named) 0 (sym c.is_empty.ensures ∙ c.if-is_empty.false) (omega (arith, h, c.in_ok-named.named.ok.0))))
     c.all_places.result c.all_places.ensures

@@ -6,7 +6,7 @@ use Rattle.mau_reduce.proofs.rebuilding.names_all.Goals as goal
 pub returns-then-not-contains : goal.returns-then-not-contains
 returns-then-not-contains c = λ ts e.
     sym (names_missing c.args.order.now 0 ts c.loop-place.place-counter (omega arith) (omega (arith, e, c.loop-place-test.true))
-        (sym (has_number-any c.args.order.now c.loop-place.place-counter) ∙ (sym c.contains.ensures.value ∙ c.if-not-contains.true)))
+    (sym (has_number-any c.args.order.now c.loop-place.place-counter) ∙ (sym c.contains.ensures.value ∙ c.if-not-contains.true)))
 
 pub loop-place-preserved : goal.loop-place-preserved
 loop-place-preserved c =

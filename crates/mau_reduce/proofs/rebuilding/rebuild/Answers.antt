@@ -40,7 +40,7 @@ pub returns-clause-changed : goal.returns-clause-changed
 returns-clause-changed c =
     c.top_changed-changed.ensures
     ∙ ap (λ ts. top_changed (theory_at c.args.sig.now c.args.op.0) c.args.order.now c.args.op.0 ts (tree_at c.build.new.store c.in-Ok.term.0))
-        (trees_kept (theory_at c.args.sig.now) c.args.store.now c.build.new.store (numbers c.args.args.now) c.in-Ok.ensures.extends c.requires.under.within)
+    (trees_kept (theory_at c.args.sig.now) c.args.store.now c.build.new.store (numbers c.args.args.now) c.in-Ok.ensures.extends c.requires.under.within)
 
 pub returns-clause-term : goal.returns-clause-term
 returns-clause-term c = record {

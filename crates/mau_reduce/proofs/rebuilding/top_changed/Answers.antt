@@ -16,9 +16,9 @@ returns-else-eq c = is_no_node c.args.sig.now c.requires.lawful c.args.store.now
 
 pub returns-in-Num : goal.returns-in-Num
 returns-in-Num c = is_no_node c.args.sig.now c.requires.lawful c.args.store.now c.view.ensures.nodes c.args.op.0 c.args.order.now c.args.args.now c.requires.under c.args.built.0 c.requires.built c.requires.is (λ us h. elim c.in-Num.is [
-    | inl p ↦ let q : numeral p.0 ≡ node c.args.op.0 us = sym (c.view.ensures.tree ∙ ap (λ v. tree_over (tree_at c.args.store.now) (node_of v)) p.1) ∙ h in cc
-    | inr p ↦ let q : variable p.0.index p.0.sort ≡ node c.args.op.0 us = sym (c.view.ensures.tree ∙ ap (λ v. tree_over (tree_at c.args.store.now) (node_of v)) p.1) ∙ h in cc
-  ])
+  | inl p ↦ let q : numeral p.0 ≡ node c.args.op.0 us = sym (c.view.ensures.tree ∙ ap (λ v. tree_over (tree_at c.args.store.now) (node_of v)) p.1) ∙ h in cc
+  | inr p ↦ let q : variable p.0.index p.0.sort ≡ node c.args.op.0 us = sym (c.view.ensures.tree ∙ ap (λ v. tree_over (tree_at c.args.store.now) (node_of v)) p.1) ∙ h in cc
+])
 
 pub returns-then-theory : goal.returns-then-theory
 returns-then-theory c =

@@ -22,7 +22,6 @@ use Rattle.mau_reduce.proofs.Bound.{instance_bound, instance_of_kind}
 use Rattle.mau_reduce.proofs.Limits.{refused_ends_as}
 use Rattle.mau_reduce.proofs.replacing.replace.Goals as goal
 
-
 -- the trees of a list of none
 none_of_trees : (nodes : _) (ids : List TermId) → trees_at nodes (numbers ids) ≡ [] → ids ≡ []
 none_of_trees nodes [] e = refl
@@ -33,7 +32,7 @@ returns-then-stands_alone-clause-ends c = λ b.
     let both = c.stands_alone.ensures.alone c.if-stands_alone.true in
     subst (λ u. IfErr c.instance.result (IsEnd (admit (theory_at c.args.sig.now) u b)))
     (sym (in_none (theory_at c.args.sig.now) (tree_at c.args.store.now c.args.term.0) (trees_at c.args.store.now (numbers c.args.solution.now.left)) (trees_at c.args.store.now (numbers c.args.solution.now.right))
-        (instance (look_up (bound_in c.args.store.now c.args.binding.now)) (tree_of c.args.right.now)) (ap (λ xs. trees_at c.args.store.now (numbers xs)) both.0) (ap (λ xs. trees_at c.args.store.now (numbers xs)) both.1)))
+    (instance (look_up (bound_in c.args.store.now c.args.binding.now)) (tree_of c.args.right.now)) (ap (λ xs. trees_at c.args.store.now (numbers xs)) both.0) (ap (λ xs. trees_at c.args.store.now (numbers xs)) both.1)))
     (c.instance.ensures.ends b)
 
 pub returns-in-Ok-clause-value : goal.returns-in-Ok-clause-value
@@ -52,9 +51,9 @@ returns-in-Ok-clause-value c =
     let left = norms_of th old (numbers c.args.solution.now.left) (left_within c.args.sig.now old t (numbers c.args.solution.now.left) (numbers c.args.solution.now.right) c.requires.contexts) in
     let right = norms_of th old (numbers c.args.solution.now.right) (right_within c.args.sig.now old t (numbers c.args.solution.now.left) (numbers c.args.solution.now.right) c.requires.contexts) in
     let same : G c.items.result.now c.items-in-Some.result.now c.deref.result.now c.deref-in-Some.result.now ≡ norm th (node f (ls ++ u ∷ rs)) =
-        ap₂ (λ l r. G l r c.deref.result.now c.deref-in-Some.result.now) c.items.ensures c.items-in-Some.ensures
-        ∙ (ap₂ (λ ys ids. G c.args.solution.now.left c.args.solution.now.right ys ids) c.deref.ensures.value c.deref-in-Some.ensures.value
-        ∙ ap (λ w. norm th (node f (ls ++ w ∷ rs))) (instance_bound xs vs (tree_of c.args.right.now))) in
+    ap₂ (λ l r. G l r c.deref.result.now c.deref-in-Some.result.now) c.items.ensures c.items-in-Some.ensures
+    ∙ (ap₂ (λ ys ids. G c.args.solution.now.left c.args.solution.now.right ys ids) c.deref.ensures.value c.deref-in-Some.ensures.value
+    ∙ ap (λ w. norm th (node f (ls ++ w ∷ rs))) (instance_bound xs vs (tree_of c.args.right.now))) in
     let whole : norm th (in_context th t ls rs u) ≡ norm th (node f (ls ++ u ∷ rs)) = norm_around th c.requires.lawful.theories f ls rs some left right u t c.in-Some.ensures.some.0 c.in-Some.ensures.some.1 in
     c.in-Ok.ensures.ok ∙ (same ∙ sym whole)
 
@@ -74,13 +73,13 @@ returns-in-Ok-clause-kind c = λ k term bare.
     let left = norms_of th old (numbers c.args.solution.now.left) (left_within c.args.sig.now old t (numbers c.args.solution.now.left) (numbers c.args.solution.now.right) c.requires.contexts) in
     let right = norms_of th old (numbers c.args.solution.now.right) (right_within c.args.sig.now old t (numbers c.args.solution.now.left) (numbers c.args.solution.now.right) c.requires.contexts) in
     let same : G c.items.result.now c.items-in-Some.result.now c.deref.result.now c.deref-in-Some.result.now ≡ norm th (node f (ls ++ u ∷ rs)) =
-        ap₂ (λ l r. G l r c.deref.result.now c.deref-in-Some.result.now) c.items.ensures c.items-in-Some.ensures
-        ∙ (ap₂ (λ ys ids. G c.args.solution.now.left c.args.solution.now.right ys ids) c.deref.ensures.value c.deref-in-Some.ensures.value
-        ∙ ap (λ w. norm th (node f (ls ++ w ∷ rs))) (instance_bound xs vs (tree_of c.args.right.now))) in
+    ap₂ (λ l r. G l r c.deref.result.now c.deref-in-Some.result.now) c.items.ensures c.items-in-Some.ensures
+    ∙ (ap₂ (λ ys ids. G c.args.solution.now.left c.args.solution.now.right ys ids) c.deref.ensures.value c.deref-in-Some.ensures.value
+    ∙ ap (λ w. norm th (node f (ls ++ w ∷ rs))) (instance_bound xs vs (tree_of c.args.right.now))) in
     let whole : norm th (in_context th t ls rs u) ≡ norm th (node f (ls ++ u ∷ rs)) = norm_around th c.requires.lawful.theories f ls rs some left right u t c.in-Some.ensures.some.0 c.in-Some.ensures.some.1 in
     let inside : norm th (node f (ls ++ u ∷ rs)) ≡ norm th (node f (ls ++ norm th u ∷ rs)) = norm_inside th c.requires.lawful.theories f ls rs some left right u in
     let value : IsBareIn (terms_over c.args.sig.now) (reading th (norm th u)) k = subst (λ w. IsBareIn (terms_over c.args.sig.now) (reading th (norm th w)) k) (instance_bound xs vs (tree_of c.args.right.now))
-        (instance_of_kind c.args.sig.now c.requires.lawful xs vs (norms_of th old (numbers c.args.binding.now.values.items) c.requires.values.within) c.requires.values.kinds (tree_of c.args.right.now) k bare) in
+    (instance_of_kind c.args.sig.now c.requires.lawful xs vs (norms_of th old (numbers c.args.binding.now.values.items) c.requires.values.within) c.requires.values.kinds (tree_of c.args.right.now) k bare) in
     record {
       within = c.in-Ok.ensures.within;
       bare = subst (λ w. IsBareIn (terms_over c.args.sig.now) (reading th w) k) (sym (c.in-Ok.ensures.ok ∙ (same ∙ inside)))
@@ -104,8 +103,8 @@ returns-in-Err-clause-ends c = λ b.
     let left = norms_of th old (numbers c.args.solution.now.left) (left_within c.args.sig.now old t (numbers c.args.solution.now.left) (numbers c.args.solution.now.right) c.requires.contexts) in
     let right = norms_of th old (numbers c.args.solution.now.right) (right_within c.args.sig.now old t (numbers c.args.solution.now.left) (numbers c.args.solution.now.right) c.requires.contexts) in
     let same : G c.items.result.now c.items-in-Some.result.now c.deref.result.now c.deref-in-Some.result.now ≡ norm th (node f (ls ++ u ∷ rs)) =
-        ap₂ (λ l r. G l r c.deref.result.now c.deref-in-Some.result.now) c.items.ensures c.items-in-Some.ensures
-        ∙ (ap₂ (λ ys ids. G c.args.solution.now.left c.args.solution.now.right ys ids) c.deref.ensures.value c.deref-in-Some.ensures.value
-        ∙ ap (λ w. norm th (node f (ls ++ w ∷ rs))) (instance_bound xs vs (tree_of c.args.right.now))) in
+    ap₂ (λ l r. G l r c.deref.result.now c.deref-in-Some.result.now) c.items.ensures c.items-in-Some.ensures
+    ∙ (ap₂ (λ ys ids. G c.args.solution.now.left c.args.solution.now.right ys ids) c.deref.ensures.value c.deref-in-Some.ensures.value
+    ∙ ap (λ w. norm th (node f (ls ++ w ∷ rs))) (instance_bound xs vs (tree_of c.args.right.now))) in
     let whole : norm th (in_context th t ls rs u) ≡ norm th (node f (ls ++ u ∷ rs)) = norm_around th c.requires.lawful.theories f ls rs some left right u t c.in-Some.ensures.some.0 c.in-Some.ensures.some.1 in
     refused_ends_as th (norm th (in_context th t ls rs u)) b c.in-Err.fault c.from.result c.from.ensures (subst (λ w. IsCause th w c.in-Err.fault) (same ∙ sym whole) c.in-Err.ensures.refused)

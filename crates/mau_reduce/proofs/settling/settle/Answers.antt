@@ -18,5 +18,5 @@ pub returns-clause-settled : goal.returns-clause-settled
 returns-clause-settled c =
     OnOk-then (IsSettled c.settle_below.new.table c.args.term.0) (AreSettled c.args.sig.now c.args.store.now c.settle_below.new.table (tree_at c.args.store.now c.args.term.0))
     (λ h. all_settled c.args.sig.now c.args.store.now c.settle_below.new.table c.args.term.0 c.view-node.ensures.nodes c.settle_below.ensures.plain
-        (identities_grown c.args.sig.now c.args.store.now c.args.store.now c.args.table.now c.settle_below.new.table (extension_is_preorder.reflexive c.args.store.now) c.settle_below.ensures.kept c.requires.identities) c.requires.term.within.there h)
+    (identities_grown c.args.sig.now c.args.store.now c.args.store.now c.args.table.now c.settle_below.new.table (extension_is_preorder.reflexive c.args.store.now) c.settle_below.ensures.kept c.requires.identities) c.requires.term.within.there h)
     c.settle_below.result c.settle_below.ensures.settled
