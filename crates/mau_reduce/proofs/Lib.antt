@@ -25,3 +25,5 @@ pub mod Fitting
 pub mod Candidates
 -- equations by their numbers
 pub mod Numbered
+-- built-ins
+pub mod BuiltTables

@@ -16,6 +16,8 @@ pub mod Contexts
 pub mod Tables
 -- equations that are tried
 pub mod Trying
+-- what is built in of an operator
+pub mod BuiltOperators
 -- what native operators answer
 pub mod Answered
 -- ---- what only inner contracts and proofs cite

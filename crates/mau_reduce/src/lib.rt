@@ -3,6 +3,7 @@
 
 mod arguments;
 mod binding;
+mod built_in;
 mod natives;
 mod rebuilding;
 mod replacing;
@@ -11,6 +12,7 @@ mod trying;
 
 pub use arguments::{Opened, open, order_of};
 pub use binding::Binding;
+pub use built_in::{BuiltIn, Truths, built_in_of};
 pub use natives::{Answered, Hooks, Natives};
 pub use rebuilding::{Rebuilt, rebuild};
 pub use replacing::{instance, replace};
