@@ -27,3 +27,5 @@ pub mod Candidates
 pub mod Numbered
 -- built-ins
 pub mod BuiltTables
+-- what built-ins give
+pub mod Answering

@@ -4,6 +4,7 @@
 mod arguments;
 mod binding;
 mod built_in;
+mod given;
 mod natives;
 mod rebuilding;
 mod replacing;
@@ -13,6 +14,7 @@ mod trying;
 pub use arguments::{Opened, open, order_of};
 pub use binding::Binding;
 pub use built_in::{BuiltIn, Truths, built_in_of};
+pub use given::{Given, Leaf};
 pub use natives::{Answered, Hooks, Natives};
 pub use rebuilding::{Rebuilt, rebuild};
 pub use replacing::{instance, replace};
