@@ -17,7 +17,7 @@ use Rattle.mau_evaluation.specs.Evaluation.{levels, try_equation, by_equations}
 use Rattle.mau_api.specs.Programs.{program_over, equation_of}
 use Rattle.mau_store.specs.Node.{Node}
 use Rattle.mau_listing.specs.declared.solution.Solution as Given
-use Rattle.mau_reduce.specs.Trying.{solution_in, solutions_behind, applied_by, candidate_gives, applied_one, applied_number, left_of_one, one_gives, left_of_number, left_of_all, number_gives, numbers_of, order_of_all}
+use Rattle.mau_reduce.specs.Trying.{solution_in, solutions_behind, applied_by, candidate_gives, applied_one, applied_number, left_of_one, one_gives, left_of_number, left_of_all, left_by, number_gives, numbers_of, order_of_all}
 
 -- ---- at a place
 
@@ -185,3 +185,30 @@ module _ (P : Program) (B k : ℕ) (t : Tree) where
       ap (or_go_on (first_of (try_equation P (levels P B k) (levels P B (suc k)).sorts t true) P.equations)) (ordinary b)
       ∙ (ap (λ K. or_go_on K (first_of (applied_number P B k t) (numbers_of false 0 P.equations) b)) (λ j c. others c j)
       ∙ sym (first_append (applied_number P B k t) (numbers_of false 0 P.equations) (numbers_of true 0 P.equations) b))
+
+-- behind an equation that is tried
+module _ (P : Program) (B k : ℕ) (t : Tree) (rest : List ℕ) (b : ℕ) where
+  pub behind_is : (nodes : List Node) {Y : Type 0} (num : Y → ℕ) (last : Y → Option Given.Solution) (o : Option Y) (y : Y) → o ≡ Some y →
+      left_by P B k nodes t (option_map (λ z. (num z, last z)) o) rest b ≡ left_of_all P B k t (num y) (option_map (solution_in nodes) (last y)) rest b
+  behind_is nodes num last o y e = ap (λ w. left_by P B k nodes t (option_map (λ z. (num z, last z)) w) rest b) e
+
+  pub none_behind : (i : ℕ) (last : Option Solution) → left_of_number P B k t i last b ≡ done None 0 b → left_of_all P B k t i last rest b ≡ first_of (applied_number P B k t) rest b
+  none_behind i last z = ap (or_go_on (first_of (applied_number P B k t) rest)) z
+
+  pub one_behind : (i : ℕ) (last : Option Solution) (x : Solution) →
+      left_of_number P B k t i last b ≡ or_go_on (left_of_number P B k t i (Some x)) (number_gives P B k t i x b) →
+      left_of_all P B k t i last rest b ≡ or_go_on (left_of_all P B k t i (Some x) rest) (number_gives P B k t i x b)
+  one_behind i last x z =
+      ap (or_go_on (first_of (applied_number P B k t) rest)) z
+      ∙ or_again (first_of (applied_number P B k t) rest) (left_of_number P B k t i (Some x)) (number_gives P B k t i x b)
+
+  pub found_behind : (nodes new : List Node) {Y : Type 0} (num : Y → ℕ) (last : Y → Option Given.Solution) (o : Option Y) (y : Y) → o ≡ Some y →
+      (f : Option Given.Solution) (x : Given.Solution) → f ≡ Some x →
+      IfSome f (λ z. left_of_number P B k t (num y) (option_map (solution_in nodes) (last y)) b ≡ or_go_on (left_of_number P B k t (num y) (Some (solution_in new z))) (number_gives P B k t (num y) (solution_in new z) b)) →
+      (j : ℕ) → j ≡ num y → (after : Option Given.Solution) → IfSome f (λ z. after ≡ Some z) →
+      left_by P B k nodes t (option_map (λ z. (num z, last z)) o) rest b ≡ or_go_on (left_of_all P B k t j (option_map (solution_in new) after) rest) (number_gives P B k t (num y) (solution_in new x) b)
+  found_behind nodes new num last o y e f x is z j own after given =
+      behind_is nodes num last o y e
+      ∙ (one_behind (num y) (option_map (solution_in nodes) (last y)) (solution_in new x) (subst (λ w. IfSome w (λ v. left_of_number P B k t (num y) (option_map (solution_in nodes) (last y)) b ≡ or_go_on (left_of_number P B k t (num y) (Some (solution_in new v))) (number_gives P B k t (num y) (solution_in new v) b))) is z)
+      ∙ (ap (λ m. or_go_on (left_of_all P B k t m (Some (solution_in new x)) rest) (number_gives P B k t (num y) (solution_in new x) b)) (sym own)
+      ∙ ap (λ w. or_go_on (left_of_all P B k t j (option_map (solution_in new) w) rest) (number_gives P B k t (num y) (solution_in new x) b)) (sym (subst (λ w. IfSome w (λ v. after ≡ Some v)) is given))))

@@ -1,5 +1,6 @@
 -- Equations that are tried at the top of a term, one solution after another.
 use Rattle.std.specs.Prelude.{◌≡◌, ℕ, suc, length, List, [], ◌∷◌, ◌++◌, Bool, true, false, ◌&&◌, not, if◌then◌else◌, Option, Some, None, slice_get}
+use Rattle.std.specs.Option.{option_map}
 use Rattle.mau_terms.specs.Tree.{Tree}
 use Rattle.mau_terms.specs.View.{tree_of}
 use Rattle.mau_terms.specs.declared.ids.TermId.{TermId}
@@ -79,6 +80,11 @@ pub record IsTried (c : Bool) (p : Typed.Program) (nodes : List Node) (table : T
   pub asked : asks_for ≡ asks (tree_of equation.left) [] term
   pub signature : is_for
   pub ready : CanGoOn c p.sig nodes table asks_for last
+
+-- what is left behind an equation that is tried, if there is one, and of the equations with these numbers
+abbrev pub left_by : Program → ℕ → ℕ → List Node → Tree → Option (ℕ × Option Given.Solution) → List ℕ → Run (Option Tree)
+left_by P B k nodes t None is = first_of (applied_number P B k t) is
+left_by P B k nodes t (Some x) is = left_of_all P B k t x.0 (option_map (solution_in nodes) x.1) is
 
 -- x is a candidate for the equation with the number i
 pub record IsFound (p : Typed.Program) (nodes : List Node) (t : Tree) (i : ℕ) (x : Given.Solution) : Type 0 where

@@ -1,5 +1,5 @@
 //! The candidates of one equation, one after another.
-ghost use Rattle.std.specs.Prelude.{◌≡◌, ℕ, List, [], true, Option, Some, None, IfOk, IfSome, IfNone, OnOk, All, drop, length, ◌<◌};
+ghost use Rattle.std.specs.Prelude.{◌≡◌, ℕ, List, [], true, Option, Some, None, IfOk, IfSome, IfNone, OnOk, IsSome, All, drop, length, ◌<◌};
 ghost use Rattle.std.specs.Option.{option_map};
 ghost use Rattle.mau_terms.specs.Bare.{IsBare};
 ghost use Rattle.mau_terms.specs.View.{tree_of};
@@ -15,7 +15,7 @@ ghost use Rattle.mau_api.specs.Programs.{program_over, equation_of};
 ghost use Rattle.mau_api.specs.Answers.{AreSettled};
 ghost use Rattle.mau_reduce.specs.Reducible.{IsReducible};
 ghost use Rattle.mau_reduce.specs.Tables.{IsPlainTable};
-ghost use Rattle.mau_reduce.specs.Trying.{solution_in, solutions_behind, applied_by, candidate_gives, left_of_number, number_gives, applied_number, left_of_all, IsCandidate, IsTried, IsFound};
+ghost use Rattle.mau_reduce.specs.Trying.{solution_in, solutions_behind, applied_by, candidate_gives, left_of_number, number_gives, applied_number, left_of_all, left_by, IsCandidate, IsTried, IsFound};
 
 use mau_api::{Equation, Lister, Program, Solution};
 use mau_sorts::SortTable;
@@ -175,4 +175,43 @@ fn first_among<L: Lister + Drop>(
         }
     }
     Ok(None)
+}
+
+/// Goes on with the equation that is tried, if there is one.
+fn go_on_tried<L: Lister>(
+    store: &mut Store,
+    program: &Program,
+    table: &mut SortTable,
+    term: TermId,
+    tried: &mut Option<Tried<L>>,
+) -> Result<Option<Found>, NoMemory>
+    requires contexts { L.with_context ≡ true }
+    requires reducible { IsReducible program.now }
+    requires term { IsTerm program.now.sig store.old term.0 }
+    requires settled { AreSettled program.now.sig store.old table.old (tree_at store.old term.0) }
+    requires plain { IsPlainTable program.now.sig store.old table.old }
+    requires tried { IfSome tried.old (λ x. IsTried L.with_context program.now store.old table.old term x.number (L.asked x.listing) (L.given x.listing) (L.is_for x.listing program.now.sig)) }
+    ensures none { (hooks : List Operator) (B k b : ℕ) (rest : List ℕ) → IfOk result (λ o. IfNone o (left_by (program_over program.now hooks) B k store.old (tree_at store.old term.0)
+        (option_map (λ x. (x.number, L.given x.listing)) tried.old) rest b ≡ first_of (applied_number (program_over program.now hooks) B k (tree_at store.old term.0)) rest b)) }
+    ensures some { (hooks : List Operator) (B k b : ℕ) (rest : List ℕ) → IfOk result (λ o. IfSome o (λ x. left_by (program_over program.now hooks) B k store.old (tree_at store.old term.0)
+        (option_map (λ y. (y.number, L.given y.listing)) tried.old) rest b
+        ≡ or_go_on (left_by (program_over program.now hooks) B k store.new (tree_at store.old term.0) (option_map (λ y. (y.number, L.given y.listing)) tried.new) rest)
+        (number_gives (program_over program.now hooks) B k (tree_at store.old term.0) x.number (solution_in store.new x.solution) b))) }
+    ensures kept_tried { IfOk result (λ o. IfSome o (λ x. IfSome tried.new (λ y. y.number ≡ x.number) × IfSome tried.new (λ y. L.given y.listing ≡ Some x.solution) × IsSome tried.new)) }
+    ensures tried { IfOk result (λ o. IfSome o (λ x. IfSome tried.new (λ y. IsTried L.with_context program.now store.new table.new term y.number (L.asked y.listing) (L.given y.listing) (L.is_for y.listing program.now.sig)))) }
+    ensures found { IfOk result (λ o. IfSome o (λ x. IsFound program.now store.new (tree_at store.old term.0) x.number x.solution)) }
+    ensures plain { IsPlainTable program.now.sig store.new table.new }
+    ensures kept { KeepsEntries table.old table.new }
+    ensures extends { Extends store.old store.new }
+{
+    match tried {
+        Some(tried) => {
+            let number = tried.number;
+            match go_on(store, program, table, term, tried)? {
+                Some(solution) => Ok(Some(Found { number, solution })),
+                None => Ok(None),
+            }
+        }
+        None => Ok(None),
+    }
 }
