@@ -1,8 +1,8 @@
 -- What built-ins give for arguments of a store.
-use Rattle.std.proofs.Common.{◌≡◌, ℕ, zero, suc, ◌<◌, ◌≤◌, List, [], ◌∷◌, Bool, true, false, nat_eq, drop, map, length, get_or, Option, Some, None, if◌then◌else◌, refl, sym, ap, ap₂, ◌∙◌, subst, arith, eqb-true}
+use Rattle.std.proofs.Common.{◌≡◌, ℕ, zero, suc, ◌<◌, ◌≤◌, List, [], ◌∷◌, Bool, true, false, nat_eq, drop, length, get_or, Option, Some, None, if◌then◌else◌, refl, sym, ap, ap₂, ◌∙◌, subst, arith, eqb-true}
 use Rattle.std.proofs.lemmas.Bool.{eqb-false}
 use Rattle.std.proofs.lemmas.List.Elements.{All-head, All-tail}
-use Rattle.mau_terms.specs.Tree.{Tree, variable, numeral, apply, Trees, no_trees, tree, node, trees_of, list_of}
+use Rattle.mau_terms.specs.Tree.{Tree, variable, numeral, apply, no_trees, node, trees_of}
 use Rattle.mau_terms.specs.declared.ids.TermId.{TermId}
 use Rattle.mau_terms.specs.declared.theory.Theory.{Theory}
 use Rattle.mau_terms.proofs.Pieces.{list_of-trees_of}
@@ -12,17 +12,16 @@ use Rattle.mau_store.specs.Node.{Node, AreNodes, AreOf}
 use Rattle.mau_store.specs.Trees.{tree_at, trees_at}
 use Rattle.mau_store.specs.View.{numbers}
 use Rattle.mau_store.proofs.Numbers.{one_number}
-use Rattle.mau_evaluation.specs.Program.{Answer, no_value, value, too_large, BuiltIn, on_numerals, choice, equality}
+use Rattle.mau_evaluation.specs.Program.{Answer, no_value, value, BuiltIn, on_numerals, equality}
 use Rattle.mau_evaluation.specs.Listing.{same_tree}
 use Rattle.mau_evaluation.specs.Evaluation.{native_on, native_by, over_rest, before_rest}
 use Rattle.mau_evaluation.proofs.Still.{same_tree_itself}
 use Rattle.mau_signature.specs.Signature.{SignatureOf, theory_at}
 use Rattle.mau_signature.specs.OverSignature.{IsTreeOver, AreTreesOver}
 use Rattle.mau_api.specs.BuiltIns.{same_gives, built_in_at}
-use Rattle.mau_reduce.specs.declared.built_in.BuiltIn as Kept
 use Rattle.mau_reduce.specs.declared.built_in.BuiltIn.TheVariants.{Native}
 use Rattle.mau_reduce.specs.declared.built_in.Truths.{Truths}
-use Rattle.mau_reduce.specs.BuiltOperators.{constant_tree, native_kept, meaning_of, number_answer, built_gives}
+use Rattle.mau_reduce.specs.BuiltOperators.{native_kept, meaning_of, number_answer, built_gives}
 use Rattle.mau_reduce.proofs.Tops.{same_tree_not}
 
 -- ---- constants and equal terms

@@ -1,5 +1,5 @@
 -- An instance in its context.
-use Rattle.std.proofs.Common.{◌≡◌, ℕ, suc, ◌≤◌, List, [], ◌∷◌, ◌++◌, Bool, true, false, All, map, length, inl, inr, refl, sym, ap, ap₂, ◌∙◌, subst, arith, length-append}
+use Rattle.std.proofs.Common.{◌≡◌, ℕ, ◌≤◌, List, [], ◌∷◌, ◌++◌, Bool, true, false, All, map, length, refl, sym, ap, ap₂, ◌∙◌, subst, arith, length-append}
 use Rattle.std.specs.Bool.{MatchBool}
 use Rattle.std.proofs.lemmas.List.{map-append}
 use Rattle.std.proofs.lemmas.List.Elements.{All-nil, All-cons, All-head, All-tail, All-append}
@@ -20,7 +20,6 @@ use Rattle.mau_canon.specs.Standing.{StandsWithin, StandWithin}
 use Rattle.mau_listing.proofs.Answered.{normal_is}
 use Rattle.mau_evaluation.specs.Evaluation.{in_context}
 use Rattle.mau_evaluation.proofs.Listed.{norms_itself}
-use Rattle.mau_trial.specs.Arguments.{AreArguments}
 use Rattle.mau_reduce.specs.Kinds.{IsTermIn}
 use Rattle.mau_reduce.specs.Contexts.{AreContexts, alone, around}
 use Rattle.mau_reduce.proofs.KindsKept.{norms_of, built_kind}

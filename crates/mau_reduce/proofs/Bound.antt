@@ -1,5 +1,5 @@
 -- Values of variables, by bindings and by numbers of a store.
-use Rattle.std.proofs.Common.{◌≡◌, ℕ, List, [], ◌∷◌, ◌++◌, Bool, true, false, if◌then◌else◌, map, length, refl, sym, ap, ◌∙◌, subst, arith, append_assoc}
+use Rattle.std.proofs.Common.{◌≡◌, ℕ, List, [], ◌∷◌, Bool, true, false, if◌then◌else◌, map, refl, sym, ap, ◌∙◌, subst}
 use Rattle.mau_terms.specs.Tree.{Tree, variable, numeral, apply, Trees, no_trees, tree}
 use Rattle.mau_terms.specs.Norm.{norm}
 use Rattle.mau_terms.specs.Bare.{TermSignature, IsBareIn, AreBareIn, IsLawful}
@@ -11,8 +11,8 @@ use Rattle.mau_terms.specs.declared.theory.Theory.{Theory}
 use Rattle.mau_terms.proofs.Solutions.{instances_by_norms}
 use Rattle.mau_terms.proofs.Variables.{same-is}
 use Rattle.mau_signature.specs.Signature.{SignatureOf, theory_at, terms_over}
-use Rattle.mau_evaluation.specs.Evaluation.{Binding, look_up, binds, extend}
-use Rattle.mau_evaluation.proofs.BareTerms.{instance_same, value_mapped, norms-readings}
+use Rattle.mau_evaluation.specs.Evaluation.{look_up}
+use Rattle.mau_evaluation.proofs.BareTerms.{instance_same, norms-readings}
 use Rattle.mau_evaluation.proofs.Listed.{value_norms}
 use Rattle.mau_reduce.specs.Bindings.{paired, HaveKinds}
 use Rattle.mau_reduce.proofs.KindsKept.{kind_of_norm}

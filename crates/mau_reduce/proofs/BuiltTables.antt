@@ -1,13 +1,12 @@
 -- What is kept of the built-ins of a signature.
-use Rattle.std.proofs.Common.{◌≡◌, ℕ, zero, suc, ◌+◌, ◌<◌, ◌≤◌, List, [], ◌∷◌, Bool, true, false, map, drop, length, get_or, slice_get, Option, Some, None, if◌then◌else◌, refl, sym, ap, ap₂, ◌∙◌, subst, arith, bytes_eq, codes}
+use Rattle.std.proofs.Common.{◌≡◌, ℕ, suc, ◌+◌, ◌<◌, ◌≤◌, List, [], ◌∷◌, Bool, false, map, drop, length, get_or, slice_get, Option, Some, None, if◌then◌else◌, refl, sym, ap, ap₂, ◌∙◌, arith, bytes_eq, codes}
 use Rattle.std.specs.Option.{option_map}
 use Rattle.std.proofs.Math.Seq.{drop-cons}
-use Rattle.mau_terms.specs.Tree.{Tree, apply, no_trees}
+use Rattle.mau_terms.specs.Tree.{apply, no_trees}
 use Rattle.mau_terms.specs.declared.ids.OpId.{OpId}
-use Rattle.mau_poset.specs.Order.{kind_of}
 use Rattle.mau_poset.proofs.Orders.{kind_of-kind}
 use Rattle.mau_signature.specs.declared.form.Piece.TheVariants.{Word}
-use Rattle.mau_signature.specs.Names.{Operator as Key, constant_of, place_of, operator_of}
+use Rattle.mau_signature.specs.Names.{constant_of, place_of, operator_of}
 use Rattle.mau_signature.specs.Attributes.{no_attributes}
 use Rattle.mau_signature.specs.declared.decl.Decl.{Decl}
 use Rattle.mau_signature.specs.Signature.{SignatureOf, number_of, attributes_of}
@@ -16,7 +15,7 @@ use Rattle.mau_formula.specs.Expr.{value}
 use Rattle.mau_formula.specs.Native.{natives, native_operator, name_of, gives_of}
 use Rattle.mau_formula.specs.declared.native.Native.{Native}
 use Rattle.mau_evaluation.specs.Program.{BuiltIn, on_numerals, choice, equality}
-use Rattle.mau_api.specs.BuiltIns.{constant_in, true_in, false_in, first_kind, result_kind, answer_in, function_of, same_gives, as_wanted, built_in_named}
+use Rattle.mau_api.specs.BuiltIns.{constant_in, true_in, false_in, first_kind, result_kind, answer_in, same_gives, as_wanted, built_in_named}
 use Rattle.mau_reduce.specs.BuiltOperators.{constant_tree, native_kept}
 use Rattle.mau_reduce.specs.declared.built_in.Truths.{Truths}
 

@@ -1,9 +1,9 @@
 -- The next candidate of an equation, from what a listing gives.
-use Rattle.std.proofs.Common.{◌≡◌, ◌↔◌, ℕ, suc, ◌+◌, List, [], ◌∷◌, map, Bool, true, false, Option, Some, None, Contains, Result, Ok, Err, IfOk, IfSome, IfNone, OnOk, length, inl, inr, refl, sym, ap, ◌∙◌, subst, arith, zero-add}
+use Rattle.std.proofs.Common.{◌≡◌, ◌↔◌, ℕ, suc, ◌+◌, List, [], ◌∷◌, map, Bool, true, false, Option, Some, None, Result, Ok, Err, IfOk, IfSome, IfNone, OnOk, length, refl, sym, ap, ◌∙◌, subst, arith, zero-add}
 use Rattle.std.specs.Option.{option_map}
 use Rattle.mau_terms.specs.Tree.{Tree}
 use Rattle.mau_terms.specs.Norm.{norm}
-use Rattle.mau_terms.specs.Bare.{IsBare, IsLawful}
+use Rattle.mau_terms.specs.Bare.{IsBare}
 use Rattle.mau_terms.specs.Reading.{reading}
 use Rattle.mau_terms.specs.Subst.{variables}
 use Rattle.mau_terms.specs.Finite.{IsIn}
@@ -28,15 +28,15 @@ use Rattle.mau_reduce.proofs.SortKinds.{have_kinds}
 use Rattle.mau_reduce.proofs.Fitting.{contexts_of, listed_around}
 use Rattle.mau_listing.specs.declared.solution.Solution as Given
 use Rattle.mau_program.specs.declared.program.Program as Typed
-use Rattle.mau_evaluation.specs.Run.{Outcome, done, ended, Run, gives, and_try, try_on, counted_if, or_go_on, first_of, where_true}
+use Rattle.mau_evaluation.specs.Run.{Outcome, done, ended, Run, gives, try_on, counted_if, or_go_on, where_true}
 use Rattle.mau_evaluation.specs.Program.{Equation, Membership, Program}
-use Rattle.mau_evaluation.specs.Listing.{Solution, keep, compare, solutions_within, IsAscending}
+use Rattle.mau_evaluation.specs.Listing.{Solution, compare, solutions_within, IsAscending}
 use Rattle.mau_evaluation.specs.Evaluation.{levels, solve, apply_for, binding_of, replaced}
 use Rattle.mau_evaluation.proofs.BareTerms.{norm-reading-is}
 use Rattle.mau_evaluation.proofs.Listed.{compare_total}
 use Rattle.mau_evaluation.proofs.Solved.{solutions_within_are_listed}
 use Rattle.mau_api.specs.Programs.{program_over}
-use Rattle.mau_api.specs.Remaining.{as_matcher, AreLeftOf, IsAccepted, first_left}
+use Rattle.mau_api.specs.Remaining.{as_matcher, IsAccepted, first_left}
 use Rattle.mau_api.specs.Answers.{AreSettled}
 use Rattle.mau_api.proofs.Remaining.{next_is}
 use Rattle.mau_api.proofs.Bridge.{listed_are_left}
@@ -44,7 +44,7 @@ use Rattle.mau_api.proofs.ValuesFit.{values_settled}
 use Rattle.mau_reduce.specs.Reducible.{IsReducible}
 use Rattle.mau_reduce.specs.Trying.{solution_in, solutions_behind, applied_by, candidate_gives, IsCandidate}
 use Rattle.mau_reduce.proofs.PlainSorts.{having, having_known, having_exact}
-use Rattle.mau_reduce.proofs.Leftover.{head, first_passed, none_passes, one_passes, Passes, left_behind}
+use Rattle.mau_reduce.proofs.Leftover.{head, first_passed, none_passes, one_passes, left_behind}
 
 -- ---- answers
 

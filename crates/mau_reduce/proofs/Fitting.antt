@@ -1,29 +1,26 @@
 -- What is known of a listed solution: its contexts and the kinds of its values.
-use Rattle.std.proofs.Common.{◌≡◌, ◌⊎◌, ℕ, ◌≤◌, List, [], ◌∷◌, ◌++◌, Bool, true, false, All, Option, Some, None, map, length, inl, inr, refl, sym, ap, ◌∙◌, subst, arith, length-append}
+use Rattle.std.proofs.Common.{◌≡◌, ◌⊎◌, ℕ, ◌≤◌, List, [], ◌∷◌, ◌++◌, Bool, true, false, All, Option, Some, None, map, length, inl, inr, refl, sym, ◌∙◌, subst, arith, length-append}
 use Rattle.std.specs.Bool.{MatchBool}
 use Rattle.std.proofs.lemmas.List.Elements.{All-nil, All-cons, All-head, All-tail}
 use Rattle.mau_terms.specs.Tree.{Tree, apply, Trees, node, trees_of}
 use Rattle.mau_terms.specs.Norm.{norm, arrange, finish}
-use Rattle.mau_terms.specs.Bare.{IsBareIn, AreBareIn, IsBare, IsLawful}
+use Rattle.mau_terms.specs.Bare.{IsBareIn, IsBare, IsLawful}
 use Rattle.mau_terms.specs.Reading.{reading}
-use Rattle.mau_terms.specs.Subst.{variables, with_values}
-use Rattle.mau_terms.specs.Solution.{FitsUnder, FitsAt, FitsWithin, ArePieces, list_under, over_list, assoc_top}
+use Rattle.mau_terms.specs.Subst.{with_values}
+use Rattle.mau_terms.specs.Solution.{FitsUnder, FitsAt, list_under, over_list, assoc_top}
 use Rattle.mau_terms.specs.Finite.{IsIn}
 use Rattle.mau_terms.specs.declared.theory.Theory.{Theory}
 use Rattle.mau_terms.specs.declared.theory.Identity.{Identity}
-use Rattle.mau_terms.specs.declared.ids.TermId.{TermId}
 use Rattle.mau_terms.proofs.Finite.{AllIn, AllIn-itself, AllIn-left, AllIn-right, AllIn-arrange, length-arrange}
-use Rattle.mau_terms.proofs.Normal.{IsNormal, finish_long}
+use Rattle.mau_terms.proofs.Normal.{finish_long}
 use Rattle.mau_signature.specs.Signature.{SignatureOf, theory_at, terms_over}
 use Rattle.mau_store.specs.Node.{Node}
 use Rattle.mau_store.specs.Trees.{tree_at, trees_at}
-use Rattle.mau_store.specs.View.{numbers}
 use Rattle.mau_canon.specs.Standing.{StandsWithin, StandWithin}
 use Rattle.mau_listing.proofs.Alone.{top_assoc}
 use Rattle.mau_evaluation.specs.Listing.{Solution, solutions_within}
 use Rattle.mau_evaluation.proofs.BareTerms.{norm-reading-is}
 use Rattle.mau_evaluation.proofs.Solved.{solutions_within_are_listed}
-use Rattle.mau_trial.specs.Arguments.{AreArguments}
 use Rattle.mau_trial.proofs.OfKind.{bare_arguments}
 use Rattle.mau_reduce.specs.Kinds.{IsTermIn}
 use Rattle.mau_reduce.specs.Contexts.{AreContexts, alone, around}

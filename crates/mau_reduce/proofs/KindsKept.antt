@@ -15,11 +15,9 @@ use Rattle.mau_terms.proofs.Chains.{last_bare}
 use Rattle.mau_terms.proofs.Law.{equal_norm, equal_reading}
 use Rattle.mau_terms.proofs.Taken.{one_kind, equal_kind}
 use Rattle.mau_terms.proofs.Wholes.{reading_top}
-use Rattle.mau_terms.proofs.Normal.{IsNormal}
 use Rattle.mau_signature.specs.Signature.{SignatureOf, IsOperator, theory_at, terms_over}
-use Rattle.mau_store.specs.Node.{Node, AreNodes, Extends, arguments, operator_node}
+use Rattle.mau_store.specs.Node.{Node, AreNodes, Extends, operator_node}
 use Rattle.mau_store.specs.Trees.{tree_at, trees_at}
-use Rattle.mau_store.specs.View.{numbers}
 use Rattle.mau_store.proofs.Standing.{tree_of_node, tree_at-extends}
 use Rattle.mau_store.proofs.Growth.{trees_at-extends}
 use Rattle.mau_canon.specs.Standing.{StandsWithin, StandWithin}
@@ -28,7 +26,6 @@ use Rattle.mau_listing.proofs.Answered.{normal_is}
 use Rattle.mau_evaluation.proofs.BareTerms.{norms-readings}
 use Rattle.mau_trial.specs.Arguments.{AreArguments}
 use Rattle.mau_trial.proofs.OfKind.{two_of_kind, bare_operator, bare_arguments}
-use Rattle.mau_terms.specs.declared.ids.TermId.{TermId}
 use Rattle.mau_terms.specs.Bare.{IsBare}
 use Rattle.mau_api.specs.Terms.{IsTerm}
 use Rattle.mau_reduce.specs.Kinds.{IsTermIn, AreUnder}

@@ -1,5 +1,5 @@
 -- What is left of the solutions of a left side, after one more.
-use Rattle.std.proofs.Common.{◌≡◌, ◌↔◌, ℕ, suc, List, [], ◌∷◌, map, Bool, true, false, if◌then◌else◌, Option, Some, None, inl, inr, ◌⊎◌, refl, sym, ap, ◌∙◌, subst}
+use Rattle.std.proofs.Common.{◌≡◌, ℕ, List, [], ◌∷◌, map, Bool, true, false, if◌then◌else◌, Option, Some, None, inl, inr, refl, sym, ap, ◌∙◌, subst}
 use Rattle.std.specs.Option.{option_map}
 use Rattle.std.specs.Cmp.{IsTotalOrder}
 use Rattle.std.specs.Ordering.{ordering_reverse, is_lt}
@@ -14,7 +14,7 @@ use Rattle.mau_listing.specs.Next.{matcher_cmp, IsBehind}
 use Rattle.mau_evaluation.specs.Run.{done, Run, or_go_on, first_of}
 use Rattle.mau_evaluation.specs.Listing.{Solution, keep, compare, IsAscending, AllAfter}
 use Rattle.mau_evaluation.proofs.Listed.{in_map, from_map, in_keep, from_keep}
-use Rattle.mau_api.specs.Remaining.{as_matcher, AllBehind, Ascend, AreLeft, first_left}
+use Rattle.mau_api.specs.Remaining.{as_matcher, AllBehind, Ascend, AreLeft}
 
 -- ---- what comes behind another one
 

@@ -1,15 +1,15 @@
 -- What is within the limits, and why a term is refused.
-use Rattle.std.proofs.Common.{◌≡◌, ℕ, Bool, true, false, nat_lt, refl, sym, ap, ap₂, ◌∙◌, subst}
+use Rattle.std.proofs.Common.{◌≡◌, ℕ, Bool, true, false, nat_lt, refl, sym, ap₂, subst}
 use Rattle.std.proofs.lemmas.Bool.{lt-ltb, le-ltb}
 use Rattle.mau_terms.specs.Tree.{Tree}
 use Rattle.mau_terms.specs.Depth.{depth}
-use Rattle.mau_terms.specs.Norm.{norm, holds_overflow}
+use Rattle.mau_terms.specs.Norm.{holds_overflow}
 use Rattle.mau_terms.specs.declared.theory.Theory.{Theory}
 use Rattle.mau_canon.specs.Within.{IsWithin, IsCause}
 use Rattle.mau_canon.specs.declared.fault.BuildFault.{BuildFault}
 use Rattle.mau_canon.specs.declared.fault.BuildFault.TheVariants.{TooDeep, Overflow, NoMemory}
 use Rattle.mau_evaluation.specs.Run.{done}
-use Rattle.mau_evaluation.specs.Evaluation.{admitted, admit, within_limits, depth_limit}
+use Rattle.mau_evaluation.specs.Evaluation.{admitted, within_limits, depth_limit}
 use Rattle.mau_api.specs.Faults.{end_of}
 use Rattle.mau_api.specs.declared.results.EvalEnd.{EvalEnd}
 use Rattle.mau_reduce.specs.Ends.{IsEnd}

@@ -1,11 +1,10 @@
 -- Where no membership is executable, the sorts of a term are known on each level, and they are those that declarations give.
-use Rattle.std.proofs.Common.{◌≡◌, ◌↔◌, ℕ, zero, suc, ◌+◌, ◌≤◌, List, [], ◌∷◌, ◌++◌, ◌⊎◌, map, Bool, true, false, Option, Contains, if◌then◌else◌, inl, inr, refl, sym, ap, ◌∙◌, subst, arith, append-nil}
+use Rattle.std.proofs.Common.{◌≡◌, ◌↔◌, ℕ, zero, suc, ◌≤◌, List, [], ◌∷◌, ◌++◌, ◌⊎◌, map, Bool, true, false, Option, if◌then◌else◌, inl, inr, refl, sym, ap, ◌∙◌, arith, append-nil}
 use Rattle.mau_terms.specs.Tree.{Tree, variable, numeral, apply, Trees, no_trees, tree, list_of}
-use Rattle.mau_terms.specs.Norm.{norm}
 use Rattle.mau_terms.specs.Finite.{IsIn}
 use Rattle.mau_terms.specs.Subst.{Variable}
 use Rattle.mau_terms.specs.Solution.{HaveSorts}
-use Rattle.mau_signature.specs.Signature.{SignatureOf, theory_at, terms_over}
+use Rattle.mau_signature.specs.Signature.{SignatureOf}
 use Rattle.mau_signature.specs.OverSignature.{IsTreeOver, AreTreesOver}
 use Rattle.mau_formula.specs.Operator.{Operator}
 use Rattle.mau_sorts.specs.HasSort.{HasSort, IsKnown}
@@ -15,12 +14,11 @@ use Rattle.mau_program.specs.declared.program.Program as Typed
 use Rattle.mau_evaluation.specs.Run.{done, Run, gives, and_then, each_in_turn, choose, counted, go_on}
 use Rattle.mau_evaluation.specs.Program.{Fragment, Membership, Program}
 use Rattle.mau_evaluation.specs.Listing.{solutions}
-use Rattle.mau_evaluation.specs.Evaluation.{Binding, has_number, any, joined, holds_for, by_membership, size, sizes, sorts_in, sorts_of, levels, no_level, solve, have_sorts, settle}
+use Rattle.mau_evaluation.specs.Evaluation.{Binding, has_number, any, joined, holds_for, by_membership, size, sizes, sorts_in, levels, no_level, solve, have_sorts, settle}
 use Rattle.mau_evaluation.proofs.SortsGiven.{number_in, in_number}
 use Rattle.mau_api.specs.Programs.{program_over}
-use Rattle.mau_api.specs.Exact.{AreSortsOf, HasByDeclarations}
+use Rattle.mau_api.specs.Exact.{AreSortsOf}
 use Rattle.mau_api.proofs.DeclaredSorts.{sorts_above_are_all, numeral_sorts_are_all, declared_sorts_are_all}
-use Rattle.mau_reduce.specs.Reducible.{IsReducible}
 
 -- ---- memberships give nothing
 

@@ -1,24 +1,23 @@
 -- Tables that tell what declarations give, in a store and a table that grow.
-use Rattle.std.proofs.Common.{◌≡◌, ◌≢◌, ℕ, zero, suc, ◌+◌, ◌-◌, ◌<◌, ◌≤◌, ◌⊎◌, inl, inr, List, [], ◌∷◌, Bool, true, false, All, Contains, Option, Some, None, length, get_or, slice_get, is_some, refl, sym, ap, ◌∙◌, subst, arith}
-use Rattle.std.specs.Option.{option_map}
+use Rattle.std.proofs.Common.{◌≡◌, ℕ, zero, suc, ◌+◌, ◌-◌, ◌<◌, ◌≤◌, inl, inr, List, [], Some, None, length, get_or, refl, sym, ap, ◌∙◌, subst, arith}
 use Rattle.std.proofs.lemmas.Bool.{cases_lt}
 use Rattle.std.proofs.lemmas.List.{get_or_past}
 use Rattle.mau_terms.specs.Tree.{Tree}
-use Rattle.mau_terms.specs.Norm.{norm, unit_tree}
+use Rattle.mau_terms.specs.Norm.{unit_tree}
 use Rattle.mau_terms.specs.Bare.{IsBare, IsLawful}
 use Rattle.mau_terms.specs.Reading.{reading}
 use Rattle.mau_terms.specs.declared.theory.Identity.{Identity}
-use Rattle.mau_signature.specs.Signature.{SignatureOf, IsOperator, declarations_at, theory_at, theory_of, terms_over}
+use Rattle.mau_signature.specs.Signature.{SignatureOf, IsOperator, theory_at, theory_of, terms_over}
 use Rattle.mau_signature.specs.OverSignature.{IsTreeOver}
 use Rattle.mau_signature.proofs.OverSignature.{norm_over}
 use Rattle.mau_store.specs.Node.{Node, IsOf, AreNodes, Extends}
 use Rattle.mau_store.specs.Trees.{tree_at}
 use Rattle.mau_store.proofs.Growth.{extension_keeps_terms}
-use Rattle.mau_sorts.specs.SortSets.{SortsOf, IsKeptOf}
+use Rattle.mau_sorts.specs.SortSets.{IsKeptOf}
 use Rattle.mau_sorts.specs.HasSort.{HasSort}
-use Rattle.mau_sorts.specs.Table.{Table, entry_at, IsSettled, AreEntries, AreOver, AreSame, KeepsEntries, Settles, IsReady, IsKnownOf}
-use Rattle.mau_sorts.proofs.Settling.{entries_same, nothing_known, kept_on}
-use Rattle.mau_listing.specs.Asked.{IsTreeSettled, IsTableOf, IsClosedTable}
+use Rattle.mau_sorts.specs.Table.{Table, IsSettled, AreEntries, AreOver, AreSame, KeepsEntries, Settles, IsReady, IsKnownOf}
+use Rattle.mau_sorts.proofs.Settling.{entries_same, nothing_known}
+use Rattle.mau_listing.specs.Asked.{IsTreeSettled, IsTableOf}
 use Rattle.mau_listing.proofs.Closed.{closed_stay, closed_same, closed_more, closed_below}
 use Rattle.mau_listing.proofs.Growth.{settled_kept}
 use Rattle.mau_api.specs.Terms.{IsTerm}

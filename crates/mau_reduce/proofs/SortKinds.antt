@@ -1,5 +1,5 @@
 -- A term that has a sort by declarations is of the kind of that sort.
-use Rattle.std.proofs.Common.{◌≡◌, ℕ, ◌≤◌, ◌==◌, List, [], ◌∷◌, Bool, true, false, All, Contains, Option, Some, None, length, if◌then◌else◌, ◌⊎◌, inl, inr, refl, sym, ap, ◌∙◌, subst, arith}
+use Rattle.std.proofs.Common.{◌≡◌, ℕ, ◌≤◌, ◌==◌, List, [], ◌∷◌, Bool, true, false, All, Option, Some, None, length, if◌then◌else◌, ◌⊎◌, inl, inr, refl, sym, ap, ◌∙◌, subst, arith}
 use Rattle.std.specs.Bool.{MatchBool}
 use Rattle.std.specs.Option.{option_map}
 use Rattle.std.proofs.lemmas.List.Elements.{All-contains}
@@ -12,7 +12,7 @@ use Rattle.mau_terms.specs.Solution.{HaveSorts}
 use Rattle.mau_terms.specs.Finite.{IsIn}
 use Rattle.mau_terms.proofs.Normal.{IsNormal}
 use Rattle.mau_terms.proofs.Wholes.{reading_top}
-use Rattle.mau_poset.specs.Order.{Hierarchy, IsPoset, IsAtOrBelow, kind_of}
+use Rattle.mau_poset.specs.Order.{Hierarchy, IsAtOrBelow, kind_of}
 use Rattle.mau_poset.proofs.Orders.{kind_of-chain, kind_of-kind, kind_of-above}
 use Rattle.mau_signature.specs.Signature.{SignatureOf, declarations_at, result_of, theory_at, terms_over, IsAlike}
 use Rattle.mau_signature.specs.OverSignature.{IsTreeOver}

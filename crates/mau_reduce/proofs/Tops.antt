@@ -1,15 +1,15 @@
 -- Whether an operator over normal forms has kept its top.
-use Rattle.std.proofs.Common.{◌≡◌, ℕ, zero, suc, ◌<◌, ◌≤◌, ◌==◌, List, [], ◌∷◌, ◌++◌, Bool, true, false, ◌||◌, ◌&&◌, not, nat_lt, nat_eq, Option, Some, None, slice_get, inl, inr, ◌⊎◌, length, map, refl, sym, ap, ap₂, ◌∙◌, subst, arith, eq-eqb, eqb-true}
+use Rattle.std.proofs.Common.{◌≡◌, ℕ, zero, suc, ◌<◌, ◌≤◌, List, [], ◌∷◌, Bool, true, false, ◌||◌, ◌&&◌, not, nat_lt, nat_eq, Option, Some, None, slice_get, inl, inr, ◌⊎◌, length, map, refl, sym, ap, ap₂, ◌∙◌, subst, arith, eq-eqb, eqb-true}
 use Rattle.std.proofs.lemmas.Bool.{lt-ltb, le-ltb}
-use Rattle.mau_terms.specs.Tree.{Tree, variable, numeral, apply, Trees, no_trees, tree, node, trees_of, list_of}
-use Rattle.mau_terms.specs.Norm.{norm, build, all_pieces, arrange, finish, made, is_unit, unit_tree, pieces}
+use Rattle.mau_terms.specs.Tree.{Tree, numeral, apply, Trees, node, trees_of}
+use Rattle.mau_terms.specs.Norm.{norm, build, all_pieces, arrange, finish, made, is_unit, pieces}
 use Rattle.mau_terms.specs.Order.{sort_trees}
 use Rattle.mau_terms.specs.Lawful.{AreLawful}
 use Rattle.mau_terms.specs.declared.theory.Identity.{Identity}
 use Rattle.mau_terms.specs.declared.theory.Identity.TheVariants.{Const, Num}
 use Rattle.mau_terms.specs.declared.theory.Theory.{Theory}
 use Rattle.mau_terms.proofs.Finite.{length-arrange}
-use Rattle.mau_terms.proofs.Normal.{IsNormal, IsSettled, finish_long, whole_all_pieces}
+use Rattle.mau_terms.proofs.Normal.{IsNormal, finish_long, whole_all_pieces}
 use Rattle.mau_terms.proofs.Pieces.{Each, Each-arrange, IsPiece, same_arguments, list_of-trees_of}
 use Rattle.std.specs.Bool.{MatchBool}
 use Rattle.mau_terms.proofs.Sorting.{above, insert_here, insert_past, sort_swap}

@@ -1,5 +1,5 @@
 -- Variables with the numbers of their values.
-use Rattle.std.specs.Prelude.{ℕ, List, [], ◌∷◌, map}
+use Rattle.std.specs.Prelude.{List, [], ◌∷◌, map}
 use Rattle.mau_terms.specs.Tree.{Tree}
 use Rattle.mau_terms.specs.Bare.{IsBareIn}
 use Rattle.mau_terms.specs.Reading.{reading}
@@ -8,7 +8,7 @@ use Rattle.mau_terms.specs.View.{variable_of}
 use Rattle.mau_terms.specs.Solution.{HaveSorts}
 use Rattle.mau_signature.specs.Signature.{SignatureOf, theory_at, terms_over}
 use Rattle.mau_store.specs.Node.{Node}
-use Rattle.mau_store.specs.Trees.{tree_at, trees_at}
+use Rattle.mau_store.specs.Trees.{trees_at}
 use Rattle.mau_store.specs.View.{numbers}
 use Rattle.mau_canon.specs.Standing.{StandWithin}
 use Rattle.mau_evaluation.specs.Evaluation.{Binding}

@@ -1,5 +1,5 @@
 -- What is kept of the built-in of an operator, and what it gives for a term.
-use Rattle.std.specs.Prelude.{◌≡◌, ℕ, List, [], ◌∷◌, drop, Option, Some, None, if◌then◌else◌}
+use Rattle.std.specs.Prelude.{◌≡◌, ℕ, List, ◌∷◌, drop, Option, Some, None, if◌then◌else◌}
 use Rattle.mau_terms.specs.Tree.{Tree, variable, numeral, apply, Trees, no_trees, list_of}
 use Rattle.mau_terms.specs.Norm.{build}
 use Rattle.mau_terms.specs.declared.ids.OpId.{OpId}

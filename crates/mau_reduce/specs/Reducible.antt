@@ -1,6 +1,6 @@
 -- What evaluation over a store asks of a program: its signature is accepted, the sides of its equations are bare terms of one kind, and no executable
 -- equation has a condition and no membership is executable.
-use Rattle.std.specs.Prelude.{◌≡◌, ℕ, List, [], true}
+use Rattle.std.specs.Prelude.{◌≡◌, ℕ, true}
 use Rattle.mau_terms.specs.Bare.{TermSignature, IsBareIn, IsLawful}
 use Rattle.mau_terms.specs.Finite.{IsIn}
 use Rattle.mau_signature.specs.Signature.{terms_over}

@@ -47,12 +47,7 @@ fn constant_declaration(alloc: Global, word: &str, kind: u32) -> Result<Decl, No
 }
 
 /// The constant of one word in a kind, if it is there.
-fn constant(
-    alloc: Global,
-    sig: &Signature,
-    word: &str,
-    kind: u32,
-) -> Result<Option<OpId>, NoMemory>
+fn constant(alloc: Global, sig: &Signature, word: &str, kind: u32) -> Result<Option<OpId>, NoMemory>
     requires low { sig.now.hierarchy.sorts ≤ kind }
     requires high { kind < sig.now.hierarchy.sorts + kinds sig.now.hierarchy }
     ensures { IfOk result (λ op. constant_in sig.now kind word.now ≡ constant_tree op) }
@@ -115,12 +110,7 @@ fn kind_of_result(sig: &Signature, op: OpId) -> u32
 }
 
 /// What an operator has built in under a name.
-fn built_in_named(
-    alloc: Global,
-    sig: &Signature,
-    op: OpId,
-    name: &str,
-) -> Result<BuiltIn, NoMemory>
+fn built_in_named(alloc: Global, sig: &Signature, op: OpId, name: &str) -> Result<BuiltIn, NoMemory>
     requires { IsOperator sig.now op.0 }
     ensures { (hooks : List Operator) → IfOk result (λ b. built_in_named sig.now hooks op.0 name.now ≡ meaning_of hooks (Some name.now) b) }
 {

@@ -1,4 +1,4 @@
-use Rattle.std.proofs.Common.{◌≡◌, ℕ, length, sym, ap, ◌∙◌, subst}
+use Rattle.std.proofs.Common.{sym, subst}
 use Rattle.mau_store.specs.View.{numbers}
 use Rattle.mau_reduce.specs.Kinds.{AreUnder}
 use Rattle.mau_reduce.proofs.KindsKept.{under_term}

@@ -1,4 +1,4 @@
-use Rattle.std.proofs.Common.{◌≡◌, ◌≢◌, List, length, vec_len, sym, ap, ◌∙◌, arith, eqb-true, Result, IfOk}
+use Rattle.std.proofs.Common.{◌≡◌, List, length, vec_len, sym, ap, ◌∙◌, arith, eqb-true}
 use Rattle.std.proofs.lemmas.Bool.{eqb-false}
 use Rattle.mau_terms.specs.Tree.{Tree}
 use Rattle.mau_terms.proofs.Outcomes.{IfOk-then}

@@ -1,5 +1,5 @@
-use Rattle.std.proofs.Common.{◌≡◌, refl, sym, ap, ◌∙◌, subst}
-use Rattle.mau_terms.specs.Tree.{node, trees_of}
+use Rattle.std.proofs.Common.{sym, ap, ◌∙◌, subst}
+use Rattle.mau_terms.specs.Tree.{trees_of}
 use Rattle.mau_signature.specs.Signature.{theory_at}
 use Rattle.mau_signature.specs.OverSignature.{IsTreeOver}
 use Rattle.mau_store.specs.Trees.{tree_at, trees_at}
@@ -36,4 +36,3 @@ pub returns-in-Native : goal.returns-in-Native
 returns-in-Native g c =
     built_at c.args.sig.now (g.N.Natives.operators c.args.natives.now) (tree_at c.args.store.now c.args.term.0) c.in-App.op.0 (trees_at c.args.store.now (numbers c.in-App.ids.now)) (meaning_of (g.N.Natives.operators c.args.natives.now) (name_at c.args.sig.now c.in-App.op.0) c.args.built_in) c.in-App.ensures.tree (c.requires.built_in c.in-App.op.0 (trees_of (trees_at c.args.store.now (numbers c.in-App.ids.now))) c.in-App.ensures.tree)
     ∙ (ap (λ b. native_by (meaning_of (g.N.Natives.operators c.args.natives.now) (name_at c.args.sig.now c.in-App.op.0) b) (theory_at c.args.sig.now c.in-App.op.0) c.in-App.op.0 (trees_at c.args.store.now (numbers c.in-App.ids.now))) c.in-Native.is ∙ (c.native_given.ensures ∙ ap (λ t. answer_of c.args.store.now (theory_at c.args.sig.now) t c.native_given.result) (sym c.in-App.ensures.tree)))
-

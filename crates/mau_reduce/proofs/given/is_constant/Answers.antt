@@ -1,8 +1,7 @@
-use Rattle.std.proofs.Common.{◌≡◌, false, sym, ap, ap₂, ◌∙◌, eqb-true}
-use Rattle.mau_terms.specs.Tree.{apply, no_trees, node}
+use Rattle.std.proofs.Common.{sym, ap, ap₂, ◌∙◌, eqb-true}
+use Rattle.mau_terms.specs.Tree.{apply, no_trees}
 use Rattle.mau_evaluation.specs.Listing.{same_tree}
-use Rattle.mau_store.specs.Trees.{tree_at, trees_at}
-use Rattle.mau_store.specs.View.{numbers}
+use Rattle.mau_store.specs.Trees.{tree_at}
 use Rattle.mau_reduce.specs.BuiltOperators.{constant_tree}
 use Rattle.mau_reduce.proofs.Answering.{constant_same}
 use Rattle.mau_reduce.proofs.Tops.{same_tree_not}

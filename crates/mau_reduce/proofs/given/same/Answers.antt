@@ -1,4 +1,4 @@
-use Rattle.std.proofs.Common.{◌≡◌, if◌then◌else◌, sym, ap, ◌∙◌}
+use Rattle.std.proofs.Common.{if◌then◌else◌, ap, ◌∙◌}
 use Rattle.mau_evaluation.specs.Program.{value}
 use Rattle.mau_reduce.specs.BuiltOperators.{constant_tree}
 use Rattle.mau_reduce.proofs.Answering.{equal_two}

@@ -1,4 +1,4 @@
-use Rattle.std.proofs.Common.{◌≡◌, ◌<◌, true, sym, ap, ◌∙◌, arith, below_more}
+use Rattle.std.proofs.Common.{◌≡◌, true, sym, ◌∙◌, arith, below_more}
 use Rattle.mau_evaluation.specs.Evaluation.{has_number}
 use Rattle.mau_reduce.proofs.PlacesNamed.{has_number-any, names_below, names_missing}
 use Rattle.mau_reduce.proofs.rebuilding.names_all.Goals as goal

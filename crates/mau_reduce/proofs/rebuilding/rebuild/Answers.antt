@@ -1,5 +1,5 @@
-use Rattle.std.proofs.Common.{◌≡◌, ℕ, map, sym, ap, ap₂, ◌∙◌, subst}
-use Rattle.mau_terms.specs.Tree.{Tree, node}
+use Rattle.std.proofs.Common.{◌≡◌, sym, ap, ◌∙◌, subst}
+use Rattle.mau_terms.specs.Tree.{node}
 use Rattle.mau_terms.specs.Norm.{norm, build}
 use Rattle.mau_terms.specs.Bare.{IsBareIn}
 use Rattle.mau_terms.specs.Reading.{reading}
@@ -9,7 +9,6 @@ use Rattle.mau_store.specs.View.{numbers}
 use Rattle.mau_canon.specs.Within.{IsCause}
 use Rattle.mau_canon.proofs.Elements.{fine_each}
 use Rattle.mau_canon.proofs.Judged.{norm-fine}
-use Rattle.mau_evaluation.specs.Run.{done}
 use Rattle.mau_evaluation.specs.Evaluation.{within_limits, top_changed}
 use Rattle.mau_reduce.proofs.KindsKept.{under_kept, trees_kept, built_in_kind}
 use Rattle.mau_reduce.proofs.Limits.{refused_ends_as, within_given}

@@ -1,9 +1,8 @@
-use Rattle.std.proofs.Common.{◌≡◌, ℕ, ◌==◌, ◌&&◌, true, false, not, inl, inr, length, map, sym, ap, ◌∙◌, subst, eqb-true, arith}
+use Rattle.std.proofs.Common.{◌≡◌, ◌&&◌, true, false, not, inl, inr, length, sym, ap, ◌∙◌, eqb-true}
 use Rattle.std.proofs.lemmas.Bool.{eqb-false}
 use Rattle.std.proofs.lemmas.List.{length-map}
-use Rattle.mau_terms.specs.Tree.{Tree, node, variable, numeral}
+use Rattle.mau_terms.specs.Tree.{node, variable, numeral}
 use Rattle.mau_terms.specs.declared.ids.TermId.{TermId}
-use Rattle.mau_signature.specs.Signature.{theory_at}
 use Rattle.mau_store.specs.Trees.{tree_at, trees_at, tree_over}
 use Rattle.mau_store.specs.View.{numbers, node_of}
 use Rattle.mau_store.proofs.Equal.{Decides-ids}

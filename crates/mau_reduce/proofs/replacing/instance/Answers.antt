@@ -1,12 +1,11 @@
-use Rattle.std.proofs.Common.{◌≡◌, ℕ, map, sym, ap, ap₂, ◌∙◌, subst}
-use Rattle.mau_terms.specs.Tree.{Tree}
+use Rattle.std.proofs.Common.{map, sym, ap, ap₂, ◌∙◌, subst}
 use Rattle.mau_terms.specs.Norm.{norm}
 use Rattle.mau_terms.specs.Bare.{IsBareIn}
 use Rattle.mau_terms.specs.Reading.{reading}
 use Rattle.mau_terms.specs.Subst.{instance}
 use Rattle.mau_terms.specs.View.{tree_of, variable_of}
 use Rattle.mau_signature.specs.Signature.{theory_at, terms_over}
-use Rattle.mau_store.specs.Trees.{tree_at, trees_at}
+use Rattle.mau_store.specs.Trees.{trees_at}
 use Rattle.mau_store.specs.View.{numbers}
 use Rattle.mau_canon.specs.Values.{values_in}
 use Rattle.mau_canon.specs.Within.{IsCause}

@@ -1,9 +1,7 @@
-use Rattle.std.proofs.Common.{refl}
 use Rattle.mau_store.specs.Trees.{tree_at}
 use Rattle.mau_api.specs.Answers.{AreSettled}
 use Rattle.mau_sorts.specs.Table.{IsSettled}
 use Rattle.mau_terms.proofs.Outcomes.{OnOk-then}
-use Rattle.mau_store.specs.Node.{Extends}
 use Rattle.mau_store.proofs.Growth.{extension_is_preorder}
 use Rattle.mau_reduce.proofs.PlainTables.{term_over, all_settled, identities_grown}
 use Rattle.mau_reduce.proofs.settling.settle.Goals as goal

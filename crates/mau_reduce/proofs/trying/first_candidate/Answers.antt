@@ -1,12 +1,11 @@
-use Rattle.std.proofs.Common.{◌≡◌, ℕ, [], Option, Some, None, IfSome, IfNone, sym, ap, ◌∙◌, subst}
+use Rattle.std.proofs.Common.{[], IfSome, sym, ap, ◌∙◌, subst}
 use Rattle.std.specs.Option.{option_map}
 use Rattle.mau_terms.specs.View.{tree_of}
 use Rattle.mau_store.specs.Trees.{tree_at}
 use Rattle.mau_listing.specs.Asked.{asks, CanGoOn}
-use Rattle.mau_evaluation.specs.Run.{done, or_go_on}
 use Rattle.mau_api.specs.Programs.{program_over, equation_of}
 use Rattle.mau_api.proofs.Started.{can_start}
-use Rattle.mau_reduce.specs.Trying.{solution_in, left_of_number, number_gives, IsCandidate}
+use Rattle.mau_reduce.specs.Trying.{solution_in, left_of_number, IsCandidate}
 use Rattle.mau_reduce.proofs.Numbered.{at_index, equation_there, in_equations, none_of_number, one_of_number}
 use Rattle.mau_reduce.proofs.trying.first_candidate.Goals as goal
 

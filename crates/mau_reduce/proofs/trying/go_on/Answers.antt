@@ -1,13 +1,13 @@
-use Rattle.std.proofs.Common.{◌≡◌, ℕ, [], Option, Some, None, IfSome, IfNone, sym, ap, ◌∙◌, subst}
+use Rattle.std.proofs.Common.{◌≡◌, Some, None, IfSome, ap, ◌∙◌, subst}
 use Rattle.std.specs.Option.{option_map}
 use Rattle.std.proofs.lemmas.Option.{slice_get_within}
 use Rattle.mau_terms.specs.View.{tree_of}
 use Rattle.mau_store.specs.Trees.{tree_at}
-use Rattle.mau_listing.specs.Asked.{asks, last_after, CanGoOn}
+use Rattle.mau_listing.specs.Asked.{last_after}
 use Rattle.mau_evaluation.specs.Run.{done, or_go_on}
 use Rattle.mau_api.specs.Programs.{program_over, equation_of}
 use Rattle.mau_reduce.specs.Trying.{solution_in, left_of_number, number_gives, IsCandidate, IsTried, IsFound}
-use Rattle.mau_reduce.proofs.Numbered.{at_index, equation_there, in_equations, none_if, some_if, none_of_number, one_of_number}
+use Rattle.mau_reduce.proofs.Numbered.{at_index, equation_there, none_if, some_if, none_of_number, one_of_number}
 use Rattle.mau_reduce.proofs.trying.go_on.Goals as goal
 
 pub returns-clause-none : goal.returns-clause-none

@@ -1,4 +1,4 @@
-use Rattle.std.proofs.Common.{◌≡◌, Option, None, IfNone, ◌∙◌, subst}
+use Rattle.std.proofs.Common.{◌≡◌, None, IfNone, ◌∙◌, subst}
 use Rattle.std.specs.Option.{option_map}
 use Rattle.mau_store.specs.Trees.{tree_at}
 use Rattle.mau_evaluation.specs.Run.{done}
