@@ -9,6 +9,8 @@ pub mod KnownElements
 pub mod Sound
 pub mod Lengths
 pub mod NothingMissed
+pub mod Impossible
+pub mod Refusing
 pub mod Extension
 pub mod Fair
 pub mod Occurring

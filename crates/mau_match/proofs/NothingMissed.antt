@@ -1,6 +1,6 @@
 -- The walk over a pattern misses no value that its variable has in a solution.
 use Rattle.std.proofs.Common.{◌≡◌, ℕ, ◌+◌, ◌-◌, ◌≤◌, List, [], ◌∷◌, ◌++◌, length, map, Bool, true, false, not, ◌&&◌, ◌||◌, ◌==◌, nat_lt, Option, Some, None, inl, inr, ◌⊎◌, if◌then◌else◌, refl, sym, ◌∙◌, ap, ap₂, subst, append-nil, arith, length-append, eqb-true, eq-eqb, lt-ltb}
-use Rattle.mau_terms.specs.Tree.{Tree, variable, numeral, apply, Trees, no_trees, tree, list_of, trees_of}
+use Rattle.mau_terms.specs.Tree.{Tree, variable, numeral, apply, node, Trees, no_trees, tree, list_of, trees_of}
 use Rattle.mau_terms.specs.Norm.{unit_tree, is_unit, all_pieces, arrange, finish, build, norm, norms}
 use Rattle.mau_terms.specs.Lawful.{AreLawful}
 use Rattle.mau_terms.specs.Subst.{Variable, has_variable, instance, instances}
@@ -15,7 +15,7 @@ use Rattle.mau_terms.proofs.Finite.{in_left, in_right, length-arrange, length_wi
 use Rattle.mau_terms.proofs.Variables.{same-is}
 use Rattle.mau_domains.specs.Parts.{Reach, whole, Part, just, some_of, Reaches, IsOf}
 use Rattle.mau_match.specs.Parts.{AnyOf, headed, folded_by, occurs, occurs_among, lists_in, alone_in, folded_parts, apart_from, is_bound, any_of, lists_of, own_part, rest_behind, parts_of, parts_among, parts_at, parts_any, parts_folded, IsFairAt, IsFair, AreFair}
-use Rattle.mau_match.proofs.Builds.{all_in, Built, placed, counted, folded, IsFolded, built_other, list_of_built}
+use Rattle.mau_match.proofs.Builds.{all_in, arranged_list, Built, placed, counted, folded, IsFolded, built_other, list_of_built}
 use Rattle.mau_match.proofs.KnownElements.{bound_norm}
 use Rattle.mau_match.proofs.Lengths.{not_too_few}
 use Rattle.mau_match.proofs.Sound.{any_left, any_right, any_each, any_each_part, any_just, in_each, one_reaches, owns, rests, AnyRest}
@@ -47,10 +47,10 @@ either_true false b e h = e
 module _ (th : ℕ → Theory) (lawful : AreLawful th) (bound : List Variable) (g gg : Variable → Tree) (x : Variable) (agree : (y : Variable) → has_variable bound y ≡ true → norm th (g y) ≡ norm th (gg y)) where
   -- ---- an associative operator
 
-  abbrev Way : ℕ → List Tree → Part → Type 0
+  abbrev pub Way : ℕ → List Tree → Part → Type 0
   Way f zs q = ((l : Reach × List Tree) × IsIn l (lists_in th f q) × Reaches (th f).comm l.0 (all_pieces (th f).assoc (th f).id f zs) l.1) ⊎ (IsIn q (apart_from th f q) × ((i : Identity) × ((th f).id ≡ Some i) × IsFolded i zs (build (th f) f zs)))
 
-  ways : (f : ℕ) → (th f).assoc ≡ true → (zs : List Tree) → Each (IsNormal th) zs → IsFairAt th f zs → (q : Part) → IsOf th q (build (th f) f zs) → Way f zs q
+  pub ways : (f : ℕ) → (th f).assoc ≡ true → (zs : List Tree) → Each (IsNormal th) zs → IsFairAt th f zs → (q : Part) → IsOf th q (build (th f) f zs) → Way f zs q
   ways f a zs n fair q h = by q h
     where
       c : Bool
@@ -256,7 +256,35 @@ module _ (th : ℕ → Theory) (lawful : AreLawful th) (bound : List Variable) (
               inl (in_each (lists_of th f) v alone zs there
               (subst (λ t. IsIn zs (lists_of th f t)) (sym e)
               (subst (λ d. IsIn zs (if d then list_of (trees_of es) ∷ [] else [])) (sym (ap₂ (λ p r. p && not r) (eq-eqb f f refl) w))
-              (inl (nc w ∙ sym (list_of-trees_of es))))))
+              (inl (arranged_list (th f).comm zs es w nc ∙ sym (list_of-trees_of es))))))
+
+  -- an operator that is neither associative nor has an identity, over arguments, is none of a part's lists
+  pub alone_value : (f : ℕ) → (th f).assoc ≡ false → (th f).id ≡ None → (zs : List Tree) → IsFairAt th f zs → (q : Part) → IsOf th q (build (th f) f zs) → IsIn (build (th f) f zs) (alone_in th q)
+  alone_value f a u zs fair q o = by (built_other th f zs a fair.two_by_unit)
+    where
+      v : Tree
+      v = build (th f) f zs
+
+      by : Built (th f) f zs v → IsIn v (alone_in th q)
+      by (folded i k e) = let n : None ≡ Some i = sym u ∙ k in absurd (cc)
+      by (counted n s e i) = alone_is q v (λ h us b k. let j : numeral (n + 1) ≡ apply h us = sym e ∙ k in cc) o
+      by (placed es e i nc) =
+          alone_is q v (λ h us b k.
+          let j : f ≡ h = head_op f h (trees_of es) us (sym e ∙ k) in
+          let b' : (th f).assoc ≡ true = subst (λ w. (th w).assoc ≡ true) (sym j) b in
+          cc) o
+
+  -- if it is not the successor either, it is built of just these arguments
+  pub only_placed : (f : ℕ) → (th f).assoc ≡ false → (th f).succ ≡ false → (th f).id ≡ None → (zs : List Tree) → IsFairAt th f zs → build (th f) f zs ≡ node f (arrange (th f).comm zs)
+  only_placed f a n u zs fair = by (built_other th f zs a fair.two_by_unit)
+    where
+      v : Tree
+      v = build (th f) f zs
+
+      by : Built (th f) f zs v → v ≡ node f (arrange (th f).comm zs)
+      by (folded i k e) = let m : None ≡ Some i = sym u ∙ k in absurd (cc)
+      by (counted k s e i) = let m : false ≡ true = sym n ∙ s in absurd (cc)
+      by (placed es e i nc) = e ∙ ap (node f) (sym nc)
 
   -- ---- the walk
 

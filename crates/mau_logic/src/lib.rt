@@ -1,0 +1,2 @@
+//! What justifies a derivation, and that every told run has one.
+#![tactic(auto)]
