@@ -8,7 +8,7 @@ use Rattle.mau_signature.specs.Signature.{SignatureOf}
 use Rattle.mau_signature.specs.OverSignature.{IsTreeOver, AreTreesOver}
 use Rattle.mau_formula.specs.Operator.{Operator}
 use Rattle.mau_sorts.specs.HasSort.{HasSort, IsKnown}
-use Rattle.mau_sorts.specs.Laws.{IsBuiltAndAccepted}
+use Rattle.mau_sigcheck.specs.Built.{IsBuiltAndAccepted}
 use Rattle.mau_listing.specs.Asked.{BySort}
 use Rattle.mau_program.specs.declared.program.Program as Typed
 use Rattle.mau_evaluation.specs.Run.{done, Run, gives, and_then, each_in_turn, choose, counted, go_on}

@@ -18,7 +18,7 @@ use Rattle.mau_signature.specs.Signature.{SignatureOf, declarations_at, result_o
 use Rattle.mau_signature.specs.OverSignature.{IsTreeOver}
 use Rattle.mau_sigcheck.specs.Accepted.{IsSortOfNumeral}
 use Rattle.mau_sorts.specs.HasSort.{HasSort, IsKnown, Gives, ListHas, AllHave, OfTwo}
-use Rattle.mau_sorts.specs.Laws.{IsBuiltAndAccepted}
+use Rattle.mau_sigcheck.specs.Built.{IsBuiltAndAccepted}
 use Rattle.mau_listing.specs.Asked.{BySort}
 use Rattle.mau_listing.proofs.Answered.{normal_is}
 use Rattle.mau_reduce.specs.Bindings.{HaveKinds}

@@ -4,7 +4,7 @@ use Rattle.std.specs.Prelude.{◌≡◌, ℕ, true}
 use Rattle.mau_terms.specs.Bare.{TermSignature, IsBareIn, IsLawful}
 use Rattle.mau_terms.specs.Finite.{IsIn}
 use Rattle.mau_signature.specs.Signature.{terms_over}
-use Rattle.mau_sorts.specs.Laws.{IsBuiltAndAccepted}
+use Rattle.mau_sigcheck.specs.Built.{IsBuiltAndAccepted}
 use Rattle.mau_program.specs.declared.program.Program as Typed
 use Rattle.mau_evaluation.specs.Program.{Equation, Membership}
 use Rattle.mau_api.specs.Programs.{equation_of, membership_of}
