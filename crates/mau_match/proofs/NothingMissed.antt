@@ -25,7 +25,7 @@ no_elements : (ts : List Tree) → length ts ≤ 0 → ts ≡ []
 no_elements [] h = refl
 no_elements (t ∷ ts) h = absurd (omega arith)
 
-head_op : (f h : ℕ) (ts us : Trees) → apply f ts ≡ apply h us → f ≡ h
+pub head_op : (f h : ℕ) (ts us : Trees) → apply f ts ≡ apply h us → f ≡ h
 head_op f h ts us e = cc
 
 same_args : (f h : ℕ) (ts us : Trees) → apply f ts ≡ apply h us → ts ≡ us

@@ -1,11 +1,11 @@
-use Rattle.std.proofs.Common.{◌≡◌, ◌==◌, ◌+◌, ◌-◌, ◌∷◌, ◌++◌, [], List, IfSome, Option, Some, None, true, false, length, take, drop, get_or, map, inl, inr, refl, sym, ap, ap₂, ◌∙◌, subst, arith}
+use Rattle.std.proofs.Common.{◌≡◌, ℕ, ◌==◌, ◌+◌, ◌-◌, ◌<◌, ◌≤◌, ◌∷◌, ◌++◌, [], List, IfSome, IfNone, Option, Some, None, true, false, length, take, drop, get_or, map, inl, inr, refl, sym, ap, ap₂, ◌∙◌, subst, arith}
 use Rattle.std.proofs.Common.{is_some}
 use Rattle.std.proofs.lemmas.List.{take_all}
 use Rattle.std.proofs.lemmas.List.Elements.{All-nil, All-cons}
 use Rattle.std.proofs.lemmas.Result.{IfOk-weaker}
 use Rattle.mau_terms.specs.Tree.{Tree, trees_of, tree, apply, node}
 use Rattle.mau_terms.specs.Norm.{norm}
-use Rattle.mau_terms.specs.Subst.{instance}
+use Rattle.mau_terms.specs.Subst.{Variable, instance}
 use Rattle.mau_terms.specs.Solution.{list_under}
 use Rattle.mau_terms.specs.Finite.{IsIn}
 use Rattle.mau_terms.specs.View.{tree_of, variable_of}
@@ -23,9 +23,10 @@ use Rattle.mau_canon.proofs.Standing.{stands_within_extended, stand_at, stand_th
 use Rattle.mau_listing.proofs.Growth.{trees_long}
 use Rattle.mau_domains.specs.Parts.{Reach, just, inside, Reaches}
 use Rattle.mau_domains.specs.Stored.{part_in, reach_of}
-use Rattle.mau_match.specs.Parts.{is_bound, are_bound, known_in, without_all, least_lengths, too_few_for, alone_in}
-use Rattle.mau_match.specs.Possible.{free, IsNever, AreNever, AreNeverSorted, AreNeverJoined, AreNeverAmong}
+use Rattle.mau_match.specs.Parts.{is_bound, are_bound, known_in, without_all, least_lengths, too_few_for, alone_in, AreFair}
+use Rattle.mau_match.specs.Possible.{free, frees, IsNever, AreNever, AreNeverSorted, AreNeverJoined, AreNeverAmong}
 use Rattle.mau_match.specs.Walked.{bound_of, values_of, target_of, span_in, IsSpanWithin}
+use Rattle.mau_match.proofs.Lengths.{reach_length}
 use Rattle.mau_match.proofs.Adding.{bare_arguments, bare_first, bare_rest, first_and_rest, trees_more}
 use Rattle.mau_match.proofs.Taking.{stand_cut, only_these}
 use Rattle.mau_match.proofs.Refusing.{never_before, joined_before, span_stays, spans_more, in_more, never_at_pair, never_at_stand, never_alone, never_sorted, never_rest, never_rest_among, are_before, among_before, ids_split, two_ids, never_listed, never_few, never_joined, never_there, free_other}
@@ -379,8 +380,8 @@ may_be_within-returns-then-are_too_few-clause-refused t c = λ e.
     ap₂ (λ u k. too_few_for u k (least_lengths f ps)) (ap (λ w. w.id) (sym c.theory-theory.ensures.value)) (sym n) ∙ sym c.are_too_few.ensures ∙ c.if-are_too_few.true in
     never_few s c.theory-theory.ensures.lawful.theories old c.args.given.now f ps c.requires.assoc (span_in old c.args.span.now) few
 
-pub may_be_within-may_each-requires : goal.may_be_within-may_each-requires
-may_be_within-may_each-requires t c =
+pub may_be_within-may_fill-requires : goal.may_be_within-may_fill-requires
+may_be_within-may_fill-requires t c =
     let s = c.args.sig.now in
     let th = theory_at s in
     let old = c.args.store.now in
@@ -411,12 +412,12 @@ may_be_within-returns-in-Ok-Some-clause-refused t c =
     let f = c.args.op.0 in
     let ps = trees_of (map tree_of c.args.patterns.now) in
     let us = trees_at mid (numbers c.in-Ok-Some.items.items) in
-    IfOk-weaker c.may_each.result _ _
+    IfOk-weaker c.may_fill.result _ _
     (λ b h e.
     never_joined s c.theory-theory.ensures.lawful.theories old g f ps c.requires.assoc (reach_of c.args.span.now.reach) (trees_at old (numbers c.args.span.now.items.items)) us
     (subst (λ (l : List TermId). without_all (known_in th (bound_of g) (values_of old g) (target_of g) f ps) (trees_at old (numbers l)) ≡ Some us) c.deref.ensures.value (rw c.in-Ok-Some.field-0-is at c.in-Ok-Some.ensures.some))
     (among_before s old mid c.without_known.ensures.extends g c.requires.values f ps (trees_at mid (numbers c.deref-in-Ok-Some.result.now)) us (ap (λ l. trees_at mid (numbers l)) c.deref-in-Ok-Some.ensures.value) (h e)))
-    c.may_each.ensures.refused
+    c.may_fill.ensures.refused
 
 pub may_be_within-returns-in-Ok-None-clause-refused : goal.may_be_within-returns-in-Ok-None-clause-refused
 may_be_within-returns-in-Ok-None-clause-refused t c = λ e.
@@ -430,6 +431,21 @@ may_be_within-returns-in-Ok-None-clause-refused t c = λ e.
     (subst (λ (l : List TermId). without_all (known_in th (bound_of g) (values_of old g) (target_of g) f ps) (trees_at old (numbers l)) ≡ None) c.deref.ensures.value (rw c.in-Ok-None.field-0-is at c.in-Ok-None.ensures.none))
 
 -- ---- elements that are not known
+
+when_none : {A : Type 0} (r : Option ℕ) → is_some r ≡ false → IfNone r A → A
+when_none None e h = h
+when_none (Some n) e h = cc
+
+pub may_fill-returns-then-is_none-clause-refused : goal.may_fill-returns-then-is_none-clause-refused
+may_fill-returns-then-is_none-clause-refused t c = λ b gg ag fair o.
+    let s = c.args.sig.now in
+    let f = c.args.op.0 in
+    let old = c.args.store.now in
+    let items = numbers c.args.items.now in
+    let l = frees (theory_at s) (bound_of c.args.given.now) gg f (trees_of (map tree_of c.args.patterns.now)) in
+    let few : length c.args.items.now < length l = (when_none c.left_beside_all.result c.if-is_none.ensures c.left_beside_all.ensures.none) gg fair in
+    let long : length l ≤ length (trees_at old items) = reach_length true inside l (trees_at old items) o in
+    omega (arith, few, long, trees_long old c.args.items.now)
 
 pub may_each-may_each-requires : goal.may_each-may_each-requires
 may_each-may_each-requires t c =
