@@ -5,7 +5,7 @@ use Rattle.std.proofs.lemmas.List.Elements.{All-nil, All-cons}
 use Rattle.std.proofs.lemmas.Result.{IfOk-weaker}
 use Rattle.mau_terms.specs.Tree.{Tree, trees_of, tree, apply, node}
 use Rattle.mau_terms.specs.Norm.{norm}
-use Rattle.mau_terms.specs.Subst.{Variable, instance}
+use Rattle.mau_terms.specs.Subst.{instance}
 use Rattle.mau_terms.specs.Solution.{list_under}
 use Rattle.mau_terms.specs.Finite.{IsIn}
 use Rattle.mau_terms.specs.View.{tree_of, variable_of}
@@ -23,7 +23,7 @@ use Rattle.mau_canon.proofs.Standing.{stands_within_extended, stand_at, stand_th
 use Rattle.mau_listing.proofs.Growth.{trees_long}
 use Rattle.mau_domains.specs.Parts.{Reach, just, inside, Reaches}
 use Rattle.mau_domains.specs.Stored.{part_in, reach_of}
-use Rattle.mau_match.specs.Parts.{is_bound, are_bound, known_in, without_all, least_lengths, too_few_for, alone_in, AreFair}
+use Rattle.mau_match.specs.Parts.{is_bound, are_bound, known_in, without_all, least_lengths, too_few_for, alone_in}
 use Rattle.mau_match.specs.Possible.{free, frees, IsNever, AreNever, AreNeverSorted, AreNeverJoined, AreNeverAmong}
 use Rattle.mau_match.specs.Walked.{bound_of, values_of, target_of, span_in, IsSpanWithin}
 use Rattle.mau_match.proofs.Lengths.{reach_length}
