@@ -26,7 +26,13 @@ is_none (Some i) e = cc
 free_assoc : (h : Theory) → is_free h ≡ true → h.assoc ≡ false
 free_assoc h e = is_false h.assoc (and_parts (not h.assoc) (not h.comm && (not (is_some h.id) && not h.succ)) e).0
 
-free_build : (h : Theory) (f : ℕ) (ts : List Tree) → is_free h ≡ true → build h f ts ≡ node f ts
+pub free_succ : (h : Theory) → is_free h ≡ true → h.succ ≡ false
+free_succ h e =
+    let a = and_parts (not h.assoc) (not h.comm && (not (is_some h.id) && not h.succ)) e in
+    let b = and_parts (not h.comm) (not (is_some h.id) && not h.succ) a.1 in
+    is_false h.succ (and_parts (not (is_some h.id)) (not h.succ) b.1).1
+
+pub free_build : (h : Theory) (f : ℕ) (ts : List Tree) → is_free h ≡ true → build h f ts ≡ node f ts
 free_build h f ts e =
     let a = and_parts (not h.assoc) (not h.comm && (not (is_some h.id) && not h.succ)) e in
     let b = and_parts (not h.comm) (not (is_some h.id) && not h.succ) a.1 in

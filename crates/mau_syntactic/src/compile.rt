@@ -9,7 +9,7 @@ use crate::step::Step;
 use mau_terms::{Bare, NoMemory, VarId};
 
 /// The first place of a variable among these, or their number where it is not there.
-fn place_of(variables: &[VarId], variable: VarId) -> usize
+pub(crate) fn place_of(variables: &[VarId], variable: VarId) -> usize
     ensures { result ≡ place_in (map variable_of variables.now) (variable_of variable) }
 {
     for (place, other) in variables.iter().enumerate() {
