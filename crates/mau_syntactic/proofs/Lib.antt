@@ -18,3 +18,5 @@ pub mod Solving
 pub mod Running
 -- terms on a stack
 pub mod Filling
+-- instances built by parts
+pub mod Instances

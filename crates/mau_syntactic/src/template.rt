@@ -180,12 +180,7 @@ fn replace_last(
 }
 
 /// An operator over normal forms. Where it has no axioms, the term is a node over them.
-fn over(
-    store: &mut Store,
-    sig: &Signature,
-    op: OpId,
-    args: &[TermId],
-) -> Result<TermId, BuildFault>
+fn over(store: &mut Store, sig: &Signature, op: OpId, args: &[TermId]) -> Result<TermId, BuildFault>
     requires operator { IsOperator sig.now op.0 }
     requires args { StandWithin (theory_at sig.now) store.old (numbers args.now) }
     ensures ok { IfOk result (λ id. StandsFor (theory_at sig.now) store.new id.0 (node op.0 (trees_at store.old (numbers args.now)))) }

@@ -1,4 +1,4 @@
-use Rattle.std.proofs.Common.{◌≡◌, ◌<◌, ◌≤◌, map, length, ap, ◌∙◌, arith}
+use Rattle.std.proofs.Common.{map, ap, ◌∙◌, arith}
 use Rattle.mau_terms.specs.View.{variable_of}
 use Rattle.mau_syntactic.specs.declared.part.Part.TheVariants.{Value}
 use Rattle.mau_syntactic.proofs.Places.{length_variables}
