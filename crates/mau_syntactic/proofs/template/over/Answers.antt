@@ -18,4 +18,4 @@ returns-clause-within c =
     let free : is_free (th c.args.op.0) ≡ true = sym (c.is_free.ensures ∙ ap is_free c.theory.ensures.value) ∙ c.if-not-is_free.false in
     let deep = c.depth.ensures.value in
     node_stands th c.args.op.0 free c.args.store.now (numbers c.args.args.now) c.requires.args c.intern.new.self c.in_ok-id.id.0
-    (slice_get_within c.intern.new.self c.in_ok-id.id.0 _ c.in_ok-id.ensures.ok) c.in_ok-id.ensures.tree (omega (arith, deep, c.if-depth-gt-MAX_DEPTH.false))
+    (slice_get_within c.intern.new.self c.in_ok-id.id.0 _ c.in_ok-id.ensures.ok) c.in_ok-id.ensures.tree (omega (arith, deep))
