@@ -1,14 +1,13 @@
 -- Terms on a stack, in a store that grows.
-use Rattle.std.proofs.Common.{◌≡◌, ℕ, ◌-◌, ◌≤◌, List, [], ◌∷◌, ◌++◌, All, true, false, ◌&&◌, ◌||◌, length, map, take, drop, refl, sym, ap, ap₂, ◌∙◌, subst, arith}
+use Rattle.std.proofs.Common.{◌≡◌, ℕ, ◌-◌, ◌≤◌, List, [], ◌∷◌, ◌++◌, All, true, ◌&&◌, ◌||◌, length, map, take, drop, refl, sym, ap, ap₂, ◌∙◌, subst, arith}
 use Rattle.std.proofs.lemmas.List.{map-append, length-drop, take_all, drop-map}
 use Rattle.std.proofs.lemmas.List.Elements.{All-nil, All-cons, All-head, All-tail, All-append, All-take, All-drop}
 use Rattle.std.specs.List.{take-map}
 use Rattle.mau_terms.specs.Tree.{Tree, variable, numeral, node, trees_of}
 use Rattle.mau_terms.specs.Depth.{depth}
-use Rattle.mau_terms.specs.Norm.{norm, build, is_greatest_numeral, holds_overflow, hold_overflow}
+use Rattle.mau_terms.specs.Norm.{norm, is_greatest_numeral, holds_overflow}
 use Rattle.mau_terms.specs.declared.ids.TermId.{TermId}
 use Rattle.mau_terms.specs.declared.theory.Theory.{Theory}
-use Rattle.mau_terms.proofs.Induction.{norm-node}
 use Rattle.mau_store.specs.Node.{Node, IsOf, Extends}
 use Rattle.mau_store.specs.Trees.{tree_at, trees_at}
 use Rattle.mau_store.specs.View.{numbers}
@@ -16,6 +15,9 @@ use Rattle.mau_store.proofs.Growth.{trees_at-extends}
 use Rattle.mau_canon.specs.declared.TheConstants.{MAX_DEPTH}
 use Rattle.mau_canon.specs.Within.{IsWithin}
 use Rattle.mau_canon.specs.Standing.{StandsWithin, StandWithin}
+use Rattle.mau_canon.proofs.Elements.{fine_each}
+use Rattle.mau_canon.proofs.Overflows.{hold-trees_of}
+use Rattle.mau_canon.proofs.Judged.{norm-fine, none_overflows}
 use Rattle.mau_canon.proofs.Standing.{stand_there, stand_within_extended}
 use Rattle.mau_syntactic.specs.Free.{is_free}
 use Rattle.mau_syntactic.proofs.Frees.{free_build, free_succ}
@@ -64,15 +66,6 @@ module _ (th : ℕ → Theory) where
   trees_normal nodes (i ∷ ids) h =
       All-cons (λ t. norm th t ≡ t) (tree_at nodes i) (trees_at nodes ids) (All-head (StandsWithin th nodes) i ids h).normal (trees_normal nodes ids (All-tail (StandsWithin th nodes) i ids h))
 
-  none_holds : (nodes : List Node) (ids : List ℕ) → StandWithin th nodes ids → hold_overflow th (trees_of (trees_at nodes ids)) ≡ false
-  none_holds nodes [] h = refl
-  none_holds nodes (i ∷ ids) h =
-      ap₂ (λ a b. a || b) (All-head (StandsWithin th nodes) i ids h).within.no_overflow (none_holds nodes ids (All-tail (StandsWithin th nodes) i ids h))
-
-  norms_fixed : (ts : List Tree) → All (λ t. norm th t ≡ t) ts → map (norm th) ts ≡ ts
-  norms_fixed [] h = refl
-  norms_fixed (t ∷ ts) h = ap₂ (λ u us. u ∷ us) (All-head (λ v. norm th v ≡ v) t ts h) (norms_fixed ts (All-tail (λ v. norm th v ≡ v) t ts h))
-
   pub stand_part : (nodes : List Node) (ids : List TermId) (m n : ℕ) → StandWithin th nodes (numbers ids) → StandWithin th nodes (numbers (take m (drop n ids)))
   stand_part nodes ids m n h =
       subst (StandWithin th nodes) (ap (take m) (drop-map (λ i. i.0) n ids) ∙ take-map (λ i. i.0) m (drop n ids))
@@ -86,9 +79,7 @@ module _ (th : ℕ → Theory) where
   module _ (f : ℕ) (free : is_free (th f) ≡ true) (nodes : List Node) (ids : List ℕ) (stand : StandWithin th nodes ids) where
     pub node_normal : norm th (node f (trees_at nodes ids)) ≡ node f (trees_at nodes ids)
     node_normal =
-        norm-node th f (trees_at nodes ids)
-        ∙ ap (build (th f) f) (norms_fixed (trees_at nodes ids) (trees_normal nodes ids stand))
-        ∙ free_build (th f) f (trees_at nodes ids) free
+        norm-fine th f (trees_at nodes ids) (fine_each th nodes ids stand) ∙ free_build (th f) f (trees_at nodes ids) free
 
     pub node_stands : (new : List Node) (i : ℕ) → IsOf new i → tree_at new i ≡ node f (trees_at nodes ids) → depth (tree_at new i) ≤ MAX_DEPTH → StandsWithin th new i
     node_stands new i there e low = record {
@@ -98,7 +89,7 @@ module _ (th : ℕ → Theory) where
         shallow = low;
         no_overflow =
             ap (holds_overflow th) e
-            ∙ ap₂ (λ a b. (a && is_greatest_numeral (trees_of (trees_at nodes ids))) || b) (free_succ (th f) free) (none_holds nodes ids stand);
+            ∙ ap₂ (λ a b. (a && is_greatest_numeral (trees_of (trees_at nodes ids))) || b) (free_succ (th f) free) (hold-trees_of th (trees_at nodes ids) ∙ none_overflows th (trees_at nodes ids) (fine_each th nodes ids stand));
       };
     }
 

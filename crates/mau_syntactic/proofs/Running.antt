@@ -81,12 +81,12 @@ module _ (s : SignatureOf) (xs : List Variable) (t : Tree) where
 
 -- ---- values
 
-no_value : (xs : List Variable) (vs : List Tree) (x : Variable) → has_variable xs x ≡ false → value_at xs vs x ≡ variable x.0 x.1
-no_value [] vs x h = refl
-no_value (y ∷ ys) [] x h = refl
-no_value (y ∷ ys) (v ∷ vs) x h =
+value_unbound : (xs : List Variable) (vs : List Tree) (x : Variable) → has_variable xs x ≡ false → value_at xs vs x ≡ variable x.0 x.1
+value_unbound [] vs x h = refl
+value_unbound (y ∷ ys) [] x h = refl
+value_unbound (y ∷ ys) (v ∷ vs) x h =
     let p = or_parts (same_variable y x) (has_variable ys x) h in
-    ap (λ b. if b then v else value_at ys vs x) p.0 ∙ no_value ys vs x p.1
+    ap (λ b. if b then v else value_at ys vs x) p.0 ∙ value_unbound ys vs x p.1
 
 normal_value : (th : ℕ → Theory) (vs : List Tree) (k : ℕ) (d : Tree) → All (λ v. norm th v ≡ v) vs → k < length vs → norm th (get_or vs k d) ≡ get_or vs k d
 normal_value th vs k d h l = h k d l
@@ -184,5 +184,5 @@ module _ (s : SignatureOf) (lawful : AreLawful (theory_at s)) (xs : List Variabl
           ∙ ap (norm th) (sym (value_place xs vs (i, r) (numeral 0) low one_each)) in
           record { pending = us ++ variable i r ∷ []; goes = g; trees = h ∙ ap (λ x. map made us ++ x ∷ []) value ∙ sym (map-append made us (variable i r ∷ [])) }
       by part parts us (by_unbound v ts' rest absent g) h =
-          let value : variable v.index v.sort ≡ made (variable v.index v.sort) = ap (norm th) (sym (no_value xs vs (variable_of v) absent)) in
+          let value : variable v.index v.sort ≡ made (variable v.index v.sort) = ap (norm th) (sym (value_unbound xs vs (variable_of v) absent)) in
           record { pending = us ++ variable v.index v.sort ∷ []; goes = g; trees = h ∙ ap (λ x. map made us ++ x ∷ []) value ∙ sym (map-append made us (variable v.index v.sort ∷ [])) }

@@ -61,7 +61,8 @@ pub(crate) fn add_parts(
 /// Adds the parts of several terms, one after another.
 #[cycle(parts)]
 fn add_all_parts(parts: &mut Vec<Part>, variables: &[VarId], terms: &[Bare]) -> Result<(), NoMemory>
-    ensures { OnOk result (parts.new.items ≡ parts.old.items ++ all_parts_of (map variable_of variables.now) (trees_of (map tree_of terms.now))) }
+    ensures { OnOk result (parts.new.items
+        ≡ parts.old.items ++ all_parts_of (map variable_of variables.now) (trees_of (map tree_of terms.now))) }
 {
     for term in terms {
         add_parts(parts, variables, term)?;

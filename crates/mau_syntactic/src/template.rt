@@ -168,7 +168,8 @@ fn replace_last(
     requires stack { StandWithin (theory_at sig.now) store.old (numbers stack.old.items) }
     ensures trees { OnOk result (trees_at store.new (numbers stack.new.items)
         ≡ take (length stack.old.items - count) (trees_at store.old (numbers stack.old.items))
-        ++ norm (theory_at sig.now) (node op.0 (drop (length stack.old.items - count) (trees_at store.old (numbers stack.old.items)))) ∷ []) }
+        ++ norm (theory_at sig.now) (node op.0 (drop (length stack.old.items - count) (trees_at store.old (numbers stack.old.items))))
+        ∷ []) }
     ensures stack { OnOk result (StandWithin (theory_at sig.now) store.new (numbers stack.new.items)) }
     ensures extends { Extends store.old store.new }
 {
