@@ -77,6 +77,16 @@ SectionsAreSound =
     (p : Program) → IsBuiltAndAccepted p.sig → IsLawful (terms_over p.sig) → (hooks : List Operator) (x : Section) → IsJustifiedSection p hooks x →
     Each (IsDeduced p hooks) (all_said (section_terms p x) x.facts)
 
+-- the normal form t leads to u: it is rewritten to u, and where no rule is used it is equal to u
+abbrev pub LeadsBy : Program → List Operator → Bool → Tree → Tree → Type 0
+LeadsBy p hooks false t u = Holds p hooks (equals (reading (theory_at p.sig) t) (reading (theory_at p.sig) u))
+LeadsBy p hooks true t u = Holds p hooks (rewrites (reading (theory_at p.sig) t) (reading (theory_at p.sig) u))
+
+-- what a derivable fact leads to
+abbrev pub LedIsSo : Type 0
+LedIsSo =
+    (p : Program) → IsBuiltAndAccepted p.sig → IsLawful (terms_over p.sig) → (hooks : List Operator) (rules : Bool) (t u : Tree) → IsLed p hooks rules t u → LeadsBy p hooks rules t u
+
 -- ---- native operators
 
 -- a formula of numerals gives numerals for numerals
