@@ -15,3 +15,4 @@ pub mod SortsHold
 pub mod SectionFacts
 pub mod Sound
 pub mod Literals
+pub mod ConditionalExamples
