@@ -252,8 +252,8 @@ module _ (p : Program) (hooks : List Operator) where
         equal_onward (modulo p hooks is.from) (equal_onward (under_equal c is.whole after one left right) (modulo p hooks is.to))
     follows_holds us h _ (under f t u bt bu is) = under_holds f us t u h is
     follows_holds us h _ (chain t u on e d) = by_kind (all_equational us) t u (λ k. chain_equal us t u h on e d k) (chain_rewrite us t u h on e d)
-    follows_holds us h _ (declared t r b has) = sort_by us h t r b.0 has
-    follows_holds us h _ (member n m t r vs at b bvs is) =
+    follows_holds us h _ (declared t r b low has) = sort_by us h t r b.0 has
+    follows_holds us h _ (member n m t r vs at b low bvs is) =
         let xs = membership_variables m in
         let g = value_at xs vs in
         above_has (equal_has (equal_back (modulo p hooks is.head))
