@@ -16,3 +16,4 @@ pub mod SectionFacts
 pub mod Sound
 pub mod Literals
 pub mod ConditionalExamples
+pub mod Written

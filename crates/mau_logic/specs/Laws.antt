@@ -1,12 +1,14 @@
 -- The laws of derivations. Each is proved: a public function of the module `laws` has it for its contract.
-use Rattle.std.specs.Prelude.{◌≡◌, ℕ, List, [], ◌∷◌, Bool, true, false, All, map}
+use Rattle.std.specs.Prelude.{◌≡◌, ℕ, List, [], ◌∷◌, length, Bool, true, false, Option, Some, All, map}
 use Rattle.mau_terms.specs.Tree.{Tree}
 use Rattle.mau_terms.specs.Norm.{norm}
 use Rattle.mau_terms.specs.Reading.{reading}
 use Rattle.mau_terms.specs.Bare.{IsLawful}
 use Rattle.mau_signature.specs.Signature.{theory_at, terms_over}
 use Rattle.mau_sigcheck.specs.Built.{IsBuiltAndAccepted}
+use Rattle.mau_facts.specs.declared.document.Fact.{Fact}
 use Rattle.mau_facts.specs.declared.document.Section.{Section}
+use Rattle.mau_api.specs.Variables.{numbered}
 use Rattle.mau_sorts.specs.HasSort.{Known, HasSort}
 use Rattle.mau_formula.specs.Operator.{Operator}
 use Rattle.mau_formula.specs.Native.{native_operator}
@@ -19,7 +21,8 @@ use Rattle.mau_api.specs.Events.{Event}
 use Rattle.mau_api.specs.Told.{told_in, IsToldRun}
 use Rattle.mau_logic.specs.Lines.{section_terms}
 use Rattle.mau_logic.specs.Says.{Says, leads, of_sort, says_nothing, all_said}
-use Rattle.mau_logic.specs.Justified.{IsJustifiedSection}
+use Rattle.mau_logic.specs.Justified.{AreJustifiedOver, IsJustifiedSection}
+use Rattle.mau_logic.specs.Written.{named, HasTerms}
 use Rattle.mau_logic.specs.Derivable.{Derivable, IsSorted, IsLed}
 use Rattle.mau_logic.specs.Deduction.{equals, belongs, rewrites, Holds}
 use Rattle.mau_logic.specs.Replaced.{ReplaceNormal}
@@ -58,6 +61,12 @@ Each P (x ∷ xs) = P x × Each P xs
 abbrev pub SectionsAreDerivable : Type 0
 SectionsAreDerivable =
     (p : Program) (hooks : List Operator) (x : Section) → IsJustifiedSection p hooks x → Each (Derivable p hooks) (all_said (section_terms p x) x.facts)
+
+-- and what is derivable can be said by the last of some justified facts, over terms that have all which it names
+abbrev pub FactsAreWritten : Type 0
+FactsAreWritten =
+    (p : Program) (hooks : List Operator) (terms : List (Option Tree)) (x : Says) (d : Derivable p hooks x) → HasTerms terms (named p hooks d) →
+    (facts : List Fact) × AreJustifiedOver p hooks terms facts (length facts) × (numbered (all_said terms facts) (length facts) ≡ Some x)
 
 -- what a fact says holds in rewriting logic: as an equation where it is by equations alone, else as a rewrite, or as a sort of a term
 abbrev pub IsDeduced : Program → List Operator → Says → Type 0

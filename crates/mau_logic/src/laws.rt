@@ -1,5 +1,5 @@
 //! What is proved of the definitions of this crate. Each function does nothing and has a law for its contract; the laws are stated in `specs/Laws.antt`.
-ghost use Rattle.mau_logic.specs.Laws.{RunsAreLed, SortsAreShown, SectionsAreDerivable, FactsHold, SectionsAreSound, LedIsSo, LiteralsGiveNumerals, NativesGiveNumerals};
+ghost use Rattle.mau_logic.specs.Laws.{RunsAreLed, SortsAreShown, SectionsAreDerivable, FactsAreWritten, FactsHold, SectionsAreSound, LedIsSo, LiteralsGiveNumerals, NativesGiveNumerals};
 
 /// A sort by declarations, and by what facts tell of other terms, is shown by these facts.
 pub fn sorts_are_shown()
@@ -14,6 +14,11 @@ pub fn runs_are_led()
 /// All that a justified section says is derivable.
 pub fn sections_are_derivable()
     ensures { SectionsAreDerivable }
+{}
+
+/// What is derivable can be said by the last of some justified facts, over terms that have all which it names.
+pub fn facts_are_written()
+    ensures { FactsAreWritten }
 {}
 
 /// What a derivable fact says holds in rewriting logic.
