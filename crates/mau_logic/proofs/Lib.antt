@@ -15,3 +15,5 @@ pub mod SortsHold
 pub mod SectionFacts
 pub mod Sound
 pub mod Literals
+pub mod ConditionalExamples
+pub mod Written

@@ -27,7 +27,7 @@ use Rattle.mau_logic.specs.Shown.{known_by, HasSortBy, LeadsTo, Shows, ShowsAll}
 use Rattle.mau_logic.specs.Justified.{With, Lead, IsUnder, LeadOn, membership_variables}
 use Rattle.mau_logic.specs.Derivable.{Follows, same, by_equation as follows_equation, by_rule as follows_rule, by_built_in as follows_built_in, under, chain, declared, member, Derivable, derives, AreDerivable, no_facts, one_fact}
 use Rattle.mau_logic.specs.Deduction.{Sentence, equals, belongs, rewrites, well_sorted, condition_of, conditions_of, Holds, equal_itself, equal_back, equal_onward, equal_under, by_axiom, by_equation, by_built_in, variable_has, numeral_has, operator_has, kind_has, above_has, equal_has, by_membership, stays, rewrites_under, by_rule, rewrites_onward, rewrites_equal, AllHold, none_holds, one_holds}
-use Rattle.mau_logic.specs.Laws.{Each, IsDeduced, FactsHold, SectionsAreSound}
+use Rattle.mau_logic.specs.Laws.{Each, IsDeduced, FactsHold, SectionsAreSound, LeadsBy, LedIsSo}
 use Rattle.mau_logic.proofs.MoreSorts.{told_by}
 use Rattle.mau_logic.proofs.NormalTerms.{read_bare}
 use Rattle.mau_logic.proofs.Congruence.{modulo, context_holds, nest_holds, part_bare}
@@ -252,8 +252,8 @@ module _ (p : Program) (hooks : List Operator) where
         equal_onward (modulo p hooks is.from) (equal_onward (under_equal c is.whole after one left right) (modulo p hooks is.to))
     follows_holds us h _ (under f t u bt bu is) = under_holds f us t u h is
     follows_holds us h _ (chain t u on e d) = by_kind (all_equational us) t u (λ k. chain_equal us t u h on e d k) (chain_rewrite us t u h on e d)
-    follows_holds us h _ (declared t r b has) = sort_by us h t r b.0 has
-    follows_holds us h _ (member n m t r vs at b bvs is) =
+    follows_holds us h _ (declared t r b low has) = sort_by us h t r b.0 has
+    follows_holds us h _ (member n m t r vs at b low bvs is) =
         let xs = membership_variables m in
         let g = value_at xs vs in
         above_has (equal_has (equal_back (modulo p hooks is.head))
@@ -276,3 +276,13 @@ facts_hold_all p accepted lawful hooks x d = fact_holds p hooks accepted lawful 
 
 pub sections_are_sound : SectionsAreSound
 sections_are_sound p accepted lawful hooks x j = each_deduced p hooks accepted lawful _ (sections_are_derivable p hooks x j)
+
+pub led_is_so : LedIsSo
+led_is_so p accepted lawful hooks rules t u led = by rules led.kind
+  where
+    fact : IsDeduced p hooks (leads led.by_equations (reading (theory_at p.sig) t) (reading (theory_at p.sig) u))
+    fact = fact_holds p hooks accepted lawful led.fact
+
+    by : (r : Bool) → (r ≡ false → led.by_equations ≡ true) → LeadsBy p hooks r t u
+    by false kind = as_equal p hooks led.by_equations (reading (theory_at p.sig) t) (reading (theory_at p.sig) u) (kind refl) fact
+    by true kind = as_rewrite p hooks led.by_equations (reading (theory_at p.sig) t) (reading (theory_at p.sig) u) fact

@@ -139,9 +139,13 @@ IsJustified p hooks terms before (SortMb f) =
 
 -- ---- sections
 
--- the first k facts are justified, each from those before it
+-- the first k of some facts are justified, each from those before it
+abbrev pub AreJustifiedOver : Program → List Operator → List (Option Tree) → List Fact → ℕ → Type 0
+AreJustifiedOver p hooks terms facts k = (i : ℕ) (f : Fact) → i < k → slice_get facts i ≡ Some f → IsJustified p hooks terms (all_said terms (take i facts)) f
+
+-- those of a section, over its terms
 abbrev pub AreJustified : Program → List Operator → Section → ℕ → Type 0
-AreJustified p hooks x k = (i : ℕ) (f : Fact) → i < k → slice_get x.facts i ≡ Some f → IsJustified p hooks (section_terms p x) (all_said (section_terms p x) (take i x.facts)) f
+AreJustified p hooks x k = AreJustifiedOver p hooks (section_terms p x) x.facts k
 
 -- all facts are
 abbrev pub IsJustifiedSection : Program → List Operator → Section → Type 0

@@ -9,6 +9,7 @@ pub mod Shown
 pub mod Justified
 -- what can stand in a justified section
 pub mod Derivable
+pub mod Written
 -- what is asked of programs, of native operators and of told runs
 pub mod BuiltKinds
 pub mod WellFormed
