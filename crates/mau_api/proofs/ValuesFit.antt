@@ -15,7 +15,7 @@ use Rattle.mau_terms.proofs.Finite.{AllIn, AllIn-left, AllIn-right, AllIn-itself
 use Rattle.mau_terms.proofs.Law.{equal_norm}
 use Rattle.mau_terms.proofs.Normal.{norm_normal, whole_pieces}
 use Rattle.mau_terms.proofs.Pieces.{Each, Each-append, IsPiece}
-use Rattle.mau_terms.proofs.Solutions.{list_of_made}
+use Rattle.mau_terms.proofs.Solutions.{list_of_made, each_piece}
 use Rattle.mau_terms.proofs.Variables.{EachVar, variables_occur, values_of_variables}
 use Rattle.mau_signature.specs.Signature.{SignatureOf, theory_at, terms_over}
 use Rattle.mau_store.specs.Node.{Node}
@@ -30,12 +30,9 @@ use Rattle.mau_evaluation.proofs.Listed.{from_map}
 use Rattle.mau_evaluation.proofs.Solved.{solutions_within_are_listed}
 use Rattle.mau_evaluation.proofs.BareTerms.{norm-reading-is}
 use Rattle.mau_api.specs.Answers.{AreSettled}
+use Rattle.mau_evaluation.proofs.Heads.{each_in, norm_in}
 
 -- ---- the matched part
-
-each_piece : (th : ℕ → Theory) (f : ℕ) (ts : List Tree) → ArePieces th f ts → Each (IsPiece (th f).assoc (th f).id f) ts
-each_piece th f [] p = tt
-each_piece th f (t ∷ ts) p = (p.1, each_piece th f ts p.2)
 
 all_in : (xs ys : List Tree) → AllIn xs ys → All (λ u. IsIn u ys) xs
 all_in [] ys h = All-nil (λ u. IsIn u ys)
@@ -61,16 +58,11 @@ part_under s lawful f assoc p t vs left right h =
 
 -- ---- values
 
-each_of_variables : (P : Variable → Type 0) (xs : List Variable) (y : Variable) → EachVar P xs → IsIn y xs → P y
-each_of_variables P [] y h i = absurd i
-each_of_variables P (x ∷ xs) y h (inl e) = subst P (sym e) h.0
-each_of_variables P (x ∷ xs) y h (inr i) = each_of_variables P xs y h.1 i
-
 -- a value is that of a variable of the pattern
 value_of_one : (p : Tree) (vs : List Tree) → length vs ≡ length (variables p) → (v : Tree) → IsIn v vs → (y : Variable) × Occurs y p × (v ≡ value_at (variables p) vs y)
 value_of_one p vs one_each v i =
     let m = from_map (value_at (variables p) vs) (variables p) v (subst (IsIn v) (sym (values_of_variables p vs one_each)) i) in
-    (m.0, each_of_variables (λ w. Occurs w p) (variables p) m.0 (variables_occur p) m.1, m.2)
+    (m.0, each_in (λ w. Occurs w p) (variables p) m.0 (variables_occur p) m.1, m.2)
 
 module _ (s : TermSignature) (g : Variable → Tree) (y : Variable) where
   mutual
@@ -85,11 +77,6 @@ module _ (s : TermSignature) (g : Variable → Tree) (y : Variable) where
     bare_values (tree p ps) [] o b = absurd b
     bare_values (tree p ps) (k ∷ ks) (inl o) b = bare_value p o (k, b.0)
     bare_values (tree p ps) (k ∷ ks) (inr o) b = bare_values ps ks o b.1
-
-norm_among : (th : ℕ → Theory) (vs : List Tree) (v : Tree) → AreNorms th vs → IsIn v vs → norm th v ≡ v
-norm_among th [] v n i = absurd i
-norm_among th (u ∷ vs) v n (inl e) = subst (λ w. norm th w ≡ w) (sym e) n.0
-norm_among th (u ∷ vs) v n (inr i) = norm_among th vs v n.1 i
 
 in_readings : (F : Tree → Tree) (vs : List Tree) (v : Tree) → IsIn v vs → IsIn (F v) (map F vs)
 in_readings F [] v i = absurd i
@@ -139,7 +126,7 @@ module _ (s : SignatureOf) (lawful : IsLawful (terms_over s)) (nodes : List Node
       let made = made_fits us x.left x.right (assoc_top th (norm th p)) refl listed.1 in
       let g = value_at (variables p) us in
       let y = value_of_one p us made.2 (reading th v) (in_readings (reading th) x.values v j) in
-      let n = norm_among th x.values v listed.0 j in
+      let n = norm_in th x.values v listed.0 j in
       let value : norm th (g y.0) ≡ v = ap (norm th) (sym y.2) ∙ norm-reading-is th lawful.theories v n in
       let fit : Fit v = subst Fit value (fit_value th nodes table t settled.identities p (norm th (with_values p us)) (norm th (g y.0)) made.0 (value_may_be th lawful.theories g y.0 p y.1)) in
       record {

@@ -20,13 +20,14 @@ use Rattle.mau_canon.specs.declared.TheConstants.{MAX_DEPTH}
 use Rattle.mau_canon.specs.Within.{IsWithin}
 use Rattle.mau_canon.specs.Judging.{is_overflow}
 use Rattle.mau_canon.proofs.Overflows.{some_overflow, holds-build}
+use Rattle.mau_terms.proofs.Finite.{length_insert, length_sort}
 
 some_depth : (t : Tree) → 1 ≤ depth t
 some_depth (variable i s) = omega arith
 some_depth (numeral n) = omega arith
 some_depth (apply f ts) = omega arith
 
-unit_depth : (i : Identity) → depth (unit_tree i) ≡ 1
+pub unit_depth : (i : Identity) → depth (unit_tree i) ≡ 1
 unit_depth (Const c) = refl
 unit_depth (Num n) = refl
 
@@ -48,20 +49,8 @@ from_arrange : (P : Tree → Type 0) (c : Bool) (ts : List Tree) → Each P (arr
 from_arrange P true ts h = from_sort P ts h
 from_arrange P false ts h = h
 
-length-insert : (t : Tree) (us : List Tree) → length (insert_tree t us) ≡ suc (length us)
-length-insert t [] = refl
-length-insert t (u ∷ us) = by (is_gt (tree_cmp t u)) (length-insert t us)
-  where
-    by : (b : Bool) → length (insert_tree t us) ≡ suc (length us) → length (cond b (u ∷ insert_tree t us) (t ∷ u ∷ us)) ≡ suc (suc (length us))
-    by true k = ap suc k
-    by false k = refl
-
-length-sort : (ts : List Tree) → length (sort_trees ts) ≡ length ts
-length-sort [] = refl
-length-sort (t ∷ ts) = length-insert t (sort_trees ts) ∙ ap suc (length-sort ts)
-
 length-arrange : (c : Bool) (ts : List Tree) → length (arrange c ts) ≡ length ts
-length-arrange true ts = length-sort ts
+length-arrange true ts = length_sort ts
 length-arrange false ts = refl
 
 -- ---- elements of a list

@@ -28,6 +28,7 @@ use Rattle.mau_evaluation.proofs.Still.{same_tree_itself}
 use Rattle.mau_evaluation.proofs.Stay.{larger}
 use Rattle.mau_evaluation.proofs.Each.{Has, has_each, has_list, has_asking, has_when}
 use Rattle.mau_evaluation.proofs.Asked.{IsFirst, counted_first, done_at, else_by, first_first, one, one_falls, solve_first, first_try, first_where}
+use Rattle.std.proofs.lemmas.Bool.{or_parts}
 
 -- m gives what stands behind y among p
 abbrev IsNext : {A : Type 0} → ℕ → A → Run (Option A) → Answers A → Type 0
@@ -185,17 +186,13 @@ same_turned x z h = by (same_variable z x) refl
         clash e = cc
     by false e = refl
 
-either_false : (a b : Bool) → (a || b) ≡ false → (a ≡ false) × (b ≡ false)
-either_false true b e = cc
-either_false false b e = (refl, e)
-
 module _ (th : ℕ → Theory) where
   -- the values agree with what is bound first
   agree_bound : (σ : Binding) (x : Variable) (v : Tree) (xs : List Variable) (vs : List Tree) → has_variable xs x ≡ false → agree th σ xs vs ≡ agree th (bound_first σ x v) xs vs
   agree_bound σ x v [] vs h = refl
   agree_bound σ x v (z ∷ xs) [] h = refl
   agree_bound σ x v (z ∷ xs) (w ∷ vs) h =
-      let e = either_false (same_variable z x) (has_variable xs x) h in
+      let e = or_parts (same_variable z x) (has_variable xs x) h in
       let o = other_bound σ x z v (same_turned z x e.0) in
       ap₂ (λ a b. a && b) (ap₂ (λ a b. not a || same_tree (norm th b) w) (sym o.0) (sym o.1)) (agree_bound σ x v xs vs e.1)
 

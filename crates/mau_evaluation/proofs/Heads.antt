@@ -23,6 +23,7 @@ use Rattle.mau_evaluation.specs.HasSort.{IsHead, HasHeads}
 use Rattle.mau_evaluation.proofs.Listed.{from_map, from_keep, was_tried, norms_among, norms_itself}
 use Rattle.mau_evaluation.proofs.BareTerms.{bare_is, value_mapped, norms-readings, norm-reading-is}
 use Rattle.mau_evaluation.proofs.Sized.{value_among, element_size}
+use Rattle.mau_terms.proofs.Plain.{free_pieces, free_finish}
 
 -- ---- uses of axioms under a substitution
 
@@ -152,33 +153,22 @@ no_value_itself (x ∷ xs) (v ∷ vs) y e = by (no_value_itself xs vs y) (same_v
     by rest true q e = cc
     by rest false q e = rest e
 
-each_in : (P : Variable → Type 0) (xs : List Variable) (y : Variable) → EachVar P xs → IsIn y xs → P y
+pub each_in : (P : Variable → Type 0) (xs : List Variable) (y : Variable) → EachVar P xs → IsIn y xs → P y
 each_in P [] y h i = absurd i
 each_in P (x ∷ xs) y h (inl e) = subst P (sym e) h.0
 each_in P (x ∷ xs) y h (inr i) = each_in P xs y h.1 i
 
-norm_in : (th : ℕ → Theory) (vs : List Tree) (v : Tree) → AreNorms th vs → IsIn v vs → norm th v ≡ v
+pub norm_in : (th : ℕ → Theory) (vs : List Tree) (v : Tree) → AreNorms th vs → IsIn v vs → norm th v ≡ v
 norm_in th [] v n i = absurd i
 norm_in th (u ∷ vs) v n (inl e) = subst (λ w. norm th w ≡ w) (sym e) n.0
 norm_in th (u ∷ vs) v n (inr i) = norm_in th vs v n.1 i
 
 -- ---- an operator without axioms but commutativity
 
-plain_pieces : (f : ℕ) (ts : List Tree) → all_pieces false None f ts ≡ ts
-plain_pieces f [] = refl
-plain_pieces f (t ∷ ts) = ap (λ w. w ++ all_pieces false None f ts) (alone_element f t) ∙ ap (λ w. t ∷ w) (plain_pieces f ts)
-
-plain_finish : (f : ℕ) (ts : List Tree) → finish false None false f ts ≡ node f ts
-plain_finish f [] = refl
-plain_finish f (variable i s ∷ []) = refl
-plain_finish f (numeral n ∷ []) = refl
-plain_finish f (apply g ts ∷ []) = refl
-plain_finish f (t ∷ u ∷ ts) = refl
-
 plain_built : (h : Theory) (f : ℕ) (ts : List Tree) → h.assoc ≡ false → h.id ≡ None → h.succ ≡ false → build h f ts ≡ node f (arrange h.comm ts)
 plain_built h f ts a i u =
     ap (λ w. made w h.comm h.id h.succ f ts) a ∙ (ap (λ w. made false h.comm w h.succ f ts) i ∙ (ap (λ w. made false h.comm None w f ts) u ∙
-    (ap (λ w. finish false None false f (arrange h.comm w)) (plain_pieces f ts) ∙ plain_finish f (arrange h.comm ts))))
+    (ap (λ w. finish false None false f (arrange h.comm w)) (free_pieces f ts) ∙ free_finish f (arrange h.comm ts))))
 
 -- ---- solutions of a head
 

@@ -20,6 +20,7 @@ use Rattle.mau_evaluation.specs.Evaluation.{Binding, look_up, has_number, Level,
 use Rattle.mau_evaluation.specs.Laws.{Comes, IsNo}
 use Rattle.mau_evaluation.proofs.Invert.{not_done, same_value, counted_done, went, tried, Failed, some_is_not_none, both_failed, each_failed}
 use Rattle.mau_evaluation.proofs.Places.{both_of, names_itself, Good, each_good, in_places_good, in_places_count}
+use Rattle.std.proofs.lemmas.Bool.{or_parts}
 
 pub same_tree_true : (t u : Tree) → same_tree t u ≡ true → t ≡ u
 same_tree_true t u e = tree_tied t u (by (tree_cmp t u) e)
@@ -160,10 +161,6 @@ finish_long a u s f [] e = cc
 finish_long a u s f (t ∷ []) e = cc
 finish_long a u s f (t ∷ v ∷ ts) e = refl
 
-neither : (a b : Bool) → (a || b) ≡ false → (a ≡ false) × (b ≡ false)
-neither false b e = (refl, e)
-neither true b e = cc
-
 one_holds : (a b c : Bool) → (not a && (not b && not c)) ≡ false → (a ≡ true) ⊎ ((b ≡ true) ⊎ (c ≡ true))
 one_holds true b c e = inl refl
 one_holds false true c e = inr (inl refl)
@@ -215,7 +212,7 @@ module _ (P : Program) where
           at (arrange h.comm vs) made_so (λ z. ap (λ m. nat_lt m 2) (length-arrange h.comm vs) ∙ long) (in_list q (P.strat f) refl vs refl)
       by false q =
           let os = order_of P f ts in
-          let d = neither (not (same_tree w (node f (arrange h.comm us)))) (not (is_none os) && (not (names_all (count_up 0 us) os) && not (same_tree w (node f us)))) (sym (ap (λ a. top_changed_by a h os f us w) q) ∙ c) in
+          let d = or_parts (not (same_tree w (node f (arrange h.comm us)))) (not (is_none os) && (not (names_all (count_up 0 us) os) && not (same_tree w (node f us)))) (sym (ap (λ a. top_changed_by a h os f us w) q) ∙ c) in
           let m : w ≡ node f (arrange h.comm us) = same_tree_true w (node f (arrange h.comm us)) (not_false (same_tree w (node f (arrange h.comm us))) d.0) in
           cases m (one_holds (is_none os) (names_all (count_up 0 us) os) (same_tree w (node f us)) d.1)
         where

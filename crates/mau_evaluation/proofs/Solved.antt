@@ -11,7 +11,7 @@ use Rattle.mau_terms.specs.Finite.{IsIn}
 use Rattle.mau_terms.specs.declared.theory.Theory.{Theory}
 use Rattle.mau_terms.proofs.Chains.{first_bare}
 use Rattle.mau_terms.proofs.Law.{norm_equal}
-use Rattle.mau_terms.proofs.Solutions.{length-map, with_values_norms}
+use Rattle.mau_terms.proofs.Solutions.{length-map, with_values_norms, assoc_top_assoc}
 use Rattle.mau_evaluation.specs.Listing.{Solution, plain, keep, makes_bare, fitting, within_under, fitting_within, solutions, solutions_within, compare, AllAfter, IsAscending, SolutionsAreListed, SolutionsWithinAreListed}
 use Rattle.mau_evaluation.proofs.Listed.{in_keep, from_keep, norms_itself, fitting_are_listed}
 use Rattle.mau_evaluation.proofs.Within.{fitting_under_are_listed}
@@ -36,15 +36,6 @@ module _ (th : ℕ → Theory) (p : Tree) where
       by h true = (all_kept f y ys a.0, h)
       by h false = h
 
-assoc_top_is : (th : ℕ → Theory) (t : Tree) (f : ℕ) → assoc_top th t ≡ Some f → (th f).assoc ≡ true
-assoc_top_is th (variable i s) f e = cc
-assoc_top_is th (numeral n) f e = cc
-assoc_top_is th (apply g ts) f e = by (th g).assoc refl e
-  where
-    by : (b : Bool) → (th g).assoc ≡ b → (if b then Some g else None) ≡ Some f → (th f).assoc ≡ true
-    by true h k = let same : g ≡ f = cc in subst (λ x. (th x).assoc ≡ true) same h
-    by false h k = cc
-
 -- ---- solutions
 
 module _ (s : TermSignature) (lawful : IsLawful s) (p t : Tree) (bare : IsBare s t) where
@@ -61,7 +52,7 @@ module _ (s : TermSignature) (lawful : IsLawful s) (p t : Tree) (bare : IsBare s
   fits_at : (o : Option ℕ) → assoc_top th (norm th p) ≡ o → (x : Solution) → IsIn x (listed_at o) → IsBare s (with_values p (map (reading th) x.values)) →
       AreNorms th x.values × FitsAt s o p t (map (reading th) x.values) x.left x.right
   fits_at (Some f) e x i b =
-      let h = (fitting_under_are_listed s lawful f (assoc_top_is th (norm th p) f e) p t).0 x i in
+      let h = (fitting_under_are_listed s lawful f (assoc_top_assoc th (norm th p) f e) p t).0 x i in
       let n = same_instance x.values h.normal in (
         h.normal,
         record {
@@ -91,7 +82,7 @@ module _ (s : TermSignature) (lawful : IsLawful s) (p t : Tree) (bare : IsBare s
   -- its class is listed, and its instance is bare
   class_at : (o : Option ℕ) → assoc_top th (norm th p) ≡ o → (vs left right : List Tree) → FitsAt s o p t vs left right →
       IsIn (record { left = left; right = right; values = map (norm th) vs }) (listed_at o) × IsBare s (with_values p vs)
-  class_at (Some f) e vs left right h = ((fitting_under_are_listed s lawful f (assoc_top_is th (norm th p) f e) p t).1 vs left right h, h.bare)
+  class_at (Some f) e vs left right h = ((fitting_under_are_listed s lawful f (assoc_top_assoc th (norm th p) f e) p t).1 vs left right h, h.bare)
   class_at None e vs left right h =
       (subst (λ x. IsIn x (fitting th p (norm th t))) (found_is left right h.1 h.2) ((fitting_are_listed s lawful p t).1 vs h.0), first_bare h.0.equal)
     where
@@ -99,7 +90,7 @@ module _ (s : TermSignature) (lawful : IsLawful s) (p t : Tree) (bare : IsBare s
       found_is left right l r = λ i. record { left = sym l i; right = sym r i; values = map (norm th) vs }
 
   ascending_at : (o : Option ℕ) → assoc_top th (norm th p) ≡ o → IsAscending (compare th p) (listed_at o)
-  ascending_at (Some f) e = (fitting_under_are_listed s lawful f (assoc_top_is th (norm th p) f e) p t).2
+  ascending_at (Some f) e = (fitting_under_are_listed s lawful f (assoc_top_assoc th (norm th p) f e) p t).2
   ascending_at None e = (fitting_are_listed s lawful p t).2
 
   -- a bare instance is made by the class

@@ -21,6 +21,7 @@ use Rattle.mau_evaluation.proofs.BareTerms.{both_are}
 use Rattle.mau_evaluation.proofs.Same.{same_frame, same_config, frames_tell, frames_know, config_tells, config_knows, not_both}
 use Rattle.mau_evaluation.proofs.Inside.{in_list, from_list, branches_exhaust, ended_lists_exhaust}
 use Rattle.mau_evaluation.proofs.Local.{inside_is_sat, solutions_are_sat}
+use Rattle.std.proofs.lemmas.Bool.{or_parts}
 
 -- ---- what is listed
 
@@ -41,10 +42,6 @@ one_or : (a b : Bool) → (a || b) ≡ true → (a ≡ true) ⊎ (b ≡ true)
 one_or true b h = inl refl
 one_or false b h = inr h
 
-none_or : (a b : Bool) → (a || b) ≡ false → (a ≡ false) × (b ≡ false)
-none_or true b h = cc
-none_or false b h = (refl, h)
-
 listed_in : (xs : List Config) (c : Config) → is_listed xs c ≡ true → IsIn c xs
 listed_in [] c h = cc
 listed_in (x ∷ xs) c h = by (λ e. listed_in xs c e) (one_or (same_config c x) (is_listed xs c) h)
@@ -55,8 +52,8 @@ listed_in (x ∷ xs) c h = by (λ e. listed_in xs c e) (one_or (same_config c x)
 
 not_listed : (xs : List Config) (c : Config) → is_listed xs c ≡ false → IsIn c xs → ⊥
 not_listed [] c h i = absurd i
-not_listed (x ∷ xs) c h (inl e) = let a : same_config c c ≡ false = subst (λ z. same_config c z ≡ false) (sym e) (none_or (same_config c x) (is_listed xs c) h).0 in let k = config_knows c in not_both (same_config c c) k a
-not_listed (x ∷ xs) c h (inr i) = not_listed xs c (none_or (same_config c x) (is_listed xs c) h).1 i
+not_listed (x ∷ xs) c h (inl e) = let a : same_config c c ≡ false = subst (λ z. same_config c z ≡ false) (sym e) (or_parts (same_config c x) (is_listed xs c) h).0 in let k = config_knows c in not_both (same_config c c) k a
+not_listed (x ∷ xs) c h (inr i) = not_listed xs c (or_parts (same_config c x) (is_listed xs c) h).1 i
 
 inside_in : (xs : List Config) (zs : List Frame) → has_inside xs zs ≡ true → (v : Tree) × IsIn (on v [] zs) xs
 inside_in [] zs h = cc
@@ -77,10 +74,10 @@ inside_in (c ∷ cs) zs h = by (λ e. inside_in cs zs e) (one_or (is_nil c.todo 
 not_inside : (xs : List Config) (zs : List Frame) → has_inside xs zs ≡ false → (v : Tree) → IsIn (on v [] zs) xs → ⊥
 not_inside [] zs h v i = absurd i
 not_inside (c ∷ cs) zs h v (inl e) =
-    let a = (none_or (is_nil c.todo && same_list same_frame c.frames zs) (has_inside cs zs) h).0 in
+    let a = (or_parts (is_nil c.todo && same_list same_frame c.frames zs) (has_inside cs zs) h).0 in
     let b : (same_list same_frame zs zs) ≡ false = subst (λ w. (is_nil w.todo && same_list same_frame w.frames zs) ≡ false) (sym e) a in
     not_both (same_list same_frame zs zs) (frames_know zs) b
-not_inside (c ∷ cs) zs h v (inr i) = not_inside cs zs (none_or (is_nil c.todo && same_list same_frame c.frames zs) (has_inside cs zs) h).1 v i
+not_inside (c ∷ cs) zs h v (inr i) = not_inside cs zs (or_parts (is_nil c.todo && same_list same_frame c.frames zs) (has_inside cs zs) h).1 v i
 
 -- ---- the first new one
 

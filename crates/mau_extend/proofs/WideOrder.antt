@@ -14,21 +14,12 @@ use Rattle.mau_listing.specs.Next.{matcher_cmp}
 use Rattle.mau_extend.specs.Widened.{widened, around, behind_first, before_last, as_term}
 use Rattle.mau_extend.proofs.Widened.{Lacks, places_widened}
 use Rattle.mau_extend.proofs.Around.{map_around}
+use Rattle.mau_terms.proofs.Orders.{then_Equal, then_assoc}
 
 -- ---- one more element at the end
 
-then_equal : (o : Ordering) → ordering_then o Equal ≡ o
-then_equal Less = refl
-then_equal Equal = refl
-then_equal Greater = refl
-
-then_assoc : (a b c : Ordering) → ordering_then (ordering_then a b) c ≡ ordering_then a (ordering_then b c)
-then_assoc Less b c = refl
-then_assoc Equal b c = refl
-then_assoc Greater b c = refl
-
 cmp_end : (xs ys : List (List Tree)) (a b : List Tree) → length xs ≡ length ys → slice_cmp list_cmp (xs ++ a ∷ []) (ys ++ b ∷ []) ≡ ordering_then (slice_cmp list_cmp xs ys) (list_cmp a b)
-cmp_end [] [] a b l = then_equal (list_cmp a b)
+cmp_end [] [] a b l = then_Equal (list_cmp a b)
 cmp_end [] (y ∷ ys) a b l = cc
 cmp_end (x ∷ xs) [] a b l = cc
 cmp_end (x ∷ xs) (y ∷ ys) a b l =

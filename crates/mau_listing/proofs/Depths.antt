@@ -16,6 +16,7 @@ use Rattle.mau_listing.specs.Asked.{HasPlainTop}
 use Rattle.mau_listing.proofs.Parts.{each_at, holds_of_part}
 use Rattle.mau_listing.proofs.Valued.{part_of_built}
 use Rattle.mau_store.proofs.Depths.{depth-node}
+use Rattle.mau_canon.proofs.Depths.{unit_depth}
 
 -- ---- depths
 
@@ -23,10 +24,6 @@ positive : (t : Tree) → 1 ≤ depth t
 positive (variable i s) = omega arith
 positive (numeral n) = omega arith
 positive (apply f ts) = omega arith
-
-unit_depth : (i : Identity) → depth (unit_tree i) ≡ 1
-unit_depth (Const c) = refl
-unit_depth (Num n) = refl
 
 among_depth : (z : Tree) (ts : List Tree) → IsIn z ts → depth z ≤ list_depth ts
 among_depth z [] h = absurd h

@@ -16,7 +16,7 @@ use Rattle.mau_terms.proofs.Finite.{AllIn, AllIn-left, AllIn-right, AllIn-itself
 use Rattle.mau_terms.proofs.Law.{equal_norm}
 use Rattle.mau_terms.proofs.Normal.{norm_normal, whole_pieces}
 use Rattle.mau_terms.proofs.Pieces.{Each, Each-append, IsPiece}
-use Rattle.mau_terms.proofs.Solutions.{list_of_made}
+use Rattle.mau_terms.proofs.Solutions.{list_of_made, each_piece}
 use Rattle.mau_terms.proofs.Variables.{EachVar, variables_occur, values_of_variables}
 use Rattle.mau_signature.specs.Signature.{SignatureOf, theory_at, terms_over}
 use Rattle.mau_store.specs.Node.{Node, Extends}
@@ -47,10 +47,6 @@ module _ (th : ℕ → Theory) (lawful : AreLawful th) (p : Tree) where
       let few : length (map (norm th) vs) ≤ length (variables p) = omega (arith, length-map vs (norm th)) in
       in_words (length (variables p)) (map (norm th) vs) (candidates th p (norm th (with_values p vs))) few
       (subst (λ ws. AllIn (map (norm th) ws) (candidates th p (norm th (with_values p vs)))) (values_of_variables p vs long) (are_candidates (value_at (variables p) vs) (variables p) (variables_occur p)))
-
-each_piece : (th : ℕ → Theory) (f : ℕ) (ts : List Tree) → ArePieces th f ts → Each (IsPiece (th f).assoc (th f).id f) ts
-each_piece th f [] p = tt
-each_piece th f (t ∷ ts) p = (p.1, each_piece th f ts p.2)
 
 -- ---- solutions
 

@@ -17,5 +17,5 @@ pub use lister::{Lister, WholeLister};
 pub use order::{compare_lists, compare_values, value_key_of};
 pub use places::{Place, places_of};
 pub use prepared::{put_identities, settle_store};
-pub use settle::settle_value;
+pub use settle::{settle_ready, settle_value};
 pub use solution::Solution;

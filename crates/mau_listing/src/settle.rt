@@ -26,7 +26,7 @@ fn is_numeral_or_list(store: &Store, sig: &Signature, sorts: &SortTable, id: Ter
 }
 
 /// Settles the sorts of a term by declarations alone, if they are not settled.
-pub(crate) fn settle_ready(
+pub fn settle_ready(
     store: &Store,
     sig: &Signature,
     sorts: &mut SortTable,

@@ -17,6 +17,8 @@ mod listings;
 #[cfg(test)]
 mod lists;
 #[cfg(test)]
+mod norms;
+#[cfg(test)]
 mod notation;
 #[cfg(test)]
 mod orders;

@@ -1,10 +1,11 @@
 //! Lists of terms in order, solutions that are copied, and values that no listing settles.
 use crate::signed::signature;
-use mau_listing::{Solution, settle_value};
+use mau_listing::{Solution, compare_lists, settle_value};
 use mau_sorts::SortTable;
 use mau_store::{NodeView, Store};
 use mau_terms::{OpId, Seq, TermId, VarId};
 use std::alloc::Global;
+use std::cmp::Ordering;
 use std::process::Abort;
 use std::test::Fail;
 
@@ -15,6 +16,34 @@ fn ids(alloc: Global, numbers: &[usize]) -> Result<Vec<TermId>, Fail> {
         ids.push(TermId(*number))?;
     }
     Ok(ids)
+}
+
+/// Lists of the numerals 1 and 2, which have the numbers 0 and 1, and their order.
+const COMPARED: [(&[usize], &[usize], Ordering); 6] = [
+    (&[], &[], Ordering::Equal),
+    (&[], &[0], Ordering::Less),
+    (&[0, 1], &[0, 1], Ordering::Equal),
+    (&[0], &[0, 1], Ordering::Less),
+    (&[1], &[0, 1], Ordering::Greater),
+    (&[0, 1], &[0, 0], Ordering::Greater),
+];
+
+#[test]
+fn lists_are_compared_element_by_element(rt: HostRuntime) -> Result<(), Fail> {
+    let alloc = rt.alloc();
+    let mut store = Store::new(alloc);
+    for numeral in 1..3 {
+        store.intern(NodeView::Num(numeral))?;
+    }
+    for (first, second, wanted) in COMPARED {
+        let (first, second) = (ids(alloc, first)?, ids(alloc, second)?);
+        assert_eq!(rt;
+            compare_lists(&store, &first, &second),
+            wanted,
+            "{first:?} {second:?}"
+        );
+    }
+    Ok(())
 }
 
 #[test]

@@ -290,6 +290,11 @@ fn settled_below(rt: &impl Abort, alloc: Global, terms: &mut Terms) -> Result<()
     for (text, sort) in rows {
         assert_eq!(rt; shown(rt, alloc, terms, text)?, Some(sort), "{text}");
     }
+    // 7 came first, then each term behind its arguments, from left to right.
+    for (place, (text, _)) in rows.iter().enumerate() {
+        let id = terms.number(rt, alloc, text)?;
+        assert_eq!(rt; terms.table().settled().get(place), Some(&id), "{text}");
+    }
     Ok(())
 }
 

@@ -9,12 +9,8 @@ use Rattle.mau_terms.specs.Solution.{list_under, ArePieces, FitsUnder}
 use Rattle.mau_terms.specs.declared.theory.Theory.{Theory}
 use Rattle.mau_terms.proofs.Pieces.{Each, Each-append, IsPiece, arrange-arrange}
 use Rattle.mau_terms.proofs.Normal.{norm_normal, whole_pieces}
-use Rattle.mau_terms.proofs.Solutions.{list_of_made}
+use Rattle.mau_terms.proofs.Solutions.{list_of_made, each_piece}
 use Rattle.mau_domains.specs.Parts.{front, some_of, IsOf}
-
-each_piece : (th : ℕ → Theory) (f : ℕ) (ts : List Tree) → ArePieces th f ts → Each (IsPiece (th f).assoc (th f).id f) ts
-each_piece th f [] p = tt
-each_piece th f (t ∷ ts) p = (p.1, each_piece th f ts p.2)
 
 -- what a part with contexts is a part of: what stands behind the left context
 pub part_with_contexts : (s : TermSignature) (lawful : AreLawful s.theory) (f : ℕ) → (s.theory f).assoc ≡ true → (p t : Tree) (vs left right : List Tree) → FitsUnder s f p t vs left right → (rest : List Tree) × (left ++ rest ≡ list_under (s.theory f) f (norm s.theory t)) × IsOf s.theory (some_of front f rest) (norm s.theory (with_values p vs))

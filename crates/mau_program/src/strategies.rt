@@ -14,7 +14,7 @@ pub enum TestKind {
     Match,
     /// At the root, with extension.
     Xmatch,
-    /// At any place outside frozen arguments, with extension.
+    /// At any place, frozen arguments too, with extension.
     Amatch,
 }
 

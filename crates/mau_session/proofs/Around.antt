@@ -18,7 +18,7 @@ use Rattle.mau_terms.proofs.Law.{equal_norm, equal_reading}
 use Rattle.mau_terms.proofs.Induction.{norm-node}
 use Rattle.mau_terms.proofs.Normal.{finish_long, pieces_all}
 use Rattle.mau_terms.proofs.Pieces.{Split, unit, many, one, split, Each, Each-arrange, IsPiece, arrange_one, trees_of-list_of}
-use Rattle.mau_terms.proofs.Solutions.{with_values_norms}
+use Rattle.mau_terms.proofs.Solutions.{with_values_norms, assoc_top_assoc}
 use Rattle.mau_signature.specs.Signature.{SignatureOf, IsOperator, theory_at, terms_over}
 use Rattle.mau_store.specs.Node.{Node}
 use Rattle.mau_store.specs.Trees.{tree_at, trees_at}
@@ -152,15 +152,6 @@ trees_normal th nodes [] all = refl
 trees_normal th nodes (i ∷ ids) all =
     ap₂ (λ u us. u ∷ us) (All-head (StandsWithin th nodes) i ids all).normal (trees_normal th nodes ids (All-tail (StandsWithin th nodes) i ids all))
 
-top_assoc : (th : ℕ → Theory) (t : Tree) (f : ℕ) → assoc_top th t ≡ Some f → (th f).assoc ≡ true
-top_assoc th (variable i s) f e = absurd cc
-top_assoc th (numeral n) f e = absurd cc
-top_assoc th (apply g ts) f e = by (th g).assoc refl e
-  where
-    by : (b : Bool) → (th g).assoc ≡ b → (if b then Some g else None) ≡ Some f → (th f).assoc ≡ true
-    by true h k = let same : g ≡ f = cc in subst (λ x. (th x).assoc ≡ true) same h
-    by false h k = absurd cc
-
 -- the subject is the operator f over a list, and the part of it that is matched and what stands around that are within the limits
 pub record IsAround (s : SignatureOf) (p t : Tree) (x : Matcher) : Type 0 where
   pub op : ℕ
@@ -205,7 +196,7 @@ module _ (s : SignatureOf) (q : Query) (ready : IsReady s q) (x : Solution) (giv
           → IsAround s (tree_of q.pattern) subject here
       by None e fits = absurd (not_whole here around (fits.1, fits.2))
       by (Some f) e fits =
-          let assoc = top_assoc axioms (norm axioms (tree_of q.pattern)) f e in
+          let assoc = assoc_top_assoc axioms (norm axioms (tree_of q.pattern)) f e in
           let within = subst (IsWithin axioms) (sym read_norm) ready.can.askable.subject.within in
           let vs = given.solves.bare in
           let p = tree_of q.pattern in

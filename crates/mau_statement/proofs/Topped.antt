@@ -20,6 +20,7 @@ use Rattle.mau_signature.specs.Signature.{SignatureOf, IsOperator}
 use Rattle.mau_statement.specs.declared.tops.Top.{Top}
 use Rattle.mau_statement.specs.declared.tops.Top.TheVariants.{Variable, Numeral, Constant, Operator}
 use Rattle.mau_statement.specs.Tops.{operator, top_of, IsTopOver, is_unit_top, over_one_top, over_two_top}
+use Rattle.mau_terms.proofs.Plain.{free_pieces}
 
 -- ---- tops
 
@@ -69,14 +70,10 @@ two_over s id f t u h x y = by (is_unit_top id t) (is_unit_top id u)
     by false true = x
     by false false = h
 
-all_alone : (f : ℕ) (ts : List Tree) → all_pieces false None f ts ≡ ts
-all_alone f [] = refl
-all_alone f (t ∷ ts) = ap₂ (λ v w. v ++ w) (alone_element f t) (all_alone f ts)
-
 -- an operator without associativity and identity, over a list
 plain_made : (a c : Bool) (u : Option Identity) (s : Bool) (f : ℕ) (ts : List Tree) → a ≡ false → u ≡ None → made a c u s f ts ≡ finish false None s f (arrange c ts)
 plain_made a c u s f ts ea eu =
-    ap₂ (λ b v. made b c v s f ts) ea eu ∙ ap (λ w. finish false None s f (arrange c w)) (all_alone f ts)
+    ap₂ (λ b v. made b c v s f ts) ea eu ∙ ap (λ w. finish false None s f (arrange c w)) (free_pieces f ts)
 
 module _ (s : TermSignature) (lawful : IsLawful s) where
   -- these are not two trees

@@ -86,7 +86,7 @@ pub AllIn-arrange : (c : Bool) (xs ts : List Tree) → AllIn xs ts → AllIn xs 
 AllIn-arrange c [] ts h = tt
 AllIn-arrange c (x ∷ xs) ts h = (in_arrange c x ts h.0, AllIn-arrange c xs ts h.1)
 
-length_insert : (t : Tree) (us : List Tree) → length (insert_tree t us) ≡ suc (length us)
+pub length_insert : (t : Tree) (us : List Tree) → length (insert_tree t us) ≡ suc (length us)
 length_insert t [] = refl
 length_insert t (u ∷ us) = by (length_insert t us) (is_gt (tree_cmp t u))
   where
@@ -94,7 +94,7 @@ length_insert t (u ∷ us) = by (length_insert t us) (is_gt (tree_cmp t u))
     by ih true = ap suc ih
     by ih false = refl
 
-length_sort : (ts : List Tree) → length (sort_trees ts) ≡ length ts
+pub length_sort : (ts : List Tree) → length (sort_trees ts) ≡ length ts
 length_sort [] = refl
 length_sort (t ∷ ts) = length_insert t (sort_trees ts) ∙ ap suc (length_sort ts)
 

@@ -38,13 +38,13 @@ equal_where_same s plain t u b c = (plain_equal s plain t u, same_equal s t u b)
 
 -- ---- normal forms
 
-free_pieces : (f : ℕ) (ts : List Tree) → all_pieces false None f ts ≡ ts
+pub free_pieces : (f : ℕ) (ts : List Tree) → all_pieces false None f ts ≡ ts
 free_pieces f [] = refl
 free_pieces f (variable i s ∷ ts) = ap (λ us. variable i s ∷ us) (free_pieces f ts)
 free_pieces f (numeral n ∷ ts) = ap (λ us. numeral n ∷ us) (free_pieces f ts)
 free_pieces f (apply g vs ∷ ts) = ap (λ us. apply g vs ∷ us) (free_pieces f ts)
 
-free_finish : (f : ℕ) (ts : List Tree) → finish false None false f ts ≡ node f ts
+pub free_finish : (f : ℕ) (ts : List Tree) → finish false None false f ts ≡ node f ts
 free_finish f [] = refl
 free_finish f (variable i s ∷ []) = refl
 free_finish f (numeral n ∷ []) = refl

@@ -118,7 +118,7 @@ pub arrange_cancel : (c : Bool) (ts us vs : List Tree) → arrange c us ≡ us �
 arrange_cancel true ts us vs o p e = sym o ∙ insert_all_cancel ts (sort_trees us) (sort_trees vs) (sym (sort-append ts us) ∙ e ∙ sort-append ts vs) ∙ p
 arrange_cancel false ts us vs o p e = append_cancel ts us vs e
 
-each_piece : (th : ℕ → Theory) (f : ℕ) (ts : List Tree) → ArePieces th f ts → Each (IsPiece (th f).assoc (th f).id f) ts
+pub each_piece : (th : ℕ → Theory) (f : ℕ) (ts : List Tree) → ArePieces th f ts → Each (IsPiece (th f).assoc (th f).id f) ts
 each_piece th f [] p = tt
 each_piece th f (t ∷ ts) p = (p.1, each_piece th f ts p.2)
 
@@ -166,7 +166,7 @@ right_under s lawful f a p t vs ws left r1 r2 e x y =
     arrange_cancel (th f).comm (list (norm th (with_values p vs))) r1 r2 x.right_list.ordered y.right_list.ordered (list_of_whole s lawful f a p t vs left r1 x ∙ sym second)
 
 -- the top that `assoc_top` finds is associative
-assoc_top_assoc : (th : ℕ → Theory) (t : Tree) (f : ℕ) → assoc_top th t ≡ Some f → (th f).assoc ≡ true
+pub assoc_top_assoc : (th : ℕ → Theory) (t : Tree) (f : ℕ) → assoc_top th t ≡ Some f → (th f).assoc ≡ true
 assoc_top_assoc th (variable i s) f e = cc
 assoc_top_assoc th (numeral n) f e = cc
 assoc_top_assoc th (apply g ts) f e = by (th g).assoc refl e
@@ -193,7 +193,7 @@ pub length-map : (f : Tree → Tree) (vs : List Tree) → length (map f vs) ≡ 
 length-map f [] = refl
 length-map f (v ∷ vs) = ap suc (length-map f vs)
 
-values_in_words : (th : ℕ → Theory) → AreLawful th → (p t : Tree) (vs : List Tree) → length vs ≡ length (variables p) → norm th (with_values p vs) ≡ t → IsIn (map (norm th) vs) (words (length (variables p)) (candidates th p t))
+pub values_in_words : (th : ℕ → Theory) → AreLawful th → (p t : Tree) (vs : List Tree) → length vs ≡ length (variables p) → norm th (with_values p vs) ≡ t → IsIn (map (norm th) vs) (words (length (variables p)) (candidates th p t))
 values_in_words th lawful p t vs l e =
     let k : length (map (norm th) vs) ≤ length (variables p) = omega (arith, length-map (norm th) vs) in
     in_words (length (variables p)) (map (norm th) vs) (candidates th p t) k

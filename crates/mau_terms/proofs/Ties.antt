@@ -12,7 +12,7 @@ use Rattle.mau_terms.specs.Subst.{Variable, has_variable, add_variables, add_all
 use Rattle.mau_terms.specs.Solution.{over_list, list_cmp, add_places, add_all_places, places, value_key, value_keys, solution_key}
 use Rattle.mau_terms.specs.Laws.{AreNorms, ListsNest, TiesAreEqual}
 use Rattle.mau_terms.specs.declared.theory.Theory.{Theory}
-use Rattle.mau_terms.proofs.Orders.{tree_tied}
+use Rattle.mau_terms.proofs.Orders.{tree_tied, both_equal}
 use Rattle.mau_terms.proofs.Pieces.{Each, IsPiece, pieces-finish, Each-arrange, arrange_right}
 use Rattle.mau_terms.proofs.Normal.{IsNormal, norm_normal, whole_all_pieces}
 use Rattle.mau_terms.proofs.Finite.{over_its_list}
@@ -36,11 +36,6 @@ lists_nest th lawful f a t u us p =
     ∙ ap (λ w. arrange c (xs ++ w)) (sym (pieces-finish v (th f).succ f (arrange c ys) (Each-arrange (IsPiece true v f) c ys q)) ∙ sym (append-nil (pieces true v f (finish true v (th f).succ f (arrange c ys)))))))
 
 -- ---- ties
-
-both_equal : (a b : Ordering) → ordering_then a b ≡ Equal → (a ≡ Equal) × (b ≡ Equal)
-both_equal Less b e = cc
-both_equal Equal b e = (refl, e)
-both_equal Greater b e = cc
 
 pub lists_tied : {A : Type 0} (R : A → A → Ordering) → ((x y : A) → R x y ≡ Equal → x ≡ y) → (xs ys : List A) → slice_cmp R xs ys ≡ Equal → xs ≡ ys
 lists_tied R h [] [] e = refl

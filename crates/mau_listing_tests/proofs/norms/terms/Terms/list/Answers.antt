@@ -1,0 +1,21 @@
+use Rattle.std.proofs.Common.{All, Contains, subst, rules}
+use Rattle.mau_signature.specs.Signature.{theory_at}
+use Rattle.mau_store.specs.View.{numbers}
+use Rattle.mau_canon.proofs.Standing.{stand_among, stand_kept, stand_within_extended}
+use Rattle.mau_listing_tests.proofs.norms.terms.Terms.list.Goals as goal
+
+pub from_list-requires-clause-items : goal.from_list-requires-clause-items
+from_list-requires-clause-items g c =
+    let given : All (Contains c.deref.result.now) c.args.items.now = c.are_among.ensures (search rules) in
+    stand_among (theory_at c.self.inside.sig) c.self.inside.store c.args.items.now c.self.inside.ids.items
+    (subst (λ ids. All (Contains ids) c.args.items.now) c.deref.ensures.value given) c.self.invariant
+
+pub invariant_of-self : goal.invariant_of-self
+invariant_of-self g c = stand_within_extended (theory_at c.self.inside.sig) c.self.inside.store c.from_list.new.store (numbers c.self.inside.ids.items) c.from_list.ensures.extends c.self.invariant
+
+pub invariant_of-self-2 : goal.invariant_of-self-2
+invariant_of-self-2 g c =
+    let th = theory_at c.self.inside.sig in
+    stand_kept th c.from_list.new.store c.self.inside.ids.items c.keep.new.ids.items c.in_ok-id.id c.keep.ensures
+    (stand_within_extended th c.self.inside.store c.from_list.new.store (numbers c.self.inside.ids.items) c.from_list.ensures.extends c.self.invariant)
+    c.in_ok-id.ensures.within
