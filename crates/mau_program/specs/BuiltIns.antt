@@ -1,12 +1,14 @@
 -- What is built in: operators of the prelude's modules of truth values and of numbers. An operator that has something built in is declared as
 -- the prelude declares it, and what the built-in takes and gives is there.
-use Rattle.std.specs.Prelude.{◌≡◌, ℕ, suc, ◌≤◌, List, [], ◌∷◌, All, Contains, Option, Some, bytes_eq, codes, position}
+use Rattle.std.specs.Prelude.{◌≡◌, ℕ, suc, List, [], ◌∷◌, All, Some, bytes_eq, codes, position}
 use Rattle.mau_poset.specs.Order.{kind_of}
 use Rattle.mau_terms.specs.Tree.{apply, no_trees}
 use Rattle.mau_terms.specs.Bare.{IsBareIn}
+use Rattle.mau_terms.specs.Finite.{IsIn}
 use Rattle.mau_signature.specs.declared.decl.Decl.{Decl}
 use Rattle.mau_signature.specs.declared.form.Piece.{Piece}
 use Rattle.mau_signature.specs.declared.form.Piece.TheVariants.{Hole, Word}
+use Rattle.mau_signature.specs.Faults.{IsSort}
 use Rattle.mau_signature.specs.Names.{constant_of, place_of}
 use Rattle.mau_signature.specs.Signature.{SignatureOf, IsOperator, declarations_at, attributes_of, form_of, terms_over}
 
@@ -104,7 +106,7 @@ AreAt names k (p ∷ ps) (a ∷ as_) = IsAt names k p a × AreAt names k ps as_
 -- one of the declarations has a shape
 pub record HasShape (names : List (List ℕ)) (k : ℕ) (ds : List Decl) (shape : Shape) : Type 0 where
   pub declaration : Decl
-  pub declared : Contains ds declaration
+  pub declared : IsIn declaration ds
   pub args : AreAt names k shape.args declaration.args
   pub result : IsAt names k shape.result declaration.result
 
@@ -112,6 +114,7 @@ pub record HasShape (names : List (List ℕ)) (k : ℕ) (ds : List Decl) (shape 
 pub record IsDeclaredBy (names : List (List ℕ)) (s : SignatureOf) (f : ℕ) (r : Row) : Type 0 where
   pub form : form_of (declarations_at s f) ≡ r.form
   pub for_kind : ℕ
+  pub there : IsSort s.hierarchy for_kind
   pub is_kind : kind_of s.hierarchy for_kind ≡ for_kind
   pub shapes : All (HasShape names for_kind (declarations_at s f)) r.shapes
 
@@ -142,8 +145,8 @@ pub record HasNumbers (names : List (List ℕ)) (s : SignatureOf) : Type 0 where
 -- ---- what an operator has built in under a name
 
 pub data HasBuiltIn (names : List (List ℕ)) (s : SignatureOf) (f : ℕ) : List ℕ → Type 0 where
-  of_truth_values : (r : Row) → Contains truth_rows r → IsDeclaredBy names s f r → HasTruth names s → HasBuiltIn names s f r.name
-  of_numbers : (r : Row) → Contains number_rows r → IsDeclaredBy names s f r → HasTruth names s → HasNumbers names s → HasBuiltIn names s f r.name
+  of_truth_values : (r : Row) → IsIn r truth_rows → IsDeclaredBy names s f r → HasTruth names s → HasBuiltIn names s f r.name
+  of_numbers : (r : Row) → IsIn r number_rows → IsDeclaredBy names s f r → HasTruth names s → HasNumbers names s → HasBuiltIn names s f r.name
 
 -- so it is for each operator that has something built in
 abbrev pub AreBuiltIn : List (List ℕ) → SignatureOf → Type 0

@@ -10,6 +10,7 @@ pub mod LawfulStatements
 pub mod LawfulStrategies
 pub mod BuiltIns
 pub mod LawfulPrograms
+pub mod Laws
 -- What only inner contracts and proofs cite: how deep a strategy is, that its parts are less deep, and a code by which a proof tells two
 -- strategies apart.
 pub mod Depth
