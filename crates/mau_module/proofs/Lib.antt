@@ -30,4 +30,3 @@ pub mod Plain
 pub mod Framing
 pub mod LawfulCarried
 pub mod MadeOver
-pub mod TextMade
