@@ -32,7 +32,7 @@ use Rattle.mau_module.specs.Library.{truth}
 use Rattle.mau_module.specs.Numbering.{number_in, sort_to, number_to}
 use Rattle.mau_module.specs.Included.{of_module, number_from, numerals_of, has_truth}
 use Rattle.mau_module.specs.Truth.{if_declaration, comparison, truth_over}
-use Rattle.mau_module.specs.Declarations.{declarations_of, hierarchy_over, if_truth, all_declarations, given_over}
+use Rattle.mau_module.specs.Declarations.{declarations_of as declarations_of_parts, hierarchy_over, if_truth, all_declarations, given_over}
 use Rattle.mau_module.specs.Lawful.{number_at, IsMadeOver, AreMade}
 use Rattle.mau_module.proofs.Alls.{all_one}
 use Rattle.mau_module.proofs.Members.{in_both, all_in, in_filtered, in_mapped, in_flattened, range_in}
@@ -122,11 +122,8 @@ module _ (names : List (List ℕ)) (h : Hierarchy) (ds : List Decl) (numerals : 
           there = below;
           is_kind = kind_of-kind h k above;
           shapes = all_one (HasShape names k (declarations_at made (number d))) _
-              (shape_there d d k _ i i refl (subst (λ (y : Decl). AreAt names k (bool_ ∷ kind ∷ kind ∷ []) y.args) (sym e) (named, (refl, (refl, tt)))) (ap (λ (y : Decl). y.result) e));
+              (shape_there d d k _ i i refl (subst (λ (y : Decl). AreAt names k (sort (codes "Bool") ∷ kind ∷ kind ∷ []) y.args) (sym e) (named, (refl, (refl, tt)))) (ap (λ (y : Decl). y.result) e));
         }) has)
-      where
-        abbrev bool_ : Place
-        bool_ = sort (codes "Bool")
     truth_built d name i b (inr (inl e)) =
         let its : codes "same" ≡ name = let x = ap (λ (y : Decl). y.attrs.builtin) (sym e) ∙ b in cc in
         subst (HasBuiltIn names made (number d)) its (of_truth_values _ (inr (inl refl)) (record {
@@ -274,8 +271,8 @@ module _ (ms : List ModuleOf) (names : List (List ℕ)) (parts : List ℕ) (all_
     pub own_built_moved : (d : Decl) (name : List ℕ) → IsIn d m.own.declarations → d.attrs.builtin ≡ Some name → HasTruth names s
         → HasBuiltIn names s (Sources.place h whole numerals (declaration_to to d) + 1) name
     own_built_moved d name i e t =
-        let there : IsIn d source = in_left d (declarations_of (take q ms) m.sorts over part.made.included ++ m.own.declarations) (if_truth (has_truth (part.made.included ++ length (take q ms) ∷ [])) over m.sorts)
-            (in_right d (declarations_of (take q ms) m.sorts over part.made.included) m.own.declarations i) in
+        let there : IsIn d source = in_left d (declarations_of_parts (take q ms) m.sorts over part.made.included ++ m.own.declarations) (if_truth (has_truth (part.made.included ++ length (take q ms) ∷ [])) over m.sorts)
+            (in_right d (declarations_of_parts (take q ms) m.sorts over part.made.included) m.own.declarations i) in
         let g = Sources.place over source their_numerals d + 1 in
         let o = Sources.is_operator_of over source their_numerals d there in
         let built = subst (λ (x : SignatureOf). HasBuiltIn m.sorts x (number_at x d) name) part.made.signature (part.made.built_ins d name i e) in
@@ -295,8 +292,8 @@ module _ (ms : List ModuleOf) (names : List (List ℕ)) (parts : List ℕ) (all_
       let r = name_moved 0 m part (codes "Bool") b (number_found m.sorts (codes "Bool") t.sort) in
       let to_new = to 0 m part in
       let in_source : (d : Decl) → IsIn d m.own.declarations → IsIn d (source 0 m part) = λ d j.
-          in_left d (declarations_of (take 0 ms) m.sorts (over 0 m part) part.made.included ++ m.own.declarations) (if_truth (has_truth (part.made.included ++ length (take 0 ms) ∷ [])) (over 0 m part) m.sorts)
-          (in_right d (declarations_of (take 0 ms) m.sorts (over 0 m part) part.made.included) m.own.declarations j) in
+          in_left d (declarations_of_parts (take 0 ms) m.sorts (over 0 m part) part.made.included ++ m.own.declarations) (if_truth (has_truth (part.made.included ++ length (take 0 ms) ∷ [])) (over 0 m part) m.sorts)
+          (in_right d (declarations_of_parts (take 0 ms) m.sorts (over 0 m part) part.made.included) m.own.declarations j) in
       let again : (d : Decl) → IsIn d m.own.declarations → IsIn (declaration_to to_new d) whole = λ d j.
           moved ms names parts all_made closed pairs own accepted 0 m part d (in_source d j) in
       record {
@@ -312,7 +309,7 @@ module _ (ms : List ModuleOf) (names : List (List ℕ)) (parts : List ℕ) (all_
 
   module _ (first : IsIn 0 parts)
       (own_built : (d : Decl) (name : List ℕ) → IsIn d own → d.attrs.builtin ≡ Some name → HasTruth names s → HasBuiltIn names s (Sources.place h whole numerals d + 1) name) where
-    from_parts : (d : Decl) (name : List ℕ) → IsIn d (declarations_of ms names h parts) → d.attrs.builtin ≡ Some name → HasBuiltIn names s (Sources.place h whole numerals d + 1) name
+    from_parts : (d : Decl) (name : List ℕ) → IsIn d (declarations_of_parts ms names h parts) → d.attrs.builtin ≡ Some name → HasBuiltIn names s (Sources.place h whole numerals d + 1) name
     from_parts d name i b =
         let f = in_flattened (of_module ms (λ m. map (declaration_to (number_from m names h)) m.own.declarations)) parts d i in
         let p = part_is ms names parts all_made closed f.0 f.1 in
@@ -331,8 +328,8 @@ module _ (ms : List ModuleOf) (names : List (List ℕ)) (parts : List ℕ) (all_
         (truth_there first) d name w b f.2
 
     declared_built : (d : Decl) (name : List ℕ) → IsIn d whole → d.attrs.builtin ≡ Some name → HasBuiltIn names s (Sources.place h whole numerals d + 1) name
-    declared_built d name i b = elim (in_both d (declarations_of ms names h parts ++ own) (if_truth (has_truth (parts ++ length ms ∷ [])) h names) i) [
-        inl j ↦ elim (in_both d (declarations_of ms names h parts) own j) [ inl k ↦ from_parts d name k b | inr k ↦ own_built d name k b (truth_there first) ]
+    declared_built d name i b = elim (in_both d (declarations_of_parts ms names h parts ++ own) (if_truth (has_truth (parts ++ length ms ∷ [])) h names) i) [
+        inl j ↦ elim (in_both d (declarations_of_parts ms names h parts) own j) [ inl k ↦ from_parts d name k b | inr k ↦ own_built d name k b (truth_there first) ]
       | inr j ↦ from_truth d name (has_truth (parts ++ length ms ∷ [])) i j b
       ]
 

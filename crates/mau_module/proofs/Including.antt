@@ -43,7 +43,7 @@ before_it [] (suc q) i m e = absurd cc
 before_it (x ∷ ms) (suc q) zero m e = e
 before_it (x ∷ ms) (suc q) (suc i) m e = before_it ms q i m e
 
-still_there : (ms : List ModuleOf) (q i : ℕ) → i < q → slice_get (take q ms) i ≡ slice_get ms i
+pub still_there : (ms : List ModuleOf) (q i : ℕ) → i < q → slice_get (take q ms) i ≡ slice_get ms i
 still_there ms zero i l = absurd (omega arith)
 still_there [] (suc q) i l = refl
 still_there (x ∷ ms) (suc q) zero l = refl
@@ -56,7 +56,7 @@ take_take [] (suc q) (suc i) l = refl
 take_take (x ∷ ms) (suc q) zero l = refl
 take_take (x ∷ ms) (suc q) (suc i) l = ap (λ ys. x ∷ ys) (take_take ms q i (omega arith))
 
-length_take : (ms : List ModuleOf) (q : ℕ) → q < length ms → length (take q ms) ≡ q
+pub length_take : (ms : List ModuleOf) (q : ℕ) → q < length ms → length (take q ms) ≡ q
 length_take [] q l = absurd (omega arith)
 length_take (x ∷ ms) zero l = refl
 length_take (x ∷ ms) (suc q) l = ap suc (length_take ms q (omega arith))
@@ -75,10 +75,10 @@ made_before ms q made i m e =
 of_it : {A : Type 0} (ms : List ModuleOf) (f : ModuleOf → List A) (i : ℕ) (m : ModuleOf) → slice_get ms i ≡ Some m → of_module ms f i ≡ f m
 of_it ms f i m e = ap (λ r. option_map_or f r []) e
 
-in_of_it : {A : Type 0} (ms : List ModuleOf) (f : ModuleOf → List A) (i : ℕ) (m : ModuleOf) (x : A) → slice_get ms i ≡ Some m → IsIn x (f m) → IsIn x (of_module ms f i)
+pub in_of_it : {A : Type 0} (ms : List ModuleOf) (f : ModuleOf → List A) (i : ℕ) (m : ModuleOf) (x : A) → slice_get ms i ≡ Some m → IsIn x (f m) → IsIn x (of_module ms f i)
 in_of_it ms f i m x e h = subst (IsIn x) (sym (of_it ms f i m e)) h
 
-out_of_it : {A : Type 0} (ms : List ModuleOf) (f : ModuleOf → List A) (i : ℕ) (m : ModuleOf) (x : A) → slice_get ms i ≡ Some m → IsIn x (of_module ms f i) → IsIn x (f m)
+pub out_of_it : {A : Type 0} (ms : List ModuleOf) (f : ModuleOf → List A) (i : ℕ) (m : ModuleOf) (x : A) → slice_get ms i ≡ Some m → IsIn x (of_module ms f i) → IsIn x (f m)
 out_of_it ms f i m x e h = subst (IsIn x) (of_it ms f i m e) h
 
 -- ---- a frame that is closed: it has all that its parts include, and their sorts

@@ -28,12 +28,12 @@ module _ {A : Type 0} where
 
   pub in_filtered : (p : A → Bool) (xs : List A) (x : A) → IsIn x (filter p xs) → IsIn x xs × (p x ≡ true)
   in_filtered p [] x h = absurd h
-  in_filtered p (y ∷ xs) x h = by (p y) refl h
+  in_filtered p (y ∷ xs) x h = by (p y) refl h (in_filtered p xs x)
     where
-      by : (b : Bool) → p y ≡ b → IsIn x (cond b (y ∷ filter p xs) (filter p xs)) → IsIn x (y ∷ xs) × (p x ≡ true)
-      by true e (inl s) = (inl s, subst (λ z. p z ≡ true) (sym s) e)
-      by true e (inr i) = let r = in_filtered p xs x i in (inr r.0, r.1)
-      by false e i = let r = in_filtered p xs x i in (inr r.0, r.1)
+      by : (b : Bool) → p y ≡ b → IsIn x (cond b (y ∷ filter p xs) (filter p xs)) → (IsIn x (filter p xs) → IsIn x xs × (p x ≡ true)) → IsIn x (y ∷ xs) × (p x ≡ true)
+      by true e (inl s) ih = (inl s, subst (λ z. p z ≡ true) (sym s) e)
+      by true e (inr i) ih = let r = ih i in (inr r.0, r.1)
+      by false e i ih = let r = ih i in (inr r.0, r.1)
 
   pub in_at : (xs : List A) (x : A) → IsIn x xs → (i : ℕ) × (slice_get xs i ≡ Some x)
   in_at [] x h = absurd h
@@ -77,19 +77,20 @@ module _ {A B : Type 0} (f : A → List B) where
     | inr b ↦ let r = in_flattened xs y b in (r.0, inr r.1, r.2)
     ]
 
+eq_or : (a b : ℕ) → a < b + 1 → (b ≡ a) ⊎ (a + 1 < b + 1)
+eq_or zero zero w = inl refl
+eq_or zero (suc b) w = inr (omega arith)
+eq_or (suc a) zero w = absurd (omega arith)
+eq_or (suc a) (suc b) w = elim (eq_or a b (omega arith)) [ inl e ↦ inl (ap suc e) | inr e ↦ inr (omega arith) ]
+
 -- consecutive numbers
 pub in_range : (from n k : ℕ) → from < k + 1 → k < from + n → IsIn k (range_with_len from n)
 in_range from zero k l m = absurd (omega arith)
-in_range from (suc n) k l m = by (eq_or from k (omega arith))
+in_range from (suc n) k l m = by (eq_or from k (omega arith)) (λ w. in_range (from + 1) n k w (omega arith))
   where
-    eq_or : (a b : ℕ) → a < b + 1 → (b ≡ a) ⊎ (a + 1 < b + 1)
-    eq_or zero zero w = inl refl
-    eq_or zero (suc b) w = inr (omega arith)
-    eq_or (suc a) zero w = absurd (omega arith)
-    eq_or (suc a) (suc b) w = elim (eq_or a b (omega arith)) [ inl e ↦ inl (ap suc e) | inr e ↦ inr (omega arith) ]
-    by : (k ≡ from) ⊎ (from + 1 < k + 1) → IsIn k (range_with_len from (suc n))
-    by (inl e) = inl e
-    by (inr w) = inr (in_range (from + 1) n k w (omega arith))
+    by : (k ≡ from) ⊎ (from + 1 < k + 1) → (from + 1 < k + 1 → IsIn k (range_with_len (from + 1) n)) → IsIn k (range_with_len from (suc n))
+    by (inl e) ih = inl e
+    by (inr w) ih = inr (ih w)
 
 pub range_in : (from n k : ℕ) → IsIn k (range_with_len from n) → (from < k + 1) × (k < from + n)
 range_in from zero k h = absurd h

@@ -99,7 +99,7 @@ module _ (olds : List (List ℕ)) (old : Hierarchy) (news : List (List ℕ)) (ne
 
   joined : {a b : ℕ} → AreJoined old.pairs a b → AreJoined new.pairs (to a) (to b)
   joined no_step = no_step
-  joined (step {a} {c} {b} s r) = step (joins a c s) (joined r)
+  joined (step {a = x} {b = y} s r) = step (joins x y s) (joined r)
 
   pub same_kind : (a b : ℕ) → a < old.sorts → b < old.sorts → kind_of old a ≡ kind_of old b → kind_of new (to a) ≡ kind_of new (to b)
   same_kind a b l m e = (joined_sorts new (to a) (to b) (sort_within a l) (sort_within b m)).1 (joined ((joined_sorts old a b l m).0 e))

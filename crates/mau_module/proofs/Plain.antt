@@ -1,5 +1,5 @@
 -- No attribute of a text makes an operator native.
-use Rattle.std.proofs.Common.{◌≡◌, ℕ, List, [], ◌∷◌, ◌++◌, Bool, true, false, cond, map, Option, Some, None, refl, sym, ◌∙◌, ap, subst, inl, inr}
+use Rattle.std.proofs.Common.{◌≡◌, ℕ, List, [], ◌∷◌, ◌++◌, Bool, true, false, cond, map, length, Option, Some, None, refl, sym, ◌∙◌, ap, subst, inl, inr}
 use Rattle.std.specs.Prelude.{Result, Ok, Err, fold, bytes_eq, codes}
 use Rattle.std.specs.List.{flat_map}
 use Rattle.mau_terms.specs.Finite.{IsIn}
@@ -73,7 +73,7 @@ operators_plain ws sorts o ops e =
     let p = passed (read_all (argument_step ws sorts) [] o.args) (λ args. and_then (sort_use ws sorts o.result) (λ result. Ok (operators_over ws o args result))) ops e in
     let q = passed (sort_use ws sorts o.result) (λ result. Ok (operators_over ws o p.0 result)) ops p.2 in
     let is : operators_over ws o p.0 q.0 ≡ ops = let w = q.2 in cc in
-    subst (λ (x : Operators). IsPlain x.attrs) is (all_given ws _ no_attributes o.attrs refl)
+    subst (λ (x : Operators). IsPlain x.attrs) is (all_given ws (length o.args) no_attributes o.attrs refl)
 
 step_plain : (ws : List Word) (sorts : List (List ℕ)) (e f : Elements) (x : RawElement) → element_step ws sorts e x ≡ Ok f → ArePlain e.operators → ArePlain f.operators
 step_plain ws sorts e f (Import name) s a = let is : e ≡ f = cc in subst (λ (y : Elements). ArePlain y.operators) is a

@@ -43,11 +43,12 @@ position_there p xs e =
 
 pub built_of_one : (ds : List Decl) (name : List ℕ) → (united ds).builtin ≡ Some name → (d : Decl) × IsIn d ds × (d.attrs.builtin ≡ Some name)
 built_of_one [] name e = absurd cc
-built_of_one (d ∷ ds) name e = by d.attrs.builtin refl e
+built_of_one (d ∷ ds) name e = by d.attrs.builtin refl e (built_of_one ds name)
   where
-    by : (b : Option (List ℕ)) → d.attrs.builtin ≡ b → first_given b (united ds).builtin ≡ Some name → (x : Decl) × IsIn x (d ∷ ds) × (x.attrs.builtin ≡ Some name)
-    by (Some x) is f = (d, inl refl, is ∙ f)
-    by None is f = let r = built_of_one ds name f in (r.0, inr r.1, r.2)
+    by : (b : Option (List ℕ)) → d.attrs.builtin ≡ b → first_given b (united ds).builtin ≡ Some name
+        → ((united ds).builtin ≡ Some name → (x : Decl) × IsIn x ds × (x.attrs.builtin ≡ Some name)) → (x : Decl) × IsIn x (d ∷ ds) × (x.attrs.builtin ≡ Some name)
+    by (Some x) is f ih = (d, inl refl, is ∙ f)
+    by None is f ih = let r = ih f in (r.0, inr r.1, r.2)
 
 built_of_group : (ds : List Decl) (name : List ℕ) → (attributes_of (with_united ds)).builtin ≡ Some name → (d : Decl) × IsIn d ds × (d.attrs.builtin ≡ Some name)
 built_of_group [] name e = absurd cc
