@@ -20,7 +20,5 @@ pub mod Faults
 pub mod Flattened
 pub mod Prelude
 pub mod Kept
--- what holds of every accepted module, on which later ones rest
-pub mod Lawful
 -- what holds of this
 pub mod Laws

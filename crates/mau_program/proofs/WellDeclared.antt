@@ -33,7 +33,7 @@ one_kind_more g f ds d one e = by (same_operator f (operator_of g.hierarchy d)) 
     by true k =
         let is : operator_of g.hierarchy d ≡ f = sym (same_operator-is f (operator_of g.hierarchy d) k) in
         let other : has_other_kind g.hierarchy (declarations_of g.hierarchy ds f) (kind_of g.hierarchy d.result) ≡ false =
-            subst (λ x. has_other_kind g.hierarchy (declarations_of g.hierarchy ds x) (kind_of g.hierarchy d.result) ≡ false) is (right_kind g (declarations_of g.hierarchy ds (operator_of g.hierarchy d)) d e) in
+        subst (λ x. has_other_kind g.hierarchy (declarations_of g.hierarchy ds x) (kind_of g.hierarchy d.result) ≡ false) is (right_kind g (declarations_of g.hierarchy ds (operator_of g.hierarchy d)) d e) in
         subst (HaveOneKind g.hierarchy) (sym (passes (λ x. same_operator f (operator_of g.hierarchy x)) ds d k)) (HaveOneKind-end g.hierarchy (declarations_of g.hierarchy ds f) d one other)
 
 one_kind : (g : Given) (f : Operator) (ds : List Decl) → IsFaultless g ds → HaveOneKind g.hierarchy (declarations_of g.hierarchy ds f)
@@ -72,11 +72,11 @@ module _ (h : Hierarchy) (ds : List Decl) (numerals : Option (ℕ × ℕ)) (sort
 
   group_right : (f : Operator) → group f ≢ [] → IsRight (with_united (group f))
   group_right f some = (
-      united_some (group f) some,
-      All-map (HasSorts h) (with_attributes (united (group f))) (group f)
+    united_some (group f) some,
+    All-map (HasSorts h) (with_attributes (united (group f))) (group f)
         (λ i x lt. let has = All-filter (λ d. same_operator f (operator_of h d)) (HasSorts h) ds sorts i x lt in record { arguments = has.arguments; result = has.result }),
-      alike_all h f (group f) (filter_passes (λ d. same_operator f (operator_of h d)) ds) (one_kind (given h ds numerals) f ds faultless),
-    )
+    alike_all h f (group f) (filter_passes (λ d. same_operator f (operator_of h d)) ds) (one_kind (given h ds numerals) f ds faultless),
+  )
 
   none : Operator
   none = record { form = []; arguments = []; constant = None }

@@ -133,6 +133,7 @@ first f (suc n) = elim (first f n) [ inl w ↦ inl (w.0, omega (arith, w.1), w.2
       where
         lt_or_eq : (j : ℕ) → j < suc n → (j < n) ⊎ (j ≡ n)
         lt_or_eq j lt = le_or j n (omega arith)
+
         at : (j : ℕ) → j < suc n → (j < n) ⊎ (j ≡ n) → f j ≡ false
         at j lt (inl w) = none j w
         at j lt (inr w) = subst (λ k. f k ≡ false) (sym w) e
@@ -143,14 +144,14 @@ not_is false b e = ap not e
 
 pub free : (pairs : Pairs) (p : List ℕ × ℕ) → is_taken pairs (primed p.0 (apostrophes pairs p), p.1) ≡ false
 free pairs p = elim (first (λ n. not (is_taken pairs (primed p.0 n, p.1))) (length pairs + 1)) [
-    inl w ↦
+  | inl w ↦
       let i = w.0 in
       let at = first_at (λ n. not (is_taken pairs (primed p.0 n, p.1))) 0 (length pairs + 1) i
-              (λ j lt. subst (λ k. not (is_taken pairs (primed p.0 k, p.1)) ≡ false) (sym (zero-add j)) (w.3 j lt))
-              (subst (λ k. not (is_taken pairs (primed p.0 k, p.1)) ≡ true) (sym (zero-add i)) w.2) w.1 in
+      (λ j lt. subst (λ k. not (is_taken pairs (primed p.0 k, p.1)) ≡ false) (sym (zero-add j)) (w.3 j lt))
+      (subst (λ k. not (is_taken pairs (primed p.0 k, p.1)) ≡ true) (sym (zero-add i)) w.2) w.1 in
       subst (λ k. is_taken pairs (primed p.0 k, p.1) ≡ false) (sym at) (not_is (is_taken pairs (primed p.0 i, p.1)) true w.2)
   | inr none ↦ absurd (some_free pairs p.0 p.1 (λ j lt. not_is (is_taken pairs (primed p.0 j, p.1)) false (none j lt)))
-  ]
+]
 
 -- ---- one more pair
 
@@ -195,7 +196,6 @@ sorts_from sort done (p ∷ pairs) =
 -- they are as many, each in its place, and no two of them are one
 pub variables_apart : (sort : ℕ → ℕ) (pairs : Pairs) → AreDistinct (variables_to sort pairs) × (map (λ p. p.1) (variables_to sort pairs) ≡ map (λ p. sort p.1) pairs)
 variables_apart sort pairs = (distinct_from sort [] pairs tt, sorts_from sort [] pairs)
-
 
 -- ---- the code's loop
 

@@ -101,9 +101,9 @@ both a b e f = ap₂ (λ x y. x && y) e f
 has_before : (xs ys : List Variable) (w : Variable) → has_variable xs w ≡ true → has_variable (xs ++ ys) w ≡ true
 has_before [] ys w h = absurd cc
 has_before (x ∷ xs) ys w h = elim (or_cases (same_variable x w) (has_variable xs w) h) [
-    inl e ↦ or_left (same_variable x w) (has_variable (xs ++ ys) w) e
+  | inl e ↦ or_left (same_variable x w) (has_variable (xs ++ ys) w) e
   | inr e ↦ or_right (same_variable x w) (has_variable (xs ++ ys) w) (has_before xs ys w e)
-  ]
+]
 
 has_last : (xs : List Variable) (v : Variable) → has_variable (xs ++ v ∷ []) v ≡ true
 has_last [] v = or_left (same_variable v v) false (same_itself v)
@@ -112,9 +112,9 @@ has_last (x ∷ xs) v = or_right (same_variable x v) (has_variable (xs ++ v ∷ 
 before_or_last : (xs : List Variable) (v w : Variable) → has_variable (xs ++ v ∷ []) w ≡ true → (has_variable xs w ≡ true) ⊎ (v ≡ w)
 before_or_last [] v w h = elim (or_cases (same_variable v w) false h) [ inl e ↦ inr (same-is v w e) | inr e ↦ absurd cc ]
 before_or_last (x ∷ xs) v w h = elim (or_cases (same_variable x w) (has_variable (xs ++ v ∷ []) w) h) [
-    inl e ↦ inl (or_left (same_variable x w) (has_variable xs w) e)
+  | inl e ↦ inl (or_left (same_variable x w) (has_variable xs w) e)
   | inr e ↦ elim (before_or_last xs v w e) [ inl f ↦ inl (or_right (same_variable x w) (has_variable xs w) f) | inr f ↦ inr f ]
-  ]
+]
 
 abbrev with_one : List Variable → Variable → List Variable
 with_one xs v = if has_variable xs v then xs else xs ++ v ∷ []
@@ -153,9 +153,9 @@ module _ (n : Numbers) where
   mutual
     add_carries : (t : Tree) (xs ys : List Variable) → Carries xs ys → Carries (add_variables xs t) (add_variables ys (tree_to n t))
     add_carries (variable i s) xs ys c = λ w h. elim (was_there xs (i, s) w h) [
-        inl e ↦ stays_there ys (i, n.sort s) (w.0, n.sort w.1) (c w e)
+      | inl e ↦ stays_there ys (i, n.sort s) (w.0, n.sort w.1) (c w e)
       | inr e ↦ subst (λ (v : Variable). has_variable (with_one ys (i, n.sort s)) (v.0, n.sort v.1) ≡ true) e (is_there ys (i, n.sort s))
-      ]
+    ]
     add_carries (numeral v) xs ys c = c
     add_carries (apply f ts) xs ys c = add_all_carries ts xs ys c
 
@@ -228,12 +228,12 @@ module _ (n : Numbers) where
       let same : q.1 ≡ n.sort p.1 = cc in
       let rest : map (λ (q : List ℕ × ℕ). q.1) qs ≡ map (λ (p : List ℕ × ℕ). n.sort p.1) ps = cc in
       elim (or_cases (same_variable (i, p.1) w) (has_variable (listed_from (suc i) ps) w) h) [
-        inl f ↦
-          or_left (same_variable (i, q.1) (w.0, n.sort w.1)) (has_variable (listed_from (suc i) qs) (w.0, n.sort w.1))
-          (subst (λ (v : Variable). same_variable (i, q.1) (v.0, n.sort v.1) ≡ true) (same-is (i, p.1) w f)
-          (subst (λ s. same_variable (i, q.1) (i, s) ≡ true) same (same_itself (i, q.1))))
-      | inr f ↦
-          or_right (same_variable (i, q.1) (w.0, n.sort w.1)) (has_variable (listed_from (suc i) qs) (w.0, n.sort w.1)) (numbered_carry (suc i) ps qs rest w f)
+        | inl f ↦
+            or_left (same_variable (i, q.1) (w.0, n.sort w.1)) (has_variable (listed_from (suc i) qs) (w.0, n.sort w.1))
+            (subst (λ (v : Variable). same_variable (i, q.1) (v.0, n.sort v.1) ≡ true) (same-is (i, p.1) w f)
+            (subst (λ s. same_variable (i, q.1) (i, s) ≡ true) same (same_itself (i, q.1))))
+        | inr f ↦
+            or_right (same_variable (i, q.1) (w.0, n.sort w.1)) (has_variable (listed_from (suc i) qs) (w.0, n.sort w.1)) (numbered_carry (suc i) ps qs rest w f)
       ]
 
   listed_carry : (ps : List (List ℕ × ℕ)) → Carries (listed ps) (listed (variables_to n.sort ps))
@@ -333,10 +333,11 @@ module _ (n : Numbers) (old new : SignatureOf) (keeps : KeepsKinds n old new) wh
     strategy_stays (negation e) xs ys c h = strategy_stays e xs ys c h
     strategy_stays (attempt e) xs ys c h = strategy_stays e xs ys c h
     strategy_stays (test_of e) xs ys c h = strategy_stays e xs ys c h
-    strategy_stays (part_rewrite k p fs us) xs ys c h =
-        (test_stays xs ys c p fs h.0,
-        uses_stay us (variables (tree_of p)) (variables (tree_of (term_to n p))) (left_carries n p)
-        (behind_test xs p fs) (behind_test ys (term_to n p) (map (fragment_to n) fs)) (behind_stays xs ys c p fs) h.1)
+    strategy_stays (part_rewrite k p fs us) xs ys c h = (
+      test_stays xs ys c p fs h.0,
+      uses_stay us (variables (tree_of p)) (variables (tree_of (term_to n p))) (left_carries n p)
+          (behind_test xs p fs) (behind_test ys (term_to n p) (map (fragment_to n) fs)) (behind_stays xs ys c p fs) h.1,
+    )
     strategy_stays (label_by l as_ es) xs ys c h = (assigns_stay xs ys c as_ h.0, strategies_stay es xs ys c h.1)
 
     strategies_stay : (es : Strategies) (xs ys : List Variable) → Carries n xs ys → AreLawfulStrategies old xs es → AreLawfulStrategies new ys (strategies_to n es)
@@ -359,9 +360,11 @@ module _ (n : Numbers) (old new : SignatureOf) (keeps : KeepsKinds n old new) wh
       record {
         args = All-map (IsBare (terms_over new)) (tree_to n) d.args (λ i x w. (n.sort (h.args i x w).0, bare_stays n old new keeps (get_or d.args i x) (h.args i x w).0 (h.args i x w).1));
         condition = fragments_stay n old new keeps d.cond h.condition;
-        listed = (All-map (λ t. has_only (listed (variables_to n.sort d.vars)) t ≡ true) (tree_to n) d.args
-                (λ i x w. only_carries n (get_or d.args i x) (listed d.vars) (listed (variables_to n.sort d.vars)) (listed_carry n d.vars) (h.listed.0 i x w)),
-            lists_all n d.vars d.cond h.listed.1);
+        listed = (
+          All-map (λ t. has_only (listed (variables_to n.sort d.vars)) t ≡ true) (tree_to n) d.args
+              (λ i x w. only_carries n (get_or d.args i x) (listed d.vars) (listed (variables_to n.sort d.vars)) (listed_carry n d.vars) (h.listed.0 i x w)),
+          lists_all n d.vars d.cond h.listed.1,
+        );
         bound = all_bound_carry n d.cond xs ys c h.bound;
         body = strategy_stays d.body (fold bound_behind xs d.cond) (fold bound_behind ys (map (fragment_to n) d.cond)) (all_behind_carry n d.cond xs ys c) h.body;
       }

@@ -89,11 +89,7 @@ impl Tables {
 
     /// Some terms.
     #[cycle(term)]
-    pub(crate) fn terms(
-        &self,
-        alloc: Global,
-        terms: &[Bare],
-    ) -> Result<Vec<Bare>, NoMemory>
+    pub(crate) fn terms(&self, alloc: Global, terms: &[Bare]) -> Result<Vec<Bare>, NoMemory>
         ensures { IfOk result (λ found. map tree_of found.items ≡ map (tree_to (numbers_in self.now)) (map tree_of terms.now)) }
     {
         let mut found = Vec::with_capacity(alloc, terms.len())?;
@@ -123,11 +119,7 @@ impl Tables {
     }
 
     /// A fragment.
-    fn fragment(
-        &self,
-        alloc: Global,
-        fragment: &Fragment,
-    ) -> Result<Fragment, NoMemory>
+    fn fragment(&self, alloc: Global, fragment: &Fragment) -> Result<Fragment, NoMemory>
         ensures { IfOk result (λ found. found ≡ fragment_to (numbers_in self.now) fragment.now) }
     {
         match fragment {

@@ -32,11 +32,7 @@ impl Tables {
     }
 
     /// Some assignments.
-    fn assigns(
-        &self,
-        alloc: Global,
-        assigns: &Seq<Assign>,
-    ) -> Result<Seq<Assign>, NoMemory>
+    fn assigns(&self, alloc: Global, assigns: &Seq<Assign>) -> Result<Seq<Assign>, NoMemory>
         ensures { IfOk result (λ found. found ≡ map (assign_to (numbers_in self.now)) assigns.now) }
     {
         let assigns = assigns.items();
@@ -49,11 +45,7 @@ impl Tables {
 
     /// A strategy in a box.
     #[cycle(strategy)]
-    fn boxed(
-        &self,
-        alloc: Global,
-        strategy: &Box<Strategy>,
-    ) -> Result<Box<Strategy>, NoMemory>
+    fn boxed(&self, alloc: Global, strategy: &Box<Strategy>) -> Result<Box<Strategy>, NoMemory>
         ensures { IfOk result (λ found. found.value ≡ strategy_to (numbers_in self.now) strategy.now.value) }
     {
         let found = self.strategy(alloc, strategy)?;
@@ -62,11 +54,7 @@ impl Tables {
 
     /// Some strategies.
     #[cycle(strategy)]
-    fn strategies(
-        &self,
-        alloc: Global,
-        strategies: &[Strategy],
-    ) -> Result<Vec<Strategy>, NoMemory>
+    fn strategies(&self, alloc: Global, strategies: &[Strategy]) -> Result<Vec<Strategy>, NoMemory>
         ensures { IfOk result (λ found. strategies_of found.items ≡ strategies_to (numbers_in self.now) (strategies_of strategies.now)) }
     {
         let mut found = Vec::with_capacity(alloc, strategies.len())?;
@@ -93,11 +81,7 @@ impl Tables {
 
     /// Some variables and their strategies.
     #[cycle(strategy)]
-    fn parts(
-        &self,
-        alloc: Global,
-        parts: &[PartUse],
-    ) -> Result<Vec<PartUse>, NoMemory>
+    fn parts(&self, alloc: Global, parts: &[PartUse]) -> Result<Vec<PartUse>, NoMemory>
         ensures { IfOk result (λ found. uses_of found.items ≡ uses_to (numbers_in self.now) (uses_of parts.now)) }
     {
         let mut found = Vec::with_capacity(alloc, parts.len())?;
@@ -109,11 +93,7 @@ impl Tables {
 
     /// A strategy.
     #[cycle(strategy)]
-    fn strategy(
-        &self,
-        alloc: Global,
-        strategy: &Strategy,
-    ) -> Result<Strategy, NoMemory>
+    fn strategy(&self, alloc: Global, strategy: &Strategy) -> Result<Strategy, NoMemory>
         ensures { IfOk result (λ found. found ≡ strategy_to (numbers_in self.now) strategy.now) }
     {
         let form = self.form(alloc, strategy.form())?;
@@ -122,11 +102,7 @@ impl Tables {
 
     /// A form of a strategy.
     #[cycle(strategy)]
-    fn form(
-        &self,
-        alloc: Global,
-        form: &StrategyForm,
-    ) -> Result<StrategyForm, NoMemory>
+    fn form(&self, alloc: Global, form: &StrategyForm) -> Result<StrategyForm, NoMemory>
         ensures { IfOk result (λ found. strategy_of found ≡ strategy_to (numbers_in self.now) (strategy_of form.now)) }
     {
         match form {
@@ -188,7 +164,7 @@ impl Tables {
     pub fn definition(&self, alloc: Global, definition: &StratDef) -> Result<StratDef, NoMemory>
         ensures { IfOk result (λ found. found ≡ definition_to (numbers_in self.now) definition.now) }
     {
-                Ok(StratDef {
+        Ok(StratDef {
             name: definition.name.copy(alloc)?,
             args: self.arguments(alloc, &definition.args)?,
             body: self.strategy(alloc, &definition.body)?,
