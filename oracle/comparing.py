@@ -6,10 +6,10 @@ import subprocess
 import sys
 
 
-def difference(program, text, wanted):
-    """The transcript of a text beside the lines that are wanted, or nothing where it has just these and their exit status."""
+def difference(program, text, wanted, words=()):
+    """The transcript of a text, under these words, beside the lines that are wanted, or nothing where it has just these and their exit status."""
     data = text if isinstance(text, bytes) else text.encode()
-    ran = subprocess.run([program, "run"], input=data, capture_output=True)
+    ran = subprocess.run([program, "run", *words], input=data, capture_output=True)
     got = [*ran.stdout.decode().split("\n"), f"status {ran.returncode}"]
     is_refused = any(re.match(r"(\[\d+\] )?refused: ", line) for line in wanted)
     lines = [*wanted, "", f"status {int(is_refused)}"]

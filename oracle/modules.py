@@ -56,7 +56,7 @@ def signature_of(module):
 def suits(sig):
     """Whether each operator's kinds and identity suit its axioms."""
     for op in sig.of:
-        if any(sig.kind[r] != op.result for _, r in op.declared) or op.attrs.get("comm") and len(set(op.kinds)) > 1:
+        if any(sig.kind.get(r, r) != op.result for _, r in op.declared) or op.attrs.get("comm") and len(set(op.kinds)) > 1:
             return False
         if (op.attrs.get("assoc") or "id" in op.attrs) and {*op.kinds} != {op.result}:
             return False

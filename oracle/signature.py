@@ -41,8 +41,8 @@ class Signature:
             self.kind[a] = "[" + min(joined, key=sorts.index)
         self.operators = {}
         for name, args, result, attrs in declarations:
-            key = name, tuple(self.kind[a] for a in args)
-            op = self.operators.setdefault(key, Operator(key, self.kind[result], len(self.operators)))
+            key = name, tuple(self.kind.get(a, a) for a in args)
+            op = self.operators.setdefault(key, Operator(key, self.kind.get(result, result), len(self.operators)))
             op.declared.append((args, result))
             op.attrs.update(attrs)
         self.of = list(self.operators.values())
@@ -155,8 +155,8 @@ class Signature:
                 known[term] = found
         return known[term]
 
-    def parts(self, term):
-        """All that a variable can stand for where an instance is this normal form."""
+    def parts(self, term, folds=True):
+        """All that a variable can stand for where an instance is this normal form; numerals below others only where successors are folded."""
         found, seen = {op.attrs["id"] for op in self.of if "id" in op.attrs}, set()
 
         def walk(t):
@@ -165,7 +165,7 @@ class Signature:
             seen.add(t)
             found.add(t)
             if isinstance(t, int):
-                found.update(range(t))
+                found.update(range(t) if folds else ())
             elif t[0] != "v":
                 n, attrs = len(t[1]), self.op(t).attrs
                 if attrs.get("assoc") and attrs.get("comm"):
@@ -256,5 +256,9 @@ def module_text(own, pairs, declarations, with_nat=False):
             words.append(f"prec {attrs['prec']}")
         if "gather" in attrs:
             words.append(f"gather ({' '.join(attrs['gather'])})")
+        if "frozen" in attrs:
+            words.append(f"frozen ({' '.join(str(i + 1) for i in attrs['frozen'])})")
+        if "strat" in attrs:
+            words.append(f"strat ({' '.join(str(i + 1) for i in attrs['strat'])} 0)".replace("( ", "("))
         out.append(f"op {name} : {' '.join(args)} -> {result}{' [' + ' '.join(words) + ']' if words else ''} .")
     return "\n".join(out + ["endfm", ""])

@@ -14,7 +14,7 @@ use Rattle.mau_signature.specs.Faults.{IsSort, HasSorts}
 use Rattle.mau_signature.specs.Signature.{SignatureOf, IsOperator, declarations_at, theory_at, result_of, swapped}
 use Rattle.mau_sigcheck.specs.Accepted.{IsSortOfNumeral}
 use Rattle.mau_sorts.specs.HasSort.{Known, HasSort, Suits, IsDeclared, Gives, OfTwo, AllHave, ListHas}
-use Rattle.mau_sorts.specs.Laws.{IsBuiltAndAccepted, AreInOneKind}
+use Rattle.mau_sigcheck.specs.Built.{IsBuiltAndAccepted, AreInOneKind}
 use Rattle.mau_evaluation.specs.Evaluation.{has_number}
 use Rattle.mau_evaluation.proofs.Listed.{in_keep, from_keep}
 use Rattle.mau_evaluation.proofs.SortsGiven.{number_in, in_number}

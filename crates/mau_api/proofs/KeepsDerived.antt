@@ -12,7 +12,7 @@ use Rattle.mau_store.specs.Trees.{tree_at, tree_over}
 use Rattle.mau_store.proofs.Standing.{tree_of_node, tree_at-extends}
 use Rattle.mau_sorts.specs.SortSets.{SortsOf}
 use Rattle.mau_sorts.specs.Table.{Table, entry_at, IsSettled, AreOver}
-use Rattle.mau_sorts.specs.Laws.{IsBuiltAndAccepted}
+use Rattle.mau_sigcheck.specs.Built.{IsBuiltAndAccepted}
 use Rattle.mau_listing.specs.Asked.{IsTableOf, IsClosedTable, IsNumeralOrList, MaySettle}
 use Rattle.mau_listing.proofs.Answered.{normal_is}
 use Rattle.mau_program.specs.declared.program.Program as Typed

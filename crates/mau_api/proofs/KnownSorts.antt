@@ -14,7 +14,7 @@ use Rattle.mau_store.specs.Node.{Node}
 use Rattle.mau_sorts.specs.SortSets.{SortsOf}
 use Rattle.mau_sorts.specs.HasSort.{Known, HasSort, IsKnown}
 use Rattle.mau_sorts.specs.Table.{Table, entry_at}
-use Rattle.mau_sorts.specs.Laws.{IsBuiltAndAccepted}
+use Rattle.mau_sigcheck.specs.Built.{IsBuiltAndAccepted}
 use Rattle.mau_listing.specs.Asked.{IsTreeSettled}
 use Rattle.mau_listing.proofs.Answered.{normal_is}
 use Rattle.mau_listing.proofs.Readied.{CanBeSettled, AreSettled as EachSettled}

@@ -7,7 +7,7 @@ use Rattle.mau_poset.specs.Order.{Hierarchy, IsPoset, IsAtOrBelow}
 use Rattle.mau_signature.specs.Faults.{IsSort}
 use Rattle.mau_signature.specs.Signature.{SignatureOf, IsOperator, theory_at}
 use Rattle.mau_sorts.specs.HasSort.{Known, HasSort, NumeralHas, Gives, AllHave, ListHas}
-use Rattle.mau_sorts.specs.Laws.{IsBuiltAndAccepted}
+use Rattle.mau_sigcheck.specs.Built.{IsBuiltAndAccepted}
 use Rattle.mau_api.specs.SortLists.{is_at_or_below, sorts_above, sorts_of_numeral, sorts_over}
 
 -- the order of sorts is that by chains of subsort pairs, with the kinds on top

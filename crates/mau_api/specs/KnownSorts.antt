@@ -8,7 +8,7 @@ use Rattle.mau_store.specs.Node.{Node, AreNodes, Extends}
 use Rattle.mau_sorts.specs.HasSort.{Known, HasSort}
 use Rattle.mau_sorts.specs.Table.{Table, IsSettled, AreOver, KeepsEntries}
 use Rattle.mau_listing.specs.Asked.{IsTableOf, IsClosedTable, MaySettle}
-use Rattle.mau_sorts.specs.Laws.{IsBuiltAndAccepted}
+use Rattle.mau_sigcheck.specs.Built.{IsBuiltAndAccepted}
 use Rattle.mau_program.specs.declared.program.Program as Typed
 use Rattle.mau_evaluation.specs.Run.{done}
 use Rattle.mau_evaluation.specs.Program.{Program}

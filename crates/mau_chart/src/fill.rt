@@ -141,158 +141,131 @@ fn place_for(slot: usize, count: usize) -> usize
     if slot < count { slot } else { 0 }
 }
 
-/// Puts the fact k of the row i before the fact x of the row m, where this part stands there.
+/// What a chart is filled from: the productions, the number of the first item of each, and the leaves.
+#[derive(Clone, Copy)]
+struct Input<'a> {
+    alloc: Global,
+    productions: &'a [Production],
+    slots: &'a [usize],
+    leaves: &'a [Leaf],
+}
+
+/// A fact, by its row and its place there, and the row in which it ends.
+#[derive(Clone, Copy)]
+struct At {
+    row: usize,
+    fact: usize,
+    behind: usize,
+}
+
+/// Puts a fact before the fact x of the row behind it, where this part stands there.
 fn try_part(
     chart: &mut Chart,
-    alloc: Global,
-    productions: &[Production],
-    leaves: &[Leaf],
+    input: Input<'_>,
+    at: At,
     slot: usize,
     part: Item,
     item: Item,
-    i: usize,
-    k: usize,
-    m: usize,
     x: usize,
 ) -> Result<(), NoMemory>
     requires chart { IsChart chart.old }
-    requires row { i < length chart.old.rows.items }
-    requires first { k < length (cells chart.old.rows.items i) }
-    requires steps { (f : Edge) → slice_get (table chart.old i) k ≡ Some f → Steps productions.now f.item part item }
-    requires only { StepsOnly productions.now leaves.now (table chart.old) i k part item }
+    requires row { at.row < length chart.old.rows.items }
+    requires first { at.fact < length (cells chart.old.rows.items at.row) }
+    requires steps { (f : Edge) → slice_get (table chart.old at.row) at.fact ≡ Some f → Steps input.productions.now f.item part item }
+    requires only { StepsOnly input.productions.now input.leaves.now (table chart.old) at.row at.fact part item }
     ensures chart { OnOk result (IsChart chart.new) }
     ensures rows { OnOk result (length chart.new.rows.items ≡ length chart.old.rows.items) }
-    ensures combined { OnOk result (Combined productions.now leaves.now (table chart.old) (table chart.new) i k m (IsOne x part)) }
+    ensures combined { OnOk result (Combined input.entry.productions.now input.entry.leaves.now (table chart.old) (table chart.new) at.row at.fact at.behind (IsOne x part)) }
 {
-    if x >= chart.count(m) {
+    if x >= chart.count(at.behind) {
         return Ok(());
     }
-    if !chart.fact(m, x).item.is(part) {
+    if !chart.fact(at.behind, x).item.is(part) {
         return Ok(());
     }
-    chart.join(alloc, slot, i, k, m, x, item)?;
+    chart.join(input.alloc, slot, at.row, at.fact, at.behind, x, item)?;
     Ok(())
 }
 
 /// The same of a place, and marks its end where two facts are known then.
 fn try_place(
     chart: &mut Chart,
-    alloc: Global,
-    productions: &[Production],
-    leaves: &[Leaf],
+    input: Input<'_>,
+    at: At,
     slot: usize,
     mark: &mut Mark,
     part: Item,
     item: Item,
     place: Place,
-    i: usize,
-    k: usize,
-    m: usize,
 ) -> Result<(), NoMemory>
     requires chart { IsChart chart.old }
-    requires row { i < length chart.old.rows.items }
-    requires first { k < length (cells chart.old.rows.items i) }
-    requires steps { (f : Edge) → slice_get (table chart.old i) k ≡ Some f → Steps productions.now f.item part item }
-    requires only { StepsOnly productions.now leaves.now (table chart.old) i k part item }
-    requires mark { (mark.old.row ≡ i) × (mark.old.item ≡ item) }
+    requires row { at.row < length chart.old.rows.items }
+    requires first { at.fact < length (cells chart.old.rows.items at.row) }
+    requires steps { (f : Edge) → slice_get (table chart.old at.row) at.fact ≡ Some f → Steps input.productions.now f.item part item }
+    requires only { StepsOnly input.productions.now input.leaves.now (table chart.old) at.row at.fact part item }
+    requires mark { (mark.old.row ≡ at.row) × (mark.old.item ≡ item) }
     requires marked { IsMarked (table chart.old) mark.old }
     ensures chart { OnOk result (IsChart chart.new) }
     ensures rows { OnOk result (length chart.new.rows.items ≡ length chart.old.rows.items) }
-    ensures combined { OnOk result (Combined productions.now leaves.now (table chart.old) (table chart.new) i k m (IsOne place.at part)) }
-    ensures mark { OnOk result ((mark.new.row ≡ i) × (mark.new.item ≡ item)) }
+    ensures combined { OnOk result (Combined input.entry.productions.now input.entry.leaves.now (table chart.old) (table chart.new) at.row at.fact at.behind (IsOne place.at part)) }
+    ensures mark { OnOk result ((mark.new.row ≡ at.row) × (mark.new.item ≡ item)) }
     ensures marked { OnOk result (IsMarked (table chart.new) mark.new) }
 {
-    try_part(
-        chart,
-        alloc,
-        productions,
-        leaves,
-        slot,
-        part,
-        item,
-        i,
-        k,
-        m,
-        place.at,
-    )?;
-    if chart.is_full(slot, i, item, place.end) {
+    try_part(chart, input, at, slot, part, item, place.at)?;
+    if chart.is_full(slot, at.row, item, place.end) {
         mark.set(place.end);
     }
     Ok(())
 }
 
-/// Puts the fact k of the row i before each of these places of the row m, where this part stands there. Where a place ends, the
-/// mark tells whether there are two facts already.
+/// Puts a fact before each of these places of the row behind it, where this part stands there. Where a place ends, the mark tells
+/// whether there are two facts already.
 fn combine_places(
     chart: &mut Chart,
-    alloc: Global,
-    productions: &[Production],
-    leaves: &[Leaf],
+    input: Input<'_>,
+    at: At,
     slot: usize,
     mark: &mut Mark,
     part: Item,
     item: Item,
     places: &[Place],
-    i: usize,
-    k: usize,
-    m: usize,
 ) -> Result<(), NoMemory>
     requires chart { IsChart chart.old }
-    requires row { i < length chart.old.rows.items }
-    requires first { k < length (cells chart.old.rows.items i) }
-    requires other { m ≢ i }
-    requires steps { (f : Edge) → slice_get (table chart.old i) k ≡ Some f → Steps productions.now f.item part item }
-    requires only { StepsOnly productions.now leaves.now (table chart.old) i k part item }
-    requires mark { (mark.old.row ≡ i) × (mark.old.item ≡ item) }
+    requires row { at.row < length chart.old.rows.items }
+    requires first { at.fact < length (cells chart.old.rows.items at.row) }
+    requires other { at.behind ≢ at.row }
+    requires steps { (f : Edge) → slice_get (table chart.old at.row) at.fact ≡ Some f → Steps input.productions.now f.item part item }
+    requires only { StepsOnly input.productions.now input.leaves.now (table chart.old) at.row at.fact part item }
+    requires mark { (mark.old.row ≡ at.row) × (mark.old.item ≡ item) }
     requires marked { IsMarked (table chart.old) mark.old }
     ensures chart { OnOk result (IsChart chart.new) }
     ensures rows { OnOk result (length chart.new.rows.items ≡ length chart.old.rows.items) }
-    ensures combined { OnOk result (Combined productions.now leaves.now (table chart.old) (table chart.new) i k m (IsAmong places.now part (length places.now))) }
+    ensures combined { OnOk result (Combined input.entry.productions.now input.entry.leaves.now (table chart.old) (table chart.new) at.row at.fact at.behind (IsAmong places.now part (length places.now))) }
     ensures marked { OnOk result (IsMarked (table chart.new) mark.new) }
 {
     let mut z = next_open(&mark.full, places, 0);
     while z < places.len() {
-        try_place(
-            chart,
-            alloc,
-            productions,
-            leaves,
-            slot,
-            mark,
-            part,
-            item,
-            places[z],
-            i,
-            k,
-            m,
-        )?;
+        try_place(chart, input, at, slot, mark, part, item, places[z])?;
         z = next_open(&mark.full, places, z + 1);
     }
     Ok(())
 }
 
 /// Puts what comes of a part that has all its pieces.
-fn complete(
-    chart: &mut Chart,
-    alloc: Global,
-    productions: &[Production],
-    slots: &[usize],
-    i: usize,
-    k: usize,
-) -> Result<(), NoMemory>
+fn complete(chart: &mut Chart, input: Input<'_>, i: usize, k: usize) -> Result<(), NoMemory>
     requires chart { IsChart chart.old }
     requires row { i < length chart.old.rows.items }
     requires first { k < length (cells chart.old.rows.items i) }
     ensures chart { OnOk result (IsChart chart.new) }
     ensures rows { OnOk result (length chart.new.rows.items ≡ length chart.old.rows.items) }
-    ensures completed { OnOk result (Completed productions.now (table chart.old) (table chart.new) i k) }
+    ensures completed { OnOk result (Completed input.entry.productions.now (table chart.old) (table chart.new) i k) }
 {
     let item = chart.fact(i, k).item;
-    match lift_of(productions, item) {
+    match lift_of(input.productions, item) {
         None => Ok(()),
         Some((whole, op)) => {
-            let slot = end_slot(productions, slots, item);
-            chart.lift(alloc, slot, i, k, whole, op)?;
+            let slot = end_slot(input.productions, input.slots, item);
+            chart.lift(input.alloc, slot, i, k, whole, op)?;
             Ok(())
         }
     }
@@ -313,105 +286,69 @@ fn end_slot(productions: &[Production], slots: &[usize], item: Item) -> usize {
     }
 }
 
-/// Puts the fact k of the row i, which is this whole and ends at m, before the parts of a group of the row m.
+/// Puts a fact, which is this whole, before the parts of a group of the row behind it.
 fn combine_group(
     chart: &mut Chart,
-    alloc: Global,
-    productions: &[Production],
-    slots: &[usize],
-    leaves: &[Leaf],
+    input: Input<'_>,
+    at: At,
     mask: &[bool],
     marks: &mut [Mark],
     group: &Group,
     whole: Item,
-    i: usize,
-    k: usize,
-    m: usize,
 ) -> Result<(), NoMemory>
     requires chart { IsChart chart.old }
-    requires mask { IsMask productions.now leaves.now i mask.now }
-    requires row { i < length chart.old.rows.items }
-    requires first { k < length (cells chart.old.rows.items i) }
-    requires whole { (f : Edge) → slice_get (table chart.old i) k ≡ Some f → f.item ≡ whole }
-    requires other { m ≢ i }
+    requires mask { IsMask input.productions.now input.leaves.now at.row mask.now }
+    requires row { at.row < length chart.old.rows.items }
+    requires first { at.fact < length (cells chart.old.rows.items at.row) }
+    requires whole { (f : Edge) → slice_get (table chart.old at.row) at.fact ≡ Some f → f.item ≡ whole }
+    requires other { at.behind ≢ at.row }
     requires some { 0 < length marks.old }
     requires marked { AllMarked (table chart.old) marks.old }
     ensures chart { OnOk result (IsChart chart.new) }
     ensures rows { OnOk result (length chart.new.rows.items ≡ length chart.old.rows.items) }
-    ensures combined { OnOk result (Combined productions.now leaves.now (table chart.old) (table chart.new) i k m (IsAmong group.now.parts.items group.now.item (length group.now.parts.items))) }
+    ensures combined { OnOk result (Combined input.entry.productions.now input.entry.leaves.now (table chart.old) (table chart.new) at.row at.fact at.behind (IsAmong group.now.parts.items group.now.item (length group.now.parts.items))) }
     ensures marked { OnOk result (AllMarked (table chart.new) marks.new) }
 {
-    match step_of(productions, mask, whole, group.item) {
+    match step_of(input.productions, mask, whole, group.item) {
         None => Ok(()),
         Some(item) => {
-            let slot = slot_of(slots, item);
+            let slot = slot_of(input.slots, item);
             let mark = &mut marks[place_for(slot, marks.len())];
-            mark.turn(i, item, chart.width)?;
+            mark.turn(at.row, item, chart.width)?;
             if mark.has_all(group) {
                 return Ok(());
             }
-            combine_places(
-                chart,
-                alloc,
-                productions,
-                leaves,
-                slot,
-                mark,
-                group.item,
-                item,
-                &group.parts,
-                i,
-                k,
-                m,
-            )?;
+            combine_places(chart, input, at, slot, mark, group.item, item, &group.parts)?;
             Ok(())
         }
     }
 }
 
-/// Puts the fact k of the row i, which is this whole and ends at m, before the parts of the row m, which are these groups.
+/// Puts a fact, which is this whole, before the parts of the row behind it, which are these groups.
 fn combine(
     chart: &mut Chart,
-    alloc: Global,
-    productions: &[Production],
-    slots: &[usize],
-    leaves: &[Leaf],
+    input: Input<'_>,
+    at: At,
     mask: &[bool],
     marks: &mut [Mark],
     groups: &[Group],
     whole: Item,
-    i: usize,
-    k: usize,
-    m: usize,
 ) -> Result<(), NoMemory>
     requires chart { IsChart chart.old }
-    requires mask { IsMask productions.now leaves.now i mask.now }
-    requires row { i < length chart.old.rows.items }
-    requires first { k < length (cells chart.old.rows.items i) }
-    requires whole { (f : Edge) → slice_get (table chart.old i) k ≡ Some f → f.item ≡ whole }
-    requires other { m ≢ i }
+    requires mask { IsMask input.productions.now input.leaves.now at.row mask.now }
+    requires row { at.row < length chart.old.rows.items }
+    requires first { at.fact < length (cells chart.old.rows.items at.row) }
+    requires whole { (f : Edge) → slice_get (table chart.old at.row) at.fact ≡ Some f → f.item ≡ whole }
+    requires other { at.behind ≢ at.row }
     requires some { 0 < length marks.old }
     requires marked { AllMarked (table chart.old) marks.old }
     ensures chart { OnOk result (IsChart chart.new) }
     ensures rows { OnOk result (length chart.new.rows.items ≡ length chart.old.rows.items) }
-    ensures combined { OnOk result (Combined productions.now leaves.now (table chart.old) (table chart.new) i k m (IsGrouped groups.now (length groups.now))) }
+    ensures combined { OnOk result (Combined input.entry.productions.now input.entry.leaves.now (table chart.old) (table chart.new) at.row at.fact at.behind (IsGrouped groups.now (length groups.now))) }
     ensures marked { OnOk result (AllMarked (table chart.new) marks.new) }
 {
     for w in 0..groups.len() {
-        combine_group(
-            chart,
-            alloc,
-            productions,
-            slots,
-            leaves,
-            mask,
-            marks,
-            &groups[w],
-            whole,
-            i,
-            k,
-            m,
-        )?;
+        combine_group(chart, input, at, mask, marks, &groups[w], whole)?;
     }
     Ok(())
 }
@@ -419,10 +356,7 @@ fn combine(
 /// Does what is to be done with the fact k of the row i.
 fn process(
     chart: &mut Chart,
-    alloc: Global,
-    productions: &[Production],
-    slots: &[usize],
-    leaves: &[Leaf],
+    input: Input<'_>,
     mask: &[bool],
     marks: &mut [Mark],
     index: &[Vec<Group>],
@@ -432,19 +366,19 @@ fn process(
 ) -> Result<(), NoMemory>
     requires chart { IsChart chart.old }
     requires index { AreIndexed (table chart.old) n i index.now }
-    requires mask { IsMask productions.now leaves.now i mask.now }
+    requires mask { IsMask input.productions.now input.leaves.now i mask.now }
     requires row { i < length chart.old.rows.items }
     requires first { k < length (cells chart.old.rows.items i) }
-    requires sound { AreSound productions.now leaves.now (table chart.old) }
-    requires leaves { AreLeaves leaves.now n }
-    requires forms { AreForms productions.now }
+    requires sound { AreSound input.productions.now input.leaves.now (table chart.old) }
+    requires leaves { AreLeaves input.leaves.now n }
+    requires forms { AreForms input.productions.now }
     requires some { 0 < length marks.old }
     requires marked { AllMarked (table chart.old) marks.old }
     ensures chart { OnOk result (IsChart chart.new) }
     ensures rows { OnOk result (length chart.new.rows.items ≡ length chart.old.rows.items) }
     ensures grows { OnOk result (Grows (table chart.old) (table chart.new) i) }
-    ensures sound { OnOk result (AreSound productions.now leaves.now (table chart.new)) }
-    ensures processed { OnOk result (Processed productions.now leaves.now (table chart.new) i k) }
+    ensures sound { OnOk result (AreSound input.entry.productions.now input.entry.leaves.now (table chart.new)) }
+    ensures processed { OnOk result (Processed input.entry.productions.now input.entry.leaves.now (table chart.new) i k) }
     ensures marked { OnOk result (AllMarked (table chart.new) marks.new) }
 {
     let fact = chart.fact(i, k);
@@ -453,24 +387,16 @@ fn process(
     match item {
         Item::Whole(_, _) => {
             let groups = groups_of(index, n - end);
-            combine(
-                chart,
-                alloc,
-                productions,
-                slots,
-                leaves,
-                mask,
-                marks,
-                groups,
-                item,
-                i,
-                k,
-                end,
-            )?;
+            let at = At {
+                row: i,
+                fact: k,
+                behind: end,
+            };
+            combine(chart, input, at, mask, marks, groups, item)?;
             Ok(())
         }
         Item::Part(_, _) => {
-            complete(chart, alloc, productions, slots, i, k)?;
+            complete(chart, input, i, k)?;
             Ok(())
         }
     }
@@ -479,10 +405,7 @@ fn process(
 /// Does what is to be done with each fact of the row i, those that come of it too.
 fn saturate(
     chart: &mut Chart,
-    alloc: Global,
-    productions: &[Production],
-    slots: &[usize],
-    leaves: &[Leaf],
+    input: Input<'_>,
     mask: &[bool],
     marks: &mut [Mark],
     index: &[Vec<Group>],
@@ -491,88 +414,62 @@ fn saturate(
 ) -> Result<(), NoMemory>
     requires chart { IsChart chart.old }
     requires index { AreIndexed (table chart.old) n i index.now }
-    requires mask { IsMask productions.now leaves.now i mask.now }
+    requires mask { IsMask input.productions.now input.leaves.now i mask.now }
     requires row { i < length chart.old.rows.items }
-    requires sound { AreSound productions.now leaves.now (table chart.old) }
-    requires leaves { AreLeaves leaves.now n }
-    requires forms { AreForms productions.now }
+    requires sound { AreSound input.productions.now input.leaves.now (table chart.old) }
+    requires leaves { AreLeaves input.leaves.now n }
+    requires forms { AreForms input.productions.now }
     requires some { 0 < length marks.old }
     requires marked { AllMarked (table chart.old) marks.old }
     ensures chart { OnOk result (IsChart chart.new) }
     ensures rows { OnOk result (length chart.new.rows.items ≡ length chart.old.rows.items) }
     ensures grows { OnOk result (Grows (table chart.old) (table chart.new) i) }
-    ensures sound { OnOk result (AreSound productions.now leaves.now (table chart.new)) }
-    ensures done { OnOk result (IsDone productions.now leaves.now (table chart.new) i (length (table chart.new i))) }
+    ensures sound { OnOk result (AreSound input.entry.productions.now input.entry.leaves.now (table chart.new)) }
+    ensures done { OnOk result (IsDone input.entry.productions.now input.entry.leaves.now (table chart.new) i (length (table chart.new i))) }
     ensures marked { OnOk result (AllMarked (table chart.new) marks.new) }
 {
     for k in 0..usize::MAX {
         if k >= chart.count(i) {
             return Ok(());
         }
-        process(
-            chart,
-            alloc,
-            productions,
-            slots,
-            leaves,
-            mask,
-            marks,
-            index,
-            n,
-            i,
-            k,
-        )?;
+        process(chart, input, mask, marks, index, n, i, k)?;
     }
     let _count = chart.count(i);
     Ok(())
 }
 
 /// Puts the leaves that begin at i.
-fn begin(chart: &mut Chart, alloc: Global, leaves: &[Leaf], i: usize) -> Result<(), NoMemory>
+fn begin(chart: &mut Chart, input: Input<'_>, i: usize) -> Result<(), NoMemory>
     requires chart { IsChart chart.old }
     requires row { i < length chart.old.rows.items }
     ensures chart { OnOk result (IsChart chart.new) }
     ensures rows { OnOk result (length chart.new.rows.items ≡ length chart.old.rows.items) }
-    ensures begun { OnOk result (Begun leaves.now (table chart.old) (table chart.new) i (length leaves.now)) }
+    ensures begun { OnOk result (Begun input.entry.leaves.now (table chart.old) (table chart.new) i (length input.entry.leaves.now)) }
 {
-    for k in 0..leaves.len() {
-        let leaf = leaves[k];
+    for k in 0..input.leaves.len() {
+        let leaf = input.leaves[k];
         if leaf.start == i {
-            chart.say(
-                alloc,
-                0,
-                i,
-                Item::Whole(leaf.kind, leaf.level),
-                leaf.end,
-                leaf.said,
-            )?;
+            let item = Item::Whole(leaf.kind, leaf.level);
+            chart.say(input.alloc, 0, i, item, leaf.end, leaf.said)?;
         }
     }
     Ok(())
 }
 
 /// Puts the ends of the productions whose last piece may end here.
-fn finish(
-    chart: &mut Chart,
-    alloc: Global,
-    productions: &[Production],
-    slots: &[usize],
-    leaves: &[Leaf],
-    mask: &[bool],
-    i: usize,
-) -> Result<(), NoMemory>
+fn finish(chart: &mut Chart, input: Input<'_>, mask: &[bool], i: usize) -> Result<(), NoMemory>
     requires chart { IsChart chart.old }
-    requires mask { IsMask productions.now leaves.now i mask.now }
+    requires mask { IsMask input.productions.now input.leaves.now i mask.now }
     requires row { i < length chart.old.rows.items }
     ensures chart { OnOk result (IsChart chart.new) }
     ensures rows { OnOk result (length chart.new.rows.items ≡ length chart.old.rows.items) }
-    ensures ended { OnOk result (Ended productions.now leaves.now (table chart.old) (table chart.new) i (length productions.now)) }
+    ensures ended { OnOk result (Ended input.entry.productions.now input.entry.leaves.now (table chart.old) (table chart.new) i (length input.entry.productions.now)) }
 {
-    for k in 0..productions.len() {
-        let item = Item::Part(k, productions[k].pieces.len());
-        if is_wanted(productions, mask, item) {
-            let slot = slot_of(slots, item);
-            chart.say(alloc, slot, i, item, i, Said::Word)?;
+    for k in 0..input.productions.len() {
+        let item = Item::Part(k, input.productions[k].pieces.len());
+        if is_wanted(input.productions, mask, item) {
+            let slot = slot_of(input.slots, item);
+            chart.say(input.alloc, slot, i, item, i, Said::Word)?;
         }
     }
     Ok(())
@@ -581,10 +478,7 @@ fn finish(
 /// Fills the row i, where those behind it are full.
 fn fill_row(
     chart: &mut Chart,
-    alloc: Global,
-    productions: &[Production],
-    slots: &[usize],
-    leaves: &[Leaf],
+    input: Input<'_>,
     marks: &mut [Mark],
     index: &[Vec<Group>],
     kinds: usize,
@@ -594,33 +488,22 @@ fn fill_row(
     requires chart { IsChart chart.old }
     requires index { AreIndexed (table chart.old) n i index.now }
     requires row { i < length chart.old.rows.items }
-    requires sound { AreSound productions.now leaves.now (table chart.old) }
-    requires leaves { AreLeaves leaves.now n }
-    requires forms { AreForms productions.now }
+    requires sound { AreSound input.productions.now input.leaves.now (table chart.old) }
+    requires leaves { AreLeaves input.leaves.now n }
+    requires forms { AreForms input.productions.now }
     requires some { 0 < length marks.old }
     requires marked { AllMarked (table chart.old) marks.old }
     ensures chart { OnOk result (IsChart chart.new) }
     ensures rows { OnOk result (length chart.new.rows.items ≡ length chart.old.rows.items) }
     ensures grows { OnOk result (Grows (table chart.old) (table chart.new) i) }
-    ensures sound { OnOk result (AreSound productions.now leaves.now (table chart.new)) }
-    ensures full { OnOk result (IsRow productions.now leaves.now (table chart.new) i) }
+    ensures sound { OnOk result (AreSound input.entry.productions.now input.entry.leaves.now (table chart.new)) }
+    ensures full { OnOk result (IsRow input.entry.productions.now input.entry.leaves.now (table chart.new) i) }
     ensures marked { OnOk result (AllMarked (table chart.new) marks.new) }
 {
-    let mask = mask_of(alloc, productions, leaves, kinds, i)?;
-    begin(chart, alloc, leaves, i)?;
-    finish(chart, alloc, productions, slots, leaves, &mask, i)?;
-    saturate(
-        chart,
-        alloc,
-        productions,
-        slots,
-        leaves,
-        &mask,
-        marks,
-        index,
-        n,
-        i,
-    )?;
+    let mask = mask_of(input.alloc, input.productions, input.leaves, kinds, i)?;
+    begin(chart, input, i)?;
+    finish(chart, input, &mask, i)?;
+    saturate(chart, input, &mask, marks, index, n, i)?;
     Ok(())
 }
 
@@ -655,23 +538,18 @@ pub fn fill(
     ensures sound { OnOk result (AreSound productions.now leaves.now (table chart.new)) }
     ensures closed { OnOk result (Closed productions.now leaves.now n (table chart.new) 0) }
 {
+    let input = Input {
+        alloc,
+        productions,
+        slots,
+        leaves,
+    };
     let kinds = count_kinds(productions);
     let mut marks = no_marks(alloc, count)?;
     let mut index = Vec::new(alloc);
     let rows = chart.rows.len();
     for r in 0..rows {
-        fill_row(
-            chart,
-            alloc,
-            productions,
-            slots,
-            leaves,
-            &mut marks,
-            &index,
-            kinds,
-            n,
-            n - r,
-        )?;
+        fill_row(chart, input, &mut marks, &index, kinds, n, n - r)?;
         index.push(group_row(alloc, chart, n - r)?)?;
     }
     Ok(())

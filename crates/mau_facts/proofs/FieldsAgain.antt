@@ -22,7 +22,7 @@ use Rattle.mau_facts.specs.declared.entry.Entry.{Entry}
 use Rattle.mau_facts.specs.declared.entry.Entry.TheVariants as entries
 use Rattle.mau_facts.specs.declared.entry.Place.{Place}
 use Rattle.mau_facts.specs.declared.entry.Place.TheVariants.{Outside, AmongTerms, AmongFacts}
-use Rattle.mau_facts.specs.Numerals.{is_numeral}
+use Rattle.mau_numerals.specs.Numerals.{is_numeral}
 use Rattle.mau_facts.specs.LineReading.{and_then, number_in, number_at, small_at, great_at, name_at, variable_at, numbers_at, word_at, first_word, ended}
 use Rattle.mau_facts.specs.Fields.{Field, word, number, numeral, name, variable, in_range, is_name, is_variable, each, kind_word, term_fields, fact_fields, HasForm}
 use Rattle.mau_facts.specs.Lines.{entry_fields}

@@ -1,4 +1,3 @@
-pub mod Decimals
 pub mod NumberLists
 pub mod FieldsRead
 pub mod FieldsAgain

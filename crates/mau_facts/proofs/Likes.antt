@@ -14,7 +14,7 @@ use Rattle.mau_facts.specs.declared.entry.Entry.{Entry}
 use Rattle.mau_facts.specs.declared.entry.Entry.TheVariants as entries
 use Rattle.mau_facts.specs.declared.entry.Place.{Place}
 use Rattle.mau_facts.specs.declared.entry.Place.TheVariants.{Outside, AmongTerms, AmongFacts}
-use Rattle.mau_facts.specs.Numerals.{is_numeral}
+use Rattle.mau_numerals.specs.Numerals.{is_numeral}
 use Rattle.mau_facts.specs.Fields.{Field, word, number, numeral, name, variable, in_range, each, term_fields, fact_fields, IsLikeWordOf, AreWordsOf, HasForm}
 use Rattle.mau_facts.specs.Lines.{entry_fields}
 use Rattle.mau_facts.specs.FactReading.{entry_at, size_at}

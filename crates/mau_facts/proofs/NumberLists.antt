@@ -11,7 +11,7 @@ use Rattle.mau_facts.specs.declared.fault.LineFault.TheVariants.{Unexpected, Bad
 use Rattle.mau_facts.specs.declared.fields.Range.{Range}
 use Rattle.mau_facts.specs.declared.fields.Range.TheVariants.{Small}
 use Rattle.mau_facts.specs.declared.fields.Limits.{Limits}
-use Rattle.mau_facts.specs.Numerals.{is_numeral}
+use Rattle.mau_numerals.specs.Numerals.{is_numeral}
 use Rattle.mau_facts.specs.LineReading.{and_then, ◌>>=◌, Fails, texts, number_in, number_at, numbers_at}
 
 -- ---- lists of numbers

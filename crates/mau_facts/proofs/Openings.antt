@@ -13,7 +13,7 @@ use Rattle.mau_facts.specs.Documents.{words, AreLines, joined, head, IsDocument}
 use Rattle.mau_facts.specs.FactReading.{size_at, limits_of}
 use Rattle.mau_facts.specs.Spelling.{spelled}
 use Rattle.mau_facts.specs.Fronts.{run, start, opening, IsTextLineOf, AreSections}
-use Rattle.mau_facts.proofs.Decimals.{decimal-injective}
+use Rattle.mau_numerals.proofs.Decimals.{decimal-injective}
 use Rattle.mau_facts.proofs.Spellings.{size_fields, size_spelled, spelled_so}
 use Rattle.mau_facts.proofs.Entries.{size_found, size_only}
 use Rattle.mau_facts.proofs.Runs.{front, run_found, run_only}

@@ -19,7 +19,7 @@ use Rattle.mau_facts.specs.Fields.{Field, word, number, numeral, name, variable,
 use Rattle.mau_facts.specs.Lines.{entry_fields}
 use Rattle.mau_facts.specs.Documents.{words}
 use Rattle.mau_facts.specs.Spelling.{behind, spelled}
-use Rattle.mau_facts.proofs.Decimals.{decimal-digits, digit_low}
+use Rattle.mau_numerals.proofs.Decimals.{decimal-digits, digit_low}
 use Rattle.mau_facts.proofs.Strict.{below}
 use Rattle.mau_facts.proofs.Feeds.{IsOne}
 

@@ -1,5 +1,5 @@
 -- Where numbers are read as they stand, a word is read as a field exactly where it is the word of this field.
-use Rattle.std.proofs.Common.{◌≡◌, ℕ, ◌^◌, ◌<◌, ◌≤◌, List, [], ◌∷◌, Bool, true, false, cond, None, Result, Ok, Err, decimal, refl, sym, ap, ◌∙◌, arith, nat_lt}
+use Rattle.std.proofs.Common.{◌≡◌, ℕ, ◌-◌, ◌^◌, ◌<◌, ◌≤◌, List, [], ◌∷◌, Bool, true, false, cond, None, Result, Ok, Err, decimal, refl, sym, ap, ◌∙◌, arith, nat_lt}
 use Rattle.std.specs.Str.Parse.{digits_value}
 use Rattle.std.proofs.lemmas.Bool.{and_left, and_parts, le-ltb, lt-ltb, ltb-true}
 use Rattle.mau_facts.specs.declared.fault.LineFault.{LineFault}
@@ -7,11 +7,11 @@ use Rattle.mau_facts.specs.declared.fault.LineFault.TheVariants.{Unexpected, Bad
 use Rattle.mau_facts.specs.declared.fields.Range.{Range}
 use Rattle.mau_facts.specs.declared.fields.Range.TheVariants.{Small, Term, Fact, NextTerm, NextFact}
 use Rattle.mau_facts.specs.declared.fields.Limits.{Limits}
-use Rattle.mau_facts.specs.Numerals.{is_numeral}
-use Rattle.mau_facts.specs.LineReading.{number_below}
+use Rattle.mau_numerals.specs.Numerals.{is_numeral, number_up_to}
 use Rattle.mau_facts.specs.LineReading.{number_in, great_in}
 use Rattle.mau_facts.specs.Fields.{Field, word, number, numeral, name, variable, in_range, IsWordOf, AreWordsOf}
-use Rattle.mau_facts.proofs.Decimals.{great, decimal-numeral, decimal-value, numeral-decimal}
+use Rattle.mau_numerals.proofs.Numbers.{great}
+use Rattle.mau_numerals.proofs.Decimals.{decimal-numeral, decimal-value, numeral-decimal}
 use Rattle.mau_facts.proofs.FieldsRead.{IsReadAs}
 
 -- a word as a number that passes a test, where the reader may be lenient
@@ -29,10 +29,10 @@ bad_number lenient test w n s e =
     ∙ ap (λ b. cond b (Ok (digits_value 10 w)) (Err BadNumber)) e
 
 -- a number of 128 bits or more is in no range
-pub too_great : (terms facts : ℕ) (r : Range) (w : List ℕ) → is_numeral w ≡ true → None ≡ number_below (2 ^ 128) w → in_range terms facts r (digits_value 10 w) ≡ false
-too_great terms facts r w n e = over r (great (2 ^ 128) w n e)
+pub too_great : (terms facts : ℕ) (r : Range) (w : List ℕ) → is_numeral w ≡ true → None ≡ number_up_to (2 ^ 128 - 1) w → in_range terms facts r (digits_value 10 w) ≡ false
+too_great terms facts r w n e = over r (great (2 ^ 128 - 1) w n e)
   where
-    over : (r : Range) → 2 ^ 128 ≤ digits_value 10 w → in_range terms facts r (digits_value 10 w) ≡ false
+    over : (r : Range) → 2 ^ 128 - 1 < digits_value 10 w → in_range terms facts r (digits_value 10 w) ≡ false
     over Small h = le-ltb (digits_value 10 w) 4294967296 (omega arith)
     over Term h = and_left (nat_lt (digits_value 10 w) 18446744073709551616) _ (le-ltb (digits_value 10 w) 18446744073709551616 (omega arith))
     over NextTerm h = and_left (nat_lt (digits_value 10 w) 18446744073709551616) _ (le-ltb (digits_value 10 w) 18446744073709551616 (omega arith))

@@ -8,7 +8,7 @@ use Rattle.mau_facts.specs.declared.document.Fact.{Fact as FactOf}
 use Rattle.mau_facts.specs.declared.document.Fact.TheVariants.{Same, Step, Built, Under, Chain, SortDecl, SortMb}
 use Rattle.mau_facts.specs.declared.document.TermLine.{TermLine}
 use Rattle.mau_facts.specs.declared.document.TermLine.TheVariants.{Num, Var, App}
-use Rattle.mau_facts.specs.Numerals.{is_numeral}
+use Rattle.mau_numerals.specs.Numerals.{is_numeral}
 
 -- a word that always stands there, or a number of some range
 pub data Field : Type 0 where

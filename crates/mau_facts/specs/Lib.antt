@@ -1,7 +1,6 @@
 -- What a document of facts is, to be read in this order.
 
--- numbers as words, the fields of a line, the lines of a section
-pub mod Numerals
+-- the fields of a line, the lines of a section
 pub mod Fields
 pub mod Lines
 -- documents, and the first line that none has

@@ -9,7 +9,7 @@ use Rattle.mau_facts.specs.declared.fault.LineError.TheVariants as errors
 use Rattle.mau_facts.specs.declared.fields.Range.{Range}
 use Rattle.mau_facts.specs.declared.fields.Range.TheVariants.{Small}
 use Rattle.mau_facts.specs.declared.fields.Limits.{Limits}
-use Rattle.mau_facts.specs.Numerals.{is_numeral}
+use Rattle.mau_numerals.specs.Numerals.{is_numeral}
 use Rattle.mau_facts.specs.Fields.{in_range, is_name, is_variable}
 
 -- what follows, where nothing failed
@@ -35,10 +35,6 @@ abbrev pub texts : List (Bor (List ℕ)) → List (List ℕ)
 texts ws = map (λ w. w.now) ws
 
 -- ---- numbers
-
--- the number that a word is, if it is one below a limit
-abbrev pub number_below : ℕ → List ℕ → Option ℕ
-number_below limit w = if is_numeral w && nat_lt (digits_value 10 w) limit then Some (digits_value 10 w) else None
 
 abbrev pub number_in : Limits → Range → List ℕ → Result ℕ LineFault
 number_in l r w =

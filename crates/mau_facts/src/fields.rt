@@ -6,7 +6,7 @@ ghost use Rattle.mau_facts.specs.Fields;
 ghost use Rattle.mau_facts.specs.Fields.{in_range, is_name, is_variable};
 
 use crate::fault::{LineError, LineFault};
-use crate::numbers::{great_number, is_numeral};
+use mau_numerals::{great_number, is_numeral};
 use mau_terms::{Seq, Text};
 use std::alloc::Global;
 

@@ -9,7 +9,6 @@ mod fault;
 mod fields;
 pub mod laws;
 mod line;
-mod numbers;
 mod progress;
 mod read;
 mod show;

@@ -20,6 +20,7 @@ use Rattle.mau_domains.specs.Parts.{just}
 use Rattle.mau_match.specs.Parts.{AnyOf, occurs, occurs_among, parts_of, IsFairAt, IsFair, AreFair}
 use Rattle.mau_match.specs.Given.{given_variables, given_at}
 use Rattle.mau_match.specs.Laws.{PartsHoldAnswers}
+use Rattle.mau_match.specs.Possible.{Agrees}
 use Rattle.mau_match.proofs.Fair.{bare_fair}
 use Rattle.mau_match.proofs.Occurring.{occurring_among, instance_along, instances_along}
 use Rattle.mau_match.proofs.NothingMissed.{walk}
@@ -97,11 +98,11 @@ module _ (th : ℕ → Theory) (g h : Variable → Tree) where
 
 -- ---- what is given agrees with an answer
 
-abbrev Agrees : (Variable → Tree) → List (Variable × Tree) → Variable → Type 0
-Agrees F bs y = (b : Variable × Tree) → Contains bs b → b.0 ≡ y → F b.0 ≡ b.1
+abbrev AgreesAt : (Variable → Tree) → List (Variable × Tree) → Variable → Type 0
+AgreesAt F bs y = (b : Variable × Tree) → Contains bs b → b.0 ≡ y → F b.0 ≡ b.1
 
 given_agrees : (F : Variable → Tree) (bs : List (Variable × Tree)) (xs zs : List Variable) (vs ws : List Tree) (y : Variable) → length xs ≡ length vs
-    → Agrees F bs y → value_at (xs ++ zs) (vs ++ ws) y ≡ F y
+    → AgreesAt F bs y → value_at (xs ++ zs) (vs ++ ws) y ≡ F y
     → has_variable (map {B = Variable} (λ b. b.0) bs ++ xs) y ≡ true → value_at (map {B = Variable} (λ b. b.0) bs ++ xs) (map {B = Tree} (λ b. b.1) bs ++ vs) y ≡ F y
 given_agrees F [] xs zs vs ws y l a e h = value_of_front xs zs vs ws y l h ∙ e
 given_agrees F (b ∷ bs) xs zs vs ws y l a e h =
@@ -162,6 +163,10 @@ module _ (s : SignatureOf) (lawful : IsLawful (terms_over s)) (P : ℕ → Tree 
       let whole : norm th (instance gg p) ≡ q.subject = ap (norm th) (sym (instance_along F gg p same)) ∙ a.whole in
       let found : AnyOf th (parts_of th ys g x p (just q.subject)) (norm th (gg x)) = walk th lawful.theories ys g gg x agree p fair (occurs_has x p occ) (just q.subject) whole in
       subst (AnyOf th (parts_of th ys g x p (just q.subject))) (ap (norm th) at ∙ norm_at th vs u us a.normal) found
+
+  -- no test may say that the values of the answer are impossible
+  pub not_impossible : ((gg' : Variable → Tree) → Agrees (theory_at s) (given_variables q xs) (given_at q xs vs) gg' → IsFair (theory_at s) gg' q.pattern → norm (theory_at s) (instance gg' q.pattern) ≡ q.subject → ⊥) → ⊥
+  not_impossible h = h gg agree fair (ap (norm (theory_at s)) (sym (instance_along F gg q.pattern same)) ∙ a.whole)
 
 pub parts_hold_answers : PartsHoldAnswers
 parts_hold_answers s lawful known q xs x zs ev vs l u us a = value_is_of_part s lawful (BySort s known) q xs x zs ev vs l u us a

@@ -1,13 +1,13 @@
 -- A pattern that matches a part of a list.
-use Rattle.std.proofs.Common.{◌≡◌, ℕ, List, [], ◌∷◌, ◌++◌, Bool, true, false, refl, sym, ◌∙◌, ap}
+use Rattle.std.proofs.Common.{◌≡◌, ℕ, List, [], ◌++◌, Bool, true, false, refl, sym, ◌∙◌, ap}
 use Rattle.mau_terms.specs.Tree.{Tree}
 use Rattle.mau_terms.specs.Norm.{arrange, norm}
 use Rattle.mau_terms.specs.Lawful.{AreLawful}
 use Rattle.mau_terms.specs.Bare.{TermSignature}
 use Rattle.mau_terms.specs.Subst.{with_values}
-use Rattle.mau_terms.specs.Solution.{list_under, ArePieces, FitsUnder}
+use Rattle.mau_terms.specs.Solution.{list_under, FitsUnder}
 use Rattle.mau_terms.specs.declared.theory.Theory.{Theory}
-use Rattle.mau_terms.proofs.Pieces.{Each, Each-append, IsPiece, arrange-arrange}
+use Rattle.mau_terms.proofs.Pieces.{Each-append, IsPiece, arrange-arrange}
 use Rattle.mau_terms.proofs.Normal.{norm_normal, whole_pieces}
 use Rattle.mau_terms.proofs.Solutions.{list_of_made, each_piece}
 use Rattle.mau_domains.specs.Parts.{front, some_of, IsOf}

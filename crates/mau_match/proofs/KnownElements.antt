@@ -11,6 +11,7 @@ use Rattle.mau_terms.specs.declared.theory.Theory.{Theory}
 use Rattle.mau_terms.proofs.Sorting.{sort-sort}
 use Rattle.mau_terms.proofs.Normal.{norms_normal}
 use Rattle.mau_match.specs.Parts.{is_bound, are_bound, known, known_in}
+use Rattle.mau_match.specs.Possible.{free, frees}
 use Rattle.mau_match.proofs.Removal.{more_right}
 use Rattle.mau_match.proofs.Builds.{list_of_built}
 use Rattle.mau_domains.proofs.Reached.{more_left, past}
@@ -92,6 +93,28 @@ module _ (th : ℕ → Theory) (bound : List Variable) (g gg : Variable → Tree
             same = joined (list_under (th f) f (norm th (instance gg p))) (all_pieces (th f).assoc (th f).id f (norms th (instances gg ps))) (known th bound g x f p) h.more (known_in th bound g x f ps) k.more h.same k.same;
             none = λ b. let e = and_parts (is_bound bound p) (are_bound bound ps) b in ap₂ (λ v w. v ++ w) (h.none e.0) (k.none e.1);
           }
+
+    -- a list has what is known of it and what is not
+    mutual
+      pub free_known : (p : Tree) → sort_trees (list_under (th f) f (norm th (instance gg p))) ≡ sort_trees (known th bound g x f p ++ free th bound gg f p)
+      free_known (variable i s) = by (has_variable bound (i, s)) refl
+        where
+          by : (b : Bool) → has_variable bound (i, s) ≡ b → sort_trees (list_under (th f) f (norm th (gg (i, s)))) ≡ sort_trees ((if b then list_under (th f) f (norm th (g (i, s))) else []) ++ (if b then [] else list_under (th f) f (norm th (gg (i, s)))))
+          by true e = ap sort_trees (ap (list_under (th f) f) (sym (agree (i, s) e)) ∙ sym (append-nil (list_under (th f) f (norm th (g (i, s))))))
+          by false e = refl
+      free_known (numeral n) = ap sort_trees (sym (append-nil (list_under (th f) f (numeral n))))
+      free_known (apply h ps) = by (frees_known ps) (are_bound bound ps) refl (h == f) refl
+        where
+          by : sort_trees (all_pieces (th f).assoc (th f).id f (norms th (instances gg ps))) ≡ sort_trees (known_in th bound g x f ps ++ frees th bound gg f ps) → (b : Bool) → are_bound bound ps ≡ b → (d : Bool) → (h == f) ≡ d
+              → sort_trees (list_under (th f) f (norm th (instance gg (apply h ps)))) ≡ sort_trees ((if b then list_under (th f) f (norm th (instance g (apply h ps))) else if d then known_in th bound g x f ps else []) ++ (if b then [] else if d then frees th bound gg f ps else list_under (th f) f (norm th (instance gg (apply h ps)))))
+          by ih true e d j = ap sort_trees (ap (list_under (th f) f) (sym (bound_norm (apply h ps) e)) ∙ sym (append-nil (list_under (th f) f (norm th (instance g (apply h ps))))))
+          by ih false e false j = refl
+          by ih false e true j = subst (λ k. sort_trees (list_under (th f) f (norm th (instance gg (apply k ps)))) ≡ sort_trees (known_in th bound g x f ps ++ frees th bound gg f ps)) (sym (eqb-true h f j)) (list_of_node ps ∙ ih)
+
+      pub frees_known : (ps : Trees) → sort_trees (all_pieces (th f).assoc (th f).id f (norms th (instances gg ps))) ≡ sort_trees (known_in th bound g x f ps ++ frees th bound gg f ps)
+      frees_known no_trees = refl
+      frees_known (tree p ps) =
+          joined (list_under (th f) f (norm th (instance gg p))) (all_pieces (th f).assoc (th f).id f (norms th (instances gg ps))) (known th bound g x f p) (free th bound gg f p) (known_in th bound g x f ps) (frees th bound gg f ps) (free_known p) (frees_known ps)
 
 -- where a pattern is bound, all elements of its instance are known
 pub known_of_bound : (th : ℕ → Theory) (bound : List Variable) (g : Variable → Tree) (x : Variable) (f : ℕ) (p : Tree) → is_bound bound p ≡ true → known th bound g x f p ≡ list_under (th f) f (norm th (instance g p))

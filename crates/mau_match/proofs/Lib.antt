@@ -8,7 +8,10 @@ pub mod Builds
 pub mod KnownElements
 pub mod Sound
 pub mod Lengths
+pub mod Shares
 pub mod NothingMissed
+pub mod Impossible
+pub mod Refusing
 pub mod Extension
 pub mod Fair
 pub mod Occurring
@@ -20,6 +23,7 @@ pub mod Answering
 pub mod PartsOver
 pub mod GivenFor
 pub mod NextVariable
+pub mod Singles
 pub mod LeastValues
 pub mod Left
 pub mod SearchFound

@@ -7,10 +7,18 @@ use Rattle.mau_terms.specs.View.{tree_of, variable_of}
 use Rattle.mau_terms.specs.declared.ids.VarId.{VarId}
 use Rattle.mau_terms.specs.declared.ids.TermId.{TermId}
 use Rattle.mau_signature.specs.Signature.{SignatureOf, terms_over, theory_at}
-use Rattle.mau_store.specs.Node.{Node}
+use Rattle.mau_store.specs.Node.{Node, Extends}
+use Rattle.mau_store.proofs.Growth.{trees_at-extends}
+use Rattle.mau_canon.specs.Standing.{StandWithin}
+use Rattle.mau_canon.proofs.Standing.{stand_there}
+use Rattle.mau_listing.specs.Answers.{IsAnswer}
+use Rattle.mau_listing.proofs.Growth.{question_same}
+use Rattle.mau_terms.specs.Solution.{HaveSorts}
+use Rattle.mau_match.specs.Possible.{Agrees, IsNever}
+use Rattle.mau_match.proofs.Complete.{not_impossible}
 use Rattle.mau_store.specs.Trees.{tree_at, trees_at}
 use Rattle.mau_store.specs.View.{numbers}
-use Rattle.mau_sorts.specs.HasSort.{Known}
+use Rattle.mau_sorts.specs.HasSort.{Known, HasSort}
 use Rattle.mau_listing.specs.declared.places.Place.{Place}
 use Rattle.mau_listing.specs.Places.{variables_in}
 use Rattle.mau_listing.specs.Question.{Question}
@@ -29,7 +37,7 @@ use Rattle.mau_domains.specs.Stored.{IsPartOver}
 use Rattle.mau_match.specs.declared.part.Given.{Given}
 use Rattle.mau_domains.specs.declared.part.Part.{Part as PartOfCode}
 use Rattle.mau_domains.specs.declared.part.Part.TheVariants.{One}
-use Rattle.mau_match.proofs.Answering.{bound_is, value_normal, walked_value, none_refused, occurs_at}
+use Rattle.mau_match.proofs.Answering.{sorts_at, bound_is, value_normal, walked_value, none_refused, occurs_at}
 use Rattle.mau_match.proofs.GivenFor.{names, names_split, names_long, given_names, given_is}
 use Rattle.mau_match.proofs.Good.{IsTerm, AreItemsOf, items_kept, AllGood, good}
 use Rattle.mau_match.proofs.PartsOver.{parts_over}
@@ -38,6 +46,13 @@ use Rattle.mau_listing.proofs.Growth.{trees_long}
 -- stands for a missing place, and is never meant
 abbrev pub no_place : Place
 no_place = record { variable = record { index = 0; sort = 0 }; under = None }
+
+-- an answer is one over a store that has grown
+pub answer_grown : (s : SignatureOf) (known : Known) (t : Trial) (old new : List Node) → Extends old new → IsAskable s old (asked_in t) → (chosen : List TermId) → StandWithin (theory_at s) old (numbers chosen) → (u : Tree) (us : List Tree)
+    → AnswerIn s known old t (trees_at old (numbers chosen) ++ u ∷ us) → AnswerIn s known new t (trees_at new (numbers chosen) ++ u ∷ us)
+answer_grown s known t old new e ask chosen within u us a =
+    subst (λ vs. AnswerIn s known new t (vs ++ u ∷ us)) (sym (trees_at-extends old new (numbers chosen) e (stand_there (theory_at s) old (numbers chosen) within)))
+    (subst (λ q. IsAnswer s (BySort s known) q (trees_at old (numbers chosen) ++ u ∷ us)) (sym (question_same old new e s (asked_in t) ask)) a)
 
 module _ (s : SignatureOf) (lawful : IsLawful (terms_over s)) (old : List Node) (t : Trial) (ps : List Place) (are : ArePlacesOf s (tree_of t.pattern) ps) (ask : IsAskable s old (asked_in t)) (chosen : List TermId) (room : length chosen < length ps) where
   abbrev q : Question
@@ -71,11 +86,25 @@ module _ (s : SignatureOf) (lawful : IsLawful (terms_over s)) (old : List Node) 
       let same = bound_is s lawful (BySort s known) q ask.pattern xs (variable_of x) zs names_are vs as_many u us a (tree_at old value.0) (in_map {B = Variable × Tree} (λ (b : VarId × TermId). (variable_of b.0, tree_at old b.1.0)) (x, value) t.bound.items among) in
       inl (record { normal = value_normal s lawful (BySort s known) q ask.pattern xs (variable_of x) zs names_are vs as_many u us a; of = same; filled = tt })
 
+  -- the value of the variable has its sort
+  pub next_sort : (known : Known) (u : Tree) (us : List Tree) → AnswerIn s known old t (trees_at old (numbers chosen) ++ u ∷ us) → HasSort s known u (get_or ps (length chosen) no_place).variable.sort
+  next_sort known u us a = sorts_at (BySort s known) xs (variable_of x) zs vs u us as_many (subst (λ ys. HaveSorts (BySort s known) ys (vs ++ u ∷ us)) names_are a.sorts)
+
   module _ (g : Given) (ev : g.variables ≡ map {B = VarId} (λ b. b.0) t.bound.items ++ variables_in (take (length chosen) ps)) (el : g.values ≡ map {B = TermId} (λ b. b.1) t.bound.items ++ chosen) (et : g.target ≡ (get_or ps (length chosen) no_place).variable) where
     walked_is : walked s old g (tree_of t.pattern) (just (tree_at old t.subject.0)) ≡ parts_of (theory_at s) (given_variables q xs) (given_at q xs vs) (variable_of x) (tree_of t.pattern) (just (tree_at old t.subject.0))
     walked_is =
         ap₂ (λ b v. parts_of (theory_at s) b v (target_of g) (tree_of t.pattern) (just (tree_at old t.subject.0))) (given_names s old t (take (length chosen) ps) chosen g ev el) (given_is s old t (take (length chosen) ps) chosen g ev el)
         ∙ ap (λ y. parts_of (theory_at s) (given_variables q xs) (given_at q xs vs) (variable_of y) (tree_of t.pattern) (just (tree_at old t.subject.0))) et
+
+    -- an answer that begins with the chosen values is not impossible
+    pub not_refused : (known : Known) (u : Tree) (us : List Tree) → AnswerIn s known old t (trees_at old (numbers chosen) ++ u ∷ us) → IsNever s old g (tree_of t.pattern) (just (tree_at old t.subject.0)) → ⊥
+    not_refused known u us a never =
+        not_impossible s lawful (BySort s known) q xs (variable_of x) zs names_are vs as_many u us a
+        (λ gg ag fair whole.
+        never gg
+        (subst (λ b. Agrees (theory_at s) b (values_of old g) gg) (sym (given_names s old t (take (length chosen) ps) chosen g ev el))
+        (subst (λ v. Agrees (theory_at s) (given_variables q xs) v gg) (sym (given_is s old t (take (length chosen) ps) chosen g ev el)) ag))
+        fair whole)
 
     module _ (new : List Node) (parts : List PartOfCode) (adds : AddsParts s old new [] parts (walked s old g (tree_of t.pattern) (just (tree_at old t.subject.0)))) where
       -- its parts are within the limits

@@ -6,6 +6,8 @@ pub mod Parts
 pub mod Taken
 -- the values that are known while a variable is given one
 pub mod Given
+-- whether some values make a pattern be of a part
+pub mod Possible
 -- what is proved of these
 pub mod Laws
 -- ---- what only inner contracts and proofs cite
@@ -18,5 +20,7 @@ pub mod Listing
 pub mod Walked
 -- values of several parts
 pub mod Values
+-- operators whose lists have a sort in no case
+pub mod Single
 -- the search over a store that grows
 pub mod Searched

@@ -1,5 +1,5 @@
 //! What the value of the next variable may be: the parts of the subject that it is of, and the values of these in order.
-ghost use Rattle.std.specs.Prelude.{◌≡◌, ◌⊎◌, ◌++◌, ◌∷◌, ◌<◌, List, All, Contains, length, map, IfOk, IfSome, IfNone, OnOk};
+ghost use Rattle.std.specs.Prelude.{◌≡◌, ◌⊎◌, true, ◌++◌, ◌∷◌, ◌<◌, List, All, Contains, length, map, IfOk, IfSome, IfNone, OnOk};
 ghost use Rattle.mau_terms.specs.Tree.{Tree};
 ghost use Rattle.mau_terms.specs.View.{tree_of};
 ghost use Rattle.mau_terms.specs.declared.ids.VarId.{VarId};
@@ -10,7 +10,8 @@ ghost use Rattle.mau_store.specs.Trees.{tree_at, trees_at};
 ghost use Rattle.mau_store.specs.View.{numbers};
 ghost use Rattle.mau_canon.specs.Standing.{StandsWithin, StandWithin};
 ghost use Rattle.mau_sorts.specs.HasSort.{Known};
-ghost use Rattle.mau_listing.specs.Asked.{IsAskable};
+ghost use Rattle.mau_sorts.specs.Table.{AreOver};
+ghost use Rattle.mau_listing.specs.Asked.{IsAskable, IsTableOf};
 ghost use Rattle.mau_listing.specs.Places.{operator_number, variables_in};
 ghost use Rattle.mau_trial.specs.Tried.{ArePlacesOf, asked_in};
 ghost use Rattle.mau_domains.specs.Search.{IsLeastOrNone, first_of};
@@ -22,11 +23,14 @@ ghost use Rattle.mau_match.specs.Searched.{AnswerIn};
 
 use crate::Given;
 use crate::choices::push;
+use crate::may_match::may_match;
+use crate::single::by_sort;
 use crate::walk::parts_for;
 use mau_canon::BuildFault;
 use mau_domains::{Part, next_value};
 use mau_listing::{Place, compare_lists, is_lawful, value_key_of};
 use mau_signature::Signature;
+use mau_sorts::SortTable;
 use mau_store::Store;
 use mau_terms::{NoMemory, OpId, Seq, TermId, VarId};
 use mau_trial::Trial;
@@ -108,8 +112,9 @@ fn given_for(
     })
 }
 
-/// The parts that the value of the next variable may be of, and none where no answer begins with the chosen values.
-pub fn candidates(
+/// The parts that the value of the next variable may be of by the walk to its first place, and none where no answer begins with the
+/// chosen values.
+fn walked_candidates(
     trial: &Trial,
     places: &[Place],
     store: &mut Store,
@@ -141,6 +146,71 @@ pub fn candidates(
         Err(BuildFault::NoMemory) => Err(NoMemory),
         Err(BuildFault::TooDeep) => Ok(None),
         Err(BuildFault::Overflow) => Ok(None),
+    }
+}
+
+/// Whether an answer may begin with the chosen values.
+fn may_answer(
+    trial: &Trial,
+    places: &[Place],
+    store: &mut Store,
+    sig: &Signature,
+    chosen: &[TermId],
+) -> Result<bool, NoMemory>
+    requires askable { IsAskable sig.now store.old (asked_in trial.now) }
+    requires places { ArePlacesOf sig.now (tree_of trial.now.pattern) places.now }
+    requires chosen { StandWithin (theory_at sig.now) store.old (numbers chosen.now) }
+    requires room { length chosen.now < length places.now }
+    ensures refused { (known : Known) (u : Tree) (us : List Tree) → AnswerIn sig.now known store.old trial.now (trees_at store.old (numbers chosen.now) ++ u ∷ us) →
+        IfOk result (λ b. b ≡ true) }
+    ensures extends { Extends store.old store.new }
+{
+    is_lawful(sig);
+    let target = places[chosen.len()].variable;
+    let front = &places[..chosen.len()];
+    let given = given_for(store.allocator(), &trial.bound, front, chosen, target)?;
+    may_match(
+        store,
+        sig,
+        &given,
+        &trial.pattern,
+        &Part::One(trial.subject),
+    )
+}
+
+/// The parts that the value of the next variable may be of, and none where no answer begins with the chosen values.
+pub fn candidates(
+    trial: &Trial,
+    places: &[Place],
+    store: &mut Store,
+    sig: &Signature,
+    sorts: &SortTable,
+    chosen: &[TermId],
+) -> Result<Option<Vec<Part>>, NoMemory>
+    requires askable { IsAskable sig.now store.old (asked_in trial.now) }
+    requires places { ArePlacesOf sig.now (tree_of trial.now.pattern) places.now }
+    requires over { AreOver sig.now.hierarchy sorts.now }
+    requires chosen { StandWithin (theory_at sig.now) store.old (numbers chosen.now) }
+    requires room { length chosen.now < length places.now }
+    ensures within { IfOk result (λ o. IfSome o (λ parts. All (IsPartOver sig.now store.new) parts.items)) }
+    ensures some { (known : Known) (u : Tree) (us : List Tree) → IsTableOf sig.now known store.old sorts.now →
+        AnswerIn sig.now known store.old trial.now (trees_at store.old (numbers chosen.now) ++ u ∷ us) →
+        IfOk result (λ o. IfSome o (λ parts. IsValueOfAny (theory_at sig.now) (parts_in store.new parts.items) u)) }
+    ensures none { (known : Known) (u : Tree) (us : List Tree) → AnswerIn sig.now known store.old trial.now (trees_at store.old (numbers chosen.now) ++ u ∷ us) →
+        IfOk result (λ o. IfNone o ⊥) }
+    ensures extends { Extends store.old store.new }
+{
+    is_lawful(sig);
+    if !may_answer(trial, places, store, sig, chosen)? {
+        return Ok(None);
+    }
+    match walked_candidates(trial, places, store, sig, chosen)? {
+        Some(parts) => {
+            let sort = places[chosen.len()].variable.sort;
+            let found = by_sort(store, sig, sorts, sort, parts)?;
+            Ok(Some(found))
+        }
+        None => Ok(None),
     }
 }
 

@@ -17,7 +17,7 @@ use Rattle.mau_signature.proofs.KindLemmas.{HaveOneKind-end}
 use Rattle.mau_signature.proofs.Grouped.{passes, fails}
 use Rattle.mau_signature.proofs.Whole.{some_kept, all_declared, zero_there, others_there}
 use Rattle.mau_sigcheck.specs.Accepted.{IsAccepted}
-use Rattle.mau_sorts.specs.Laws.{IsWellDeclared, IsBuiltAndAccepted}
+use Rattle.mau_sigcheck.specs.Built.{IsWellDeclared, IsBuiltAndAccepted}
 
 -- ---- the results of one operator are in one kind
 

@@ -1,7 +1,7 @@
 -- Lawful programs: those of accepted modules. All that runs a program may rest on this.
 use Rattle.std.specs.Prelude.{◌≡◌, All, length}
 use Rattle.mau_signature.specs.Made.{IsSignature}
-use Rattle.mau_sorts.specs.Laws.{IsBuiltAndAccepted}
+use Rattle.mau_sigcheck.specs.Built.{IsBuiltAndAccepted}
 use Rattle.mau_program.specs.declared.program.Program.{Program}
 use Rattle.mau_program.specs.BuiltIns.{AreBuiltIn}
 use Rattle.mau_program.specs.LawfulStatements.{IsLawfulEquation, IsLawfulMembership, IsLawfulRule}

@@ -6,6 +6,7 @@
 pub mod Tuples
 -- accepted signatures, and why one is not
 pub mod Accepted
+pub mod Built
 pub mod Faults
 -- what is proved of these
 pub mod Laws

@@ -18,7 +18,8 @@ use Rattle.mau_sigcheck.specs.Accepted.{IsSortOfNumeral, argument_kinds, result_
 use Rattle.mau_sigcheck.proofs.Results.{result_from_least}
 use Rattle.mau_sorts.specs.SortSets.{IsLeast}
 use Rattle.mau_sorts.specs.HasSort.{IsKnown, HasSort, AllHave, ListHas, Gives, IsDeclared, Suits, NumeralHas, OfTwo}
-use Rattle.mau_sorts.specs.Laws.{IsBuiltAndAccepted, IsWellDeclared, IsInKindOf}
+use Rattle.mau_sigcheck.specs.Built.{IsBuiltAndAccepted, IsWellDeclared}
+use Rattle.mau_sorts.specs.Laws.{IsInKindOf}
 use Rattle.mau_sorts.proofs.Derivations.{above_kind, Gives-same}
 use Rattle.mau_sorts.proofs.Entries.{one_numeral, of_two}
 

@@ -1,12 +1,12 @@
 -- The laws of the sorts of terms. Each is proved: a public function of the module `laws` has it for its contract.
-use Rattle.std.specs.Prelude.{◌≡◌, ◌≢◌, ◌↔◌, ℕ, List, [], ◌++◌, All, Contains, true, Option, Some}
-use Rattle.mau_poset.specs.Order.{Hierarchy, IsPoset, kind_of}
+use Rattle.std.specs.Prelude.{◌≡◌, ◌≢◌, ◌↔◌, ℕ, List, [], ◌++◌, All, Contains, true}
+use Rattle.mau_poset.specs.Order.{IsPoset}
 use Rattle.mau_terms.specs.Tree.{Tree, trees_of}
 use Rattle.mau_terms.specs.Bare.{IsBare, IsBareIn}
 use Rattle.mau_terms.specs.Reading.{reading}
-use Rattle.mau_signature.specs.Faults.{HasSorts, IsSort}
-use Rattle.mau_signature.specs.Signature.{SignatureOf, IsOperator, IsAlike, declarations_at, theory_at, terms_over}
-use Rattle.mau_sigcheck.specs.Accepted.{IsAccepted, result_kind}
+use Rattle.mau_signature.specs.Signature.{SignatureOf, IsOperator, theory_at, terms_over}
+use Rattle.mau_sigcheck.specs.Accepted.{result_kind}
+use Rattle.mau_sigcheck.specs.Built.{IsBuiltAndAccepted}
 use Rattle.mau_store.specs.Node.{Node, Extends}
 use Rattle.mau_sorts.specs.SortSets.{SortsOf, IsKeptOf, IsMinimalSort, IsLeast, shown_sort}
 use Rattle.mau_sorts.specs.HasSort.{Known, HasSort, ListHas, Gives, OfTwo}
@@ -31,23 +31,6 @@ abbrev pub EntriesExtended : Type 0
 EntriesExtended = (s : SignatureOf) (known : Known) (old new : List Node) → Extends old new → (t : Table) → AreEntries s known old t → AreEntries s known new t
 
 -- ---- accepted signatures
-
--- the numerals have two sorts in one kind
-abbrev pub AreInOneKind : Hierarchy → Option (ℕ × ℕ) → Type 0
-AreInOneKind h numerals = (p : ℕ × ℕ) → numerals ≡ Some p → IsSort h p.0 × IsSort h p.1 × (kind_of h p.0 ≡ kind_of h p.1)
-
--- the operator f has declarations, over the sorts that are there, and all are alike
-pub record IsWellDeclared (s : SignatureOf) (f : ℕ) : Type 0 where
-  pub some : declarations_at s f ≢ []
-  pub sorts : All (HasSorts s.hierarchy) (declarations_at s f)
-  pub alike : All (IsAlike s.hierarchy (declarations_at s f)) (declarations_at s f)
-
--- what holds of each signature that was built and then accepted
-pub record IsBuiltAndAccepted (s : SignatureOf) : Type 0 where
-  pub poset : IsPoset s.hierarchy
-  pub accepted : IsAccepted s
-  pub declared : (f : ℕ) → IsOperator s f → IsWellDeclared s f
-  pub numerals : AreInOneKind s.hierarchy s.numerals
 
 -- t is a term of the kind of f's result
 abbrev pub IsInKindOf : SignatureOf → ℕ → Tree → Type 0

@@ -8,7 +8,7 @@ use Rattle.mau_chart.proofs.fill.begin.Goals.{then-leaf-i+in_ok-say, else-leaf-i
 
 pub loop-k-preserved : goal.loop-k-preserved
 loop-k-preserved c =
-    let ls = c.args.leaves.now in
+    let ls = c.args.input.leaves.now in
     let k = c.loop-k.k in
     let h : k < length ls = omega arith in
     elim c.if-leaf-i.branch [

@@ -7,5 +7,5 @@ abbrev pub invariant-loop-k : goal.invariant-loop-k
 invariant-loop-k l = record {
   chart : IsChart l.chart;
   rows : length l.chart.rows.items ≡ length l.fn.chart.rows.items;
-  begun : Begun l.leaves (table l.fn.chart) (table l.chart) l.i l.k;
+  begun : Begun l.input.leaves.now (table l.fn.chart) (table l.chart) l.i l.k;
 }

@@ -9,7 +9,7 @@ abbrev pub invariant-loop-w : goal.invariant-loop-w
 invariant-loop-w l = record {
   chart : IsChart l.chart;
   rows : length l.chart.rows.items ≡ length l.fn.chart.rows.items;
-  combined : Combined l.productions l.leaves (table l.fn.chart) (table l.chart) l.i l.k l.m (IsGrouped l.groups l.w);
+  combined : Combined l.input.productions.now l.input.leaves.now (table l.fn.chart) (table l.chart) l.at.row l.at.fact l.at.behind (IsGrouped l.groups l.w);
   some : 0 < length l.marks;
   marked : AllMarked (table l.chart) l.marks;
 }

@@ -8,8 +8,8 @@ abbrev pub invariant-loop-z : goal.invariant-loop-z
 invariant-loop-z l = record {
   chart : IsChart l.chart;
   rows : length l.chart.rows.items ≡ length l.fn.chart.rows.items;
-  combined : Combined l.productions l.leaves (table l.fn.chart) (table l.chart) l.i l.k l.m (IsAmong l.places l.part l.z);
-  mark : (l.mark.row ≡ l.i) × (l.mark.item ≡ l.item);
+  combined : Combined l.input.productions.now l.input.leaves.now (table l.fn.chart) (table l.chart) l.at.row l.at.fact l.at.behind (IsAmong l.places l.part l.z);
+  mark : (l.mark.row ≡ l.at.row) × (l.mark.item ≡ l.item);
   marked : IsMarked (table l.chart) l.mark;
   within : l.z ≤ length l.places;
 }

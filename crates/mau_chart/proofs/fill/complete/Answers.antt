@@ -14,7 +14,7 @@ pub returns-in-None-clause-completed : goal.returns-in-None-clause-completed
 returns-in-None-clause-completed c =
     let s = c.args.chart.now in
     let a = c.fact.result.now in
-    completed_none c.args.productions.now (table s) c.args.i c.args.k (edge_of s.store a) (slice_get-seen s.store (cells s.rows.items c.args.i) c.args.k a c.fact.ensures)
+    completed_none c.args.input.productions.now (table s) c.args.i c.args.k (edge_of s.store a) (slice_get-seen s.store (cells s.rows.items c.args.i) c.args.k a c.fact.ensures)
     (λ to o h. never c.lift_of.result (to, o) c.in-None.is (c.lift_of.ensures.only to o h))
 
 alike : (x : Option (Item × Option OpId)) (a : Item) (b : Option OpId) (c : Item) (d : Option OpId) → x ≡ Some (a, b) → x ≡ Some (c, d) → (a ≡ c) × (b ≡ d)
@@ -26,7 +26,7 @@ pub returns-in_ok-lift-in-Some-clause-completed : goal.returns-in_ok-lift-in-Som
 returns-in_ok-lift-in-Some-clause-completed c =
     let s = c.args.chart.now in
     let a = c.fact.result.now in
-    completed_lift c.args.productions.now (table s) (table c.lift.new.self) c.args.i c.args.k (edge_of s.store a) c.in-Some.whole c.in-Some.op (slice_get-seen s.store (cells s.rows.items c.args.i) c.args.k a c.fact.ensures)
+    completed_lift c.args.input.productions.now (table s) (table c.lift.new.self) c.args.i c.args.k (edge_of s.store a) c.in-Some.whole c.in-Some.op (slice_get-seen s.store (cells s.rows.items c.args.i) c.args.k a c.fact.ensures)
     c.in-Some.ensures.some
     (λ to u h. alike c.lift_of.result c.in-Some.whole c.in-Some.op to u c.in-Some.is (c.lift_of.ensures.only to u h))
     c.in_ok-lift-in-Some.ensures.offered

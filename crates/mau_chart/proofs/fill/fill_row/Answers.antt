@@ -5,7 +5,7 @@ use Rattle.mau_chart.proofs.Rows.{row_full}
 use Rattle.mau_chart.proofs.fill.fill_row.Goals as goal
 
 pub returns-clause-full : goal.returns-clause-full
-returns-clause-full c = row_full c.args.productions.now c.args.leaves.now (table c.args.chart.now) (table c.begin.new.chart) (table c.finish.new.chart) (table c.saturate.new.chart) c.args.i c.in_ok-begin.ensures.begun c.in_ok-finish.ensures.ended c.in_ok-saturate.ensures.grows c.in_ok-saturate.ensures.done
+returns-clause-full c = row_full c.args.input.productions.now c.args.input.leaves.now (table c.args.chart.now) (table c.begin.new.chart) (table c.finish.new.chart) (table c.saturate.new.chart) c.args.i c.in_ok-begin.ensures.begun c.in_ok-finish.ensures.ended c.in_ok-saturate.ensures.grows c.in_ok-saturate.ensures.done
 
 pub saturate-requires-clause-index : goal.saturate-requires-clause-index
 saturate-requires-clause-index c =

@@ -9,13 +9,13 @@ use Rattle.mau_chart.proofs.fill.finish.Goals.{then-is_wanted+in_ok-say, else-is
 
 pub loop-k-preserved : goal.loop-k-preserved
 loop-k-preserved c =
-    let ps = c.args.productions.now in
-    let ls = c.args.leaves.now in
+    let ps = c.args.input.productions.now in
+    let ls = c.args.input.leaves.now in
     let k = c.loop-k.k in
     let i = c.args.i in
     let h : k < length ps = omega arith in
-    let p = get_or ps k c.index-productions-k.result in
-    let its = slice_get-get_or ps k c.index-productions-k.result h in
+    let p = get_or ps k c.index-input-k.result in
+    let its = slice_get-get_or ps k c.index-input-k.result h in
     let len : c.len.result ≡ length p.pieces.items = omega (arith, c.len.ensures, p.pieces.ok.0) in
     elim c.if-is_wanted.branch [
       | then-is_wanted+in_ok-say w ↦

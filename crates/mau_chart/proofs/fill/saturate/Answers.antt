@@ -17,7 +17,7 @@ loop-k-preserved c =
       rows = e.rows ∙ c.loop-k.invariant.rows;
       grows = grows_on (table c.args.chart.now) (table s) (table n) c.args.i c.loop-k.invariant.grows e.grows;
       sound = e.sound;
-      done = done_on c.args.productions.now c.args.leaves.now c.args.n c.requires.leaves c.requires.forms (table s) (table n) c.args.i e.grows c.loop-k.invariant.sound c.loop-k.k _ refl l c.loop-k.invariant.done e.processed;
+      done = done_on c.args.input.productions.now c.args.input.leaves.now c.args.n c.requires.leaves c.requires.forms (table s) (table n) c.args.i e.grows c.loop-k.invariant.sound c.loop-k.k _ refl l c.loop-k.invariant.done e.processed;
       some = omega (arith, c.loop-k.invariant.some);
       marked = e.marked;
     }

@@ -9,8 +9,8 @@ invariant-loop-k l = record {
   chart : IsChart l.chart;
   rows : length l.chart.rows.items ≡ length l.fn.chart.rows.items;
   grows : Grows (table l.fn.chart) (table l.chart) l.i;
-  sound : AreSound l.productions l.leaves (table l.chart);
-  done : IsDone l.productions l.leaves (table l.chart) l.i l.k;
+  sound : AreSound l.input.productions.now l.input.leaves.now (table l.chart);
+  done : IsDone l.input.productions.now l.input.leaves.now (table l.chart) l.i l.k;
   some : 0 < length l.marks;
   marked : AllMarked (table l.chart) l.marks;
 }

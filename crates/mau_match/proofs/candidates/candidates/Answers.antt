@@ -1,60 +1,44 @@
-use Rattle.std.proofs.Common.{◌∷◌, ◌++◌, [], List, Contains, map, take, length, get_or, sym, ap, ◌∙◌, subst}
-use Rattle.mau_terms.specs.View.{tree_of, variable_of}
-use Rattle.mau_terms.specs.declared.ids.VarId.{VarId}
-use Rattle.mau_terms.specs.declared.ids.TermId.{TermId}
+use Rattle.std.proofs.Common.{length}
+use Rattle.mau_terms.specs.View.{tree_of}
 use Rattle.mau_signature.specs.Signature.{theory_at}
-use Rattle.mau_listing.specs.Places.{variables_in}
-use Rattle.mau_match.specs.Parts.{occurs}
-use Rattle.mau_domains.specs.declared.part.Part.TheVariants.{One}
-use Rattle.mau_match.specs.Walked.{parts_in}
+use Rattle.mau_store.specs.View.{numbers}
+use Rattle.mau_canon.proofs.Standing.{stand_within_extended}
+use Rattle.mau_listing.proofs.Growth.{askable_extended}
+use Rattle.mau_trial.specs.Tried.{asked_in}
+use Rattle.mau_trial.proofs.Instances.{places_are_sorted}
+use Rattle.mau_store.proofs.Growth.{extension_is_preorder}
+use Rattle.mau_match.specs.Searched.{subject_in}
 use Rattle.mau_match.specs.Values.{IsValueOfAny}
-use Rattle.mau_match.proofs.GivenFor.{given_stand}
-use Rattle.mau_match.proofs.NextVariable.{no_place, bound_value_is, occurs_next, over_parts, some_value, no_answer}
+use Rattle.mau_match.specs.Walked.{parts_in}
+use Rattle.mau_match.proofs.Searching.{grows_nodes}
+use Rattle.mau_match.proofs.NextVariable.{answer_grown, next_sort, no_place}
 use Rattle.mau_match.proofs.candidates.candidates.Goals as goal
 
-pub returns-in-Some-clause-some : goal.returns-in-Some-clause-some
-returns-in-Some-clause-some c = λ known u us a.
+pub walked_candidates-requires-clause-askable : goal.walked_candidates-requires-clause-askable
+walked_candidates-requires-clause-askable c = askable_extended c.args.store.now c.may_answer.new.store c.may_answer.ensures.extends c.args.sig.now (asked_in c.args.trial.now) c.requires.askable
+
+pub walked_candidates-requires-clause-chosen : goal.walked_candidates-requires-clause-chosen
+walked_candidates-requires-clause-chosen c = stand_within_extended (theory_at c.args.sig.now) c.args.store.now c.may_answer.new.store (numbers c.args.chosen.now) c.may_answer.ensures.extends c.requires.chosen
+
+pub by_sort-requires-clause-sort : goal.by_sort-requires-clause-sort
+by_sort-requires-clause-sort c =
+    places_are_sorted c.args.sig.now (tree_of c.args.trial.now.pattern) c.requires.askable.pattern c.args.places.now c.requires.places.variables (length c.args.chosen.now) no_place c.requires.room
+
+pub returns-in_ok-found-in-Some-clause-some : goal.returns-in_ok-found-in-Some-clause-some
+returns-in_ok-found-in-Some-clause-some c = λ known u us table a.
     let s = c.args.sig.now in
+    let t = c.args.trial.now in
     let old = c.args.store.now in
-    let t = c.args.trial.now in
-    let e = c.in_ok-push.ensures ∙ ap (λ w. w ++ One c.in-Some.value ∷ []) c.new-parts.ensures.items in
-    let among = c.in-Some.ensures in
-    subst (λ ps. IsValueOfAny (theory_at s) (parts_in old ps) u) (sym e)
-    (bound_value_is s c.is_lawful.ensures.lawful old t c.args.places.now c.requires.places c.requires.askable c.args.chosen.now c.requires.room c.in-Some.value (subst (λ (bs : List (VarId × TermId)). Contains bs ((get_or c.args.places.now (length c.args.chosen.now) no_place).variable, c.in-Some.value)) c.deref.ensures.value among) known u us a)
+    let first = c.may_answer.new.store in
+    let mid = c.walked_candidates.new.store in
+    let e = extension_is_preorder.transitive old first mid c.may_answer.ensures.extends c.walked_candidates.ensures.extends in
+    let grown = answer_grown s known t old first c.may_answer.ensures.extends c.requires.askable c.args.chosen.now c.requires.chosen u us a in
+    let any : IsValueOfAny (theory_at s) (parts_in mid c.in-Some.parts.items) u = rw c.in-Some.is at (c.in_ok-parts.ensures.some known u us grown) in
+    let has = next_sort s c.is_lawful.ensures.lawful old t c.args.places.now c.requires.places c.requires.askable c.args.chosen.now c.requires.room known u us a in
+    let later = (grows_nodes s (subject_in old t) old mid c.args.sorts.now c.requires.over e).table known table in
+    c.in_ok-found-in-Some.ensures.values known u later any has
 
-pub parts_for-requires-clause-values : goal.parts_for-requires-clause-values
-parts_for-requires-clause-values c =
-    let t = c.args.trial.now in
-    given_stand c.args.sig.now c.args.store.now t (take (length c.args.chosen.now) c.args.places.now) c.args.chosen.now c.in_ok-given.given (c.in_ok-given.ensures.variables ∙ ap (λ bs. map {B = VarId} (λ b. b.0) bs ++ variables_in (take (length c.args.chosen.now) c.args.places.now)) c.deref-2.ensures.value)
-    (c.in_ok-given.ensures.values ∙ ap (λ bs. map {B = TermId} (λ b. b.1) bs ++ c.args.chosen.now) c.deref-2.ensures.value) c.requires.askable.bound c.requires.chosen
-
-pub parts_for-requires-clause-occurs : goal.parts_for-requires-clause-occurs
-parts_for-requires-clause-occurs c =
-    let t = c.args.trial.now in
-    ap (λ x. occurs (variable_of x) (tree_of t.pattern)) c.in_ok-given.ensures.target ∙ occurs_next c.args.sig.now c.is_lawful.ensures.lawful c.args.store.now t c.args.places.now c.requires.places c.requires.askable c.args.chosen.now c.requires.room
-
-pub returns-in-Ok-clause-within : goal.returns-in-Ok-clause-within
-returns-in-Ok-clause-within c =
-    over_parts c.args.sig.now c.is_lawful.ensures.lawful c.args.store.now c.args.trial.now c.args.places.now c.requires.places c.requires.askable c.args.chosen.now c.requires.room c.in_ok-given.given
-    (c.in_ok-given.ensures.variables ∙ ap (λ bs. map {B = VarId} (λ b. b.0) bs ++ variables_in (take (length c.args.chosen.now) c.args.places.now)) c.deref-2.ensures.value)
-    (c.in_ok-given.ensures.values ∙ ap (λ bs. map {B = TermId} (λ b. b.1) bs ++ c.args.chosen.now) c.deref-2.ensures.value) c.in_ok-given.ensures.target c.parts_for.new.store c.in-Ok.parts.items c.in-Ok.ensures.ok
-
-pub returns-in-Ok-clause-some : goal.returns-in-Ok-clause-some
-returns-in-Ok-clause-some c =
-    some_value c.args.sig.now c.is_lawful.ensures.lawful c.args.store.now c.args.trial.now c.args.places.now c.requires.places c.requires.askable c.args.chosen.now c.requires.room c.in_ok-given.given
-    (c.in_ok-given.ensures.variables ∙ ap (λ bs. map {B = VarId} (λ b. b.0) bs ++ variables_in (take (length c.args.chosen.now) c.args.places.now)) c.deref-2.ensures.value)
-    (c.in_ok-given.ensures.values ∙ ap (λ bs. map {B = TermId} (λ b. b.1) bs ++ c.args.chosen.now) c.deref-2.ensures.value) c.in_ok-given.ensures.target c.parts_for.new.store c.in-Ok.parts.items c.in-Ok.ensures.ok
-
-pub returns-in-Err-TooDeep-clause-none : goal.returns-in-Err-TooDeep-clause-none
-returns-in-Err-TooDeep-clause-none c =
-    no_answer c.args.sig.now c.is_lawful.ensures.lawful c.args.store.now c.args.trial.now c.args.places.now c.requires.places c.requires.askable c.args.chosen.now c.requires.room c.in_ok-given.given
-    (c.in_ok-given.ensures.variables ∙ ap (λ bs. map {B = VarId} (λ b. b.0) bs ++ variables_in (take (length c.args.chosen.now) c.args.places.now)) c.deref-2.ensures.value)
-    (c.in_ok-given.ensures.values ∙ ap (λ bs. map {B = TermId} (λ b. b.1) bs ++ c.args.chosen.now) c.deref-2.ensures.value) c.in_ok-given.ensures.target
-    (rw c.in-Err-TooDeep.field-0-is at c.in-Err-TooDeep.ensures.refused)
-
-pub returns-clause-none : goal.returns-clause-none
-returns-clause-none c =
-    no_answer c.args.sig.now c.is_lawful.ensures.lawful c.args.store.now c.args.trial.now c.args.places.now c.requires.places c.requires.askable c.args.chosen.now c.requires.room c.in_ok-given.given
-    (c.in_ok-given.ensures.variables ∙ ap (λ bs. map {B = VarId} (λ b. b.0) bs ++ variables_in (take (length c.args.chosen.now) c.args.places.now)) c.deref-2.ensures.value)
-    (c.in_ok-given.ensures.values ∙ ap (λ bs. map {B = TermId} (λ b. b.1) bs ++ c.args.chosen.now) c.deref-2.ensures.value) c.in_ok-given.ensures.target
-    (rw c.in-Err-Overflow.field-0-is at c.in-Err-Overflow.ensures.refused)
+pub returns-in-None-clause-none : goal.returns-in-None-clause-none
+returns-in-None-clause-none c = λ known u us a.
+    rw c.in-None.is at
+    (c.in_ok-parts.ensures.none known u us (answer_grown c.args.sig.now known c.args.trial.now c.args.store.now c.may_answer.new.store c.may_answer.ensures.extends c.requires.askable c.args.chosen.now c.requires.chosen u us a))

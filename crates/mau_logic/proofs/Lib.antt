@@ -1,0 +1,17 @@
+pub mod MoreSorts
+pub mod ToldRuns
+pub mod SortKinds
+pub mod NormalTerms
+pub mod Instances
+pub mod FactKinds
+pub mod Fitted
+pub mod Rebuilt
+pub mod BuiltSteps
+pub mod Examples
+pub mod BuiltAnswers
+pub mod LedRuns
+pub mod Congruence
+pub mod SortsHold
+pub mod SectionFacts
+pub mod Sound
+pub mod Literals

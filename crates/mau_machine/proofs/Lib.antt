@@ -1,0 +1,4 @@
+pub mod Counts
+pub mod Through
+pub mod Branches
+pub mod Held

@@ -1,0 +1,55 @@
+use Rattle.std.proofs.Common.{◌≡◌, [], sym, ◌∙◌, ap, subst, le_trans}
+use Rattle.mau_machine.specs.Words.{capped}
+use Rattle.mau_machine.specs.Machine.{whole}
+use Rattle.mau_machine.specs.Known.{HoldsIn}
+use Rattle.mau_machine.specs.Steps.{IsAlike}
+use Rattle.mau_machine.proofs.Counts.{ends_alike}
+use Rattle.mau_machine.proofs.Branches.{empty_is}
+use Rattle.mau_machine.proofs.Held.{same_whole}
+use Rattle.mau_machine.proofs.machine.run.Goals as goal
+
+pub returns-then-is_empty-clause-goes : goal.returns-then-is_empty-clause-goes
+returns-then-is_empty-clause-goes g c =
+    let w0 = (g.W.World.words c.args.world.now c.args.store.now) in
+    let w = (g.W.World.words c.loop.world c.loop.store) in
+    let e : c.loop.machine.frames.items ≡ [] = empty_is c.as_slice.result.now c.loop.machine.frames.items c.as_slice.ensures.value c.if-is_empty.ensures in
+    c.loop.invariant.2 ∙ ap (λ fs. capped (whole w fs c.loop.task c.loop.machine.rewrites c.loop.budget)) e
+
+pub returns-then-is_empty-clause-known : goal.returns-then-is_empty-clause-known
+returns-then-is_empty-clause-known g c =
+    let w0 = (g.W.World.words c.args.world.now c.args.store.now) in
+    let w = (g.W.World.words c.loop.world c.loop.store) in
+    let e : c.loop.machine.frames.items ≡ [] = empty_is c.as_slice.result.now c.loop.machine.frames.items c.as_slice.ensures.value c.if-is_empty.ensures in
+    λ asked h. subst (λ fs. HoldsIn w asked fs c.loop.task) e (c.loop.invariant.3 asked h)
+
+pub step-requires-clause-ready : goal.step-requires-clause-ready
+step-requires-clause-ready g c =
+    g.met.W.World.begins c.args.world.now c.loop.world c.args.store.now c.loop.store c.requires.ready c.loop.invariant.0
+
+pub returns-in-Err-clause-ends : goal.returns-in-Err-clause-ends
+returns-in-Err-clause-ends g c =
+    let w0 = (g.W.World.words c.args.world.now c.args.store.now) in
+    let w = (g.W.World.words c.loop.world c.loop.store) in
+    let w' = (g.W.World.words c.step.new.world c.step.new.store) in
+    let grows = g.met.W.World.goes_on c.args.world.now c.loop.world c.step.new.world c.args.store.now c.loop.store c.step.new.store c.loop.invariant.0 c.in-Err.ensures.grows in
+    let k = g.met.W.World.keeps c.loop.world c.step.new.world c.loop.store c.step.new.store c.in-Err.ensures.grows in
+    let H = c.loop.invariant.3 c.requires.held.0 c.requires.held.1 in
+    let same : IsAlike (whole w0 c.args.machine.now.frames.items c.args.task c.args.machine.now.rewrites c.args.budget.now) (whole w' c.loop.machine.frames.items c.loop.task c.loop.machine.rewrites c.loop.budget) =
+    c.loop.invariant.2 ∙ ap capped (sym (same_whole w w' k c.requires.held.0 c.loop.machine.frames.items c.loop.task H c.loop.machine.rewrites c.loop.budget)) in
+    ends_alike (whole w0 c.args.machine.now.frames.items c.args.task c.args.machine.now.rewrites c.args.budget.now) (whole w' c.loop.machine.frames.items c.loop.task c.loop.machine.rewrites c.loop.budget) c.in-Err.end same c.in-Err.ensures.ends
+
+pub returns-in-Err-clause-grows : goal.returns-in-Err-clause-grows
+returns-in-Err-clause-grows g c =
+    g.met.W.World.goes_on c.args.world.now c.loop.world c.step.new.world c.args.store.now c.loop.store c.step.new.store c.loop.invariant.0 c.in-Err.ensures.grows
+
+pub loop-preserved : goal.loop-preserved
+loop-preserved g c =
+    let w0 = (g.W.World.words c.args.world.now c.args.store.now) in
+    let w = (g.W.World.words c.loop.world c.loop.store) in
+    let w' = (g.W.World.words c.step.new.world c.step.new.store) in
+    let grows = g.met.W.World.goes_on c.args.world.now c.loop.world c.step.new.world c.args.store.now c.loop.store c.step.new.store c.loop.invariant.0 c.in-Ok.ensures.grows in
+    let k = g.met.W.World.keeps c.loop.world c.step.new.world c.loop.store c.step.new.store c.in-Ok.ensures.grows in
+    let H = c.loop.invariant.3 c.requires.held.0 c.requires.held.1 in
+    let same : IsAlike (whole w0 c.args.machine.now.frames.items c.args.task c.args.machine.now.rewrites c.args.budget.now) (whole w' c.loop.machine.frames.items c.loop.task c.loop.machine.rewrites c.loop.budget) =
+    c.loop.invariant.2 ∙ ap capped (sym (same_whole w w' k c.requires.held.0 c.loop.machine.frames.items c.loop.task H c.loop.machine.rewrites c.loop.budget)) in
+    (grows, le_trans c.in-Ok.ensures.falls c.loop.invariant.1, same ∙ c.in-Ok.ensures.goes, λ asked h. c.in-Ok.ensures.known asked (c.loop.invariant.3 asked h))

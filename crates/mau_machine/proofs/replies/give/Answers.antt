@@ -1,0 +1,256 @@
+use Rattle.std.proofs.Common.{suc, ◌<◌, length, drop, get_or, true, refl, sym, ◌∙◌, ap, subst, rules, inl, inr}
+use Rattle.std.proofs.lemmas.Option.{slice_get-get_or}
+use Rattle.std.specs.Vec.{with_item}
+use Rattle.mau_evaluation.specs.Run.{counted, counted_if, where_true}
+use Rattle.mau_machine.specs.Words.{capped, eval_on, solve_on, HasSideBy}
+use Rattle.mau_machine.specs.Machine.{as_value, as_answer, on_arguments, goes_on, comes, waits_in, task_in}
+use Rattle.mau_machine.specs.Known.{value_of}
+use Rattle.mau_machine.specs.declared.goal.Goal.TheVariants as Goals
+use Rattle.mau_machine.specs.declared.frame.Choosing.{Choosing}
+use Rattle.mau_machine.specs.declared.frame.Frame.TheVariants as Waiting
+use Rattle.mau_machine.specs.declared.frame.Control.TheVariants as Next
+use Rattle.mau_machine.proofs.Through.{alike_pushed, alike_popped, ends_popped, popped_result, last_is}
+use Rattle.mau_machine.proofs.Branches.{put_trees, put_none, second_side, second_side_ends, sorts_tested}
+use Rattle.mau_machine.proofs.Held.{held_popped, held_swapped, last_known, held_later, popped_known, same_state, kind_at_get, asks_on}
+use Rattle.mau_machine.proofs.replies.give.Goals as goal
+
+pub returns-then-place-len-clause-goes : goal.returns-then-place-len-clause-goes
+returns-then-place-len-clause-goes g c =
+    let w = (g.W.World.words c.args.world.now c.args.store.now) in
+    let f = Waiting.Argument c.in-Some-Argument.arguments c.in-Some-Argument.place in
+    let p = last_is w c.args.machine.now.frames.items c.pop.new.self.items f _ c.in-Some-Argument.ensures.items c.in-Some-Argument.field-0-is in
+    let a = c.in-Some-Argument.arguments in
+    λ b. alike_popped w c.args.machine.now.frames.items c.pop.new.self.items f (comes w.rules (task_in w (Next.Value c.args.value)) c.args.machine.now.rewrites b) (comes w.rules (task_in w (Next.Evaluating a)) c.args.machine.now.rewrites b) p
+    (ap (λ ts. capped (as_value (counted c.args.machine.now.rewrites (on_arguments w.rules a.level a.op.0 a.order.items (drop a.next a.order.items) ts b)))) (put_none w a.args.items c.in-Some-Argument.place (w.tree c.args.value.0) (search (rules, c.if-place-len.true))))
+
+pub returns-then-place-len-clause-known : goal.returns-then-place-len-clause-known
+returns-then-place-len-clause-known g c =
+    let w = (g.W.World.words c.args.world.now c.args.store.now) in
+    let f = Waiting.Argument c.in-Some-Argument.arguments c.in-Some-Argument.place in
+    let p = last_is w c.args.machine.now.frames.items c.pop.new.self.items f _ c.in-Some-Argument.ensures.items c.in-Some-Argument.field-0-is in
+    let a = c.in-Some-Argument.arguments in
+    λ asked h. held_popped w asked c.args.machine.now.frames.items c.pop.new.self.items (Next.Value c.args.value) (Next.Evaluating a) f p h (last_known w asked c.args.machine.now.frames.items c.pop.new.self.items (Next.Value c.args.value) f p h).0 refl
+
+pub returns-in-Some-Argument-clause-goes : goal.returns-in-Some-Argument-clause-goes
+returns-in-Some-Argument-clause-goes g c =
+    let w = (g.W.World.words c.args.world.now c.args.store.now) in
+    let f = Waiting.Argument c.in-Some-Argument.arguments c.in-Some-Argument.place in
+    let p = last_is w c.args.machine.now.frames.items c.pop.new.self.items f _ c.in-Some-Argument.ensures.items c.in-Some-Argument.field-0-is in
+    let a = c.in-Some-Argument.arguments in
+    λ b. alike_popped w c.args.machine.now.frames.items c.pop.new.self.items f (comes w.rules (task_in w (Next.Value c.args.value)) c.args.machine.now.rewrites b) _ p
+    (ap (λ ts. capped (as_value (counted c.args.machine.now.rewrites (on_arguments w.rules a.level a.op.0 a.order.items (drop a.next a.order.items) ts b)))) (put_trees w a.args.items c.in-Some-Argument.place c.args.value))
+
+pub returns-in-Some-Argument-clause-known : goal.returns-in-Some-Argument-clause-known
+returns-in-Some-Argument-clause-known g c =
+    let w = (g.W.World.words c.args.world.now c.args.store.now) in
+    let f = Waiting.Argument c.in-Some-Argument.arguments c.in-Some-Argument.place in
+    let p = last_is w c.args.machine.now.frames.items c.pop.new.self.items f _ c.in-Some-Argument.ensures.items c.in-Some-Argument.field-0-is in
+    let a = c.in-Some-Argument.arguments in
+    let i = c.in-Some-Argument.place in
+    let v = c.args.value in
+    let within : i < length a.args.items = search (rules, c.if-place-len.false) in
+    λ asked h. let q = last_known w asked c.args.machine.now.frames.items c.pop.new.self.items (Next.Value c.args.value) f p h in
+    held_popped w asked c.args.machine.now.frames.items c.pop.new.self.items (Next.Value c.args.value) (Next.Evaluating (record a { args = with_item a.args i v })) f p h
+    (g.met.W.World.puts c.args.world.now c.args.store.now a.op.0 a.args.items i (get_or a.args.items i v) v q.0 (slice_get-get_or a.args.items i v within) (g.met.W.World.settled c.args.world.now c.args.store.now v.0 h.next) (q.1 ∙ sym (kind_at_get w a.args.items i v within))) refl
+
+pub returns-in-Some-Again-clause-goes : goal.returns-in-Some-Again-clause-goes
+returns-in-Some-Again-clause-goes g c =
+    let w = (g.W.World.words c.args.world.now c.args.store.now) in
+    let f = Waiting.Again c.in-Some-Again.field-0-0 in
+    let p = last_is w c.args.machine.now.frames.items c.pop.new.self.items f _ c.in-Some-Again.ensures.items c.in-Some-Again.field-0-is in
+    λ b. alike_popped w c.args.machine.now.frames.items c.pop.new.self.items f (comes w.rules (task_in w (Next.Value c.args.value)) c.args.machine.now.rewrites b) (comes w.rules (task_in w (Next.Value c.args.value)) c.args.machine.now.rewrites b) p refl
+
+pub returns-in-Some-Again-clause-known : goal.returns-in-Some-Again-clause-known
+returns-in-Some-Again-clause-known g c =
+    let w = (g.W.World.words c.args.world.now c.args.store.now) in
+    let f = Waiting.Again c.in-Some-Again.field-0-0 in
+    let p = last_is w c.args.machine.now.frames.items c.pop.new.self.items f _ c.in-Some-Again.ensures.items c.in-Some-Again.field-0-is in
+    λ asked h. held_popped w asked c.args.machine.now.frames.items c.pop.new.self.items (Next.Value c.args.value) (Next.Value c.args.value) f p h h.next (ap value_of (last_known w asked c.args.machine.now.frames.items c.pop.new.self.items (Next.Value c.args.value) f p h).1)
+
+pub side-requires-clause-side : goal.side-requires-clause-side
+side-requires-clause-side g c =
+    let w = (g.W.World.words c.args.world.now c.args.store.now) in
+    let f = Waiting.Left c.in-Some-Left.condition in
+    let p = last_is w c.args.machine.now.frames.items c.pop.new.self.items f _ c.in-Some-Left.ensures.items c.in-Some-Left.field-0-is in
+    let L = last_known w c.requires.held.0 c.args.machine.now.frames.items c.pop.new.self.items (Next.Value c.args.value) f p c.requires.held.1 in
+    subst (λ z. HasSideBy true z) L.0.1 tt
+
+pub side-requires-clause-binding : goal.side-requires-clause-binding
+side-requires-clause-binding g c =
+    let w = (g.W.World.words c.args.world.now c.args.store.now) in
+    let f = Waiting.Left c.in-Some-Left.condition in
+    let p = last_is w c.args.machine.now.frames.items c.pop.new.self.items f _ c.in-Some-Left.ensures.items c.in-Some-Left.field-0-is in
+    let L = last_known w c.requires.held.0 c.args.machine.now.frames.items c.pop.new.self.items (Next.Value c.args.value) f p c.requires.held.1 in
+    L.0.0
+
+pub returns-in-Ok-clause-goes : goal.returns-in-Ok-clause-goes
+returns-in-Ok-clause-goes g c =
+    let w = (g.W.World.words c.args.world.now c.args.store.now) in
+    let w' = (g.W.World.words c.side.new.world c.side.new.store) in
+    let k = (g.met.W.World.keeps c.args.world.now c.side.new.world c.args.store.now c.side.new.store c.side.ensures.grows) in
+    let f = Waiting.Left c.in-Some-Left.condition in
+    let p = last_is w' c.args.machine.now.frames.items c.pop.new.self.items f _ c.in-Some-Left.ensures.items c.in-Some-Left.field-0-is in
+    let x = c.in-Some-Left.condition in
+    let t = c.in-Ok.term in
+    let q = Waiting.Right x c.args.value in
+    λ b. alike_popped w' c.args.machine.now.frames.items c.pop.new.self.items f (comes w'.rules (task_in w' (Next.Value c.args.value)) c.args.machine.now.rewrites b) (goes_on w'.rules (waits_in w' q) (as_value (counted c.args.machine.now.rewrites (eval_on w'.rules x.level (w'.tree t.0) b)))) p
+    (ap capped (second_side w'.rules x.level x.condition x.at (w'.bound x.binding) (w'.tree c.args.value.0) (w'.tree t.0) c.args.machine.now.rewrites b (c.in-Ok.ensures.value b)))
+    ∙ alike_pushed w' c.pop.new.self.items c.wait.new.self.frames.items q _ (as_value (counted c.wait.new.self.rewrites (eval_on w'.rules x.level (w'.tree t.0) b))) c.in_ok-wait-in-Ok.ensures.frames
+    (ap (λ n. capped (goes_on w'.rules (waits_in w' q) (as_value (counted n (eval_on w'.rules x.level (w'.tree t.0) b))))) (sym c.in_ok-wait-in-Ok.ensures.rewrites))
+
+pub returns-in-Ok-clause-known : goal.returns-in-Ok-clause-known
+returns-in-Ok-clause-known g c =
+    let w = (g.W.World.words c.args.world.now c.args.store.now) in
+    let w' = (g.W.World.words c.side.new.world c.side.new.store) in
+    let k = (g.met.W.World.keeps c.args.world.now c.side.new.world c.args.store.now c.side.new.store c.side.ensures.grows) in
+    let f = Waiting.Left c.in-Some-Left.condition in
+    let p = last_is w' c.args.machine.now.frames.items c.pop.new.self.items f _ c.in-Some-Left.ensures.items c.in-Some-Left.field-0-is in
+    let x = c.in-Some-Left.condition in
+    let t = c.in-Ok.term in
+    let q = Waiting.Right x c.args.value in
+    λ asked h. let H = held_later w w' k asked c.args.machine.now.frames.items (Next.Value c.args.value) h in
+    let L = (last_known w' asked c.args.machine.now.frames.items c.pop.new.self.items (Next.Value c.args.value) f p H).0 in
+    held_swapped w' asked c.args.machine.now.frames.items c.pop.new.self.items c.wait.new.self.frames.items (Next.Value c.args.value) (Next.Eval x.level t) f q p c.in_ok-wait-in-Ok.ensures.frames H (L.0, L.1, H.next) c.in-Ok.ensures.known refl tt
+
+pub returns-in-Some-Left-clause-ends : goal.returns-in-Some-Left-clause-ends
+returns-in-Some-Left-clause-ends g c =
+    let w = (g.W.World.words c.args.world.now c.args.store.now) in
+    let w' = (g.W.World.words c.side.new.world c.side.new.store) in
+    let k = (g.met.W.World.keeps c.args.world.now c.side.new.world c.args.store.now c.side.new.store c.side.ensures.grows) in
+    let f = Waiting.Left c.in-Some-Left.condition in
+    let p = last_is w' c.args.machine.now.frames.items c.pop.new.self.items f _ c.in-Some-Left.ensures.items c.in-Some-Left.field-0-is in
+    let x = c.in-Some-Left.condition in
+    λ b. ends_popped w' c.args.machine.now.frames.items c.pop.new.self.items f (comes w'.rules (task_in w' (Next.Value c.args.value)) c.args.machine.now.rewrites b) c.in-Err.end p (second_side_ends w'.rules x.level x.condition x.at (w'.bound x.binding) (w'.tree c.args.value.0) c.args.machine.now.rewrites b c.in-Err.end (c.in-Err.ensures.ends b))
+
+pub same-holds-requires-clause-left : goal.same-holds-requires-clause-left
+same-holds-requires-clause-left g c =
+    let w = (g.W.World.words c.args.world.now c.args.store.now) in
+    let f = Waiting.Right c.in-Some-Right.condition c.in-Some-Right.left in
+    let p = last_is w c.args.machine.now.frames.items c.pop.new.self.items f _ c.in-Some-Right.ensures.items c.in-Some-Right.field-0-is in
+    let L = last_known w c.requires.held.0 c.args.machine.now.frames.items c.pop.new.self.items (Next.Value c.args.value) f p c.requires.held.1 in
+    g.met.W.World.settled c.args.world.now c.args.store.now c.in-Some-Right.left.0 L.0.2
+
+pub proceed-requires-clause-binding : goal.proceed-requires-clause-binding
+proceed-requires-clause-binding g c =
+    let w = (g.W.World.words c.args.world.now c.args.store.now) in
+    let f = Waiting.Right c.in-Some-Right.condition c.in-Some-Right.left in
+    let p = last_is w c.args.machine.now.frames.items c.pop.new.self.items f _ c.in-Some-Right.ensures.items c.in-Some-Right.field-0-is in
+    let L = last_known w c.requires.held.0 c.args.machine.now.frames.items c.pop.new.self.items (Next.Value c.args.value) f p c.requires.held.1 in
+    L.0.0
+
+pub proceed-requires-clause-passes : goal.proceed-requires-clause-passes
+proceed-requires-clause-passes g c =
+    let w = (g.W.World.words c.args.world.now c.args.store.now) in
+    let f = Waiting.Right c.in-Some-Right.condition c.in-Some-Right.left in
+    let p = last_is w c.args.machine.now.frames.items c.pop.new.self.items f _ c.in-Some-Right.ensures.items c.in-Some-Right.field-0-is in
+    let L = last_known w c.requires.held.0 c.args.machine.now.frames.items c.pop.new.self.items (Next.Value c.args.value) f p c.requires.held.1 in
+    inl L.0.1
+
+pub returns-in-Some-Right-clause-goes : goal.returns-in-Some-Right-clause-goes
+returns-in-Some-Right-clause-goes g c =
+    let w = (g.W.World.words c.args.world.now c.args.store.now) in
+    let f = Waiting.Right c.in-Some-Right.condition c.in-Some-Right.left in
+    let p = last_is w c.args.machine.now.frames.items c.pop.new.self.items f _ c.in-Some-Right.ensures.items c.in-Some-Right.field-0-is in
+    let x = c.in-Some-Right.condition in
+    λ b. popped_result w c.args.machine.now.frames.items c.pop.new.self.items f (comes w.rules (task_in w (Next.Value c.args.value)) c.args.machine.now.rewrites b) (as_answer (counted_if c.args.machine.now.rewrites (where_true c.same-holds.result (solve_on w.rules x.level x.condition (suc x.at) (w.bound x.binding)) b))) (λ next. comes w.rules (task_in w next) c.args.machine.now.rewrites b) c.proceed.result p
+    (ap (λ y. as_answer (counted_if c.args.machine.now.rewrites (where_true y (solve_on w.rules x.level x.condition (suc x.at) (w.bound x.binding)) b))) (sym c.same-holds.ensures)) (c.proceed.ensures.goes c.args.machine.now.rewrites b)
+
+pub returns-in-Some-Right-clause-ends : goal.returns-in-Some-Right-clause-ends
+returns-in-Some-Right-clause-ends g c =
+    λ b. c.proceed.ensures.ends _
+
+pub returns-in-Some-Right-clause-known : goal.returns-in-Some-Right-clause-known
+returns-in-Some-Right-clause-known g c =
+    let w = (g.W.World.words c.args.world.now c.args.store.now) in
+    let f = Waiting.Right c.in-Some-Right.condition c.in-Some-Right.left in
+    let p = last_is w c.args.machine.now.frames.items c.pop.new.self.items f _ c.in-Some-Right.ensures.items c.in-Some-Right.field-0-is in
+    popped_known w w (same_state w) c.args.machine.now.frames.items c.pop.new.self.items (Next.Value c.args.value) f c.proceed.result p c.proceed.ensures.known
+
+pub sorted-requires-clause-asks : goal.sorted-requires-clause-asks
+sorted-requires-clause-asks g c =
+    let w = (g.W.World.words c.args.world.now c.args.store.now) in
+    let f = Waiting.Sorting c.in-Some-Sorting.condition in
+    let p = last_is w c.args.machine.now.frames.items c.pop.new.self.items f _ c.in-Some-Sorting.ensures.items c.in-Some-Sorting.field-0-is in
+    let L = last_known w c.requires.held.0 c.args.machine.now.frames.items c.pop.new.self.items (Next.Value c.args.value) f p c.requires.held.1 in
+    L.0.1
+
+pub proceed-requires-in-Ok-sorted-clause-binding : goal.proceed-requires-in-Ok-sorted-clause-binding
+proceed-requires-in-Ok-sorted-clause-binding g c =
+    let w = (g.W.World.words c.args.world.now c.args.store.now) in
+    let w' = (g.W.World.words c.sorted.new.self c.sorted.new.store) in
+    let k = (g.met.W.World.keeps c.args.world.now c.sorted.new.self c.args.store.now c.sorted.new.store c.sorted.ensures.grows) in
+    let f = Waiting.Sorting c.in-Some-Sorting.condition in
+    let p = last_is w c.args.machine.now.frames.items c.pop.new.self.items f _ c.in-Some-Sorting.ensures.items c.in-Some-Sorting.field-0-is in
+    let L = last_known w c.requires.held.0 c.args.machine.now.frames.items c.pop.new.self.items (Next.Value c.args.value) f p c.requires.held.1 in
+    (k.bindings c.in-Some-Sorting.condition.condition c.in-Some-Sorting.condition.at c.in-Some-Sorting.condition.binding L.0.0).0
+
+pub proceed-requires-in-Ok-sorted-clause-passes : goal.proceed-requires-in-Ok-sorted-clause-passes
+proceed-requires-in-Ok-sorted-clause-passes g c =
+    let w = (g.W.World.words c.args.world.now c.args.store.now) in
+    let w' = (g.W.World.words c.sorted.new.self c.sorted.new.store) in
+    let k = (g.met.W.World.keeps c.args.world.now c.sorted.new.self c.args.store.now c.sorted.new.store c.sorted.ensures.grows) in
+    let f = Waiting.Sorting c.in-Some-Sorting.condition in
+    let p = last_is w c.args.machine.now.frames.items c.pop.new.self.items f _ c.in-Some-Sorting.ensures.items c.in-Some-Sorting.field-0-is in
+    let L = last_known w c.requires.held.0 c.args.machine.now.frames.items c.pop.new.self.items (Next.Value c.args.value) f p c.requires.held.1 in
+    inr (asks_on w w' k c.in-Some-Sorting.condition.condition c.in-Some-Sorting.condition.at Goals.Sort L.0.1)
+
+pub returns-in-Ok-sorted-clause-goes : goal.returns-in-Ok-sorted-clause-goes
+returns-in-Ok-sorted-clause-goes g c =
+    let w = (g.W.World.words c.args.world.now c.args.store.now) in
+    let w' = (g.W.World.words c.sorted.new.self c.sorted.new.store) in
+    let k = (g.met.W.World.keeps c.args.world.now c.sorted.new.self c.args.store.now c.sorted.new.store c.sorted.ensures.grows) in
+    let f = Waiting.Sorting c.in-Some-Sorting.condition in
+    let p = last_is w' c.args.machine.now.frames.items c.pop.new.self.items f _ c.in-Some-Sorting.ensures.items c.in-Some-Sorting.field-0-is in
+    let x = c.in-Some-Sorting.condition in
+    λ b. popped_result w' c.args.machine.now.frames.items c.pop.new.self.items f (comes w'.rules (task_in w' (Next.Value c.args.value)) c.args.machine.now.rewrites b) (as_answer (counted_if c.args.machine.now.rewrites (where_true c.in-Ok-sorted.holds (solve_on w'.rules x.level x.condition (suc x.at) (w'.bound x.binding)) b))) (λ next. comes w'.rules (task_in w' next) c.args.machine.now.rewrites b) c.proceed-in-Ok-sorted.result p
+    (sorts_tested w'.rules x.level x.condition x.at (w'.bound x.binding) (w'.tree c.args.value.0) c.in-Ok-sorted.holds c.args.machine.now.rewrites b c.in-Ok-sorted.ensures.value) (c.proceed-in-Ok-sorted.ensures.goes c.args.machine.now.rewrites b)
+
+pub returns-in-Ok-sorted-clause-ends : goal.returns-in-Ok-sorted-clause-ends
+returns-in-Ok-sorted-clause-ends g c =
+    λ b. c.proceed-in-Ok-sorted.ensures.ends _
+
+pub returns-in-Ok-sorted-clause-known : goal.returns-in-Ok-sorted-clause-known
+returns-in-Ok-sorted-clause-known g c =
+    let w = (g.W.World.words c.args.world.now c.args.store.now) in
+    let w' = (g.W.World.words c.sorted.new.self c.sorted.new.store) in
+    let k = (g.met.W.World.keeps c.args.world.now c.sorted.new.self c.args.store.now c.sorted.new.store c.sorted.ensures.grows) in
+    let f = Waiting.Sorting c.in-Some-Sorting.condition in
+    let p = last_is w' c.args.machine.now.frames.items c.pop.new.self.items f _ c.in-Some-Sorting.ensures.items c.in-Some-Sorting.field-0-is in
+    popped_known w w' k c.args.machine.now.frames.items c.pop.new.self.items (Next.Value c.args.value) f c.proceed-in-Ok-sorted.result p c.proceed-in-Ok-sorted.ensures.known
+
+pub choices-requires-clause-asks : goal.choices-requires-clause-asks
+choices-requires-clause-asks g c =
+    let w = (g.W.World.words c.args.world.now c.args.store.now) in
+    let f = Waiting.Matching c.in-Some-Matching.condition in
+    let p = last_is w c.args.machine.now.frames.items c.pop.new.self.items f _ c.in-Some-Matching.ensures.items c.in-Some-Matching.field-0-is in
+    let L = last_known w c.requires.held.0 c.args.machine.now.frames.items c.pop.new.self.items (Next.Value c.args.value) f p c.requires.held.1 in
+    L.0.1
+
+pub choices-requires-clause-binding : goal.choices-requires-clause-binding
+choices-requires-clause-binding g c =
+    let w = (g.W.World.words c.args.world.now c.args.store.now) in
+    let f = Waiting.Matching c.in-Some-Matching.condition in
+    let p = last_is w c.args.machine.now.frames.items c.pop.new.self.items f _ c.in-Some-Matching.ensures.items c.in-Some-Matching.field-0-is in
+    let L = last_known w c.requires.held.0 c.args.machine.now.frames.items c.pop.new.self.items (Next.Value c.args.value) f p c.requires.held.1 in
+    L.0.0
+
+pub returns-in-Ok-choices-clause-goes : goal.returns-in-Ok-choices-clause-goes
+returns-in-Ok-choices-clause-goes g c =
+    let w = (g.W.World.words c.args.world.now c.args.store.now) in
+    let w' = (g.W.World.words c.choices.new.self c.choices.new.store) in
+    let k = (g.met.W.World.keeps c.args.world.now c.choices.new.self c.args.store.now c.choices.new.store c.choices.ensures.grows) in
+    let f = Waiting.Matching c.in-Some-Matching.condition in
+    let p = last_is w' c.args.machine.now.frames.items c.pop.new.self.items f _ c.in-Some-Matching.ensures.items c.in-Some-Matching.field-0-is in
+    let x = c.in-Some-Matching.condition in
+    λ b. alike_popped w' c.args.machine.now.frames.items c.pop.new.self.items f (comes w'.rules (task_in w' (Next.Value c.args.value)) c.args.machine.now.rewrites b) _ p (ap (λ z. capped (as_answer (counted_if c.args.machine.now.rewrites z))) (sym (c.in-Ok-choices.ensures.value x.level b)))
+
+pub returns-in-Ok-choices-clause-known : goal.returns-in-Ok-choices-clause-known
+returns-in-Ok-choices-clause-known g c =
+    let w = (g.W.World.words c.args.world.now c.args.store.now) in
+    let w' = (g.W.World.words c.choices.new.self c.choices.new.store) in
+    let k = (g.met.W.World.keeps c.args.world.now c.choices.new.self c.args.store.now c.choices.new.store c.choices.ensures.grows) in
+    let f = Waiting.Matching c.in-Some-Matching.condition in
+    let p = last_is w' c.args.machine.now.frames.items c.pop.new.self.items f _ c.in-Some-Matching.ensures.items c.in-Some-Matching.field-0-is in
+    let x = c.in-Some-Matching.condition in
+    let y : Choosing g.row.W-Choices.Denot = record { level = x.level; condition = x.condition; at = x.at; choices = c.in-Ok-choices.choices; before = c.args.machine.now.rewrites } in
+    λ asked h. held_popped w' asked c.args.machine.now.frames.items c.pop.new.self.items (Next.Value c.args.value) (Next.Choose y) f p (held_later w w' k asked c.args.machine.now.frames.items (Next.Value c.args.value) h) c.in-Ok-choices.ensures.known refl

@@ -1,0 +1,23 @@
+use Rattle.std.proofs.Common.{◌≡◌, subst}
+use Rattle.std.specs.Prelude.{IfSome, IfNone}
+use Rattle.mau_terms.specs.Tree.{node}
+use Rattle.mau_evaluation.specs.Evaluation.{order_of}
+use Rattle.mau_machine.specs.Words.{trees, IsLeaf}
+use Rattle.mau_machine.proofs.Branches.{opened_leaf, opened}
+use Rattle.mau_machine.proofs.steps.open.Goals as goal
+
+pub returns-in-Ok-Some-clause-goes : goal.returns-in-Ok-Some-clause-goes
+returns-in-Ok-Some-clause-goes g c =
+    let w = (g.W.World.words c.args.world.now c.args.store.now) in
+    let t = c.args.term.0 in
+    opened w.rules c.args.level c.if-level-eq0.false (w.tree t) (g.met.W.World.normal c.args.world.now c.args.store.now t c.requires.term) (g.met.W.World.within c.args.world.now c.args.store.now t c.requires.term)
+    c.in-Ok-Some.op.0 (trees w c.in-Ok-Some.args.items) c.in-Ok-Some.order.items
+    (subst (λ o. IfSome o (λ x. w.tree t ≡ node x.0.0 (trees w x.1.items))) c.in-Ok-Some.field-0-is c.in-Ok-Some.ensures.node)
+    (subst (λ o. IfSome o (λ x. x.2.items ≡ order_of w.rules.program x.0.0 (trees w x.1.items))) c.in-Ok-Some.field-0-is c.in-Ok-Some.ensures.order)
+
+pub returns-in-Ok-None-clause-goes : goal.returns-in-Ok-None-clause-goes
+returns-in-Ok-None-clause-goes g c =
+    let w = (g.W.World.words c.args.world.now c.args.store.now) in
+    let t = c.args.term.0 in
+    opened_leaf w.rules c.args.level c.if-level-eq0.false (w.tree t) (g.met.W.World.normal c.args.world.now c.args.store.now t c.requires.term) (g.met.W.World.within c.args.world.now c.args.store.now t c.requires.term)
+    (subst (λ o. IfNone o (IsLeaf (w.tree t))) c.in-Ok-None.field-0-is c.in-Ok-None.ensures.leaf)

@@ -1,0 +1,138 @@
+-- What the loop's frames and its next task mean: computations that go on with outcomes.
+use Rattle.std.specs.Prelude.{ℕ, suc, ◌+◌, List, [], ◌∷◌, drop, Bool, true, false, Option, Some, None}
+use Rattle.mau_terms.specs.Tree.{Tree}
+use Rattle.mau_terms.specs.Norm.{build}
+use Rattle.mau_evaluation.specs.Run.{Outcome, done, ended, Run, stopped, counted, counted_if, and_then, and_try, choose, spend, where_true}
+use Rattle.mau_evaluation.specs.Listing.{same_tree}
+use Rattle.mau_evaluation.specs.Evaluation.{Binding, levels, in_places, within_limits, top_changed, at_top, go_from, put, has_number}
+use Rattle.mau_machine.specs.Words.{Rules, Words, trees, rest_of, eval_on, sorts_on, solve_on, choose_from, side_of, sort_in}
+use Rattle.mau_machine.specs.declared.frame.Frame.{Frame}
+use Rattle.mau_machine.specs.declared.frame.Frame.TheVariants as Waiting
+use Rattle.mau_machine.specs.declared.frame.Control.{Control}
+use Rattle.mau_machine.specs.declared.frame.Control.TheVariants as Next
+
+-- ---- frames and tasks, with what their handles stand for; k is a number of levels, e the number of a condition and i that of a fragment
+
+pub data Waits : Type 0 where
+  -- f over the arguments ts, of which those at the places in the order are evaluated; that at the place i is due, and those from next on are left
+  argument : (k f : ℕ) (ts : List Tree) (order : List ℕ) (next i : ℕ) → Waits
+  again : Waits
+  left_side : (k e i : ℕ) (σ : Binding) → Waits
+  -- the left side has the value v
+  right_side : (k e i : ℕ) (σ : Binding) (v : Tree) → Waits
+  sorting : (k e i : ℕ) (σ : Binding) → Waits
+  matching : (k e i : ℕ) (σ : Binding) → Waits
+  -- what the solutions give that are left, and what was counted before
+  choice : (unchosen : Run (Option Binding)) (before : ℕ) → Waits
+  -- what the candidates give that are left, what the one that is tried makes of the term t, and what was counted before
+  trying : (k : ℕ) (t : Tree) (untried : Run (Option Tree)) (makes : Binding → Tree) (before : ℕ) → Waits
+
+pub data Task : Type 0 where
+  evaluates : (k : ℕ) (t : Tree) → Task
+  arguments : (k f : ℕ) (ts : List Tree) (order : List ℕ) (next : ℕ) → Task
+  looks_at_top : (k : ℕ) (t : Tree) → Task
+  attempts : (k : ℕ) (t : Tree) (untried : Run (Option Tree)) → Task
+  solves : (k e i : ℕ) (σ : Binding) → Task
+  chooses : (unchosen : Run (Option Binding)) (before : ℕ) → Task
+  has_value : (v : Tree) → Task
+  holds : (σ : Binding) → Task
+  fails : Task
+
+module _ {A C S : Type 0} (w : Words A C S) where
+  abbrev pub waits_in : Frame A C S → Waits
+  waits_in (Waiting.Argument a i) = argument a.level a.op.0 (trees w a.args.items) a.order.items a.next i
+  waits_in (Waiting.Again t) = again
+  waits_in (Waiting.Left c) = left_side c.level c.condition c.at (w.bound c.binding)
+  waits_in (Waiting.Right c t) = right_side c.level c.condition c.at (w.bound c.binding) (w.tree t.0)
+  waits_in (Waiting.Sorting c) = sorting c.level c.condition c.at (w.bound c.binding)
+  waits_in (Waiting.Matching c) = matching c.level c.condition c.at (w.bound c.binding)
+  waits_in (Waiting.Choice c) = choice (w.unchosen c.choices c.level c.condition c.at) c.before
+  waits_in (Waiting.Trying x before) = trying x.level (w.tree x.term.0) (w.untried x.attempts x.level) (w.makes x.attempts) before
+
+  abbrev pub task_in : Control A C S → Task
+  task_in (Next.Eval k t) = evaluates k (w.tree t.0)
+  task_in (Next.Evaluating a) = arguments a.level a.op.0 (trees w a.args.items) a.order.items a.next
+  task_in (Next.Top k t) = looks_at_top k (w.tree t.0)
+  task_in (Next.Attempt x) = attempts x.level (w.tree x.term.0) (w.untried x.attempts x.level)
+  task_in (Next.Solve c) = solves c.level c.condition c.at (w.bound c.binding)
+  task_in (Next.Choose c) = chooses (w.unchosen c.choices c.level c.condition c.at) c.before
+  task_in (Next.Value t) = has_value (w.tree t.0)
+  task_in (Next.Held e σ) = holds (w.bound σ)
+  task_in (Next.Failed e) = fails
+
+-- ---- what they give
+
+-- what a frame waits for: a value, or what became of a condition
+pub data Reply : Type 0 where
+  gave : Tree → Reply
+  held : Binding → Reply
+  failed : Reply
+
+abbrev pub as_value : Outcome Tree → Outcome Reply
+as_value (done t r b) = done (gave t) r b
+as_value (ended e) = ended e
+
+-- a failure counts nothing
+abbrev pub as_answer : Outcome (Option Binding) → Outcome Reply
+as_answer (done (Some σ) r b) = done (held σ) r b
+as_answer (done None r b) = done failed 0 b
+as_answer (ended e) = ended e
+
+module _ (R : Rules) where
+  -- a rebuilt term, and whether its top has changed
+  abbrev pub from_built : ℕ → Bool → Tree → Run Tree
+  from_built k changed t = choose changed (eval_on R k t) (at_top R.program (levels R.program R.limit k) (sorts_on R (suc k)) (eval_on R (suc k)) t)
+
+  -- the arguments ts of f, of which those at the places is are evaluated; then what is built over them
+  abbrev pub on_arguments : ℕ → ℕ → List ℕ → List ℕ → List Tree → Run Tree
+  on_arguments k f order is ts =
+      and_then (in_places R.program (levels R.program R.limit k) (sorts_on R (suc k)) is ts) λ us.
+      and_then (within_limits R.program.sign.theory (build (R.program.sign.theory f) f us)) λ t.
+      from_built k (top_changed (R.program.sign.theory f) order f us t) t
+
+  -- the candidates that are left, and then the term
+  abbrev pub on_attempts : ℕ → Tree → Run (Option Tree) → Run Tree
+  on_attempts k t untried = and_then untried (go_from R.program (levels R.program R.limit k) (sorts_on R (suc k)) (eval_on R (suc k)) t)
+
+  -- what a frame gives with a value or an answer, with what was counted since it began to wait
+  abbrev pub after : Waits → Reply → ℕ → Run Reply
+  after (argument k f ts order next i) (gave v) r = λ b. as_value (counted r (on_arguments k f order (drop next order) (put ts i v) b))
+  after again (gave v) r = λ b. done (gave v) r b
+  after (left_side k e i σ) (gave v) r =
+      λ b. as_answer (counted_if r (and_try (eval_on R k (side_of R e i true σ)) (λ u. where_true (same_tree v u) (solve_on R k e (suc i) σ)) b))
+  after (right_side k e i σ u) (gave v) r = λ b. as_answer (counted_if r (where_true (same_tree u v) (solve_on R k e (suc i) σ) b))
+  after (sorting k e i σ) (gave v) r =
+      λ b. as_answer (counted_if r (and_try (sorts_on R k v) (λ ss. where_true (has_number ss (sort_in (rest_of R e i))) (solve_on R k e (suc i) σ)) b))
+  after (matching k e i σ) (gave v) r = λ b. as_answer (counted_if r (choose_from R k e i σ v b))
+  after (choice unchosen before) (held σ) r = λ b. done (held σ) (before + r) b
+  after (choice unchosen before) failed r = λ b. as_answer (counted_if before (unchosen b))
+  after (trying k t untried makes before) (held σ) r = λ b. as_value (counted (before + r) (spend (eval_on R (suc k) (makes σ)) b))
+  after (trying k t untried makes before) failed r = λ b. as_value (counted before (on_attempts k t untried b))
+  -- never
+  after f reply r = λ b. ended stopped
+
+  abbrev pub goes_on : Waits → Outcome Reply → Outcome Reply
+  goes_on f (done x r b) = after f x r b
+  goes_on f (ended e) = ended e
+
+  -- what a task gives, with what was counted since the last frame that counts apart, and the budget that is left
+  abbrev pub comes : Task → ℕ → Run Reply
+  comes (evaluates k t) r = λ b. as_value (counted r (eval_on R k t b))
+  comes (arguments k f ts order next) r = λ b. as_value (counted r (on_arguments k f order (drop next order) ts b))
+  comes (looks_at_top k t) r = λ b. as_value (counted r (from_built k false t b))
+  comes (attempts k t untried) r = λ b. as_value (counted r (on_attempts k t untried b))
+  comes (solves k e i σ) r = λ b. as_answer (counted_if r (solve_on R k e i σ b))
+  comes (chooses unchosen before) r = λ b. as_answer (counted_if before (unchosen b))
+  comes (has_value v) r = λ b. done (gave v) r b
+  comes (holds σ) r = λ b. done (held σ) r b
+  comes fails r = λ b. done failed 0 b
+
+module _ {A C S : Type 0} (w : Words A C S) where
+  -- what comes of an outcome through frames, of which the first one waits longest
+  abbrev pub through : List (Frame A C S) → Outcome Reply → Outcome Reply
+  through [] o = o
+  through (f ∷ fs) o = goes_on w.rules (waits_in w f) (through fs o)
+
+  -- what comes of all: of what is done next, through the frames
+  abbrev pub whole : List (Frame A C S) → Control A C S → ℕ → Run Reply
+  whole fs c r = λ b. through fs (comes w.rules (task_in w c) r b)

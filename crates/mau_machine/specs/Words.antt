@@ -1,0 +1,193 @@
+-- What a world's handles stand for, and what its calls say of them.
+use Rattle.std.specs.Prelude.{◌≡◌, ℕ, suc, ◌^◌, ◌-◌, ◌⊎◌, min, List, [], ◌∷◌, map, drop, Bool, true, false, Option, if◌then◌else◌}
+use Rattle.mau_terms.specs.Tree.{Tree, variable, numeral, apply}
+use Rattle.mau_terms.specs.Subst.{variables, instance}
+use Rattle.mau_terms.specs.declared.ids.TermId.{TermId}
+use Rattle.mau_evaluation.specs.Run.{Outcome, done, ended, Run, stopped, too_deep, overflowed, and_try, first_of, where_true}
+use Rattle.mau_evaluation.specs.Program.{Fragment, equals, matches, has_sort, reaches, Program}
+use Rattle.mau_evaluation.specs.Listing.{keep, solutions, kind_at}
+use Rattle.mau_evaluation.specs.Evaluation.{Binding, look_up, extend, agree, has_number, have_sorts, levels, eval, solve, settle, applied}
+use Rattle.mau_api.specs.declared.results.EvalEnd.{EvalEnd}
+use Rattle.mau_api.specs.declared.results.EvalEnd.TheVariants.{Stopped, TooDeep, Overflow, NoMemory}
+use Rattle.mau_machine.specs.declared.goal.Goal.{Goal}
+use Rattle.mau_machine.specs.declared.goal.Goal.TheVariants as Goals
+
+-- ---- outcomes as they are answered
+
+abbrev pub greatest_count : ℕ
+greatest_count = 2 ^ 64 - 1
+
+-- with the count as it is shown
+abbrev pub capped : {A : Type 0} → Outcome A → Outcome A
+capped (done x r b) = done x (min r greatest_count) b
+capped (ended e) = ended e
+
+-- the outcome is this end; want of memory says nothing
+abbrev pub IsEnd : {A : Type 0} → Outcome A → EvalEnd → Type 0
+IsEnd o Stopped = o ≡ ended stopped
+IsEnd o TooDeep = o ≡ ended too_deep
+IsEnd o Overflow = o ≡ ended overflowed
+IsEnd o NoMemory = Unit {0}
+
+-- ---- what a world goes by
+
+-- no call changes it
+pub record Rules : Type 0 where
+  pub program : Program
+  -- the budget of each condition of a membership
+  pub limit : ℕ
+  -- the condition that has a number: that of a candidate, or one that is asked
+  pub cond : ℕ → List Fragment
+
+-- What handles stand for in a state, and which of them are known there. A, C and S are the types of handles of candidates, of solutions of fragments,
+-- and of bindings.
+pub record Words (A C S : Type 0) : Type 1 where
+  pub rules : Rules
+  -- terms
+  pub tree : ℕ → Tree
+  pub knows_term : ℕ → Type 0
+  -- the term is known, and so are its sorts, those of all below it, and those of the identities
+  pub knows_value : ℕ → Type 0
+  -- the terms are known, and the operator f may be built over them
+  pub knows_operands : (f : ℕ) → List TermId → Type 0
+  -- the values of variables
+  pub bound : S → Binding
+  -- σ is a binding for the condition e, from its fragment i on
+  pub knows_binding : (e i : ℕ) → S → Type 0
+  -- what the candidates give that are left, by k levels
+  pub untried : A → (k : ℕ) → Run (Option Tree)
+  -- they are candidates for an application at the top of the term t
+  pub knows_attempts : (t : ℕ) → A → Type 0
+  -- what the last candidate makes of that term
+  pub makes : A → Binding → Tree
+  -- the last candidate is one for the term t, and has the condition e
+  pub knows_candidate : (t e : ℕ) → A → Type 0
+  -- what the solutions give that are left, at the fragment i of the condition e, by k levels
+  pub unchosen : C → (k e i : ℕ) → Run (Option Binding)
+  pub knows_choices : (e i : ℕ) → C → Type 0
+
+-- what is known in a state is known in a later one, and stands for the same
+pub record Keeps {A C S : Type 0} (w w' : Words A C S) : Type 0 where
+  pub rules : w'.rules ≡ w.rules
+  pub terms : (t : ℕ) → w.knows_term t → w'.knows_term t × (w'.tree t ≡ w.tree t)
+  pub values : (t : ℕ) → w.knows_value t → w'.knows_value t × (w'.tree t ≡ w.tree t)
+  pub operands : (f : ℕ) (ts : List TermId) → w.knows_operands f ts → w'.knows_operands f ts × (map (λ t. w'.tree t.0) ts ≡ map (λ t. w.tree t.0) ts)
+  pub bindings : (e i : ℕ) (σ : S) → w.knows_binding e i σ → w'.knows_binding e i σ × (w'.bound σ ≡ w.bound σ)
+  pub attempts : (t : ℕ) (a : A) → w.knows_attempts t a → w'.knows_attempts t a × ((k b : ℕ) → w'.untried a k b ≡ w.untried a k b)
+  pub candidates : (t e : ℕ) (a : A) → w.knows_candidate t e a → w'.knows_candidate t e a × ((σ : Binding) → w'.makes a σ ≡ w.makes a σ)
+  pub choices : (e i : ℕ) (c : C) → w.knows_choices e i c → w'.knows_choices e i c × ((k b : ℕ) → w'.unchosen c k e i b ≡ w.unchosen c k e i b)
+
+-- ---- fragments
+
+-- what a fragment asks; nothing behind the last one
+abbrev pub goal_of : List Fragment → Goal
+goal_of [] = Goals.Nothing
+goal_of (equals t u ∷ c) = Goals.Equality
+goal_of (matches p u ∷ c) = Goals.Matching
+goal_of (has_sort t s ∷ c) = Goals.Sort
+goal_of (reaches t u ∷ c) = Goals.Reaching
+
+-- a fragment of that kind has a left or a right side that is evaluated
+abbrev pub HasSideBy : Bool → Goal → Type 0
+HasSideBy right Goals.Nothing = ⊥
+HasSideBy right Goals.Equality = Unit {0}
+HasSideBy right Goals.Sort = right ≡ false
+HasSideBy right Goals.Matching = right ≡ true
+HasSideBy right Goals.Reaching = ⊥
+
+-- the left or the right side of the first fragment; p := u and t : s have one that is evaluated
+abbrev pub side_by : Bool → List Fragment → Tree
+side_by right [] = numeral 0
+side_by right (equals t u ∷ c) = if right then u else t
+side_by right (matches p u ∷ c) = u
+side_by right (has_sort t s ∷ c) = t
+side_by right (reaches t u ∷ c) = t
+
+abbrev pub sort_in : List Fragment → ℕ
+sort_in [] = 0
+sort_in (equals t u ∷ c) = 0
+sort_in (matches p u ∷ c) = 0
+sort_in (has_sort t s ∷ c) = s
+sort_in (reaches t u ∷ c) = 0
+
+abbrev pub pattern_in : List Fragment → Tree
+pattern_in [] = numeral 0
+pattern_in (equals t u ∷ c) = t
+pattern_in (matches p u ∷ c) = p
+pattern_in (has_sort t s ∷ c) = t
+pattern_in (reaches t u ∷ c) = t
+
+-- ---- what k levels give
+
+module _ (R : Rules) where
+  -- the condition e from its fragment i on
+  abbrev pub rest_of : ℕ → ℕ → List Fragment
+  rest_of e i = drop i (R.cond e)
+
+  abbrev pub eval_on : ℕ → Tree → Run Tree
+  eval_on k t = eval R.program k R.limit t
+
+  abbrev pub sorts_on : ℕ → Tree → Run (List ℕ)
+  sorts_on k t = (levels R.program R.limit k).sorts t
+
+  abbrev pub solve_on : ℕ → ℕ → ℕ → Binding → Run (Option Binding)
+  solve_on k e i σ = solve R.program (levels R.program R.limit k) (rest_of e i) σ
+
+  abbrev pub settle_on : ℕ → Tree → Run (List ℕ)
+  settle_on k t = settle R.program (levels R.program R.limit k) (sorts_on (suc k)) t
+
+  abbrev pub applied_on : ℕ → Tree → Run (Option Tree)
+  applied_on k t = applied R.program (levels R.program R.limit k) (sorts_on (suc k)) t
+
+  -- what the fragment p := u at i gives, where u has the value v
+  abbrev pub choose_from : ℕ → ℕ → ℕ → Binding → Tree → Run (Option Binding)
+  choose_from k e i σ v =
+      let p = pattern_in (rest_of e i) in
+      first_of (λ x. and_try (have_sorts (sorts_on k) (variables p) x.values) λ ok. where_true ok (solve_on k e (suc i) (extend σ (variables p) x.values)))
+      (keep (λ x. agree R.program.sign.theory σ (variables p) x.values) (solutions R.program.sign p v))
+
+  -- the fragment at i asks this
+  abbrev pub Asks : ℕ → ℕ → Goal → Type 0
+  Asks e i g = g ≡ goal_of (rest_of e i)
+
+  -- it has that side
+  abbrev pub HasSide : ℕ → ℕ → Bool → Type 0
+  HasSide e i right = HasSideBy right (goal_of (rest_of e i))
+
+  -- it tests its values and binds nothing
+  abbrev pub PassesOn : ℕ → ℕ → Type 0
+  PassesOn e i = (Asks e i Goals.Equality) ⊎ (Asks e i Goals.Sort)
+
+  -- a side of it, under a binding
+  abbrev pub side_of : ℕ → ℕ → Bool → Binding → Tree
+  side_of e i right σ = instance (look_up σ) (side_by right (rest_of e i))
+
+  -- v's sorts are known, and the answer says whether the fragment's is among them
+  abbrev pub IsSorted : ℕ → ℕ → Tree → Bool → Type 0
+  IsSorted e i v has = (k b : ℕ) → (ss : List ℕ) × (sorts_on k v b ≡ done ss 0 b) × (has_number ss (sort_in (rest_of e i)) ≡ has)
+
+-- a numeral or a variable
+abbrev pub IsLeaf : Tree → Type 0
+IsLeaf (variable i s) = Unit {0}
+IsLeaf (numeral n) = Unit {0}
+IsLeaf (apply f ts) = ⊥
+
+module _ {A C S : Type 0} (w : Words A C S) where
+  abbrev pub trees : List TermId → List Tree
+  trees ids = map (λ t. w.tree t.0) ids
+
+  -- the kind of a term, by its top
+  abbrev pub kind_of : ℕ → Option ℕ
+  kind_of t = kind_at w.rules.program.sign (w.tree t)
+
+  -- nothing is tried yet at the top of t, whose sorts are known
+  abbrev pub IsUntried : Tree → A → Type 0
+  IsUntried t a = (k b : ℕ) → ((ss : List ℕ) × (settle_on w.rules k t b ≡ done ss 0 b)) × (w.untried a k b ≡ applied_on w.rules k t b)
+
+  -- nothing is chosen yet at the fragment p := u, where u has the value v
+  abbrev pub IsUnchosen : ℕ → ℕ → Binding → Tree → C → Type 0
+  IsUnchosen e i σ v c = (k b : ℕ) → w.unchosen c k e i b ≡ choose_from w.rules k e i σ v b
+
+  -- σ is a binding for which all of the condition e is solved
+  abbrev pub IsSolution : ℕ → S → Type 0
+  IsSolution e σ = (i : ℕ) × w.knows_binding e i σ × Asks w.rules e i Goals.Nothing

@@ -1,0 +1,86 @@
+//! What waits, and what is done next.
+
+use mau_terms::{OpId, TermId};
+
+/// The arguments of a term, of which those at some places are evaluated by `level` levels. The places before `next` are done with.
+#[derive(Drop)]
+pub struct Arguments {
+    pub level: u32,
+    pub op: OpId,
+    pub args: Vec<TermId>,
+    pub order: Vec<usize>,
+    pub next: usize,
+}
+
+/// The candidates for an application at the top of a term, and the condition of the one that was tried last; terms of conditions are
+/// evaluated by `level` levels.
+#[derive(Drop)]
+pub struct Trial<A> {
+    pub level: u32,
+    pub term: TermId,
+    pub condition: usize,
+    pub attempts: A,
+}
+
+/// A condition, from its fragment `at` on, under a binding.
+#[derive(Drop)]
+pub struct Condition<S> {
+    pub level: u32,
+    pub condition: usize,
+    pub at: usize,
+    pub binding: S,
+}
+
+/// The solutions of a fragment `p := u` that are not yet tried; what led there was counted before.
+#[derive(Drop)]
+pub struct Choosing<C> {
+    pub level: u32,
+    pub condition: usize,
+    pub at: usize,
+    pub choices: C,
+    pub before: u64,
+}
+
+/// What waits for a value, or for what becomes of a condition.
+#[derive(Drop)]
+pub enum Frame<A, C, S> {
+    /// The arguments wait for the value of the one at a place.
+    Argument(Arguments, usize),
+    /// A term whose top has changed waits for its value.
+    Again(TermId),
+    /// `t = u` waits for the value of `t`.
+    Left(Condition<S>),
+    /// `t = u` waits for the value of `u`.
+    Right(Condition<S>, TermId),
+    /// `t : s` waits for the value of `t`.
+    Sorting(Condition<S>),
+    /// `p := u` waits for the value of `u`.
+    Matching(Condition<S>),
+    /// The fragments behind `p := u` are solved for one of its solutions.
+    Choice(Choosing<C>),
+    /// The condition of a candidate is solved; so much was counted before.
+    Trying(Trial<A>, u64),
+}
+
+/// What is done next.
+#[derive(Drop)]
+pub enum Control<A, C, S> {
+    /// A term is evaluated by so many levels.
+    Eval(u32, TermId),
+    /// The next argument is evaluated, or the term is built.
+    Evaluating(Arguments),
+    /// An application at the top of a term is looked for; its conditions have so many levels.
+    Top(u32, TermId),
+    /// The next candidate is tried.
+    Attempt(Trial<A>),
+    /// The next fragment is solved.
+    Solve(Condition<S>),
+    /// The next solution of a fragment is tried.
+    Choose(Choosing<C>),
+    /// The term is the value.
+    Value(TermId),
+    /// The condition with this number holds for a binding.
+    Held(usize, S),
+    /// It has no solution.
+    Failed(usize),
+}

@@ -1,0 +1,14 @@
+//! Evaluation as one loop over a stack of frames on the heap.
+#![tactic(auto)]
+
+mod frame;
+mod goal;
+mod machine;
+mod replies;
+mod steps;
+mod world;
+
+pub use frame::{Arguments, Choosing, Condition, Control, Frame, Trial};
+pub use goal::Goal;
+pub use machine::{evaluate, solve};
+pub use world::World;

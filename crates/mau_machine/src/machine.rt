@@ -1,0 +1,159 @@
+//! The loop.
+ghost use Rattle.std.specs.Prelude.{◌≡◌, ◌≤◌, ◌++◌, ◌∷◌, [], ℕ, Some, None, IfOk, IfErr, IfSome, IfNone, OnOk};
+ghost use Rattle.mau_evaluation.specs.Run.{done};
+ghost use Rattle.mau_machine.specs.Words.{capped, IsEnd, greatest_count, eval_on, solve_on, kind_of, IsSolution};
+ghost use Rattle.mau_machine.specs.Machine.{whole};
+ghost use Rattle.mau_machine.specs.Known.{Due, value_of, answer_to, HoldsIn};
+ghost use Rattle.mau_machine.specs.Steps.{IsAlike, StayKnown, AreHeld};
+
+use crate::steps::step;
+use crate::{Condition, Control, Frame, World};
+use mau_api::{EvalEnd, Reduced};
+use mau_store::Store;
+use mau_terms::{NoMemory, TermId};
+use std::alloc::Global;
+
+/// What waits, and how many applications were counted since the last frame began that counts apart.
+#[derive(Drop)]
+pub struct Machine<A, C, S> {
+    pub frames: Vec<Frame<A, C, S>>,
+    pub rewrites: u64,
+}
+
+impl<A: Drop, C: Drop, S: Drop> Machine<A, C, S> {
+    /// A machine in which nothing waits.
+    pub fn new(alloc: Global) -> Machine<A, C, S>
+        ensures frames { result.frames.items ≡ [] }
+        ensures rewrites { result.rewrites ≡ 0 }
+    {
+        Machine {
+            frames: Vec::new(alloc),
+            rewrites: 0,
+        }
+    }
+
+    /// A frame begins to wait.
+    pub fn wait(&mut self, frame: Frame<A, C, S>) -> Result<(), NoMemory>
+        ensures frames { OnOk result (self.new.frames.items ≡ self.old.frames.items ++ frame ∷ []) }
+        ensures rewrites { self.new.rewrites ≡ self.old.rewrites }
+    {
+        match self.frames.push(frame) {
+            Ok(()) => Ok(()),
+            Err(_) => Err(NoMemory),
+        }
+    }
+}
+
+/// The value of a term by `level` levels.
+pub fn evaluate<W: World>(
+    alloc: Global,
+    world: &mut W,
+    store: &mut Store,
+    term: TermId,
+    level: u32,
+    budget: &mut u64,
+) -> Result<Reduced, EvalEnd>
+    requires ready { W.ready world.old store.old }
+    requires term { (W.words world.old store.old).knows_term term.0 }
+    ensures value { IfOk result (λ x. capped (eval_on (W.words world.old store.old).rules level ((W.words world.old store.old).tree term.0) budget.old)
+        ≡ done ((W.words world.new store.new).tree x.term.0) x.rewrites budget.new) }
+    ensures ends { IfErr result (IsEnd (eval_on (W.words world.old store.old).rules level ((W.words world.old store.old).tree term.0) budget.old)) }
+    ensures known { IfOk result (λ x. (W.words world.new store.new).knows_value x.term.0) }
+    ensures kind { IfOk result (λ x. kind_of (W.words world.new store.new) x.term.0 ≡ kind_of (W.words world.old store.old) term.0) }
+    ensures falls { budget.new ≤ budget.old }
+    ensures grows { W.grows world.old store.old world.new store.new }
+{
+    let mut machine = Machine::new(alloc);
+    match run::<W>(
+        world,
+        store,
+        &mut machine,
+        Control::Eval(level, term),
+        budget,
+    ) {
+        Ok(Control::Value(value)) => Ok(Reduced {
+            term: value,
+            rewrites: machine.rewrites,
+        }),
+        Ok(_) => Err(EvalEnd::NoMemory),
+        Err(end) => Err(end),
+    }
+}
+
+/// The first solution of a condition by `level` levels, and how many applications led to it.
+pub fn solve<W: World>(
+    alloc: Global,
+    world: &mut W,
+    store: &mut Store,
+    condition: usize,
+    binding: W::Binding,
+    level: u32,
+    budget: &mut u64,
+) -> Result<Option<(W::Binding, u64)>, EvalEnd>
+    requires ready { W.ready world.old store.old }
+    requires binding { (W.words world.old store.old).knows_binding condition 0 binding }
+    ensures some { IfOk result (λ o. IfSome o (λ x. capped (solve_on (W.words world.old store.old).rules level condition 0 ((W.words world.old store.old).bound binding) budget.old)
+        ≡ done (Some ((W.words world.new store.new).bound x.0)) x.1 budget.new)) }
+    ensures none { IfOk result (λ o. IfNone o ((r : ℕ) × (solve_on (W.words world.old store.old).rules level condition 0 ((W.words world.old store.old).bound binding) budget.old
+        ≡ done None r budget.new))) }
+    ensures ends { IfErr result (IsEnd (solve_on (W.words world.old store.old).rules level condition 0 ((W.words world.old store.old).bound binding) budget.old)) }
+    ensures known { IfOk result (λ o. IfSome o (λ x. IsSolution (W.words world.new store.new) condition x.0)) }
+    ensures falls { budget.new ≤ budget.old }
+    ensures grows { W.grows world.old store.old world.new store.new }
+{
+    let mut machine = Machine::new(alloc);
+    let task = Control::Solve(Condition {
+        level,
+        condition,
+        at: 0,
+        binding,
+    });
+    match run::<W>(world, store, &mut machine, task, budget) {
+        Ok(Control::Held(_, solution)) => Ok(Some((solution, machine.rewrites))),
+        Ok(Control::Failed(_)) => Ok(None),
+        Ok(_) => Err(EvalEnd::NoMemory),
+        Err(end) => Err(end),
+    }
+}
+
+/// Does what is next until nothing waits.
+fn run<W: World>(
+    world: &mut W,
+    store: &mut Store,
+    machine: &mut Machine<W::Attempts, W::Choices, W::Binding>,
+    task: Control<W::Attempts, W::Choices, W::Binding>,
+    budget: &mut u64,
+) -> Result<Control<W::Attempts, W::Choices, W::Binding>, EvalEnd>
+    requires ready { W.ready world.old store.old }
+    requires held { AreHeld (W.words world.old store.old) machine.old.frames.items task }
+    ensures goes { IfOk result (λ last. IsAlike (whole (W.words world.old store.old) machine.old.frames.items task machine.old.rewrites budget.old)
+        (whole (W.words world.new store.new) [] last machine.new.rewrites budget.new)) }
+    ensures ends { IfErr result (IsEnd (whole (W.words world.old store.old) machine.old.frames.items task machine.old.rewrites budget.old)) }
+    ensures known { IfOk result (StayKnown (W.words world.old store.old) (W.words world.new store.new) machine.old.frames.items task []) }
+    ensures small { OnOk result (machine.new.rewrites ≤ greatest_count) }
+    ensures falls { budget.new ≤ budget.old }
+    ensures grows { W.grows world.old store.old world.new store.new }
+{
+    let _rewrites = machine.rewrites;
+    let _budget = *budget;
+    let mut task = task;
+    for _ in 0..u64::MAX {
+        if is_last(&task) && machine.frames.as_slice().is_empty() {
+            let _rewrites = machine.rewrites;
+            return Ok(task);
+        }
+        match step::<W>(world, store, machine, task, budget) {
+            Ok(next) => task = next,
+            Err(end) => return Err(end),
+        }
+    }
+    Err(EvalEnd::NoMemory)
+}
+
+/// Whether it is a value, or what became of a condition.
+fn is_last<A, C, S>(task: &Control<A, C, S>) -> bool {
+    matches!(
+        task,
+        Control::Value(_) | Control::Held(_, _) | Control::Failed(_)
+    )
+}

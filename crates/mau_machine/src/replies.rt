@@ -1,0 +1,184 @@
+//! What the last frame does with a value, or with what became of a condition.
+ghost use Rattle.std.specs.Prelude.{◌≡◌, ◌≤◌, ℕ, suc, Bool, IfOk, IfErr};
+ghost use Rattle.mau_evaluation.specs.Run.{Outcome, counted_if, where_true};
+ghost use Rattle.mau_machine.specs.Words.{IsEnd, solve_on, PassesOn};
+ghost use Rattle.mau_machine.specs.Machine.{Reply, as_answer, comes, task_in, whole};
+ghost use Rattle.mau_machine.specs.Known.{Due, answer_to, IsKnownNext, comes_to};
+ghost use Rattle.mau_machine.specs.Steps.{IsAlike, StayKnown, AreHeld};
+
+use crate::machine::Machine;
+use crate::steps::side;
+use crate::{Arguments, Choosing, Condition, Control, Frame, World};
+use mau_api::EvalEnd;
+use mau_store::Store;
+use mau_terms::TermId;
+
+/// The last frame is given a value.
+pub fn give<W: World>(
+    world: &mut W,
+    store: &mut Store,
+    machine: &mut Machine<W::Attempts, W::Choices, W::Binding>,
+    value: TermId,
+) -> Result<Control<W::Attempts, W::Choices, W::Binding>, EvalEnd>
+    requires ready { W.ready world.old store.old }
+    requires held { AreHeld (W.words world.old store.old) machine.old.frames.items (Control.Value value) }
+    ensures goes { (b : ℕ) → IfOk result (λ next. IsAlike (whole (W.words world.new store.new) machine.old.frames.items (Control.Value value) machine.old.rewrites b)
+        (whole (W.words world.new store.new) machine.new.frames.items next machine.new.rewrites b)) }
+    ensures ends { (b : ℕ) → IfErr result (IsEnd (whole (W.words world.new store.new) machine.old.frames.items (Control.Value value) machine.old.rewrites b)) }
+    ensures known { IfOk result (StayKnown (W.words world.old store.old) (W.words world.new store.new) machine.old.frames.items (Control.Value value) machine.new.frames.items) }
+    ensures grows { W.grows world.old store.old world.new store.new }
+{
+    match machine.frames.pop() {
+        Some(Frame::Argument(arguments, place)) => {
+            let mut arguments = arguments;
+            if place >= arguments.args.len() {
+                return Ok(Control::Evaluating(arguments));
+            }
+            arguments.args[place] = value;
+            Ok(Control::Evaluating(arguments))
+        }
+        Some(Frame::Again(_)) => Ok(Control::Value(value)),
+        Some(Frame::Left(condition)) => {
+            let level = condition.level;
+            match side::<W>(world, store, &condition, true) {
+                Ok(term) => {
+                    machine.wait(Frame::Right(condition, value))?;
+                    Ok(Control::Eval(level, term))
+                }
+                Err(end) => Err(end),
+            }
+        }
+        Some(Frame::Right(condition, left)) => {
+            let holds = world.same(store, left, value);
+            proceed::<W>(world, store, condition, holds)
+        }
+        Some(Frame::Sorting(condition)) => match world.sorted(
+            store,
+            condition.condition,
+            condition.at,
+            value,
+        ) {
+            Ok(holds) => proceed::<W>(world, store, condition, holds),
+            Err(_) => Err(EvalEnd::NoMemory),
+        },
+        Some(Frame::Matching(condition)) => match world.choices(
+            store,
+            condition.condition,
+            condition.at,
+            condition.binding,
+            value,
+        ) {
+            Ok(choices) => Ok(Control::Choose(Choosing {
+                level: condition.level,
+                condition: condition.condition,
+                at: condition.at,
+                choices,
+                before: machine.rewrites,
+            })),
+            Err(_) => Err(EvalEnd::NoMemory),
+        },
+        _ => Err(EvalEnd::NoMemory),
+    }
+}
+
+/// The fragments behind one that holds, or a failure.
+fn proceed<W: World>(
+    world: &W,
+    store: &Store,
+    condition: Condition<W::Binding>,
+    holds: bool,
+) -> Result<Control<W::Attempts, W::Choices, W::Binding>, EvalEnd>
+    requires binding { (W.words world.now store.now).knows_binding condition.condition condition.at condition.binding }
+    requires passes { PassesOn (W.words world.now store.now).rules condition.condition condition.at }
+    ensures goes { (r b : ℕ) → IfOk result (λ next. as_answer (counted_if r (where_true holds
+        (solve_on (W.words world.now store.now).rules condition.level condition.condition (suc condition.at) ((W.words world.now store.now).bound condition.binding)) b))
+        ≡ comes (W.words world.now store.now).rules (task_in (W.words world.now store.now) next) r b) }
+    ensures ends { (o : Outcome Reply) → IfErr result (IsEnd o) }
+    ensures known { IfOk result (λ next. IsKnownNext (W.words world.now store.now) next × (comes_to (W.words world.now store.now) next ≡ answer_to condition.condition)) }
+{
+    if !holds {
+        return Ok(Control::Failed(condition.condition));
+    }
+    match condition.at.checked_add(1) {
+        Some(at) => Ok(Control::Solve(Condition {
+            level: condition.level,
+            condition: condition.condition,
+            at,
+            binding: condition.binding,
+        })),
+        None => Err(EvalEnd::NoMemory),
+    }
+}
+
+/// The last frame is told that a condition holds.
+pub fn hold<W: World>(
+    world: &mut W,
+    store: &mut Store,
+    machine: &mut Machine<W::Attempts, W::Choices, W::Binding>,
+    condition: usize,
+    binding: W::Binding,
+    budget: &mut u64,
+) -> Result<Control<W::Attempts, W::Choices, W::Binding>, EvalEnd>
+    requires ready { W.ready world.old store.old }
+    requires held { AreHeld (W.words world.old store.old) machine.old.frames.items (Control.Held condition binding) }
+    ensures goes { IfOk result (λ next. IsAlike (whole (W.words world.new store.new) machine.old.frames.items (Control.Held condition binding) machine.old.rewrites budget.old)
+        (whole (W.words world.new store.new) machine.new.frames.items next machine.new.rewrites budget.new)) }
+    ensures ends { IfErr result (IsEnd (whole (W.words world.new store.new) machine.old.frames.items (Control.Held condition binding) machine.old.rewrites budget.old)) }
+    ensures known { IfOk result (StayKnown (W.words world.old store.old) (W.words world.new store.new) machine.old.frames.items (Control.Held condition binding) machine.new.frames.items) }
+    ensures falls { budget.new ≤ budget.old }
+    ensures grows { W.grows world.old store.old world.new store.new }
+{
+    match machine.frames.pop() {
+        Some(Frame::Choice(choosing)) => {
+            machine.rewrites = choosing.before.saturating_add(machine.rewrites);
+            Ok(Control::Held(condition, binding))
+        }
+        Some(Frame::Trying(trial, before)) => {
+            if *budget == 0 {
+                return Err(EvalEnd::Stopped);
+            }
+            *budget -= 1;
+            match trial.level.checked_add(1) {
+                Some(level) => match world.replace(
+                    store,
+                    trial.term,
+                    trial.condition,
+                    &trial.attempts,
+                    &binding,
+                ) {
+                    Ok(term) => {
+                        machine.rewrites = before
+                            .saturating_add(machine.rewrites)
+                            .saturating_add(1);
+                        Ok(Control::Eval(level, term))
+                    }
+                    Err(end) => Err(end),
+                },
+                None => Err(EvalEnd::NoMemory),
+            }
+        }
+        _ => Err(EvalEnd::NoMemory),
+    }
+}
+
+/// The last frame is told that a condition has no solution, or no further one.
+pub fn fail<W: World>(
+    world: &W,
+    store: &Store,
+    machine: &mut Machine<W::Attempts, W::Choices, W::Binding>,
+    condition: usize,
+) -> Result<Control<W::Attempts, W::Choices, W::Binding>, EvalEnd>
+    ensures goes { (b : ℕ) → IfOk result (λ next. IsAlike (whole (W.words world.now store.now) machine.old.frames.items (Control.Failed condition) machine.old.rewrites b)
+        (whole (W.words world.now store.now) machine.new.frames.items next machine.new.rewrites b)) }
+    ensures ends { (o : Outcome Reply) → IfErr result (IsEnd o) }
+    ensures known { IfOk result (StayKnown (W.words world.now store.now) (W.words world.now store.now) machine.old.frames.items (Control.Failed condition) machine.new.frames.items) }
+{
+    match machine.frames.pop() {
+        Some(Frame::Choice(choosing)) => Ok(Control::Choose(choosing)),
+        Some(Frame::Trying(trial, before)) => {
+            machine.rewrites = before;
+            Ok(Control::Attempt(trial))
+        }
+        _ => Err(EvalEnd::NoMemory),
+    }
+}

@@ -1,0 +1,312 @@
+//! The steps of the loop: each does one thing.
+ghost use Rattle.std.specs.Prelude.{◌≡◌, ◌≤◌, ℕ, length, IfOk, IfErr};
+ghost use Rattle.mau_evaluation.specs.Run.{Outcome};
+ghost use Rattle.mau_machine.specs.Words.{IsEnd, eval_on, kind_of, side_of, HasSide};
+ghost use Rattle.mau_machine.specs.Machine.{Reply, comes, task_in, whole};
+ghost use Rattle.mau_machine.specs.Known.{value_of, IsKnownNext, comes_to};
+ghost use Rattle.mau_machine.specs.Steps.{IsAlike, StayKnown, AreHeld};
+
+use crate::machine::Machine;
+use crate::replies::{fail, give, hold};
+use crate::{Arguments, Choosing, Condition, Control, Frame, Goal, Trial, World};
+use mau_api::EvalEnd;
+use mau_store::Store;
+use mau_terms::TermId;
+
+/// One step.
+pub fn step<W: World>(
+    world: &mut W,
+    store: &mut Store,
+    machine: &mut Machine<W::Attempts, W::Choices, W::Binding>,
+    task: Control<W::Attempts, W::Choices, W::Binding>,
+    budget: &mut u64,
+) -> Result<Control<W::Attempts, W::Choices, W::Binding>, EvalEnd>
+    requires ready { W.ready world.old store.old }
+    requires held { AreHeld (W.words world.old store.old) machine.old.frames.items task }
+    ensures goes { IfOk result (λ next. IsAlike (whole (W.words world.new store.new) machine.old.frames.items task machine.old.rewrites budget.old)
+        (whole (W.words world.new store.new) machine.new.frames.items next machine.new.rewrites budget.new)) }
+    ensures ends { IfErr result (IsEnd (whole (W.words world.new store.new) machine.old.frames.items task machine.old.rewrites budget.old)) }
+    ensures known { IfOk result (StayKnown (W.words world.old store.old) (W.words world.new store.new) machine.old.frames.items task machine.new.frames.items) }
+    ensures falls { budget.new ≤ budget.old }
+    ensures grows { W.grows world.old store.old world.new store.new }
+{
+    let _budget = *budget;
+    match task {
+        Control::Eval(level, term) => open::<W>(world, store, level, term),
+        Control::Evaluating(arguments) => go_on::<W>(world, store, machine, arguments),
+        Control::Top(level, term) => look::<W>(world, store, level, term),
+        Control::Attempt(trial) => attempt::<W>(world, store, machine, trial),
+        Control::Solve(condition) => solve::<W>(world, store, machine, condition),
+        Control::Choose(choosing) => choose::<W>(world, store, machine, choosing),
+        Control::Value(value) => give::<W>(world, store, machine, value),
+        Control::Held(condition, binding) => hold::<W>(
+            world, store, machine, condition, binding, budget,
+        ),
+        Control::Failed(condition) => fail::<W>(world, store, machine, condition),
+    }
+}
+
+/// A term is taken apart.
+fn open<W: World>(
+    world: &W,
+    store: &Store,
+    level: u32,
+    term: TermId,
+) -> Result<Control<W::Attempts, W::Choices, W::Binding>, EvalEnd>
+    requires ready { W.ready world.now store.now }
+    requires term { (W.words world.now store.now).knows_term term.0 }
+    ensures goes { (r b : ℕ) → IfOk result (λ next. IsAlike (comes (W.words world.now store.now).rules (task_in (W.words world.now store.now) (Control.Eval level term)) r b)
+        (comes (W.words world.now store.now).rules (task_in (W.words world.now store.now) next) r b)) }
+    ensures ends { (r b : ℕ) → IfErr result (IsEnd (comes (W.words world.now store.now).rules (task_in (W.words world.now store.now) (Control.Eval level term)) r b)) }
+    ensures known { IfOk result (λ next. IsKnownNext (W.words world.now store.now) next × (comes_to (W.words world.now store.now) next ≡ value_of (kind_of (W.words world.now store.now) term.0))) }
+{
+    if level == 0 {
+        return Err(EvalEnd::TooDeep);
+    }
+    match world.arguments(store, term) {
+        Ok(Some((op, args, order))) => Ok(Control::Evaluating(Arguments {
+            level: level - 1,
+            op,
+            args,
+            order,
+            next: 0,
+        })),
+        Ok(None) => Ok(Control::Top(level - 1, term)),
+        Err(_) => Err(EvalEnd::NoMemory),
+    }
+}
+
+/// The next argument is evaluated, or the term is rebuilt.
+fn go_on<W: World>(
+    world: &mut W,
+    store: &mut Store,
+    machine: &mut Machine<W::Attempts, W::Choices, W::Binding>,
+    arguments: Arguments,
+) -> Result<Control<W::Attempts, W::Choices, W::Binding>, EvalEnd>
+    requires ready { W.ready world.old store.old }
+    requires operands { (W.words world.old store.old).knows_operands arguments.op.0 arguments.args.items }
+    ensures goes { (b : ℕ) → IfOk result (λ next. IsAlike (whole (W.words world.new store.new) machine.old.frames.items (Control.Evaluating arguments) machine.old.rewrites b)
+        (whole (W.words world.new store.new) machine.new.frames.items next machine.new.rewrites b)) }
+    ensures ends { (b : ℕ) → IfErr result (IsEnd (whole (W.words world.new store.new) machine.old.frames.items (Control.Evaluating arguments) machine.old.rewrites b)) }
+    ensures known { IfOk result (StayKnown (W.words world.old store.old) (W.words world.new store.new) machine.old.frames.items (Control.Evaluating arguments) machine.new.frames.items) }
+    ensures grows { W.grows world.old store.old world.new store.new }
+{
+    let mut arguments = arguments;
+    if arguments.next >= arguments.order.len() {
+        return rebuild::<W>(world, store, machine, arguments);
+    }
+    let place = arguments.order[arguments.next];
+    let level = arguments.level;
+    arguments.next += 1;
+    if place >= arguments.args.len() {
+        return Ok(Control::Evaluating(arguments));
+    }
+    let term = arguments.args[place];
+    machine.wait(Frame::Argument(arguments, place))?;
+    Ok(Control::Eval(level, term))
+}
+
+/// A term is rebuilt over its arguments.
+fn rebuild<W: World>(
+    world: &mut W,
+    store: &mut Store,
+    machine: &mut Machine<W::Attempts, W::Choices, W::Binding>,
+    arguments: Arguments,
+) -> Result<Control<W::Attempts, W::Choices, W::Binding>, EvalEnd>
+    requires ready { W.ready world.old store.old }
+    requires operands { (W.words world.old store.old).knows_operands arguments.op.0 arguments.args.items }
+    requires last { length arguments.order.items ≤ arguments.next }
+    ensures goes { (b : ℕ) → IfOk result (λ next. IsAlike (whole (W.words world.new store.new) machine.old.frames.items (Control.Evaluating arguments) machine.old.rewrites b)
+        (whole (W.words world.new store.new) machine.new.frames.items next machine.new.rewrites b)) }
+    ensures ends { (b : ℕ) → IfErr result (IsEnd (whole (W.words world.new store.new) machine.old.frames.items (Control.Evaluating arguments) machine.old.rewrites b)) }
+    ensures known { IfOk result (StayKnown (W.words world.old store.old) (W.words world.new store.new) machine.old.frames.items (Control.Evaluating arguments) machine.new.frames.items) }
+    ensures grows { W.grows world.old store.old world.new store.new }
+{
+    match world.build(store, arguments.op, &arguments.args, &arguments.order) {
+        Ok((term, true)) => {
+            machine.wait(Frame::Again(term))?;
+            Ok(Control::Eval(arguments.level, term))
+        }
+        Ok((term, false)) => Ok(Control::Top(arguments.level, term)),
+        Err(end) => Err(end),
+    }
+}
+
+/// An application at the top of a term is looked for.
+fn look<W: World>(
+    world: &mut W,
+    store: &mut Store,
+    level: u32,
+    term: TermId,
+) -> Result<Control<W::Attempts, W::Choices, W::Binding>, EvalEnd>
+    requires ready { W.ready world.old store.old }
+    requires term { (W.words world.old store.old).knows_term term.0 }
+    ensures goes { (r b : ℕ) → IfOk result (λ next. IsAlike (comes (W.words world.new store.new).rules (task_in (W.words world.new store.new) (Control.Top level term)) r b)
+        (comes (W.words world.new store.new).rules (task_in (W.words world.new store.new) next) r b)) }
+    ensures ends { (o : Outcome Reply) → IfErr result (IsEnd o) }
+    ensures known { IfOk result (λ next. IsKnownNext (W.words world.new store.new) next × (comes_to (W.words world.new store.new) next ≡ value_of (kind_of (W.words world.new store.new) term.0))) }
+    ensures grows { W.grows world.old store.old world.new store.new }
+{
+    match world.attempts(store, term) {
+        Ok(attempts) => Ok(Control::Attempt(Trial {
+            level,
+            term,
+            condition: 0,
+            attempts,
+        })),
+        Err(_) => Err(EvalEnd::NoMemory),
+    }
+}
+
+/// The condition of the next candidate is solved, or there is none and the term is the value.
+fn attempt<W: World>(
+    world: &mut W,
+    store: &mut Store,
+    machine: &mut Machine<W::Attempts, W::Choices, W::Binding>,
+    trial: Trial<W::Attempts>,
+) -> Result<Control<W::Attempts, W::Choices, W::Binding>, EvalEnd>
+    requires ready { W.ready world.old store.old }
+    requires value { (W.words world.old store.old).knows_value trial.term.0 }
+    requires attempts { (W.words world.old store.old).knows_attempts trial.term.0 trial.attempts }
+    ensures goes { (b : ℕ) → IfOk result (λ next. IsAlike (whole (W.words world.new store.new) machine.old.frames.items (Control.Attempt trial) machine.old.rewrites b)
+        (whole (W.words world.new store.new) machine.new.frames.items next machine.new.rewrites b)) }
+    ensures ends { (b : ℕ) → IfErr result (IsEnd (whole (W.words world.new store.new) machine.old.frames.items (Control.Attempt trial) machine.old.rewrites b)) }
+    ensures known { IfOk result (StayKnown (W.words world.old store.old) (W.words world.new store.new) machine.old.frames.items (Control.Attempt trial) machine.new.frames.items) }
+    ensures grows { W.grows world.old store.old world.new store.new }
+{
+    let mut trial = trial;
+    match world.attempt(store, trial.term, &mut trial.attempts) {
+        Ok(None) => Ok(Control::Value(trial.term)),
+        Ok(Some((condition, binding))) => {
+            let level = trial.level;
+            let before = machine.rewrites;
+            trial.condition = condition;
+            machine.wait(Frame::Trying(trial, before))?;
+            machine.rewrites = 0;
+            Ok(Control::Solve(Condition {
+                level,
+                condition,
+                at: 0,
+                binding,
+            }))
+        }
+        Err(end) => Err(end),
+    }
+}
+
+/// The next fragment of a condition.
+fn solve<W: World>(
+    world: &mut W,
+    store: &mut Store,
+    machine: &mut Machine<W::Attempts, W::Choices, W::Binding>,
+    condition: Condition<W::Binding>,
+) -> Result<Control<W::Attempts, W::Choices, W::Binding>, EvalEnd>
+    requires ready { W.ready world.old store.old }
+    requires binding { (W.words world.old store.old).knows_binding condition.condition condition.at condition.binding }
+    ensures goes { (b : ℕ) → IfOk result (λ next. IsAlike (whole (W.words world.new store.new) machine.old.frames.items (Control.Solve condition) machine.old.rewrites b)
+        (whole (W.words world.new store.new) machine.new.frames.items next machine.new.rewrites b)) }
+    ensures ends { (b : ℕ) → IfErr result (IsEnd (whole (W.words world.new store.new) machine.old.frames.items (Control.Solve condition) machine.old.rewrites b)) }
+    ensures known { IfOk result (StayKnown (W.words world.old store.old) (W.words world.new store.new) machine.old.frames.items (Control.Solve condition) machine.new.frames.items) }
+    ensures grows { W.grows world.old store.old world.new store.new }
+{
+    let level = condition.level;
+    match world.goal(condition.condition, condition.at) {
+        Goal::Nothing => Ok(Control::Held(condition.condition, condition.binding)),
+        Goal::Reaching => Ok(Control::Failed(condition.condition)),
+        Goal::Equality => match side::<W>(world, store, &condition, false) {
+            Ok(term) => {
+                machine.wait(Frame::Left(condition))?;
+                Ok(Control::Eval(level, term))
+            }
+            Err(end) => Err(end),
+        },
+        Goal::Sort => match side::<W>(world, store, &condition, false) {
+            Ok(term) => {
+                machine.wait(Frame::Sorting(condition))?;
+                Ok(Control::Eval(level, term))
+            }
+            Err(end) => Err(end),
+        },
+        Goal::Matching => match side::<W>(world, store, &condition, true) {
+            Ok(term) => {
+                machine.wait(Frame::Matching(condition))?;
+                Ok(Control::Eval(level, term))
+            }
+            Err(end) => Err(end),
+        },
+    }
+}
+
+/// A side of the next fragment, which can be evaluated by some levels only.
+pub fn side<W: World>(
+    world: &mut W,
+    store: &mut Store,
+    condition: &Condition<W::Binding>,
+    right: bool,
+) -> Result<TermId, EvalEnd>
+    requires ready { W.ready world.old store.old }
+    requires side { HasSide (W.words world.old store.old).rules condition.now.condition condition.now.at right }
+    requires binding { (W.words world.old store.old).knows_binding condition.now.condition condition.now.at condition.now.binding }
+    ensures value { (b : ℕ) → IfOk result (λ t. eval_on (W.words world.new store.new).rules condition.now.level
+        (side_of (W.words world.new store.new).rules condition.now.condition condition.now.at right ((W.words world.new store.new).bound condition.now.binding)) b
+        ≡ eval_on (W.words world.new store.new).rules condition.now.level ((W.words world.new store.new).tree t.0) b) }
+    ensures ends { (b : ℕ) → IfErr result (IsEnd (eval_on (W.words world.new store.new).rules condition.now.level
+        (side_of (W.words world.new store.new).rules condition.now.condition condition.now.at right ((W.words world.new store.new).bound condition.now.binding)) b)) }
+    ensures known { IfOk result (λ t. (W.words world.new store.new).knows_term t.0) }
+    ensures grows { W.grows world.old store.old world.new store.new }
+{
+    if condition.level == 0 {
+        return Err(EvalEnd::TooDeep);
+    }
+    world.side(
+        store,
+        condition.condition,
+        condition.at,
+        right,
+        &condition.binding,
+    )
+}
+
+/// The fragments behind `p := u` are solved for its next solution, or there is none.
+fn choose<W: World>(
+    world: &mut W,
+    store: &mut Store,
+    machine: &mut Machine<W::Attempts, W::Choices, W::Binding>,
+    choosing: Choosing<W::Choices>,
+) -> Result<Control<W::Attempts, W::Choices, W::Binding>, EvalEnd>
+    requires ready { W.ready world.old store.old }
+    requires choices { (W.words world.old store.old).knows_choices choosing.condition choosing.at choosing.choices }
+    ensures goes { (b : ℕ) → IfOk result (λ next. IsAlike (whole (W.words world.new store.new) machine.old.frames.items (Control.Choose choosing) machine.old.rewrites b)
+        (whole (W.words world.new store.new) machine.new.frames.items next machine.new.rewrites b)) }
+    ensures ends { (b : ℕ) → IfErr result (IsEnd (whole (W.words world.new store.new) machine.old.frames.items (Control.Choose choosing) machine.old.rewrites b)) }
+    ensures known { IfOk result (StayKnown (W.words world.old store.old) (W.words world.new store.new) machine.old.frames.items (Control.Choose choosing) machine.new.frames.items) }
+    ensures grows { W.grows world.old store.old world.new store.new }
+{
+    let mut choosing = choosing;
+    match world.choose(
+        store,
+        choosing.condition,
+        choosing.at,
+        &mut choosing.choices,
+    ) {
+        Ok(None) => Ok(Control::Failed(choosing.condition)),
+        Ok(Some(binding)) => {
+            let level = choosing.level;
+            let condition = choosing.condition;
+            match choosing.at.checked_add(1) {
+                Some(at) => {
+                    machine.wait(Frame::Choice(choosing))?;
+                    machine.rewrites = 0;
+                    Ok(Control::Solve(Condition {
+                        level,
+                        condition,
+                        at,
+                        binding,
+                    }))
+                }
+                None => Err(EvalEnd::NoMemory),
+            }
+        }
+        Err(_) => Err(EvalEnd::NoMemory),
+    }
+}
