@@ -1,5 +1,14 @@
 -- What a step of the loop does.
-use Rattle.std.specs.Prelude.{◌≡◌, List}
+use Rattle.std.specs.Prelude.{◌≡◌, ◌++◌, ◌∷◌, [], ℕ, List, Bool, false}
+use Rattle.mau_terms.specs.declared.ids.TermId.{TermId}
+use Rattle.mau_store.specs.Node.{Node}
+use Rattle.mau_sorts.specs.Table.{Table}
+use Rattle.mau_evaluation.specs.Evaluation.{Binding}
+use Rattle.mau_api.specs.declared.step.Step.{Step}
+use Rattle.mau_api.specs.Events.{Event, made}
+use Rattle.mau_api.specs.Told.{step_in, StandsIn, TellsMore}
+use Rattle.mau_machine.specs.Uses.{IsUse}
+use Rattle.mau_machine.specs.Telling.{Job, Has, TellsTask, Counts, IsTelling}
 use Rattle.mau_evaluation.specs.Run.{Outcome}
 use Rattle.mau_machine.specs.Words.{Words, capped}
 use Rattle.mau_machine.specs.Known.{Due, HoldsIn}
@@ -42,7 +51,7 @@ module _ {A C S : Type 0} where
   -- what the task at hand has told stays told of the next one
   abbrev pub TaskStays : Words A C S → List Node → Table → Control A C S → Control A C S → Type 0
   TaskStays w nodes table c d =
-      (J : Job) (r n : ℕ) (es : List Event) → TellsTask w nodes table J c es × Counts w nodes table c r n → TellsTask w nodes table J d es × Counts w nodes table d r n
+      (J : Job) (r n : ℕ) (es : List Event) → TellsTask w nodes table J c es × Counts c r n → TellsTask w nodes table J d es × Counts d r n
 
 -- whether a watcher wants steps stays the same, and where it doesn't nothing is told
 abbrev pub IsWatched : Bool → Bool → List Event → List Event → Type 0

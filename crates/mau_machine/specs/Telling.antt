@@ -5,7 +5,7 @@ use Rattle.mau_terms.specs.Tree.{Tree, apply, trees_of}
 use Rattle.mau_terms.specs.Norm.{norm}
 use Rattle.mau_terms.specs.Subst.{Variable, instance}
 use Rattle.mau_terms.specs.declared.ids.TermId.{TermId}
-use Rattle.mau_store.specs.Node.{Node}
+use Rattle.mau_store.specs.Node.{Node, IsOf}
 use Rattle.mau_store.specs.Trees.{tree_at}
 use Rattle.mau_sorts.specs.Table.{Table}
 use Rattle.mau_listing.specs.Asked.{HasEntry}
@@ -15,7 +15,7 @@ use Rattle.mau_api.specs.declared.step.Place.TheVariants.{Whole, Argument, Fragm
 use Rattle.mau_api.specs.declared.step.Step.{Step}
 use Rattle.mau_api.specs.Events.{Event, entered, left, made}
 use Rattle.mau_api.specs.Terms.{IsNormalTerm}
-use Rattle.mau_api.specs.Told.{Told, told_in, step_in, Leads, LeadsIn, Shown, StandsIn, steps_in, shown_count}
+use Rattle.mau_api.specs.Told.{Told, told_in, step_in, LeadsIn, Shown, StandsIn, IsToldRun, steps_in, shown_count}
 use Rattle.mau_machine.specs.Uses.{IsUse}
 use Rattle.mau_machine.specs.Words.{Words, Rules, IsExtension, side_of, rest_of, pattern_in, trees}
 use Rattle.mau_machine.specs.declared.frame.Frame.{Frame}
@@ -31,32 +31,33 @@ pub data Job : Type 0 where
   solving : (e i : ℕ) → Binding → Job
 
 module _ (R : Rules) (nodes : List Node) (table : Table) where
-  abbrev pub tell : List Event → List Told
-  tell es = map (told_in nodes) es
-
   abbrev pub Has : ℕ → Tree → Type 0
   Has = HasEntry R.written.sig nodes table
 
   -- the events lead from t to v
   abbrev pub Runs : Tree → List Event → Tree → Type 0
-  Runs t es v = Leads R.written R.hooks Has false t (tell es) v
+  Runs t es v = IsToldRun R.written R.hooks nodes table false t es v
 
-  abbrev pub RunsIn : List Tree → List Event → List Tree → Type 0
-  RunsIn ts es us = LeadsIn R.written R.hooks Has false ts (tell es) us
+  -- they lead from arguments to others
+  pub record RunsIn (ts : List Tree) (es : List Event) (us : List Tree) : Type 0 where
+    pub stand : All (StandsIn nodes) es
+    pub leads : LeadsIn R.written R.hooks Has false ts (map (told_in nodes) es) us
 
   -- they show these fragments, the first of which has the number j
-  abbrev pub Shows : (Variable → Tree) → ℕ → List Fragment → List Event → Type 0
-  Shows g j cs es = Shown R.written R.hooks Has g j cs (tell es)
+  pub record Shows (g : Variable → Tree) (j : ℕ) (cs : List Fragment) (es : List Event) : Type 0 where
+    pub stand : All (StandsIn nodes) es
+    pub shown : Shown R.written R.hooks Has g j cs (map (told_in nodes) es)
 
   -- a condition is shown, and then a step leads from t to u
   pub record IsUsed (t : Tree) (es : List Event) (u : Tree) : Type 0 where
     pub before : List Event
     pub step : Step
     pub is : es ≡ before ++ made step ∷ []
+    pub stands : StandsIn nodes (made step)
     pub binding : Binding
     pub cond : List Fragment
     pub shown : Shows (look_up binding) 0 cond before
-    pub use : IsUse R.written R.hooks Has cond binding t u (step_in nodes step)
+    pub applies : IsUse R.written R.hooks Has cond binding t u (step_in nodes step)
 
   -- the events led from t0 to u by a step at last
   pub record EndsWithStep (t0 : Tree) (es : List Event) (u : Tree) : Type 0 where
@@ -94,11 +95,28 @@ module _ (R : Rules) (nodes : List Node) (table : Table) where
     pub number : j + 1 ≡ i + length front
     pub shown : (τ : Binding) → IsExtension σ τ → norm R.program.sign.theory (instance (look_up τ) (pattern_in (rest_of R e j))) ≡ v → Shows (look_up τ) i front es
 
-  -- the term t at hand is x, that side of a fragment under σ and all that goes on from it
+  -- t is the number of x
+  abbrev pub StandsAs : TermId → Tree → Type 0
+  StandsAs t x = IsOf nodes t.0 × (tree_at nodes t.0 ≡ x)
+
+  -- the term t is x, that side of a fragment under σ and all that goes on from it
   pub record IsSide (e j : ℕ) (right : Bool) (σ : Binding) (t : TermId) (x : Tree) : Type 0 where
-    pub tree : tree_at nodes t.0 ≡ x
+    pub stands : StandsAs t x
     pub normal : IsNormalTerm R.written.sig x
     pub side : (τ : Binding) → IsExtension σ τ → norm R.program.sign.theory (side_of R e j right τ) ≡ x
+
+module _ {A C S : Type 0} where
+  -- as many steps were told as are counted
+  abbrev pub Counts : Control A C S → (r steps : ℕ) → Type 0
+  Counts (Next.Failed d) r n = Unit {0}
+  Counts (Next.Choose c) r n = c.before ≡ shown_count n
+  Counts c r n = r ≡ shown_count n
+
+  -- a frame that counts apart begins to count anew
+  abbrev pub counted_on : Frame A C S → ℕ → List Event → ℕ
+  counted_on (Waiting.Choice c mark) m xs = 0
+  counted_on (Waiting.Trying x before mark) m xs = 0
+  counted_on f m xs = m + steps_in xs
 
 module _ {A C S : Type 0} (w : Words A C S) (nodes : List Node) (table : Table) where
   -- what the task at hand has told of the job
@@ -115,32 +133,57 @@ module _ {A C S : Type 0} (w : Words A C S) (nodes : List Node) (table : Table) 
   -- never
   TellsTask J c es = ⊥
 
-  -- as many steps were told as are counted
-  abbrev pub Counts : Control A C S → (r steps : ℕ) → Type 0
-  Counts (Next.Failed d) r n = Unit {0}
-  Counts (Next.Choose c) r n = c.before ≡ shown_count n
-  Counts c r n = r ≡ shown_count n
+  -- a fragment's side was entered behind what is shown
+  pub record HasEntered (e i : ℕ) (σ : Binding) (d j : ℕ) (right : Bool) (number : ℕ) (τ : Binding) (xs : List Event) (x : Tree) : Type 0 where
+    pub before : List Event
+    pub term : TermId
+    pub is : xs ≡ before ++ entered term (OfFragment j number) ∷ []
+    pub side : IsSide w.rules nodes table d j right τ term x
+    pub same : d ≡ e
+    pub extends : IsExtension σ τ
+    pub shown : IsShown w.rules nodes table e i j τ before
+
+  -- so were both sides of an equality, of which the first has the value v
+  pub record HasEnteredBoth (e i : ℕ) (σ : Binding) (d j : ℕ) (τ : Binding) (v : TermId) (xs : List Event) (x : Tree) : Type 0 where
+    pub before : List Event
+    pub inner : List Event
+    pub first : TermId
+    pub second : TermId
+    pub left_side : Tree
+    pub is : xs ≡ before ++ entered first (OfFragment j 0) ∷ (inner ++ left v ∷ entered second (OfFragment j 1) ∷ [])
+    pub side : IsSide w.rules nodes table d j false τ first left_side
+    pub runs : Runs w.rules nodes table left_side inner (w.tree v.0)
+    pub value : StandsAs w.rules nodes table v (w.tree v.0)
+    pub other : IsSide w.rules nodes table d j true τ second x
+    pub same : d ≡ e
+    pub extends : IsExtension σ τ
+    pub shown : IsShown w.rules nodes table e i j τ before
+
+  -- an argument was entered
+  pub record HasEnteredArgument (t0 : Tree) (f : ℕ) (ts : List Tree) (i : ℕ) (xs : List Event) (x : Tree) : Type 0 where
+    pub before : List Event
+    pub term : TermId
+    pub is : xs ≡ before ++ entered term (Argument i) ∷ []
+    pub stands : StandsAs w.rules nodes table term x
+    pub at : slice_get ts i ≡ Some x
+    pub round : IsInRound w.rules nodes table t0 f ts before
+
+  -- a term whose top has changed was entered
+  pub record HasEnteredAgain (t0 : Tree) (t : TermId) (xs : List Event) (x : Tree) : Type 0 where
+    pub before : List Event
+    pub is : xs ≡ before ++ entered t Whole ∷ []
+    pub stands : StandsAs w.rules nodes table t x
+    pub runs : Runs w.rules nodes table t0 before x
 
   -- what a frame has told of the job, up to the beginning of the one that it waits for. `behind` events stand before them, and `counted` steps were told
   -- before them since the last frame that counts apart
   abbrev pub TellsFrame : (behind counted : ℕ) → Job → Frame A C S → List Event → Job → Type 0
-  TellsFrame n m (evaluating t0) (Waiting.Argument a i) xs (evaluating x) =
-      (es : List Event) × (t : TermId) × (xs ≡ es ++ entered t (Argument i) ∷ []) × (tree_at nodes t.0 ≡ x) × (slice_get (trees w a.args.items) i ≡ Some x) × IsInRound w.rules nodes table t0 a.op.0 (trees w a.args.items) es
-  TellsFrame n m (evaluating t0) (Waiting.Again t) xs (evaluating x) =
-      (es : List Event) × (xs ≡ es ++ entered t Whole ∷ []) × (tree_at nodes t.0 ≡ x) × Runs w.rules nodes table t0 es x
-  TellsFrame n m (solving e i σ) (Waiting.Left c) xs (evaluating x) =
-      (es : List Event) × (t : TermId) × (xs ≡ es ++ entered t (OfFragment c.at 0) ∷ []) × IsSide w.rules nodes table c.condition c.at false (w.bound c.binding) t x
-      × (c.condition ≡ e) × IsExtension σ (w.bound c.binding) × IsShown w.rules nodes table e i c.at (w.bound c.binding) es
-  TellsFrame n m (solving e i σ) (Waiting.Right c v) xs (evaluating x) =
-      (es : List Event) × (ys : List Event) × (t : TermId) × (u : TermId) × (a : Tree) × (xs ≡ es ++ entered t (OfFragment c.at 0) ∷ (ys ++ left v ∷ entered u (OfFragment c.at 1) ∷ []))
-      × IsSide w.rules nodes table c.condition c.at false (w.bound c.binding) t a × Runs w.rules nodes table a ys (w.tree v.0) × (tree_at nodes v.0 ≡ w.tree v.0) × IsSide w.rules nodes table c.condition c.at true (w.bound c.binding) u x
-      × (c.condition ≡ e) × IsExtension σ (w.bound c.binding) × IsShown w.rules nodes table e i c.at (w.bound c.binding) es
-  TellsFrame n m (solving e i σ) (Waiting.Sorting c) xs (evaluating x) =
-      (es : List Event) × (t : TermId) × (xs ≡ es ++ entered t (OfFragment c.at 0) ∷ []) × IsSide w.rules nodes table c.condition c.at false (w.bound c.binding) t x
-      × (c.condition ≡ e) × IsExtension σ (w.bound c.binding) × IsShown w.rules nodes table e i c.at (w.bound c.binding) es
-  TellsFrame n m (solving e i σ) (Waiting.Matching c) xs (evaluating x) =
-      (es : List Event) × (t : TermId) × (xs ≡ es ++ entered t (OfFragment c.at 1) ∷ []) × IsSide w.rules nodes table c.condition c.at true (w.bound c.binding) t x
-      × (c.condition ≡ e) × IsExtension σ (w.bound c.binding) × IsShown w.rules nodes table e i c.at (w.bound c.binding) es
+  TellsFrame n m (evaluating t0) (Waiting.Argument a i) xs (evaluating x) = HasEnteredArgument t0 a.op.0 (trees w a.args.items) i xs x
+  TellsFrame n m (evaluating t0) (Waiting.Again t) xs (evaluating x) = HasEnteredAgain t0 t xs x
+  TellsFrame n m (solving e i σ) (Waiting.Left c) xs (evaluating x) = HasEntered e i σ c.condition c.at false 0 (w.bound c.binding) xs x
+  TellsFrame n m (solving e i σ) (Waiting.Right c v) xs (evaluating x) = HasEnteredBoth e i σ c.condition c.at (w.bound c.binding) v xs x
+  TellsFrame n m (solving e i σ) (Waiting.Sorting c) xs (evaluating x) = HasEntered e i σ c.condition c.at false 0 (w.bound c.binding) xs x
+  TellsFrame n m (solving e i σ) (Waiting.Matching c) xs (evaluating x) = HasEntered e i σ c.condition c.at true 1 (w.bound c.binding) xs x
   TellsFrame n m (solving e i σ) (Waiting.Choice c mark) xs (solving d j τ) =
       (c.condition ≡ e) × IsExtension σ (w.chosen_from c.choices) × IsMatched w.rules nodes table e i c.at (w.chosen_from c.choices) (w.chosen_value c.choices) xs
       × (d ≡ e) × (j ≡ c.at + 1) × IsExtension (w.chosen_from c.choices) τ
@@ -150,12 +193,6 @@ module _ {A C S : Type 0} (w : Words A C S) (nodes : List Node) (table : Table) 
       (e ≡ x.condition) × (i ≡ 0) × Runs w.rules nodes table t0 xs (w.tree x.term.0) × (mark ≡ n + length xs) × (before ≡ shown_count (m + steps_in xs))
   -- never
   TellsFrame n m J f xs K = ⊥
-
-  -- a frame that counts apart begins to count anew
-  abbrev pub counted_on : Frame A C S → ℕ → List Event → ℕ
-  counted_on (Waiting.Choice c mark) m xs = 0
-  counted_on (Waiting.Trying x before mark) m xs = 0
-  counted_on f m xs = m + steps_in xs
 
   -- what frames and the task at hand have told of the job, where r is counted
   abbrev pub Tells : (behind counted : ℕ) → Job → List (Frame A C S) → Control A C S → (r : ℕ) → List Event → Type 0
@@ -167,5 +204,4 @@ module _ {A C S : Type 0} (w : Words A C S) (nodes : List Node) (table : Table) 
   pub record IsTelling (before : List Event) (J : Job) (fs : List (Frame A C S)) (c : Control A C S) (r : ℕ) (told : List Event) : Type 0 where
     pub events : List Event
     pub is : told ≡ before ++ events
-    pub stand : All (StandsIn nodes) events
     pub tells : Tells (length before) 0 J fs c r events

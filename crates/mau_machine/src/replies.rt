@@ -116,7 +116,7 @@ fn proceed<W: World>(
     ensures told { IfOk result (λ next. (r n e i : ℕ) (σ : Binding) (es : List Event) → r ≡ shown_count n
         → (holds ≡ true → IsShown (W.words world.now store.now).rules store.now (W.table world.now) e i (condition.at + 1) ((W.words world.now store.now).bound condition.binding) es)
         → condition.condition ≡ e → IsExtension σ ((W.words world.now store.now).bound condition.binding)
-        → TellsTask (W.words world.now store.now) store.now (W.table world.now) (solving e i σ) next es × Counts (W.words world.now store.now) store.now (W.table world.now) next r n) }
+        → TellsTask (W.words world.now store.now) store.now (W.table world.now) (solving e i σ) next es × Counts next r n) }
 {
     if !holds {
         return Ok(Control::Failed(condition.condition));
@@ -156,11 +156,11 @@ pub fn hold<W: World, T: StepWatcher>(
     ensures watched { IsWatched (T.wanted watcher.old) (T.wanted watcher.new) (T.told watcher.old) (T.told watcher.new) }
 {
     match machine.frames.pop() {
-        Some(Frame::Choice(choosing, _)) => {
+        Some(Frame::Choice(choosing, mark)) => {
             machine.rewrites = choosing.before.saturating_add(machine.rewrites);
             Ok(Control::Held(condition, binding))
         }
-        Some(Frame::Trying(trial, before, _)) => {
+        Some(Frame::Trying(trial, before, mark)) => {
             if *budget == 0 {
                 return Err(EvalEnd::Stopped);
             }

@@ -1,11 +1,25 @@
-use Rattle.std.proofs.Common.{◌≡◌, [], sym, ◌∙◌, ap, subst, le_trans}
-use Rattle.mau_machine.specs.Words.{capped}
-use Rattle.mau_machine.specs.Machine.{whole}
-use Rattle.mau_machine.specs.Known.{HoldsIn}
-use Rattle.mau_machine.specs.Steps.{IsAlike}
-use Rattle.mau_machine.proofs.Counts.{ends_alike}
-use Rattle.mau_machine.proofs.Branches.{empty_is}
-use Rattle.mau_machine.proofs.Held.{same_whole}
+use Rattle.std.proofs.Common.{◌≡◌, ℕ, zero, suc, ◌+◌, ◌-◌, ◌<◌, ◌≤◌, ◌++◌, ◌∷◌, [], length, drop, get_or, set, Some, None, true, false, Ok, Err, refl, sym, ◌∙◌, ap, subst, rules, arith, le_trans, inl, inr}
+use Rattle.std.specs.Prelude.{IfOk, IfErr, IfSome, IfNone}
+use Rattle.std.specs.Option.{option_map}
+use Rattle.std.proofs.lemmas.Option.{slice_get_read, slice_get-get_or}
+use Rattle.std.specs.Vec.{with_item}
+use Rattle.mau_terms.specs.Tree.{node}
+use Rattle.mau_evaluation.specs.Run.{done, ended, counted, counted_if, or_go_on, try_on, gives, where_true}
+use Rattle.mau_evaluation.specs.Evaluation.{order_of}
+use Rattle.mau_api.specs.declared.results.EvalEnd.TheVariants as Ended
+use Rattle.mau_machine.specs.Words.{capped, IsEnd, trees, kind_of, eval_on, solve_on, side_of, goal_of, rest_of, Asks, IsLeaf, IsSorted, IsSolution, HasSideBy}
+use Rattle.mau_machine.specs.Machine.{gave, held, failed, as_value, as_answer, on_arguments, on_attempts, from_built, argument, again, left_side, right_side, sorting, matching, choice, trying, after, goes_on, comes, waits_in, task_in, through, whole}
+use Rattle.mau_machine.specs.Known.{value_of, answer_to, asks, yields, comes_to, IsKnown, IsKnownNext, HoldsIn, kind_in}
+use Rattle.mau_machine.specs.Steps.{IsAlike, StayKnown, AreHeld}
+use Rattle.mau_machine.specs.declared.goal.Goal.TheVariants as Goals
+use Rattle.mau_machine.specs.declared.frame.Condition.{Condition}
+use Rattle.mau_machine.specs.declared.frame.Choosing.{Choosing}
+use Rattle.mau_machine.specs.declared.frame.Frame.TheVariants as Waiting
+use Rattle.mau_machine.specs.declared.frame.Control.TheVariants as Next
+use Rattle.mau_machine.proofs.Counts.{value_ends, answer_ends, first_ends, try_ends, same_ends, any_end, value_is, solution_is, none_is, value_ends_as, answer_ends_as, ends_alike, counted_zero, answer_zero}
+use Rattle.mau_machine.proofs.Through.{alike, pushed, alike_pushed, alike_popped, ends_through, ends_popped, alike_result, ends_result, popped_result, last_is}
+use Rattle.mau_machine.proofs.Branches.{dropped, none_left, at_trees, no_tree, put_trees, put_none, opened_leaf, opened, one_argument, no_argument, built_from, built_ends_from, one_tried, none_tried, tried_ends, one_chosen, equality, sort_test, match, equality_ends, sort_test_ends, match_ends, second_side, second_side_ends, sorts_tested, side_at, ends_at, no_levels, spends, stops, spend_ends, choice_held, again_waits, begun, sides, sides_end, one, empty_is}
+use Rattle.mau_machine.proofs.Held.{known_pushed, known_popped, held_on, held_pushed, held_popped, held_swapped, last_known, held_later, same_whole, known_result, popped_known, same_state, entered, held_first, kind_at_place, kind_at_get, same_kind, same_value_kind, asks_on, solution_on}
 use Rattle.mau_machine.proofs.machine.run.Goals as goal
 
 pub returns-then-is_empty-clause-goes : goal.returns-then-is_empty-clause-goes
@@ -35,7 +49,7 @@ returns-in-Err-clause-ends g c =
     let k = g.met.W.World.keeps c.loop.world c.step.new.world c.loop.store c.step.new.store c.in-Err.ensures.grows in
     let H = c.loop.invariant.3 c.requires.held.0 c.requires.held.1 in
     let same : IsAlike (whole w0 c.args.machine.now.frames.items c.args.task c.args.machine.now.rewrites c.args.budget.now) (whole w' c.loop.machine.frames.items c.loop.task c.loop.machine.rewrites c.loop.budget) =
-    c.loop.invariant.2 ∙ ap capped (sym (same_whole w w' k c.requires.held.0 c.loop.machine.frames.items c.loop.task H c.loop.machine.rewrites c.loop.budget)) in
+        c.loop.invariant.2 ∙ ap capped (sym (same_whole w w' k c.requires.held.0 c.loop.machine.frames.items c.loop.task H c.loop.machine.rewrites c.loop.budget)) in
     ends_alike (whole w0 c.args.machine.now.frames.items c.args.task c.args.machine.now.rewrites c.args.budget.now) (whole w' c.loop.machine.frames.items c.loop.task c.loop.machine.rewrites c.loop.budget) c.in-Err.end same c.in-Err.ensures.ends
 
 pub returns-in-Err-clause-grows : goal.returns-in-Err-clause-grows
@@ -51,5 +65,33 @@ loop-preserved g c =
     let k = g.met.W.World.keeps c.loop.world c.step.new.world c.loop.store c.step.new.store c.in-Ok.ensures.grows in
     let H = c.loop.invariant.3 c.requires.held.0 c.requires.held.1 in
     let same : IsAlike (whole w0 c.args.machine.now.frames.items c.args.task c.args.machine.now.rewrites c.args.budget.now) (whole w' c.loop.machine.frames.items c.loop.task c.loop.machine.rewrites c.loop.budget) =
-    c.loop.invariant.2 ∙ ap capped (sym (same_whole w w' k c.requires.held.0 c.loop.machine.frames.items c.loop.task H c.loop.machine.rewrites c.loop.budget)) in
+        c.loop.invariant.2 ∙ ap capped (sym (same_whole w w' k c.requires.held.0 c.loop.machine.frames.items c.loop.task H c.loop.machine.rewrites c.loop.budget)) in
     (grows, le_trans c.in-Ok.ensures.falls c.loop.invariant.1, same ∙ c.in-Ok.ensures.goes, λ asked h. c.in-Ok.ensures.known asked (c.loop.invariant.3 asked h))
+
+pub returns-then-is_empty-clause-told : goal.returns-then-is_empty-clause-told
+returns-then-is_empty-clause-told g c =
+    ?
+
+pub returns-then-is_empty-clause-watched : goal.returns-then-is_empty-clause-watched
+returns-then-is_empty-clause-watched g c =
+    ?
+
+pub step-requires-clause-told : goal.step-requires-clause-told
+step-requires-clause-told g c =
+    ?
+
+pub returns-in-Err-clause-more : goal.returns-in-Err-clause-more
+returns-in-Err-clause-more g c =
+    ?
+
+pub returns-in-Err-clause-watched : goal.returns-in-Err-clause-watched
+returns-in-Err-clause-watched g c =
+    ?
+
+pub returns-clause-more : goal.returns-clause-more
+returns-clause-more g c =
+    ?
+
+pub returns-clause-watched : goal.returns-clause-watched
+returns-clause-watched g c =
+    ?

@@ -1,36 +1,68 @@
-use Rattle.std.proofs.Common.{refl}
-use Rattle.mau_machine.specs.Machine.{comes, task_in}
+use Rattle.std.proofs.Common.{◌≡◌, ℕ, zero, suc, ◌+◌, ◌-◌, ◌<◌, ◌≤◌, ◌++◌, ◌∷◌, [], length, drop, get_or, set, Some, None, true, false, Ok, Err, refl, sym, ◌∙◌, ap, subst, rules, arith, le_trans, inl, inr}
+use Rattle.std.specs.Prelude.{IfOk, IfErr, IfSome, IfNone}
+use Rattle.std.specs.Option.{option_map}
+use Rattle.std.proofs.lemmas.Option.{slice_get_read, slice_get-get_or}
+use Rattle.std.specs.Vec.{with_item}
+use Rattle.mau_terms.specs.Tree.{node}
+use Rattle.mau_evaluation.specs.Run.{done, ended, counted, counted_if, or_go_on, try_on, gives, where_true}
+use Rattle.mau_evaluation.specs.Evaluation.{order_of}
+use Rattle.mau_api.specs.declared.results.EvalEnd.TheVariants as Ended
+use Rattle.mau_machine.specs.Words.{capped, IsEnd, trees, kind_of, eval_on, solve_on, side_of, goal_of, rest_of, Asks, IsLeaf, IsSorted, IsSolution, HasSideBy}
+use Rattle.mau_machine.specs.Machine.{gave, held, failed, as_value, as_answer, on_arguments, on_attempts, from_built, argument, again, left_side, right_side, sorting, matching, choice, trying, after, goes_on, comes, waits_in, task_in, through, whole}
+use Rattle.mau_machine.specs.Known.{value_of, answer_to, asks, yields, comes_to, IsKnown, IsKnownNext, HoldsIn, kind_in}
+use Rattle.mau_machine.specs.Steps.{IsAlike, StayKnown, AreHeld}
+use Rattle.mau_machine.specs.declared.goal.Goal.TheVariants as Goals
+use Rattle.mau_machine.specs.declared.frame.Condition.{Condition}
+use Rattle.mau_machine.specs.declared.frame.Choosing.{Choosing}
 use Rattle.mau_machine.specs.declared.frame.Frame.TheVariants as Waiting
 use Rattle.mau_machine.specs.declared.frame.Control.TheVariants as Next
-use Rattle.mau_machine.proofs.Through.{alike_popped, last_is}
-use Rattle.mau_machine.proofs.Held.{held_popped, last_known}
+use Rattle.mau_machine.proofs.Counts.{value_ends, answer_ends, first_ends, try_ends, same_ends, any_end, value_is, solution_is, none_is, value_ends_as, answer_ends_as, ends_alike, counted_zero, answer_zero}
+use Rattle.mau_machine.proofs.Through.{alike, pushed, alike_pushed, alike_popped, ends_through, ends_popped, alike_result, ends_result, popped_result, last_is}
+use Rattle.mau_machine.proofs.Branches.{dropped, none_left, at_trees, no_tree, put_trees, put_none, opened_leaf, opened, one_argument, no_argument, built_from, built_ends_from, one_tried, none_tried, tried_ends, one_chosen, equality, sort_test, match, equality_ends, sort_test_ends, match_ends, second_side, second_side_ends, sorts_tested, side_at, ends_at, no_levels, spends, stops, spend_ends, choice_held, again_waits, begun, sides, sides_end, one, empty_is}
+use Rattle.mau_machine.proofs.Held.{known_pushed, known_popped, held_on, held_pushed, held_popped, held_swapped, last_known, held_later, same_whole, known_result, popped_known, same_state, entered, held_first, kind_at_place, kind_at_get, same_kind, same_value_kind, asks_on, solution_on}
 use Rattle.mau_machine.proofs.replies.fail.Goals as goal
 
 pub returns-in-Some-Choice-clause-goes : goal.returns-in-Some-Choice-clause-goes
 returns-in-Some-Choice-clause-goes g c =
     let w = (g.W.World.words c.args.world.now c.args.store.now) in
-    let f = Waiting.Choice c.in-Some-Choice.choosing in
+    let f = Waiting.Choice c.in-Some-Choice.choosing c.in-Some-Choice.mark in
     let p = last_is w c.args.machine.now.frames.items c.pop.new.self.items f _ c.in-Some-Choice.ensures.items c.in-Some-Choice.field-0-is in
     λ b. alike_popped w c.args.machine.now.frames.items c.pop.new.self.items f (comes w.rules (task_in w (Next.Failed c.args.condition)) c.args.machine.now.rewrites b) (comes w.rules (task_in w (Next.Choose c.in-Some-Choice.choosing)) c.args.machine.now.rewrites b) p refl
 
 pub returns-in-Some-Choice-clause-known : goal.returns-in-Some-Choice-clause-known
 returns-in-Some-Choice-clause-known g c =
     let w = (g.W.World.words c.args.world.now c.args.store.now) in
-    let f = Waiting.Choice c.in-Some-Choice.choosing in
+    let f = Waiting.Choice c.in-Some-Choice.choosing c.in-Some-Choice.mark in
     let p = last_is w c.args.machine.now.frames.items c.pop.new.self.items f _ c.in-Some-Choice.ensures.items c.in-Some-Choice.field-0-is in
     λ asked h. held_popped w asked c.args.machine.now.frames.items c.pop.new.self.items (Next.Failed c.args.condition) (Next.Choose c.in-Some-Choice.choosing) f p h (last_known w asked c.args.machine.now.frames.items c.pop.new.self.items (Next.Failed c.args.condition) f p h).0 refl
 
 pub returns-in-Some-Trying-clause-goes : goal.returns-in-Some-Trying-clause-goes
 returns-in-Some-Trying-clause-goes g c =
     let w = (g.W.World.words c.args.world.now c.args.store.now) in
-    let f = Waiting.Trying c.in-Some-Trying.trial c.in-Some-Trying.before in
+    let f = Waiting.Trying c.in-Some-Trying.trial c.in-Some-Trying.before c.in-Some-Trying.mark in
     let p = last_is w c.args.machine.now.frames.items c.pop.new.self.items f _ c.in-Some-Trying.ensures.items c.in-Some-Trying.field-0-is in
     λ b. alike_popped w c.args.machine.now.frames.items c.pop.new.self.items f (comes w.rules (task_in w (Next.Failed c.args.condition)) c.args.machine.now.rewrites b) (comes w.rules (task_in w (Next.Attempt c.in-Some-Trying.trial)) c.in-Some-Trying.before b) p refl
 
 pub returns-in-Some-Trying-clause-known : goal.returns-in-Some-Trying-clause-known
 returns-in-Some-Trying-clause-known g c =
     let w = (g.W.World.words c.args.world.now c.args.store.now) in
-    let f = Waiting.Trying c.in-Some-Trying.trial c.in-Some-Trying.before in
+    let f = Waiting.Trying c.in-Some-Trying.trial c.in-Some-Trying.before c.in-Some-Trying.mark in
     let p = last_is w c.args.machine.now.frames.items c.pop.new.self.items f _ c.in-Some-Trying.ensures.items c.in-Some-Trying.field-0-is in
     λ asked h. let q = (last_known w asked c.args.machine.now.frames.items c.pop.new.self.items (Next.Failed c.args.condition) f p h).0 in
     held_popped w asked c.args.machine.now.frames.items c.pop.new.self.items (Next.Failed c.args.condition) (Next.Attempt c.in-Some-Trying.trial) f p h (q.0, q.1) refl
+
+pub back-requires : goal.back-requires
+back-requires g c =
+    ?
+
+pub returns-in-Some-Choice-clause-told : goal.returns-in-Some-Choice-clause-told
+returns-in-Some-Choice-clause-told g c =
+    ?
+
+pub back-requires-in-Some-Trying : goal.back-requires-in-Some-Trying
+back-requires-in-Some-Trying g c =
+    ?
+
+pub returns-in-Some-Trying-clause-told : goal.returns-in-Some-Trying-clause-told
+returns-in-Some-Trying-clause-told g c =
+    ?

@@ -1,17 +1,25 @@
-use Rattle.std.proofs.Common.{suc, ◌<◌, length, drop, get_or, true, refl, sym, ◌∙◌, ap, subst, rules, inl, inr}
-use Rattle.std.proofs.lemmas.Option.{slice_get-get_or}
+use Rattle.std.proofs.Common.{◌≡◌, ℕ, zero, suc, ◌+◌, ◌-◌, ◌<◌, ◌≤◌, ◌++◌, ◌∷◌, [], length, drop, get_or, set, Some, None, true, false, Ok, Err, refl, sym, ◌∙◌, ap, subst, rules, arith, le_trans, inl, inr}
+use Rattle.std.specs.Prelude.{IfOk, IfErr, IfSome, IfNone}
+use Rattle.std.specs.Option.{option_map}
+use Rattle.std.proofs.lemmas.Option.{slice_get_read, slice_get-get_or}
 use Rattle.std.specs.Vec.{with_item}
-use Rattle.mau_evaluation.specs.Run.{counted, counted_if, where_true}
-use Rattle.mau_machine.specs.Words.{capped, eval_on, solve_on, HasSideBy}
-use Rattle.mau_machine.specs.Machine.{as_value, as_answer, on_arguments, goes_on, comes, waits_in, task_in}
-use Rattle.mau_machine.specs.Known.{value_of}
+use Rattle.mau_terms.specs.Tree.{node}
+use Rattle.mau_evaluation.specs.Run.{done, ended, counted, counted_if, or_go_on, try_on, gives, where_true}
+use Rattle.mau_evaluation.specs.Evaluation.{order_of}
+use Rattle.mau_api.specs.declared.results.EvalEnd.TheVariants as Ended
+use Rattle.mau_machine.specs.Words.{capped, IsEnd, trees, kind_of, eval_on, solve_on, side_of, goal_of, rest_of, Asks, IsLeaf, IsSorted, IsSolution, HasSideBy}
+use Rattle.mau_machine.specs.Machine.{gave, held, failed, as_value, as_answer, on_arguments, on_attempts, from_built, argument, again, left_side, right_side, sorting, matching, choice, trying, after, goes_on, comes, waits_in, task_in, through, whole}
+use Rattle.mau_machine.specs.Known.{value_of, answer_to, asks, yields, comes_to, IsKnown, IsKnownNext, HoldsIn, kind_in}
+use Rattle.mau_machine.specs.Steps.{IsAlike, StayKnown, AreHeld}
 use Rattle.mau_machine.specs.declared.goal.Goal.TheVariants as Goals
+use Rattle.mau_machine.specs.declared.frame.Condition.{Condition}
 use Rattle.mau_machine.specs.declared.frame.Choosing.{Choosing}
 use Rattle.mau_machine.specs.declared.frame.Frame.TheVariants as Waiting
 use Rattle.mau_machine.specs.declared.frame.Control.TheVariants as Next
-use Rattle.mau_machine.proofs.Through.{alike_pushed, alike_popped, ends_popped, popped_result, last_is}
-use Rattle.mau_machine.proofs.Branches.{put_trees, put_none, second_side, second_side_ends, sorts_tested}
-use Rattle.mau_machine.proofs.Held.{held_popped, held_swapped, last_known, held_later, popped_known, same_state, kind_at_get, asks_on}
+use Rattle.mau_machine.proofs.Counts.{value_ends, answer_ends, first_ends, try_ends, same_ends, any_end, value_is, solution_is, none_is, value_ends_as, answer_ends_as, ends_alike, counted_zero, answer_zero}
+use Rattle.mau_machine.proofs.Through.{alike, pushed, alike_pushed, alike_popped, ends_through, ends_popped, alike_result, ends_result, popped_result, last_is}
+use Rattle.mau_machine.proofs.Branches.{dropped, none_left, at_trees, no_tree, put_trees, put_none, opened_leaf, opened, one_argument, no_argument, built_from, built_ends_from, one_tried, none_tried, tried_ends, one_chosen, equality, sort_test, match, equality_ends, sort_test_ends, match_ends, second_side, second_side_ends, sorts_tested, side_at, ends_at, no_levels, spends, stops, spend_ends, choice_held, again_waits, begun, sides, sides_end, one, empty_is}
+use Rattle.mau_machine.proofs.Held.{known_pushed, known_popped, held_on, held_pushed, held_popped, held_swapped, last_known, held_later, same_whole, known_result, popped_known, same_state, entered, held_first, kind_at_place, kind_at_get, same_kind, same_value_kind, asks_on, solution_on}
 use Rattle.mau_machine.proofs.replies.give.Goals as goal
 
 pub returns-then-place-len-clause-goes : goal.returns-then-place-len-clause-goes
@@ -95,8 +103,8 @@ returns-in-Ok-clause-goes g c =
     let q = Waiting.Right x c.args.value in
     λ b. alike_popped w' c.args.machine.now.frames.items c.pop.new.self.items f (comes w'.rules (task_in w' (Next.Value c.args.value)) c.args.machine.now.rewrites b) (goes_on w'.rules (waits_in w' q) (as_value (counted c.args.machine.now.rewrites (eval_on w'.rules x.level (w'.tree t.0) b)))) p
     (ap capped (second_side w'.rules x.level x.condition x.at (w'.bound x.binding) (w'.tree c.args.value.0) (w'.tree t.0) c.args.machine.now.rewrites b (c.in-Ok.ensures.value b)))
-    ∙ alike_pushed w' c.pop.new.self.items c.wait.new.self.frames.items q _ (as_value (counted c.wait.new.self.rewrites (eval_on w'.rules x.level (w'.tree t.0) b))) c.in_ok-wait-in-Ok.ensures.frames
-    (ap (λ n. capped (goes_on w'.rules (waits_in w' q) (as_value (counted n (eval_on w'.rules x.level (w'.tree t.0) b))))) (sym c.in_ok-wait-in-Ok.ensures.rewrites))
+    ∙ alike_pushed w' c.pop.new.self.items c.begin.new.machine.frames.items q _ (as_value (counted c.begin.new.machine.rewrites (eval_on w'.rules x.level (w'.tree t.0) b))) c.in_ok-begin-in-Ok.ensures.frames
+    (ap (λ n. capped (goes_on w'.rules (waits_in w' q) (as_value (counted n (eval_on w'.rules x.level (w'.tree t.0) b))))) (sym c.in_ok-begin-in-Ok.ensures.rewrites))
 
 pub returns-in-Ok-clause-known : goal.returns-in-Ok-clause-known
 returns-in-Ok-clause-known g c =
@@ -110,7 +118,7 @@ returns-in-Ok-clause-known g c =
     let q = Waiting.Right x c.args.value in
     λ asked h. let H = held_later w w' k asked c.args.machine.now.frames.items (Next.Value c.args.value) h in
     let L = (last_known w' asked c.args.machine.now.frames.items c.pop.new.self.items (Next.Value c.args.value) f p H).0 in
-    held_swapped w' asked c.args.machine.now.frames.items c.pop.new.self.items c.wait.new.self.frames.items (Next.Value c.args.value) (Next.Eval x.level t) f q p c.in_ok-wait-in-Ok.ensures.frames H (L.0, L.1, H.next) c.in-Ok.ensures.known refl tt
+    held_swapped w' asked c.args.machine.now.frames.items c.pop.new.self.items c.begin.new.machine.frames.items (Next.Value c.args.value) (Next.Eval x.level t) f q p c.in_ok-begin-in-Ok.ensures.frames H (L.0, L.1, H.next) c.in-Ok.ensures.known refl tt
 
 pub returns-in-Some-Left-clause-ends : goal.returns-in-Some-Left-clause-ends
 returns-in-Some-Left-clause-ends g c =
@@ -254,3 +262,35 @@ returns-in-Ok-choices-clause-known g c =
     let x = c.in-Some-Matching.condition in
     let y : Choosing g.row.W-Choices.Denot = record { level = x.level; condition = x.condition; at = x.at; choices = c.in-Ok-choices.choices; before = c.args.machine.now.rewrites } in
     λ asked h. held_popped w' asked c.args.machine.now.frames.items c.pop.new.self.items (Next.Value c.args.value) (Next.Choose y) f p (held_later w w' k asked c.args.machine.now.frames.items (Next.Value c.args.value) h) c.in-Ok-choices.ensures.known refl
+
+pub returns-then-place-len-clause-told : goal.returns-then-place-len-clause-told
+returns-then-place-len-clause-told g c =
+    ?
+
+pub returns-in-Some-Argument-clause-told : goal.returns-in-Some-Argument-clause-told
+returns-in-Some-Argument-clause-told g c =
+    ?
+
+pub returns-in-Some-Again-clause-told : goal.returns-in-Some-Again-clause-told
+returns-in-Some-Again-clause-told g c =
+    ?
+
+pub returns-in_err-begin-in-Ok-clause-more : goal.returns-in_err-begin-in-Ok-clause-more
+returns-in_err-begin-in-Ok-clause-more g c =
+    ?
+
+pub returns-in-Ok-clause-told : goal.returns-in-Ok-clause-told
+returns-in-Ok-clause-told g c =
+    ?
+
+pub returns-in-Some-Right-clause-told : goal.returns-in-Some-Right-clause-told
+returns-in-Some-Right-clause-told g c =
+    ?
+
+pub returns-in-Ok-sorted-clause-told : goal.returns-in-Ok-sorted-clause-told
+returns-in-Ok-sorted-clause-told g c =
+    ?
+
+pub returns-in-Ok-choices-clause-told : goal.returns-in-Ok-choices-clause-told
+returns-in-Ok-choices-clause-told g c =
+    ?

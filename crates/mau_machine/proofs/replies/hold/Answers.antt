@@ -1,19 +1,31 @@
-use Rattle.std.proofs.Common.{◌-◌, ap, subst}
+use Rattle.std.proofs.Common.{◌≡◌, ℕ, zero, suc, ◌+◌, ◌-◌, ◌<◌, ◌≤◌, ◌++◌, ◌∷◌, [], length, drop, get_or, set, Some, None, true, false, Ok, Err, refl, sym, ◌∙◌, ap, subst, rules, arith, le_trans, inl, inr}
+use Rattle.std.specs.Prelude.{IfOk, IfErr, IfSome, IfNone}
+use Rattle.std.specs.Option.{option_map}
+use Rattle.std.proofs.lemmas.Option.{slice_get_read, slice_get-get_or}
+use Rattle.std.specs.Vec.{with_item}
+use Rattle.mau_terms.specs.Tree.{node}
+use Rattle.mau_evaluation.specs.Run.{done, ended, counted, counted_if, or_go_on, try_on, gives, where_true}
+use Rattle.mau_evaluation.specs.Evaluation.{order_of}
 use Rattle.mau_api.specs.declared.results.EvalEnd.TheVariants as Ended
-use Rattle.mau_machine.specs.Words.{IsSolution}
-use Rattle.mau_machine.specs.Machine.{comes, task_in}
-use Rattle.mau_machine.specs.Known.{value_of, answer_to}
+use Rattle.mau_machine.specs.Words.{capped, IsEnd, trees, kind_of, eval_on, solve_on, side_of, goal_of, rest_of, Asks, IsLeaf, IsSorted, IsSolution, HasSideBy}
+use Rattle.mau_machine.specs.Machine.{gave, held, failed, as_value, as_answer, on_arguments, on_attempts, from_built, argument, again, left_side, right_side, sorting, matching, choice, trying, after, goes_on, comes, waits_in, task_in, through, whole}
+use Rattle.mau_machine.specs.Known.{value_of, answer_to, asks, yields, comes_to, IsKnown, IsKnownNext, HoldsIn, kind_in}
+use Rattle.mau_machine.specs.Steps.{IsAlike, StayKnown, AreHeld}
+use Rattle.mau_machine.specs.declared.goal.Goal.TheVariants as Goals
+use Rattle.mau_machine.specs.declared.frame.Condition.{Condition}
+use Rattle.mau_machine.specs.declared.frame.Choosing.{Choosing}
 use Rattle.mau_machine.specs.declared.frame.Frame.TheVariants as Waiting
 use Rattle.mau_machine.specs.declared.frame.Control.TheVariants as Next
-use Rattle.mau_machine.proofs.Through.{alike_popped, ends_popped, last_is}
-use Rattle.mau_machine.proofs.Branches.{spends, stops, spend_ends, choice_held}
-use Rattle.mau_machine.proofs.Held.{held_popped, last_known, held_later}
+use Rattle.mau_machine.proofs.Counts.{value_ends, answer_ends, first_ends, try_ends, same_ends, any_end, value_is, solution_is, none_is, value_ends_as, answer_ends_as, ends_alike, counted_zero, answer_zero}
+use Rattle.mau_machine.proofs.Through.{alike, pushed, alike_pushed, alike_popped, ends_through, ends_popped, alike_result, ends_result, popped_result, last_is}
+use Rattle.mau_machine.proofs.Branches.{dropped, none_left, at_trees, no_tree, put_trees, put_none, opened_leaf, opened, one_argument, no_argument, built_from, built_ends_from, one_tried, none_tried, tried_ends, one_chosen, equality, sort_test, match, equality_ends, sort_test_ends, match_ends, second_side, second_side_ends, sorts_tested, side_at, ends_at, no_levels, spends, stops, spend_ends, choice_held, again_waits, begun, sides, sides_end, one, empty_is}
+use Rattle.mau_machine.proofs.Held.{known_pushed, known_popped, held_on, held_pushed, held_popped, held_swapped, last_known, held_later, same_whole, known_result, popped_known, same_state, entered, held_first, kind_at_place, kind_at_get, same_kind, same_value_kind, asks_on, solution_on}
 use Rattle.mau_machine.proofs.replies.hold.Goals as goal
 
 pub returns-in-Some-Choice-clause-goes : goal.returns-in-Some-Choice-clause-goes
 returns-in-Some-Choice-clause-goes g c =
     let w = (g.W.World.words c.args.world.now c.args.store.now) in
-    let f = Waiting.Choice c.in-Some-Choice.choosing in
+    let f = Waiting.Choice c.in-Some-Choice.choosing c.in-Some-Choice.mark in
     let p = last_is w c.args.machine.now.frames.items c.pop.new.self.items f _ c.in-Some-Choice.ensures.items c.in-Some-Choice.field-0-is in
     let x = c.in-Some-Choice.choosing in
     alike_popped w c.args.machine.now.frames.items c.pop.new.self.items f (comes w.rules (task_in w (Next.Held c.args.condition c.args.binding)) c.args.machine.now.rewrites c.args.budget.now) (comes w.rules (task_in w (Next.Held c.args.condition c.args.binding)) c.saturating_add-machine.result c.args.budget.now) p
@@ -22,39 +34,39 @@ returns-in-Some-Choice-clause-goes g c =
 pub returns-in-Some-Choice-clause-known : goal.returns-in-Some-Choice-clause-known
 returns-in-Some-Choice-clause-known g c =
     let w = (g.W.World.words c.args.world.now c.args.store.now) in
-    let f = Waiting.Choice c.in-Some-Choice.choosing in
+    let f = Waiting.Choice c.in-Some-Choice.choosing c.in-Some-Choice.mark in
     let p = last_is w c.args.machine.now.frames.items c.pop.new.self.items f _ c.in-Some-Choice.ensures.items c.in-Some-Choice.field-0-is in
     λ asked h. held_popped w asked c.args.machine.now.frames.items c.pop.new.self.items (Next.Held c.args.condition c.args.binding) (Next.Held c.args.condition c.args.binding) f p h h.next (ap answer_to (last_known w asked c.args.machine.now.frames.items c.pop.new.self.items (Next.Held c.args.condition c.args.binding) f p h).1)
 
 pub returns-then-budget-eq0-clause-ends : goal.returns-then-budget-eq0-clause-ends
 returns-then-budget-eq0-clause-ends g c =
     let w = (g.W.World.words c.args.world.now c.args.store.now) in
-    let f = Waiting.Trying c.in-Some-Trying.trial c.in-Some-Trying.before in
+    let f = Waiting.Trying c.in-Some-Trying.trial c.in-Some-Trying.before c.in-Some-Trying.mark in
     let p = last_is w c.args.machine.now.frames.items c.pop.new.self.items f _ c.in-Some-Trying.ensures.items c.in-Some-Trying.field-0-is in
     let x = c.in-Some-Trying.trial in
     ends_popped w c.args.machine.now.frames.items c.pop.new.self.items f (comes w.rules (task_in w (Next.Held c.args.condition c.args.binding)) c.args.machine.now.rewrites c.args.budget.now) Ended.Stopped p
     (stops w.rules x.level (w.tree x.term.0) (w.untried x.attempts x.level) (w.makes x.attempts) c.in-Some-Trying.before c.args.machine.now.rewrites c.args.budget.now (w.bound c.args.binding) c.if-budget-eq0.true)
 
-pub replace-requires-clause-term : goal.replace-requires-clause-term
-replace-requires-clause-term g c =
+pub make-requires-clause-term : goal.make-requires-clause-term
+make-requires-clause-term g c =
     let w = (g.W.World.words c.args.world.now c.args.store.now) in
-    let f = Waiting.Trying c.in-Some-Trying.trial c.in-Some-Trying.before in
+    let f = Waiting.Trying c.in-Some-Trying.trial c.in-Some-Trying.before c.in-Some-Trying.mark in
     let p = last_is w c.args.machine.now.frames.items c.pop.new.self.items f _ c.in-Some-Trying.ensures.items c.in-Some-Trying.field-0-is in
     let L = last_known w c.requires.held.0 c.args.machine.now.frames.items c.pop.new.self.items (Next.Held c.args.condition c.args.binding) f p c.requires.held.1 in
     L.0.0
 
-pub replace-requires-clause-candidate : goal.replace-requires-clause-candidate
-replace-requires-clause-candidate g c =
+pub make-requires-clause-candidate : goal.make-requires-clause-candidate
+make-requires-clause-candidate g c =
     let w = (g.W.World.words c.args.world.now c.args.store.now) in
-    let f = Waiting.Trying c.in-Some-Trying.trial c.in-Some-Trying.before in
+    let f = Waiting.Trying c.in-Some-Trying.trial c.in-Some-Trying.before c.in-Some-Trying.mark in
     let p = last_is w c.args.machine.now.frames.items c.pop.new.self.items f _ c.in-Some-Trying.ensures.items c.in-Some-Trying.field-0-is in
     let L = last_known w c.requires.held.0 c.args.machine.now.frames.items c.pop.new.self.items (Next.Held c.args.condition c.args.binding) f p c.requires.held.1 in
     L.0.2
 
-pub replace-requires-clause-solution : goal.replace-requires-clause-solution
-replace-requires-clause-solution g c =
+pub make-requires-clause-solution : goal.make-requires-clause-solution
+make-requires-clause-solution g c =
     let w = (g.W.World.words c.args.world.now c.args.store.now) in
-    let f = Waiting.Trying c.in-Some-Trying.trial c.in-Some-Trying.before in
+    let f = Waiting.Trying c.in-Some-Trying.trial c.in-Some-Trying.before c.in-Some-Trying.mark in
     let p = last_is w c.args.machine.now.frames.items c.pop.new.self.items f _ c.in-Some-Trying.ensures.items c.in-Some-Trying.field-0-is in
     let L = last_known w c.requires.held.0 c.args.machine.now.frames.items c.pop.new.self.items (Next.Held c.args.condition c.args.binding) f p c.requires.held.1 in
     subst (λ e. IsSolution w e c.args.binding) L.1 c.requires.held.1.next
@@ -62,9 +74,9 @@ replace-requires-clause-solution g c =
 pub returns-in-Ok-clause-goes : goal.returns-in-Ok-clause-goes
 returns-in-Ok-clause-goes g c =
     let w = (g.W.World.words c.args.world.now c.args.store.now) in
-    let w' = (g.W.World.words c.replace.new.self c.replace.new.store) in
-    let k = (g.met.W.World.keeps c.args.world.now c.replace.new.self c.args.store.now c.replace.new.store c.replace.ensures.grows) in
-    let f = Waiting.Trying c.in-Some-Trying.trial c.in-Some-Trying.before in
+    let w' = (g.W.World.words c.make.new.world c.make.new.store) in
+    let k = (g.met.W.World.keeps c.args.world.now c.make.new.world c.args.store.now c.make.new.store c.make.ensures.grows) in
+    let f = Waiting.Trying c.in-Some-Trying.trial c.in-Some-Trying.before c.in-Some-Trying.mark in
     let p = last_is w' c.args.machine.now.frames.items c.pop.new.self.items f _ c.in-Some-Trying.ensures.items c.in-Some-Trying.field-0-is in
     let x = c.in-Some-Trying.trial in
     alike_popped w' c.args.machine.now.frames.items c.pop.new.self.items f (comes w'.rules (task_in w' (Next.Held c.args.condition c.args.binding)) c.args.machine.now.rewrites c.args.budget.now) (comes w'.rules (task_in w' (Next.Eval c.in-Some.level c.in-Ok.term)) c.saturating_add-machine-in-Ok.result (c.args.budget.now - 1)) p
@@ -74,19 +86,27 @@ returns-in-Ok-clause-goes g c =
 pub returns-in-Ok-clause-known : goal.returns-in-Ok-clause-known
 returns-in-Ok-clause-known g c =
     let w = (g.W.World.words c.args.world.now c.args.store.now) in
-    let w' = (g.W.World.words c.replace.new.self c.replace.new.store) in
-    let k = (g.met.W.World.keeps c.args.world.now c.replace.new.self c.args.store.now c.replace.new.store c.replace.ensures.grows) in
-    let f = Waiting.Trying c.in-Some-Trying.trial c.in-Some-Trying.before in
+    let w' = (g.W.World.words c.make.new.world c.make.new.store) in
+    let k = (g.met.W.World.keeps c.args.world.now c.make.new.world c.args.store.now c.make.new.store c.make.ensures.grows) in
+    let f = Waiting.Trying c.in-Some-Trying.trial c.in-Some-Trying.before c.in-Some-Trying.mark in
     let p = last_is w' c.args.machine.now.frames.items c.pop.new.self.items f _ c.in-Some-Trying.ensures.items c.in-Some-Trying.field-0-is in
     λ asked h. held_popped w' asked c.args.machine.now.frames.items c.pop.new.self.items (Next.Held c.args.condition c.args.binding) (Next.Eval c.in-Some.level c.in-Ok.term) f p (held_later w w' k asked c.args.machine.now.frames.items (Next.Held c.args.condition c.args.binding) h) c.in-Ok.ensures.known (ap value_of c.in-Ok.ensures.kind)
 
 pub returns-in-Some-clause-ends : goal.returns-in-Some-clause-ends
 returns-in-Some-clause-ends g c =
     let w = (g.W.World.words c.args.world.now c.args.store.now) in
-    let w' = (g.W.World.words c.replace.new.self c.replace.new.store) in
-    let k = (g.met.W.World.keeps c.args.world.now c.replace.new.self c.args.store.now c.replace.new.store c.replace.ensures.grows) in
-    let f = Waiting.Trying c.in-Some-Trying.trial c.in-Some-Trying.before in
+    let w' = (g.W.World.words c.make.new.world c.make.new.store) in
+    let k = (g.met.W.World.keeps c.args.world.now c.make.new.world c.args.store.now c.make.new.store c.make.ensures.grows) in
+    let f = Waiting.Trying c.in-Some-Trying.trial c.in-Some-Trying.before c.in-Some-Trying.mark in
     let p = last_is w' c.args.machine.now.frames.items c.pop.new.self.items f _ c.in-Some-Trying.ensures.items c.in-Some-Trying.field-0-is in
     let x = c.in-Some-Trying.trial in
     ends_popped w' c.args.machine.now.frames.items c.pop.new.self.items f (comes w'.rules (task_in w' (Next.Held c.args.condition c.args.binding)) c.args.machine.now.rewrites c.args.budget.now) c.in-Err.end p
     (spend_ends w'.rules x.level (w'.tree x.term.0) (w'.untried x.attempts x.level) (w'.makes x.attempts) c.in-Some-Trying.before c.args.machine.now.rewrites c.args.budget.now (w'.bound c.args.binding) c.in-Err.end c.if-budget-eq0.false c.in-Err.ensures.ends)
+
+pub returns-in-Some-Choice-clause-told : goal.returns-in-Some-Choice-clause-told
+returns-in-Some-Choice-clause-told g c =
+    ?
+
+pub returns-in-Ok-clause-told : goal.returns-in-Ok-clause-told
+returns-in-Ok-clause-told g c =
+    ?

@@ -1,15 +1,25 @@
-use Rattle.std.proofs.Common.{◌≡◌, refl, ap, subst}
-use Rattle.std.specs.Prelude.{IfSome}
+use Rattle.std.proofs.Common.{◌≡◌, ℕ, zero, suc, ◌+◌, ◌-◌, ◌<◌, ◌≤◌, ◌++◌, ◌∷◌, [], length, drop, get_or, set, Some, None, true, false, Ok, Err, refl, sym, ◌∙◌, ap, subst, rules, arith, le_trans, inl, inr}
+use Rattle.std.specs.Prelude.{IfOk, IfErr, IfSome, IfNone}
 use Rattle.std.specs.Option.{option_map}
-use Rattle.mau_evaluation.specs.Run.{or_go_on, try_on, gives}
-use Rattle.mau_machine.specs.Words.{capped, solve_on}
-use Rattle.mau_machine.specs.Machine.{comes, task_in}
+use Rattle.std.proofs.lemmas.Option.{slice_get_read, slice_get-get_or}
+use Rattle.std.specs.Vec.{with_item}
+use Rattle.mau_terms.specs.Tree.{node}
+use Rattle.mau_evaluation.specs.Run.{done, ended, counted, counted_if, or_go_on, try_on, gives, where_true}
+use Rattle.mau_evaluation.specs.Evaluation.{order_of}
+use Rattle.mau_api.specs.declared.results.EvalEnd.TheVariants as Ended
+use Rattle.mau_machine.specs.Words.{capped, IsEnd, trees, kind_of, eval_on, solve_on, side_of, goal_of, rest_of, Asks, IsLeaf, IsSorted, IsSolution, HasSideBy}
+use Rattle.mau_machine.specs.Machine.{gave, held, failed, as_value, as_answer, on_arguments, on_attempts, from_built, argument, again, left_side, right_side, sorting, matching, choice, trying, after, goes_on, comes, waits_in, task_in, through, whole}
+use Rattle.mau_machine.specs.Known.{value_of, answer_to, asks, yields, comes_to, IsKnown, IsKnownNext, HoldsIn, kind_in}
+use Rattle.mau_machine.specs.Steps.{IsAlike, StayKnown, AreHeld}
+use Rattle.mau_machine.specs.declared.goal.Goal.TheVariants as Goals
 use Rattle.mau_machine.specs.declared.frame.Condition.{Condition}
+use Rattle.mau_machine.specs.declared.frame.Choosing.{Choosing}
 use Rattle.mau_machine.specs.declared.frame.Frame.TheVariants as Waiting
 use Rattle.mau_machine.specs.declared.frame.Control.TheVariants as Next
-use Rattle.mau_machine.proofs.Through.{alike_pushed, ends_through}
-use Rattle.mau_machine.proofs.Branches.{one_tried, tried_ends}
-use Rattle.mau_machine.proofs.Held.{held_on, held_pushed, held_later}
+use Rattle.mau_machine.proofs.Counts.{value_ends, answer_ends, first_ends, try_ends, same_ends, any_end, value_is, solution_is, none_is, value_ends_as, answer_ends_as, ends_alike, counted_zero, answer_zero}
+use Rattle.mau_machine.proofs.Through.{alike, pushed, alike_pushed, alike_popped, ends_through, ends_popped, alike_result, ends_result, popped_result, last_is}
+use Rattle.mau_machine.proofs.Branches.{dropped, none_left, at_trees, no_tree, put_trees, put_none, opened_leaf, opened, one_argument, no_argument, built_from, built_ends_from, one_tried, none_tried, tried_ends, one_chosen, equality, sort_test, match, equality_ends, sort_test_ends, match_ends, second_side, second_side_ends, sorts_tested, side_at, ends_at, no_levels, spends, stops, spend_ends, choice_held, again_waits, begun, sides, sides_end, one, empty_is}
+use Rattle.mau_machine.proofs.Held.{known_pushed, known_popped, held_on, held_pushed, held_popped, held_swapped, last_known, held_later, same_whole, known_result, popped_known, same_state, entered, held_first, kind_at_place, kind_at_get, same_kind, same_value_kind, asks_on, solution_on}
 use Rattle.mau_machine.proofs.steps.attempt.Goals as goal
 
 pub returns-in-Ok-None-clause-known : goal.returns-in-Ok-None-clause-known
@@ -26,7 +36,7 @@ returns-in_ok-wait-in-Ok-Some-clause-goes g c =
     let k = (g.met.W.World.keeps c.args.world.now c.attempt.new.self c.args.store.now c.attempt.new.store c.attempt.ensures.grows) in
     let x = (record c.args.trial { condition = c.in-Ok-Some.condition; attempts = c.attempt.new.attempts }) in
     let s : Condition g.row.W-Binding.Denot = (record { level = c.args.trial.level; condition = c.in-Ok-Some.condition; at = 0; binding = c.in-Ok-Some.binding }) in
-    let f = Waiting.Trying x c.args.machine.now.rewrites in
+    let f = Waiting.Trying x c.args.machine.now.rewrites c.mark-mark.result in
     λ b. alike_pushed w' c.args.machine.now.frames.items c.wait.new.self.frames.items f (comes w'.rules (task_in w' (Next.Attempt c.args.trial)) c.args.machine.now.rewrites b) (comes w'.rules (task_in w' (Next.Solve s)) 0 b) c.in_ok-wait-in-Ok-Some.ensures.frames
     (ap capped (one_tried w'.rules x.level (w'.tree x.term.0) (w'.untried c.args.trial.attempts x.level) (w'.untried x.attempts x.level) (w'.makes x.attempts) c.args.machine.now.rewrites b (solve_on w'.rules x.level x.condition 0 (w'.bound s.binding) b)
     (subst (λ o. IfSome o (λ y. w'.untried c.args.trial.attempts x.level b ≡ or_go_on (w'.untried x.attempts x.level) (try_on (λ σ. gives (option_map (w'.makes x.attempts) σ)) (solve_on w'.rules x.level y.0 0 (w'.bound y.1) b))))
@@ -39,7 +49,7 @@ returns-in_ok-wait-in-Ok-Some-clause-known g c =
     let k = (g.met.W.World.keeps c.args.world.now c.attempt.new.self c.args.store.now c.attempt.new.store c.attempt.ensures.grows) in
     let x = (record c.args.trial { condition = c.in-Ok-Some.condition; attempts = c.attempt.new.attempts }) in
     let s : Condition g.row.W-Binding.Denot = (record { level = c.args.trial.level; condition = c.in-Ok-Some.condition; at = 0; binding = c.in-Ok-Some.binding }) in
-    let f = Waiting.Trying x c.args.machine.now.rewrites in
+    let f = Waiting.Trying x c.args.machine.now.rewrites c.mark-mark.result in
     let q = subst (λ o. IfSome o (λ y. w'.knows_attempts x.term.0 x.attempts × w'.knows_candidate x.term.0 y.0 x.attempts × w'.knows_binding y.0 0 y.1)) c.in-Ok-Some.field-0-is c.in-Ok-Some.ensures.known in
     λ asked h. held_pushed w' asked c.args.machine.now.frames.items c.wait.new.self.frames.items (Next.Attempt c.args.trial) (Next.Solve s) f c.in_ok-wait-in-Ok-Some.ensures.frames (held_later w w' k asked c.args.machine.now.frames.items (Next.Attempt c.args.trial) h)
     ((k.values c.args.trial.term.0 c.requires.value).0, q.0, q.1) q.2 refl refl
@@ -51,3 +61,11 @@ returns-in-Err-clause-ends g c =
     let k = (g.met.W.World.keeps c.args.world.now c.attempt.new.self c.args.store.now c.attempt.new.store c.attempt.ensures.grows) in
     let x = c.args.trial in
     λ b. ends_through w' c.args.machine.now.frames.items (comes w'.rules (task_in w' (Next.Attempt x)) c.args.machine.now.rewrites b) c.in-Err.end (tried_ends w'.rules x.level (w'.tree x.term.0) (w'.untried x.attempts x.level) c.args.machine.now.rewrites b c.in-Err.end (c.in-Err.ensures.ends x.level b))
+
+pub returns-in-Ok-None-clause-told : goal.returns-in-Ok-None-clause-told
+returns-in-Ok-None-clause-told g c =
+    ?
+
+pub returns-in_ok-wait-in-Ok-Some-clause-told : goal.returns-in_ok-wait-in-Ok-Some-clause-told
+returns-in_ok-wait-in-Ok-Some-clause-told g c =
+    ?

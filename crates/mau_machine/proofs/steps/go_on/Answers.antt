@@ -1,13 +1,25 @@
-use Rattle.std.proofs.Common.{◌+◌, ◌<◌, length, refl, sym, ◌∙◌, ap, rules}
-use Rattle.std.proofs.lemmas.Option.{slice_get_read}
-use Rattle.mau_evaluation.specs.Run.{counted}
-use Rattle.mau_machine.specs.Words.{capped, trees, eval_on}
-use Rattle.mau_machine.specs.Machine.{as_value, goes_on, comes, waits_in, task_in}
+use Rattle.std.proofs.Common.{◌≡◌, ℕ, zero, suc, ◌+◌, ◌-◌, ◌<◌, ◌≤◌, ◌++◌, ◌∷◌, [], length, drop, get_or, set, Some, None, true, false, Ok, Err, refl, sym, ◌∙◌, ap, subst, rules, arith, le_trans, inl, inr}
+use Rattle.std.specs.Prelude.{IfOk, IfErr, IfSome, IfNone}
+use Rattle.std.specs.Option.{option_map}
+use Rattle.std.proofs.lemmas.Option.{slice_get_read, slice_get-get_or}
+use Rattle.std.specs.Vec.{with_item}
+use Rattle.mau_terms.specs.Tree.{node}
+use Rattle.mau_evaluation.specs.Run.{done, ended, counted, counted_if, or_go_on, try_on, gives, where_true}
+use Rattle.mau_evaluation.specs.Evaluation.{order_of}
+use Rattle.mau_api.specs.declared.results.EvalEnd.TheVariants as Ended
+use Rattle.mau_machine.specs.Words.{capped, IsEnd, trees, kind_of, eval_on, solve_on, side_of, goal_of, rest_of, Asks, IsLeaf, IsSorted, IsSolution, HasSideBy}
+use Rattle.mau_machine.specs.Machine.{gave, held, failed, as_value, as_answer, on_arguments, on_attempts, from_built, argument, again, left_side, right_side, sorting, matching, choice, trying, after, goes_on, comes, waits_in, task_in, through, whole}
+use Rattle.mau_machine.specs.Known.{value_of, answer_to, asks, yields, comes_to, IsKnown, IsKnownNext, HoldsIn, kind_in}
+use Rattle.mau_machine.specs.Steps.{IsAlike, StayKnown, AreHeld}
+use Rattle.mau_machine.specs.declared.goal.Goal.TheVariants as Goals
+use Rattle.mau_machine.specs.declared.frame.Condition.{Condition}
+use Rattle.mau_machine.specs.declared.frame.Choosing.{Choosing}
 use Rattle.mau_machine.specs.declared.frame.Frame.TheVariants as Waiting
 use Rattle.mau_machine.specs.declared.frame.Control.TheVariants as Next
-use Rattle.mau_machine.proofs.Through.{alike, alike_pushed}
-use Rattle.mau_machine.proofs.Branches.{at_trees, no_tree, one_argument, no_argument}
-use Rattle.mau_machine.proofs.Held.{held_pushed, kind_at_place}
+use Rattle.mau_machine.proofs.Counts.{value_ends, answer_ends, first_ends, try_ends, same_ends, any_end, value_is, solution_is, none_is, value_ends_as, answer_ends_as, ends_alike, counted_zero, answer_zero}
+use Rattle.mau_machine.proofs.Through.{alike, pushed, alike_pushed, alike_popped, ends_through, ends_popped, alike_result, ends_result, popped_result, last_is}
+use Rattle.mau_machine.proofs.Branches.{dropped, none_left, at_trees, no_tree, put_trees, put_none, opened_leaf, opened, one_argument, no_argument, built_from, built_ends_from, one_tried, none_tried, tried_ends, one_chosen, equality, sort_test, match, equality_ends, sort_test_ends, match_ends, second_side, second_side_ends, sorts_tested, side_at, ends_at, no_levels, spends, stops, spend_ends, choice_held, again_waits, begun, sides, sides_end, one, empty_is}
+use Rattle.mau_machine.proofs.Held.{known_pushed, known_popped, held_on, held_pushed, held_popped, held_swapped, last_known, held_later, same_whole, known_result, popped_known, same_state, entered, held_first, kind_at_place, kind_at_get, same_kind, same_value_kind, asks_on, solution_on}
 use Rattle.mau_machine.proofs.steps.go_on.Goals as goal
 
 pub returns-then-place-len-clause-goes : goal.returns-then-place-len-clause-goes
@@ -25,10 +37,10 @@ returns-clause-goes g c =
     let i = c.index-place.result.now in
     let x = c.index-term.result.now in
     let f = Waiting.Argument (record a { next = a.next + 1 }) i in
-    λ b. alike_pushed w c.args.machine.now.frames.items c.wait.new.self.frames.items f (comes w.rules (task_in w (Next.Evaluating a)) c.args.machine.now.rewrites b) (comes w.rules (task_in w (Next.Eval a.level x)) c.wait.new.self.rewrites b) c.in_ok-wait.ensures.frames
+    λ b. alike_pushed w c.args.machine.now.frames.items c.begin.new.machine.frames.items f (comes w.rules (task_in w (Next.Evaluating a)) c.args.machine.now.rewrites b) (comes w.rules (task_in w (Next.Eval a.level x)) c.begin.new.machine.rewrites b) c.in_ok-begin.ensures.frames
     (ap capped (one_argument w.rules a.level a.op.0 (trees w a.args.items) a.order.items a.next i (w.tree x.0) (search (rules, c.if-arguments-len.false)) c.index-place.ensures
     (at_trees w a.args.items i x (search (rules, c.if-place-len.false)) c.index-term.ensures) c.args.machine.now.rewrites b)
-    ∙ ap (λ n. capped (goes_on w.rules (waits_in w f) (as_value (counted n (eval_on w.rules a.level (w.tree x.0) b))))) (sym c.in_ok-wait.ensures.rewrites))
+    ∙ ap (λ n. capped (goes_on w.rules (waits_in w f) (as_value (counted n (eval_on w.rules a.level (w.tree x.0) b))))) (sym c.in_ok-begin.ensures.rewrites))
 
 pub returns-clause-known : goal.returns-clause-known
 returns-clause-known g c =
@@ -37,6 +49,14 @@ returns-clause-known g c =
     let i = c.index-place.result.now in
     let x = c.index-term.result.now in
     let within : i < length a.args.items = search (rules, c.if-place-len.false) in
-    λ asked h. held_pushed w asked c.args.machine.now.frames.items c.wait.new.self.frames.items (Next.Evaluating a) (Next.Eval a.level x) (Waiting.Argument (record a { next = a.next + 1 }) i) c.in_ok-wait.ensures.frames
+    λ asked h. held_pushed w asked c.args.machine.now.frames.items c.begin.new.machine.frames.items (Next.Evaluating a) (Next.Eval a.level x) (Waiting.Argument (record a { next = a.next + 1 }) i) c.in_ok-begin.ensures.frames
     h c.requires.operands (g.met.W.World.holds c.args.world.now c.args.store.now a.op.0 a.args.items i x c.requires.operands (slice_get_read a.args.items (length a.args.items) i x refl within c.index-term.ensures))
     refl (kind_at_place w a.args.items i x within c.index-term.ensures)
+
+pub returns-then-place-len-clause-told : goal.returns-then-place-len-clause-told
+returns-then-place-len-clause-told g c =
+    ?
+
+pub returns-clause-told : goal.returns-clause-told
+returns-clause-told g c =
+    ?

@@ -1,14 +1,25 @@
-use Rattle.std.proofs.Common.{drop, true, refl, sym, ◌∙◌, ap}
-use Rattle.mau_evaluation.specs.Run.{counted}
-use Rattle.mau_machine.specs.Words.{capped, trees, eval_on}
-use Rattle.mau_machine.specs.Machine.{as_value, on_arguments, comes, task_in}
-use Rattle.mau_machine.specs.Known.{value_of}
+use Rattle.std.proofs.Common.{◌≡◌, ℕ, zero, suc, ◌+◌, ◌-◌, ◌<◌, ◌≤◌, ◌++◌, ◌∷◌, [], length, drop, get_or, set, Some, None, true, false, Ok, Err, refl, sym, ◌∙◌, ap, subst, rules, arith, le_trans, inl, inr}
+use Rattle.std.specs.Prelude.{IfOk, IfErr, IfSome, IfNone}
+use Rattle.std.specs.Option.{option_map}
+use Rattle.std.proofs.lemmas.Option.{slice_get_read, slice_get-get_or}
+use Rattle.std.specs.Vec.{with_item}
+use Rattle.mau_terms.specs.Tree.{node}
+use Rattle.mau_evaluation.specs.Run.{done, ended, counted, counted_if, or_go_on, try_on, gives, where_true}
+use Rattle.mau_evaluation.specs.Evaluation.{order_of}
+use Rattle.mau_api.specs.declared.results.EvalEnd.TheVariants as Ended
+use Rattle.mau_machine.specs.Words.{capped, IsEnd, trees, kind_of, eval_on, solve_on, side_of, goal_of, rest_of, Asks, IsLeaf, IsSorted, IsSolution, HasSideBy}
+use Rattle.mau_machine.specs.Machine.{gave, held, failed, as_value, as_answer, on_arguments, on_attempts, from_built, argument, again, left_side, right_side, sorting, matching, choice, trying, after, goes_on, comes, waits_in, task_in, through, whole}
+use Rattle.mau_machine.specs.Known.{value_of, answer_to, asks, yields, comes_to, IsKnown, IsKnownNext, HoldsIn, kind_in}
+use Rattle.mau_machine.specs.Steps.{IsAlike, StayKnown, AreHeld}
+use Rattle.mau_machine.specs.declared.goal.Goal.TheVariants as Goals
+use Rattle.mau_machine.specs.declared.frame.Condition.{Condition}
+use Rattle.mau_machine.specs.declared.frame.Choosing.{Choosing}
 use Rattle.mau_machine.specs.declared.frame.Frame.TheVariants as Waiting
 use Rattle.mau_machine.specs.declared.frame.Control.TheVariants as Next
-use Rattle.mau_machine.proofs.Counts.{value_ends}
-use Rattle.mau_machine.proofs.Through.{alike_pushed, ends_through}
-use Rattle.mau_machine.proofs.Branches.{built_from, built_ends_from, again_waits}
-use Rattle.mau_machine.proofs.Held.{held_on, held_pushed, held_later}
+use Rattle.mau_machine.proofs.Counts.{value_ends, answer_ends, first_ends, try_ends, same_ends, any_end, value_is, solution_is, none_is, value_ends_as, answer_ends_as, ends_alike, counted_zero, answer_zero}
+use Rattle.mau_machine.proofs.Through.{alike, pushed, alike_pushed, alike_popped, ends_through, ends_popped, alike_result, ends_result, popped_result, last_is}
+use Rattle.mau_machine.proofs.Branches.{dropped, none_left, at_trees, no_tree, put_trees, put_none, opened_leaf, opened, one_argument, no_argument, built_from, built_ends_from, one_tried, none_tried, tried_ends, one_chosen, equality, sort_test, match, equality_ends, sort_test_ends, match_ends, second_side, second_side_ends, sorts_tested, side_at, ends_at, no_levels, spends, stops, spend_ends, choice_held, again_waits, begun, sides, sides_end, one, empty_is}
+use Rattle.mau_machine.proofs.Held.{known_pushed, known_popped, held_on, held_pushed, held_popped, held_swapped, last_known, held_later, same_whole, known_result, popped_known, same_state, entered, held_first, kind_at_place, kind_at_get, same_kind, same_value_kind, asks_on, solution_on}
 use Rattle.mau_machine.proofs.steps.rebuild.Goals as goal
 
 pub returns-in-Ok-default-true-clause-goes : goal.returns-in-Ok-default-true-clause-goes
@@ -18,11 +29,11 @@ returns-in-Ok-default-true-clause-goes g c =
     let k = (g.met.W.World.keeps c.args.world.now c.build.new.self c.args.store.now c.build.new.store c.build.ensures.grows) in
     let a = c.args.arguments in
     let t = c.in-Ok-default-true.term in
-    λ b. alike_pushed w' c.args.machine.now.frames.items c.wait.new.self.frames.items (Waiting.Again t) (comes w'.rules (task_in w' (Next.Evaluating c.args.arguments)) c.args.machine.now.rewrites b) (as_value (counted c.wait.new.self.rewrites (eval_on w'.rules a.level (w'.tree t.0) b))) c.in_ok-wait-in-Ok-default-true.ensures.frames
+    λ b. alike_pushed w' c.args.machine.now.frames.items c.begin.new.machine.frames.items (Waiting.Again t) (comes w'.rules (task_in w' (Next.Evaluating c.args.arguments)) c.args.machine.now.rewrites b) (as_value (counted c.begin.new.machine.rewrites (eval_on w'.rules a.level (w'.tree t.0) b))) c.in_ok-begin-in-Ok-default-true.ensures.frames
     (ap (λ o. capped (as_value (counted c.args.machine.now.rewrites o))) (built_from w' a.level a.op.0 a.order.items c.deref-2.result.now a.args.items c.deref.result.now a.next (w'.tree t.0) true c.in-Ok-default-true.field-0-1 b
     c.requires.last c.deref-2.ensures.value c.deref.ensures.value c.in-Ok-default-true.field-0-1-test (c.in-Ok-default-true.ensures.value b) c.in-Ok-default-true.ensures.changed)
-    ∙ (ap (λ n. capped (as_value (counted n (eval_on w'.rules a.level (w'.tree t.0) b)))) (sym c.in_ok-wait-in-Ok-default-true.ensures.rewrites)
-    ∙ ap capped (again_waits w'.rules (counted c.wait.new.self.rewrites (eval_on w'.rules a.level (w'.tree t.0) b)))))
+    ∙ (ap (λ n. capped (as_value (counted n (eval_on w'.rules a.level (w'.tree t.0) b)))) (sym c.in_ok-begin-in-Ok-default-true.ensures.rewrites)
+    ∙ ap capped (again_waits w'.rules (counted c.begin.new.machine.rewrites (eval_on w'.rules a.level (w'.tree t.0) b)))))
 
 pub returns-in-Ok-default-true-clause-known : goal.returns-in-Ok-default-true-clause-known
 returns-in-Ok-default-true-clause-known g c =
@@ -30,7 +41,7 @@ returns-in-Ok-default-true-clause-known g c =
     let w' = (g.W.World.words c.build.new.self c.build.new.store) in
     let k = (g.met.W.World.keeps c.args.world.now c.build.new.self c.args.store.now c.build.new.store c.build.ensures.grows) in
     let t = c.in-Ok-default-true.term in
-    λ asked h. held_pushed w' asked c.args.machine.now.frames.items c.wait.new.self.frames.items (Next.Evaluating c.args.arguments) (Next.Eval c.args.arguments.level t) (Waiting.Again t) c.in_ok-wait-in-Ok-default-true.ensures.frames
+    λ asked h. held_pushed w' asked c.args.machine.now.frames.items c.begin.new.machine.frames.items (Next.Evaluating c.args.arguments) (Next.Eval c.args.arguments.level t) (Waiting.Again t) c.in_ok-begin-in-Ok-default-true.ensures.frames
     (held_later w w' k asked c.args.machine.now.frames.items (Next.Evaluating c.args.arguments) h) c.in-Ok-default-true.ensures.known c.in-Ok-default-true.ensures.known (ap value_of c.in-Ok-default-true.ensures.kind) refl
 
 pub returns-in-Ok-default-false-clause-known : goal.returns-in-Ok-default-false-clause-known
@@ -51,3 +62,11 @@ returns-clause-ends g c =
     λ b. ends_through w' c.args.machine.now.frames.items (comes w'.rules (task_in w' (Next.Evaluating c.args.arguments)) c.args.machine.now.rewrites b) c.in-Err.end
     (value_ends c.args.machine.now.rewrites (on_arguments w'.rules a.level a.op.0 a.order.items (drop a.next a.order.items) (trees w' a.args.items) b) c.in-Err.end
     (built_ends_from w' a.level a.op.0 a.order.items a.args.items c.deref.result.now a.next b c.in-Err.end c.requires.last c.deref.ensures.value (c.in-Err.ensures.ends b)))
+
+pub returns-in-Ok-default-true-clause-told : goal.returns-in-Ok-default-true-clause-told
+returns-in-Ok-default-true-clause-told g c =
+    ?
+
+pub returns-in-Ok-default-false-clause-told : goal.returns-in-Ok-default-false-clause-told
+returns-in-Ok-default-false-clause-told g c =
+    ?
