@@ -4,3 +4,4 @@ pub mod Branches
 pub mod Held
 pub mod Pieces
 pub mod Later
+pub mod Tellings
