@@ -5,3 +5,4 @@ pub mod Held
 pub mod Pieces
 pub mod Later
 pub mod Tellings
+pub mod Advance

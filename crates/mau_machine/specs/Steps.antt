@@ -32,7 +32,7 @@ module _ {A C S : Type 0} where
   abbrev pub StayTold : (w w' : Words A C S) (nodes nodes' : List Node) (table table' : Table) (fs : List (Frame A C S)) (c : Control A C S) (r : ℕ) (told : List Event)
       (fs' : List (Frame A C S)) (c' : Control A C S) (r' : ℕ) (told' : List Event) → Type 0
   StayTold w w' nodes nodes' table table' fs c r told fs' c' r' told' =
-      (before : List Event) (J : Job) → IsTelling w nodes table before J fs c r told → IsTelling w' nodes' table' before J fs' c' r' told'
+      (before : List Event) (J : Job) (asked : Due) → HoldsIn w asked fs c → IsTelling w nodes table before J fs c r told → IsTelling w' nodes' table' before J fs' c' r' told'
 
   -- something is told of frames and a task
   abbrev pub AreTold : Words A C S → List Node → Table → List (Frame A C S) → Control A C S → ℕ → List Event → Type 0

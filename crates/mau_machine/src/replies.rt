@@ -190,6 +190,7 @@ pub fn fail<W: World, T: StepWatcher>(
     condition: usize,
     watcher: &mut T,
 ) -> Result<Control<W::Attempts, W::Choices, W::Binding>, EvalEnd>
+    requires ready { W.ready world.now store.now }
     requires held { AreHeld (W.words world.now store.now) machine.old.frames.items (Control.Failed condition) }
     requires told { T.wanted watcher.old ≡ true → AreTold (W.words world.now store.now) store.now (W.table world.now) machine.old.frames.items (Control.Failed condition) machine.old.rewrites (T.told watcher.old) }
     ensures goes { (b : ℕ) → IfOk result (λ next. IsAlike (whole (W.words world.now store.now) machine.old.frames.items (Control.Failed condition) machine.old.rewrites b)
