@@ -1,6 +1,7 @@
 -- What frames and tasks have told, one step further.
-use Rattle.std.proofs.Common.{◌≡◌, ◌⊎◌, inl, inr, ℕ, zero, suc, ◌+◌, ◌<◌, ◌≤◌, ◌^◌, ◌-◌, min, List, [], ◌∷◌, ◌++◌, map, drop, length, set, get_or, Bool, true, false, Some, None, take, refl, sym, ◌∙◌, ap, subst, arith, append_assoc, append-nil, length-append}
+use Rattle.std.proofs.Common.{◌≡◌, ◌⊎◌, inl, inr, ℕ, zero, suc, ◌+◌, ◌<◌, ◌≤◌, ◌^◌, ◌-◌, min, List, [], ◌∷◌, ◌++◌, map, drop, length, set, get_or, Bool, true, false, Some, None, take, refl, sym, ◌∙◌, ap, subst, arith, append_assoc, append-nil, length-append, Result, Ok, Err, IfOk}
 use Rattle.std.specs.Prelude.{slice_get}
+use Rattle.std.specs.Option.{option_map}
 use Rattle.std.specs.List.{slice_set}
 use Rattle.std.proofs.Math.Seq.{take-append_seam}
 use Rattle.mau_terms.specs.Tree.{Tree, node}
@@ -10,7 +11,10 @@ use Rattle.mau_terms.specs.declared.ids.TermId.{TermId}
 use Rattle.mau_signature.specs.Signature.{theory_at}
 use Rattle.mau_store.specs.Node.{Node, Extends}
 use Rattle.mau_sorts.specs.Table.{Table, KeepsEntries}
-use Rattle.mau_evaluation.specs.Evaluation.{Binding, look_up}
+use Rattle.mau_terms.specs.declared.theory.Theory.{Theory}
+use Rattle.mau_evaluation.specs.Run.{done, ended, too_deep, overflowed}
+use Rattle.mau_evaluation.specs.Evaluation.{Binding, look_up, admitted, within_limits}
+use Rattle.mau_api.specs.declared.results.EvalEnd.{EvalEnd}
 use Rattle.mau_api.specs.declared.step.Place.TheVariants.{Whole, Argument, Fragment as OfFragment}
 use Rattle.mau_api.specs.declared.step.Step.{Step}
 use Rattle.mau_api.specs.Events.{Event, entered, left, made}
@@ -18,9 +22,9 @@ use Rattle.mau_api.specs.Terms.{IsNormalTerm}
 use Rattle.mau_api.specs.Told.{step_in, StandsIn, steps_in, shown_count, TellsMore}
 use Rattle.mau_api.proofs.ToldRuns.{steps-append}
 use Rattle.mau_machine.specs.Uses.{IsUse}
-use Rattle.mau_machine.specs.Words.{Words, Keeps, Rules, IsExtension, trees, side_of, sort_in, rest_of, pattern_in, Asks, IsChoiceOf}
+use Rattle.mau_machine.specs.Words.{Words, Keeps, Rules, eval_on, IsExtension, trees, side_of, sort_in, rest_of, pattern_in, Asks, IsChoiceOf}
 use Rattle.mau_machine.specs.Known.{Due, HoldsIn}
-use Rattle.mau_machine.specs.Steps.{StayTold}
+use Rattle.mau_machine.specs.Steps.{StayTold, TaskStays}
 use Rattle.mau_machine.specs.Telling.{Job, evaluating, solving, Has, Runs, Shows, MayBegin, IsInRound, IsShown, IsMatched, StandsAs, IsSide, Counts, counted_on, TellsTask, HasEntered, HasEnteredBoth, HasEnteredArgument, HasEnteredAgain, TellsFrame, Tells, IsTelling}
 use Rattle.mau_machine.specs.declared.goal.Goal.TheVariants as Goals
 use Rattle.mau_machine.specs.declared.frame.Arguments.{Arguments}
@@ -347,3 +351,140 @@ module _ {A C S : Type 0} (w : Words A C S) (nodes : List Node) (table : Table) 
   left_given n m r q level (solving e i σ) (solving d j τ) c v u xs ys s s' z f h k = absurd f
   left_given n m r q level (evaluating t0) (evaluating x) c v u xs ys s s' z f h k = absurd f
   left_given n m r q level (evaluating t0) (solving d j τ) c v u xs ys s s' z f h k = absurd f
+
+  at_condition : (d e j : ℕ) (right : Bool) (σ : Binding) (t : TermId) (x : Tree) → d ≡ e → IsSide w.rules nodes table d j right σ t x → IsSide w.rules nodes table e j right σ t x
+  at_condition d e j right σ t x q h = subst (λ z. IsSide w.rules nodes table z j right σ t x) q h
+
+  -- what a condition goes on with, by the clause of `proceed`
+  abbrev pub Proceeds : Condition S → Bool → Control A C S → Type 0
+  Proceeds c holds d = (r n e i : ℕ) (σ : Binding) (es : List Event) → r ≡ shown_count n → (holds ≡ true → IsShown w.rules nodes table e i (c.at + 1) (w.bound c.binding) es) → c.condition ≡ e → IsExtension σ (w.bound c.binding) →
+      TellsTask w nodes table (solving e i σ) d es × Counts d r n
+
+  pub right_given : (n m r : ℕ) (J K : Job) (c : Condition S) (p v : TermId) (holds : Bool) (d : Control A C S) (xs ys : List Event) → Proceeds c holds d → Asks w.rules c.condition c.at Goals.Equality → (holds ≡ true → w.tree v.0 ≡ w.tree p.0) →
+      StandsAs w.rules nodes table v (w.tree v.0) → TellsFrame w nodes table n m J (Waiting.Right c p) xs K → TellsTask w nodes table K (Next.Value v) ys → r ≡ shown_count (m + steps_in xs + steps_in ys) →
+      TellsTask w nodes table J d ((xs ++ ys) ++ left v ∷ []) × Counts d r (m + steps_in ((xs ++ ys) ++ left v ∷ []))
+  right_given n m r (solving e i σ) (evaluating x) c p v holds d xs ys P g eq s f h k =
+      P r (m + steps_in ((xs ++ ys) ++ left v ∷ [])) e i σ ((xs ++ ys) ++ left v ∷ []) (piece_count r m xs ys (left v ∷ []) k refl)
+      (λ t. subst (λ zs. IsShown w.rules nodes table e i (c.at + 1) (w.bound c.binding) ((zs ++ ys) ++ left v ∷ [])) (sym f.is)
+      (equality_shown w.rules nodes table e i c.at (w.bound c.binding) f.before f.inner ys f.first f.second p v f.left_side x (w.tree p.0) (subst (λ z. Asks w.rules z c.at Goals.Equality) f.same g) f.shown
+      (at_condition c.condition e c.at false (w.bound c.binding) f.first f.left_side f.same f.side) f.runs f.value (at_condition c.condition e c.at true (w.bound c.binding) f.second x f.same f.other)
+      (subst (Runs w.rules nodes table x ys) (eq t) h) (subst (StandsAs w.rules nodes table v) (eq t) s))) f.same f.extends
+  right_given n m r (solving e i σ) (solving e' j τ) c p v holds d xs ys P g eq s f h k = absurd f
+  right_given n m r (evaluating t0) (evaluating x) c p v holds d xs ys P g eq s f h k = absurd f
+  right_given n m r (evaluating t0) (solving e' j τ) c p v holds d xs ys P g eq s f h k = absurd f
+
+  pub sorting_given : (n m r : ℕ) (J K : Job) (c : Condition S) (v : TermId) (holds : Bool) (d : Control A C S) (xs ys : List Event) → Proceeds c holds d → Asks w.rules c.condition c.at Goals.Sort →
+      (holds ≡ true → Has w.rules nodes table (sort_in (rest_of w.rules c.condition c.at)) (w.tree v.0)) → StandsAs w.rules nodes table v (w.tree v.0) → TellsFrame w nodes table n m J (Waiting.Sorting c) xs K → TellsTask w nodes table K (Next.Value v) ys →
+      r ≡ shown_count (m + steps_in xs + steps_in ys) → TellsTask w nodes table J d ((xs ++ ys) ++ left v ∷ []) × Counts d r (m + steps_in ((xs ++ ys) ++ left v ∷ []))
+  sorting_given n m r (solving e i σ) (evaluating x) c v holds d xs ys P g has s f h k =
+      P r (m + steps_in ((xs ++ ys) ++ left v ∷ [])) e i σ ((xs ++ ys) ++ left v ∷ []) (piece_count r m xs ys (left v ∷ []) k refl)
+      (λ t. subst (λ zs. IsShown w.rules nodes table e i (c.at + 1) (w.bound c.binding) ((zs ++ ys) ++ left v ∷ [])) (sym f.is)
+      (sort_shown w.rules nodes table e i c.at (w.bound c.binding) f.before ys f.term v x (w.tree v.0) (subst (λ z. Asks w.rules z c.at Goals.Sort) f.same g) f.shown
+      (at_condition c.condition e c.at false (w.bound c.binding) f.term x f.same f.side) h s (subst (λ z. Has w.rules nodes table (sort_in (rest_of w.rules z c.at)) (w.tree v.0)) f.same (has t)))) f.same f.extends
+  sorting_given n m r (solving e i σ) (solving e' j τ) c v holds d xs ys P g has s f h k = absurd f
+  sorting_given n m r (evaluating t0) (evaluating x) c v holds d xs ys P g has s f h k = absurd f
+  sorting_given n m r (evaluating t0) (solving e' j τ) c v holds d xs ys P g has s f h k = absurd f
+
+  pub matching_given : (n m r q : ℕ) (J K : Job) (c : Condition S) (y : Choosing C) (v : TermId) (xs ys : List Event) → Asks w.rules c.condition c.at Goals.Matching → y.condition ≡ c.condition → y.at ≡ c.at → w.chosen_from y.choices ≡ w.bound c.binding →
+      w.chosen_value y.choices ≡ w.tree v.0 → y.before ≡ r → StandsAs w.rules nodes table v (w.tree v.0) → TellsFrame w nodes table n m J (Waiting.Matching c) xs K → TellsTask w nodes table K (Next.Value v) ys → r ≡ shown_count (m + steps_in xs + steps_in ys) →
+      TellsTask w nodes table J (Next.Choose y) ((xs ++ ys) ++ left v ∷ []) × (y.before ≡ shown_count (m + steps_in ((xs ++ ys) ++ left v ∷ [])))
+  matching_given n m r q (solving e i σ) (evaluating x) c y v xs ys g e1 e2 e3 e4 e5 s f h k =
+      ((e1 ∙ f.same, subst (IsExtension σ) (sym e3) f.extends,
+      subst (λ j. IsMatched w.rules nodes table e i j (w.chosen_from y.choices) (w.chosen_value y.choices) ((xs ++ ys) ++ left v ∷ [])) (sym e2)
+      (subst (λ τ. IsMatched w.rules nodes table e i c.at τ (w.chosen_value y.choices) ((xs ++ ys) ++ left v ∷ [])) (sym e3)
+      (subst (λ u. IsMatched w.rules nodes table e i c.at (w.bound c.binding) u ((xs ++ ys) ++ left v ∷ [])) (sym e4)
+      (subst (λ zs. IsMatched w.rules nodes table e i c.at (w.bound c.binding) (w.tree v.0) ((zs ++ ys) ++ left v ∷ [])) (sym f.is)
+      (match_shown w.rules nodes table e i c.at (w.bound c.binding) f.before ys f.term v x (w.tree v.0) (subst (λ z. Asks w.rules z c.at Goals.Matching) f.same g) f.shown
+      (at_condition c.condition e c.at true (w.bound c.binding) f.term x f.same f.side) h s))))), e5 ∙ piece_count r m xs ys (left v ∷ []) k refl)
+  matching_given n m r q (solving e i σ) (solving e' j τ) c y v xs ys g e1 e2 e3 e4 e5 s f h k = absurd f
+  matching_given n m r q (evaluating t0) (evaluating x) c y v xs ys g e1 e2 e3 e4 e5 s f h k = absurd f
+  matching_given n m r q (evaluating t0) (solving e' j τ) c y v xs ys g e1 e2 e3 e4 e5 s f h k = absurd f
+
+  pub choice_given : (n m r s mark : ℕ) (J K : Job) (c : Choosing C) (d : ℕ) (τ : S) (xs ys : List Event) → s ≡ min (c.before + r) (2 ^ 64 - 1) → TellsFrame w nodes table n m J (Waiting.Choice c mark) xs K → TellsTask w nodes table K (Next.Held d τ) ys →
+      r ≡ shown_count (0 + steps_in ys) → TellsTask w nodes table J (Next.Held d τ) (xs ++ ys) × (s ≡ shown_count (m + steps_in (xs ++ ys)))
+  choice_given n m r s mark (solving e i σ) (solving e' j υ0) c d τ xs ys z f h k =
+      ((h.0 ∙ f.3, extends_on σ (w.chosen_from c.choices) (w.bound τ) f.1 (extends_on (w.chosen_from c.choices) υ0 (w.bound τ) f.5 h.1),
+      λ υ x. let y = extends_on υ0 (w.bound τ) υ h.1 x in
+      choice_shown w.rules nodes table e i c.at (w.chosen_from c.choices) (w.chosen_value c.choices) xs ys υ f.2 (extends_on (w.chosen_from c.choices) υ0 υ f.5 y) (f.6 υ y)
+      (subst (λ q. Shows w.rules nodes table (look_up υ) q (drop q (w.rules.fragments e)) ys) f.4 (subst (λ q. Shows w.rules nodes table (look_up υ) j (drop j (w.rules.fragments q)) ys) f.3 (h.2 υ x)))),
+      apart_count s c.before r m xs ys z f.8 k)
+  choice_given n m r s mark (solving e i σ) (evaluating x) c d τ xs ys z f h k = absurd f
+  choice_given n m r s mark (evaluating t0) (solving e' j υ0) c d τ xs ys z f h k = absurd f
+  choice_given n m r s mark (evaluating t0) (evaluating x) c d τ xs ys z f h k = absurd f
+
+  pub trying_given : (n m r s q before mark level : ℕ) (J K : Job) (x : Trial A) (d : ℕ) (τ : S) (u : TermId) (step : Step) (xs ys : List Event) → q ≡ min (before + r) (2 ^ 64 - 1) → s ≡ min (q + 1) (2 ^ 64 - 1) → StandsIn nodes (made step) →
+      IsUse w.rules.written w.rules.hooks (Has w.rules nodes table) (w.rules.fragments x.condition) (w.bound τ) (w.tree x.term.0) (w.tree u.0) (step_in nodes step) →
+      TellsFrame w nodes table n m J (Waiting.Trying x before mark) xs K → TellsTask w nodes table K (Next.Held d τ) ys → r ≡ shown_count (0 + steps_in ys) →
+      TellsTask w nodes table J (Next.Eval level u) ((xs ++ ys) ++ made step ∷ []) × (s ≡ shown_count (m + steps_in ((xs ++ ys) ++ made step ∷ [])))
+  trying_given n m r s q before mark level (evaluating t0) (solving e i σ) x d τ u step xs ys z z' st ap' f h k =
+      (step_told w.rules nodes table t0 (w.tree x.term.0) (w.tree u.0) xs ys step (w.bound τ) (w.rules.fragments x.condition) f.2
+      (subst (λ j. Shows w.rules nodes table (look_up (w.bound τ)) j (drop j (w.rules.fragments x.condition)) ys) f.1 (subst (λ c. Shows w.rules nodes table (look_up (w.bound τ)) i (drop i (w.rules.fragments c)) ys) f.0 (h.2 (w.bound τ) (same_extends (w.bound τ)))))
+      st ap', step_count s q before r m xs ys step z z' f.4 k)
+  trying_given n m r s q before mark level (evaluating t0) (evaluating y) x d τ u step xs ys z z' st ap' f h k = absurd f
+  trying_given n m r s q before mark level (solving e' j υ0) (solving e i σ) x d τ u step xs ys z z' st ap' f h k = absurd f
+  trying_given n m r s q before mark level (solving e' j υ0) (evaluating y) x d τ u step xs ys z z' st ap' f h k = absurd f
+
+  -- ---- failures
+
+  pub choice_failed : (n m mark : ℕ) (J K : Job) (c : Choosing C) (xs : List Event) → TellsFrame w nodes table n m J (Waiting.Choice c mark) xs K → (mark ≡ n + length xs) × TellsTask w nodes table J (Next.Choose c) xs × (c.before ≡ shown_count (m + steps_in xs))
+  choice_failed n m mark (solving e i σ) (solving e' j υ0) c xs f = (f.7, (f.0, f.1, f.2), f.8)
+  choice_failed n m mark (solving e i σ) (evaluating x) c xs f = absurd f
+  choice_failed n m mark (evaluating t0) (solving e' j υ0) c xs f = absurd f
+  choice_failed n m mark (evaluating t0) (evaluating x) c xs f = absurd f
+
+  pub trying_failed : (n m before mark : ℕ) (J K : Job) (x : Trial A) (xs : List Event) → TellsFrame w nodes table n m J (Waiting.Trying x before mark) xs K → (mark ≡ n + length xs) × TellsTask w nodes table J (Next.Attempt x) xs × (before ≡ shown_count (m + steps_in xs))
+  trying_failed n m before mark (evaluating t0) (solving e i σ) x xs f = (f.3, f.2, f.4)
+  trying_failed n m before mark (evaluating t0) (evaluating y) x xs f = absurd f
+  trying_failed n m before mark (solving e' j υ0) (solving e i σ) x xs f = absurd f
+  trying_failed n m before mark (solving e' j υ0) (evaluating y) x xs f = absurd f
+
+  pub fails_told : (J : Job) (d : ℕ) (es : List Event) → TellsTask w nodes table J (Next.Failed d) es
+  fails_told (evaluating t0) d es = tt
+  fails_told (solving e i σ) d es = tt
+
+  pub tree_at_place : (ids : List TermId) (i : ℕ) (t : TermId) → slice_get ids i ≡ Some t → slice_get (trees w ids) i ≡ Some (w.tree t.0)
+  tree_at_place [] i t h = cc
+  tree_at_place (y ∷ ids) zero t h = ap (option_map (λ z. w.tree z.0)) h
+  tree_at_place (y ∷ ids) (suc i) t h = tree_at_place ids i t h
+
+  -- ---- results of the parts of the loop
+
+module _ {A C S : Type 0} (w w' : Words A C S) (k : Keeps w w') (old new : List Node) (x : Extends old new) (before after : Table) (kept : KeepsEntries before after) where
+  pub same_result : (fs : List (Frame A C S)) (c : Control A C S) (r : ℕ) (told : List Event) (result : Result (Control A C S) EvalEnd) → IfOk result (TaskStays w' new after c) →
+      IfOk result (λ d. StayTold w w' old new before after fs c r told fs d r told)
+  same_result fs c r told (Ok d) h = stays_same w w' k old new x before after kept fs c d r r told (λ J m ys t n. h J r (m + steps_in ys) ys (t, n))
+  same_result fs c r told (Err e) h = tt
+
+  pub popped_proceeds : (fs gs : List (Frame A C S)) (f : Frame A C S) (c : Control A C S) (r : ℕ) (told told' more : List Event) (result : Result (Control A C S) EvalEnd) → fs ≡ gs ++ f ∷ [] → told' ≡ told ++ more → (P : Control A C S → Type 0) →
+      ((d : Control A C S) → P d → (n m : ℕ) (J K : Job) (xs ys : List Event) → TellsFrame w' new after n m J f xs K → TellsTask w' new after K c ys → Counts c r (counted_on f m xs + steps_in ys) →
+          TellsTask w' new after J d ((xs ++ ys) ++ more) × Counts d r (m + steps_in ((xs ++ ys) ++ more))) →
+      IfOk result P → IfOk result (λ d. StayTold w w' old new before after fs c r told gs d r told')
+  popped_proceeds fs gs f c r told told' more (Ok d) p e P h i = stays_popped w w' k old new x before after kept fs gs f c d r r told told' more p e (h d i)
+  popped_proceeds fs gs f c r told told' more (Err z) p e P h i = tt
+
+module _ {A C S : Type 0} (w : Words A C S) where
+  built_tree : (th : ℕ → Theory) (u t : Tree) (a b : Bool) (n : ℕ) → admitted a b u n ≡ done t 0 n → u ≡ t
+  built_tree th u t true b n h = absurd (no h)
+    where
+      no : ended too_deep ≡ done t 0 n → ⊥
+      no h = cc
+  built_tree th u t false true n h = absurd (no h)
+    where
+      no : ended overflowed ≡ done t 0 n → ⊥
+      no h = cc
+  built_tree th u t false false n h = cc
+
+  -- what is built within the limits
+  pub built_is : (f : ℕ) (ids ids' : List TermId) (t : Tree) → ids' ≡ ids → within_limits w.rules.program.sign.theory (build (w.rules.program.sign.theory f) f (trees w ids')) 0 ≡ done t 0 0 → build (theory_at w.rules.written.sig f) f (trees w ids) ≡ t
+  built_is f ids ids' t e h =
+      ap (λ th. build (th f) f (trees w ids)) (sym w.rules.is_theory) ∙ (ap (λ z. build (w.rules.program.sign.theory f) f (trees w z)) (sym e)
+      ∙ built_tree w.rules.program.sign.theory (build (w.rules.program.sign.theory f) f (trees w ids')) t _ _ 0 h)
+
+-- what a candidate makes stays what it is
+pub made_later : {A C S : Type 0} (w w' : Words A C S) (k : Keeps w w') (t e : ℕ) (a : A) (σ : S) (u : TermId) → w.knows_candidate t e a → (i : ℕ) → w.knows_binding e i σ → w.knows_term u.0 →
+    ((j b : ℕ) → eval_on w.rules (suc j) (w.makes a (w.bound σ)) b ≡ eval_on w.rules (suc j) (w.tree u.0) b) → (j b : ℕ) → eval_on w'.rules (suc j) (w'.makes a (w'.bound σ)) b ≡ eval_on w'.rules (suc j) (w'.tree u.0) b
+made_later w w' k t e a σ u ca i bi kt h j b =
+    ap (λ R. eval_on R (suc j) (w'.makes a (w'.bound σ)) b) k.rules
+    ∙ (ap (λ z. eval_on w.rules (suc j) z b) ((k.candidates t e a ca).1 (w'.bound σ) ∙ ap (w.makes a) (k.bindings e i σ bi).1)
+    ∙ (h j b
+    ∙ (ap (λ z. eval_on w.rules (suc j) z b) (sym (k.terms u.0 kt).1) ∙ ap (λ R. eval_on R (suc j) (w'.tree u.0) b) (sym k.rules))))

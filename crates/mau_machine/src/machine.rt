@@ -162,7 +162,7 @@ fn run<W: World, T: StepWatcher>(
     ensures grows { W.grows world.old store.old world.new store.new }
     ensures told { T.wanted watcher.old ≡ true → IfOk result (λ last. StayTold (W.words world.old store.old) (W.words world.new store.new) store.old store.new (W.table world.old) (W.table world.new)
         machine.old.frames.items task machine.old.rewrites (T.told watcher.old) [] last machine.new.rewrites (T.told watcher.new)) }
-    ensures more { T.wanted watcher.old ≡ true → OnErr result (StayFront (W.words world.old store.old) store.old (W.table world.old) machine.old.frames.items task machine.old.rewrites (T.told watcher.old) (T.told watcher.new)) }
+    ensures front { T.wanted watcher.old ≡ true → (StayFront (W.words world.old store.old) store.old (W.table world.old) machine.old.frames.items task machine.old.rewrites (T.told watcher.old) (T.told watcher.new)) }
     ensures watched { IsWatched (T.wanted watcher.old) (T.wanted watcher.new) (T.told watcher.old) (T.told watcher.new) }
 {
     let _rewrites = machine.rewrites;

@@ -1,13 +1,22 @@
-use Rattle.std.proofs.Common.{◌≡◌, ℕ, zero, suc, ◌+◌, ◌-◌, ◌<◌, ◌≤◌, ◌++◌, ◌∷◌, [], length, drop, get_or, set, Some, None, true, false, Ok, Err, refl, sym, ◌∙◌, ap, subst, rules, arith, le_trans, inl, inr}
+use Rattle.std.proofs.Common.{◌≡◌, ℕ, zero, suc, ◌+◌, ◌-◌, ◌<◌, ◌≤◌, ◌++◌, ◌∷◌, [], length, drop, get_or, set, Some, None, true, false, Ok, Err, refl, sym, ◌∙◌, ap, subst, rules, arith, le_trans, inl, inr, take, append_assoc, append-nil, length-append}
 use Rattle.std.specs.Prelude.{IfOk, IfErr, IfSome, IfNone}
 use Rattle.std.specs.Option.{option_map}
 use Rattle.std.proofs.lemmas.Option.{slice_get_read, slice_get-get_or}
 use Rattle.std.specs.Vec.{with_item}
-use Rattle.mau_terms.specs.Tree.{node}
+use Rattle.mau_terms.specs.Tree.{Tree, node}
+use Rattle.mau_terms.specs.Norm.{norm, build}
+use Rattle.mau_terms.specs.Depth.{depth}
+use Rattle.std.proofs.Math.Seq.{take-append_seam}
+use Rattle.mau_terms.specs.declared.ids.TermId.{TermId}
+use Rattle.mau_evaluation.proofs.Reduced.{same_tree_true}
+use Rattle.mau_api.specs.declared.step.Place.TheVariants.{Whole, Argument, Fragment as OfFragment}
+use Rattle.mau_api.specs.Events.{Event, entered, left, made}
+use Rattle.mau_api.specs.Told.{step_in, StandsIn, shown_count, TellsMore, TellsEvaluation, TellsCondition, IsToldRun}
+use Rattle.mau_machine.specs.Telling.{Job, evaluating, solving, StandsAs, IsSide, Has, IsTelling, Tells, TellsTask, MayBegin}
 use Rattle.mau_evaluation.specs.Run.{done, ended, counted, counted_if, or_go_on, try_on, gives, where_true}
 use Rattle.mau_evaluation.specs.Evaluation.{order_of}
 use Rattle.mau_api.specs.declared.results.EvalEnd.TheVariants as Ended
-use Rattle.mau_machine.specs.Words.{capped, IsEnd, trees, kind_of, eval_on, solve_on, side_of, goal_of, rest_of, Asks, IsLeaf, IsSorted, IsSolution, HasSideBy}
+use Rattle.mau_machine.specs.Words.{IsChoiceOf, capped, IsEnd, trees, kind_of, eval_on, solve_on, side_of, goal_of, rest_of, Asks, IsLeaf, IsSorted, IsSolution, HasSideBy}
 use Rattle.mau_machine.specs.Machine.{gave, held, failed, as_value, as_answer, on_arguments, on_attempts, from_built, argument, again, left_side, right_side, sorting, matching, choice, trying, after, goes_on, comes, waits_in, task_in, through, whole}
 use Rattle.mau_machine.specs.Known.{value_of, answer_to, asks, yields, comes_to, IsKnown, IsKnownNext, HoldsIn, kind_in}
 use Rattle.mau_machine.specs.Steps.{IsAlike, StayKnown, AreHeld}
@@ -19,6 +28,8 @@ use Rattle.mau_machine.specs.declared.frame.Control.TheVariants as Next
 use Rattle.mau_machine.proofs.Counts.{value_ends, answer_ends, first_ends, try_ends, same_ends, any_end, value_is, solution_is, none_is, value_ends_as, answer_ends_as, ends_alike, counted_zero, answer_zero}
 use Rattle.mau_machine.proofs.Through.{alike, pushed, alike_pushed, alike_popped, ends_through, ends_popped, alike_result, ends_result, popped_result, last_is}
 use Rattle.mau_machine.proofs.Branches.{dropped, none_left, at_trees, no_tree, put_trees, put_none, opened_leaf, opened, one_argument, no_argument, built_from, built_ends_from, one_tried, none_tried, tried_ends, one_chosen, equality, sort_test, match, equality_ends, sort_test_ends, match_ends, second_side, second_side_ends, sorts_tested, side_at, ends_at, no_levels, spends, stops, spend_ends, choice_held, again_waits, begun, sides, sides_end, one, empty_is}
+use Rattle.mau_machine.proofs.Tellings.{between, none_shown, same_extends}
+use Rattle.mau_machine.proofs.Advance.{stays_on, stays_same, stays_pushed, stays_marked, stays_popped, stays_popped_same, stays_swapped, taken_back, opened_told, leaf_told, skipped_told, argument_told, built_told, again_entered, valued_told, trying_told, choice_told, solved_told, left_entered, sorting_entered, matching_entered, argument_given, argument_missing, again_given, left_given, right_given, sorting_given, matching_given, choice_given, trying_given, choice_failed, trying_failed, same_count, Proceeds, same_result, popped_proceeds, fails_told, tree_at_place, built_is, made_later}
 use Rattle.mau_machine.proofs.Held.{known_pushed, known_popped, held_on, held_pushed, held_popped, held_swapped, last_known, held_later, same_whole, known_result, popped_known, same_state, entered, held_first, kind_at_place, kind_at_get, same_kind, same_value_kind, asks_on, solution_on}
 use Rattle.mau_machine.proofs.replies.give.Goals as goal
 
@@ -265,32 +276,99 @@ returns-in-Ok-choices-clause-known g c =
 
 pub returns-then-place-len-clause-told : goal.returns-then-place-len-clause-told
 returns-then-place-len-clause-told g c =
-    ?
+    let w = (g.W.World.words c.args.world.now c.args.store.now) in
+    let X = g.met.W.World.extends c.args.world.now c.args.world.now c.args.store.now c.args.store.now (g.met.W.World.stays c.args.world.now c.args.store.now c.requires.ready) in
+    let f = Waiting.Argument c.in-Some-Argument.arguments c.in-Some-Argument.place in
+    let p = last_is w c.args.machine.now.frames.items c.pop.new.self.items f _ c.in-Some-Argument.ensures.items c.in-Some-Argument.field-0-is in
+    let a = c.in-Some-Argument.arguments in
+    λ wants. stays_popped w w (same_state w) c.args.store.now c.args.store.now X.0 (g.W.World.table c.args.world.now) (g.W.World.table c.args.world.now) X.1 c.args.machine.now.frames.items c.pop.new.self.items f (Next.Value c.args.value) (Next.Evaluating a) c.args.machine.now.rewrites c.args.machine.now.rewrites (g.T.StepWatcher.told c.args.watcher.now) (g.T.StepWatcher.told c.leave.new.watcher) (left c.args.value ∷ []) p (c.in_ok-leave.ensures.told wants)
+    (λ n m J K xs ys q h i. absurd (argument_missing w c.args.store.now (g.W.World.table c.args.world.now) n m c.in-Some-Argument.place J K a xs (search (rules, c.if-place-len.true)) q))
 
 pub returns-in-Some-Argument-clause-told : goal.returns-in-Some-Argument-clause-told
 returns-in-Some-Argument-clause-told g c =
-    ?
+    let w = (g.W.World.words c.args.world.now c.args.store.now) in
+    let X = g.met.W.World.extends c.args.world.now c.args.world.now c.args.store.now c.args.store.now (g.met.W.World.stays c.args.world.now c.args.store.now c.requires.ready) in
+    let f = Waiting.Argument c.in-Some-Argument.arguments c.in-Some-Argument.place in
+    let p = last_is w c.args.machine.now.frames.items c.pop.new.self.items f _ c.in-Some-Argument.ensures.items c.in-Some-Argument.field-0-is in
+    let a = c.in-Some-Argument.arguments in
+    let v = c.args.value in
+    λ wants. stays_popped w w (same_state w) c.args.store.now c.args.store.now X.0 (g.W.World.table c.args.world.now) (g.W.World.table c.args.world.now) X.1 c.args.machine.now.frames.items c.pop.new.self.items f (Next.Value c.args.value) (Next.Evaluating (record a { args = with_item a.args c.in-Some-Argument.place v })) c.args.machine.now.rewrites c.args.machine.now.rewrites (g.T.StepWatcher.told c.args.watcher.now) (g.T.StepWatcher.told c.leave.new.watcher) (left v ∷ []) p (c.in_ok-leave.ensures.told wants)
+    (λ n m J K xs ys q h i. argument_given w c.args.store.now (g.W.World.table c.args.world.now) n m c.args.machine.now.rewrites c.in-Some-Argument.place J K a (record a { args = with_item a.args c.in-Some-Argument.place v }) v xs ys refl refl (let z = g.met.W.World.stands c.args.world.now c.args.store.now c.args.value.0 (g.met.W.World.settled c.args.world.now c.args.store.now c.args.value.0 c.requires.held.1.next) in (z.0, sym z.1)) q h i)
 
 pub returns-in-Some-Again-clause-told : goal.returns-in-Some-Again-clause-told
 returns-in-Some-Again-clause-told g c =
-    ?
+    let w = (g.W.World.words c.args.world.now c.args.store.now) in
+    let X = g.met.W.World.extends c.args.world.now c.args.world.now c.args.store.now c.args.store.now (g.met.W.World.stays c.args.world.now c.args.store.now c.requires.ready) in
+    let f = Waiting.Again c.in-Some-Again.field-0-0 in
+    let p = last_is w c.args.machine.now.frames.items c.pop.new.self.items f _ c.in-Some-Again.ensures.items c.in-Some-Again.field-0-is in
+    λ wants. stays_popped w w (same_state w) c.args.store.now c.args.store.now X.0 (g.W.World.table c.args.world.now) (g.W.World.table c.args.world.now) X.1 c.args.machine.now.frames.items c.pop.new.self.items f (Next.Value c.args.value) (Next.Value c.args.value) c.args.machine.now.rewrites c.args.machine.now.rewrites (g.T.StepWatcher.told c.args.watcher.now) (g.T.StepWatcher.told c.leave.new.watcher) (left c.args.value ∷ []) p (c.in_ok-leave.ensures.told wants)
+    (λ n m J K xs ys q h i. again_given w c.args.store.now (g.W.World.table c.args.world.now) n m c.args.machine.now.rewrites J K c.in-Some-Again.field-0-0 c.args.value xs ys (let z = g.met.W.World.stands c.args.world.now c.args.store.now c.args.value.0 (g.met.W.World.settled c.args.world.now c.args.store.now c.args.value.0 c.requires.held.1.next) in (z.0, sym z.1)) q h i)
 
 pub returns-in_err-begin-in-Ok-clause-more : goal.returns-in_err-begin-in-Ok-clause-more
 returns-in_err-begin-in-Ok-clause-more g c =
+    let a = c.in_ok-leave.ensures.more in
     ?
 
 pub returns-in-Ok-clause-told : goal.returns-in-Ok-clause-told
 returns-in-Ok-clause-told g c =
-    ?
+    let w = (g.W.World.words c.args.world.now c.args.store.now) in
+    let w' = (g.W.World.words c.side.new.world c.side.new.store) in
+    let k = (g.met.W.World.keeps c.args.world.now c.side.new.world c.args.store.now c.side.new.store c.side.ensures.grows) in
+    let X = g.met.W.World.extends c.args.world.now c.side.new.world c.args.store.now c.side.new.store c.side.ensures.grows in
+    let f = Waiting.Left c.in-Some-Left.condition in
+    let p = last_is w' c.args.machine.now.frames.items c.pop.new.self.items f _ c.in-Some-Left.ensures.items c.in-Some-Left.field-0-is in
+    let x = c.in-Some-Left.condition in
+    let L = last_known w c.requires.held.0 c.args.machine.now.frames.items c.pop.new.self.items (Next.Value c.args.value) f (last_is w c.args.machine.now.frames.items c.pop.new.self.items f _ c.in-Some-Left.ensures.items c.in-Some-Left.field-0-is) c.requires.held.1 in
+    let t = c.in-Ok.term in
+    let q = Waiting.Right x c.args.value in
+    let z = g.met.W.World.stands c.side.new.world c.side.new.store t.0 c.in-Ok.ensures.known in
+    let s : IsSide w'.rules c.side.new.store (g.W.World.table c.side.new.world) x.condition x.at true (w'.bound x.binding) t (w'.tree t.0) = record {
+      stands = (z.0, sym z.1);
+      normal = z.2;
+      side = λ τ y. ap (norm w'.rules.program.sign.theory) (g.met.W.World.has_values c.side.new.world c.side.new.store x.condition x.at true x.binding τ (k.bindings x.condition x.at x.binding L.0.0).0
+          (subst (λ z. HasSideBy true z) (asks_on w w' k x.condition x.at Goals.Equality L.0.1) tt) y) ∙ sym c.in-Ok.ensures.is;
+    } in
+    λ wants. stays_swapped w w' k c.args.store.now c.side.new.store X.0 (g.W.World.table c.args.world.now) (g.W.World.table c.side.new.world) X.1 c.args.machine.now.frames.items c.begin.new.machine.frames.items c.pop.new.self.items f q (Next.Value c.args.value) (Next.Eval x.level t) c.args.machine.now.rewrites c.begin.new.machine.rewrites (g.T.StepWatcher.told c.args.watcher.now) (g.T.StepWatcher.told c.begin.new.watcher) (left c.args.value ∷ entered t (OfFragment x.at 1) ∷ []) p c.in_ok-begin-in-Ok.ensures.frames
+    (c.in_ok-begin-in-Ok.ensures.told (c.in_ok-leave.ensures.watched.0 ∙ wants) ∙ (ap (λ y. (g.T.StepWatcher.told c.leave.new.watcher) ++ entered t y ∷ []) c.in_ok-place-in-Ok.ensures ∙ (ap (λ y. y ++ entered t (OfFragment x.at 1) ∷ []) (c.in_ok-leave.ensures.told wants) ∙ append_assoc (g.T.StepWatcher.told c.args.watcher.now) (left c.args.value ∷ []) (entered t (OfFragment x.at 1) ∷ []))))
+    (λ n m J K xs ys a h i. left_given w' c.side.new.store (g.W.World.table c.side.new.world) n m c.args.machine.now.rewrites c.begin.new.machine.rewrites x.level J K x c.args.value t xs ys (let z = g.met.W.World.stands c.side.new.world c.side.new.store c.args.value.0 (g.met.W.World.settled c.side.new.world c.side.new.store c.args.value.0 (k.values c.args.value.0 c.requires.held.1.next).0) in (z.0, sym z.1)) s c.in_ok-begin-in-Ok.ensures.rewrites a h i)
 
 pub returns-in-Some-Right-clause-told : goal.returns-in-Some-Right-clause-told
 returns-in-Some-Right-clause-told g c =
-    ?
+    let w = (g.W.World.words c.args.world.now c.args.store.now) in
+    let X = g.met.W.World.extends c.args.world.now c.args.world.now c.args.store.now c.args.store.now (g.met.W.World.stays c.args.world.now c.args.store.now c.requires.ready) in
+    let f = Waiting.Right c.in-Some-Right.condition c.in-Some-Right.left in
+    let p = last_is w c.args.machine.now.frames.items c.pop.new.self.items f _ c.in-Some-Right.ensures.items c.in-Some-Right.field-0-is in
+    let L = last_known w c.requires.held.0 c.args.machine.now.frames.items c.pop.new.self.items (Next.Value c.args.value) f p c.requires.held.1 in
+    let x = c.in-Some-Right.condition in
+    λ wants. popped_proceeds w w (same_state w) c.args.store.now c.args.store.now X.0 (g.W.World.table c.args.world.now) (g.W.World.table c.args.world.now) X.1 c.args.machine.now.frames.items c.pop.new.self.items f (Next.Value c.args.value) c.args.machine.now.rewrites (g.T.StepWatcher.told c.args.watcher.now) (g.T.StepWatcher.told c.leave.new.watcher) (left c.args.value ∷ []) c.proceed.result p (c.in_ok-leave.ensures.told wants) (Proceeds w c.args.store.now (g.W.World.table c.args.world.now) x c.same-holds.result)
+    (λ d P n m J K xs ys a h i. right_given w c.args.store.now (g.W.World.table c.args.world.now) n m c.args.machine.now.rewrites J K x c.in-Some-Right.left c.args.value c.same-holds.result d xs ys P L.0.1
+    (λ y. sym (same_tree_true (w.tree c.in-Some-Right.left.0) (w.tree c.args.value.0) (sym c.same-holds.ensures ∙ y))) (let z = g.met.W.World.stands c.args.world.now c.args.store.now c.args.value.0 (g.met.W.World.settled c.args.world.now c.args.store.now c.args.value.0 c.requires.held.1.next) in (z.0, sym z.1)) a h i) c.proceed.ensures.told
 
 pub returns-in-Ok-sorted-clause-told : goal.returns-in-Ok-sorted-clause-told
 returns-in-Ok-sorted-clause-told g c =
-    ?
+    let w = (g.W.World.words c.args.world.now c.args.store.now) in
+    let w' = (g.W.World.words c.sorted.new.self c.sorted.new.store) in
+    let k = (g.met.W.World.keeps c.args.world.now c.sorted.new.self c.args.store.now c.sorted.new.store c.sorted.ensures.grows) in
+    let X = g.met.W.World.extends c.args.world.now c.sorted.new.self c.args.store.now c.sorted.new.store c.sorted.ensures.grows in
+    let f = (solve_on w.rules c.args.level c.args.condition 0 (w.bound c.args.binding) c.args.budget.now) in
+    let p = last_is w' c.args.machine.now.frames.items c.pop.new.self.items f _ c.in-Some-Sorting.ensures.items c.in-Some-Sorting.field-0-is in
+    let x = c.in-Some-Sorting.condition in
+    let L = last_known w c.requires.held.0 c.args.machine.now.frames.items c.pop.new.self.items (Next.Value c.args.value) f (last_is w c.args.machine.now.frames.items c.pop.new.self.items f _ c.in-Some-Sorting.ensures.items c.in-Some-Sorting.field-0-is) c.requires.held.1 in
+    λ wants. popped_proceeds w w' k c.args.store.now c.sorted.new.store X.0 (g.W.World.table c.args.world.now) (g.W.World.table c.sorted.new.self) X.1 c.args.machine.now.frames.items c.pop.new.self.items f (Next.Value c.args.value) c.args.machine.now.rewrites (g.T.StepWatcher.told c.args.watcher.now) (g.T.StepWatcher.told c.leave.new.watcher) (left c.args.value ∷ []) c.proceed-in-Ok-sorted.result p (c.in_ok-leave.ensures.told wants) (Proceeds w' c.sorted.new.store (g.W.World.table c.sorted.new.self) x c.in-Ok-sorted.holds)
+    (λ d P n m J K xs ys a h i. sorting_given w' c.sorted.new.store (g.W.World.table c.sorted.new.self) n m c.args.machine.now.rewrites J K x c.args.value c.in-Ok-sorted.holds d xs ys P (asks_on w w' k x.condition x.at Goals.Sort L.0.1)
+    c.in-Ok-sorted.ensures.entry (let z = g.met.W.World.stands c.sorted.new.self c.sorted.new.store c.args.value.0 (g.met.W.World.settled c.sorted.new.self c.sorted.new.store c.args.value.0 (k.values c.args.value.0 c.requires.held.1.next).0) in (z.0, sym z.1)) a h i) c.proceed-in-Ok-sorted.ensures.told
 
 pub returns-in-Ok-choices-clause-told : goal.returns-in-Ok-choices-clause-told
 returns-in-Ok-choices-clause-told g c =
-    ?
+    let w = (g.W.World.words c.args.world.now c.args.store.now) in
+    let w' = (g.W.World.words c.choices.new.self c.choices.new.store) in
+    let k = (g.met.W.World.keeps c.args.world.now c.choices.new.self c.args.store.now c.choices.new.store c.choices.ensures.grows) in
+    let X = g.met.W.World.extends c.args.world.now c.choices.new.self c.args.store.now c.choices.new.store c.choices.ensures.grows in
+    let f = Waiting.Matching c.in-Some-Matching.condition in
+    let p = last_is w' c.args.machine.now.frames.items c.pop.new.self.items f _ c.in-Some-Matching.ensures.items c.in-Some-Matching.field-0-is in
+    let x = c.in-Some-Matching.condition in
+    let y : Choosing g.row.W-Choices.Denot = record { level = x.level; condition = x.condition; at = x.at; choices = c.in-Ok-choices.choices; before = c.args.machine.now.rewrites } in
+    let L = last_known w c.requires.held.0 c.args.machine.now.frames.items c.pop.new.self.items (Next.Value c.args.value) f (last_is w c.args.machine.now.frames.items c.pop.new.self.items f _ c.in-Some-Matching.ensures.items c.in-Some-Matching.field-0-is) c.requires.held.1 in
+    λ wants. stays_popped w w' k c.args.store.now c.choices.new.store X.0 (g.W.World.table c.args.world.now) (g.W.World.table c.choices.new.self) X.1 c.args.machine.now.frames.items c.pop.new.self.items f (Next.Value c.args.value) (Next.Choose y) c.args.machine.now.rewrites c.args.machine.now.rewrites (g.T.StepWatcher.told c.args.watcher.now) (g.T.StepWatcher.told c.leave.new.watcher) (left c.args.value ∷ []) p (c.in_ok-leave.ensures.told wants)
+    (λ n m J K xs ys a h i. matching_given w' c.choices.new.store (g.W.World.table c.choices.new.self) n m c.args.machine.now.rewrites 0 J K x y c.args.value xs ys (asks_on w w' k x.condition x.at Goals.Matching L.0.1) refl refl c.in-Ok-choices.ensures.begun.0 c.in-Ok-choices.ensures.begun.1 refl
+    (let z = g.met.W.World.stands c.choices.new.self c.choices.new.store c.args.value.0 (g.met.W.World.settled c.choices.new.self c.choices.new.store c.args.value.0 (k.values c.args.value.0 c.requires.held.1.next).0) in (z.0, sym z.1)) a h i)

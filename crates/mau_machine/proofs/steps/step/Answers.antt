@@ -1,13 +1,22 @@
-use Rattle.std.proofs.Common.{◌≡◌, ℕ, zero, suc, ◌+◌, ◌-◌, ◌<◌, ◌≤◌, ◌++◌, ◌∷◌, [], length, drop, get_or, set, Some, None, true, false, Ok, Err, refl, sym, ◌∙◌, ap, subst, rules, arith, le_trans, inl, inr}
+use Rattle.std.proofs.Common.{◌≡◌, ℕ, zero, suc, ◌+◌, ◌-◌, ◌<◌, ◌≤◌, ◌++◌, ◌∷◌, [], length, drop, get_or, set, Some, None, true, false, Ok, Err, refl, sym, ◌∙◌, ap, subst, rules, arith, le_trans, inl, inr, take, append_assoc, append-nil, length-append}
 use Rattle.std.specs.Prelude.{IfOk, IfErr, IfSome, IfNone}
 use Rattle.std.specs.Option.{option_map}
 use Rattle.std.proofs.lemmas.Option.{slice_get_read, slice_get-get_or}
 use Rattle.std.specs.Vec.{with_item}
-use Rattle.mau_terms.specs.Tree.{node}
+use Rattle.mau_terms.specs.Tree.{Tree, node}
+use Rattle.mau_terms.specs.Norm.{norm, build}
+use Rattle.mau_terms.specs.Depth.{depth}
+use Rattle.std.proofs.Math.Seq.{take-append_seam}
+use Rattle.mau_terms.specs.declared.ids.TermId.{TermId}
+use Rattle.mau_evaluation.proofs.Reduced.{same_tree_true}
+use Rattle.mau_api.specs.declared.step.Place.TheVariants.{Whole, Argument, Fragment as OfFragment}
+use Rattle.mau_api.specs.Events.{Event, entered, left, made}
+use Rattle.mau_api.specs.Told.{step_in, StandsIn, shown_count, TellsMore, TellsEvaluation, TellsCondition, IsToldRun}
+use Rattle.mau_machine.specs.Telling.{Job, evaluating, solving, StandsAs, IsSide, Has, IsTelling, Tells, TellsTask, MayBegin}
 use Rattle.mau_evaluation.specs.Run.{done, ended, counted, counted_if, or_go_on, try_on, gives, where_true}
 use Rattle.mau_evaluation.specs.Evaluation.{order_of}
 use Rattle.mau_api.specs.declared.results.EvalEnd.TheVariants as Ended
-use Rattle.mau_machine.specs.Words.{capped, IsEnd, trees, kind_of, eval_on, solve_on, side_of, goal_of, rest_of, Asks, IsLeaf, IsSorted, IsSolution, HasSideBy}
+use Rattle.mau_machine.specs.Words.{IsChoiceOf, capped, IsEnd, trees, kind_of, eval_on, solve_on, side_of, goal_of, rest_of, Asks, IsLeaf, IsSorted, IsSolution, HasSideBy}
 use Rattle.mau_machine.specs.Machine.{gave, held, failed, as_value, as_answer, on_arguments, on_attempts, from_built, argument, again, left_side, right_side, sorting, matching, choice, trying, after, goes_on, comes, waits_in, task_in, through, whole}
 use Rattle.mau_machine.specs.Known.{value_of, answer_to, asks, yields, comes_to, IsKnown, IsKnownNext, HoldsIn, kind_in}
 use Rattle.mau_machine.specs.Steps.{IsAlike, StayKnown, AreHeld}
@@ -19,6 +28,8 @@ use Rattle.mau_machine.specs.declared.frame.Control.TheVariants as Next
 use Rattle.mau_machine.proofs.Counts.{value_ends, answer_ends, first_ends, try_ends, same_ends, any_end, value_is, solution_is, none_is, value_ends_as, answer_ends_as, ends_alike, counted_zero, answer_zero}
 use Rattle.mau_machine.proofs.Through.{alike, pushed, alike_pushed, alike_popped, ends_through, ends_popped, alike_result, ends_result, popped_result, last_is}
 use Rattle.mau_machine.proofs.Branches.{dropped, none_left, at_trees, no_tree, put_trees, put_none, opened_leaf, opened, one_argument, no_argument, built_from, built_ends_from, one_tried, none_tried, tried_ends, one_chosen, equality, sort_test, match, equality_ends, sort_test_ends, match_ends, second_side, second_side_ends, sorts_tested, side_at, ends_at, no_levels, spends, stops, spend_ends, choice_held, again_waits, begun, sides, sides_end, one, empty_is}
+use Rattle.mau_machine.proofs.Tellings.{between, none_shown, same_extends}
+use Rattle.mau_machine.proofs.Advance.{stays_on, stays_same, stays_pushed, stays_marked, stays_popped, stays_popped_same, stays_swapped, taken_back, opened_told, leaf_told, skipped_told, argument_told, built_told, again_entered, valued_told, trying_told, choice_told, solved_told, left_entered, sorting_entered, matching_entered, argument_given, argument_missing, again_given, left_given, right_given, sorting_given, matching_given, choice_given, trying_given, choice_failed, trying_failed, same_count, Proceeds, same_result, popped_proceeds, fails_told, tree_at_place, built_is, made_later}
 use Rattle.mau_machine.proofs.Held.{known_pushed, known_popped, held_on, held_pushed, held_popped, held_swapped, last_known, held_later, same_whole, known_result, popped_known, same_state, entered, held_first, kind_at_place, kind_at_get, same_kind, same_value_kind, asks_on, solution_on}
 use Rattle.mau_machine.proofs.steps.step.Goals as goal
 
@@ -89,8 +100,51 @@ returns-in-Failed-clause-ends g c =
 
 pub returns-in-Eval-clause-told : goal.returns-in-Eval-clause-told
 returns-in-Eval-clause-told g c =
-    ?
+    let w = (g.W.World.words c.args.world.now c.args.store.now) in
+    let X = g.met.W.World.extends c.args.world.now c.args.world.now c.args.store.now c.args.store.now (g.met.W.World.stays c.args.world.now c.args.store.now c.requires.ready) in
+    λ wants. subst (λ z. IfOk c.open.result (λ next. StayTold w w c.args.store.now c.args.store.now (g.W.World.table c.args.world.now) (g.W.World.table c.args.world.now) c.args.machine.now.frames.items z c.args.machine.now.rewrites (g.T.StepWatcher.told c.args.watcher.now) c.args.machine.now.frames.items next c.args.machine.now.rewrites (g.T.StepWatcher.told c.args.watcher.now))) (sym c.in-Eval.is)
+    (same_result w w (same_state w) c.args.store.now c.args.store.now X.0 (g.W.World.table c.args.world.now) (g.W.World.table c.args.world.now) X.1 c.args.machine.now.frames.items (Next.Eval c.in-Eval.level c.in-Eval.term) c.args.machine.now.rewrites (g.T.StepWatcher.told c.args.watcher.now) c.open.result c.open.ensures.told)
 
 pub returns-in-Top-clause-told : goal.returns-in-Top-clause-told
 returns-in-Top-clause-told g c =
-    ?
+    let w = (g.W.World.words c.args.world.now c.args.store.now) in
+    let w' = (g.W.World.words c.look.new.world c.look.new.store) in
+    let k = (g.met.W.World.keeps c.args.world.now c.look.new.world c.args.store.now c.look.new.store c.look.ensures.grows) in
+    let X = g.met.W.World.extends c.args.world.now c.look.new.world c.args.store.now c.look.new.store c.look.ensures.grows in
+    λ wants. subst (λ z. IfOk c.look.result (λ next. StayTold w w' c.args.store.now c.look.new.store (g.W.World.table c.args.world.now) (g.W.World.table c.look.new.world) c.args.machine.now.frames.items z c.args.machine.now.rewrites (g.T.StepWatcher.told c.args.watcher.now) c.args.machine.now.frames.items next c.args.machine.now.rewrites (g.T.StepWatcher.told c.args.watcher.now))) (sym c.in-Top.is)
+    (same_result w w' k c.args.store.now c.look.new.store X.0 (g.W.World.table c.args.world.now) (g.W.World.table c.look.new.world) X.1 c.args.machine.now.frames.items (Next.Top c.in-Top.level c.in-Top.term) c.args.machine.now.rewrites (g.T.StepWatcher.told c.args.watcher.now) c.look.result c.look.ensures.told)
+
+pub returns-in-Evaluating-clause-told : goal.returns-in-Evaluating-clause-told
+returns-in-Evaluating-clause-told g c =
+    let w = (g.W.World.words c.args.world.now c.args.store.now) in
+    λ wants. subst (λ z. IfOk c.go_on.result (λ next. StayTold w (g.W.World.words c.go_on.new.world c.go_on.new.store) c.args.store.now c.go_on.new.store (g.W.World.table c.args.world.now) (g.W.World.table c.go_on.new.world) c.args.machine.now.frames.items z c.args.machine.now.rewrites (g.T.StepWatcher.told c.args.watcher.now) c.go_on.new.machine.frames.items next c.go_on.new.machine.rewrites (g.T.StepWatcher.told c.go_on.new.watcher))) (sym c.in-Evaluating.is) (c.go_on.ensures.told wants)
+
+pub returns-in-Attempt-clause-told : goal.returns-in-Attempt-clause-told
+returns-in-Attempt-clause-told g c =
+    let w = (g.W.World.words c.args.world.now c.args.store.now) in
+    λ wants. subst (λ z. IfOk c.attempt.result (λ next. StayTold w (g.W.World.words c.attempt.new.world c.attempt.new.store) c.args.store.now c.attempt.new.store (g.W.World.table c.args.world.now) (g.W.World.table c.attempt.new.world) c.args.machine.now.frames.items z c.args.machine.now.rewrites (g.T.StepWatcher.told c.args.watcher.now) c.attempt.new.machine.frames.items next c.attempt.new.machine.rewrites (g.T.StepWatcher.told c.attempt.new.watcher))) (sym c.in-Attempt.is) (c.attempt.ensures.told wants)
+
+pub returns-in-Solve-clause-told : goal.returns-in-Solve-clause-told
+returns-in-Solve-clause-told g c =
+    let w = (g.W.World.words c.args.world.now c.args.store.now) in
+    λ wants. subst (λ z. IfOk c.solve.result (λ next. StayTold w (g.W.World.words c.solve.new.world c.solve.new.store) c.args.store.now c.solve.new.store (g.W.World.table c.args.world.now) (g.W.World.table c.solve.new.world) c.args.machine.now.frames.items z c.args.machine.now.rewrites (g.T.StepWatcher.told c.args.watcher.now) c.solve.new.machine.frames.items next c.solve.new.machine.rewrites (g.T.StepWatcher.told c.solve.new.watcher))) (sym c.in-Solve.is) (c.solve.ensures.told wants)
+
+pub returns-in-Choose-clause-told : goal.returns-in-Choose-clause-told
+returns-in-Choose-clause-told g c =
+    let w = (g.W.World.words c.args.world.now c.args.store.now) in
+    λ wants. subst (λ z. IfOk c.choose.result (λ next. StayTold w (g.W.World.words c.choose.new.world c.choose.new.store) c.args.store.now c.choose.new.store (g.W.World.table c.args.world.now) (g.W.World.table c.choose.new.world) c.args.machine.now.frames.items z c.args.machine.now.rewrites (g.T.StepWatcher.told c.args.watcher.now) c.choose.new.machine.frames.items next c.choose.new.machine.rewrites (g.T.StepWatcher.told c.choose.new.watcher))) (sym c.in-Choose.is) (c.choose.ensures.told wants)
+
+pub returns-in-Value-clause-told : goal.returns-in-Value-clause-told
+returns-in-Value-clause-told g c =
+    let w = (g.W.World.words c.args.world.now c.args.store.now) in
+    λ wants. subst (λ z. IfOk c.give.result (λ next. StayTold w (g.W.World.words c.give.new.world c.give.new.store) c.args.store.now c.give.new.store (g.W.World.table c.args.world.now) (g.W.World.table c.give.new.world) c.args.machine.now.frames.items z c.args.machine.now.rewrites (g.T.StepWatcher.told c.args.watcher.now) c.give.new.machine.frames.items next c.give.new.machine.rewrites (g.T.StepWatcher.told c.give.new.watcher))) (sym c.in-Value.is) (c.give.ensures.told wants)
+
+pub returns-in-Held-clause-told : goal.returns-in-Held-clause-told
+returns-in-Held-clause-told g c =
+    let w = (g.W.World.words c.args.world.now c.args.store.now) in
+    λ wants. subst (λ z. IfOk c.hold.result (λ next. StayTold w (g.W.World.words c.hold.new.world c.hold.new.store) c.args.store.now c.hold.new.store (g.W.World.table c.args.world.now) (g.W.World.table c.hold.new.world) c.args.machine.now.frames.items z c.args.machine.now.rewrites (g.T.StepWatcher.told c.args.watcher.now) c.hold.new.machine.frames.items next c.hold.new.machine.rewrites (g.T.StepWatcher.told c.hold.new.watcher))) (sym c.in-Held.is) (c.hold.ensures.told wants)
+
+pub returns-in-Failed-clause-told : goal.returns-in-Failed-clause-told
+returns-in-Failed-clause-told g c =
+    let w = (g.W.World.words c.args.world.now c.args.store.now) in
+    λ wants. subst (λ z. IfOk c.fail.result (λ next. StayTold w w c.args.store.now c.args.store.now (g.W.World.table c.args.world.now) (g.W.World.table c.args.world.now) c.args.machine.now.frames.items z c.args.machine.now.rewrites (g.T.StepWatcher.told c.args.watcher.now) c.fail.new.machine.frames.items next c.fail.new.machine.rewrites (g.T.StepWatcher.told c.fail.new.watcher))) (sym c.in-Failed.is) (c.fail.ensures.told wants)
