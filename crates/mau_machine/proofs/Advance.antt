@@ -488,3 +488,25 @@ made_later w w' k t e a σ u ca i bi kt h j b =
     ∙ (ap (λ z. eval_on w.rules (suc j) z b) ((k.candidates t e a ca).1 (w'.bound σ) ∙ ap (w.makes a) (k.bindings e i σ bi).1)
     ∙ (h j b
     ∙ (ap (λ z. eval_on w.rules (suc j) z b) (sym (k.terms u.0 kt).1) ∙ ap (λ R. eval_on R (suc j) (w'.tree u.0) b) (sym k.rules))))
+
+-- ---- the whole
+
+pub more_on : (a b c : List Event) → TellsMore a b → TellsMore b c → TellsMore a c
+more_on a b c h k = (h.0 ++ k.0, k.1 ∙ (ap (λ z. z ++ k.0) h.1 ∙ append_assoc a h.0 k.0))
+
+pub no_more : (a b : List Event) → b ≡ a → TellsMore a b
+no_more a b h = ([], h ∙ sym (append-nil a))
+
+pub from_zero : (r : ℕ) (es : List Event) → r ≡ shown_count (0 + steps_in es) → r ≡ shown_count (steps_in es)
+from_zero r es h = h ∙ ap shown_count (by (steps_in es))
+  where
+    by : (n : ℕ) → 0 + n ≡ n
+    by n = omega arith
+
+module _ {A C S : Type 0} (w : Words A C S) (nodes : List Node) (table : Table) where
+  pub telling_starts : (J : Job) (fs : List (Frame A C S)) (c : Control A C S) (r : ℕ) (told : List Event) → fs ≡ [] → r ≡ 0 → TellsTask w nodes table J c [] → Counts c 0 (0 + 0) → IsTelling w nodes table told J fs c r told
+  telling_starts J fs c r told e z t n = record {
+    events = [];
+    is = sym (append-nil told);
+    tells = subst (λ gs. Tells w nodes table (length told) 0 J gs c r []) (sym e) (t, subst (λ q. Counts c q (0 + 0)) (sym z) n);
+  }

@@ -241,8 +241,8 @@ module _ {A C S : Type 0} (w : Words A C S) where
   kind_at_get (y ∷ ids) (suc i) d h = kind_at_get ids i d (omega (arith, h))
 
   -- a machine in which nothing waits
-  pub entered : (fs : List (Frame A C S)) (c : Control A C S) (n b : ℕ) → fs ≡ [] → n ≡ 0 → whole w [] c 0 b ≡ whole w fs c n b
-  entered fs c n b e z = ap (λ m. whole w [] c m b) (sym z) ∙ ap (λ gs. whole w gs c n b) (sym e)
+  pub start_is : (fs : List (Frame A C S)) (c : Control A C S) (n b : ℕ) → fs ≡ [] → n ≡ 0 → whole w [] c 0 b ≡ whole w fs c n b
+  start_is fs c n b e z = ap (λ m. whole w [] c m b) (sym z) ∙ ap (λ gs. whole w gs c n b) (sym e)
 
   pub held_first : (asked : Due) (fs : List (Frame A C S)) (c : Control A C S) → fs ≡ [] → IsKnownNext w c → Suits asked (comes_to w c) → HoldsIn w asked fs c
   held_first asked fs c e k s = subst (λ gs. HoldsIn w asked gs c) (sym e) (record { frames = tt; next = k; chained = s })

@@ -1,6 +1,7 @@
 //! The steps of the loop: each does one thing.
 ghost use Rattle.std.specs.Prelude.{◌≡◌, ◌≤◌, ℕ, true, length, IfOk, IfErr, OnErr};
 ghost use Rattle.mau_evaluation.specs.Run.{Outcome};
+ghost use Rattle.mau_terms.specs.Norm.{norm};
 ghost use Rattle.mau_machine.specs.Words.{IsEnd, eval_on, kind_of, side_of, HasSide};
 ghost use Rattle.mau_machine.specs.Machine.{Reply, comes, task_in, whole};
 ghost use Rattle.mau_machine.specs.Known.{value_of, IsKnownNext, comes_to};
@@ -293,6 +294,8 @@ pub fn side<W: World>(
         ≡ eval_on (W.words world.new store.new).rules condition.now.level ((W.words world.new store.new).tree t.0) b) }
     ensures ends { (b : ℕ) → IfErr result (IsEnd (eval_on (W.words world.new store.new).rules condition.now.level
         (side_of (W.words world.new store.new).rules condition.now.condition condition.now.at right ((W.words world.new store.new).bound condition.now.binding)) b)) }
+    ensures is { IfOk result (λ t. (W.words world.new store.new).tree t.0 ≡ norm (W.words world.new store.new).rules.program.sign.theory
+        (side_of (W.words world.new store.new).rules condition.now.condition condition.now.at right ((W.words world.new store.new).bound condition.now.binding))) }
     ensures known { IfOk result (λ t. (W.words world.new store.new).knows_term t.0) }
     ensures grows { W.grows world.old store.old world.new store.new }
 {
