@@ -1,6 +1,6 @@
 -- What frames and tasks have told, one step further.
 use Rattle.std.proofs.Common.{◌≡◌, ◌⊎◌, inl, inr, ℕ, zero, suc, ◌+◌, ◌<◌, ◌≤◌, ◌^◌, ◌-◌, min, List, [], ◌∷◌, ◌++◌, map, drop, length, set, get_or, Bool, true, false, Some, None, take, refl, sym, ◌∙◌, ap, subst, arith, append_assoc, append-nil, length-append, Result, Ok, Err, IfOk}
-use Rattle.std.specs.Prelude.{slice_get}
+use Rattle.std.specs.Prelude.{slice_get, OnErr}
 use Rattle.std.specs.Option.{option_map}
 use Rattle.std.specs.List.{slice_set}
 use Rattle.std.proofs.Math.Seq.{take-append_seam}
@@ -510,3 +510,12 @@ module _ {A C S : Type 0} (w : Words A C S) (nodes : List Node) (table : Table) 
     is = sym (append-nil told);
     tells = subst (λ gs. Tells w nodes table (length told) 0 J gs c r []) (sym e) (t, subst (λ q. Counts c q (0 + 0)) (sym z) n);
   }
+
+-- what was told is more, whether it was wanted or not
+pub more_by : (b : Bool) (told told' : List Event) (x : Event) → (b ≡ true → told' ≡ told ++ x ∷ []) → (b ≡ false → told' ≡ told) → TellsMore told told'
+more_by true told told' x h k = (x ∷ [], h refl)
+more_by false told told' x h k = no_more told told' (k refl)
+
+pub on_err : {X E : Type 0} (r : Result X E) (P : Type 0) → P → OnErr r P
+on_err (Ok x) P p = tt
+on_err (Err e) P p = p

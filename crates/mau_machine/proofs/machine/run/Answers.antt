@@ -30,7 +30,7 @@ use Rattle.mau_machine.proofs.Counts.{value_ends, answer_ends, first_ends, try_e
 use Rattle.mau_machine.proofs.Through.{alike, pushed, alike_pushed, alike_popped, ends_through, ends_popped, alike_result, ends_result, popped_result, last_is}
 use Rattle.mau_machine.proofs.Branches.{dropped, none_left, at_trees, no_tree, put_trees, put_none, opened_leaf, opened, one_argument, no_argument, built_from, built_ends_from, one_tried, none_tried, tried_ends, one_chosen, equality, sort_test, match, equality_ends, sort_test_ends, match_ends, second_side, second_side_ends, sorts_tested, side_at, ends_at, no_levels, spends, stops, spend_ends, choice_held, again_waits, begun, sides, sides_end, one, empty_is}
 use Rattle.mau_machine.proofs.Tellings.{between, none_shown, same_extends}
-use Rattle.mau_machine.proofs.Advance.{stays_on, stays_same, stays_pushed, stays_marked, stays_popped, stays_popped_same, stays_swapped, taken_back, opened_told, leaf_told, skipped_told, argument_told, built_told, again_entered, valued_told, trying_told, choice_told, solved_told, left_entered, sorting_entered, matching_entered, argument_given, argument_missing, again_given, left_given, right_given, sorting_given, matching_given, choice_given, trying_given, choice_failed, trying_failed, same_count, Proceeds, same_result, popped_proceeds, fails_told, tree_at_place, built_is, made_later, more_on, no_more, from_zero, telling_starts}
+use Rattle.mau_machine.proofs.Advance.{stays_on, stays_same, stays_pushed, stays_marked, stays_popped, stays_popped_same, stays_swapped, taken_back, opened_told, leaf_told, skipped_told, argument_told, built_told, again_entered, valued_told, trying_told, choice_told, solved_told, left_entered, sorting_entered, matching_entered, argument_given, argument_missing, again_given, left_given, right_given, sorting_given, matching_given, choice_given, trying_given, choice_failed, trying_failed, same_count, Proceeds, same_result, popped_proceeds, fails_told, tree_at_place, built_is, made_later, more_on, no_more, from_zero, telling_starts, more_by, on_err}
 use Rattle.mau_machine.proofs.Held.{known_pushed, known_popped, held_on, held_pushed, held_popped, held_swapped, last_known, held_later, same_whole, known_result, popped_known, same_state, start_is, held_first, kind_at_place, kind_at_get, same_kind, same_value_kind, asks_on, solution_on}
 use Rattle.mau_machine.proofs.machine.run.Goals as goal
 
