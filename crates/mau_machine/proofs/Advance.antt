@@ -1,5 +1,5 @@
 -- What frames and tasks have told, one step further.
-use Rattle.std.proofs.Common.{◌≡◌, ◌⊎◌, inl, inr, ℕ, zero, suc, ◌+◌, ◌<◌, ◌≤◌, ◌^◌, ◌-◌, min, List, [], ◌∷◌, ◌++◌, map, drop, length, set, get_or, Bool, true, false, Some, None, take, refl, sym, ◌∙◌, ap, subst, arith, append_assoc, append-nil, length-append, Result, Ok, Err, IfOk}
+use Rattle.std.proofs.Common.{◌≡◌, inl, ℕ, zero, suc, ◌+◌, ◌≤◌, ◌^◌, ◌-◌, min, List, [], ◌∷◌, ◌++◌, drop, length, set, Bool, true, false, Some, None, take, refl, sym, ◌∙◌, ap, subst, arith, append_assoc, append-nil, length-append, Result, Ok, Err, IfOk}
 use Rattle.std.specs.Prelude.{slice_get, OnErr}
 use Rattle.std.specs.Option.{option_map}
 use Rattle.std.specs.List.{slice_set}
@@ -22,10 +22,9 @@ use Rattle.mau_api.specs.Terms.{IsNormalTerm}
 use Rattle.mau_api.specs.Told.{step_in, StandsIn, steps_in, shown_count, TellsMore}
 use Rattle.mau_api.proofs.ToldRuns.{steps-append}
 use Rattle.mau_machine.specs.Uses.{IsUse}
-use Rattle.mau_machine.specs.Words.{Words, Keeps, Rules, eval_on, IsExtension, trees, side_of, sort_in, rest_of, pattern_in, Asks, IsChoiceOf}
-use Rattle.mau_machine.specs.Known.{Due, HoldsIn}
+use Rattle.mau_machine.specs.Words.{Words, Keeps, eval_on, IsExtension, trees, sort_in, rest_of, pattern_in, Asks, IsChoiceOf}
 use Rattle.mau_machine.specs.Steps.{StayTold, TaskStays}
-use Rattle.mau_machine.specs.Telling.{Job, evaluating, solving, Has, Runs, Shows, MayBegin, IsInRound, IsShown, IsMatched, StandsAs, IsSide, Counts, counted_on, TellsTask, HasEntered, HasEnteredBoth, HasEnteredArgument, HasEnteredAgain, TellsFrame, Tells, IsTelling}
+use Rattle.mau_machine.specs.Telling.{Job, evaluating, solving, Has, Runs, Shows, MayBegin, IsInRound, IsShown, IsMatched, StandsAs, IsSide, Counts, counted_on, TellsTask, HasEntered, TellsFrame, Tells, IsTelling}
 use Rattle.mau_machine.specs.declared.goal.Goal.TheVariants as Goals
 use Rattle.mau_machine.specs.declared.frame.Arguments.{Arguments}
 use Rattle.mau_machine.specs.declared.frame.Trial.{Trial}
@@ -37,7 +36,7 @@ use Rattle.mau_machine.specs.declared.frame.Control.{Control}
 use Rattle.mau_machine.specs.declared.frame.Control.TheVariants as Next
 use Rattle.mau_machine.proofs.Pieces.{told_on, told_pushed, told_popped, told_swapped, told_back}
 use Rattle.mau_machine.proofs.Later.{telling_later}
-use Rattle.mau_machine.proofs.Tellings.{between, between_both, left_between, begun_runs, round_begun, round_next, round_built, again_told, equality_shown, sort_shown, match_shown, choice_shown, all_shown, none_shown, step_told, same_extends, extends_on}
+use Rattle.mau_machine.proofs.Tellings.{left_between, begun_runs, round_begun, round_next, round_built, again_told, equality_shown, sort_shown, match_shown, choice_shown, all_shown, none_shown, step_told, same_extends, extends_on}
 
 -- ---- counts
 
@@ -119,7 +118,7 @@ module _ {A C S : Type 0} (w w' : Words A C S) (k : Keeps w w') (old new : List 
   -- a frame begins to wait
   pub stays_pushed : (fs gs : List (Frame A C S)) (f : Frame A C S) (c d : Control A C S) (r q mark : ℕ) (told told' more : List Event) → gs ≡ fs ++ f ∷ [] → mark ≡ length told → told' ≡ told ++ more →
       ((n m : ℕ) (J : Job) (ys : List Event) → mark ≡ n + length ys → TellsTask w' new after J c ys → Counts c r (m + steps_in ys) →
-          (K : Job) × TellsFrame w' new after n m J f (ys ++ more) K × TellsTask w' new after K d [] × Counts d q (counted_on f m (ys ++ more) + 0)) →
+      (K : Job) × TellsFrame w' new after n m J f (ys ++ more) K × TellsTask w' new after K d [] × Counts d q (counted_on f m (ys ++ more) + 0)) →
       StayTold w w' old new before after fs c r told gs d q told'
   stays_pushed fs gs f c d r q mark told told' more p l e h front J asked H t =
       let T = telling_later w w' k old new x before after kept front J fs c r told H.frames H.next t in
@@ -133,7 +132,7 @@ module _ {A C S : Type 0} (w w' : Words A C S) (k : Keeps w w') (old new : List 
   -- without a word
   pub stays_marked : (fs gs : List (Frame A C S)) (f : Frame A C S) (c d : Control A C S) (r q mark : ℕ) (told : List Event) → gs ≡ fs ++ f ∷ [] → mark ≡ length told →
       ((n m : ℕ) (J : Job) (ys : List Event) → mark ≡ n + length ys → TellsTask w' new after J c ys → Counts c r (m + steps_in ys) →
-          (K : Job) × TellsFrame w' new after n m J f ys K × TellsTask w' new after K d [] × Counts d q (counted_on f m ys + 0)) →
+      (K : Job) × TellsFrame w' new after n m J f ys K × TellsTask w' new after K d [] × Counts d q (counted_on f m ys + 0)) →
       StayTold w w' old new before after fs c r told gs d q told
   stays_marked fs gs f c d r q mark told p l h =
       stays_pushed fs gs f c d r q mark told told [] p l (sym (append-nil told)) (λ n m J ys e t i.
@@ -142,7 +141,7 @@ module _ {A C S : Type 0} (w w' : Words A C S) (k : Keeps w w') (old new : List 
   -- the last frame goes on
   pub stays_popped : (fs gs : List (Frame A C S)) (f : Frame A C S) (c d : Control A C S) (r q : ℕ) (told told' more : List Event) → fs ≡ gs ++ f ∷ [] → told' ≡ told ++ more →
       ((n m : ℕ) (J K : Job) (xs ys : List Event) → TellsFrame w' new after n m J f xs K → TellsTask w' new after K c ys → Counts c r (counted_on f m xs + steps_in ys) →
-          TellsTask w' new after J d ((xs ++ ys) ++ more) × Counts d q (m + steps_in ((xs ++ ys) ++ more))) →
+      TellsTask w' new after J d ((xs ++ ys) ++ more) × Counts d q (m + steps_in ((xs ++ ys) ++ more))) →
       StayTold w w' old new before after fs c r told gs d q told'
   stays_popped fs gs f c d r q told told' more p e h front J asked H t =
       let T = telling_later w w' k old new x before after kept front J fs c r told H.frames H.next t in
@@ -154,7 +153,7 @@ module _ {A C S : Type 0} (w w' : Words A C S) (k : Keeps w w') (old new : List 
 
   pub stays_popped_same : (fs gs : List (Frame A C S)) (f : Frame A C S) (c d : Control A C S) (r q : ℕ) (told : List Event) → fs ≡ gs ++ f ∷ [] →
       ((n m : ℕ) (J K : Job) (xs ys : List Event) → TellsFrame w' new after n m J f xs K → TellsTask w' new after K c ys → Counts c r (counted_on f m xs + steps_in ys) →
-          TellsTask w' new after J d (xs ++ ys) × Counts d q (m + steps_in (xs ++ ys))) →
+      TellsTask w' new after J d (xs ++ ys) × Counts d q (m + steps_in (xs ++ ys))) →
       StayTold w w' old new before after fs c r told gs d q told
   stays_popped_same fs gs f c d r q told p h =
       stays_popped fs gs f c d r q told told [] p (sym (append-nil told)) (λ n m J K xs ys a b i.
@@ -163,7 +162,7 @@ module _ {A C S : Type 0} (w w' : Words A C S) (k : Keeps w w') (old new : List 
   -- the last frame waits on as another one
   pub stays_swapped : (fs gs hs : List (Frame A C S)) (f g : Frame A C S) (c d : Control A C S) (r q : ℕ) (told told' more : List Event) → fs ≡ hs ++ f ∷ [] → gs ≡ hs ++ g ∷ [] → told' ≡ told ++ more →
       ((n m : ℕ) (J K : Job) (xs ys : List Event) → TellsFrame w' new after n m J f xs K → TellsTask w' new after K c ys → Counts c r (counted_on f m xs + steps_in ys) →
-          (L : Job) × TellsFrame w' new after n m J g ((xs ++ ys) ++ more) L × TellsTask w' new after L d [] × Counts d q (counted_on g m ((xs ++ ys) ++ more) + 0)) →
+      (L : Job) × TellsFrame w' new after n m J g ((xs ++ ys) ++ more) L × TellsTask w' new after L d [] × Counts d q (counted_on g m ((xs ++ ys) ++ more) + 0)) →
       StayTold w w' old new before after fs c r told gs d q told'
   stays_swapped fs gs hs f g c d r q told told' more p p' e h front J asked H t =
       let T = telling_later w w' k old new x before after kept front J fs c r told H.frames H.next t in
@@ -179,9 +178,10 @@ module _ {A C S : Type 0} (w w' : Words A C S) (k : Keeps w w') (old new : List 
 module _ {A C S : Type 0} (w : Words A C S) (nodes : List Node) (table : Table) where
   marked : (front es kept more : List Event) (mark : ℕ) → es ≡ kept ++ more → mark ≡ length front + length kept → (take mark (front ++ es) ≡ front ++ kept) × (mark ≤ length (front ++ es))
   marked front es kept more mark e h =
-      let s = ap (λ z. front ++ z) e ∙ sym (append_assoc front kept more) in
-      (ap (λ z. take mark z) s ∙ (ap (λ n. take n ((front ++ kept) ++ more)) (h ∙ sym (length-append front kept)) ∙ take-append_seam (front ++ kept) more),
-      fits (length front) (length kept) (length more) (length (front ++ es)) h (ap length s ∙ (length-append (front ++ kept) more ∙ ap (λ z. z + length more) (length-append front kept))))
+      let s = ap (λ z. front ++ z) e ∙ sym (append_assoc front kept more) in (
+        ap (λ z. take mark z) s ∙ (ap (λ n. take n ((front ++ kept) ++ more)) (h ∙ sym (length-append front kept)) ∙ take-append_seam (front ++ kept) more),
+        fits (length front) (length kept) (length more) (length (front ++ es)) h (ap length s ∙ (length-append (front ++ kept) more ∙ ap (λ z. z + length more) (length-append front kept))),
+      )
     where
       fits : (a b c z : ℕ) → mark ≡ a + b → z ≡ a + b + c → mark ≤ z
       fits a b c z p q = omega (arith, p, q)
@@ -191,9 +191,10 @@ module _ {A C S : Type 0} (w : Words A C S) (nodes : List Node) (table : Table) 
       IsTelling w nodes table front J fs c r told → (mark ≤ length told) × ((told' : List Event) → told' ≡ take mark told → IsTelling w nodes table front J gs d q told')
   taken_back fs gs f c d r q mark told front J p h t =
       let b = told_back w nodes table (length front) 0 J gs f c d r q mark t.events h (subst (λ z. Tells w nodes table (length front) 0 J z c r t.events) p t.tells) in
-      let m = marked front t.events b.0 b.1 mark b.2 b.3 in
-      (subst (λ z. mark ≤ length z) (sym t.is) m.1,
-      λ told' e. record { events = b.0; is = e ∙ (ap (take mark) t.is ∙ m.0); tells = b.4 })
+      let m = marked front t.events b.0 b.1 mark b.2 b.3 in (
+        subst (λ z. mark ≤ length z) (sym t.is) m.1,
+        λ told' e. record { events = b.0; is = e ∙ (ap (take mark) t.is ∙ m.0); tells = b.4 },
+      )
 
   -- ---- tasks
 
@@ -235,25 +236,35 @@ module _ {A C S : Type 0} (w : Words A C S) (nodes : List Node) (table : Table) 
 
   pub trying_told : (n m mark r : ℕ) (J : Job) (x y : Trial A) (s : Condition S) (ys : List Event) → y.term ≡ x.term → s.condition ≡ y.condition → s.at ≡ 0 → mark ≡ n + length ys → TellsTask w nodes table J (Next.Attempt x) ys → r ≡ shown_count (m + steps_in ys) →
       (K : Job) × TellsFrame w nodes table n m J (Waiting.Trying y r mark) ys K × TellsTask w nodes table K (Next.Solve s) [] × (0 ≡ shown_count (0 + 0))
-  trying_told n m mark r (evaluating t0) x y s ys e f g l h c =
-      (solving s.condition s.at (w.bound s.binding),
-      (f, g, subst (λ t. Runs w.rules nodes table t0 ys (w.tree t.0)) (sym e) h, l, c),
-      (refl, same_extends (w.bound s.binding), none_shown w.rules nodes table s.condition s.at (w.bound s.binding)), refl)
+  trying_told n m mark r (evaluating t0) x y s ys e f g l h c = (
+    solving s.condition s.at (w.bound s.binding),
+    (f, g, subst (λ t. Runs w.rules nodes table t0 ys (w.tree t.0)) (sym e) h, l, c),
+    (refl, same_extends (w.bound s.binding), none_shown w.rules nodes table s.condition s.at (w.bound s.binding)),
+    refl,
+  )
   trying_told n m mark r (solving d i σ) x y s ys e f g l h c = absurd h
 
   pub choice_told : (n m mark r : ℕ) (J : Job) (x y : Choosing C) (s : Condition S) (ys : List Event) → y.condition ≡ x.condition → y.at ≡ x.at → y.before ≡ x.before → w.chosen_from y.choices ≡ w.chosen_from x.choices → w.chosen_value y.choices ≡ w.chosen_value x.choices →
       s.condition ≡ x.condition → s.at ≡ x.at + 1 → IsChoiceOf w x.condition x.at x.choices (w.bound s.binding) → mark ≡ n + length ys → TellsTask w nodes table J (Next.Choose x) ys → x.before ≡ shown_count (m + steps_in ys) →
       (K : Job) × TellsFrame w nodes table n m J (Waiting.Choice y mark) ys K × TellsTask w nodes table K (Next.Solve s) [] × (0 ≡ shown_count (0 + 0))
   choice_told n m mark r (evaluating t0) x y s ys e1 e2 e3 e4 e5 f g o l h c = absurd h
-  choice_told n m mark r (solving d i σ) x y s ys e1 e2 e3 e4 e5 f g o l h c =
-      (solving s.condition s.at (w.bound s.binding),
-      (e1 ∙ h.0, subst (IsExtension σ) (sym e4) h.1,
+  choice_told n m mark r (solving d i σ) x y s ys e1 e2 e3 e4 e5 f g o l h c = (
+    solving s.condition s.at (w.bound s.binding),
+    (
+      e1 ∙ h.0,
+      subst (IsExtension σ) (sym e4) h.1,
       subst (λ j. IsMatched w.rules nodes table d i j (w.chosen_from y.choices) (w.chosen_value y.choices) ys) (sym e2)
-      (subst (λ τ. IsMatched w.rules nodes table d i x.at τ (w.chosen_value y.choices) ys) (sym e4) (subst (λ v. IsMatched w.rules nodes table d i x.at (w.chosen_from x.choices) v ys) (sym e5) h.2)),
-      f ∙ h.0, g ∙ ap (λ z. z + 1) (sym e2), subst (λ z. IsExtension z (w.bound s.binding)) (sym e4) o.0,
+          (subst (λ τ. IsMatched w.rules nodes table d i x.at τ (w.chosen_value y.choices) ys) (sym e4) (subst (λ v. IsMatched w.rules nodes table d i x.at (w.chosen_from x.choices) v ys) (sym e5) h.2)),
+      f ∙ h.0,
+      g ∙ ap (λ z. z + 1) (sym e2),
+      subst (λ z. IsExtension z (w.bound s.binding)) (sym e4) o.0,
       λ υ p. ap (λ z. norm w.rules.program.sign.theory (instance (look_up υ) (pattern_in (rest_of w.rules z y.at)))) (sym h.0) ∙ (ap (λ z. norm w.rules.program.sign.theory (instance (look_up υ) (pattern_in (rest_of w.rules x.condition z)))) e2 ∙ (o.1 υ p ∙ sym e5)),
-      l, e3 ∙ c),
-      (refl, same_extends (w.bound s.binding), none_shown w.rules nodes table s.condition s.at (w.bound s.binding)), refl)
+      l,
+      e3 ∙ c,
+    ),
+    (refl, same_extends (w.bound s.binding), none_shown w.rules nodes table s.condition s.at (w.bound s.binding)),
+    refl,
+  )
 
   pub solved_told : (J : Job) (c : Condition S) (es : List Event) → Asks w.rules c.condition c.at Goals.Nothing → TellsTask w nodes table J (Next.Solve c) es → TellsTask w nodes table J (Next.Held c.condition c.binding) es
   solved_told (evaluating t0) c es g h = absurd h
@@ -296,12 +307,13 @@ module _ {A C S : Type 0} (w : Words A C S) (nodes : List Node) (table : Table) 
   pub argument_given : (n m r i : ℕ) (J K : Job) (a b : Arguments) (v : TermId) (xs ys : List Event) → b.op ≡ a.op → b.args.items ≡ set a.args.items i v → StandsAs w.rules nodes table v (w.tree v.0) →
       TellsFrame w nodes table n m J (Waiting.Argument a i) xs K → TellsTask w nodes table K (Next.Value v) ys → r ≡ shown_count (m + steps_in xs + steps_in ys) →
       TellsTask w nodes table J (Next.Evaluating b) ((xs ++ ys) ++ left v ∷ []) × (r ≡ shown_count (m + steps_in ((xs ++ ys) ++ left v ∷ [])))
-  argument_given n m r i (evaluating t0) (evaluating x) a b v xs ys o e s f h c =
-      (subst (λ zs. IsInRound w.rules nodes table t0 b.op.0 (trees w b.args.items) ((zs ++ ys) ++ left v ∷ [])) (sym f.is)
-      (subst (λ p. IsInRound w.rules nodes table t0 p.0 (trees w b.args.items) (((f.before ++ entered f.term (Argument i) ∷ []) ++ ys) ++ left v ∷ [])) (sym o)
-      (subst (λ ts. IsInRound w.rules nodes table t0 a.op.0 ts (((f.before ++ entered f.term (Argument i) ∷ []) ++ ys) ++ left v ∷ [])) (set_trees a.args.items i v ∙ ap (trees w) (sym e))
-      (round_next w.rules nodes table t0 a.op.0 (trees w a.args.items) f.before ys i f.term v x (w.tree v.0) f.round f.at h f.stands s))),
-      piece_count r m xs ys (left v ∷ []) c refl)
+  argument_given n m r i (evaluating t0) (evaluating x) a b v xs ys o e s f h c = (
+    subst (λ zs. IsInRound w.rules nodes table t0 b.op.0 (trees w b.args.items) ((zs ++ ys) ++ left v ∷ [])) (sym f.is)
+        (subst (λ p. IsInRound w.rules nodes table t0 p.0 (trees w b.args.items) (((f.before ++ entered f.term (Argument i) ∷ []) ++ ys) ++ left v ∷ [])) (sym o)
+        (subst (λ ts. IsInRound w.rules nodes table t0 a.op.0 ts (((f.before ++ entered f.term (Argument i) ∷ []) ++ ys) ++ left v ∷ [])) (set_trees a.args.items i v ∙ ap (trees w) (sym e))
+        (round_next w.rules nodes table t0 a.op.0 (trees w a.args.items) f.before ys i f.term v x (w.tree v.0) f.round f.at h f.stands s))),
+    piece_count r m xs ys (left v ∷ []) c refl,
+  )
   argument_given n m r i (evaluating t0) (solving d j σ) a b v xs ys o e s f h c = absurd f
   argument_given n m r i (solving d j σ) (evaluating x) a b v xs ys o e s f h c = absurd f
   argument_given n m r i (solving d j σ) (solving d' j' σ') a b v xs ys o e s f h c = absurd f
@@ -332,22 +344,26 @@ module _ {A C S : Type 0} (w : Words A C S) (nodes : List Node) (table : Table) 
       TellsFrame w nodes table n m J (Waiting.Left c) xs K → TellsTask w nodes table K (Next.Value v) ys → r ≡ shown_count (m + steps_in xs + steps_in ys) →
       (L : Job) × TellsFrame w nodes table n m J (Waiting.Right c v) ((xs ++ ys) ++ left v ∷ entered u (OfFragment c.at 1) ∷ []) L × TellsTask w nodes table L (Next.Eval level u) []
       × (q ≡ shown_count (m + steps_in ((xs ++ ys) ++ left v ∷ entered u (OfFragment c.at 1) ∷ []) + 0))
-  left_given n m r q level (solving e i σ) (evaluating x) c v u xs ys s s' z f h k =
-      (evaluating (w.tree u.0), record {
-        before = f.before;
-        inner = ys;
-        first = f.term;
-        second = u;
-        left_side = x;
-        is = ap (λ zs. (zs ++ ys) ++ left v ∷ entered u (OfFragment c.at 1) ∷ []) f.is ∙ left_between f.before (entered f.term (OfFragment c.at 0)) ys (left v) (entered u (OfFragment c.at 1));
-        side = f.side;
-        runs = h;
-        value = s;
-        other = s';
-        same = f.same;
-        extends = f.extends;
-        shown = f.shown;
-      }, inl (refl, refl), at_swapped q r m xs ys (left v ∷ entered u (OfFragment c.at 1) ∷ []) z k refl)
+  left_given n m r q level (solving e i σ) (evaluating x) c v u xs ys s s' z f h k = (
+    evaluating (w.tree u.0),
+    record {
+      before = f.before;
+      inner = ys;
+      first = f.term;
+      second = u;
+      left_side = x;
+      is = ap (λ zs. (zs ++ ys) ++ left v ∷ entered u (OfFragment c.at 1) ∷ []) f.is ∙ left_between f.before (entered f.term (OfFragment c.at 0)) ys (left v) (entered u (OfFragment c.at 1));
+      side = f.side;
+      runs = h;
+      value = s;
+      other = s';
+      same = f.same;
+      extends = f.extends;
+      shown = f.shown;
+    },
+    inl (refl, refl),
+    at_swapped q r m xs ys (left v ∷ entered u (OfFragment c.at 1) ∷ []) z k refl,
+  )
   left_given n m r q level (solving e i σ) (solving d j τ) c v u xs ys s s' z f h k = absurd f
   left_given n m r q level (evaluating t0) (evaluating x) c v u xs ys s s' z f h k = absurd f
   left_given n m r q level (evaluating t0) (solving d j τ) c v u xs ys s s' z f h k = absurd f
@@ -388,26 +404,35 @@ module _ {A C S : Type 0} (w : Words A C S) (nodes : List Node) (table : Table) 
   pub matching_given : (n m r q : ℕ) (J K : Job) (c : Condition S) (y : Choosing C) (v : TermId) (xs ys : List Event) → Asks w.rules c.condition c.at Goals.Matching → y.condition ≡ c.condition → y.at ≡ c.at → w.chosen_from y.choices ≡ w.bound c.binding →
       w.chosen_value y.choices ≡ w.tree v.0 → y.before ≡ r → StandsAs w.rules nodes table v (w.tree v.0) → TellsFrame w nodes table n m J (Waiting.Matching c) xs K → TellsTask w nodes table K (Next.Value v) ys → r ≡ shown_count (m + steps_in xs + steps_in ys) →
       TellsTask w nodes table J (Next.Choose y) ((xs ++ ys) ++ left v ∷ []) × (y.before ≡ shown_count (m + steps_in ((xs ++ ys) ++ left v ∷ [])))
-  matching_given n m r q (solving e i σ) (evaluating x) c y v xs ys g e1 e2 e3 e4 e5 s f h k =
-      ((e1 ∙ f.same, subst (IsExtension σ) (sym e3) f.extends,
+  matching_given n m r q (solving e i σ) (evaluating x) c y v xs ys g e1 e2 e3 e4 e5 s f h k = (
+    (
+      e1 ∙ f.same,
+      subst (IsExtension σ) (sym e3) f.extends,
       subst (λ j. IsMatched w.rules nodes table e i j (w.chosen_from y.choices) (w.chosen_value y.choices) ((xs ++ ys) ++ left v ∷ [])) (sym e2)
-      (subst (λ τ. IsMatched w.rules nodes table e i c.at τ (w.chosen_value y.choices) ((xs ++ ys) ++ left v ∷ [])) (sym e3)
-      (subst (λ u. IsMatched w.rules nodes table e i c.at (w.bound c.binding) u ((xs ++ ys) ++ left v ∷ [])) (sym e4)
-      (subst (λ zs. IsMatched w.rules nodes table e i c.at (w.bound c.binding) (w.tree v.0) ((zs ++ ys) ++ left v ∷ [])) (sym f.is)
-      (match_shown w.rules nodes table e i c.at (w.bound c.binding) f.before ys f.term v x (w.tree v.0) (subst (λ z. Asks w.rules z c.at Goals.Matching) f.same g) f.shown
-      (at_condition c.condition e c.at true (w.bound c.binding) f.term x f.same f.side) h s))))), e5 ∙ piece_count r m xs ys (left v ∷ []) k refl)
+          (subst (λ τ. IsMatched w.rules nodes table e i c.at τ (w.chosen_value y.choices) ((xs ++ ys) ++ left v ∷ [])) (sym e3)
+          (subst (λ u. IsMatched w.rules nodes table e i c.at (w.bound c.binding) u ((xs ++ ys) ++ left v ∷ [])) (sym e4)
+          (subst (λ zs. IsMatched w.rules nodes table e i c.at (w.bound c.binding) (w.tree v.0) ((zs ++ ys) ++ left v ∷ [])) (sym f.is)
+          (match_shown w.rules nodes table e i c.at (w.bound c.binding) f.before ys f.term v x (w.tree v.0) (subst (λ z. Asks w.rules z c.at Goals.Matching) f.same g) f.shown
+          (at_condition c.condition e c.at true (w.bound c.binding) f.term x f.same f.side) h s)))),
+    ),
+    e5 ∙ piece_count r m xs ys (left v ∷ []) k refl,
+  )
   matching_given n m r q (solving e i σ) (solving e' j τ) c y v xs ys g e1 e2 e3 e4 e5 s f h k = absurd f
   matching_given n m r q (evaluating t0) (evaluating x) c y v xs ys g e1 e2 e3 e4 e5 s f h k = absurd f
   matching_given n m r q (evaluating t0) (solving e' j τ) c y v xs ys g e1 e2 e3 e4 e5 s f h k = absurd f
 
   pub choice_given : (n m r s mark : ℕ) (J K : Job) (c : Choosing C) (d : ℕ) (τ : S) (xs ys : List Event) → s ≡ min (c.before + r) (2 ^ 64 - 1) → TellsFrame w nodes table n m J (Waiting.Choice c mark) xs K → TellsTask w nodes table K (Next.Held d τ) ys →
       r ≡ shown_count (0 + steps_in ys) → TellsTask w nodes table J (Next.Held d τ) (xs ++ ys) × (s ≡ shown_count (m + steps_in (xs ++ ys)))
-  choice_given n m r s mark (solving e i σ) (solving e' j υ0) c d τ xs ys z f h k =
-      ((h.0 ∙ f.3, extends_on σ (w.chosen_from c.choices) (w.bound τ) f.1 (extends_on (w.chosen_from c.choices) υ0 (w.bound τ) f.5 h.1),
+  choice_given n m r s mark (solving e i σ) (solving e' j υ0) c d τ xs ys z f h k = (
+    (
+      h.0 ∙ f.3,
+      extends_on σ (w.chosen_from c.choices) (w.bound τ) f.1 (extends_on (w.chosen_from c.choices) υ0 (w.bound τ) f.5 h.1),
       λ υ x. let y = extends_on υ0 (w.bound τ) υ h.1 x in
-      choice_shown w.rules nodes table e i c.at (w.chosen_from c.choices) (w.chosen_value c.choices) xs ys υ f.2 (extends_on (w.chosen_from c.choices) υ0 υ f.5 y) (f.6 υ y)
-      (subst (λ q. Shows w.rules nodes table (look_up υ) q (drop q (w.rules.fragments e)) ys) f.4 (subst (λ q. Shows w.rules nodes table (look_up υ) j (drop j (w.rules.fragments q)) ys) f.3 (h.2 υ x)))),
-      apart_count s c.before r m xs ys z f.8 k)
+          choice_shown w.rules nodes table e i c.at (w.chosen_from c.choices) (w.chosen_value c.choices) xs ys υ f.2 (extends_on (w.chosen_from c.choices) υ0 υ f.5 y) (f.6 υ y)
+          (subst (λ q. Shows w.rules nodes table (look_up υ) q (drop q (w.rules.fragments e)) ys) f.4 (subst (λ q. Shows w.rules nodes table (look_up υ) j (drop j (w.rules.fragments q)) ys) f.3 (h.2 υ x))),
+    ),
+    apart_count s c.before r m xs ys z f.8 k,
+  )
   choice_given n m r s mark (solving e i σ) (evaluating x) c d τ xs ys z f h k = absurd f
   choice_given n m r s mark (evaluating t0) (solving e' j υ0) c d τ xs ys z f h k = absurd f
   choice_given n m r s mark (evaluating t0) (evaluating x) c d τ xs ys z f h k = absurd f
@@ -416,10 +441,12 @@ module _ {A C S : Type 0} (w : Words A C S) (nodes : List Node) (table : Table) 
       IsUse w.rules.written w.rules.hooks (Has w.rules nodes table) (w.rules.fragments x.condition) (w.bound τ) (w.tree x.term.0) (w.tree u.0) (step_in nodes step) →
       TellsFrame w nodes table n m J (Waiting.Trying x before mark) xs K → TellsTask w nodes table K (Next.Held d τ) ys → r ≡ shown_count (0 + steps_in ys) →
       TellsTask w nodes table J (Next.Eval level u) ((xs ++ ys) ++ made step ∷ []) × (s ≡ shown_count (m + steps_in ((xs ++ ys) ++ made step ∷ [])))
-  trying_given n m r s q before mark level (evaluating t0) (solving e i σ) x d τ u step xs ys z z' st ap' f h k =
-      (step_told w.rules nodes table t0 (w.tree x.term.0) (w.tree u.0) xs ys step (w.bound τ) (w.rules.fragments x.condition) f.2
-      (subst (λ j. Shows w.rules nodes table (look_up (w.bound τ)) j (drop j (w.rules.fragments x.condition)) ys) f.1 (subst (λ c. Shows w.rules nodes table (look_up (w.bound τ)) i (drop i (w.rules.fragments c)) ys) f.0 (h.2 (w.bound τ) (same_extends (w.bound τ)))))
-      st ap', step_count s q before r m xs ys step z z' f.4 k)
+  trying_given n m r s q before mark level (evaluating t0) (solving e i σ) x d τ u step xs ys z z' st ap' f h k = (
+    step_told w.rules nodes table t0 (w.tree x.term.0) (w.tree u.0) xs ys step (w.bound τ) (w.rules.fragments x.condition) f.2
+        (subst (λ j. Shows w.rules nodes table (look_up (w.bound τ)) j (drop j (w.rules.fragments x.condition)) ys) f.1 (subst (λ c. Shows w.rules nodes table (look_up (w.bound τ)) i (drop i (w.rules.fragments c)) ys) f.0 (h.2 (w.bound τ) (same_extends (w.bound τ)))))
+        st ap',
+    step_count s q before r m xs ys step z z' f.4 k,
+  )
   trying_given n m r s q before mark level (evaluating t0) (evaluating y) x d τ u step xs ys z z' st ap' f h k = absurd f
   trying_given n m r s q before mark level (solving e' j υ0) (solving e i σ) x d τ u step xs ys z z' st ap' f h k = absurd f
   trying_given n m r s q before mark level (solving e' j υ0) (evaluating y) x d τ u step xs ys z z' st ap' f h k = absurd f
@@ -446,7 +473,6 @@ module _ {A C S : Type 0} (w : Words A C S) (nodes : List Node) (table : Table) 
   tree_at_place [] i t h = cc
   tree_at_place (y ∷ ids) zero t h = ap (option_map (λ z. w.tree z.0)) h
   tree_at_place (y ∷ ids) (suc i) t h = tree_at_place ids i t h
-
   -- ---- results of the parts of the loop
 
 module _ {A C S : Type 0} (w w' : Words A C S) (k : Keeps w w') (old new : List Node) (x : Extends old new) (before after : Table) (kept : KeepsEntries before after) where
@@ -457,7 +483,7 @@ module _ {A C S : Type 0} (w w' : Words A C S) (k : Keeps w w') (old new : List 
 
   pub popped_proceeds : (fs gs : List (Frame A C S)) (f : Frame A C S) (c : Control A C S) (r : ℕ) (told told' more : List Event) (result : Result (Control A C S) EvalEnd) → fs ≡ gs ++ f ∷ [] → told' ≡ told ++ more → (P : Control A C S → Type 0) →
       ((d : Control A C S) → P d → (n m : ℕ) (J K : Job) (xs ys : List Event) → TellsFrame w' new after n m J f xs K → TellsTask w' new after K c ys → Counts c r (counted_on f m xs + steps_in ys) →
-          TellsTask w' new after J d ((xs ++ ys) ++ more) × Counts d r (m + steps_in ((xs ++ ys) ++ more))) →
+      TellsTask w' new after J d ((xs ++ ys) ++ more) × Counts d r (m + steps_in ((xs ++ ys) ++ more))) →
       IfOk result P → IfOk result (λ d. StayTold w w' old new before after fs c r told gs d r told')
   popped_proceeds fs gs f c r told told' more (Ok d) p e P h i = stays_popped w w' k old new x before after kept fs gs f c d r r told told' more p e (h d i)
   popped_proceeds fs gs f c r told told' more (Err z) p e P h i = tt

@@ -1,5 +1,5 @@
 -- What was told stays told in a store and a table of sorts that grow.
-use Rattle.std.proofs.Common.{◌≡◌, ◌⊎◌, inl, inr, ℕ, zero, suc, ◌+◌, List, [], ◌∷◌, ◌++◌, map, drop, length, slice_get, Some, Bool, true, false, All, refl, sym, ◌∙◌, ap, subst}
+use Rattle.std.proofs.Common.{◌≡◌, inl, inr, ℕ, ◌+◌, List, [], ◌∷◌, drop, length, slice_get, Some, Bool, true, false, sym, ◌∙◌, subst}
 use Rattle.std.proofs.lemmas.List.Elements.{All-cons, All-nil, All-head}
 use Rattle.mau_terms.specs.Tree.{Tree, apply, trees_of}
 use Rattle.mau_terms.specs.Norm.{norm}
@@ -10,17 +10,16 @@ use Rattle.mau_store.specs.Node.{Node, Extends}
 use Rattle.mau_store.proofs.Growth.{IsOf-extends}
 use Rattle.mau_store.proofs.Standing.{tree_at-extends}
 use Rattle.mau_sorts.specs.Table.{Table, KeepsEntries}
-use Rattle.mau_listing.specs.Asked.{HasEntry}
 use Rattle.mau_listing.proofs.Growth.{entry_kept}
 use Rattle.mau_program.specs.declared.statements.Fragment.{Fragment}
 use Rattle.mau_evaluation.specs.Evaluation.{Binding, look_up}
 use Rattle.mau_api.specs.declared.step.Step.{Step}
 use Rattle.mau_api.specs.Events.{Event, made}
-use Rattle.mau_api.specs.Told.{Told, steps, StepOf, told_in, step_in, IsInstance, LeadsIn, all_stand, in_one, Shown, StandsIn}
+use Rattle.mau_api.specs.Told.{Told, steps, StepOf, step_in, LeadsIn, all_stand, in_one, Shown, StandsIn}
 use Rattle.mau_api.proofs.ToldRuns.{leads_more, shown_more, events_same, events_stand, run_stays}
-use Rattle.mau_machine.specs.Uses.{IsEquationUse, IsBuiltInUse, IsUse}
+use Rattle.mau_machine.specs.Uses.{IsUse}
 use Rattle.mau_machine.specs.Words.{Words, Keeps, Rules, IsExtension, trees, pattern_in, rest_of}
-use Rattle.mau_machine.specs.Telling.{Job, evaluating, solving, Has, Runs, RunsIn, Shows, IsUsed, EndsWithStep, MayBegin, IsInRound, IsShown, IsMatched, StandsAs, IsSide, Counts, counted_on, TellsTask, HasEntered, HasEnteredBoth, HasEnteredArgument, HasEnteredAgain, TellsFrame, Tells, IsTelling}
+use Rattle.mau_machine.specs.Telling.{Job, evaluating, solving, Has, Runs, RunsIn, Shows, IsUsed, MayBegin, IsInRound, IsShown, IsMatched, StandsAs, IsSide, counted_on, TellsTask, HasEntered, HasEnteredBoth, TellsFrame, Tells, IsTelling}
 use Rattle.mau_machine.specs.Known.{IsKnown, IsKnownNext, AreKnown}
 use Rattle.mau_machine.specs.declared.frame.Frame.{Frame}
 use Rattle.mau_machine.specs.declared.frame.Frame.TheVariants as Waiting
@@ -127,19 +126,25 @@ module _ {A C S : Type 0} (w w' : Words A C S) (k : Keeps w w') (old new : List 
   task_on (evaluating t0) (Next.Value t) es q h =
       subst (λ R. Runs R new after t0 es (w'.tree t.0)) (sym k.rules) (subst (Runs w.rules new after t0 es) (sym (k.values t.0 q).1) (runs_later w.rules old new x before after kept t0 es (w.tree t.0) h))
   task_on (solving e i σ) (Next.Solve c) es q h =
-      let b = sym (k.bindings c.condition c.at c.binding q).1 in
-      (h.0, subst (IsExtension σ) b h.1,
-      subst (λ R. IsShown R new after e i c.at (w'.bound c.binding) es) (sym k.rules) (subst (λ τ. IsShown w.rules new after e i c.at τ es) b (shown_later w.rules old new x before after kept e i c.at (w.bound c.binding) es h.2)))
+      let b = sym (k.bindings c.condition c.at c.binding q).1 in (
+        h.0,
+        subst (IsExtension σ) b h.1,
+        subst (λ R. IsShown R new after e i c.at (w'.bound c.binding) es) (sym k.rules) (subst (λ τ. IsShown w.rules new after e i c.at τ es) b (shown_later w.rules old new x before after kept e i c.at (w.bound c.binding) es h.2)),
+      )
   task_on (solving e i σ) (Next.Choose c) es q h =
-      let b = k.chosen c.condition c.at c.choices q in
-      (h.0, subst (IsExtension σ) (sym b.0) h.1,
-      subst (λ R. IsMatched R new after e i c.at (w'.chosen_from c.choices) (w'.chosen_value c.choices) es) (sym k.rules)
-      (subst (λ τ. IsMatched w.rules new after e i c.at τ (w'.chosen_value c.choices) es) (sym b.0)
-      (subst (λ v. IsMatched w.rules new after e i c.at (w.chosen_from c.choices) v es) (sym b.1) (matched_later w.rules old new x before after kept e i c.at (w.chosen_from c.choices) (w.chosen_value c.choices) es h.2))))
+      let b = k.chosen c.condition c.at c.choices q in (
+        h.0,
+        subst (IsExtension σ) (sym b.0) h.1,
+        subst (λ R. IsMatched R new after e i c.at (w'.chosen_from c.choices) (w'.chosen_value c.choices) es) (sym k.rules)
+            (subst (λ τ. IsMatched w.rules new after e i c.at τ (w'.chosen_value c.choices) es) (sym b.0)
+            (subst (λ v. IsMatched w.rules new after e i c.at (w.chosen_from c.choices) v es) (sym b.1) (matched_later w.rules old new x before after kept e i c.at (w.chosen_from c.choices) (w.chosen_value c.choices) es h.2))),
+      )
   task_on (solving e i σ) (Next.Held d τ) es q h =
-      let b = sym (k.bindings d q.0 τ q.1).1 in
-      (h.0, subst (IsExtension σ) b h.1,
-      λ υ g. subst (λ R. Shows R new after (look_up υ) i (drop i (R.fragments e)) es) (sym k.rules) (shows_later w.rules old new x before after kept (look_up υ) i (drop i (w.rules.fragments e)) es (h.2 υ (subst (λ z. IsExtension z υ) (sym b) g))))
+      let b = sym (k.bindings d q.0 τ q.1).1 in (
+        h.0,
+        subst (IsExtension σ) b h.1,
+        λ υ g. subst (λ R. Shows R new after (look_up υ) i (drop i (R.fragments e)) es) (sym k.rules) (shows_later w.rules old new x before after kept (look_up υ) i (drop i (w.rules.fragments e)) es (h.2 υ (subst (λ z. IsExtension z υ) (sym b) g))),
+      )
   task_on J (Next.Failed d) es q h = tt
   task_on J c es q h = absurd h
 
@@ -207,14 +212,19 @@ module _ {A C S : Type 0} (w w' : Words A C S) (k : Keeps w w') (old new : List 
   frame_on n m (solving e i σ) (Waiting.Sorting c) xs (evaluating y) q h = entered_on e i σ c.condition c.at false 0 (w.bound c.binding) (w'.bound c.binding) xs y (sym (k.bindings c.condition c.at c.binding q.0).1) h
   frame_on n m (solving e i σ) (Waiting.Matching c) xs (evaluating y) q h = entered_on e i σ c.condition c.at true 1 (w.bound c.binding) (w'.bound c.binding) xs y (sym (k.bindings c.condition c.at c.binding q.0).1) h
   frame_on n m (solving e i σ) (Waiting.Choice c mark) xs (solving d j τ) q h =
-      let b = k.chosen c.condition c.at c.choices q in
-      (h.0, subst (IsExtension σ) (sym b.0) h.1,
-      subst (λ R. IsMatched R new after e i c.at (w'.chosen_from c.choices) (w'.chosen_value c.choices) xs) (sym k.rules)
-      (subst (λ τ. IsMatched w.rules new after e i c.at τ (w'.chosen_value c.choices) xs) (sym b.0)
-      (subst (λ v. IsMatched w.rules new after e i c.at (w.chosen_from c.choices) v xs) (sym b.1) (matched_later w.rules old new x before after kept e i c.at (w.chosen_from c.choices) (w.chosen_value c.choices) xs h.2))),
-      h.3, h.4, subst (λ z. IsExtension z τ) (sym b.0) h.5,
-      λ υ g. subst (λ R. norm R.program.sign.theory (instance (look_up υ) (pattern_in (rest_of R e c.at))) ≡ w'.chosen_value c.choices) (sym k.rules) (h.6 υ g ∙ sym b.1),
-      h.7, h.8)
+      let b = k.chosen c.condition c.at c.choices q in (
+        h.0,
+        subst (IsExtension σ) (sym b.0) h.1,
+        subst (λ R. IsMatched R new after e i c.at (w'.chosen_from c.choices) (w'.chosen_value c.choices) xs) (sym k.rules)
+            (subst (λ τ. IsMatched w.rules new after e i c.at τ (w'.chosen_value c.choices) xs) (sym b.0)
+            (subst (λ v. IsMatched w.rules new after e i c.at (w.chosen_from c.choices) v xs) (sym b.1) (matched_later w.rules old new x before after kept e i c.at (w.chosen_from c.choices) (w.chosen_value c.choices) xs h.2))),
+        h.3,
+        h.4,
+        subst (λ z. IsExtension z τ) (sym b.0) h.5,
+        λ υ g. subst (λ R. norm R.program.sign.theory (instance (look_up υ) (pattern_in (rest_of R e c.at))) ≡ w'.chosen_value c.choices) (sym k.rules) (h.6 υ g ∙ sym b.1),
+        h.7,
+        h.8,
+      )
   frame_on n m (evaluating t0) (Waiting.Trying y b mark) xs (solving e i σ) q h =
       (h.0, h.1, subst (λ R. Runs R new after t0 xs (w'.tree y.term.0)) (sym k.rules) (subst (Runs w.rules new after t0 xs) (sym (k.values y.term.0 q.0).1) (runs_later w.rules old new x before after kept t0 xs (w.tree y.term.0) h.2)), h.3, h.4)
   frame_on n m J f xs K q h = absurd h

@@ -1,5 +1,5 @@
 -- Pieces of events, one for each frame and one for the task at hand.
-use Rattle.std.proofs.Common.{◌≡◌, ℕ, zero, suc, ◌+◌, List, [], ◌∷◌, ◌++◌, length, refl, sym, ◌∙◌, ap, subst, arith, append_assoc, append-nil, length-append}
+use Rattle.std.proofs.Common.{◌≡◌, ℕ, ◌+◌, List, [], ◌∷◌, ◌++◌, length, refl, sym, ◌∙◌, ap, subst, arith, append_assoc, append-nil, length-append}
 use Rattle.mau_store.specs.Node.{Node}
 use Rattle.mau_sorts.specs.Table.{Table}
 use Rattle.mau_api.specs.Events.{Event}
@@ -28,17 +28,22 @@ module _ {A C S : Type 0} (w : Words A C S) (nodes : List Node) (table : Table) 
   -- a frame begins to wait
   pub told_pushed : (n m : ℕ) (J : Job) (fs : List (Frame A C S)) (f : Frame A C S) (c d : Control A C S) (r q k : ℕ) (es new : List Event) →
       ((n m : ℕ) (J : Job) (ys : List Event) → k ≡ n + length ys → TellsTask w nodes table J c ys → Counts c r (m + steps_in ys) →
-          (K : Job) × TellsFrame w nodes table n m J f (ys ++ new) K × TellsTask w nodes table K d [] × Counts d q (counted_on f m (ys ++ new) + 0)) →
+      (K : Job) × TellsFrame w nodes table n m J f (ys ++ new) K × TellsTask w nodes table K d [] × Counts d q (counted_on f m (ys ++ new) + 0)) →
       k ≡ n + length es → Tells w nodes table n m J fs c r es → Tells w nodes table n m J (fs ++ f ∷ []) d q (es ++ new)
   told_pushed n m J [] f c d r q k es new h e t = let x = h n m J es e t.0 t.1 in (es ++ new, [], x.0, sym (append-nil (es ++ new)), x.1, (x.2, x.3))
-  told_pushed n m J (g ∷ fs) f c d r q k es new h e t =
-      (t.0, t.1 ++ new, t.2, ap (λ z. z ++ new) t.3 ∙ append_assoc t.0 t.1 new, t.4,
-      told_pushed (n + length t.0) (counted_on g m t.0) t.2 fs f c d r q k t.1 new h (behind k n es t.0 t.1 e t.3) t.5)
+  told_pushed n m J (g ∷ fs) f c d r q k es new h e t = (
+    t.0,
+    t.1 ++ new,
+    t.2,
+    ap (λ z. z ++ new) t.3 ∙ append_assoc t.0 t.1 new,
+    t.4,
+    told_pushed (n + length t.0) (counted_on g m t.0) t.2 fs f c d r q k t.1 new h (behind k n es t.0 t.1 e t.3) t.5,
+  )
 
   -- the last frame goes on
   pub told_popped : (n m : ℕ) (J : Job) (fs : List (Frame A C S)) (f : Frame A C S) (c d : Control A C S) (r q : ℕ) (es new : List Event) →
       ((n m : ℕ) (J K : Job) (xs ys : List Event) → TellsFrame w nodes table n m J f xs K → TellsTask w nodes table K c ys → Counts c r (counted_on f m xs + steps_in ys) →
-          TellsTask w nodes table J d ((xs ++ ys) ++ new) × Counts d q (m + steps_in ((xs ++ ys) ++ new))) →
+      TellsTask w nodes table J d ((xs ++ ys) ++ new) × Counts d q (m + steps_in ((xs ++ ys) ++ new))) →
       Tells w nodes table n m J (fs ++ f ∷ []) c r es → Tells w nodes table n m J fs d q (es ++ new)
   told_popped n m J [] f c d r q es new h t =
       subst (λ z. TellsTask w nodes table J d (z ++ new) × Counts d q (m + steps_in (z ++ new))) (sym t.3) (h n m J t.2 t.0 t.1 t.4 t.5.0 t.5.1)
@@ -48,7 +53,7 @@ module _ {A C S : Type 0} (w : Words A C S) (nodes : List Node) (table : Table) 
   -- the last frame waits on as another one
   pub told_swapped : (n m : ℕ) (J : Job) (fs : List (Frame A C S)) (f g : Frame A C S) (c d : Control A C S) (r q : ℕ) (es new : List Event) →
       ((n m : ℕ) (J K : Job) (xs ys : List Event) → TellsFrame w nodes table n m J f xs K → TellsTask w nodes table K c ys → Counts c r (counted_on f m xs + steps_in ys) →
-          (L : Job) × TellsFrame w nodes table n m J g ((xs ++ ys) ++ new) L × TellsTask w nodes table L d [] × Counts d q (counted_on g m ((xs ++ ys) ++ new) + 0)) →
+      (L : Job) × TellsFrame w nodes table n m J g ((xs ++ ys) ++ new) L × TellsTask w nodes table L d [] × Counts d q (counted_on g m ((xs ++ ys) ++ new) + 0)) →
       Tells w nodes table n m J (fs ++ f ∷ []) c r es → Tells w nodes table n m J (fs ++ g ∷ []) d q (es ++ new)
   told_swapped n m J [] f g c d r q es new h t =
       let x = h n m J t.2 t.0 t.1 t.4 t.5.0 t.5.1 in

@@ -1,5 +1,5 @@
 -- What each step of the loop tells.
-use Rattle.std.proofs.Common.{◌≡◌, ◌⊎◌, inl, inr, ℕ, zero, suc, ◌+◌, min, List, [], ◌∷◌, ◌++◌, map, drop, length, Bool, true, false, Some, All, refl, sym, ◌∙◌, ap, subst, arith, append_assoc, append-nil, length-append}
+use Rattle.std.proofs.Common.{◌≡◌, inl, inr, ℕ, zero, suc, ◌+◌, List, [], ◌∷◌, ◌++◌, map, drop, length, true, false, Some, All, refl, sym, ◌∙◌, ap, subst, arith, append_assoc, append-nil, length-append}
 use Rattle.std.specs.Prelude.{slice_get}
 use Rattle.std.specs.List.{slice_set, drop-map}
 use Rattle.std.proofs.lemmas.List.{map-append}
@@ -12,11 +12,9 @@ use Rattle.mau_terms.specs.declared.bare.Bare.{Bare}
 use Rattle.mau_terms.specs.declared.ids.TermId.{TermId}
 use Rattle.mau_signature.specs.Signature.{theory_at}
 use Rattle.mau_store.specs.Node.{Node}
-use Rattle.mau_store.specs.Trees.{tree_at}
 use Rattle.mau_sorts.specs.Table.{Table}
 use Rattle.mau_program.specs.declared.statements.Fragment.{Fragment}
 use Rattle.mau_program.specs.declared.statements.Fragment.TheVariants.{Equal, Match, Sort, Reach}
-use Rattle.mau_evaluation.specs.Program.{equals, matches, has_sort, reaches}
 use Rattle.mau_evaluation.specs.Evaluation.{Binding, look_up}
 use Rattle.mau_api.specs.Programs.{fragment_of}
 use Rattle.mau_api.specs.declared.step.Place.{Place}
@@ -25,13 +23,12 @@ use Rattle.mau_api.specs.declared.step.Step.{Step}
 use Rattle.mau_api.specs.Events.{Event, entered, left, made}
 use Rattle.mau_api.specs.Terms.{IsNormalTerm}
 use Rattle.mau_api.specs.Variables.{statement_variables}
-use Rattle.mau_api.specs.Told.{Told, enters, leaves, steps, StepOf, told_in, step_in, BeginsNoRound, Leads, stands, on_whole, on_arguments, by_equation, by_built_in, LeadsIn, all_stand, in_one, Shown, nothing_to_show, shows_equal, shows_match, shows_sort, StandsIn, IsToldRun, steps_in, shown_count}
+use Rattle.mau_api.specs.Told.{Told, enters, leaves, steps, StepOf, told_in, step_in, BeginsNoRound, Leads, stands, on_whole, on_arguments, by_equation, by_built_in, LeadsIn, all_stand, in_one, Shown, nothing_to_show, shows_equal, shows_match, shows_sort, StandsIn, steps_in, shown_count}
 use Rattle.mau_api.proofs.ToldRuns.{SameInstances as Same, round_goes_on, shown_goes_on, shown_alike, runs_go_on, steps-append}
 use Rattle.mau_machine.specs.Uses.{SameInstances, IsUse}
-use Rattle.mau_machine.specs.Words.{Words, Rules, IsExtension, side_of, side_by, sort_in, rest_of, pattern_in, goal_of, Asks}
-use Rattle.mau_machine.specs.Telling.{Has, Runs, RunsIn, Shows, IsUsed, EndsWithStep, MayBegin, IsInRound, IsShown, IsMatched, StandsAs, IsSide}
+use Rattle.mau_machine.specs.Words.{Rules, IsExtension, side_of, side_by, sort_in, rest_of, pattern_in, goal_of, Asks}
+use Rattle.mau_machine.specs.Telling.{Has, Runs, Shows, IsUsed, MayBegin, IsInRound, IsShown, IsMatched, StandsAs, IsSide}
 use Rattle.mau_machine.proofs.Counts.{zero_more}
-use Rattle.mau_machine.specs.declared.goal.Goal.{Goal}
 use Rattle.mau_machine.specs.declared.goal.Goal.TheVariants as Goals
 
 -- ---- lists
@@ -366,10 +363,10 @@ module _ (R : Rules) (nodes : List Node) (table : Table) where
       let fs = entered t (OfFragment j 0) ∷ (xs ++ left p ∷ entered u (OfFragment j 1) ∷ (ys ++ left q ∷ [])) in
       let split : (entered t (OfFragment j 0) ∷ (xs ++ left p ∷ [])) ++ (entered u (OfFragment j 1) ∷ (ys ++ left q ∷ [])) ≡ fs = append_assoc (entered t (OfFragment j 0) ∷ xs) (left p ∷ []) (entered u (OfFragment j 1) ∷ (ys ++ left q ∷ [])) in
       let told : T fs ≡ enters a (OfFragment j 0) ∷ ((T xs ++ (leaves v ∷ enters b (OfFragment j 1) ∷ T ys)) ++ leaves v ∷ []) =
-          ap T (sym split) ∙ (map-append (told_in nodes) (entered t (OfFragment j 0) ∷ (xs ++ left p ∷ [])) (entered u (OfFragment j 1) ∷ (ys ++ left q ∷ []))
-          ∙ (ap (λ z. z ++ T (entered u (OfFragment j 1) ∷ (ys ++ left q ∷ []))) A ∙ (ap (λ z. (enters a (OfFragment j 0) ∷ (T xs ++ leaves v ∷ [])) ++ z) B
-          ∙ (append_assoc (enters a (OfFragment j 0) ∷ T xs) (leaves v ∷ []) (enters b (OfFragment j 1) ∷ (T ys ++ leaves v ∷ []))
-          ∙ ap (λ z. enters a (OfFragment j 0) ∷ z) (sym (append_assoc (T xs) (leaves v ∷ enters b (OfFragment j 1) ∷ T ys) (leaves v ∷ []))))))) in
+      ap T (sym split) ∙ (map-append (told_in nodes) (entered t (OfFragment j 0) ∷ (xs ++ left p ∷ [])) (entered u (OfFragment j 1) ∷ (ys ++ left q ∷ []))
+      ∙ (ap (λ z. z ++ T (entered u (OfFragment j 1) ∷ (ys ++ left q ∷ []))) A ∙ (ap (λ z. (enters a (OfFragment j 0) ∷ (T xs ++ leaves v ∷ [])) ++ z) B
+      ∙ (append_assoc (enters a (OfFragment j 0) ∷ T xs) (leaves v ∷ []) (enters b (OfFragment j 1) ∷ (T ys ++ leaves v ∷ []))
+      ∙ ap (λ z. enters a (OfFragment j 0) ∷ z) (sym (append_assoc (T xs) (leaves v ∷ enters b (OfFragment j 1) ∷ T ys) (leaves v ∷ []))))))) in
       subst (IsShown R nodes table e i (j + 1) σ) (sym (between_both es (entered t (OfFragment j 0)) xs (left p) (entered u (OfFragment j 1)) ys (left q)))
       (one_more e i j σ es fs (Equal E.first E.second) E.is h (λ τ x. record {
         stand = subst (All (StandsIn nodes)) split (All-append (StandsIn nodes) (entered t (OfFragment j 0) ∷ (xs ++ left p ∷ [])) (entered u (OfFragment j 1) ∷ (ys ++ left q ∷ []))

@@ -1,6 +1,6 @@
 -- What was told of what is under way, in frames and in the task at hand. Each frame and the task tell a piece of the events, from what the frame below
 -- waits for on.
-use Rattle.std.specs.Prelude.{◌≡◌, ◌⊎◌, ℕ, zero, suc, ◌+◌, List, [], ◌∷◌, ◌++◌, map, drop, length, Bool, true, false, Some, slice_get, All}
+use Rattle.std.specs.Prelude.{◌≡◌, ◌⊎◌, ℕ, ◌+◌, List, [], ◌∷◌, ◌++◌, map, drop, length, Bool, true, false, Some, slice_get, All}
 use Rattle.mau_terms.specs.Tree.{Tree, apply, trees_of}
 use Rattle.mau_terms.specs.Norm.{norm}
 use Rattle.mau_terms.specs.Subst.{Variable, instance}
@@ -15,7 +15,7 @@ use Rattle.mau_api.specs.declared.step.Place.TheVariants.{Whole, Argument, Fragm
 use Rattle.mau_api.specs.declared.step.Step.{Step}
 use Rattle.mau_api.specs.Events.{Event, entered, left, made}
 use Rattle.mau_api.specs.Terms.{IsNormalTerm}
-use Rattle.mau_api.specs.Told.{Told, told_in, step_in, LeadsIn, Shown, StandsIn, IsToldRun, steps_in, shown_count}
+use Rattle.mau_api.specs.Told.{told_in, step_in, LeadsIn, Shown, StandsIn, IsToldRun, steps_in, shown_count}
 use Rattle.mau_machine.specs.Uses.{IsUse}
 use Rattle.mau_machine.specs.Words.{Words, Rules, IsExtension, side_of, rest_of, pattern_in, trees}
 use Rattle.mau_machine.specs.declared.frame.Frame.{Frame}

@@ -13,4 +13,4 @@ invariant-loop g l =
     × (g.T.StepWatcher.wanted l.watcher ≡ g.T.StepWatcher.wanted l.fn.watcher)
     × (g.T.StepWatcher.wanted l.fn.watcher ≡ false → g.T.StepWatcher.told l.watcher ≡ g.T.StepWatcher.told l.fn.watcher)
     × (g.T.StepWatcher.wanted l.fn.watcher ≡ true → StayTold (g.W.World.words l.fn.world l.fn.store) (g.W.World.words l.world l.store) l.fn.store l.store (g.W.World.table l.fn.world) (g.W.World.table l.world)
-        l.fn.machine.frames.items l.fn.task l.fn.machine.rewrites (g.T.StepWatcher.told l.fn.watcher) l.machine.frames.items l.task l.machine.rewrites (g.T.StepWatcher.told l.watcher))
+    l.fn.machine.frames.items l.fn.task l.fn.machine.rewrites (g.T.StepWatcher.told l.fn.watcher) l.machine.frames.items l.task l.machine.rewrites (g.T.StepWatcher.told l.watcher))
