@@ -17,3 +17,4 @@ pub mod Sound
 pub mod Literals
 pub mod ConditionalExamples
 pub mod Written
+pub mod AxiomsAlone
