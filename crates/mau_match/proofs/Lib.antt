@@ -15,6 +15,7 @@ pub mod Refusing
 pub mod Extension
 pub mod Fair
 pub mod Occurring
+pub mod Hiding
 pub mod Complete
 pub mod OneStep
 pub mod Stepping
