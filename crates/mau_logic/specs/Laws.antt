@@ -14,6 +14,7 @@ use Rattle.mau_formula.specs.Operator.{Operator}
 use Rattle.mau_formula.specs.Native.{native_operator}
 use Rattle.mau_formula.specs.declared.native.Native.{Native}
 use Rattle.mau_program.specs.declared.program.Program.{Program}
+use Rattle.mau_program.specs.LawfulPrograms.{IsLawfulProgram}
 use Rattle.mau_api.specs.BuiltIns.{name_at}
 use Rattle.mau_api.specs.Terms.{IsNormalTerm}
 use Rattle.mau_store.specs.Node.{Node}
@@ -27,8 +28,7 @@ use Rattle.mau_logic.specs.Written.{named, HasTerms}
 use Rattle.mau_logic.specs.Derivable.{Derivable, IsSorted, IsLed}
 use Rattle.mau_logic.specs.Deduction.{equals, belongs, rewrites, Holds}
 use Rattle.mau_logic.specs.Replaced.{ReplaceNormal}
-use Rattle.mau_logic.specs.BuiltKinds.{GivesNumerals, HasNumerals}
-use Rattle.mau_logic.specs.WellFormed.{IsWellFormed}
+use Rattle.mau_logic.specs.NativeNumerals.{GivesNumerals, HasNumerals}
 
 -- ---- what is told
 
@@ -46,7 +46,7 @@ SortsAreShown =
 -- what facts tell, each step replaces a normal form, and native operators give numerals for numerals.
 abbrev pub RunsAreLed : Type 0
 RunsAreLed =
-    (p : Program) → IsWellFormed p → (hooks : List Operator) → All GivesNumerals hooks → (known : Known) → All (IsTold p hooks) known →
+    (p : Program) → IsLawfulProgram p → IsLawful (terms_over p.sig) → (hooks : List Operator) → All GivesNumerals hooks → (known : Known) → All (IsTold p hooks) known →
     (nodes : List Node) (table : Table) → AreEntries p.sig known nodes table →
     (rules : Bool) (t u : Tree) (told : List Event) → IsNormalTerm p.sig t → ReplaceNormal p.sig (map (told_in nodes) told) →
     IsToldRun p hooks nodes table rules t told u → IsLed p hooks rules t u
