@@ -24,7 +24,7 @@ use Rattle.mau_logic.specs.Says.{Says, leads, all_equational}
 use Rattle.mau_logic.specs.Shown.{HasSortBy, LeadsTo, Shows, ShowsAll}
 use Rattle.mau_logic.specs.Justified.{With, Uses, Lead}
 use Rattle.mau_logic.specs.Derivable.{same, by_equation, by_rule, under, chain, derives, AreDerivable, no_facts, one_fact, IsSorted, IsLed}
-use Rattle.mau_logic.specs.WellFormed.{AreOfOneKind, AreBareFragments}
+use Rattle.mau_logic.proofs.WellFormed.{AreOfOneKind, AreBareFragments}
 use Rattle.mau_logic.specs.Replaced.{ReplaceNormal}
 use Rattle.mau_logic.proofs.MoreSorts.{more_sorts}
 
