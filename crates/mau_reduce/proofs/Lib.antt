@@ -29,3 +29,5 @@ pub mod Numbered
 pub mod BuiltTables
 -- what built-ins give
 pub mod Answering
+-- what is left of all that may be applied
+pub mod AttemptsLeft

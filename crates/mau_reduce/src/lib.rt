@@ -2,6 +2,7 @@
 #![tactic(auto)]
 
 mod arguments;
+mod attempts;
 mod binding;
 mod built_in;
 mod given;
@@ -12,6 +13,7 @@ mod settling;
 mod trying;
 
 pub use arguments::{Opened, open, order_of};
+pub use attempts::{Attempts, begin_attempts, next_attempt};
 pub use binding::Binding;
 pub use built_in::{BuiltIn, Truths, built_in_of};
 pub use given::{Given, Leaf};
