@@ -31,3 +31,5 @@ pub mod BuiltTables
 pub mod Answering
 -- what is left of all that may be applied
 pub mod AttemptsLeft
+-- the order of equations
+pub mod InOrder
