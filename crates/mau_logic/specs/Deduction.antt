@@ -84,11 +84,13 @@ module _ (p : Program) (hooks : List Operator) where
       equal_itself : {t : Tree} → IsTerm t → Holds (equals t t)
       equal_back : {t u : Tree} → Holds (equals t u) → Holds (equals u t)
       equal_onward : {t u v : Tree} → Holds (equals t u) → Holds (equals u v) → Holds (equals t v)
-      equal_under : (f : ℕ) (ts us : Trees) → IsTerm (apply f ts) → IsTerm (apply f us) → AllHold (between equals ts us) → Holds (equals (apply f ts) (apply f us))
+      equal_under : (f : ℕ) (ts us : Trees) → IsTerm (apply f ts) → IsTerm (apply f us) → AllHold (between equals ts us) →
+          Holds (equals (apply f ts) (apply f us))
       -- by an axiom of an operator, by an equation whose condition holds, and by what an operator has built in
       by_axiom : {t u : Tree} → Axiom (theory_at p.sig) t u → IsTerm t → IsTerm u → Holds (equals t u)
       by_equation : (n : ℕ) (e : Equation) (g : Variable → Tree) → numbered p.equations n ≡ Some e → AllHold (equation_premises e g) →
-          IsTerm (instance g (tree_of e.left)) → IsTerm (instance g (tree_of e.right)) → Holds (equals (instance g (tree_of e.left)) (instance g (tree_of e.right)))
+          IsTerm (instance g (tree_of e.left)) → IsTerm (instance g (tree_of e.right)) →
+          Holds (equals (instance g (tree_of e.left)) (instance g (tree_of e.right)))
       by_built_in : (f : ℕ) (ts : List Tree) (whole answer : Tree) → over p.sig f ts ≡ Some whole → built_answer p.sig hooks f ts ≡ value answer →
           IsTerm whole → IsTerm (as_term answer) → Holds (equals whole (as_term answer))
       -- sorts: of variables, numerals and operators, the kind of each term, and what is above a sort
@@ -104,9 +106,11 @@ module _ (p : Program) (hooks : List Operator) where
           IsTerm (instance g (tree_of m.left)) → Holds (belongs (instance g (tree_of m.left)) m.sort)
       -- rewriting: reflexivity, congruence, replacement, transitivity, of terms up to equality
       stays : {t : Tree} → IsTerm t → Holds (rewrites t t)
-      rewrites_under : (f : ℕ) (ts us : Trees) → IsTerm (apply f ts) → IsTerm (apply f us) → AllHold (between rewrites ts us) → Holds (rewrites (apply f ts) (apply f us))
+      rewrites_under : (f : ℕ) (ts us : Trees) → IsTerm (apply f ts) → IsTerm (apply f us) → AllHold (between rewrites ts us) →
+          Holds (rewrites (apply f ts) (apply f us))
       by_rule : (n : ℕ) (q : Rule) (g : Variable → Tree) → numbered p.rules n ≡ Some q → AllHold (rule_premises q g) →
-          IsTerm (instance g (tree_of q.left)) → IsTerm (instance g (tree_of q.right)) → Holds (rewrites (instance g (tree_of q.left)) (instance g (tree_of q.right)))
+          IsTerm (instance g (tree_of q.left)) → IsTerm (instance g (tree_of q.right)) →
+          Holds (rewrites (instance g (tree_of q.left)) (instance g (tree_of q.right)))
       rewrites_onward : {t u v : Tree} → Holds (rewrites t u) → Holds (rewrites u v) → Holds (rewrites t v)
       rewrites_equal : {t u v w : Tree} → Holds (equals t u) → Holds (rewrites u v) → Holds (equals v w) → Holds (rewrites t w)
 
