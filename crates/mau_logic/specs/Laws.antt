@@ -20,14 +20,13 @@ use Rattle.mau_api.specs.Terms.{IsNormalTerm}
 use Rattle.mau_store.specs.Node.{Node}
 use Rattle.mau_sorts.specs.Table.{Table, AreEntries}
 use Rattle.mau_api.specs.Events.{Event}
-use Rattle.mau_api.specs.Told.{told_in, IsToldRun}
+use Rattle.mau_api.specs.Told.{IsToldRun}
 use Rattle.mau_logic.specs.Lines.{section_terms}
 use Rattle.mau_logic.specs.Says.{Says, leads, of_sort, says_nothing, all_said}
 use Rattle.mau_logic.specs.Justified.{AreJustifiedOver, IsJustifiedSection}
 use Rattle.mau_logic.specs.Written.{named, HasTerms}
 use Rattle.mau_logic.specs.Derivable.{Derivable, IsSorted, IsLed}
 use Rattle.mau_logic.specs.Deduction.{equals, belongs, rewrites, Holds}
-use Rattle.mau_logic.specs.Replaced.{ReplaceNormal}
 use Rattle.mau_logic.specs.NativeNumerals.{GivesNumerals, HasNumerals}
 
 -- ---- what is told
@@ -43,13 +42,12 @@ SortsAreShown =
     (r : ℕ) (t : Tree) → norm (theory_at p.sig) t ≡ t → HasSort p.sig known t r → IsSorted p hooks r t
 
 -- Each told run is led by one derivable fact from its start to its end: where the entries of the table say what sorts terms have by declarations and by
--- what facts tell, each step replaces a normal form, and native operators give numerals for numerals.
+-- what facts tell, and native operators give numerals for numerals.
 abbrev pub RunsAreLed : Type 0
 RunsAreLed =
     (p : Program) → IsLawfulProgram p → IsLawful (terms_over p.sig) → (hooks : List Operator) → All GivesNumerals hooks → (known : Known) → All (IsTold p hooks) known →
     (nodes : List Node) (table : Table) → AreEntries p.sig known nodes table →
-    (rules : Bool) (t u : Tree) (told : List Event) → IsNormalTerm p.sig t → ReplaceNormal p.sig (map (told_in nodes) told) →
-    IsToldRun p hooks nodes table rules t told u → IsLed p hooks rules t u
+    (rules : Bool) (t u : Tree) (told : List Event) → IsNormalTerm p.sig t → IsToldRun p hooks nodes table rules t told u → IsLed p hooks rules t u
 
 -- ---- what facts mean
 
