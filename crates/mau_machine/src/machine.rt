@@ -59,14 +59,17 @@ pub fn evaluate<W: World, T: StepWatcher>(
 ) -> Result<Reduced, EvalEnd>
     requires ready { W.ready world.old store.old }
     requires term { (W.words world.old store.old).knows_term term.0 }
-    ensures value { IfOk result (λ x. capped (eval_on (W.words world.old store.old).rules level ((W.words world.old store.old).tree term.0) budget.old)
+    ensures value { IfOk result (λ x. capped (eval_on (W.words world.old store.old).rules level
+        ((W.words world.old store.old).tree term.0) budget.old)
         ≡ done ((W.words world.new store.new).tree x.term.0) x.rewrites budget.new) }
-    ensures ends { IfErr result (IsEnd (eval_on (W.words world.old store.old).rules level ((W.words world.old store.old).tree term.0) budget.old)) }
+    ensures ends { IfErr result (IsEnd (eval_on (W.words world.old store.old).rules level
+        ((W.words world.old store.old).tree term.0) budget.old)) }
     ensures known { IfOk result (λ x. (W.words world.new store.new).knows_value x.term.0) }
     ensures kind { IfOk result (λ x. kind_of (W.words world.new store.new) x.term.0 ≡ kind_of (W.words world.old store.old) term.0) }
     ensures falls { budget.new ≤ budget.old }
     ensures grows { W.grows world.old store.old world.new store.new }
-    ensures told { T.wanted watcher.old ≡ true → IfOk result (λ x. TellsEvaluation (W.words world.new store.new).rules.written (W.words world.new store.new).rules.hooks
+    ensures told { T.wanted watcher.old ≡ true → IfOk result (λ x. TellsEvaluation (W.words world.new store.new).rules.written
+        (W.words world.new store.new).rules.hooks
         store.new (W.table world.new) (T.told watcher.old) (T.told watcher.new) term x.term x.rewrites) }
     ensures before { T.wanted watcher.old ≡ true → TellsMore (T.told watcher.old) (T.told watcher.new) }
     ensures silent { T.wanted watcher.old ≡ false → T.told watcher.new ≡ T.told watcher.old }
@@ -89,6 +92,7 @@ pub fn evaluate<W: World, T: StepWatcher>(
                 rewrites: machine.rewrites,
             })
         }
+        // Never: what was asked comes.
         Ok(_) => Err(EvalEnd::NoMemory),
         Err(end) => Err(end),
     }
@@ -107,16 +111,21 @@ pub fn solve<W: World, T: StepWatcher>(
 ) -> Result<Option<(W::Binding, u64)>, EvalEnd>
     requires ready { W.ready world.old store.old }
     requires binding { (W.words world.old store.old).knows_binding condition 0 binding }
-    ensures some { IfOk result (λ o. IfSome o (λ x. capped (solve_on (W.words world.old store.old).rules level condition 0 ((W.words world.old store.old).bound binding) budget.old)
+    ensures some { IfOk result (λ o. IfSome o (λ x. capped (solve_on (W.words world.old store.old).rules level condition 0
+        ((W.words world.old store.old).bound binding) budget.old)
         ≡ done (Some ((W.words world.new store.new).bound x.0)) x.1 budget.new)) }
-    ensures none { IfOk result (λ o. IfNone o ((r : ℕ) × (solve_on (W.words world.old store.old).rules level condition 0 ((W.words world.old store.old).bound binding) budget.old
+    ensures none { IfOk result (λ o. IfNone o ((r : ℕ) × (solve_on (W.words world.old store.old).rules level condition 0
+        ((W.words world.old store.old).bound binding) budget.old
         ≡ done None r budget.new))) }
-    ensures ends { IfErr result (IsEnd (solve_on (W.words world.old store.old).rules level condition 0 ((W.words world.old store.old).bound binding) budget.old)) }
+    ensures ends { IfErr result (IsEnd (solve_on (W.words world.old store.old).rules level condition 0
+        ((W.words world.old store.old).bound binding) budget.old)) }
     ensures known { IfOk result (λ o. IfSome o (λ x. IsSolution (W.words world.new store.new) condition x.0)) }
     ensures falls { budget.new ≤ budget.old }
     ensures grows { W.grows world.old store.old world.new store.new }
-    ensures told { T.wanted watcher.old ≡ true → IfOk result (λ o. IfSome o (λ x. TellsCondition (W.words world.new store.new).rules.written (W.words world.new store.new).rules.hooks
-        store.new (W.table world.new) (T.told watcher.old) (T.told watcher.new) (look_up ((W.words world.new store.new).bound x.0)) ((W.words world.new store.new).rules.fragments condition) x.1)) }
+    ensures told { T.wanted watcher.old ≡ true → IfOk result (λ o. IfSome o
+        (λ x. TellsCondition (W.words world.new store.new).rules.written (W.words world.new store.new).rules.hooks
+        store.new (W.table world.new) (T.told watcher.old) (T.told watcher.new) (look_up ((W.words world.new store.new).bound x.0))
+        ((W.words world.new store.new).rules.fragments condition) x.1)) }
     ensures untold { T.wanted watcher.old ≡ true → IfOk result (λ o. IfNone o (T.told watcher.new ≡ T.told watcher.old)) }
     ensures before { T.wanted watcher.old ≡ true → TellsMore (T.told watcher.old) (T.told watcher.new) }
     ensures silent { T.wanted watcher.old ≡ false → T.told watcher.new ≡ T.told watcher.old }
@@ -136,6 +145,7 @@ pub fn solve<W: World, T: StepWatcher>(
             back(watcher, mark);
             Ok(None)
         }
+        // Never: what was asked comes.
         Ok(_) => Err(EvalEnd::NoMemory),
         Err(end) => Err(end),
     }
@@ -152,17 +162,22 @@ fn run<W: World, T: StepWatcher>(
 ) -> Result<Control<W::Attempts, W::Choices, W::Binding>, EvalEnd>
     requires ready { W.ready world.old store.old }
     requires held { AreHeld (W.words world.old store.old) machine.old.frames.items task }
-    requires told { T.wanted watcher.old ≡ true → AreTold (W.words world.old store.old) store.old (W.table world.old) machine.old.frames.items task machine.old.rewrites (T.told watcher.old) }
-    ensures goes { IfOk result (λ last. IsAlike (whole (W.words world.old store.old) machine.old.frames.items task machine.old.rewrites budget.old)
+    requires told { T.wanted watcher.old ≡ true → AreTold (W.words world.old store.old) store.old
+        (W.table world.old) machine.old.frames.items task machine.old.rewrites (T.told watcher.old) }
+    ensures goes { IfOk result (λ last. IsAlike (whole (W.words world.old store.old) machine.old.frames.items task machine.old.rewrites
+        budget.old)
         (whole (W.words world.new store.new) [] last machine.new.rewrites budget.new)) }
-    ensures ends { IfErr result (IsEnd (whole (W.words world.old store.old) machine.old.frames.items task machine.old.rewrites budget.old)) }
+    ensures ends { IfErr result (IsEnd (whole (W.words world.old store.old) machine.old.frames.items task machine.old.rewrites
+        budget.old)) }
     ensures known { IfOk result (StayKnown (W.words world.old store.old) (W.words world.new store.new) machine.old.frames.items task []) }
     ensures small { OnOk result (machine.new.rewrites ≤ greatest_count) }
     ensures falls { budget.new ≤ budget.old }
     ensures grows { W.grows world.old store.old world.new store.new }
-    ensures told { T.wanted watcher.old ≡ true → IfOk result (λ last. StayTold (W.words world.old store.old) (W.words world.new store.new) store.old store.new (W.table world.old) (W.table world.new)
+    ensures told { T.wanted watcher.old ≡ true → IfOk result (λ last. StayTold (W.words world.old store.old)
+        (W.words world.new store.new) store.old store.new (W.table world.old) (W.table world.new)
         machine.old.frames.items task machine.old.rewrites (T.told watcher.old) [] last machine.new.rewrites (T.told watcher.new)) }
-    ensures front { T.wanted watcher.old ≡ true → (StayFront (W.words world.old store.old) store.old (W.table world.old) machine.old.frames.items task machine.old.rewrites (T.told watcher.old) (T.told watcher.new)) }
+    ensures front { T.wanted watcher.old ≡ true → (StayFront (W.words world.old store.old) store.old
+        (W.table world.old) machine.old.frames.items task machine.old.rewrites (T.told watcher.old) (T.told watcher.new)) }
     ensures watched { IsWatched (T.wanted watcher.old) (T.wanted watcher.new) (T.told watcher.old) (T.told watcher.new) }
 {
     let _rewrites = machine.rewrites;

@@ -28,13 +28,18 @@ pub fn give<W: World, T: StepWatcher>(
 ) -> Result<Control<W::Attempts, W::Choices, W::Binding>, EvalEnd>
     requires ready { W.ready world.old store.old }
     requires held { AreHeld (W.words world.old store.old) machine.old.frames.items (Control.Value value) }
-    ensures goes { (b : ℕ) → IfOk result (λ next. IsAlike (whole (W.words world.new store.new) machine.old.frames.items (Control.Value value) machine.old.rewrites b)
+    ensures goes { (b : ℕ) → IfOk result (λ next. IsAlike (whole (W.words world.new store.new) machine.old.frames.items
+        (Control.Value value) machine.old.rewrites b)
         (whole (W.words world.new store.new) machine.new.frames.items next machine.new.rewrites b)) }
-    ensures ends { (b : ℕ) → IfErr result (IsEnd (whole (W.words world.new store.new) machine.old.frames.items (Control.Value value) machine.old.rewrites b)) }
-    ensures known { IfOk result (StayKnown (W.words world.old store.old) (W.words world.new store.new) machine.old.frames.items (Control.Value value) machine.new.frames.items) }
+    ensures ends { (b : ℕ) → IfErr result (IsEnd (whole (W.words world.new store.new) machine.old.frames.items
+        (Control.Value value) machine.old.rewrites b)) }
+    ensures known { IfOk result (StayKnown (W.words world.old store.old) (W.words world.new store.new) machine.old.frames.items
+        (Control.Value value) machine.new.frames.items) }
     ensures grows { W.grows world.old store.old world.new store.new }
-    ensures told { T.wanted watcher.old ≡ true → IfOk result (λ next. StayTold (W.words world.old store.old) (W.words world.new store.new) store.old store.new (W.table world.old) (W.table world.new)
-        machine.old.frames.items (Control.Value value) machine.old.rewrites (T.told watcher.old) machine.new.frames.items next machine.new.rewrites (T.told watcher.new)) }
+    ensures told { T.wanted watcher.old ≡ true → IfOk result (λ next. StayTold (W.words world.old store.old)
+        (W.words world.new store.new) store.old store.new (W.table world.old) (W.table world.new)
+        machine.old.frames.items (Control.Value value) machine.old.rewrites
+        (T.told watcher.old) machine.new.frames.items next machine.new.rewrites (T.told watcher.new)) }
     ensures more { OnErr result (TellsMore (T.told watcher.old) (T.told watcher.new)) }
     ensures watched { IsWatched (T.wanted watcher.old) (T.wanted watcher.new) (T.told watcher.old) (T.told watcher.new) }
 {
@@ -95,6 +100,7 @@ pub fn give<W: World, T: StepWatcher>(
             })),
             Err(_) => Err(EvalEnd::NoMemory),
         },
+        // Never: the last frame is given what it waits for.
         _ => Err(EvalEnd::NoMemory),
     }
 }
@@ -109,12 +115,15 @@ fn proceed<W: World>(
     requires binding { (W.words world.now store.now).knows_binding condition.condition condition.at condition.binding }
     requires passes { PassesOn (W.words world.now store.now).rules condition.condition condition.at }
     ensures goes { (r b : ℕ) → IfOk result (λ next. as_answer (counted_if r (where_true holds
-        (solve_on (W.words world.now store.now).rules condition.level condition.condition (suc condition.at) ((W.words world.now store.now).bound condition.binding)) b))
+        (solve_on (W.words world.now store.now).rules condition.level condition.condition (suc condition.at)
+        ((W.words world.now store.now).bound condition.binding)) b))
         ≡ comes (W.words world.now store.now).rules (task_in (W.words world.now store.now) next) r b) }
     ensures ends { (o : Outcome Reply) → IfErr result (IsEnd o) }
-    ensures known { IfOk result (λ next. IsKnownNext (W.words world.now store.now) next × (comes_to (W.words world.now store.now) next ≡ answer_to condition.condition)) }
+    ensures known { IfOk result (λ next. IsKnownNext (W.words world.now store.now) next
+        × (comes_to (W.words world.now store.now) next ≡ answer_to condition.condition)) }
     ensures told { IfOk result (λ next. (r n e i : ℕ) (σ : Binding) (es : List Event) → r ≡ shown_count n
-        → (holds ≡ true → IsShown (W.words world.now store.now).rules store.now (W.table world.now) e i (condition.at + 1) ((W.words world.now store.now).bound condition.binding) es)
+        → (holds ≡ true → IsShown (W.words world.now store.now).rules store.now (W.table world.now) e i (condition.at + 1)
+        ((W.words world.now store.now).bound condition.binding) es)
         → condition.condition ≡ e → IsExtension σ ((W.words world.now store.now).bound condition.binding)
         → TellsTask (W.words world.now store.now) store.now (W.table world.now) (solving e i σ) next es × Counts next r n) }
 {
@@ -144,14 +153,19 @@ pub fn hold<W: World, T: StepWatcher>(
 ) -> Result<Control<W::Attempts, W::Choices, W::Binding>, EvalEnd>
     requires ready { W.ready world.old store.old }
     requires held { AreHeld (W.words world.old store.old) machine.old.frames.items (Control.Held condition binding) }
-    ensures goes { IfOk result (λ next. IsAlike (whole (W.words world.new store.new) machine.old.frames.items (Control.Held condition binding) machine.old.rewrites budget.old)
+    ensures goes { IfOk result (λ next. IsAlike (whole (W.words world.new store.new) machine.old.frames.items
+        (Control.Held condition binding) machine.old.rewrites budget.old)
         (whole (W.words world.new store.new) machine.new.frames.items next machine.new.rewrites budget.new)) }
-    ensures ends { IfErr result (IsEnd (whole (W.words world.new store.new) machine.old.frames.items (Control.Held condition binding) machine.old.rewrites budget.old)) }
-    ensures known { IfOk result (StayKnown (W.words world.old store.old) (W.words world.new store.new) machine.old.frames.items (Control.Held condition binding) machine.new.frames.items) }
+    ensures ends { IfErr result (IsEnd (whole (W.words world.new store.new) machine.old.frames.items
+        (Control.Held condition binding) machine.old.rewrites budget.old)) }
+    ensures known { IfOk result (StayKnown (W.words world.old store.old) (W.words world.new store.new) machine.old.frames.items
+        (Control.Held condition binding) machine.new.frames.items) }
     ensures falls { budget.new ≤ budget.old }
     ensures grows { W.grows world.old store.old world.new store.new }
-    ensures told { T.wanted watcher.old ≡ true → IfOk result (λ next. StayTold (W.words world.old store.old) (W.words world.new store.new) store.old store.new (W.table world.old) (W.table world.new)
-        machine.old.frames.items (Control.Held condition binding) machine.old.rewrites (T.told watcher.old) machine.new.frames.items next machine.new.rewrites (T.told watcher.new)) }
+    ensures told { T.wanted watcher.old ≡ true → IfOk result (λ next. StayTold (W.words world.old store.old)
+        (W.words world.new store.new) store.old store.new (W.table world.old) (W.table world.new)
+        machine.old.frames.items (Control.Held condition binding) machine.old.rewrites
+        (T.told watcher.old) machine.new.frames.items next machine.new.rewrites (T.told watcher.new)) }
     ensures more { OnErr result (TellsMore (T.told watcher.old) (T.told watcher.new)) }
     ensures watched { IsWatched (T.wanted watcher.old) (T.wanted watcher.new) (T.told watcher.old) (T.told watcher.new) }
 {
@@ -178,6 +192,7 @@ pub fn hold<W: World, T: StepWatcher>(
                 None => Err(EvalEnd::NoMemory),
             }
         }
+        // Never: the last frame is given what it waits for.
         _ => Err(EvalEnd::NoMemory),
     }
 }
@@ -192,13 +207,18 @@ pub fn fail<W: World, T: StepWatcher>(
 ) -> Result<Control<W::Attempts, W::Choices, W::Binding>, EvalEnd>
     requires ready { W.ready world.now store.now }
     requires held { AreHeld (W.words world.now store.now) machine.old.frames.items (Control.Failed condition) }
-    requires told { T.wanted watcher.old ≡ true → AreTold (W.words world.now store.now) store.now (W.table world.now) machine.old.frames.items (Control.Failed condition) machine.old.rewrites (T.told watcher.old) }
-    ensures goes { (b : ℕ) → IfOk result (λ next. IsAlike (whole (W.words world.now store.now) machine.old.frames.items (Control.Failed condition) machine.old.rewrites b)
+    requires told { T.wanted watcher.old ≡ true → AreTold (W.words world.now store.now) store.now
+        (W.table world.now) machine.old.frames.items (Control.Failed condition) machine.old.rewrites (T.told watcher.old) }
+    ensures goes { (b : ℕ) → IfOk result (λ next. IsAlike (whole (W.words world.now store.now) machine.old.frames.items
+        (Control.Failed condition) machine.old.rewrites b)
         (whole (W.words world.now store.now) machine.new.frames.items next machine.new.rewrites b)) }
     ensures ends { (o : Outcome Reply) → IfErr result (IsEnd o) }
-    ensures known { IfOk result (StayKnown (W.words world.now store.now) (W.words world.now store.now) machine.old.frames.items (Control.Failed condition) machine.new.frames.items) }
-    ensures told { T.wanted watcher.old ≡ true → IfOk result (λ next. StayTold (W.words world.now store.now) (W.words world.now store.now) store.now store.now (W.table world.now) (W.table world.now)
-        machine.old.frames.items (Control.Failed condition) machine.old.rewrites (T.told watcher.old) machine.new.frames.items next machine.new.rewrites (T.told watcher.new)) }
+    ensures known { IfOk result (StayKnown (W.words world.now store.now) (W.words world.now store.now) machine.old.frames.items
+        (Control.Failed condition) machine.new.frames.items) }
+    ensures told { T.wanted watcher.old ≡ true → IfOk result (λ next. StayTold (W.words world.now store.now)
+        (W.words world.now store.now) store.now store.now (W.table world.now) (W.table world.now)
+        machine.old.frames.items (Control.Failed condition) machine.old.rewrites
+        (T.told watcher.old) machine.new.frames.items next machine.new.rewrites (T.told watcher.new)) }
     ensures more { OnErr result (TellsMore (T.told watcher.old) (T.told watcher.new)) }
     ensures watched { IsWatched (T.wanted watcher.old) (T.wanted watcher.new) (T.told watcher.old) (T.told watcher.new) }
 {
@@ -212,6 +232,7 @@ pub fn fail<W: World, T: StepWatcher>(
             machine.rewrites = before;
             Ok(Control::Attempt(trial))
         }
+        // Never: the last frame is given what it waits for.
         _ => Err(EvalEnd::NoMemory),
     }
 }

@@ -27,15 +27,21 @@ pub fn step<W: World, T: StepWatcher>(
 ) -> Result<Control<W::Attempts, W::Choices, W::Binding>, EvalEnd>
     requires ready { W.ready world.old store.old }
     requires held { AreHeld (W.words world.old store.old) machine.old.frames.items task }
-    requires told { T.wanted watcher.old ≡ true → AreTold (W.words world.old store.old) store.old (W.table world.old) machine.old.frames.items task machine.old.rewrites (T.told watcher.old) }
-    ensures goes { IfOk result (λ next. IsAlike (whole (W.words world.new store.new) machine.old.frames.items task machine.old.rewrites budget.old)
+    requires told { T.wanted watcher.old ≡ true → AreTold (W.words world.old store.old) store.old
+        (W.table world.old) machine.old.frames.items task machine.old.rewrites (T.told watcher.old) }
+    ensures goes { IfOk result (λ next. IsAlike (whole (W.words world.new store.new) machine.old.frames.items task machine.old.rewrites
+        budget.old)
         (whole (W.words world.new store.new) machine.new.frames.items next machine.new.rewrites budget.new)) }
-    ensures ends { IfErr result (IsEnd (whole (W.words world.new store.new) machine.old.frames.items task machine.old.rewrites budget.old)) }
-    ensures known { IfOk result (StayKnown (W.words world.old store.old) (W.words world.new store.new) machine.old.frames.items task machine.new.frames.items) }
+    ensures ends { IfErr result (IsEnd (whole (W.words world.new store.new) machine.old.frames.items task machine.old.rewrites
+        budget.old)) }
+    ensures known { IfOk result (StayKnown (W.words world.old store.old)
+        (W.words world.new store.new) machine.old.frames.items task machine.new.frames.items) }
     ensures falls { budget.new ≤ budget.old }
     ensures grows { W.grows world.old store.old world.new store.new }
-    ensures told { T.wanted watcher.old ≡ true → IfOk result (λ next. StayTold (W.words world.old store.old) (W.words world.new store.new) store.old store.new (W.table world.old) (W.table world.new)
-        machine.old.frames.items task machine.old.rewrites (T.told watcher.old) machine.new.frames.items next machine.new.rewrites (T.told watcher.new)) }
+    ensures told { T.wanted watcher.old ≡ true → IfOk result (λ next. StayTold (W.words world.old store.old)
+        (W.words world.new store.new) store.old store.new (W.table world.old) (W.table world.new)
+        machine.old.frames.items task machine.old.rewrites (T.told watcher.old) machine.new.frames.items next machine.new.rewrites
+        (T.told watcher.new)) }
     ensures more { OnErr result (TellsMore (T.told watcher.old) (T.told watcher.new)) }
     ensures watched { IsWatched (T.wanted watcher.old) (T.wanted watcher.new) (T.told watcher.old) (T.told watcher.new) }
 {
@@ -64,10 +70,13 @@ fn open<W: World>(
 ) -> Result<Control<W::Attempts, W::Choices, W::Binding>, EvalEnd>
     requires ready { W.ready world.now store.now }
     requires term { (W.words world.now store.now).knows_term term.0 }
-    ensures goes { (r b : ℕ) → IfOk result (λ next. IsAlike (comes (W.words world.now store.now).rules (task_in (W.words world.now store.now) (Control.Eval level term)) r b)
+    ensures goes { (r b : ℕ) → IfOk result (λ next. IsAlike (comes (W.words world.now store.now).rules
+        (task_in (W.words world.now store.now) (Control.Eval level term)) r b)
         (comes (W.words world.now store.now).rules (task_in (W.words world.now store.now) next) r b)) }
-    ensures ends { (r b : ℕ) → IfErr result (IsEnd (comes (W.words world.now store.now).rules (task_in (W.words world.now store.now) (Control.Eval level term)) r b)) }
-    ensures known { IfOk result (λ next. IsKnownNext (W.words world.now store.now) next × (comes_to (W.words world.now store.now) next ≡ value_of (kind_of (W.words world.now store.now) term.0))) }
+    ensures ends { (r b : ℕ) → IfErr result (IsEnd (comes (W.words world.now store.now).rules
+        (task_in (W.words world.now store.now) (Control.Eval level term)) r b)) }
+    ensures known { IfOk result (λ next. IsKnownNext (W.words world.now store.now) next
+        × (comes_to (W.words world.now store.now) next ≡ value_of (kind_of (W.words world.now store.now) term.0))) }
     ensures told { IfOk result (TaskStays (W.words world.now store.now) store.now (W.table world.now) (Control.Eval level term)) }
 {
     if level == 0 {
@@ -96,13 +105,18 @@ fn go_on<W: World, T: StepWatcher>(
 ) -> Result<Control<W::Attempts, W::Choices, W::Binding>, EvalEnd>
     requires ready { W.ready world.old store.old }
     requires operands { (W.words world.old store.old).knows_operands arguments.op.0 arguments.args.items }
-    ensures goes { (b : ℕ) → IfOk result (λ next. IsAlike (whole (W.words world.new store.new) machine.old.frames.items (Control.Evaluating arguments) machine.old.rewrites b)
+    ensures goes { (b : ℕ) → IfOk result (λ next. IsAlike (whole (W.words world.new store.new) machine.old.frames.items
+        (Control.Evaluating arguments) machine.old.rewrites b)
         (whole (W.words world.new store.new) machine.new.frames.items next machine.new.rewrites b)) }
-    ensures ends { (b : ℕ) → IfErr result (IsEnd (whole (W.words world.new store.new) machine.old.frames.items (Control.Evaluating arguments) machine.old.rewrites b)) }
-    ensures known { IfOk result (StayKnown (W.words world.old store.old) (W.words world.new store.new) machine.old.frames.items (Control.Evaluating arguments) machine.new.frames.items) }
+    ensures ends { (b : ℕ) → IfErr result (IsEnd (whole (W.words world.new store.new) machine.old.frames.items
+        (Control.Evaluating arguments) machine.old.rewrites b)) }
+    ensures known { IfOk result (StayKnown (W.words world.old store.old) (W.words world.new store.new) machine.old.frames.items
+        (Control.Evaluating arguments) machine.new.frames.items) }
     ensures grows { W.grows world.old store.old world.new store.new }
-    ensures told { T.wanted watcher.old ≡ true → IfOk result (λ next. StayTold (W.words world.old store.old) (W.words world.new store.new) store.old store.new (W.table world.old) (W.table world.new)
-        machine.old.frames.items (Control.Evaluating arguments) machine.old.rewrites (T.told watcher.old) machine.new.frames.items next machine.new.rewrites (T.told watcher.new)) }
+    ensures told { T.wanted watcher.old ≡ true → IfOk result (λ next. StayTold (W.words world.old store.old)
+        (W.words world.new store.new) store.old store.new (W.table world.old) (W.table world.new)
+        machine.old.frames.items (Control.Evaluating arguments) machine.old.rewrites
+        (T.told watcher.old) machine.new.frames.items next machine.new.rewrites (T.told watcher.new)) }
     ensures more { OnErr result (TellsMore (T.told watcher.old) (T.told watcher.new)) }
     ensures watched { IsWatched (T.wanted watcher.old) (T.wanted watcher.new) (T.told watcher.old) (T.told watcher.new) }
 {
@@ -139,13 +153,18 @@ fn rebuild<W: World, T: StepWatcher>(
     requires ready { W.ready world.old store.old }
     requires operands { (W.words world.old store.old).knows_operands arguments.op.0 arguments.args.items }
     requires last { length arguments.order.items ≤ arguments.next }
-    ensures goes { (b : ℕ) → IfOk result (λ next. IsAlike (whole (W.words world.new store.new) machine.old.frames.items (Control.Evaluating arguments) machine.old.rewrites b)
+    ensures goes { (b : ℕ) → IfOk result (λ next. IsAlike (whole (W.words world.new store.new) machine.old.frames.items
+        (Control.Evaluating arguments) machine.old.rewrites b)
         (whole (W.words world.new store.new) machine.new.frames.items next machine.new.rewrites b)) }
-    ensures ends { (b : ℕ) → IfErr result (IsEnd (whole (W.words world.new store.new) machine.old.frames.items (Control.Evaluating arguments) machine.old.rewrites b)) }
-    ensures known { IfOk result (StayKnown (W.words world.old store.old) (W.words world.new store.new) machine.old.frames.items (Control.Evaluating arguments) machine.new.frames.items) }
+    ensures ends { (b : ℕ) → IfErr result (IsEnd (whole (W.words world.new store.new) machine.old.frames.items
+        (Control.Evaluating arguments) machine.old.rewrites b)) }
+    ensures known { IfOk result (StayKnown (W.words world.old store.old) (W.words world.new store.new) machine.old.frames.items
+        (Control.Evaluating arguments) machine.new.frames.items) }
     ensures grows { W.grows world.old store.old world.new store.new }
-    ensures told { T.wanted watcher.old ≡ true → IfOk result (λ next. StayTold (W.words world.old store.old) (W.words world.new store.new) store.old store.new (W.table world.old) (W.table world.new)
-        machine.old.frames.items (Control.Evaluating arguments) machine.old.rewrites (T.told watcher.old) machine.new.frames.items next machine.new.rewrites (T.told watcher.new)) }
+    ensures told { T.wanted watcher.old ≡ true → IfOk result (λ next. StayTold (W.words world.old store.old)
+        (W.words world.new store.new) store.old store.new (W.table world.old) (W.table world.new)
+        machine.old.frames.items (Control.Evaluating arguments) machine.old.rewrites
+        (T.told watcher.old) machine.new.frames.items next machine.new.rewrites (T.told watcher.new)) }
     ensures more { OnErr result (TellsMore (T.told watcher.old) (T.told watcher.new)) }
     ensures watched { IsWatched (T.wanted watcher.old) (T.wanted watcher.new) (T.told watcher.old) (T.told watcher.new) }
 {
@@ -168,10 +187,12 @@ fn look<W: World>(
 ) -> Result<Control<W::Attempts, W::Choices, W::Binding>, EvalEnd>
     requires ready { W.ready world.old store.old }
     requires term { (W.words world.old store.old).knows_term term.0 }
-    ensures goes { (r b : ℕ) → IfOk result (λ next. IsAlike (comes (W.words world.new store.new).rules (task_in (W.words world.new store.new) (Control.Top level term)) r b)
+    ensures goes { (r b : ℕ) → IfOk result (λ next. IsAlike (comes (W.words world.new store.new).rules
+        (task_in (W.words world.new store.new) (Control.Top level term)) r b)
         (comes (W.words world.new store.new).rules (task_in (W.words world.new store.new) next) r b)) }
     ensures ends { (o : Outcome Reply) → IfErr result (IsEnd o) }
-    ensures known { IfOk result (λ next. IsKnownNext (W.words world.new store.new) next × (comes_to (W.words world.new store.new) next ≡ value_of (kind_of (W.words world.new store.new) term.0))) }
+    ensures known { IfOk result (λ next. IsKnownNext (W.words world.new store.new) next
+        × (comes_to (W.words world.new store.new) next ≡ value_of (kind_of (W.words world.new store.new) term.0))) }
     ensures told { IfOk result (TaskStays (W.words world.new store.new) store.new (W.table world.new) (Control.Top level term)) }
     ensures grows { W.grows world.old store.old world.new store.new }
 {
@@ -197,13 +218,18 @@ fn attempt<W: World, T: StepWatcher>(
     requires ready { W.ready world.old store.old }
     requires value { (W.words world.old store.old).knows_value trial.term.0 }
     requires attempts { (W.words world.old store.old).knows_attempts trial.term.0 trial.attempts }
-    ensures goes { (b : ℕ) → IfOk result (λ next. IsAlike (whole (W.words world.new store.new) machine.old.frames.items (Control.Attempt trial) machine.old.rewrites b)
+    ensures goes { (b : ℕ) → IfOk result (λ next. IsAlike (whole (W.words world.new store.new) machine.old.frames.items
+        (Control.Attempt trial) machine.old.rewrites b)
         (whole (W.words world.new store.new) machine.new.frames.items next machine.new.rewrites b)) }
-    ensures ends { (b : ℕ) → IfErr result (IsEnd (whole (W.words world.new store.new) machine.old.frames.items (Control.Attempt trial) machine.old.rewrites b)) }
-    ensures known { IfOk result (StayKnown (W.words world.old store.old) (W.words world.new store.new) machine.old.frames.items (Control.Attempt trial) machine.new.frames.items) }
+    ensures ends { (b : ℕ) → IfErr result (IsEnd (whole (W.words world.new store.new) machine.old.frames.items
+        (Control.Attempt trial) machine.old.rewrites b)) }
+    ensures known { IfOk result (StayKnown (W.words world.old store.old) (W.words world.new store.new) machine.old.frames.items
+        (Control.Attempt trial) machine.new.frames.items) }
     ensures grows { W.grows world.old store.old world.new store.new }
-    ensures told { T.wanted watcher.old ≡ true → IfOk result (λ next. StayTold (W.words world.old store.old) (W.words world.new store.new) store.old store.new (W.table world.old) (W.table world.new)
-        machine.old.frames.items (Control.Attempt trial) machine.old.rewrites (T.told watcher.old) machine.new.frames.items next machine.new.rewrites (T.told watcher.new)) }
+    ensures told { T.wanted watcher.old ≡ true → IfOk result (λ next. StayTold (W.words world.old store.old)
+        (W.words world.new store.new) store.old store.new (W.table world.old) (W.table world.new)
+        machine.old.frames.items (Control.Attempt trial) machine.old.rewrites
+        (T.told watcher.old) machine.new.frames.items next machine.new.rewrites (T.told watcher.new)) }
     ensures more { OnErr result (TellsMore (T.told watcher.old) (T.told watcher.new)) }
     ensures watched { IsWatched (T.wanted watcher.old) (T.wanted watcher.new) (T.told watcher.old) (T.told watcher.new) }
 {
@@ -238,13 +264,18 @@ fn solve<W: World, T: StepWatcher>(
 ) -> Result<Control<W::Attempts, W::Choices, W::Binding>, EvalEnd>
     requires ready { W.ready world.old store.old }
     requires binding { (W.words world.old store.old).knows_binding condition.condition condition.at condition.binding }
-    ensures goes { (b : ℕ) → IfOk result (λ next. IsAlike (whole (W.words world.new store.new) machine.old.frames.items (Control.Solve condition) machine.old.rewrites b)
+    ensures goes { (b : ℕ) → IfOk result (λ next. IsAlike (whole (W.words world.new store.new) machine.old.frames.items
+        (Control.Solve condition) machine.old.rewrites b)
         (whole (W.words world.new store.new) machine.new.frames.items next machine.new.rewrites b)) }
-    ensures ends { (b : ℕ) → IfErr result (IsEnd (whole (W.words world.new store.new) machine.old.frames.items (Control.Solve condition) machine.old.rewrites b)) }
-    ensures known { IfOk result (StayKnown (W.words world.old store.old) (W.words world.new store.new) machine.old.frames.items (Control.Solve condition) machine.new.frames.items) }
+    ensures ends { (b : ℕ) → IfErr result (IsEnd (whole (W.words world.new store.new) machine.old.frames.items
+        (Control.Solve condition) machine.old.rewrites b)) }
+    ensures known { IfOk result (StayKnown (W.words world.old store.old) (W.words world.new store.new) machine.old.frames.items
+        (Control.Solve condition) machine.new.frames.items) }
     ensures grows { W.grows world.old store.old world.new store.new }
-    ensures told { T.wanted watcher.old ≡ true → IfOk result (λ next. StayTold (W.words world.old store.old) (W.words world.new store.new) store.old store.new (W.table world.old) (W.table world.new)
-        machine.old.frames.items (Control.Solve condition) machine.old.rewrites (T.told watcher.old) machine.new.frames.items next machine.new.rewrites (T.told watcher.new)) }
+    ensures told { T.wanted watcher.old ≡ true → IfOk result (λ next. StayTold (W.words world.old store.old)
+        (W.words world.new store.new) store.old store.new (W.table world.old) (W.table world.new)
+        machine.old.frames.items (Control.Solve condition) machine.old.rewrites
+        (T.told watcher.old) machine.new.frames.items next machine.new.rewrites (T.told watcher.new)) }
     ensures more { OnErr result (TellsMore (T.told watcher.old) (T.told watcher.new)) }
     ensures watched { IsWatched (T.wanted watcher.old) (T.wanted watcher.new) (T.told watcher.old) (T.told watcher.new) }
 {
@@ -290,12 +321,15 @@ pub fn side<W: World>(
     requires side { HasSide (W.words world.old store.old).rules condition.now.condition condition.now.at right }
     requires binding { (W.words world.old store.old).knows_binding condition.now.condition condition.now.at condition.now.binding }
     ensures value { (b : ℕ) → IfOk result (λ t. eval_on (W.words world.new store.new).rules condition.now.level
-        (side_of (W.words world.new store.new).rules condition.now.condition condition.now.at right ((W.words world.new store.new).bound condition.now.binding)) b
+        (side_of (W.words world.new store.new).rules condition.now.condition condition.now.at right
+        ((W.words world.new store.new).bound condition.now.binding)) b
         ≡ eval_on (W.words world.new store.new).rules condition.now.level ((W.words world.new store.new).tree t.0) b) }
     ensures ends { (b : ℕ) → IfErr result (IsEnd (eval_on (W.words world.new store.new).rules condition.now.level
-        (side_of (W.words world.new store.new).rules condition.now.condition condition.now.at right ((W.words world.new store.new).bound condition.now.binding)) b)) }
+        (side_of (W.words world.new store.new).rules condition.now.condition condition.now.at right
+        ((W.words world.new store.new).bound condition.now.binding)) b)) }
     ensures is { IfOk result (λ t. (W.words world.new store.new).tree t.0 ≡ norm (W.words world.new store.new).rules.program.sign.theory
-        (side_of (W.words world.new store.new).rules condition.now.condition condition.now.at right ((W.words world.new store.new).bound condition.now.binding))) }
+        (side_of (W.words world.new store.new).rules condition.now.condition condition.now.at right
+        ((W.words world.new store.new).bound condition.now.binding))) }
     ensures known { IfOk result (λ t. (W.words world.new store.new).knows_term t.0) }
     ensures grows { W.grows world.old store.old world.new store.new }
 {
@@ -321,13 +355,18 @@ fn choose<W: World, T: StepWatcher>(
 ) -> Result<Control<W::Attempts, W::Choices, W::Binding>, EvalEnd>
     requires ready { W.ready world.old store.old }
     requires choices { (W.words world.old store.old).knows_choices choosing.condition choosing.at choosing.choices }
-    ensures goes { (b : ℕ) → IfOk result (λ next. IsAlike (whole (W.words world.new store.new) machine.old.frames.items (Control.Choose choosing) machine.old.rewrites b)
+    ensures goes { (b : ℕ) → IfOk result (λ next. IsAlike (whole (W.words world.new store.new) machine.old.frames.items
+        (Control.Choose choosing) machine.old.rewrites b)
         (whole (W.words world.new store.new) machine.new.frames.items next machine.new.rewrites b)) }
-    ensures ends { (b : ℕ) → IfErr result (IsEnd (whole (W.words world.new store.new) machine.old.frames.items (Control.Choose choosing) machine.old.rewrites b)) }
-    ensures known { IfOk result (StayKnown (W.words world.old store.old) (W.words world.new store.new) machine.old.frames.items (Control.Choose choosing) machine.new.frames.items) }
+    ensures ends { (b : ℕ) → IfErr result (IsEnd (whole (W.words world.new store.new) machine.old.frames.items
+        (Control.Choose choosing) machine.old.rewrites b)) }
+    ensures known { IfOk result (StayKnown (W.words world.old store.old) (W.words world.new store.new) machine.old.frames.items
+        (Control.Choose choosing) machine.new.frames.items) }
     ensures grows { W.grows world.old store.old world.new store.new }
-    ensures told { T.wanted watcher.old ≡ true → IfOk result (λ next. StayTold (W.words world.old store.old) (W.words world.new store.new) store.old store.new (W.table world.old) (W.table world.new)
-        machine.old.frames.items (Control.Choose choosing) machine.old.rewrites (T.told watcher.old) machine.new.frames.items next machine.new.rewrites (T.told watcher.new)) }
+    ensures told { T.wanted watcher.old ≡ true → IfOk result (λ next. StayTold (W.words world.old store.old)
+        (W.words world.new store.new) store.old store.new (W.table world.old) (W.table world.new)
+        machine.old.frames.items (Control.Choose choosing) machine.old.rewrites
+        (T.told watcher.old) machine.new.frames.items next machine.new.rewrites (T.told watcher.new)) }
     ensures more { OnErr result (TellsMore (T.told watcher.old) (T.told watcher.new)) }
     ensures watched { IsWatched (T.wanted watcher.old) (T.wanted watcher.new) (T.told watcher.old) (T.told watcher.new) }
 {

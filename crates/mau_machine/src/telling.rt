@@ -92,7 +92,8 @@ pub fn make<W: World, T: StepWatcher>(
     requires candidate { (W.words world.old store.old).knows_candidate trial.now.term.0 trial.now.condition trial.now.attempts }
     requires solution { IsSolution (W.words world.old store.old) trial.now.condition binding.now }
     ensures value { (k b : ℕ) → IfOk result (λ t.
-        eval_on (W.words world.new store.new).rules (suc k) ((W.words world.new store.new).makes trial.now.attempts ((W.words world.new store.new).bound binding.now)) b
+        eval_on (W.words world.new store.new).rules (suc k) ((W.words world.new store.new).makes trial.now.attempts
+        ((W.words world.new store.new).bound binding.now)) b
         ≡ eval_on (W.words world.new store.new).rules (suc k) ((W.words world.new store.new).tree t.0) b) }
     ensures ends { (k b : ℕ) → IfErr result (IsEnd (eval_on (W.words world.new store.new).rules (suc k)
         ((W.words world.new store.new).makes trial.now.attempts ((W.words world.new store.new).bound binding.now)) b)) }

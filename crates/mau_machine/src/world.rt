@@ -1,5 +1,24 @@
 //! What the loop knows of terms and programs.
-ghost use Rattle.std.specs.Prelude.{◌≡◌, ℕ, suc, List, map, All, Bool, true, false, Option, Some, None, IfOk, IfErr, IfSome, IfNone, OnOk, slice_get};
+ghost use Rattle.std.specs.Prelude.{
+  ◌≡◌,
+  ℕ,
+  suc,
+  List,
+  map,
+  All,
+  Bool,
+  true,
+  false,
+  Option,
+  Some,
+  None,
+  IfOk,
+  IfErr,
+  IfSome,
+  IfNone,
+  OnOk,
+  slice_get,
+};
 ghost use Rattle.std.specs.List.{slice_set};
 ghost use Rattle.std.specs.Option.{option_map};
 ghost use Rattle.mau_terms.specs.declared.ids.TermId.{TermId};
@@ -18,7 +37,28 @@ ghost use Rattle.mau_api.specs.Events.{made};
 ghost use Rattle.mau_api.specs.Told.{step_in, StandsIn};
 ghost use Rattle.mau_machine.specs.Uses.{IsUse};
 ghost use Rattle.mau_machine.specs.declared.goal.Goal.{Goal};
-ghost use Rattle.mau_machine.specs.Words.{Words, Keeps, IsEnd, trees, kind_of, eval_on, solve_on, Asks, HasSide, PassesOn, side_of, IsLeaf, IsUntried, IsSolution, IsSorted, IsUnchosen, IsExtension, IsChoiceOf, rest_of, sort_in};
+ghost use Rattle.mau_machine.specs.Words.{
+  Words,
+  Keeps,
+  IsEnd,
+  trees,
+  kind_of,
+  eval_on,
+  solve_on,
+  Asks,
+  HasSide,
+  PassesOn,
+  side_of,
+  IsLeaf,
+  IsUntried,
+  IsSolution,
+  IsSorted,
+  IsUnchosen,
+  IsExtension,
+  IsChoiceOf,
+  rest_of,
+  sort_in,
+};
 
 use crate::Goal;
 use mau_api::{EvalEnd, Step};
@@ -59,8 +99,10 @@ pub trait World {
         requires ready { ready self.now store.now }
         requires term { (words self.now store.now).knows_term term.0 }
         ensures leaf { IfOk result (λ o. IfNone o (IsLeaf ((words self.now store.now).tree term.0))) }
-        ensures node { IfOk result (λ o. IfSome o (λ x. (words self.now store.now).tree term.0 ≡ node x.0.0 (trees (words self.now store.now) x.1.items))) }
-        ensures order { IfOk result (λ o. IfSome o (λ x. x.2.items ≡ order_of (words self.now store.now).rules.program x.0.0 (trees (words self.now store.now) x.1.items))) }
+        ensures node { IfOk result (λ o. IfSome o (λ x. (words self.now store.now).tree term.0 ≡ node x.0.0
+            (trees (words self.now store.now) x.1.items))) }
+        ensures order { IfOk result (λ o. IfSome o (λ x. x.2.items ≡ order_of (words self.now store.now).rules.program x.0.0
+            (trees (words self.now store.now) x.1.items))) }
         ensures known { IfOk result (λ o. IfSome o (λ x. (words self.now store.now).knows_operands x.0.0 x.1.items)) };
 
     /// The operator over arguments, and whether the top has changed.
@@ -81,7 +123,8 @@ pub trait World {
         ensures ends { (b : ℕ) → IfErr result (IsEnd (within_limits (words self.new store.new).rules.program.sign.theory
             (build ((words self.new store.new).rules.program.sign.theory op.0) op.0 (trees (words self.new store.new) args.now)) b)) }
         ensures known { IfOk result (λ x. (words self.new store.new).knows_term x.0.0) }
-        ensures kind { IfOk result (λ x. kind_of (words self.new store.new) x.0.0 ≡ Some ((words self.new store.new).rules.program.sign.result op.0)) }
+        ensures kind { IfOk result (λ x. kind_of (words self.new store.new) x.0.0 ≡ Some
+            ((words self.new store.new).rules.program.sign.result op.0)) }
         ensures grows { grows self.old store.old self.new store.new };
 
     /// Settles the sorts of a term, and begins with all that may be applied at its top.
@@ -127,12 +170,14 @@ pub trait World {
         requires candidate { (words self.old store.old).knows_candidate term.0 condition attempts.now }
         requires solution { IsSolution (words self.old store.old) condition binding.now }
         ensures value { (k b : ℕ) → IfOk result (λ t.
-            eval_on (words self.new store.new).rules (suc k) ((words self.new store.new).makes attempts.now ((words self.new store.new).bound binding.now)) b
+            eval_on (words self.new store.new).rules (suc k) ((words self.new store.new).makes attempts.now
+            ((words self.new store.new).bound binding.now)) b
             ≡ eval_on (words self.new store.new).rules (suc k) ((words self.new store.new).tree t.0) b) }
         ensures ends { (k b : ℕ) → IfErr result (IsEnd (eval_on (words self.new store.new).rules (suc k)
             ((words self.new store.new).makes attempts.now ((words self.new store.new).bound binding.now)) b)) }
         ensures is { IfOk result (λ t. (words self.new store.new).tree t.0
-            ≡ norm (words self.new store.new).rules.program.sign.theory ((words self.new store.new).makes attempts.now ((words self.new store.new).bound binding.now))) }
+            ≡ norm (words self.new store.new).rules.program.sign.theory
+            ((words self.new store.new).makes attempts.now ((words self.new store.new).bound binding.now))) }
         ensures known { IfOk result (λ t. (words self.new store.new).knows_term t.0) }
         ensures kind { IfOk result (λ t. kind_of (words self.new store.new) t.0 ≡ kind_of (words self.new store.new) term.0) }
         ensures grows { grows self.old store.old self.new store.new };
@@ -153,7 +198,8 @@ pub trait World {
         requires solution { IsSolution (words self.old store.old) condition binding.now }
         requires after { (words self.old store.old).knows_term after.0 }
         requires is { (words self.old store.old).tree after.0
-            ≡ norm (words self.old store.old).rules.program.sign.theory ((words self.old store.old).makes attempts.now ((words self.old store.old).bound binding.now)) }
+            ≡ norm (words self.old store.old).rules.program.sign.theory
+            ((words self.old store.old).makes attempts.now ((words self.old store.old).bound binding.now)) }
         ensures used { IfOk result (λ x. IsUse (words self.new store.new).rules.written (words self.new store.new).rules.hooks
             (HasEntry (words self.new store.new).rules.written.sig store.new (table self.new))
             ((words self.new store.new).rules.fragments condition) ((words self.new store.new).bound binding.now)
@@ -178,12 +224,14 @@ pub trait World {
         requires side { HasSide (words self.old store.old).rules condition at right }
         requires binding { (words self.old store.old).knows_binding condition at binding.now }
         ensures value { (k b : ℕ) → IfOk result (λ t.
-            eval_on (words self.new store.new).rules (suc k) (side_of (words self.new store.new).rules condition at right ((words self.new store.new).bound binding.now)) b
+            eval_on (words self.new store.new).rules (suc k) (side_of (words self.new store.new).rules condition at right
+            ((words self.new store.new).bound binding.now)) b
             ≡ eval_on (words self.new store.new).rules (suc k) ((words self.new store.new).tree t.0) b) }
         ensures ends { (k b : ℕ) → IfErr result (IsEnd (eval_on (words self.new store.new).rules (suc k)
             (side_of (words self.new store.new).rules condition at right ((words self.new store.new).bound binding.now)) b)) }
         ensures is { IfOk result (λ t. (words self.new store.new).tree t.0
-            ≡ norm (words self.new store.new).rules.program.sign.theory (side_of (words self.new store.new).rules condition at right ((words self.new store.new).bound binding.now))) }
+            ≡ norm (words self.new store.new).rules.program.sign.theory
+            (side_of (words self.new store.new).rules condition at right ((words self.new store.new).bound binding.now))) }
         ensures known { IfOk result (λ t. (words self.new store.new).knows_term t.0) }
         ensures grows { grows self.old store.old self.new store.new };
 
@@ -223,7 +271,8 @@ pub trait World {
         requires asks { Asks (words self.old store.old).rules condition at Goal.Matching }
         requires binding { (words self.old store.old).knows_binding condition at binding }
         requires value { (words self.old store.old).knows_value value.0 }
-        ensures value { IfOk result (IsUnchosen (words self.new store.new) condition at ((words self.new store.new).bound binding) ((words self.new store.new).tree value.0)) }
+        ensures value { IfOk result (IsUnchosen (words self.new store.new) condition at ((words self.new store.new).bound binding)
+            ((words self.new store.new).tree value.0)) }
         ensures known { IfOk result ((words self.new store.new).knows_choices condition at) }
         ensures begun { IfOk result (λ c. ((words self.new store.new).chosen_from c ≡ (words self.new store.new).bound binding)
             × ((words self.new store.new).chosen_value c ≡ (words self.new store.new).tree value.0)) }
@@ -239,15 +288,18 @@ pub trait World {
     ) -> Result<Option<Self::Binding>, NoMemory>
         requires ready { ready self.old store.old }
         requires choices { (words self.old store.old).knows_choices condition at choices.old }
-        ensures none { (k b : ℕ) → IfOk result (λ o. IfNone o ((words self.new store.new).unchosen choices.old k condition at b ≡ done None 0 b)) }
+        ensures none { (k b : ℕ) → IfOk result (λ o. IfNone o ((words self.new store.new).unchosen choices.old k condition at b
+            ≡ done None 0 b)) }
         ensures some { (k b : ℕ) → IfOk result (λ o. IfSome o (λ σ. (words self.new store.new).unchosen choices.old k condition at b
             ≡ or_go_on ((words self.new store.new).unchosen choices.new k condition at)
             (solve_on (words self.new store.new).rules k condition (suc at) ((words self.new store.new).bound σ) b))) }
         ensures known { IfOk result (λ o. IfSome o (λ σ. (words self.new store.new).knows_choices condition at choices.new
             × (words self.new store.new).knows_binding condition (suc at) σ)) }
-        ensures begun { IfOk result (λ o. IfSome o (λ σ. ((words self.new store.new).chosen_from choices.new ≡ (words self.new store.new).chosen_from choices.old)
+        ensures begun { IfOk result (λ o. IfSome o (λ σ. ((words self.new store.new).chosen_from choices.new
+            ≡ (words self.new store.new).chosen_from choices.old)
             × ((words self.new store.new).chosen_value choices.new ≡ (words self.new store.new).chosen_value choices.old))) }
-        ensures solves { IfOk result (λ o. IfSome o (λ σ. IsChoiceOf (words self.new store.new) condition at choices.old ((words self.new store.new).bound σ))) }
+        ensures solves { IfOk result (λ o. IfSome o (λ σ. IsChoiceOf (words self.new store.new) condition at choices.old
+            ((words self.new store.new).bound σ))) }
         ensures grows { grows self.old store.old self.new store.new };
 
     // ---- laws
@@ -263,11 +315,14 @@ pub trait World {
     ghost settled: { (s : Self) (nodes : List Node) (t : ℕ) → (words s nodes).knows_value t → (words s nodes).knows_term t };
 
     /// An operator may be built over terms of which one was replaced by a term of its kind.
-    ghost puts: { (s : Self) (nodes : List Node) (f : ℕ) (ts : List TermId) (i : ℕ) (t v : TermId) → (words s nodes).knows_operands f ts → slice_get ts i ≡ Some t
-        → (words s nodes).knows_term v.0 → kind_of (words s nodes) v.0 ≡ kind_of (words s nodes) t.0 → (words s nodes).knows_operands f (slice_set ts i v) };
+    ghost puts: { (s : Self) (nodes : List Node) (f : ℕ) (ts : List TermId) (i : ℕ) (t v : TermId) → (words s nodes).knows_operands f ts
+        → slice_get ts i ≡ Some t
+        → (words s nodes).knows_term v.0 → kind_of (words s nodes) v.0 ≡ kind_of (words s nodes) t.0 → (words s nodes).knows_operands f
+        (slice_set ts i v) };
 
     /// The terms over which an operator may be built are known.
-    ghost holds: { (s : Self) (nodes : List Node) (f : ℕ) (ts : List TermId) (i : ℕ) (t : TermId) → (words s nodes).knows_operands f ts → slice_get ts i ≡ Some t
+    ghost holds: { (s : Self) (nodes : List Node) (f : ℕ) (ts : List TermId) (i : ℕ) (t : TermId) → (words s nodes).knows_operands f ts
+        → slice_get ts i ≡ Some t
         → (words s nodes).knows_term t.0 };
 
     /// A binding for an equality or a test of sorts is one for the fragments behind it.
@@ -275,7 +330,8 @@ pub trait World {
         → PassesOn (words s nodes).rules e i → (words s nodes).knows_binding e (suc i) σ };
 
     /// A side that is evaluated has the values of its variables: it stays the same whatever else is bound.
-    ghost has_values: { (s : Self) (nodes : List Node) (e i : ℕ) (right : Bool) (σ : Self.Binding) (τ : Binding) → (words s nodes).knows_binding e i σ
+    ghost has_values: { (s : Self) (nodes : List Node) (e i : ℕ) (right : Bool) (σ : Self.Binding) (τ : Binding)
+        → (words s nodes).knows_binding e i σ
         → HasSide (words s nodes).rules e i right → IsExtension ((words s nodes).bound σ) τ
         → side_of (words s nodes).rules e i right τ ≡ side_of (words s nodes).rules e i right ((words s nodes).bound σ) };
 
