@@ -67,7 +67,7 @@ module _ (p : Program) (hooks : List Operator) (lawful : IsLawful (terms_over p.
     means (equal_onward h k) = EqualModulo-trans (means h) (means k)
     means (equal_under f ts us b c h) = under_operator p.sig lawful f ts us b c (equal_norms p.sig lawful ts us ((terms_over p.sig).arguments f) b.1.2 c.1.2 (all_mean h))
     means (by_axiom x b c) = one_step b (left_to_right x) (same_term c)
-    means (by_equation n e g at h k b c) = absurd (not_there p.equations n e none.equations at)
+    means (by_equation n e g at h b c) = absurd (not_there p.equations n e none.equations at)
     means (by_built_in f ts w a o e b c) = absurd (no_answer f ts a e)
     means (variable_has i r b) = tt
     means (numeral_has n r b is) = tt
@@ -75,10 +75,10 @@ module _ (p : Program) (hooks : List Operator) (lawful : IsLawful (terms_over p.
     means (kind_has b) = tt
     means (above_has h low) = tt
     means (equal_has h k) = tt
-    means (by_membership n m g at h k b) = tt
+    means (by_membership n m g at h b) = tt
     means (stays b) = same_term b
     means (rewrites_under f ts us b c h) = under_operator p.sig lawful f ts us b c (rewritten_norms p.sig lawful ts us ((terms_over p.sig).arguments f) b.1.2 c.1.2 (all_mean h))
-    means (by_rule n q g at h k b c) = absurd (not_there p.rules n q none.rules at)
+    means (by_rule n q g at h b c) = absurd (not_there p.rules n q none.rules at)
     means (rewrites_onward h k) = EqualModulo-trans (means h) (means k)
     means (rewrites_equal h k l) = EqualModulo-trans (means h) (EqualModulo-trans (means k) (means l))
 

@@ -95,7 +95,8 @@ LeadsBy p hooks true t u = Holds p hooks (rewrites (reading (theory_at p.sig) t)
 -- what a derivable fact leads to
 abbrev pub LedIsSo : Type 0
 LedIsSo =
-    (p : Program) → IsBuiltAndAccepted p.sig → IsLawful (terms_over p.sig) → (hooks : List Operator) (rules : Bool) (t u : Tree) → IsLed p hooks rules t u → LeadsBy p hooks rules t u
+    (p : Program) → IsBuiltAndAccepted p.sig → IsLawful (terms_over p.sig) → (hooks : List Operator) (rules : Bool) (t u : Tree) →
+    IsLed p hooks rules t u → LeadsBy p hooks rules t u
 
 -- ---- deduction without statements
 
@@ -108,7 +109,8 @@ pub record HasNoStatements (p : Program) : Type 0 where
 -- then equal are just the terms that are equal modulo the axioms
 abbrev pub AxiomsAloneHold : Type 0
 AxiomsAloneHold =
-    (p : Program) (hooks : List Operator) → IsLawful (terms_over p.sig) → HasNoStatements p → (t u : Tree) → Holds p hooks (equals t u) ↔ EqualModulo (terms_over p.sig) t u
+    (p : Program) (hooks : List Operator) → IsLawful (terms_over p.sig) → HasNoStatements p → (t u : Tree) →
+    Holds p hooks (equals t u) ↔ EqualModulo (terms_over p.sig) t u
 
 -- ---- native operators
 
