@@ -71,7 +71,8 @@ use mau_terms::{NoMemory, OpId, TermId};
 /// the next one. Its clauses speak of the state after the call: there the handles that it was given are still known and stand for the
 /// same (`keeps`).
 pub trait World {
-    /// Candidates for an application at the top of a term that are not yet tried, and the one that was tried last.
+    /// Candidates for an application at the top of a term that are not yet tried, and the one that was tried last. A frame is as large as
+    /// the largest of what frames hold, so what is large here is boxed.
     type Attempts: Drop;
     /// Solutions of a fragment `p := u` that are not yet tried.
     type Choices: Drop;
