@@ -1,19 +1,17 @@
 -- What is left to try is the same in a later store.
-use Rattle.std.proofs.Common.{◌≡◌, ℕ, suc, List, [], ◌∷◌, Bool, Option, Some, None, IfSome, refl, sym, ap, ◌∙◌}
+use Rattle.std.proofs.Common.{◌≡◌, ℕ, suc, List, Bool, Option, Some, None, IfSome, refl, ap, ◌∙◌}
 use Rattle.std.specs.Option.{option_map}
 use Rattle.mau_terms.specs.Tree.{Tree}
 use Rattle.mau_terms.specs.declared.ids.TermId.{TermId}
-use Rattle.mau_poset.specs.Order.{Hierarchy}
-use Rattle.mau_store.specs.Node.{Node, Extends, IsOf}
-use Rattle.mau_store.specs.Trees.{tree_at, trees_at}
+use Rattle.mau_store.specs.Node.{Node, Extends}
+use Rattle.mau_store.specs.Trees.{trees_at}
 use Rattle.mau_store.specs.View.{numbers}
 use Rattle.mau_store.proofs.Growth.{extension_keeps_terms, trees_at-extends}
 use Rattle.mau_sorts.specs.Table.{Table, KeepsEntries, AreOver}
-use Rattle.mau_listing.specs.Asked.{Asked, CanGoOn}
+use Rattle.mau_listing.specs.Asked.{Asked}
 use Rattle.mau_listing.specs.declared.solution.Solution as Given
 use Rattle.mau_listing.proofs.Growth.{listings_go_on, last_of_store, AreOfStore}
 use Rattle.mau_program.specs.declared.program.Program as Typed
-use Rattle.mau_evaluation.specs.Run.{Run}
 use Rattle.mau_evaluation.specs.Program.{Program, value}
 use Rattle.mau_evaluation.specs.Listing.{Solution}
 use Rattle.mau_evaluation.specs.Evaluation.{levels, by_answer}

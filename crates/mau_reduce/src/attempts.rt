@@ -99,11 +99,24 @@ fn next_equation<L: Lister + Drop>(
     ensures kept { KeepsEntries table.old table.new }
     ensures extends { Extends store.old store.new }
 {
-    match next_found(store, program, table, order, term, &mut attempts.next, &mut attempts.tried)? {
+    match next_found(
+        store,
+        program,
+        table,
+        order,
+        term,
+        &mut attempts.next,
+        &mut attempts.tried,
+    )? {
         Some(found) => {
             let number = found.number;
             let left = &program.equations.items()[number].left;
-            let binding = bind(store.allocator(), &program.sig, left, &found.solution.values)?;
+            let binding = bind(
+                store.allocator(),
+                &program.sig,
+                left,
+                &found.solution.values,
+            )?;
             attempts.last = Some(found);
             Ok(Some((number, binding)))
         }
