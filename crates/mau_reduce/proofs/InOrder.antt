@@ -1,5 +1,5 @@
 -- The numbers of equations in the order in which they are tried.
-use Rattle.std.proofs.Common.{◌≡◌, ℕ, zero, suc, ◌+◌, ◌<◌, ◌≤◌, List, [], ◌∷◌, ◌++◌, Bool, true, false, ◌&&◌, not, if◌then◌else◌, All, map, drop, length, get_or, refl, sym, ap, ◌∙◌, subst, append_assoc, append-nil, arith, zero-add}
+use Rattle.std.proofs.Common.{◌≡◌, ℕ, zero, suc, ◌+◌, ◌<◌, ◌≤◌, List, [], ◌∷◌, ◌++◌, Bool, true, false, ◌&&◌, not, if◌then◌else◌, All, map, drop, length, get_or, refl, sym, ap, ◌∙◌, append_assoc, append-nil, arith, zero-add}
 use Rattle.std.proofs.Math.Seq.{drop-cons}
 use Rattle.std.proofs.lemmas.List.Elements.{All-append, All-cons}
 use Rattle.mau_evaluation.specs.Program.{Equation}
@@ -59,5 +59,6 @@ order_within es =
     mapped : (es : List Written.Equation) → length (map equation_of es) ≡ length es
     mapped [] = refl
     mapped (e ∷ es) = ap suc (mapped es)
+
     as_many : (es : List Written.Equation) → zero + length (map equation_of es) ≡ length es
     as_many es = zero-add (length (map equation_of es)) ∙ mapped es

@@ -33,3 +33,5 @@ pub mod Answering
 pub mod AttemptsLeft
 -- the order of equations
 pub mod InOrder
+-- later stores
+pub mod LaterStores

@@ -17,7 +17,7 @@ ghost use Rattle.mau_reduce.specs.Bindings.{bound_in, AreValues};
 ghost use Rattle.mau_reduce.specs.Ends.{IsEnd};
 ghost use Rattle.mau_reduce.specs.Tables.{IsPlainTable};
 ghost use Rattle.mau_reduce.specs.Trying.{solution_in, number_gives, left_by, order_of_all, IsTried, IsFound};
-ghost use Rattle.mau_reduce.specs.BuiltOperators.{IsBuiltAt};
+ghost use Rattle.mau_reduce.specs.BuiltOperators.{IsBuiltAt, IsThere};
 ghost use Rattle.mau_reduce.specs.Attempting.{untried_by, cond_at, makes_of};
 
 use crate::binding::bind;
@@ -55,6 +55,7 @@ pub fn begin_attempts<L: Lister, N: Natives>(
         (drop result.next (order_of_all (program_over program.now (N.operators natives.now)).equations)) b
         ≡ applied (program_over program.now (N.operators natives.now)) (levels (program_over program.now (N.operators natives.now)) B k) (levels (program_over program.now (N.operators natives.now)) B (suc k)).sorts (tree_at store.now term.0) b }
     ensures tried { IfSome result.tried (λ x. ⊥) }
+    ensures there { IsThere store.now result.given }
 {
     let given = given_at(store, &program.sig, natives, built_in, term);
     Attempts {
@@ -98,11 +99,24 @@ fn next_equation<L: Lister + Drop>(
     ensures kept { KeepsEntries table.old table.new }
     ensures extends { Extends store.old store.new }
 {
-    match next_found(store, program, table, order, term, &mut attempts.next, &mut attempts.tried)? {
+    match next_found(
+        store,
+        program,
+        table,
+        order,
+        term,
+        &mut attempts.next,
+        &mut attempts.tried,
+    )? {
         Some(found) => {
             let number = found.number;
             let left = &program.equations.items()[number].left;
-            let binding = bind(store.allocator(), &program.sig, left, &found.solution.values)?;
+            let binding = bind(
+                store.allocator(),
+                &program.sig,
+                left,
+                &found.solution.values,
+            )?;
             attempts.last = Some(found);
             Ok(Some((number, binding)))
         }
@@ -149,6 +163,7 @@ pub fn next_attempt<L: Lister + Drop>(
         (solve (program_over program.now hooks) (levels (program_over program.now hooks) B k) (cond_at (program_over program.now hooks) x.0) (bound_in store.new x.1) b)))) }
     ensures ends { (hooks : List Operator) (B k b : ℕ) → IfErr result (IsEnd (untried_by (program_over program.now hooks) B k store.old (tree_at store.old term.0) attempts.old.given
         (option_map (λ z. (z.number, L.given z.listing)) attempts.old.tried) (drop attempts.old.next order.now) b)) }
+    ensures given { attempts.new.given ≡ attempts.old.given }
     ensures values { IfOk result (λ o. IfSome o (λ x. AreValues program.now.sig store.new x.1)) }
     ensures tried { IfOk result (λ o. IfSome o (λ x. IfSome attempts.new.tried (λ y. IsTried L.with_context program.now store.new table.new term y.number (L.asked y.listing) (L.given y.listing) (L.is_for y.listing program.now.sig)))) }
     ensures plain { IsPlainTable program.now.sig store.new table.new }

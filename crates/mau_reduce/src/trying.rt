@@ -31,7 +31,7 @@ pub(crate) struct Tried<L> {
 
 /// A candidate: an equation, by its number, and a solution of its left side.
 #[derive(Drop)]
-pub(crate) struct Found {
+pub struct Found {
     pub number: usize,
     pub solution: Solution,
 }

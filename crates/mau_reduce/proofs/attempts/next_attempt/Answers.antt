@@ -1,4 +1,4 @@
-use Rattle.std.proofs.Common.{◌≡◌, Option, None, IfSome, IfNone, IsSome, slice_get, map, drop, sym, ap, ◌∙◌, subst}
+use Rattle.std.proofs.Common.{◌≡◌, None, IfSome, IfNone, IsSome, slice_get, map, drop, sym, ap, ◌∙◌, subst}
 use Rattle.std.specs.Option.{option_map}
 use Rattle.mau_terms.specs.Subst.{variables}
 use Rattle.mau_terms.specs.View.{tree_of, variable_of}
@@ -27,4 +27,3 @@ pub returns-in-Ok-None-clause-none : goal.returns-in-Ok-None-clause-none
 returns-in-Ok-None-clause-none g c = λ hooks B k b.
     ap (λ d. untried_by (program_over c.args.program.now hooks) B k c.args.store.now (tree_at c.args.store.now c.args.term.0) d (option_map (λ z. (z.number, g.L.Lister.given z.listing)) c.args.attempts.now.tried) (drop c.args.attempts.now.next c.args.order.now) b) c.in-Nothing.is
     ∙ subst (λ o. IfNone o (left_by (program_over c.args.program.now hooks) B k c.args.store.now (tree_at c.args.store.now c.args.term.0) (option_map (λ z. (z.number, g.L.Lister.given z.listing)) c.args.attempts.now.tried) (drop c.args.attempts.now.next c.args.order.now) b ≡ done None 0 b)) c.in-Ok-None.field-0-is (c.in-Ok-None.ensures.none hooks B k b)
-
