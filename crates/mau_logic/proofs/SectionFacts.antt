@@ -137,7 +137,7 @@ module _ (p : Program) (hooks : List Operator) (terms : List (Option Tree)) (bef
   declared_follows r ns None us e h = absurd h
   declared_follows r ns (Some t) None e h = absurd h.1.1
   declared_follows zero ns (Some t) (Some us) e h = absurd (let l = h.1.0.0 in omega arith)
-  declared_follows (suc r) ns (Some t) (Some us) e h = record { numbers = ns; uses = us; at = e; follows = declared t r h.0 (subst (λ q. HasSortBy p.sig us q t) (omega arith) h.1.1) }
+  declared_follows (suc r) ns (Some t) (Some us) e h = record { numbers = ns; uses = us; at = e; follows = declared t r h.0 (omega (arith, h.1.0.1)) (subst (λ q. HasSortBy p.sig us q t) (omega arith) h.1.1) }
 
   member_follows : (r n : ℕ) (ns : List ℕ) (x : Option Tree) (ws : Option (List Tree)) (us : Option (List Says)) (o : Option Membership) → all_numbered before ns ≡ us → numbered p.memberships n ≡ o →
       With x (λ t. IsBareWithin p.sig t × (IsSortNumber p.sig r × With ws (λ vs. All (IsBareWithin p.sig) vs × With us (λ us. With o (λ m. IsMember p.sig m (r - 1) t vs us))))) → FollowsFrom p hooks before (of_sort_if x r)
@@ -147,7 +147,7 @@ module _ (p : Program) (hooks : List Operator) (terms : List (Option Tree)) (bef
   member_follows r n ns (Some t) (Some vs) (Some us) None e d h = absurd h.1.1.1
   member_follows zero n ns (Some t) (Some vs) (Some us) (Some m) e d h = absurd (let l = h.1.0.0 in omega arith)
   member_follows (suc r) n ns (Some t) (Some vs) (Some us) (Some m) e d h =
-      record { numbers = ns; uses = us; at = e; follows = member n m t r vs d h.0 h.1.1.0 (subst (λ q. IsMember p.sig m q t vs us) (omega arith) h.1.1.1) }
+      record { numbers = ns; uses = us; at = e; follows = member n m t r vs d h.0 (omega (arith, h.1.0.1)) h.1.1.0 (subst (λ q. IsMember p.sig m q t vs us) (omega arith) h.1.1.1) }
 
   pub justified_follows : (f : Fact) → IsJustified p hooks terms before f → FollowsFrom p hooks before (said terms before f)
   justified_follows (Same t u axioms) h = same_follows (term_at terms t) (term_at terms u) h

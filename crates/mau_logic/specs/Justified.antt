@@ -118,7 +118,8 @@ pub record IsMember (s : SignatureOf) (m : Membership) (r : ℕ) (t : Tree) (vs 
 abbrev pub IsSortNumber : SignatureOf → ℕ → Type 0
 IsSortNumber s r = (1 ≤ r) × (r ≤ s.hierarchy.sorts)
 
--- the fact is justified, where terms are those of its section and before is what the facts before it say
+-- The fact is justified, where terms are those of its section and before is what the facts before it say. Which axioms a fact of the second format
+-- names is not asked.
 abbrev pub IsJustified : Program → List Operator → List (Option Tree) → List Says → Fact → Type 0
 IsJustified p hooks terms before (Same t u axioms) = WithTerm p.sig terms t λ x. WithTerm p.sig terms u λ y. EqualModulo (terms_over p.sig) x y
 IsJustified p hooks terms before (Step f) =
@@ -139,9 +140,13 @@ IsJustified p hooks terms before (SortMb f) =
 
 -- ---- sections
 
--- the first k facts are justified, each from those before it
+-- the first k of some facts are justified, each from those before it
+abbrev pub AreJustifiedOver : Program → List Operator → List (Option Tree) → List Fact → ℕ → Type 0
+AreJustifiedOver p hooks terms facts k = (i : ℕ) (f : Fact) → i < k → slice_get facts i ≡ Some f → IsJustified p hooks terms (all_said terms (take i facts)) f
+
+-- those of a section, over its terms
 abbrev pub AreJustified : Program → List Operator → Section → ℕ → Type 0
-AreJustified p hooks x k = (i : ℕ) (f : Fact) → i < k → slice_get x.facts i ≡ Some f → IsJustified p hooks (section_terms p x) (all_said (section_terms p x) (take i x.facts)) f
+AreJustified p hooks x k = AreJustifiedOver p hooks (section_terms p x) x.facts k
 
 -- all facts are
 abbrev pub IsJustifiedSection : Program → List Operator → Section → Type 0

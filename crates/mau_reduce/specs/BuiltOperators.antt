@@ -7,7 +7,7 @@ use Rattle.mau_terms.specs.declared.theory.Theory.{Theory}
 use Rattle.mau_formula.specs.Operator.{Operator, operator_named}
 use Rattle.mau_formula.specs.Expr.{value}
 use Rattle.mau_formula.specs.declared.formula.Gives.{Gives}
-use Rattle.mau_store.specs.Node.{Node}
+use Rattle.mau_store.specs.Node.{Node, IsOf}
 use Rattle.mau_store.specs.Trees.{tree_at}
 use Rattle.mau_evaluation.specs.Program.{Answer, no_value, value as gives_value, too_large, BuiltIn, on_numerals, choice, equality}
 use Rattle.mau_api.specs.BuiltIns.{answer_in, same_gives}
@@ -86,3 +86,11 @@ built_gives s hooks (numeral n) = no_value
 -- the built-in that is kept is that of the top of t
 abbrev pub IsBuiltAt : SignatureOf → List Operator → Tree → Kept.BuiltIn → Type 0
 IsBuiltAt s hooks t b = (f : ℕ) (ts : Trees) → t ≡ apply f ts → built_in_at s hooks f ≡ meaning_of hooks (name_at s f) b
+
+-- an argument is a term of the store
+abbrev pub IsThere : List Node → Given → Type 0
+IsThere nodes NoValue = Unit {0}
+IsThere nodes TooLarge = Unit {0}
+IsThere nodes (Argument i) = IsOf nodes i.0
+IsThere nodes (Whole l) = Unit {0}
+IsThere nodes (Before l) = Unit {0}

@@ -13,7 +13,7 @@ ghost use Rattle.mau_evaluation.specs.Listing.{same_tree};
 ghost use Rattle.mau_evaluation.specs.Evaluation.{native_on, native_by, before_rest};
 ghost use Rattle.mau_api.specs.Terms.{IsTerm};
 ghost use Rattle.mau_api.specs.BuiltIns.{answer_in, name_at};
-ghost use Rattle.mau_reduce.specs.BuiltOperators.{constant_tree, answer_of, number_answer, meaning_of, built_gives, HasNoArgument, IsBuiltAt};
+ghost use Rattle.mau_reduce.specs.BuiltOperators.{constant_tree, answer_of, number_answer, meaning_of, built_gives, HasNoArgument, IsThere, IsBuiltAt};
 
 use crate::{BuiltIn, Natives, Truths};
 use mau_formula::{Gives, HookAnswer};
@@ -61,7 +61,8 @@ fn is_constant(store: &Store, id: TermId, constant: Option<OpId>) -> bool
 fn branch(store: &Store, truths: Truths, ids: &[TermId]) -> Given
     requires there { AreOf store.now (numbers ids.now) }
     requires some { (k : ℕ) (d : TermId) → k < length ids.now → tree_at store.now (slice_index_or ids.now k d).0 ≡ apply 0 no_trees → ⊥ }
-    ensures { (h : Theory) (f : ℕ) (th : ℕ → Theory) (t : Tree) → native_on (choice (constant_tree truths.yes) (constant_tree truths.no)) h f (trees_at store.now (numbers ids.now)) ≡ answer_of store.now th t result }
+    ensures there { IsThere store.now result }
+    ensures value { (h : Theory) (f : ℕ) (th : ℕ → Theory) (t : Tree) → native_on (choice (constant_tree truths.yes) (constant_tree truths.no)) h f (trees_at store.now (numbers ids.now)) ≡ answer_of store.now th t result }
 {
     if ids.len() != 3 {
         return Given::Nothing;
@@ -79,7 +80,8 @@ fn branch(store: &Store, truths: Truths, ids: &[TermId]) -> Given
 fn same(store: &Store, truths: Truths, ids: &[TermId]) -> Given
     requires nodes { AreNodes store.now }
     requires there { AreOf store.now (numbers ids.now) }
-    ensures { (h : Theory) (f : ℕ) (th : ℕ → Theory) (t : Tree) → native_on (equality (constant_tree truths.yes) (constant_tree truths.no)) h f (trees_at store.now (numbers ids.now)) ≡ answer_of store.now th t result }
+    ensures there { IsThere store.now result }
+    ensures value { (h : Theory) (f : ℕ) (th : ℕ → Theory) (t : Tree) → native_on (equality (constant_tree truths.yes) (constant_tree truths.no)) h f (trees_at store.now (numbers ids.now)) ≡ answer_of store.now th t result }
 {
     if ids.len() != 2 {
         return Given::Nothing;
@@ -124,7 +126,8 @@ fn answer_as(gives: Gives, truths: Truths, answer: HookAnswer) -> Given
 
 /// The same before the others of a list, of which it took the first two.
 fn before_rest(given: Given) -> Given
-    ensures { (nodes : List Node) (h : Theory) (f : ℕ) (th : ℕ → Theory) (ts : Trees) → th f ≡ h → HasNoArgument given →
+    ensures there { (nodes : List Node) → HasNoArgument given → IsThere nodes result }
+    ensures value { (nodes : List Node) (h : Theory) (f : ℕ) (th : ℕ → Theory) (ts : Trees) → th f ≡ h → HasNoArgument given →
         answer_of nodes th (apply f ts) result ≡ before_rest h f (drop 2 (list_of ts)) (answer_of nodes th (apply f ts) given) }
 {
     match given {
@@ -179,7 +182,8 @@ fn native_given<N: Natives>(
 ) -> Given
     requires operator { IsOperator sig.now op.0 }
     requires there { AreOf store.now (numbers ids.now) }
-    ensures { native_by (meaning_of (N.operators natives.now) (name_at sig.now op.0) (BuiltIn.Native wanted truths)) (theory_at sig.now op.0) op.0 (trees_at store.now (numbers ids.now))
+    ensures there { IsThere store.now result }
+    ensures value { native_by (meaning_of (N.operators natives.now) (name_at sig.now op.0) (BuiltIn.Native wanted truths)) (theory_at sig.now op.0) op.0 (trees_at store.now (numbers ids.now))
         ≡ answer_of store.now (theory_at sig.now) (node op.0 (trees_at store.now (numbers ids.now))) result }
 {
     if ids.len() < 2 {
@@ -214,7 +218,8 @@ pub fn given_at<N: Natives>(
     requires lawful { IsLawful (terms_over sig.now) }
     requires term { IsTerm sig.now store.now term.0 }
     requires built_in { IsBuiltAt sig.now (N.operators natives.now) (tree_at store.now term.0) built_in }
-    ensures { built_gives sig.now (N.operators natives.now) (tree_at store.now term.0) ≡ answer_of store.now (theory_at sig.now) (tree_at store.now term.0) result }
+    ensures there { IsThere store.now result }
+    ensures value { built_gives sig.now (N.operators natives.now) (tree_at store.now term.0) ≡ answer_of store.now (theory_at sig.now) (tree_at store.now term.0) result }
 {
     let (op, ids) = match store.view(term) {
         NodeView::App(op, ids) => (op, ids),

@@ -1,6 +1,6 @@
 -- Under free operators normal forms and readings of instances are instances.
 use Rattle.std.proofs.Common.{◌≡◌, ℕ, List, ◌∷◌, Bool, true, false, ◌&&◌, not, Option, Some, None, is_some, if◌then◌else◌, map, refl, sym, ap, ap₂, ◌∙◌}
-use Rattle.std.proofs.lemmas.Bool.{and_parts}
+use Rattle.std.proofs.lemmas.Bool.{and_parts, not-true}
 use Rattle.mau_terms.specs.Tree.{Tree, variable, numeral, apply, Trees, no_trees, tree, node, list_of}
 use Rattle.mau_terms.specs.Norm.{made, build, norm, norms}
 use Rattle.mau_terms.specs.Reading.{nest, reading, readings}
@@ -15,26 +15,28 @@ use Rattle.mau_syntactic.specs.Free.{is_free, has_free_operators, have_free_oper
 
 -- ---- one operator
 
-is_false : (b : Bool) → not b ≡ true → b ≡ false
-is_false false e = refl
-is_false true e = cc
-
 is_none : (o : Option Identity) → not (is_some o) ≡ true → o ≡ None
 is_none None e = refl
 is_none (Some i) e = cc
 
 free_assoc : (h : Theory) → is_free h ≡ true → h.assoc ≡ false
-free_assoc h e = is_false h.assoc (and_parts (not h.assoc) (not h.comm && (not (is_some h.id) && not h.succ)) e).0
+free_assoc h e = not-true h.assoc (and_parts (not h.assoc) (not h.comm && (not (is_some h.id) && not h.succ)) e).0
 
-free_build : (h : Theory) (f : ℕ) (ts : List Tree) → is_free h ≡ true → build h f ts ≡ node f ts
+pub free_succ : (h : Theory) → is_free h ≡ true → h.succ ≡ false
+free_succ h e =
+    let a = and_parts (not h.assoc) (not h.comm && (not (is_some h.id) && not h.succ)) e in
+    let b = and_parts (not h.comm) (not (is_some h.id) && not h.succ) a.1 in
+    not-true h.succ (and_parts (not (is_some h.id)) (not h.succ) b.1).1
+
+pub free_build : (h : Theory) (f : ℕ) (ts : List Tree) → is_free h ≡ true → build h f ts ≡ node f ts
 free_build h f ts e =
     let a = and_parts (not h.assoc) (not h.comm && (not (is_some h.id) && not h.succ)) e in
     let b = and_parts (not h.comm) (not (is_some h.id) && not h.succ) a.1 in
     let c = and_parts (not (is_some h.id)) (not h.succ) b.1 in
-    ap (λ w. made w h.comm h.id h.succ f ts) (is_false h.assoc a.0)
-    ∙ ap (λ w. made false w h.id h.succ f ts) (is_false h.comm b.0)
+    ap (λ w. made w h.comm h.id h.succ f ts) (not-true h.assoc a.0)
+    ∙ ap (λ w. made false w h.id h.succ f ts) (not-true h.comm b.0)
     ∙ ap (λ w. made false false w h.succ f ts) (is_none h.id c.0)
-    ∙ ap (λ w. made false false None w f ts) (is_false h.succ c.1)
+    ∙ ap (λ w. made false false None w f ts) (not-true h.succ c.1)
     ∙ free_made f ts
 
 -- ---- instances

@@ -14,3 +14,9 @@ pub mod Below
 pub mod Frees
 -- the laws
 pub mod Solving
+-- terms built by their parts
+pub mod Running
+-- terms on a stack
+pub mod Filling
+-- instances built by parts
+pub mod Instances

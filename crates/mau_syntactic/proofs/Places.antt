@@ -123,7 +123,3 @@ pub added_new : (xs : List VarId) (v : VarId) → length (map variable_of xs) �
 added_new xs v h =
     map-append variable_of xs (v ∷ [])
     ∙ sym (ap (λ b. if b then map variable_of xs else map variable_of xs ++ variable_of v ∷ []) (is_new (map variable_of xs) (variable_of v) h))
-
-pub length_variables : (xs : List VarId) → length (map variable_of xs) ≡ length xs
-length_variables [] = refl
-length_variables (x ∷ xs) = ap suc (length_variables xs)

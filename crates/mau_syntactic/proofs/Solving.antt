@@ -1,5 +1,5 @@
 -- The laws: solutions are what matches.
-use Rattle.std.proofs.Common.{◌≡◌, ◌↔◌, ℕ, List, [], ◌∷◌, Bool, true, false, None, map, inl, inr, refl, sym, ap, ap₂, ◌∙◌, subst}
+use Rattle.std.proofs.Common.{◌≡◌, ◌↔◌, ℕ, List, [], ◌∷◌, Bool, true, false, None, map, inl, inr, refl, sym, ap, ◌∙◌, subst}
 use Rattle.std.specs.declared.cmp.Ordering.TheVariants.{Less}
 use Rattle.std.proofs.lemmas.Cmp.{tied_itself}
 use Rattle.mau_terms.specs.Tree.{Tree}
@@ -10,7 +10,6 @@ use Rattle.mau_terms.specs.Laws.{AreNorms}
 use Rattle.mau_terms.specs.Subst.{variables, with_values}
 use Rattle.mau_terms.specs.Solution.{Fits, FitsAt, FitsWithin, HaveSorts}
 use Rattle.mau_terms.specs.Finite.{IsIn}
-use Rattle.mau_terms.specs.declared.theory.Theory.{Theory}
 use Rattle.mau_terms.proofs.Law.{equal_norm}
 use Rattle.mau_terms.proofs.Solutions.{length-map}
 use Rattle.mau_signature.specs.Signature.{SignatureOf, theory_at, terms_over}
@@ -22,17 +21,13 @@ use Rattle.mau_listing.proofs.Answered.{solution_is_answer, answer_is_solution}
 use Rattle.mau_listing.proofs.Alone.{whole_is_part, part_is_whole}
 use Rattle.mau_evaluation.specs.Listing.{Solution, plain, compare, solutions, solutions_within, IsAscending}
 use Rattle.mau_evaluation.proofs.BareTerms.{norm-reading-is, norms-readings}
-use Rattle.mau_evaluation.proofs.Listed.{compare_total}
+use Rattle.mau_evaluation.proofs.Listed.{compare_total, norms_itself}
 use Rattle.mau_evaluation.proofs.Solved.{solutions_are_listed, solutions_within_are_listed}
 use Rattle.mau_syntactic.specs.Free.{has_free_operators}
 use Rattle.mau_syntactic.specs.Match.{IsMatch}
 use Rattle.mau_syntactic.specs.Laws.{MatchesAreSolutions, MatchesAreListed}
 use Rattle.mau_syntactic.proofs.Below.{values_normal, match_is_one}
 use Rattle.mau_syntactic.proofs.Frees.{norm-with_values, reading-with_values, no_assoc_top}
-
-norms_same : (th : ℕ → Theory) (vs : List Tree) → AreNorms th vs → map (norm th) vs ≡ vs
-norms_same th [] n = refl
-norms_same th (v ∷ vs) n = ap₂ (λ u us. u ∷ us) n.0 (norms_same th vs n.1)
 
 -- ---- solutions of a question
 
@@ -44,7 +39,7 @@ module _ (s : SignatureOf) (lawful : IsLawful (terms_over s)) (P : ℕ → Tree 
   answer_matches : (vs : List Tree) → IsAnswer s P q vs → IsMatch q.pattern q.subject vs
   answer_matches vs a = record {
     one_each = a.one_each;
-    whole = sym (norm-with_values (theory_at s) q.pattern vs free ∙ ap (with_values q.pattern) (norms_same (theory_at s) vs a.normal)) ∙ a.whole;
+    whole = sym (norm-with_values (theory_at s) q.pattern vs free ∙ ap (with_values q.pattern) (norms_itself (theory_at s) lawful.theories vs a.normal)) ∙ a.whole;
   }
 
   match_answers : (vs : List Tree) → IsMatch q.pattern q.subject vs → HaveSorts P (variables q.pattern) vs → AgreesWith q.pattern q.bound vs → IsAnswer s P q vs

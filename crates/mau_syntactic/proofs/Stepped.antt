@@ -65,7 +65,7 @@ variables_more xs [] i d h = absurd (omega arith)
 variables_more xs (b ∷ bs) zero d h = refl
 variables_more xs (b ∷ bs) (suc i) d h = variables_more (add_variables xs (tree_of b)) bs i d (omega arith)
 
-count-trees_of : (ts : List Tree) → count_trees (trees_of ts) ≡ length ts
+pub count-trees_of : (ts : List Tree) → count_trees (trees_of ts) ≡ length ts
 count-trees_of [] = refl
 count-trees_of (t ∷ ts) = ap suc (count-trees_of ts)
 

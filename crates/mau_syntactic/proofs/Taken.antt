@@ -107,7 +107,7 @@ module _ (n : ℕ) where
 
 -- ---- what the code does
 
-length_trees : (nodes : List Node) (ids : List TermId) → length (trees_at nodes (numbers ids)) ≡ length ids
+pub length_trees : (nodes : List Node) (ids : List TermId) → length (trees_at nodes (numbers ids)) ≡ length ids
 length_trees nodes [] = refl
 length_trees nodes (id ∷ ids) = ap suc (length_trees nodes ids)
 

@@ -1,6 +1,6 @@
 -- What the walk knows from step to step.
 use Rattle.std.proofs.Common.{◌≡◌, ◌↔◌, ℕ, suc, ◌+◌, ◌<◌, List, [], ◌∷◌, ◌++◌, Bool, true, false, Some, if◌then◌else◌, length, take, drop, get_or, slice_get, refl, sym, ap, ap₂, ◌∙◌, subst, append-nil, append_assoc, arith}
-use Rattle.std.proofs.lemmas.List.{length-append, get_or-take}
+use Rattle.std.proofs.lemmas.List.{length-append, get_or-take, nil_from_length}
 use Rattle.std.proofs.lemmas.Option.{slice_get-get_or, get_or_from_slice_get, slice_get_within}
 use Rattle.std.proofs.Math.Seq.{take-length, drop-cons}
 use Rattle.mau_terms.specs.Tree.{Tree, variable, numeral, apply, Trees, no_trees, tree, node, list_of, trees_of}
@@ -54,10 +54,6 @@ module _ (g : Variable → Tree) where
   count-instances : (ts : Trees) → length (list_of (instances g ts)) ≡ count_trees ts
   count-instances no_trees = refl
   count-instances (tree t ts) = ap suc (count-instances ts)
-
-no_more : (us : List Tree) → length us ≡ 0 → [] ≡ us
-no_more [] e = refl
-no_more (u ∷ us) e = cc
 
 -- a value comes for the first time, or stands at its place
 by_place : (seen : List Variable) (x : Variable) (vs ws : List Tree) (u : Tree) → length vs ≡ length seen → take (length vs) ws ≡ vs → u ≡ get_or ws (place_in seen x) u →
@@ -292,4 +288,4 @@ all_taken p t us vs left = by left.patterns left.steps left.complete left.as_man
     by (tree (apply f qs) ps) e c m same = cc
     by no_trees e c m same =
         let l : length vs ≡ length (variables p) = left.counted ∙ ap length c in
-        record { one_each = l; whole = (same vs l).1 (take-length vs, no_more us m) }
+        record { one_each = l; whole = (same vs l).1 (take-length vs, sym (nil_from_length us m)) }

@@ -27,14 +27,18 @@ ValuesAreBelow = (p t : Tree) (vs : List Tree) → IsMatch p t vs → All (λ v.
 -- values have the sorts of the variables and agree with those that they had beforehand; the contexts are empty
 abbrev pub MatchesAreSolutions : Type 0
 MatchesAreSolutions =
-    (c : Bool) (s : SignatureOf) → IsLawful (terms_over s) → (known : Known) (q : Question) → has_free_operators (theory_at s) q.pattern ≡ true →
-    norm (theory_at s) q.subject ≡ q.subject → IsBare (terms_over s) (reading (theory_at s) q.subject) → (x : Matcher) →
+    (c : Bool) (s : SignatureOf) → IsLawful (terms_over s) → (known : Known) (q : Question) →
+    has_free_operators (theory_at s) q.pattern ≡ true → norm (theory_at s) q.subject ≡ q.subject →
+    IsBare (terms_over s) (reading (theory_at s) q.subject) → (x : Matcher) →
     IsSolution c s (BySort s known) q x ↔
-    ((x.left ≡ []) × (x.right ≡ []) × IsMatch q.pattern q.subject x.values × HaveSorts (BySort s known) (variables q.pattern) x.values × AgreesWith q.pattern q.bound x.values)
+    ((x.left ≡ []) × (x.right ≡ []) × IsMatch q.pattern q.subject x.values ×
+    HaveSorts (BySort s known) (variables q.pattern) x.values × AgreesWith q.pattern q.bound x.values)
 
--- the computed lists of solutions of such a pattern p in a normal form t have what matches for their only entry, and none where nothing matches
+-- the computed lists of solutions of such a pattern p in a normal form t have what matches for their only entry, and none where nothing
+-- matches
 abbrev pub MatchesAreListed : Type 0
 MatchesAreListed =
-    (s : TermSignature) → IsLawful s → (p t : Tree) → has_free_operators s.theory p ≡ true → norm s.theory t ≡ t → IsBare s (reading s.theory t) →
+    (s : TermSignature) → IsLawful s → (p t : Tree) → has_free_operators s.theory p ≡ true → norm s.theory t ≡ t →
+    IsBare s (reading s.theory t) →
     ((vs : List Tree) → IsMatch p t vs → (solutions s p t ≡ plain vs ∷ []) × (solutions_within s p t ≡ plain vs ∷ [])) ×
     (((vs : List Tree) → ¬ IsMatch p t vs) → (solutions s p t ≡ []) × (solutions_within s p t ≡ []))

@@ -9,7 +9,7 @@ use crate::step::Step;
 use mau_terms::{Bare, NoMemory, VarId};
 
 /// The first place of a variable among these, or their number where it is not there.
-fn place_of(variables: &[VarId], variable: VarId) -> usize
+pub(crate) fn place_of(variables: &[VarId], variable: VarId) -> usize
     ensures { result ≡ place_in (map variable_of variables.now) (variable_of variable) }
 {
     for (place, other) in variables.iter().enumerate() {
@@ -23,7 +23,8 @@ fn place_of(variables: &[VarId], variable: VarId) -> usize
 /// The place of a variable, which is added if it is not there.
 fn add_variable(variables: &mut Vec<VarId>, variable: VarId) -> Result<usize, NoMemory>
     ensures place { IfOk result (λ place. place ≡ place_in (map variable_of variables.old.items) (variable_of variable)) }
-    ensures variables { OnOk result (map variable_of variables.new.items ≡ add_variables (map variable_of variables.old.items) (variable_tree variable.index variable.sort)) }
+    ensures variables { OnOk result (map variable_of variables.new.items
+        ≡ add_variables (map variable_of variables.old.items) (variable_tree variable.index variable.sort)) }
 {
     let place = place_of(variables, variable);
     if place < variables.len() {
@@ -41,7 +42,8 @@ pub(crate) fn add_term(
     term: &Bare,
 ) -> Result<(), NoMemory>
     ensures steps { OnOk result (steps.new.items ≡ steps.old.items ++ steps_of (map variable_of variables.old.items) (tree_of term.now)) }
-    ensures variables { OnOk result (map variable_of variables.new.items ≡ add_variables (map variable_of variables.old.items) (tree_of term.now)) }
+    ensures variables { OnOk result (map variable_of variables.new.items
+        ≡ add_variables (map variable_of variables.old.items) (tree_of term.now)) }
 {
     match term {
         Bare::Var(variable) => {
@@ -68,8 +70,10 @@ fn add_arguments(
     variables: &mut Vec<VarId>,
     terms: &[Bare],
 ) -> Result<(), NoMemory>
-    ensures steps { OnOk result (steps.new.items ≡ steps.old.items ++ all_steps_of (map variable_of variables.old.items) (trees_of (map tree_of terms.now))) }
-    ensures variables { OnOk result (map variable_of variables.new.items ≡ add_all_variables (map variable_of variables.old.items) (trees_of (map tree_of terms.now))) }
+    ensures steps { OnOk result (steps.new.items
+        ≡ steps.old.items ++ all_steps_of (map variable_of variables.old.items) (trees_of (map tree_of terms.now))) }
+    ensures variables { OnOk result (map variable_of variables.new.items
+        ≡ add_all_variables (map variable_of variables.old.items) (trees_of (map tree_of terms.now))) }
 {
     for term in terms {
         add_term(steps, variables, term)?;

@@ -10,7 +10,7 @@ use mau_signature::Signature;
 use mau_terms::{Bare, Theory};
 
 /// Whether an operator with these axioms has none.
-fn is_free(theory: &Theory) -> bool
+pub(crate) fn is_free(theory: &Theory) -> bool
     ensures { result ≡ is_free theory.now }
 {
     !theory.assoc && !theory.comm && theory.id.is_none() && !theory.succ

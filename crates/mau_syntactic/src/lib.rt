@@ -5,7 +5,10 @@
 mod compile;
 mod free;
 pub mod laws;
+mod part;
 mod pattern;
 mod step;
+mod template;
 
 pub use pattern::Pattern;
+pub use template::Template;

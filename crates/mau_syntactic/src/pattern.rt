@@ -89,10 +89,12 @@ impl Pattern {
         stack: &mut Vec<TermId>,
     ) -> Result<bool, NoMemory>
         requires { IsOf store.now subject.0 }
-        ensures found { IfOk result (λ found. found ≡ true → IsMatch self.now (tree_at store.now subject.0) (trees_at store.now (numbers values.new.items))) }
+        ensures found { IfOk result (λ found. found ≡ true →
+            IsMatch self.now (tree_at store.now subject.0) (trees_at store.now (numbers values.new.items))) }
         ensures missed { IfOk result (λ found. found ≡ false → (vs : List Tree) → ¬ IsMatch self.now (tree_at store.now subject.0) vs) }
         ensures there { OnOk result (AreOf store.now (numbers values.new.items)) }
-        ensures within { IfOk result (λ found. found ≡ true → (th : ℕ → Theory) → AreLawful th → StandsWithin th store.now subject.0 → StandWithin th store.now (numbers values.new.items)) }
+        ensures within { IfOk result (λ found. found ≡ true → (th : ℕ → Theory) → AreLawful th →
+            StandsWithin th store.now subject.0 → StandWithin th store.now (numbers values.new.items)) }
     {
         values.clear();
         stack.clear();
