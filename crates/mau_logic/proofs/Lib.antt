@@ -8,3 +8,12 @@ pub mod Fitted
 pub mod Rebuilt
 pub mod BuiltSteps
 pub mod Examples
+pub mod BuiltAnswers
+pub mod LedRuns
+pub mod Congruence
+pub mod SortsHold
+pub mod SectionFacts
+pub mod Sound
+pub mod Literals
+pub mod ConditionalExamples
+pub mod Written

@@ -2,7 +2,7 @@
 use Rattle.std.proofs.Common.{◌≡◌, ℕ, zero, suc, List, [], ◌∷◌, ◌++◌, length, map, Bool, true, false, ◌&&◌, Option, Some, refl, sym, ap, ◌∙◌, subst, arith}
 use Rattle.std.specs.Prelude.{All, Contains, slice_get}
 use Rattle.std.specs.List.{slice_set}
-use Rattle.std.proofs.lemmas.List.Elements.{Contains-append_left, Contains-append_right}
+use Rattle.std.proofs.lemmas.List.Elements.{All-head, All-tail, Contains-append_left, Contains-append_right}
 use Rattle.mau_terms.specs.Tree.{Tree, apply, trees_of}
 use Rattle.mau_terms.specs.Norm.{norm, build}
 use Rattle.mau_terms.specs.Reading.{reading}
@@ -24,6 +24,7 @@ use Rattle.mau_logic.specs.Says.{Says, leads, all_equational}
 use Rattle.mau_logic.specs.Shown.{HasSortBy, LeadsTo, Shows, ShowsAll}
 use Rattle.mau_logic.specs.Justified.{With, Uses, Lead}
 use Rattle.mau_logic.specs.Derivable.{same, by_equation, by_rule, under, chain, derives, AreDerivable, no_facts, one_fact, IsSorted, IsLed}
+use Rattle.mau_logic.specs.WellFormed.{AreOfOneKind, AreBareFragments}
 use Rattle.mau_logic.specs.Replaced.{ReplaceNormal}
 use Rattle.mau_logic.proofs.MoreSorts.{more_sorts}
 
@@ -89,18 +90,6 @@ module _ (p : Program) (hooks : List Operator) where
   first_of : (x : Says) (xs : List Says) → Contains (x ∷ xs) x
   first_of x xs = (0, omega arith, refl)
 
--- both are bare terms of one kind
-abbrev pub AreOfOneKind : SignatureOf → Tree → Tree → Type 0
-AreOfOneKind s t u = (k : ℕ) × IsBareIn (terms_over s) t k × IsBareIn (terms_over s) u k
-
--- the terms of some fragments are bare
-abbrev pub AreBareFragments : SignatureOf → List Fragment → Type 0
-AreBareFragments s [] = Unit {0}
-AreBareFragments s (Equal t u ∷ cs) = IsBare (terms_over s) (tree_of t) × IsBare (terms_over s) (tree_of u) × AreBareFragments s cs
-AreBareFragments s (Match q u ∷ cs) = IsBare (terms_over s) (tree_of q) × IsBare (terms_over s) (tree_of u) × AreBareFragments s cs
-AreBareFragments s (Sort t r ∷ cs) = IsBare (terms_over s) (tree_of t) × AreBareFragments s cs
-AreBareFragments s (Reach t u ∷ cs) = IsBare (terms_over s) (tree_of t) × IsBare (terms_over s) (tree_of u) × AreBareFragments s cs
-
 -- an instance by the readings of normal forms is equal to the reading of the instance by these
 abbrev pub AreReadings : SignatureOf → (Variable → Tree) → (Variable → Tree) → Type 0
 AreReadings s g h = (t a : Tree) → IsBare (terms_over s) t → norm (theory_at s) (instance g t) ≡ a → IsNormalTerm s a →
@@ -117,7 +106,7 @@ pub record IsFit (p : Program) (xs : List Variable) (left right : Tree) (x : Ste
 
 module _ (p : Program) (hooks : List Operator) (P : ℕ → Tree → Type 0)
     -- the entries of the table are shown by facts of memberships
-    (sorted : (r : ℕ) (t : Tree) → P r t → IsSorted p hooks r t)
+    (sorted : (r : ℕ) (t : Tree) → IsNormalTerm p.sig t → P r t → IsSorted p hooks r t)
     -- a rebuilt term
     (arguments : (f : ℕ) (ts : List Tree) → IsNormalTerm p.sig (apply f (trees_of ts)) → Pairwise (λ t u. IsNormalTerm p.sig t) ts ts)
     (rebuilt : (r : Bool) (f : ℕ) (ts us : List Tree) → IsNormalTerm p.sig (apply f (trees_of ts)) → IsNormalTerm p.sig (build (theory_at p.sig f) f us) → Pairwise (IsLed p hooks r) ts us →
@@ -161,12 +150,12 @@ module _ (p : Program) (hooks : List Operator) (P : ℕ → Tree → Type 0)
     sorts_more us ws (x ∷ xs) [] i h = h
     sorts_more us ws (x ∷ xs) (v ∷ vs) i h = (more_sorts p.sig us ws x.1 v i h.0, sorts_more us ws xs vs i h.1)
 
-    values_sorted : (xs : List Variable) (vs : List Tree) → HaveSorts P xs vs → AreSorted xs vs
-    values_sorted [] vs h = record { uses = []; derivable = no_facts; sorts = tt }
-    values_sorted (x ∷ xs) [] h = absurd h
-    values_sorted (x ∷ xs) (v ∷ vs) h =
-        let a = sorted x.1 v h.0 in
-        let b = values_sorted xs vs h.1 in
+    values_sorted : (xs : List Variable) (vs : List Tree) → All (IsNormalTerm p.sig) vs → HaveSorts P xs vs → AreSorted xs vs
+    values_sorted [] vs n h = record { uses = []; derivable = no_facts; sorts = tt }
+    values_sorted (x ∷ xs) [] n h = absurd h
+    values_sorted (x ∷ xs) (v ∷ vs) n h =
+        let a = sorted x.1 v (All-head (IsNormalTerm p.sig) v vs n) h.0 in
+        let b = values_sorted xs vs (All-tail (IsNormalTerm p.sig) v vs n) h.1 in
         record {
           uses = a.uses ++ b.uses;
           derivable = join p hooks a.uses b.uses a.derivable b.derivable;
@@ -281,7 +270,7 @@ module _ (p : Program) (hooks : List Operator) (P : ℕ → Tree → Type 0)
     step_facts : (xs : List Variable) (left right : Tree) (cond : List Fragment) (x : StepOf) (t u : Tree) → AreOfOneKind p.sig left right → IsNormalTerm p.sig t → IsInstance p.sig P xs left right x → LeadsOver p.sig x t u → ((h : Variable → Tree) → AreReadings p.sig (value_at xs x.values) h → AreShown h cond)
         → StepFacts xs left right cond x t u
     step_facts xs left right cond x t u w n i o shown =
-        let a = values_sorted xs x.values i.sorted in
+        let a = values_sorted xs x.values o.values i.sorted in
         let k = fit xs left right x t u w n i o in
         let c = shown (value_at xs (map (reading (theory_at p.sig)) x.values)) k.instances in
         record {
@@ -383,7 +372,7 @@ module _ (p : Program) (hooks : List Operator) (P : ℕ → Tree → Type 0)
           }
       condition_shown _ i reads w m (shows_sort {cs = cs} {xs = xs} {zs = zs} t r {a = a0} {v = v} ea na a h c) =
           let f = run_led xs na (before_normal p.sig xs (leaves v ∷ zs) m) a in
-          let s = sorted r v h in
+          let s = sorted r v f.to h in
           let rest = condition_shown zs i reads w.1 (behind_normal p.sig xs (leaves v ∷ zs) m) c in
           let x = leads f.by_equations (reading (theory_at p.sig) a0) (reading (theory_at p.sig) v) in
           record {

@@ -18,9 +18,9 @@ ghost use Rattle.mau_match.specs.Walked.{IsPartWithin, IsSpanWithin, AreGivenWit
 
 use crate::arguments::spans_in;
 use crate::choices::push_alone;
-use crate::known::{build_known, push_all_known};
-use crate::lists::{copy_of, remove_all};
-use crate::steps::are_too_few;
+use crate::known::build_known;
+use crate::lists::copy_of;
+use crate::steps::{are_too_few, without_known};
 use crate::variables::is_bound;
 use crate::{Given, Span};
 use mau_canon::BuildFault;
@@ -376,36 +376,6 @@ fn may_be_within(
         Err(BuildFault::NoMemory) => Err(NoMemory),
         Err(BuildFault::TooDeep) => Ok(true),
         Err(BuildFault::Overflow) => Ok(true),
-    }
-}
-
-/// Some items without those that the lists of some patterns have for sure, if these are among them.
-fn without_known(
-    store: &mut Store,
-    sig: &Signature,
-    given: &Given,
-    op: OpId,
-    patterns: &[Bare],
-    items: &[TermId],
-) -> Result<Option<Vec<TermId>>, BuildFault>
-    requires operator { IsOperator sig.now op.0 }
-    requires bare { All (λ p. IsBare (terms_over sig.now) (tree_of p)) patterns.now }
-    requires values { AreGivenWithin sig.now store.old given.now }
-    requires items { StandWithin (theory_at sig.now) store.old (numbers items.now) }
-    ensures some { IfOk result (λ o. IfSome o (λ left. without_all (known_in (theory_at sig.now) (bound_of given.now) (values_of store.old given.now) (target_of given.now) op.0 (trees_of (map tree_of patterns.now)))
-        (trees_at store.old (numbers items.now)) ≡ Some (trees_at store.new (numbers left.items)))) }
-    ensures none { IfOk result (λ o. IfNone o (without_all (known_in (theory_at sig.now) (bound_of given.now) (values_of store.old given.now) (target_of given.now) op.0 (trees_of (map tree_of patterns.now)))
-        (trees_at store.old (numbers items.now)) ≡ None)) }
-    ensures within { IfOk result (λ o. IfSome o (λ left. StandWithin (theory_at sig.now) store.new (numbers left.items))) }
-    ensures extends { Extends store.old store.new }
-{
-    let mut left = copy_of(store.allocator(), items)?;
-    let mut known = Vec::new(store.allocator());
-    push_all_known(store, sig, given, op, patterns, &mut known)?;
-    if remove_all(store, &mut left, &known) {
-        Ok(Some(left))
-    } else {
-        Ok(None)
     }
 }
 

@@ -1,0 +1,21 @@
+//! Evaluation over a store: what an evaluation's loop asks of terms and programs.
+#![tactic(auto)]
+
+mod arguments;
+mod binding;
+mod built_in;
+mod given;
+mod natives;
+mod rebuilding;
+mod replacing;
+mod settling;
+mod trying;
+
+pub use arguments::{Opened, open, order_of};
+pub use binding::Binding;
+pub use built_in::{BuiltIn, Truths, built_in_of};
+pub use given::{Given, Leaf};
+pub use natives::{Answered, Hooks, Natives};
+pub use rebuilding::{Rebuilt, rebuild};
+pub use replacing::{instance, replace};
+pub use settling::{settle, settle_identities};
