@@ -32,7 +32,8 @@ use Rattle.mau_program.specs.declared.program.Program.{Program}
 use Rattle.mau_api.specs.BuiltIns.{constant_in, true_in, false_in, result_kind, answer_in, IsBuiltIn, is_branch, is_same, is_differ, is_native, built_in_at}
 use Rattle.mau_api.specs.Terms.{IsNormalTerm}
 use Rattle.mau_api.proofs.BuiltIns.{built_ins_are_named}
-use Rattle.mau_logic.specs.BuiltKinds.{GivesNumerals, HasTruthIn, HasAnswersIn, IsDeclaredAsBuilt, AreDeclaredAsBuilt}
+use Rattle.mau_logic.specs.NativeNumerals.{GivesNumerals}
+use Rattle.mau_logic.proofs.WellFormed.{HasTruthIn, HasAnswersIn, IsDeclaredAsBuilt, AreDeclaredAsBuilt}
 use Rattle.mau_logic.proofs.NormalTerms.{read_bare, normal_of, read_norm}
 use Rattle.mau_logic.proofs.Rebuilt.{reading_over, arguments_normal}
 use Rattle.mau_logic.proofs.BuiltSteps.{AnswersAreInKind}

@@ -19,7 +19,7 @@ use Rattle.mau_formula.specs.Operator.{Operator}
 use Rattle.mau_program.specs.declared.program.Program.{Program}
 use Rattle.mau_api.specs.Terms.{IsBareWithin, IsNormalTerm, filler, fill, IsContextFor}
 use Rattle.mau_api.specs.Told.{StepOf, IsInstance, LeadsOver}
-use Rattle.mau_logic.specs.WellFormed.{AreOfOneKind}
+use Rattle.mau_logic.proofs.WellFormed.{AreOfOneKind}
 use Rattle.mau_logic.specs.Derivable.{IsSorted}
 use Rattle.mau_logic.proofs.SortKinds.{is_kind}
 use Rattle.mau_logic.proofs.Instances.{instance_in, have_values, AreAll, fill_in, filler_norms, value_norms}

@@ -20,6 +20,7 @@ use Rattle.mau_logic.specs.Says.{Says, of_sort}
 use Rattle.mau_logic.specs.Shown.{known_by}
 use Rattle.mau_logic.specs.Derivable.{AreDerivable, no_facts, one_fact, IsSorted}
 use Rattle.mau_logic.specs.Laws.{RunsAreLed, IsTold, SortsAreShown}
+use Rattle.mau_logic.proofs.FromLawful.{well_formed}
 use Rattle.mau_logic.proofs.ToldRuns.{run_led}
 use Rattle.mau_logic.proofs.Fitted.{fit}
 use Rattle.mau_logic.proofs.Rebuilt.{arguments, rebuilt}
@@ -59,11 +60,11 @@ by_entries : (s : SignatureOf) (known : Known) (nodes : List Node) (table : Tabl
 by_entries s known nodes table entries r t h = subst (λ v. HasSort s known v r) h.tree (((entries h.number h.entry h.at).1.exact r).0 h.has)
 
 pub runs_are_led : RunsAreLed
-runs_are_led p formed hooks numerals known told nodes table entries rules t u es n replaced run =
-    run_led p hooks (HasEntry p.sig nodes table) sorted (arguments p hooks formed.signature) (rebuilt p hooks formed.signature)
-    (fit p hooks formed.accepted formed.signature formed.memberships (HasEntry p.sig nodes table) sorted)
-    (built p hooks formed.signature (answers_in_kind p hooks formed.signature formed.built_ins numerals))
-    formed.equations formed.rules (map (told_in nodes) es) n replaced run.leads
+runs_are_led p program lawful hooks numerals known told nodes table entries rules t u es n run =
+    run_led p hooks (HasEntry p.sig nodes table) sorted (arguments p hooks lawful) (rebuilt p hooks lawful)
+    (fit p hooks program.accepted lawful (well_formed p program lawful).memberships (HasEntry p.sig nodes table) sorted)
+    (built p hooks lawful (answers_in_kind p hooks lawful (well_formed p program lawful).built_ins numerals))
+    (well_formed p program lawful).equations (well_formed p program lawful).rules (map (told_in nodes) es) n run.leads
   where
     sorted : (r : ℕ) (v : Tree) → IsNormalTerm p.sig v → HasEntry p.sig nodes table r v → IsSorted p hooks r v
-    sorted r v m h = sorts_are_shown p formed.signature hooks known told r v m.normal (by_entries p.sig known nodes table entries r v h)
+    sorted r v m h = sorts_are_shown p lawful hooks known told r v m.normal (by_entries p.sig known nodes table entries r v h)

@@ -1,5 +1,5 @@
 -- What derivable facts say holds in rewriting logic.
-use Rattle.std.proofs.Common.{◌≡◌, ℕ, zero, suc, List, [], ◌∷◌, length, Bool, true, false, ◌&&◌, ◌||◌, Some, None, refl, sym, ap, ◌∙◌, subst, arith, if◌then◌else◌}
+use Rattle.std.proofs.Common.{◌≡◌, ℕ, zero, suc, List, [], ◌∷◌, ◌++◌, map, length, Bool, true, false, ◌&&◌, ◌||◌, Some, None, refl, sym, ap, ◌∙◌, subst, arith, if◌then◌else◌}
 use Rattle.std.specs.Prelude.{All, Contains, nat_lt}
 use Rattle.std.proofs.lemmas.List.Elements.{All-head, All-tail}
 use Rattle.mau_terms.specs.Tree.{Tree}
@@ -26,7 +26,7 @@ use Rattle.mau_logic.specs.Says.{Says, leads, of_sort, says_nothing, all_equatio
 use Rattle.mau_logic.specs.Shown.{known_by, HasSortBy, LeadsTo, Shows, ShowsAll}
 use Rattle.mau_logic.specs.Justified.{With, Lead, IsUnder, LeadOn, membership_variables}
 use Rattle.mau_logic.specs.Derivable.{Follows, same, by_equation as follows_equation, by_rule as follows_rule, by_built_in as follows_built_in, under, chain, declared, member, Derivable, derives, AreDerivable, no_facts, one_fact}
-use Rattle.mau_logic.specs.Deduction.{Sentence, equals, belongs, rewrites, well_sorted, condition_of, conditions_of, Holds, equal_itself, equal_back, equal_onward, equal_under, by_axiom, by_equation, by_built_in, variable_has, numeral_has, operator_has, kind_has, above_has, equal_has, by_membership, stays, rewrites_under, by_rule, rewrites_onward, rewrites_equal, AllHold, none_holds, one_holds}
+use Rattle.mau_logic.specs.Deduction.{Sentence, equals, belongs, rewrites, condition_of, premises, Holds, equal_itself, equal_back, equal_onward, equal_under, by_axiom, by_equation, by_built_in, variable_has, numeral_has, operator_has, kind_has, above_has, equal_has, by_membership, stays, rewrites_under, by_rule, rewrites_onward, rewrites_equal, AllHold, none_holds, one_holds}
 use Rattle.mau_logic.specs.Laws.{Each, IsDeduced, FactsHold, SectionsAreSound, LeadsBy, LedIsSo}
 use Rattle.mau_logic.proofs.MoreSorts.{told_by}
 use Rattle.mau_logic.proofs.NormalTerms.{read_bare}
@@ -49,7 +49,7 @@ module _ (p : Program) (hooks : List Operator) where
   bare_of (equal_onward h k) = ((bare_of h).0, (bare_of k).1)
   bare_of (equal_under f ts us b c h) = (b, c)
   bare_of (by_axiom x b c) = (b, c)
-  bare_of (by_equation n e g at h k b c) = (b, c)
+  bare_of (by_equation n e g at h b c) = (b, c)
   bare_of (by_built_in f ts w a e k b c) = (b, c)
   bare_of (variable_has i r b) = b
   bare_of (numeral_has n r b is) = b
@@ -57,10 +57,10 @@ module _ (p : Program) (hooks : List Operator) where
   bare_of (kind_has {k = k} b) = (k, b)
   bare_of (above_has h low) = bare_of h
   bare_of (equal_has h k) = (bare_of h).1
-  bare_of (by_membership n m g at h k b) = b
+  bare_of (by_membership n m g at h b) = b
   bare_of (stays b) = (b, b)
   bare_of (rewrites_under f ts us b c h) = (b, c)
-  bare_of (by_rule n q g at h k b c) = (b, c)
+  bare_of (by_rule n q g at h b c) = (b, c)
   bare_of (rewrites_onward h k) = ((bare_of h).0, (bare_of k).1)
   bare_of (rewrites_equal h k l) = ((bare_of h).0, (bare_of l).1)
 
@@ -197,7 +197,7 @@ module _ (p : Program) (hooks : List Operator) where
     values_belong us h (x ∷ xs) (v ∷ vs) w has =
         (sort_by us h v x.1 (All-head (IsBareWithin p.sig) v vs w).0 has.0, values_belong us h xs vs (All-tail (IsBareWithin p.sig) v vs w) has.1)
 
-    all_sorted : (g : Variable → Tree) (xs : List Variable) → ((x : Variable) → has_variable xs x ≡ true → Holds p hooks (belongs (g x) x.1)) → AllHold p hooks (well_sorted g xs)
+    all_sorted : (g : Variable → Tree) (xs : List Variable) → ((x : Variable) → has_variable xs x ≡ true → Holds p hooks (belongs (g x) x.1)) → AllHold p hooks (map (λ x. belongs (g x) x.1) xs)
     all_sorted g [] h = none_holds
     all_sorted g (x ∷ xs) h =
         one_holds (h x (ap (λ b. b || has_variable xs x) (same_itself x))) (all_sorted g xs (λ y e. h y (or_later (same_variable x y) (has_variable xs y) e)))
@@ -206,7 +206,7 @@ module _ (p : Program) (hooks : List Operator) where
         or_later true b e = refl
         or_later false b e = e
 
-    values_sorted : (us : List Says) → Each (IsDeduced p hooks) us → (xs : List Variable) (vs : List Tree) → All (IsBareWithin p.sig) vs → HaveSorts (HasSortBy p.sig us) xs vs → AllHold p hooks (well_sorted (value_at xs vs) xs)
+    values_sorted : (us : List Says) → Each (IsDeduced p hooks) us → (xs : List Variable) (vs : List Tree) → All (IsBareWithin p.sig) vs → HaveSorts (HasSortBy p.sig us) xs vs → AllHold p hooks (map (λ x. belongs (value_at xs vs x) x.1) xs)
     values_sorted us h xs vs w has = all_sorted (value_at xs vs) xs (λ x e. sort_holds (λ r v. Holds p hooks (belongs v r)) xs vs (values_belong us h xs vs w has) x e)
 
     fragment_holds : (us : List Says) → Each (IsDeduced p hooks) us → (g : Variable → Tree) (c : Fragment) → Shows p.sig us g c → Holds p hooks (condition_of g c)
@@ -217,9 +217,18 @@ module _ (p : Program) (hooks : List Operator) where
         equal_has (equal_back e) (sort_by us h v r (bare_of e).1 s)
     fragment_holds us h g (Reach t u) a = leads_rewrite us (instance g (tree_of t)) (instance g (tree_of u)) h a
 
-    condition_holds : (us : List Says) → Each (IsDeduced p hooks) us → (g : Variable → Tree) (cs : List Fragment) → ShowsAll p.sig us g cs → AllHold p hooks (conditions_of g cs)
+    condition_holds : (us : List Says) → Each (IsDeduced p hooks) us → (g : Variable → Tree) (cs : List Fragment) → ShowsAll p.sig us g cs → AllHold p hooks (map (condition_of g) cs)
     condition_holds us h g [] s = none_holds
     condition_holds us h g (c ∷ cs) s = one_holds (fragment_holds us h g c s.0) (condition_holds us h g cs s.1)
+
+    all_and : (xs ys : List Sentence) → AllHold p hooks xs → AllHold p hooks ys → AllHold p hooks (xs ++ ys)
+    all_and _ ys none_holds k = k
+    all_and _ ys (one_holds {xs = xs} h hs) k = one_holds h (all_and xs ys hs k)
+
+    premises_hold : (us : List Says) → Each (IsDeduced p hooks) us → (xs : List Variable) (vs : List Tree) (cs : List Fragment) → All (IsBareWithin p.sig) vs → HaveSorts (HasSortBy p.sig us) xs vs →
+        ShowsAll p.sig us (value_at xs vs) cs → AllHold p hooks (premises (value_at xs vs) xs cs)
+    premises_hold us h xs vs cs w has shown =
+        all_and (map (λ x. belongs (value_at xs vs x) x.1) xs) (map (condition_of (value_at xs vs)) cs) (values_sorted us h xs vs w has) (condition_holds us h (value_at xs vs) cs shown)
 
     -- ---- facts
 
@@ -231,7 +240,7 @@ module _ (p : Program) (hooks : List Operator) where
         let some = some_hole (tree_of e.left) c is.context in
         let left = last_bare is.from in
         let right = first_bare is.to in
-        let one = by_equation n e g at (values_sorted us h xs vs bvs is.sorted) (condition_holds us h g e.cond is.shown)
+        let one = by_equation n e g at (premises_hold us h xs vs e.cond bvs is.sorted is.shown)
         (part_bare (terms_over p.sig) (instance g (tree_of e.left)) c some left) (part_bare (terms_over p.sig) (instance g (tree_of e.right)) c some right) in
         equal_onward (modulo p hooks is.from) (equal_onward (under_equal c (instance g (tree_of e.left)) (instance g (tree_of e.right)) one left right) (modulo p hooks is.to))
     follows_holds us h _ (follows_rule n q c t u vs at bc bt bu bvs is) =
@@ -240,7 +249,7 @@ module _ (p : Program) (hooks : List Operator) where
         let some = some_hole (tree_of q.left) c is.context in
         let left = last_bare is.from in
         let right = first_bare is.to in
-        let one = by_rule n q g at (values_sorted us h xs vs bvs is.sorted) (condition_holds us h g q.cond is.shown)
+        let one = by_rule n q g at (premises_hold us h xs vs q.cond bvs is.sorted is.shown)
         (part_bare (terms_over p.sig) (instance g (tree_of q.left)) c some left) (part_bare (terms_over p.sig) (instance g (tree_of q.right)) c some right) in
         rewrites_equal (modulo p hooks is.from) (under_rewrite c (instance g (tree_of q.left)) (instance g (tree_of q.right)) one left right) (modulo p hooks is.to)
     follows_holds us h _ (follows_built_in f c t u ts bc bt bu bts is) =
@@ -257,7 +266,7 @@ module _ (p : Program) (hooks : List Operator) where
         let xs = membership_variables m in
         let g = value_at xs vs in
         above_has (equal_has (equal_back (modulo p hooks is.head))
-        (by_membership n m g at (values_sorted us h xs vs bvs is.sorted) (condition_holds us h g m.cond is.shown) (last_bare is.head))) is.sort
+        (by_membership n m g at (premises_hold us h xs vs m.cond bvs is.sorted is.shown) (last_bare is.head))) is.sort
 
     mutual
       fact_holds : {x : Says} → Derivable p hooks x → IsDeduced p hooks x

@@ -118,7 +118,8 @@ pub record IsMember (s : SignatureOf) (m : Membership) (r : ℕ) (t : Tree) (vs 
 abbrev pub IsSortNumber : SignatureOf → ℕ → Type 0
 IsSortNumber s r = (1 ≤ r) × (r ≤ s.hierarchy.sorts)
 
--- the fact is justified, where terms are those of its section and before is what the facts before it say
+-- The fact is justified, where terms are those of its section and before is what the facts before it say. Which axioms a fact of the second format
+-- names is not asked.
 abbrev pub IsJustified : Program → List Operator → List (Option Tree) → List Says → Fact → Type 0
 IsJustified p hooks terms before (Same t u axioms) = WithTerm p.sig terms t λ x. WithTerm p.sig terms u λ y. EqualModulo (terms_over p.sig) x y
 IsJustified p hooks terms before (Step f) =

@@ -1,9 +1,9 @@
 -- The laws of derivations. Each is proved: a public function of the module `laws` has it for its contract.
-use Rattle.std.specs.Prelude.{◌≡◌, ℕ, List, [], ◌∷◌, length, Bool, true, false, Option, Some, All, map}
+use Rattle.std.specs.Prelude.{◌≡◌, ◌↔◌, ℕ, List, [], ◌∷◌, length, Bool, true, false, Option, Some, None, All, map}
 use Rattle.mau_terms.specs.Tree.{Tree}
 use Rattle.mau_terms.specs.Norm.{norm}
 use Rattle.mau_terms.specs.Reading.{reading}
-use Rattle.mau_terms.specs.Bare.{IsLawful}
+use Rattle.mau_terms.specs.Bare.{IsLawful, EqualModulo}
 use Rattle.mau_signature.specs.Signature.{theory_at, terms_over}
 use Rattle.mau_sigcheck.specs.Built.{IsBuiltAndAccepted}
 use Rattle.mau_facts.specs.declared.document.Fact.{Fact}
@@ -14,20 +14,20 @@ use Rattle.mau_formula.specs.Operator.{Operator}
 use Rattle.mau_formula.specs.Native.{native_operator}
 use Rattle.mau_formula.specs.declared.native.Native.{Native}
 use Rattle.mau_program.specs.declared.program.Program.{Program}
+use Rattle.mau_program.specs.LawfulPrograms.{IsLawfulProgram}
+use Rattle.mau_api.specs.BuiltIns.{name_at}
 use Rattle.mau_api.specs.Terms.{IsNormalTerm}
 use Rattle.mau_store.specs.Node.{Node}
 use Rattle.mau_sorts.specs.Table.{Table, AreEntries}
 use Rattle.mau_api.specs.Events.{Event}
-use Rattle.mau_api.specs.Told.{told_in, IsToldRun}
+use Rattle.mau_api.specs.Told.{IsToldRun}
 use Rattle.mau_logic.specs.Lines.{section_terms}
 use Rattle.mau_logic.specs.Says.{Says, leads, of_sort, says_nothing, all_said}
 use Rattle.mau_logic.specs.Justified.{AreJustifiedOver, IsJustifiedSection}
 use Rattle.mau_logic.specs.Written.{named, HasTerms}
 use Rattle.mau_logic.specs.Derivable.{Derivable, IsSorted, IsLed}
 use Rattle.mau_logic.specs.Deduction.{equals, belongs, rewrites, Holds}
-use Rattle.mau_logic.specs.Replaced.{ReplaceNormal}
-use Rattle.mau_logic.specs.BuiltKinds.{GivesNumerals, HasNumerals}
-use Rattle.mau_logic.specs.WellFormed.{IsWellFormed}
+use Rattle.mau_logic.specs.NativeNumerals.{GivesNumerals, HasNumerals}
 
 -- ---- what is told
 
@@ -42,13 +42,12 @@ SortsAreShown =
     (r : ℕ) (t : Tree) → norm (theory_at p.sig) t ≡ t → HasSort p.sig known t r → IsSorted p hooks r t
 
 -- Each told run is led by one derivable fact from its start to its end: where the entries of the table say what sorts terms have by declarations and by
--- what facts tell, each step replaces a normal form, and native operators give numerals for numerals.
+-- what facts tell, and native operators give numerals for numerals.
 abbrev pub RunsAreLed : Type 0
 RunsAreLed =
-    (p : Program) → IsWellFormed p → (hooks : List Operator) → All GivesNumerals hooks → (known : Known) → All (IsTold p hooks) known →
+    (p : Program) → IsLawfulProgram p → IsLawful (terms_over p.sig) → (hooks : List Operator) → All GivesNumerals hooks → (known : Known) → All (IsTold p hooks) known →
     (nodes : List Node) (table : Table) → AreEntries p.sig known nodes table →
-    (rules : Bool) (t u : Tree) (told : List Event) → IsNormalTerm p.sig t → ReplaceNormal p.sig (map (told_in nodes) told) →
-    IsToldRun p hooks nodes table rules t told u → IsLed p hooks rules t u
+    (rules : Bool) (t u : Tree) (told : List Event) → IsNormalTerm p.sig t → IsToldRun p hooks nodes table rules t told u → IsLed p hooks rules t u
 
 -- ---- what facts mean
 
@@ -94,7 +93,22 @@ LeadsBy p hooks true t u = Holds p hooks (rewrites (reading (theory_at p.sig) t)
 -- what a derivable fact leads to
 abbrev pub LedIsSo : Type 0
 LedIsSo =
-    (p : Program) → IsBuiltAndAccepted p.sig → IsLawful (terms_over p.sig) → (hooks : List Operator) (rules : Bool) (t u : Tree) → IsLed p hooks rules t u → LeadsBy p hooks rules t u
+    (p : Program) → IsBuiltAndAccepted p.sig → IsLawful (terms_over p.sig) → (hooks : List Operator) (rules : Bool) (t u : Tree) →
+    IsLed p hooks rules t u → LeadsBy p hooks rules t u
+
+-- ---- deduction without statements
+
+-- no statement is used, and no operator has anything built in
+pub record HasNoStatements (p : Program) : Type 0 where
+  pub equations : p.equations ≡ []
+  pub rules : p.rules ≡ []
+  pub built_ins : (f : ℕ) → name_at p.sig f ≡ None
+
+-- then equal are just the terms that are equal modulo the axioms
+abbrev pub AxiomsAloneHold : Type 0
+AxiomsAloneHold =
+    (p : Program) (hooks : List Operator) → IsLawful (terms_over p.sig) → HasNoStatements p → (t u : Tree) →
+    Holds p hooks (equals t u) ↔ EqualModulo (terms_over p.sig) t u
 
 -- ---- native operators
 

@@ -7,13 +7,11 @@ pub mod Says
 pub mod Shown
 -- justified facts and sections
 pub mod Justified
--- what can stand in a justified section
+-- what can stand in a justified section, and the terms that it names
 pub mod Derivable
 pub mod Written
--- what is asked of programs, of native operators and of told runs
-pub mod BuiltKinds
-pub mod WellFormed
-pub mod Replaced
+-- what is asked of native operators
+pub mod NativeNumerals
 -- rewriting logic: which sentences follow from the statements of a program
 pub mod Deduction
 -- what is proved of all these

@@ -1,5 +1,5 @@
 //! What is proved of the definitions of this crate. Each function does nothing and has a law for its contract; the laws are stated in `specs/Laws.antt`.
-ghost use Rattle.mau_logic.specs.Laws.{RunsAreLed, SortsAreShown, SectionsAreDerivable, FactsAreWritten, FactsHold, SectionsAreSound, LedIsSo, LiteralsGiveNumerals, NativesGiveNumerals};
+ghost use Rattle.mau_logic.specs.Laws.{RunsAreLed, SortsAreShown, SectionsAreDerivable, FactsAreWritten, FactsHold, SectionsAreSound, LedIsSo, AxiomsAloneHold, LiteralsGiveNumerals, NativesGiveNumerals};
 
 /// A sort by declarations, and by what facts tell of other terms, is shown by these facts.
 pub fn sorts_are_shown()
@@ -34,6 +34,11 @@ pub fn sections_are_sound()
 /// What is led to by a derivable fact is equal, or rewritten to, in rewriting logic; with `runs_are_led` so is the end of each told run.
 pub fn led_is_so()
     ensures { LedIsSo }
+{}
+
+/// Without statements and built-ins, equal in rewriting logic are just the terms that are equal modulo the axioms.
+pub fn axioms_alone_hold()
+    ensures { AxiomsAloneHold }
 {}
 
 /// A formula over numerals gives numerals for numerals.

@@ -33,7 +33,7 @@ use Rattle.mau_match.specs.declared.part.Span.{Span}
 use Rattle.mau_match.proofs.KnownElements.{bound_norm}
 use Rattle.mau_match.proofs.Lengths.{not_too_few}
 use Rattle.mau_match.proofs.NothingMissed.{Way, ways, alone_value, only_placed}
-use Rattle.mau_match.proofs.Impossible.{reaches_left, reaches_right, free_among, known_there}
+use Rattle.mau_match.proofs.Impossible.{any_order, reaches_left, reaches_right, free_among, known_there}
 
 -- ---- the store grows
 
@@ -182,17 +182,17 @@ module _ (s : SignatureOf) (lawful : AreLawful (theory_at s)) (nodes : List Node
       let c : true ≡ false = sym k ∙ n in
       absurd (cc)
 
-  module _ (c : (theory_at s f).comm ≡ true) (r : Reach) (ts : List Tree) where
+  module _ (r : Reach) (ts : List Tree) where
     pub never_joined : (us : List Tree) → without_all (known_in (theory_at s) (bound_of g) (values_of nodes g) (target_of g) f ps) ts ≡ Some us → AreNeverAmong s nodes g f ps us → AreNeverJoined s nodes g f ps (r, ts)
     never_joined us e h gg ag fair o =
         h gg ag fair.1
-        (free_among (theory_at s) (bound_of g) (values_of nodes g) gg (target_of g) ag lawful f a c ps r ts us e
-        (subst (λ d. Reaches d r (all_pieces (theory_at s f).assoc (theory_at s f).id f (norms (theory_at s) (instances gg ps))) ts) c o))
+        (free_among (theory_at s) (bound_of g) (values_of nodes g) gg (target_of g) ag lawful f a ps r ts us e
+        (any_order (theory_at s f).comm r (all_pieces (theory_at s f).assoc (theory_at s f).id f (norms (theory_at s) (instances gg ps))) ts o))
 
     pub never_there : without_all (known_in (theory_at s) (bound_of g) (values_of nodes g) (target_of g) f ps) ts ≡ None → AreNeverJoined s nodes g f ps (r, ts)
     never_there e gg ag fair o =
-        known_there (theory_at s) (bound_of g) (values_of nodes g) gg (target_of g) ag lawful f a c ps r ts e
-        (subst (λ d. Reaches d r (all_pieces (theory_at s f).assoc (theory_at s f).id f (norms (theory_at s) (instances gg ps))) ts) c o)
+        known_there (theory_at s) (bound_of g) (values_of nodes g) gg (target_of g) ag lawful f a ps r ts e
+        (any_order (theory_at s f).comm r (all_pieces (theory_at s f).assoc (theory_at s f).id f (norms (theory_at s) (instances gg ps))) ts o)
 
 -- an operator that is not known, over arguments
 module _ (th : ℕ → Theory) (bound : List Variable) (gg : Variable → Tree) (f h : ℕ) (ps : Trees) (nb : are_bound bound ps ≡ false) where

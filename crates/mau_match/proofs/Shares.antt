@@ -242,7 +242,7 @@ module _ (th : ℕ → Theory) (bound : List Variable) (g gg : Variable → Tree
     all_counted t =
         let l = list_under (th f) f (norm th (gg x)) in
         let qs = all_pieces (th f).assoc (th f).id f (norms th (instances gg ps)) in
-        omega (arith, many_same t (h.left ++ ((l ++ qs) ++ h.right)) ts h.all, many-append t h.left ((l ++ qs) ++ h.right), many-append t (l ++ qs) h.right, many-append t l qs, many_same t qs (ks ++ fs) (frees_known th bound g gg x agree lawful f a c ps), many-append t ks fs)
+        omega (arith, many_same t (h.left ++ ((l ++ qs) ++ h.right)) ts h.all, many-append t h.left ((l ++ qs) ++ h.right), many-append t (l ++ qs) h.right, many-append t l qs, many_same t qs (ks ++ fs) (frees_known th bound g gg x agree lawful f a ps), many-append t ks fs)
 
     none_known : without_all (known_in th bound g x f ps) ts ≡ None → ⊥
     none_known e =

@@ -367,9 +367,6 @@ fn may_be_within(
     if are_too_few(theory, op, patterns, span.items.len()) {
         return Ok(false);
     }
-    if !theory.comm {
-        return Ok(true);
-    }
     match without_known(store, sig, given, op, patterns, &span.items) {
         Ok(Some(items)) => may_each(store, sig, given, op, patterns, &items),
         Ok(None) => Ok(false),
@@ -391,7 +388,6 @@ fn may_each(
 ) -> Result<bool, NoMemory>
     requires operator { IsOperator sig.now op.0 }
     requires assoc { (theory_at sig.now op.0).assoc ≡ true }
-    requires comm { (theory_at sig.now op.0).comm ≡ true }
     requires bare { All (λ p. IsBare (terms_over sig.now) (tree_of p)) patterns.now }
     requires values { AreGivenWithin sig.now store.old given.now }
     requires items { StandWithin (theory_at sig.now) store.old (numbers items.now) }
@@ -422,7 +418,6 @@ fn may_take(
 ) -> Result<bool, NoMemory>
     requires operator { IsOperator sig.now op.0 }
     requires assoc { (theory_at sig.now op.0).assoc ≡ true }
-    requires comm { (theory_at sig.now op.0).comm ≡ true }
     requires bare { IsBare (terms_over sig.now) (tree_of pattern.now) }
     requires values { AreGivenWithin sig.now store.old given.now }
     requires items { StandWithin (theory_at sig.now) store.old (numbers items.now) }
@@ -435,12 +430,14 @@ fn may_take(
     match pattern {
         Bare::App(top, args) => {
             if *top == op {
-                may_each(store, sig, given, op, args.items(), items)
-            } else {
-                let copy = copy_of(store.allocator(), items)?;
-                let part = Part::ListOf(Reach::Inside, op, Seq::new(copy));
-                may_match(store, sig, given, pattern, &part)
+                return may_each(store, sig, given, op, args.items(), items);
             }
+            if !sig.theory(op).comm {
+                return Ok(true);
+            }
+            let copy = copy_of(store.allocator(), items)?;
+            let part = Part::ListOf(Reach::Inside, op, Seq::new(copy));
+            may_match(store, sig, given, pattern, &part)
         }
         _ => Ok(true),
     }

@@ -29,3 +29,7 @@ pub mod Numbered
 pub mod BuiltTables
 -- what built-ins give
 pub mod Answering
+-- what is left of all that may be applied
+pub mod AttemptsLeft
+-- the order of equations
+pub mod InOrder

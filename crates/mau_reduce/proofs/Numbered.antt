@@ -1,5 +1,5 @@
 -- Equations by their numbers, tried one after another.
-use Rattle.std.proofs.Common.{◌≡◌, ℕ, zero, suc, ◌+◌, ◌<◌, ◌≤◌, List, [], ◌∷◌, ◌++◌, map, drop, length, get_or, slice_get, Bool, true, false, ◌&&◌, not, if◌then◌else◌, Option, Some, None, IfSome, IfNone, inl, inr, refl, sym, ap, ◌∙◌, subst, arith, zero-add}
+use Rattle.std.proofs.Common.{◌≡◌, ℕ, zero, suc, ◌+◌, ◌<◌, ◌≤◌, List, [], ◌∷◌, ◌++◌, map, drop, length, get_or, slice_get, Bool, true, false, ◌&&◌, not, if◌then◌else◌, Option, Some, None, IfOk, IfSome, IfNone, Result, Ok, Err, inl, inr, refl, sym, ap, ◌∙◌, subst, arith, zero-add}
 use Rattle.std.specs.Option.{option_map}
 use Rattle.std.proofs.Math.Seq.{drop-cons}
 use Rattle.std.proofs.lemmas.List.{get_or_default}
@@ -212,3 +212,23 @@ module _ (P : Program) (B k : ℕ) (t : Tree) (rest : List ℕ) (b : ℕ) where
       ∙ (one_behind (num y) (option_map (solution_in nodes) (last y)) (solution_in new x) (subst (λ w. IfSome w (λ v. left_of_number P B k t (num y) (option_map (solution_in nodes) (last y)) b ≡ or_go_on (left_of_number P B k t (num y) (Some (solution_in new v))) (number_gives P B k t (num y) (solution_in new v) b))) is z)
       ∙ (ap (λ m. or_go_on (left_of_all P B k t m (Some (solution_in new x)) rest) (number_gives P B k t (num y) (solution_in new x) b)) (sym own)
       ∙ ap (λ w. or_go_on (left_of_all P B k t j (option_map (solution_in new) w) rest) (number_gives P B k t (num y) (solution_in new x) b)) (sym (subst (λ w. IfSome w (λ v. after ≡ Some v)) is given))))
+
+-- equations that are begun
+pub begun_behind : (P : Program) (B k : ℕ) (t : Tree) (b : ℕ) (new : List Node) (before rest : List ℕ) {Y : Type 0} (num : Y → ℕ) (last : Y → Option Given.Solution) (o : Option (Y × Given.Solution)) (x : Y × Given.Solution) → o ≡ Some x →
+    IfSome o (λ z. first_of (applied_number P B k t) before b ≡ or_go_on (left_of_all P B k t (num z.0) (Some (solution_in new z.1)) rest) (number_gives P B k t (num z.0) (solution_in new z.1) b)) →
+    IfSome o (λ z. last z.0 ≡ Some z.1) →
+    first_of (applied_number P B k t) before b ≡ or_go_on (left_of_all P B k t (num x.0) (option_map (solution_in new) (last x.0)) rest) (number_gives P B k t (num x.0) (solution_in new x.1) b)
+begun_behind P B k t b new before rest num last o x e z given =
+    subst (λ o. IfSome o (λ z. first_of (applied_number P B k t) before b ≡ or_go_on (left_of_all P B k t (num z.0) (Some (solution_in new z.1)) rest) (number_gives P B k t (num z.0) (solution_in new z.1) b))) e z
+    ∙ ap (λ w. or_go_on (left_of_all P B k t (num x.0) (option_map (solution_in new) w) rest) (number_gives P B k t (num x.0) (solution_in new x.1) b)) (sym (subst (λ o. IfSome o (λ z. last z.0 ≡ Some z.1)) e given))
+
+-- what is left first, in a later store in which the term is the same
+pub none_through : {A : Type 0} {X E : Type 0} (r : Result (Option X) E) (F : Tree → A) (l d : A) (t t' : Tree) → t' ≡ t → l ≡ F t → IfOk r (λ o. IfNone o (F t' ≡ d)) → IfOk r (λ o. IfNone o (l ≡ d))
+none_through (Ok None) F l d t t' same e h = e ∙ (ap F (sym same) ∙ h)
+none_through (Ok (Some x)) F l d t t' same e h = tt
+none_through (Err x) F l d t t' same e h = tt
+
+pub some_through : {A : Type 0} {X E : Type 0} (r : Result (Option X) E) (F : Tree → A) (G : X → Tree → A) (l : A) (t t' : Tree) → t' ≡ t → l ≡ F t → IfOk r (λ o. IfSome o (λ x. F t' ≡ G x t')) → IfOk r (λ o. IfSome o (λ x. l ≡ G x t))
+some_through (Ok None) F G l t t' same e h = tt
+some_through (Ok (Some x)) F G l t t' same e h = e ∙ (ap F (sym same) ∙ (h ∙ ap (G x) same))
+some_through (Err x) F G l t t' same e h = tt

@@ -20,6 +20,8 @@ pub mod Trying
 pub mod BuiltOperators
 -- what native operators answer
 pub mod Answered
+-- all that may be applied
+pub mod Attempting
 -- ---- what only inner contracts and proofs cite
 
 -- arguments that have changed places

@@ -2,20 +2,24 @@
 #![tactic(auto)]
 
 mod arguments;
+mod attempts;
 mod binding;
 mod built_in;
 mod given;
 mod natives;
+mod ordering;
 mod rebuilding;
 mod replacing;
 mod settling;
 mod trying;
 
 pub use arguments::{Opened, open, order_of};
+pub use attempts::{Attempts, begin_attempts, next_attempt};
 pub use binding::Binding;
 pub use built_in::{BuiltIn, Truths, built_in_of};
 pub use given::{Given, Leaf};
 pub use natives::{Answered, Hooks, Natives};
+pub use ordering::equations_in_order;
 pub use rebuilding::{Rebuilt, rebuild};
 pub use replacing::{instance, replace};
 pub use settling::{settle, settle_identities};

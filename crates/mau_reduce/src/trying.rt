@@ -215,3 +215,76 @@ fn go_on_tried<L: Lister>(
         None => Ok(None),
     }
 }
+
+/// Begins with the equations with these numbers, from a place on.
+fn begin_next<L: Lister + Drop>(
+    store: &mut Store,
+    program: &Program,
+    table: &mut SortTable,
+    order: &[usize],
+    term: TermId,
+    next: &mut usize,
+    tried: &mut Option<Tried<L>>,
+) -> Result<Option<Found>, NoMemory>
+    requires contexts { L.with_context ≡ true }
+    requires reducible { IsReducible program.now }
+    requires order { All (λ i. i < length program.now.equations) order.now }
+    requires term { IsTerm program.now.sig store.old term.0 }
+    requires settled { AreSettled program.now.sig store.old table.old (tree_at store.old term.0) }
+    requires plain { IsPlainTable program.now.sig store.old table.old }
+    ensures none { (hooks : List Operator) (B k b : ℕ) → IfOk result (λ o. IfNone o (first_of (applied_number (program_over program.now hooks) B k (tree_at store.old term.0)) (drop next.old order.now) b ≡ done None 0 b)) }
+    ensures some { (hooks : List Operator) (B k b : ℕ) → IfOk result (λ o. IfSome o (λ x. first_of (applied_number (program_over program.now hooks) B k (tree_at store.old term.0)) (drop next.old order.now) b
+        ≡ or_go_on (left_by (program_over program.now hooks) B k store.new (tree_at store.old term.0) (option_map (λ y. (y.number, L.given y.listing)) tried.new) (drop next.new order.now))
+        (number_gives (program_over program.now hooks) B k (tree_at store.old term.0) x.number (solution_in store.new x.solution) b))) }
+    ensures kept_tried { IfOk result (λ o. IfSome o (λ x. IfSome tried.new (λ y. y.number ≡ x.number) × IfSome tried.new (λ y. L.given y.listing ≡ Some x.solution) × IsSome tried.new)) }
+    ensures tried { IfOk result (λ o. IfSome o (λ x. IfSome tried.new (λ y. IsTried L.with_context program.now store.new table.new term y.number (L.asked y.listing) (L.given y.listing) (L.is_for y.listing program.now.sig)))) }
+    ensures found { IfOk result (λ o. IfSome o (λ x. IsFound program.now store.new (tree_at store.old term.0) x.number x.solution)) }
+    ensures plain { IsPlainTable program.now.sig store.new table.new }
+    ensures kept { KeepsEntries table.old table.new }
+    ensures extends { Extends store.old store.new }
+{
+    match first_among::<L>(store, program, table, order, term, next)? {
+        Some((begun, solution)) => {
+            let number = begun.number;
+            *tried = Some(begun);
+            Ok(Some(Found { number, solution }))
+        }
+        None => Ok(None),
+    }
+}
+
+/// The next candidate: of the equation that is tried, or else of those with these numbers, from a place on.
+pub(crate) fn next_found<L: Lister + Drop>(
+    store: &mut Store,
+    program: &Program,
+    table: &mut SortTable,
+    order: &[usize],
+    term: TermId,
+    next: &mut usize,
+    tried: &mut Option<Tried<L>>,
+) -> Result<Option<Found>, NoMemory>
+    requires contexts { L.with_context ≡ true }
+    requires reducible { IsReducible program.now }
+    requires order { All (λ i. i < length program.now.equations) order.now }
+    requires term { IsTerm program.now.sig store.old term.0 }
+    requires settled { AreSettled program.now.sig store.old table.old (tree_at store.old term.0) }
+    requires plain { IsPlainTable program.now.sig store.old table.old }
+    requires tried { IfSome tried.old (λ x. IsTried L.with_context program.now store.old table.old term x.number (L.asked x.listing) (L.given x.listing) (L.is_for x.listing program.now.sig)) }
+    ensures none { (hooks : List Operator) (B k b : ℕ) → IfOk result (λ o. IfNone o (left_by (program_over program.now hooks) B k store.old (tree_at store.old term.0)
+        (option_map (λ x. (x.number, L.given x.listing)) tried.old) (drop next.old order.now) b ≡ done None 0 b)) }
+    ensures some { (hooks : List Operator) (B k b : ℕ) → IfOk result (λ o. IfSome o (λ x. left_by (program_over program.now hooks) B k store.old (tree_at store.old term.0)
+        (option_map (λ y. (y.number, L.given y.listing)) tried.old) (drop next.old order.now) b
+        ≡ or_go_on (left_by (program_over program.now hooks) B k store.new (tree_at store.old term.0) (option_map (λ y. (y.number, L.given y.listing)) tried.new) (drop next.new order.now))
+        (number_gives (program_over program.now hooks) B k (tree_at store.old term.0) x.number (solution_in store.new x.solution) b))) }
+    ensures kept_tried { IfOk result (λ o. IfSome o (λ x. IfSome tried.new (λ y. y.number ≡ x.number) × IfSome tried.new (λ y. L.given y.listing ≡ Some x.solution) × IsSome tried.new)) }
+    ensures tried { IfOk result (λ o. IfSome o (λ x. IfSome tried.new (λ y. IsTried L.with_context program.now store.new table.new term y.number (L.asked y.listing) (L.given y.listing) (L.is_for y.listing program.now.sig)))) }
+    ensures found { IfOk result (λ o. IfSome o (λ x. IsFound program.now store.new (tree_at store.old term.0) x.number x.solution)) }
+    ensures plain { IsPlainTable program.now.sig store.new table.new }
+    ensures kept { KeepsEntries table.old table.new }
+    ensures extends { Extends store.old store.new }
+{
+    match go_on_tried(store, program, table, term, tried)? {
+        Some(found) => Ok(Some(found)),
+        None => begin_next(store, program, table, order, term, next, tried),
+    }
+}

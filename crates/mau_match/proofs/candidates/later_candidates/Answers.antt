@@ -1,11 +1,10 @@
-use Rattle.std.proofs.Common.{◌≡◌, ◌++◌, true, false, map, take, length, sym, ap, ◌∙◌}
+use Rattle.std.proofs.Common.{◌≡◌, ◌++◌, false, map, take, length, sym, ap, ◌∙◌}
 use Rattle.mau_terms.specs.Subst.{has_variable}
 use Rattle.mau_terms.specs.View.{tree_of, variable_of}
 use Rattle.mau_terms.specs.declared.ids.VarId.{VarId}
 use Rattle.mau_terms.specs.declared.ids.TermId.{TermId}
 use Rattle.mau_signature.specs.Signature.{terms_over}
 use Rattle.mau_listing.specs.Places.{variables_in}
-use Rattle.mau_match.specs.Parts.{occurs}
 use Rattle.mau_match.specs.Walked.{bound_of}
 use Rattle.mau_match.proofs.GivenFor.{given_stand}
 use Rattle.mau_match.proofs.Hiding.{bare_hidden}

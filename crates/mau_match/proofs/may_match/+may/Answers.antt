@@ -391,13 +391,10 @@ may_be_within-may_each-requires t c =
         (
           c.requires.assoc,
           (
-            ap (λ w. w.comm) (sym c.theory-theory.ensures.value) ∙ c.if-not-theory.false,
+            c.requires.bare,
             (
-              c.requires.bare,
-              (
-                stand_within_extended th old mid (numbers c.args.given.now.values) c.without_known.ensures.extends c.requires.values,
-                subst (λ l. StandWithin th mid (numbers l)) (sym c.deref-in-Ok-Some.ensures.value) (rw c.in-Ok-Some.field-0-is at c.in-Ok-Some.ensures.within),
-              ),
+              stand_within_extended th old mid (numbers c.args.given.now.values) c.without_known.ensures.extends c.requires.values,
+              subst (λ l. StandWithin th mid (numbers l)) (sym c.deref-in-Ok-Some.ensures.value) (rw c.in-Ok-Some.field-0-is at c.in-Ok-Some.ensures.within),
             ),
           ),
         ),
@@ -416,7 +413,7 @@ may_be_within-returns-in-Ok-Some-clause-refused t c =
     let us = trees_at mid (numbers c.in-Ok-Some.items.items) in
     IfOk-weaker c.may_each.result _ _
     (λ b h e.
-    never_joined s c.theory-theory.ensures.lawful.theories old g f ps c.requires.assoc (ap (λ w. w.comm) (sym c.theory-theory.ensures.value) ∙ c.if-not-theory.false) (reach_of c.args.span.now.reach) (trees_at old (numbers c.args.span.now.items.items)) us
+    never_joined s c.theory-theory.ensures.lawful.theories old g f ps c.requires.assoc (reach_of c.args.span.now.reach) (trees_at old (numbers c.args.span.now.items.items)) us
     (subst (λ (l : List TermId). without_all (known_in th (bound_of g) (values_of old g) (target_of g) f ps) (trees_at old (numbers l)) ≡ Some us) c.deref.ensures.value (rw c.in-Ok-Some.field-0-is at c.in-Ok-Some.ensures.some))
     (among_before s old mid c.without_known.ensures.extends g c.requires.values f ps (trees_at mid (numbers c.deref-in-Ok-Some.result.now)) us (ap (λ l. trees_at mid (numbers l)) c.deref-in-Ok-Some.ensures.value) (h e)))
     c.may_each.ensures.refused
@@ -429,7 +426,7 @@ may_be_within-returns-in-Ok-None-clause-refused t c = λ e.
     let g = c.args.given.now in
     let f = c.args.op.0 in
     let ps = trees_of (map tree_of c.args.patterns.now) in
-    never_there s c.theory-theory.ensures.lawful.theories old g f ps c.requires.assoc (ap (λ w. w.comm) (sym c.theory-theory.ensures.value) ∙ c.if-not-theory.false) (reach_of c.args.span.now.reach) (trees_at old (numbers c.args.span.now.items.items))
+    never_there s c.theory-theory.ensures.lawful.theories old g f ps c.requires.assoc (reach_of c.args.span.now.reach) (trees_at old (numbers c.args.span.now.items.items))
     (subst (λ (l : List TermId). without_all (known_in th (bound_of g) (values_of old g) (target_of g) f ps) (trees_at old (numbers l)) ≡ None) c.deref.ensures.value (rw c.in-Ok-None.field-0-is at c.in-Ok-None.ensures.none))
 
 -- ---- elements that are not known
@@ -445,13 +442,10 @@ may_each-may_each-requires t c =
         (
           c.requires.assoc,
           (
-            c.requires.comm,
+            bare_rest (terms_over c.args.sig.now) c.args.patterns.now c.requires.bare,
             (
-              bare_rest (terms_over c.args.sig.now) c.args.patterns.now c.requires.bare,
-              (
-                stand_within_extended th old mid (numbers c.args.given.now.values) c.may_take.ensures.extends c.requires.values,
-                stand_within_extended th old mid (numbers c.args.items.now) c.may_take.ensures.extends c.requires.items,
-              ),
+              stand_within_extended th old mid (numbers c.args.given.now.values) c.may_take.ensures.extends c.requires.values,
+              stand_within_extended th old mid (numbers c.args.items.now) c.may_take.ensures.extends c.requires.items,
             ),
           ),
         ),
@@ -482,7 +476,7 @@ may_take-may_each-requires t c =
     let xs = c.items-then-eq.result.now in
     let bare = bare_arguments c.args.sig.now c.args.pattern.now c.in-App.top _ xs c.in-App.is c.items-then-eq.ensures c.requires.bare in (
       omega (arith, size_of_node c.args.pattern.now _ _ xs c.in-App.is c.items-then-eq.ensures),
-      (c.requires.operator, (c.requires.assoc, (c.requires.comm, (bare.1, (c.requires.values, c.requires.items))))),
+      (c.requires.operator, (c.requires.assoc, (bare.1, (c.requires.values, c.requires.items)))),
     )
 
 pub may_take-returns-in_ok-copy-in-App-clause-refused : goal.may_take-returns-in_ok-copy-in-App-clause-refused
@@ -505,7 +499,7 @@ may_take-returns-in_ok-copy-in-App-clause-refused t c =
     let same : free th (bound_of g) gg f p ≡ l = ap (free th (bound_of g) gg f) k ∙ free_other th (bound_of g) gg f h (trees_of c.in-App.args) nbs other ∙ ap (λ w. list_under (th f) f (norm th (instance gg w))) (sym k) in
     i e gg ag fair
     (subst (λ (ids : List TermId). Reaches (th f).comm inside l (trees_at old (numbers ids))) (sym (c.new.ensures ∙ c.in_ok-copy-in-App.ensures))
-    (subst (λ d. Reaches d inside l us) (sym c.requires.comm) (subst (λ w. Reaches true inside w us) same o))))
+    (subst (λ d. Reaches d inside l us) (sym (ap (λ w. w.comm) (sym c.theory.ensures.value) ∙ c.if-not-theory.false)) (subst (λ w. Reaches true inside w us) same o))))
     c.may_match.ensures.refused
 
 -- ---- a pattern
