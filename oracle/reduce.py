@@ -63,11 +63,12 @@ def random_statement(sig, r):
     return left, right, fragments, owise, nonexec
 
 
-def text_of(sig, statement):
+def text_of(sig, statement, keyword="eq"):
+    """The text of an equation or a rule, by its keyword, or of a membership."""
     left, right, fragments, owise, nonexec = statement
     source = lambda term: term if isinstance(term, str) else sig.source(numbered(term, variables := []), variables)
     shown = [source(one) if sign == "Bool" else f"{source(one)} {sign} {source(other)}" for sign, one, other in fragments]
-    word, sign = ("mb", ":") if isinstance(right, str) else ("eq", "=")
+    word, sign = ("mb", ":") if isinstance(right, str) else (keyword, "=" if keyword == "eq" else "=>")
     attributes = " ".join(word for word, has in (("owise", owise), ("nonexec", nonexec)) if has)
     condition = " if " + " /\\ ".join(shown) if shown else ""
     return f"{'c' if shown else ''}{word} {source(left)} {sign} {source(right)}{condition}{f' [{attributes}]' if attributes else ''} .\n"

@@ -256,6 +256,8 @@ def module_text(own, pairs, declarations, with_nat=False):
             words.append(f"prec {attrs['prec']}")
         if "gather" in attrs:
             words.append(f"gather ({' '.join(attrs['gather'])})")
+        if "frozen" in attrs:
+            words.append(f"frozen ({' '.join(str(i + 1) for i in attrs['frozen'])})")
         if "strat" in attrs:
             words.append(f"strat ({' '.join(str(i + 1) for i in attrs['strat'])} 0)".replace("( ", "("))
         out.append(f"op {name} : {' '.join(args)} -> {result}{' [' + ' '.join(words) + ']' if words else ''} .")

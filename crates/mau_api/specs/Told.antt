@@ -75,9 +75,10 @@ pub record IsInstance (s : SignatureOf) (P : ℕ → Tree → Type 0) (xs : List
   pub after : norm (theory_at s) (instance (value_at xs x.values) right) ≡ x.after
   pub context : IsContextFor (terms_over s) left x.context
 
--- before is an operator over its arguments, and after what is built in gives
+-- before is an operator over its arguments, in normal form, and after what is built in gives
 pub record IsBuiltStep (p : Program) (hooks : List Operator) (f : ℕ) (x : StepOf) : Type 0 where
   pub no_values : x.values ≡ []
+  pub normal : norm (theory_at p.sig) x.before ≡ x.before
   pub arguments : List Tree
   pub before : x.before ≡ apply f (trees_of arguments)
   pub result : Tree

@@ -133,9 +133,9 @@ module _ (p : Program) (hooks : List Operator) (lawful : IsLawful (terms_over p.
             }));
       }
 
-  pub built : (f : ℕ) (x : StepOf) (t u : Tree) → IsNormalTerm p.sig t → norm (theory_at p.sig) x.before ≡ x.before → IsBuiltStep p hooks f x → LeadsOver p.sig x t u → IsLed p hooks false t u
-  built f x t u n nb h o =
+  pub built : (f : ℕ) (x : StepOf) (t u : Tree) → IsNormalTerm p.sig t → IsBuiltStep p hooks f x → LeadsOver p.sig x t u → IsLed p hooks false t u
+  built f x t u n h o =
       built_by f x t u h.arguments h.result h.before n o
-      (subst (IsNormalTerm p.sig) h.before (before_term x.before x.context t nb n h.context o.from))
+      (subst (IsNormalTerm p.sig) h.before (before_term x.before x.context t h.normal n h.context o.from))
       (gives_by f h.arguments x.before h.result h.before h.gives) h.after
       (subst (λ z. IsContextFor (terms_over p.sig) (reading (theory_at p.sig) z) x.context) h.before h.context)

@@ -240,6 +240,29 @@ section_is i f l e = subst (λ ts. IsJustified module_p [] ts (all_said ts (take
         (same_is (leads true a b ∷ leads true (g a) (g b) ∷ leads true (g a) (g b) ∷ of_sort (g a) 0 ∷ []))
     by (suc (suc (suc (suc (suc i))))) f l e = absurd (omega arith)
 
+-- below f, in a context, up to commutativity: from f(b, a) to f(b, b) with f(HOLE, b)
+below_is : IsJustified module_p [] (Some (f the_hole b) ∷ Some (f b a) ∷ Some (f b b) ∷ []) [] (step 1 2 3)
+below_is = (
+  ((1, bare_f the_hole b bare_hole bare_b), record { shallow = lit≤ tt; no_overflow = refl }),
+  (
+    term_fba,
+    (
+      ((1, bare_f b b bare_b bare_b), record { shallow = lit≤ tt; no_overflow = refl }),
+      (
+        All-nil (IsBareWithin one_sort),
+        record {
+          context = (1, bare_a, refl);
+          one_each = refl;
+          from = one_step (1, bare_f b a bare_b bare_a) (left_to_right (commutativity 4 b a refl)) (same_term (1, bare_f a b bare_a bare_b));
+          to = same_term (1, bare_f b b bare_b bare_b);
+          sorted = tt;
+          shown = tt;
+        },
+      ),
+    ),
+  ),
+)
+
 -- ---- altered facts, which are not
 
 -- the axioms of the operators: f is commutative, and there is no other axiom
@@ -288,7 +311,10 @@ no_statement_is_not h = h.1.1.1.1
 
 -- a term for no variable
 one_value_is_not : IsJustified module_p [] terms [] (Step (record { rule = false; number = 1; context = 3; from = 1; to = 2; bind = 1 ∷ []; uses = [] })) → ⊥
-one_value_is_not h = let e : 1 ≡ 0 = h.1.1.1.1.one_each in absurd (omega arith)
+one_value_is_not h = differ h.1.1.1.1.one_each
+  where
+    differ : suc zero ≡ zero → ⊥
+    differ e = cc
 
 -- by a fact that does not stand before
 later_is_not : IsJustified module_p [] terms [] (Under (record { op = 3; facts = 1 ∷ []; from = 4; to = 5 })) → ⊥

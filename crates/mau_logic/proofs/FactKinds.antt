@@ -75,8 +75,8 @@ module _ (p : Program) (hooks : List Operator) (accepted : IsBuiltAndAccepted p.
   follows_kind us h _ (by_built_in f c t u ts bc bt bu bts is) = tt
   follows_kind us h _ (under f t u bt bu is) = tt
   follows_kind us h _ (chain t u on e d) = tt
-  follows_kind us h _ (declared t r b has) = sorted_kind p.sig accepted lawful us h t r b.0.0 b.0.1 has
-  follows_kind us h _ (member n m t r vs at b bvs is) =
+  follows_kind us h _ (declared t r b low has) = sorted_kind p.sig accepted lawful us h t r b.0.0 b.0.1 has
+  follows_kind us h _ (member n m t r vs at b low bvs is) =
       let left = instance_in (terms_over p.sig) (value_at (membership_variables m) vs)
       (have_values (terms_over p.sig) (membership_variables m) vs (values_kinds p.sig accepted lawful us h (membership_variables m) vs bvs is.sorted))
       (tree_of m.left) (kind_of p.sig.hierarchy m.sort) (heads n m at) in

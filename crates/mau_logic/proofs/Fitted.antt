@@ -19,12 +19,13 @@ use Rattle.mau_formula.specs.Operator.{Operator}
 use Rattle.mau_program.specs.declared.program.Program.{Program}
 use Rattle.mau_api.specs.Terms.{IsBareWithin, IsNormalTerm, filler, fill, IsContextFor}
 use Rattle.mau_api.specs.Told.{StepOf, IsInstance, LeadsOver}
+use Rattle.mau_logic.proofs.WellFormed.{AreOfOneKind}
 use Rattle.mau_logic.specs.Derivable.{IsSorted}
 use Rattle.mau_logic.proofs.SortKinds.{is_kind}
 use Rattle.mau_logic.proofs.Instances.{instance_in, have_values, AreAll, fill_in, filler_norms, value_norms}
 use Rattle.mau_logic.proofs.NormalTerms.{read_bare, read_norm, read_norms, own_norms, read_terms}
 use Rattle.mau_logic.proofs.FactKinds.{sorted_kind, HaveKindedHeads, facts_kind}
-use Rattle.mau_logic.proofs.ToldRuns.{AreOfOneKind, AreReadings, IsFit}
+use Rattle.mau_logic.proofs.ToldRuns.{AreReadings, IsFit}
 
 module _ (s : SignatureOf) (lawful : IsLawful (terms_over s)) where
   -- equal terms in a hole
@@ -57,15 +58,15 @@ module _ (s : SignatureOf) (lawful : IsLawful (terms_over s)) where
       (subst (λ z. IsBareIn (terms_over s) (reading (theory_at s) z) bc.0.0) (fill_norms c b w (sym eb) ∙ eu) (read_bare s lawful (fill c b) bc.0.0 second))
 
 module _ (p : Program) (hooks : List Operator) (accepted : IsBuiltAndAccepted p.sig) (lawful : IsLawful (terms_over p.sig)) (heads : HaveKindedHeads p)
-    (P : ℕ → Tree → Type 0) (sorted : (r : ℕ) (t : Tree) → P r t → IsSorted p hooks r t)
+    (P : ℕ → Tree → Type 0) (sorted : (r : ℕ) (t : Tree) → IsNormalTerm p.sig t → P r t → IsSorted p hooks r t)
   where
     values_in : (xs : List Variable) (vs : List Tree) → HaveSorts P xs vs → All (IsNormalTerm p.sig) vs →
         HaveSorts (λ r v. IsBareIn (terms_over p.sig) v (kind_of p.sig.hierarchy r)) xs (map (reading (theory_at p.sig)) vs)
     values_in [] vs h n = tt
     values_in (x ∷ xs) [] h n = absurd h
     values_in (x ∷ xs) (v ∷ vs) h n =
-        let a = sorted x.1 v h.0 in
-        let w = All-head (IsNormalTerm p.sig) v vs n in (
+        let w = All-head (IsNormalTerm p.sig) v vs n in
+        let a = sorted x.1 v w h.0 in (
           sorted_kind p.sig accepted lawful a.uses (facts_kind p hooks accepted lawful heads a.derivable) (reading (theory_at p.sig) v) x.1 w.term.0.0 w.term.0.1 a.sorted,
           values_in xs vs h.1 (All-tail (IsNormalTerm p.sig) v vs n),
         )

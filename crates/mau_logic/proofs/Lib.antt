@@ -1,10 +1,30 @@
+-- The proofs of the laws, lowest first.
+
+-- sorts that facts tell, and kinds
 pub mod MoreSorts
-pub mod ToldRuns
 pub mod SortKinds
 pub mod NormalTerms
 pub mod Instances
 pub mod FactKinds
+-- lawful programs
+pub mod WellFormed
+pub mod FromLawful
+-- told runs, from what is known of single steps; steps of statements, rebuilt terms, built-ins
+pub mod ToldRuns
 pub mod Fitted
 pub mod Rebuilt
 pub mod BuiltSteps
+pub mod BuiltAnswers
+pub mod LedRuns
+pub mod Literals
+-- facts with numbers
+pub mod SectionFacts
+pub mod Written
+-- from facts to deduction, and deduction without statements
+pub mod Congruence
+pub mod SortsHold
+pub mod Sound
+pub mod AxiomsAlone
+-- computed cases of the definitions
 pub mod Examples
+pub mod ConditionalExamples

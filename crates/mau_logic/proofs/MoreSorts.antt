@@ -64,7 +64,7 @@ first_is x y (suc k, l, e) = absurd (omega arith)
 
 module _ (s : SignatureOf) where
   -- a sort that is told is told by a fact
-  told_by : (us : List Says) (k : Tree × ℕ) → Contains (known_by s us) k → (t : Tree) × (r : ℕ) × Contains us (of_sort t r) × ((norm (theory_at s) t, r) ≡ k)
+  pub told_by : (us : List Says) (k : Tree × ℕ) → Contains (known_by s us) k → (t : Tree) × (r : ℕ) × Contains us (of_sort t r) × ((norm (theory_at s) t, r) ≡ k)
   told_by [] k c = absurd (let q = c.1 in omega arith)
   told_by (of_sort t r ∷ us) k c = by (Contains-append_cases ((norm (theory_at s) t, r) ∷ []) (known_by s us) k c) (λ m. told_by us k m)
     where

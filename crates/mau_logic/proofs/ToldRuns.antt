@@ -2,7 +2,7 @@
 use Rattle.std.proofs.Common.{◌≡◌, ℕ, zero, suc, List, [], ◌∷◌, ◌++◌, length, map, Bool, true, false, ◌&&◌, Option, Some, refl, sym, ap, ◌∙◌, subst, arith}
 use Rattle.std.specs.Prelude.{All, Contains, slice_get}
 use Rattle.std.specs.List.{slice_set}
-use Rattle.std.proofs.lemmas.List.Elements.{Contains-append_left, Contains-append_right}
+use Rattle.std.proofs.lemmas.List.Elements.{All-head, All-tail, Contains-append_left, Contains-append_right}
 use Rattle.mau_terms.specs.Tree.{Tree, apply, trees_of}
 use Rattle.mau_terms.specs.Norm.{norm, build}
 use Rattle.mau_terms.specs.Reading.{reading}
@@ -24,7 +24,7 @@ use Rattle.mau_logic.specs.Says.{Says, leads, all_equational}
 use Rattle.mau_logic.specs.Shown.{HasSortBy, LeadsTo, Shows, ShowsAll}
 use Rattle.mau_logic.specs.Justified.{With, Uses, Lead}
 use Rattle.mau_logic.specs.Derivable.{same, by_equation, by_rule, under, chain, derives, AreDerivable, no_facts, one_fact, IsSorted, IsLed}
-use Rattle.mau_logic.specs.Replaced.{ReplaceNormal}
+use Rattle.mau_logic.proofs.WellFormed.{AreOfOneKind, AreBareFragments}
 use Rattle.mau_logic.proofs.MoreSorts.{more_sorts}
 
 -- each term of a list with the one in its place
@@ -36,19 +36,6 @@ Pairwise R (t ∷ ts) (u ∷ us) = R t u × Pairwise R ts us
 
 abbrev some_tree : Tree → Option Tree
 some_tree t = Some t
-
--- what stands behind something else, and what stands before it
-pub behind_normal : (s : SignatureOf) (xs ys : List Told) → ReplaceNormal s (xs ++ ys) → ReplaceNormal s ys
-behind_normal s [] ys h = h
-behind_normal s (enters t q ∷ xs) ys h = behind_normal s xs ys h
-behind_normal s (leaves t ∷ xs) ys h = behind_normal s xs ys h
-behind_normal s (steps x ∷ xs) ys h = behind_normal s xs ys h.1
-
-pub before_normal : (s : SignatureOf) (xs ys : List Told) → ReplaceNormal s (xs ++ ys) → ReplaceNormal s xs
-before_normal s [] ys h = tt
-before_normal s (enters t q ∷ xs) ys h = before_normal s xs ys h
-before_normal s (leaves t ∷ xs) ys h = before_normal s xs ys h
-before_normal s (steps x ∷ xs) ys h = (h.0, before_normal s xs ys h.1)
 
 module _ (p : Program) (hooks : List Operator) where
   -- ---- facts after one another
@@ -89,18 +76,6 @@ module _ (p : Program) (hooks : List Operator) where
   first_of : (x : Says) (xs : List Says) → Contains (x ∷ xs) x
   first_of x xs = (0, omega arith, refl)
 
--- both are bare terms of one kind
-abbrev pub AreOfOneKind : SignatureOf → Tree → Tree → Type 0
-AreOfOneKind s t u = (k : ℕ) × IsBareIn (terms_over s) t k × IsBareIn (terms_over s) u k
-
--- the terms of some fragments are bare
-abbrev pub AreBareFragments : SignatureOf → List Fragment → Type 0
-AreBareFragments s [] = Unit {0}
-AreBareFragments s (Equal t u ∷ cs) = IsBare (terms_over s) (tree_of t) × IsBare (terms_over s) (tree_of u) × AreBareFragments s cs
-AreBareFragments s (Match q u ∷ cs) = IsBare (terms_over s) (tree_of q) × IsBare (terms_over s) (tree_of u) × AreBareFragments s cs
-AreBareFragments s (Sort t r ∷ cs) = IsBare (terms_over s) (tree_of t) × AreBareFragments s cs
-AreBareFragments s (Reach t u ∷ cs) = IsBare (terms_over s) (tree_of t) × IsBare (terms_over s) (tree_of u) × AreBareFragments s cs
-
 -- an instance by the readings of normal forms is equal to the reading of the instance by these
 abbrev pub AreReadings : SignatureOf → (Variable → Tree) → (Variable → Tree) → Type 0
 AreReadings s g h = (t a : Tree) → IsBare (terms_over s) t → norm (theory_at s) (instance g t) ≡ a → IsNormalTerm s a →
@@ -117,7 +92,7 @@ pub record IsFit (p : Program) (xs : List Variable) (left right : Tree) (x : Ste
 
 module _ (p : Program) (hooks : List Operator) (P : ℕ → Tree → Type 0)
     -- the entries of the table are shown by facts of memberships
-    (sorted : (r : ℕ) (t : Tree) → P r t → IsSorted p hooks r t)
+    (sorted : (r : ℕ) (t : Tree) → IsNormalTerm p.sig t → P r t → IsSorted p hooks r t)
     -- a rebuilt term
     (arguments : (f : ℕ) (ts : List Tree) → IsNormalTerm p.sig (apply f (trees_of ts)) → Pairwise (λ t u. IsNormalTerm p.sig t) ts ts)
     (rebuilt : (r : Bool) (f : ℕ) (ts us : List Tree) → IsNormalTerm p.sig (apply f (trees_of ts)) → IsNormalTerm p.sig (build (theory_at p.sig f) f us) → Pairwise (IsLed p hooks r) ts us →
@@ -126,7 +101,7 @@ module _ (p : Program) (hooks : List Operator) (P : ℕ → Tree → Type 0)
     × ((k : ℕ) → IsBareIn (terms_over p.sig) (reading (theory_at p.sig) (apply f (trees_of ts))) k → IsBareIn (terms_over p.sig) (reading (theory_at p.sig) (build (theory_at p.sig f) f us)) k))
     -- a step of a statement, and one of a built-in operator
     (fit : (xs : List Variable) (left right : Tree) (x : StepOf) (t u : Tree) → AreOfOneKind p.sig left right → IsNormalTerm p.sig t → IsInstance p.sig P xs left right x → LeadsOver p.sig x t u → IsFit p xs left right x t u)
-    (built : (f : ℕ) (x : StepOf) (t u : Tree) → IsNormalTerm p.sig t → norm (theory_at p.sig) x.before ≡ x.before → IsBuiltStep p hooks f x → LeadsOver p.sig x t u → IsLed p hooks false t u)
+    (built : (f : ℕ) (x : StepOf) (t u : Tree) → IsNormalTerm p.sig t → IsBuiltStep p hooks f x → LeadsOver p.sig x t u → IsLed p hooks false t u)
     -- the two sides of each statement are bare terms of one kind, and the terms of its condition are bare
     (lawful_equations : (n : ℕ) (e : _) → numbered p.equations n ≡ Some e → AreOfOneKind p.sig (tree_of e.left) (tree_of e.right) × AreBareFragments p.sig e.cond)
     (lawful_rules : (n : ℕ) (q : _) → numbered p.rules n ≡ Some q → AreOfOneKind p.sig (tree_of q.left) (tree_of q.right) × AreBareFragments p.sig q.cond)
@@ -161,12 +136,12 @@ module _ (p : Program) (hooks : List Operator) (P : ℕ → Tree → Type 0)
     sorts_more us ws (x ∷ xs) [] i h = h
     sorts_more us ws (x ∷ xs) (v ∷ vs) i h = (more_sorts p.sig us ws x.1 v i h.0, sorts_more us ws xs vs i h.1)
 
-    values_sorted : (xs : List Variable) (vs : List Tree) → HaveSorts P xs vs → AreSorted xs vs
-    values_sorted [] vs h = record { uses = []; derivable = no_facts; sorts = tt }
-    values_sorted (x ∷ xs) [] h = absurd h
-    values_sorted (x ∷ xs) (v ∷ vs) h =
-        let a = sorted x.1 v h.0 in
-        let b = values_sorted xs vs h.1 in
+    values_sorted : (xs : List Variable) (vs : List Tree) → All (IsNormalTerm p.sig) vs → HaveSorts P xs vs → AreSorted xs vs
+    values_sorted [] vs n h = record { uses = []; derivable = no_facts; sorts = tt }
+    values_sorted (x ∷ xs) [] n h = absurd h
+    values_sorted (x ∷ xs) (v ∷ vs) n h =
+        let a = sorted x.1 v (All-head (IsNormalTerm p.sig) v vs n) h.0 in
+        let b = values_sorted xs vs (All-tail (IsNormalTerm p.sig) v vs n) h.1 in
         record {
           uses = a.uses ++ b.uses;
           derivable = join p hooks a.uses b.uses a.derivable b.derivable;
@@ -281,7 +256,7 @@ module _ (p : Program) (hooks : List Operator) (P : ℕ → Tree → Type 0)
     step_facts : (xs : List Variable) (left right : Tree) (cond : List Fragment) (x : StepOf) (t u : Tree) → AreOfOneKind p.sig left right → IsNormalTerm p.sig t → IsInstance p.sig P xs left right x → LeadsOver p.sig x t u → ((h : Variable → Tree) → AreReadings p.sig (value_at xs x.values) h → AreShown h cond)
         → StepFacts xs left right cond x t u
     step_facts xs left right cond x t u w n i o shown =
-        let a = values_sorted xs x.values i.sorted in
+        let a = values_sorted xs x.values o.values i.sorted in
         let k = fit xs left right x t u w n i o in
         let c = shown (value_at xs (map (reading (theory_at p.sig)) x.values)) k.instances in
         record {
@@ -308,16 +283,16 @@ module _ (p : Program) (hooks : List Operator) (P : ℕ → Tree → Type 0)
     says_led {r} {t} {u} f = leads f.by_equations (reading (theory_at p.sig) t) (reading (theory_at p.sig) u)
 
     mutual
-      pub run_led : {r : Bool} {t u : Tree} (xs : List Told) → IsNormalTerm p.sig t → ReplaceNormal p.sig xs → Leads p hooks P r t xs u → IsLed p hooks r t u
-      run_led {r} {t} _ n m stands = itself p hooks t n r
-      run_led _ n m (on_whole {u = u} {xs = xs} {ys = ys} a b) =
-          let f = run_led xs n (before_normal p.sig xs (leaves u ∷ ys) m) a in
-          then p hooks f (run_led ys f.to (behind_normal p.sig xs (leaves u ∷ ys) m) b)
-      run_led {r} _ n m (on_arguments {f = f} {ts = ts} {us = us} {xs = xs} {ys = ys} a w _ b) =
-          then p hooks (under_one r f ts us n w (arguments_led xs (arguments f ts n) (before_normal p.sig xs ys m) a)) (run_led ys w (behind_normal p.sig xs ys m) b)
-      run_led {r} {t} _ n m (told_equation {u = u} {xs = xs} {ys = ys} i e x at _ is inst shown o b) =
+      pub run_led : {r : Bool} {t u : Tree} (xs : List Told) → IsNormalTerm p.sig t → Leads p hooks P r t xs u → IsLed p hooks r t u
+      run_led {r} {t} _ n stands = itself p hooks t n r
+      run_led _ n (on_whole {u = u} {xs = xs} {ys = ys} a b) =
+          let f = run_led xs n a in
+          then p hooks f (run_led ys f.to b)
+      run_led {r} _ n (on_arguments {f = f} {ts = ts} {us = us} {xs = xs} {ys = ys} a w _ b) =
+          then p hooks (under_one r f ts us n w (arguments_led xs (arguments f ts n) a)) (run_led ys w b)
+      run_led {r} {t} _ n (told_equation {u = u} {xs = xs} {ys = ys} i e x at _ is inst shown o b) =
           let c = step_facts _ _ _ e.cond x t u (lawful_equations i e at).0 n inst o
-          (λ h reads. condition_shown xs h reads (lawful_equations i e at).1 (before_normal p.sig xs (steps x ∷ ys) m) shown) in
+          (λ h reads. condition_shown xs h reads (lawful_equations i e at).1 shown) in
           then p hooks (record {
             by_equations = true;
             kind = λ _. refl;
@@ -325,10 +300,10 @@ module _ (p : Program) (hooks : List Operator) (P : ℕ → Tree → Type 0)
             to = o.normal;
             same_kind = c.is_fit.same_kind;
             fact = derives c.uses c.derivable (by_equation i e x.context _ _ _ at o.context n.term o.normal.term c.is_fit.values c.as_used);
-          }) (run_led ys o.normal (behind_normal p.sig xs (steps x ∷ ys) m).1 b)
-      run_led {t = t} _ n m (told_rule {u = u} {xs = xs} {ys = ys} i q x at is inst shown o b) =
+          }) (run_led ys o.normal b)
+      run_led {t = t} _ n (told_rule {u = u} {xs = xs} {ys = ys} i q x at is inst shown o b) =
           let c = step_facts _ _ _ q.cond x t u (lawful_rules i q at).0 n inst o
-          (λ h reads. condition_shown xs h reads (lawful_rules i q at).1 (before_normal p.sig xs (steps x ∷ ys) m) shown) in
+          (λ h reads. condition_shown xs h reads (lawful_rules i q at).1 shown) in
           then p hooks (record {
             by_equations = false;
             kind = λ d. absurd (differ d);
@@ -336,25 +311,24 @@ module _ (p : Program) (hooks : List Operator) (P : ℕ → Tree → Type 0)
             to = o.normal;
             same_kind = c.is_fit.same_kind;
             fact = derives c.uses c.derivable (by_rule i q x.context _ _ _ at o.context n.term o.normal.term c.is_fit.values c.as_used);
-          }) (run_led ys o.normal (behind_normal p.sig xs (steps x ∷ ys) m).1 b)
+          }) (run_led ys o.normal b)
         where
           differ : true ≡ false → ⊥
           differ d = cc
-      run_led {r} {t} _ n m (told_built_in {u = u} {ys = ys} f x is h o b) = then p hooks (led_any r (built f.0 x t u n m.0 h o)) (run_led ys o.normal m.1 b)
+      run_led {r} {t} _ n (told_built_in {u = u} {ys = ys} f x is h o b) = then p hooks (led_any r (built f.0 x t u n h o)) (run_led ys o.normal b)
 
-      arguments_led : {r : Bool} {ts us : List Tree} (xs : List Told) → Pairwise (λ a b. IsNormalTerm p.sig a) ts ts → ReplaceNormal p.sig xs → LeadsIn p hooks P r ts xs us → Pairwise (IsLed p hooks r) ts us
-      arguments_led {r} {ts} _ n m all_stand = all_led r ts n
-      arguments_led {r} {ts} {us} _ n m (in_one {t = t} {u = u} {xs = xs} {ys = ys} i e a b) =
-          let f = run_led xs (normal_at ts i t e n) (before_normal p.sig xs (leaves u ∷ ys) m) a in
-          at_one r ts us i t u e f n (arguments_led ys (normal_set ts i u f.to n) (behind_normal p.sig xs (leaves u ∷ ys) m) b)
+      arguments_led : {r : Bool} {ts us : List Tree} (xs : List Told) → Pairwise (λ a b. IsNormalTerm p.sig a) ts ts → LeadsIn p hooks P r ts xs us → Pairwise (IsLed p hooks r) ts us
+      arguments_led {r} {ts} _ n all_stand = all_led r ts n
+      arguments_led {r} {ts} {us} _ n (in_one {t = t} {u = u} {xs = xs} {ys = ys} i e a b) =
+          let f = run_led xs (normal_at ts i t e n) a in
+          at_one r ts us i t u e f n (arguments_led ys (normal_set ts i u f.to n) b)
 
-      condition_shown : {g : Variable → Tree} {j : ℕ} {cs : List Fragment} (es : List Told) (h : Variable → Tree) → AreReadings p.sig g h → AreBareFragments p.sig cs → ReplaceNormal p.sig es → Shown p hooks P g j cs es → AreShown h cs
-      condition_shown _ i reads w m nothing_to_show = record { uses = []; derivable = no_facts; shown = tt }
-      condition_shown {j = j} _ i reads w m (shows_equal {cs = cs} {xs = xs} {ys = ys} {zs = zs} t u {a = a0} {b = b0} {v = v} ea eb na nb a b c) =
-          let sides = before_normal p.sig (xs ++ leaves v ∷ enters b0 (OfFragment j 1) ∷ ys) (leaves v ∷ zs) m in
-          let f = run_led xs na (before_normal p.sig xs (leaves v ∷ enters b0 (OfFragment j 1) ∷ ys) sides) a in
-          let k = run_led ys nb (behind_normal p.sig xs (leaves v ∷ enters b0 (OfFragment j 1) ∷ ys) sides) b in
-          let rest = condition_shown zs i reads w.2 (behind_normal p.sig (xs ++ leaves v ∷ enters b0 (OfFragment j 1) ∷ ys) (leaves v ∷ zs) m) c in
+      condition_shown : {g : Variable → Tree} {j : ℕ} {cs : List Fragment} (es : List Told) (h : Variable → Tree) → AreReadings p.sig g h → AreBareFragments p.sig cs → Shown p hooks P g j cs es → AreShown h cs
+      condition_shown _ i reads w nothing_to_show = record { uses = []; derivable = no_facts; shown = tt }
+      condition_shown {j = j} _ i reads w (shows_equal {cs = cs} {xs = xs} {ys = ys} {zs = zs} t u {a = a0} {b = b0} {v = v} ea eb na nb a b c) =
+          let f = run_led xs na a in
+          let k = run_led ys nb b in
+          let rest = condition_shown zs i reads w.2 c in
           let x = leads f.by_equations (reading (theory_at p.sig) a0) (reading (theory_at p.sig) v) in
           let y = leads k.by_equations (reading (theory_at p.sig) b0) (reading (theory_at p.sig) v) in
           record {
@@ -369,9 +343,9 @@ module _ (p : Program) (hooks : List Operator) (P : ℕ → Tree → Type 0)
               all_more rest.uses (x ∷ y ∷ rest.uses) i cs (λ z q. behind_one x (y ∷ rest.uses) z (behind_one y rest.uses z q)) rest.shown,
             );
           }
-      condition_shown _ i reads w m (shows_match {cs = cs} {ys = ys} {zs = zs} q u {b = b0} {v = v} eb ev nb b c) =
-          let k = run_led ys nb (before_normal p.sig ys (leaves v ∷ zs) m) b in
-          let rest = condition_shown zs i reads w.2 (behind_normal p.sig ys (leaves v ∷ zs) m) c in
+      condition_shown _ i reads w (shows_match {cs = cs} {ys = ys} {zs = zs} q u {b = b0} {v = v} eb ev nb b c) =
+          let k = run_led ys nb b in
+          let rest = condition_shown zs i reads w.2 c in
           let y = leads k.by_equations (reading (theory_at p.sig) b0) (reading (theory_at p.sig) v) in
           record {
             uses = y ∷ rest.uses;
@@ -381,10 +355,10 @@ module _ (p : Program) (hooks : List Operator) (P : ℕ → Tree → Type 0)
               all_more rest.uses (y ∷ rest.uses) i cs (behind_one y rest.uses) rest.shown,
             );
           }
-      condition_shown _ i reads w m (shows_sort {cs = cs} {xs = xs} {zs = zs} t r {a = a0} {v = v} ea na a h c) =
-          let f = run_led xs na (before_normal p.sig xs (leaves v ∷ zs) m) a in
-          let s = sorted r v h in
-          let rest = condition_shown zs i reads w.1 (behind_normal p.sig xs (leaves v ∷ zs) m) c in
+      condition_shown _ i reads w (shows_sort {cs = cs} {xs = xs} {zs = zs} t r {a = a0} {v = v} ea na a h c) =
+          let f = run_led xs na a in
+          let s = sorted r v f.to h in
+          let rest = condition_shown zs i reads w.1 c in
           let x = leads f.by_equations (reading (theory_at p.sig) a0) (reading (theory_at p.sig) v) in
           record {
             uses = x ∷ (s.uses ++ rest.uses);

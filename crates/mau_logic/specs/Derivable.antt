@@ -1,5 +1,5 @@
 -- What facts say that can stand in a justified section: by terms in place of their numbers.
-use Rattle.std.specs.Prelude.{◌≡◌, ℕ, List, [], ◌∷◌, All, Bool, true, false, Some}
+use Rattle.std.specs.Prelude.{◌≡◌, ℕ, ◌<◌, List, [], ◌∷◌, All, Bool, true, false, Some}
 use Rattle.mau_terms.specs.Tree.{Tree}
 use Rattle.mau_terms.specs.Reading.{reading}
 use Rattle.mau_terms.specs.Bare.{IsBareIn, EqualModulo}
@@ -19,16 +19,19 @@ use Rattle.mau_logic.specs.Justified.{UsesEquation, UsesRule, UsesBuilt, IsUnder
 pub data Follows (p : Program) (hooks : List Operator) (us : List Says) : Says → Type 0 where
   same : (t u : Tree) → IsBareWithin p.sig t → IsBareWithin p.sig u → EqualModulo (terms_over p.sig) t u → Follows p hooks us (leads true t u)
   by_equation : (n : ℕ) (e : Equation) (c t u : Tree) (vs : List Tree) → numbered p.equations n ≡ Some e →
-      IsBareWithin p.sig c → IsBareWithin p.sig t → IsBareWithin p.sig u → All (IsBareWithin p.sig) vs → UsesEquation p.sig e c t u vs us → Follows p hooks us (leads true t u)
+      IsBareWithin p.sig c → IsBareWithin p.sig t → IsBareWithin p.sig u → All (IsBareWithin p.sig) vs → UsesEquation p.sig e c t u vs us →
+      Follows p hooks us (leads true t u)
   by_rule : (n : ℕ) (q : Rule) (c t u : Tree) (vs : List Tree) → numbered p.rules n ≡ Some q →
-      IsBareWithin p.sig c → IsBareWithin p.sig t → IsBareWithin p.sig u → All (IsBareWithin p.sig) vs → UsesRule p.sig q c t u vs us → Follows p hooks us (leads false t u)
+      IsBareWithin p.sig c → IsBareWithin p.sig t → IsBareWithin p.sig u → All (IsBareWithin p.sig) vs → UsesRule p.sig q c t u vs us →
+      Follows p hooks us (leads false t u)
   by_built_in : (f : ℕ) (c t u : Tree) (ts : List Tree) →
-      IsBareWithin p.sig c → IsBareWithin p.sig t → IsBareWithin p.sig u → All (IsBareWithin p.sig) ts → UsesBuilt p.sig hooks f c t u ts → Follows p hooks us (leads true t u)
+      IsBareWithin p.sig c → IsBareWithin p.sig t → IsBareWithin p.sig u → All (IsBareWithin p.sig) ts → UsesBuilt p.sig hooks f c t u ts →
+      Follows p hooks us (leads true t u)
   under : (f : ℕ) (t u : Tree) → IsBareWithin p.sig t → IsBareWithin p.sig u → IsUnder p.sig f us t u → Follows p hooks us (leads (all_equational us) t u)
   chain : (t u : Tree) → LeadOn p.sig us → start_of us ≡ Some t → end_of us ≡ Some u → Follows p hooks us (leads (all_equational us) t u)
-  declared : (t : Tree) (r : ℕ) → IsBareWithin p.sig t → HasSortBy p.sig us r t → Follows p hooks us (of_sort t r)
-  member : (n : ℕ) (m : Membership) (t : Tree) (r : ℕ) (vs : List Tree) → numbered p.memberships n ≡ Some m → IsBareWithin p.sig t → All (IsBareWithin p.sig) vs →
-      IsMember p.sig m r t vs us → Follows p hooks us (of_sort t r)
+  declared : (t : Tree) (r : ℕ) → IsBareWithin p.sig t → r < p.sig.hierarchy.sorts → HasSortBy p.sig us r t → Follows p hooks us (of_sort t r)
+  member : (n : ℕ) (m : Membership) (t : Tree) (r : ℕ) (vs : List Tree) → numbered p.memberships n ≡ Some m →
+      IsBareWithin p.sig t → r < p.sig.hierarchy.sorts → All (IsBareWithin p.sig) vs → IsMember p.sig m r t vs us → Follows p hooks us (of_sort t r)
 
 -- by facts that follow from facts
 mutual

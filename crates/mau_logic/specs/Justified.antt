@@ -58,6 +58,11 @@ UsesEquation s e = Uses s (statement_variables (tree_of e.left) e.cond (tree_of 
 abbrev pub UsesRule : SignatureOf → Rule → Tree → Tree → Tree → List Tree → List Says → Type 0
 UsesRule s q = Uses s (statement_variables (tree_of q.left) q.cond (tree_of q.right)) (tree_of q.left) (tree_of q.right) q.cond
 
+-- that of the rule with a number, where the Bool is true, or else of the equation
+abbrev pub UsesStatement : Program → Bool → ℕ → Tree → Tree → Tree → List Tree → List Says → Type 0
+UsesStatement p true n c t u vs us = With (numbered p.rules n) λ q. UsesRule p.sig q c t u vs us
+UsesStatement p false n c t u vs us = With (numbered p.equations n) λ e. UsesEquation p.sig e c t u vs us
+
 -- one use of what is built in of the operator f, over the terms ts; what it gives is a normal form
 pub record UsesBuilt (s : SignatureOf) (hooks : List Operator) (f : ℕ) (c t u : Tree) (ts : List Tree) : Type 0 where
   pub operator : IsOperator s f
@@ -113,17 +118,14 @@ pub record IsMember (s : SignatureOf) (m : Membership) (r : ℕ) (t : Tree) (vs 
 abbrev pub IsSortNumber : SignatureOf → ℕ → Type 0
 IsSortNumber s r = (1 ≤ r) × (r ≤ s.hierarchy.sorts)
 
--- the fact is justified, where terms are those of its section and before is what the facts before it say
+-- The fact is justified, where terms are those of its section and before is what the facts before it say. Which axioms a fact of the second format
+-- names is not asked.
 abbrev pub IsJustified : Program → List Operator → List (Option Tree) → List Says → Fact → Type 0
 IsJustified p hooks terms before (Same t u axioms) = WithTerm p.sig terms t λ x. WithTerm p.sig terms u λ y. EqualModulo (terms_over p.sig) x y
 IsJustified p hooks terms before (Step f) =
     WithTerm p.sig terms f.context λ c. WithTerm p.sig terms f.from λ t. WithTerm p.sig terms f.to λ u.
     WithTerms p.sig terms f.bind λ vs. With (all_numbered before f.uses) λ us.
-    by f.rule c t u vs us
-  where
-    by : Bool → Tree → Tree → Tree → List Tree → List Says → Type 0
-    by true c t u vs us = With (numbered p.rules f.number) λ q. UsesRule p.sig q c t u vs us
-    by false c t u vs us = With (numbered p.equations f.number) λ e. UsesEquation p.sig e c t u vs us
+    UsesStatement p f.rule f.number c t u vs us
 IsJustified p hooks terms before (Built f) =
     WithTerm p.sig terms f.context λ c. WithTerm p.sig terms f.from λ t. WithTerm p.sig terms f.to λ u.
     WithTerms p.sig terms f.args λ ts. UsesBuilt p.sig hooks f.op c t u ts
@@ -138,9 +140,13 @@ IsJustified p hooks terms before (SortMb f) =
 
 -- ---- sections
 
--- the first k facts are justified, each from those before it
+-- the first k of some facts are justified, each from those before it
+abbrev pub AreJustifiedOver : Program → List Operator → List (Option Tree) → List Fact → ℕ → Type 0
+AreJustifiedOver p hooks terms facts k = (i : ℕ) (f : Fact) → i < k → slice_get facts i ≡ Some f → IsJustified p hooks terms (all_said terms (take i facts)) f
+
+-- those of a section, over its terms
 abbrev pub AreJustified : Program → List Operator → Section → ℕ → Type 0
-AreJustified p hooks x k = (i : ℕ) (f : Fact) → i < k → slice_get x.facts i ≡ Some f → IsJustified p hooks (section_terms p x) (all_said (section_terms p x) (take i x.facts)) f
+AreJustified p hooks x k = AreJustifiedOver p hooks (section_terms p x) x.facts k
 
 -- all facts are
 abbrev pub IsJustifiedSection : Program → List Operator → Section → Type 0

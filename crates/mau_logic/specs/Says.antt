@@ -39,13 +39,13 @@ end_of (leads e t u ∷ []) = Some u
 end_of (x ∷ []) = None
 end_of (x ∷ y ∷ xs) = end_of (y ∷ xs)
 
+abbrev pub or_none : Option (List Says) → List Says
+or_none (Some xs) = xs
+or_none None = []
+
 -- what the facts with these numbers say, where all are there
 abbrev pub facts_at : List Says → List ℕ → List Says
-facts_at before ns = by (all_numbered before ns)
-  where
-    by : Option (List Says) → List Says
-    by (Some xs) = xs
-    by None = []
+facts_at before ns = or_none (all_numbered before ns)
 
 -- what a fact says, where terms are those of its section and before is what the facts before it say
 abbrev pub said : List (Option Tree) → List Says → Fact → Says

@@ -88,8 +88,8 @@ module _ {A C S : Type 0} (w w' : Words A C S) (k : Keeps w w') where
   known_on (Waiting.Right c t) h = ((k.bindings c.condition c.at c.binding h.0).0, asks_on c.condition c.at _ h.1, (k.values t.0 h.2).0)
   known_on (Waiting.Sorting c) h = ((k.bindings c.condition c.at c.binding h.0).0, asks_on c.condition c.at _ h.1)
   known_on (Waiting.Matching c) h = ((k.bindings c.condition c.at c.binding h.0).0, asks_on c.condition c.at _ h.1)
-  known_on (Waiting.Choice c) h = (k.choices c.condition c.at c.choices h).0
-  known_on (Waiting.Trying x n) h = ((k.values x.term.0 h.0).0, (k.attempts x.term.0 x.attempts h.1).0, (k.candidates x.term.0 x.condition x.attempts h.2).0)
+  known_on (Waiting.Choice c mark) h = (k.choices c.condition c.at c.choices h).0
+  known_on (Waiting.Trying x n mark) h = ((k.values x.term.0 h.0).0, (k.attempts x.term.0 x.attempts h.1).0, (k.candidates x.term.0 x.condition x.attempts h.2).0)
 
   next_on : (c : Control A C S) → IsKnownNext w c → IsKnownNext w' c
   next_on (Next.Eval n t) h = (k.terms t.0 h).0
@@ -114,8 +114,8 @@ module _ {A C S : Type 0} (w w' : Words A C S) (k : Keeps w w') where
   same_asks (Waiting.Right c t) h = refl
   same_asks (Waiting.Sorting c) h = refl
   same_asks (Waiting.Matching c) h = refl
-  same_asks (Waiting.Choice c) h = refl
-  same_asks (Waiting.Trying x n) h = refl
+  same_asks (Waiting.Choice c mark) h = refl
+  same_asks (Waiting.Trying x n mark) h = refl
 
   same_yields : (f : Frame A C S) → IsKnown w f → yields w' f ≡ yields w f
   same_yields (Waiting.Argument a i) h = ap value_of (same_under a.op.0)
@@ -124,8 +124,8 @@ module _ {A C S : Type 0} (w w' : Words A C S) (k : Keeps w w') where
   same_yields (Waiting.Right c t) h = refl
   same_yields (Waiting.Sorting c) h = refl
   same_yields (Waiting.Matching c) h = refl
-  same_yields (Waiting.Choice c) h = refl
-  same_yields (Waiting.Trying x n) h = ap value_of (same_value_kind x.term.0 h.0)
+  same_yields (Waiting.Choice c mark) h = refl
+  same_yields (Waiting.Trying x n mark) h = ap value_of (same_value_kind x.term.0 h.0)
 
   same_comes : (c : Control A C S) → IsKnownNext w c → comes_to w' c ≡ comes_to w c
   same_comes (Next.Eval n t) h = ap value_of (same_kind t.0 h)
@@ -160,8 +160,8 @@ module _ {A C S : Type 0} (w w' : Words A C S) (k : Keeps w w') where
       ap (λ σ. right_side c.level c.condition c.at σ (w'.tree t.0)) (k.bindings c.condition c.at c.binding h.0).1 ∙ ap (right_side c.level c.condition c.at (w.bound c.binding)) (k.values t.0 h.2).1
   same_waits (Waiting.Sorting c) h = ap (sorting c.level c.condition c.at) (k.bindings c.condition c.at c.binding h.0).1
   same_waits (Waiting.Matching c) h = ap (matching c.level c.condition c.at) (k.bindings c.condition c.at c.binding h.0).1
-  same_waits (Waiting.Choice c) h = ap (λ u. choice u c.before) (λ i b. (k.choices c.condition c.at c.choices h).1 c.level b i)
-  same_waits (Waiting.Trying x n) h =
+  same_waits (Waiting.Choice c mark) h = ap (λ u. choice u c.before) (λ i b. (k.choices c.condition c.at c.choices h).1 c.level b i)
+  same_waits (Waiting.Trying x n mark) h =
       ap (λ t. trying x.level t (w'.untried x.attempts x.level) (w'.makes x.attempts) n) (k.values x.term.0 h.0).1
       ∙ (ap (λ u. trying x.level (w.tree x.term.0) u (w'.makes x.attempts) n) (λ i b. (k.attempts x.term.0 x.attempts h.1).1 x.level b i)
       ∙ ap (λ m. trying x.level (w.tree x.term.0) (w.untried x.attempts x.level) m n) (λ i σ. (k.candidates x.term.0 x.condition x.attempts h.2).1 σ i))
@@ -213,6 +213,7 @@ same_state w = record {
   attempts = λ t a h. (h, λ k b. refl);
   candidates = λ t e a h. (h, λ σ. refl);
   choices = λ e i c h. (h, λ k b. refl);
+  chosen = λ e i c h. (refl, refl);
 }
 
 -- ---- arguments
@@ -240,8 +241,8 @@ module _ {A C S : Type 0} (w : Words A C S) where
   kind_at_get (y ∷ ids) (suc i) d h = kind_at_get ids i d (omega (arith, h))
 
   -- a machine in which nothing waits
-  pub entered : (fs : List (Frame A C S)) (c : Control A C S) (n b : ℕ) → fs ≡ [] → n ≡ 0 → whole w [] c 0 b ≡ whole w fs c n b
-  entered fs c n b e z = ap (λ m. whole w [] c m b) (sym z) ∙ ap (λ gs. whole w gs c n b) (sym e)
+  pub start_is : (fs : List (Frame A C S)) (c : Control A C S) (n b : ℕ) → fs ≡ [] → n ≡ 0 → whole w [] c 0 b ≡ whole w fs c n b
+  start_is fs c n b e z = ap (λ m. whole w [] c m b) (sym z) ∙ ap (λ gs. whole w gs c n b) (sym e)
 
   pub held_first : (asked : Due) (fs : List (Frame A C S)) (c : Control A C S) → fs ≡ [] → IsKnownNext w c → Suits asked (comes_to w c) → HoldsIn w asked fs c
   held_first asked fs c e k s = subst (λ gs. HoldsIn w asked gs c) (sym e) (record { frames = tt; next = k; chained = s })

@@ -49,8 +49,8 @@ module _ {A C S : Type 0} (w : Words A C S) where
   asks (Waiting.Right c t) = any_value
   asks (Waiting.Sorting c) = any_value
   asks (Waiting.Matching c) = any_value
-  asks (Waiting.Choice c) = answer_to c.condition
-  asks (Waiting.Trying x before) = answer_to x.condition
+  asks (Waiting.Choice c mark) = answer_to c.condition
+  asks (Waiting.Trying x before mark) = answer_to x.condition
 
   -- what comes of it for the frame below
   abbrev pub yields : Frame A C S → Due
@@ -60,8 +60,8 @@ module _ {A C S : Type 0} (w : Words A C S) where
   yields (Waiting.Right c t) = answer_to c.condition
   yields (Waiting.Sorting c) = answer_to c.condition
   yields (Waiting.Matching c) = answer_to c.condition
-  yields (Waiting.Choice c) = answer_to c.condition
-  yields (Waiting.Trying x before) = value_of (kind_of w x.term.0)
+  yields (Waiting.Choice c mark) = answer_to c.condition
+  yields (Waiting.Trying x before mark) = value_of (kind_of w x.term.0)
 
   -- what comes of what is done next
   abbrev pub comes_to : Control A C S → Due
@@ -88,8 +88,8 @@ module _ {A C S : Type 0} (w : Words A C S) where
   IsKnown (Waiting.Right c t) = w.knows_binding c.condition c.at c.binding × Asks w.rules c.condition c.at Goals.Equality × w.knows_value t.0
   IsKnown (Waiting.Sorting c) = w.knows_binding c.condition c.at c.binding × Asks w.rules c.condition c.at Goals.Sort
   IsKnown (Waiting.Matching c) = w.knows_binding c.condition c.at c.binding × Asks w.rules c.condition c.at Goals.Matching
-  IsKnown (Waiting.Choice c) = w.knows_choices c.condition c.at c.choices
-  IsKnown (Waiting.Trying x before) = w.knows_value x.term.0 × w.knows_attempts x.term.0 x.attempts × w.knows_candidate x.term.0 x.condition x.attempts
+  IsKnown (Waiting.Choice c mark) = w.knows_choices c.condition c.at c.choices
+  IsKnown (Waiting.Trying x before mark) = w.knows_value x.term.0 × w.knows_attempts x.term.0 x.attempts × w.knows_candidate x.term.0 x.condition x.attempts
 
   -- what is done next is known
   abbrev pub IsKnownNext : Control A C S → Type 0

@@ -1,4 +1,6 @@
 pub mod Words
+pub mod Uses
 pub mod Machine
 pub mod Known
+pub mod Telling
 pub mod Steps

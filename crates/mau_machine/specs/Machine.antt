@@ -46,8 +46,8 @@ module _ {A C S : Type 0} (w : Words A C S) where
   waits_in (Waiting.Right c t) = right_side c.level c.condition c.at (w.bound c.binding) (w.tree t.0)
   waits_in (Waiting.Sorting c) = sorting c.level c.condition c.at (w.bound c.binding)
   waits_in (Waiting.Matching c) = matching c.level c.condition c.at (w.bound c.binding)
-  waits_in (Waiting.Choice c) = choice (w.unchosen c.choices c.level c.condition c.at) c.before
-  waits_in (Waiting.Trying x before) = trying x.level (w.tree x.term.0) (w.untried x.attempts x.level) (w.makes x.attempts) before
+  waits_in (Waiting.Choice c mark) = choice (w.unchosen c.choices c.level c.condition c.at) c.before
+  waits_in (Waiting.Trying x before mark) = trying x.level (w.tree x.term.0) (w.untried x.attempts x.level) (w.makes x.attempts) before
 
   abbrev pub task_in : Control A C S → Task
   task_in (Next.Eval k t) = evaluates k (w.tree t.0)

@@ -1,12 +1,18 @@
 -- What a world's handles stand for, and what its calls say of them.
 use Rattle.std.specs.Prelude.{◌≡◌, ℕ, suc, ◌^◌, ◌-◌, ◌⊎◌, min, List, [], ◌∷◌, map, drop, Bool, true, false, Option, if◌then◌else◌}
 use Rattle.mau_terms.specs.Tree.{Tree, variable, numeral, apply}
-use Rattle.mau_terms.specs.Subst.{variables, instance}
+use Rattle.mau_terms.specs.Norm.{norm}
+use Rattle.mau_terms.specs.Subst.{Variable, variables, instance}
 use Rattle.mau_terms.specs.declared.ids.TermId.{TermId}
 use Rattle.mau_evaluation.specs.Run.{Outcome, done, ended, Run, stopped, too_deep, overflowed, and_try, first_of, where_true}
 use Rattle.mau_evaluation.specs.Program.{Fragment, equals, matches, has_sort, reaches, Program}
 use Rattle.mau_evaluation.specs.Listing.{keep, solutions, kind_at}
-use Rattle.mau_evaluation.specs.Evaluation.{Binding, look_up, extend, agree, has_number, have_sorts, levels, eval, solve, settle, applied}
+use Rattle.mau_evaluation.specs.Evaluation.{Binding, look_up, binds, extend, agree, has_number, have_sorts, levels, eval, solve, settle, applied}
+use Rattle.mau_signature.specs.Signature.{theory_at}
+use Rattle.mau_formula.specs.Operator.{Operator}
+use Rattle.mau_program.specs.declared.program.Program as Written
+use Rattle.mau_program.specs.declared.statements.Fragment as WrittenFragment
+use Rattle.mau_api.specs.Programs.{fragment_of}
 use Rattle.mau_api.specs.declared.results.EvalEnd.{EvalEnd}
 use Rattle.mau_api.specs.declared.results.EvalEnd.TheVariants.{Stopped, TooDeep, Overflow, NoMemory}
 use Rattle.mau_machine.specs.declared.goal.Goal.{Goal}
@@ -38,6 +44,12 @@ pub record Rules : Type 0 where
   pub limit : ℕ
   -- the condition that has a number: that of a candidate, or one that is asked
   pub cond : ℕ → List Fragment
+  -- the same as they are written, by which steps are told
+  pub written : Written.Program
+  pub hooks : List Operator
+  pub fragments : ℕ → List WrittenFragment.Fragment
+  pub is_cond : (e : ℕ) → cond e ≡ map fragment_of (fragments e)
+  pub is_theory : program.sign.theory ≡ theory_at written.sig
 
 -- What handles stand for in a state, and which of them are known there. A, C and S are the types of handles of candidates, of solutions of fragments,
 -- and of bindings.
@@ -65,6 +77,9 @@ pub record Words (A C S : Type 0) : Type 1 where
   -- what the solutions give that are left, at the fragment i of the condition e, by k levels
   pub unchosen : C → (k e i : ℕ) → Run (Option Binding)
   pub knows_choices : (e i : ℕ) → C → Type 0
+  -- the binding and the value with which the solutions began
+  pub chosen_from : C → Binding
+  pub chosen_value : C → Tree
 
 -- what is known in a state is known in a later one, and stands for the same
 pub record Keeps {A C S : Type 0} (w w' : Words A C S) : Type 0 where
@@ -76,6 +91,13 @@ pub record Keeps {A C S : Type 0} (w w' : Words A C S) : Type 0 where
   pub attempts : (t : ℕ) (a : A) → w.knows_attempts t a → w'.knows_attempts t a × ((k b : ℕ) → w'.untried a k b ≡ w.untried a k b)
   pub candidates : (t e : ℕ) (a : A) → w.knows_candidate t e a → w'.knows_candidate t e a × ((σ : Binding) → w'.makes a σ ≡ w.makes a σ)
   pub choices : (e i : ℕ) (c : C) → w.knows_choices e i c → w'.knows_choices e i c × ((k b : ℕ) → w'.unchosen c k e i b ≡ w.unchosen c k e i b)
+  pub chosen : (e i : ℕ) (c : C) → w.knows_choices e i c → (w'.chosen_from c ≡ w.chosen_from c) × (w'.chosen_value c ≡ w.chosen_value c)
+
+-- ---- bindings
+
+-- what σ binds has the same value in τ
+abbrev pub IsExtension : Binding → Binding → Type 0
+IsExtension σ τ = (x : Variable) → binds σ x ≡ true → (binds τ x ≡ true) × (look_up τ x ≡ look_up σ x)
 
 -- ---- fragments
 
@@ -191,3 +213,8 @@ module _ {A C S : Type 0} (w : Words A C S) where
   -- σ is a binding for which all of the condition e is solved
   abbrev pub IsSolution : ℕ → S → Type 0
   IsSolution e σ = (i : ℕ) × w.knows_binding e i σ × Asks w.rules e i Goals.Nothing
+
+  -- τ goes on from the binding with which the solutions of the fragment p := u began, and by it, whatever else is bound, p has the value of u
+  abbrev pub IsChoiceOf : ℕ → ℕ → C → Binding → Type 0
+  IsChoiceOf e i c τ = IsExtension (w.chosen_from c) τ
+      × ((υ : Binding) → IsExtension τ υ → norm w.rules.program.sign.theory (instance (look_up υ) (pattern_in (rest_of w.rules e i))) ≡ w.chosen_value c)

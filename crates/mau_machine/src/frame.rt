@@ -56,10 +56,10 @@ pub enum Frame<A, C, S> {
     Sorting(Condition<S>),
     /// `p := u` waits for the value of `u`.
     Matching(Condition<S>),
-    /// The fragments behind `p := u` are solved for one of its solutions.
-    Choice(Choosing<C>),
-    /// The condition of a candidate is solved; so much was counted before.
-    Trying(Trial<A>, u64),
+    /// The fragments behind `p := u` are solved for one of its solutions; so much was told before.
+    Choice(Choosing<C>, usize),
+    /// The condition of a candidate is solved; so much was counted, and so much told before.
+    Trying(Trial<A>, u64, usize),
 }
 
 /// What is done next.

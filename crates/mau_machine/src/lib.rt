@@ -6,6 +6,7 @@ mod goal;
 mod machine;
 mod replies;
 mod steps;
+mod telling;
 mod world;
 
 pub use frame::{Arguments, Choosing, Condition, Control, Frame, Trial};

@@ -1,14 +1,17 @@
 //! The loop.
-ghost use Rattle.std.specs.Prelude.{◌≡◌, ◌≤◌, ◌++◌, ◌∷◌, [], ℕ, Some, None, IfOk, IfErr, IfSome, IfNone, OnOk};
+ghost use Rattle.std.specs.Prelude.{◌≡◌, ◌≤◌, ◌++◌, ◌∷◌, [], ℕ, true, false, Some, None, IfOk, IfErr, IfSome, IfNone, OnOk, OnErr};
 ghost use Rattle.mau_evaluation.specs.Run.{done};
 ghost use Rattle.mau_machine.specs.Words.{capped, IsEnd, greatest_count, eval_on, solve_on, kind_of, IsSolution};
 ghost use Rattle.mau_machine.specs.Machine.{whole};
 ghost use Rattle.mau_machine.specs.Known.{Due, value_of, answer_to, HoldsIn};
-ghost use Rattle.mau_machine.specs.Steps.{IsAlike, StayKnown, AreHeld};
+ghost use Rattle.mau_evaluation.specs.Evaluation.{look_up};
+ghost use Rattle.mau_api.specs.Told.{TellsEvaluation, TellsCondition, TellsMore};
+ghost use Rattle.mau_machine.specs.Steps.{IsAlike, StayKnown, AreHeld, StayTold, AreTold, StayFront, IsWatched};
 
 use crate::steps::step;
+use crate::telling::{back, enter_whole, leave, mark};
 use crate::{Condition, Control, Frame, World};
-use mau_api::{EvalEnd, Reduced};
+use mau_api::{EvalEnd, Reduced, StepWatcher};
 use mau_store::Store;
 use mau_terms::{NoMemory, TermId};
 use std::alloc::Global;
@@ -45,43 +48,58 @@ impl<A: Drop, C: Drop, S: Drop> Machine<A, C, S> {
 }
 
 /// The value of a term by `level` levels.
-pub fn evaluate<W: World>(
+pub fn evaluate<W: World, T: StepWatcher>(
     alloc: Global,
     world: &mut W,
     store: &mut Store,
     term: TermId,
     level: u32,
     budget: &mut u64,
+    watcher: &mut T,
 ) -> Result<Reduced, EvalEnd>
     requires ready { W.ready world.old store.old }
     requires term { (W.words world.old store.old).knows_term term.0 }
-    ensures value { IfOk result (λ x. capped (eval_on (W.words world.old store.old).rules level ((W.words world.old store.old).tree term.0) budget.old)
+    ensures value { IfOk result (λ x. capped (eval_on (W.words world.old store.old).rules level
+        ((W.words world.old store.old).tree term.0) budget.old)
         ≡ done ((W.words world.new store.new).tree x.term.0) x.rewrites budget.new) }
-    ensures ends { IfErr result (IsEnd (eval_on (W.words world.old store.old).rules level ((W.words world.old store.old).tree term.0) budget.old)) }
+    ensures ends { IfErr result (IsEnd (eval_on (W.words world.old store.old).rules level
+        ((W.words world.old store.old).tree term.0) budget.old)) }
     ensures known { IfOk result (λ x. (W.words world.new store.new).knows_value x.term.0) }
     ensures kind { IfOk result (λ x. kind_of (W.words world.new store.new) x.term.0 ≡ kind_of (W.words world.old store.old) term.0) }
     ensures falls { budget.new ≤ budget.old }
     ensures grows { W.grows world.old store.old world.new store.new }
+    ensures told { T.wanted watcher.old ≡ true → IfOk result (λ x. TellsEvaluation (W.words world.new store.new).rules.written
+        (W.words world.new store.new).rules.hooks
+        store.new (W.table world.new) (T.told watcher.old) (T.told watcher.new) term x.term x.rewrites) }
+    ensures before { T.wanted watcher.old ≡ true → TellsMore (T.told watcher.old) (T.told watcher.new) }
+    ensures silent { T.wanted watcher.old ≡ false → T.told watcher.new ≡ T.told watcher.old }
+    ensures wanted { T.wanted watcher.new ≡ T.wanted watcher.old }
 {
+    enter_whole(watcher, term)?;
     let mut machine = Machine::new(alloc);
-    match run::<W>(
+    match run::<W, T>(
         world,
         store,
         &mut machine,
         Control::Eval(level, term),
         budget,
+        watcher,
     ) {
-        Ok(Control::Value(value)) => Ok(Reduced {
-            term: value,
-            rewrites: machine.rewrites,
-        }),
+        Ok(Control::Value(value)) => {
+            leave(watcher, value)?;
+            Ok(Reduced {
+                term: value,
+                rewrites: machine.rewrites,
+            })
+        }
+        // Never: what was asked comes.
         Ok(_) => Err(EvalEnd::NoMemory),
         Err(end) => Err(end),
     }
 }
 
 /// The first solution of a condition by `level` levels, and how many applications led to it.
-pub fn solve<W: World>(
+pub fn solve<W: World, T: StepWatcher>(
     alloc: Global,
     world: &mut W,
     store: &mut Store,
@@ -89,17 +107,29 @@ pub fn solve<W: World>(
     binding: W::Binding,
     level: u32,
     budget: &mut u64,
+    watcher: &mut T,
 ) -> Result<Option<(W::Binding, u64)>, EvalEnd>
     requires ready { W.ready world.old store.old }
     requires binding { (W.words world.old store.old).knows_binding condition 0 binding }
-    ensures some { IfOk result (λ o. IfSome o (λ x. capped (solve_on (W.words world.old store.old).rules level condition 0 ((W.words world.old store.old).bound binding) budget.old)
+    ensures some { IfOk result (λ o. IfSome o (λ x. capped (solve_on (W.words world.old store.old).rules level condition 0
+        ((W.words world.old store.old).bound binding) budget.old)
         ≡ done (Some ((W.words world.new store.new).bound x.0)) x.1 budget.new)) }
-    ensures none { IfOk result (λ o. IfNone o ((r : ℕ) × (solve_on (W.words world.old store.old).rules level condition 0 ((W.words world.old store.old).bound binding) budget.old
+    ensures none { IfOk result (λ o. IfNone o ((r : ℕ) × (solve_on (W.words world.old store.old).rules level condition 0
+        ((W.words world.old store.old).bound binding) budget.old
         ≡ done None r budget.new))) }
-    ensures ends { IfErr result (IsEnd (solve_on (W.words world.old store.old).rules level condition 0 ((W.words world.old store.old).bound binding) budget.old)) }
+    ensures ends { IfErr result (IsEnd (solve_on (W.words world.old store.old).rules level condition 0
+        ((W.words world.old store.old).bound binding) budget.old)) }
     ensures known { IfOk result (λ o. IfSome o (λ x. IsSolution (W.words world.new store.new) condition x.0)) }
     ensures falls { budget.new ≤ budget.old }
     ensures grows { W.grows world.old store.old world.new store.new }
+    ensures told { T.wanted watcher.old ≡ true → IfOk result (λ o. IfSome o
+        (λ x. TellsCondition (W.words world.new store.new).rules.written (W.words world.new store.new).rules.hooks
+        store.new (W.table world.new) (T.told watcher.old) (T.told watcher.new) (look_up ((W.words world.new store.new).bound x.0))
+        ((W.words world.new store.new).rules.fragments condition) x.1)) }
+    ensures untold { T.wanted watcher.old ≡ true → IfOk result (λ o. IfNone o (T.told watcher.new ≡ T.told watcher.old)) }
+    ensures before { T.wanted watcher.old ≡ true → TellsMore (T.told watcher.old) (T.told watcher.new) }
+    ensures silent { T.wanted watcher.old ≡ false → T.told watcher.new ≡ T.told watcher.old }
+    ensures wanted { T.wanted watcher.new ≡ T.wanted watcher.old }
 {
     let mut machine = Machine::new(alloc);
     let task = Control::Solve(Condition {
@@ -108,31 +138,47 @@ pub fn solve<W: World>(
         at: 0,
         binding,
     });
-    match run::<W>(world, store, &mut machine, task, budget) {
+    let mark = mark(watcher);
+    match run::<W, T>(world, store, &mut machine, task, budget, watcher) {
         Ok(Control::Held(_, solution)) => Ok(Some((solution, machine.rewrites))),
-        Ok(Control::Failed(_)) => Ok(None),
+        Ok(Control::Failed(_)) => {
+            back(watcher, mark);
+            Ok(None)
+        }
+        // Never: what was asked comes.
         Ok(_) => Err(EvalEnd::NoMemory),
         Err(end) => Err(end),
     }
 }
 
 /// Does what is next until nothing waits.
-fn run<W: World>(
+fn run<W: World, T: StepWatcher>(
     world: &mut W,
     store: &mut Store,
     machine: &mut Machine<W::Attempts, W::Choices, W::Binding>,
     task: Control<W::Attempts, W::Choices, W::Binding>,
     budget: &mut u64,
+    watcher: &mut T,
 ) -> Result<Control<W::Attempts, W::Choices, W::Binding>, EvalEnd>
     requires ready { W.ready world.old store.old }
     requires held { AreHeld (W.words world.old store.old) machine.old.frames.items task }
-    ensures goes { IfOk result (λ last. IsAlike (whole (W.words world.old store.old) machine.old.frames.items task machine.old.rewrites budget.old)
+    requires told { T.wanted watcher.old ≡ true → AreTold (W.words world.old store.old) store.old
+        (W.table world.old) machine.old.frames.items task machine.old.rewrites (T.told watcher.old) }
+    ensures goes { IfOk result (λ last. IsAlike (whole (W.words world.old store.old) machine.old.frames.items task machine.old.rewrites
+        budget.old)
         (whole (W.words world.new store.new) [] last machine.new.rewrites budget.new)) }
-    ensures ends { IfErr result (IsEnd (whole (W.words world.old store.old) machine.old.frames.items task machine.old.rewrites budget.old)) }
+    ensures ends { IfErr result (IsEnd (whole (W.words world.old store.old) machine.old.frames.items task machine.old.rewrites
+        budget.old)) }
     ensures known { IfOk result (StayKnown (W.words world.old store.old) (W.words world.new store.new) machine.old.frames.items task []) }
     ensures small { OnOk result (machine.new.rewrites ≤ greatest_count) }
     ensures falls { budget.new ≤ budget.old }
     ensures grows { W.grows world.old store.old world.new store.new }
+    ensures told { T.wanted watcher.old ≡ true → IfOk result (λ last. StayTold (W.words world.old store.old)
+        (W.words world.new store.new) store.old store.new (W.table world.old) (W.table world.new)
+        machine.old.frames.items task machine.old.rewrites (T.told watcher.old) [] last machine.new.rewrites (T.told watcher.new)) }
+    ensures front { T.wanted watcher.old ≡ true → (StayFront (W.words world.old store.old) store.old
+        (W.table world.old) machine.old.frames.items task machine.old.rewrites (T.told watcher.old) (T.told watcher.new)) }
+    ensures watched { IsWatched (T.wanted watcher.old) (T.wanted watcher.new) (T.told watcher.old) (T.told watcher.new) }
 {
     let _rewrites = machine.rewrites;
     let _budget = *budget;
@@ -142,7 +188,7 @@ fn run<W: World>(
             let _rewrites = machine.rewrites;
             return Ok(task);
         }
-        match step::<W>(world, store, machine, task, budget) {
+        match step::<W, T>(world, store, machine, task, budget, watcher) {
             Ok(next) => task = next,
             Err(end) => return Err(end),
         }

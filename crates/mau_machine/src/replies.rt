@@ -1,33 +1,49 @@
 //! What the last frame does with a value, or with what became of a condition.
-ghost use Rattle.std.specs.Prelude.{◌≡◌, ◌≤◌, ℕ, suc, Bool, IfOk, IfErr};
+ghost use Rattle.std.specs.Prelude.{◌≡◌, ◌≤◌, ◌+◌, ℕ, suc, List, Bool, true, IfOk, IfErr, OnErr};
 ghost use Rattle.mau_evaluation.specs.Run.{Outcome, counted_if, where_true};
-ghost use Rattle.mau_machine.specs.Words.{IsEnd, solve_on, PassesOn};
+ghost use Rattle.mau_machine.specs.Words.{IsEnd, solve_on, PassesOn, IsExtension};
 ghost use Rattle.mau_machine.specs.Machine.{Reply, as_answer, comes, task_in, whole};
 ghost use Rattle.mau_machine.specs.Known.{Due, answer_to, IsKnownNext, comes_to};
-ghost use Rattle.mau_machine.specs.Steps.{IsAlike, StayKnown, AreHeld};
+ghost use Rattle.mau_evaluation.specs.Evaluation.{Binding};
+ghost use Rattle.mau_api.specs.Events.{Event};
+ghost use Rattle.mau_api.specs.Told.{TellsMore, shown_count};
+ghost use Rattle.mau_machine.specs.Telling.{solving, IsShown, TellsTask, Counts};
+ghost use Rattle.mau_machine.specs.Steps.{IsAlike, StayKnown, AreHeld, StayTold, AreTold, IsWatched};
 
 use crate::machine::Machine;
 use crate::steps::side;
+use crate::telling::{back, begin, fragment_at, leave, make};
 use crate::{Arguments, Choosing, Condition, Control, Frame, World};
-use mau_api::EvalEnd;
+use mau_api::{EvalEnd, StepWatcher};
 use mau_store::Store;
 use mau_terms::TermId;
 
 /// The last frame is given a value.
-pub fn give<W: World>(
+pub fn give<W: World, T: StepWatcher>(
     world: &mut W,
     store: &mut Store,
     machine: &mut Machine<W::Attempts, W::Choices, W::Binding>,
     value: TermId,
+    watcher: &mut T,
 ) -> Result<Control<W::Attempts, W::Choices, W::Binding>, EvalEnd>
     requires ready { W.ready world.old store.old }
     requires held { AreHeld (W.words world.old store.old) machine.old.frames.items (Control.Value value) }
-    ensures goes { (b : ℕ) → IfOk result (λ next. IsAlike (whole (W.words world.new store.new) machine.old.frames.items (Control.Value value) machine.old.rewrites b)
+    ensures goes { (b : ℕ) → IfOk result (λ next. IsAlike (whole (W.words world.new store.new) machine.old.frames.items
+        (Control.Value value) machine.old.rewrites b)
         (whole (W.words world.new store.new) machine.new.frames.items next machine.new.rewrites b)) }
-    ensures ends { (b : ℕ) → IfErr result (IsEnd (whole (W.words world.new store.new) machine.old.frames.items (Control.Value value) machine.old.rewrites b)) }
-    ensures known { IfOk result (StayKnown (W.words world.old store.old) (W.words world.new store.new) machine.old.frames.items (Control.Value value) machine.new.frames.items) }
+    ensures ends { (b : ℕ) → IfErr result (IsEnd (whole (W.words world.new store.new) machine.old.frames.items
+        (Control.Value value) machine.old.rewrites b)) }
+    ensures known { IfOk result (StayKnown (W.words world.old store.old) (W.words world.new store.new) machine.old.frames.items
+        (Control.Value value) machine.new.frames.items) }
     ensures grows { W.grows world.old store.old world.new store.new }
+    ensures told { T.wanted watcher.old ≡ true → IfOk result (λ next. StayTold (W.words world.old store.old)
+        (W.words world.new store.new) store.old store.new (W.table world.old) (W.table world.new)
+        machine.old.frames.items (Control.Value value) machine.old.rewrites
+        (T.told watcher.old) machine.new.frames.items next machine.new.rewrites (T.told watcher.new)) }
+    ensures more { OnErr result (TellsMore (T.told watcher.old) (T.told watcher.new)) }
+    ensures watched { IsWatched (T.wanted watcher.old) (T.wanted watcher.new) (T.told watcher.old) (T.told watcher.new) }
 {
+    leave(watcher, value)?;
     match machine.frames.pop() {
         Some(Frame::Argument(arguments, place)) => {
             let mut arguments = arguments;
@@ -42,7 +58,14 @@ pub fn give<W: World>(
             let level = condition.level;
             match side::<W>(world, store, &condition, true) {
                 Ok(term) => {
-                    machine.wait(Frame::Right(condition, value))?;
+                    let place = fragment_at(condition.at, 1)?;
+                    begin(
+                        machine,
+                        watcher,
+                        Frame::Right(condition, value),
+                        term,
+                        place,
+                    )?;
                     Ok(Control::Eval(level, term))
                 }
                 Err(end) => Err(end),
@@ -77,6 +100,7 @@ pub fn give<W: World>(
             })),
             Err(_) => Err(EvalEnd::NoMemory),
         },
+        // Never: the last frame is given what it waits for.
         _ => Err(EvalEnd::NoMemory),
     }
 }
@@ -91,10 +115,17 @@ fn proceed<W: World>(
     requires binding { (W.words world.now store.now).knows_binding condition.condition condition.at condition.binding }
     requires passes { PassesOn (W.words world.now store.now).rules condition.condition condition.at }
     ensures goes { (r b : ℕ) → IfOk result (λ next. as_answer (counted_if r (where_true holds
-        (solve_on (W.words world.now store.now).rules condition.level condition.condition (suc condition.at) ((W.words world.now store.now).bound condition.binding)) b))
+        (solve_on (W.words world.now store.now).rules condition.level condition.condition (suc condition.at)
+        ((W.words world.now store.now).bound condition.binding)) b))
         ≡ comes (W.words world.now store.now).rules (task_in (W.words world.now store.now) next) r b) }
     ensures ends { (o : Outcome Reply) → IfErr result (IsEnd o) }
-    ensures known { IfOk result (λ next. IsKnownNext (W.words world.now store.now) next × (comes_to (W.words world.now store.now) next ≡ answer_to condition.condition)) }
+    ensures known { IfOk result (λ next. IsKnownNext (W.words world.now store.now) next
+        × (comes_to (W.words world.now store.now) next ≡ answer_to condition.condition)) }
+    ensures told { IfOk result (λ next. (r n e i : ℕ) (σ : Binding) (es : List Event) → r ≡ shown_count n
+        → (holds ≡ true → IsShown (W.words world.now store.now).rules store.now (W.table world.now) e i (condition.at + 1)
+        ((W.words world.now store.now).bound condition.binding) es)
+        → condition.condition ≡ e → IsExtension σ ((W.words world.now store.now).bound condition.binding)
+        → TellsTask (W.words world.now store.now) store.now (W.table world.now) (solving e i σ) next es × Counts next r n) }
 {
     if !holds {
         return Ok(Control::Failed(condition.condition));
@@ -111,41 +142,45 @@ fn proceed<W: World>(
 }
 
 /// The last frame is told that a condition holds.
-pub fn hold<W: World>(
+pub fn hold<W: World, T: StepWatcher>(
     world: &mut W,
     store: &mut Store,
     machine: &mut Machine<W::Attempts, W::Choices, W::Binding>,
     condition: usize,
     binding: W::Binding,
     budget: &mut u64,
+    watcher: &mut T,
 ) -> Result<Control<W::Attempts, W::Choices, W::Binding>, EvalEnd>
     requires ready { W.ready world.old store.old }
     requires held { AreHeld (W.words world.old store.old) machine.old.frames.items (Control.Held condition binding) }
-    ensures goes { IfOk result (λ next. IsAlike (whole (W.words world.new store.new) machine.old.frames.items (Control.Held condition binding) machine.old.rewrites budget.old)
+    ensures goes { IfOk result (λ next. IsAlike (whole (W.words world.new store.new) machine.old.frames.items
+        (Control.Held condition binding) machine.old.rewrites budget.old)
         (whole (W.words world.new store.new) machine.new.frames.items next machine.new.rewrites budget.new)) }
-    ensures ends { IfErr result (IsEnd (whole (W.words world.new store.new) machine.old.frames.items (Control.Held condition binding) machine.old.rewrites budget.old)) }
-    ensures known { IfOk result (StayKnown (W.words world.old store.old) (W.words world.new store.new) machine.old.frames.items (Control.Held condition binding) machine.new.frames.items) }
+    ensures ends { IfErr result (IsEnd (whole (W.words world.new store.new) machine.old.frames.items
+        (Control.Held condition binding) machine.old.rewrites budget.old)) }
+    ensures known { IfOk result (StayKnown (W.words world.old store.old) (W.words world.new store.new) machine.old.frames.items
+        (Control.Held condition binding) machine.new.frames.items) }
     ensures falls { budget.new ≤ budget.old }
     ensures grows { W.grows world.old store.old world.new store.new }
+    ensures told { T.wanted watcher.old ≡ true → IfOk result (λ next. StayTold (W.words world.old store.old)
+        (W.words world.new store.new) store.old store.new (W.table world.old) (W.table world.new)
+        machine.old.frames.items (Control.Held condition binding) machine.old.rewrites
+        (T.told watcher.old) machine.new.frames.items next machine.new.rewrites (T.told watcher.new)) }
+    ensures more { OnErr result (TellsMore (T.told watcher.old) (T.told watcher.new)) }
+    ensures watched { IsWatched (T.wanted watcher.old) (T.wanted watcher.new) (T.told watcher.old) (T.told watcher.new) }
 {
     match machine.frames.pop() {
-        Some(Frame::Choice(choosing)) => {
+        Some(Frame::Choice(choosing, mark)) => {
             machine.rewrites = choosing.before.saturating_add(machine.rewrites);
             Ok(Control::Held(condition, binding))
         }
-        Some(Frame::Trying(trial, before)) => {
+        Some(Frame::Trying(trial, before, mark)) => {
             if *budget == 0 {
                 return Err(EvalEnd::Stopped);
             }
             *budget -= 1;
             match trial.level.checked_add(1) {
-                Some(level) => match world.replace(
-                    store,
-                    trial.term,
-                    trial.condition,
-                    &trial.attempts,
-                    &binding,
-                ) {
+                Some(level) => match make::<W, T>(world, store, &trial, &binding, watcher) {
                     Ok(term) => {
                         machine.rewrites = before
                             .saturating_add(machine.rewrites)
@@ -157,28 +192,47 @@ pub fn hold<W: World>(
                 None => Err(EvalEnd::NoMemory),
             }
         }
+        // Never: the last frame is given what it waits for.
         _ => Err(EvalEnd::NoMemory),
     }
 }
 
 /// The last frame is told that a condition has no solution, or no further one.
-pub fn fail<W: World>(
+pub fn fail<W: World, T: StepWatcher>(
     world: &W,
     store: &Store,
     machine: &mut Machine<W::Attempts, W::Choices, W::Binding>,
     condition: usize,
+    watcher: &mut T,
 ) -> Result<Control<W::Attempts, W::Choices, W::Binding>, EvalEnd>
-    ensures goes { (b : ℕ) → IfOk result (λ next. IsAlike (whole (W.words world.now store.now) machine.old.frames.items (Control.Failed condition) machine.old.rewrites b)
+    requires ready { W.ready world.now store.now }
+    requires held { AreHeld (W.words world.now store.now) machine.old.frames.items (Control.Failed condition) }
+    requires told { T.wanted watcher.old ≡ true → AreTold (W.words world.now store.now) store.now
+        (W.table world.now) machine.old.frames.items (Control.Failed condition) machine.old.rewrites (T.told watcher.old) }
+    ensures goes { (b : ℕ) → IfOk result (λ next. IsAlike (whole (W.words world.now store.now) machine.old.frames.items
+        (Control.Failed condition) machine.old.rewrites b)
         (whole (W.words world.now store.now) machine.new.frames.items next machine.new.rewrites b)) }
     ensures ends { (o : Outcome Reply) → IfErr result (IsEnd o) }
-    ensures known { IfOk result (StayKnown (W.words world.now store.now) (W.words world.now store.now) machine.old.frames.items (Control.Failed condition) machine.new.frames.items) }
+    ensures known { IfOk result (StayKnown (W.words world.now store.now) (W.words world.now store.now) machine.old.frames.items
+        (Control.Failed condition) machine.new.frames.items) }
+    ensures told { T.wanted watcher.old ≡ true → IfOk result (λ next. StayTold (W.words world.now store.now)
+        (W.words world.now store.now) store.now store.now (W.table world.now) (W.table world.now)
+        machine.old.frames.items (Control.Failed condition) machine.old.rewrites
+        (T.told watcher.old) machine.new.frames.items next machine.new.rewrites (T.told watcher.new)) }
+    ensures more { OnErr result (TellsMore (T.told watcher.old) (T.told watcher.new)) }
+    ensures watched { IsWatched (T.wanted watcher.old) (T.wanted watcher.new) (T.told watcher.old) (T.told watcher.new) }
 {
     match machine.frames.pop() {
-        Some(Frame::Choice(choosing)) => Ok(Control::Choose(choosing)),
-        Some(Frame::Trying(trial, before)) => {
+        Some(Frame::Choice(choosing, mark)) => {
+            back(watcher, mark);
+            Ok(Control::Choose(choosing))
+        }
+        Some(Frame::Trying(trial, before, mark)) => {
+            back(watcher, mark);
             machine.rewrites = before;
             Ok(Control::Attempt(trial))
         }
+        // Never: the last frame is given what it waits for.
         _ => Err(EvalEnd::NoMemory),
     }
 }

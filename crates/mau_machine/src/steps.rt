@@ -1,48 +1,63 @@
 //! The steps of the loop: each does one thing.
-ghost use Rattle.std.specs.Prelude.{◌≡◌, ◌≤◌, ℕ, length, IfOk, IfErr};
+ghost use Rattle.std.specs.Prelude.{◌≡◌, ◌≤◌, ℕ, true, length, IfOk, IfErr, OnErr};
 ghost use Rattle.mau_evaluation.specs.Run.{Outcome};
+ghost use Rattle.mau_terms.specs.Norm.{norm};
 ghost use Rattle.mau_machine.specs.Words.{IsEnd, eval_on, kind_of, side_of, HasSide};
 ghost use Rattle.mau_machine.specs.Machine.{Reply, comes, task_in, whole};
 ghost use Rattle.mau_machine.specs.Known.{value_of, IsKnownNext, comes_to};
-ghost use Rattle.mau_machine.specs.Steps.{IsAlike, StayKnown, AreHeld};
+ghost use Rattle.mau_api.specs.Told.{TellsMore};
+ghost use Rattle.mau_machine.specs.Steps.{IsAlike, StayKnown, AreHeld, StayTold, AreTold, TaskStays, IsWatched};
 
 use crate::machine::Machine;
 use crate::replies::{fail, give, hold};
+use crate::telling::{argument_at, begin, fragment_at, mark};
 use crate::{Arguments, Choosing, Condition, Control, Frame, Goal, Trial, World};
-use mau_api::EvalEnd;
+use mau_api::{EvalEnd, Place, StepWatcher};
 use mau_store::Store;
 use mau_terms::TermId;
 
 /// One step.
-pub fn step<W: World>(
+pub fn step<W: World, T: StepWatcher>(
     world: &mut W,
     store: &mut Store,
     machine: &mut Machine<W::Attempts, W::Choices, W::Binding>,
     task: Control<W::Attempts, W::Choices, W::Binding>,
     budget: &mut u64,
+    watcher: &mut T,
 ) -> Result<Control<W::Attempts, W::Choices, W::Binding>, EvalEnd>
     requires ready { W.ready world.old store.old }
     requires held { AreHeld (W.words world.old store.old) machine.old.frames.items task }
-    ensures goes { IfOk result (λ next. IsAlike (whole (W.words world.new store.new) machine.old.frames.items task machine.old.rewrites budget.old)
+    requires told { T.wanted watcher.old ≡ true → AreTold (W.words world.old store.old) store.old
+        (W.table world.old) machine.old.frames.items task machine.old.rewrites (T.told watcher.old) }
+    ensures goes { IfOk result (λ next. IsAlike (whole (W.words world.new store.new) machine.old.frames.items task machine.old.rewrites
+        budget.old)
         (whole (W.words world.new store.new) machine.new.frames.items next machine.new.rewrites budget.new)) }
-    ensures ends { IfErr result (IsEnd (whole (W.words world.new store.new) machine.old.frames.items task machine.old.rewrites budget.old)) }
-    ensures known { IfOk result (StayKnown (W.words world.old store.old) (W.words world.new store.new) machine.old.frames.items task machine.new.frames.items) }
+    ensures ends { IfErr result (IsEnd (whole (W.words world.new store.new) machine.old.frames.items task machine.old.rewrites
+        budget.old)) }
+    ensures known { IfOk result (StayKnown (W.words world.old store.old)
+        (W.words world.new store.new) machine.old.frames.items task machine.new.frames.items) }
     ensures falls { budget.new ≤ budget.old }
     ensures grows { W.grows world.old store.old world.new store.new }
+    ensures told { T.wanted watcher.old ≡ true → IfOk result (λ next. StayTold (W.words world.old store.old)
+        (W.words world.new store.new) store.old store.new (W.table world.old) (W.table world.new)
+        machine.old.frames.items task machine.old.rewrites (T.told watcher.old) machine.new.frames.items next machine.new.rewrites
+        (T.told watcher.new)) }
+    ensures more { OnErr result (TellsMore (T.told watcher.old) (T.told watcher.new)) }
+    ensures watched { IsWatched (T.wanted watcher.old) (T.wanted watcher.new) (T.told watcher.old) (T.told watcher.new) }
 {
     let _budget = *budget;
     match task {
         Control::Eval(level, term) => open::<W>(world, store, level, term),
-        Control::Evaluating(arguments) => go_on::<W>(world, store, machine, arguments),
+        Control::Evaluating(arguments) => go_on::<W, T>(world, store, machine, arguments, watcher),
         Control::Top(level, term) => look::<W>(world, store, level, term),
-        Control::Attempt(trial) => attempt::<W>(world, store, machine, trial),
-        Control::Solve(condition) => solve::<W>(world, store, machine, condition),
-        Control::Choose(choosing) => choose::<W>(world, store, machine, choosing),
-        Control::Value(value) => give::<W>(world, store, machine, value),
-        Control::Held(condition, binding) => hold::<W>(
-            world, store, machine, condition, binding, budget,
+        Control::Attempt(trial) => attempt::<W, T>(world, store, machine, trial, watcher),
+        Control::Solve(condition) => solve::<W, T>(world, store, machine, condition, watcher),
+        Control::Choose(choosing) => choose::<W, T>(world, store, machine, choosing, watcher),
+        Control::Value(value) => give::<W, T>(world, store, machine, value, watcher),
+        Control::Held(condition, binding) => hold::<W, T>(
+            world, store, machine, condition, binding, budget, watcher,
         ),
-        Control::Failed(condition) => fail::<W>(world, store, machine, condition),
+        Control::Failed(condition) => fail::<W, T>(world, store, machine, condition, watcher),
     }
 }
 
@@ -55,10 +70,14 @@ fn open<W: World>(
 ) -> Result<Control<W::Attempts, W::Choices, W::Binding>, EvalEnd>
     requires ready { W.ready world.now store.now }
     requires term { (W.words world.now store.now).knows_term term.0 }
-    ensures goes { (r b : ℕ) → IfOk result (λ next. IsAlike (comes (W.words world.now store.now).rules (task_in (W.words world.now store.now) (Control.Eval level term)) r b)
+    ensures goes { (r b : ℕ) → IfOk result (λ next. IsAlike (comes (W.words world.now store.now).rules
+        (task_in (W.words world.now store.now) (Control.Eval level term)) r b)
         (comes (W.words world.now store.now).rules (task_in (W.words world.now store.now) next) r b)) }
-    ensures ends { (r b : ℕ) → IfErr result (IsEnd (comes (W.words world.now store.now).rules (task_in (W.words world.now store.now) (Control.Eval level term)) r b)) }
-    ensures known { IfOk result (λ next. IsKnownNext (W.words world.now store.now) next × (comes_to (W.words world.now store.now) next ≡ value_of (kind_of (W.words world.now store.now) term.0))) }
+    ensures ends { (r b : ℕ) → IfErr result (IsEnd (comes (W.words world.now store.now).rules
+        (task_in (W.words world.now store.now) (Control.Eval level term)) r b)) }
+    ensures known { IfOk result (λ next. IsKnownNext (W.words world.now store.now) next
+        × (comes_to (W.words world.now store.now) next ≡ value_of (kind_of (W.words world.now store.now) term.0))) }
+    ensures told { IfOk result (TaskStays (W.words world.now store.now) store.now (W.table world.now) (Control.Eval level term)) }
 {
     if level == 0 {
         return Err(EvalEnd::TooDeep);
@@ -77,23 +96,33 @@ fn open<W: World>(
 }
 
 /// The next argument is evaluated, or the term is rebuilt.
-fn go_on<W: World>(
+fn go_on<W: World, T: StepWatcher>(
     world: &mut W,
     store: &mut Store,
     machine: &mut Machine<W::Attempts, W::Choices, W::Binding>,
     arguments: Arguments,
+    watcher: &mut T,
 ) -> Result<Control<W::Attempts, W::Choices, W::Binding>, EvalEnd>
     requires ready { W.ready world.old store.old }
     requires operands { (W.words world.old store.old).knows_operands arguments.op.0 arguments.args.items }
-    ensures goes { (b : ℕ) → IfOk result (λ next. IsAlike (whole (W.words world.new store.new) machine.old.frames.items (Control.Evaluating arguments) machine.old.rewrites b)
+    ensures goes { (b : ℕ) → IfOk result (λ next. IsAlike (whole (W.words world.new store.new) machine.old.frames.items
+        (Control.Evaluating arguments) machine.old.rewrites b)
         (whole (W.words world.new store.new) machine.new.frames.items next machine.new.rewrites b)) }
-    ensures ends { (b : ℕ) → IfErr result (IsEnd (whole (W.words world.new store.new) machine.old.frames.items (Control.Evaluating arguments) machine.old.rewrites b)) }
-    ensures known { IfOk result (StayKnown (W.words world.old store.old) (W.words world.new store.new) machine.old.frames.items (Control.Evaluating arguments) machine.new.frames.items) }
+    ensures ends { (b : ℕ) → IfErr result (IsEnd (whole (W.words world.new store.new) machine.old.frames.items
+        (Control.Evaluating arguments) machine.old.rewrites b)) }
+    ensures known { IfOk result (StayKnown (W.words world.old store.old) (W.words world.new store.new) machine.old.frames.items
+        (Control.Evaluating arguments) machine.new.frames.items) }
     ensures grows { W.grows world.old store.old world.new store.new }
+    ensures told { T.wanted watcher.old ≡ true → IfOk result (λ next. StayTold (W.words world.old store.old)
+        (W.words world.new store.new) store.old store.new (W.table world.old) (W.table world.new)
+        machine.old.frames.items (Control.Evaluating arguments) machine.old.rewrites
+        (T.told watcher.old) machine.new.frames.items next machine.new.rewrites (T.told watcher.new)) }
+    ensures more { OnErr result (TellsMore (T.told watcher.old) (T.told watcher.new)) }
+    ensures watched { IsWatched (T.wanted watcher.old) (T.wanted watcher.new) (T.told watcher.old) (T.told watcher.new) }
 {
     let mut arguments = arguments;
     if arguments.next >= arguments.order.len() {
-        return rebuild::<W>(world, store, machine, arguments);
+        return rebuild::<W, T>(world, store, machine, arguments, watcher);
     }
     let place = arguments.order[arguments.next];
     let level = arguments.level;
@@ -102,29 +131,46 @@ fn go_on<W: World>(
         return Ok(Control::Evaluating(arguments));
     }
     let term = arguments.args[place];
-    machine.wait(Frame::Argument(arguments, place))?;
+    let at = argument_at(place)?;
+    begin(
+        machine,
+        watcher,
+        Frame::Argument(arguments, place),
+        term,
+        at,
+    )?;
     Ok(Control::Eval(level, term))
 }
 
 /// A term is rebuilt over its arguments.
-fn rebuild<W: World>(
+fn rebuild<W: World, T: StepWatcher>(
     world: &mut W,
     store: &mut Store,
     machine: &mut Machine<W::Attempts, W::Choices, W::Binding>,
     arguments: Arguments,
+    watcher: &mut T,
 ) -> Result<Control<W::Attempts, W::Choices, W::Binding>, EvalEnd>
     requires ready { W.ready world.old store.old }
     requires operands { (W.words world.old store.old).knows_operands arguments.op.0 arguments.args.items }
     requires last { length arguments.order.items ≤ arguments.next }
-    ensures goes { (b : ℕ) → IfOk result (λ next. IsAlike (whole (W.words world.new store.new) machine.old.frames.items (Control.Evaluating arguments) machine.old.rewrites b)
+    ensures goes { (b : ℕ) → IfOk result (λ next. IsAlike (whole (W.words world.new store.new) machine.old.frames.items
+        (Control.Evaluating arguments) machine.old.rewrites b)
         (whole (W.words world.new store.new) machine.new.frames.items next machine.new.rewrites b)) }
-    ensures ends { (b : ℕ) → IfErr result (IsEnd (whole (W.words world.new store.new) machine.old.frames.items (Control.Evaluating arguments) machine.old.rewrites b)) }
-    ensures known { IfOk result (StayKnown (W.words world.old store.old) (W.words world.new store.new) machine.old.frames.items (Control.Evaluating arguments) machine.new.frames.items) }
+    ensures ends { (b : ℕ) → IfErr result (IsEnd (whole (W.words world.new store.new) machine.old.frames.items
+        (Control.Evaluating arguments) machine.old.rewrites b)) }
+    ensures known { IfOk result (StayKnown (W.words world.old store.old) (W.words world.new store.new) machine.old.frames.items
+        (Control.Evaluating arguments) machine.new.frames.items) }
     ensures grows { W.grows world.old store.old world.new store.new }
+    ensures told { T.wanted watcher.old ≡ true → IfOk result (λ next. StayTold (W.words world.old store.old)
+        (W.words world.new store.new) store.old store.new (W.table world.old) (W.table world.new)
+        machine.old.frames.items (Control.Evaluating arguments) machine.old.rewrites
+        (T.told watcher.old) machine.new.frames.items next machine.new.rewrites (T.told watcher.new)) }
+    ensures more { OnErr result (TellsMore (T.told watcher.old) (T.told watcher.new)) }
+    ensures watched { IsWatched (T.wanted watcher.old) (T.wanted watcher.new) (T.told watcher.old) (T.told watcher.new) }
 {
     match world.build(store, arguments.op, &arguments.args, &arguments.order) {
         Ok((term, true)) => {
-            machine.wait(Frame::Again(term))?;
+            begin(machine, watcher, Frame::Again(term), term, Place::Whole)?;
             Ok(Control::Eval(arguments.level, term))
         }
         Ok((term, false)) => Ok(Control::Top(arguments.level, term)),
@@ -141,10 +187,13 @@ fn look<W: World>(
 ) -> Result<Control<W::Attempts, W::Choices, W::Binding>, EvalEnd>
     requires ready { W.ready world.old store.old }
     requires term { (W.words world.old store.old).knows_term term.0 }
-    ensures goes { (r b : ℕ) → IfOk result (λ next. IsAlike (comes (W.words world.new store.new).rules (task_in (W.words world.new store.new) (Control.Top level term)) r b)
+    ensures goes { (r b : ℕ) → IfOk result (λ next. IsAlike (comes (W.words world.new store.new).rules
+        (task_in (W.words world.new store.new) (Control.Top level term)) r b)
         (comes (W.words world.new store.new).rules (task_in (W.words world.new store.new) next) r b)) }
     ensures ends { (o : Outcome Reply) → IfErr result (IsEnd o) }
-    ensures known { IfOk result (λ next. IsKnownNext (W.words world.new store.new) next × (comes_to (W.words world.new store.new) next ≡ value_of (kind_of (W.words world.new store.new) term.0))) }
+    ensures known { IfOk result (λ next. IsKnownNext (W.words world.new store.new) next
+        × (comes_to (W.words world.new store.new) next ≡ value_of (kind_of (W.words world.new store.new) term.0))) }
+    ensures told { IfOk result (TaskStays (W.words world.new store.new) store.new (W.table world.new) (Control.Top level term)) }
     ensures grows { W.grows world.old store.old world.new store.new }
 {
     match world.attempts(store, term) {
@@ -159,20 +208,30 @@ fn look<W: World>(
 }
 
 /// The condition of the next candidate is solved, or there is none and the term is the value.
-fn attempt<W: World>(
+fn attempt<W: World, T: StepWatcher>(
     world: &mut W,
     store: &mut Store,
     machine: &mut Machine<W::Attempts, W::Choices, W::Binding>,
     trial: Trial<W::Attempts>,
+    watcher: &mut T,
 ) -> Result<Control<W::Attempts, W::Choices, W::Binding>, EvalEnd>
     requires ready { W.ready world.old store.old }
     requires value { (W.words world.old store.old).knows_value trial.term.0 }
     requires attempts { (W.words world.old store.old).knows_attempts trial.term.0 trial.attempts }
-    ensures goes { (b : ℕ) → IfOk result (λ next. IsAlike (whole (W.words world.new store.new) machine.old.frames.items (Control.Attempt trial) machine.old.rewrites b)
+    ensures goes { (b : ℕ) → IfOk result (λ next. IsAlike (whole (W.words world.new store.new) machine.old.frames.items
+        (Control.Attempt trial) machine.old.rewrites b)
         (whole (W.words world.new store.new) machine.new.frames.items next machine.new.rewrites b)) }
-    ensures ends { (b : ℕ) → IfErr result (IsEnd (whole (W.words world.new store.new) machine.old.frames.items (Control.Attempt trial) machine.old.rewrites b)) }
-    ensures known { IfOk result (StayKnown (W.words world.old store.old) (W.words world.new store.new) machine.old.frames.items (Control.Attempt trial) machine.new.frames.items) }
+    ensures ends { (b : ℕ) → IfErr result (IsEnd (whole (W.words world.new store.new) machine.old.frames.items
+        (Control.Attempt trial) machine.old.rewrites b)) }
+    ensures known { IfOk result (StayKnown (W.words world.old store.old) (W.words world.new store.new) machine.old.frames.items
+        (Control.Attempt trial) machine.new.frames.items) }
     ensures grows { W.grows world.old store.old world.new store.new }
+    ensures told { T.wanted watcher.old ≡ true → IfOk result (λ next. StayTold (W.words world.old store.old)
+        (W.words world.new store.new) store.old store.new (W.table world.old) (W.table world.new)
+        machine.old.frames.items (Control.Attempt trial) machine.old.rewrites
+        (T.told watcher.old) machine.new.frames.items next machine.new.rewrites (T.told watcher.new)) }
+    ensures more { OnErr result (TellsMore (T.told watcher.old) (T.told watcher.new)) }
+    ensures watched { IsWatched (T.wanted watcher.old) (T.wanted watcher.new) (T.told watcher.old) (T.told watcher.new) }
 {
     let mut trial = trial;
     match world.attempt(store, trial.term, &mut trial.attempts) {
@@ -181,7 +240,8 @@ fn attempt<W: World>(
             let level = trial.level;
             let before = machine.rewrites;
             trial.condition = condition;
-            machine.wait(Frame::Trying(trial, before))?;
+            let mark = mark(watcher);
+            machine.wait(Frame::Trying(trial, before, mark))?;
             machine.rewrites = 0;
             Ok(Control::Solve(Condition {
                 level,
@@ -195,19 +255,29 @@ fn attempt<W: World>(
 }
 
 /// The next fragment of a condition.
-fn solve<W: World>(
+fn solve<W: World, T: StepWatcher>(
     world: &mut W,
     store: &mut Store,
     machine: &mut Machine<W::Attempts, W::Choices, W::Binding>,
     condition: Condition<W::Binding>,
+    watcher: &mut T,
 ) -> Result<Control<W::Attempts, W::Choices, W::Binding>, EvalEnd>
     requires ready { W.ready world.old store.old }
     requires binding { (W.words world.old store.old).knows_binding condition.condition condition.at condition.binding }
-    ensures goes { (b : ℕ) → IfOk result (λ next. IsAlike (whole (W.words world.new store.new) machine.old.frames.items (Control.Solve condition) machine.old.rewrites b)
+    ensures goes { (b : ℕ) → IfOk result (λ next. IsAlike (whole (W.words world.new store.new) machine.old.frames.items
+        (Control.Solve condition) machine.old.rewrites b)
         (whole (W.words world.new store.new) machine.new.frames.items next machine.new.rewrites b)) }
-    ensures ends { (b : ℕ) → IfErr result (IsEnd (whole (W.words world.new store.new) machine.old.frames.items (Control.Solve condition) machine.old.rewrites b)) }
-    ensures known { IfOk result (StayKnown (W.words world.old store.old) (W.words world.new store.new) machine.old.frames.items (Control.Solve condition) machine.new.frames.items) }
+    ensures ends { (b : ℕ) → IfErr result (IsEnd (whole (W.words world.new store.new) machine.old.frames.items
+        (Control.Solve condition) machine.old.rewrites b)) }
+    ensures known { IfOk result (StayKnown (W.words world.old store.old) (W.words world.new store.new) machine.old.frames.items
+        (Control.Solve condition) machine.new.frames.items) }
     ensures grows { W.grows world.old store.old world.new store.new }
+    ensures told { T.wanted watcher.old ≡ true → IfOk result (λ next. StayTold (W.words world.old store.old)
+        (W.words world.new store.new) store.old store.new (W.table world.old) (W.table world.new)
+        machine.old.frames.items (Control.Solve condition) machine.old.rewrites
+        (T.told watcher.old) machine.new.frames.items next machine.new.rewrites (T.told watcher.new)) }
+    ensures more { OnErr result (TellsMore (T.told watcher.old) (T.told watcher.new)) }
+    ensures watched { IsWatched (T.wanted watcher.old) (T.wanted watcher.new) (T.told watcher.old) (T.told watcher.new) }
 {
     let level = condition.level;
     match world.goal(condition.condition, condition.at) {
@@ -215,21 +285,24 @@ fn solve<W: World>(
         Goal::Reaching => Ok(Control::Failed(condition.condition)),
         Goal::Equality => match side::<W>(world, store, &condition, false) {
             Ok(term) => {
-                machine.wait(Frame::Left(condition))?;
+                let place = fragment_at(condition.at, 0)?;
+                begin(machine, watcher, Frame::Left(condition), term, place)?;
                 Ok(Control::Eval(level, term))
             }
             Err(end) => Err(end),
         },
         Goal::Sort => match side::<W>(world, store, &condition, false) {
             Ok(term) => {
-                machine.wait(Frame::Sorting(condition))?;
+                let place = fragment_at(condition.at, 0)?;
+                begin(machine, watcher, Frame::Sorting(condition), term, place)?;
                 Ok(Control::Eval(level, term))
             }
             Err(end) => Err(end),
         },
         Goal::Matching => match side::<W>(world, store, &condition, true) {
             Ok(term) => {
-                machine.wait(Frame::Matching(condition))?;
+                let place = fragment_at(condition.at, 1)?;
+                begin(machine, watcher, Frame::Matching(condition), term, place)?;
                 Ok(Control::Eval(level, term))
             }
             Err(end) => Err(end),
@@ -248,10 +321,15 @@ pub fn side<W: World>(
     requires side { HasSide (W.words world.old store.old).rules condition.now.condition condition.now.at right }
     requires binding { (W.words world.old store.old).knows_binding condition.now.condition condition.now.at condition.now.binding }
     ensures value { (b : ℕ) → IfOk result (λ t. eval_on (W.words world.new store.new).rules condition.now.level
-        (side_of (W.words world.new store.new).rules condition.now.condition condition.now.at right ((W.words world.new store.new).bound condition.now.binding)) b
+        (side_of (W.words world.new store.new).rules condition.now.condition condition.now.at right
+        ((W.words world.new store.new).bound condition.now.binding)) b
         ≡ eval_on (W.words world.new store.new).rules condition.now.level ((W.words world.new store.new).tree t.0) b) }
     ensures ends { (b : ℕ) → IfErr result (IsEnd (eval_on (W.words world.new store.new).rules condition.now.level
-        (side_of (W.words world.new store.new).rules condition.now.condition condition.now.at right ((W.words world.new store.new).bound condition.now.binding)) b)) }
+        (side_of (W.words world.new store.new).rules condition.now.condition condition.now.at right
+        ((W.words world.new store.new).bound condition.now.binding)) b)) }
+    ensures is { IfOk result (λ t. (W.words world.new store.new).tree t.0 ≡ norm (W.words world.new store.new).rules.program.sign.theory
+        (side_of (W.words world.new store.new).rules condition.now.condition condition.now.at right
+        ((W.words world.new store.new).bound condition.now.binding))) }
     ensures known { IfOk result (λ t. (W.words world.new store.new).knows_term t.0) }
     ensures grows { W.grows world.old store.old world.new store.new }
 {
@@ -268,19 +346,29 @@ pub fn side<W: World>(
 }
 
 /// The fragments behind `p := u` are solved for its next solution, or there is none.
-fn choose<W: World>(
+fn choose<W: World, T: StepWatcher>(
     world: &mut W,
     store: &mut Store,
     machine: &mut Machine<W::Attempts, W::Choices, W::Binding>,
     choosing: Choosing<W::Choices>,
+    watcher: &mut T,
 ) -> Result<Control<W::Attempts, W::Choices, W::Binding>, EvalEnd>
     requires ready { W.ready world.old store.old }
     requires choices { (W.words world.old store.old).knows_choices choosing.condition choosing.at choosing.choices }
-    ensures goes { (b : ℕ) → IfOk result (λ next. IsAlike (whole (W.words world.new store.new) machine.old.frames.items (Control.Choose choosing) machine.old.rewrites b)
+    ensures goes { (b : ℕ) → IfOk result (λ next. IsAlike (whole (W.words world.new store.new) machine.old.frames.items
+        (Control.Choose choosing) machine.old.rewrites b)
         (whole (W.words world.new store.new) machine.new.frames.items next machine.new.rewrites b)) }
-    ensures ends { (b : ℕ) → IfErr result (IsEnd (whole (W.words world.new store.new) machine.old.frames.items (Control.Choose choosing) machine.old.rewrites b)) }
-    ensures known { IfOk result (StayKnown (W.words world.old store.old) (W.words world.new store.new) machine.old.frames.items (Control.Choose choosing) machine.new.frames.items) }
+    ensures ends { (b : ℕ) → IfErr result (IsEnd (whole (W.words world.new store.new) machine.old.frames.items
+        (Control.Choose choosing) machine.old.rewrites b)) }
+    ensures known { IfOk result (StayKnown (W.words world.old store.old) (W.words world.new store.new) machine.old.frames.items
+        (Control.Choose choosing) machine.new.frames.items) }
     ensures grows { W.grows world.old store.old world.new store.new }
+    ensures told { T.wanted watcher.old ≡ true → IfOk result (λ next. StayTold (W.words world.old store.old)
+        (W.words world.new store.new) store.old store.new (W.table world.old) (W.table world.new)
+        machine.old.frames.items (Control.Choose choosing) machine.old.rewrites
+        (T.told watcher.old) machine.new.frames.items next machine.new.rewrites (T.told watcher.new)) }
+    ensures more { OnErr result (TellsMore (T.told watcher.old) (T.told watcher.new)) }
+    ensures watched { IsWatched (T.wanted watcher.old) (T.wanted watcher.new) (T.told watcher.old) (T.told watcher.new) }
 {
     let mut choosing = choosing;
     match world.choose(
@@ -295,7 +383,8 @@ fn choose<W: World>(
             let condition = choosing.condition;
             match choosing.at.checked_add(1) {
                 Some(at) => {
-                    machine.wait(Frame::Choice(choosing))?;
+                    let mark = mark(watcher);
+                    machine.wait(Frame::Choice(choosing, mark))?;
                     machine.rewrites = 0;
                     Ok(Control::Solve(Condition {
                         level,

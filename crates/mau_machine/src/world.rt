@@ -1,20 +1,67 @@
 //! What the loop knows of terms and programs.
-ghost use Rattle.std.specs.Prelude.{◌≡◌, ℕ, suc, List, map, All, Bool, true, false, Option, Some, None, IfOk, IfErr, IfSome, IfNone, OnOk, slice_get};
+ghost use Rattle.std.specs.Prelude.{
+  ◌≡◌,
+  ℕ,
+  suc,
+  List,
+  map,
+  All,
+  Bool,
+  true,
+  false,
+  Option,
+  Some,
+  None,
+  IfOk,
+  IfErr,
+  IfSome,
+  IfNone,
+  OnOk,
+  slice_get,
+};
 ghost use Rattle.std.specs.List.{slice_set};
 ghost use Rattle.std.specs.Option.{option_map};
 ghost use Rattle.mau_terms.specs.declared.ids.TermId.{TermId};
 ghost use Rattle.mau_terms.specs.Tree.{node};
 ghost use Rattle.mau_terms.specs.Norm.{norm, build};
-ghost use Rattle.mau_store.specs.Node.{Node};
+ghost use Rattle.mau_store.specs.Node.{Node, IsOf, Extends};
+ghost use Rattle.mau_store.specs.Trees.{tree_at};
+ghost use Rattle.mau_sorts.specs.Table.{Table, KeepsEntries};
+ghost use Rattle.mau_listing.specs.Asked.{HasEntry};
 ghost use Rattle.mau_canon.specs.Within.{IsWithin};
 ghost use Rattle.mau_evaluation.specs.Run.{done, or_go_on, try_on, gives};
 ghost use Rattle.mau_evaluation.specs.Listing.{same_tree};
-ghost use Rattle.mau_evaluation.specs.Evaluation.{order_of, within_limits, top_changed};
+ghost use Rattle.mau_evaluation.specs.Evaluation.{Binding, order_of, within_limits, top_changed};
+ghost use Rattle.mau_api.specs.Terms.{IsNormalTerm};
+ghost use Rattle.mau_api.specs.Events.{made};
+ghost use Rattle.mau_api.specs.Told.{step_in, StandsIn};
+ghost use Rattle.mau_machine.specs.Uses.{IsUse};
 ghost use Rattle.mau_machine.specs.declared.goal.Goal.{Goal};
-ghost use Rattle.mau_machine.specs.Words.{Words, Keeps, IsEnd, trees, kind_of, eval_on, solve_on, Asks, HasSide, PassesOn, side_of, IsLeaf, IsUntried, IsSolution, IsSorted, IsUnchosen};
+ghost use Rattle.mau_machine.specs.Words.{
+  Words,
+  Keeps,
+  IsEnd,
+  trees,
+  kind_of,
+  eval_on,
+  solve_on,
+  Asks,
+  HasSide,
+  PassesOn,
+  side_of,
+  IsLeaf,
+  IsUntried,
+  IsSolution,
+  IsSorted,
+  IsUnchosen,
+  IsExtension,
+  IsChoiceOf,
+  rest_of,
+  sort_in,
+};
 
 use crate::Goal;
-use mau_api::EvalEnd;
+use mau_api::{EvalEnd, Step};
 use mau_store::Store;
 use mau_terms::{NoMemory, OpId, TermId};
 
@@ -24,7 +71,8 @@ use mau_terms::{NoMemory, OpId, TermId};
 /// the next one. Its clauses speak of the state after the call: there the handles that it was given are still known and stand for the
 /// same (`keeps`).
 pub trait World {
-    /// Candidates for an application at the top of a term that are not yet tried, and the one that was tried last.
+    /// Candidates for an application at the top of a term that are not yet tried, and the one that was tried last. A frame is as large as
+    /// the largest of what frames hold, so what is large here is boxed.
     type Attempts: Drop;
     /// Solutions of a fragment `p := u` that are not yet tried.
     type Choices: Drop;
@@ -33,6 +81,9 @@ pub trait World {
 
     /// What the handles stand for in a state.
     ghost words: { Self → List Node → Words Self.Attempts Self.Choices Self.Binding };
+
+    /// The sorts that are settled.
+    ghost table: { Self → Table };
 
     /// Calls may begin in this state.
     ghost ready: { Self → List Node → Type 0 };
@@ -49,8 +100,10 @@ pub trait World {
         requires ready { ready self.now store.now }
         requires term { (words self.now store.now).knows_term term.0 }
         ensures leaf { IfOk result (λ o. IfNone o (IsLeaf ((words self.now store.now).tree term.0))) }
-        ensures node { IfOk result (λ o. IfSome o (λ x. (words self.now store.now).tree term.0 ≡ node x.0.0 (trees (words self.now store.now) x.1.items))) }
-        ensures order { IfOk result (λ o. IfSome o (λ x. x.2.items ≡ order_of (words self.now store.now).rules.program x.0.0 (trees (words self.now store.now) x.1.items))) }
+        ensures node { IfOk result (λ o. IfSome o (λ x. (words self.now store.now).tree term.0 ≡ node x.0.0
+            (trees (words self.now store.now) x.1.items))) }
+        ensures order { IfOk result (λ o. IfSome o (λ x. x.2.items ≡ order_of (words self.now store.now).rules.program x.0.0
+            (trees (words self.now store.now) x.1.items))) }
         ensures known { IfOk result (λ o. IfSome o (λ x. (words self.now store.now).knows_operands x.0.0 x.1.items)) };
 
     /// The operator over arguments, and whether the top has changed.
@@ -71,7 +124,8 @@ pub trait World {
         ensures ends { (b : ℕ) → IfErr result (IsEnd (within_limits (words self.new store.new).rules.program.sign.theory
             (build ((words self.new store.new).rules.program.sign.theory op.0) op.0 (trees (words self.new store.new) args.now)) b)) }
         ensures known { IfOk result (λ x. (words self.new store.new).knows_term x.0.0) }
-        ensures kind { IfOk result (λ x. kind_of (words self.new store.new) x.0.0 ≡ Some ((words self.new store.new).rules.program.sign.result op.0)) }
+        ensures kind { IfOk result (λ x. kind_of (words self.new store.new) x.0.0 ≡ Some
+            ((words self.new store.new).rules.program.sign.result op.0)) }
         ensures grows { grows self.old store.old self.new store.new };
 
     /// Settles the sorts of a term, and begins with all that may be applied at its top.
@@ -117,12 +171,41 @@ pub trait World {
         requires candidate { (words self.old store.old).knows_candidate term.0 condition attempts.now }
         requires solution { IsSolution (words self.old store.old) condition binding.now }
         ensures value { (k b : ℕ) → IfOk result (λ t.
-            eval_on (words self.new store.new).rules (suc k) ((words self.new store.new).makes attempts.now ((words self.new store.new).bound binding.now)) b
+            eval_on (words self.new store.new).rules (suc k) ((words self.new store.new).makes attempts.now
+            ((words self.new store.new).bound binding.now)) b
             ≡ eval_on (words self.new store.new).rules (suc k) ((words self.new store.new).tree t.0) b) }
         ensures ends { (k b : ℕ) → IfErr result (IsEnd (eval_on (words self.new store.new).rules (suc k)
             ((words self.new store.new).makes attempts.now ((words self.new store.new).bound binding.now)) b)) }
+        ensures is { IfOk result (λ t. (words self.new store.new).tree t.0
+            ≡ norm (words self.new store.new).rules.program.sign.theory
+            ((words self.new store.new).makes attempts.now ((words self.new store.new).bound binding.now))) }
         ensures known { IfOk result (λ t. (words self.new store.new).knows_term t.0) }
         ensures kind { IfOk result (λ t. kind_of (words self.new store.new) t.0 ≡ kind_of (words self.new store.new) term.0) }
+        ensures grows { grows self.old store.old self.new store.new };
+
+    /// The step by which the last candidate leads from the term to what it makes of it.
+    fn step(
+        &mut self,
+        store: &mut Store,
+        term: TermId,
+        condition: usize,
+        attempts: &Self::Attempts,
+        binding: &Self::Binding,
+        after: TermId,
+    ) -> Result<Step, NoMemory>
+        requires ready { ready self.old store.old }
+        requires term { (words self.old store.old).knows_value term.0 }
+        requires candidate { (words self.old store.old).knows_candidate term.0 condition attempts.now }
+        requires solution { IsSolution (words self.old store.old) condition binding.now }
+        requires after { (words self.old store.old).knows_term after.0 }
+        requires is { (words self.old store.old).tree after.0
+            ≡ norm (words self.old store.old).rules.program.sign.theory
+            ((words self.old store.old).makes attempts.now ((words self.old store.old).bound binding.now)) }
+        ensures used { IfOk result (λ x. IsUse (words self.new store.new).rules.written (words self.new store.new).rules.hooks
+            (HasEntry (words self.new store.new).rules.written.sig store.new (table self.new))
+            ((words self.new store.new).rules.fragments condition) ((words self.new store.new).bound binding.now)
+            ((words self.new store.new).tree term.0) ((words self.new store.new).tree after.0) (step_in store.new x)) }
+        ensures stands { IfOk result (λ x. StandsIn store.new (made x)) }
         ensures grows { grows self.old store.old self.new store.new };
 
     /// What the fragment at a place of a condition asks.
@@ -142,10 +225,14 @@ pub trait World {
         requires side { HasSide (words self.old store.old).rules condition at right }
         requires binding { (words self.old store.old).knows_binding condition at binding.now }
         ensures value { (k b : ℕ) → IfOk result (λ t.
-            eval_on (words self.new store.new).rules (suc k) (side_of (words self.new store.new).rules condition at right ((words self.new store.new).bound binding.now)) b
+            eval_on (words self.new store.new).rules (suc k) (side_of (words self.new store.new).rules condition at right
+            ((words self.new store.new).bound binding.now)) b
             ≡ eval_on (words self.new store.new).rules (suc k) ((words self.new store.new).tree t.0) b) }
         ensures ends { (k b : ℕ) → IfErr result (IsEnd (eval_on (words self.new store.new).rules (suc k)
             (side_of (words self.new store.new).rules condition at right ((words self.new store.new).bound binding.now)) b)) }
+        ensures is { IfOk result (λ t. (words self.new store.new).tree t.0
+            ≡ norm (words self.new store.new).rules.program.sign.theory
+            (side_of (words self.new store.new).rules condition at right ((words self.new store.new).bound binding.now))) }
         ensures known { IfOk result (λ t. (words self.new store.new).knows_term t.0) }
         ensures grows { grows self.old store.old self.new store.new };
 
@@ -168,6 +255,8 @@ pub trait World {
         requires asks { Asks (words self.old store.old).rules condition at Goal.Sort }
         requires value { (words self.old store.old).knows_value value.0 }
         ensures value { IfOk result (IsSorted (words self.new store.new).rules condition at ((words self.new store.new).tree value.0)) }
+        ensures entry { IfOk result (λ has. has ≡ true → HasEntry (words self.new store.new).rules.written.sig store.new (table self.new)
+            (sort_in (rest_of (words self.new store.new).rules condition at)) ((words self.new store.new).tree value.0)) }
         ensures grows { grows self.old store.old self.new store.new };
 
     /// The solutions of a fragment `p := u` under a binding, where `u` has the value given.
@@ -183,8 +272,11 @@ pub trait World {
         requires asks { Asks (words self.old store.old).rules condition at Goal.Matching }
         requires binding { (words self.old store.old).knows_binding condition at binding }
         requires value { (words self.old store.old).knows_value value.0 }
-        ensures value { IfOk result (IsUnchosen (words self.new store.new) condition at ((words self.new store.new).bound binding) ((words self.new store.new).tree value.0)) }
+        ensures value { IfOk result (IsUnchosen (words self.new store.new) condition at ((words self.new store.new).bound binding)
+            ((words self.new store.new).tree value.0)) }
         ensures known { IfOk result ((words self.new store.new).knows_choices condition at) }
+        ensures begun { IfOk result (λ c. ((words self.new store.new).chosen_from c ≡ (words self.new store.new).bound binding)
+            × ((words self.new store.new).chosen_value c ≡ (words self.new store.new).tree value.0)) }
         ensures grows { grows self.old store.old self.new store.new };
 
     /// The binding by the next one, for the fragments behind.
@@ -197,12 +289,18 @@ pub trait World {
     ) -> Result<Option<Self::Binding>, NoMemory>
         requires ready { ready self.old store.old }
         requires choices { (words self.old store.old).knows_choices condition at choices.old }
-        ensures none { (k b : ℕ) → IfOk result (λ o. IfNone o ((words self.new store.new).unchosen choices.old k condition at b ≡ done None 0 b)) }
+        ensures none { (k b : ℕ) → IfOk result (λ o. IfNone o ((words self.new store.new).unchosen choices.old k condition at b
+            ≡ done None 0 b)) }
         ensures some { (k b : ℕ) → IfOk result (λ o. IfSome o (λ σ. (words self.new store.new).unchosen choices.old k condition at b
             ≡ or_go_on ((words self.new store.new).unchosen choices.new k condition at)
             (solve_on (words self.new store.new).rules k condition (suc at) ((words self.new store.new).bound σ) b))) }
         ensures known { IfOk result (λ o. IfSome o (λ σ. (words self.new store.new).knows_choices condition at choices.new
             × (words self.new store.new).knows_binding condition (suc at) σ)) }
+        ensures begun { IfOk result (λ o. IfSome o (λ σ. ((words self.new store.new).chosen_from choices.new
+            ≡ (words self.new store.new).chosen_from choices.old)
+            × ((words self.new store.new).chosen_value choices.new ≡ (words self.new store.new).chosen_value choices.old))) }
+        ensures solves { IfOk result (λ o. IfSome o (λ σ. IsChoiceOf (words self.new store.new) condition at choices.old
+            ((words self.new store.new).bound σ))) }
         ensures grows { grows self.old store.old self.new store.new };
 
     // ---- laws
@@ -218,16 +316,32 @@ pub trait World {
     ghost settled: { (s : Self) (nodes : List Node) (t : ℕ) → (words s nodes).knows_value t → (words s nodes).knows_term t };
 
     /// An operator may be built over terms of which one was replaced by a term of its kind.
-    ghost puts: { (s : Self) (nodes : List Node) (f : ℕ) (ts : List TermId) (i : ℕ) (t v : TermId) → (words s nodes).knows_operands f ts → slice_get ts i ≡ Some t
-        → (words s nodes).knows_term v.0 → kind_of (words s nodes) v.0 ≡ kind_of (words s nodes) t.0 → (words s nodes).knows_operands f (slice_set ts i v) };
+    ghost puts: { (s : Self) (nodes : List Node) (f : ℕ) (ts : List TermId) (i : ℕ) (t v : TermId) → (words s nodes).knows_operands f ts
+        → slice_get ts i ≡ Some t
+        → (words s nodes).knows_term v.0 → kind_of (words s nodes) v.0 ≡ kind_of (words s nodes) t.0 → (words s nodes).knows_operands f
+        (slice_set ts i v) };
 
     /// The terms over which an operator may be built are known.
-    ghost holds: { (s : Self) (nodes : List Node) (f : ℕ) (ts : List TermId) (i : ℕ) (t : TermId) → (words s nodes).knows_operands f ts → slice_get ts i ≡ Some t
+    ghost holds: { (s : Self) (nodes : List Node) (f : ℕ) (ts : List TermId) (i : ℕ) (t : TermId) → (words s nodes).knows_operands f ts
+        → slice_get ts i ≡ Some t
         → (words s nodes).knows_term t.0 };
 
     /// A binding for an equality or a test of sorts is one for the fragments behind it.
     ghost passes: { (s : Self) (nodes : List Node) (e i : ℕ) (σ : Self.Binding) → (words s nodes).knows_binding e i σ
         → PassesOn (words s nodes).rules e i → (words s nodes).knows_binding e (suc i) σ };
+
+    /// A side that is evaluated has the values of its variables: it stays the same whatever else is bound.
+    ghost has_values: { (s : Self) (nodes : List Node) (e i : ℕ) (right : Bool) (σ : Self.Binding) (τ : Binding)
+        → (words s nodes).knows_binding e i σ
+        → HasSide (words s nodes).rules e i right → IsExtension ((words s nodes).bound σ) τ
+        → side_of (words s nodes).rules e i right τ ≡ side_of (words s nodes).rules e i right ((words s nodes).bound σ) };
+
+    /// A known term is a number of the store, and stands for a term that may be told.
+    ghost stands: { (s : Self) (nodes : List Node) (t : ℕ) → (words s nodes).knows_term t → IsOf nodes t
+        × ((words s nodes).tree t ≡ tree_at nodes t) × IsNormalTerm (words s nodes).rules.written.sig ((words s nodes).tree t) };
+
+    /// The store and the table of sorts grow.
+    ghost extends: { (s t : Self) (nodes more : List Node) → grows s nodes t more → Extends nodes more × KeepsEntries (table s) (table t) };
 
     /// States that come of one another.
     ghost stays: { (s : Self) (nodes : List Node) → ready s nodes → grows s nodes s nodes };

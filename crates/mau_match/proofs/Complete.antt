@@ -21,6 +21,8 @@ use Rattle.mau_match.specs.Parts.{AnyOf, occurs, occurs_among, parts_of, IsFairA
 use Rattle.mau_match.specs.Given.{given_variables, given_at}
 use Rattle.mau_match.specs.Laws.{PartsHoldAnswers}
 use Rattle.mau_match.specs.Possible.{Agrees}
+use Rattle.mau_match.specs.Hidden.{IsHidden}
+use Rattle.mau_match.proofs.Hiding.{with_other, same_instance, fair_hidden, agrees_hidden}
 use Rattle.mau_match.proofs.Fair.{bare_fair}
 use Rattle.mau_match.proofs.Occurring.{occurring_among, instance_along, instances_along}
 use Rattle.mau_match.proofs.NothingMissed.{walk}
@@ -163,6 +165,22 @@ module _ (s : SignatureOf) (lawful : IsLawful (terms_over s)) (P : ℕ → Tree 
       let whole : norm th (instance gg p) ≡ q.subject = ap (norm th) (sym (instance_along F gg p same)) ∙ a.whole in
       let found : AnyOf th (parts_of th ys g x p (just q.subject)) (norm th (gg x)) = walk th lawful.theories ys g gg x agree p fair (occurs_has x p occ) (just q.subject) whole in
       subst (AnyOf th (parts_of th ys g x p (just q.subject))) (ap (norm th) at ∙ norm_at th vs u us a.normal) found
+
+  -- with another name for x at some of its places, which the pattern does not have, the walk leaves out no value either
+  pub value_is_of_hidden : (y : Variable) (p : Tree) → occurs y q.pattern ≡ false → has_variable (given_variables q xs) y ≡ false → IsHidden x y q.pattern p → occurs x p ≡ true → AnyOf (theory_at s) (parts_of (theory_at s) (given_variables q xs) (given_at q xs vs) x p (just q.subject)) u
+  value_is_of_hidden y p unused unknown hidden there =
+      let th = theory_at s in
+      let ys = given_variables q xs in
+      let occ : Occurs x q.pattern = each_var_at (λ y. Occurs y q.pattern) xs x zs (subst (EachVar (λ y. Occurs y q.pattern)) ev (variables_occur q.pattern)) in
+      let at : gg x ≡ u = sym (same x occ) ∙ value_there F xs x zs vs u us l (ap (map F) (sym ev) ∙ values_of_variables q.pattern (vs ++ u ∷ us) a.one_each) in
+      let whole : norm th (instance (with_other x y gg) p) ≡ q.subject = ap (norm th) (same_instance x y gg q.pattern p unused hidden) ∙ ap (norm th) (sym (instance_along F gg q.pattern same)) ∙ a.whole in
+      let found : AnyOf th (parts_of th ys g x p (just q.subject)) (norm th (with_other x y gg x)) =
+      walk th lawful.theories ys g (with_other x y gg) x (agrees_hidden th ys g gg x y unknown agree) p (fair_hidden x y gg th q.pattern p unused hidden fair) there (just q.subject) whole in
+      subst (AnyOf th (parts_of th ys g x p (just q.subject))) (ap (norm th) (own (same_variable x y)) ∙ ap (norm th) at ∙ norm_at th vs u us a.normal) found
+    where
+      own : (b : Bool) → (if b then gg x else gg x) ≡ gg x
+      own true = refl
+      own false = refl
 
   -- no test may say that the values of the answer are impossible
   pub not_impossible : ((gg' : Variable → Tree) → Agrees (theory_at s) (given_variables q xs) (given_at q xs vs) gg' → IsFair (theory_at s) gg' q.pattern → norm (theory_at s) (instance gg' q.pattern) ≡ q.subject → ⊥) → ⊥

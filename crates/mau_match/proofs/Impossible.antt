@@ -36,9 +36,14 @@ reaches_right xs ys us h = record {
   all = ap sort_trees (append_assoc h.left xs (ys ++ h.right) ∙ ap (λ w. h.left ++ w) (sym (append_assoc xs ys h.right))) ∙ h.all;
 }
 
+-- a part in order is a part in any order
+pub any_order : (c : Bool) (r : Reach) (xs ts : List Tree) → Reaches c r xs ts → Reaches true r xs ts
+any_order true r xs ts h = h
+any_order false r xs ts h = record { left = h.left; right = h.right; leaves = h.leaves; all = ap sort_trees h.all }
+
 -- ---- without what is known
 
-module _ (th : ℕ → Theory) (bound : List Variable) (g gg : Variable → Tree) (x : Variable) (agree : (y : Variable) → has_variable bound y ≡ true → norm th (g y) ≡ norm th (gg y)) (lawful : AreLawful th) (f : ℕ) (a : (th f).assoc ≡ true) (c : (th f).comm ≡ true) (ps : Trees) where
+module _ (th : ℕ → Theory) (bound : List Variable) (g gg : Variable → Tree) (x : Variable) (agree : (y : Variable) → has_variable bound y ≡ true → norm th (g y) ≡ norm th (gg y)) (lawful : AreLawful th) (f : ℕ) (a : (th f).assoc ≡ true) (ps : Trees) where
   abbrev joined : List Tree
   joined = all_pieces (th f).assoc (th f).id f (norms th (instances gg ps))
 
@@ -48,7 +53,7 @@ module _ (th : ℕ → Theory) (bound : List Variable) (g gg : Variable → Tree
       let fs = frees th bound gg f ps in
       sym (
       more_right h.left (joined ++ h.right) (ks ++ (fs ++ h.right))
-      (more_left joined (ks ++ fs) h.right (frees_known th bound g gg x agree lawful f a c ps) ∙ ap sort_trees (append_assoc ks fs h.right))
+      (more_left joined (ks ++ fs) h.right (frees_known th bound g gg x agree lawful f a ps) ∙ ap sort_trees (append_assoc ks fs h.right))
       ∙ past h.left ks (fs ++ h.right))
       ∙ h.all
 

@@ -25,6 +25,10 @@ joined a b k m l n e h =
     ∙ more_right k (m ++ (l ++ n)) (l ++ (m ++ n)) (past m l n)
     ∙ ap sort_trees (sym (append_assoc k l (m ++ n)))
 
+sort_arranged : (c : Bool) (ts : List Tree) → sort_trees (arrange c ts) ≡ sort_trees ts
+sort_arranged true ts = sort-sort ts
+sort_arranged false ts = refl
+
 module _ (th : ℕ → Theory) (bound : List Variable) (g gg : Variable → Tree) (x : Variable) (agree : (y : Variable) → has_variable bound y ≡ true → norm th (g y) ≡ norm th (gg y)) where
   mutual
     pub bound_norm : (p : Tree) → is_bound bound p ≡ true → norm th (instance g p) ≡ norm th (instance gg p)
@@ -57,12 +61,12 @@ module _ (th : ℕ → Theory) (bound : List Variable) (g gg : Variable → Tree
   nothing : (ys : List Tree) → HasKnown false [] ys
   nothing ys = record { more = ys; same = refl; none = λ h. cc }
 
-  module _ (lawful : AreLawful th) (f : ℕ) (a : (th f).assoc ≡ true) (c : (th f).comm ≡ true) where
+  module _ (lawful : AreLawful th) (f : ℕ) (a : (th f).assoc ≡ true) where
     list_of_node : (ps : Trees) → sort_trees (list_under (th f) f (norm th (instance gg (apply f ps)))) ≡ sort_trees (all_pieces (th f).assoc (th f).id f (norms th (instances gg ps)))
     list_of_node ps =
         let zs = norms th (instances gg ps) in
         let all = all_pieces (th f).assoc (th f).id f zs in
-        ap sort_trees (list_of_built th f zs a (norms_normal th lawful (instances gg ps)) ∙ ap (λ b. arrange b all) c) ∙ sort-sort all
+        ap sort_trees (list_of_built th f zs a (norms_normal th lawful (instances gg ps))) ∙ sort_arranged (th f).comm all
 
     mutual
       pub has_known : (p : Tree) → HasKnown (is_bound bound p) (known th bound g x f p) (list_under (th f) f (norm th (instance gg p)))

@@ -8,12 +8,14 @@ pub mod Builds
 pub mod KnownElements
 pub mod Sound
 pub mod Lengths
+pub mod Shares
 pub mod NothingMissed
 pub mod Impossible
 pub mod Refusing
 pub mod Extension
 pub mod Fair
 pub mod Occurring
+pub mod Hiding
 pub mod Complete
 pub mod OneStep
 pub mod Stepping
@@ -22,6 +24,7 @@ pub mod Answering
 pub mod PartsOver
 pub mod GivenFor
 pub mod NextVariable
+pub mod Singles
 pub mod LeastValues
 pub mod Left
 pub mod SearchFound

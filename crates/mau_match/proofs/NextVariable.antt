@@ -1,5 +1,5 @@
 -- The walk for the next variable of a search, in a store: what its parts hold, and when there is no answer.
-use Rattle.std.proofs.Common.{◌≡◌, ◌<◌, suc, List, [], ◌∷◌, ◌++◌, length, map, take, drop, get_or, true, None, All, Contains, inl, sym, ◌∙◌, ap, ap₂, subst, arith}
+use Rattle.std.proofs.Common.{◌≡◌, ◌<◌, suc, List, [], ◌∷◌, ◌++◌, length, map, take, drop, get_or, true, None, All, Contains, inl, sym, ◌∙◌, ap, ap₂, subst, arith, false}
 use Rattle.mau_terms.specs.Tree.{Tree}
 use Rattle.mau_terms.specs.Bare.{IsLawful}
 use Rattle.mau_terms.specs.Subst.{Variable, variables}
@@ -13,11 +13,15 @@ use Rattle.mau_canon.specs.Standing.{StandWithin}
 use Rattle.mau_canon.proofs.Standing.{stand_there}
 use Rattle.mau_listing.specs.Answers.{IsAnswer}
 use Rattle.mau_listing.proofs.Growth.{question_same}
+use Rattle.mau_terms.specs.Solution.{HaveSorts}
 use Rattle.mau_match.specs.Possible.{Agrees, IsNever}
-use Rattle.mau_match.proofs.Complete.{not_impossible}
+use Rattle.mau_match.proofs.Complete.{not_impossible, value_is_of_hidden}
+use Rattle.mau_match.specs.Hidden.{IsHidden}
+use Rattle.mau_match.specs.Parts.{AnyOf}
+use Rattle.mau_terms.specs.Subst.{has_variable}
 use Rattle.mau_store.specs.Trees.{tree_at, trees_at}
 use Rattle.mau_store.specs.View.{numbers}
-use Rattle.mau_sorts.specs.HasSort.{Known}
+use Rattle.mau_sorts.specs.HasSort.{Known, HasSort}
 use Rattle.mau_listing.specs.declared.places.Place.{Place}
 use Rattle.mau_listing.specs.Places.{variables_in}
 use Rattle.mau_listing.specs.Question.{Question}
@@ -36,7 +40,7 @@ use Rattle.mau_domains.specs.Stored.{IsPartOver}
 use Rattle.mau_match.specs.declared.part.Given.{Given}
 use Rattle.mau_domains.specs.declared.part.Part.{Part as PartOfCode}
 use Rattle.mau_domains.specs.declared.part.Part.TheVariants.{One}
-use Rattle.mau_match.proofs.Answering.{bound_is, value_normal, walked_value, none_refused, occurs_at}
+use Rattle.mau_match.proofs.Answering.{any_value, sorts_at, bound_is, value_normal, walked_value, none_refused, occurs_at}
 use Rattle.mau_match.proofs.GivenFor.{names, names_split, names_long, given_names, given_is}
 use Rattle.mau_match.proofs.Good.{IsTerm, AreItemsOf, items_kept, AllGood, good}
 use Rattle.mau_match.proofs.PartsOver.{parts_over}
@@ -85,6 +89,10 @@ module _ (s : SignatureOf) (lawful : IsLawful (terms_over s)) (old : List Node) 
       let same = bound_is s lawful (BySort s known) q ask.pattern xs (variable_of x) zs names_are vs as_many u us a (tree_at old value.0) (in_map {B = Variable × Tree} (λ (b : VarId × TermId). (variable_of b.0, tree_at old b.1.0)) (x, value) t.bound.items among) in
       inl (record { normal = value_normal s lawful (BySort s known) q ask.pattern xs (variable_of x) zs names_are vs as_many u us a; of = same; filled = tt })
 
+  -- the value of the variable has its sort
+  pub next_sort : (known : Known) (u : Tree) (us : List Tree) → AnswerIn s known old t (trees_at old (numbers chosen) ++ u ∷ us) → HasSort s known u (get_or ps (length chosen) no_place).variable.sort
+  next_sort known u us a = sorts_at (BySort s known) xs (variable_of x) zs vs u us as_many (subst (λ ys. HaveSorts (BySort s known) ys (vs ++ u ∷ us)) names_are a.sorts)
+
   module _ (g : Given) (ev : g.variables ≡ map {B = VarId} (λ b. b.0) t.bound.items ++ variables_in (take (length chosen) ps)) (el : g.values ≡ map {B = TermId} (λ b. b.1) t.bound.items ++ chosen) (et : g.target ≡ (get_or ps (length chosen) no_place).variable) where
     walked_is : walked s old g (tree_of t.pattern) (just (tree_at old t.subject.0)) ≡ parts_of (theory_at s) (given_variables q xs) (given_at q xs vs) (variable_of x) (tree_of t.pattern) (just (tree_at old t.subject.0))
     walked_is =
@@ -114,6 +122,28 @@ module _ (s : SignatureOf) (lawful : IsLawful (terms_over s)) (old : List Node) 
       -- each answer's value is one of theirs
       pub some_value : (known : Known) (u : Tree) (us : List Tree) → AnswerIn s known old t (trees_at old (numbers chosen) ++ u ∷ us) → IsValueOfAny (theory_at s) (parts_in new parts) u
       some_value known u us a = walked_value s lawful (BySort s known) q ask.pattern xs (variable_of x) zs names_are vs as_many u us a new parts adds.within (adds.parts ∙ walked_is)
+
+    -- the same of the walk over the pattern with another name for the variable at some places
+    module _ (p : Tree) (y : VarId) (unused : occurs (variable_of y) (tree_of t.pattern) ≡ false) (unknown : has_variable (bound_of g) (variable_of y) ≡ false) (hidden : IsHidden (variable_of (get_or ps (length chosen) no_place).variable) (variable_of y) (tree_of t.pattern) p)
+        (there : occurs (variable_of (get_or ps (length chosen) no_place).variable) p ≡ true) (new : List Node) (parts : List PartOfCode) (adds : AddsParts s old new [] parts (walked s old g p (just (tree_at old t.subject.0)))) where
+      pub over_hidden : All (IsPartOver s new) parts
+      over_hidden =
+          let th = theory_at s in
+          parts_over s lawful.theories (bound_of g) (values_of old g) (target_of g) new parts adds.within
+          (subst (AllGood th (bound_of g) (values_of old g) (target_of g) (IsTerm th lawful.theories) (AreItemsOf th lawful.theories) (items_kept th lawful.theories)) (sym adds.parts)
+          (good th (bound_of g) (values_of old g) (target_of g) (IsTerm th lawful.theories) (AreItemsOf th lawful.theories) (items_kept th lawful.theories) p (just (tree_at old t.subject.0)) (normal_is th lawful.theories (tree_at old t.subject.0) ask.subject.normal, ask.subject.within)))
+
+      hidden_is : walked s old g p (just (tree_at old t.subject.0)) ≡ parts_of (theory_at s) (given_variables q xs) (given_at q xs vs) (variable_of x) p (just (tree_at old t.subject.0))
+      hidden_is =
+          ap₂ (λ b v. parts_of (theory_at s) b v (target_of g) p (just (tree_at old t.subject.0))) (given_names s old t (take (length chosen) ps) chosen g ev el) (given_is s old t (take (length chosen) ps) chosen g ev el)
+          ∙ ap (λ z. parts_of (theory_at s) (given_variables q xs) (given_at q xs vs) (variable_of z) p (just (tree_at old t.subject.0))) et
+
+      pub some_hidden : (known : Known) (u : Tree) (us : List Tree) → AnswerIn s known old t (trees_at old (numbers chosen) ++ u ∷ us) → IsValueOfAny (theory_at s) (parts_in new parts) u
+      some_hidden known u us a =
+          any_value s lawful (BySort s known) q ask.pattern xs (variable_of x) zs names_are vs as_many u us a new parts adds.within
+          (subst (λ qs. AnyOf (theory_at s) qs u) (sym (adds.parts ∙ hidden_is))
+          (value_is_of_hidden s lawful (BySort s known) q xs (variable_of x) zs names_are vs as_many u us a (variable_of y) p unused
+          (sym (ap (λ b. has_variable b (variable_of y)) (given_names s old t (take (length chosen) ps) chosen g ev el)) ∙ unknown) hidden there))
 
     -- where what is known beforehand is beyond the limits, there is no answer
     pub no_answer : IsRefused (theory_at s) (bound_of g) (values_of old g) (tree_of t.pattern) → (known : Known) (u : Tree) (us : List Tree) → AnswerIn s known old t (trees_at old (numbers chosen) ++ u ∷ us) → ⊥

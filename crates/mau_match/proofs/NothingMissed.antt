@@ -14,17 +14,18 @@ use Rattle.mau_terms.proofs.Normal.{IsNormal, norms_normal, build_normal}
 use Rattle.mau_terms.proofs.Finite.{in_left, in_right, length-arrange, length_within, each_in, over_its_list, finish_true_one}
 use Rattle.mau_terms.proofs.Variables.{same-is}
 use Rattle.mau_domains.specs.Parts.{Reach, whole, Part, just, some_of, Reaches, IsOf}
-use Rattle.mau_match.specs.Parts.{AnyOf, headed, folded_by, occurs, occurs_among, lists_in, alone_in, folded_parts, apart_from, is_bound, any_of, lists_of, own_part, rest_behind, parts_of, parts_among, parts_at, parts_any, parts_folded, IsFairAt, IsFair, AreFair}
+use Rattle.mau_match.specs.Parts.{AnyOf, headed, folded_by, occurs, occurs_among, lists_in, alone_in, folded_parts, apart_from, is_bound, any_of, lists_of, taken_part, rest_behind, parts_of, parts_among, parts_at, parts_any, parts_folded, IsFairAt, IsFair, AreFair}
 use Rattle.mau_match.proofs.Builds.{all_in, arranged_list, Built, placed, counted, folded, IsFolded, built_other, list_of_built}
 use Rattle.mau_match.proofs.KnownElements.{bound_norm}
 use Rattle.mau_match.proofs.Lengths.{not_too_few}
-use Rattle.mau_match.proofs.Sound.{any_left, any_right, any_each, any_each_part, any_just, in_each, one_reaches, owns, rests, AnyRest}
+use Rattle.mau_match.proofs.Shares.{takes}
+use Rattle.mau_match.proofs.Sound.{any_left, any_right, any_each, any_each_part, any_just, in_each, one_reaches, rests, AnyRest}
 
 no_elements : (ts : List Tree) → length ts ≤ 0 → ts ≡ []
 no_elements [] h = refl
 no_elements (t ∷ ts) h = absurd (omega arith)
 
-head_op : (f h : ℕ) (ts us : Trees) → apply f ts ≡ apply h us → f ≡ h
+pub head_op : (f h : ℕ) (ts us : Trees) → apply f ts ≡ apply h us → f ≡ h
 head_op f h ts us e = cc
 
 same_args : (f h : ℕ) (ts us : Trees) → apply f ts ≡ apply h us → ts ≡ us
@@ -328,7 +329,7 @@ module _ (th : ℕ → Theory) (lawful : AreLawful th) (bound : List Variable) (
     walk_among : (f : ℕ) (ps : Trees) → AreFair th gg ps → occurs_among x ps ≡ true → (f-a : (th f).assoc ≡ true) → ((th f).id ≡ None → (z : Tree) → IsIn z (norms th (instances gg ps)) → list_under (th f) f z ≡ [] → ⊥) → (r : Reach) (ts : List Tree) → Reaches (th f).comm r (all_pieces (th f).assoc (th f).id f (norms th (instances gg ps))) ts → AnyOf th (parts_among th bound g x f ps r ts) (norm th (gg x))
     walk_among f no_trees fair hx a full r ts h = cc
     walk_among f (tree p ps) fair hx a full r ts h =
-        subst (λ d. AnyOf th (if d then [] else (if occurs x p then each_of (parts_of th bound g x p) (own_part th bound g x f ps r ts) else each_of (λ l. parts_among th bound g x f ps l.0 l.1) (rest_behind th bound g x f p r ts))) (norm th (gg x)))
+        subst (λ d. AnyOf th (if d then [] else (if occurs x p then each_of (parts_of th bound g x p) (taken_part th bound g x f p ps r ts) else each_of (λ l. parts_among th bound g x f ps l.0 l.1) (rest_behind th bound g x f p r ts))) (norm th (gg x)))
         (sym (not_too_few th lawful gg f a (tree p ps) fair full r ts h))
         (by (λ k q o. walk p fair.0 k q o) (λ k l o. walk_among f ps fair.1 k a (λ u z i. full u z (inr i)) l.0 l.1 o) (occurs x p) refl)
       where
@@ -338,8 +339,8 @@ module _ (th : ℕ → Theory) (lawful : AreLawful th) (bound : List Variable) (
         by : (occurs x p ≡ true → (q : Part) → IsOf th q (norm th (instance gg p)) → AnyOf th (parts_of th bound g x p q) y)
             → (occurs_among x ps ≡ true → (l : Reach × List Tree) → Reaches (th f).comm l.0 (all_pieces (th f).assoc (th f).id f (norms th (instances gg ps))) l.1 → AnyOf th (parts_among th bound g x f ps l.0 l.1) y)
             → (b : Bool) → occurs x p ≡ b
-            → AnyOf th (if b then each_of (parts_of th bound g x p) (own_part th bound g x f ps r ts) else each_of (λ l. parts_among th bound g x f ps l.0 l.1) (rest_behind th bound g x f p r ts)) y
-        by here later true e = any_each_part th (parts_of th bound g x p) (own_part th bound g x f ps r ts) (norm th (instance gg p)) y (owns th bound g gg x agree f a lawful ps r ts (norm th (instance gg p)) h) (here e)
+            → AnyOf th (if b then each_of (parts_of th bound g x p) (taken_part th bound g x f p ps r ts) else each_of (λ l. parts_among th bound g x f ps l.0 l.1) (rest_behind th bound g x f p r ts)) y
+        by here later true e = any_each_part th (parts_of th bound g x p) (taken_part th bound g x f p ps r ts) (norm th (instance gg p)) y (takes th bound g gg x agree lawful f a p ps r ts h) (here e)
         by here later false e = any_rests f _ (rest_behind th bound g x f p r ts) (λ l. parts_among th bound g x f ps l.0 l.1) y (rests th bound g gg x agree f a lawful p r ts _ h) (later (either_true (occurs x p) (occurs_among x ps) hx e))
 
     walk_at : (ps : Trees) → AreFair th gg ps → occurs_among x ps ≡ true → (es : List Tree) → norms th (instances gg ps) ≡ es → AnyOf th (parts_at th bound g x ps es) (norm th (gg x))

@@ -2,19 +2,21 @@
 use Rattle.std.proofs.Common.{◌≡◌, ◌⊎◌, ℕ, ◌+◌, ◌-◌, ◌==◌, ◌<◌, ◌≤◌, List, [], ◌∷◌, ◌++◌, map, length, take, drop, get_or, Bool, true, false, Some, None, inl, inr, if◌then◌else◌, refl, sym, ◌∙◌, ap, ap₂, subst, arith, eq-eqb}
 use Rattle.std.specs.Ordering.{is_gt}
 use Rattle.std.proofs.lemmas.List.{take_more, take_rest, map-append}
-use Rattle.mau_terms.specs.Tree.{Tree, apply, node, Trees, tree, trees_of}
+use Rattle.mau_terms.specs.Tree.{Tree, apply, node, Trees, no_trees, tree, trees_of}
 use Rattle.mau_terms.specs.Order.{tree_cmp}
-use Rattle.mau_terms.specs.Norm.{all_pieces, arrange, build, norm, norms}
+use Rattle.mau_terms.specs.Norm.{unit_tree, all_pieces, arrange, build, norm, norms}
 use Rattle.mau_terms.specs.Lawful.{AreLawful}
 use Rattle.mau_terms.specs.Subst.{Variable, instance, instances}
 use Rattle.mau_terms.specs.Solution.{list_under}
 use Rattle.mau_terms.specs.Finite.{IsIn}
 use Rattle.mau_terms.specs.View.{tree_of}
 use Rattle.mau_terms.specs.declared.theory.Identity.{Identity}
+use Rattle.mau_terms.specs.declared.theory.Identity.TheVariants.{Const, Num}
 use Rattle.mau_terms.specs.declared.theory.Theory.{Theory}
 use Rattle.mau_terms.specs.declared.ids.TermId.{TermId}
 use Rattle.mau_terms.specs.declared.bare.Bare.{Bare}
-use Rattle.mau_terms.proofs.Pieces.{same_arguments}
+use Rattle.mau_terms.proofs.Finite.{length-arrange}
+use Rattle.mau_terms.proofs.Pieces.{Split, unit, many, one, split, same_arguments}
 use Rattle.mau_terms.proofs.Normal.{norms_normal}
 use Rattle.mau_signature.specs.Signature.{SignatureOf, theory_at}
 use Rattle.mau_store.specs.Node.{Node, Extends}
@@ -32,8 +34,8 @@ use Rattle.mau_match.specs.declared.part.Given.{Given}
 use Rattle.mau_match.specs.declared.part.Span.{Span}
 use Rattle.mau_match.proofs.KnownElements.{bound_norm}
 use Rattle.mau_match.proofs.Lengths.{not_too_few}
-use Rattle.mau_match.proofs.NothingMissed.{Way, ways, alone_value, only_placed}
-use Rattle.mau_match.proofs.Impossible.{reaches_left, reaches_right, free_among, known_there}
+use Rattle.mau_match.proofs.NothingMissed.{Way, ways, alone_value, only_placed, head_op}
+use Rattle.mau_match.proofs.Impossible.{any_order, reaches_left, reaches_right, free_among, known_there}
 
 -- ---- the store grows
 
@@ -182,17 +184,17 @@ module _ (s : SignatureOf) (lawful : AreLawful (theory_at s)) (nodes : List Node
       let c : true ≡ false = sym k ∙ n in
       absurd (cc)
 
-  module _ (c : (theory_at s f).comm ≡ true) (r : Reach) (ts : List Tree) where
+  module _ (r : Reach) (ts : List Tree) where
     pub never_joined : (us : List Tree) → without_all (known_in (theory_at s) (bound_of g) (values_of nodes g) (target_of g) f ps) ts ≡ Some us → AreNeverAmong s nodes g f ps us → AreNeverJoined s nodes g f ps (r, ts)
     never_joined us e h gg ag fair o =
         h gg ag fair.1
-        (free_among (theory_at s) (bound_of g) (values_of nodes g) gg (target_of g) ag lawful f a c ps r ts us e
-        (subst (λ d. Reaches d r (all_pieces (theory_at s f).assoc (theory_at s f).id f (norms (theory_at s) (instances gg ps))) ts) c o))
+        (free_among (theory_at s) (bound_of g) (values_of nodes g) gg (target_of g) ag lawful f a ps r ts us e
+        (any_order (theory_at s f).comm r (all_pieces (theory_at s f).assoc (theory_at s f).id f (norms (theory_at s) (instances gg ps))) ts o))
 
     pub never_there : without_all (known_in (theory_at s) (bound_of g) (values_of nodes g) (target_of g) f ps) ts ≡ None → AreNeverJoined s nodes g f ps (r, ts)
     never_there e gg ag fair o =
-        known_there (theory_at s) (bound_of g) (values_of nodes g) gg (target_of g) ag lawful f a c ps r ts e
-        (subst (λ d. Reaches d r (all_pieces (theory_at s f).assoc (theory_at s f).id f (norms (theory_at s) (instances gg ps))) ts) c o)
+        known_there (theory_at s) (bound_of g) (values_of nodes g) gg (target_of g) ag lawful f a ps r ts e
+        (any_order (theory_at s f).comm r (all_pieces (theory_at s f).assoc (theory_at s f).id f (norms (theory_at s) (instances gg ps))) ts o)
 
 -- an operator that is not known, over arguments
 module _ (th : ℕ → Theory) (bound : List Variable) (gg : Variable → Tree) (f h : ℕ) (ps : Trees) (nb : are_bound bound ps ≡ false) where
@@ -205,3 +207,43 @@ module _ (th : ℕ → Theory) (bound : List Variable) (gg : Variable → Tree) 
   free_same e =
       ap (λ b. if b then [] else if h == f then frees th bound gg f ps else list_under (th f) f (norm th (instance gg (apply h ps)))) nb
       ∙ ap (λ b. if b then frees th bound gg f ps else list_under (th f) f (norm th (instance gg (apply h ps)))) e
+
+-- what is not known of a pattern with a plain top is one element
+pub plain_alone : (th : ℕ → Theory) (lawful : AreLawful th) (bound : List Variable) (gg : Variable → Tree) (f h : ℕ) (ps : Trees) → (h == f) ≡ false → (th h).assoc ≡ false → (th h).succ ≡ false → (th h).id ≡ None → are_bound bound ps ≡ false → IsFair th gg (apply h ps)
+    → 1 ≤ length (free th bound gg f (apply h ps))
+plain_alone th lawful bound gg f h no_trees e a n u nb fair = cc
+plain_alone th lawful bound gg f h (tree p ps) e a n u nb fair =
+    subst (λ l. 1 ≤ length l) (sym (free_other th bound gg f h (tree p ps) nb e)) (by (split (th f).assoc (th f).id f v))
+  where
+    zs : List Tree
+    zs = norms th (instances gg (tree p ps))
+
+    v : Tree
+    v = norm th (instance gg (apply h (tree p ps)))
+
+    is : norm th (instance gg (apply h (tree p ps))) ≡ node h (arrange (th h).comm (norms th (instances gg (tree p ps))))
+    is = only_placed th lawful [] gg gg (0, 0) (λ y k. cc) h a n u zs fair.0
+
+    some : (ts : List Tree) → ts ≡ arrange (th h).comm zs → 1 ≤ length ts
+    some ts k = omega (arith, ap length k, length-arrange (th h).comm zs)
+
+    not_unit : (i : Identity) → v ≡ unit_tree i → ⊥
+    not_unit i k = at i (arrange (th h).comm zs) (some (arrange (th h).comm zs) refl) (sym is ∙ k)
+      where
+        at : (i : Identity) (ts : List Tree) → 1 ≤ length ts → node h ts ≡ unit_tree i → ⊥
+        at (Const d) [] l q = absurd (omega arith)
+        at (Const d) (t ∷ ts) l q = cc
+        at (Num m) ts l q = cc
+
+    by : Split (th f).assoc (th f).id f v → 1 ≤ length (list_under (th f) f v)
+    by (unit i k q l) = absurd (not_unit i q)
+    by (one q) = omega (arith, ap length q)
+    by (many ts b k q) =
+        let m : h ≡ f = head_op h f (trees_of (arrange (th h).comm zs)) ts (sym is ∙ k) in
+        let d : true ≡ false = sym (eq-eqb h f m) ∙ e in
+        absurd (cc)
+
+pub plain_there : (th : ℕ → Theory) (lawful : AreLawful th) (bound : List Variable) (gg : Variable → Tree) (f h : ℕ) (ps : Trees) (p : Tree) → p ≡ apply h ps → (h == f) ≡ false → (th h).assoc ≡ false → (th h).succ ≡ false → (th h).id ≡ None → is_bound bound p ≡ false → IsFair th gg p
+    → 1 ≤ length (free th bound gg f p)
+plain_there th lawful bound gg f h ps p k e a n u nb fair =
+    subst (λ w. 1 ≤ length (free th bound gg f w)) (sym k) (plain_alone th lawful bound gg f h ps e a n u (sym (ap (is_bound bound) k) ∙ nb) (subst (IsFair th gg) k fair))

@@ -20,5 +20,9 @@ pub mod Listing
 pub mod Walked
 -- values of several parts
 pub mod Values
+-- patterns in which a variable has another name at some of its places
+pub mod Hidden
+-- operators whose lists have a sort in no case
+pub mod Single
 -- the search over a store that grows
 pub mod Searched

@@ -10,7 +10,8 @@ ghost use Rattle.mau_store.specs.Trees.{tree_at, trees_at};
 ghost use Rattle.mau_store.specs.View.{numbers};
 ghost use Rattle.mau_canon.specs.Standing.{StandsWithin, StandWithin};
 ghost use Rattle.mau_sorts.specs.HasSort.{Known};
-ghost use Rattle.mau_listing.specs.Asked.{IsAskable};
+ghost use Rattle.mau_sorts.specs.Table.{AreOver};
+ghost use Rattle.mau_listing.specs.Asked.{IsAskable, IsTableOf};
 ghost use Rattle.mau_listing.specs.Places.{operator_number, variables_in};
 ghost use Rattle.mau_trial.specs.Tried.{ArePlacesOf, asked_in};
 ghost use Rattle.mau_domains.specs.Search.{IsLeastOrNone, first_of};
@@ -22,12 +23,16 @@ ghost use Rattle.mau_match.specs.Searched.{AnswerIn};
 
 use crate::Given;
 use crate::choices::push;
+use crate::hide::{fresh, hide};
 use crate::may_match::may_match;
+use crate::single::by_sort;
+use crate::variables::occurs;
 use crate::walk::parts_for;
 use mau_canon::BuildFault;
-use mau_domains::{Part, next_value};
+use mau_domains::{Part, Reach, next_value};
 use mau_listing::{Place, compare_lists, is_lawful, value_key_of};
 use mau_signature::Signature;
+use mau_sorts::SortTable;
 use mau_store::Store;
 use mau_terms::{NoMemory, OpId, Seq, TermId, VarId};
 use mau_trial::Trial;
@@ -175,13 +180,37 @@ fn may_answer(
     )
 }
 
-/// The parts that the value of the next variable may be of, and none where no answer begins with the chosen values.
-pub fn candidates(
+/// About how many values some parts have.
+fn weight_of(parts: &[Part]) -> usize {
+    let mut weight: usize = 0;
+    for part in parts {
+        match part {
+            Part::ListOf(reach, _, items) => {
+                let count = items.items().len();
+                if *reach == Reach::Whole {
+                    weight = weight.saturating_add(1);
+                } else {
+                    weight = weight.saturating_add(
+                        count.saturating_mul(count).saturating_mul(count),
+                    );
+                }
+            }
+            Part::One(_) => {
+                weight = weight.saturating_add(1);
+            }
+        }
+    }
+    weight
+}
+
+/// The parts that the value of the next variable may be of by the walk to a later place, with so many before it, if the variable has one.
+fn later_candidates(
     trial: &Trial,
     places: &[Place],
     store: &mut Store,
     sig: &Signature,
     chosen: &[TermId],
+    before: usize,
 ) -> Result<Option<Vec<Part>>, NoMemory>
     requires askable { IsAskable sig.now store.old (asked_in trial.now) }
     requires places { ArePlacesOf sig.now (tree_of trial.now.pattern) places.now }
@@ -190,14 +219,143 @@ pub fn candidates(
     ensures within { IfOk result (λ o. IfSome o (λ parts. All (IsPartOver sig.now store.new) parts.items)) }
     ensures some { (known : Known) (u : Tree) (us : List Tree) → AnswerIn sig.now known store.old trial.now (trees_at store.old (numbers chosen.now) ++ u ∷ us) →
         IfOk result (λ o. IfSome o (λ parts. IsValueOfAny (theory_at sig.now) (parts_in store.new parts.items) u)) }
+    ensures extends { Extends store.old store.new }
+{
+    is_lawful(sig);
+    let target = places[chosen.len()].variable;
+    let front = &places[..chosen.len()];
+    let given = given_for(store.allocator(), &trial.bound, front, chosen, target)?;
+    let Some(other) = fresh(&trial.pattern, given.variables.items(), target.sort) else {
+        return Ok(None);
+    };
+    let mut hidden = before;
+    let pattern = hide(
+        store.allocator(),
+        &trial.pattern,
+        target,
+        other,
+        &mut hidden,
+    )?;
+    if !occurs(target, &pattern) {
+        return Ok(None);
+    }
+    match parts_for(store, sig, &given, &pattern, trial.subject) {
+        Ok(parts) => Ok(Some(parts)),
+        Err(BuildFault::NoMemory) => Err(NoMemory),
+        Err(BuildFault::TooDeep) => Ok(None),
+        Err(BuildFault::Overflow) => Ok(None),
+    }
+}
+
+/// Of some parts and those by a later place of the variable the ones that have fewer values.
+fn fewer(
+    trial: &Trial,
+    places: &[Place],
+    store: &mut Store,
+    sig: &Signature,
+    sorts: &SortTable,
+    chosen: &[TermId],
+    before: usize,
+    best: Vec<Part>,
+) -> Result<Vec<Part>, NoMemory>
+    requires askable { IsAskable sig.now store.old (asked_in trial.now) }
+    requires places { ArePlacesOf sig.now (tree_of trial.now.pattern) places.now }
+    requires over { AreOver sig.now.hierarchy sorts.now }
+    requires chosen { StandWithin (theory_at sig.now) store.old (numbers chosen.now) }
+    requires room { length chosen.now < length places.now }
+    requires best { All (IsPartOver sig.now store.old) best.items }
+    ensures within { IfOk result (λ parts. All (IsPartOver sig.now store.new) parts.items) }
+    ensures some { (known : Known) (u : Tree) (us : List Tree) → IsTableOf sig.now known store.old sorts.now →
+        AnswerIn sig.now known store.old trial.now (trees_at store.old (numbers chosen.now) ++ u ∷ us) → IsValueOfAny (theory_at sig.now) (parts_in store.old best.items) u →
+        IfOk result (λ parts. IsValueOfAny (theory_at sig.now) (parts_in store.new parts.items) u) }
+    ensures extends { Extends store.old store.new }
+{
+    is_lawful(sig);
+    match later_candidates(trial, places, store, sig, chosen, before)? {
+        Some(parts) => {
+            let sort = places[chosen.len()].variable.sort;
+            let found = by_sort(store, sig, sorts, sort, parts)?;
+            if weight_of(&found) < weight_of(&best) {
+                return Ok(found);
+            }
+            Ok(best)
+        }
+        None => Ok(best),
+    }
+}
+
+/// How many values need no other place to be looked for.
+const FEW: usize = 64;
+
+/// How many places of a variable are looked at.
+const PLACES: usize = 4;
+
+/// Of some parts and those by later places of the variable the ones that have the fewest values.
+fn fewest(
+    trial: &Trial,
+    places: &[Place],
+    store: &mut Store,
+    sig: &Signature,
+    sorts: &SortTable,
+    chosen: &[TermId],
+    parts: Vec<Part>,
+) -> Result<Vec<Part>, NoMemory>
+    requires askable { IsAskable sig.now store.old (asked_in trial.now) }
+    requires places { ArePlacesOf sig.now (tree_of trial.now.pattern) places.now }
+    requires over { AreOver sig.now.hierarchy sorts.now }
+    requires chosen { StandWithin (theory_at sig.now) store.old (numbers chosen.now) }
+    requires room { length chosen.now < length places.now }
+    requires parts { All (IsPartOver sig.now store.old) parts.items }
+    ensures within { IfOk result (λ best. All (IsPartOver sig.now store.new) best.items) }
+    ensures some { (known : Known) (u : Tree) (us : List Tree) → IsTableOf sig.now known store.old sorts.now →
+        AnswerIn sig.now known store.old trial.now (trees_at store.old (numbers chosen.now) ++ u ∷ us) → IsValueOfAny (theory_at sig.now) (parts_in store.old parts.items) u →
+        IfOk result (λ best. IsValueOfAny (theory_at sig.now) (parts_in store.new best.items) u) }
+    ensures extends { Extends store.old store.new }
+{
+    let mut best = parts;
+    for before in 1..PLACES {
+        if weight_of(&best) <= FEW {
+            return Ok(best);
+        }
+        best = fewer(trial, places, store, sig, sorts, chosen, before, best)?;
+    }
+    Ok(best)
+}
+
+/// The parts that the value of the next variable may be of, and none where no answer begins with the chosen values.
+pub fn candidates(
+    trial: &Trial,
+    places: &[Place],
+    store: &mut Store,
+    sig: &Signature,
+    sorts: &SortTable,
+    chosen: &[TermId],
+) -> Result<Option<Vec<Part>>, NoMemory>
+    requires askable { IsAskable sig.now store.old (asked_in trial.now) }
+    requires places { ArePlacesOf sig.now (tree_of trial.now.pattern) places.now }
+    requires over { AreOver sig.now.hierarchy sorts.now }
+    requires chosen { StandWithin (theory_at sig.now) store.old (numbers chosen.now) }
+    requires room { length chosen.now < length places.now }
+    ensures within { IfOk result (λ o. IfSome o (λ parts. All (IsPartOver sig.now store.new) parts.items)) }
+    ensures some { (known : Known) (u : Tree) (us : List Tree) → IsTableOf sig.now known store.old sorts.now →
+        AnswerIn sig.now known store.old trial.now (trees_at store.old (numbers chosen.now) ++ u ∷ us) →
+        IfOk result (λ o. IfSome o (λ parts. IsValueOfAny (theory_at sig.now) (parts_in store.new parts.items) u)) }
     ensures none { (known : Known) (u : Tree) (us : List Tree) → AnswerIn sig.now known store.old trial.now (trees_at store.old (numbers chosen.now) ++ u ∷ us) →
         IfOk result (λ o. IfNone o ⊥) }
     ensures extends { Extends store.old store.new }
 {
-    if may_answer(trial, places, store, sig, chosen)? {
-        walked_candidates(trial, places, store, sig, chosen)
-    } else {
-        Ok(None)
+    is_lawful(sig);
+    if !may_answer(trial, places, store, sig, chosen)? {
+        return Ok(None);
+    }
+    match walked_candidates(trial, places, store, sig, chosen)? {
+        Some(parts) => {
+            let sort = places[chosen.len()].variable.sort;
+            let found = by_sort(store, sig, sorts, sort, parts)?;
+            let best = fewest(trial, places, store, sig, sorts, chosen, found)?;
+            Ok(Some(best))
+        }
+        None => Ok(None),
     }
 }
 

@@ -1,8 +1,9 @@
 //! Whether a pattern may be of a part, by what is known of its variables: where it may not, no values of the others make it so.
-ghost use Rattle.std.specs.Prelude.{◌≡◌, ◌∷◌, [], List, map, None, Some, All, true, false, IfOk, IfErr, IfSome, IfNone};
+ghost use Rattle.std.specs.Prelude.{◌≡◌, ◌∷◌, [], ◌+◌, ◌<◌, ◌≤◌, List, length, map, None, Some, All, true, false, IfOk, IfErr, IfSome, IfNone};
 ghost use Rattle.mau_terms.specs.Tree.{Tree, apply, trees_of, node};
 ghost use Rattle.mau_terms.specs.Bare.{IsBare};
 ghost use Rattle.mau_terms.specs.Finite.{IsIn};
+ghost use Rattle.mau_terms.specs.Subst.{Variable};
 ghost use Rattle.mau_terms.specs.View.{tree_of};
 ghost use Rattle.mau_terms.specs.declared.theory.Identity.{Identity};
 ghost use Rattle.mau_signature.specs.Signature.{IsOperator, theory_at, terms_over};
@@ -12,15 +13,15 @@ ghost use Rattle.mau_store.specs.View.{numbers};
 ghost use Rattle.mau_canon.specs.Standing.{StandsWithin, StandWithin};
 ghost use Rattle.mau_domains.specs.Parts.{Part as PartOf, just, IsOf};
 ghost use Rattle.mau_domains.specs.Stored.{part_in};
-ghost use Rattle.mau_match.specs.Parts.{headed, apart_from, is_bound, known_in, without_all};
-ghost use Rattle.mau_match.specs.Possible.{IsNever, AreNever, AreNeverSorted, AreNeverJoined, IsNeverAmong, AreNeverAmong};
+ghost use Rattle.mau_match.specs.Parts.{headed, apart_from, is_bound, IsFair, AreFair};
+ghost use Rattle.mau_match.specs.Possible.{free, frees, IsNever, AreNever, AreNeverSorted, AreNeverJoined, IsNeverAmong, AreNeverAmong};
 ghost use Rattle.mau_match.specs.Walked.{IsPartWithin, IsSpanWithin, AreGivenWithin, bound_of, values_of, target_of, span_in};
 
 use crate::arguments::spans_in;
 use crate::choices::push_alone;
-use crate::known::{build_known, push_all_known};
-use crate::lists::{copy_of, remove_all};
-use crate::steps::are_too_few;
+use crate::known::build_known;
+use crate::lists::copy_of;
+use crate::steps::{are_too_few, without_known};
 use crate::variables::is_bound;
 use crate::{Given, Span};
 use mau_canon::BuildFault;
@@ -28,7 +29,7 @@ use mau_domains::{Part, Reach};
 use mau_listing::is_lawful;
 use mau_signature::Signature;
 use mau_store::{NodeView, Store};
-use mau_terms::{Bare, NoMemory, OpId, Seq, TermId};
+use mau_terms::{Bare, NoMemory, OpId, Seq, TermId, Theory};
 use std::alloc::Global;
 
 /// Whether a pattern may be of a part.
@@ -367,11 +368,8 @@ fn may_be_within(
     if are_too_few(theory, op, patterns, span.items.len()) {
         return Ok(false);
     }
-    if !theory.comm {
-        return Ok(true);
-    }
     match without_known(store, sig, given, op, patterns, &span.items) {
-        Ok(Some(items)) => may_each(store, sig, given, op, patterns, &items),
+        Ok(Some(items)) => may_fill(store, sig, given, op, patterns, &items),
         Ok(None) => Ok(false),
         Err(BuildFault::NoMemory) => Err(NoMemory),
         Err(BuildFault::TooDeep) => Ok(true),
@@ -379,34 +377,96 @@ fn may_be_within(
     }
 }
 
-/// Some items without those that the lists of some patterns have for sure, if these are among them.
-fn without_known(
+/// Whether an operator is neither associative nor the successor and has no identity, so that it is the top of each of its terms.
+fn is_plain(theory: &Theory) -> bool
+    ensures assoc { result ≡ true → theory.now.assoc ≡ false }
+    ensures succ { result ≡ true → theory.now.succ ≡ false }
+    ensures id { result ≡ true → theory.now.id ≡ None }
+{
+    if theory.assoc || theory.succ {
+        return false;
+    }
+    theory.id.is_none()
+}
+
+/// How many of so many elements are left, at most, where what is not known of a pattern's list takes some, if there are enough.
+#[cycle(left)]
+fn left_beside(
+    sig: &Signature,
+    given: &Given,
+    op: OpId,
+    pattern: &Bare,
+    count: usize,
+) -> Option<usize>
+    requires bare { IsBare (terms_over sig.now) (tree_of pattern.now) }
+    ensures some { IfSome result (λ left. (gg : Variable → Tree) → IsFair (theory_at sig.now) gg (tree_of pattern.now) → count ≤ left + length (free (theory_at sig.now) (bound_of given.now) gg op.0 (tree_of pattern.now))) }
+    ensures none { IfNone result ((gg : Variable → Tree) → IsFair (theory_at sig.now) gg (tree_of pattern.now) → count < length (free (theory_at sig.now) (bound_of given.now) gg op.0 (tree_of pattern.now))) }
+{
+    if is_bound(given.variables.items(), pattern) {
+        return Some(count);
+    }
+    match pattern {
+        Bare::App(top, args) => {
+            if *top == op {
+                return left_beside_all(sig, given, op, args.items(), count);
+            }
+            is_lawful(sig);
+            if !is_plain(sig.theory(*top)) {
+                return Some(count);
+            }
+            if count == 0 {
+                return None;
+            }
+            Some(count - 1)
+        }
+        _ => Some(count),
+    }
+}
+
+/// The same of several patterns.
+#[cycle(left)]
+fn left_beside_all(
+    sig: &Signature,
+    given: &Given,
+    op: OpId,
+    patterns: &[Bare],
+    count: usize,
+) -> Option<usize>
+    requires bare { All (λ p. IsBare (terms_over sig.now) (tree_of p)) patterns.now }
+    ensures some { IfSome result (λ left. (gg : Variable → Tree) → AreFair (theory_at sig.now) gg (trees_of (map tree_of patterns.now)) → count ≤ left + length (frees (theory_at sig.now) (bound_of given.now) gg op.0 (trees_of (map tree_of patterns.now)))) }
+    ensures none { IfNone result ((gg : Variable → Tree) → AreFair (theory_at sig.now) gg (trees_of (map tree_of patterns.now)) → count < length (frees (theory_at sig.now) (bound_of given.now) gg op.0 (trees_of (map tree_of patterns.now)))) }
+{
+    match patterns {
+        [] => Some(count),
+        [first, rest @ ..] => {
+            let left = left_beside(sig, given, op, first, count)?;
+            left_beside_all(sig, given, op, rest, left)
+        }
+    }
+}
+
+/// Whether what is not known of the lists of some patterns, all together, may be among some items.
+#[cycle(may)]
+fn may_fill(
     store: &mut Store,
     sig: &Signature,
     given: &Given,
     op: OpId,
     patterns: &[Bare],
     items: &[TermId],
-) -> Result<Option<Vec<TermId>>, BuildFault>
+) -> Result<bool, NoMemory>
     requires operator { IsOperator sig.now op.0 }
+    requires assoc { (theory_at sig.now op.0).assoc ≡ true }
     requires bare { All (λ p. IsBare (terms_over sig.now) (tree_of p)) patterns.now }
     requires values { AreGivenWithin sig.now store.old given.now }
     requires items { StandWithin (theory_at sig.now) store.old (numbers items.now) }
-    ensures some { IfOk result (λ o. IfSome o (λ left. without_all (known_in (theory_at sig.now) (bound_of given.now) (values_of store.old given.now) (target_of given.now) op.0 (trees_of (map tree_of patterns.now)))
-        (trees_at store.old (numbers items.now)) ≡ Some (trees_at store.new (numbers left.items)))) }
-    ensures none { IfOk result (λ o. IfNone o (without_all (known_in (theory_at sig.now) (bound_of given.now) (values_of store.old given.now) (target_of given.now) op.0 (trees_of (map tree_of patterns.now)))
-        (trees_at store.old (numbers items.now)) ≡ None)) }
-    ensures within { IfOk result (λ o. IfSome o (λ left. StandWithin (theory_at sig.now) store.new (numbers left.items))) }
+    ensures refused { IfOk result (λ b. b ≡ false → AreNeverAmong sig.now store.old given.now op.0 (trees_of (map tree_of patterns.now)) (trees_at store.old (numbers items.now))) }
     ensures extends { Extends store.old store.new }
 {
-    let mut left = copy_of(store.allocator(), items)?;
-    let mut known = Vec::new(store.allocator());
-    push_all_known(store, sig, given, op, patterns, &mut known)?;
-    if remove_all(store, &mut left, &known) {
-        Ok(Some(left))
-    } else {
-        Ok(None)
+    if left_beside_all(sig, given, op, patterns, items.len()).is_none() {
+        return Ok(false);
     }
+    may_each(store, sig, given, op, patterns, items)
 }
 
 /// Whether what is not known of the list of each of some patterns may be among some items.
@@ -421,7 +481,6 @@ fn may_each(
 ) -> Result<bool, NoMemory>
     requires operator { IsOperator sig.now op.0 }
     requires assoc { (theory_at sig.now op.0).assoc ≡ true }
-    requires comm { (theory_at sig.now op.0).comm ≡ true }
     requires bare { All (λ p. IsBare (terms_over sig.now) (tree_of p)) patterns.now }
     requires values { AreGivenWithin sig.now store.old given.now }
     requires items { StandWithin (theory_at sig.now) store.old (numbers items.now) }
@@ -452,7 +511,6 @@ fn may_take(
 ) -> Result<bool, NoMemory>
     requires operator { IsOperator sig.now op.0 }
     requires assoc { (theory_at sig.now op.0).assoc ≡ true }
-    requires comm { (theory_at sig.now op.0).comm ≡ true }
     requires bare { IsBare (terms_over sig.now) (tree_of pattern.now) }
     requires values { AreGivenWithin sig.now store.old given.now }
     requires items { StandWithin (theory_at sig.now) store.old (numbers items.now) }
@@ -465,12 +523,14 @@ fn may_take(
     match pattern {
         Bare::App(top, args) => {
             if *top == op {
-                may_each(store, sig, given, op, args.items(), items)
-            } else {
-                let copy = copy_of(store.allocator(), items)?;
-                let part = Part::ListOf(Reach::Inside, op, Seq::new(copy));
-                may_match(store, sig, given, pattern, &part)
+                return may_each(store, sig, given, op, args.items(), items);
             }
+            if !sig.theory(op).comm {
+                return Ok(true);
+            }
+            let copy = copy_of(store.allocator(), items)?;
+            let part = Part::ListOf(Reach::Inside, op, Seq::new(copy));
+            may_match(store, sig, given, pattern, &part)
         }
         _ => Ok(true),
     }

@@ -13,7 +13,7 @@ use Rattle.mau_modtext.specs.declared.raw.StatementKind.{StatementKind}
 use Rattle.mau_modtext.specs.declared.raw.StatementKind.TheVariants.{Definition}
 use Rattle.mau_statement.specs.Context.{ContextOf}
 use Rattle.mau_statement.specs.Statements.{StatementRead}
-use Rattle.mau_statement.specs.Tops.{is_left_side, is_head}
+use Rattle.mau_program.specs.Tops.{is_left_side, is_head}
 use Rattle.mau_statement.specs.declared.fault.StatementFault.{StatementFault}
 use Rattle.mau_statement.specs.declared.fault.StatementFault.TheVariants.{LhsVariable, MembershipHead}
 use Rattle.mau_statement.specs.declared.statement.Statement.{Statement}

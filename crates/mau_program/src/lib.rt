@@ -2,6 +2,7 @@
 #![tactic(auto)]
 
 mod definitions;
+pub mod laws;
 mod program;
 mod statements;
 mod strategies;

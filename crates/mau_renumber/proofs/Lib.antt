@@ -2,3 +2,5 @@
 pub mod Terms
 pub mod Operators
 pub mod StrategyLists
+pub mod Apart
+pub mod Stays

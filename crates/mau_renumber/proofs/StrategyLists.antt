@@ -8,10 +8,10 @@ use Rattle.mau_renumber.specs.Strategies.{variable_to, strategy_to, strategies_t
 use Rattle.mau_renumber.specs.Parts.{part_to}
 
 -- one by one
-pub each_strategy : (n : Numbers) (places : List ℕ) (ss : List StrategyOf) → strategies_of (map (strategy_to n places) ss) ≡ strategies_to n places (strategies_of ss)
-each_strategy n places [] = refl
-each_strategy n places (s ∷ ss) = ap (strategy (strategy_to n places s)) (each_strategy n places ss)
+pub each_strategy : (n : Numbers) (ss : List StrategyOf) → strategies_of (map (strategy_to n) ss) ≡ strategies_to n (strategies_of ss)
+each_strategy n [] = refl
+each_strategy n (s ∷ ss) = ap (strategy (strategy_to n s)) (each_strategy n ss)
 
-pub each_part : (n : Numbers) (places : List ℕ) (us : List PartUse) → uses_of (map (part_to n places) us) ≡ uses_to n places (uses_of us)
-each_part n places [] = refl
-each_part n places (u ∷ us) = ap (use_of (variable_to n places u.var) (strategy_to n places u.strategy)) (each_part n places us)
+pub each_part : (n : Numbers) (us : List PartUse) → uses_of (map (part_to n) us) ≡ uses_to n (uses_of us)
+each_part n [] = refl
+each_part n (u ∷ us) = ap (use_of (variable_to n u.var) (strategy_to n u.strategy)) (each_part n us)

@@ -1,8 +1,9 @@
 -- Declarations and statements in other numbers of sorts, kinds and operators: those of a module that includes theirs.
-use Rattle.std.specs.Prelude.{ℕ, List, [], ◌∷◌, ◌++◌, map, fold, ◌&&◌, nat_lt, nat_le, length, get_or, if◌then◌else◌, Option}
+use Rattle.std.specs.Prelude.{ℕ, ◌+◌, List, [], ◌∷◌, ◌++◌, map, fold, Bool, not, ◌&&◌, nat_lt, nat_le, length, replicate, if◌then◌else◌, Option}
+use Rattle.std.specs.List.{list_any, position_or_len, range_with_len}
 use Rattle.std.specs.Option.{option_map_or}
 use Rattle.mau_terms.specs.Tree.{Tree, variable, numeral, apply, Trees, no_trees, tree}
-use Rattle.mau_terms.specs.Vars.{place_of, with_pair}
+use Rattle.mau_terms.specs.Vars.{same_pair}
 use Rattle.mau_terms.specs.declared.ids.OpId.{OpId}
 use Rattle.mau_terms.specs.declared.bare.Bare.{Bare}
 use Rattle.mau_terms.specs.declared.bare.Bare.TheVariants.{Var, Num, App}
@@ -41,87 +42,79 @@ operator_like sort new (d ∷ ds) = op_or_zero (number_of new.names (operator_of
 abbrev pub operator_to : (ℕ → ℕ) → SignatureOf → SignatureOf → ℕ → ℕ
 operator_to sort old new n = if nat_lt 0 n && nat_le n (length old.declarations) then operator_like sort new (declarations_at old n) else 0
 
--- ---- variables: one keeps its name
+-- ---- variables: one keeps its place, and its name too, unless a variable before it has that name and, now, its sort
 
--- variables in other numbers, and the place of each of the old ones among them
-pub record Places : Type 0 where
-  pub pairs : List (List ℕ × ℕ)
-  pub places : List ℕ
+-- a name with so many apostrophes behind it
+abbrev pub primed : List ℕ → ℕ → List ℕ
+primed name n = name ++ replicate n 39
 
-abbrev pub no_places : Places
-no_places = record { pairs = []; places = [] }
+-- one of these is that name with that sort
+abbrev pub is_taken : List (List ℕ × ℕ) → List ℕ × ℕ → Bool
+is_taken pairs p = list_any (same_pair p) pairs
 
--- one more, by its name and sort
-abbrev pub with_variable : Places → List ℕ × ℕ → Places
-with_variable c q = record { pairs = with_pair c.pairs q; places = c.places ++ place_of c.pairs q ∷ [] }
+-- the least number of apostrophes with which the variable p is none of these; it is at most their number
+abbrev pub apostrophes : List (List ℕ × ℕ) → List ℕ × ℕ → ℕ
+apostrophes pairs p = position_or_len (λ n. not (is_taken pairs (primed p.0 n, p.1))) (range_with_len 0 (length pairs + 1))
+
+-- one more, behind the others
+abbrev pub with_variable : List (List ℕ × ℕ) → List ℕ × ℕ → List (List ℕ × ℕ)
+with_variable pairs p = pairs ++ (primed p.0 (apostrophes pairs p), p.1) ∷ []
 
 -- one more of a statement
-abbrev pub carry : (ℕ → ℕ) → Places → List ℕ × ℕ → Places
-carry sort c p = with_variable c (p.0, sort p.1)
+abbrev pub carry : (ℕ → ℕ) → List (List ℕ × ℕ) → List ℕ × ℕ → List (List ℕ × ℕ)
+carry sort pairs p = with_variable pairs (p.0, sort p.1)
 
 -- the variables of a statement
-abbrev pub variables_to : (ℕ → ℕ) → List (List ℕ × ℕ) → Places
-variables_to sort pairs = fold (carry sort) no_places pairs
+abbrev pub variables_to : (ℕ → ℕ) → List (List ℕ × ℕ) → List (List ℕ × ℕ)
+variables_to sort pairs = fold (carry sort) [] pairs
 
--- ---- terms: a variable has its new place and sort, an operator its new number
+-- ---- terms: a variable keeps its place and has its new sort, an operator has its new number
 
 abbrev mutual
-  pub tree_to : Numbers → List ℕ → Tree → Tree
-  tree_to n places (variable i s) = variable (get_or places i 0) (n.sort s)
-  tree_to n places (numeral v) = numeral v
-  tree_to n places (apply f ts) = apply (n.operator f) (trees_to n places ts)
+  pub tree_to : Numbers → Tree → Tree
+  tree_to n (variable i s) = variable i (n.sort s)
+  tree_to n (numeral v) = numeral v
+  tree_to n (apply f ts) = apply (n.operator f) (trees_to n ts)
 
-  pub trees_to : Numbers → List ℕ → Trees → Trees
-  trees_to n places no_trees = no_trees
-  trees_to n places (tree t ts) = tree (tree_to n places t) (trees_to n places ts)
+  pub trees_to : Numbers → Trees → Trees
+  trees_to n no_trees = no_trees
+  trees_to n (tree t ts) = tree (tree_to n t) (trees_to n ts)
 
 -- the same of a term of the code, whose arguments are seen as their trees
-abbrev pub term_to : Numbers → List ℕ → Bare → Bare
-term_to n places (Var v) = Var (record { index = get_or places v.index 0; sort = n.sort v.sort })
-term_to n places (Num v) = Num v
-term_to n places (App f ts) = App (record { 0 = n.operator f.0 }) (map (tree_to n places) ts)
+abbrev pub term_to : Numbers → Bare → Bare
+term_to n (Var v) = Var (record { index = v.index; sort = n.sort v.sort })
+term_to n (Num v) = Num v
+term_to n (App f ts) = App (record { 0 = n.operator f.0 }) (map (tree_to n) ts)
 
--- ---- statements: their variables are carried first, and their terms are over these
+-- ---- statements
 
 -- a part of a condition
-abbrev pub fragment_to : Numbers → List ℕ → Fragment → Fragment
-fragment_to n places (Equal t u) = Equal (term_to n places t) (term_to n places u)
-fragment_to n places (Match p u) = Match (term_to n places p) (term_to n places u)
-fragment_to n places (Sort t s) = Sort (term_to n places t) (n.sort s)
-fragment_to n places (Reach t u) = Reach (term_to n places t) (term_to n places u)
-
--- with these variables
-abbrev pub equation_at : Numbers → Places → Equation → Equation
-equation_at n c e = record e {
-  left = term_to n c.places e.left;
-  right = term_to n c.places e.right;
-  cond = map (fragment_to n c.places) e.cond;
-  vars = c.pairs;
-}
+abbrev pub fragment_to : Numbers → Fragment → Fragment
+fragment_to n (Equal t u) = Equal (term_to n t) (term_to n u)
+fragment_to n (Match p u) = Match (term_to n p) (term_to n u)
+fragment_to n (Sort t s) = Sort (term_to n t) (n.sort s)
+fragment_to n (Reach t u) = Reach (term_to n t) (term_to n u)
 
 abbrev pub equation_to : Numbers → Equation → Equation
-equation_to n e = equation_at n (variables_to n.sort e.vars) e
-
--- with these variables
-abbrev pub membership_at : Numbers → Places → Membership → Membership
-membership_at n c m = record m {
-  left = term_to n c.places m.left;
-  sort = n.sort m.sort;
-  cond = map (fragment_to n c.places) m.cond;
-  vars = c.pairs;
+equation_to n e = record e {
+  left = term_to n e.left;
+  right = term_to n e.right;
+  cond = map (fragment_to n) e.cond;
+  vars = variables_to n.sort e.vars;
 }
 
 abbrev pub membership_to : Numbers → Membership → Membership
-membership_to n m = membership_at n (variables_to n.sort m.vars) m
-
--- with these variables
-abbrev pub rule_at : Numbers → Places → Rule → Rule
-rule_at n c r = record r {
-  left = term_to n c.places r.left;
-  right = term_to n c.places r.right;
-  cond = map (fragment_to n c.places) r.cond;
-  vars = c.pairs;
+membership_to n m = record m {
+  left = term_to n m.left;
+  sort = n.sort m.sort;
+  cond = map (fragment_to n) m.cond;
+  vars = variables_to n.sort m.vars;
 }
 
 abbrev pub rule_to : Numbers → Rule → Rule
-rule_to n r = rule_at n (variables_to n.sort r.vars) r
+rule_to n r = record r {
+  left = term_to n r.left;
+  right = term_to n r.right;
+  cond = map (fragment_to n) r.cond;
+  vars = variables_to n.sort r.vars;
+}

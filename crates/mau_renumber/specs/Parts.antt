@@ -4,5 +4,5 @@ use Rattle.mau_program.specs.declared.strategies.PartUse.{PartUse}
 use Rattle.mau_renumber.specs.Carried.{Numbers}
 use Rattle.mau_renumber.specs.Strategies.{variable_to, strategy_to}
 
-abbrev pub part_to : Numbers → List ℕ → PartUse → PartUse
-part_to n places u = record { var = variable_to n places u.var; strategy = strategy_to n places u.strategy }
+abbrev pub part_to : Numbers → PartUse → PartUse
+part_to n u = record { var = variable_to n u.var; strategy = strategy_to n u.strategy }

@@ -1,10 +1,10 @@
 //! Statements in the numbers of a module that includes theirs.
-ghost use Rattle.std.specs.Prelude.{◌≡◌, get_or, IfOk};
+ghost use Rattle.std.specs.Prelude.{◌≡◌, ◌<◌, length, get_or, IfOk, OnOk};
+ghost use Rattle.mau_renumber.specs.Carried.{with_variable};
 
 use mau_program::{Equation, Fragment, Membership, Rule};
 use mau_terms::{Args, Bare, NoMemory, OpId, Seq, Text, VarId, Vars};
 use std::alloc::Global;
-use std::marker::Model;
 
 /// The number at a place of a table; 0 where it has none.
 pub(crate) fn number_at(table: &[u32], place: u32) -> u32
@@ -23,23 +23,25 @@ pub struct Tables {
     pub operators: Vec<u32>,
 }
 
-/// The variables of a statement in other numbers, and the place of each of the old ones among them.
-#[derive(Drop)]
-pub(crate) struct Carried {
-    pub(crate) vars: Vars,
-    pub(crate) places: Vec<u32>,
-}
-
-impl Model for Carried {
-    ghost use Rattle.mau_renumber.specs.Carried.{Places};
-
-    ghost Value = { Places };
-
-    ghost view = { λ c. record { pairs = c.vars; places = c.places.items } };
-}
-
 /// The greatest number of variables that are numbered.
 const MAX_VARIABLES: usize = 4_294_967_295;
+
+/// Adds a variable, with as many apostrophes behind its name as make it none of those that are there.
+fn add_apart(alloc: Global, vars: &mut Vars, name: &str, sort: u32) -> Result<(), NoMemory>
+    requires { length vars.old < 4294967295 }
+    ensures { OnOk result (vars.new ≡ with_variable vars.old (name.now, sort)) }
+{
+    let before = vars.len();
+    let mut text = String::from_str(alloc, name)?;
+    for _count in 0..before + 1 {
+        vars.add(text.as_str(), sort)?;
+        if vars.len() > before {
+            return Ok(());
+        }
+        text.push_str("'")?;
+    }
+    unreachable!()
+}
 
 impl Tables {
     ghost use Rattle.std.specs.Prelude.{◌≡◌, ◌<◌, [], length, map, get_or, IfOk, OnOk};
@@ -48,33 +50,35 @@ impl Tables {
     ghost use Rattle.mau_renumber.specs.Carried.{carry, tree_to, term_to, fragment_to, equation_to, membership_to, rule_to, variables_to};
 
     /// The variables of a statement. More than can be numbered don't fit into memory.
-    pub(crate) fn variables(&self, alloc: Global, vars: &Vars) -> Result<Carried, NoMemory>
-        ensures { IfOk result (λ c. c ≡ variables_to (sorts_in self.now) vars.now) }
+    pub(crate) fn variables(&self, alloc: Global, vars: &Vars) -> Result<Vars, NoMemory>
+        ensures { IfOk result (λ found. found ≡ variables_to (sorts_in self.now) vars.now) }
     {
-        let mut carried = Carried {
-            vars: Vars::new(alloc),
-            places: Vec::new(alloc),
-        };
+        let mut found = Vars::new(alloc);
         if vars.len() >= MAX_VARIABLES {
             return Err(NoMemory);
         }
         for index in 0..vars.len() as u32 {
-            self.add_variable(vars, index, &mut carried)?;
+            self.add_variable(alloc, vars, index, &mut found)?;
         }
-        Ok(carried)
+        Ok(found)
     }
 
     /// Adds the variable with a number.
-    fn add_variable(&self, vars: &Vars, index: u32, carried: &mut Carried) -> Result<(), NoMemory>
+    fn add_variable(
+        &self,
+        alloc: Global,
+        vars: &Vars,
+        index: u32,
+        found: &mut Vars,
+    ) -> Result<(), NoMemory>
         requires there { index < length vars.now }
-        requires room { length carried.old.pairs < 4294967295 }
-        ensures more { OnOk result (carried.new ≡ carry (sorts_in self.now) carried.old (get_or vars.now index ([], 0))) }
+        requires room { length found.old < 4294967295 }
+        ensures more { OnOk result (found.new ≡ carry (sorts_in self.now) found.old (get_or vars.now index ([], 0))) }
     {
         match vars.variable(index) {
             Some(variable) => match vars.get(variable) {
                 Some((name, sort)) => {
-                    let place = carried.vars.add(name, number_at(&self.sorts, sort))?;
-                    carried.places.push(place.index)?;
+                    add_apart(alloc, found, name, number_at(&self.sorts, sort))?;
                     Ok(())
                 }
                 None => unreachable!(),
@@ -83,83 +87,72 @@ impl Tables {
         }
     }
 
-    /// Some terms, whose variables have these places.
+    /// Some terms.
     #[cycle(term)]
-    pub(crate) fn terms(
-        &self,
-        alloc: Global,
-        places: &[u32],
-        terms: &[Bare],
-    ) -> Result<Vec<Bare>, NoMemory>
-        ensures { IfOk result (λ found. map tree_of found.items ≡ map (tree_to (numbers_in self.now) places.now) (map tree_of terms.now)) }
+    pub(crate) fn terms(&self, alloc: Global, terms: &[Bare]) -> Result<Vec<Bare>, NoMemory>
+        ensures { IfOk result (λ found. map tree_of found.items ≡ map (tree_to (numbers_in self.now)) (map tree_of terms.now)) }
     {
         let mut found = Vec::with_capacity(alloc, terms.len())?;
         for term in terms {
-            found.push(self.term(alloc, places, term)?)?;
+            found.push(self.term(alloc, term)?)?;
         }
         Ok(found)
     }
 
-    /// A term, whose variables have these places.
+    /// A term.
     #[cycle(term)]
-    pub(crate) fn term(&self, alloc: Global, places: &[u32], term: &Bare) -> Result<Bare, NoMemory>
-        ensures term { IfOk result (λ found. found ≡ term_to (numbers_in self.now) places.now term.now) }
-        ensures tree { IfOk result (λ found. tree_of found ≡ tree_to (numbers_in self.now) places.now (tree_of term.now)) }
+    pub(crate) fn term(&self, alloc: Global, term: &Bare) -> Result<Bare, NoMemory>
+        ensures term { IfOk result (λ found. found ≡ term_to (numbers_in self.now) term.now) }
+        ensures tree { IfOk result (λ found. tree_of found ≡ tree_to (numbers_in self.now) (tree_of term.now)) }
     {
         match term {
             Bare::Var(variable) => Ok(Bare::Var(VarId {
-                index: number_at(places, variable.index),
+                index: variable.index,
                 sort: number_at(&self.sorts, variable.sort),
             })),
             Bare::Num(number) => Ok(Bare::Num(*number)),
             Bare::App(op, args) => {
-                let args = self.terms(alloc, places, args.items())?;
+                let args = self.terms(alloc, args.items())?;
                 Ok(Bare::App(OpId(number_at(&self.operators, op.0)), Args::new(args)))
             }
         }
     }
 
-    /// A fragment, whose variables have these places.
-    fn fragment(
-        &self,
-        alloc: Global,
-        places: &[u32],
-        fragment: &Fragment,
-    ) -> Result<Fragment, NoMemory>
-        ensures { IfOk result (λ found. found ≡ fragment_to (numbers_in self.now) places.now fragment.now) }
+    /// A fragment.
+    fn fragment(&self, alloc: Global, fragment: &Fragment) -> Result<Fragment, NoMemory>
+        ensures { IfOk result (λ found. found ≡ fragment_to (numbers_in self.now) fragment.now) }
     {
         match fragment {
             Fragment::Equal(t, u) => Ok(Fragment::Equal(
-                self.term(alloc, places, t)?,
-                self.term(alloc, places, u)?,
+                self.term(alloc, t)?,
+                self.term(alloc, u)?,
             )),
             Fragment::Match(p, u) => Ok(Fragment::Match(
-                self.term(alloc, places, p)?,
-                self.term(alloc, places, u)?,
+                self.term(alloc, p)?,
+                self.term(alloc, u)?,
             )),
             Fragment::Sort(t, sort) => Ok(Fragment::Sort(
-                self.term(alloc, places, t)?,
+                self.term(alloc, t)?,
                 number_at(&self.sorts, *sort),
             )),
             Fragment::Reach(t, u) => Ok(Fragment::Reach(
-                self.term(alloc, places, t)?,
-                self.term(alloc, places, u)?,
+                self.term(alloc, t)?,
+                self.term(alloc, u)?,
             )),
         }
     }
 
-    /// A condition, whose variables have these places.
+    /// A condition.
     pub(crate) fn condition(
         &self,
         alloc: Global,
-        places: &[u32],
         condition: &[Fragment],
     ) -> Result<Seq<Fragment>, NoMemory>
-        ensures { IfOk result (λ found. found ≡ map (fragment_to (numbers_in self.now) places.now) condition.now) }
+        ensures { IfOk result (λ found. found ≡ map (fragment_to (numbers_in self.now)) condition.now) }
     {
         let mut found = Vec::with_capacity(alloc, condition.len())?;
         for fragment in condition {
-            found.push(self.fragment(alloc, places, fragment)?)?;
+            found.push(self.fragment(alloc, fragment)?)?;
         }
         Ok(Seq::new(found))
     }
@@ -168,14 +161,13 @@ impl Tables {
     pub fn equation(&self, alloc: Global, equation: &Equation) -> Result<Equation, NoMemory>
         ensures { IfOk result (λ found. found ≡ equation_to (numbers_in self.now) equation.now) }
     {
-        let carried = self.variables(alloc, &equation.vars)?;
         Ok(Equation {
-            left: self.term(alloc, &carried.places, &equation.left)?,
-            right: self.term(alloc, &carried.places, &equation.right)?,
-            cond: self.condition(alloc, &carried.places, equation.cond.items())?,
+            left: self.term(alloc, &equation.left)?,
+            right: self.term(alloc, &equation.right)?,
+            cond: self.condition(alloc, equation.cond.items())?,
             owise: equation.owise,
             exec: equation.exec,
-            vars: carried.vars,
+            vars: self.variables(alloc, &equation.vars)?,
         })
     }
 
@@ -183,13 +175,12 @@ impl Tables {
     pub fn membership(&self, alloc: Global, membership: &Membership) -> Result<Membership, NoMemory>
         ensures { IfOk result (λ found. found ≡ membership_to (numbers_in self.now) membership.now) }
     {
-        let carried = self.variables(alloc, &membership.vars)?;
         Ok(Membership {
-            left: self.term(alloc, &carried.places, &membership.left)?,
+            left: self.term(alloc, &membership.left)?,
             sort: number_at(&self.sorts, membership.sort),
-            cond: self.condition(alloc, &carried.places, membership.cond.items())?,
+            cond: self.condition(alloc, membership.cond.items())?,
             exec: membership.exec,
-            vars: carried.vars,
+            vars: self.variables(alloc, &membership.vars)?,
         })
     }
 
@@ -197,14 +188,13 @@ impl Tables {
     pub fn rule(&self, alloc: Global, rule: &Rule) -> Result<Rule, NoMemory>
         ensures { IfOk result (λ found. found ≡ rule_to (numbers_in self.now) rule.now) }
     {
-        let carried = self.variables(alloc, &rule.vars)?;
         Ok(Rule {
             label: copy_label(alloc, &rule.label)?,
-            left: self.term(alloc, &carried.places, &rule.left)?,
-            right: self.term(alloc, &carried.places, &rule.right)?,
-            cond: self.condition(alloc, &carried.places, rule.cond.items())?,
+            left: self.term(alloc, &rule.left)?,
+            right: self.term(alloc, &rule.right)?,
+            cond: self.condition(alloc, rule.cond.items())?,
             exec: rule.exec,
-            vars: carried.vars,
+            vars: self.variables(alloc, &rule.vars)?,
         })
     }
 }

@@ -3,6 +3,7 @@
 #![tactic(auto)]
 
 mod carry;
+pub mod laws;
 mod numbers;
 mod strategies;
 

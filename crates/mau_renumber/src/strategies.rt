@@ -12,82 +12,67 @@ impl Tables {
     ghost use Rattle.mau_renumber.specs.Parts.{part_to};
     ghost use Rattle.mau_renumber.specs.Strategies.{assign_to, strategy_to, strategies_to, uses_to, definition_to, strategy_declaration_to};
 
-    /// Arguments, whose variables have these places.
-    fn arguments(&self, alloc: Global, places: &[u32], args: &Args) -> Result<Args, NoMemory>
-        ensures { IfOk result (λ found. found ≡ map (tree_to (numbers_in self.now) places.now) args.now) }
+    /// Arguments.
+    fn arguments(&self, alloc: Global, args: &Args) -> Result<Args, NoMemory>
+        ensures { IfOk result (λ found. found ≡ map (tree_to (numbers_in self.now)) args.now) }
     {
-        let found = self.terms(alloc, places, args.items())?;
+        let found = self.terms(alloc, args.items())?;
         Ok(Args::new(found))
     }
 
-    /// An assignment, the variables of whose value have these places.
-    fn assign(&self, alloc: Global, places: &[u32], assign: &Assign) -> Result<Assign, NoMemory>
-        ensures { IfOk result (λ found. found ≡ assign_to (numbers_in self.now) places.now assign.now) }
+    /// An assignment.
+    fn assign(&self, alloc: Global, assign: &Assign) -> Result<Assign, NoMemory>
+        ensures { IfOk result (λ found. found ≡ assign_to (numbers_in self.now) assign.now) }
     {
         Ok(Assign {
             name: assign.name.copy(alloc)?,
             sort: number_at(&self.sorts, assign.sort),
-            value: self.term(alloc, places, &assign.value)?,
+            value: self.term(alloc, &assign.value)?,
         })
     }
 
     /// Some assignments.
-    fn assigns(
-        &self,
-        alloc: Global,
-        places: &[u32],
-        assigns: &Seq<Assign>,
-    ) -> Result<Seq<Assign>, NoMemory>
-        ensures { IfOk result (λ found. found ≡ map (assign_to (numbers_in self.now) places.now) assigns.now) }
+    fn assigns(&self, alloc: Global, assigns: &Seq<Assign>) -> Result<Seq<Assign>, NoMemory>
+        ensures { IfOk result (λ found. found ≡ map (assign_to (numbers_in self.now)) assigns.now) }
     {
         let assigns = assigns.items();
         let mut found = Vec::with_capacity(alloc, assigns.len())?;
         for assign in assigns {
-            found.push(self.assign(alloc, places, assign)?)?;
+            found.push(self.assign(alloc, assign)?)?;
         }
         Ok(Seq::new(found))
     }
 
     /// A strategy in a box.
     #[cycle(strategy)]
-    fn boxed(
-        &self,
-        alloc: Global,
-        places: &[u32],
-        strategy: &Box<Strategy>,
-    ) -> Result<Box<Strategy>, NoMemory>
-        ensures { IfOk result (λ found. found.value ≡ strategy_to (numbers_in self.now) places.now strategy.now.value) }
+    fn boxed(&self, alloc: Global, strategy: &Box<Strategy>) -> Result<Box<Strategy>, NoMemory>
+        ensures { IfOk result (λ found. found.value ≡ strategy_to (numbers_in self.now) strategy.now.value) }
     {
-        let found = self.strategy(alloc, places, strategy)?;
+        let found = self.strategy(alloc, strategy)?;
         Ok(Box::new(alloc, found)?)
     }
 
     /// Some strategies.
     #[cycle(strategy)]
-    fn strategies(
-        &self,
-        alloc: Global,
-        places: &[u32],
-        strategies: &[Strategy],
-    ) -> Result<Vec<Strategy>, NoMemory>
-        ensures { IfOk result (λ found. strategies_of found.items ≡ strategies_to (numbers_in self.now) places.now (strategies_of strategies.now)) }
+    fn strategies(&self, alloc: Global, strategies: &[Strategy]) -> Result<Vec<Strategy>, NoMemory>
+        ensures { IfOk result (λ found. strategies_of found.items ≡ strategies_to (numbers_in self.now) (strategies_of strategies.now)) }
     {
         let mut found = Vec::with_capacity(alloc, strategies.len())?;
         for strategy in strategies {
-            found.push(self.strategy(alloc, places, strategy)?)?;
+            found.push(self.strategy(alloc, strategy)?)?;
         }
         Ok(found)
     }
 
     /// A variable and its strategy.
     #[cycle(strategy)]
-    fn part(&self, alloc: Global, places: &[u32], part: &PartUse) -> Result<PartUse, NoMemory>
-        ensures { IfOk result (λ found. found ≡ part_to (numbers_in self.now) places.now part.now) }
+    fn part(&self, alloc: Global, part: &PartUse) -> Result<PartUse, NoMemory>
+        ensures { IfOk result (λ found. found ≡ part_to (numbers_in self.now) part.now) }
     {
-        let strategy = self.strategy(alloc, places, &part.strategy)?;
+        let strategy = self.strategy(alloc, &part.strategy)?;
         Ok(PartUse {
             var: VarId {
-                index: number_at(places, part.var.index),
+                index: part.var.index,
                 sort: number_at(&self.sorts, part.var.sort),
             },
             strategy,
@@ -96,44 +81,29 @@ impl Tables {
 
     /// Some variables and their strategies.
     #[cycle(strategy)]
-    fn parts(
-        &self,
-        alloc: Global,
-        places: &[u32],
-        parts: &[PartUse],
-    ) -> Result<Vec<PartUse>, NoMemory>
-        ensures { IfOk result (λ found. uses_of found.items ≡ uses_to (numbers_in self.now) places.now (uses_of parts.now)) }
+    fn parts(&self, alloc: Global, parts: &[PartUse]) -> Result<Vec<PartUse>, NoMemory>
+        ensures { IfOk result (λ found. uses_of found.items ≡ uses_to (numbers_in self.now) (uses_of parts.now)) }
     {
         let mut found = Vec::with_capacity(alloc, parts.len())?;
         for part in parts {
-            found.push(self.part(alloc, places, part)?)?;
+            found.push(self.part(alloc, part)?)?;
         }
         Ok(found)
     }
 
     /// A strategy.
     #[cycle(strategy)]
-    fn strategy(
-        &self,
-        alloc: Global,
-        places: &[u32],
-        strategy: &Strategy,
-    ) -> Result<Strategy, NoMemory>
-        ensures { IfOk result (λ found. found ≡ strategy_to (numbers_in self.now) places.now strategy.now) }
+    fn strategy(&self, alloc: Global, strategy: &Strategy) -> Result<Strategy, NoMemory>
+        ensures { IfOk result (λ found. found ≡ strategy_to (numbers_in self.now) strategy.now) }
     {
-        let form = self.form(alloc, places, strategy.form())?;
+        let form = self.form(alloc, strategy.form())?;
         Ok(Strategy::new(form))
     }
 
     /// A form of a strategy.
     #[cycle(strategy)]
-    fn form(
-        &self,
-        alloc: Global,
-        places: &[u32],
-        form: &StrategyForm,
-    ) -> Result<StrategyForm, NoMemory>
-        ensures { IfOk result (λ found. strategy_of found ≡ strategy_to (numbers_in self.now) places.now (strategy_of form.now)) }
+    fn form(&self, alloc: Global, form: &StrategyForm) -> Result<StrategyForm, NoMemory>
+        ensures { IfOk result (λ found. strategy_of found ≡ strategy_to (numbers_in self.now) (strategy_of form.now)) }
     {
         match form {
             StrategyForm::Idle => Ok(StrategyForm::Idle),
@@ -141,51 +111,51 @@ impl Tables {
             StrategyForm::All => Ok(StrategyForm::All),
             StrategyForm::Label(label, assigns) => Ok(StrategyForm::Label(
                 label.copy(alloc)?,
-                self.assigns(alloc, places, assigns)?,
+                self.assigns(alloc, assigns)?,
             )),
-            StrategyForm::Top(s) => Ok(StrategyForm::Top(self.boxed(alloc, places, s)?)),
+            StrategyForm::Top(s) => Ok(StrategyForm::Top(self.boxed(alloc, s)?)),
             StrategyForm::Call(name, args) => Ok(StrategyForm::Call(
                 name.copy(alloc)?,
-                self.arguments(alloc, places, args)?,
+                self.arguments(alloc, args)?,
             )),
             StrategyForm::Test(kind, pattern, cond) => Ok(StrategyForm::Test(
                 *kind,
-                self.term(alloc, places, pattern)?,
-                self.condition(alloc, places, cond.items())?,
+                self.term(alloc, pattern)?,
+                self.condition(alloc, cond.items())?,
             )),
-            StrategyForm::Star(s) => Ok(StrategyForm::Star(self.boxed(alloc, places, s)?)),
-            StrategyForm::Plus(s) => Ok(StrategyForm::Plus(self.boxed(alloc, places, s)?)),
-            StrategyForm::Normal(s) => Ok(StrategyForm::Normal(self.boxed(alloc, places, s)?)),
+            StrategyForm::Star(s) => Ok(StrategyForm::Star(self.boxed(alloc, s)?)),
+            StrategyForm::Plus(s) => Ok(StrategyForm::Plus(self.boxed(alloc, s)?)),
+            StrategyForm::Normal(s) => Ok(StrategyForm::Normal(self.boxed(alloc, s)?)),
             StrategyForm::Then(s, t) => Ok(StrategyForm::Then(
-                self.boxed(alloc, places, s)?,
-                self.boxed(alloc, places, t)?,
+                self.boxed(alloc, s)?,
+                self.boxed(alloc, t)?,
             )),
             StrategyForm::Or(s, t) => Ok(StrategyForm::Or(
-                self.boxed(alloc, places, s)?,
-                self.boxed(alloc, places, t)?,
+                self.boxed(alloc, s)?,
+                self.boxed(alloc, t)?,
             )),
             StrategyForm::OrElse(s, t) => Ok(StrategyForm::OrElse(
-                self.boxed(alloc, places, s)?,
-                self.boxed(alloc, places, t)?,
+                self.boxed(alloc, s)?,
+                self.boxed(alloc, t)?,
             )),
             StrategyForm::If(s, t, u) => Ok(StrategyForm::If(
-                self.boxed(alloc, places, s)?,
-                self.boxed(alloc, places, t)?,
-                self.boxed(alloc, places, u)?,
+                self.boxed(alloc, s)?,
+                self.boxed(alloc, t)?,
+                self.boxed(alloc, u)?,
             )),
-            StrategyForm::Not(s) => Ok(StrategyForm::Not(self.boxed(alloc, places, s)?)),
-            StrategyForm::Try(s) => Ok(StrategyForm::Try(self.boxed(alloc, places, s)?)),
-            StrategyForm::TestOf(s) => Ok(StrategyForm::TestOf(self.boxed(alloc, places, s)?)),
+            StrategyForm::Not(s) => Ok(StrategyForm::Not(self.boxed(alloc, s)?)),
+            StrategyForm::Try(s) => Ok(StrategyForm::Try(self.boxed(alloc, s)?)),
+            StrategyForm::TestOf(s) => Ok(StrategyForm::TestOf(self.boxed(alloc, s)?)),
             StrategyForm::PartRewrite(kind, pattern, cond, uses) => Ok(StrategyForm::PartRewrite(
                 *kind,
-                self.term(alloc, places, pattern)?,
-                self.condition(alloc, places, cond.items())?,
-                self.parts(alloc, places, uses)?,
+                self.term(alloc, pattern)?,
+                self.condition(alloc, cond.items())?,
+                self.parts(alloc, uses)?,
             )),
             StrategyForm::LabelBy(label, assigns, strategies) => Ok(StrategyForm::LabelBy(
                 label.copy(alloc)?,
-                self.assigns(alloc, places, assigns)?,
-                self.strategies(alloc, places, strategies)?,
+                self.assigns(alloc, assigns)?,
+                self.strategies(alloc, strategies)?,
             )),
         }
     }
@@ -194,13 +164,12 @@ impl Tables {
     pub fn definition(&self, alloc: Global, definition: &StratDef) -> Result<StratDef, NoMemory>
         ensures { IfOk result (λ found. found ≡ definition_to (numbers_in self.now) definition.now) }
     {
-        let carried = self.variables(alloc, &definition.vars)?;
         Ok(StratDef {
             name: definition.name.copy(alloc)?,
-            args: self.arguments(alloc, &carried.places, &definition.args)?,
-            body: self.strategy(alloc, &carried.places, &definition.body)?,
-            cond: self.condition(alloc, &carried.places, definition.cond.items())?,
-            vars: carried.vars,
+            args: self.arguments(alloc, &definition.args)?,
+            body: self.strategy(alloc, &definition.body)?,
+            cond: self.condition(alloc, definition.cond.items())?,
+            vars: self.variables(alloc, &definition.vars)?,
         })
     }
 

@@ -28,7 +28,7 @@ use Rattle.mau_tokens.specs.declared.token.Token.{Token}
 use Rattle.mau_session.specs.declared.refusal.Refusal.{Refusal}
 use Rattle.mau_session.specs.declared.refusal.Refusal.TheVariants.{NotBuilt, UnknownModule}
 use Rattle.mau_session.specs.Terms.{Pairs, terms_in, kind_of_term}
-use Rattle.mau_session.specs.Reading.{part_tokens, part_texts, TermReads, IsUnread}
+use Rattle.mau_statement.specs.Parts.{part_tokens, part_texts, TermReads, IsUnread}
 use Rattle.mau_session.specs.Matching.{Shows}
 use Rattle.mau_session.specs.Commands.{unbuilt}
 use Rattle.mau_session.specs.Built.{uses_memberships, has_context, fault_answer}
@@ -70,25 +70,25 @@ module _ (ws : List Word) (m : ModuleOf) (k : ℕ) (c : RawCommand) where
   pattern_once : (p q : Bare) (ns ns' : Pairs) → PatternReads ws m c p ns → PatternReads ws m c q ns' → AreOneTerm m.grammar (part_tokens ws c.first) (part_texts ws c.first) AnyKind [] ns ns' p q
   pattern_once p q ns ns' x y = term_once m.grammar (part_tokens ws c.first) (part_texts ws c.first) AnyKind [] ns ns' p q x y
 
-  no_pattern_read : (f : ParseFault) → IsUnread ws m c.first AnyKind [] f → f ≢ NoMemoryOfParse → (p : Bare) (ns : Pairs) → PatternReads ws m c p ns → ⊥
+  no_pattern_read : (f : ParseFault) → IsUnread ws m.grammar c.first AnyKind [] f → f ≢ NoMemoryOfParse → (p : Bare) (ns : Pairs) → PatternReads ws m c p ns → ⊥
   no_pattern_read f x n p ns y = term_no_fault m.grammar (part_tokens ws c.first) (part_texts ws c.first) AnyKind [] ns p f y x n
 
   -- where two patterns are one term, what is asked of the subject is one thing
   abbrev goal_of : Tree → Goal
   goal_of t = Kind (kind_of_term m t)
 
-  no_subject_read : (p : Bare) (ns : Pairs) (f : ParseFault) → PatternReads ws m c p ns → IsUnread ws m c.second (goal_of (tree_of p)) ns f → f ≢ NoMemoryOfParse
+  no_subject_read : (p : Bare) (ns : Pairs) (f : ParseFault) → PatternReads ws m c p ns → IsUnread ws m.grammar c.second (goal_of (tree_of p)) ns f → f ≢ NoMemoryOfParse
       → {q t : Bare} {os : Pairs} → ReadTerms ws m c q t os → ⊥
   no_subject_read p ns f x u n {q} {t} {os} y =
       let one = pattern_once p q ns y.pairs x y.pattern in
-      let u' = subst (λ p. IsUnread ws m c.second (goal_of p) y.pairs f) one.tree (subst (λ ns. IsUnread ws m c.second (goal_of (tree_of p)) ns f) one.pairs u) in
+      let u' = subst (λ p. IsUnread ws m.grammar c.second (goal_of p) y.pairs f) one.tree (subst (λ ns. IsUnread ws m.grammar c.second (goal_of (tree_of p)) ns f) one.pairs u) in
       term_no_fault m.grammar (part_tokens ws c.second) (part_texts ws c.second) (goal_of (tree_of q)) y.pairs os t f y.subject u' n
 
-  subject_fault_once : (p q : Bare) (ns ns' : Pairs) (e f : ParseFault) → PatternReads ws m c p ns → PatternReads ws m c q ns' → IsUnread ws m c.second (goal_of (tree_of p)) ns e
-      → IsUnread ws m c.second (goal_of (tree_of q)) ns' f → e ≢ NoMemoryOfParse → f ≢ NoMemoryOfParse → shown_parse_fault e ≡ shown_parse_fault f
+  subject_fault_once : (p q : Bare) (ns ns' : Pairs) (e f : ParseFault) → PatternReads ws m c p ns → PatternReads ws m c q ns' → IsUnread ws m.grammar c.second (goal_of (tree_of p)) ns e
+      → IsUnread ws m.grammar c.second (goal_of (tree_of q)) ns' f → e ≢ NoMemoryOfParse → f ≢ NoMemoryOfParse → shown_parse_fault e ≡ shown_parse_fault f
   subject_fault_once p q ns ns' e f x y u v n o =
       let one = pattern_once p q ns ns' x y in
-      let u' = subst (λ p. IsUnread ws m c.second (goal_of p) ns' e) one.tree (subst (λ ns. IsUnread ws m c.second (goal_of (tree_of p)) ns e) one.pairs u) in
+      let u' = subst (λ p. IsUnread ws m.grammar c.second (goal_of p) ns' e) one.tree (subst (λ ns. IsUnread ws m.grammar c.second (goal_of (tree_of p)) ns e) one.pairs u) in
       shown_once e f (fault_once m.grammar (part_tokens ws c.second) (part_texts ws c.second) (goal_of (tree_of q)) ns' e f u' v n o)
 
   -- they read as one pair
@@ -100,7 +100,7 @@ module _ (ws : List Word) (m : ModuleOf) (k : ℕ) (c : RawCommand) where
   pair_once : {p q t u : Bare} {os os' : Pairs} → ReadTerms ws m c p t os → ReadTerms ws m c q u os' → AreOnePair p q t u os os'
   pair_once {p} {q} {t} {u} {os} {os'} x y =
       let one = pattern_once p q x.pairs y.pairs x.pattern y.pattern in
-      let y' = subst (λ p. TermReads ws m c.second (goal_of p) x.pairs os' u) (sym one.tree) (subst (λ ns. TermReads ws m c.second (goal_of (tree_of q)) ns os' u) (sym one.pairs) y.subject) in
+      let y' = subst (λ p. TermReads ws m.grammar c.second (goal_of p) x.pairs os' u) (sym one.tree) (subst (λ ns. TermReads ws m.grammar c.second (goal_of (tree_of q)) ns os' u) (sym one.pairs) y.subject) in
       let two = term_once m.grammar (part_tokens ws c.second) (part_texts ws c.second) (goal_of (tree_of p)) x.pairs os os' t u x.subject y' in
       record { pattern = one.tree; subject = two.tree; pairs = two.pairs }
 

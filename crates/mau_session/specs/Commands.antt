@@ -1,18 +1,13 @@
 -- The parts of a match command, and where one isn't built.
-use Rattle.std.specs.Prelude.{ℕ, ◌+◌, ◌==◌, List, length, Bool, nat_lt, Option, Some, None, if◌then◌else◌}
-use Rattle.mau_tokens.specs.declared.token.Token.{Token}
+use Rattle.std.specs.Prelude.{ℕ, ◌+◌, List, length, nat_lt, Option, Some, None, if◌then◌else◌}
 use Rattle.mau_modtext.specs.Word.{Word}
 use Rattle.mau_modtext.specs.declared.raw.RawCommand.{RawCommand}
 use Rattle.mau_declare.specs.Words.{first_index}
-use Rattle.mau_session.specs.Reading.{part_words}
+use Rattle.mau_statement.specs.Parts.{is_empty}
 
 -- the number of the word behind the subject
 abbrev pub subject_end : List Word → RawCommand → ℕ
 subject_end ws c = first_index ws c.second + length c.second
-
--- there is no token
-abbrev pub is_empty : List Word → List Token → Bool
-is_empty ws ts = length (part_words ws ts) == 0
 
 -- the word at which a match command isn't built: the place of a term without tokens, which no command has, or the word behind the
 -- subject, with which a condition begins

@@ -1,7 +1,11 @@
 -- What a run reads and writes: the bytes that are left in a source and those that a sink has, where they tell them.
-use Rattle.std.specs.Prelude.{◌≡◌, ℕ, ◌≤◌, List, length, take, Bool, Option}
+use Rattle.std.specs.Prelude.{◌≡◌, ◌↔◌, ◌⊎◌, ℕ, ◌≤◌, List, length, take, Bool, true, false, Option}
 use Rattle.std.specs.Io.KnownBytes.{prepend_known, append_known, IsAtEnd}
+use Rattle.mau_bytes.specs.Faults.{Rose}
 use Rattle.mau_session.specs.Transcript.{Transcript}
+use Rattle.mau_session.specs.Meanings.{has_meaning}
+use Rattle.mau_session.specs.declared.top.Status.{Status}
+use Rattle.mau_session.specs.declared.top.Status.TheVariants.{Done, Refused, Usage, ReadFault, WriteFault, NoMemory, InputTooLong}
 
 -- a text was read, to the end of the input: what was left began with it
 pub record IsRead (left left' : Option (List ℕ)) (text : List ℕ) : Type 0 where
@@ -27,3 +31,25 @@ pub record IsCut (left left' written written' : Option (List ℕ)) : Type 0 wher
   pub transcript : Transcript text bytes refused
   pub fewer : count ≤ length bytes
   pub gained : written' ≡ append_known written (take count bytes)
+
+-- A run under the words of a command line, by its status: counts of faults of the source and of the sink before and after it, what is left in the
+-- source, and what the sink has.
+pub record IsRun (words : List (List ℕ)) (reads reads' writes writes' : ℕ) (left left' written written' : Option (List ℕ)) (status : Status) : Type 0 where
+  -- the words have no meaning; then nothing is read
+  pub usage : (status ≡ Usage) ↔ (has_meaning words ≡ false)
+  pub unread : status ≡ Usage → left' ≡ left
+  -- all of a text is read, and its transcript is out; a refusal in it is told by the status
+  pub done : status ≡ Done → IsAnswered left left' written written' false
+  pub refused : status ≡ Refused → IsAnswered left left' written written' true
+  -- a failed write leaves the first bytes of the transcript out
+  pub prefix : status ≡ WriteFault → IsCut left left' written written'
+  -- nothing is out unless all is, or a write failed
+  pub unwritten : (status ≡ Usage) ⊎ (status ≡ ReadFault) ⊎ (status ≡ NoMemory) ⊎ (status ≡ InputTooLong) → written' ≡ written
+  -- a read or a write failed
+  pub read_fault : status ≡ ReadFault → Rose reads reads'
+  pub write_fault : status ≡ WriteFault → Rose writes writes'
+  -- what was read: one byte more than the limit exactly where the text is too long
+  pub taken : (bytes : List ℕ) × (left ≡ prepend_known bytes left') × (length bytes ≤ 16777217) × ((status ≡ InputTooLong) ↔ (length bytes ≡ 16777217))
+  -- where the words have a meaning, no fault rises and the text isn't too long, the whole transcript is out, or memory was wanting
+  pub complete : has_meaning words ≡ true → (Rose reads reads' → ⊥) → (Rose writes writes' → ⊥) → ((bytes : List ℕ) → left ≡ prepend_known bytes left' → length bytes ≤ 16777216)
+      → (status ≡ Done) ⊎ (status ≡ Refused) ⊎ (status ≡ NoMemory)

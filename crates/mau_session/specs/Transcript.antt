@@ -31,7 +31,7 @@ use Rattle.mau_module.specs.Flattened.{FlattenedAs}
 use Rattle.mau_session.specs.declared.refusal.Refusal.{Refusal}
 use Rattle.mau_session.specs.declared.refusal.Refusal.TheVariants.{NotBuilt, UnknownModule, NothingToContinue}
 use Rattle.mau_session.specs.Terms.{Pairs, terms_in, kind_of_term}
-use Rattle.mau_session.specs.Reading.{TermReads, IsUnread}
+use Rattle.mau_statement.specs.Parts.{TermReads, IsUnread}
 use Rattle.mau_session.specs.Matching.{Shows}
 use Rattle.mau_session.specs.Query.{asked_first, shown_more}
 use Rattle.mau_session.specs.State.{GoingOf, StateOf, at_first, accepted, selected, IsChosen, NamesNone, OutcomeOf, is_refused, has_ended, left_by, refuses, state_after}
@@ -44,18 +44,18 @@ use Rattle.mau_session.specs.Answers.{refusal_line, fault_line, parse_fault_line
 
 -- the pattern is this term, with these variables
 abbrev pub PatternReads : List Word → ModuleOf → RawCommand → Bare → Pairs → Type 0
-PatternReads ws m c p ns = TermReads ws m c.first AnyKind [] ns p
+PatternReads ws m c p ns = TermReads ws m.grammar c.first AnyKind [] ns p
 
 -- the subject, which is read in the pattern's kind and behind its variables
 abbrev pub SubjectReads : List Word → ModuleOf → RawCommand → Bare → Pairs → Bare → Pairs → Type 0
-SubjectReads ws m c p ns t os = TermReads ws m c.second (Kind (kind_of_term m (tree_of p))) ns os t
+SubjectReads ws m c p ns t os = TermReads ws m.grammar c.second (Kind (kind_of_term m (tree_of p))) ns os t
 
 -- The pattern is read in any kind, and the subject in the pattern's. A subject whose normal form is deeper than 1,000, or else holds
 -- the successor of the greatest numeral, has an end in place of solutions, which leaves nothing to continue. Otherwise the first
 -- solutions are listed, at most so many, or all; those of `xmatch` with their contexts.
 pub data TermsAnswer (ws : List Word) (m : ModuleOf) (k : ℕ) (c : RawCommand) (most : Option ℕ) : OutcomeOf → List ℕ → Type 0 where
-  pattern_refused : (f : ParseFault) → IsUnread ws m c.first AnyKind [] f → f ≢ NoMemoryOfParse → TermsAnswer ws m k c most is_refused (parse_fault_line k f)
-  subject_refused : (p : Bare) (ns : Pairs) (f : ParseFault) → PatternReads ws m c p ns → IsUnread ws m c.second (Kind (kind_of_term m (tree_of p))) ns f
+  pattern_refused : (f : ParseFault) → IsUnread ws m.grammar c.first AnyKind [] f → f ≢ NoMemoryOfParse → TermsAnswer ws m k c most is_refused (parse_fault_line k f)
+  subject_refused : (p : Bare) (ns : Pairs) (f : ParseFault) → PatternReads ws m c p ns → IsUnread ws m.grammar c.second (Kind (kind_of_term m (tree_of p))) ns f
       → f ≢ NoMemoryOfParse → TermsAnswer ws m k c most is_refused (parse_fault_line k f)
   too_deep : (p : Bare) (ns : Pairs) (t : Bare) (os : Pairs) → PatternReads ws m c p ns → SubjectReads ws m c p ns t os
       → IsCause (terms_in m).theory (norm (terms_in m).theory (tree_of t)) TooDeep → TermsAnswer ws m k c most has_ended (match_head k (has_context c.kind) m ++ too_deep_line)

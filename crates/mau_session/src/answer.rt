@@ -14,7 +14,7 @@ ghost use Rattle.mau_session.specs.declared.state.Outcome.TheVariants as Outcome
 ghost use Rattle.mau_module.specs.Modules.{ModuleOf};
 ghost use Rattle.mau_session.specs.KeptQuery.{query_of, IsReady};
 ghost use Rattle.mau_session.specs.Answers.{module_line, match_name, match_head, continue_head, refusal_line, parse_fault_line, ok_line, unknown_module_line};
-ghost use Rattle.mau_session.specs.Commands.{is_empty};
+ghost use Rattle.mau_statement.specs.Parts.{is_empty};
 ghost use Rattle.mau_session.specs.Reading.{IsBareOf};
 ghost use Rattle.mau_session.specs.Built.{fault_answer};
 ghost use Rattle.mau_session.specs.Transcript.{ItemsAnswer, PatternReads};

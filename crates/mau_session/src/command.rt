@@ -1,6 +1,7 @@
 //! Where a match command isn't built.
 ghost use Rattle.std.specs.Prelude.{◌≡◌, ◌≤◌, length, false, IfNone};
 ghost use Rattle.mau_session.specs.Commands;
+ghost use Rattle.mau_statement.specs.Parts;
 
 use crate::reading::is_empty;
 use mau_declare::Words;
@@ -10,8 +11,8 @@ use mau_modtext::RawCommand;
 pub fn unbuilt(words: &Words, command: &RawCommand) -> Option<usize>
     requires short { length words.now ≤ 16777216 }
     ensures unbuilt { result ≡ Commands.unbuilt words.now command.now }
-    ensures pattern { IfNone result (Commands.is_empty words.now command.now.first ≡ false) }
-    ensures subject { IfNone result (Commands.is_empty words.now command.now.second ≡ false) }
+    ensures pattern { IfNone result (Parts.is_empty words.now command.now.first ≡ false) }
+    ensures subject { IfNone result (Parts.is_empty words.now command.now.second ≡ false) }
 {
     let pattern = command.first.items();
     let subject = command.second.items();

@@ -5,8 +5,9 @@ ghost use Rattle.mau_terms.specs.View.{tree_of};
 ghost use Rattle.mau_tokens.specs.Laws.{text_of};
 ghost use Rattle.mau_tokens.specs.Spans.{AreSpans};
 ghost use Rattle.mau_parse.specs.Goal.{highest};
-ghost use Rattle.mau_session.specs.Commands;
-ghost use Rattle.mau_session.specs.Reading.{part_tokens, part_texts, TermReads, IsUnread, IsBareOf};
+ghost use Rattle.mau_statement.specs.Parts;
+ghost use Rattle.mau_statement.specs.Parts.{part_tokens, part_texts, TermReads, IsUnread};
+ghost use Rattle.mau_session.specs.Reading.{IsBareOf};
 ghost use Rattle.mau_session.specs.Terms.{terms_in};
 
 use mau_declare::Words;
@@ -27,7 +28,7 @@ fn part<'a>(words: &Words<'a>, tokens: &[Token]) -> (&'a str, &'a [Token])
 
 /// Whether there is no token.
 pub fn is_empty(words: &Words, tokens: &[Token]) -> bool
-    ensures { result ≡ Commands.is_empty words.now tokens.now }
+    ensures { result ≡ Parts.is_empty words.now tokens.now }
 {
     let (_, tokens) = part(words, tokens);
     tokens.is_empty()
@@ -42,12 +43,12 @@ pub fn read_term(
     goal: Goal,
     tokens: &[Token],
 ) -> Result<Bare, ParseFault>
-    requires some { Commands.is_empty words.now tokens.now ≡ false }
+    requires some { Parts.is_empty words.now tokens.now ≡ false }
     requires room { length vars.old < 4000000000 }
-    ensures term { IfOk result (TermReads words.now module.now tokens.now goal vars.old vars.new) }
+    ensures term { IfOk result (TermReads words.now module.now.grammar tokens.now goal vars.old vars.new) }
     ensures bare { IfOk result (λ b. highest module.now.grammar goal ≤ module.now.grammar.last_kind → IsBareOf module.now goal b) }
     ensures few { length vars.new ≤ length vars.old + length words.now }
-    ensures fault { IfErr result (IsUnread words.now module.now tokens.now goal vars.old) }
+    ensures fault { IfErr result (IsUnread words.now module.now.grammar tokens.now goal vars.old) }
 {
     let (text, tokens) = part(words, tokens);
     parse(alloc, module.grammar(), vars, goal, text, tokens)

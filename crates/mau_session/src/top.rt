@@ -2,8 +2,7 @@
 ghost use Rattle.std.specs.Prelude.{◌≡◌, ◌≤◌, ◌↔◌, ◌⊎◌, ℕ, List, length, take, true, false, IfOk, IfErr, IsErrOf};
 ghost use Rattle.std.specs.Io.KnownBytes.{prepend_known, append_known};
 ghost use Rattle.mau_bytes.specs.Faults.{Rose};
-ghost use Rattle.mau_session.specs.Meanings.{has_meaning};
-ghost use Rattle.mau_session.specs.Run.{IsRead, IsAnswered, IsCut};
+ghost use Rattle.mau_session.specs.Run.{IsRead, IsRun};
 
 use crate::meaning::have_meaning;
 use crate::transcript::transcript;
@@ -65,30 +64,8 @@ pub fn run<S: Source, K: Sink>(
     source: &mut S,
     sink: &mut K,
 ) -> Status
-    ensures usage { (result ≡ Status.Usage) ↔ (has_meaning words.now ≡ false) }
-    ensures unread { result ≡ Status.Usage → S.left source.new ≡ S.left source.old }
-
-    ensures read_fault { result ≡ Status.ReadFault → Rose (S.faults source.old) (S.faults source.new) }
-    ensures write_fault { result ≡ Status.WriteFault → Rose (K.faults sink.old) (K.faults sink.new) }
-    // What was read: one byte more than the limit exactly where the text is too long.
-    ensures taken { (bytes : List ℕ) × (S.left source.old ≡ prepend_known bytes (S.left source.new)) × (length bytes ≤ 16777217)
-        × ((result ≡ Status.InputTooLong) ↔ (length bytes ≡ 16777217)) }
-
-    // Nothing is out unless all is, or a write failed.
-    ensures unwritten { (result ≡ Status.Usage) ⊎ (result ≡ Status.ReadFault) ⊎ (result ≡ Status.NoMemory) ⊎ (result ≡ Status.InputTooLong)
-        → K.written sink.new ≡ K.written sink.old }
-
-    // All of a text is read, and its transcript is out; a refusal in it is told by the status.
-    ensures done { result ≡ Status.Done → IsAnswered (S.left source.old) (S.left source.new) (K.written sink.old) (K.written sink.new) false }
-    ensures refused { result ≡ Status.Refused → IsAnswered (S.left source.old) (S.left source.new) (K.written sink.old) (K.written sink.new) true }
-
-    // A failed write leaves the first bytes of the transcript out.
-    ensures prefix { result ≡ Status.WriteFault → IsCut (S.left source.old) (S.left source.new) (K.written sink.old) (K.written sink.new) }
-
-    // Where the words have a meaning, no fault rises and the text isn't too long, the whole transcript is out, or memory was wanting.
-    ensures complete { has_meaning words.now ≡ true → (Rose (S.faults source.old) (S.faults source.new) → ⊥) → (Rose (K.faults sink.old) (K.faults sink.new) → ⊥)
-        → ((bytes : List ℕ) → S.left source.old ≡ prepend_known bytes (S.left source.new) → length bytes ≤ 16777216)
-        → (result ≡ Status.Done) ⊎ (result ≡ Status.Refused) ⊎ (result ≡ Status.NoMemory) }
+    ensures run { IsRun words.now (S.faults source.old) (S.faults source.new) (K.faults sink.old) (K.faults sink.new)
+        (S.left source.old) (S.left source.new) (K.written sink.old) (K.written sink.new) result }
 {
     if !have_meaning(words) {
         return Status::Usage;

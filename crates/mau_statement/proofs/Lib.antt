@@ -7,3 +7,4 @@ pub mod Handed
 pub mod Own
 -- what is read of a statement is one thing
 pub mod OneStatement
+pub mod Lawfulness

@@ -20,7 +20,7 @@ use Rattle.mau_program.specs.declared.statements.Rule.{Rule}
 use Rattle.mau_statement.specs.Context.{ContextOf}
 use Rattle.mau_statement.specs.Parts.{Pairs, TermReads, PartUnread, PairReads, PairUnread, begin_of, sort_named}
 use Rattle.mau_statement.specs.Conditions.{ConditionReads, ConditionUnread}
-use Rattle.mau_statement.specs.Tops.{is_left_side, is_head}
+use Rattle.mau_program.specs.Tops.{is_left_side, is_head}
 use Rattle.mau_statement.specs.Binding.{binds_variables}
 use Rattle.mau_statement.specs.declared.TheConstants.{MAX_VARIABLES, MAX_FRAGMENTS}
 use Rattle.mau_statement.specs.declared.statement.Statement.{Statement}

@@ -3,7 +3,8 @@ ghost use Rattle.std.specs.Prelude.{◌≡◌, map, fold, true, IfOk, OnOk};
 ghost use Rattle.mau_terms.specs.Tree.{variable, trees_of};
 ghost use Rattle.mau_terms.specs.Subst.{has_variable, add_variables, add_all_variables, variables};
 ghost use Rattle.mau_terms.specs.View.{tree_of, variable_of};
-ghost use Rattle.mau_statement.specs.Binding;
+ghost use Rattle.mau_program.specs.Binding;
+ghost use Rattle.mau_statement.specs.Binding.{binds_variables};
 
 use crate::statement::Statement;
 use mau_program::Fragment;
@@ -142,7 +143,7 @@ fn binds_fragments(alloc: Global, left: &Bare, fragments: &[Fragment]) -> Result
 
 /// Whether a statement has no other variables than it may have.
 pub fn binds_variables(alloc: Global, statement: &Statement) -> Result<bool, NoMemory>
-    ensures { IfOk result (λ bound. bound ≡ Binding.binds_variables statement.now) }
+    ensures { IfOk result (λ bound. bound ≡ binds_variables statement.now) }
 {
     match statement {
         Statement::Equation(equation) => binds(

@@ -4,7 +4,7 @@ ghost use Rattle.mau_terms.specs.Bare.{IsBare, IsBareIn};
 ghost use Rattle.mau_statement.specs.Context.{constant, terms_in};
 ghost use Rattle.mau_statement.specs.Conditions.{FragmentReads, FragmentUnread, ConditionReads, ConditionUnread};
 ghost use Rattle.mau_statement.specs.Faults.{IfFault};
-ghost use Rattle.mau_statement.specs.Lawful.{IsLawfulFragment};
+ghost use Rattle.mau_program.specs.LawfulStatements.{IsLawfulFragment};
 ghost use Rattle.mau_modtext.specs.declared.raw.FragmentKind.TheVariants as Sign;
 
 use crate::context::Context;

@@ -3,7 +3,7 @@ ghost use Rattle.std.specs.Prelude.{◌≡◌, Ok, Err, IfOk, OnOk, IfErr};
 ghost use Rattle.mau_signature.specs.Signature.{theory_at};
 ghost use Rattle.mau_statement.specs.Faults;
 ghost use Rattle.mau_statement.specs.Faults.{IfFault};
-ghost use Rattle.mau_statement.specs.Lawful.{HasLawfulParts, HasOwnVariables, IsLawfulStatement};
+ghost use Rattle.mau_statement.specs.Lawful.{HasLawfulParts, HasOwnVariables, HasNoFault};
 ghost use Rattle.mau_statement.specs.Statements;
 ghost use Rattle.mau_statement.specs.Statements.{Judged};
 
@@ -72,7 +72,7 @@ pub fn judge(
     requires parts { HasLawfulParts signature.now statement.now }
     requires own { HasOwnVariables statement.now }
     ensures accepted { OnOk result (Judged (theory_at signature.now) fragments statement.now (Ok statement.now)) }
-    ensures lawful { OnOk result (IsLawfulStatement signature.now statement.now) }
+    ensures faultless { OnOk result (HasNoFault signature.now statement.now) }
     ensures fault { IfErr result (IfFault (λ f. Judged (theory_at signature.now) fragments statement.now (Err f))) }
 {
     if statement.variable_count() > MAX_VARIABLES {

@@ -8,7 +8,7 @@ ghost use Rattle.mau_terms.specs.View.{tree_of};
 ghost use Rattle.mau_declare.specs.Names;
 ghost use Rattle.mau_statement.specs.Context.{terms_in};
 ghost use Rattle.mau_statement.specs.Faults.{IfFault};
-ghost use Rattle.mau_statement.specs.Lawful.{AreOfOneKind};
+ghost use Rattle.mau_program.specs.LawfulStatements.{AreOfOneKind};
 ghost use Rattle.mau_statement.specs.Parts;
 ghost use Rattle.mau_statement.specs.Parts.{part_tokens, part_texts, begin_of, TermReads, IsUnread, IsBareOf, PartUnread, PairReads, PairUnread};
 

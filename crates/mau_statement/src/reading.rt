@@ -2,7 +2,8 @@
 ghost use Rattle.std.specs.Prelude.{◌≡◌, ◌≢◌, ◌<◌, Some, Ok, Err, IfOk, IfErr};
 ghost use Rattle.mau_modtext.specs.declared.raw.StatementKind.TheVariants as Kind;
 ghost use Rattle.mau_statement.specs.Faults.{IfFault};
-ghost use Rattle.mau_statement.specs.Lawful.{HasLawfulSides, HasLawfulHead, HasLawfulParts, HasOwnVariables, IsLawfulStatement};
+ghost use Rattle.mau_program.specs.LawfulStatements.{HasLawfulSides, HasLawfulHead};
+ghost use Rattle.mau_statement.specs.Lawful.{HasLawfulParts, HasOwnVariables, IsLawfulStatement};
 ghost use Rattle.mau_statement.specs.Parts;
 ghost use Rattle.mau_statement.specs.Statements;
 ghost use Rattle.mau_statement.specs.Statements.{EquationReads, RuleReads, MembershipReads, PartsRead, SidesUnread, MembershipUnread, PartsUnread, StatementRead};

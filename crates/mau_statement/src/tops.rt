@@ -4,6 +4,7 @@ ghost use Rattle.mau_terms.specs.Bare.{IsBare};
 ghost use Rattle.mau_terms.specs.Norm.{norm};
 ghost use Rattle.mau_terms.specs.View.{tree_of};
 ghost use Rattle.mau_signature.specs.Signature.{terms_over, theory_at};
+ghost use Rattle.mau_program.specs.Tops as ProgramTops;
 ghost use Rattle.mau_statement.specs.Tops;
 ghost use Rattle.mau_statement.specs.Tops.{top_of, IsTopOver, is_unit_top};
 
@@ -82,7 +83,7 @@ fn normal_top(signature: &Signature, term: &Bare) -> Top
 /// Whether a term may be the left side of an equation: its normal form is no variable.
 pub fn is_left_side(signature: &Signature, left: &Bare) -> bool
     requires { IsBare (terms_over signature.now) (tree_of left.now) }
-    ensures { result ≡ Tops.is_left_side (theory_at signature.now) (tree_of left.now) }
+    ensures { result ≡ ProgramTops.is_left_side (theory_at signature.now) (tree_of left.now) }
 {
     match normal_top(signature, left) {
         Top::Variable => false,
@@ -92,7 +93,7 @@ pub fn is_left_side(signature: &Signature, left: &Bare) -> bool
 
 /// Whether an operator may be the top of a head.
 fn is_head_operator(theory: &Theory) -> bool
-    ensures { result ≡ Tops.is_head_operator theory.now }
+    ensures { result ≡ ProgramTops.is_head_operator theory.now }
 {
     !(theory.assoc || theory.id.is_some() || theory.succ)
 }
@@ -101,7 +102,7 @@ fn is_head_operator(theory: &Theory) -> bool
 /// associative nor the successor, and has no identity.
 pub fn is_head(signature: &Signature, head: &Bare) -> bool
     requires { IsBare (terms_over signature.now) (tree_of head.now) }
-    ensures { result ≡ Tops.is_head (theory_at signature.now) (tree_of head.now) }
+    ensures { result ≡ ProgramTops.is_head (theory_at signature.now) (tree_of head.now) }
 {
     match normal_top(signature, head) {
         Top::Variable => false,

@@ -1,12 +1,9 @@
 //! A run with the native operators of the program.
-ghost use Rattle.std.specs.Prelude.{◌≡◌, ◌≤◌, ◌↔◌, ◌⊎◌, ℕ, List, length, true, false, map, IfOk, OnErr};
-ghost use Rattle.std.specs.Io.KnownBytes.{prepend_known};
-ghost use Rattle.mau_bytes.specs.Faults.{Rose};
+ghost use Rattle.std.specs.Prelude.{◌≡◌, map, IfOk, OnErr};
 ghost use Rattle.mau_formula.specs.Expr.{value};
 ghost use Rattle.mau_formula.specs.Native.{formula_of, native_operator, natives};
 ghost use Rattle.mau_formula.specs.Operators.{operators};
-ghost use Rattle.mau_session.specs.Meanings.{has_meaning};
-ghost use Rattle.mau_session.specs.Run.{IsAnswered, IsCut};
+ghost use Rattle.mau_session.specs.Run.{IsRun};
 
 use mau_bytes::{Sink, Source};
 use mau_formula::{Hook, HookAnswer, HookTable, Native};
@@ -27,21 +24,8 @@ pub fn run_with_hooks<S: Source, K: Sink>(
     source: &mut S,
     sink: &mut K,
 ) -> Result<Status, NoMemory>
-    ensures usage { IfOk result (λ s. (s ≡ Status.Usage) ↔ (has_meaning words.now ≡ false)) }
-    ensures unread { IfOk result (λ s. s ≡ Status.Usage → S.left source.new ≡ S.left source.old) }
-    ensures read_fault { IfOk result (λ s. s ≡ Status.ReadFault → Rose (S.faults source.old) (S.faults source.new)) }
-    ensures write_fault { IfOk result (λ s. s ≡ Status.WriteFault → Rose (K.faults sink.old) (K.faults sink.new)) }
-    ensures taken { IfOk result (λ s. (bytes : List ℕ) × (S.left source.old ≡ prepend_known bytes (S.left source.new)) × (length bytes ≤ 16777217)
-        × ((s ≡ Status.InputTooLong) ↔ (length bytes ≡ 16777217))) }
-    ensures unwritten { IfOk result (λ s. (s ≡ Status.Usage) ⊎ (s ≡ Status.ReadFault) ⊎ (s ≡ Status.NoMemory) ⊎ (s ≡ Status.InputTooLong)
-        → K.written sink.new ≡ K.written sink.old) }
-    ensures done { IfOk result (λ s. s ≡ Status.Done → IsAnswered (S.left source.old) (S.left source.new) (K.written sink.old) (K.written sink.new) false) }
-    ensures refused { IfOk result (λ s. s ≡ Status.Refused → IsAnswered (S.left source.old) (S.left source.new) (K.written sink.old) (K.written sink.new) true) }
-    ensures prefix { IfOk result (λ s. s ≡ Status.WriteFault → IsCut (S.left source.old) (S.left source.new) (K.written sink.old) (K.written sink.new)) }
-    ensures complete { IfOk result (λ s. has_meaning words.now ≡ true → (Rose (S.faults source.old) (S.faults source.new) → ⊥)
-        → (Rose (K.faults sink.old) (K.faults sink.new) → ⊥)
-        → ((bytes : List ℕ) → S.left source.old ≡ prepend_known bytes (S.left source.new) → length bytes ≤ 16777216)
-        → (s ≡ Status.Done) ⊎ (s ≡ Status.Refused) ⊎ (s ≡ Status.NoMemory)) }
+    ensures run { IfOk result (IsRun words.now (S.faults source.old) (S.faults source.new) (K.faults sink.old) (K.faults sink.new)
+        (S.left source.old) (S.left source.new) (K.written sink.old) (K.written sink.new)) }
     ensures untouched { OnErr result ((source.new ≡ source.old) × (sink.new ≡ sink.old)) }
 {
     let mut hooks = HookTable::new(alloc);

@@ -88,6 +88,20 @@ const NAT_TEXT: &str = "fmod WRITTEN is \
     ops _<_ _<=_ _>_ _>=_ : Nat Nat -> Bool [prec 37] . \
     endfm";
 
+/// The variables of an equation, each behind a space.
+fn names_of(alloc: Global, equation: &Equation) -> Result<String, Fail> {
+    let mut text = String::new(alloc);
+    let count = u32::try_from(equation.vars.len())?;
+    for index in 0..count {
+        if let Some(variable) = equation.vars.variable(index) {
+            if let Some((name, sort)) = equation.vars.get(variable) {
+                text.push_str(&format!(in alloc; " {name}:{sort}")?)?;
+            }
+        }
+    }
+    Ok(text)
+}
+
 /// An equation with its variables.
 fn shown(alloc: Global, equation: &Equation) -> Result<String, Fail> {
     let Equation {
@@ -98,16 +112,8 @@ fn shown(alloc: Global, equation: &Equation) -> Result<String, Fail> {
         exec,
         ..
     } = equation;
-    let mut text = format!(in alloc; "{left:?} {right:?} {cond:?} {owise} {exec}")?;
-    let count = u32::try_from(equation.vars.len())?;
-    for index in 0..count {
-        if let Some(variable) = equation.vars.variable(index) {
-            if let Some((name, sort)) = equation.vars.get(variable) {
-                text.push_str(&format!(in alloc; " {name}:{sort}")?)?;
-            }
-        }
-    }
-    Ok(text)
+    let names = names_of(alloc, equation)?;
+    Ok(format!(in alloc; "{left:?} {right:?} {cond:?} {owise} {exec}{names}")?)
 }
 
 /// The declarations of a module, without the hooks of the prelude's.
@@ -194,5 +200,25 @@ fn modules_are_included_once(rt: HostRuntime) -> Result<(), Fail> {
     assert_eq!(rt; module.depth(), 3);
     assert_eq!(rt; module.equations().len(), 11);
     assert_eq!(rt; module.own_equations().len(), 1);
+    Ok(())
+}
+
+#[test]
+fn variables_of_kinds_that_become_one_stay_two(rt: HostRuntime) -> Result<(), Fail> {
+    let alloc = rt.alloc();
+    let mut library = Library::prelude(alloc)?;
+    let texts = [
+        "fmod A is sorts S T U . op s : -> S . op t : -> T . op u : -> U . op f : S T -> U . eq f(X:[S], X:[T]) = u . endfm",
+        "fmod B is pr A . sort W . subsorts S T < W . endfm",
+    ];
+    for text in texts {
+        enter(alloc, &mut library, text, &rt)?;
+    }
+    assert_eq!(rt; library.len(), 6);
+    // Bool, S, T, U, W have the numbers 0 to 4; the kinds of Bool, S, U are 5 to 7.
+    let module = library.module(5);
+    assert_eq!(rt; module.equations().len(), 10);
+    let names = names_of(alloc, &module.equations()[9])?;
+    assert_eq!(rt; names.as_str(), " X:6 X':6");
     Ok(())
 }

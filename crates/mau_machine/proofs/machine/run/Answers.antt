@@ -1,10 +1,12 @@
 use Rattle.std.proofs.Common.{◌≡◌, [], sym, ◌∙◌, ap, subst, le_trans}
+use Rattle.mau_machine.specs.Telling.{IsTelling}
 use Rattle.mau_machine.specs.Words.{capped}
 use Rattle.mau_machine.specs.Machine.{whole}
 use Rattle.mau_machine.specs.Known.{HoldsIn}
 use Rattle.mau_machine.specs.Steps.{IsAlike}
 use Rattle.mau_machine.proofs.Counts.{ends_alike}
 use Rattle.mau_machine.proofs.Branches.{empty_is}
+use Rattle.mau_machine.proofs.Advance.{more_on}
 use Rattle.mau_machine.proofs.Held.{same_whole}
 use Rattle.mau_machine.proofs.machine.run.Goals as goal
 
@@ -51,5 +53,47 @@ loop-preserved g c =
     let k = g.met.W.World.keeps c.loop.world c.step.new.world c.loop.store c.step.new.store c.in-Ok.ensures.grows in
     let H = c.loop.invariant.3 c.requires.held.0 c.requires.held.1 in
     let same : IsAlike (whole w0 c.args.machine.now.frames.items c.args.task c.args.machine.now.rewrites c.args.budget.now) (whole w' c.loop.machine.frames.items c.loop.task c.loop.machine.rewrites c.loop.budget) =
-    c.loop.invariant.2 ∙ ap capped (sym (same_whole w w' k c.requires.held.0 c.loop.machine.frames.items c.loop.task H c.loop.machine.rewrites c.loop.budget)) in
-    (grows, le_trans c.in-Ok.ensures.falls c.loop.invariant.1, same ∙ c.in-Ok.ensures.goes, λ asked h. c.in-Ok.ensures.known asked (c.loop.invariant.3 asked h))
+    c.loop.invariant.2 ∙ ap capped (sym (same_whole w w' k c.requires.held.0 c.loop.machine.frames.items c.loop.task H c.loop.machine.rewrites c.loop.budget)) in (
+      grows,
+      le_trans c.in-Ok.ensures.falls c.loop.invariant.1,
+      same ∙ c.in-Ok.ensures.goes,
+      λ asked h. c.in-Ok.ensures.known asked (c.loop.invariant.3 asked h),
+      c.in-Ok.ensures.watched.0 ∙ c.loop.invariant.4,
+      λ q. c.in-Ok.ensures.watched.1 (c.loop.invariant.4 ∙ q) ∙ c.loop.invariant.5 q,
+      λ q front J asked h t. c.in-Ok.ensures.told (c.loop.invariant.4 ∙ q) front J asked (c.loop.invariant.3 asked h) (c.loop.invariant.6 q front J asked h t),
+    )
+
+pub returns-then-is_empty-clause-told : goal.returns-then-is_empty-clause-told
+returns-then-is_empty-clause-told g c =
+    let w0 = (g.W.World.words c.args.world.now c.args.store.now) in
+    let w = (g.W.World.words c.loop.world c.loop.store) in
+    let e : c.loop.machine.frames.items ≡ [] = empty_is c.as_slice.result.now c.loop.machine.frames.items c.as_slice.ensures.value c.if-is_empty.ensures in
+    λ q front J asked h t. subst (λ fs. IsTelling w c.loop.store (g.W.World.table c.loop.world) front J fs c.loop.task c.loop.machine.rewrites (g.T.StepWatcher.told c.loop.watcher)) e (c.loop.invariant.6 q front J asked h t)
+
+pub returns-then-is_empty-clause-watched : goal.returns-then-is_empty-clause-watched
+returns-then-is_empty-clause-watched g c =
+    (c.loop.invariant.4, c.loop.invariant.5)
+
+pub returns-then-is_empty-clause-front : goal.returns-then-is_empty-clause-front
+returns-then-is_empty-clause-front g c =
+    λ q front J t. let L = c.loop.invariant.6 q front J c.requires.held.0 c.requires.held.1 t in (L.events, L.is)
+
+pub step-requires-clause-told : goal.step-requires-clause-told
+step-requires-clause-told g c =
+    λ q. let z = sym c.loop.invariant.4 ∙ q in let t = c.requires.told z in (t.0, t.1, c.loop.invariant.6 z t.0 t.1 c.requires.held.0 c.requires.held.1 t.2)
+
+pub returns-in-Err-clause-front : goal.returns-in-Err-clause-front
+returns-in-Err-clause-front g c =
+    λ q front J t. let L = c.loop.invariant.6 q front J c.requires.held.0 c.requires.held.1 t in more_on front (g.T.StepWatcher.told c.loop.watcher) (g.T.StepWatcher.told c.step.new.watcher) (L.events, L.is) c.in-Err.ensures.more
+
+pub returns-in-Err-clause-watched : goal.returns-in-Err-clause-watched
+returns-in-Err-clause-watched g c =
+    (c.in-Err.ensures.watched.0 ∙ c.loop.invariant.4, λ q. c.in-Err.ensures.watched.1 (c.loop.invariant.4 ∙ q) ∙ c.loop.invariant.5 q)
+
+pub returns-clause-front : goal.returns-clause-front
+returns-clause-front g c =
+    λ q front J t. let L = c.loop.invariant.6 q front J c.requires.held.0 c.requires.held.1 t in (L.events, L.is)
+
+pub returns-clause-watched : goal.returns-clause-watched
+returns-clause-watched g c =
+    (c.loop.invariant.4, c.loop.invariant.5)

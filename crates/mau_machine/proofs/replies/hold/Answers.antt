@@ -1,4 +1,5 @@
-use Rattle.std.proofs.Common.{◌-◌, ap, subst}
+use Rattle.std.proofs.Common.{◌-◌, ◌∷◌, [], ap, subst}
+use Rattle.mau_api.specs.Events.{made}
 use Rattle.mau_api.specs.declared.results.EvalEnd.TheVariants as Ended
 use Rattle.mau_machine.specs.Words.{IsSolution}
 use Rattle.mau_machine.specs.Machine.{comes, task_in}
@@ -7,13 +8,14 @@ use Rattle.mau_machine.specs.declared.frame.Frame.TheVariants as Waiting
 use Rattle.mau_machine.specs.declared.frame.Control.TheVariants as Next
 use Rattle.mau_machine.proofs.Through.{alike_popped, ends_popped, last_is}
 use Rattle.mau_machine.proofs.Branches.{spends, stops, spend_ends, choice_held}
-use Rattle.mau_machine.proofs.Held.{held_popped, last_known, held_later}
+use Rattle.mau_machine.proofs.Advance.{stays_popped, stays_popped_same, choice_given, trying_given}
+use Rattle.mau_machine.proofs.Held.{held_popped, last_known, held_later, same_state}
 use Rattle.mau_machine.proofs.replies.hold.Goals as goal
 
 pub returns-in-Some-Choice-clause-goes : goal.returns-in-Some-Choice-clause-goes
 returns-in-Some-Choice-clause-goes g c =
     let w = (g.W.World.words c.args.world.now c.args.store.now) in
-    let f = Waiting.Choice c.in-Some-Choice.choosing in
+    let f = Waiting.Choice c.in-Some-Choice.choosing c.in-Some-Choice.mark in
     let p = last_is w c.args.machine.now.frames.items c.pop.new.self.items f _ c.in-Some-Choice.ensures.items c.in-Some-Choice.field-0-is in
     let x = c.in-Some-Choice.choosing in
     alike_popped w c.args.machine.now.frames.items c.pop.new.self.items f (comes w.rules (task_in w (Next.Held c.args.condition c.args.binding)) c.args.machine.now.rewrites c.args.budget.now) (comes w.rules (task_in w (Next.Held c.args.condition c.args.binding)) c.saturating_add-machine.result c.args.budget.now) p
@@ -22,39 +24,39 @@ returns-in-Some-Choice-clause-goes g c =
 pub returns-in-Some-Choice-clause-known : goal.returns-in-Some-Choice-clause-known
 returns-in-Some-Choice-clause-known g c =
     let w = (g.W.World.words c.args.world.now c.args.store.now) in
-    let f = Waiting.Choice c.in-Some-Choice.choosing in
+    let f = Waiting.Choice c.in-Some-Choice.choosing c.in-Some-Choice.mark in
     let p = last_is w c.args.machine.now.frames.items c.pop.new.self.items f _ c.in-Some-Choice.ensures.items c.in-Some-Choice.field-0-is in
     λ asked h. held_popped w asked c.args.machine.now.frames.items c.pop.new.self.items (Next.Held c.args.condition c.args.binding) (Next.Held c.args.condition c.args.binding) f p h h.next (ap answer_to (last_known w asked c.args.machine.now.frames.items c.pop.new.self.items (Next.Held c.args.condition c.args.binding) f p h).1)
 
 pub returns-then-budget-eq0-clause-ends : goal.returns-then-budget-eq0-clause-ends
 returns-then-budget-eq0-clause-ends g c =
     let w = (g.W.World.words c.args.world.now c.args.store.now) in
-    let f = Waiting.Trying c.in-Some-Trying.trial c.in-Some-Trying.before in
+    let f = Waiting.Trying c.in-Some-Trying.trial c.in-Some-Trying.before c.in-Some-Trying.mark in
     let p = last_is w c.args.machine.now.frames.items c.pop.new.self.items f _ c.in-Some-Trying.ensures.items c.in-Some-Trying.field-0-is in
     let x = c.in-Some-Trying.trial in
     ends_popped w c.args.machine.now.frames.items c.pop.new.self.items f (comes w.rules (task_in w (Next.Held c.args.condition c.args.binding)) c.args.machine.now.rewrites c.args.budget.now) Ended.Stopped p
     (stops w.rules x.level (w.tree x.term.0) (w.untried x.attempts x.level) (w.makes x.attempts) c.in-Some-Trying.before c.args.machine.now.rewrites c.args.budget.now (w.bound c.args.binding) c.if-budget-eq0.true)
 
-pub replace-requires-clause-term : goal.replace-requires-clause-term
-replace-requires-clause-term g c =
+pub make-requires-clause-term : goal.make-requires-clause-term
+make-requires-clause-term g c =
     let w = (g.W.World.words c.args.world.now c.args.store.now) in
-    let f = Waiting.Trying c.in-Some-Trying.trial c.in-Some-Trying.before in
+    let f = Waiting.Trying c.in-Some-Trying.trial c.in-Some-Trying.before c.in-Some-Trying.mark in
     let p = last_is w c.args.machine.now.frames.items c.pop.new.self.items f _ c.in-Some-Trying.ensures.items c.in-Some-Trying.field-0-is in
     let L = last_known w c.requires.held.0 c.args.machine.now.frames.items c.pop.new.self.items (Next.Held c.args.condition c.args.binding) f p c.requires.held.1 in
     L.0.0
 
-pub replace-requires-clause-candidate : goal.replace-requires-clause-candidate
-replace-requires-clause-candidate g c =
+pub make-requires-clause-candidate : goal.make-requires-clause-candidate
+make-requires-clause-candidate g c =
     let w = (g.W.World.words c.args.world.now c.args.store.now) in
-    let f = Waiting.Trying c.in-Some-Trying.trial c.in-Some-Trying.before in
+    let f = Waiting.Trying c.in-Some-Trying.trial c.in-Some-Trying.before c.in-Some-Trying.mark in
     let p = last_is w c.args.machine.now.frames.items c.pop.new.self.items f _ c.in-Some-Trying.ensures.items c.in-Some-Trying.field-0-is in
     let L = last_known w c.requires.held.0 c.args.machine.now.frames.items c.pop.new.self.items (Next.Held c.args.condition c.args.binding) f p c.requires.held.1 in
     L.0.2
 
-pub replace-requires-clause-solution : goal.replace-requires-clause-solution
-replace-requires-clause-solution g c =
+pub make-requires-clause-solution : goal.make-requires-clause-solution
+make-requires-clause-solution g c =
     let w = (g.W.World.words c.args.world.now c.args.store.now) in
-    let f = Waiting.Trying c.in-Some-Trying.trial c.in-Some-Trying.before in
+    let f = Waiting.Trying c.in-Some-Trying.trial c.in-Some-Trying.before c.in-Some-Trying.mark in
     let p = last_is w c.args.machine.now.frames.items c.pop.new.self.items f _ c.in-Some-Trying.ensures.items c.in-Some-Trying.field-0-is in
     let L = last_known w c.requires.held.0 c.args.machine.now.frames.items c.pop.new.self.items (Next.Held c.args.condition c.args.binding) f p c.requires.held.1 in
     subst (λ e. IsSolution w e c.args.binding) L.1 c.requires.held.1.next
@@ -62,9 +64,9 @@ replace-requires-clause-solution g c =
 pub returns-in-Ok-clause-goes : goal.returns-in-Ok-clause-goes
 returns-in-Ok-clause-goes g c =
     let w = (g.W.World.words c.args.world.now c.args.store.now) in
-    let w' = (g.W.World.words c.replace.new.self c.replace.new.store) in
-    let k = (g.met.W.World.keeps c.args.world.now c.replace.new.self c.args.store.now c.replace.new.store c.replace.ensures.grows) in
-    let f = Waiting.Trying c.in-Some-Trying.trial c.in-Some-Trying.before in
+    let w' = (g.W.World.words c.make.new.world c.make.new.store) in
+    let k = (g.met.W.World.keeps c.args.world.now c.make.new.world c.args.store.now c.make.new.store c.make.ensures.grows) in
+    let f = Waiting.Trying c.in-Some-Trying.trial c.in-Some-Trying.before c.in-Some-Trying.mark in
     let p = last_is w' c.args.machine.now.frames.items c.pop.new.self.items f _ c.in-Some-Trying.ensures.items c.in-Some-Trying.field-0-is in
     let x = c.in-Some-Trying.trial in
     alike_popped w' c.args.machine.now.frames.items c.pop.new.self.items f (comes w'.rules (task_in w' (Next.Held c.args.condition c.args.binding)) c.args.machine.now.rewrites c.args.budget.now) (comes w'.rules (task_in w' (Next.Eval c.in-Some.level c.in-Ok.term)) c.saturating_add-machine-in-Ok.result (c.args.budget.now - 1)) p
@@ -74,19 +76,42 @@ returns-in-Ok-clause-goes g c =
 pub returns-in-Ok-clause-known : goal.returns-in-Ok-clause-known
 returns-in-Ok-clause-known g c =
     let w = (g.W.World.words c.args.world.now c.args.store.now) in
-    let w' = (g.W.World.words c.replace.new.self c.replace.new.store) in
-    let k = (g.met.W.World.keeps c.args.world.now c.replace.new.self c.args.store.now c.replace.new.store c.replace.ensures.grows) in
-    let f = Waiting.Trying c.in-Some-Trying.trial c.in-Some-Trying.before in
+    let w' = (g.W.World.words c.make.new.world c.make.new.store) in
+    let k = (g.met.W.World.keeps c.args.world.now c.make.new.world c.args.store.now c.make.new.store c.make.ensures.grows) in
+    let f = Waiting.Trying c.in-Some-Trying.trial c.in-Some-Trying.before c.in-Some-Trying.mark in
     let p = last_is w' c.args.machine.now.frames.items c.pop.new.self.items f _ c.in-Some-Trying.ensures.items c.in-Some-Trying.field-0-is in
     λ asked h. held_popped w' asked c.args.machine.now.frames.items c.pop.new.self.items (Next.Held c.args.condition c.args.binding) (Next.Eval c.in-Some.level c.in-Ok.term) f p (held_later w w' k asked c.args.machine.now.frames.items (Next.Held c.args.condition c.args.binding) h) c.in-Ok.ensures.known (ap value_of c.in-Ok.ensures.kind)
 
 pub returns-in-Some-clause-ends : goal.returns-in-Some-clause-ends
 returns-in-Some-clause-ends g c =
     let w = (g.W.World.words c.args.world.now c.args.store.now) in
-    let w' = (g.W.World.words c.replace.new.self c.replace.new.store) in
-    let k = (g.met.W.World.keeps c.args.world.now c.replace.new.self c.args.store.now c.replace.new.store c.replace.ensures.grows) in
-    let f = Waiting.Trying c.in-Some-Trying.trial c.in-Some-Trying.before in
+    let w' = (g.W.World.words c.make.new.world c.make.new.store) in
+    let k = (g.met.W.World.keeps c.args.world.now c.make.new.world c.args.store.now c.make.new.store c.make.ensures.grows) in
+    let f = Waiting.Trying c.in-Some-Trying.trial c.in-Some-Trying.before c.in-Some-Trying.mark in
     let p = last_is w' c.args.machine.now.frames.items c.pop.new.self.items f _ c.in-Some-Trying.ensures.items c.in-Some-Trying.field-0-is in
     let x = c.in-Some-Trying.trial in
     ends_popped w' c.args.machine.now.frames.items c.pop.new.self.items f (comes w'.rules (task_in w' (Next.Held c.args.condition c.args.binding)) c.args.machine.now.rewrites c.args.budget.now) c.in-Err.end p
     (spend_ends w'.rules x.level (w'.tree x.term.0) (w'.untried x.attempts x.level) (w'.makes x.attempts) c.in-Some-Trying.before c.args.machine.now.rewrites c.args.budget.now (w'.bound c.args.binding) c.in-Err.end c.if-budget-eq0.false c.in-Err.ensures.ends)
+
+pub returns-in-Some-Choice-clause-told : goal.returns-in-Some-Choice-clause-told
+returns-in-Some-Choice-clause-told g c =
+    let w = (g.W.World.words c.args.world.now c.args.store.now) in
+    let X = g.met.W.World.extends c.args.world.now c.args.world.now c.args.store.now c.args.store.now (g.met.W.World.stays c.args.world.now c.args.store.now c.requires.ready) in
+    let f = Waiting.Choice c.in-Some-Choice.choosing c.in-Some-Choice.mark in
+    let p = last_is w c.args.machine.now.frames.items c.pop.new.self.items f _ c.in-Some-Choice.ensures.items c.in-Some-Choice.field-0-is in
+    λ wants. stays_popped_same w w (same_state w) c.args.store.now c.args.store.now X.0 (g.W.World.table c.args.world.now) (g.W.World.table c.args.world.now) X.1 c.args.machine.now.frames.items c.pop.new.self.items f (Next.Held c.args.condition c.args.binding) (Next.Held c.args.condition c.args.binding) c.args.machine.now.rewrites c.saturating_add-machine.result (g.T.StepWatcher.told c.args.watcher.now) p
+    (λ n m J K xs ys a h q. choice_given w c.args.store.now (g.W.World.table c.args.world.now) n m c.args.machine.now.rewrites c.saturating_add-machine.result c.in-Some-Choice.mark J K c.in-Some-Choice.choosing c.args.condition c.args.binding xs ys c.saturating_add-machine.ensures a h q)
+
+pub returns-in-Ok-clause-told : goal.returns-in-Ok-clause-told
+returns-in-Ok-clause-told g c =
+    let w = (g.W.World.words c.args.world.now c.args.store.now) in
+    let w' = (g.W.World.words c.make.new.world c.make.new.store) in
+    let k = (g.met.W.World.keeps c.args.world.now c.make.new.world c.args.store.now c.make.new.store c.make.ensures.grows) in
+    let X = g.met.W.World.extends c.args.world.now c.make.new.world c.args.store.now c.make.new.store c.make.ensures.grows in
+    let f = Waiting.Trying c.in-Some-Trying.trial c.in-Some-Trying.before c.in-Some-Trying.mark in
+    let p = last_is w' c.args.machine.now.frames.items c.pop.new.self.items f _ c.in-Some-Trying.ensures.items c.in-Some-Trying.field-0-is in
+    let x = c.in-Some-Trying.trial in
+    λ wants. let u = c.in-Ok.ensures.told wants in
+    stays_popped w w' k c.args.store.now c.make.new.store X.0 (g.W.World.table c.args.world.now) (g.W.World.table c.make.new.world) X.1 c.args.machine.now.frames.items c.pop.new.self.items f (Next.Held c.args.condition c.args.binding) (Next.Eval c.in-Some.level c.in-Ok.term) c.args.machine.now.rewrites c.saturating_add-machine-in-Ok.result (g.T.StepWatcher.told c.args.watcher.now) (g.T.StepWatcher.told c.make.new.watcher) (made u.0 ∷ []) p u.1
+    (λ n m J K xs ys a h q. trying_given w' c.make.new.store (g.W.World.table c.make.new.world) n m c.args.machine.now.rewrites c.saturating_add-machine-in-Ok.result c.saturating_add.result c.in-Some-Trying.before c.in-Some-Trying.mark c.in-Some.level J K x c.args.condition c.args.binding c.in-Ok.term u.0 xs ys
+    c.saturating_add.ensures c.saturating_add-machine-in-Ok.ensures u.2 u.3 a h q)

@@ -9,6 +9,7 @@ use Rattle.mau_machine.specs.declared.frame.Frame.TheVariants as Waiting
 use Rattle.mau_machine.specs.declared.frame.Control.TheVariants as Next
 use Rattle.mau_machine.proofs.Through.{alike_pushed, ends_through}
 use Rattle.mau_machine.proofs.Branches.{one_tried, tried_ends}
+use Rattle.mau_machine.proofs.Advance.{stays_same, stays_marked, valued_told, trying_told}
 use Rattle.mau_machine.proofs.Held.{held_on, held_pushed, held_later}
 use Rattle.mau_machine.proofs.steps.attempt.Goals as goal
 
@@ -26,7 +27,7 @@ returns-in_ok-wait-in-Ok-Some-clause-goes g c =
     let k = (g.met.W.World.keeps c.args.world.now c.attempt.new.self c.args.store.now c.attempt.new.store c.attempt.ensures.grows) in
     let x = (record c.args.trial { condition = c.in-Ok-Some.condition; attempts = c.attempt.new.attempts }) in
     let s : Condition g.row.W-Binding.Denot = (record { level = c.args.trial.level; condition = c.in-Ok-Some.condition; at = 0; binding = c.in-Ok-Some.binding }) in
-    let f = Waiting.Trying x c.args.machine.now.rewrites in
+    let f = Waiting.Trying x c.args.machine.now.rewrites c.mark-mark.result in
     λ b. alike_pushed w' c.args.machine.now.frames.items c.wait.new.self.frames.items f (comes w'.rules (task_in w' (Next.Attempt c.args.trial)) c.args.machine.now.rewrites b) (comes w'.rules (task_in w' (Next.Solve s)) 0 b) c.in_ok-wait-in-Ok-Some.ensures.frames
     (ap capped (one_tried w'.rules x.level (w'.tree x.term.0) (w'.untried c.args.trial.attempts x.level) (w'.untried x.attempts x.level) (w'.makes x.attempts) c.args.machine.now.rewrites b (solve_on w'.rules x.level x.condition 0 (w'.bound s.binding) b)
     (subst (λ o. IfSome o (λ y. w'.untried c.args.trial.attempts x.level b ≡ or_go_on (w'.untried x.attempts x.level) (try_on (λ σ. gives (option_map (w'.makes x.attempts) σ)) (solve_on w'.rules x.level y.0 0 (w'.bound y.1) b))))
@@ -39,7 +40,7 @@ returns-in_ok-wait-in-Ok-Some-clause-known g c =
     let k = (g.met.W.World.keeps c.args.world.now c.attempt.new.self c.args.store.now c.attempt.new.store c.attempt.ensures.grows) in
     let x = (record c.args.trial { condition = c.in-Ok-Some.condition; attempts = c.attempt.new.attempts }) in
     let s : Condition g.row.W-Binding.Denot = (record { level = c.args.trial.level; condition = c.in-Ok-Some.condition; at = 0; binding = c.in-Ok-Some.binding }) in
-    let f = Waiting.Trying x c.args.machine.now.rewrites in
+    let f = Waiting.Trying x c.args.machine.now.rewrites c.mark-mark.result in
     let q = subst (λ o. IfSome o (λ y. w'.knows_attempts x.term.0 x.attempts × w'.knows_candidate x.term.0 y.0 x.attempts × w'.knows_binding y.0 0 y.1)) c.in-Ok-Some.field-0-is c.in-Ok-Some.ensures.known in
     λ asked h. held_pushed w' asked c.args.machine.now.frames.items c.wait.new.self.frames.items (Next.Attempt c.args.trial) (Next.Solve s) f c.in_ok-wait-in-Ok-Some.ensures.frames (held_later w w' k asked c.args.machine.now.frames.items (Next.Attempt c.args.trial) h)
     ((k.values c.args.trial.term.0 c.requires.value).0, q.0, q.1) q.2 refl refl
@@ -51,3 +52,23 @@ returns-in-Err-clause-ends g c =
     let k = (g.met.W.World.keeps c.args.world.now c.attempt.new.self c.args.store.now c.attempt.new.store c.attempt.ensures.grows) in
     let x = c.args.trial in
     λ b. ends_through w' c.args.machine.now.frames.items (comes w'.rules (task_in w' (Next.Attempt x)) c.args.machine.now.rewrites b) c.in-Err.end (tried_ends w'.rules x.level (w'.tree x.term.0) (w'.untried x.attempts x.level) c.args.machine.now.rewrites b c.in-Err.end (c.in-Err.ensures.ends x.level b))
+
+pub returns-in-Ok-None-clause-told : goal.returns-in-Ok-None-clause-told
+returns-in-Ok-None-clause-told g c =
+    let w = (g.W.World.words c.args.world.now c.args.store.now) in
+    let w' = (g.W.World.words c.attempt.new.self c.attempt.new.store) in
+    let k = (g.met.W.World.keeps c.args.world.now c.attempt.new.self c.args.store.now c.attempt.new.store c.attempt.ensures.grows) in
+    let X = g.met.W.World.extends c.args.world.now c.attempt.new.self c.args.store.now c.attempt.new.store c.attempt.ensures.grows in
+    λ wants. stays_same w w' k c.args.store.now c.attempt.new.store X.0 (g.W.World.table c.args.world.now) (g.W.World.table c.attempt.new.self) X.1 c.args.machine.now.frames.items (Next.Attempt c.args.trial) (Next.Value c.args.trial.term) c.args.machine.now.rewrites c.args.machine.now.rewrites (g.T.StepWatcher.told c.args.watcher.now) (λ J m ys h n. (valued_told w' c.attempt.new.store (g.W.World.table c.attempt.new.self) J c.args.trial ys h, n))
+
+pub returns-in_ok-wait-in-Ok-Some-clause-told : goal.returns-in_ok-wait-in-Ok-Some-clause-told
+returns-in_ok-wait-in-Ok-Some-clause-told g c =
+    let w = (g.W.World.words c.args.world.now c.args.store.now) in
+    let w' = (g.W.World.words c.attempt.new.self c.attempt.new.store) in
+    let k = (g.met.W.World.keeps c.args.world.now c.attempt.new.self c.args.store.now c.attempt.new.store c.attempt.ensures.grows) in
+    let X = g.met.W.World.extends c.args.world.now c.attempt.new.self c.args.store.now c.attempt.new.store c.attempt.ensures.grows in
+    let x = (record c.args.trial { condition = c.in-Ok-Some.condition; attempts = c.attempt.new.attempts }) in
+    let s : Condition g.row.W-Binding.Denot = (record { level = c.args.trial.level; condition = c.in-Ok-Some.condition; at = 0; binding = c.in-Ok-Some.binding }) in
+    let f = Waiting.Trying x c.args.machine.now.rewrites c.mark-mark.result in
+    λ wants. stays_marked w w' k c.args.store.now c.attempt.new.store X.0 (g.W.World.table c.args.world.now) (g.W.World.table c.attempt.new.self) X.1 c.args.machine.now.frames.items c.wait.new.self.frames.items f (Next.Attempt c.args.trial) (Next.Solve s) c.args.machine.now.rewrites 0 c.mark-mark.result (g.T.StepWatcher.told c.args.watcher.now) c.in_ok-wait-in-Ok-Some.ensures.frames (c.mark-mark.ensures wants)
+    (λ n m J ys l h q. trying_told w' c.attempt.new.store (g.W.World.table c.attempt.new.self) n m c.mark-mark.result c.args.machine.now.rewrites J c.args.trial x s ys refl refl refl l h q)

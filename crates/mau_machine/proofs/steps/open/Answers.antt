@@ -1,9 +1,10 @@
-use Rattle.std.proofs.Common.{◌≡◌, subst}
+use Rattle.std.proofs.Common.{◌≡◌, ◌-◌, subst}
 use Rattle.std.specs.Prelude.{IfSome, IfNone}
 use Rattle.mau_terms.specs.Tree.{node}
 use Rattle.mau_evaluation.specs.Evaluation.{order_of}
 use Rattle.mau_machine.specs.Words.{trees, IsLeaf}
 use Rattle.mau_machine.proofs.Branches.{opened_leaf, opened}
+use Rattle.mau_machine.proofs.Advance.{opened_told, leaf_told}
 use Rattle.mau_machine.proofs.steps.open.Goals as goal
 
 pub returns-in-Ok-Some-clause-goes : goal.returns-in-Ok-Some-clause-goes
@@ -21,3 +22,18 @@ returns-in-Ok-None-clause-goes g c =
     let t = c.args.term.0 in
     opened_leaf w.rules c.args.level c.if-level-eq0.false (w.tree t) (g.met.W.World.normal c.args.world.now c.args.store.now t c.requires.term) (g.met.W.World.within c.args.world.now c.args.store.now t c.requires.term)
     (subst (λ o. IfNone o (IsLeaf (w.tree t))) c.in-Ok-None.field-0-is c.in-Ok-None.ensures.leaf)
+
+pub returns-in-Ok-Some-clause-told : goal.returns-in-Ok-Some-clause-told
+returns-in-Ok-Some-clause-told g c =
+    let w = (g.W.World.words c.args.world.now c.args.store.now) in
+    let a : Rattle.mau_machine.specs.declared.frame.Arguments.Arguments = record { level = c.args.level - 1; op = c.in-Ok-Some.op; args = c.in-Ok-Some.args; order = c.in-Ok-Some.order; next = 0 } in
+    λ J r n es h. (
+      opened_told w c.args.store.now (g.W.World.table c.args.world.now) J c.args.level c.args.term a es
+          (subst (λ o. IfSome o (λ x. w.tree c.args.term.0 ≡ node x.0.0 (trees w x.1.items))) c.in-Ok-Some.field-0-is c.in-Ok-Some.ensures.node) h.0,
+      h.1,
+    )
+
+pub returns-in-Ok-None-clause-told : goal.returns-in-Ok-None-clause-told
+returns-in-Ok-None-clause-told g c =
+    let w = (g.W.World.words c.args.world.now c.args.store.now) in
+    λ J r n es h. (leaf_told w c.args.store.now (g.W.World.table c.args.world.now) J c.args.level (c.args.level - 1) c.args.term es h.0, h.1)

@@ -1,4 +1,4 @@
-use Rattle.std.proofs.Common.{◌≡◌, ◌==◌, ◌+◌, ◌-◌, ◌∷◌, ◌++◌, [], List, IfSome, Option, Some, None, true, false, length, take, drop, get_or, map, inl, inr, refl, sym, ap, ap₂, ◌∙◌, subst, arith}
+use Rattle.std.proofs.Common.{◌≡◌, ℕ, ◌==◌, ◌+◌, ◌-◌, ◌<◌, ◌≤◌, ◌∷◌, ◌++◌, [], List, IfSome, IfNone, Option, Some, None, true, false, length, take, drop, get_or, map, inl, inr, refl, sym, ap, ap₂, ◌∙◌, subst, arith}
 use Rattle.std.proofs.Common.{is_some}
 use Rattle.std.proofs.lemmas.List.{take_all}
 use Rattle.std.proofs.lemmas.List.Elements.{All-nil, All-cons}
@@ -24,8 +24,9 @@ use Rattle.mau_listing.proofs.Growth.{trees_long}
 use Rattle.mau_domains.specs.Parts.{Reach, just, inside, Reaches}
 use Rattle.mau_domains.specs.Stored.{part_in, reach_of}
 use Rattle.mau_match.specs.Parts.{is_bound, are_bound, known_in, without_all, least_lengths, too_few_for, alone_in}
-use Rattle.mau_match.specs.Possible.{free, IsNever, AreNever, AreNeverSorted, AreNeverJoined, AreNeverAmong}
+use Rattle.mau_match.specs.Possible.{free, frees, IsNever, AreNever, AreNeverSorted, AreNeverJoined, AreNeverAmong}
 use Rattle.mau_match.specs.Walked.{bound_of, values_of, target_of, span_in, IsSpanWithin}
+use Rattle.mau_match.proofs.Lengths.{reach_length}
 use Rattle.mau_match.proofs.Adding.{bare_arguments, bare_first, bare_rest, first_and_rest, trees_more}
 use Rattle.mau_match.proofs.Taking.{stand_cut, only_these}
 use Rattle.mau_match.proofs.Refusing.{never_before, joined_before, span_stays, spans_more, in_more, never_at_pair, never_at_stand, never_alone, never_sorted, never_rest, never_rest_among, are_before, among_before, ids_split, two_ids, never_listed, never_few, never_joined, never_there, free_other}
@@ -379,8 +380,8 @@ may_be_within-returns-then-are_too_few-clause-refused t c = λ e.
     ap₂ (λ u k. too_few_for u k (least_lengths f ps)) (ap (λ w. w.id) (sym c.theory-theory.ensures.value)) (sym n) ∙ sym c.are_too_few.ensures ∙ c.if-are_too_few.true in
     never_few s c.theory-theory.ensures.lawful.theories old c.args.given.now f ps c.requires.assoc (span_in old c.args.span.now) few
 
-pub may_be_within-may_each-requires : goal.may_be_within-may_each-requires
-may_be_within-may_each-requires t c =
+pub may_be_within-may_fill-requires : goal.may_be_within-may_fill-requires
+may_be_within-may_fill-requires t c =
     let s = c.args.sig.now in
     let th = theory_at s in
     let old = c.args.store.now in
@@ -391,13 +392,10 @@ may_be_within-may_each-requires t c =
         (
           c.requires.assoc,
           (
-            ap (λ w. w.comm) (sym c.theory-theory.ensures.value) ∙ c.if-not-theory.false,
+            c.requires.bare,
             (
-              c.requires.bare,
-              (
-                stand_within_extended th old mid (numbers c.args.given.now.values) c.without_known.ensures.extends c.requires.values,
-                subst (λ l. StandWithin th mid (numbers l)) (sym c.deref-in-Ok-Some.ensures.value) (rw c.in-Ok-Some.field-0-is at c.in-Ok-Some.ensures.within),
-              ),
+              stand_within_extended th old mid (numbers c.args.given.now.values) c.without_known.ensures.extends c.requires.values,
+              subst (λ l. StandWithin th mid (numbers l)) (sym c.deref-in-Ok-Some.ensures.value) (rw c.in-Ok-Some.field-0-is at c.in-Ok-Some.ensures.within),
             ),
           ),
         ),
@@ -414,12 +412,12 @@ may_be_within-returns-in-Ok-Some-clause-refused t c =
     let f = c.args.op.0 in
     let ps = trees_of (map tree_of c.args.patterns.now) in
     let us = trees_at mid (numbers c.in-Ok-Some.items.items) in
-    IfOk-weaker c.may_each.result _ _
+    IfOk-weaker c.may_fill.result _ _
     (λ b h e.
-    never_joined s c.theory-theory.ensures.lawful.theories old g f ps c.requires.assoc (ap (λ w. w.comm) (sym c.theory-theory.ensures.value) ∙ c.if-not-theory.false) (reach_of c.args.span.now.reach) (trees_at old (numbers c.args.span.now.items.items)) us
+    never_joined s c.theory-theory.ensures.lawful.theories old g f ps c.requires.assoc (reach_of c.args.span.now.reach) (trees_at old (numbers c.args.span.now.items.items)) us
     (subst (λ (l : List TermId). without_all (known_in th (bound_of g) (values_of old g) (target_of g) f ps) (trees_at old (numbers l)) ≡ Some us) c.deref.ensures.value (rw c.in-Ok-Some.field-0-is at c.in-Ok-Some.ensures.some))
     (among_before s old mid c.without_known.ensures.extends g c.requires.values f ps (trees_at mid (numbers c.deref-in-Ok-Some.result.now)) us (ap (λ l. trees_at mid (numbers l)) c.deref-in-Ok-Some.ensures.value) (h e)))
-    c.may_each.ensures.refused
+    c.may_fill.ensures.refused
 
 pub may_be_within-returns-in-Ok-None-clause-refused : goal.may_be_within-returns-in-Ok-None-clause-refused
 may_be_within-returns-in-Ok-None-clause-refused t c = λ e.
@@ -429,10 +427,25 @@ may_be_within-returns-in-Ok-None-clause-refused t c = λ e.
     let g = c.args.given.now in
     let f = c.args.op.0 in
     let ps = trees_of (map tree_of c.args.patterns.now) in
-    never_there s c.theory-theory.ensures.lawful.theories old g f ps c.requires.assoc (ap (λ w. w.comm) (sym c.theory-theory.ensures.value) ∙ c.if-not-theory.false) (reach_of c.args.span.now.reach) (trees_at old (numbers c.args.span.now.items.items))
+    never_there s c.theory-theory.ensures.lawful.theories old g f ps c.requires.assoc (reach_of c.args.span.now.reach) (trees_at old (numbers c.args.span.now.items.items))
     (subst (λ (l : List TermId). without_all (known_in th (bound_of g) (values_of old g) (target_of g) f ps) (trees_at old (numbers l)) ≡ None) c.deref.ensures.value (rw c.in-Ok-None.field-0-is at c.in-Ok-None.ensures.none))
 
 -- ---- elements that are not known
+
+when_none : {A : Type 0} (r : Option ℕ) → is_some r ≡ false → IfNone r A → A
+when_none None e h = h
+when_none (Some n) e h = cc
+
+pub may_fill-returns-then-is_none-clause-refused : goal.may_fill-returns-then-is_none-clause-refused
+may_fill-returns-then-is_none-clause-refused t c = λ b gg ag fair o.
+    let s = c.args.sig.now in
+    let f = c.args.op.0 in
+    let old = c.args.store.now in
+    let items = numbers c.args.items.now in
+    let l = frees (theory_at s) (bound_of c.args.given.now) gg f (trees_of (map tree_of c.args.patterns.now)) in
+    let few : length c.args.items.now < length l = (when_none c.left_beside_all.result c.if-is_none.ensures c.left_beside_all.ensures.none) gg fair in
+    let long : length l ≤ length (trees_at old items) = reach_length true inside l (trees_at old items) o in
+    omega (arith, few, long, trees_long old c.args.items.now)
 
 pub may_each-may_each-requires : goal.may_each-may_each-requires
 may_each-may_each-requires t c =
@@ -445,13 +458,10 @@ may_each-may_each-requires t c =
         (
           c.requires.assoc,
           (
-            c.requires.comm,
+            bare_rest (terms_over c.args.sig.now) c.args.patterns.now c.requires.bare,
             (
-              bare_rest (terms_over c.args.sig.now) c.args.patterns.now c.requires.bare,
-              (
-                stand_within_extended th old mid (numbers c.args.given.now.values) c.may_take.ensures.extends c.requires.values,
-                stand_within_extended th old mid (numbers c.args.items.now) c.may_take.ensures.extends c.requires.items,
-              ),
+              stand_within_extended th old mid (numbers c.args.given.now.values) c.may_take.ensures.extends c.requires.values,
+              stand_within_extended th old mid (numbers c.args.items.now) c.may_take.ensures.extends c.requires.items,
             ),
           ),
         ),
@@ -482,7 +492,7 @@ may_take-may_each-requires t c =
     let xs = c.items-then-eq.result.now in
     let bare = bare_arguments c.args.sig.now c.args.pattern.now c.in-App.top _ xs c.in-App.is c.items-then-eq.ensures c.requires.bare in (
       omega (arith, size_of_node c.args.pattern.now _ _ xs c.in-App.is c.items-then-eq.ensures),
-      (c.requires.operator, (c.requires.assoc, (c.requires.comm, (bare.1, (c.requires.values, c.requires.items))))),
+      (c.requires.operator, (c.requires.assoc, (bare.1, (c.requires.values, c.requires.items)))),
     )
 
 pub may_take-returns-in_ok-copy-in-App-clause-refused : goal.may_take-returns-in_ok-copy-in-App-clause-refused
@@ -505,7 +515,7 @@ may_take-returns-in_ok-copy-in-App-clause-refused t c =
     let same : free th (bound_of g) gg f p ≡ l = ap (free th (bound_of g) gg f) k ∙ free_other th (bound_of g) gg f h (trees_of c.in-App.args) nbs other ∙ ap (λ w. list_under (th f) f (norm th (instance gg w))) (sym k) in
     i e gg ag fair
     (subst (λ (ids : List TermId). Reaches (th f).comm inside l (trees_at old (numbers ids))) (sym (c.new.ensures ∙ c.in_ok-copy-in-App.ensures))
-    (subst (λ d. Reaches d inside l us) (sym c.requires.comm) (subst (λ w. Reaches true inside w us) same o))))
+    (subst (λ d. Reaches d inside l us) (sym (ap (λ w. w.comm) (sym c.theory.ensures.value) ∙ c.if-not-theory.false)) (subst (λ w. Reaches true inside w us) same o))))
     c.may_match.ensures.refused
 
 -- ---- a pattern

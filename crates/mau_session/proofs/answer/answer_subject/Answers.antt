@@ -2,7 +2,7 @@ use Rattle.std.proofs.Common.{◌++◌, length, take, sym, ap, ◌∙◌, subst,
 use Rattle.mau_parse.specs.declared.goals.Goal.TheVariants.{AnyKind, Kind}
 use Rattle.std.proofs.lemmas.List.{length-append}
 use Rattle.std.proofs.lemmas.Result.{IfOk-weaker}
-use Rattle.mau_session.specs.Reading.{IsUnread, TermReads, part_texts}
+use Rattle.mau_statement.specs.Parts.{IsUnread, TermReads, part_texts}
 use Rattle.mau_session.specs.Matching.{numbered_from}
 use Rattle.mau_session.specs.KeptState.{outcome_of, IsReadyOutcome}
 use Rattle.mau_session.specs.declared.state.Outcome.TheVariants.{Refused}
@@ -44,7 +44,7 @@ returns-in-Err-clause-gained c =
     (λ g n. record {
       bytes = _;
       answer = subject_refused c.args.pattern c.args.vars f c.requires.pattern
-          (subst (λ k. IsUnread ws m second (Kind k) c.args.vars f) c.kind_of_term.ensures (subst (λ ts. IsUnread ws m ts (Kind c.kind_of_term.result) c.args.vars f) c.items.ensures c.in-Err.ensures.fault)) n;
+          (subst (λ k. IsUnread ws m.grammar second (Kind k) c.args.vars f) c.kind_of_term.ensures (subst (λ ts. IsUnread ws m.grammar ts (Kind c.kind_of_term.result) c.args.vars f) c.items.ensures c.in-Err.ensures.fault)) n;
       gained = g;
     })
 
@@ -60,7 +60,7 @@ returns-in_ok-write_match_head-in-Ok-clause-gained c =
     let os = c.read_term.new.vars in
     IfOk-weaker c.answer_listing.result _ _ (λ left g.
     gains_terms ws m c.args.number c.args.command.now c.args.most c.args.pattern c.args.vars t os c.requires.pattern
-    (subst (λ k. TermReads ws m c.args.command.now.second (Kind k) c.args.vars os t) c.kind_of_term.ensures (subst (λ ts. TermReads ws m ts (Kind c.kind_of_term.result) c.args.vars os t) c.items.ensures c.in-Ok.ensures.term))
+    (subst (λ k. TermReads ws m.grammar c.args.command.now.second (Kind k) c.args.vars os t) c.kind_of_term.ensures (subst (λ ts. TermReads ws m.grammar ts (Kind c.kind_of_term.result) c.args.vars os t) c.items.ensures c.in-Ok.ensures.term))
     c.args.out.now.items c.write_match_head.new.out.items c.answer_listing.new.out.items (outcome_of left)
     (c.in_ok-write_match_head-in-Ok.ensures ∙ ap (λ w. c.args.out.now.items ++ match_head c.args.number w m) c.has_context-with_context.ensures)
     (subst (λ w. GainsListed m os w (tree_of c.args.pattern) (tree_of t) c.args.most (outcome_of left) c.write_match_head.new.out.items c.answer_listing.new.out.items) c.has_context-with_context.ensures g)) c.answer_listing.ensures.gained

@@ -1,6 +1,6 @@
 use Rattle.std.proofs.Common.{subst}
 use Rattle.mau_parse.specs.declared.goals.Goal.TheVariants.{AnyKind}
-use Rattle.mau_session.specs.Reading.{IsUnread}
+use Rattle.mau_statement.specs.Parts.{IsUnread}
 use Rattle.mau_session.specs.KeptState.{outcome_of, IsReadyOutcome}
 use Rattle.mau_session.specs.declared.state.Outcome.TheVariants.{Refused}
 use Rattle.mau_session.specs.Gains.{GainsTerms}
@@ -17,7 +17,7 @@ returns-in-Err-clause-gained c =
     c.refuse_term.ensures.bytes c.refuse_term.ensures.named c.refuse_term.ensures.refused
     (λ g n. record {
       bytes = _;
-      answer = pattern_refused f (subst (λ ns. IsUnread ws m c.args.command.now.first AnyKind ns f) c.new-vars.ensures (subst (λ ts. IsUnread ws m ts AnyKind c.new-vars.result f) c.items.ensures c.in-Err.ensures.fault)) n;
+      answer = pattern_refused f (subst (λ ns. IsUnread ws m.grammar c.args.command.now.first AnyKind ns f) c.new-vars.ensures (subst (λ ts. IsUnread ws m.grammar ts AnyKind c.new-vars.result f) c.items.ensures c.in-Err.ensures.fault)) n;
       gained = g;
     })
 

@@ -2,7 +2,7 @@ use Rattle.std.proofs.Common.{◌++◌, ◌+◌, [], ◌∷◌, All, take, sym, 
 use Rattle.std.proofs.lemmas.List.{take_more, take_all}
 use Rattle.std.proofs.lemmas.List.Elements.{All-nil, All-push}
 use Rattle.std.proofs.lemmas.Option.{slice_get-get_or}
-use Rattle.mau_statement.specs.Lawful.{IsLawfulFragment}
+use Rattle.mau_program.specs.LawfulStatements.{IsLawfulFragment}
 use Rattle.mau_statement.specs.Conditions.{FragmentUnread, ConditionReads, ConditionUnread, none_read, one_more_reads}
 use Rattle.mau_statement.proofs.Handed.{returned}
 use Rattle.mau_statement.proofs.condition.read_condition.Goals as goal

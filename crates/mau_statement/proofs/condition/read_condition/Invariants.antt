@@ -1,6 +1,6 @@
 use Rattle.std.proofs.Common.{All, take}
 use Rattle.mau_statement.specs.Conditions.{ConditionReads}
-use Rattle.mau_statement.specs.Lawful.{IsLawfulFragment}
+use Rattle.mau_program.specs.LawfulStatements.{IsLawfulFragment}
 use Rattle.mau_statement.proofs.condition.read_condition.Given as goal
 
 abbrev pub invariant-loop-raw : goal.invariant-loop-raw

@@ -2,7 +2,9 @@ use Rattle.std.proofs.Common.{length, Ok, Err, sym, ◌∙◌, ap, subst}
 use Rattle.mau_signature.specs.Signature.{theory_at}
 use Rattle.mau_statement.specs.Faults.{IfFault, unread_fault}
 use Rattle.mau_statement.specs.Statements.{Judged, StatementRead, parts_read}
+use Rattle.mau_statement.specs.Lawful.{HasNoFault}
 use Rattle.mau_statement.proofs.Handed.{returned, refused}
+use Rattle.mau_statement.proofs.Lawfulness.{lawful_statement}
 use Rattle.mau_statement.proofs.reading.read_statement.Goals as goal
 
 pub returns-in_err-judge-in-Ok-clause-fault : goal.returns-in_err-judge-in-Ok-clause-fault
@@ -33,3 +35,8 @@ returns-in-Err-clause-fault c =
     let raw = c.args.raw.now in
     subst (IfFault (λ f. StatementRead ws x raw (Err f))) (sym (c.unread_fault.ensures ∙ ap (λ gs. unread_fault (length gs) c.in-Err.fault) c.items-fragments.ensures))
     (refused ws x raw c.in-Err.fault c.in-Err.ensures.fault)
+
+pub returns-in_ok-judge-in-Ok-clause-lawful : goal.returns-in_ok-judge-in-Ok-clause-lawful
+returns-in_ok-judge-in-Ok-clause-lawful c =
+    let s = c.in-Ok.statement in
+    lawful_statement c.args.context.now.signature s (subst (λ h. HasNoFault h s) c.signature.ensures.value c.in_ok-judge-in-Ok.ensures.faultless)

@@ -19,13 +19,13 @@ parts-part-requires t c =
 pub strategies-returns : goal.strategies-returns
 strategies-returns t c =
     ap strategies_of c.loop-strategy.invariant
-    ∙ ap (λ ss. strategies_of (map (strategy_to (numbers_in c.args.self.now) c.args.places.now) ss))
+    ∙ ap (λ ss. strategies_of (map (strategy_to (numbers_in c.args.self.now)) ss))
     (take_all c.loop-strategy.strategy-index c.args.strategies.now (omega (arith, c.loop-strategy-test.false)))
-    ∙ each_strategy (numbers_in c.args.self.now) c.args.places.now c.args.strategies.now
+    ∙ each_strategy (numbers_in c.args.self.now) c.args.strategies.now
 
 pub parts-returns : goal.parts-returns
 parts-returns t c =
     ap uses_of c.loop-part.invariant
-    ∙ ap (λ us. uses_of (map (part_to (numbers_in c.args.self.now) c.args.places.now) us))
+    ∙ ap (λ us. uses_of (map (part_to (numbers_in c.args.self.now)) us))
     (take_all c.loop-part.part-index c.args.parts.now (omega (arith, c.loop-part-test.false)))
-    ∙ each_part (numbers_in c.args.self.now) c.args.places.now c.args.parts.now
+    ∙ each_part (numbers_in c.args.self.now) c.args.parts.now

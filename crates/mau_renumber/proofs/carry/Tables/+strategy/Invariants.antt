@@ -25,7 +25,7 @@ abbrev pub decreases-parts : goal.decreases-parts
 decreases-parts l = 4 * depth_of_uses (uses_of l.parts.now) + 3
 
 abbrev pub invariant-strategies-loop-strategy : goal.invariant-strategies-loop-strategy
-invariant-strategies-loop-strategy l = l.found.items ≡ map (strategy_to (numbers_in l.self) l.places) (take l.strategy-index l.strategies)
+invariant-strategies-loop-strategy l = l.found.items ≡ map (strategy_to (numbers_in l.self)) (take l.strategy-index l.strategies)
 
 abbrev pub invariant-parts-loop-part : goal.invariant-parts-loop-part
-invariant-parts-loop-part l = l.found.items ≡ map (part_to (numbers_in l.self) l.places) (take l.part-index l.parts)
+invariant-parts-loop-part l = l.found.items ≡ map (part_to (numbers_in l.self)) (take l.part-index l.parts)

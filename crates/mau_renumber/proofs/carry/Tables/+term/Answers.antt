@@ -17,7 +17,7 @@ terms-term-requires t c =
 
 pub term-returns-in_ok-args-in-App-clause-tree : goal.term-returns-in_ok-args-in-App-clause-tree
 term-returns-in_ok-args-in-App-clause-tree t c =
-    carried_node (numbers_in c.args.self.now) c.args.places.now c.args.term.now c.in-App.op c.in-App.args c.new.result c.number_at-in-App.result
+    carried_node (numbers_in c.args.self.now) c.args.term.now c.in-App.op c.in-App.args c.new.result c.number_at-in-App.result
     c.in-App.is
-    (c.new.ensures ∙ c.in_ok-args-in-App.ensures ∙ ap (map (tree_to (numbers_in c.args.self.now) c.args.places.now)) c.items.ensures)
+    (c.new.ensures ∙ c.in_ok-args-in-App.ensures ∙ ap (map (tree_to (numbers_in c.args.self.now))) c.items.ensures)
     (search rules)

@@ -12,4 +12,4 @@ abbrev pub decreases-term : goal.decreases-term
 decreases-term l = 2 * depth (tree_of l.term.now)
 
 abbrev pub invariant-terms-loop-term : goal.invariant-terms-loop-term
-invariant-terms-loop-term l = map tree_of l.found.items ≡ map (tree_to (numbers_in l.self) l.places) (map tree_of (take l.term-index l.terms))
+invariant-terms-loop-term l = map tree_of l.found.items ≡ map (tree_to (numbers_in l.self)) (map tree_of (take l.term-index l.terms))

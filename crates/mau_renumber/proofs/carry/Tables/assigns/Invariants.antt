@@ -4,4 +4,4 @@ use Rattle.mau_renumber.specs.Tables.{numbers_in}
 use Rattle.mau_renumber.proofs.carry.Tables.assigns.Given as goal
 
 abbrev pub invariant-loop-assign : goal.invariant-loop-assign
-invariant-loop-assign l = l.found.items ≡ map (assign_to (numbers_in l.self) l.places) (take l.assign-index l.assigns)
+invariant-loop-assign l = l.found.items ≡ map (assign_to (numbers_in l.self)) (take l.assign-index l.assigns)

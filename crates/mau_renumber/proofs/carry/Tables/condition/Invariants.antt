@@ -4,4 +4,4 @@ use Rattle.mau_renumber.specs.Tables.{numbers_in}
 use Rattle.mau_renumber.proofs.carry.Tables.condition.Given as goal
 
 abbrev pub invariant-loop-fragment : goal.invariant-loop-fragment
-invariant-loop-fragment l = l.found.items ≡ map (fragment_to (numbers_in l.self) l.places) (take l.fragment-index l.condition)
+invariant-loop-fragment l = l.found.items ≡ map (fragment_to (numbers_in l.self)) (take l.fragment-index l.condition)

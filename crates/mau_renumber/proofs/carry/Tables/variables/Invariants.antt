@@ -5,6 +5,6 @@ use Rattle.mau_renumber.proofs.carry.Tables.variables.Given as goal
 
 abbrev pub invariant-loop-index : goal.invariant-loop-index
 invariant-loop-index l = record {
-  value : l.carried ≡ variables_to (sorts_in l.self) (take l.index l.vars);
-  few : length l.carried.pairs ≤ l.index;
+  value : l.found ≡ variables_to (sorts_in l.self) (take l.index l.vars);
+  few : length l.found ≤ l.index;
 }

@@ -1,0 +1,64 @@
+-- The numbers of equations in the order in which they are tried.
+use Rattle.std.proofs.Common.{◌≡◌, ℕ, zero, suc, ◌+◌, ◌<◌, ◌≤◌, List, [], ◌∷◌, ◌++◌, Bool, true, false, ◌&&◌, not, if◌then◌else◌, All, map, drop, length, get_or, refl, sym, ap, ◌∙◌, append_assoc, append-nil, arith, zero-add}
+use Rattle.std.proofs.Math.Seq.{drop-cons}
+use Rattle.std.proofs.lemmas.List.Elements.{All-append, All-cons}
+use Rattle.mau_evaluation.specs.Program.{Equation}
+use Rattle.mau_program.specs.declared.statements.Equation as Written
+use Rattle.mau_api.specs.Programs.{equation_of}
+use Rattle.mau_reduce.specs.Trying.{numbers_of, order_of_all}
+
+module _ (o : Bool) (es : List Written.Equation) where
+  next : (i : ℕ) (e : Written.Equation) → i < length es → e ≡ get_or es i e → (b : Bool) → (e.exec && (if o then e.owise else not e.owise)) ≡ b →
+      numbers_of o i (map equation_of (drop i es)) ≡ (if b then i ∷ numbers_of o (i + 1) (map equation_of (drop (i + 1) es)) else numbers_of o (i + 1) (map equation_of (drop (i + 1) es)))
+  next i e h is b t =
+      ap (λ ds. numbers_of o i (map equation_of ds)) (drop-cons es i e h ∙ ap (λ d. d ∷ drop (suc i) es) (sym is))
+      ∙ (ap (λ w. if w then i ∷ numbers_of o (suc i) (map equation_of (drop (suc i) es)) else numbers_of o (suc i) (map equation_of (drop (suc i) es))) t
+      ∙ ap (λ n. if b then i ∷ numbers_of o n (map equation_of (drop n es)) else numbers_of o n (map equation_of (drop n es))) (more i))
+    where
+      more : (n : ℕ) → suc n ≡ n + 1
+      more n = omega arith
+
+  -- a number is added, or passed over
+  pub one_added : (done all : List ℕ) (i : ℕ) (e : Written.Equation) → i < length es → e ≡ get_or es i e → (e.exec && (if o then e.owise else not e.owise)) ≡ true →
+      done ++ numbers_of o i (map equation_of (drop i es)) ≡ all → (done ++ i ∷ []) ++ numbers_of o (i + 1) (map equation_of (drop (i + 1) es)) ≡ all
+  one_added done all i e h is t k =
+      append_assoc done (i ∷ []) (numbers_of o (i + 1) (map equation_of (drop (i + 1) es))) ∙ (sym (ap (λ xs. done ++ xs) (next i e h is true t)) ∙ k)
+
+  pub one_left : (done all : List ℕ) (i : ℕ) (e : Written.Equation) → i < length es → e ≡ get_or es i e → (e.exec && (if o then e.owise else not e.owise)) ≡ false →
+      done ++ numbers_of o i (map equation_of (drop i es)) ≡ all → done ++ numbers_of o (i + 1) (map equation_of (drop (i + 1) es)) ≡ all
+  one_left done all i e h is t k = sym (ap (λ xs. done ++ xs) (next i e h is false t)) ∙ k
+
+numbers_end : (o : Bool) (i : ℕ) (es : List Written.Equation) → length es ≤ i → numbers_of o i (map equation_of (drop i es)) ≡ []
+numbers_end o i es h = ap (λ ds. numbers_of o i (map equation_of ds)) (past es i h)
+  where
+    past : (xs : List Written.Equation) (n : ℕ) → length xs ≤ n → drop n xs ≡ []
+    past [] zero h = refl
+    past [] (suc n) h = refl
+    past (x ∷ xs) zero h = absurd (omega (arith, h))
+    past (x ∷ xs) (suc n) h = past xs n (omega (arith, h))
+
+-- none is left at the end
+pub none_left : (o : Bool) (done all : List ℕ) (i : ℕ) (es : List Written.Equation) → length es ≤ i → done ++ numbers_of o i (map equation_of (drop i es)) ≡ all → done ≡ all
+none_left o done all i es h k = sym (append-nil done) ∙ (ap (λ xs. done ++ xs) (sym (numbers_end o i es h)) ∙ k)
+
+-- ---- they are numbers of equations
+
+one_more : (m n : ℕ) (ns : List ℕ) (b : Bool) → n < m → All (λ i. i < m) ns → All (λ i. i < m) (if b then n ∷ ns else ns)
+one_more m n ns true h a = All-cons (λ i. i < m) n ns h a
+one_more m n ns false h a = a
+
+within_from : (o : Bool) (n m : ℕ) (es : List Equation) → n + length es ≡ m → All (λ i. i < m) (numbers_of o n es)
+within_from o n m [] h = λ k d less. absurd (omega (arith, less))
+within_from o n m (e ∷ es) h = one_more m n (numbers_of o (suc n) es) (e.exec && (if o then e.owise else not e.owise)) (omega (arith, h)) (within_from o (suc n) m es (omega (arith, h)))
+
+pub order_within : (es : List Written.Equation) → All (λ i. i < length es) (order_of_all (map equation_of es))
+order_within es =
+    All-append (λ i. i < length es) (numbers_of false 0 (map equation_of es)) (numbers_of true 0 (map equation_of es))
+    (within_from false 0 (length es) (map equation_of es) (as_many es)) (within_from true 0 (length es) (map equation_of es) (as_many es))
+  where
+    mapped : (es : List Written.Equation) → length (map equation_of es) ≡ length es
+    mapped [] = refl
+    mapped (e ∷ es) = ap suc (mapped es)
+
+    as_many : (es : List Written.Equation) → zero + length (map equation_of es) ≡ length es
+    as_many es = zero-add (length (map equation_of es)) ∙ mapped es

@@ -1,0 +1,37 @@
+-- Lemmas of evaluation over a store, lowest first.
+
+-- which arguments are evaluated
+pub mod PlacesNamed
+-- kinds of terms
+pub mod KindsKept
+-- tops that change
+pub mod Tops
+-- the limits
+pub mod Limits
+-- values of variables
+pub mod Bound
+-- contexts
+pub mod Around
+-- tables of sorts
+pub mod PlainTables
+-- sorts without memberships
+pub mod PlainSorts
+-- solutions that are left
+pub mod Leftover
+-- kinds and contexts of solutions
+pub mod SortKinds
+pub mod Fitting
+-- candidates
+pub mod Candidates
+-- equations by their numbers
+pub mod Numbered
+-- built-ins
+pub mod BuiltTables
+-- what built-ins give
+pub mod Answering
+-- what is left of all that may be applied
+pub mod AttemptsLeft
+-- the order of equations
+pub mod InOrder
+-- later stores
+pub mod LaterStores

@@ -1,0 +1,6 @@
+use Rattle.mau_store.specs.Trees.{tree_at}
+use Rattle.mau_reduce.proofs.AttemptsLeft.{all_left}
+use Rattle.mau_reduce.proofs.attempts.begin_attempts.Goals as goal
+
+pub returns-clause-untried : goal.returns-clause-untried
+returns-clause-untried g c = λ B k b. all_left c.args.program.now (g.N.Natives.operators c.args.natives.now) B k (tree_at c.args.store.now c.args.term.0) c.args.store.now c.given_at-given.result c.given_at-given.ensures.value b

@@ -1,0 +1,31 @@
+use Rattle.std.proofs.Common.{◌≡◌, Some, IfOk, IfErr, slice_get, sym, ap, ◌∙◌, subst}
+use Rattle.std.proofs.lemmas.Option.{slice_get_within}
+use Rattle.mau_signature.specs.Signature.{theory_at}
+use Rattle.mau_store.specs.Trees.{tree_at, StandsFor}
+use Rattle.mau_evaluation.specs.Evaluation.{admit}
+use Rattle.mau_api.specs.Programs.{program_over, equation_of}
+use Rattle.mau_reduce.specs.Bindings.{bound_in}
+use Rattle.mau_reduce.specs.Ends.{IsEnd}
+use Rattle.mau_reduce.specs.Trying.{solution_in}
+use Rattle.mau_reduce.specs.Attempting.{made_by_one}
+use Rattle.mau_reduce.proofs.Numbered.{at_index, equation_there, in_equations}
+use Rattle.mau_reduce.proofs.making.made.Goals as goal
+
+pub replace-requires-clause-bare : goal.replace-requires-clause-bare
+replace-requires-clause-bare c =
+    let sides = c.requires.reducible.sides (equation_of c.index-items-found.result) (in_equations c.args.program.now c.args.found.now.number c.index-items-found.result (at_index c.args.program.now.equations c.items.result.now c.args.found.now.number c.index-items-found.result c.items.ensures (slice_get_within c.args.program.now.equations c.args.found.now.number c.requires.found.equation c.requires.found.at) c.index-items-found.is)) in
+    (sides.kind, sides.right)
+
+pub returns-clause-value : goal.returns-clause-value
+returns-clause-value c = λ hooks.
+    subst (λ o. IfOk c.replace.result (λ id. StandsFor (theory_at c.args.program.now.sig) c.replace.new.store id.0
+    (made_by_one (theory_at c.args.program.now.sig) (tree_at c.args.store.now c.args.term.0) (solution_in c.args.store.now c.args.found.now.solution) (bound_in c.args.store.now c.args.binding.now) o)))
+    (sym (equation_there c.args.program.now hooks c.args.found.now.number c.index-items-found.result (at_index c.args.program.now.equations c.items.result.now c.args.found.now.number c.index-items-found.result c.items.ensures (slice_get_within c.args.program.now.equations c.args.found.now.number c.requires.found.equation c.requires.found.at) c.index-items-found.is)))
+    c.replace.ensures.value
+
+pub returns-clause-ends : goal.returns-clause-ends
+returns-clause-ends c = λ hooks b.
+    subst (λ o. IfErr c.replace.result (IsEnd (admit (theory_at c.args.program.now.sig)
+    (made_by_one (theory_at c.args.program.now.sig) (tree_at c.args.store.now c.args.term.0) (solution_in c.args.store.now c.args.found.now.solution) (bound_in c.args.store.now c.args.binding.now) o) b)))
+    (sym (equation_there c.args.program.now hooks c.args.found.now.number c.index-items-found.result (at_index c.args.program.now.equations c.items.result.now c.args.found.now.number c.index-items-found.result c.items.ensures (slice_get_within c.args.program.now.equations c.args.found.now.number c.requires.found.equation c.requires.found.at) c.index-items-found.is)))
+    (c.replace.ensures.ends b)

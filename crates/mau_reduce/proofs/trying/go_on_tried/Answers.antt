@@ -1,0 +1,19 @@
+use Rattle.std.proofs.Common.{◌≡◌, None, IfNone, ◌∙◌, subst}
+use Rattle.std.specs.Option.{option_map}
+use Rattle.mau_store.specs.Trees.{tree_at}
+use Rattle.mau_evaluation.specs.Run.{done}
+use Rattle.mau_api.specs.Programs.{program_over}
+use Rattle.mau_reduce.specs.Trying.{solution_in, left_of_number}
+use Rattle.mau_reduce.proofs.Numbered.{behind_is, none_behind, found_behind}
+use Rattle.mau_reduce.proofs.trying.go_on_tried.Goals as goal
+
+pub returns-in-Some-2-clause-some : goal.returns-in-Some-2-clause-some
+returns-in-Some-2-clause-some g c = λ hooks B k b rest.
+    found_behind (program_over c.args.program.now hooks) B k (tree_at c.args.store.now c.args.term.0) rest b c.args.store.now c.go_on.new.store (λ y. y.number) (λ y. g.L.Lister.given y.listing) c.args.tried.now c.in-Some.tried c.in-Some.is
+    c.in_ok-solution-in-Some.field-0 c.in-Some-2.solution c.in-Some-2.is (c.in_ok-solution-in-Some.ensures.some hooks B k b) c.go_on.new.tried.number c.go_on.ensures.number (g.L.Lister.given c.go_on.new.tried.listing) c.in_ok-solution-in-Some.ensures.given
+
+pub returns-in-None-2-clause-none : goal.returns-in-None-2-clause-none
+returns-in-None-2-clause-none g c = λ hooks B k b rest.
+    behind_is (program_over c.args.program.now hooks) B k (tree_at c.args.store.now c.args.term.0) rest b c.args.store.now (λ y. y.number) (λ y. g.L.Lister.given y.listing) c.args.tried.now c.in-Some.tried c.in-Some.is
+    ∙ none_behind (program_over c.args.program.now hooks) B k (tree_at c.args.store.now c.args.term.0) rest b c.in-Some.tried.number (option_map (solution_in c.args.store.now) (g.L.Lister.given c.in-Some.tried.listing))
+    (subst (λ w. IfNone w (left_of_number (program_over c.args.program.now hooks) B k (tree_at c.args.store.now c.args.term.0) c.in-Some.tried.number (option_map (solution_in c.args.store.now) (g.L.Lister.given c.in-Some.tried.listing)) b ≡ done None 0 b)) c.in-None-2.is (c.in_ok-solution-in-Some.ensures.none hooks B k b))

@@ -1,0 +1,58 @@
+use Rattle.std.proofs.Common.{◌≡◌, None, IfOk, IfSome, IfNone, drop, sym, subst}
+use Rattle.std.specs.Option.{option_map}
+use Rattle.mau_signature.specs.Signature.{theory_at}
+use Rattle.mau_store.specs.Trees.{tree_at}
+use Rattle.mau_sorts.proofs.Settling.{kept_on}
+use Rattle.mau_evaluation.specs.Run.{done, first_of, or_go_on}
+use Rattle.mau_api.specs.Programs.{program_over}
+use Rattle.mau_api.specs.Answers.{AreSettled}
+use Rattle.mau_reduce.specs.Trying.{solution_in, applied_number, left_by, number_gives, IsFound}
+use Rattle.mau_reduce.proofs.KindsKept.{tree_kept, is_term_kept}
+use Rattle.mau_reduce.proofs.PlainTables.{settled_grown}
+use Rattle.mau_reduce.proofs.Numbered.{none_through, some_through}
+use Rattle.mau_reduce.proofs.trying.next_found.Goals as goal
+
+pub begin_next-requires-clause-term : goal.begin_next-requires-clause-term
+begin_next-requires-clause-term g c = is_term_kept c.args.program.now.sig c.args.store.now c.go_on_tried.new.store c.args.term.0 c.go_on_tried.ensures.extends c.requires.term
+
+pub begin_next-requires-clause-settled : goal.begin_next-requires-clause-settled
+begin_next-requires-clause-settled g c =
+    subst (AreSettled c.args.program.now.sig c.go_on_tried.new.store c.go_on_tried.new.table) (sym (tree_kept (theory_at c.args.program.now.sig) c.args.store.now c.go_on_tried.new.store c.args.term.0 c.go_on_tried.ensures.extends c.requires.term.within))
+    (settled_grown c.args.program.now.sig c.args.store.now c.go_on_tried.new.store c.args.table.now c.go_on_tried.new.table (tree_at c.args.store.now c.args.term.0) c.go_on_tried.ensures.extends c.go_on_tried.ensures.kept c.requires.settled)
+
+pub returns-in-Some-clause-some : goal.returns-in-Some-clause-some
+returns-in-Some-clause-some g c = λ hooks B k b.
+    subst (λ o. IfSome o (λ x. left_by (program_over c.args.program.now hooks) B k c.args.store.now (tree_at c.args.store.now c.args.term.0) (option_map (λ y. (y.number, g.L.Lister.given y.listing)) c.args.tried.now) (drop c.args.next.now c.args.order.now) b
+    ≡ or_go_on (left_by (program_over c.args.program.now hooks) B k c.go_on_tried.new.store (tree_at c.args.store.now c.args.term.0) (option_map (λ y. (y.number, g.L.Lister.given y.listing)) c.go_on_tried.new.tried) (drop c.args.next.now c.args.order.now))
+    (number_gives (program_over c.args.program.now hooks) B k (tree_at c.args.store.now c.args.term.0) x.number (solution_in c.go_on_tried.new.store x.solution) b))) c.in-Some.is (c.in_ok-found.ensures.some hooks B k b (drop c.args.next.now c.args.order.now))
+
+pub returns-in-None-clause-none : goal.returns-in-None-clause-none
+returns-in-None-clause-none g c = λ hooks B k b.
+    none_through c.begin_next.result (λ u. first_of (applied_number (program_over c.args.program.now hooks) B k u) (drop c.args.next.now c.args.order.now) b)
+    (left_by (program_over c.args.program.now hooks) B k c.args.store.now (tree_at c.args.store.now c.args.term.0) (option_map (λ y. (y.number, g.L.Lister.given y.listing)) c.args.tried.now) (drop c.args.next.now c.args.order.now) b) (done None 0 b)
+    (tree_at c.args.store.now c.args.term.0) (tree_at c.go_on_tried.new.store c.args.term.0)
+    (tree_kept (theory_at c.args.program.now.sig) c.args.store.now c.go_on_tried.new.store c.args.term.0 c.go_on_tried.ensures.extends c.requires.term.within)
+    (subst (λ o. IfNone o (left_by (program_over c.args.program.now hooks) B k c.args.store.now (tree_at c.args.store.now c.args.term.0) (option_map (λ y. (y.number, g.L.Lister.given y.listing)) c.args.tried.now) (drop c.args.next.now c.args.order.now) b
+    ≡ first_of (applied_number (program_over c.args.program.now hooks) B k (tree_at c.args.store.now c.args.term.0)) (drop c.args.next.now c.args.order.now) b)) c.in-None.is (c.in_ok-found.ensures.none hooks B k b (drop c.args.next.now c.args.order.now)))
+    (c.begin_next.ensures.none hooks B k b)
+
+pub returns-in-None-clause-some : goal.returns-in-None-clause-some
+returns-in-None-clause-some g c = λ hooks B k b.
+    some_through c.begin_next.result (λ u. first_of (applied_number (program_over c.args.program.now hooks) B k u) (drop c.args.next.now c.args.order.now) b)
+    (λ x u. or_go_on (left_by (program_over c.args.program.now hooks) B k c.begin_next.new.store u (option_map (λ y. (y.number, g.L.Lister.given y.listing)) c.begin_next.new.tried) (drop c.begin_next.new.next c.args.order.now))
+    (number_gives (program_over c.args.program.now hooks) B k u x.number (solution_in c.begin_next.new.store x.solution) b))
+    (left_by (program_over c.args.program.now hooks) B k c.args.store.now (tree_at c.args.store.now c.args.term.0) (option_map (λ y. (y.number, g.L.Lister.given y.listing)) c.args.tried.now) (drop c.args.next.now c.args.order.now) b)
+    (tree_at c.args.store.now c.args.term.0) (tree_at c.go_on_tried.new.store c.args.term.0)
+    (tree_kept (theory_at c.args.program.now.sig) c.args.store.now c.go_on_tried.new.store c.args.term.0 c.go_on_tried.ensures.extends c.requires.term.within)
+    (subst (λ o. IfNone o (left_by (program_over c.args.program.now hooks) B k c.args.store.now (tree_at c.args.store.now c.args.term.0) (option_map (λ y. (y.number, g.L.Lister.given y.listing)) c.args.tried.now) (drop c.args.next.now c.args.order.now) b
+    ≡ first_of (applied_number (program_over c.args.program.now hooks) B k (tree_at c.args.store.now c.args.term.0)) (drop c.args.next.now c.args.order.now) b)) c.in-None.is (c.in_ok-found.ensures.none hooks B k b (drop c.args.next.now c.args.order.now)))
+    (c.begin_next.ensures.some hooks B k b)
+
+pub returns-in-None-clause-found : goal.returns-in-None-clause-found
+returns-in-None-clause-found g c =
+    subst (λ u. IfOk c.begin_next.result (λ o. IfSome o (λ x. IsFound c.args.program.now c.begin_next.new.store u x.number x.solution)))
+    (tree_kept (theory_at c.args.program.now.sig) c.args.store.now c.go_on_tried.new.store c.args.term.0 c.go_on_tried.ensures.extends c.requires.term.within)
+    c.begin_next.ensures.found
+
+pub returns-in-None-clause-kept : goal.returns-in-None-clause-kept
+returns-in-None-clause-kept g c = kept_on c.args.table.now c.go_on_tried.new.table c.begin_next.new.table c.go_on_tried.ensures.kept c.begin_next.ensures.kept

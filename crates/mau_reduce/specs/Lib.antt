@@ -1,0 +1,28 @@
+-- What evaluation over a store is made of, to be read in this order.
+
+-- what is asked of a program
+pub mod Reducible
+-- terms by their kinds
+pub mod Kinds
+-- how a computation ends
+pub mod Ends
+-- which arguments are evaluated
+pub mod Orders
+-- variables with their values
+pub mod Bindings
+-- contexts
+pub mod Contexts
+-- tables of sorts
+pub mod Tables
+-- equations that are tried
+pub mod Trying
+-- what is built in of an operator
+pub mod BuiltOperators
+-- what native operators answer
+pub mod Answered
+-- all that may be applied
+pub mod Attempting
+-- ---- what only inner contracts and proofs cite
+
+-- arguments that have changed places
+pub mod Exchanged

@@ -1,0 +1,28 @@
+//! Evaluation over a store: what an evaluation's loop asks of terms and programs.
+#![tactic(auto)]
+
+mod arguments;
+mod attempts;
+mod binding;
+mod built_in;
+mod given;
+mod making;
+mod natives;
+mod ordering;
+mod rebuilding;
+mod replacing;
+mod settling;
+mod trying;
+
+pub use arguments::{Opened, open, order_of};
+pub use attempts::{Attempts, begin_attempts, next_attempt};
+pub use binding::Binding;
+pub use built_in::{BuiltIn, Truths, built_in_of};
+pub use given::{Given, Leaf};
+pub use making::made;
+pub use natives::{Answered, Hooks, Natives};
+pub use ordering::equations_in_order;
+pub use rebuilding::{Rebuilt, rebuild};
+pub use replacing::{instance, replace};
+pub use settling::{settle, settle_identities};
+pub use trying::Found;

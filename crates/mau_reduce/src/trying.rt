@@ -1,0 +1,290 @@
+//! The candidates of one equation, one after another.
+ghost use Rattle.std.specs.Prelude.{◌≡◌, ℕ, List, [], true, Option, Some, None, IfOk, IfSome, IfNone, OnOk, IsSome, All, drop, length, ◌<◌};
+ghost use Rattle.std.specs.Option.{option_map};
+ghost use Rattle.mau_terms.specs.Bare.{IsBare};
+ghost use Rattle.mau_terms.specs.View.{tree_of};
+ghost use Rattle.mau_signature.specs.Signature.{terms_over};
+ghost use Rattle.mau_formula.specs.Operator.{Operator};
+ghost use Rattle.mau_store.specs.Node.{Extends};
+ghost use Rattle.mau_store.specs.Trees.{tree_at};
+ghost use Rattle.mau_sorts.specs.Table.{KeepsEntries};
+ghost use Rattle.mau_listing.specs.Asked.{asks, last_after, CanGoOn};
+ghost use Rattle.mau_evaluation.specs.Run.{done, or_go_on, first_of};
+ghost use Rattle.mau_api.specs.Terms.{IsTerm};
+ghost use Rattle.mau_api.specs.Programs.{program_over, equation_of};
+ghost use Rattle.mau_api.specs.Answers.{AreSettled};
+ghost use Rattle.mau_reduce.specs.Reducible.{IsReducible};
+ghost use Rattle.mau_reduce.specs.Tables.{IsPlainTable};
+ghost use Rattle.mau_reduce.specs.Trying.{solution_in, solutions_behind, applied_by, candidate_gives, left_of_number, number_gives, applied_number, left_of_all, left_by, IsCandidate, IsTried, IsFound};
+
+use mau_api::{Equation, Lister, Program, Solution};
+use mau_sorts::SortTable;
+use mau_store::Store;
+use mau_terms::{NoMemory, TermId};
+
+/// An equation, by its number, and a listing of its left side.
+#[derive(Drop)]
+pub(crate) struct Tried<L> {
+    pub number: usize,
+    pub listing: L,
+}
+
+/// A candidate: an equation, by its number, and a solution of its left side.
+#[derive(Drop)]
+pub struct Found {
+    pub number: usize,
+    pub solution: Solution,
+}
+
+/// The next solution of the left side of an equation whose values have their sorts, with its contexts. A listing of it goes on.
+pub(crate) fn next_candidate<L: Lister>(
+    store: &mut Store,
+    program: &Program,
+    table: &mut SortTable,
+    equation: &Equation,
+    term: TermId,
+    listing: &mut L,
+) -> Result<Option<Solution>, NoMemory>
+    requires contexts { L.with_context ≡ true }
+    requires reducible { IsReducible program.now }
+    requires left { IsBare (terms_over program.now.sig) (tree_of equation.now.left) }
+    requires term { IsTerm program.now.sig store.old term.0 }
+    requires settled { AreSettled program.now.sig store.old table.old (tree_at store.old term.0) }
+    requires plain { IsPlainTable program.now.sig store.old table.old }
+    requires asked { L.asked listing.old ≡ asks (tree_of equation.now.left) [] term }
+    requires signature { L.is_for listing.old program.now.sig }
+    requires ready { CanGoOn L.with_context program.now.sig store.old table.old (L.asked listing.old) (L.given listing.old) }
+    ensures none { (hooks : List Operator) (B k b : ℕ) → IfOk result (λ o. IfNone o (applied_by (program_over program.now hooks) B k (equation_of equation.now) (tree_at store.old term.0)
+        (solutions_behind (program_over program.now hooks) (equation_of equation.now) (tree_at store.old term.0) (option_map (solution_in store.old) (L.given listing.old))) b ≡ done None 0 b)) }
+    ensures some { (hooks : List Operator) (B k b : ℕ) → IfOk result (λ o. IfSome o (λ x. applied_by (program_over program.now hooks) B k (equation_of equation.now) (tree_at store.old term.0)
+        (solutions_behind (program_over program.now hooks) (equation_of equation.now) (tree_at store.old term.0) (option_map (solution_in store.old) (L.given listing.old))) b
+        ≡ or_go_on (applied_by (program_over program.now hooks) B k (equation_of equation.now) (tree_at store.old term.0)
+        (solutions_behind (program_over program.now hooks) (equation_of equation.now) (tree_at store.old term.0) (Some (solution_in store.new x))))
+        (candidate_gives (program_over program.now hooks) B k (equation_of equation.now) (tree_at store.old term.0) (solution_in store.new x) b))) }
+    ensures candidate { IfOk result (λ o. IfSome o (IsCandidate program.now.sig store.new (tree_of equation.now.left) (tree_at store.old term.0))) }
+    ensures ready { OnOk result (CanGoOn L.with_context program.now.sig store.new table.new (L.asked listing.new) (L.given listing.new)) }
+    ensures given { IfOk result (λ o. L.given listing.new ≡ last_after (L.given listing.old) o) }
+    ensures asked { L.asked listing.new ≡ L.asked listing.old }
+    ensures signature { L.is_for listing.new program.now.sig }
+    ensures plain { IsPlainTable program.now.sig store.new table.new }
+    ensures kept { KeepsEntries table.old table.new }
+    ensures extends { Extends store.old store.new }
+{
+    listing.next(store, &program.sig, table)
+}
+
+/// Begins with an equation: its first candidate, if it has one.
+fn first_candidate<L: Lister + Drop>(
+    store: &mut Store,
+    program: &Program,
+    table: &mut SortTable,
+    number: usize,
+    term: TermId,
+) -> Result<Option<(Tried<L>, Solution)>, NoMemory>
+    requires contexts { L.with_context ≡ true }
+    requires reducible { IsReducible program.now }
+    requires number { number < length program.now.equations }
+    requires term { IsTerm program.now.sig store.old term.0 }
+    requires settled { AreSettled program.now.sig store.old table.old (tree_at store.old term.0) }
+    requires plain { IsPlainTable program.now.sig store.old table.old }
+    ensures none { (hooks : List Operator) (B k b : ℕ) → IfOk result (λ o. IfNone o (left_of_number (program_over program.now hooks) B k (tree_at store.old term.0) number None b ≡ done None 0 b)) }
+    ensures some { (hooks : List Operator) (B k b : ℕ) → IfOk result (λ o. IfSome o (λ x. left_of_number (program_over program.now hooks) B k (tree_at store.old term.0) number None b
+        ≡ or_go_on (left_of_number (program_over program.now hooks) B k (tree_at store.old term.0) number (Some (solution_in store.new x.1)))
+        (number_gives (program_over program.now hooks) B k (tree_at store.old term.0) number (solution_in store.new x.1) b))) }
+    ensures number { IfOk result (λ o. IfSome o (λ x. x.0.number ≡ number)) }
+    ensures given { IfOk result (λ o. IfSome o (λ x. L.given x.0.listing ≡ Some x.1)) }
+    ensures tried { IfOk result (λ o. IfSome o (λ x. IsTried L.with_context program.now store.new table.new term number (L.asked x.0.listing) (L.given x.0.listing) (L.is_for x.0.listing program.now.sig))) }
+    ensures found { IfOk result (λ o. IfSome o (λ x. IsFound program.now store.new (tree_at store.old term.0) number x.1)) }
+    ensures plain { IsPlainTable program.now.sig store.new table.new }
+    ensures kept { KeepsEntries table.old table.new }
+    ensures extends { Extends store.old store.new }
+{
+    let equation = &program.equations.items()[number];
+    let mut listing = L::start(store.allocator(), &program.sig, &equation.left, &[], term)?;
+    match next_candidate(store, program, table, equation, term, &mut listing)? {
+        Some(solution) => Ok(Some((Tried { number, listing }, solution))),
+        None => Ok(None),
+    }
+}
+
+/// Goes on with an equation.
+fn go_on<L: Lister>(
+    store: &mut Store,
+    program: &Program,
+    table: &mut SortTable,
+    term: TermId,
+    tried: &mut Tried<L>,
+) -> Result<Option<Solution>, NoMemory>
+    requires contexts { L.with_context ≡ true }
+    requires reducible { IsReducible program.now }
+    requires term { IsTerm program.now.sig store.old term.0 }
+    requires settled { AreSettled program.now.sig store.old table.old (tree_at store.old term.0) }
+    requires plain { IsPlainTable program.now.sig store.old table.old }
+    requires tried { IsTried L.with_context program.now store.old table.old term tried.old.number (L.asked tried.old.listing) (L.given tried.old.listing) (L.is_for tried.old.listing program.now.sig) }
+    ensures none { (hooks : List Operator) (B k b : ℕ) → IfOk result (λ o. IfNone o (left_of_number (program_over program.now hooks) B k (tree_at store.old term.0) tried.old.number
+        (option_map (solution_in store.old) (L.given tried.old.listing)) b ≡ done None 0 b)) }
+    ensures some { (hooks : List Operator) (B k b : ℕ) → IfOk result (λ o. IfSome o (λ x. left_of_number (program_over program.now hooks) B k (tree_at store.old term.0) tried.old.number
+        (option_map (solution_in store.old) (L.given tried.old.listing)) b
+        ≡ or_go_on (left_of_number (program_over program.now hooks) B k (tree_at store.old term.0) tried.old.number (Some (solution_in store.new x)))
+        (number_gives (program_over program.now hooks) B k (tree_at store.old term.0) tried.old.number (solution_in store.new x) b))) }
+    ensures number { tried.new.number ≡ tried.old.number }
+    ensures given { IfOk result (λ o. IfSome o (λ x. L.given tried.new.listing ≡ Some x)) }
+    ensures tried { IfOk result (λ o. IfSome o (λ x. IsTried L.with_context program.now store.new table.new term tried.old.number (L.asked tried.new.listing) (L.given tried.new.listing) (L.is_for tried.new.listing program.now.sig))) }
+    ensures found { IfOk result (λ o. IfSome o (λ x. IsFound program.now store.new (tree_at store.old term.0) tried.old.number x)) }
+    ensures plain { IsPlainTable program.now.sig store.new table.new }
+    ensures kept { KeepsEntries table.old table.new }
+    ensures extends { Extends store.old store.new }
+{
+    let equation = &program.equations.items()[tried.number];
+    let found = next_candidate(store, program, table, equation, term, &mut tried.listing)?;
+    Ok(found)
+}
+
+/// The first candidate of the equations with these numbers, from a place on.
+fn first_among<L: Lister + Drop>(
+    store: &mut Store,
+    program: &Program,
+    table: &mut SortTable,
+    order: &[usize],
+    term: TermId,
+    next: &mut usize,
+) -> Result<Option<(Tried<L>, Solution)>, NoMemory>
+    requires contexts { L.with_context ≡ true }
+    requires reducible { IsReducible program.now }
+    requires order { All (λ i. i < length program.now.equations) order.now }
+    requires term { IsTerm program.now.sig store.old term.0 }
+    requires settled { AreSettled program.now.sig store.old table.old (tree_at store.old term.0) }
+    requires plain { IsPlainTable program.now.sig store.old table.old }
+    ensures none { (hooks : List Operator) (B k b : ℕ) → IfOk result (λ o. IfNone o (first_of (applied_number (program_over program.now hooks) B k (tree_at store.old term.0)) (drop next.old order.now) b ≡ done None 0 b)) }
+    ensures some { (hooks : List Operator) (B k b : ℕ) → IfOk result (λ o. IfSome o (λ x. first_of (applied_number (program_over program.now hooks) B k (tree_at store.old term.0)) (drop next.old order.now) b
+        ≡ or_go_on (left_of_all (program_over program.now hooks) B k (tree_at store.old term.0) x.0.number (Some (solution_in store.new x.1)) (drop next.new order.now))
+        (number_gives (program_over program.now hooks) B k (tree_at store.old term.0) x.0.number (solution_in store.new x.1) b))) }
+    ensures given { IfOk result (λ o. IfSome o (λ x. L.given x.0.listing ≡ Some x.1)) }
+    ensures tried { IfOk result (λ o. IfSome o (λ x. IsTried L.with_context program.now store.new table.new term x.0.number (L.asked x.0.listing) (L.given x.0.listing) (L.is_for x.0.listing program.now.sig))) }
+    ensures found { IfOk result (λ o. IfSome o (λ x. IsFound program.now store.new (tree_at store.old term.0) x.0.number x.1)) }
+    ensures plain { IsPlainTable program.now.sig store.new table.new }
+    ensures kept { KeepsEntries table.old table.new }
+    ensures extends { Extends store.old store.new }
+{
+    while *next < order.len() {
+        let number = order[*next];
+        *next += 1;
+        match first_candidate::<L>(store, program, table, number, term)? {
+            Some(found) => return Ok(Some(found)),
+            None => {}
+        }
+    }
+    Ok(None)
+}
+
+/// Goes on with the equation that is tried, if there is one.
+fn go_on_tried<L: Lister>(
+    store: &mut Store,
+    program: &Program,
+    table: &mut SortTable,
+    term: TermId,
+    tried: &mut Option<Tried<L>>,
+) -> Result<Option<Found>, NoMemory>
+    requires contexts { L.with_context ≡ true }
+    requires reducible { IsReducible program.now }
+    requires term { IsTerm program.now.sig store.old term.0 }
+    requires settled { AreSettled program.now.sig store.old table.old (tree_at store.old term.0) }
+    requires plain { IsPlainTable program.now.sig store.old table.old }
+    requires tried { IfSome tried.old (λ x. IsTried L.with_context program.now store.old table.old term x.number (L.asked x.listing) (L.given x.listing) (L.is_for x.listing program.now.sig)) }
+    ensures none { (hooks : List Operator) (B k b : ℕ) (rest : List ℕ) → IfOk result (λ o. IfNone o (left_by (program_over program.now hooks) B k store.old (tree_at store.old term.0)
+        (option_map (λ x. (x.number, L.given x.listing)) tried.old) rest b ≡ first_of (applied_number (program_over program.now hooks) B k (tree_at store.old term.0)) rest b)) }
+    ensures some { (hooks : List Operator) (B k b : ℕ) (rest : List ℕ) → IfOk result (λ o. IfSome o (λ x. left_by (program_over program.now hooks) B k store.old (tree_at store.old term.0)
+        (option_map (λ y. (y.number, L.given y.listing)) tried.old) rest b
+        ≡ or_go_on (left_by (program_over program.now hooks) B k store.new (tree_at store.old term.0) (option_map (λ y. (y.number, L.given y.listing)) tried.new) rest)
+        (number_gives (program_over program.now hooks) B k (tree_at store.old term.0) x.number (solution_in store.new x.solution) b))) }
+    ensures kept_tried { IfOk result (λ o. IfSome o (λ x. IfSome tried.new (λ y. y.number ≡ x.number) × IfSome tried.new (λ y. L.given y.listing ≡ Some x.solution) × IsSome tried.new)) }
+    ensures tried { IfOk result (λ o. IfSome o (λ x. IfSome tried.new (λ y. IsTried L.with_context program.now store.new table.new term y.number (L.asked y.listing) (L.given y.listing) (L.is_for y.listing program.now.sig)))) }
+    ensures found { IfOk result (λ o. IfSome o (λ x. IsFound program.now store.new (tree_at store.old term.0) x.number x.solution)) }
+    ensures plain { IsPlainTable program.now.sig store.new table.new }
+    ensures kept { KeepsEntries table.old table.new }
+    ensures extends { Extends store.old store.new }
+{
+    match tried {
+        Some(tried) => {
+            let number = tried.number;
+            match go_on(store, program, table, term, tried)? {
+                Some(solution) => Ok(Some(Found { number, solution })),
+                None => Ok(None),
+            }
+        }
+        None => Ok(None),
+    }
+}
+
+/// Begins with the equations with these numbers, from a place on.
+fn begin_next<L: Lister + Drop>(
+    store: &mut Store,
+    program: &Program,
+    table: &mut SortTable,
+    order: &[usize],
+    term: TermId,
+    next: &mut usize,
+    tried: &mut Option<Tried<L>>,
+) -> Result<Option<Found>, NoMemory>
+    requires contexts { L.with_context ≡ true }
+    requires reducible { IsReducible program.now }
+    requires order { All (λ i. i < length program.now.equations) order.now }
+    requires term { IsTerm program.now.sig store.old term.0 }
+    requires settled { AreSettled program.now.sig store.old table.old (tree_at store.old term.0) }
+    requires plain { IsPlainTable program.now.sig store.old table.old }
+    ensures none { (hooks : List Operator) (B k b : ℕ) → IfOk result (λ o. IfNone o (first_of (applied_number (program_over program.now hooks) B k (tree_at store.old term.0)) (drop next.old order.now) b ≡ done None 0 b)) }
+    ensures some { (hooks : List Operator) (B k b : ℕ) → IfOk result (λ o. IfSome o (λ x. first_of (applied_number (program_over program.now hooks) B k (tree_at store.old term.0)) (drop next.old order.now) b
+        ≡ or_go_on (left_by (program_over program.now hooks) B k store.new (tree_at store.old term.0) (option_map (λ y. (y.number, L.given y.listing)) tried.new) (drop next.new order.now))
+        (number_gives (program_over program.now hooks) B k (tree_at store.old term.0) x.number (solution_in store.new x.solution) b))) }
+    ensures kept_tried { IfOk result (λ o. IfSome o (λ x. IfSome tried.new (λ y. y.number ≡ x.number) × IfSome tried.new (λ y. L.given y.listing ≡ Some x.solution) × IsSome tried.new)) }
+    ensures tried { IfOk result (λ o. IfSome o (λ x. IfSome tried.new (λ y. IsTried L.with_context program.now store.new table.new term y.number (L.asked y.listing) (L.given y.listing) (L.is_for y.listing program.now.sig)))) }
+    ensures found { IfOk result (λ o. IfSome o (λ x. IsFound program.now store.new (tree_at store.old term.0) x.number x.solution)) }
+    ensures plain { IsPlainTable program.now.sig store.new table.new }
+    ensures kept { KeepsEntries table.old table.new }
+    ensures extends { Extends store.old store.new }
+{
+    match first_among::<L>(store, program, table, order, term, next)? {
+        Some((begun, solution)) => {
+            let number = begun.number;
+            *tried = Some(begun);
+            Ok(Some(Found { number, solution }))
+        }
+        None => Ok(None),
+    }
+}
+
+/// The next candidate: of the equation that is tried, or else of those with these numbers, from a place on.
+pub(crate) fn next_found<L: Lister + Drop>(
+    store: &mut Store,
+    program: &Program,
+    table: &mut SortTable,
+    order: &[usize],
+    term: TermId,
+    next: &mut usize,
+    tried: &mut Option<Tried<L>>,
+) -> Result<Option<Found>, NoMemory>
+    requires contexts { L.with_context ≡ true }
+    requires reducible { IsReducible program.now }
+    requires order { All (λ i. i < length program.now.equations) order.now }
+    requires term { IsTerm program.now.sig store.old term.0 }
+    requires settled { AreSettled program.now.sig store.old table.old (tree_at store.old term.0) }
+    requires plain { IsPlainTable program.now.sig store.old table.old }
+    requires tried { IfSome tried.old (λ x. IsTried L.with_context program.now store.old table.old term x.number (L.asked x.listing) (L.given x.listing) (L.is_for x.listing program.now.sig)) }
+    ensures none { (hooks : List Operator) (B k b : ℕ) → IfOk result (λ o. IfNone o (left_by (program_over program.now hooks) B k store.old (tree_at store.old term.0)
+        (option_map (λ x. (x.number, L.given x.listing)) tried.old) (drop next.old order.now) b ≡ done None 0 b)) }
+    ensures some { (hooks : List Operator) (B k b : ℕ) → IfOk result (λ o. IfSome o (λ x. left_by (program_over program.now hooks) B k store.old (tree_at store.old term.0)
+        (option_map (λ y. (y.number, L.given y.listing)) tried.old) (drop next.old order.now) b
+        ≡ or_go_on (left_by (program_over program.now hooks) B k store.new (tree_at store.old term.0) (option_map (λ y. (y.number, L.given y.listing)) tried.new) (drop next.new order.now))
+        (number_gives (program_over program.now hooks) B k (tree_at store.old term.0) x.number (solution_in store.new x.solution) b))) }
+    ensures kept_tried { IfOk result (λ o. IfSome o (λ x. IfSome tried.new (λ y. y.number ≡ x.number) × IfSome tried.new (λ y. L.given y.listing ≡ Some x.solution) × IsSome tried.new)) }
+    ensures tried { IfOk result (λ o. IfSome o (λ x. IfSome tried.new (λ y. IsTried L.with_context program.now store.new table.new term y.number (L.asked y.listing) (L.given y.listing) (L.is_for y.listing program.now.sig)))) }
+    ensures found { IfOk result (λ o. IfSome o (λ x. IsFound program.now store.new (tree_at store.old term.0) x.number x.solution)) }
+    ensures plain { IsPlainTable program.now.sig store.new table.new }
+    ensures kept { KeepsEntries table.old table.new }
+    ensures extends { Extends store.old store.new }
+{
+    match go_on_tried(store, program, table, term, tried)? {
+        Some(found) => Ok(Some(found)),
+        None => begin_next(store, program, table, order, term, next, tried),
+    }
+}
