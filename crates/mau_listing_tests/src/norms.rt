@@ -250,38 +250,34 @@ fn variables_have_values(rt: HostRuntime) -> Result<(), Fail> {
     instances(&rt, rt.alloc(), &mut terms)
 }
 
-/// An operator, the left context, a pattern, the value of x, the right context, and the whole.
-const CONTEXTS: [(u32, &str, &str, &str, &str, &str); 4] = [
-    (V, "a", "xg", "b", "a", "abgavv"),
-    (V, "a b", "xxv", "abv", "", "abababvvvvv"),
-    (L, "a", "x", "e", "b", "abl"),
-    (U, "b", "xau", "agbu", "", "aagbbuuu"),
+/// An operator, a context on both sides, a pattern, the value of x, and the whole.
+const CONTEXTS: [(u32, &str, &str, &str, &str); 4] = [
+    (V, "a", "xg", "b", "abgavv"),
+    (V, "a b", "xxv", "abv", "ababababvvvvvvv"),
+    (L, "a", "x", "e", "aal"),
+    (U, "b", "xau", "agbu", "abbbaguuuu"),
 ];
 
 fn whole(
     rt: &impl Abort,
     alloc: Global,
     terms: &mut Terms,
-    row: (u32, &str, &str, &str, &str, &str),
+    row: (u32, &str, &str, &str, &str),
 ) -> Result<TermId, Fail> {
-    let (op, before, pattern, value, behind, _) = row;
-    let mut left = Vec::new(alloc);
-    for item in before.split_whitespace() {
-        left.push(number(rt, alloc, terms, item)?)?;
-    }
-    let mut right = Vec::new(alloc);
-    for item in behind.split_whitespace() {
-        right.push(number(rt, alloc, terms, item)?)?;
+    let (op, around, pattern, value, _) = row;
+    let mut context = Vec::new(alloc);
+    for item in around.split_whitespace() {
+        context.push(number(rt, alloc, terms, item)?)?;
     }
     let value = number(rt, alloc, terms, value)?;
     let pattern = term(alloc, pattern)?;
-    Ok(terms.within(rt, op, &left, &pattern, (X, value), &right)?)
+    Ok(terms.within(rt, op, &context, &pattern, &[X], &[value])?)
 }
 
 fn contexts(rt: &impl Abort, alloc: Global, terms: &mut Terms) -> Result<(), Fail> {
     for row in CONTEXTS {
-        let wanted = number(rt, alloc, terms, row.5)?;
-        assert_eq!(rt; whole(rt, alloc, terms, row)?, wanted, "{}", row.5);
+        let wanted = number(rt, alloc, terms, row.4)?;
+        assert_eq!(rt; whole(rt, alloc, terms, row)?, wanted, "{}", row.4);
     }
     Ok(())
 }

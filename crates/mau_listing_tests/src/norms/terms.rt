@@ -128,31 +128,29 @@ impl Terms {
         keep(&mut self.ids, id)
     }
 
-    /// The instance of a term by the value of a variable, between two lists, by `build_around`.
+    /// The instance of a term between a list and the same list, by `build_around`.
     pub fn within(
         &mut self,
         rt: &impl Abort,
         op: u32,
         left: &[TermId],
         term: &Bare,
-        bound: (VarId, TermId),
-        right: &[TermId],
+        variables: &[VarId],
+        values: &[TermId],
     ) -> Result<TermId, BuildFault> {
         let op = operator(rt, &self.sig, op);
         assert!(rt; is_bare(&self.sig, term));
         assert!(rt; are_among(left, &self.ids));
-        assert!(rt; are_among(right, &self.ids));
-        let (variable, value) = bound;
-        assert!(rt; are_among(&[value], &self.ids));
+        assert!(rt; are_among(values, &self.ids));
         let id = build_around(
             &mut self.store,
             &self.sig,
             op,
             left,
             term,
-            &[variable],
-            &[value],
-            right,
+            variables,
+            values,
+            left,
         )?;
         keep(&mut self.ids, id)
     }
