@@ -74,12 +74,18 @@ def text_of(sig, statement, keyword="eq"):
     return f"{'c' if shown else ''}{word} {source(left)} {sign} {source(right)}{condition}{f' [{attributes}]' if attributes else ''} .\n"
 
 
+def associative(declarations):
+    """The names that some declaration makes associative."""
+    return {name for name, _, _, attrs in declarations if attrs.get("assoc")}
+
+
 def with_strategies(r, declarations):
-    """Some operators evaluate some of their arguments, in some order."""
+    """Some operators evaluate some of their arguments, in some order; an associative one all or none."""
     seen, out = set(), []
     for name, args, result, attrs in declarations:
         if args and name not in seen and r.random() < 0.2:
-            attrs = {**attrs, "strat": r.sample(range(len(args)), r.randrange(len(args) + 1))}
+            count = r.choice([0, len(args)]) if name in associative(declarations) else r.randrange(len(args) + 1)
+            attrs = {**attrs, "strat": r.sample(range(len(args)), count)}
         seen.add(name)
         out.append((name, args, result, attrs))
     return out

@@ -15,7 +15,7 @@ from comparing import compare_texts, difference
 from evaluation import End, Evaluator, Statement, TooMuch
 from modules import random_module, random_term, suits
 from prelude import bool_equations, signature_with_truth
-from reduce import HAS_CONDITIONS, LIMIT, random_statement, text_of, with_strategies
+from reduce import LIMIT, associative, random_statement, text_of, with_strategies
 from signature import module_text, numbered
 
 
@@ -128,7 +128,7 @@ def with_frozen(r, declarations):
     for name, args, result, attrs in declarations:
         if args and name not in seen and r.random() < 0.2:
             every = list(range(len(args)))
-            attrs = {**attrs, "frozen": every if attrs.get("assoc") else sorted(r.sample(every, r.randrange(1, len(args) + 1)))}
+            attrs = {**attrs, "frozen": every if name in associative(declarations) else sorted(r.sample(every, r.randrange(1, len(args) + 1)))}
         seen.add(name)
         out.append((name, args, result, attrs))
     return out
