@@ -18,32 +18,44 @@ fn ids(alloc: Global, numbers: &[usize]) -> Result<Vec<TermId>, Fail> {
     Ok(ids)
 }
 
-/// Lists of the numerals 1 and 2, which have the numbers 0 and 1, and their order.
-const COMPARED: [(&[usize], &[usize], Ordering); 6] = [
-    (&[], &[], Ordering::Equal),
-    (&[], &[0], Ordering::Less),
-    (&[0, 1], &[0, 1], Ordering::Equal),
-    (&[0], &[0, 1], Ordering::Less),
-    (&[1], &[0, 1], Ordering::Greater),
-    (&[0, 1], &[0, 0], Ordering::Greater),
+/// Lists of the numerals 1 and 2 by their digits, and their order.
+const COMPARED: [(&str, &str, Ordering); 6] = [
+    ("", "", Ordering::Equal),
+    ("", "1", Ordering::Less),
+    ("12", "12", Ordering::Equal),
+    ("1", "12", Ordering::Less),
+    ("2", "12", Ordering::Greater),
+    ("12", "11", Ordering::Greater),
 ];
 
-#[test]
-fn lists_are_compared_element_by_element(rt: HostRuntime) -> Result<(), Fail> {
-    let alloc = rt.alloc();
-    let mut store = Store::new(alloc);
-    for numeral in 1..3 {
-        store.intern(NodeView::Num(numeral))?;
+/// The numbers of the numerals that some digits are, of which 1 was stored first.
+fn stored(alloc: Global, digits: &str) -> Result<Vec<TermId>, Fail> {
+    let mut ids = Vec::new(alloc);
+    for digit in digits.bytes() {
+        ids.push(TermId(digit.wrapping_sub(b'1') as usize))?;
     }
+    Ok(ids)
+}
+
+fn are_compared(rt: &impl Abort, alloc: Global, store: &Store) -> Result<(), Fail> {
     for (first, second, wanted) in COMPARED {
-        let (first, second) = (ids(alloc, first)?, ids(alloc, second)?);
+        let left = stored(alloc, first)?;
+        let right = stored(alloc, second)?;
         assert_eq!(rt;
-            compare_lists(&store, &first, &second),
+            compare_lists(store, &left, &right),
             wanted,
-            "{first:?} {second:?}"
+            "{first} {second}"
         );
     }
     Ok(())
+}
+
+#[test]
+fn lists_are_compared_element_by_element(rt: HostRuntime) -> Result<(), Fail> {
+    let mut store = Store::new(rt.alloc());
+    store.intern(NodeView::Num(1))?;
+    store.intern(NodeView::Num(2))?;
+    are_compared(&rt, rt.alloc(), &store)
 }
 
 #[test]
