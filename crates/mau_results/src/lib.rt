@@ -1,0 +1,7 @@
+//! What commands answer that evaluate terms, by any evaluator. [`laws`] has what holds of answers.
+#![tactic(auto)]
+
+mod answer;
+pub mod laws;
+
+pub use answer::{Answer, Evaluated, evaluate_bare, evaluate_item};
