@@ -27,6 +27,7 @@ pub tried_grown : (c : Bool) (p : Typed.Program) (old new : List Node) (before a
 tried_grown c p old new before after term i a last is_for extends kept over is = record {
   equation = is.equation;
   at = is.at;
+  exec = is.exec;
   asked = is.asked;
   signature = is.signature;
   ready = listings_go_on c p.sig old new before after extends kept over a last is.ready;

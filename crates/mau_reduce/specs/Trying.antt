@@ -72,11 +72,18 @@ left_of_number P B k t i last = left_of_one P B k t last (slice_get P.equations 
 abbrev pub left_of_all : Program → ℕ → ℕ → Tree → ℕ → Option Solution → List ℕ → Run (Option Tree)
 left_of_all P B k t i last is = or_else (left_of_number P B k t i last) (first_of (applied_number P B k t) is)
 
+-- i is the number of an executable equation
+pub record IsExecutable (p : Typed.Program) (i : ℕ) : Type 0 where
+  pub equation : Written.Equation
+  pub at : slice_get p.equations i ≡ Some equation
+  pub exec : equation.exec ≡ true
+
 -- The equation with the number i is tried at the top of a term: a listing with contexts, if c, was asked for its left side there, is one for this signature, and
--- can go on behind its last solution
+-- can go on behind its last solution; the equation is executable
 pub record IsTried (c : Bool) (p : Typed.Program) (nodes : List Node) (table : Table) (term : TermId) (i : ℕ) (asks_for : Asked) (last : Option Given.Solution) (is_for : Type 0) : Type 0 where
   pub equation : Written.Equation
   pub at : slice_get p.equations i ≡ Some equation
+  pub exec : equation.exec ≡ true
   pub asked : asks_for ≡ asks (tree_of equation.left) [] term
   pub signature : is_for
   pub ready : CanGoOn c p.sig nodes table asks_for last
@@ -86,10 +93,11 @@ abbrev pub left_by : Program → ℕ → ℕ → List Node → Tree → Option (
 left_by P B k nodes t None is = first_of (applied_number P B k t) is
 left_by P B k nodes t (Some x) is = left_of_all P B k t x.0 (option_map (solution_in nodes) x.1) is
 
--- x is a candidate for the equation with the number i
+-- x is a candidate for the executable equation with the number i
 pub record IsFound (p : Typed.Program) (nodes : List Node) (t : Tree) (i : ℕ) (x : Given.Solution) : Type 0 where
   pub equation : Written.Equation
   pub at : slice_get p.equations i ≡ Some equation
+  pub exec : equation.exec ≡ true
   pub candidate : IsCandidate p.sig nodes (tree_of equation.left) t x
 
 -- what it gives
