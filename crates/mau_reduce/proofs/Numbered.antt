@@ -35,6 +35,10 @@ is_among (y ∷ xs) (suc i) x e = inr (is_among xs i x e)
 pub in_equations : (p : Typed.Program) (i : ℕ) (e : Written.Equation) → slice_get p.equations i ≡ Some e → IsIn (equation_of e) (map equation_of p.equations)
 in_equations p i e at = is_among (map equation_of p.equations) i (equation_of e) (slice_get-map equation_of p.equations i ∙ ap (option_map equation_of) at)
 
+-- there is one at a number
+pub one_at : {A : Type 0} (xs : List A) (i : ℕ) (x y : A) → slice_get xs i ≡ Some x → slice_get xs i ≡ Some y → x ≡ y
+one_at xs i x y e k = cc
+
 -- an executable one
 pub exec_at : (p : Typed.Program) (i : ℕ) → IsExecutable p i → (e : Written.Equation) → slice_get p.equations i ≡ Some e → e.exec ≡ true
 exec_at p i is e at = let same : is.equation ≡ e = cc in subst (λ (d : Written.Equation). d.exec ≡ true) same is.exec

@@ -2,6 +2,8 @@
 use Rattle.std.specs.Prelude.{◌≡◌, ℕ, suc, length, List, [], ◌∷◌, ◌++◌, Bool, true, false, ◌&&◌, not, if◌then◌else◌, Option, Some, None, slice_get}
 use Rattle.std.specs.Option.{option_map}
 use Rattle.mau_terms.specs.Tree.{Tree}
+use Rattle.mau_terms.specs.Bare.{IsBareIn}
+use Rattle.mau_terms.specs.Reading.{reading}
 use Rattle.mau_terms.specs.View.{tree_of}
 use Rattle.mau_terms.specs.declared.ids.TermId.{TermId}
 use Rattle.mau_store.specs.Node.{Node}
@@ -17,7 +19,7 @@ use Rattle.mau_evaluation.specs.Run.{Run, gives, and_try, or_else, first_of}
 use Rattle.mau_evaluation.specs.Program.{Equation, Program}
 use Rattle.mau_evaluation.specs.Listing.{Solution, keep, compare, solutions_within}
 use Rattle.mau_terms.specs.Subst.{variables}
-use Rattle.mau_signature.specs.Signature.{SignatureOf, theory_at}
+use Rattle.mau_signature.specs.Signature.{SignatureOf, theory_at, terms_over}
 use Rattle.mau_canon.specs.Standing.{StandWithin}
 use Rattle.mau_reduce.specs.Bindings.{HaveKinds}
 use Rattle.mau_reduce.specs.Contexts.{AreContexts}
@@ -44,12 +46,14 @@ applied_by P B k e t xs = first_of (apply_for P (levels P B k) (levels P B (suc 
 abbrev pub candidate_gives : Program → ℕ → ℕ → Equation → Tree → Solution → Run (Option Tree)
 candidate_gives P B k e t x = and_try (solve P (levels P B k) e.cond (binding_of e.left x)) λ o. gives (replaced P.sign.theory e t x o)
 
--- a solution of the left side p in t, by numbers: its contexts stand around a part of t, and its values, one for each variable of p, are terms of their kinds
+-- a solution of the left side p in t, by numbers: its contexts stand around a part of t, its values, one for each variable of p, are terms of their kinds,
+-- and t is of p's kind
 pub record IsCandidate (s : SignatureOf) (nodes : List Node) (p t : Tree) (x : Given.Solution) : Type 0 where
   pub contexts : AreContexts s nodes t (numbers x.left) (numbers x.right)
   pub one_each : length x.values ≡ length (variables p)
   pub within : StandWithin (theory_at s) nodes (numbers x.values)
   pub kinds : HaveKinds s (variables p) (trees_at nodes (numbers x.values))
+  pub kind : (k : ℕ) → IsBareIn (terms_over s) p k → IsBareIn (terms_over s) (reading (theory_at s) t) k
 
 -- what an equation makes of t, if there is one
 abbrev pub applied_one : Program → ℕ → ℕ → Tree → Option Equation → Run (Option Tree)
