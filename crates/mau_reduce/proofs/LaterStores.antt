@@ -197,6 +197,7 @@ module _ (p : Typed.Program) (old new : List Node) (extends : Extends old new) w
 
   pub values_grown : (b : Kept) → AreValues p.sig old b → AreValues p.sig new b
   values_grown b is = record {
+    one_each = is.one_each;
     within = stand_within_extended (theory_at p.sig) old new (numbers b.values.items) extends is.within;
     kinds = subst (HaveKinds p.sig (map variable_of b.variables.items)) (sym (trees_kept (theory_at p.sig) old new (numbers b.values.items) extends is.within)) is.kinds;
   }

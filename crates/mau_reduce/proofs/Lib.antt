@@ -41,3 +41,5 @@ pub mod Taken
 pub mod Lately
 -- what it makes
 pub mod MadeOf
+-- steps that are told
+pub mod Stepped

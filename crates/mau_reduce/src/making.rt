@@ -54,7 +54,7 @@ pub fn made(
 }
 
 /// Whether a built-in gives a value.
-fn gives_value(given: Given) -> bool
+pub(crate) fn gives_value(given: Given) -> bool
     ensures yes { result ≡ true → GivesValue given }
     ensures no { result ≡ false → GivesValue given → ⊥ }
 {
