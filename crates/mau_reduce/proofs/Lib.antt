@@ -43,3 +43,5 @@ pub mod Lately
 pub mod MadeOf
 -- steps that are told
 pub mod Stepped
+-- variables of a statement that are bound in order
+pub mod AllBound
