@@ -1,5 +1,7 @@
 -- Steps that are told.
-use Rattle.std.proofs.Common.{◌≡◌, ℕ, suc, ◌==◌, ◌&&◌, List, [], ◌∷◌, ◌++◌, Bool, true, false, if◌then◌else◌, All, length, map, slice_get, Some, refl, sym, ap, ap₂, ◌∙◌, subst, arith, eqb-true}
+use Rattle.std.proofs.Common.{◌≡◌, ℕ, suc, ◌+◌, ◌<◌, ◌^◌, get_or, ◌==◌, ◌&&◌, List, [], ◌∷◌, ◌++◌, Bool, true, false, if◌then◌else◌, All, length, map, slice_get, Some, refl, sym, ap, ap₂, ◌∙◌, subst, arith, eqb-true}
+use Rattle.std.specs.Option.{option_map}
+use Rattle.std.proofs.lemmas.Bool.{lt-ltb}
 use Rattle.std.proofs.lemmas.List.{length-map}
 use Rattle.std.proofs.lemmas.List.Elements.{All-nil, All-cons, All-head, All-tail}
 use Rattle.mau_terms.specs.Tree.{Tree, variable, numeral, apply, Trees, no_trees, tree, trees_of, list_of}
@@ -15,6 +17,8 @@ use Rattle.mau_terms.specs.declared.theory.Theory.{Theory}
 use Rattle.mau_terms.proofs.Normal.{norm-norm}
 use Rattle.mau_terms.proofs.Pieces.{trees_of-list_of}
 use Rattle.mau_terms.proofs.Variables.{same_itself}
+use Rattle.mau_poset.specs.Order.{kinds, kind_of}
+use Rattle.mau_poset.proofs.Orders.{kind_of-kind, kind_of-above}
 use Rattle.mau_signature.specs.Signature.{SignatureOf, theory_at, terms_over}
 use Rattle.mau_formula.specs.Operator.{Operator}
 use Rattle.mau_store.specs.Node.{Node}
@@ -88,6 +92,44 @@ pub filled_in : (nodes : List Node) (index sort : ℕ) (inner : TermId) (c : Tre
 filled_in nodes index sort inner c i h =
     ap (λ n. instance (value_at ((n, sort) ∷ []) (tree_at nodes inner.0 ∷ [])) c) i
     ∙ filled (tree_at nodes inner.0) sort c (subst (AreAll sort) (sym h) (refl, tt))
+
+-- a list of one element
+pub one_item : (xs : List ℕ) (k d : ℕ) → length xs ≡ 1 → get_or xs 0 d ≡ k → xs ≡ k ∷ []
+one_item [] k d e h = absurd (omega (arith, e))
+one_item (x ∷ []) k d e h = ap (λ y. y ∷ []) h
+one_item (x ∷ y ∷ xs) k d e h = absurd (omega (arith, e))
+
+-- ---- kinds of terms, by their tops
+
+module _ (s : SignatureOf) where
+  pub own_kind : (i k : ℕ) → i < 2 ^ 32 → k < s.hierarchy.sorts + kinds s.hierarchy → kind_of s.hierarchy k ≡ k → IsBareIn (terms_over s) (variable i k) k
+  own_kind i k small there own = (small, lt-ltb k (s.hierarchy.sorts + kinds s.hierarchy) there, own)
+
+  pub kind_itself : (a k : ℕ) → k ≡ kind_of s.hierarchy a → kind_of s.hierarchy k ≡ k
+  kind_itself a k e = ap (kind_of s.hierarchy) e ∙ (kind_of-kind s.hierarchy (kind_of s.hierarchy a) (kind_of-above s.hierarchy a) ∙ sym e)
+
+  module _ (nodes : List Node) (i : ℕ) (is : IsTerm s nodes i) where
+    pub numeral_kind : (n zero other k : ℕ) → tree_at nodes i ≡ numeral n → s.numerals ≡ Some (zero, other) → k ≡ kind_of s.hierarchy zero → IsTermIn s nodes k i
+    numeral_kind n zero other k e nums same =
+        let b = subst (λ t. IsBareIn (terms_over s) (reading (theory_at s) t) is.bare.0) e is.bare.1 in
+        record {
+          within = is.within;
+          bare = subst (λ t. IsBareIn (terms_over s) (reading (theory_at s) t) k) (sym e) (b.0, ap (option_map (λ (p : ℕ × ℕ). kind_of s.hierarchy p.0)) nums ∙ ap Some (sym same));
+        }
+
+    pub variable_there : (v r : ℕ) → tree_at nodes i ≡ variable v r → (terms_over s).has_sort r ≡ true
+    variable_there v r e = (subst (λ t. IsBareIn (terms_over s) (reading (theory_at s) t) is.bare.0) e is.bare.1).1
+
+    pub variable_kind : (v r k : ℕ) → tree_at nodes i ≡ variable v r → k ≡ kind_of s.hierarchy r → IsTermIn s nodes k i
+    variable_kind v r k e same =
+        let b = subst (λ t. IsBareIn (terms_over s) (reading (theory_at s) t) is.bare.0) e is.bare.1 in
+        record {
+          within = is.within;
+          bare = subst (λ t. IsBareIn (terms_over s) (reading (theory_at s) t) k) (sym e) (b.0, b.1, sym same);
+        }
+
+    pub of_kind : (k : ℕ) → k ≡ is.bare.0 → IsTermIn s nodes k i
+    of_kind k e = record { within = is.within; bare = subst (IsBareIn (terms_over s) (reading (theory_at s) (tree_at nodes i))) (sym e) is.bare.1 }
 
 -- ---- terms that may be told
 

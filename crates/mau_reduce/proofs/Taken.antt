@@ -1,20 +1,23 @@
 -- Values of built-ins as terms.
-use Rattle.std.proofs.Common.{◌≡◌, ℕ, ◌≤◌, List, [], ◌∷◌, Bool, true, false, ◌&&◌, ◌||◌, drop, Option, Some, None, refl, sym, ap, ◌∙◌, subst, arith}
+use Rattle.std.proofs.Common.{◌≡◌, ℕ, ◌≤◌, List, [], ◌∷◌, Bool, true, false, ◌&&◌, ◌||◌, drop, length, Option, Some, None, refl, sym, ap, ◌∙◌, subst, arith}
 use Rattle.std.specs.Prelude.{IfSome}
+use Rattle.std.proofs.lemmas.List.Elements.{All-nil, All-cons, All-tail}
 use Rattle.mau_terms.specs.Tree.{Tree, variable, numeral, apply, Trees, no_trees, node, trees_of, list_of}
 use Rattle.mau_terms.specs.Depth.{depth}
 use Rattle.mau_terms.specs.Norm.{norm, build, holds_overflow, greatest_numeral}
 use Rattle.mau_terms.specs.Bare.{IsBareIn, IsLawful}
 use Rattle.mau_terms.specs.Reading.{reading}
+use Rattle.mau_terms.specs.declared.ids.TermId.{TermId}
 use Rattle.mau_terms.specs.declared.theory.Theory.{Theory}
 use Rattle.mau_terms.proofs.Pieces.{trees_of-list_of, list_of-trees_of}
 use Rattle.mau_signature.specs.Signature.{SignatureOf, IsOperator, theory_at, terms_over}
 use Rattle.mau_formula.specs.Operator.{Operator}
 use Rattle.mau_store.specs.Node.{Node, IsOf}
-use Rattle.mau_store.specs.Trees.{tree_at}
+use Rattle.mau_store.specs.Trees.{tree_at, trees_at}
+use Rattle.mau_store.specs.View.{numbers}
 use Rattle.mau_canon.specs.declared.TheConstants.{MAX_DEPTH}
 use Rattle.mau_canon.specs.Within.{IsWithin}
-use Rattle.mau_canon.specs.Standing.{StandsWithin}
+use Rattle.mau_canon.specs.Standing.{StandsWithin, StandWithin}
 use Rattle.mau_evaluation.specs.Program.{Program, no_value, value, BuiltIn, on_numerals, choice, equality}
 use Rattle.mau_evaluation.specs.Evaluation.{Binding}
 use Rattle.mau_evaluation.proofs.BareTerms.{norm-reading-is}
@@ -60,6 +63,23 @@ before_is th t v f ts us top list fine =
     ap (λ u. before_others th u v) top
     ∙ (ap (λ ws. build (th f) f (v ∷ drop 2 ws)) (list_of-trees_of ts)
     ∙ (ap (build (th f) f) (sym list) ∙ sym fine))
+
+pub with_first_trees : (nodes : List Node) (first : TermId) (ids : List TermId) → trees_at nodes (numbers (first ∷ drop 2 ids)) ≡ tree_at nodes first.0 ∷ drop 2 (trees_at nodes (numbers ids))
+with_first_trees nodes first [] = refl
+with_first_trees nodes first (a ∷ []) = refl
+with_first_trees nodes first (a ∷ b ∷ ids) = refl
+
+pub with_first_within : (th : ℕ → Theory) (nodes : List Node) (first : TermId) (ids : List TermId) → StandsWithin th nodes first.0 → StandWithin th nodes (numbers ids) → StandWithin th nodes (numbers (first ∷ drop 2 ids))
+with_first_within th nodes first [] own all = All-cons (StandsWithin th nodes) first.0 [] own (All-nil (StandsWithin th nodes))
+with_first_within th nodes first (a ∷ []) own all = All-cons (StandsWithin th nodes) first.0 [] own (All-nil (StandsWithin th nodes))
+with_first_within th nodes first (a ∷ b ∷ ids) own all =
+    All-cons (StandsWithin th nodes) first.0 (numbers ids) own (All-tail (StandsWithin th nodes) b.0 (numbers ids) (All-tail (StandsWithin th nodes) a.0 (numbers (b ∷ ids)) all))
+
+pub few_dropped : (ids : List TermId) → length ids ≤ 2 → drop 2 ids ≡ []
+few_dropped [] h = refl
+few_dropped (a ∷ []) h = refl
+few_dropped (a ∷ b ∷ []) h = refl
+few_dropped (a ∷ b ∷ d ∷ ids) h = absurd (omega (arith, h))
 
 -- a leaf alone
 pub before_none : (th : ℕ → Theory) (t v : Tree) → ((f : ℕ) (ts : Trees) → t ≡ apply f ts → ⊥) → before_others th t v ≡ v

@@ -1,5 +1,5 @@
 //! Steps that are told of candidates.
-ghost use Rattle.std.specs.Prelude.{◌≡◌, ◌∷◌, ◌++◌, ℕ, suc, List, [], true, map, IfOk, OnOk, All};
+ghost use Rattle.std.specs.Prelude.{◌≡◌, ◌∷◌, ◌++◌, ◌<◌, ◌^◌, ℕ, suc, List, [], true, map, IfOk, OnOk, All};
 ghost use Rattle.mau_terms.specs.Tree.{Tree, variable, trees_of};
 ghost use Rattle.mau_terms.specs.Norm.{norm};
 ghost use Rattle.mau_terms.specs.Bare.{IsBare, IsBareIn, IsLawful};
@@ -41,6 +41,23 @@ use std::alloc::Global;
 /// The index of a hole.
 const HOLE: u32 = 4294967295;
 
+/// The kind of a term, by its top.
+fn kind_at(store: &Store, sig: &Signature, term: TermId) -> u32
+    requires lawful { IsLawful (terms_over sig.now) }
+    requires term { IsTerm sig.now store.now term.0 }
+    ensures own { (i : ℕ) → i < 2 ^ 32 → IsBareIn (terms_over sig.now) (variable i result) result }
+    ensures term { IsTermIn sig.now store.now result term.0 }
+{
+    match store.view(term) {
+        NodeView::App(op, _) => sig.result_kind(op),
+        NodeView::Num(_) => match sig.numerals() {
+            Some((zero, _)) => sig.poset().kind_of(zero),
+            None => unreachable!(),
+        },
+        NodeView::Var(variable) => sig.poset().kind_of(variable.sort),
+    }
+}
+
 /// The hole of the kind of a term.
 fn hole_for(store: &Store, sig: &Signature, term: TermId) -> VarId
     requires lawful { IsLawful (terms_over sig.now) }
@@ -49,14 +66,7 @@ fn hole_for(store: &Store, sig: &Signature, term: TermId) -> VarId
     ensures hole { IsBareIn (terms_over sig.now) (variable result.index result.sort) result.sort }
     ensures term { IsTermIn sig.now store.now result.sort term.0 }
 {
-    let sort = match store.view(term) {
-        NodeView::App(op, _) => sig.result_kind(op),
-        NodeView::Num(_) => match sig.numerals() {
-            Some((zero, _)) => sig.poset().kind_of(zero),
-            None => unreachable!(),
-        },
-        NodeView::Var(variable) => sig.poset().kind_of(variable.sort),
-    };
+    let sort = kind_at(store, sig, term);
     VarId { index: HOLE, sort }
 }
 
