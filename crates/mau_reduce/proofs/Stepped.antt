@@ -109,8 +109,8 @@ module _ (s : SignatureOf) where
   kind_itself a k e = ap (kind_of s.hierarchy) e ∙ (kind_of-kind s.hierarchy (kind_of s.hierarchy a) (kind_of-above s.hierarchy a) ∙ sym e)
 
   module _ (nodes : List Node) (i : ℕ) (is : IsTerm s nodes i) where
-    pub numeral_kind : (n zero other k : ℕ) → tree_at nodes i ≡ numeral n → s.numerals ≡ Some (zero, other) → k ≡ kind_of s.hierarchy zero → IsTermIn s nodes k i
-    numeral_kind n zero other k e nums same =
+    pub numeral_kind : (n first other k : ℕ) → tree_at nodes i ≡ numeral n → s.numerals ≡ Some (first, other) → k ≡ kind_of s.hierarchy first → IsTermIn s nodes k i
+    numeral_kind n first other k e nums same =
         let b = subst (λ t. IsBareIn (terms_over s) (reading (theory_at s) t) is.bare.0) e is.bare.1 in
         record {
           within = is.within;

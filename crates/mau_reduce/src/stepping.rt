@@ -71,11 +71,11 @@ fn hole_for(store: &Store, sig: &Signature, term: TermId) -> VarId
 }
 
 /// Adds the sort of a variable that is a hole.
-fn add_hole(found: &mut Vec<u32>, variable: VarId) -> Result<(), NoMemory>
-    ensures { OnOk result (found.new.items ≡ found.old.items ++ holes (variable variable.index variable.sort)) }
+fn add_hole(found: &mut Vec<u32>, added: VarId) -> Result<(), NoMemory>
+    ensures { OnOk result (found.new.items ≡ found.old.items ++ holes (variable added.index added.sort)) }
 {
-    if variable.index == HOLE {
-        found.push(variable.sort)?;
+    if added.index == HOLE {
+        found.push(added.sort)?;
     }
     Ok(())
 }
