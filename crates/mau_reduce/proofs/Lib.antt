@@ -35,3 +35,13 @@ pub mod AttemptsLeft
 pub mod InOrder
 -- later stores
 pub mod LaterStores
+-- values of built-ins
+pub mod Taken
+-- the last candidate
+pub mod Lately
+-- what it makes
+pub mod MadeOf
+-- steps that are told
+pub mod Stepped
+-- variables of a statement that are bound in order
+pub mod AllBound
