@@ -16,7 +16,7 @@ use Rattle.mau_terms.proofs.Wholes.{reading_top}
 use Rattle.mau_signature.proofs.Operators.{is_operator}
 use Rattle.mau_signature.specs.declared.form.Piece.TheVariants.{Word}
 use Rattle.mau_signature.specs.Names.{constant_of, place_of}
-use Rattle.mau_signature.specs.Signature.{SignatureOf, IsOperator, theory_at, terms_over}
+use Rattle.mau_signature.specs.Signature.{SignatureOf, theory_at, terms_over}
 use Rattle.mau_canon.proofs.Standing.{list_stands_for_nested}
 use Rattle.mau_formula.specs.Operator.{Operator}
 use Rattle.mau_formula.specs.declared.formula.Gives.{Gives}
@@ -37,7 +37,6 @@ use Rattle.mau_built_ins.specs.Declared.{HasTruthIn, HasAnswersIn, IsDeclaredAsB
 use Rattle.mau_built_ins.proofs.NormalTerms.{read_bare, normal_of, read_norm}
 use Rattle.mau_built_ins.proofs.Arguments.{reading_over, arguments_normal}
 use Rattle.mau_built_ins.specs.Laws.{GivesNormal, AnswersAreInKind, AnswersAreNormal, BuiltInsGiveTheirKind}
-use Rattle.mau_program.specs.LawfulPrograms.{IsLawfulProgram}
 use Rattle.mau_built_ins.proofs.FromRows.{lawful_declares}
 
 found_in : (test : Operator → Bool) (os : List Operator) (o : Operator) → find test os ≡ Some o → Contains os o

@@ -1,13 +1,13 @@
 -- What has something built in is declared by a row of the prelude, and so as its values ask.
-use Rattle.std.proofs.Common.{◌≡◌, ℕ, zero, suc, List, [], ◌∷◌, map, Bool, true, false, ◌&&◌, ◌||◌, not, Option, Some, None, inl, inr, ◌⊎◌, refl, sym, ap, ◌∙◌, subst}
-use Rattle.std.specs.Prelude.{All, bytes_eq, codes, position, slice_get}
+use Rattle.std.proofs.Common.{◌≡◌, ℕ, suc, List, [], ◌∷◌, map, Bool, true, false, ◌&&◌, ◌||◌, not, Option, Some, None, inl, inr, ◌⊎◌, refl, sym, ap, ◌∙◌, subst}
+use Rattle.std.specs.Prelude.{All, bytes_eq, codes, position}
 use Rattle.std.specs.List.{list_all}
 use Rattle.std.proofs.lemmas.Bool.{and_parts}
 use Rattle.std.proofs.lemmas.Slice.Eq.{bytes_eq-Decides}
 use Rattle.std.proofs.lemmas.List.Elements.{All-head, All-tail}
 use Rattle.mau_poset.specs.Order.{kind_of}
 use Rattle.mau_terms.specs.Tree.{apply, no_trees}
-use Rattle.mau_terms.specs.Bare.{IsBareIn, IsLawful}
+use Rattle.mau_terms.specs.Bare.{IsBareIn}
 use Rattle.mau_terms.specs.Finite.{IsIn}
 use Rattle.mau_signature.specs.declared.decl.Decl.{Decl}
 use Rattle.mau_signature.specs.declared.form.Piece.TheVariants.{Word}
