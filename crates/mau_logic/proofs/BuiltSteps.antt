@@ -27,10 +27,12 @@ use Rattle.mau_api.specs.BuiltIns.{built_in_at}
 use Rattle.mau_api.specs.Terms.{IsBareWithin, IsNormalTerm, hole_index, filler, fill, holes, holes_in, IsContextFor}
 use Rattle.mau_api.specs.Told.{StepOf, IsBuiltStep, LeadsOver}
 use Rattle.mau_api.proofs.BuiltIns.{answers_of_readings}
+use Rattle.mau_built_ins.specs.Laws.{AnswersAreInKind}
 use Rattle.mau_logic.specs.Derivable.{by_built_in, derives, no_facts, IsLed}
-use Rattle.mau_logic.proofs.NormalTerms.{normal_of, read_norm}
+use Rattle.mau_built_ins.proofs.NormalTerms.{normal_of, read_norm}
 use Rattle.mau_logic.proofs.Fitted.{in_context, context_kind}
-use Rattle.mau_logic.proofs.Rebuilt.{over_readings, arguments_normal}
+use Rattle.mau_built_ins.proofs.Arguments.{arguments_normal}
+use Rattle.mau_logic.proofs.Rebuilt.{over_readings}
 
 -- ---- what stands in a hole is within the limits where the whole is
 
@@ -68,12 +70,6 @@ module _ (th : ℕ → Theory) (lawful : AreLawful th) (u : Tree) where
           where
             differ : m ∷ ms ≡ [] → ⊥
             differ d = cc
-
--- what is built in gives terms of the kind of the operator
-abbrev pub AnswersAreInKind : Program → List Operator → Type 0
-AnswersAreInKind p hooks =
-    (f : ℕ) (us : List Tree) (a : Tree) (k : ℕ) → IsNormalTerm p.sig (apply f (trees_of us)) → IsBareIn (terms_over p.sig) (reading (theory_at p.sig) (apply f (trees_of us))) k →
-    native_by (built_in_at p.sig hooks f) (theory_at p.sig f) f us ≡ value a → IsBareIn (terms_over p.sig) (reading (theory_at p.sig) (norm (theory_at p.sig) a)) k
 
 module _ (p : Program) (hooks : List Operator) (lawful : IsLawful (terms_over p.sig)) (kinds : AnswersAreInKind p hooks) where
   -- what a step replaces is a term within the limits

@@ -25,7 +25,7 @@ use Rattle.mau_logic.specs.Shown.{known_by, HasSortBy}
 use Rattle.mau_logic.specs.Justified.{membership_variables}
 use Rattle.mau_logic.specs.Derivable.{Follows, same, by_equation, by_rule, by_built_in, under, chain, declared, member, Derivable, derives, AreDerivable, no_facts, one_fact}
 use Rattle.mau_logic.proofs.SortKinds.{below_kind, AreInKinds, sort_kind}
-use Rattle.mau_logic.proofs.NormalTerms.{read_bare}
+use Rattle.mau_built_ins.proofs.NormalTerms.{read_bare}
 use Rattle.mau_logic.proofs.Instances.{instance_in, have_values}
 
 -- a term that has a sort by a fact lies in its kind

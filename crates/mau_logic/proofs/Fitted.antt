@@ -23,7 +23,7 @@ use Rattle.mau_logic.proofs.WellFormed.{AreOfOneKind}
 use Rattle.mau_logic.specs.Derivable.{IsSorted}
 use Rattle.mau_logic.proofs.SortKinds.{is_kind}
 use Rattle.mau_logic.proofs.Instances.{instance_in, have_values, AreAll, fill_in, filler_norms, value_norms}
-use Rattle.mau_logic.proofs.NormalTerms.{read_bare, read_norm, read_norms, own_norms, read_terms}
+use Rattle.mau_built_ins.proofs.NormalTerms.{read_bare, read_norm, read_norms, own_norms, read_terms}
 use Rattle.mau_logic.proofs.FactKinds.{sorted_kind, HaveKindedHeads, facts_kind}
 use Rattle.mau_logic.proofs.ToldRuns.{AreReadings, IsFit}
 

@@ -25,7 +25,7 @@ use Rattle.mau_logic.proofs.ToldRuns.{run_led}
 use Rattle.mau_logic.proofs.Fitted.{fit}
 use Rattle.mau_logic.proofs.Rebuilt.{arguments, rebuilt}
 use Rattle.mau_logic.proofs.BuiltSteps.{built}
-use Rattle.mau_logic.proofs.BuiltAnswers.{answers_in_kind}
+use Rattle.mau_built_ins.proofs.BuiltAnswers.{answers_in_kind}
 
 -- ---- sorts
 

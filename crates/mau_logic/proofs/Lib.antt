@@ -3,7 +3,6 @@
 -- sorts that facts tell, and kinds
 pub mod MoreSorts
 pub mod SortKinds
-pub mod NormalTerms
 pub mod Instances
 pub mod FactKinds
 -- lawful programs
@@ -14,9 +13,7 @@ pub mod ToldRuns
 pub mod Fitted
 pub mod Rebuilt
 pub mod BuiltSteps
-pub mod BuiltAnswers
 pub mod LedRuns
-pub mod Literals
 -- facts with numbers
 pub mod SectionFacts
 pub mod Written

@@ -29,7 +29,7 @@ use Rattle.mau_logic.specs.Derivable.{Follows, same, by_equation as follows_equa
 use Rattle.mau_logic.specs.Deduction.{Sentence, equals, belongs, rewrites, condition_of, premises, Holds, equal_itself, equal_back, equal_onward, equal_under, by_axiom, by_equation, by_built_in, variable_has, numeral_has, operator_has, kind_has, above_has, equal_has, by_membership, stays, rewrites_under, by_rule, rewrites_onward, rewrites_equal, AllHold, none_holds, one_holds}
 use Rattle.mau_logic.specs.Laws.{Each, IsDeduced, FactsHold, SectionsAreSound, LeadsBy, LedIsSo}
 use Rattle.mau_logic.proofs.MoreSorts.{told_by}
-use Rattle.mau_logic.proofs.NormalTerms.{read_bare}
+use Rattle.mau_built_ins.proofs.NormalTerms.{read_bare}
 use Rattle.mau_logic.proofs.Congruence.{modulo, context_holds, nest_holds, part_bare}
 use Rattle.mau_logic.proofs.SortsHold.{has_holds}
 use Rattle.mau_logic.proofs.ToldRuns.{Pairwise}

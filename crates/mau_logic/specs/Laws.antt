@@ -27,7 +27,7 @@ use Rattle.mau_logic.specs.Justified.{AreJustifiedOver, IsJustifiedSection}
 use Rattle.mau_logic.specs.Written.{named, HasTerms}
 use Rattle.mau_logic.specs.Derivable.{Derivable, IsSorted, IsLed}
 use Rattle.mau_logic.specs.Deduction.{equals, belongs, rewrites, Holds}
-use Rattle.mau_logic.specs.NativeNumerals.{GivesNumerals, HasNumerals}
+use Rattle.mau_built_ins.specs.NativeNumerals.{GivesNumerals}
 
 -- ---- what is told
 
@@ -109,13 +109,3 @@ abbrev pub AxiomsAloneHold : Type 0
 AxiomsAloneHold =
     (p : Program) (hooks : List Operator) → IsLawful (terms_over p.sig) → HasNoStatements p → (t u : Tree) →
     Holds p hooks (equals t u) ↔ EqualModulo (terms_over p.sig) t u
-
--- ---- native operators
-
--- a formula of numerals gives numerals for numerals
-abbrev pub LiteralsGiveNumerals : Type 0
-LiteralsGiveNumerals = (o : Operator) → HasNumerals o.formula → GivesNumerals o
-
--- and so do the native operators
-abbrev pub NativesGiveNumerals : Type 0
-NativesGiveNumerals = (n : Native) → GivesNumerals (native_operator n)

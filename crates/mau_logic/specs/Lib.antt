@@ -10,8 +10,6 @@ pub mod Justified
 -- what can stand in a justified section, and the terms that it names
 pub mod Derivable
 pub mod Written
--- what is asked of native operators
-pub mod NativeNumerals
 -- rewriting logic: which sentences follow from the statements of a program
 pub mod Deduction
 -- what is proved of all these

@@ -1,5 +1,5 @@
 //! What is proved of the definitions of this crate. Each function does nothing and has a law for its contract; the laws are stated in `specs/Laws.antt`.
-ghost use Rattle.mau_logic.specs.Laws.{RunsAreLed, SortsAreShown, SectionsAreDerivable, FactsAreWritten, FactsHold, SectionsAreSound, LedIsSo, AxiomsAloneHold, LiteralsGiveNumerals, NativesGiveNumerals};
+ghost use Rattle.mau_logic.specs.Laws.{RunsAreLed, SortsAreShown, SectionsAreDerivable, FactsAreWritten, FactsHold, SectionsAreSound, LedIsSo, AxiomsAloneHold};
 
 /// A sort by declarations, and by what facts tell of other terms, is shown by these facts.
 pub fn sorts_are_shown()
@@ -39,14 +39,4 @@ pub fn led_is_so()
 /// Without statements and built-ins, equal in rewriting logic are just the terms that are equal modulo the axioms.
 pub fn axioms_alone_hold()
     ensures { AxiomsAloneHold }
-{}
-
-/// A formula over numerals gives numerals for numerals.
-pub fn literals_give_numerals()
-    ensures { LiteralsGiveNumerals }
-{}
-
-/// So do the native operators.
-pub fn natives_give_numerals()
-    ensures { NativesGiveNumerals }
 {}

@@ -13,8 +13,8 @@ use Rattle.mau_formula.specs.declared.native.Native.TheVariants.{Sum, Product, D
 use Rattle.mau_formula.specs.Expr.{Expr, arg, lit, add, mul, monus, quo, rem, gcd, min_of, max_of, pow, if_less, fitting, divided, on_values, value}
 use Rattle.mau_formula.specs.declared.formula.HookAnswer.{HookAnswer}
 use Rattle.mau_formula.specs.declared.formula.HookAnswer.TheVariants.{Value, NoValue, Overflow}
-use Rattle.mau_logic.specs.NativeNumerals.{HasNumerals}
-use Rattle.mau_logic.specs.Laws.{LiteralsGiveNumerals, NativesGiveNumerals}
+use Rattle.mau_built_ins.specs.NativeNumerals.{HasNumerals}
+use Rattle.mau_built_ins.specs.Laws.{LiteralsGiveNumerals, NativesGiveNumerals}
 
 -- ---- numbers that are not above
 

@@ -32,11 +32,12 @@ use Rattle.mau_program.specs.declared.program.Program.{Program}
 use Rattle.mau_api.specs.BuiltIns.{constant_in, true_in, false_in, result_kind, answer_in, IsBuiltIn, is_branch, is_same, is_differ, is_native, built_in_at}
 use Rattle.mau_api.specs.Terms.{IsNormalTerm}
 use Rattle.mau_api.proofs.BuiltIns.{built_ins_are_named}
-use Rattle.mau_logic.specs.NativeNumerals.{GivesNumerals}
-use Rattle.mau_logic.proofs.WellFormed.{HasTruthIn, HasAnswersIn, IsDeclaredAsBuilt, AreDeclaredAsBuilt}
-use Rattle.mau_logic.proofs.NormalTerms.{read_bare, normal_of, read_norm}
-use Rattle.mau_logic.proofs.Rebuilt.{reading_over, arguments_normal}
-use Rattle.mau_logic.proofs.BuiltSteps.{AnswersAreInKind}
+use Rattle.mau_built_ins.specs.NativeNumerals.{GivesNumerals}
+use Rattle.mau_built_ins.specs.Declared.{HasTruthIn, HasAnswersIn, IsDeclaredAsBuilt, AreDeclaredAsBuilt}
+use Rattle.mau_built_ins.proofs.NormalTerms.{read_bare, normal_of, read_norm}
+use Rattle.mau_built_ins.proofs.Arguments.{reading_over, arguments_normal}
+use Rattle.mau_built_ins.specs.Laws.{GivesNormal, AnswersAreInKind, AnswersAreNormal, BuiltInsGiveTheirKind}
+use Rattle.mau_built_ins.proofs.FromRows.{lawful_declares}
 
 found_in : (test : Operator → Bool) (os : List Operator) (o : Operator) → find test os ≡ Some o → Contains os o
 found_in test [] o e = cc
@@ -244,3 +245,17 @@ answers_in_kind p hooks lawful declared numerals f us a k n b e = by (built_in_a
     by (Some x) q d =
         answer_kind p.sig lawful f k top.1 x (fits p.sig lawful hooks numerals f (declared f (is_operator p.sig f top.0)) x ((built_ins_are_named p.sig hooks f x).0 q)) us a (arguments_normal p.sig lawful f us n)
         (subst (λ t. IsBareIn (terms_over p.sig) t k) (reading_over p.sig lawful f us) b) d
+
+-- and normal forms, but for an argument or a whole list
+pub answers_normal : (p : Program) (hooks : List Operator) → IsLawful (terms_over p.sig) → AreDeclaredAsBuilt p.sig → All GivesNumerals hooks → AnswersAreNormal p hooks
+answers_normal p hooks lawful declared numerals f b there e = by b (fits p.sig lawful hooks numerals f (declared f there) b ((built_ins_are_named p.sig hooks f b).0 e))
+  where
+    by : (b : BuiltIn) → Fits p.sig lawful f b → GivesNormal p.sig b
+    by (on_numerals op) d = λ m n a h k g. (d m n a h k g).normal
+    by (choice x y) d = tt
+    by (equality x y) d = ((d.0).normal, (d.1).normal)
+
+pub built_ins_give_their_kind : BuiltInsGiveTheirKind
+built_ins_give_their_kind p l lawful hooks numerals =
+    let declared = lawful_declares p l in
+    (answers_in_kind p hooks lawful declared numerals, answers_normal p hooks lawful declared numerals)

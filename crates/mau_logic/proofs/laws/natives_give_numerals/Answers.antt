@@ -1,5 +1,0 @@
-use Rattle.mau_logic.proofs.Literals.{natives_give_numerals}
-use Rattle.mau_logic.proofs.laws.natives_give_numerals.Goals as goal
-
-pub returns : goal.returns
-returns c = natives_give_numerals
