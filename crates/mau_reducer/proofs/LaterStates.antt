@@ -3,31 +3,35 @@ use Rattle.std.proofs.Common.{◌≡◌, ◌⊎◌, inl, inr, ℕ, suc, List, []
 use Rattle.std.specs.Option.{option_map}
 use Rattle.mau_terms.specs.Tree.{Tree}
 use Rattle.mau_terms.specs.declared.ids.TermId.{TermId}
+use Rattle.mau_terms.specs.Subst.{Variable}
+use Rattle.mau_terms.specs.Solution.{HaveSorts}
 use Rattle.mau_terms.specs.View.{variable_of}
+use Rattle.mau_api.specs.Answers.{AreSettled}
 use Rattle.mau_signature.specs.Signature.{SignatureOf, theory_at, terms_over}
 use Rattle.mau_store.specs.Node.{Node, Extends}
 use Rattle.mau_store.specs.Trees.{tree_at, trees_at}
 use Rattle.mau_store.specs.View.{numbers}
 use Rattle.mau_store.proofs.Growth.{extension_is_preorder}
-use Rattle.mau_canon.specs.Standing.{StandWithin}
-use Rattle.mau_canon.proofs.Standing.{stand_within_extended}
 use Rattle.mau_sorts.specs.Table.{Table, KeepsEntries}
 use Rattle.mau_sorts.proofs.Settling.{kept_same, kept_on}
-use Rattle.mau_listing.specs.Asked.{Asked}
+use Rattle.mau_listing.specs.Asked.{Asked, HasEntry}
 use Rattle.mau_listing.specs.declared.solution.Solution.{Solution}
-use Rattle.mau_listing.proofs.Growth.{AreOfStore}
+use Rattle.mau_listing.proofs.Growth.{AreOfStore, entry_kept}
 use Rattle.mau_api.specs.Terms.{IsTerm}
 use Rattle.mau_api.specs.Programs.{program_over}
 use Rattle.mau_evaluation.specs.Program.{Program}
 use Rattle.mau_evaluation.specs.Evaluation.{Binding}
 use Rattle.mau_reduce.specs.declared.binding.Binding.{Binding as Kept}
 use Rattle.mau_reduce.specs.declared.trying.Tried.{Tried}
-use Rattle.mau_reduce.specs.Bindings.{HaveKinds, AreValues, bound_in, paired}
+use Rattle.mau_reduce.specs.Bindings.{bound_in}
 use Rattle.mau_reduce.specs.Tables.{IsPlainTable}
 use Rattle.mau_reduce.specs.Trying.{IsTried, order_of_all}
 use Rattle.mau_reduce.proofs.KindsKept.{is_term_kept, tree_kept, trees_kept, under_kept}
 use Rattle.mau_reduce.proofs.PlainTables.{plain_grown, identities_grown, settled_grown}
-use Rattle.mau_reduce.proofs.LaterStores.{tried_grown, untried_grown, last_there}
+use Rattle.mau_reduce.specs.Attempting.{untried_by, makes_of}
+use Rattle.mau_reduce.specs.Giving.{IsGivenAt}
+use Rattle.mau_reduce.specs.Lasts.{IsLast}
+use Rattle.mau_reduce.proofs.LaterStores.{tried_grown, untried_grown, last_there, last_grown, listed_grown, taken_there, given_grown, makes_grown, bound_grown, values_grown}
 use Rattle.mau_machine.specs.Words.{Words, Keeps}
 use Rattle.mau_reducer.specs.declared.program_world.Candidates.{Candidates}
 use Rattle.mau_reducer.specs.Basis.{Basis, IsBasis}
@@ -90,20 +94,33 @@ module _ (s : SignatureOf) (old new : List Node) (x : Extends old new) where
     sym (numbers_mapped (tree_at new) ts) ∙ (trees_kept (theory_at s) old new (numbers ts) x h.under.within ∙ numbers_mapped (tree_at old) ts),
   )
 
-  pub values_later : (σ : Kept) → AreValues s old σ → AreValues s new σ × (bound_in new σ ≡ bound_in old σ)
-  values_later σ h =
-      let same = trees_kept (theory_at s) old new (numbers σ.values.items) x h.within in (
-        record {
-          within = stand_within_extended (theory_at s) old new (numbers σ.values.items) x h.within;
-          kinds = subst (HaveKinds s (map variable_of σ.variables.items)) (sym same) h.kinds;
-        },
-        ap (paired (map variable_of σ.variables.items)) same,
-      )
+HaveSorts-then : (P Q : ℕ → Tree → Type 0) → ((r : ℕ) (t : Tree) → P r t → Q r t) → (xs : List Variable) (vs : List Tree) → HaveSorts P xs vs → HaveSorts Q xs vs
+HaveSorts-then P Q h [] vs has = tt
+HaveSorts-then P Q h (x ∷ xs) [] has = absurd has
+HaveSorts-then P Q h (x ∷ xs) (v ∷ vs) has = (h x.1 v has.0, HaveSorts-then P Q h xs vs has.1)
+
+pub binding_later : (b : Basis) (old new : List Node) (before after : Table) → ComesOf b b old new before after → (e i : ℕ) (σ : Kept) → IsKnownBinding b old before e i σ →
+    IsKnownBinding b new after e i σ × (bound_in new σ ≡ bound_in old σ)
+binding_later b old new before after h e i σ k =
+    let same = trees_kept (theory_at b.program.sig) old new (numbers σ.values.items) h.extends k.values.within in (
+      record {
+        values = values_grown b.program old new h.extends σ k.values;
+        variables = k.variables;
+        sorts =
+            subst (HaveSorts (HasEntry b.program.sig new after) (map variable_of σ.variables.items)) (sym same)
+            (HaveSorts-then (HasEntry b.program.sig old before) (HasEntry b.program.sig new after) (λ r t. entry_kept old new h.extends before after h.kept b.program.sig r t) (map variable_of σ.variables.items)
+            (trees_at old (numbers σ.values.items)) k.sorts);
+        nothing = k.nothing;
+      },
+      bound_grown b.program old new h.extends σ k.values.within,
+    )
+
+-- ---- candidates
 
 module _ {L : Type 0} (asked : L → Asked) (given : L → Option Solution) (is_for : L → SignatureOf → Type 0) (b : Basis) (old new : List Node) (before after : Table)
     (h : ComesOf b b old new before after) where
-  abbrev W : (nodes : List Node) (table : Table) → Words (Candidates L) _ Kept
-  W = words_of asked given is_for b
+  abbrev P : Program
+  P = program_over b.program b.hooks
 
   tried_later : (t : TermId) (o : Option (Tried L)) →
       IfSome o (λ x. IsTried true b.program old before t x.number (asked x.listing) (given x.listing) (is_for x.listing b.program.sig)) →
@@ -117,5 +134,64 @@ module _ {L : Type 0} (asked : L → Asked) (given : L → Option Solution) (is_
   last_ones t None k = tt
   last_ones t (Some x) k = last_there old new h.extends true b.program before t x.number (asked x.listing) (given x.listing) (is_for x.listing b.program.sig) k
 
-  there_later : ?
-  there_later = ?
+  tree_same : (t : ℕ) → IsTerm b.program.sig old t → tree_at new t ≡ tree_at old t
+  tree_same t is = tree_kept (theory_at b.program.sig) old new t h.extends is.within
+
+  candidates_known : (t : ℕ) (a : Candidates L) → AreKnownCandidates asked given is_for b old before t a → AreKnownCandidates asked given is_for b new after t a
+  candidates_known t a k = record {
+    own = k.own;
+    term = is_term_kept b.program.sig old new t h.extends k.term;
+    tried = tried_later a.term a.attempts.value.tried k.tried;
+    given_at =
+        subst (λ u. IsGivenAt b.program.sig b.hooks new u a.attempts.value.given) (sym (tree_same t k.term))
+        (given_grown b.program old new h.extends b.hooks (tree_at old t) a.attempts.value.given k.given_at);
+  }
+
+  untried_same : (t : ℕ) (a : Candidates L) → AreKnownCandidates asked given is_for b old before t a → (k c : ℕ) →
+      (words_of asked given is_for b new after).untried a k c ≡ (words_of asked given is_for b old before).untried a k c
+  untried_same t a is k c =
+      ap (λ u. untried_by P b.limit k new u a.attempts.value.given (option_map (λ x. (x.number, given x.listing)) a.attempts.value.tried) (drop a.attempts.value.next (order_of_all P.equations)) c)
+      (tree_same a.term.0 (subst (IsTerm b.program.sig old) (sym is.own) is.term))
+      ∙ ap (λ r. r c) (untried_grown old new h.extends P b.limit k (tree_at old a.term.0) (drop a.attempts.value.next (order_of_all P.equations)) a.attempts.value.given
+      (taken_there b.program old new h.extends a.attempts.value.given is.given_at.taken) (option_map (λ x. (x.number, given x.listing)) a.attempts.value.tried) (last_ones a.term a.attempts.value.tried is.tried))
+
+  candidate_known : (t e : ℕ) (a : Candidates L) → IsKnownCandidate asked given is_for b old before t e a → IsKnownCandidate asked given is_for b new after t e a
+  candidate_known t e a k =
+      let same = tree_same t k.term in
+      record {
+        own = k.own;
+        term = is_term_kept b.program.sig old new t h.extends k.term;
+        reducible = k.reducible;
+        given_at = subst (λ u. IsGivenAt b.program.sig b.hooks new u a.attempts.value.given) (sym same) (given_grown b.program old new h.extends b.hooks (tree_at old t) a.attempts.value.given k.given_at);
+        last =
+            subst (λ u. IsLast b.program new u e a.attempts.value.given a.attempts.value.last) (sym same)
+            (last_grown b.program old new h.extends (tree_at old t) e a.attempts.value.given a.attempts.value.last k.last);
+        listed =
+            listed_grown b.program old new h.extends before after h.kept k.reducible a.term (subst (IsTerm b.program.sig old) (sym k.own) k.term) e a.attempts.value.given a.attempts.value.last k.listed;
+      }
+
+  makes_same : (t e : ℕ) (a : Candidates L) → IsKnownCandidate asked given is_for b old before t e a → (σ : Binding) →
+      (words_of asked given is_for b new after).makes a σ ≡ (words_of asked given is_for b old before).makes a σ
+  makes_same t e a k σ =
+      ap (λ u. makes_of P new u a.attempts.value.given a.attempts.value.last σ) (tree_same a.term.0 (subst (IsTerm b.program.sig old) (sym k.own) k.term))
+      ∙ makes_grown b.program old new h.extends b.hooks (tree_at old a.term.0) e a.attempts.value.given a.attempts.value.last σ k.given_at.taken
+      (subst (λ i. IsLast b.program old (tree_at old i) e a.attempts.value.given a.attempts.value.last) (sym k.own) k.last)
+
+  words_stay : Keeps (words_of asked given is_for b old before) (words_of asked given is_for b new after)
+  words_stay = record {
+    rules = refl;
+    terms = term_later b.program.sig old new h.extends;
+    values = value_later b.program.sig old new h.extends before after h.kept;
+    operands = operands_later b.program.sig old new h.extends;
+    bindings = binding_later b old new before after h;
+    attempts = λ t a k. (candidates_known t a k, untried_same t a k);
+    candidates = λ t e a k. (candidate_known t e a k, makes_same t e a k);
+    choices = λ e i c k. absurd k;
+    chosen = λ e i c k. absurd k;
+  }
+
+pub words_kept : {L : Type 0} (asked : L → Asked) (given : L → Option Solution) (is_for : L → SignatureOf → Type 0) (b c : Basis) (old new : List Node) (before after : Table) → ComesOf b c old new before after →
+    Keeps (words_of asked given is_for b old before) (words_of asked given is_for c new after)
+words_kept asked given is_for b c old new before after h =
+    subst (λ (x : Basis). Keeps (words_of asked given is_for b old before) (words_of asked given is_for x new after)) (sym h.basis)
+    (words_stay asked given is_for b old new before after (record { basis = refl; extends = h.extends; kept = h.kept; plain = h.plain }))
