@@ -70,7 +70,7 @@ fit_grown b old new table begun x fit = record {
 
 -- ---- what handles stand for stays the same
 
-numbers_mapped : (f : ℕ → Tree) (ts : List TermId) → map f (numbers ts) ≡ map (λ t. f t.0) ts
+pub numbers_mapped : (f : ℕ → Tree) (ts : List TermId) → map f (numbers ts) ≡ map (λ t. f t.0) ts
 numbers_mapped f [] = refl
 numbers_mapped f (t ∷ ts) = ap (λ us. f t.0 ∷ us) (numbers_mapped f ts)
 

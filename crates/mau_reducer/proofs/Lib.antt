@@ -10,3 +10,9 @@ pub mod LaterStates
 pub mod Conditions
 -- what is meant
 pub mod WhatIsMeant
+-- sorts by declarations
+pub mod SortsGrow
+-- tables
+pub mod DerivedTables
+-- what the world's calls give
+pub mod Taking

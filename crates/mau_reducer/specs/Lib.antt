@@ -2,6 +2,7 @@
 
 -- what it goes by
 pub mod Basis
+pub mod Worlds
 -- what its answers mean
 pub mod Meant
 -- ---- what only inner contracts and proofs cite

@@ -8,6 +8,7 @@ ghost use Rattle.mau_store.specs.Trees.{tree_at};
 ghost use Rattle.mau_program.specs.LawfulPrograms.{IsLawfulProgram};
 ghost use Rattle.mau_api.specs.Terms.{IsTerm};
 ghost use Rattle.mau_reduce.specs.BuiltOperators.{IsBuiltAt};
+ghost use Rattle.mau_reduce.specs.Giving.{GivesInKind};
 ghost use Rattle.mau_reducer.specs.Basis.{DerivesNothing, HasNoCondition, AreBuiltIns, IsBasis};
 
 use mau_api::{Fragment, Lister, Program};
@@ -56,7 +57,7 @@ fn built_ins_of(alloc: Global, program: &Program) -> Result<Vec<BuiltIn>, NoMemo
 }
 
 impl<'a, L: Lister + Drop, N: Natives> ProgramWorld<'a, L, N> {
-    ghost use Rattle.mau_reducer.specs.Basis.{Basis};
+    ghost use Rattle.mau_reducer.specs.Worlds.{basis_of};
     ghost use Rattle.mau_reducer.specs.Handles.{written_at};
     ghost use Rattle.mau_reducer.specs.States.{IsFit};
     ghost use Rattle.mau_store.specs.Node.{Node};
@@ -71,10 +72,11 @@ impl<'a, L: Lister + Drop, N: Natives> ProgramWorld<'a, L, N> {
         requires lawful { IsLawfulProgram program.now }
         requires derives_nothing { DerivesNothing program.now }
         requires unconditional { HasNoCondition program.now }
+        requires gives { GivesInKind program.now.sig (N.operators natives) }
         ensures program { IfOk result (λ w. w.program.now ≡ program.now) }
         ensures natives { IfOk result (λ w. w.natives ≡ natives) }
         ensures limit { IfOk result (λ w. w.limit ≡ limit) }
-        ensures fits { (nodes : List Node) → IfOk result (λ w. IsFit (record { program = w.program.now; hooks = N.operators w.natives; limit = w.limit; order = w.order.items; built_ins = w.built_ins.items }) nodes w.table w.begun) }
+        ensures fits { (nodes : List Node) → IfOk result (λ w. IsFit (basis_of N.operators w) nodes w.table w.begun) }
     {
         let order = equations_in_order(alloc, program)?;
         let built_ins = built_ins_of(alloc, program)?;

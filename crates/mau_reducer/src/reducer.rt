@@ -4,12 +4,13 @@ ghost use Rattle.mau_formula.specs.Operators.{operators};
 ghost use Rattle.mau_store.specs.Node.{Node};
 ghost use Rattle.mau_program.specs.LawfulPrograms.{IsLawfulProgram};
 ghost use Rattle.mau_api.specs.Meanings.{meanings_by};
+ghost use Rattle.mau_reduce.specs.Giving.{GivesInKind};
 ghost use Rattle.mau_reducer.specs.Basis.{DerivesNothing, HasNoCondition};
 
 use crate::program_world::ProgramWorld;
 use mau_api::{EvalEnd, Evaluator, Fragment, Lister, Program, Reduced, Solution, StepWatcher};
 use mau_formula::HookTable;
-use mau_reduce::Hooks;
+use mau_reduce::{Hooks, Natives};
 use mau_sorts::SortTable;
 use mau_store::Store;
 use mau_terms::{NoMemory, TermId, VarId};
@@ -34,6 +35,7 @@ impl<'a, L: Lister + Drop> Reducer<'a, L> {
         requires lawful { IsLawfulProgram program.now }
         requires derives_nothing { DerivesNothing program.now }
         requires unconditional { HasNoCondition program.now }
+        requires gives { GivesInKind program.now.sig (operators hooks.now) }
         requires contexts { L.with_context ≡ true }
         ensures meanings { IfOk result (λ r. ⟦<Reducer<'a, L> as Evaluator>⟧.meanings r ≡ meanings_by program.now (operators hooks.now) limit false) }
         ensures fits { (nodes : List Node) → IfOk result (λ r. ⟦<Reducer<'a, L> as Evaluator>⟧.fits r nodes) }
@@ -44,6 +46,11 @@ impl<'a, L: Lister + Drop> Reducer<'a, L> {
 }
 
 impl<'a, L: Lister + Drop> Evaluator for Reducer<'a, L> {
+    ghost use Rattle.mau_reducer.specs.Worlds.{basis_of};
+    ghost use Rattle.mau_reducer.proofs.WhatIsMeant.{are_meanings};
+    ghost use Rattle.mau_reducer.proofs.LaterStates.{fit_grown};
+    ghost use Rattle.mau_reducer.proofs.DerivedTables.{derived_table};
+
     ghost meanings = { λ r. ⟦<ProgramWorld<'a, L, Hooks<'a>> as Evaluator>⟧.meanings r.world };
 
     ghost table = { λ r. ⟦<ProgramWorld<'a, L, Hooks<'a>> as Evaluator>⟧.table r.world };
@@ -88,9 +95,9 @@ impl<'a, L: Lister + Drop> Evaluator for Reducer<'a, L> {
         self.world.sorts()
     }
 
-    ghost laws = { ? };
+    ghost laws = { λ r. are_meanings (basis_of ⟦<Hooks<'a> as Natives>⟧.operators r.world) };
 
-    ghost grows = { ? };
+    ghost grows = { λ r old new x fit. (fit_grown (basis_of ⟦<Hooks<'a> as Natives>⟧.operators r.world) old new r.world.table r.world.begun x fit.0, fit.1) };
 
-    ghost derived = { ? };
+    ghost derived = { λ r nodes fit. derived_table (basis_of ⟦<Hooks<'a> as Natives>⟧.operators r.world) fit.0.basis nodes r.world.table fit.0.plain };
 }

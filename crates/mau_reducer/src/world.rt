@@ -24,7 +24,7 @@ fn goal_in(fragment: Option<&Fragment>) -> Goal
 }
 
 impl<'a, L: Lister + Drop, N: Natives> World for ProgramWorld<'a, L, N> {
-    ghost use Rattle.mau_reducer.specs.Basis.{Basis};
+    ghost use Rattle.mau_reducer.specs.Worlds.{basis_of};
     ghost use Rattle.mau_reducer.specs.Handles.{words_of};
     ghost use Rattle.mau_reducer.specs.States.{IsReady, ComesOf};
     ghost use Rattle.std.specs.Prelude.{refl, true};
@@ -36,14 +36,14 @@ impl<'a, L: Lister + Drop, N: Natives> World for ProgramWorld<'a, L, N> {
     type Choices = Choices;
     type Binding = Binding;
 
-    ghost words = { λ w nodes. words_of L.asked L.given L.is_for (record { program = w.program.now; hooks = N.operators w.natives; limit = w.limit; order = w.order.items; built_ins = w.built_ins.items }) nodes w.table };
+    ghost words = { λ w nodes. words_of L.asked L.given L.is_for (basis_of N.operators w) nodes w.table };
 
     ghost table = { λ w. w.table };
 
-    ghost ready = { λ w nodes. IsReady (record { program = w.program.now; hooks = N.operators w.natives; limit = w.limit; order = w.order.items; built_ins = w.built_ins.items }) nodes w.table × (L.with_context ≡ true) };
+    ghost ready = { λ w nodes. IsReady (basis_of N.operators w) nodes w.table × (L.with_context ≡ true) };
 
-    ghost grows = { λ w nodes v more. ComesOf (record { program = w.program.now; hooks = N.operators w.natives; limit = w.limit; order = w.order.items; built_ins = w.built_ins.items })
-        (record { program = v.program.now; hooks = N.operators v.natives; limit = v.limit; order = v.order.items; built_ins = v.built_ins.items }) nodes more w.table v.table };
+    ghost grows = { λ w nodes v more. ComesOf (basis_of N.operators w)
+        (basis_of N.operators v) nodes more w.table v.table };
 
     fn arguments(
         &self,
@@ -178,23 +178,23 @@ impl<'a, L: Lister + Drop, N: Natives> World for ProgramWorld<'a, L, N> {
 
     ghost holds = { λ w nodes f ts i t h e. operand_known w.program.now.sig nodes f ts i t h e };
 
-    ghost passes = { λ w nodes e i σ h p. none_passes (record { program = w.program.now; hooks = N.operators w.natives; limit = w.limit; order = w.order.items; built_ins = w.built_ins.items }) nodes w.table e i σ h p };
+    ghost passes = { λ w nodes e i σ h p. none_passes (basis_of N.operators w) nodes w.table e i σ h p };
 
-    ghost has_values = { λ w nodes e i right σ τ h k x. absurd (has_none (record { program = w.program.now; hooks = N.operators w.natives; limit = w.limit; order = w.order.items; built_ins = w.built_ins.items }) nodes w.table e i σ h right k) };
+    ghost has_values = { λ w nodes e i right σ τ h k x. absurd (has_none (basis_of N.operators w) nodes w.table e i σ h right k) };
 
     ghost stands = { λ w nodes t h. (h.term.within.there, refl, normal_term w.program.now.sig nodes t h) };
 
     ghost extends = { λ w v nodes more h. (h.extends, h.kept) };
 
-    ghost stays = { λ w nodes r. same_state (record { program = w.program.now; hooks = N.operators w.natives; limit = w.limit; order = w.order.items; built_ins = w.built_ins.items }) nodes w.table r.0.plain };
+    ghost stays = { λ w nodes r. same_state (basis_of N.operators w) nodes w.table r.0.plain };
 
-    ghost goes_on = { λ u v w nodes more most h k. later_state (record { program = u.program.now; hooks = N.operators u.natives; limit = u.limit; order = u.order.items; built_ins = u.built_ins.items })
-        (record { program = v.program.now; hooks = N.operators v.natives; limit = v.limit; order = v.order.items; built_ins = v.built_ins.items })
-        (record { program = w.program.now; hooks = N.operators w.natives; limit = w.limit; order = w.order.items; built_ins = w.built_ins.items }) nodes more most u.table v.table w.table h k };
+    ghost goes_on = { λ u v w nodes more most h k. later_state (basis_of N.operators u)
+        (basis_of N.operators v)
+        (basis_of N.operators w) nodes more most u.table v.table w.table h k };
 
-    ghost begins = { λ u v nodes more r h. (ready_later (record { program = u.program.now; hooks = N.operators u.natives; limit = u.limit; order = u.order.items; built_ins = u.built_ins.items })
-        (record { program = v.program.now; hooks = N.operators v.natives; limit = v.limit; order = v.order.items; built_ins = v.built_ins.items }) nodes more u.table v.table r.0 h, r.1) };
+    ghost begins = { λ u v nodes more r h. (ready_later (basis_of N.operators u)
+        (basis_of N.operators v) nodes more u.table v.table r.0 h, r.1) };
 
-    ghost keeps = { λ u v nodes more h. words_kept L.asked L.given L.is_for (record { program = u.program.now; hooks = N.operators u.natives; limit = u.limit; order = u.order.items; built_ins = u.built_ins.items })
-        (record { program = v.program.now; hooks = N.operators v.natives; limit = v.limit; order = v.order.items; built_ins = v.built_ins.items }) nodes more u.table v.table h };
+    ghost keeps = { λ u v nodes more h. words_kept L.asked L.given L.is_for (basis_of N.operators u)
+        (basis_of N.operators v) nodes more u.table v.table h };
 }
