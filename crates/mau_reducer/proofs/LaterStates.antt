@@ -33,7 +33,7 @@ use Rattle.mau_reduce.specs.Giving.{IsGivenAt}
 use Rattle.mau_reduce.specs.Lasts.{IsLast}
 use Rattle.mau_reduce.proofs.LaterStores.{tried_grown, untried_grown, last_there, last_grown, listed_grown, taken_there, given_grown, makes_grown, bound_grown, values_grown}
 use Rattle.mau_machine.specs.Words.{Words, Keeps}
-use Rattle.mau_reducer.specs.declared.program_world.Candidates.{Candidates}
+use Rattle.mau_reducer.specs.declared.reducer.Candidates.{Candidates}
 use Rattle.mau_reducer.specs.Basis.{Basis, IsBasis}
 use Rattle.mau_reducer.specs.Handles.{IsKnownTerm, IsKnownValue, AreKnownOperands, IsKnownBinding, AreKnownCandidates, IsKnownCandidate, words_of}
 use Rattle.mau_reducer.specs.States.{IsFit, IsReady, ComesOf}

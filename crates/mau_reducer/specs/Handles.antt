@@ -33,8 +33,8 @@ use Rattle.mau_reduce.specs.Attempting.{untried_by, makes_of}
 use Rattle.mau_machine.specs.declared.goal.Goal.{Goal}
 use Rattle.mau_machine.specs.declared.goal.Goal.TheVariants.{Nothing, Equality, Sort as OfSort, Matching, Reaching}
 use Rattle.mau_machine.specs.Words.{Rules, Words}
-use Rattle.mau_reducer.specs.declared.program_world.Candidates.{Candidates}
-use Rattle.mau_reducer.specs.declared.program_world.Choices.{Choices}
+use Rattle.mau_reducer.specs.declared.reducer.Candidates.{Candidates}
+use Rattle.mau_reducer.specs.declared.reducer.Choices.{Choices}
 use Rattle.mau_reducer.specs.Basis.{Basis}
 
 -- ---- conditions by the numbers of their equations

@@ -11,3 +11,5 @@ pub mod Meant
 pub mod Handles
 -- its states
 pub mod States
+-- laws of these
+pub mod StateLaws

@@ -3,7 +3,7 @@ ghost use Rattle.std.specs.Prelude.{◌≡◌, true, OnOk};
 ghost use Rattle.mau_store.specs.Node.{Extends};
 ghost use Rattle.mau_api.specs.Answers.{levels_of_item};
 
-use crate::program_world::ProgramWorld;
+use crate::reducer::Reducer;
 use mau_api::{EvalEnd, Evaluator, Fragment, Lister, Reduced, Solution, StepWatcher};
 use mau_reduce::{Natives, settle, settle_identities};
 use mau_sorts::SortTable;
@@ -17,7 +17,7 @@ fn levels_of_item() -> u32
     2000
 }
 
-impl<'a, L: Lister + Drop, N: Natives> ProgramWorld<'a, L, N> {
+impl<'a, L: Lister + Drop, N: Natives + Drop> Reducer<'a, L, N> {
     ghost use Rattle.mau_reducer.specs.Worlds.{basis_of};
     ghost use Rattle.mau_reducer.specs.States.{IsFit, IsReady, ComesOf};
 
@@ -39,14 +39,14 @@ impl<'a, L: Lister + Drop, N: Natives> ProgramWorld<'a, L, N> {
     }
 }
 
-impl<'a, L: Lister + Drop, N: Natives> Evaluator for ProgramWorld<'a, L, N> {
+impl<'a, L: Lister + Drop, N: Natives + Drop> Evaluator for Reducer<'a, L, N> {
     ghost use Rattle.std.specs.Prelude.{true};
     ghost use Rattle.mau_reducer.specs.Worlds.{basis_of};
     ghost use Rattle.mau_reducer.specs.Meant.{meanings_of};
     ghost use Rattle.mau_reducer.specs.States.{IsFit};
-    ghost use Rattle.mau_reducer.proofs.WhatIsMeant.{are_meanings};
-    ghost use Rattle.mau_reducer.proofs.LaterStates.{fit_grown};
-    ghost use Rattle.mau_reducer.proofs.DerivedTables.{derived_table};
+    ghost use Rattle.mau_reducer.specs.StateLaws.WhatIsMeant.{are_meanings};
+    ghost use Rattle.mau_reducer.specs.StateLaws.LaterStates.{fit_grown};
+    ghost use Rattle.mau_reducer.specs.StateLaws.DerivedTables.{derived_table};
 
     ghost meanings = { λ w. meanings_of (basis_of N.operators w) };
 

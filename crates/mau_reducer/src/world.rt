@@ -3,7 +3,7 @@ ghost use Rattle.std.specs.Prelude.{◌≡◌};
 ghost use Rattle.std.specs.Option.{option_copied};
 ghost use Rattle.mau_reducer.specs.Handles.{goal_in};
 
-use crate::program_world::{Candidates, Choices, ProgramWorld};
+use crate::reducer::{Candidates, Choices, Reducer};
 use mau_api::{EvalEnd, Fragment, Lister, Step};
 use mau_machine::{Goal, World};
 use mau_reduce::{Binding, Natives, begin_attempts, make, next_attempt, open, rebuild, settle};
@@ -23,14 +23,14 @@ fn goal_in(fragment: Option<&Fragment>) -> Goal
     }
 }
 
-impl<'a, L: Lister + Drop, N: Natives> World for ProgramWorld<'a, L, N> {
+impl<'a, L: Lister + Drop, N: Natives + Drop> World for Reducer<'a, L, N> {
     ghost use Rattle.mau_reducer.specs.Worlds.{basis_of};
     ghost use Rattle.mau_reducer.specs.Handles.{words_of};
     ghost use Rattle.mau_reducer.specs.States.{IsReady, ComesOf};
     ghost use Rattle.std.specs.Prelude.{refl, true};
-    ghost use Rattle.mau_reducer.proofs.KnownHandles.{operand_put, operand_known, normal_term};
-    ghost use Rattle.mau_reducer.proofs.Conditions.{none_passes, has_none};
-    ghost use Rattle.mau_reducer.proofs.LaterStates.{same_state, later_state, ready_later, words_kept};
+    ghost use Rattle.mau_reducer.specs.StateLaws.KnownHandles.{operand_put, operand_known, normal_term};
+    ghost use Rattle.mau_reducer.specs.StateLaws.Conditions.{none_passes, has_none};
+    ghost use Rattle.mau_reducer.specs.StateLaws.LaterStates.{same_state, later_state, ready_later, words_kept};
 
     type Attempts = Candidates<L>;
     type Choices = Choices;
