@@ -28,7 +28,7 @@ use Rattle.mau_reduce.proofs.PlainSorts.{plain_sorts, settle_known}
 use Rattle.mau_reducer.specs.Basis.{Basis, IsBasis}
 use Rattle.mau_reducer.specs.Handles.{IsKnownTerm, IsKnownValue, AreKnownOperands}
 use Rattle.mau_reducer.specs.States.{ComesOf}
-use Rattle.mau_reducer.proofs.LaterStates.{numbers_mapped}
+use Rattle.mau_reducer.specs.LaterStates.{numbers_mapped}
 
 -- ---- operands
 

@@ -1,5 +1,5 @@
 -- What the handles of a program's world stand for over the nodes of a store, and which of them are known.
-use Rattle.std.specs.Prelude.{◌≡◌, ℕ, List, [], map, drop, Option, Some, None, IfSome, slice_get, refl}
+use Rattle.std.specs.Prelude.{◌≡◌, ℕ, List, [], map, drop, true, Option, Some, None, IfSome, slice_get, refl}
 use Rattle.std.specs.Option.{option_map}
 use Rattle.mau_terms.specs.Tree.{numeral}
 use Rattle.mau_terms.specs.Bare.{IsLawful}

@@ -11,5 +11,9 @@ pub mod Meant
 pub mod Handles
 -- its states
 pub mod States
--- laws of these
-pub mod StateLaws
+-- lemmas by which it has the laws of worlds and of evaluators
+pub mod KnownHandles
+pub mod NoFragments
+pub mod LaterStates
+pub mod MeantLaws
+pub mod DerivedTables

@@ -44,9 +44,9 @@ impl<'a, L: Lister + Drop, N: Natives + Drop> Evaluator for Reducer<'a, L, N> {
     ghost use Rattle.mau_reducer.specs.Worlds.{basis_of};
     ghost use Rattle.mau_reducer.specs.Meant.{meanings_of};
     ghost use Rattle.mau_reducer.specs.States.{IsFit};
-    ghost use Rattle.mau_reducer.specs.StateLaws.WhatIsMeant.{are_meanings};
-    ghost use Rattle.mau_reducer.specs.StateLaws.LaterStates.{fit_grown};
-    ghost use Rattle.mau_reducer.specs.StateLaws.DerivedTables.{derived_table};
+    ghost use Rattle.mau_reducer.specs.MeantLaws.{are_meanings};
+    ghost use Rattle.mau_reducer.specs.LaterStates.{fit_grown};
+    ghost use Rattle.mau_reducer.specs.DerivedTables.{derived_table};
 
     ghost meanings = { λ w. meanings_of (basis_of N.operators w) };
 

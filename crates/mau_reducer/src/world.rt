@@ -28,9 +28,9 @@ impl<'a, L: Lister + Drop, N: Natives + Drop> World for Reducer<'a, L, N> {
     ghost use Rattle.mau_reducer.specs.Handles.{words_of};
     ghost use Rattle.mau_reducer.specs.States.{IsReady, ComesOf};
     ghost use Rattle.std.specs.Prelude.{refl, true};
-    ghost use Rattle.mau_reducer.specs.StateLaws.KnownHandles.{operand_put, operand_known, normal_term};
-    ghost use Rattle.mau_reducer.specs.StateLaws.Conditions.{none_passes, has_none};
-    ghost use Rattle.mau_reducer.specs.StateLaws.LaterStates.{same_state, later_state, ready_later, words_kept};
+    ghost use Rattle.mau_reducer.specs.KnownHandles.{operand_put, operand_known, normal_term};
+    ghost use Rattle.mau_reducer.specs.NoFragments.{none_passes, has_none};
+    ghost use Rattle.mau_reducer.specs.LaterStates.{same_state, later_state, ready_later, words_kept};
 
     type Attempts = Candidates<L>;
     type Choices = Choices;

@@ -130,7 +130,7 @@ module _ {L : Type 0} (asked : L → Asked) (given : L → Option Solution) (is_
 
   last_ones : (t : TermId) (o : Option (Tried L)) →
       IfSome o (λ x. IsTried true b.program old before t x.number (asked x.listing) (given x.listing) (is_for x.listing b.program.sig)) →
-      IfSome (option_map (λ x. (x.number, given x.listing)) o) (λ y. IfSome y.1 (AreOfStore old))
+      IfSome {T = ℕ × Option Solution} (option_map (λ x. (x.number, given x.listing)) o) (λ y. IfSome y.1 (AreOfStore old))
   last_ones t None k = tt
   last_ones t (Some x) k = last_there old new h.extends true b.program before t x.number (asked x.listing) (given x.listing) (is_for x.listing b.program.sig) k
 

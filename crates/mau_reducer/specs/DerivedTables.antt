@@ -22,7 +22,7 @@ use Rattle.mau_reduce.proofs.PlainSorts.{plain_sorts, sorts_known, plain_exact}
 use Rattle.mau_reduce.proofs.PlainTables.{plain_is_table}
 use Rattle.mau_reducer.specs.Basis.{Basis, IsBasis}
 use Rattle.mau_reducer.specs.Meant.{meanings_of}
-use Rattle.mau_reducer.proofs.WhatIsMeant.{sorting_is}
+use Rattle.mau_reducer.specs.MeantLaws.{sorting_is}
 
 module _ (b : Basis) (is : IsBasis b) (nodes : List Node) (table : Table) (plain : IsPlainTable b.program.sig nodes table) where
   abbrev P : Program
