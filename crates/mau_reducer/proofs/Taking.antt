@@ -1,5 +1,5 @@
 -- What the world's calls give, from what the calls of mau_reduce do.
-use Rattle.std.proofs.Common.{◌≡◌, ℕ, suc, List, [], ◌∷◌, Bool, true, false, Option, Some, None, IfSome, IfNone, map, drop, All, refl, sym, ap, ◌∙◌, subst}
+use Rattle.std.proofs.Common.{◌≡◌, ◌<◌, ℕ, suc, nat_eq, eqb-true, length, List, [], ◌∷◌, Bool, true, false, Option, Some, None, IfSome, IfNone, map, drop, All, refl, sym, ap, ◌∙◌, subst}
 use Rattle.std.specs.Option.{option_map}
 use Rattle.mau_terms.specs.Tree.{Tree, node}
 use Rattle.mau_terms.specs.Bare.{IsLawful}
@@ -7,13 +7,24 @@ use Rattle.mau_terms.specs.Finite.{IsIn}
 use Rattle.mau_terms.specs.declared.ids.TermId.{TermId}
 use Rattle.mau_signature.specs.Signature.{SignatureOf, theory_at, terms_over}
 use Rattle.mau_formula.specs.Operator.{Operator}
-use Rattle.mau_store.specs.Node.{Node, Extends}
+use Rattle.mau_store.specs.Node.{Node, IsOf, AreNodes, Extends}
+use Rattle.mau_store.proofs.Numbers.{one_number}
+use Rattle.std.proofs.lemmas.Bool.{eqb-false}
+use Rattle.mau_evaluation.specs.Listing.{same_tree}
+use Rattle.mau_evaluation.proofs.Still.{same_tree_itself}
+use Rattle.mau_reduce.proofs.Tops.{same_tree_not}
+use Rattle.mau_reduce.specs.Ends as Reduced
+use Rattle.mau_machine.specs.Words as Ends
+use Rattle.mau_api.specs.declared.results.EvalEnd.{EvalEnd}
+use Rattle.mau_api.specs.declared.results.EvalEnd.TheVariants.{Stopped, TooDeep, Overflow, NoMemory}
+use Rattle.mau_reduce.specs.Trying.{IsExecutable}
+use Rattle.mau_reduce.proofs.InOrder.{order_within, order_executable}
 use Rattle.mau_store.specs.Trees.{tree_at, trees_at}
 use Rattle.mau_store.specs.View.{numbers}
 use Rattle.mau_sorts.specs.Table.{Table, KeepsEntries}
 use Rattle.mau_sorts.proofs.Settling.{kept_same}
 use Rattle.mau_program.specs.declared.program.Program as Typed
-use Rattle.mau_evaluation.specs.Run.{done}
+use Rattle.mau_evaluation.specs.Run.{Outcome, done}
 use Rattle.mau_evaluation.specs.Program.{Membership, Program}
 use Rattle.mau_evaluation.specs.Evaluation.{levels, settle}
 use Rattle.mau_api.specs.Programs.{program_over}
@@ -58,3 +69,27 @@ sorts_settled p hooks red B k t b = (plain_sorts (program_over p hooks) none t, 
         by : (x : Bool) → m.exec ≡ x → m.exec ≡ false
         by false e = e
         by true e = absurd (red.derives_nothing m i e)
+
+-- ---- ends
+
+-- both crates say them alike
+pub as_end : {A : Type 0} (o : Outcome A) (e : EvalEnd) → Reduced.IsEnd o e → Ends.IsEnd o e
+as_end o Stopped h = h
+as_end o TooDeep h = h
+as_end o Overflow h = h
+as_end o NoMemory h = h
+
+-- ---- equal terms
+
+-- two numbers of a store stand for one term just where they are one
+pub numbers_same : (nodes : List Node) → AreNodes nodes → (i j : ℕ) → IsOf nodes i → IsOf nodes j → (r : Bool) → r ≡ nat_eq i j → r ≡ same_tree (tree_at nodes i) (tree_at nodes j)
+numbers_same nodes are i j k l true e = sym (ap (λ n. same_tree (tree_at nodes n) (tree_at nodes j)) (eqb-true i j (sym e)) ∙ same_tree_itself (tree_at nodes j))
+numbers_same nodes are i j k l false e = sym (same_tree_not (tree_at nodes i) (tree_at nodes j) (λ q. eqb-false i j (sym e) (one_number nodes are i j k l q)))
+
+-- ---- the order of equations
+
+pub order_fits : (b : Basis) → IsBasis b → All (λ i. i < length b.program.equations) b.order
+order_fits b is = subst (All (λ i. i < length b.program.equations)) (sym is.order) (order_within b.program.equations)
+
+pub order_exec : (b : Basis) → IsBasis b → All (IsExecutable b.program) b.order
+order_exec b is = subst (All (IsExecutable b.program)) (sym is.order) (order_executable b.program)

@@ -1,5 +1,5 @@
 -- What the handles of a program's world stand for over the nodes of a store, and which of them are known.
-use Rattle.std.specs.Prelude.{◌≡◌, ℕ, List, [], map, drop, true, Option, Some, None, IfSome, slice_get, refl}
+use Rattle.std.specs.Prelude.{◌≡◌, ℕ, List, [], map, drop, Bool, Option, Some, None, IfSome, slice_get, refl}
 use Rattle.std.specs.Option.{option_map}
 use Rattle.mau_terms.specs.Tree.{numeral}
 use Rattle.mau_terms.specs.Bare.{IsLawful}
@@ -70,6 +70,9 @@ goal_in (Some (Reach t u)) = Reaching
 
 -- ---- known handles
 
+abbrev pub as_id : ℕ → TermId
+as_id i = record { 0 = i }
+
 -- a term over a lawful signature
 pub record IsKnownTerm (s : SignatureOf) (nodes : List Node) (i : ℕ) : Type 0 where
   pub lawful : IsLawful (terms_over s)
@@ -92,12 +95,13 @@ pub record IsKnownBinding (b : Basis) (nodes : List Node) (table : Table) (e i :
   pub sorts : HaveSorts (HasEntry b.program.sig nodes table) (map variable_of σ.variables.items) (trees_at nodes (numbers σ.values.items))
   pub nothing : drop i ((rules_of b).cond e) ≡ []
 
-module _ {L : Type 0} (asked : L → Asked) (given : L → Option Solution) (is_for : L → SignatureOf → Type 0) (b : Basis) (nodes : List Node) (table : Table) where
+-- c says whether listings have contexts
+module _ {L : Type 0} (c : Bool) (asked : L → Asked) (given : L → Option Solution) (is_for : L → SignatureOf → Type 0) (b : Basis) (nodes : List Node) (table : Table) where
   -- what the built-in gives is as it says, and the listing with which they go on is one for their term, and can go on
   pub record AreKnownCandidates (t : ℕ) (a : Candidates L) : Type 0 where
     pub own : a.term.0 ≡ t
     pub term : IsTerm b.program.sig nodes t
-    pub tried : IfSome a.attempts.value.tried (λ x. IsTried true b.program nodes table a.term x.number (asked x.listing) (given x.listing) (is_for x.listing b.program.sig))
+    pub tried : IfSome a.attempts.value.tried (λ x. IsTried c b.program nodes table (as_id t) x.number (asked x.listing) (given x.listing) (is_for x.listing b.program.sig))
     pub given_at : IsGivenAt b.program.sig b.hooks nodes (tree_at nodes t) a.attempts.value.given
 
   -- the last one is a candidate of the term t, and has the condition e
@@ -107,7 +111,7 @@ module _ {L : Type 0} (asked : L → Asked) (given : L → Option Solution) (is_
     pub reducible : IsReducible b.program
     pub given_at : IsGivenAt b.program.sig b.hooks nodes (tree_at nodes t) a.attempts.value.given
     pub last : IsLast b.program nodes (tree_at nodes t) e a.attempts.value.given a.attempts.value.last
-    pub listed : IsLastListed b.program nodes table a.term e a.attempts.value.given a.attempts.value.last
+    pub listed : IsLastListed b.program nodes table (as_id t) e a.attempts.value.given a.attempts.value.last
 
   abbrev pub words_of : Words (Candidates L) Choices Binding
   words_of = record {
@@ -123,8 +127,8 @@ module _ {L : Type 0} (asked : L → Asked) (given : L → Option Solution) (is_
     knows_attempts = AreKnownCandidates;
     makes = λ a. makes_of (program_over b.program b.hooks) nodes (tree_at nodes a.term.0) a.attempts.value.given a.attempts.value.last;
     knows_candidate = IsKnownCandidate;
-    unchosen = λ c k e i. gives None;
-    knows_choices = λ e i c. ⊥;
-    chosen_from = λ c. [];
-    chosen_value = λ c. numeral 0;
+    unchosen = λ x k e i. gives None;
+    knows_choices = λ e i x. ⊥;
+    chosen_from = λ x. [];
+    chosen_value = λ x. numeral 0;
   }

@@ -35,7 +35,7 @@ use Rattle.mau_reduce.proofs.LaterStores.{tried_grown, untried_grown, last_there
 use Rattle.mau_machine.specs.Words.{Words, Keeps}
 use Rattle.mau_reducer.specs.declared.reducer.Candidates.{Candidates}
 use Rattle.mau_reducer.specs.Basis.{Basis, IsBasis}
-use Rattle.mau_reducer.specs.Handles.{IsKnownTerm, IsKnownValue, AreKnownOperands, IsKnownBinding, AreKnownCandidates, IsKnownCandidate, words_of}
+use Rattle.mau_reducer.specs.Handles.{as_id, IsKnownTerm, IsKnownValue, AreKnownOperands, IsKnownBinding, AreKnownCandidates, IsKnownCandidate, words_of}
 use Rattle.mau_reducer.specs.States.{IsFit, IsReady, ComesOf}
 
 -- ---- they are an order
@@ -117,45 +117,45 @@ binding_later b old new before after h e i σ k =
 
 -- ---- candidates
 
-module _ {L : Type 0} (asked : L → Asked) (given : L → Option Solution) (is_for : L → SignatureOf → Type 0) (b : Basis) (old new : List Node) (before after : Table)
+module _ {L : Type 0} (c : Bool) (asked : L → Asked) (given : L → Option Solution) (is_for : L → SignatureOf → Type 0) (b : Basis) (old new : List Node) (before after : Table)
     (h : ComesOf b b old new before after) where
   abbrev P : Program
   P = program_over b.program b.hooks
 
   tried_later : (t : TermId) (o : Option (Tried L)) →
-      IfSome o (λ x. IsTried true b.program old before t x.number (asked x.listing) (given x.listing) (is_for x.listing b.program.sig)) →
-      IfSome o (λ x. IsTried true b.program new after t x.number (asked x.listing) (given x.listing) (is_for x.listing b.program.sig))
+      IfSome o (λ x. IsTried c b.program old before t x.number (asked x.listing) (given x.listing) (is_for x.listing b.program.sig)) →
+      IfSome o (λ x. IsTried c b.program new after t x.number (asked x.listing) (given x.listing) (is_for x.listing b.program.sig))
   tried_later t None k = tt
-  tried_later t (Some x) k = tried_grown true b.program old new before after t x.number (asked x.listing) (given x.listing) (is_for x.listing b.program.sig) h.extends h.kept h.plain.over k
+  tried_later t (Some x) k = tried_grown c b.program old new before after t x.number (asked x.listing) (given x.listing) (is_for x.listing b.program.sig) h.extends h.kept h.plain.over k
 
   last_ones : (t : TermId) (o : Option (Tried L)) →
-      IfSome o (λ x. IsTried true b.program old before t x.number (asked x.listing) (given x.listing) (is_for x.listing b.program.sig)) →
+      IfSome o (λ x. IsTried c b.program old before t x.number (asked x.listing) (given x.listing) (is_for x.listing b.program.sig)) →
       IfSome {T = ℕ × Option Solution} (option_map (λ x. (x.number, given x.listing)) o) (λ y. IfSome y.1 (AreOfStore old))
   last_ones t None k = tt
-  last_ones t (Some x) k = last_there old new h.extends true b.program before t x.number (asked x.listing) (given x.listing) (is_for x.listing b.program.sig) k
+  last_ones t (Some x) k = last_there old new h.extends c b.program before t x.number (asked x.listing) (given x.listing) (is_for x.listing b.program.sig) k
 
   tree_same : (t : ℕ) → IsTerm b.program.sig old t → tree_at new t ≡ tree_at old t
   tree_same t is = tree_kept (theory_at b.program.sig) old new t h.extends is.within
 
-  candidates_known : (t : ℕ) (a : Candidates L) → AreKnownCandidates asked given is_for b old before t a → AreKnownCandidates asked given is_for b new after t a
+  candidates_known : (t : ℕ) (a : Candidates L) → AreKnownCandidates c asked given is_for b old before t a → AreKnownCandidates c asked given is_for b new after t a
   candidates_known t a k = record {
     own = k.own;
     term = is_term_kept b.program.sig old new t h.extends k.term;
-    tried = tried_later a.term a.attempts.value.tried k.tried;
+    tried = tried_later (as_id t) a.attempts.value.tried k.tried;
     given_at =
         subst (λ u. IsGivenAt b.program.sig b.hooks new u a.attempts.value.given) (sym (tree_same t k.term))
         (given_grown b.program old new h.extends b.hooks (tree_at old t) a.attempts.value.given k.given_at);
   }
 
-  untried_same : (t : ℕ) (a : Candidates L) → AreKnownCandidates asked given is_for b old before t a → (k c : ℕ) →
-      (words_of asked given is_for b new after).untried a k c ≡ (words_of asked given is_for b old before).untried a k c
-  untried_same t a is k c =
-      ap (λ u. untried_by P b.limit k new u a.attempts.value.given (option_map (λ x. (x.number, given x.listing)) a.attempts.value.tried) (drop a.attempts.value.next (order_of_all P.equations)) c)
+  untried_same : (t : ℕ) (a : Candidates L) → AreKnownCandidates c asked given is_for b old before t a → (k n : ℕ) →
+      (words_of c asked given is_for b new after).untried a k n ≡ (words_of c asked given is_for b old before).untried a k n
+  untried_same t a is k n =
+      ap (λ u. untried_by P b.limit k new u a.attempts.value.given (option_map (λ x. (x.number, given x.listing)) a.attempts.value.tried) (drop a.attempts.value.next (order_of_all P.equations)) n)
       (tree_same a.term.0 (subst (IsTerm b.program.sig old) (sym is.own) is.term))
-      ∙ ap (λ r. r c) (untried_grown old new h.extends P b.limit k (tree_at old a.term.0) (drop a.attempts.value.next (order_of_all P.equations)) a.attempts.value.given
-      (taken_there b.program old new h.extends a.attempts.value.given is.given_at.taken) (option_map (λ x. (x.number, given x.listing)) a.attempts.value.tried) (last_ones a.term a.attempts.value.tried is.tried))
+      ∙ ap (λ r. r n) (untried_grown old new h.extends P b.limit k (tree_at old a.term.0) (drop a.attempts.value.next (order_of_all P.equations)) a.attempts.value.given
+      (taken_there b.program old new h.extends a.attempts.value.given is.given_at.taken) (option_map (λ x. (x.number, given x.listing)) a.attempts.value.tried) (last_ones (as_id t) a.attempts.value.tried is.tried))
 
-  candidate_known : (t e : ℕ) (a : Candidates L) → IsKnownCandidate asked given is_for b old before t e a → IsKnownCandidate asked given is_for b new after t e a
+  candidate_known : (t e : ℕ) (a : Candidates L) → IsKnownCandidate c asked given is_for b old before t e a → IsKnownCandidate c asked given is_for b new after t e a
   candidate_known t e a k =
       let same = tree_same t k.term in
       record {
@@ -167,17 +167,17 @@ module _ {L : Type 0} (asked : L → Asked) (given : L → Option Solution) (is_
             subst (λ u. IsLast b.program new u e a.attempts.value.given a.attempts.value.last) (sym same)
             (last_grown b.program old new h.extends (tree_at old t) e a.attempts.value.given a.attempts.value.last k.last);
         listed =
-            listed_grown b.program old new h.extends before after h.kept k.reducible a.term (subst (IsTerm b.program.sig old) (sym k.own) k.term) e a.attempts.value.given a.attempts.value.last k.listed;
+            listed_grown b.program old new h.extends before after h.kept k.reducible (as_id t) k.term e a.attempts.value.given a.attempts.value.last k.listed;
       }
 
-  makes_same : (t e : ℕ) (a : Candidates L) → IsKnownCandidate asked given is_for b old before t e a → (σ : Binding) →
-      (words_of asked given is_for b new after).makes a σ ≡ (words_of asked given is_for b old before).makes a σ
+  makes_same : (t e : ℕ) (a : Candidates L) → IsKnownCandidate c asked given is_for b old before t e a → (σ : Binding) →
+      (words_of c asked given is_for b new after).makes a σ ≡ (words_of c asked given is_for b old before).makes a σ
   makes_same t e a k σ =
       ap (λ u. makes_of P new u a.attempts.value.given a.attempts.value.last σ) (tree_same a.term.0 (subst (IsTerm b.program.sig old) (sym k.own) k.term))
       ∙ makes_grown b.program old new h.extends b.hooks (tree_at old a.term.0) e a.attempts.value.given a.attempts.value.last σ k.given_at.taken
       (subst (λ i. IsLast b.program old (tree_at old i) e a.attempts.value.given a.attempts.value.last) (sym k.own) k.last)
 
-  words_stay : Keeps (words_of asked given is_for b old before) (words_of asked given is_for b new after)
+  words_stay : Keeps (words_of c asked given is_for b old before) (words_of c asked given is_for b new after)
   words_stay = record {
     rules = refl;
     terms = term_later b.program.sig old new h.extends;
@@ -186,12 +186,12 @@ module _ {L : Type 0} (asked : L → Asked) (given : L → Option Solution) (is_
     bindings = binding_later b old new before after h;
     attempts = λ t a k. (candidates_known t a k, untried_same t a k);
     candidates = λ t e a k. (candidate_known t e a k, makes_same t e a k);
-    choices = λ e i c k. absurd k;
-    chosen = λ e i c k. absurd k;
+    choices = λ e i x k. absurd k;
+    chosen = λ e i x k. absurd k;
   }
 
-pub words_kept : {L : Type 0} (asked : L → Asked) (given : L → Option Solution) (is_for : L → SignatureOf → Type 0) (b c : Basis) (old new : List Node) (before after : Table) → ComesOf b c old new before after →
-    Keeps (words_of asked given is_for b old before) (words_of asked given is_for c new after)
-words_kept asked given is_for b c old new before after h =
-    subst (λ (x : Basis). Keeps (words_of asked given is_for b old before) (words_of asked given is_for x new after)) (sym h.basis)
-    (words_stay asked given is_for b old new before after (record { basis = refl; extends = h.extends; kept = h.kept; plain = h.plain }))
+pub words_kept : {L : Type 0} (c : Bool) (asked : L → Asked) (given : L → Option Solution) (is_for : L → SignatureOf → Type 0) (b d : Basis) (old new : List Node) (before after : Table) → ComesOf b d old new before after →
+    Keeps (words_of c asked given is_for b old before) (words_of c asked given is_for d new after)
+words_kept c asked given is_for b d old new before after h =
+    subst (λ (x : Basis). Keeps (words_of c asked given is_for b old before) (words_of c asked given is_for x new after)) (sym h.basis)
+    (words_stay c asked given is_for b old new before after (record { basis = refl; extends = h.extends; kept = h.kept; plain = h.plain }))

@@ -36,7 +36,7 @@ impl<'a, L: Lister + Drop, N: Natives + Drop> World for Reducer<'a, L, N> {
     type Choices = Choices;
     type Binding = Binding;
 
-    ghost words = { λ w nodes. words_of L.asked L.given L.is_for (basis_of N.operators w) nodes w.table };
+    ghost words = { λ w nodes. words_of L.with_context L.asked L.given L.is_for (basis_of N.operators w) nodes w.table };
 
     ghost table = { λ w. w.table };
 
@@ -134,7 +134,9 @@ impl<'a, L: Lister + Drop, N: Natives + Drop> World for Reducer<'a, L, N> {
         Err(EvalEnd::NoMemory)
     }
 
-    fn same(&self, _: &Store, left: TermId, right: TermId) -> bool {
+    fn same(&self, store: &Store, left: TermId, right: TermId) -> bool {
+        // What holds of the nodes of a store is told with their number.
+        let _nodes = store.len();
         left == right
     }
 
@@ -195,6 +197,6 @@ impl<'a, L: Lister + Drop, N: Natives + Drop> World for Reducer<'a, L, N> {
     ghost begins = { λ u v nodes more r h. (ready_later (basis_of N.operators u)
         (basis_of N.operators v) nodes more u.table v.table r.0 h, r.1) };
 
-    ghost keeps = { λ u v nodes more h. words_kept L.asked L.given L.is_for (basis_of N.operators u)
+    ghost keeps = { λ u v nodes more h. words_kept L.with_context L.asked L.given L.is_for (basis_of N.operators u)
         (basis_of N.operators v) nodes more u.table v.table h };
 }
