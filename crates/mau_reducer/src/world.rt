@@ -6,7 +6,7 @@ ghost use Rattle.mau_reducer.specs.Handles.{goal_in};
 use crate::reducer::{Candidates, Choices, Reducer};
 use mau_api::{EvalEnd, Fragment, Lister, Step};
 use mau_machine::{Goal, World};
-use mau_reduce::{Binding, Natives, begin_attempts, make, next_attempt, open, rebuild, settle};
+use mau_reduce::{Binding, Natives, begin_attempts, make, next_attempt, open, rebuild, settle, step};
 use mau_store::Store;
 use mau_terms::{NoMemory, OpId, TermId};
 
@@ -110,12 +110,20 @@ impl<'a, L: Lister + Drop, N: Natives + Drop> World for Reducer<'a, L, N> {
         &mut self,
         store: &mut Store,
         term: TermId,
-        _: usize,
+        condition: usize,
         attempts: &Candidates<L>,
         binding: &Binding,
         after: TermId,
     ) -> Result<Step, NoMemory> {
-        Err(NoMemory)
+        step(
+            store,
+            self.program,
+            term,
+            condition,
+            &attempts.attempts,
+            binding,
+            after,
+        )
     }
 
     fn goal(&self, condition: usize, at: usize) -> Goal {
