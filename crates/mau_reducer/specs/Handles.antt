@@ -101,17 +101,17 @@ module _ {L : Type 0} (c : Bool) (asked : L → Asked) (given : L → Option Sol
   pub record AreKnownCandidates (t : ℕ) (a : Candidates L) : Type 0 where
     pub own : a.term.0 ≡ t
     pub term : IsTerm b.program.sig nodes t
-    pub tried : IfSome a.attempts.value.tried (λ x. IsTried c b.program nodes table (as_id t) x.number (asked x.listing) (given x.listing) (is_for x.listing b.program.sig))
-    pub given_at : IsGivenAt b.program.sig b.hooks nodes (tree_at nodes t) a.attempts.value.given
+    pub tried : IfSome a.attempts.tried (λ x. IsTried c b.program nodes table (as_id t) x.number (asked x.listing) (given x.listing) (is_for x.listing b.program.sig))
+    pub given_at : IsGivenAt b.program.sig b.hooks nodes (tree_at nodes t) a.attempts.given
 
   -- the last one is a candidate of the term t, and has the condition e
   pub record IsKnownCandidate (t e : ℕ) (a : Candidates L) : Type 0 where
     pub own : a.term.0 ≡ t
     pub term : IsTerm b.program.sig nodes t
     pub reducible : IsReducible b.program
-    pub given_at : IsGivenAt b.program.sig b.hooks nodes (tree_at nodes t) a.attempts.value.given
-    pub last : IsLast b.program nodes (tree_at nodes t) e a.attempts.value.given a.attempts.value.last
-    pub listed : IsLastListed b.program nodes table (as_id t) e a.attempts.value.given a.attempts.value.last
+    pub given_at : IsGivenAt b.program.sig b.hooks nodes (tree_at nodes t) a.attempts.given
+    pub last : IsLast b.program nodes (tree_at nodes t) e a.attempts.given a.attempts.last
+    pub listed : IsLastListed b.program nodes table (as_id t) e a.attempts.given a.attempts.last
 
   abbrev pub words_of : Words (Candidates L) Choices Binding
   words_of = record {
@@ -122,10 +122,10 @@ module _ {L : Type 0} (c : Bool) (asked : L → Asked) (given : L → Option Sol
     knows_operands = AreKnownOperands b.program.sig nodes;
     bound = bound_in nodes;
     knows_binding = IsKnownBinding b nodes table;
-    untried = λ a k. untried_by (program_over b.program b.hooks) b.limit k nodes (tree_at nodes a.term.0) a.attempts.value.given
-        (option_map (λ x. (x.number, given x.listing)) a.attempts.value.tried) (drop a.attempts.value.next (order_of_all (program_over b.program b.hooks).equations));
+    untried = λ a k. untried_by (program_over b.program b.hooks) b.limit k nodes (tree_at nodes a.term.0) a.attempts.given
+        (option_map (λ x. (x.number, given x.listing)) a.attempts.tried) (drop a.attempts.next (order_of_all (program_over b.program b.hooks).equations));
     knows_attempts = AreKnownCandidates;
-    makes = λ a. makes_of (program_over b.program b.hooks) nodes (tree_at nodes a.term.0) a.attempts.value.given a.attempts.value.last;
+    makes = λ a. makes_of (program_over b.program b.hooks) nodes (tree_at nodes a.term.0) a.attempts.given a.attempts.last;
     knows_candidate = IsKnownCandidate;
     unchosen = λ x k e i. gives None;
     knows_choices = λ e i x. ⊥;

@@ -24,7 +24,7 @@ use std::marker::PhantomData;
 #[derive(Drop)]
 pub struct Candidates<L> {
     pub(crate) term: TermId,
-    pub(crate) attempts: Box<Attempts<L>>,
+    pub(crate) attempts: Attempts<L>,
 }
 
 /// Solutions of a fragment. There are none, since no condition has a fragment.

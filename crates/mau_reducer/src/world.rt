@@ -73,10 +73,7 @@ impl<'a, L: Lister + Drop, N: Natives + Drop> World for Reducer<'a, L, N> {
         settle(store, &self.program.sig, &mut self.table, term)?;
         let built_in = self.built_in_at(store, term);
         let attempts = begin_attempts(store, self.program, &self.natives, built_in, term);
-        Ok(Candidates {
-            term,
-            attempts: Box::new(store.allocator(), attempts)?,
-        })
+        Ok(Candidates { term, attempts })
     }
 
     fn attempt(

@@ -15,7 +15,7 @@ pub returns-clause-value : goal.returns-clause-value
 returns-clause-value g c = λ k b.
     let P = program_over c.args.self.now.program.now (g.N.Natives.operators c.args.self.now.natives) in
     let new = c.make.new.store in
-    let a = c.args.attempts.now.attempts.value in
+    let a = c.args.attempts.now.attempts in
     subst (λ n. IfOk c.make.result (λ t. eval P (suc k) c.args.self.now.limit (makes_of P new (tree_at new n) a.given a.last (bound_in new c.args.binding.now)) b ≡ eval P (suc k) c.args.self.now.limit (tree_at new t.0) b))
     (sym c.requires.candidate.own) (c.make.ensures.value (g.N.Natives.operators c.args.self.now.natives) c.args.self.now.limit k b)
 
@@ -23,7 +23,7 @@ pub returns-clause-ends : goal.returns-clause-ends
 returns-clause-ends g c = λ k b.
     let P = program_over c.args.self.now.program.now (g.N.Natives.operators c.args.self.now.natives) in
     let new = c.make.new.store in
-    let a = c.args.attempts.now.attempts.value in
+    let a = c.args.attempts.now.attempts in
     as_ends (eval P (suc k) c.args.self.now.limit (makes_of P new (tree_at new c.args.attempts.now.term.0) a.given a.last (bound_in new c.args.binding.now)) b) c.make.result
     (subst (λ n. IfErr c.make.result (IsEnd (eval P (suc k) c.args.self.now.limit (makes_of P new (tree_at new n) a.given a.last (bound_in new c.args.binding.now)) b)))
     (sym c.requires.candidate.own) (c.make.ensures.ends (g.N.Natives.operators c.args.self.now.natives) c.args.self.now.limit k b))
@@ -32,7 +32,7 @@ pub returns-clause-is : goal.returns-clause-is
 returns-clause-is g c =
     let P = program_over c.args.self.now.program.now (g.N.Natives.operators c.args.self.now.natives) in
     let new = c.make.new.store in
-    let a = c.args.attempts.now.attempts.value in
+    let a = c.args.attempts.now.attempts in
     subst (λ n. IfOk c.make.result (λ t. tree_at new t.0 ≡ norm (theory_at c.args.self.now.program.now.sig) (makes_of P new (tree_at new n) a.given a.last (bound_in new c.args.binding.now))))
     (sym c.requires.candidate.own) (c.make.ensures.is (g.N.Natives.operators c.args.self.now.natives))
 

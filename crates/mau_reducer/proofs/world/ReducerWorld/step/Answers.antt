@@ -13,7 +13,7 @@ use Rattle.mau_reducer.proofs.world.ReducerWorld.step.Goals as goal
 
 pub step-requires-clause-variables : goal.step-requires-clause-variables
 step-requires-clause-variables g c =
-    let a = c.args.attempts.now.attempts.value in
+    let a = c.args.attempts.now.attempts in
     c.requires.solution.1.variables
     ∙ variables_are (basis_of g.N.Natives.operators c.args.self.now) c.requires.ready.0.basis c.args.store.now (tree_at c.args.store.now c.args.term.0) c.args.condition a.given a.last c.requires.candidate.last
 
@@ -23,7 +23,7 @@ returns-clause-used g c =
     let s = c.args.self.now.program.now.sig in
     let old = c.args.store.now in
     let new = c.step.new.store in
-    let a = c.args.attempts.now.attempts.value in
+    let a = c.args.attempts.now.attempts in
     let σ = c.args.binding.now in
     use_told b c.requires.ready.0.basis (HasEntry s new c.args.self.now.table) old new (tree_at old c.args.term.0) c.args.condition a.given a.last c.requires.candidate.last
     (bound_in new σ) (trees_at new (numbers σ.values.items)) (tree_at new c.args.term.0) (tree_at new c.args.after.0) c.step.result
