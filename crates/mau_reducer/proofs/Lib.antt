@@ -6,6 +6,8 @@ pub mod FromLawful
 pub mod Conditions
 -- sorts by declarations
 pub mod SortsGrow
+-- heads of memberships, and values
+pub mod Heads
 -- what the world's calls give
 pub mod Taking
 -- the answers of an evaluation

@@ -5,6 +5,8 @@ pub mod Basis
 pub mod Worlds
 -- what its answers mean
 pub mod Meant
+-- what its values are
+pub mod Irreducible
 -- ---- what only inner contracts and proofs cite
 
 -- what its handles stand for

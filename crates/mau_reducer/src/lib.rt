@@ -2,6 +2,7 @@
 #![tactic(auto)]
 
 mod evaluating;
+pub mod laws;
 mod reducer;
 mod tests_of_programs;
 mod world;

@@ -82,14 +82,17 @@ impl<'a, L: Lister + Drop, N: Natives + Drop> World for Reducer<'a, L, N> {
         term: TermId,
         attempts: &mut Candidates<L>,
     ) -> Result<Option<(usize, Binding)>, EvalEnd> {
-        next_attempt(
+        match next_attempt(
             store,
             self.program,
             &mut self.table,
             &self.order,
             term,
             &mut attempts.attempts,
-        )
+        ) {
+            Ok(next) => Ok(next),
+            Err(end) => Err(end),
+        }
     }
 
     fn replace(
