@@ -10,5 +10,7 @@ pub mod SortsGrow
 pub mod Heads
 -- what the world's calls give
 pub mod Taking
+-- the next candidate
+pub mod Attempted
 -- the answers of an evaluation
 pub mod WhatIsMeant
