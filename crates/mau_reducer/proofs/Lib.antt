@@ -2,6 +2,10 @@
 
 -- what lawful programs have
 pub mod FromLawful
+-- what is built in
+pub mod BuiltIns
+-- the first state
+pub mod Beginning
 -- conditions
 pub mod Conditions
 -- sorts by declarations
