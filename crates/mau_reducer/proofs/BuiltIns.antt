@@ -18,7 +18,6 @@ module _ (s : SignatureOf) (hooks : List Operator) where
   pub none_yet : (bs : List BuiltIn) → bs ≡ [] → AreFirst s hooks bs 0
   none_yet bs e = record { one_each = ap length e; built_in = λ i h. absurd (omega (arith, h)) }
 
-
   pub one_more : (bs more : List BuiltIn) (n : ℕ) (x : BuiltIn) → more ≡ bs ++ x ∷ [] → built_in_at s hooks (n + 1) ≡ meaning_of hooks (name_at s (n + 1)) x → AreFirst s hooks bs n → AreFirst s hooks more (n + 1)
   one_more bs more n x e is a = record {
     one_each = ap length e ∙ (length-append bs (x ∷ []) ∙ ap (λ m. m + 1) a.one_each);
