@@ -1,5 +1,5 @@
 -- The next candidate: what it leaves, and what is known of it in the later state.
-use Rattle.std.proofs.Common.{◌≡◌, ℕ, List, [], Bool, Option, Some, None, IfSome, IfNone, Result, Ok, Err, IfOk, IfErr, map, drop, length, slice_get, refl, sym, ap, ◌∙◌, subst, arith}
+use Rattle.std.proofs.Common.{◌≡◌, ℕ, List, [], Bool, Option, Some, None, IfSome, IfNone, Result, Ok, Err, IfOk, IfErr, map, drop, length, slice_get, sym, ap, ◌∙◌, subst, arith}
 use Rattle.std.specs.Option.{option_map}
 use Rattle.std.proofs.lemmas.Option.{slice_get_past}
 use Rattle.mau_terms.specs.Tree.{Tree}
@@ -34,7 +34,6 @@ use Rattle.mau_reduce.proofs.LaterStores.{given_grown}
 use Rattle.mau_machine.specs.Words as Ends
 use Rattle.mau_machine.specs.Words.{Words, solve_on}
 use Rattle.mau_reducer.specs.declared.reducer.Candidates.{Candidates}
-use Rattle.mau_reducer.specs.declared.reducer.Choices.{Choices}
 use Rattle.mau_reducer.specs.Basis.{Basis, IsBasis}
 use Rattle.mau_reducer.specs.Handles.{as_id, written_in, written_at, AreKnownCandidates, IsKnownCandidate, IsKnownBinding, words_of}
 use Rattle.mau_reducer.specs.States.{ComesOf}

@@ -1,5 +1,5 @@
 -- The first state, in which nothing is settled.
-use Rattle.std.proofs.Common.{◌≡◌, ℕ, List, [], map, Bool, true, false, sym, subst}
+use Rattle.std.proofs.Common.{◌≡◌, List, [], map, true, false, sym, subst}
 use Rattle.mau_terms.specs.Bare.{IsLawful}
 use Rattle.mau_signature.specs.Signature.{SignatureOf, terms_over}
 use Rattle.mau_store.specs.Node.{Node}

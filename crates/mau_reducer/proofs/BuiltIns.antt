@@ -1,7 +1,7 @@
 -- What is built in of the operators, one after another.
-use Rattle.std.proofs.Common.{◌≡◌, ◌<◌, ◌+◌, ℕ, suc, List, [], ◌∷◌, ◌++◌, length, get_or, slice_index_or, refl, sym, ap, ◌∙◌, subst, arith, below_more, length-append}
+use Rattle.std.proofs.Common.{◌≡◌, ◌<◌, ◌+◌, ℕ, suc, List, [], ◌∷◌, ◌++◌, length, get_or, slice_index_or, sym, ap, ◌∙◌, subst, arith, below_more, length-append}
 use Rattle.std.proofs.lemmas.List.{get_or_append_left, get_or_push}
-use Rattle.mau_signature.specs.Signature.{SignatureOf, IsOperator}
+use Rattle.mau_signature.specs.Signature.{SignatureOf}
 use Rattle.mau_formula.specs.Operator.{Operator}
 use Rattle.mau_api.specs.BuiltIns.{built_in_at, name_at}
 use Rattle.mau_reduce.specs.declared.built_in.BuiltIn.{BuiltIn}

@@ -1,11 +1,10 @@
 -- What lawful programs have.
-use Rattle.std.proofs.Common.{◌≡◌, ◌⊎◌, inl, inr, ℕ, List, [], ◌∷◌, map, Bool, true, false, All, refl, sym, ap, ◌∙◌, subst}
+use Rattle.std.proofs.Common.{◌≡◌, inl, inr, List, [], ◌∷◌, map, true, false, All, sym, ap, subst}
 use Rattle.std.proofs.lemmas.List.Elements.{All-head, All-tail}
 use Rattle.mau_terms.specs.Bare.{IsLawful}
 use Rattle.mau_terms.specs.Finite.{IsIn}
-use Rattle.mau_signature.specs.Signature.{SignatureOf, terms_over}
+use Rattle.mau_signature.specs.Signature.{terms_over}
 use Rattle.mau_program.specs.declared.program.Program as Typed
-use Rattle.mau_program.specs.LawfulStatements.{IsLawfulEquation}
 use Rattle.mau_program.specs.LawfulPrograms.{IsLawfulProgram}
 use Rattle.mau_evaluation.specs.Program.{Equation, Membership}
 use Rattle.mau_api.specs.Programs.{equation_of, membership_of, fragment_of}

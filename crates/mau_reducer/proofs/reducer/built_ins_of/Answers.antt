@@ -1,4 +1,4 @@
-use Rattle.std.proofs.Common.{◌≡◌, arith}
+use Rattle.std.proofs.Common.{arith}
 use Rattle.mau_reducer.proofs.BuiltIns.{none_yet, one_more, all_found}
 use Rattle.mau_reducer.proofs.reducer.built_ins_of.Goals as goal
 

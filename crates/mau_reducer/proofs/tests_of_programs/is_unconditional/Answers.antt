@@ -1,4 +1,4 @@
-use Rattle.std.proofs.Common.{◌≡◌, ℕ, zero, List, [], ◌∷◌, true, All, take, length, ◌==◌, ap, ◌∙◌, subst, arith, eqb-true, refl, sym}
+use Rattle.std.proofs.Common.{◌≡◌, List, [], ◌∷◌, true, All, take, length, ◌==◌, ◌∙◌, subst, arith, eqb-true, refl, sym}
 use Rattle.std.proofs.lemmas.List.{take_all}
 use Rattle.std.proofs.lemmas.List.Elements.{All-more}
 use Rattle.mau_program.specs.declared.statements.Equation.{Equation}

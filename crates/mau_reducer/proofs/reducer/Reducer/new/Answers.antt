@@ -1,5 +1,3 @@
-use Rattle.std.proofs.Common.{◌≡◌}
-use Rattle.mau_reducer.specs.Basis.{Basis}
 use Rattle.mau_reducer.specs.MeantLaws.{meanings_are}
 use Rattle.mau_reducer.proofs.Beginning.{begins}
 use Rattle.mau_reducer.proofs.reducer.Reducer.new.Goals as goal

@@ -1,10 +1,5 @@
-use Rattle.std.proofs.Common.{◌≡◌, ◌<◌, ℕ, All, Ok, Err, length, subst, sym, refl}
-use Rattle.mau_store.specs.Node.{Node}
-use Rattle.mau_sorts.specs.Table.{Table}
+use Rattle.std.proofs.Common.{◌<◌, All, Ok, Err, length, subst, sym, refl}
 use Rattle.mau_reduce.specs.Trying.{IsExecutable}
-use Rattle.mau_reducer.specs.declared.reducer.Candidates.{Candidates}
-use Rattle.mau_reducer.specs.Basis.{Basis}
-use Rattle.mau_reducer.specs.States.{ComesOf}
 use Rattle.mau_reducer.specs.Worlds.{basis_of}
 use Rattle.mau_reducer.proofs.Taking.{order_fits, order_exec}
 use Rattle.mau_reducer.proofs.Attempted.{none, some, ends, all_known}
