@@ -2,8 +2,9 @@
 
 -- what lawful programs have
 pub mod FromLawful
--- what is built in
+-- what is built in, and what it gives
 pub mod BuiltIns
+pub mod GivenKinds
 -- the first state
 pub mod Beginning
 -- conditions

@@ -1,5 +1,5 @@
 //! The evaluator: a program with its native operators, and the sorts that are settled.
-ghost use Rattle.std.specs.Prelude.{◌≡◌, ℕ, List, true, false, IfOk, slice_get};
+ghost use Rattle.std.specs.Prelude.{◌≡◌, ℕ, List, All, true, false, IfOk, slice_get};
 ghost use Rattle.std.specs.Option.{option_copied};
 ghost use Rattle.mau_terms.specs.Bare.{IsLawful};
 ghost use Rattle.mau_signature.specs.Signature.{IsOperator, terms_over};
@@ -9,7 +9,7 @@ ghost use Rattle.mau_program.specs.LawfulPrograms.{IsLawfulProgram};
 ghost use Rattle.mau_api.specs.Terms.{IsTerm};
 ghost use Rattle.mau_api.specs.Meanings.{meanings_by};
 ghost use Rattle.mau_reduce.specs.BuiltOperators.{IsBuiltAt};
-ghost use Rattle.mau_reduce.specs.Giving.{GivesInKind};
+ghost use Rattle.mau_built_ins.specs.NativeNumerals.{GivesNumerals};
 ghost use Rattle.mau_reducer.specs.Basis.{DerivesNothing, HasNoCondition, AreBuiltIns, IsBasis};
 
 use mau_api::{Evaluator, Fragment, Lister, Program};
@@ -76,7 +76,7 @@ impl<'a, L: Lister + Drop, N: Natives + Drop> Reducer<'a, L, N> {
         requires lawful { IsLawfulProgram program.now }
         requires derives_nothing { DerivesNothing program.now }
         requires unconditional { HasNoCondition program.now }
-        requires gives { GivesInKind program.now.sig (N.operators natives) }
+        requires numerals { All GivesNumerals (N.operators natives) }
         requires contexts { L.with_context ≡ true }
         ensures meanings { IfOk result (λ e. ⟦<Reducer<'a, L, N> as Evaluator>⟧.meanings e ≡ meanings_by program.now (N.operators natives) limit false) }
         ensures fits { (nodes : List Node) → IfOk result (λ e. ⟦<Reducer<'a, L, N> as Evaluator>⟧.fits e nodes) }
