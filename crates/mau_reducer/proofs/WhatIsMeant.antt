@@ -1,5 +1,5 @@
 -- The answers of an evaluation.
-use Rattle.std.proofs.Common.{◌≡◌, ◌⊎◌, inl, inr, ℕ, ◌≤◌, List, [], Bool, true, false, ◌&&◌, Option, Some, None, Result, Ok, Err, IfOk, IfErr, OnOk, min, refl, sym, ap, ◌∙◌, subst, arith}
+use Rattle.std.proofs.Common.{◌≡◌, ◌^◌, ◌-◌, ◌⊎◌, inl, inr, ℕ, ◌≤◌, List, [], Bool, true, false, ◌&&◌, Option, Some, None, Result, Ok, Err, IfOk, IfErr, OnOk, min, refl, sym, ap, ◌∙◌, subst, arith}
 use Rattle.mau_terms.specs.Tree.{Tree}
 use Rattle.mau_store.specs.Node.{Node}
 use Rattle.mau_store.specs.Trees.{tree_at}
