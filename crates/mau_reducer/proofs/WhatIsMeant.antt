@@ -6,7 +6,7 @@ use Rattle.mau_store.specs.Trees.{tree_at}
 use Rattle.mau_evaluation.specs.Run.{Outcome, done, ended, Run, stopped, too_deep, overflowed}
 use Rattle.mau_api.specs.Meanings.{Meanings}
 use Rattle.mau_api.specs.Told.{shown_count}
-use Rattle.mau_api.specs.Answers.{levels_of_item, HasCause, GivesUnder, LeavesEnough, IsAnswered, IsExact, IsAllowed}
+use Rattle.mau_api.specs.Answers.{levels_of_item, HasCause, GivesUnder, LeavesEnough, IsAnswered, IsExact, IsAllowed, AreSettled}
 use Rattle.mau_api.specs.declared.results.Reduced.{Reduced}
 use Rattle.mau_api.specs.declared.results.EvalEnd.{EvalEnd}
 use Rattle.mau_api.specs.declared.results.EvalEnd.TheVariants.{Stopped, TooDeep, Overflow, NoMemory}
@@ -76,6 +76,11 @@ module _ (b d : Basis) (old mid : List Node) (before after : Table) (h : ComesOf
   term_known is =
       subst (λ (x : Basis). IsKnownTerm x.program.sig mid i) (sym h.basis)
       (record { lawful = is.reducible.lawful; term = is_term_kept b.program.sig old mid i h.extends term })
+
+  pub settled_is : (table : Table) → AreSettled d.program.sig mid table (tree_at mid i) → AreSettled b.program.sig mid table (tree_at old i)
+  settled_is table settled =
+      subst (λ (x : Basis). AreSettled x.program.sig mid table (tree_at old i)) h.basis
+      (subst (λ (t : Tree). AreSettled d.program.sig mid table t) (tree_kept (theory_at b.program.sig) old mid i h.extends term.within) settled)
 
   outcome_is : (n B : ℕ) → eval_on (rules_of d) n (tree_at mid i) B ≡ (meanings_of b).evaluation n b.limit (tree_at old i) B
   outcome_is n B =
