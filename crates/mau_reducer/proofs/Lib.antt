@@ -12,3 +12,5 @@ pub mod Heads
 pub mod Taking
 -- the answers of an evaluation
 pub mod WhatIsMeant
+-- conditions without fragments
+pub mod EmptyConditions
