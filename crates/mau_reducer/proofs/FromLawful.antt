@@ -1,14 +1,13 @@
 -- What lawful programs have.
-use Rattle.std.proofs.Common.{◌≡◌, ◌⊎◌, inl, inr, ℕ, List, [], ◌∷◌, map, Bool, true, false, All, refl, sym, ap, ◌∙◌, subst}
+use Rattle.std.proofs.Common.{◌≡◌, inl, inr, List, [], ◌∷◌, map, true, false, All, sym, ap, subst}
 use Rattle.std.proofs.lemmas.List.Elements.{All-head, All-tail}
 use Rattle.mau_terms.specs.Bare.{IsLawful}
 use Rattle.mau_terms.specs.Finite.{IsIn}
-use Rattle.mau_signature.specs.Signature.{SignatureOf, terms_over}
+use Rattle.mau_signature.specs.Signature.{terms_over}
 use Rattle.mau_program.specs.declared.program.Program as Typed
-use Rattle.mau_program.specs.LawfulStatements.{IsLawfulEquation}
 use Rattle.mau_program.specs.LawfulPrograms.{IsLawfulProgram}
 use Rattle.mau_evaluation.specs.Program.{Equation, Membership}
-use Rattle.mau_api.specs.Programs.{equation_of, membership_of}
+use Rattle.mau_api.specs.Programs.{equation_of, membership_of, fragment_of}
 use Rattle.mau_reduce.specs.Reducible.{HasBareSides, IsReducible}
 use Rattle.mau_reducer.specs.Basis.{DerivesNothing, HasNoCondition}
 
@@ -24,10 +23,7 @@ none_derives p none m i = in_mapped membership_of (λ x. x.exec ≡ false) p.mem
 
 -- no executable equation has a condition
 pub none_asks : (p : Typed.Program) → HasNoCondition p → (e : Equation) → IsIn e (map equation_of p.equations) → e.exec ≡ true → e.cond ≡ []
-none_asks p none e i = in_mapped equation_of (λ x. x.exec ≡ true → x.cond ≡ []) p.equations (λ k d h exec. empty (none k d h exec)) e i
-  where
-    empty : {A B : Type 0} {f : A → B} {xs : List A} → xs ≡ [] → map f xs ≡ []
-    empty {f = f} e = ap (map f) e
+none_asks p none e i = in_mapped equation_of (λ x. x.exec ≡ true → x.cond ≡ []) p.equations (λ k d h exec. ap (map fragment_of) (none k d h exec)) e i
 
 -- it may be evaluated
 pub reducible : (p : Typed.Program) → IsLawfulProgram p → IsLawful (terms_over p.sig) → DerivesNothing p → IsReducible p

@@ -2,6 +2,10 @@
 
 -- what lawful programs have
 pub mod FromLawful
+-- what is built in
+pub mod BuiltIns
+-- the first state
+pub mod Beginning
 -- conditions
 pub mod Conditions
 -- sorts by declarations
@@ -10,6 +14,8 @@ pub mod SortsGrow
 pub mod Heads
 -- what the world's calls give
 pub mod Taking
+-- the next candidate
+pub mod Attempted
 -- the answers of an evaluation
 pub mod WhatIsMeant
 -- conditions without fragments

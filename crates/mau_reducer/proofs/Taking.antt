@@ -148,7 +148,7 @@ top_built s hooks bs are t f ts e is x x_is = λ g us k. built g us k
 at_place : {A : Type 0} (P : A → Type 0) (xs : List A) → All P xs → (i : ℕ) (x : A) → slice_get xs i ≡ Some x → P x
 at_place P xs all i x e = subst P (get_or_from_slice_get xs i x x e) (all i x (slice_get_within xs i x e))
 
-no_condition : (b : Basis) → IsBasis b → (e : ℕ) (q : Equation) → slice_get b.program.equations e ≡ Some q → q.exec ≡ true → q.cond ≡ []
+pub no_condition : (b : Basis) → IsBasis b → (e : ℕ) (q : Equation) → slice_get b.program.equations e ≡ Some q → q.exec ≡ true → q.cond ≡ []
 no_condition b is e q at exec = at_place (λ (z : Equation). z.exec ≡ true → z.cond ≡ []) b.program.equations is.unconditional e q at exec
 
 one_equation : (b : Basis) → IsBasis b → (e : ℕ) (q : Equation) → slice_get b.program.equations e ≡ Some q → q.exec ≡ true →

@@ -107,8 +107,8 @@ operand_put s nodes f ts i t v h e known same =
     record {
       lawful = h.lawful;
       under = subst (AreUnder s nodes f) (sym (map-set (λ (x : TermId). x.0) ts i v))
-      (under_put s nodes f own.0 (numbers ts) i 0 v.0 (slice_get_within (numbers ts) i t.0 at) (subst (IsTermIn s nodes own.0) (sym (get_or_from_slice_get (numbers ts) i t.0 0 at)) own.1)
-      (same_kind s h.lawful nodes v.0 t.0 own.0 own.1 known.term same) h.under);
+          (under_put s nodes f own.0 (numbers ts) i 0 v.0 (slice_get_within (numbers ts) i t.0 at) (subst (IsTermIn s nodes own.0) (sym (get_or_from_slice_get (numbers ts) i t.0 0 at)) own.1)
+          (same_kind s h.lawful nodes v.0 t.0 own.0 own.1 known.term same) h.under);
     }
 
 -- ---- terms

@@ -48,7 +48,8 @@ pub struct Reducer<'a, L, N> {
 
 /// What is built in of the operators of a program, in their order.
 fn built_ins_of(alloc: Global, program: &Program) -> Result<Vec<BuiltIn>, NoMemory>
-    ensures { (hooks : List Operator) → IfOk result (λ found. AreBuiltIns program.now.sig hooks found.items) }
+    ensures found { (hooks : List Operator) → IfOk result (λ found. AreBuiltIns program.now.sig hooks found.items) }
+    ensures lawful { IsLawful (terms_over program.now.sig) }
 {
     let mut found = Vec::new(alloc);
     for number in 0..program.sig.operators() {

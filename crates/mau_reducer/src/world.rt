@@ -6,7 +6,9 @@ ghost use Rattle.mau_reducer.specs.Handles.{goal_in};
 use crate::reducer::{Candidates, Choices, Reducer};
 use mau_api::{EvalEnd, Fragment, Lister, Step};
 use mau_machine::{Goal, World};
-use mau_reduce::{Binding, Natives, begin_attempts, make, next_attempt, open, rebuild, settle, step};
+use mau_reduce::{
+    Binding, Natives, begin_attempts, make, next_attempt, open, rebuild, settle, step,
+};
 use mau_store::Store;
 use mau_terms::{NoMemory, OpId, TermId};
 
@@ -33,7 +35,9 @@ impl<'a, L: Lister + Drop, N: Natives + Drop> World for Reducer<'a, L, N> {
     ghost use Rattle.mau_reducer.specs.LaterStates.{same_state, later_state, ready_later, words_kept};
 
     type Attempts = Candidates<L>;
+
     type Choices = Choices;
+
     type Binding = Binding;
 
     ghost words = { λ w nodes. words_of L.with_context L.asked L.given L.is_for (basis_of N.operators w) nodes w.table };
@@ -202,8 +206,11 @@ impl<'a, L: Lister + Drop, N: Natives + Drop> World for Reducer<'a, L, N> {
         (basis_of N.operators v)
         (basis_of N.operators w) nodes more most u.table v.table w.table h k };
 
-    ghost begins = { λ u v nodes more r h. (ready_later (basis_of N.operators u)
-        (basis_of N.operators v) nodes more u.table v.table r.0 h, r.1) };
+    ghost begins = { λ u v nodes more r h. (
+      ready_later (basis_of N.operators u)
+          (basis_of N.operators v) nodes more u.table v.table r.0 h,
+      r.1,
+    ) };
 
     ghost keeps = { λ u v nodes more h. words_kept L.with_context L.asked L.given L.is_for (basis_of N.operators u)
         (basis_of N.operators v) nodes more u.table v.table h };
