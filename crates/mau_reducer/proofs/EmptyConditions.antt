@@ -1,5 +1,5 @@
 -- What a condition without fragments gives.
-use Rattle.std.proofs.Common.{◌≡◌, ◌==◌, ◌<◌, ◌≤◌, ℕ, zero, List, [], ◌∷◌, map, length, Bool, true, All, Option, Some, None, Ok, Err, refl, sym, ap, ◌∙◌, subst, eqb-true, append-nil, arith}
+use Rattle.std.proofs.Common.{◌≡◌, ◌==◌, ℕ, List, [], ◌∷◌, map, length, true, Option, Some, None, Ok, refl, sym, ap, ◌∙◌, subst, eqb-true, append-nil, arith}
 use Rattle.mau_terms.specs.Tree.{Tree}
 use Rattle.mau_terms.specs.Subst.{Variable}
 use Rattle.mau_terms.specs.declared.ids.VarId.{VarId}

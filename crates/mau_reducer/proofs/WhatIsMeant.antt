@@ -1,12 +1,12 @@
 -- The answers of an evaluation.
-use Rattle.std.proofs.Common.{◌≡◌, ◌^◌, ◌-◌, ◌⊎◌, inl, inr, ℕ, ◌≤◌, List, [], Bool, true, false, ◌&&◌, Option, Some, None, Result, Ok, Err, IfOk, IfErr, OnOk, min, refl, sym, ap, ◌∙◌, subst, arith}
+use Rattle.std.proofs.Common.{◌≡◌, ◌^◌, ◌-◌, ℕ, List, Bool, false, Result, Ok, Err, IfOk, IfErr, OnOk, min, sym, ap, ◌∙◌, subst, arith}
 use Rattle.mau_terms.specs.Tree.{Tree}
 use Rattle.mau_store.specs.Node.{Node}
 use Rattle.mau_store.specs.Trees.{tree_at}
-use Rattle.mau_evaluation.specs.Run.{Outcome, done, ended, Run, stopped, too_deep, overflowed}
+use Rattle.mau_evaluation.specs.Run.{Outcome, done, ended, Run, too_deep}
 use Rattle.mau_api.specs.Meanings.{Meanings}
 use Rattle.mau_api.specs.Told.{shown_count}
-use Rattle.mau_api.specs.Answers.{levels_of_item, HasCause, GivesUnder, LeavesEnough, IsAnswered, IsExact, IsAllowed, AreSettled}
+use Rattle.mau_api.specs.Answers.{levels_of_item, LeavesEnough, IsAnswered, IsExact, IsAllowed, AreSettled}
 use Rattle.mau_api.specs.declared.results.Reduced.{Reduced}
 use Rattle.mau_api.specs.declared.results.EvalEnd.{EvalEnd}
 use Rattle.mau_api.specs.declared.results.EvalEnd.TheVariants.{Stopped, TooDeep, Overflow, NoMemory}

@@ -1,4 +1,4 @@
-use Rattle.std.proofs.Common.{◌≡◌, ℕ, OnOk, refl, subst, arith}
+use Rattle.std.proofs.Common.{ℕ, OnOk, refl, subst, arith}
 use Rattle.mau_store.specs.Trees.{tree_at}
 use Rattle.mau_sorts.proofs.Settling.{kept_on}
 use Rattle.mau_api.specs.Answers.{levels_of_item, LeavesEnough}
