@@ -55,7 +55,7 @@ returns-in-Ok-clause-fits g c =
     let d = basis_of g.N.Natives.operators c.begin.new.self in
     let e = basis_of g.N.Natives.operators c.evaluate.new.world in (
       fit_ready e c.evaluate.new.store c.evaluate.new.world.table c.evaluate.new.world.begun
-      (ready_later d e c.begin.new.store c.evaluate.new.store c.begin.new.self.table c.evaluate.new.world.table c.in-Ok.ensures.ready c.evaluate.ensures.grows),
+          (ready_later d e c.begin.new.store c.evaluate.new.store c.begin.new.self.table c.evaluate.new.world.table c.in-Ok.ensures.ready c.evaluate.ensures.grows),
       c.requires.fits.1,
     )
 
