@@ -1,5 +1,5 @@
 -- Lawful programs have heads, and what they evaluate to admits nothing more.
-use Rattle.std.proofs.Common.{◌≡◌, ℕ, List, Bool, true, false, ◌||◌, not, Option, Some, None, is_some, All, refl}
+use Rattle.std.proofs.Common.{◌≡◌, ℕ, List, Bool, true, false, ◌||◌, not, Option, Some, None, is_some, refl}
 use Rattle.mau_terms.specs.Tree.{Tree, variable, numeral, apply}
 use Rattle.mau_terms.specs.Norm.{norm}
 use Rattle.mau_terms.specs.Bare.{IsBare, IsLawful}

@@ -19,3 +19,5 @@ pub mod Taking
 pub mod Attempted
 -- the answers of an evaluation
 pub mod WhatIsMeant
+-- conditions without fragments
+pub mod EmptyConditions

@@ -1,5 +1,5 @@
 -- Where arguments have more sorts, declarations give no fewer.
-use Rattle.std.proofs.Common.{◌≡◌, ◌⊎◌, inl, inr, ℕ, List, [], ◌∷◌, Bool, true, false, ◌&&◌, ◌||◌, ◌==◌, if◌then◌else◌, refl, sym, ap, ◌∙◌, subst}
+use Rattle.std.proofs.Common.{◌≡◌, ◌⊎◌, inl, inr, ℕ, List, [], ◌∷◌, Bool, true, false, ◌&&◌, ◌||◌, ◌==◌, if◌then◌else◌}
 use Rattle.std.specs.List.{list_any}
 use Rattle.mau_poset.specs.Order.{Hierarchy, kind_of}
 use Rattle.mau_terms.specs.Finite.{IsIn}
@@ -15,13 +15,16 @@ use Rattle.mau_api.specs.SortLists.{is_at_or_below, all_sorts, have_these, suits
 use Rattle.mau_api.specs.Programs.{program_over}
 use Rattle.mau_api.proofs.Chained.{one_is, both_are, or_first, or_second, and_so}
 
+either_then : (a b c d : Bool) → (a ≡ true → c ≡ true) → (b ≡ true → d ≡ true) → (a || b) ≡ true → (c || d) ≡ true
+either_then a b c d one two e = by (one_is a b e)
+  where
+    by : (a ≡ true) ⊎ (b ≡ true) → (c || d) ≡ true
+    by (inl k) = or_first c d (one k)
+    by (inr k) = or_second c d (two k)
+
 any_then : {A : Type 0} (f g : A → Bool) → ((x : A) → f x ≡ true → g x ≡ true) → (xs : List A) → list_any f xs ≡ true → list_any g xs ≡ true
 any_then f g h [] e = e
-any_then f g h (x ∷ xs) e = by (one_is (f x) (list_any f xs) e)
-  where
-    by : (f x ≡ true) ⊎ (list_any f xs ≡ true) → (g x || list_any g xs) ≡ true
-    by (inl k) = or_first (g x) (list_any g xs) (h x k)
-    by (inr k) = or_second (g x) (list_any g xs) (any_then f g h xs k)
+any_then f g h (x ∷ xs) e = either_then (f x) (list_any f xs) (g x) (list_any g xs) (h x) (λ k. any_then f g h xs k) e
 
 have_more : (args more : List (List ℕ)) → AreAmong args more → (rs : List ℕ) → have_these args rs ≡ true → have_these more rs ≡ true
 have_more [] [] a rs e = e

@@ -1,7 +1,6 @@
 -- What the world's calls give, from what the calls of mau_reduce do.
-use Rattle.std.proofs.Common.{◌≡◌, ◌<◌, ◌≤◌, ◌-◌, ℕ, zero, suc, inl, inr, fold, get_or, slice_get, arith, nat_eq, eqb-true, length, List, [], ◌∷◌, Bool, true, false, Option, Some, None, IfSome, IfNone, Result, Ok, Err, IfOk, IfErr, map, drop, All, refl, sym, ap, ◌∙◌, subst}
-use Rattle.std.specs.Option.{option_map}
-use Rattle.mau_terms.specs.Tree.{Tree, Trees, apply, node}
+use Rattle.std.proofs.Common.{◌≡◌, ◌<◌, ◌-◌, ℕ, zero, suc, inl, inr, fold, get_or, slice_get, arith, nat_eq, eqb-true, length, List, [], Bool, true, false, Option, Some, None, Result, Ok, Err, IfOk, IfErr, map, All, refl, sym, ap, ◌∙◌, subst}
+use Rattle.mau_terms.specs.Tree.{Tree, Trees, apply}
 use Rattle.mau_terms.specs.Bare.{IsLawful}
 use Rattle.mau_terms.specs.Finite.{IsIn}
 use Rattle.mau_terms.specs.declared.ids.TermId.{TermId}
@@ -21,15 +20,13 @@ use Rattle.mau_reduce.specs.Trying.{IsExecutable}
 use Rattle.mau_reduce.proofs.InOrder.{order_within, order_executable}
 use Rattle.mau_store.specs.Trees.{tree_at, trees_at}
 use Rattle.mau_store.specs.View.{numbers}
-use Rattle.mau_sorts.specs.Table.{Table, KeepsEntries}
+use Rattle.mau_sorts.specs.Table.{Table}
 use Rattle.mau_sorts.proofs.Settling.{kept_same}
 use Rattle.mau_program.specs.declared.program.Program as Typed
 use Rattle.mau_evaluation.specs.Run.{Outcome, done}
 use Rattle.mau_evaluation.specs.Program.{Membership, Program}
 use Rattle.mau_evaluation.specs.Evaluation.{levels, settle}
 use Rattle.mau_api.specs.Programs.{program_over}
-use Rattle.mau_api.specs.Terms.{IsTerm}
-use Rattle.mau_api.specs.Answers.{AreSettled}
 use Rattle.mau_reduce.specs.Kinds.{IsTermIn, AreUnder}
 use Rattle.mau_reduce.specs.Reducible.{IsReducible}
 use Rattle.mau_reduce.specs.Tables.{IsPlainTable}
@@ -66,7 +63,7 @@ use Rattle.mau_reduce.specs.Steps.{equation_variables_of, equation_variables, Is
 use Rattle.mau_reduce.proofs.AllBound.{bound_are_all}
 use Rattle.mau_reducer.specs.Basis.{Basis, IsBasis, AreBuiltIns}
 use Rattle.mau_reducer.specs.Handles.{written_in, written_at}
-use Rattle.mau_reducer.specs.Handles.{IsKnownTerm, IsKnownValue, AreKnownOperands}
+use Rattle.mau_reducer.specs.Handles.{IsKnownTerm}
 use Rattle.mau_reducer.specs.States.{ComesOf}
 use Rattle.mau_reducer.specs.LaterStates.{numbers_mapped}
 

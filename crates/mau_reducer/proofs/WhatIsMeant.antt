@@ -1,16 +1,26 @@
 -- The answers of an evaluation.
-use Rattle.std.proofs.Common.{◌≡◌, ◌⊎◌, inl, inr, ℕ, ◌≤◌, List, [], Bool, true, false, ◌&&◌, Option, Some, None, Result, Ok, Err, IfOk, IfErr, OnOk, min, refl, sym, ap, ◌∙◌, subst, arith}
+use Rattle.std.proofs.Common.{◌≡◌, ◌^◌, ◌-◌, ℕ, List, Bool, false, Result, Ok, Err, IfOk, IfErr, OnOk, min, sym, ap, ◌∙◌, subst, arith}
 use Rattle.mau_terms.specs.Tree.{Tree}
 use Rattle.mau_store.specs.Node.{Node}
 use Rattle.mau_store.specs.Trees.{tree_at}
-use Rattle.mau_evaluation.specs.Run.{Outcome, done, ended, Run, stopped, too_deep, overflowed}
+use Rattle.mau_evaluation.specs.Run.{Outcome, done, ended, Run, too_deep}
 use Rattle.mau_api.specs.Meanings.{Meanings}
 use Rattle.mau_api.specs.Told.{shown_count}
-use Rattle.mau_api.specs.Answers.{levels_of_item, HasCause, GivesUnder, LeavesEnough, IsAnswered, IsExact, IsAllowed}
+use Rattle.mau_api.specs.Answers.{levels_of_item, LeavesEnough, IsAnswered, IsExact, IsAllowed, AreSettled}
 use Rattle.mau_api.specs.declared.results.Reduced.{Reduced}
 use Rattle.mau_api.specs.declared.results.EvalEnd.{EvalEnd}
 use Rattle.mau_api.specs.declared.results.EvalEnd.TheVariants.{Stopped, TooDeep, Overflow, NoMemory}
-use Rattle.mau_machine.specs.Words.{capped, IsEnd}
+use Rattle.mau_machine.specs.Words.{capped, IsEnd, eval_on}
+use Rattle.mau_signature.specs.Signature.{theory_at}
+use Rattle.mau_sorts.specs.Table.{Table}
+use Rattle.mau_api.specs.Terms.{IsTerm}
+use Rattle.mau_api.specs.Programs.{program_over}
+use Rattle.mau_reduce.proofs.KindsKept.{is_term_kept, tree_kept}
+use Rattle.mau_reducer.specs.Basis.{Basis, IsBasis}
+use Rattle.mau_reducer.specs.Meant.{meanings_of}
+use Rattle.mau_reducer.specs.MeantLaws.{evaluation_is}
+use Rattle.mau_reducer.specs.Handles.{rules_of, IsKnownTerm}
+use Rattle.mau_reducer.specs.States.{IsFit, IsReady, ComesOf}
 
 -- ---- counts
 
@@ -55,3 +65,35 @@ module _ (m : Meanings) (same : m.remembers ≡ false) (n : ℕ) (levels : n ≡
       OnOk result (LeavesEnough (m.evaluation n m.limit t b) after)
   left_enough (Ok x) after ok = λ v r left e. let own = as_counted (m.evaluation n m.limit t b) (tree_at nodes x.term.0) x.rewrites after ok in let two : done v r left ≡ done (tree_at nodes x.term.0) own.0 after = sym e ∙ own.1 in let same : left ≡ after = cc in omega arith
   left_enough (Err d) after ok = tt
+
+-- ---- what the loop computes, in the state in which the identities are settled
+
+pub fit_ready : (b : Basis) (nodes : List Node) (table : Table) (begun : Bool) → IsReady b nodes table → IsFit b nodes table begun
+fit_ready b nodes table begun ready = record { basis = ready.basis; plain = ready.plain; identities = λ e. ready.identities }
+
+module _ (b d : Basis) (old mid : List Node) (before after : Table) (h : ComesOf b d old mid before after) (i : ℕ) (term : IsTerm b.program.sig old i) where
+  pub term_known : IsBasis b → IsKnownTerm d.program.sig mid i
+  term_known is =
+      subst (λ (x : Basis). IsKnownTerm x.program.sig mid i) (sym h.basis)
+      (record { lawful = is.reducible.lawful; term = is_term_kept b.program.sig old mid i h.extends term })
+
+  pub settled_is : (table : Table) → AreSettled d.program.sig mid table (tree_at mid i) → AreSettled b.program.sig mid table (tree_at old i)
+  settled_is table settled =
+      subst (λ (x : Basis). AreSettled x.program.sig mid table (tree_at old i)) h.basis
+      (subst (λ (t : Tree). AreSettled d.program.sig mid table t) (tree_kept (theory_at b.program.sig) old mid i h.extends term.within) settled)
+
+  outcome_is : (n B : ℕ) → eval_on (rules_of d) n (tree_at mid i) B ≡ (meanings_of b).evaluation n b.limit (tree_at old i) B
+  outcome_is n B =
+      ap (λ (x : Basis). eval_on (rules_of x) n (tree_at mid i) B) h.basis
+      ∙ (ap (λ (t : Tree). eval_on (rules_of b) n t B) (tree_kept (theory_at b.program.sig) old mid i h.extends term.within)
+      ∙ sym (ap (λ (r : Run Tree). r B) (evaluation_is (program_over b.program b.hooks) n b.limit (tree_at old i))))
+
+  pub value_is : (n B : ℕ) (nodes : List Node) (result : Result Reduced EvalEnd) (left : ℕ) →
+      IfOk result (λ x. capped (eval_on (rules_of d) n (tree_at mid i) B) ≡ done (tree_at nodes x.term.0) x.rewrites left) →
+      IfOk result (λ x. capped ((meanings_of b).evaluation n b.limit (tree_at old i) B) ≡ done (tree_at nodes x.term.0) x.rewrites left)
+  value_is n B nodes result left =
+      subst (λ (o : Outcome Tree). IfOk result (λ x. capped o ≡ done (tree_at nodes x.term.0) x.rewrites left)) (outcome_is n B)
+
+  pub end_is : (n B : ℕ) (result : Result Reduced EvalEnd) →
+      IfErr result (IsEnd (eval_on (rules_of d) n (tree_at mid i) B)) → IfErr result (IsEnd ((meanings_of b).evaluation n b.limit (tree_at old i) B))
+  end_is n B result = subst (λ (o : Outcome Tree). IfErr result (IsEnd o)) (outcome_is n B)

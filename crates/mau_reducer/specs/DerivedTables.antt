@@ -1,6 +1,5 @@
 -- A table that tells what declarations give is an evaluator's, where no membership is executable.
-use Rattle.std.proofs.Common.{◌≡◌, ◌↔◌, ℕ, zero, List, [], Bool, true, false, Some, refl, sym, ap, ◌∙◌, subst}
-use Rattle.mau_terms.specs.Tree.{Tree}
+use Rattle.std.proofs.Common.{◌≡◌, ℕ, List, [], Bool, true, false, Some, refl, sym, ap, ◌∙◌, subst}
 use Rattle.mau_terms.specs.Bare.{IsBare}
 use Rattle.mau_terms.specs.Reading.{reading}
 use Rattle.mau_terms.specs.Finite.{IsIn}
@@ -11,7 +10,6 @@ use Rattle.mau_store.specs.Node.{Node}
 use Rattle.mau_store.specs.Trees.{tree_at}
 use Rattle.mau_sorts.specs.SortSets.{SortsOf}
 use Rattle.mau_sorts.specs.Table.{Table, entry_at}
-use Rattle.mau_evaluation.specs.Run.{done}
 use Rattle.mau_evaluation.specs.Program.{Program, Membership}
 use Rattle.mau_evaluation.specs.Evaluation.{levels}
 use Rattle.mau_api.specs.Programs.{program_over}

@@ -18,7 +18,6 @@ use Rattle.mau_program.specs.declared.statements.Fragment as Written
 use Rattle.mau_program.specs.declared.statements.Fragment.TheVariants.{Equal, Match, Sort, Reach}
 use Rattle.mau_program.specs.declared.statements.Equation.{Equation}
 use Rattle.mau_evaluation.specs.Run.{gives}
-use Rattle.mau_evaluation.specs.Program.{Program}
 use Rattle.mau_api.specs.Programs.{program_over, fragment_of}
 use Rattle.mau_api.specs.Terms.{IsTerm}
 use Rattle.mau_api.specs.Answers.{AreSettled}

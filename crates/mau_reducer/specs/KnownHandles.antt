@@ -1,26 +1,24 @@
 -- What is known of handles.
-use Rattle.std.proofs.Common.{◌≡◌, ℕ, zero, suc, ◌<◌, ◌≤◌, List, [], ◌∷◌, Bool, true, false, All, Option, Some, None, map, length, slice_get, get_or, inl, inr, refl, sym, ap, ◌∙◌, subst, arith}
+use Rattle.std.proofs.Common.{◌≡◌, ℕ, zero, suc, ◌≤◌, List, [], ◌∷◌, Bool, true, false, All, Some, map, length, slice_get, sym, ap, ◌∙◌, subst}
 use Rattle.std.proofs.Math.ListN.{set}
 use Rattle.std.specs.List.{slice_set}
 use Rattle.std.specs.Bool.{MatchBool}
-use Rattle.std.proofs.lemmas.List.{map-set, length-map}
+use Rattle.std.proofs.lemmas.List.{map-set}
 use Rattle.std.proofs.lemmas.List.Elements.{All-head, All-tail}
 use Rattle.std.proofs.lemmas.Option.{slice_get_within, get_or_from_slice_get}
 use Rattle.mau_terms.specs.Tree.{Tree, variable, numeral, apply, trees_of}
 use Rattle.mau_terms.specs.Norm.{norm}
-use Rattle.mau_terms.specs.Bare.{TermSignature, IsBare, IsBareIn, AreBareIn, IsLawful}
+use Rattle.mau_terms.specs.Bare.{IsBareIn, AreBareIn, IsLawful}
 use Rattle.mau_terms.specs.Reading.{reading}
 use Rattle.mau_terms.specs.declared.ids.TermId.{TermId}
-use Rattle.mau_terms.proofs.Normal.{IsNormal}
 use Rattle.mau_terms.proofs.Wholes.{reading_top}
 use Rattle.mau_signature.specs.Signature.{SignatureOf, theory_at, terms_over}
-use Rattle.mau_store.specs.Node.{Node, IsOf}
+use Rattle.mau_store.specs.Node.{Node}
 use Rattle.mau_store.specs.Trees.{tree_at, trees_at}
 use Rattle.mau_store.specs.View.{numbers}
 use Rattle.mau_canon.specs.Standing.{StandsWithin}
 use Rattle.mau_canon.specs.Within.{IsWithin}
 use Rattle.mau_listing.proofs.Answered.{normal_is, norm-reading-is}
-use Rattle.mau_trial.specs.Arguments.{AreArguments}
 use Rattle.mau_evaluation.specs.Listing.{kind_at}
 use Rattle.mau_api.specs.Terms.{IsTerm, IsNormalTerm}
 use Rattle.mau_reduce.specs.Kinds.{IsTermIn, AreUnder}

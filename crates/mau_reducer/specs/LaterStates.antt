@@ -1,5 +1,5 @@
 -- States that come of one another.
-use Rattle.std.proofs.Common.{◌≡◌, ◌⊎◌, inl, inr, ℕ, suc, List, [], ◌∷◌, Bool, true, false, All, Option, Some, None, IfSome, map, drop, refl, sym, ap, ap₂, ◌∙◌, subst}
+use Rattle.std.proofs.Common.{◌≡◌, ℕ, List, [], ◌∷◌, Bool, Option, Some, None, IfSome, map, drop, refl, sym, ap, ◌∙◌, subst}
 use Rattle.std.specs.Option.{option_map}
 use Rattle.mau_terms.specs.Tree.{Tree}
 use Rattle.mau_terms.specs.declared.ids.TermId.{TermId}
@@ -7,7 +7,7 @@ use Rattle.mau_terms.specs.Subst.{Variable}
 use Rattle.mau_terms.specs.Solution.{HaveSorts}
 use Rattle.mau_terms.specs.View.{variable_of}
 use Rattle.mau_api.specs.Answers.{AreSettled}
-use Rattle.mau_signature.specs.Signature.{SignatureOf, theory_at, terms_over}
+use Rattle.mau_signature.specs.Signature.{SignatureOf, theory_at}
 use Rattle.mau_store.specs.Node.{Node, Extends}
 use Rattle.mau_store.specs.Trees.{tree_at, trees_at}
 use Rattle.mau_store.specs.View.{numbers}
@@ -32,9 +32,9 @@ use Rattle.mau_reduce.specs.Attempting.{untried_by, makes_of}
 use Rattle.mau_reduce.specs.Giving.{IsGivenAt}
 use Rattle.mau_reduce.specs.Lasts.{IsLast}
 use Rattle.mau_reduce.proofs.LaterStores.{tried_grown, untried_grown, last_there, last_grown, listed_grown, taken_there, given_grown, makes_grown, bound_grown, values_grown}
-use Rattle.mau_machine.specs.Words.{Words, Keeps}
+use Rattle.mau_machine.specs.Words.{Keeps}
 use Rattle.mau_reducer.specs.declared.reducer.Candidates.{Candidates}
-use Rattle.mau_reducer.specs.Basis.{Basis, IsBasis}
+use Rattle.mau_reducer.specs.Basis.{Basis}
 use Rattle.mau_reducer.specs.Handles.{as_id, IsKnownTerm, IsKnownValue, AreKnownOperands, IsKnownBinding, AreKnownCandidates, IsKnownCandidate, words_of}
 use Rattle.mau_reducer.specs.States.{IsFit, IsReady, ComesOf}
 

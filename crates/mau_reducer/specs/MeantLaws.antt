@@ -1,5 +1,5 @@
 -- What is meant is lawful.
-use Rattle.std.proofs.Common.{◌≡◌, ℕ, List, Option, false, refl, sym, subst}
+use Rattle.std.proofs.Common.{◌≡◌, ℕ, List, false, refl, sym, subst}
 use Rattle.mau_terms.specs.Tree.{Tree}
 use Rattle.mau_evaluation.specs.Program.{Fragment, Program}
 use Rattle.mau_evaluation.specs.Evaluation.{Binding, eval, sorts_at, solve_at, solve_after_at}
