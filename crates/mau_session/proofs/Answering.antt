@@ -20,7 +20,8 @@ use Rattle.mau_session.specs.Commands.{unbuilt}
 use Rattle.mau_session.specs.Next.{GainsShown}
 use Rattle.mau_session.specs.Transcript.{PatternReads, SubjectReads, TermsAnswer, too_deep, overflows, listed, MatchAnswer, listing_not_built, bound_refused, command_answered, ContinueAnswer, continued, BodyAnswer, item_faulty, item_answered, ItemsAnswer, item_first}
 use Rattle.mau_session.specs.Gains.{GainsListing, GainsListed, gains_solutions, gains_too_deep, gains_overflow, GainsTerms, ChosenAnswer, chosen_not_built, chosen_refused, chosen_answered, GainsChosen, GainsMatch, GainsOn, GainsContinue, GainsBody, GainsItem}
-use Rattle.mau_session.specs.Answers.{listing_lines, match_head, continue_head, too_deep_line, overflow_line}
+use Rattle.mau_results.specs.Lines.{too_deep_line, overflow_line}
+use Rattle.mau_session.specs.Answers.{listing_lines, match_head, continue_head}
 
 -- what was written answers an item, where it is known whether that is a refusal
 pub answered_with : {E A : Type 0} (v : Bool) (P : Bool → Type 0) (r : Result Bool E) → OnOk r A → IfOk r (λ b. b ≡ v) → (A → P v) → IfOk r P

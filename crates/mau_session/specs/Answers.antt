@@ -26,7 +26,7 @@ use Rattle.mau_parse.specs.declared.fault.ParseFault.{ParseFault}
 use Rattle.mau_parse.specs.declared.fault.ParseFault.TheVariants.{NoParse, Ambiguous, TooManyTokens, NumberTooLarge, SuccessorTooLarge, NoMemory as NoMemoryOfParse}
 use Rattle.mau_session.specs.Terms.{Pairs, terms_in}
 use Rattle.mau_print.specs.Printed.{PrinterOf, shown}
-use Rattle.mau_session.specs.Shown.{shown_variable, printer_in}
+use Rattle.mau_results.specs.Shown.{shown_variable, printer_in}
 
 -- each answer begins with the number of its item
 abbrev pub item_head : ℕ → List ℕ
@@ -201,9 +201,5 @@ match_head k w m = item_head k ++ match_name w ++ codes " in " ++ m.name ++ code
 abbrev pub continue_head : ℕ → ModuleOf → List ℕ
 continue_head k m = item_head k ++ codes "continue in " ++ m.name ++ codes "\n"
 
--- what stands in place of solutions
-abbrev pub too_deep_line : List ℕ
-too_deep_line = codes "Too deep.\n"
-
-abbrev pub overflow_line : List ℕ
-overflow_line = codes "Overflow.\n"
+abbrev pub reduce_head : ℕ → ModuleOf → List ℕ
+reduce_head k m = item_head k ++ codes "reduce in " ++ m.name ++ codes "\n"

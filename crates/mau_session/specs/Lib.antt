@@ -5,8 +5,8 @@
 -- the terms of commands, how they are read and shown
 pub mod Terms
 pub mod Reading
-pub mod Shown
 -- commands, and what answers them
+pub mod Environment
 pub mod Matching
 pub mod Commands
 pub mod Answers

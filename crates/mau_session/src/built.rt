@@ -1,11 +1,12 @@
 //! What isn't built yet.
-ghost use Rattle.std.specs.Prelude.{◌≡◌, ◌↔◌, true, Ok};
+ghost use Rattle.std.specs.Prelude.{◌≡◌, ◌↔◌, true, Ok, IsTrue};
 ghost use Rattle.mau_modtext.specs.declared.raw.RawBody.TheVariants as RawBody;
 ghost use Rattle.mau_session.specs.Built;
 
 use mau_modtext::{CommandKind, ModuleKind, RawBody, RawItem, TextFault};
 use mau_module::Module;
 use mau_program::Membership;
+use mau_reducer::{derives_nothing, is_unconditional};
 
 /// Whether modules of this kind are built.
 pub fn is_built_module(kind: ModuleKind) -> bool
@@ -31,6 +32,14 @@ pub fn uses_memberships(module: &Module) -> bool
     module.memberships().iter().any(is_used)
 }
 
+/// Whether terms are evaluated in a module: no membership and no equation with a condition may be used to evaluate.
+pub fn is_evaluated(module: &Module) -> bool
+    ensures { IsTrue result ↔ Built.IsEvaluated «module».now }
+{
+    let program = module.program();
+    derives_nothing(program) && is_unconditional(program)
+}
+
 /// Whether a command is a match, with contexts or without.
 pub fn is_match(kind: CommandKind) -> bool
     ensures { result ≡ Built.is_match kind }
@@ -51,6 +60,16 @@ pub fn has_context(kind: CommandKind) -> bool
     }
 }
 
+/// Whether a command is a reduce.
+pub fn is_reduce(kind: CommandKind) -> bool
+    ensures { result ≡ Built.is_reduce kind }
+{
+    match kind {
+        CommandKind::Reduce => true,
+        _ => false,
+    }
+}
+
 /// Whether a command is `continue`.
 pub fn is_continue(kind: CommandKind) -> bool
     ensures { result ≡ Built.is_continue kind }
@@ -67,7 +86,7 @@ pub fn begins_unbuilt(word: &str) -> bool
 {
     matches!(
         word,
-        "smod" | "reduce" | "red" | "rewrite" | "rew" | "frewrite" | "frew" | "dsrewrite" | "dsrew"
+        "smod" | "rewrite" | "rew" | "frewrite" | "frew" | "dsrewrite" | "dsrew"
     )
 }
 
