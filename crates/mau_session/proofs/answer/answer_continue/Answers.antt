@@ -22,10 +22,10 @@ returns-in-None-clause-gained c =
     (refused_with (GainsContinue ws st c.args.number c.args.command.now st c.args.out.now.items c.refuse-in-None.new.out.items) c.refuse-in-None.result c.refuse-in-None.ensures.bytes c.refuse-in-None.ensures.refused
     (λ g. record { bytes = _; answer = nothing_to_continue c.in-Ok.most (sym c.bound_of.ensures ∙ c.in-Ok.is) (ap (option_map going_of) none); gained = g }))
 
-pub returns-in-Some-clause-gained : goal.returns-in-Some-clause-gained
-returns-in-Some-clause-gained c =
+pub returns-in-Some-Listing-clause-gained : goal.returns-in-Some-Listing-clause-gained
+returns-in-Some-Listing-clause-gained c =
     let st = state_of c.args.state.now in
     let some : c.args.state.now.going ≡ Some c.in-Some.going = cc in
-    IfOk-weaker c.go_on.result _ _
-    (λ r g. continues c.args.words.now st (option_map going_of c.take.new.self) c.args.number c.args.command.now c.in-Ok.most (going_of c.in-Some.going) (state_of c.go_on.new.state) c.args.out.now.items
-    c.go_on.new.out.items r (sym c.bound_of.ensures ∙ c.in-Ok.is) (ap (option_map going_of) some) g) c.go_on.ensures.gained
+    IfOk-weaker c.list_on.result _ _
+    (λ r g. continues c.args.words.now st (option_map going_of c.take.new.self) c.args.number c.args.command.now c.in-Ok.most (going_of c.in-Some.going) (state_of c.list_on.new.state) c.args.out.now.items
+    c.list_on.new.out.items r (sym c.bound_of.ensures ∙ c.in-Ok.is) (ap (option_map going_of) some) g) c.list_on.ensures.gained

@@ -7,7 +7,7 @@ use Rattle.mau_session.proofs.Answering.{refused_with}
 use Rattle.mau_session.proofs.answer.answer_unbuilt.Goals as goal
 
 pub returns-in-Err : goal.returns-in-Err
-returns-in-Err c =
+returns-in-Err c = 
     let ws = c.args.words.now in
     let st = state_of c.args.state.now in
     let u = c.in-Err.ensures.unknown in
