@@ -1,6 +1,8 @@
 -- What built-ins give for arguments of a store.
-use Rattle.std.proofs.Common.{◌≡◌, ℕ, zero, suc, ◌<◌, ◌≤◌, List, [], ◌∷◌, Bool, true, false, nat_eq, drop, length, get_or, Option, Some, None, if◌then◌else◌, refl, sym, ap, ap₂, ◌∙◌, subst, arith, eqb-true}
+use Rattle.std.proofs.Common.{◌≡◌, ℕ, zero, suc, All, ◌<◌, ◌≤◌, List, [], ◌∷◌, Bool, true, false, nat_eq, drop, length, get_or, Option, Some, None, if◌then◌else◌, refl, sym, ap, ap₂, ◌∙◌, subst, arith, eqb-true}
+use Rattle.std.proofs.Math.ListN.{get_or-map}
 use Rattle.std.proofs.lemmas.Bool.{eqb-false}
+use Rattle.std.proofs.lemmas.List.{length-map}
 use Rattle.std.proofs.lemmas.List.Elements.{All-head, All-tail}
 use Rattle.mau_terms.specs.Tree.{Tree, variable, numeral, apply, no_trees, node, trees_of}
 use Rattle.mau_terms.specs.declared.ids.TermId.{TermId}
@@ -131,3 +133,7 @@ pub not_zero : (s : SignatureOf) (nodes : List Node) (ids : List TermId) → Are
 not_zero s nodes [] over k d h e = omega (arith, h)
 not_zero s nodes (i ∷ ids) over zero d h e = let z : IsTreeOver s (apply 0 no_trees) = subst (IsTreeOver s) e over.0 in omega (arith, z.0.0)
 not_zero s nodes (i ∷ ids) over (suc k) d h e = not_zero s nodes ids over.1 k d (omega (arith, h)) e
+
+-- what holds of the numbers of all arguments holds of each
+pub each_number : (P : ℕ → Type 0) (ids : List TermId) (i : ℕ) (d : TermId) → i < length ids → All P (numbers ids) → P (get_or ids i d).0
+each_number P ids i d h all = subst P (get_or-map (λ (x : TermId). x.0) ids i d) (all i d.0 (subst (λ n. i < n) (sym (length-map ids (λ (x : TermId). x.0))) h))

@@ -3,7 +3,7 @@ use Rattle.std.proofs.Common.{◌≡◌, ◌↔◌, ℕ, suc, ◌+◌, List, [],
 use Rattle.std.specs.Option.{option_map}
 use Rattle.mau_terms.specs.Tree.{Tree}
 use Rattle.mau_terms.specs.Norm.{norm}
-use Rattle.mau_terms.specs.Bare.{IsBare}
+use Rattle.mau_terms.specs.Bare.{IsBareIn, IsBare}
 use Rattle.mau_terms.specs.Reading.{reading}
 use Rattle.mau_terms.specs.Subst.{variables}
 use Rattle.mau_terms.specs.Finite.{IsIn}
@@ -25,7 +25,8 @@ use Rattle.mau_terms.specs.Solution.{FitsAt, assoc_top}
 use Rattle.std.proofs.lemmas.List.{length-map}
 use Rattle.mau_store.specs.View.{numbers}
 use Rattle.mau_reduce.proofs.SortKinds.{have_kinds}
-use Rattle.mau_reduce.proofs.Fitting.{contexts_of, listed_around}
+use Rattle.mau_reduce.proofs.Fitting.{contexts_of, listed_around, listed_kind}
+use Rattle.mau_reduce.proofs.KindsKept.{norms_of}
 use Rattle.mau_listing.specs.declared.solution.Solution as Given
 use Rattle.mau_program.specs.declared.program.Program as Typed
 use Rattle.mau_evaluation.specs.Run.{Outcome, done, ended, Run, gives, try_on, counted_if, or_go_on, where_true}
@@ -209,12 +210,14 @@ module _ (p : Typed.Program) (red : IsReducible p) (e : Equation) (bare_left : I
       let each : (v : Tree) → IsIn v y.values → (norm th v ≡ v) × IsTreeOver p.sig v × IsBare (terms_over p.sig) (reading th v) = (λ v j.
       let z = values_settled p.sig red.lawful old table t normal bare settled e.left y listed.0 v j in
       (z.normal, subst (IsTreeOver p.sig) z.normal (norm_over p.sig red.lawful v (subst (λ u. IsBare (terms_over p.sig) (reading th u)) (sym z.normal) z.bare)), z.bare)) in
+      let kinds = have_kinds p.sig red.accepted red.lawful (variables e.left) y.values each
+      ((having_exact p [] red.accepted (none_executable p red []) (variables e.left) y.values (λ v j. (each v j).1)).0 listed.1) in
       record {
         contexts = contexts_of p.sig new t (numbers x.left) (numbers x.right) given.left given.right (listed_around p.sig red.lawful e.left t normal bare y listed.0);
         one_each = sym (trees_long new x.values) ∙ (sym (length-map y.values (reading th)) ∙ one_value_each (assoc_top th (norm th e.left)) (map (reading th) y.values) y.left y.right fits.1);
         within = given.values;
-        kinds = have_kinds p.sig red.accepted red.lawful (variables e.left) y.values each
-            ((having_exact p [] red.accepted (none_executable p red []) (variables e.left) y.values (λ v j. (each v j).1)).0 listed.1);
+        kinds = kinds;
+        kind = λ k b. subst (IsBareIn (terms_over p.sig) (reading th t)) (sym (listed_kind p.sig red.lawful e.left t normal bare y listed.0 (norms_of th new (numbers x.values) given.values) kinds k bare.0 b bare.1)) bare.1;
       }
 
   pub candidate_next : {N : Type 0} (after : Table) (r : Result (Option Given.Solution) N) → IfOk r Next → IfOk r (λ o. IfSome o (IsGiven c p.sig new after a)) → IfOk r (λ o. IfSome o (IsCandidate p.sig new e.left t))

@@ -1,11 +1,13 @@
 -- The numbers of equations in the order in which they are tried.
-use Rattle.std.proofs.Common.{◌≡◌, ℕ, zero, suc, ◌+◌, ◌<◌, ◌≤◌, List, [], ◌∷◌, ◌++◌, Bool, true, false, ◌&&◌, not, if◌then◌else◌, All, map, drop, length, get_or, refl, sym, ap, ◌∙◌, append_assoc, append-nil, arith, zero-add}
+use Rattle.std.proofs.Common.{◌≡◌, ℕ, zero, suc, ◌+◌, ◌<◌, ◌≤◌, List, [], ◌∷◌, ◌++◌, Bool, true, false, ◌&&◌, not, if◌then◌else◌, All, Some, map, drop, length, get_or, slice_get, refl, sym, ap, ◌∙◌, subst, append_assoc, append-nil, arith, zero-add}
 use Rattle.std.proofs.Math.Seq.{drop-cons}
-use Rattle.std.proofs.lemmas.List.Elements.{All-append, All-cons}
+use Rattle.std.proofs.lemmas.List.Elements.{All-append, All-cons, All-nil}
+use Rattle.std.proofs.lemmas.Bool.{and_parts}
 use Rattle.mau_evaluation.specs.Program.{Equation}
+use Rattle.mau_program.specs.declared.program.Program as Typed
 use Rattle.mau_program.specs.declared.statements.Equation as Written
 use Rattle.mau_api.specs.Programs.{equation_of}
-use Rattle.mau_reduce.specs.Trying.{numbers_of, order_of_all}
+use Rattle.mau_reduce.specs.Trying.{numbers_of, order_of_all, IsExecutable}
 
 module _ (o : Bool) (es : List Written.Equation) where
   next : (i : ℕ) (e : Written.Equation) → i < length es → e ≡ get_or es i e → (b : Bool) → (e.exec && (if o then e.owise else not e.owise)) ≡ b →
@@ -62,3 +64,29 @@ order_within es =
 
     as_many : (es : List Written.Equation) → zero + length (map equation_of es) ≡ length es
     as_many es = zero-add (length (map equation_of es)) ∙ mapped es
+
+-- ---- they are executable
+
+module _ (p : Typed.Program) (o : Bool) where
+  one_executable : (n : ℕ) (ns : List ℕ) (b : Bool) → (b ≡ true → IsExecutable p n) → All (IsExecutable p) ns → All (IsExecutable p) (if b then n ∷ ns else ns)
+  one_executable n ns true h a = All-cons (IsExecutable p) n ns (h refl) a
+  one_executable n ns false h a = a
+
+  executable_from : (n : ℕ) (es : List Written.Equation) → ((i : ℕ) (e : Written.Equation) → slice_get es i ≡ Some e → slice_get p.equations (n + i) ≡ Some e) → All (IsExecutable p) (numbers_of o n (map equation_of es))
+  executable_from n [] there = All-nil (IsExecutable p)
+  executable_from n (e ∷ es) there =
+      one_executable n (numbers_of o (suc n) (map equation_of es)) (e.exec && (if o then e.owise else not e.owise))
+      (λ h. record { equation = e; at = subst (λ m. slice_get p.equations m ≡ Some e) (this n) (there zero e refl); exec = (and_parts e.exec (if o then e.owise else not e.owise) h).0 })
+      (executable_from (suc n) es (λ i d at. subst (λ m. slice_get p.equations m ≡ Some d) (more n i) (there (suc i) d at)))
+    where
+      this : (n : ℕ) → n + zero ≡ n
+      this n = omega arith
+
+      more : (n i : ℕ) → n + suc i ≡ suc n + i
+      more n i = omega arith
+
+pub order_executable : (p : Typed.Program) → All (IsExecutable p) (order_of_all (map equation_of p.equations))
+order_executable p =
+    All-append (IsExecutable p) (numbers_of false 0 (map equation_of p.equations)) (numbers_of true 0 (map equation_of p.equations))
+    (executable_from p false 0 p.equations (λ i e at. subst (λ m. slice_get p.equations m ≡ Some e) (sym (zero-add i)) at))
+    (executable_from p true 0 p.equations (λ i e at. subst (λ m. slice_get p.equations m ≡ Some e) (sym (zero-add i)) at))

@@ -35,3 +35,9 @@ pub mod AttemptsLeft
 pub mod InOrder
 -- later stores
 pub mod LaterStores
+-- values of built-ins
+pub mod Taken
+-- the last candidate
+pub mod Lately
+-- what it makes
+pub mod MadeOf

@@ -6,6 +6,7 @@ use Rattle.std.proofs.lemmas.List.{get_or_default}
 use Rattle.std.proofs.lemmas.Option.{slice_get-map, slice_get-get_or}
 use Rattle.mau_terms.specs.Tree.{Tree}
 use Rattle.mau_terms.specs.Finite.{IsIn}
+use Rattle.mau_terms.specs.declared.ids.TermId.{TermId}
 use Rattle.mau_formula.specs.Operator.{Operator}
 use Rattle.mau_listing.specs.Finite.{comes_behind}
 use Rattle.mau_program.specs.declared.program.Program as Typed
@@ -16,8 +17,10 @@ use Rattle.mau_evaluation.specs.Listing.{Solution, keep, compare, solutions_with
 use Rattle.mau_evaluation.specs.Evaluation.{levels, try_equation, by_equations}
 use Rattle.mau_api.specs.Programs.{program_over, equation_of}
 use Rattle.mau_store.specs.Node.{Node}
+use Rattle.mau_sorts.specs.Table.{Table}
+use Rattle.mau_listing.specs.Asked.{Asked}
 use Rattle.mau_listing.specs.declared.solution.Solution as Given
-use Rattle.mau_reduce.specs.Trying.{solution_in, solutions_behind, applied_by, candidate_gives, applied_one, applied_number, left_of_one, one_gives, left_of_number, left_of_all, left_by, number_gives, numbers_of, order_of_all}
+use Rattle.mau_reduce.specs.Trying.{solution_in, solutions_behind, applied_by, candidate_gives, applied_one, applied_number, left_of_one, one_gives, left_of_number, left_of_all, left_by, number_gives, numbers_of, order_of_all, IsExecutable, IsTried}
 
 -- ---- at a place
 
@@ -31,6 +34,18 @@ is_among (y ∷ xs) (suc i) x e = inr (is_among xs i x e)
 
 pub in_equations : (p : Typed.Program) (i : ℕ) (e : Written.Equation) → slice_get p.equations i ≡ Some e → IsIn (equation_of e) (map equation_of p.equations)
 in_equations p i e at = is_among (map equation_of p.equations) i (equation_of e) (slice_get-map equation_of p.equations i ∙ ap (option_map equation_of) at)
+
+-- there is one at a number
+pub one_at : {A : Type 0} (xs : List A) (i : ℕ) (x y : A) → slice_get xs i ≡ Some x → slice_get xs i ≡ Some y → x ≡ y
+one_at xs i x y e k = cc
+
+-- an executable one
+pub exec_at : (p : Typed.Program) (i : ℕ) → IsExecutable p i → (e : Written.Equation) → slice_get p.equations i ≡ Some e → e.exec ≡ true
+exec_at p i is e at = let same : is.equation ≡ e = cc in subst (λ (d : Written.Equation). d.exec ≡ true) same is.exec
+
+-- one that is tried is executable
+pub executable_of : (c : Bool) (p : Typed.Program) (nodes : List Node) (table : Table) (term : TermId) (i : ℕ) (a : Asked) (last : Option Given.Solution) (is_for : Type 0) → IsTried c p nodes table term i a last is_for → IsExecutable p i
+executable_of c p nodes table term i a last is_for is = record { equation = is.equation; at = is.at; exec = is.exec }
 
 -- ---- runs
 

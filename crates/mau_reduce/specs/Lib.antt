@@ -20,8 +20,12 @@ pub mod Trying
 pub mod BuiltOperators
 -- what native operators answer
 pub mod Answered
+-- what built-ins give as terms
+pub mod Giving
 -- all that may be applied
 pub mod Attempting
+-- the candidate that was tried last
+pub mod Lasts
 -- ---- what only inner contracts and proofs cite
 
 -- arguments that have changed places

@@ -2,6 +2,8 @@
 use Rattle.std.specs.Prelude.{◌≡◌, ℕ, suc, length, List, [], ◌∷◌, ◌++◌, Bool, true, false, ◌&&◌, not, if◌then◌else◌, Option, Some, None, slice_get}
 use Rattle.std.specs.Option.{option_map}
 use Rattle.mau_terms.specs.Tree.{Tree}
+use Rattle.mau_terms.specs.Bare.{IsBareIn}
+use Rattle.mau_terms.specs.Reading.{reading}
 use Rattle.mau_terms.specs.View.{tree_of}
 use Rattle.mau_terms.specs.declared.ids.TermId.{TermId}
 use Rattle.mau_store.specs.Node.{Node}
@@ -17,7 +19,7 @@ use Rattle.mau_evaluation.specs.Run.{Run, gives, and_try, or_else, first_of}
 use Rattle.mau_evaluation.specs.Program.{Equation, Program}
 use Rattle.mau_evaluation.specs.Listing.{Solution, keep, compare, solutions_within}
 use Rattle.mau_terms.specs.Subst.{variables}
-use Rattle.mau_signature.specs.Signature.{SignatureOf, theory_at}
+use Rattle.mau_signature.specs.Signature.{SignatureOf, theory_at, terms_over}
 use Rattle.mau_canon.specs.Standing.{StandWithin}
 use Rattle.mau_reduce.specs.Bindings.{HaveKinds}
 use Rattle.mau_reduce.specs.Contexts.{AreContexts}
@@ -44,12 +46,14 @@ applied_by P B k e t xs = first_of (apply_for P (levels P B k) (levels P B (suc 
 abbrev pub candidate_gives : Program → ℕ → ℕ → Equation → Tree → Solution → Run (Option Tree)
 candidate_gives P B k e t x = and_try (solve P (levels P B k) e.cond (binding_of e.left x)) λ o. gives (replaced P.sign.theory e t x o)
 
--- a solution of the left side p in t, by numbers: its contexts stand around a part of t, and its values, one for each variable of p, are terms of their kinds
+-- a solution of the left side p in t, by numbers: its contexts stand around a part of t, its values, one for each variable of p, are terms of their kinds,
+-- and t is of p's kind
 pub record IsCandidate (s : SignatureOf) (nodes : List Node) (p t : Tree) (x : Given.Solution) : Type 0 where
   pub contexts : AreContexts s nodes t (numbers x.left) (numbers x.right)
   pub one_each : length x.values ≡ length (variables p)
   pub within : StandWithin (theory_at s) nodes (numbers x.values)
   pub kinds : HaveKinds s (variables p) (trees_at nodes (numbers x.values))
+  pub kind : (k : ℕ) → IsBareIn (terms_over s) p k → IsBareIn (terms_over s) (reading (theory_at s) t) k
 
 -- what an equation makes of t, if there is one
 abbrev pub applied_one : Program → ℕ → ℕ → Tree → Option Equation → Run (Option Tree)
@@ -72,11 +76,18 @@ left_of_number P B k t i last = left_of_one P B k t last (slice_get P.equations 
 abbrev pub left_of_all : Program → ℕ → ℕ → Tree → ℕ → Option Solution → List ℕ → Run (Option Tree)
 left_of_all P B k t i last is = or_else (left_of_number P B k t i last) (first_of (applied_number P B k t) is)
 
+-- i is the number of an executable equation
+pub record IsExecutable (p : Typed.Program) (i : ℕ) : Type 0 where
+  pub equation : Written.Equation
+  pub at : slice_get p.equations i ≡ Some equation
+  pub exec : equation.exec ≡ true
+
 -- The equation with the number i is tried at the top of a term: a listing with contexts, if c, was asked for its left side there, is one for this signature, and
--- can go on behind its last solution
+-- can go on behind its last solution; the equation is executable
 pub record IsTried (c : Bool) (p : Typed.Program) (nodes : List Node) (table : Table) (term : TermId) (i : ℕ) (asks_for : Asked) (last : Option Given.Solution) (is_for : Type 0) : Type 0 where
   pub equation : Written.Equation
   pub at : slice_get p.equations i ≡ Some equation
+  pub exec : equation.exec ≡ true
   pub asked : asks_for ≡ asks (tree_of equation.left) [] term
   pub signature : is_for
   pub ready : CanGoOn c p.sig nodes table asks_for last
@@ -86,10 +97,11 @@ abbrev pub left_by : Program → ℕ → ℕ → List Node → Tree → Option (
 left_by P B k nodes t None is = first_of (applied_number P B k t) is
 left_by P B k nodes t (Some x) is = left_of_all P B k t x.0 (option_map (solution_in nodes) x.1) is
 
--- x is a candidate for the equation with the number i
+-- x is a candidate for the executable equation with the number i
 pub record IsFound (p : Typed.Program) (nodes : List Node) (t : Tree) (i : ℕ) (x : Given.Solution) : Type 0 where
   pub equation : Written.Equation
   pub at : slice_get p.equations i ≡ Some equation
+  pub exec : equation.exec ≡ true
   pub candidate : IsCandidate p.sig nodes (tree_of equation.left) t x
 
 -- what it gives

@@ -2,11 +2,14 @@
 ghost use Rattle.std.specs.Prelude.{◌≡◌, ℕ, suc, List, [], true, Option, Some, None, IfOk, IfErr, IfSome, IfNone, IsSome, All, drop, length, map, slice_get, ◌<◌};
 ghost use Rattle.std.specs.Option.{option_map};
 ghost use Rattle.mau_terms.specs.Subst.{variables};
+ghost use Rattle.mau_terms.specs.Solution.{HaveSorts};
 ghost use Rattle.mau_terms.specs.View.{tree_of, variable_of};
 ghost use Rattle.mau_formula.specs.Operator.{Operator};
 ghost use Rattle.mau_store.specs.Node.{Extends};
-ghost use Rattle.mau_store.specs.Trees.{tree_at};
+ghost use Rattle.mau_store.specs.Trees.{tree_at, trees_at};
+ghost use Rattle.mau_store.specs.View.{numbers};
 ghost use Rattle.mau_sorts.specs.Table.{KeepsEntries};
+ghost use Rattle.mau_listing.specs.Asked.{HasEntry};
 ghost use Rattle.mau_evaluation.specs.Run.{done, or_go_on, try_on, gives};
 ghost use Rattle.mau_evaluation.specs.Evaluation.{levels, applied, solve};
 ghost use Rattle.mau_api.specs.Terms.{IsTerm};
@@ -16,9 +19,11 @@ ghost use Rattle.mau_reduce.specs.Reducible.{IsReducible};
 ghost use Rattle.mau_reduce.specs.Bindings.{bound_in, AreValues};
 ghost use Rattle.mau_reduce.specs.Ends.{IsEnd};
 ghost use Rattle.mau_reduce.specs.Tables.{IsPlainTable};
-ghost use Rattle.mau_reduce.specs.Trying.{solution_in, number_gives, left_by, order_of_all, IsTried, IsFound};
+ghost use Rattle.mau_reduce.specs.Trying.{solution_in, number_gives, left_by, order_of_all, IsExecutable, IsTried, IsFound};
 ghost use Rattle.mau_reduce.specs.BuiltOperators.{IsBuiltAt, IsThere};
+ghost use Rattle.mau_reduce.specs.Giving.{GivesInKind, IsGivenAt};
 ghost use Rattle.mau_reduce.specs.Attempting.{untried_by, cond_at, makes_of};
+ghost use Rattle.mau_reduce.specs.Lasts.{left_variables, first_values, IsLast, IsLastListed};
 
 use crate::binding::bind;
 use crate::given::given_at;
@@ -56,6 +61,7 @@ pub fn begin_attempts<L: Lister, N: Natives>(
         ≡ applied (program_over program.now (N.operators natives.now)) (levels (program_over program.now (N.operators natives.now)) B k) (levels (program_over program.now (N.operators natives.now)) B (suc k)).sorts (tree_at store.now term.0) b }
     ensures tried { IfSome result.tried (λ x. ⊥) }
     ensures there { IsThere store.now result.given }
+    ensures given { GivesInKind program.now.sig (N.operators natives.now) → IsGivenAt program.now.sig (N.operators natives.now) store.now (tree_at store.now term.0) result.given }
 {
     let given = given_at(store, &program.sig, natives, built_in, term);
     Attempts {
@@ -78,6 +84,7 @@ fn next_equation<L: Lister + Drop>(
     requires contexts { L.with_context ≡ true }
     requires reducible { IsReducible program.now }
     requires order { All (λ i. i < length program.now.equations) order.now }
+    requires executable { All (IsExecutable program.now) order.now }
     requires term { IsTerm program.now.sig store.old term.0 }
     requires settled { AreSettled program.now.sig store.old table.old (tree_at store.old term.0) }
     requires plain { IsPlainTable program.now.sig store.old table.old }
@@ -92,6 +99,9 @@ fn next_equation<L: Lister + Drop>(
     ensures number { IfOk result (λ o. IfSome o (λ x. IfSome attempts.new.last (λ y. x.0 ≡ y.number))) }
     ensures binding { IfOk result (λ o. IfSome o (λ x. IfSome attempts.new.last (λ y. x.1.values.items ≡ y.solution.values))) }
     ensures variables { IfOk result (λ o. IfSome o (λ x. IfSome (slice_get program.now.equations x.0) (λ e. map variable_of x.1.variables.items ≡ variables (tree_of e.left)))) }
+    ensures left { IfOk result (λ o. IfSome o (λ x. map variable_of x.1.variables.items ≡ left_variables program.now x.0)) }
+    ensures is { IfOk result (λ o. IfSome o (λ x. IsLast program.now store.new (tree_at store.old term.0) x.0 Given.Nothing attempts.new.last)) }
+    ensures listed { IfOk result (λ o. IfSome o (λ x. IsLastListed program.now store.new table.new term x.0 Given.Nothing attempts.new.last)) }
     ensures tried { IfOk result (λ o. IfSome o (λ x. IfSome attempts.new.tried (λ y. IsTried L.with_context program.now store.new table.new term y.number (L.asked y.listing) (L.given y.listing) (L.is_for y.listing program.now.sig)))) }
     ensures found { IfOk result (λ o. IfSome o (λ x. IfSome attempts.new.last (λ y. IsFound program.now store.new (tree_at store.old term.0) y.number y.solution))) }
     ensures given { attempts.new.given ≡ attempts.old.given }
@@ -150,6 +160,7 @@ pub fn next_attempt<L: Lister + Drop>(
     requires contexts { L.with_context ≡ true }
     requires reducible { IsReducible program.now }
     requires order { All (λ i. i < length program.now.equations) order.now }
+    requires executable { All (IsExecutable program.now) order.now }
     requires term { IsTerm program.now.sig store.old term.0 }
     requires settled { AreSettled program.now.sig store.old table.old (tree_at store.old term.0) }
     requires plain { IsPlainTable program.now.sig store.old table.old }
@@ -165,6 +176,11 @@ pub fn next_attempt<L: Lister + Drop>(
         (option_map (λ z. (z.number, L.given z.listing)) attempts.old.tried) (drop attempts.old.next order.now) b)) }
     ensures given { attempts.new.given ≡ attempts.old.given }
     ensures values { IfOk result (λ o. IfSome o (λ x. AreValues program.now.sig store.new x.1)) }
+    ensures last { IfOk result (λ o. IfSome o (λ x. IsLast program.now store.new (tree_at store.old term.0) x.0 attempts.new.given attempts.new.last)) }
+    ensures listed { IfOk result (λ o. IfSome o (λ x. IsLastListed program.now store.new table.new term x.0 attempts.new.given attempts.new.last)) }
+    ensures variables { IfOk result (λ o. IfSome o (λ x. map variable_of x.1.variables.items ≡ left_variables program.now x.0)) }
+    ensures begun { IfOk result (λ o. IfSome o (λ x. x.1.values.items ≡ first_values attempts.new.given attempts.new.last)) }
+    ensures sorts { IfOk result (λ o. IfSome o (λ x. HaveSorts (HasEntry program.now.sig store.new table.new) (map variable_of x.1.variables.items) (trees_at store.new (numbers x.1.values.items)))) }
     ensures tried { IfOk result (λ o. IfSome o (λ x. IfSome attempts.new.tried (λ y. IsTried L.with_context program.now store.new table.new term y.number (L.asked y.listing) (L.given y.listing) (L.is_for y.listing program.now.sig)))) }
     ensures plain { IsPlainTable program.now.sig store.new table.new }
     ensures kept { KeepsEntries table.old table.new }

@@ -3,16 +3,18 @@ ghost use Rattle.std.specs.Prelude.{◌≡◌, ℕ, ◌==◌, ◌<◌, List, [],
 ghost use Rattle.mau_terms.specs.Tree.{Tree, Trees, apply, no_trees, numeral, node, list_of};
 ghost use Rattle.mau_terms.specs.Bare.{IsLawful};
 ghost use Rattle.mau_terms.specs.declared.theory.Theory.{Theory};
-ghost use Rattle.mau_signature.specs.Signature.{IsOperator, terms_over, theory_at};
+ghost use Rattle.mau_signature.specs.Signature.{SignatureOf, IsOperator, terms_over, theory_at};
 ghost use Rattle.mau_formula.specs.Operator.{operator_named};
 ghost use Rattle.mau_store.specs.Node.{Node, AreNodes, AreOf, IsOf};
 ghost use Rattle.mau_store.specs.Trees.{tree_at, trees_at};
 ghost use Rattle.mau_store.specs.View.{numbers};
+ghost use Rattle.mau_canon.specs.Standing.{StandWithin};
 ghost use Rattle.mau_evaluation.specs.Program.{Answer, BuiltIn as Built, choice, equality, on_numerals};
 ghost use Rattle.mau_evaluation.specs.Listing.{same_tree};
 ghost use Rattle.mau_evaluation.specs.Evaluation.{native_on, native_by, before_rest};
 ghost use Rattle.mau_api.specs.Terms.{IsTerm};
 ghost use Rattle.mau_api.specs.BuiltIns.{answer_in, name_at};
+ghost use Rattle.mau_reduce.specs.Giving.{GivesNormal, GivesNormalIfAny, GivesInKind, CanBeTaken};
 ghost use Rattle.mau_reduce.specs.BuiltOperators.{constant_tree, answer_of, number_answer, meaning_of, built_gives, HasNoArgument, IsThere, IsBuiltAt};
 
 use crate::{BuiltIn, Natives, Truths};
@@ -62,6 +64,7 @@ fn branch(store: &Store, truths: Truths, ids: &[TermId]) -> Given
     requires there { AreOf store.now (numbers ids.now) }
     requires some { (k : ℕ) (d : TermId) → k < length ids.now → tree_at store.now (slice_index_or ids.now k d).0 ≡ apply 0 no_trees → ⊥ }
     ensures there { IsThere store.now result }
+    ensures taken { (s : SignatureOf) → StandWithin (theory_at s) store.now (numbers ids.now) → CanBeTaken s store.now result }
     ensures value { (h : Theory) (f : ℕ) (th : ℕ → Theory) (t : Tree) → native_on (choice (constant_tree truths.yes) (constant_tree truths.no)) h f (trees_at store.now (numbers ids.now)) ≡ answer_of store.now th t result }
 {
     if ids.len() != 3 {
@@ -81,6 +84,7 @@ fn same(store: &Store, truths: Truths, ids: &[TermId]) -> Given
     requires nodes { AreNodes store.now }
     requires there { AreOf store.now (numbers ids.now) }
     ensures there { IsThere store.now result }
+    ensures taken { (s : SignatureOf) → GivesNormal s (equality (constant_tree truths.yes) (constant_tree truths.no)) → CanBeTaken s store.now result }
     ensures value { (h : Theory) (f : ℕ) (th : ℕ → Theory) (t : Tree) → native_on (equality (constant_tree truths.yes) (constant_tree truths.no)) h f (trees_at store.now (numbers ids.now)) ≡ answer_of store.now th t result }
 {
     if ids.len() != 2 {
@@ -127,6 +131,7 @@ fn answer_as(gives: Gives, truths: Truths, answer: HookAnswer) -> Given
 /// The same before the others of a list, of which it took the first two.
 fn before_rest(given: Given) -> Given
     ensures there { (nodes : List Node) → HasNoArgument given → IsThere nodes result }
+    ensures taken { (s : SignatureOf) (nodes : List Node) → CanBeTaken s nodes given → CanBeTaken s nodes result }
     ensures value { (nodes : List Node) (h : Theory) (f : ℕ) (th : ℕ → Theory) (ts : Trees) → th f ≡ h → HasNoArgument given →
         answer_of nodes th (apply f ts) result ≡ before_rest h f (drop 2 (list_of ts)) (answer_of nodes th (apply f ts) given) }
 {
@@ -183,6 +188,7 @@ fn native_given<N: Natives>(
     requires operator { IsOperator sig.now op.0 }
     requires there { AreOf store.now (numbers ids.now) }
     ensures there { IsThere store.now result }
+    ensures taken { GivesNormalIfAny sig.now (meaning_of (N.operators natives.now) (name_at sig.now op.0) (BuiltIn.Native wanted truths)) → CanBeTaken sig.now store.now result }
     ensures value { native_by (meaning_of (N.operators natives.now) (name_at sig.now op.0) (BuiltIn.Native wanted truths)) (theory_at sig.now op.0) op.0 (trees_at store.now (numbers ids.now))
         ≡ answer_of store.now (theory_at sig.now) (node op.0 (trees_at store.now (numbers ids.now))) result }
 {
@@ -219,6 +225,7 @@ pub fn given_at<N: Natives>(
     requires term { IsTerm sig.now store.now term.0 }
     requires built_in { IsBuiltAt sig.now (N.operators natives.now) (tree_at store.now term.0) built_in }
     ensures there { IsThere store.now result }
+    ensures taken { GivesInKind sig.now (N.operators natives.now) → CanBeTaken sig.now store.now result }
     ensures value { built_gives sig.now (N.operators natives.now) (tree_at store.now term.0) ≡ answer_of store.now (theory_at sig.now) (tree_at store.now term.0) result }
 {
     let (op, ids) = match store.view(term) {

@@ -1,7 +1,7 @@
 //! The order in which equations are tried.
 ghost use Rattle.std.specs.Prelude.{◌≡◌, ◌++◌, ◌&&◌, ◌<◌, map, not, if◌then◌else◌, length, All, IfOk};
 ghost use Rattle.mau_api.specs.Programs.{equation_of};
-ghost use Rattle.mau_reduce.specs.Trying.{numbers_of, order_of_all};
+ghost use Rattle.mau_reduce.specs.Trying.{numbers_of, order_of_all, IsExecutable};
 
 use mau_api::{Equation, Program};
 use mau_terms::NoMemory;
@@ -35,6 +35,7 @@ fn numbers_with(alloc: Global, program: &Program, owise: bool) -> Result<Vec<usi
 pub fn equations_in_order(alloc: Global, program: &Program) -> Result<Vec<usize>, NoMemory>
     ensures numbers { IfOk result (λ found. found.items ≡ order_of_all (map equation_of program.now.equations)) }
     ensures within { IfOk result (λ found. All (λ i. i < length program.now.equations) found.items) }
+    ensures executable { IfOk result (λ found. All (IsExecutable program.now) found.items) }
 {
     let mut order = numbers_with(alloc, program, false)?;
     let last = numbers_with(alloc, program, true)?;

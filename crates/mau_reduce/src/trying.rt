@@ -15,7 +15,7 @@ ghost use Rattle.mau_api.specs.Programs.{program_over, equation_of};
 ghost use Rattle.mau_api.specs.Answers.{AreSettled};
 ghost use Rattle.mau_reduce.specs.Reducible.{IsReducible};
 ghost use Rattle.mau_reduce.specs.Tables.{IsPlainTable};
-ghost use Rattle.mau_reduce.specs.Trying.{solution_in, solutions_behind, applied_by, candidate_gives, left_of_number, number_gives, applied_number, left_of_all, left_by, IsCandidate, IsTried, IsFound};
+ghost use Rattle.mau_reduce.specs.Trying.{solution_in, solutions_behind, applied_by, candidate_gives, left_of_number, number_gives, applied_number, left_of_all, left_by, IsCandidate, IsExecutable, IsTried, IsFound};
 
 use mau_api::{Equation, Lister, Program, Solution};
 use mau_sorts::SortTable;
@@ -84,6 +84,7 @@ fn first_candidate<L: Lister + Drop>(
     requires contexts { L.with_context ≡ true }
     requires reducible { IsReducible program.now }
     requires number { number < length program.now.equations }
+    requires executable { IsExecutable program.now number }
     requires term { IsTerm program.now.sig store.old term.0 }
     requires settled { AreSettled program.now.sig store.old table.old (tree_at store.old term.0) }
     requires plain { IsPlainTable program.now.sig store.old table.old }
@@ -152,6 +153,7 @@ fn first_among<L: Lister + Drop>(
     requires contexts { L.with_context ≡ true }
     requires reducible { IsReducible program.now }
     requires order { All (λ i. i < length program.now.equations) order.now }
+    requires executable { All (IsExecutable program.now) order.now }
     requires term { IsTerm program.now.sig store.old term.0 }
     requires settled { AreSettled program.now.sig store.old table.old (tree_at store.old term.0) }
     requires plain { IsPlainTable program.now.sig store.old table.old }
@@ -229,6 +231,7 @@ fn begin_next<L: Lister + Drop>(
     requires contexts { L.with_context ≡ true }
     requires reducible { IsReducible program.now }
     requires order { All (λ i. i < length program.now.equations) order.now }
+    requires executable { All (IsExecutable program.now) order.now }
     requires term { IsTerm program.now.sig store.old term.0 }
     requires settled { AreSettled program.now.sig store.old table.old (tree_at store.old term.0) }
     requires plain { IsPlainTable program.now.sig store.old table.old }
@@ -266,6 +269,7 @@ pub(crate) fn next_found<L: Lister + Drop>(
     requires contexts { L.with_context ≡ true }
     requires reducible { IsReducible program.now }
     requires order { All (λ i. i < length program.now.equations) order.now }
+    requires executable { All (IsExecutable program.now) order.now }
     requires term { IsTerm program.now.sig store.old term.0 }
     requires settled { AreSettled program.now.sig store.old table.old (tree_at store.old term.0) }
     requires plain { IsPlainTable program.now.sig store.old table.old }

@@ -8,8 +8,11 @@ use Rattle.mau_evaluation.specs.Evaluation.{levels, solve}
 use Rattle.mau_api.specs.Programs.{program_over}
 use Rattle.mau_reduce.specs.Bindings.{bound_in}
 use Rattle.mau_reduce.specs.Trying.{solution_in, left_by, number_gives, IsFound}
+use Rattle.mau_reduce.specs.declared.given.Given.TheVariants.{Nothing}
 use Rattle.mau_reduce.specs.Attempting.{untried_by, cond_at, makes_of}
+use Rattle.mau_reduce.specs.Lasts.{left_variables, first_values, IsLast, IsLastListed}
 use Rattle.mau_reduce.proofs.AttemptsLeft.{equation_tried, at_some}
+use Rattle.mau_reduce.proofs.Lately.{begun_of, sorts_of_last}
 use Rattle.mau_reduce.proofs.attempts.next_attempt.Goals as goal
 
 pub returns-in-Ok-Some-clause-some : goal.returns-in-Ok-Some-clause-some
@@ -27,3 +30,28 @@ pub returns-in-Ok-None-clause-none : goal.returns-in-Ok-None-clause-none
 returns-in-Ok-None-clause-none g c = λ hooks B k b.
     ap (λ d. untried_by (program_over c.args.program.now hooks) B k c.args.store.now (tree_at c.args.store.now c.args.term.0) d (option_map (λ z. (z.number, g.L.Lister.given z.listing)) c.args.attempts.now.tried) (drop c.args.attempts.now.next c.args.order.now) b) c.in-Nothing.is
     ∙ subst (λ o. IfNone o (left_by (program_over c.args.program.now hooks) B k c.args.store.now (tree_at c.args.store.now c.args.term.0) (option_map (λ z. (z.number, g.L.Lister.given z.listing)) c.args.attempts.now.tried) (drop c.args.attempts.now.next c.args.order.now) b ≡ done None 0 b)) c.in-Ok-None.field-0-is (c.in-Ok-None.ensures.none hooks B k b)
+
+pub returns-in-Ok-Some-clause-last : goal.returns-in-Ok-Some-clause-last
+returns-in-Ok-Some-clause-last g c =
+    subst (λ d. IsLast c.args.program.now c.next_equation.new.store (tree_at c.args.store.now c.args.term.0) c.in-Ok-Some.number d c.next_equation.new.attempts.last) (sym (c.next_equation.ensures.given ∙ c.in-Nothing.is))
+    (at_some (λ x. IsLast c.args.program.now c.next_equation.new.store (tree_at c.args.store.now c.args.term.0) x.0 Nothing c.next_equation.new.attempts.last) c.in-Ok-Some.field-0 (c.in-Ok-Some.number, c.in-Ok-Some.binding) c.in-Ok-Some.field-0-is c.in-Ok-Some.ensures.is)
+
+pub returns-in-Ok-Some-clause-listed : goal.returns-in-Ok-Some-clause-listed
+returns-in-Ok-Some-clause-listed g c =
+    subst (λ d. IsLastListed c.args.program.now c.next_equation.new.store c.next_equation.new.table c.args.term c.in-Ok-Some.number d c.next_equation.new.attempts.last) (sym (c.next_equation.ensures.given ∙ c.in-Nothing.is))
+    (at_some (λ x. IsLastListed c.args.program.now c.next_equation.new.store c.next_equation.new.table c.args.term x.0 Nothing c.next_equation.new.attempts.last) c.in-Ok-Some.field-0 (c.in-Ok-Some.number, c.in-Ok-Some.binding) c.in-Ok-Some.field-0-is c.in-Ok-Some.ensures.listed)
+
+pub returns-in-Ok-Some-clause-variables : goal.returns-in-Ok-Some-clause-variables
+returns-in-Ok-Some-clause-variables g c = at_some (λ x. map variable_of x.1.variables.items ≡ left_variables c.args.program.now x.0) c.in-Ok-Some.field-0 (c.in-Ok-Some.number, c.in-Ok-Some.binding) c.in-Ok-Some.field-0-is c.in-Ok-Some.ensures.left
+
+pub returns-in-Ok-Some-clause-begun : goal.returns-in-Ok-Some-clause-begun
+returns-in-Ok-Some-clause-begun g c =
+    subst (λ d. c.in-Ok-Some.binding.values.items ≡ first_values d c.next_equation.new.attempts.last) (sym (c.next_equation.ensures.given ∙ c.in-Nothing.is))
+    (begun_of c.next_equation.new.attempts.last c.in-Ok-Some.binding.values.items (at_some (λ x. IsSome c.next_equation.new.attempts.last) c.in-Ok-Some.field-0 (c.in-Ok-Some.number, c.in-Ok-Some.binding) c.in-Ok-Some.field-0-is c.in-Ok-Some.ensures.last) (at_some (λ x. IfSome c.next_equation.new.attempts.last (λ y. x.1.values.items ≡ y.solution.values)) c.in-Ok-Some.field-0 (c.in-Ok-Some.number, c.in-Ok-Some.binding) c.in-Ok-Some.field-0-is c.in-Ok-Some.ensures.binding))
+
+pub returns-in-Ok-Some-clause-sorts : goal.returns-in-Ok-Some-clause-sorts
+returns-in-Ok-Some-clause-sorts g c =
+    sorts_of_last c.args.program.now c.next_equation.new.store c.next_equation.new.table c.args.term c.in-Ok-Some.number c.in-Ok-Some.binding (at_some (λ x. map variable_of x.1.variables.items ≡ left_variables c.args.program.now x.0) c.in-Ok-Some.field-0 (c.in-Ok-Some.number, c.in-Ok-Some.binding) c.in-Ok-Some.field-0-is c.in-Ok-Some.ensures.left)
+    c.next_equation.new.attempts.last (at_some (λ x. IsSome c.next_equation.new.attempts.last) c.in-Ok-Some.field-0 (c.in-Ok-Some.number, c.in-Ok-Some.binding) c.in-Ok-Some.field-0-is c.in-Ok-Some.ensures.last)
+    (at_some (λ x. IsLastListed c.args.program.now c.next_equation.new.store c.next_equation.new.table c.args.term x.0 Nothing c.next_equation.new.attempts.last) c.in-Ok-Some.field-0 (c.in-Ok-Some.number, c.in-Ok-Some.binding) c.in-Ok-Some.field-0-is c.in-Ok-Some.ensures.listed)
+    (at_some (λ x. IfSome c.next_equation.new.attempts.last (λ y. x.1.values.items ≡ y.solution.values)) c.in-Ok-Some.field-0 (c.in-Ok-Some.number, c.in-Ok-Some.binding) c.in-Ok-Some.field-0-is c.in-Ok-Some.ensures.binding)

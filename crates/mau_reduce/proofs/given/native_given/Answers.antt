@@ -12,6 +12,7 @@ use Rattle.mau_api.specs.BuiltIns.{name_at}
 use Rattle.mau_reduce.specs.declared.built_in.BuiltIn.TheVariants.{Native}
 use Rattle.mau_reduce.specs.BuiltOperators.{meaning_of, answer_of}
 use Rattle.mau_reduce.proofs.Answering.{kept_is_on_numerals, first_two, more_numbers, no_numbers}
+use Rattle.mau_reduce.proofs.Taken.{number_taken}
 use Rattle.mau_reduce.proofs.given.native_given.Goals as goal
 
 pub number_of-requires-2 : goal.number_of-requires-2
@@ -31,3 +32,9 @@ returns-clause-value g c =
 
 pub returns-then-theory-clause-there : goal.returns-then-theory-clause-there
 returns-then-theory-clause-there g c = c.before_rest.ensures.there c.args.store.now c.native_answer-given.ensures.whole
+
+pub returns-then-ids-eq2-clause-taken : goal.returns-then-ids-eq2-clause-taken
+returns-then-ids-eq2-clause-taken g c = λ normal. number_taken c.args.sig.now c.args.store.now (node c.args.op.0 (trees_at c.args.store.now (numbers c.args.ids.now))) (meaning_of (g.N.Natives.operators c.args.natives.now) (name_at c.args.sig.now c.args.op.0) (Native c.args.wanted c.args.truths)) c.in-Some.m c.in-Some-number_of.n (omega arith) (omega arith) normal c.native_answer-given.result c.native_answer-given.ensures.whole (c.native_answer-given.ensures.value c.args.store.now (theory_at c.args.sig.now) (node c.args.op.0 (trees_at c.args.store.now (numbers c.args.ids.now))))
+
+pub returns-then-theory-clause-taken : goal.returns-then-theory-clause-taken
+returns-then-theory-clause-taken g c = λ normal. c.before_rest.ensures.taken c.args.sig.now c.args.store.now (number_taken c.args.sig.now c.args.store.now (node c.args.op.0 (trees_at c.args.store.now (numbers c.args.ids.now))) (meaning_of (g.N.Natives.operators c.args.natives.now) (name_at c.args.sig.now c.args.op.0) (Native c.args.wanted c.args.truths)) c.in-Some.m c.in-Some-number_of.n (omega arith) (omega arith) normal c.native_answer-given.result c.native_answer-given.ensures.whole (c.native_answer-given.ensures.value c.args.store.now (theory_at c.args.sig.now) (node c.args.op.0 (trees_at c.args.store.now (numbers c.args.ids.now)))))

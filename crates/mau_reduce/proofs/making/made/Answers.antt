@@ -1,6 +1,11 @@
 use Rattle.std.proofs.Common.{◌≡◌, Some, IfOk, IfErr, slice_get, sym, ap, ◌∙◌, subst}
 use Rattle.std.proofs.lemmas.Option.{slice_get_within}
-use Rattle.mau_signature.specs.Signature.{theory_at}
+use Rattle.mau_terms.specs.Bare.{IsBareIn}
+use Rattle.mau_terms.specs.Reading.{reading}
+use Rattle.mau_terms.specs.View.{tree_of}
+use Rattle.mau_terms.proofs.Taken.{one_kind}
+use Rattle.mau_signature.specs.Signature.{theory_at, terms_over}
+use Rattle.mau_program.specs.declared.statements.Equation as Written
 use Rattle.mau_store.specs.Trees.{tree_at, StandsFor}
 use Rattle.mau_evaluation.specs.Evaluation.{admit}
 use Rattle.mau_api.specs.Programs.{program_over, equation_of}
@@ -8,7 +13,7 @@ use Rattle.mau_reduce.specs.Bindings.{bound_in}
 use Rattle.mau_reduce.specs.Ends.{IsEnd}
 use Rattle.mau_reduce.specs.Trying.{solution_in}
 use Rattle.mau_reduce.specs.Attempting.{made_by_one}
-use Rattle.mau_reduce.proofs.Numbered.{at_index, equation_there, in_equations}
+use Rattle.mau_reduce.proofs.Numbered.{at_index, one_at, equation_there, in_equations}
 use Rattle.mau_reduce.proofs.making.made.Goals as goal
 
 pub replace-requires-clause-bare : goal.replace-requires-clause-bare
@@ -29,3 +34,12 @@ returns-clause-ends c = λ hooks b.
     (made_by_one (theory_at c.args.program.now.sig) (tree_at c.args.store.now c.args.term.0) (solution_in c.args.store.now c.args.found.now.solution) (bound_in c.args.store.now c.args.binding.now) o) b)))
     (sym (equation_there c.args.program.now hooks c.args.found.now.number c.index-items-found.result (at_index c.args.program.now.equations c.items.result.now c.args.found.now.number c.index-items-found.result c.items.ensures (slice_get_within c.args.program.now.equations c.args.found.now.number c.requires.found.equation c.requires.found.at) c.index-items-found.is)))
     (c.replace.ensures.ends b)
+
+pub returns-clause-kind : goal.returns-clause-kind
+returns-clause-kind c = λ k term.
+    let at = at_index c.args.program.now.equations c.items.result.now c.args.found.now.number c.index-items-found.result c.items.ensures (slice_get_within c.args.program.now.equations c.args.found.now.number c.requires.found.equation c.requires.found.at) c.index-items-found.is in
+    let sides = c.requires.reducible.sides (equation_of c.index-items-found.result) (in_equations c.args.program.now c.args.found.now.number c.index-items-found.result at) in
+    let same : c.index-items-found.result ≡ c.requires.found.equation = one_at c.args.program.now.equations c.args.found.now.number c.index-items-found.result c.requires.found.equation at c.requires.found.at in
+    let left : IsBareIn (terms_over c.args.program.now.sig) (tree_of c.requires.found.equation.left) sides.kind = subst (λ (e : Written.Equation). IsBareIn (terms_over c.args.program.now.sig) (tree_of e.left) sides.kind) same sides.left in
+    let one : sides.kind ≡ k = one_kind (terms_over c.args.program.now.sig) (reading (theory_at c.args.program.now.sig) (tree_at c.args.store.now c.args.term.0)) sides.kind k (c.requires.found.candidate.kind sides.kind left) term.bare in
+    c.replace.ensures.kind k term (subst (IsBareIn (terms_over c.args.program.now.sig) (tree_of c.index-items-found.result.right)) one sides.right)

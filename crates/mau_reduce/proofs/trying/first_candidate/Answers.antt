@@ -6,7 +6,7 @@ use Rattle.mau_listing.specs.Asked.{asks, CanGoOn}
 use Rattle.mau_api.specs.Programs.{program_over, equation_of}
 use Rattle.mau_api.proofs.Started.{can_start}
 use Rattle.mau_reduce.specs.Trying.{solution_in, left_of_number, IsCandidate}
-use Rattle.mau_reduce.proofs.Numbered.{at_index, equation_there, in_equations, none_of_number, one_of_number}
+use Rattle.mau_reduce.proofs.Numbered.{at_index, exec_at, equation_there, in_equations, none_of_number, one_of_number}
 use Rattle.mau_reduce.proofs.trying.first_candidate.Goals as goal
 
 pub next_candidate-requires-clause-left : goal.next_candidate-requires-clause-left
@@ -30,6 +30,7 @@ pub returns-in-Some-clause-tried : goal.returns-in-Some-clause-tried
 returns-in-Some-clause-tried g c = record {
   equation = c.index-items-number.result;
   at = (at_index c.args.program.now.equations c.items.result.now c.args.number c.index-items-number.result c.items.ensures c.requires.number c.index-items-number.is);
+  exec = exec_at c.args.program.now c.args.number c.requires.executable c.index-items-number.result (at_index c.args.program.now.equations c.items.result.now c.args.number c.index-items-number.result c.items.ensures c.requires.number c.index-items-number.is);
   asked = c.in_ok-solution.ensures.asked ∙ c.in_ok-listing.ensures.asked;
   signature = c.in_ok-solution.ensures.signature;
   ready = c.in_ok-solution.ensures.ready;
@@ -39,6 +40,7 @@ pub returns-in-Some-clause-found : goal.returns-in-Some-clause-found
 returns-in-Some-clause-found g c = record {
   equation = c.index-items-number.result;
   at = (at_index c.args.program.now.equations c.items.result.now c.args.number c.index-items-number.result c.items.ensures c.requires.number c.index-items-number.is);
+  exec = exec_at c.args.program.now c.args.number c.requires.executable c.index-items-number.result (at_index c.args.program.now.equations c.items.result.now c.args.number c.index-items-number.result c.items.ensures c.requires.number c.index-items-number.is);
   candidate = subst (λ o. IfSome o (IsCandidate c.args.program.now.sig c.next_candidate.new.store (tree_of c.index-items-number.result.left) (tree_at c.args.store.now c.args.term.0))) c.in-Some.is c.in_ok-solution.ensures.candidate;
 }
 

@@ -7,7 +7,7 @@ use Rattle.mau_listing.specs.Asked.{last_after}
 use Rattle.mau_evaluation.specs.Run.{done, or_go_on}
 use Rattle.mau_api.specs.Programs.{program_over, equation_of}
 use Rattle.mau_reduce.specs.Trying.{solution_in, left_of_number, number_gives, IsCandidate, IsTried, IsFound}
-use Rattle.mau_reduce.proofs.Numbered.{at_index, equation_there, none_if, some_if, none_of_number, one_of_number}
+use Rattle.mau_reduce.proofs.Numbered.{at_index, exec_at, executable_of, equation_there, none_if, some_if, none_of_number, one_of_number}
 use Rattle.mau_reduce.proofs.trying.go_on.Goals as goal
 
 pub returns-clause-none : goal.returns-clause-none
@@ -31,6 +31,7 @@ returns-clause-tried g c =
     (λ x is. record {
       equation = c.requires.tried.equation;
       at = c.requires.tried.at;
+      exec = c.requires.tried.exec;
       asked = c.in_ok-found.ensures.asked ∙ c.requires.tried.asked;
       signature = c.in_ok-found.ensures.signature;
       ready = c.in_ok-found.ensures.ready;
@@ -42,5 +43,6 @@ returns-clause-found g c =
     (λ x is. record {
       equation = c.index-items-tried.result;
       at = (at_index c.args.program.now.equations c.items.result.now c.args.tried.now.number c.index-items-tried.result c.items.ensures (slice_get_within c.args.program.now.equations c.args.tried.now.number c.requires.tried.equation c.requires.tried.at) c.index-items-tried.is);
+      exec = exec_at c.args.program.now c.args.tried.now.number (executable_of g.L.Lister.with_context c.args.program.now c.args.store.now c.args.table.now c.args.term c.args.tried.now.number (g.L.Lister.asked c.args.tried.now.listing) (g.L.Lister.given c.args.tried.now.listing) (g.L.Lister.is_for c.args.tried.now.listing c.args.program.now.sig) c.requires.tried) c.index-items-tried.result (at_index c.args.program.now.equations c.items.result.now c.args.tried.now.number c.index-items-tried.result c.items.ensures (slice_get_within c.args.program.now.equations c.args.tried.now.number c.requires.tried.equation c.requires.tried.at) c.index-items-tried.is);
       candidate = subst (λ o. IfSome o (IsCandidate c.args.program.now.sig c.next_candidate.new.store (tree_of c.index-items-tried.result.left) (tree_at c.args.store.now c.args.term.0))) is c.in_ok-found.ensures.candidate;
     })

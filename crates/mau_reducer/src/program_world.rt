@@ -1,0 +1,115 @@
+//! What an evaluation rests on: a program over a store, and the sorts that are settled.
+ghost use Rattle.std.specs.Prelude.{◌≡◌, ◌<◌, ◌≤◌, ℕ, List, true, length, map, All, OnOk, IfOk, slice_get};
+ghost use Rattle.std.specs.Option.{option_copied};
+ghost use Rattle.mau_terms.specs.Bare.{IsLawful};
+ghost use Rattle.mau_signature.specs.Signature.{IsOperator, terms_over};
+ghost use Rattle.mau_formula.specs.Operator.{Operator};
+ghost use Rattle.mau_store.specs.Trees.{tree_at};
+ghost use Rattle.mau_program.specs.LawfulPrograms.{IsLawfulProgram};
+ghost use Rattle.mau_api.specs.Terms.{IsTerm};
+ghost use Rattle.mau_reduce.specs.BuiltOperators.{IsBuiltAt};
+ghost use Rattle.mau_reducer.specs.Basis.{DerivesNothing, HasNoCondition, AreBuiltIns, IsBasis};
+
+use mau_api::{Fragment, Lister, Program};
+use mau_reduce::{Attempts, BuiltIn, Natives, built_in_of, equations_in_order};
+use mau_sorts::SortTable;
+use mau_store::{NodeView, Store};
+use mau_terms::{NoMemory, OpId, TermId};
+use std::alloc::Global;
+use std::marker::PhantomData;
+
+/// All that may be applied at the top of a term and is not yet tried.
+#[derive(Drop)]
+pub struct Candidates<L> {
+    pub(crate) term: TermId,
+    pub(crate) attempts: Box<Attempts<L>>,
+}
+
+/// Solutions of a fragment. There are none, since no condition has a fragment.
+#[derive(Drop)]
+pub struct Choices;
+
+/// A program with native operators over a store: in which order its equations are tried, what is built in of its operators, and the sorts
+/// that are settled. It evaluates with listings of the type `L`.
+#[derive(Drop)]
+pub struct ProgramWorld<'a, L, N> {
+    pub(crate) program: &'a Program,
+    pub(crate) natives: N,
+    pub(crate) limit: u64,
+    pub(crate) order: Vec<usize>,
+    pub(crate) built_ins: Vec<BuiltIn>,
+    pub(crate) table: SortTable,
+    /// Whether the identities are settled.
+    pub(crate) begun: bool,
+    of: PhantomData<L>,
+}
+
+/// What is built in of the operators of a program, in their order.
+fn built_ins_of(alloc: Global, program: &Program) -> Result<Vec<BuiltIn>, NoMemory>
+    ensures { (hooks : List Operator) → IfOk result (λ found. AreBuiltIns program.now.sig hooks found.items) }
+{
+    let mut found = Vec::new(alloc);
+    for number in 0..program.sig.operators() {
+        found.push(built_in_of(alloc, &program.sig, OpId(number + 1))?)?;
+    }
+    Ok(found)
+}
+
+impl<'a, L: Lister + Drop, N: Natives> ProgramWorld<'a, L, N> {
+    ghost use Rattle.mau_reducer.specs.Basis.{Basis};
+    ghost use Rattle.mau_reducer.specs.Handles.{written_at};
+    ghost use Rattle.mau_reducer.specs.States.{IsFit};
+    ghost use Rattle.mau_store.specs.Node.{Node};
+
+    /// A program with native operators, before anything is settled. `limit` is the budget of an item.
+    pub fn new(
+        alloc: Global,
+        program: &'a Program,
+        natives: N,
+        limit: u64,
+    ) -> Result<ProgramWorld<'a, L, N>, NoMemory>
+        requires lawful { IsLawfulProgram program.now }
+        requires derives_nothing { DerivesNothing program.now }
+        requires unconditional { HasNoCondition program.now }
+        ensures program { IfOk result (λ w. w.program.now ≡ program.now) }
+        ensures natives { IfOk result (λ w. w.natives ≡ natives) }
+        ensures limit { IfOk result (λ w. w.limit ≡ limit) }
+        ensures fits { (nodes : List Node) → IfOk result (λ w. IsFit (record { program = w.program.now; hooks = N.operators w.natives; limit = w.limit; order = w.order.items; built_ins = w.built_ins.items }) nodes w.table w.begun) }
+    {
+        let order = equations_in_order(alloc, program)?;
+        let built_ins = built_ins_of(alloc, program)?;
+        Ok(ProgramWorld {
+            program,
+            natives,
+            limit,
+            order,
+            built_ins,
+            table: SortTable::new(alloc),
+            begun: false,
+            of: PhantomData,
+        })
+    }
+
+    /// What is built in of the operator on top of a term.
+    pub(crate) fn built_in_at(&self, store: &Store, term: TermId) -> BuiltIn
+        requires lawful { IsLawful (terms_over self.now.program.now.sig) }
+        requires term { IsTerm self.now.program.now.sig store.now term.0 }
+        requires built_ins { AreBuiltIns self.now.program.now.sig (N.operators self.now.natives) self.now.built_ins.items }
+        ensures { IsBuiltAt self.now.program.now.sig (N.operators self.now.natives) (tree_at store.now term.0) result }
+    {
+        match store.view(term) {
+            NodeView::App(op, _) => self.built_ins[op.0 as usize - 1],
+            NodeView::Num(_) | NodeView::Var(_) => BuiltIn::Nothing,
+        }
+    }
+
+    /// The fragment at a place of the condition with a number, if there is one.
+    pub(crate) fn fragment(&self, condition: usize, at: usize) -> Option<&Fragment>
+        ensures { option_copied result ≡ slice_get (written_at self.now.program.now condition) at }
+    {
+        match self.program.equations.items().get(condition) {
+            Some(equation) => equation.cond.items().get(at),
+            None => None,
+        }
+    }
+}
