@@ -1,21 +1,20 @@
-//! The answer of an evaluation, and its lines.
-ghost use Rattle.std.specs.Prelude.{◌≡◌, ◌++◌, IfOk, OnOk};
-ghost use Rattle.mau_store.specs.Node.{Extends, IsOf};
+//! The answer of an evaluation.
+ghost use Rattle.std.specs.Prelude.{◌≡◌, IfOk};
+ghost use Rattle.mau_terms.specs.Bare.{IsBare};
+ghost use Rattle.mau_terms.specs.View.{tree_of};
+ghost use Rattle.mau_signature.specs.Signature.{terms_over};
+ghost use Rattle.mau_store.specs.Node.{Extends};
 ghost use Rattle.mau_store.specs.Trees.{tree_at};
 ghost use Rattle.mau_api.specs.Terms.{IsTerm};
 ghost use Rattle.mau_api.specs.Answers.{uses_results};
 ghost use Rattle.mau_results.specs.Results.{MayAnswer};
-ghost use Rattle.mau_results.specs.Lines.{count_line, result_line, stopped_line, answer_lines};
-ghost use Rattle.mau_results.specs.Kept.{answer_in, IsThere};
+ghost use Rattle.mau_results.specs.Kept.{answer_in, IsThere, AreByDefinition};
 
-use crate::show::{printer_of, write_term};
 use mau_api::{EvalEnd, Evaluator, StepWatcher};
-use mau_declare::{write_number, write_text};
-use mau_module::Module;
+use mau_canon::{BuildFault, build_bare};
 use mau_signature::Signature;
 use mau_store::Store;
-use mau_terms::{NoMemory, TermId, Vars};
-use std::alloc::Global;
+use mau_terms::{Bare, NoMemory, TermId};
 
 /// A value, the sort that is shown for it, and how many applications led to it, or 2^64 - 1 where there are more.
 #[derive(Clone, Copy, Debug, PartialEq, Eq)]
@@ -75,65 +74,28 @@ pub fn evaluate_item<E: Evaluator, W: StepWatcher>(
     }
 }
 
-/// Writes a count.
-fn write_count(out: &mut Vec<u8>, rewrites: u64) -> Result<(), NoMemory>
-    ensures { OnOk result (out.new.items ≡ out.old.items ++ count_line rewrites) }
-{
-    write_text(out, "rewrites: ")?;
-    write_number(out, u128::from(rewrites))?;
-    write_text(out, "\n")
-}
-
-/// Writes a value with the sort that is shown for it.
-fn write_result(
-    out: &mut Vec<u8>,
-    alloc: Global,
-    module: &Module,
-    vars: &Vars,
-    sort: u32,
-    store: &Store,
-    value: TermId,
-) -> Result<(), NoMemory>
-    requires { IsOf store.now value.0 }
-    ensures { OnOk result (out.new.items ≡ out.old.items ++ result_line module.now vars.now sort (tree_at store.now value.0)) }
-{
-    let printer = printer_of(alloc, module)?;
-    write_text(out, "result ")?;
-    module.write_sort(out, sort)?;
-    write_text(out, ": ")?;
-    write_term(out, alloc, &printer, vars, store, value)?;
-    write_text(out, "\n")
-}
-
-/// Writes that the budget of an item was used up.
-fn write_stopped(out: &mut Vec<u8>, limit: u64) -> Result<(), NoMemory>
-    ensures { OnOk result (out.new.items ≡ out.old.items ++ stopped_line limit) }
-{
-    write_text(out, "Stopped: ")?;
-    write_number(out, u128::from(limit))?;
-    write_text(out, ".\n")
-}
-
-/// Writes the lines of an answer of an item with this budget.
-pub fn write_answer(
-    out: &mut Vec<u8>,
-    alloc: Global,
-    module: &Module,
-    vars: &Vars,
-    store: &Store,
+/// Evaluates a term as it was read, with the budget of an item. One whose normal form is beyond the limits ends so.
+pub fn evaluate_bare<E: Evaluator, W: StepWatcher>(
+    evaluator: &mut E,
+    sig: &Signature,
+    store: &mut Store,
+    term: &Bare,
     limit: u64,
-    answer: &Answer,
-) -> Result<(), NoMemory>
-    requires there { IsThere store.now answer.now }
-    ensures { OnOk result (out.new.items ≡ out.old.items ++ answer_lines module.now vars.now limit (answer_in store.now answer.now)) }
+    watcher: &mut W,
+) -> Result<Answer, NoMemory>
+    requires fits { E.fits evaluator.old store.old }
+    requires signature { sig.now ≡ (E.meanings evaluator.old).program.sig }
+    requires bare { IsBare (terms_over sig.now) (tree_of term.now) }
+    requires limit { limit ≡ (E.meanings evaluator.old).limit }
+    requires meanings { AreByDefinition (E.meanings evaluator.old) }
+    ensures allowed { IfOk result (λ a. MayAnswer (E.meanings evaluator.old) (uses_results (E.meanings evaluator.old) (W.wanted watcher.old))
+        (tree_of term.now) (answer_in store.new a)) }
+    ensures there { IfOk result (IsThere store.new) }
 {
-    match answer {
-        Answer::Value(value) => {
-            write_count(out, value.rewrites)?;
-            write_result(out, alloc, module, vars, value.sort, store, value.term)
-        }
-        Answer::Stopped => write_stopped(out, limit),
-        Answer::TooDeep => write_text(out, "Too deep.\n"),
-        Answer::Overflow => write_text(out, "Overflow.\n"),
+    match build_bare(store, sig, term) {
+        Ok(number) => evaluate_item(evaluator, sig, store, number, limit, watcher),
+        Err(BuildFault::TooDeep) => Ok(Answer::TooDeep),
+        Err(BuildFault::Overflow) => Ok(Answer::Overflow),
+        Err(BuildFault::NoMemory) => Err(NoMemory),
     }
 }

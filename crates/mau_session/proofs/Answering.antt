@@ -14,15 +14,17 @@ use Rattle.mau_terms.specs.View.{tree_of}
 use Rattle.mau_terms.specs.declared.bare.Bare.{Bare}
 use Rattle.mau_session.specs.Terms.{Pairs}
 use Rattle.mau_session.specs.Query.{QueryOf, asked_first, shown_more}
-use Rattle.mau_session.specs.State.{a_listing, GoingOf, StateOf, at_first, IsChosen, OutcomeOf, left_by, refuses, state_after}
+use Rattle.mau_session.specs.State.{a_listing, GoingOf, StateOf, at_first, IsChosen, OutcomeOf, has_ended, left_by, refuses, state_after}
 use Rattle.mau_session.specs.Bounds.{bound_of}
 use Rattle.mau_session.specs.Commands.{unbuilt}
-use Rattle.mau_session.specs.Environment.{Environment}
+use Rattle.mau_parse.specs.declared.goals.Goal.TheVariants.{AnyKind}
+use Rattle.mau_statement.specs.Parts.{TermReads}
+use Rattle.mau_session.specs.Environment.{Environment, meanings_in}
 use Rattle.mau_session.specs.Next.{GainsShown}
-use Rattle.mau_session.specs.Transcript.{PatternReads, SubjectReads, TermsAnswer, too_deep, overflows, listed, MatchAnswer, listing_not_built, bound_refused, command_answered, ContinueAnswer, continued, BodyAnswer, item_faulty, item_answered, ItemsAnswer, item_first}
-use Rattle.mau_session.specs.Gains.{GainsListing, GainsListed, gains_solutions, gains_too_deep, gains_overflow, GainsTerms, ChosenAnswer, chosen_not_built, chosen_refused, chosen_answered, GainsChosen, GainsMatch, GainsOn, GainsContinue, GainsBody, GainsItem}
-use Rattle.mau_results.specs.Lines.{too_deep_line, overflow_line}
-use Rattle.mau_session.specs.Answers.{listing_lines, match_head, continue_head}
+use Rattle.mau_session.specs.Transcript.{PatternReads, SubjectReads, TermsAnswer, too_deep, overflows, listed, MatchAnswer, listing_not_built, bound_refused, command_answered, ContinueAnswer, continued, term_answered, BodyAnswer, item_faulty, item_answered, ItemsAnswer, item_first}
+use Rattle.mau_session.specs.Gains.{GainsListing, GainsListed, gains_solutions, gains_too_deep, gains_overflow, GainsTerms, ChosenAnswer, chosen_not_built, chosen_refused, chosen_answered, GainsChosen, GainsMatch, GainsOn, GainsContinue, GainsAnswer, GainsTerm, GainsBody, GainsItem}
+use Rattle.mau_session.specs.Lines.{too_deep_line, overflow_line, answer_lines}
+use Rattle.mau_session.specs.Answers.{listing_lines, match_head, continue_head, reduce_head}
 
 -- what was written answers an item, where it is known whether that is a refusal
 pub answered_with : {E A : Type 0} (v : Bool) (P : Bool → Type 0) (r : Result Bool E) → OnOk r A → IfOk r (λ b. b ≡ v) → (A → P v) → IfOk r P
@@ -154,3 +156,14 @@ gains_chosen ws st k i c n next old new refused built chosen g = record { bytes 
     by (chosen_not_built m there uses) = listing_not_built n m built chosen there uses
     by (chosen_refused m r there none e) = bound_refused n m r built chosen there none e
     by (chosen_answered m most left bytes there none e a) = command_answered n m most left bytes built chosen there none e a
+
+-- ---- evaluations
+
+-- the answer of a reduce command whose term is read
+pub gains_term : (e : Environment) (ws : List Word) (m : ModuleOf) (k : ℕ) (c : RawCommand) (t : Bare) (ns : Pairs) → TermReads ws m.grammar c.first AnyKind [] ns t
+    → (o a n : List ℕ) → a ≡ o ++ reduce_head k m → GainsAnswer m (meanings_in e m) e.remembers ns (tree_of t) a n → GainsTerm e ws m k c o n has_ended
+gains_term e ws m k c t ns reads o a n head g = record {
+  bytes = reduce_head k m ++ answer_lines m ns e.budget g.answer;
+  answer = term_answered t ns g.answer reads g.allowed;
+  gained = g.gained ∙ ap (λ x. x ++ answer_lines m ns e.budget g.answer) head ∙ append_assoc o (reduce_head k m) (answer_lines m ns e.budget g.answer);
+}

@@ -41,9 +41,9 @@ use Rattle.mau_session.specs.Bounds.{bound_of}
 use Rattle.mau_session.specs.Transcript.{TermAnswer, term_refused, term_answered, ReduceAnswer, reduces_nothing, reduce_unknown, reduce_not_built, reduce_answered, reduce_is_answered, PatternReads, SubjectReads, TermsAnswer, pattern_refused, subject_refused, too_deep, overflows, listed, MatchAnswer, command_not_built, module_unknown, listing_not_built, bound_refused, command_answered, ContinueAnswer, number_refused, nothing_to_continue, continued, BodyAnswer, module_not_built, module_accepted, module_refused, match_answered, continue_answered, other_unknown, other_not_built, SettingAnswer, trace_not_built, trace_off, changes_nothing, module_selected, selects_none, setting_answered, ItemAnswer, item_faulty, item_answered, ItemsAnswer, items_end, item_quits, item_first, Transcript, text_refused, items_answered}
 use Rattle.mau_tokens.proofs.Answer.{answers_are_one as tokens_are_one}
 use Rattle.mau_api.proofs.LawfulMeanings.{meanings_are_lawful}
-use Rattle.mau_results.specs.Programs.{program_of}
+use Rattle.mau_session.specs.Programs.{program_of}
 use Rattle.mau_results.specs.Results.{AnswerOf, MayAnswer}
-use Rattle.mau_results.specs.Lines.{answer_lines}
+use Rattle.mau_session.specs.Lines.{answer_lines}
 use Rattle.mau_results.proofs.Allowed.{answers_are_one}
 use Rattle.mau_session.proofs.Evaluated.{evaluated_derives}
 use Rattle.mau_session.proofs.OneListing.{shows_once}

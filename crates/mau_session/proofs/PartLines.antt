@@ -14,7 +14,7 @@ use Rattle.mau_listing.specs.Asked.{matcher_in}
 use Rattle.mau_listing.proofs.Growth.{trees_long}
 use Rattle.mau_module.specs.Modules.{ModuleOf}
 use Rattle.mau_session.specs.Terms.{Pairs, terms_in}
-use Rattle.mau_results.specs.Shown.{printer_in}
+use Rattle.mau_session.specs.Shown.{printer_in}
 use Rattle.mau_session.specs.Answers.{is_whole, term_line, context_line, context_lines, right_label, part_lines}
 
 pub whole_same : (nodes : List Node) (x : Solution) → is_whole (matcher_in nodes x) ≡ ((length x.left == 0) && (length x.right == 0))

@@ -26,7 +26,7 @@ use Rattle.mau_parse.specs.declared.fault.ParseFault.{ParseFault}
 use Rattle.mau_parse.specs.declared.fault.ParseFault.TheVariants.{NoParse, Ambiguous, TooManyTokens, NumberTooLarge, SuccessorTooLarge, NoMemory as NoMemoryOfParse}
 use Rattle.mau_session.specs.Terms.{Pairs, terms_in}
 use Rattle.mau_print.specs.Printed.{PrinterOf, shown}
-use Rattle.mau_results.specs.Shown.{shown_variable, printer_in}
+use Rattle.mau_session.specs.Shown.{shown_variable, printer_in}
 
 -- each answer begins with the number of its item
 abbrev pub item_head : ℕ → List ℕ

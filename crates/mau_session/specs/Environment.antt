@@ -3,7 +3,7 @@ use Rattle.std.specs.Prelude.{ℕ, List, Bool, false}
 use Rattle.mau_formula.specs.Operator.{Operator}
 use Rattle.mau_api.specs.Meanings.{Meanings, meanings_by}
 use Rattle.mau_module.specs.Modules.{ModuleOf}
-use Rattle.mau_results.specs.Programs.{program_of}
+use Rattle.mau_session.specs.Programs.{program_of}
 
 -- the native operators, the budget of each item, and whether results are remembered
 pub record Environment : Type 0 where

@@ -20,7 +20,9 @@ use Rattle.mau_session.specs.Bounds.{bound_of}
 use Rattle.mau_session.specs.declared.refusal.Refusal.{Refusal}
 use Rattle.mau_session.specs.declared.refusal.Refusal.TheVariants.{NotBuilt}
 use Rattle.mau_session.specs.Built.{uses_memberships}
-use Rattle.mau_results.specs.Lines.{too_deep_line, overflow_line}
+use Rattle.mau_api.specs.Meanings.{Meanings}
+use Rattle.mau_results.specs.Results.{AnswerOf, MayAnswer}
+use Rattle.mau_session.specs.Lines.{too_deep_line, overflow_line, answer_lines}
 use Rattle.mau_session.specs.Answers.{refusal_line, continue_head, listing_lines}
 use Rattle.mau_session.specs.Transcript.{TermsAnswer, MatchAnswer, ContinueAnswer, TermAnswer, ReduceAnswer, SettingAnswer, BodyAnswer, ItemAnswer}
 
@@ -82,6 +84,12 @@ pub record GainsSetting (ws : List Word) (st : StateOf) (k i : ℕ) (s : Setting
   pub bytes : List ℕ
   pub answer : SettingAnswer ws st k i s next bytes refused
   pub gained : new ≡ old ++ bytes
+
+-- the bytes gained are those of an allowed answer for the term t, by the budget of the meanings
+pub record GainsAnswer (m : ModuleOf) (means : Meanings) (remembered : Bool) (ns : Pairs) (t : Tree) (old new : List ℕ) : Type 0 where
+  pub answer : AnswerOf
+  pub allowed : MayAnswer means remembered t answer
+  pub gained : new ≡ old ++ answer_lines m ns means.limit answer
 
 -- the bytes of the term of a reduce command
 pub record GainsTerm (e : Environment) (ws : List Word) (m : ModuleOf) (k : ℕ) (c : RawCommand) (old new : List ℕ) (left : OutcomeOf) : Type 0 where

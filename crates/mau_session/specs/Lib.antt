@@ -5,8 +5,11 @@
 -- the terms of commands, how they are read and shown
 pub mod Terms
 pub mod Reading
+pub mod Shown
 -- commands, and what answers them
+pub mod Programs
 pub mod Environment
+pub mod Lines
 pub mod Matching
 pub mod Commands
 pub mod Answers

@@ -34,7 +34,7 @@ use Rattle.mau_session.specs.Terms.{Pairs, terms_in, kind_of_term}
 use Rattle.mau_statement.specs.Parts.{TermReads, IsUnread, is_empty}
 use Rattle.mau_session.specs.Matching.{Shows}
 use Rattle.mau_results.specs.Results.{AnswerOf, MayAnswer}
-use Rattle.mau_results.specs.Lines.{too_deep_line, overflow_line, answer_lines}
+use Rattle.mau_session.specs.Lines.{too_deep_line, overflow_line, answer_lines}
 use Rattle.mau_session.specs.Environment.{Environment, meanings_in}
 use Rattle.mau_session.specs.Query.{QueryOf, asked_first, shown_more}
 use Rattle.mau_session.specs.State.{a_listing, StateOf, at_first, accepted, selected, IsChosen, NamesNone, OutcomeOf, is_refused, has_ended, left_by, refuses, state_after}

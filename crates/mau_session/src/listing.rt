@@ -8,11 +8,11 @@ ghost use Rattle.mau_session.specs.Matching.{numbered_from};
 ghost use Rattle.mau_session.specs.KeptQuery.{id_tree, id_trees, query_of, asked_for, IsReady};
 ghost use Rattle.mau_session.specs.Answers.{value_line, value_lines, substitution_lines, matcher_lines, last_line};
 ghost use Rattle.mau_session.specs.Next.{ShowsNext, GainsMatchers, GainsShown};
-ghost use Rattle.mau_results.specs.Shown.{printer_in};
+ghost use Rattle.mau_session.specs.Shown.{printer_in};
 
 use crate::part::write_part;
 use crate::query::Query;
-use mau_results::{printer_of, write_term, write_variable};
+use crate::show::{printer_of, write_term, write_variable};
 use mau_declare::{write_number, write_text};
 use mau_listing::{Lister, Solution};
 use mau_module::Module;

@@ -16,10 +16,10 @@ ghost use Rattle.mau_listing.specs.Asked.{matcher_in, IsGiven};
 ghost use Rattle.mau_session.specs.Answers.{term_line, context_line, part_lines, right_label};
 ghost use Rattle.mau_session.specs.Parts.{IsContext};
 ghost use Rattle.mau_session.specs.KeptQuery.{asked_for, IsReady};
-ghost use Rattle.mau_results.specs.Shown.{printer_in};
+ghost use Rattle.mau_session.specs.Shown.{printer_in};
 
 use crate::query::Query;
-use mau_results::write_term;
+use crate::show::write_term;
 use mau_canon::{BuildFault, build_instance, from_list};
 use mau_declare::write_text;
 use mau_listing::{Solution, places_of};

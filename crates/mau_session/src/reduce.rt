@@ -4,18 +4,18 @@ ghost use Rattle.mau_terms.specs.Bare.{IsBare};
 ghost use Rattle.mau_terms.specs.View.{tree_of};
 ghost use Rattle.mau_formula.specs.Operators.{operators};
 ghost use Rattle.mau_statement.specs.Parts;
-ghost use Rattle.mau_results.specs.Kept.{GainsAnswer};
 ghost use Rattle.mau_session.specs.Terms.{terms_in};
 ghost use Rattle.mau_session.specs.Environment.{environment_of, meanings_in};
 ghost use Rattle.mau_session.specs.Built.{IsEvaluated};
 ghost use Rattle.mau_session.specs.Answers.{reduce_head};
 ghost use Rattle.mau_session.specs.KeptState.{state_of, outcome_of, IsReadyState, IsReadyOutcome};
 ghost use Rattle.mau_session.specs.State.{IsChosen};
-ghost use Rattle.mau_session.specs.Gains.{GainsTerm, GainsReduce};
+ghost use Rattle.mau_session.specs.Gains.{GainsAnswer, GainsTerm, GainsReduce};
 
 use crate::built::is_evaluated;
 use crate::reading::{is_empty, read_term};
 use crate::refusal::{Refusal, refuse, refuse_term, write_head};
+use crate::results::write_reduced;
 use crate::session::Session;
 use crate::state::{Outcome, State};
 use mau_api::Unwatched;
@@ -26,7 +26,6 @@ use mau_modtext::RawCommand;
 use mau_module::Module;
 use mau_parse::Goal;
 use mau_reducer::Reducer;
-use mau_results::write_reduced;
 use mau_terms::{Bare, NoMemory, Vars};
 
 /// Writes what the answer of a reduce command begins with.

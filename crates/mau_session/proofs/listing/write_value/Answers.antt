@@ -1,7 +1,7 @@
 use Rattle.std.proofs.Common.{◌++◌, ◌∙◌, ap, codes}
 use Rattle.mau_session.specs.KeptQuery.{id_tree}
 use Rattle.mau_print.specs.Printed.{shown}
-use Rattle.mau_results.specs.Shown.{shown_variable, printer_in}
+use Rattle.mau_session.specs.Shown.{shown_variable, printer_in}
 use Rattle.mau_session.proofs.Lines.{four_parts}
 use Rattle.mau_session.proofs.listing.write_value.Goals as goal
 

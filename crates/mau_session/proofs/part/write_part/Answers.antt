@@ -16,7 +16,7 @@ use Rattle.mau_listing.specs.Asked.{matcher_in, IsGiven}
 use Rattle.mau_session.specs.Answers.{term_line, context_line, right_label, part_lines}
 use Rattle.mau_session.specs.Parts.{IsContext}
 use Rattle.mau_session.specs.KeptQuery.{asked_for}
-use Rattle.mau_results.specs.Shown.{printer_in}
+use Rattle.mau_session.specs.Shown.{printer_in}
 use Rattle.mau_session.proofs.Around.{is_around}
 use Rattle.mau_session.proofs.PartLines.{whole_lines, part_written}
 use Rattle.mau_session.proofs.part.write_part.Goals as goal

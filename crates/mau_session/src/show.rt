@@ -3,7 +3,7 @@ ghost use Rattle.std.specs.Prelude.{◌≡◌, ◌++◌, IfOk, OnOk};
 ghost use Rattle.mau_store.specs.Node.{IsOf};
 ghost use Rattle.mau_store.specs.Trees.{tree_at};
 ghost use Rattle.mau_print.specs.Printed.{shown};
-ghost use Rattle.mau_results.specs.Shown.{variable_name, shown_variable, printer_in};
+ghost use Rattle.mau_session.specs.Shown.{variable_name, shown_variable, printer_in};
 
 use mau_declare::write_text;
 use mau_module::Module;

@@ -5,7 +5,7 @@ use Rattle.mau_print.specs.Printed.{Pairs, shown}
 use Rattle.mau_declare.specs.Flattened.{sort_name}
 use Rattle.mau_evaluation.specs.Run.{End, stopped, too_deep, overflowed}
 use Rattle.mau_module.specs.Modules.{ModuleOf}
-use Rattle.mau_results.specs.Shown.{printer_in}
+use Rattle.mau_session.specs.Shown.{printer_in}
 use Rattle.mau_results.specs.Results.{AnswerOf, gives_value, ends_by}
 
 -- the count
