@@ -1,16 +1,24 @@
 -- The sort that is shown for a term, by what is kept of its sorts; and that it is one.
-use Rattle.std.proofs.Common.{◌≡◌, ◌<◌, ◌≤◌, ◌+◌, ℕ, zero, suc, List, [], ◌∷◌, length, inl, inr, ⊎_elim, refl, sym, subst, arith, true}
+use Rattle.std.proofs.Common.{◌≡◌, ◌<◌, ◌≤◌, ◌+◌, ℕ, zero, suc, List, [], ◌∷◌, Option, Some, None, is_some, length, inl, inr, ⊎_elim, refl, sym, ap, subst, arith, true, false}
+use Rattle.std.specs.Option.{option_map}
 use Rattle.std.specs.Prelude.{Contains}
 use Rattle.std.specs.List.Sorted.{IsStrictlyIncreasing}
 use Rattle.std.proofs.lemmas.List.Kept.{AllPairs-from_increasing}
 use Rattle.mau_poset.specs.Order.{Hierarchy, IsPoset}
 use Rattle.mau_poset.proofs.Orders.{antisymmetric}
 use Rattle.mau_terms.specs.Tree.{Tree}
+use Rattle.mau_store.specs.Node.{Node, IsOf, AreNodes}
+use Rattle.mau_store.specs.Trees.{tree_at}
+use Rattle.mau_store.proofs.Numbers.{one_number}
+use Rattle.mau_sorts.specs.Table.{Table, entry_at, IsSettled}
+use Rattle.mau_listing.specs.Asked.{IsTreeSettled}
 use Rattle.mau_sorts.specs.SortSets.{SortsOf, IsKeptOf, IsMinimalSort, IsLeast, shown_sort, first_or_kind}
 use Rattle.mau_sorts.proofs.Kept.{kept_minimal}
 use Rattle.mau_evaluation.specs.Evaluation.{has_number}
 use Rattle.mau_evaluation.proofs.Stay.{stays_one}
 use Rattle.mau_api.specs.Meanings.{Meanings, AreMeanings}
+use Rattle.mau_api.specs.Terms.{IsTerm, IsNormalBare}
+use Rattle.mau_api.specs.Answers.{IsDerivedTable}
 use Rattle.mau_results.specs.Results.{IsFirstMinimal, IsKindAlone, IsShownSort, shows_sort, shows_kind, HasShownSort}
 use Rattle.mau_results.specs.Laws.{LeastSortsAreShown}
 
@@ -64,3 +72,36 @@ least_sorts_are_shown h poset P s sort least =
       minimal = record { sort = sort; holds = least.holds; lowest = λ q holds low. antisymmetric h poset q s low (least.least q holds) };
       first = λ q minimal. let same = minimal.lowest s least.holds (least.least q minimal.holds) in omega (arith, same);
     })
+
+-- ---- terms whose sorts are settled
+
+module _ (m : Meanings) (nodes : List Node) (table : Table) (i : ℕ) where
+  -- the sort of the entry is shown
+  by_entry : IsPoset m.program.sig.hierarchy → IsDerivedTable m nodes table → IsNormalBare m.program.sig (tree_at nodes i) →
+      (o : Option SortsOf) → entry_at table i ≡ o → (s : ℕ) → Some s ≡ option_map shown_sort o → HasShownSort m (tree_at nodes i) s
+  by_entry poset derived normal None at s e = absurd cc
+  by_entry poset derived normal (Some x) at s e =
+      let entry = derived.entries i x at normal in
+      let kept = (derived.declared.entries i x at).1 in
+      let same : s ≡ shown_sort x = cc in
+      record {
+        sorts = entry.sorts;
+        known = record { level = entry.levels; each = m.limit; budget = 0; left = 0; comes = entry.known 0 };
+        shown = subst (IsShownSort m.program.sig.hierarchy (λ r. has_number entry.sorts r ≡ true)) (sym same)
+            (shown_kept m.program.sig.hierarchy poset (λ r. has_number entry.sorts r ≡ true) x
+            (record { exact = entry.exact; sorts = kept.sorts; kind = kept.kind; apart = kept.apart; ascending = kept.ascending }));
+      }
+
+  pub shown_settled : IsPoset m.program.sig.hierarchy → IsDerivedTable m nodes table → IsTerm m.program.sig nodes i →
+      (s : ℕ) → Some s ≡ option_map shown_sort (entry_at table i) → HasShownSort m (tree_at nodes i) s
+  shown_settled poset derived term s e = by_entry poset derived (term.within.normal, term.bare) (entry_at table i) refl s e
+
+-- where a term of a store is settled, its entry is there
+pub entry_there : (nodes : List Node) (table : Table) (i : ℕ) → AreNodes nodes → IsOf nodes i → IsTreeSettled nodes table (tree_at nodes i) → None ≡ option_map shown_sort (entry_at table i) → ⊥
+entry_there nodes table i are there settled e = none (entry_at table i) refl e
+  where
+    same : settled.number ≡ i
+    same = one_number nodes are settled.number i settled.there there settled.tree
+    none : (o : Option SortsOf) → entry_at table i ≡ o → None ≡ option_map shown_sort o → ⊥
+    none None at e = let yes : is_some (entry_at table i) ≡ true = subst (IsSettled table) same settled.settled in let no : is_some (entry_at table i) ≡ false = ap is_some at in cc
+    none (Some x) at e = cc

@@ -1,10 +1,14 @@
 //! The answer of an evaluation.
-ghost use Rattle.std.specs.Prelude.{◌≡◌, IfOk};
+ghost use Rattle.std.specs.Prelude.{◌≡◌, IfOk, Some};
+ghost use Rattle.std.specs.Option.{option_map};
+ghost use Rattle.mau_poset.specs.Order.{IsPoset};
 ghost use Rattle.mau_terms.specs.Bare.{IsBare};
 ghost use Rattle.mau_terms.specs.View.{tree_of};
 ghost use Rattle.mau_signature.specs.Signature.{terms_over};
-ghost use Rattle.mau_store.specs.Node.{Extends};
+ghost use Rattle.mau_store.specs.Node.{Extends, IsOf};
 ghost use Rattle.mau_store.specs.Trees.{tree_at};
+ghost use Rattle.mau_sorts.specs.Table.{entry_at};
+ghost use Rattle.mau_listing.specs.Asked.{IsTreeSettled};
 ghost use Rattle.mau_api.specs.Terms.{IsTerm};
 ghost use Rattle.mau_api.specs.Answers.{uses_results};
 ghost use Rattle.mau_results.specs.Results.{MayAnswer};
@@ -13,6 +17,7 @@ ghost use Rattle.mau_results.specs.Kept.{answer_in, IsThere, AreByDefinition};
 use mau_api::{EvalEnd, Evaluator, StepWatcher};
 use mau_canon::{BuildFault, build_bare};
 use mau_signature::Signature;
+use mau_sorts::SortTable;
 use mau_store::Store;
 use mau_terms::{Bare, NoMemory, TermId};
 
@@ -36,6 +41,21 @@ pub enum Answer {
     Overflow,
 }
 
+/// The sort that is shown for a term, which is settled.
+fn shown_sort(sig: &Signature, store: &Store, sorts: &SortTable, term: TermId) -> u32
+    requires there { IsOf store.now term.0 }
+    requires settled { IsTreeSettled store.now sorts.now (tree_at store.now term.0) }
+    ensures shown { Some result ≡ option_map Rattle.mau_sorts.specs.SortSets.shown_sort (entry_at sorts.now term.0) }
+    ensures poset { IsPoset sig.now.hierarchy }
+{
+    let _ = store.len();
+    let _ = sig.poset().sorts();
+    match sorts.sort_of(term) {
+        Some(sort) => sort,
+        None => unreachable!(),
+    }
+}
+
 /// Evaluates a term with the budget of an item.
 pub fn evaluate_item<E: Evaluator, W: StepWatcher>(
     evaluator: &mut E,
@@ -57,16 +77,15 @@ pub fn evaluate_item<E: Evaluator, W: StepWatcher>(
     ensures meanings { E.meanings evaluator.new ≡ E.meanings evaluator.old }
 {
     let mut budget = limit;
-    let _ = sig.poset().sorts();
     match evaluator.evaluate(store, term, &mut budget, watcher) {
-        Ok(value) => match evaluator.sorts().sort_of(value.term) {
-            Some(sort) => Ok(Answer::Value(Evaluated {
+        Ok(value) => {
+            let sort = shown_sort(sig, store, evaluator.sorts(), value.term);
+            Ok(Answer::Value(Evaluated {
                 term: value.term,
                 sort,
                 rewrites: value.rewrites,
-            })),
-            None => unreachable!(),
-        },
+            }))
+        }
         Err(EvalEnd::Stopped) => Ok(Answer::Stopped),
         Err(EvalEnd::TooDeep) => Ok(Answer::TooDeep),
         Err(EvalEnd::Overflow) => Ok(Answer::Overflow),
