@@ -6,6 +6,14 @@ use Rattle.mau_terms.specs.Norm.{norm, holds_overflow}
 use Rattle.mau_terms.specs.Depth.{depth}
 use Rattle.mau_terms.specs.Lawful.{AreLawful}
 use Rattle.mau_terms.proofs.Normal.{norm-norm}
+use Rattle.mau_terms.specs.Bare.{IsBare, IsLawful}
+use Rattle.mau_terms.specs.Reading.{reading}
+use Rattle.mau_terms.proofs.Chains.{last_bare}
+use Rattle.mau_terms.proofs.Law.{equal_reading}
+use Rattle.mau_signature.specs.Signature.{SignatureOf, theory_at, terms_over}
+use Rattle.mau_store.specs.Node.{Node}
+use Rattle.mau_store.specs.Trees.{StandsFor, tree_at}
+use Rattle.mau_canon.specs.Standing.{StandsWithin}
 use Rattle.mau_canon.specs.Within.{IsCause}
 use Rattle.mau_canon.specs.declared.fault.BuildFault.TheVariants.{TooDeep, Overflow}
 use Rattle.mau_evaluation.specs.Run.{End, stopped, too_deep, overflowed, Run, done, ended, and_then}
@@ -15,8 +23,10 @@ use Rattle.mau_evaluation.specs.Irreducible.{IsUnconditional}
 use Rattle.mau_evaluation.specs.Kept.{Rebuilt, as_leaf, with_values, DueStep, to_argument, to_rebuilt, to_replaced, Due, due_next, due_on, Applies, AllApply, Spends}
 use Rattle.mau_evaluation.proofs.Falls.{one_round}
 use Rattle.mau_api.specs.Meanings.{Meanings, program_of}
+use Rattle.mau_api.specs.Terms.{IsTerm}
 use Rattle.mau_api.specs.Answers.{levels_of_item, HasCause}
 use Rattle.mau_results.specs.Results.{AnswerOf, gives_value, ends_by, PlainAnswer, plain_value, plain_end, evaluator_end, IsCaused, MayAnswer}
+use Rattle.mau_results.specs.Kept.{AreByDefinition}
 
 -- ---- evaluations of a term and of its normal form
 
@@ -122,3 +132,33 @@ module _ (P : Program) (t : Tree) where
       one_round P B k t b
       ∙ ap₂ (λ d o. and_then (admitted d o (norm P.sign.theory t)) (on_normal P (levels P B k) (levels P B (suc k)).sorts (levels P B (suc k)).eval) b)
       (le-ltb depth_limit (depth (norm P.sign.theory t)) cause.0) cause.1
+
+-- ---- terms that are read
+
+-- such a term may be evaluated
+pub read_term : (s : SignatureOf) → IsLawful (terms_over s) → (t : Tree) → IsBare (terms_over s) t → (nodes : List Node) (i : ℕ) → StandsWithin (theory_at s) nodes i → StandsFor (theory_at s) nodes i t → IsTerm s nodes i
+read_term s lawful t bare nodes i within stands = record {
+  within = within;
+  bare = subst (λ u. IsBare (terms_over s) (reading (theory_at s) u)) (sym stands) (last_bare (equal_reading (terms_over s) lawful t bare));
+}
+
+module _ (m : Meanings) (by : AreByDefinition m) (t : Tree) (remembered : Bool) where
+  -- what may be answered for the number of its normal form may be for it
+  pub may_read : IsLawful (terms_over m.program.sig) → (nodes : List Node) (i : ℕ) → StandsFor (theory_at m.program.sig) nodes i t → (a : AnswerOf) → MayAnswer m remembered (tree_at nodes i) a → MayAnswer m remembered t a
+  may_read lawful nodes i stands a x = may_same m lawful.theories t (tree_at nodes i) stands same remembered a x
+    where
+      same : (k B b : ℕ) → m.evaluation k B (tree_at nodes i) b ≡ m.evaluation k B t b
+      same k B b =
+          subst (λ (n : Meanings). n.evaluation k B (tree_at nodes i) b ≡ n.evaluation k B t b) (sym by)
+          (subst (λ u. eval (program_of m) k B u b ≡ eval (program_of m) k B t b) (sym stands) (norm_evaluates (program_of m) lawful.theories t k B b))
+
+  -- beyond the limits it ends so
+  pub may_be_deep : IsCause (theory_at m.program.sig) (norm (theory_at m.program.sig) t) TooDeep → MayAnswer m remembered t (ends_by too_deep)
+  may_be_deep cause =
+      may_end_always m t too_deep
+      (λ k B b. subst (λ (n : Meanings). n.evaluation (suc k) B t b ≡ ended too_deep) (sym by) (deep_ends (program_of m) t cause k B b)) (λ e. cc) remembered
+
+  pub may_overflow : IsCause (theory_at m.program.sig) (norm (theory_at m.program.sig) t) Overflow → MayAnswer m remembered t (ends_by overflowed)
+  may_overflow cause =
+      may_end_always m t overflowed
+      (λ k B b. subst (λ (n : Meanings). n.evaluation (suc k) B t b ≡ ended overflowed) (sym by) (overflow_ends (program_of m) t cause k B b)) (λ e. cc) remembered

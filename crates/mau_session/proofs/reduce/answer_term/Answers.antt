@@ -16,7 +16,7 @@ pub returns-in-Err-clause-gained : goal.returns-in-Err-clause-gained
 returns-in-Err-clause-gained c =
     let e = environment_of (operators c.args.session.now.hooks.now) c.args.session.now.limit in
     let ws = c.args.session.now.words.now in
-    let m = c.args.«module».now in
+    let m = c.args.module.now in
     let f = c.in-Err.fault in
     unread_with Refused (λ l. GainsTerm e ws m c.args.number c.args.command.now c.args.out.now.items c.refuse_term.new.out.items (outcome_of l)) c.refuse_term.result
     c.refuse_term.ensures.bytes c.refuse_term.ensures.named c.refuse_term.ensures.refused
@@ -28,13 +28,13 @@ returns-in-Err-clause-gained c =
 
 pub returns-in-Err-clause-ready : goal.returns-in-Err-clause-ready
 returns-in-Err-clause-ready c =
-    unread_with Refused (IsReadyOutcome c.args.«module».now) c.refuse_term.result c.refuse_term.ensures.bytes c.refuse_term.ensures.named c.refuse_term.ensures.refused (λ g n. tt)
+    unread_with Refused (IsReadyOutcome c.args.module.now) c.refuse_term.result c.refuse_term.ensures.bytes c.refuse_term.ensures.named c.refuse_term.ensures.refused (λ g n. tt)
 
 pub returns-in_ok-reduce-in-Ok-clause-gained : goal.returns-in_ok-reduce-in-Ok-clause-gained
 returns-in_ok-reduce-in-Ok-clause-gained c =
     let e = environment_of (operators c.args.session.now.hooks.now) c.args.session.now.limit in
     let ws = c.args.session.now.words.now in
-    let m = c.args.«module».now in
+    let m = c.args.module.now in
     let t = c.in-Ok.term in
     let ns = c.read_term.new.vars in
     gains_term e ws m c.args.number c.args.command.now t ns
