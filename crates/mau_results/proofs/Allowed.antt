@@ -9,11 +9,12 @@ use Rattle.mau_evaluation.specs.Run.{End, stopped, too_deep, overflowed, Run, Ou
 use Rattle.mau_evaluation.specs.Irreducible.{IsUnconditional}
 use Rattle.mau_evaluation.specs.Kept.{Spends}
 use Rattle.mau_evaluation.specs.Higher.{with_more}
-use Rattle.mau_api.specs.Told.{shown_count}
 use Rattle.mau_api.specs.Meanings.{Meanings, AreMeanings, StaysUnderLimits, program_of}
-use Rattle.mau_api.specs.Answers.{levels_of_item, DerivesNothing, HasCause, GivesUnder, IsAnswered, IsExact, IsAllowed}
+use Rattle.mau_api.specs.Answers.{IsAnswered, IsExact, IsAllowed}
+use Rattle.mau_api.specs.declared.results.EvalEnd.{EvalEnd}
+use Rattle.mau_api.specs.declared.results.EvalEnd.TheVariants.{Stopped, TooDeep, Overflow}
 use Rattle.mau_api.specs.declared.results.Reduced.{Reduced}
-use Rattle.mau_results.specs.Results.{HasShownSort, AnswerOf, gives_value, ends_by, PlainAnswer, plain_value, plain_end, evaluator_end, IsCaused, MayAnswer}
+use Rattle.mau_results.specs.Results.{HasShownSort, item_levels, shown_count, DerivesNothing, AnswerOf, gives_value, ends_by, PlainAnswer, plain_value, plain_end, HasCause, IsCaused, MayAnswer}
 use Rattle.mau_results.specs.Laws.{AnswersAreOne}
 use Rattle.mau_results.proofs.ShownSorts.{shown_sort_once}
 
@@ -46,11 +47,17 @@ module _ {A : Type 0} (f : ℕ → ℕ → Run A) (stays : StaysUnderLimits f) (
   not_overflowed : (k B c : ℕ) → K ≤ k → each ≤ B → b ≤ c → f k B c ≡ ended overflowed → ⊥
   not_overflowed k B c i j l e = let d = under_larger k B c i j l in cc
 
-  -- so no end has a cause
-  pub no_cause : (e : End) → HasCause f K each b (evaluator_end e) → ⊥
-  no_cause stopped (k, is) = not_stopped k is
-  no_cause too_deep (B, c, is) = not_too_deep B c is
-  no_cause overflowed (k, B, c, i, j, l, is) = not_overflowed k B c i j l is
+-- so no end has a cause
+no_cause : (f : ℕ → ℕ → Run Tree) → StaysUnderLimits f → (b : ℕ) (x : Tree) (r left : ℕ) → f item_levels b b ≡ done x r left → (e : End) → HasCause f b e → ⊥
+no_cause f stays b x r left given stopped (k, is) = not_stopped f stays item_levels b b x r left given k is
+no_cause f stays b x r left given too_deep (B, c, is) = not_too_deep f stays item_levels b b x r left given B c is
+no_cause f stays b x r left given overflowed (k, B, c, i, j, l, is) = not_overflowed f stays item_levels b b x r left given k B c i j l is
+
+-- the end of an evaluator
+abbrev pub evaluator_end : End → EvalEnd
+evaluator_end stopped = Stopped
+evaluator_end too_deep = TooDeep
+evaluator_end overflowed = Overflow
 
 -- ---- plain answers
 
@@ -95,8 +102,8 @@ module _ (m : Meanings) (laws : AreMeanings m) (t : Tree) where
   may_value remembered nodes x s after sort (r, (k, B, b, left, i, j, l, given), count) exact = record {
     caused = (k, B, b, i, j, l, subst (λ n. PlainAnswer m t k B b (gives_value v s n)) (sym count) (plain_value v s r left given sort));
     just = λ w q o plain.
-        let p = value_of levels_of_item m.limit m.limit w q o plain in
-        let given' = under_larger (λ k B. m.evaluation k B t) (laws.evaluation t) levels_of_item m.limit m.limit w p.count p.left p.given k B b i j l in
+        let p = value_of item_levels m.limit m.limit w q o plain in
+        let given' = under_larger (λ k B. m.evaluation k B t) (laws.evaluation t) item_levels m.limit m.limit w p.count p.left p.given k B b i j l in
         let same : done v r left ≡ done w p.count (p.left + (b - m.limit)) = sym given ∙ given' in
         let e : v ≡ w = cc in
         let c : r ≡ p.count = cc in
@@ -106,8 +113,8 @@ module _ (m : Meanings) (laws : AreMeanings m) (t : Tree) where
     where
       v : Tree
       v = tree_at nodes x.term.0
-      exact_value : (k : ℕ) → levels_of_item ≤ k → (DerivesNothing m → k ≡ levels_of_item) → IsAnswered (m.evaluation k m.limit t m.limit) nodes (Ok x) after →
-          (k : ℕ) × (levels_of_item ≤ k) × (DerivesNothing m → k ≡ levels_of_item) × PlainAnswer m t k m.limit m.limit (gives_value v s x.rewrites)
+      exact_value : (k : ℕ) → item_levels ≤ k → (DerivesNothing m → k ≡ item_levels) → IsAnswered (m.evaluation k m.limit t m.limit) nodes (Ok x) after →
+          (k : ℕ) × (item_levels ≤ k) × (DerivesNothing m → k ≡ item_levels) × PlainAnswer m t k m.limit m.limit (gives_value v s x.rewrites)
       exact_value k enough just (q, is, shown) = (k, enough, just, subst (λ n. PlainAnswer m t k m.limit m.limit (gives_value v s n)) (sym shown) (plain_value v s q after is sort))
 
   ended_so : (nodes : List Node) (o : Outcome Tree) (e : End) (after : ℕ) → IsAnswered o nodes (Err (evaluator_end e)) after → o ≡ ended e
@@ -116,7 +123,7 @@ module _ (m : Meanings) (laws : AreMeanings m) (t : Tree) where
   ended_so nodes o overflowed after is = is
 
   cause_of : (remembered : Bool) (nodes : List Node) (e : End) → IsAllowed m remembered t m.limit nodes (Err (evaluator_end e)) →
-      HasCause (λ k B. m.evaluation k B t) levels_of_item m.limit m.limit (evaluator_end e) × (e ≡ stopped → remembered ≡ true → IsUnconditional (program_of m) → Spends (program_of m) t m.limit)
+      HasCause (λ k B. m.evaluation k B t) m.limit e × (e ≡ stopped → remembered ≡ true → IsUnconditional (program_of m) → Spends (program_of m) t m.limit)
   cause_of remembered nodes stopped a = (a.0, λ is. a.1)
   cause_of remembered nodes too_deep a = (a, λ is. cc)
   cause_of remembered nodes overflowed a = (a, λ is. cc)
@@ -127,8 +134,8 @@ module _ (m : Meanings) (laws : AreMeanings m) (t : Tree) where
   may_end remembered nodes e after allowed exact = record {
     caused = cause_of remembered nodes e allowed;
     just = λ w q o plain.
-        let p = value_of levels_of_item m.limit m.limit w q o plain in
-        absurd (no_cause (λ k B. m.evaluation k B t) (laws.evaluation t) levels_of_item m.limit m.limit w p.count p.left p.given e (cause_of remembered nodes e allowed).0);
+        let p = value_of item_levels m.limit m.limit w q o plain in
+        absurd (no_cause (λ k B. m.evaluation k B t) (laws.evaluation t) m.limit w p.count p.left p.given e (cause_of remembered nodes e allowed).0);
     exact = λ none. let x = exact none in (x.levels, x.enough, x.just, plain_end e (ended_so nodes (m.evaluation x.levels m.limit t m.limit) e after x.is));
   }
 
@@ -138,6 +145,6 @@ pub answers_are_one : AnswersAreOne
 answers_are_one m laws derives t a b x y =
     let i = x.exact refl in
     let j = y.exact refl in
-    let at : (k : ℕ) → k ≡ levels_of_item → (c : AnswerOf) → PlainAnswer m t k m.limit m.limit c → PlainAnswer m t levels_of_item m.limit m.limit c =
+    let at : (k : ℕ) → k ≡ item_levels → (c : AnswerOf) → PlainAnswer m t k m.limit m.limit c → PlainAnswer m t item_levels m.limit m.limit c =
         λ k e c p. subst (λ n. PlainAnswer m t n m.limit m.limit c) e p in
-    plain_once m laws t levels_of_item m.limit m.limit a b (at i.0 (i.2 derives) a i.3) (at j.0 (j.2 derives) b j.3)
+    plain_once m laws t item_levels m.limit m.limit a b (at i.0 (i.2 derives) a i.3) (at j.0 (j.2 derives) b j.3)

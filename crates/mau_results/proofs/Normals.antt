@@ -24,8 +24,7 @@ use Rattle.mau_evaluation.specs.Kept.{Rebuilt, as_leaf, with_values, DueStep, to
 use Rattle.mau_evaluation.proofs.Falls.{one_round}
 use Rattle.mau_api.specs.Meanings.{Meanings, program_of}
 use Rattle.mau_api.specs.Terms.{IsTerm}
-use Rattle.mau_api.specs.Answers.{levels_of_item, HasCause}
-use Rattle.mau_results.specs.Results.{AnswerOf, gives_value, ends_by, PlainAnswer, plain_value, plain_end, evaluator_end, IsCaused, MayAnswer}
+use Rattle.mau_results.specs.Results.{item_levels, AnswerOf, gives_value, ends_by, PlainAnswer, plain_value, plain_end, HasCause, IsCaused, MayAnswer}
 use Rattle.mau_results.specs.Kept.{AreByDefinition}
 
 -- ---- evaluations of a term and of its normal form
@@ -81,9 +80,9 @@ module _ (m : Meanings) (lawful : AreLawful (program_of m).sign.theory) (t u : T
   plain_back k B b a (plain_value v s r left given sort) = plain_value v s r left (same k B b ∙ given) sort
   plain_back k B b a (plain_end e given) = plain_end e (same k B b ∙ given)
 
-  cause_same : (e : End) → HasCause (λ k B. m.evaluation k B u) levels_of_item m.limit m.limit (evaluator_end e) → HasCause (λ k B. m.evaluation k B t) levels_of_item m.limit m.limit (evaluator_end e)
+  cause_same : (e : End) → HasCause (λ k B. m.evaluation k B u) m.limit e → HasCause (λ k B. m.evaluation k B t) m.limit e
   cause_same stopped (k, given) = (k, sym (same k m.limit m.limit) ∙ given)
-  cause_same too_deep (B, c, given) = (B, c, sym (same levels_of_item B c) ∙ given)
+  cause_same too_deep (B, c, given) = (B, c, sym (same item_levels B c) ∙ given)
   cause_same overflowed (k, B, c, i, j, l, given) = (k, B, c, i, j, l, sym (same k B c) ∙ given)
 
   caused_same : (remembered : Bool) (a : AnswerOf) → IsCaused m remembered u a → IsCaused m remembered t a
@@ -95,27 +94,27 @@ module _ (m : Meanings) (lawful : AreLawful (program_of m).sign.theory) (t u : T
   pub may_same : (remembered : Bool) (a : AnswerOf) → MayAnswer m remembered u a → MayAnswer m remembered t a
   may_same remembered a x = record {
     caused = caused_same remembered a x.caused;
-    just = λ v s r plain. x.just v s r (plain_back levels_of_item m.limit m.limit (gives_value v s r) plain);
+    just = λ v s r plain. x.just v s r (plain_back item_levels m.limit m.limit (gives_value v s r) plain);
     exact = λ none. let e = x.exact none in (e.0, e.1, e.2, plain_same e.0 m.limit m.limit a e.3);
   }
 
 -- ---- beyond the limits
 
 module _ (m : Meanings) (t : Tree) (e : End) (always : (k B b : ℕ) → m.evaluation (suc k) B t b ≡ ended e) where
-  value_ends : (v : Tree) (s r : ℕ) → PlainAnswer m t levels_of_item m.limit m.limit (gives_value v s r) → ⊥
+  value_ends : (v : Tree) (s r : ℕ) → PlainAnswer m t item_levels m.limit m.limit (gives_value v s r) → ⊥
   value_ends v s r (plain_value v' s' r' left given sort) = let ends = always 1999 m.limit m.limit in cc
 
-  its_cause : (f : End) → e ≡ f → (f ≡ stopped → ⊥) → HasCause (λ k B. m.evaluation k B t) levels_of_item m.limit m.limit (evaluator_end f)
+  its_cause : (f : End) → e ≡ f → (f ≡ stopped → ⊥) → HasCause (λ k B. m.evaluation k B t) m.limit f
   its_cause stopped is not = absurd (not refl)
   its_cause too_deep is not = (0, 0, always 1999 0 0 ∙ ap ended is)
-  its_cause overflowed is not = (levels_of_item, m.limit, m.limit, ≤_refl levels_of_item, ≤_refl m.limit, ≤_refl m.limit, always 1999 m.limit m.limit ∙ ap ended is)
+  its_cause overflowed is not = (item_levels, m.limit, m.limit, ≤_refl item_levels, ≤_refl m.limit, ≤_refl m.limit, always 1999 m.limit m.limit ∙ ap ended is)
 
   -- what ends so under all limits may be answered so
   pub may_end_always : (e ≡ stopped → ⊥) → (remembered : Bool) → MayAnswer m remembered t (ends_by e)
   may_end_always not remembered = record {
     caused = (its_cause e refl not, λ is kept free. absurd (not is));
     just = λ v s r plain. absurd (value_ends v s r plain);
-    exact = λ none. (levels_of_item, ≤_refl levels_of_item, λ derives. refl, plain_end e (always 1999 m.limit m.limit));
+    exact = λ none. (item_levels, ≤_refl item_levels, λ derives. refl, plain_end e (always 1999 m.limit m.limit));
   }
 
 module _ (P : Program) (t : Tree) where

@@ -4,9 +4,8 @@ use Rattle.mau_terms.specs.Tree.{Tree}
 use Rattle.mau_poset.specs.Order.{Hierarchy}
 use Rattle.mau_sorts.specs.SortSets.{IsLeast}
 use Rattle.mau_api.specs.Meanings.{Meanings, AreMeanings}
-use Rattle.mau_api.specs.Answers.{DerivesNothing}
 use Rattle.mau_poset.specs.Order.{IsPoset}
-use Rattle.mau_results.specs.Results.{IsShownSort, AnswerOf, MayAnswer}
+use Rattle.mau_results.specs.Results.{IsShownSort, DerivesNothing, AnswerOf, MayAnswer}
 
 -- where there is a least sort, it is the one that is shown
 abbrev pub LeastSortsAreShown : Type 0

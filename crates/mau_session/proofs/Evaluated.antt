@@ -5,7 +5,7 @@ use Rattle.mau_terms.specs.Finite.{IsIn}
 use Rattle.mau_program.specs.declared.statements.Membership as Written
 use Rattle.mau_evaluation.specs.Program.{Membership}
 use Rattle.mau_api.specs.Programs.{membership_of}
-use Rattle.mau_api.specs.Answers.{DerivesNothing}
+use Rattle.mau_results.specs.Results.{DerivesNothing}
 use Rattle.mau_module.specs.Modules.{ModuleOf}
 use Rattle.mau_session.specs.Built.{IsEvaluated}
 use Rattle.mau_session.specs.Environment.{Environment, meanings_in}

@@ -12,9 +12,9 @@ use Rattle.mau_evaluation.specs.Run.{End, stopped, too_deep, overflowed}
 use Rattle.mau_api.specs.Meanings.{Meanings, AreMeanings}
 use Rattle.mau_api.specs.Answers.{uses_results, IsAllowed, IsExact, IsDerivedTable}
 use Rattle.mau_api.specs.declared.results.EvalEnd.{EvalEnd}
-use Rattle.mau_results.specs.Results.{evaluator_end, ends_by, MayAnswer}
+use Rattle.mau_results.specs.Results.{ends_by, MayAnswer}
 use Rattle.mau_results.proofs.ShownSorts.{shown_settled}
-use Rattle.mau_results.proofs.Allowed.{may_value, may_end}
+use Rattle.mau_results.proofs.Allowed.{evaluator_end, may_value, may_end}
 use Rattle.mau_results.proofs.answer.evaluate_item.Goals as goal
 
 -- an end that the evaluator gave
