@@ -1,6 +1,6 @@
 -- Allowed answers: what an evaluator answers is one, and where nothing is remembered and nothing derived there is one alone.
-use Rattle.std.proofs.Common.{◌≡◌, ◌<◌, ◌≤◌, ◌+◌, ◌-◌, ℕ, List, Bool, true, false, Ok, Err, Result, ⊎_elim, refl, sym, ◌∙◌, ap, subst, arith, ≤_refl, add_comm}
-use Rattle.std.proofs.Math.Nat.{add-sub_of_le}
+use Rattle.std.proofs.Common.{◌≡◌, ◌<◌, ◌≤◌, ◌+◌, ◌-◌, ℕ, List, Bool, true, false, Ok, Err, ⊎_elim, refl, sym, ◌∙◌, ap, subst, arith}
+use Rattle.std.proofs.Math.Nat.{add-sub_of_le, le_refl, add_comm}
 use Rattle.std.proofs.lemmas.Bool.{cases_lt}
 use Rattle.mau_terms.specs.Tree.{Tree}
 use Rattle.mau_store.specs.Node.{Node}
@@ -14,7 +14,7 @@ use Rattle.mau_api.specs.Answers.{IsAnswered, IsExact, IsAllowed}
 use Rattle.mau_api.specs.declared.results.EvalEnd.{EvalEnd}
 use Rattle.mau_api.specs.declared.results.EvalEnd.TheVariants.{Stopped, TooDeep, Overflow}
 use Rattle.mau_api.specs.declared.results.Reduced.{Reduced}
-use Rattle.mau_results.specs.Results.{HasShownSort, item_levels, shown_count, DerivesNothing, AnswerOf, gives_value, ends_by, PlainAnswer, plain_value, plain_end, HasCause, IsCaused, MayAnswer}
+use Rattle.mau_results.specs.Results.{HasShownSort, item_levels, shown_count, DerivesNothing, AnswerOf, gives_value, ends_by, PlainAnswer, plain_value, plain_end, HasCause, MayAnswer}
 use Rattle.mau_results.specs.Laws.{AnswersAreOne}
 use Rattle.mau_results.proofs.ShownSorts.{shown_sort_once}
 
@@ -31,14 +31,16 @@ module _ {A : Type 0} (f : ℕ → ℕ → Run A) (stays : StaysUnderLimits f) (
     where
       lower : k < K → ⊥
       lower i = ⊎_elim (λ (d : f k each b ≡ ended too_deep). cc) (λ (same : f k each b ≡ f K each b). cc) (stays.levels k K each (omega arith) b)
+
       higher : K ≤ k → ⊥
-      higher i = let d : f k each b ≡ done x r (left + (b - b)) = under_larger k each b i (≤_refl each) (≤_refl b) in cc
+      higher i = let d : f k each b ≡ done x r (left + (b - b)) = under_larger k each b i (le_refl each) (le_refl b) in cc
 
   not_too_deep : (B c : ℕ) → f K B c ≡ ended too_deep → ⊥
   not_too_deep B c e = ⊎_elim (λ (s : f K B c ≡ ended stopped). cc) more (stays.budgets K B (B + each) (omega arith) c b)
     where
       d : f K (B + each) (b + c) ≡ done x r (left + c)
-      d = (stays.stays K K each (B + each) b c (≤_refl K) (omega arith)).0 x r left given
+      d = (stays.stays K K each (B + each) b c (le_refl K) (omega arith)).0 x r left given
+
       more : f K (B + each) (c + b) ≡ with_more b (f K B c) → ⊥
       more m =
           let m' : f K (B + each) (c + b) ≡ ended too_deep = m ∙ ap (with_more b) e in
@@ -71,10 +73,10 @@ module _ (m : Meanings) (laws : AreMeanings m) (t : Tree) where
     shown : n ≡ shown_count count
 
   value_of : (k B b : ℕ) (v : Tree) (s n : ℕ) → PlainAnswer m t k B b (gives_value v s n) → IsValue k B b v s n
-  value_of k B b v s n (plain_value v s r left given sort) = record { count = r; left = left; given = given; sort = sort; shown = refl }
+  value_of k B b v s n (plain_value v' s' r left given sort) = record { count = r; left = left; given = given; sort = sort; shown = refl }
 
   end_of : (k B b : ℕ) (e : End) → PlainAnswer m t k B b (ends_by e) → m.evaluation k B t b ≡ ended e
-  end_of k B b e (plain_end e is) = is
+  end_of k B b e (plain_end e' is) = is
 
   -- two values are one
   values_once : (v w : Tree) (s q n o r r' : ℕ) → (v ≡ w) × (r ≡ r') → HasShownSort m v s → HasShownSort m w q → n ≡ shown_count r → o ≡ shown_count r' → gives_value v s n ≡ gives_value w q o
@@ -113,6 +115,7 @@ module _ (m : Meanings) (laws : AreMeanings m) (t : Tree) where
     where
       v : Tree
       v = tree_at nodes x.term.0
+
       exact_value : (k : ℕ) → item_levels ≤ k → (DerivesNothing m → k ≡ item_levels) → IsAnswered (m.evaluation k m.limit t m.limit) nodes (Ok x) after →
           (k : ℕ) × (item_levels ≤ k) × (DerivesNothing m → k ≡ item_levels) × PlainAnswer m t k m.limit m.limit (gives_value v s x.rewrites)
       exact_value k enough just (q, is, shown) = (k, enough, just, subst (λ n. PlainAnswer m t k m.limit m.limit (gives_value v s n)) (sym shown) (plain_value v s q after is sort))
@@ -146,5 +149,5 @@ answers_are_one m laws derives t a b x y =
     let i = x.exact refl in
     let j = y.exact refl in
     let at : (k : ℕ) → k ≡ item_levels → (c : AnswerOf) → PlainAnswer m t k m.limit m.limit c → PlainAnswer m t item_levels m.limit m.limit c =
-        λ k e c p. subst (λ n. PlainAnswer m t n m.limit m.limit c) e p in
+    λ k e c p. subst (λ n. PlainAnswer m t n m.limit m.limit c) e p in
     plain_once m laws t item_levels m.limit m.limit a b (at i.0 (i.2 derives) a i.3) (at j.0 (j.2 derives) b j.3)

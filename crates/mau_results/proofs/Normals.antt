@@ -1,5 +1,6 @@
 -- A term and its normal form have the same answers, and a term whose normal form is beyond the limits ends so.
-use Rattle.std.proofs.Common.{◌≡◌, ◌≤◌, ◌⊎◌, ℕ, zero, suc, List, [], ◌∷◌, Bool, true, false, nat_lt, inl, inr, ⊎_elim, refl, sym, ◌∙◌, ap, ap₂, subst, ≤_refl}
+use Rattle.std.proofs.Common.{◌≡◌, ◌⊎◌, ℕ, zero, suc, List, [], ◌∷◌, Bool, inl, inr, ⊎_elim, refl, sym, ◌∙◌, ap, ap₂, subst}
+use Rattle.std.proofs.Math.Nat.{le_refl}
 use Rattle.std.proofs.lemmas.Bool.{lt-ltb, le-ltb}
 use Rattle.mau_terms.specs.Tree.{Tree}
 use Rattle.mau_terms.specs.Norm.{norm, holds_overflow}
@@ -16,11 +17,10 @@ use Rattle.mau_store.specs.Trees.{StandsFor, tree_at}
 use Rattle.mau_canon.specs.Standing.{StandsWithin}
 use Rattle.mau_canon.specs.Within.{IsCause}
 use Rattle.mau_canon.specs.declared.fault.BuildFault.TheVariants.{TooDeep, Overflow}
-use Rattle.mau_evaluation.specs.Run.{End, stopped, too_deep, overflowed, Run, done, ended, and_then}
+use Rattle.mau_evaluation.specs.Run.{End, stopped, too_deep, overflowed, ended, and_then}
 use Rattle.mau_evaluation.specs.Program.{Program}
 use Rattle.mau_evaluation.specs.Evaluation.{levels, eval, admitted, within_limits, on_normal, depth_limit}
-use Rattle.mau_evaluation.specs.Irreducible.{IsUnconditional}
-use Rattle.mau_evaluation.specs.Kept.{Rebuilt, as_leaf, with_values, DueStep, to_argument, to_rebuilt, to_replaced, Due, due_next, due_on, Applies, AllApply, Spends}
+use Rattle.mau_evaluation.specs.Kept.{Rebuilt, as_leaf, with_values, DueStep, to_argument, to_rebuilt, to_replaced, Due, due_next, due_on, AllApply, Spends}
 use Rattle.mau_evaluation.proofs.Falls.{one_round}
 use Rattle.mau_api.specs.Meanings.{Meanings, program_of}
 use Rattle.mau_api.specs.Terms.{IsTerm}
@@ -107,14 +107,14 @@ module _ (m : Meanings) (t : Tree) (e : End) (always : (k B b : ℕ) → m.evalu
   its_cause : (f : End) → e ≡ f → (f ≡ stopped → ⊥) → HasCause (λ k B. m.evaluation k B t) m.limit f
   its_cause stopped is not = absurd (not refl)
   its_cause too_deep is not = (0, 0, always 1999 0 0 ∙ ap ended is)
-  its_cause overflowed is not = (item_levels, m.limit, m.limit, ≤_refl item_levels, ≤_refl m.limit, ≤_refl m.limit, always 1999 m.limit m.limit ∙ ap ended is)
+  its_cause overflowed is not = (item_levels, m.limit, m.limit, le_refl item_levels, le_refl m.limit, le_refl m.limit, always 1999 m.limit m.limit ∙ ap ended is)
 
   -- what ends so under all limits may be answered so
   pub may_end_always : (e ≡ stopped → ⊥) → (remembered : Bool) → MayAnswer m remembered t (ends_by e)
   may_end_always not remembered = record {
     caused = (its_cause e refl not, λ is kept free. absurd (not is));
     just = λ v s r plain. absurd (value_ends v s r plain);
-    exact = λ none. (item_levels, ≤_refl item_levels, λ derives. refl, plain_end e (always 1999 m.limit m.limit));
+    exact = λ none. (item_levels, le_refl item_levels, λ derives. refl, plain_end e (always 1999 m.limit m.limit));
   }
 
 module _ (P : Program) (t : Tree) where

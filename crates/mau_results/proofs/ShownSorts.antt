@@ -1,7 +1,7 @@
 -- The sort that is shown for a term, by what is kept of its sorts; and that it is one.
-use Rattle.std.proofs.Common.{◌≡◌, ◌<◌, ◌≤◌, ◌+◌, ℕ, zero, suc, List, [], ◌∷◌, Option, Some, None, is_some, length, inl, inr, ⊎_elim, refl, sym, ap, subst, arith, true, false}
+use Rattle.std.proofs.Common.{◌≡◌, ◌<◌, ◌≤◌, ℕ, zero, suc, List, [], ◌∷◌, Option, Some, None, is_some, length, inr, ⊎_elim, refl, sym, ap, subst, arith, true, false}
 use Rattle.std.specs.Option.{option_map}
-use Rattle.std.specs.Prelude.{Contains}
+use Rattle.std.specs.Prelude.{Contains, slice_index_or}
 use Rattle.std.specs.List.Sorted.{IsStrictlyIncreasing}
 use Rattle.std.proofs.lemmas.List.Kept.{AllPairs-from_increasing}
 use Rattle.mau_poset.specs.Order.{Hierarchy, IsPoset}
@@ -12,21 +12,22 @@ use Rattle.mau_store.specs.Trees.{tree_at}
 use Rattle.mau_store.proofs.Numbers.{one_number}
 use Rattle.mau_sorts.specs.Table.{Table, entry_at, IsSettled}
 use Rattle.mau_listing.specs.Asked.{IsTreeSettled}
-use Rattle.mau_sorts.specs.SortSets.{SortsOf, IsKeptOf, IsMinimalSort, IsLeast, shown_sort, first_or_kind}
+use Rattle.mau_sorts.specs.SortSets.{SortsOf, IsKeptOf, shown_sort, first_or_kind}
 use Rattle.mau_sorts.proofs.Kept.{kept_minimal}
 use Rattle.mau_evaluation.specs.Evaluation.{has_number}
 use Rattle.mau_evaluation.proofs.Stay.{stays_one}
 use Rattle.mau_api.specs.Meanings.{Meanings, AreMeanings}
 use Rattle.mau_api.specs.Terms.{IsTerm, IsNormalBare}
 use Rattle.mau_api.specs.Answers.{IsDerivedTable}
-use Rattle.mau_results.specs.Results.{IsFirstMinimal, IsKindAlone, IsShownSort, shows_sort, shows_kind, HasShownSort}
+use Rattle.mau_results.specs.Results.{IsShownSort, shows_sort, shows_kind, HasShownSort}
 use Rattle.mau_results.specs.Laws.{LeastSortsAreShown}
 
 -- the first of numbers that rise is the lowest
 head_lowest : (m : ℕ) (ms : List ℕ) → IsStrictlyIncreasing (m ∷ ms) → (q : ℕ) → Contains (m ∷ ms) q → m ≤ q
-head_lowest m ms up q (zero, there, is) = omega (arith, is)
+head_lowest m ms up q (zero, there, is) = let same : m ≡ q = is in omega arith
 head_lowest m ms up q (suc k, there, is) =
-    let low = AllPairs-from_increasing (m ∷ ms) up 0 (suc k) q (omega arith) there in omega (arith, low, is)
+    let low : m < slice_index_or (m ∷ ms) (suc k) q = AllPairs-from_increasing (m ∷ ms) up 0 (suc k) q (omega arith) there in
+    let same : slice_index_or (m ∷ ms) (suc k) q ≡ q = is in omega arith
 
 -- what is kept tells the sort that is shown
 pub shown_kept : (h : Hierarchy) → IsPoset h → (P : ℕ → Type 0) (e : SortsOf) → IsKeptOf h P e → IsShownSort h P (shown_sort e)
@@ -67,7 +68,7 @@ shown_sort_once m laws v s q a b =
     shown_once h (λ r. has_number a.sorts r ≡ true) s q a.shown (subst (λ ss. IsShownSort h (λ r. has_number ss r ≡ true) q) (sym same) b.shown)
 
 pub least_sorts_are_shown : LeastSortsAreShown
-least_sorts_are_shown h poset P s sort least =
+least_sorts_are_shown h poset sorts s sort least =
     shows_sort (record {
       minimal = record { sort = sort; holds = least.holds; lowest = λ q holds low. antisymmetric h poset q s low (least.least q holds) };
       first = λ q minimal. let same = minimal.lowest s least.holds (least.least q minimal.holds) in omega (arith, same);
@@ -102,6 +103,7 @@ entry_there nodes table i are there settled e = none (entry_at table i) refl e
   where
     same : settled.number ≡ i
     same = one_number nodes are settled.number i settled.there there settled.tree
+
     none : (o : Option SortsOf) → entry_at table i ≡ o → None ≡ option_map shown_sort o → ⊥
     none None at e = let yes : is_some (entry_at table i) ≡ true = subst (IsSettled table) same settled.settled in let no : is_some (entry_at table i) ≡ false = ap is_some at in cc
     none (Some x) at e = cc

@@ -1,5 +1,5 @@
 -- What the code has for an answer.
-use Rattle.std.specs.Prelude.{◌≡◌, ℕ, List}
+use Rattle.std.specs.Prelude.{◌≡◌, List}
 use Rattle.mau_store.specs.Node.{Node, IsOf}
 use Rattle.mau_store.specs.Trees.{tree_at}
 use Rattle.mau_evaluation.specs.Run.{stopped, too_deep, overflowed}

@@ -1,15 +1,17 @@
 -- Laws of allowed answers.
-use Rattle.std.specs.Prelude.{◌≡◌, ◌<◌, ℕ, false}
+use Rattle.std.specs.Prelude.{◌≡◌, ◌<◌, ℕ, List, true, false}
 use Rattle.mau_terms.specs.Tree.{Tree}
-use Rattle.mau_poset.specs.Order.{Hierarchy}
+use Rattle.mau_poset.specs.Order.{Hierarchy, IsPoset}
 use Rattle.mau_sorts.specs.SortSets.{IsLeast}
 use Rattle.mau_api.specs.Meanings.{Meanings, AreMeanings}
-use Rattle.mau_poset.specs.Order.{IsPoset}
+use Rattle.mau_evaluation.specs.Evaluation.{has_number}
 use Rattle.mau_results.specs.Results.{IsShownSort, DerivesNothing, AnswerOf, MayAnswer}
 
--- where there is a least sort, it is the one that is shown
+-- where there is a least one of the sorts of a term, it is the one that is shown
 abbrev pub LeastSortsAreShown : Type 0
-LeastSortsAreShown = (h : Hierarchy) → IsPoset h → (P : ℕ → Type 0) (s : ℕ) → s < h.sorts → IsLeast h P s → IsShownSort h P s
+LeastSortsAreShown =
+    (h : Hierarchy) → IsPoset h → (sorts : List ℕ) (s : ℕ) → s < h.sorts →
+    IsLeast h (λ r. has_number sorts r ≡ true) s → IsShownSort h (λ r. has_number sorts r ≡ true) s
 
 -- where nothing is remembered and nothing derived, a term has one answer
 abbrev pub AnswersAreOne : Type 0

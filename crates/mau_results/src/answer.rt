@@ -7,6 +7,7 @@ ghost use Rattle.mau_terms.specs.View.{tree_of};
 ghost use Rattle.mau_signature.specs.Signature.{terms_over};
 ghost use Rattle.mau_store.specs.Node.{Extends, IsOf};
 ghost use Rattle.mau_store.specs.Trees.{tree_at};
+ghost use Rattle.mau_sorts.specs.SortSets;
 ghost use Rattle.mau_sorts.specs.Table.{entry_at};
 ghost use Rattle.mau_listing.specs.Asked.{IsTreeSettled};
 ghost use Rattle.mau_api.specs.Terms.{IsTerm};
@@ -45,7 +46,7 @@ pub enum Answer {
 fn shown_sort(sig: &Signature, store: &Store, sorts: &SortTable, term: TermId) -> u32
     requires there { IsOf store.now term.0 }
     requires settled { IsTreeSettled store.now sorts.now (tree_at store.now term.0) }
-    ensures shown { Some result ≡ option_map Rattle.mau_sorts.specs.SortSets.shown_sort (entry_at sorts.now term.0) }
+    ensures shown { Some result ≡ option_map SortSets.shown_sort (entry_at sorts.now term.0) }
     ensures poset { IsPoset sig.now.hierarchy }
 {
     let _ = store.len();

@@ -546,10 +546,7 @@ fn answer_item(
 }
 
 /// Answers items, up to one that quits. Gives the bytes, and whether one of the items was refused.
-pub fn answer_items(
-    session: &Session,
-    items: &[RawItem],
-) -> Result<(Vec<u8>, bool), NoMemory>
+pub fn answer_items(session: &Session, items: &[RawItem]) -> Result<(Vec<u8>, bool), NoMemory>
     requires { length session.now.words.now ≤ 16777216 }
     ensures { IfOk result (λ r. ItemsAnswer (environment_of (operators session.now.hooks.now) session.now.limit) session.now.words.now at_first 1 items.now r.0.items r.1) }
 {

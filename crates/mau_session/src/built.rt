@@ -42,12 +42,14 @@ fn derives_nothing(memberships: &[Membership]) -> bool
 fn is_unconditional(equations: &[Equation]) -> bool
     ensures { IsTrue result ↔ All (λ x. x.exec ≡ true → x.cond ≡ []) equations.now }
 {
-    equations.iter().all(|x| !x.exec || x.cond.items().is_empty())
+    equations
+        .iter()
+        .all(|x| !x.exec || x.cond.items().is_empty())
 }
 
 /// Whether terms are evaluated in a module: no membership and no equation with a condition may be used to evaluate.
 pub fn is_evaluated(module: &Module) -> bool
-    ensures { IsTrue result ↔ Built.IsEvaluated «module».now }
+    ensures { result ≡ true ↔ Built.IsEvaluated «module».now }
 {
     derives_nothing(module.memberships()) && is_unconditional(module.equations())
 }

@@ -127,7 +127,12 @@ pub fn answer_reduce(
     let words = session.words;
     let term = command.first.items();
     if is_empty(words, term) {
-        return refuse(out, words, number, Refusal::NotBuilt(words.first_index(term)));
+        return refuse(
+            out,
+            words,
+            number,
+            Refusal::NotBuilt(words.first_index(term)),
+        );
     }
     match state.choose(words, command) {
         Err(refusal) => refuse(out, words, number, refusal),

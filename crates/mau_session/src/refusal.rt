@@ -277,7 +277,11 @@ pub fn refuse(
 }
 
 /// Writes why tokens are no term, so that the item is refused.
-pub fn refuse_term(out: &mut Vec<u8>, number: usize, fault: &ParseFault) -> Result<Outcome, NoMemory>
+pub fn refuse_term(
+    out: &mut Vec<u8>,
+    number: usize,
+    fault: &ParseFault,
+) -> Result<Outcome, NoMemory>
     ensures bytes { OnOk result (out.new.items ≡ out.old.items ++ parse_fault_line number fault.now) }
     ensures refused { IfOk result (λ left. left ≡ Outcome.Refused) }
     ensures named { OnOk result (fault.now ≢ ParseFault.NoMemory) }

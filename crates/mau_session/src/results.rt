@@ -102,6 +102,13 @@ pub fn write_reduced<E: Evaluator, W: StepWatcher>(
         vars.now (tree_of term.now) out.old.items out.new.items) }
 {
     let mut store = Store::new(alloc);
-    let answer = evaluate_bare(evaluator, module.signature(), &mut store, term, limit, watcher)?;
+    let answer = evaluate_bare(
+        evaluator,
+        module.signature(),
+        &mut store,
+        term,
+        limit,
+        watcher,
+    )?;
     write_answer(out, alloc, module, vars, &store, limit, &answer)
 }

@@ -8,8 +8,8 @@ ghost use Rattle.mau_session.specs.State.{at_first};
 ghost use Rattle.mau_session.specs.Transcript.{ItemsAnswer, Transcript};
 
 use crate::answer::answer_items;
-use crate::session::Session;
 use crate::refusal::write_fault;
+use crate::session::Session;
 use mau_declare::Words;
 use mau_formula::HookTable;
 use mau_modtext::{RawItem, items};

@@ -1,4 +1,4 @@
-use Rattle.std.proofs.Common.{◌≡◌, sym, ap, ◌∙◌, subst}
+use Rattle.std.proofs.Common.{subst}
 use Rattle.std.proofs.lemmas.Result.{IfOk-weaker}
 use Rattle.mau_terms.specs.Bare.{IsLawful}
 use Rattle.mau_terms.specs.Norm.{norm}
@@ -27,7 +27,7 @@ returns-in-Ok-clause-allowed g c =
     let t = tree_of c.args.term.now in
     let lawful : IsLawful (terms_over m.program.sig) = subst (λ (s : SignatureOf). IsLawful (terms_over s)) c.requires.signature c.operators.ensures.lawful in
     let stands : StandsFor (theory_at m.program.sig) c.build_bare.new.store c.in-Ok.number.0 t =
-        subst (λ (s : SignatureOf). StandsFor (theory_at s) c.build_bare.new.store c.in-Ok.number.0 t) c.requires.signature c.in-Ok.ensures.ok in
+    subst (λ (s : SignatureOf). StandsFor (theory_at s) c.build_bare.new.store c.in-Ok.number.0 t) c.requires.signature c.in-Ok.ensures.ok in
     IfOk-weaker c.evaluate_item.result _ _
     (λ a x. may_read m c.requires.meanings t (uses_results m (g.W.StepWatcher.wanted c.args.watcher.now)) lawful c.build_bare.new.store c.in-Ok.number.0 stands (answer_in c.evaluate_item.new.store a) x)
     c.evaluate_item.ensures.allowed

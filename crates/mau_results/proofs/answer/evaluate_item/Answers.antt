@@ -25,9 +25,9 @@ ended_so m laws t w nodes limit after x e is same allowed exact =
     (subst (λ b. IsAllowed m w t b nodes (Err (evaluator_end e))) same (subst (λ z. IsAllowed m w t limit nodes (Err z)) is allowed))
     (λ none. subst (λ b. IsExact m t b nodes (Err (evaluator_end e)) after) same (subst (λ z. IsExact m t limit nodes (Err z) after) is (exact none)))
 
-pub shown_sort-requires-clause-settled : goal.shown_sort-requires-clause-settled
-shown_sort-requires-clause-settled g c =
-    subst (λ t. IsTreeSettled c.evaluate.new.store t (tree_at c.evaluate.new.store c.in-Ok.value.term.0)) (sym c.sorts.ensures) c.in-Ok.ensures.settled.itself
+pub shown_sort-sort-requires-clause-settled : goal.shown_sort-sort-requires-clause-settled
+shown_sort-sort-requires-clause-settled g c =
+    subst (λ t. IsTreeSettled c.evaluate.new.store t (tree_at c.evaluate.new.store c.in-Ok.value.term.0)) (sym c.sorts.ensures.value) c.in-Ok.ensures.settled.itself
 
 pub returns-in-Ok-clause-allowed : goal.returns-in-Ok-clause-allowed
 returns-in-Ok-clause-allowed g c =
@@ -40,7 +40,7 @@ returns-in-Ok-clause-allowed g c =
     let derived : IsDerivedTable m nodes table = subst (λ (n : Meanings). IsDerivedTable n nodes table) c.evaluate.ensures.meanings (g.met.E.Evaluator.derived c.evaluate.new.self nodes c.evaluate.ensures.fits) in
     let poset : IsPoset m.program.sig.hierarchy = subst (λ (s : SignatureOf). IsPoset s.hierarchy) c.requires.signature c.shown_sort-sort.ensures.poset in
     let sort = shown_settled m nodes table v.term.0 poset derived c.in-Ok.ensures.term c.shown_sort-sort.result
-    (c.shown_sort-sort.ensures.shown ∙ ap (λ (t : Table). option_map shown_sort (entry_at t v.term.0)) c.sorts.ensures) in
+    (c.shown_sort-sort.ensures.shown ∙ ap (λ (t : Table). option_map shown_sort (entry_at t v.term.0)) c.sorts.ensures.value) in
     may_value m (g.met.E.Evaluator.laws c.args.evaluator.now) t w nodes v c.shown_sort-sort.result c.evaluate.new.budget sort
     (subst (λ b. IsAllowed m w t b nodes (Ok v)) c.requires.limit c.in-Ok.ensures.allowed)
     (λ none. subst (λ b. IsExact m t b nodes (Ok v) c.evaluate.new.budget) c.requires.limit (c.in-Ok.ensures.exact none))

@@ -2,6 +2,6 @@ use Rattle.std.proofs.Common.{sym, ◌∙◌}
 use Rattle.mau_results.proofs.ShownSorts.{entry_there}
 use Rattle.mau_results.proofs.answer.shown_sort.Goals as goal
 
-pub prove-unreachable-requires : goal.prove-unreachable-requires
-prove-unreachable-requires c =
-    entry_there c.args.store.now c.args.sorts.now c.args.term.0 c.len.ensures.nodes c.requires.there c.requires.settled (sym c.in-None.is ∙ c.sort_of.ensures)
+pub unreachable-requires : goal.unreachable-requires
+unreachable-requires c =
+    entry_there c.args.store.now c.args.sorts.now c.args.term.0 c.len.ensures.nodes c.requires.there c.requires.settled (sym c.in-None.is ∙ c.sort_of.ensures.value)

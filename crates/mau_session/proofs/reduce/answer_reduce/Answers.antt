@@ -18,6 +18,17 @@ returns-in-Err-clause-gained c =
     refused_with _ c.refuse-in-Err.result c.refuse-in-Err.ensures.bytes c.refuse-in-Err.ensures.refused
     (λ g. record {
       bytes = _;
-      answer = subst (λ r. ReduceAnswer e ws st c.args.number c.args.item c.args.command.now st (refusal_line c.args.number ws r) true) (sym u.named) (reduce_unknown u.token ? u.none);
+      answer = subst (λ r. ReduceAnswer e ws st c.args.number c.args.item c.args.command.now st (refusal_line c.args.number ws r) true) (sym u.named) (reduce_unknown u.token (sym c.is_empty.ensures ∙ c.if-is_empty.false) u.none);
       gained = g;
     })
+
+pub returns-then-is_empty-clause-gained : goal.returns-then-is_empty-clause-gained
+returns-then-is_empty-clause-gained c =
+    let e = environment_of (operators c.args.session.now.hooks.now) c.args.session.now.limit in
+    let ws = c.args.session.now.words.now in
+    let st = state_of c.args.state.now in
+    refused_with _ c.refuse.result c.refuse.ensures.bytes c.refuse.ensures.refused
+    (λ g. record { bytes = _; answer = ?; gained = g })
+
+pub reduce_chosen-requires-clause-term : goal.reduce_chosen-requires-clause-term
+reduce_chosen-requires-clause-term c = ?

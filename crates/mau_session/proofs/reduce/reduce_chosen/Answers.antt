@@ -12,7 +12,8 @@ returns-then-not-is_evaluated-clause-gained c =
     refused_with _ c.refuse.result c.refuse.ensures.bytes c.refuse.ensures.refused
     (λ g. record {
       bytes = _;
-      answer = reduce_not_built c.args.chosen c.module-module.result.now c.requires.term c.requires.chosen c.module-module.ensures.there ?;
+      answer = reduce_not_built c.args.chosen c.module-module.result.now c.requires.term c.requires.chosen c.module-module.ensures.there
+          (λ yes. let is = c.is_evaluated.ensures.1 yes in let no = c.if-not-is_evaluated.true in cc);
       gained = g;
     })
 
@@ -27,6 +28,6 @@ returns-in_ok-left-clause-gained c =
       bytes = g.bytes;
       answer = subst (λ s. ReduceAnswer e ws st c.args.number c.args.item c.args.command.now s g.bytes c.conclude.result) (sym c.conclude.ensures.state)
           (subst (λ b. ReduceAnswer e ws st c.args.number c.args.item c.args.command.now (state_after st c.args.chosen left) g.bytes b) (sym c.conclude.ensures.refused)
-          (reduce_answered c.args.chosen c.module-module.result.now left g.bytes c.requires.term c.requires.chosen c.module-module.ensures.there ? g.answer));
+          (reduce_answered c.args.chosen c.module-module.result.now left g.bytes c.requires.term c.requires.chosen c.module-module.ensures.there (c.is_evaluated.ensures.0 c.if-not-is_evaluated.false) g.answer));
       gained = g.gained;
     }
