@@ -322,11 +322,15 @@ fn answer_continue(
         Err(refusal) => refuse(out, words, number, refusal),
         Ok(most) => match state.going.take() {
             None => refuse(out, words, number, Refusal::NothingToContinue),
-            Some(going) => match going.what {
-                Continued::Listing(query) => {
-                    list_on(out, alloc, state, number, going.number, query, most)
+            Some(going) => {
+                let chosen = going.number;
+                let what = going.what;
+                match what {
+                    Continued::Listing(query) => {
+                        list_on(out, alloc, state, number, chosen, query, most)
+                    }
                 }
-            },
+            }
         },
     }
 }
