@@ -15,12 +15,18 @@ ghost use Rattle.mau_session.specs.Gains.{GainsAnswer, GainsTerm, GainsReduce};
 use crate::built::is_evaluated;
 use crate::reading::{is_empty, read_term};
 use crate::refusal::{Refusal, refuse, refuse_term, write_head};
+use crate::results::write_reduced;
 use crate::session::Session;
 use crate::state::{Outcome, State};
+use mau_api::Unwatched;
 use mau_declare::write_text;
+use mau_extend::ExtListing;
+use mau_match::Listing;
 use mau_modtext::RawCommand;
 use mau_module::Module;
 use mau_parse::Goal;
+use mau_reduce::Hooks;
+use mau_reducer::Reducer;
 use mau_terms::{Bare, NoMemory, Vars};
 
 /// Writes what the answer of a reduce command begins with.
@@ -46,7 +52,23 @@ fn reduce(
     ensures { OnOk result (GainsAnswer module.now (meanings_in (environment_of (operators session.now.hooks.now) session.now.limit) module.now) false
         vars.now (tree_of term.now) out.old.items out.new.items) }
 {
-    Err(NoMemory)
+    let mut reducer = Reducer::<ExtListing<Listing>, Hooks>::new(
+        session.alloc,
+        module.program(),
+        Hooks::new(session.hooks),
+        session.limit,
+        false,
+    )?;
+    write_reduced(
+        out,
+        session.alloc,
+        module,
+        &mut reducer,
+        session.limit,
+        vars,
+        term,
+        &mut Unwatched,
+    )
 }
 
 /// Answers a reduce command over a module. Gives what it leaves.
