@@ -167,6 +167,20 @@ impl Module {
         &self.sorts
     }
 
+    /// What it says to those that run it.
+    pub fn program(&self) -> &Program
+        ensures { result.now ≡ record {
+          sig = self.now.signature;
+          sorts = self.now.sorts;
+          equations = self.now.statements.equations;
+          memberships = self.now.statements.memberships;
+          rules = self.now.statements.rules;
+          strategies = self.now.statements.strategies;
+        } }
+    {
+        &self.program
+    }
+
     /// The signature.
     pub fn signature(&self) -> &Signature
         ensures value { result.now ≡ self.now.signature }

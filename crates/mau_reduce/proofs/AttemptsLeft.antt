@@ -2,6 +2,7 @@
 use Rattle.std.proofs.Common.{◌≡◌, ℕ, suc, ◌≤◌, List, [], ◌∷◌, ◌++◌, Bool, true, false, ◌||◌, if◌then◌else◌, Option, Some, None, IfSome, IsSome, length, map, slice_get, refl, sym, ap, ap₂, ◌∙◌, subst, append_assoc, append-nil, arith}
 use Rattle.std.specs.Option.{option_map}
 use Rattle.std.proofs.lemmas.Bool.{or_parts}
+use Rattle.std.proofs.lemmas.List.{length-map}
 use Rattle.std.proofs.lemmas.Option.{slice_get_past}
 use Rattle.mau_terms.specs.Tree.{Tree, apply, variable, numeral}
 use Rattle.mau_terms.specs.Subst.{Variable, same_variable, has_variable, variables}
@@ -167,6 +168,7 @@ module _ (p : Typed.Program) (hooks : List Operator) (B k : ℕ) (old new : List
           let own = subst (λ j. IfSome (slice_get p.equations j) (λ d. map variable_of s.variables.items ≡ variables (tree_of d.left))) number vars in
           let mine : map variable_of s.variables.items ≡ variables (tree_of found.equation.left) = subst (λ o. IfSome o (λ d. map variable_of s.variables.items ≡ variables (tree_of d.left))) found.at own in
           record {
+            one_each = ap length values ∙ (found.candidate.one_each ∙ (sym (ap length mine) ∙ length-map s.variables.items variable_of));
             within = subst (λ ids. StandWithin (theory_at p.sig) new (numbers ids)) (sym values) found.candidate.within;
             kinds = subst (λ xs. HaveKinds p.sig xs (trees_at new (numbers s.values.items))) (sym mine) (subst (λ ids. HaveKinds p.sig (variables (tree_of found.equation.left)) (trees_at new (numbers ids))) (sym values) found.candidate.kinds);
           }

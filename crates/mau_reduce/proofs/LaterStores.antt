@@ -1,13 +1,14 @@
 -- What is left to try is the same in a later store.
-use Rattle.std.proofs.Common.{◌≡◌, ℕ, suc, List, [], Bool, true, Option, Some, None, IfSome, map, slice_get, refl, sym, ap, ◌∙◌, subst}
+use Rattle.std.proofs.Common.{◌≡◌, ℕ, suc, List, [], ◌∷◌, Bool, true, Option, Some, None, IfSome, map, slice_get, refl, sym, ap, ◌∙◌, subst}
 use Rattle.std.proofs.lemmas.List.Elements.{All-nil}
 use Rattle.std.specs.Option.{option_map}
 use Rattle.mau_terms.specs.Tree.{Tree}
-use Rattle.mau_terms.specs.Subst.{variables}
+use Rattle.mau_terms.specs.Subst.{Variable, variables}
+use Rattle.mau_terms.specs.Solution.{HaveSorts}
 use Rattle.mau_terms.specs.View.{tree_of, variable_of}
 use Rattle.mau_terms.specs.declared.ids.TermId.{TermId}
 use Rattle.mau_terms.specs.declared.ids.VarId.{VarId}
-use Rattle.mau_signature.specs.Signature.{theory_at, terms_over}
+use Rattle.mau_signature.specs.Signature.{SignatureOf, theory_at, terms_over}
 use Rattle.mau_formula.specs.Operator.{Operator}
 use Rattle.mau_store.specs.Node.{Node, Extends}
 use Rattle.mau_store.specs.Trees.{trees_at}
@@ -17,9 +18,9 @@ use Rattle.mau_store.proofs.Standing.{tree_at-extends}
 use Rattle.mau_canon.specs.Standing.{StandsWithin, StandWithin}
 use Rattle.mau_canon.proofs.Standing.{stands_within_extended, stand_within_extended, stand_there}
 use Rattle.mau_sorts.specs.Table.{Table, KeepsEntries, AreOver}
-use Rattle.mau_listing.specs.Asked.{Asked, asks}
+use Rattle.mau_listing.specs.Asked.{Asked, asks, HasEntry}
 use Rattle.mau_listing.specs.declared.solution.Solution as Given
-use Rattle.mau_listing.proofs.Growth.{listings_go_on, given_kept, last_of_store, AreOfStore}
+use Rattle.mau_listing.proofs.Growth.{listings_go_on, entry_kept, given_kept, last_of_store, AreOfStore}
 use Rattle.mau_program.specs.declared.program.Program as Typed
 use Rattle.mau_evaluation.specs.Program.{Program, value}
 use Rattle.mau_evaluation.specs.Listing.{Solution}
@@ -99,7 +100,7 @@ module _ (old new : List Node) (extends : Extends old new) where
 -- ---- the last candidate
 
 module _ (p : Typed.Program) (old new : List Node) (extends : Extends old new) where
-  contexts_grown : (t : Tree) (ls rs : List ℕ) → AreContexts p.sig old t ls rs → AreContexts p.sig new t ls rs
+  pub contexts_grown : (t : Tree) (ls rs : List ℕ) → AreContexts p.sig old t ls rs → AreContexts p.sig new t ls rs
   contexts_grown t ls rs (alone e k) = alone e k
   contexts_grown t ls rs (around f ts e a x y) =
       around f ts e a (λ j d h. term_kept p.sig old new ((terms_over p.sig).result f) _ extends (x j d h)) (λ j d h. term_kept p.sig old new ((terms_over p.sig).result f) _ extends (y j d h))
@@ -197,6 +198,21 @@ module _ (p : Typed.Program) (old new : List Node) (extends : Extends old new) w
 
   pub values_grown : (b : Kept) → AreValues p.sig old b → AreValues p.sig new b
   values_grown b is = record {
+    one_each = is.one_each;
     within = stand_within_extended (theory_at p.sig) old new (numbers b.values.items) extends is.within;
     kinds = subst (HaveKinds p.sig (map variable_of b.variables.items)) (sym (trees_kept (theory_at p.sig) old new (numbers b.values.items) extends is.within)) is.kinds;
   }
+
+-- ---- sorts of values
+
+have_then : (P Q : ℕ → Tree → Type 0) → ((r : ℕ) (t : Tree) → P r t → Q r t) → (xs : List Variable) (vs : List Tree) → HaveSorts P xs vs → HaveSorts Q xs vs
+have_then P Q h [] vs has = tt
+have_then P Q h (x ∷ xs) [] has = absurd has
+have_then P Q h (x ∷ xs) (v ∷ vs) has = (h x.1 v has.0, have_then P Q h xs vs has.1)
+
+-- by the entries of a table that has grown
+pub sorts_grown : (s : SignatureOf) (old new : List Node) → Extends old new → (before after : Table) → KeepsEntries before after → (xs : List Variable) (ids : List ℕ) → StandWithin (theory_at s) old ids →
+    HaveSorts (HasEntry s old before) xs (trees_at old ids) → HaveSorts (HasEntry s new after) xs (trees_at new ids)
+sorts_grown s old new extends before after kept xs ids within has =
+    subst (HaveSorts (HasEntry s new after) xs) (sym (trees_kept (theory_at s) old new ids extends within))
+    (have_then (HasEntry s old before) (HasEntry s new after) (entry_kept old new extends before after kept s) xs (trees_at old ids) has)

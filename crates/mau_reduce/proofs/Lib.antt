@@ -41,3 +41,7 @@ pub mod Taken
 pub mod Lately
 -- what it makes
 pub mod MadeOf
+-- steps that are told
+pub mod Stepped
+-- variables of a statement that are bound in order
+pub mod AllBound

@@ -20,7 +20,7 @@ use Rattle.mau_store.specs.Node.{Node}
 use Rattle.mau_sorts.specs.Table.{Table}
 use Rattle.mau_listing.specs.Asked.{Asked}
 use Rattle.mau_listing.specs.declared.solution.Solution as Given
-use Rattle.mau_reduce.specs.Trying.{solution_in, solutions_behind, applied_by, candidate_gives, applied_one, applied_number, left_of_one, one_gives, left_of_number, left_of_all, left_by, number_gives, numbers_of, order_of_all, IsExecutable, IsTried}
+use Rattle.mau_reduce.specs.Trying.{solution_in, solutions_behind, applied_by, candidate_gives, applied_one, applied_number, left_of_one, one_gives, left_of_number, left_of_all, left_by, number_gives, numbers_of, order_of_all, IsExecutable, IsTried, IsFound}
 
 -- ---- at a place
 
@@ -46,6 +46,9 @@ exec_at p i is e at = let same : is.equation ≡ e = cc in subst (λ (d : Writte
 -- one that is tried is executable
 pub executable_of : (c : Bool) (p : Typed.Program) (nodes : List Node) (table : Table) (term : TermId) (i : ℕ) (a : Asked) (last : Option Given.Solution) (is_for : Type 0) → IsTried c p nodes table term i a last is_for → IsExecutable p i
 executable_of c p nodes table term i a last is_for is = record { equation = is.equation; at = is.at; exec = is.exec }
+
+pub executable_found : (p : Typed.Program) (nodes : List Node) (t : Tree) (i : ℕ) (x : Given.Solution) → IsFound p nodes t i x → IsExecutable p i
+executable_found p nodes t i x is = record { equation = is.equation; at = is.at; exec = is.exec }
 
 -- ---- runs
 

@@ -1,20 +1,25 @@
 -- Values of built-ins as terms.
-use Rattle.std.proofs.Common.{◌≡◌, ℕ, ◌≤◌, List, [], ◌∷◌, Bool, true, false, ◌&&◌, ◌||◌, drop, Option, Some, None, refl, sym, ap, ◌∙◌, subst, arith}
+use Rattle.std.proofs.Common.{◌≡◌, ℕ, ◌≤◌, List, [], ◌∷◌, Bool, true, false, ◌&&◌, ◌||◌, drop, length, Result, Ok, Err, IfOk, Option, Some, None, refl, sym, ap, ◌∙◌, subst, arith}
 use Rattle.std.specs.Prelude.{IfSome}
+use Rattle.std.proofs.lemmas.List.Elements.{All-nil, All-cons, All-tail}
 use Rattle.mau_terms.specs.Tree.{Tree, variable, numeral, apply, Trees, no_trees, node, trees_of, list_of}
 use Rattle.mau_terms.specs.Depth.{depth}
 use Rattle.mau_terms.specs.Norm.{norm, build, holds_overflow, greatest_numeral}
 use Rattle.mau_terms.specs.Bare.{IsBareIn, IsLawful}
 use Rattle.mau_terms.specs.Reading.{reading}
+use Rattle.mau_terms.specs.declared.ids.TermId.{TermId}
 use Rattle.mau_terms.specs.declared.theory.Theory.{Theory}
+use Rattle.mau_terms.specs.Lawful.{AreLawful}
+use Rattle.mau_terms.proofs.Normal.{norm-norm}
 use Rattle.mau_terms.proofs.Pieces.{trees_of-list_of, list_of-trees_of}
 use Rattle.mau_signature.specs.Signature.{SignatureOf, IsOperator, theory_at, terms_over}
 use Rattle.mau_formula.specs.Operator.{Operator}
 use Rattle.mau_store.specs.Node.{Node, IsOf}
-use Rattle.mau_store.specs.Trees.{tree_at}
+use Rattle.mau_store.specs.Trees.{tree_at, trees_at}
+use Rattle.mau_store.specs.View.{numbers}
 use Rattle.mau_canon.specs.declared.TheConstants.{MAX_DEPTH}
 use Rattle.mau_canon.specs.Within.{IsWithin}
-use Rattle.mau_canon.specs.Standing.{StandsWithin}
+use Rattle.mau_canon.specs.Standing.{StandsWithin, StandWithin}
 use Rattle.mau_evaluation.specs.Program.{Program, no_value, value, BuiltIn, on_numerals, choice, equality}
 use Rattle.mau_evaluation.specs.Evaluation.{Binding}
 use Rattle.mau_evaluation.proofs.BareTerms.{norm-reading-is}
@@ -26,6 +31,7 @@ use Rattle.mau_reduce.specs.declared.given.Given.{Given}
 use Rattle.mau_reduce.specs.declared.given.Given.TheVariants.{Nothing, TooLarge, Argument, Whole, Before}
 use Rattle.mau_reduce.specs.declared.trying.Found.{Found}
 use Rattle.mau_reduce.specs.Kinds.{IsTermIn}
+use Rattle.mau_reduce.specs.Orders.{IsLeaf}
 use Rattle.mau_reduce.specs.BuiltOperators.{number_answer, leaf_tree, before_others, answer_of, built_gives, HasNoArgument}
 use Rattle.mau_reduce.specs.Giving.{GivesNormal, GivesNormalIfAny, GivesInKind, GivesValue, given_value, CanBeTaken, IsGivenAt}
 use Rattle.mau_reduce.specs.Attempting.{makes_of}
@@ -61,6 +67,23 @@ before_is th t v f ts us top list fine =
     ∙ (ap (λ ws. build (th f) f (v ∷ drop 2 ws)) (list_of-trees_of ts)
     ∙ (ap (build (th f) f) (sym list) ∙ sym fine))
 
+pub with_first_trees : (nodes : List Node) (first : TermId) (ids : List TermId) → trees_at nodes (numbers (first ∷ drop 2 ids)) ≡ tree_at nodes first.0 ∷ drop 2 (trees_at nodes (numbers ids))
+with_first_trees nodes first [] = refl
+with_first_trees nodes first (a ∷ []) = refl
+with_first_trees nodes first (a ∷ b ∷ ids) = refl
+
+pub with_first_within : (th : ℕ → Theory) (nodes : List Node) (first : TermId) (ids : List TermId) → StandsWithin th nodes first.0 → StandWithin th nodes (numbers ids) → StandWithin th nodes (numbers (first ∷ drop 2 ids))
+with_first_within th nodes first [] own all = All-cons (StandsWithin th nodes) first.0 [] own (All-nil (StandsWithin th nodes))
+with_first_within th nodes first (a ∷ []) own all = All-cons (StandsWithin th nodes) first.0 [] own (All-nil (StandsWithin th nodes))
+with_first_within th nodes first (a ∷ b ∷ ids) own all =
+    All-cons (StandsWithin th nodes) first.0 (numbers ids) own (All-tail (StandsWithin th nodes) b.0 (numbers ids) (All-tail (StandsWithin th nodes) a.0 (numbers (b ∷ ids)) all))
+
+pub before_norm : (th : ℕ → Theory) → AreLawful th → (t v : Tree) (f : ℕ) (us : List Tree) → before_others th t v ≡ norm th (node f us) → norm th (before_others th t v) ≡ norm th (node f us)
+before_norm th lawful t v f us e = ap (norm th) e ∙ norm-norm th lawful (node f us)
+
+pub leaf_none : (t : Tree) → IsLeaf t → (f : ℕ) (ts : Trees) → t ≡ apply f ts → ⊥
+leaf_none t h f ts e = subst IsLeaf e h
+
 -- a leaf alone
 pub before_none : (th : ℕ → Theory) (t v : Tree) → ((f : ℕ) (ts : Trees) → t ≡ apply f ts → ⊥) → before_others th t v ≡ v
 before_none th (variable i s) v none = refl
@@ -86,11 +109,11 @@ given_makes P nodes t (Before l) last σ h = refl
 -- what a native operator gives can be taken
 pub number_taken : (s : SignatureOf) (nodes : List Node) (t : Tree) (o : Option BuiltIn) (m n : ℕ) → m ≤ greatest_numeral → n ≤ greatest_numeral → GivesNormalIfAny s o →
     (given : Given) → HasNoArgument given → answer_of nodes (theory_at s) t given ≡ number_answer o m n → CanBeTaken s nodes given
-number_taken s nodes t o m n lm ln normal Nothing no e = tt
-number_taken s nodes t o m n lm ln normal TooLarge no e = tt
-number_taken s nodes t o m n lm ln normal (Argument i) no e = absurd no
-number_taken s nodes t o m n lm ln normal (Before l) no e = absurd no
-number_taken s nodes t o m n lm ln normal (Whole l) no e = by o normal e
+number_taken s nodes t o m n lm ln normal Nothing plain e = tt
+number_taken s nodes t o m n lm ln normal TooLarge plain e = tt
+number_taken s nodes t o m n lm ln normal (Argument i) plain e = absurd plain
+number_taken s nodes t o m n lm ln normal (Before l) plain e = absurd plain
+number_taken s nodes t o m n lm ln normal (Whole l) plain e = by o normal e
   where
     by : (o : Option BuiltIn) → GivesNormalIfAny s o → value (leaf_tree l) ≡ number_answer o m n → norm (theory_at s) (leaf_tree l) ≡ leaf_tree l
     by None h e = cc
@@ -101,6 +124,12 @@ number_taken s nodes t o m n lm ln normal (Whole l) no e = by o normal e
 pub normal_if_any : (s : SignatureOf) (hooks : List Operator) (f : ℕ) (o : Option BuiltIn) → GivesInKind s hooks → IsOperator s f → built_in_at s hooks f ≡ o → GivesNormalIfAny s o
 normal_if_any s hooks f None gives is e = tt
 normal_if_any s hooks f (Some b) gives is e = gives.normal f b is e
+
+-- ---- results
+
+pub both_ok : {T E : Type 0} (r : Result T E) (P Q R : T → Type 0) → ((x : T) → P x → Q x → R x) → IfOk r P → IfOk r Q → IfOk r R
+both_ok (Ok x) P Q R h p q = h x p q
+both_ok (Err e) P Q R h p q = tt
 
 -- ---- kinds
 

@@ -1,5 +1,5 @@
 -- Variables with the numbers of their values.
-use Rattle.std.specs.Prelude.{List, [], ◌∷◌, map}
+use Rattle.std.specs.Prelude.{◌≡◌, List, [], ◌∷◌, length, map}
 use Rattle.mau_terms.specs.Tree.{Tree}
 use Rattle.mau_terms.specs.Bare.{IsBareIn}
 use Rattle.mau_terms.specs.Reading.{reading}
@@ -30,5 +30,6 @@ HaveKinds s xs vs = HaveSorts (λ r v. IsBareIn (terms_over s) (reading (theory_
 
 -- the values are terms of their variables' kinds, one for each
 pub record AreValues (s : SignatureOf) (nodes : List Node) (b : Kept) : Type 0 where
+  pub one_each : length b.values.items ≡ length b.variables.items
   pub within : StandWithin (theory_at s) nodes (numbers b.values.items)
   pub kinds : HaveKinds s (map variable_of b.variables.items) (trees_at nodes (numbers b.values.items))

@@ -26,6 +26,8 @@ pub mod Giving
 pub mod Attempting
 -- the candidate that was tried last
 pub mod Lasts
+-- steps that are told
+pub mod Steps
 -- ---- what only inner contracts and proofs cite
 
 -- arguments that have changed places

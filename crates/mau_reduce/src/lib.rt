@@ -12,6 +12,7 @@ mod ordering;
 mod rebuilding;
 mod replacing;
 mod settling;
+mod stepping;
 mod taking;
 mod trying;
 
@@ -26,5 +27,6 @@ pub use ordering::equations_in_order;
 pub use rebuilding::{Rebuilt, rebuild};
 pub use replacing::{instance, replace};
 pub use settling::{settle, settle_identities};
+pub use stepping::step;
 pub use taking::take_given;
 pub use trying::Found;

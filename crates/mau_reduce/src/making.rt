@@ -54,7 +54,7 @@ pub fn made(
 }
 
 /// Whether a built-in gives a value.
-fn gives_value(given: Given) -> bool
+pub(crate) fn gives_value(given: Given) -> bool
     ensures yes { result ≡ true → GivesValue given }
     ensures no { result ≡ false → GivesValue given → ⊥ }
 {
@@ -122,5 +122,12 @@ pub fn make<L>(
         → IsTermIn program.now.sig store.old k term.0 → IfOk result (λ id. IsTermIn program.now.sig store.new k id.0) }
     ensures extends { Extends store.old store.new }
 {
-    make_term(store, program, term, attempts.given, &attempts.last, binding)
+    make_term(
+        store,
+        program,
+        term,
+        attempts.given,
+        &attempts.last,
+        binding,
+    )
 }

@@ -65,9 +65,10 @@ fn with_first(
         NodeView::App(op, ids) => {
             let mut args = Vec::new(store.allocator());
             args.push(first)?;
-            if ids.len() > 2 {
-                args.extend_from_slice(&ids[2..])?;
+            if ids.len() <= 2 {
+                return Ok(Some((op, args)));
             }
+            args.extend_from_slice(&ids[2..])?;
             Ok(Some((op, args)))
         }
         NodeView::Num(_) | NodeView::Var(_) => Ok(None),

@@ -2,11 +2,11 @@
 
 -- what lawful programs have
 pub mod FromLawful
--- known handles
-pub mod KnownHandles
--- later states
-pub mod LaterStates
 -- conditions
 pub mod Conditions
--- what is meant
+-- sorts by declarations
+pub mod SortsGrow
+-- what the world's calls give
+pub mod Taking
+-- the answers of an evaluation
 pub mod WhatIsMeant

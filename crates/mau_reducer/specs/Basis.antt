@@ -9,6 +9,7 @@ use Rattle.mau_api.specs.Programs.{equation_of}
 use Rattle.mau_reduce.specs.declared.built_in.BuiltIn.{BuiltIn}
 use Rattle.mau_reduce.specs.declared.built_in.BuiltIn.TheVariants.{Nothing}
 use Rattle.mau_reduce.specs.BuiltOperators.{meaning_of}
+use Rattle.mau_reduce.specs.Giving.{GivesInKind}
 use Rattle.mau_reduce.specs.Reducible.{IsReducible}
 use Rattle.mau_reduce.specs.Trying.{order_of_all}
 
@@ -34,10 +35,11 @@ pub record Basis : Type 0 where
   pub order : List ℕ
   pub built_ins : List BuiltIn
 
--- the program is lawful, derives no sorts and has no conditions, and the rest is as it says
+-- the program is lawful, derives no sorts and has no conditions, built-ins give terms of their operators' kinds, and the rest is as it says
 pub record IsBasis (b : Basis) : Type 0 where
   pub lawful : IsLawfulProgram b.program
   pub reducible : IsReducible b.program
   pub unconditional : HasNoCondition b.program
+  pub gives : GivesInKind b.program.sig b.hooks
   pub order : b.order ≡ order_of_all (map equation_of b.program.equations)
   pub built_ins : AreBuiltIns b.program.sig b.hooks b.built_ins

@@ -2,6 +2,7 @@
 
 -- what it goes by
 pub mod Basis
+pub mod Worlds
 -- what its answers mean
 pub mod Meant
 -- ---- what only inner contracts and proofs cite
@@ -10,3 +11,9 @@ pub mod Meant
 pub mod Handles
 -- its states
 pub mod States
+-- lemmas by which it has the laws of worlds and of evaluators
+pub mod KnownHandles
+pub mod NoFragments
+pub mod LaterStates
+pub mod MeantLaws
+pub mod DerivedTables

@@ -3,7 +3,7 @@ ghost use Rattle.std.specs.Prelude.{◌≡◌, true, OnOk};
 ghost use Rattle.mau_store.specs.Node.{Extends};
 ghost use Rattle.mau_api.specs.Answers.{levels_of_item};
 
-use crate::program_world::ProgramWorld;
+use crate::reducer::Reducer;
 use mau_api::{EvalEnd, Evaluator, Fragment, Lister, Reduced, Solution, StepWatcher};
 use mau_reduce::{Natives, settle, settle_identities};
 use mau_sorts::SortTable;
@@ -17,17 +17,17 @@ fn levels_of_item() -> u32
     2000
 }
 
-impl<'a, L: Lister + Drop, N: Natives> ProgramWorld<'a, L, N> {
-    ghost use Rattle.mau_reducer.specs.Basis.{Basis};
+impl<'a, L: Lister + Drop, N: Natives + Drop> Reducer<'a, L, N> {
+    ghost use Rattle.mau_reducer.specs.Worlds.{basis_of};
     ghost use Rattle.mau_reducer.specs.States.{IsFit, IsReady, ComesOf};
 
     /// Settles the identities, if they are not settled yet.
     fn begin(&mut self, store: &mut Store) -> Result<(), NoMemory>
-        requires fits { IsFit (record { program = self.old.program.now; hooks = N.operators self.old.natives; limit = self.old.limit; order = self.old.order.items; built_ins = self.old.built_ins.items }) store.old self.old.table self.old.begun }
-        ensures ready { OnOk result (IsReady (record { program = self.new.program.now; hooks = N.operators self.new.natives; limit = self.new.limit; order = self.new.order.items; built_ins = self.new.built_ins.items }) store.new self.new.table) }
-        ensures fits { IsFit (record { program = self.new.program.now; hooks = N.operators self.new.natives; limit = self.new.limit; order = self.new.order.items; built_ins = self.new.built_ins.items }) store.new self.new.table self.new.begun }
-        ensures comes { ComesOf (record { program = self.old.program.now; hooks = N.operators self.old.natives; limit = self.old.limit; order = self.old.order.items; built_ins = self.old.built_ins.items })
-            (record { program = self.new.program.now; hooks = N.operators self.new.natives; limit = self.new.limit; order = self.new.order.items; built_ins = self.new.built_ins.items }) store.old store.new self.old.table self.new.table }
+        requires fits { IsFit (basis_of N.operators self.old) store.old self.old.table self.old.begun }
+        ensures ready { OnOk result (IsReady (basis_of N.operators self.new) store.new self.new.table) }
+        ensures fits { IsFit (basis_of N.operators self.new) store.new self.new.table self.new.begun }
+        ensures comes { ComesOf (basis_of N.operators self.old)
+            (basis_of N.operators self.new) store.old store.new self.old.table self.new.table }
         ensures same { self.new.program ≡ self.old.program }
     {
         if self.begun {
@@ -39,17 +39,20 @@ impl<'a, L: Lister + Drop, N: Natives> ProgramWorld<'a, L, N> {
     }
 }
 
-impl<'a, L: Lister + Drop, N: Natives> Evaluator for ProgramWorld<'a, L, N> {
+impl<'a, L: Lister + Drop, N: Natives + Drop> Evaluator for Reducer<'a, L, N> {
     ghost use Rattle.std.specs.Prelude.{true};
-    ghost use Rattle.mau_reducer.specs.Basis.{Basis};
+    ghost use Rattle.mau_reducer.specs.Worlds.{basis_of};
     ghost use Rattle.mau_reducer.specs.Meant.{meanings_of};
     ghost use Rattle.mau_reducer.specs.States.{IsFit};
+    ghost use Rattle.mau_reducer.specs.MeantLaws.{are_meanings};
+    ghost use Rattle.mau_reducer.specs.LaterStates.{fit_grown};
+    ghost use Rattle.mau_reducer.specs.DerivedTables.{derived_table};
 
-    ghost meanings = { λ w. meanings_of (record { program = w.program.now; hooks = N.operators w.natives; limit = w.limit; order = w.order.items; built_ins = w.built_ins.items }) };
+    ghost meanings = { λ w. meanings_of (basis_of N.operators w) };
 
     ghost table = { λ w. w.table };
 
-    ghost fits = { λ w nodes. IsFit (record { program = w.program.now; hooks = N.operators w.natives; limit = w.limit; order = w.order.items; built_ins = w.built_ins.items }) nodes w.table w.begun × (L.with_context ≡ true) };
+    ghost fits = { λ w nodes. IsFit (basis_of N.operators w) nodes w.table w.begun × (L.with_context ≡ true) };
 
     fn evaluate<W: StepWatcher>(
         &mut self,
@@ -119,9 +122,9 @@ impl<'a, L: Lister + Drop, N: Natives> Evaluator for ProgramWorld<'a, L, N> {
         &self.table
     }
 
-    ghost laws = { ? };
+    ghost laws = { λ w. are_meanings (basis_of N.operators w) };
 
-    ghost grows = { ? };
+    ghost grows = { λ w old new x fit. (fit_grown (basis_of N.operators w) old new w.table w.begun x fit.0, fit.1) };
 
-    ghost derived = { ? };
+    ghost derived = { λ w nodes fit. derived_table (basis_of N.operators w) fit.0.basis nodes w.table fit.0.plain };
 }

@@ -1,31 +1,49 @@
 //! A program and a store as a world.
-ghost use Rattle.std.specs.Prelude.{◌≡◌, ◌<◌, ℕ, List, true, length, map, All, OnOk, IfOk};
-ghost use Rattle.mau_signature.specs.Signature.{IsOperator};
+ghost use Rattle.std.specs.Prelude.{◌≡◌};
+ghost use Rattle.std.specs.Option.{option_copied};
+ghost use Rattle.mau_reducer.specs.Handles.{goal_in};
 
-use crate::program_world::{Candidates, Choices, ProgramWorld};
+use crate::reducer::{Candidates, Choices, Reducer};
 use mau_api::{EvalEnd, Fragment, Lister, Step};
 use mau_machine::{Goal, World};
-use mau_reduce::{Binding, Natives, begin_attempts, next_attempt, open, rebuild, settle};
+use mau_reduce::{Binding, Natives, begin_attempts, make, next_attempt, open, rebuild, settle};
 use mau_store::Store;
 use mau_terms::{NoMemory, OpId, TermId};
 
-impl<'a, L: Lister + Drop, N: Natives> World for ProgramWorld<'a, L, N> {
-    ghost use Rattle.mau_reducer.specs.Basis.{Basis};
+/// What a fragment asks, if there is one.
+fn goal_in(fragment: Option<&Fragment>) -> Goal
+    ensures { result ≡ goal_in (option_copied fragment.entry) }
+{
+    match fragment {
+        None => Goal::Nothing,
+        Some(Fragment::Equal(_, _)) => Goal::Equality,
+        Some(Fragment::Match(_, _)) => Goal::Matching,
+        Some(Fragment::Sort(_, _)) => Goal::Sort,
+        Some(Fragment::Reach(_, _)) => Goal::Reaching,
+    }
+}
+
+impl<'a, L: Lister + Drop, N: Natives + Drop> World for Reducer<'a, L, N> {
+    ghost use Rattle.mau_reducer.specs.Worlds.{basis_of};
     ghost use Rattle.mau_reducer.specs.Handles.{words_of};
     ghost use Rattle.mau_reducer.specs.States.{IsReady, ComesOf};
+    ghost use Rattle.std.specs.Prelude.{refl, true};
+    ghost use Rattle.mau_reducer.specs.KnownHandles.{operand_put, operand_known, normal_term};
+    ghost use Rattle.mau_reducer.specs.NoFragments.{none_passes, has_none};
+    ghost use Rattle.mau_reducer.specs.LaterStates.{same_state, later_state, ready_later, words_kept};
 
     type Attempts = Candidates<L>;
     type Choices = Choices;
     type Binding = Binding;
 
-    ghost words = { λ w nodes. words_of L.asked L.given L.is_for (record { program = w.program.now; hooks = N.operators w.natives; limit = w.limit; order = w.order.items; built_ins = w.built_ins.items }) nodes w.table };
+    ghost words = { λ w nodes. words_of L.with_context L.asked L.given L.is_for (basis_of N.operators w) nodes w.table };
 
     ghost table = { λ w. w.table };
 
-    ghost ready = { λ w nodes. IsReady (record { program = w.program.now; hooks = N.operators w.natives; limit = w.limit; order = w.order.items; built_ins = w.built_ins.items }) nodes w.table × (L.with_context ≡ true) };
+    ghost ready = { λ w nodes. IsReady (basis_of N.operators w) nodes w.table × (L.with_context ≡ true) };
 
-    ghost grows = { λ w nodes v more. ComesOf (record { program = w.program.now; hooks = N.operators w.natives; limit = w.limit; order = w.order.items; built_ins = w.built_ins.items })
-        (record { program = v.program.now; hooks = N.operators v.natives; limit = v.limit; order = v.order.items; built_ins = v.built_ins.items }) nodes more w.table v.table };
+    ghost grows = { λ w nodes v more. ComesOf (basis_of N.operators w)
+        (basis_of N.operators v) nodes more w.table v.table };
 
     fn arguments(
         &self,
@@ -85,7 +103,7 @@ impl<'a, L: Lister + Drop, N: Natives> World for ProgramWorld<'a, L, N> {
         attempts: &Candidates<L>,
         binding: &Binding,
     ) -> Result<TermId, EvalEnd> {
-        Err(EvalEnd::NoMemory)
+        make(store, self.program, term, &attempts.attempts, binding)
     }
 
     fn step(
@@ -101,13 +119,7 @@ impl<'a, L: Lister + Drop, N: Natives> World for ProgramWorld<'a, L, N> {
     }
 
     fn goal(&self, condition: usize, at: usize) -> Goal {
-        match self.fragment(condition, at) {
-            None => Goal::Nothing,
-            Some(Fragment::Equal(_, _)) => Goal::Equality,
-            Some(Fragment::Match(_, _)) => Goal::Matching,
-            Some(Fragment::Sort(_, _)) => Goal::Sort,
-            Some(Fragment::Reach(_, _)) => Goal::Reaching,
-        }
+        goal_in(self.fragment(condition, at))
     }
 
     fn side(
@@ -122,7 +134,9 @@ impl<'a, L: Lister + Drop, N: Natives> World for ProgramWorld<'a, L, N> {
         Err(EvalEnd::NoMemory)
     }
 
-    fn same(&self, _: &Store, left: TermId, right: TermId) -> bool {
+    fn same(&self, store: &Store, left: TermId, right: TermId) -> bool {
+        // What holds of the nodes of a store is told with their number.
+        let _nodes = store.len();
         left == right
     }
 
@@ -156,29 +170,33 @@ impl<'a, L: Lister + Drop, N: Natives> World for ProgramWorld<'a, L, N> {
 
     // ---- laws
 
-    ghost normal = { ? };
+    ghost normal = { λ w nodes t h. h.term.within.normal };
 
-    ghost within = { ? };
+    ghost within = { λ w nodes t h. h.term.within.within };
 
-    ghost settled = { ? };
+    ghost settled = { λ w nodes t h. h.known };
 
-    ghost puts = { ? };
+    ghost puts = { λ w nodes f ts i t v h e k same. operand_put w.program.now.sig nodes f ts i t v h e k same };
 
-    ghost holds = { ? };
+    ghost holds = { λ w nodes f ts i t h e. operand_known w.program.now.sig nodes f ts i t h e };
 
-    ghost passes = { ? };
+    ghost passes = { λ w nodes e i σ h p. none_passes (basis_of N.operators w) nodes w.table e i σ h p };
 
-    ghost has_values = { ? };
+    ghost has_values = { λ w nodes e i right σ τ h k x. absurd (has_none (basis_of N.operators w) nodes w.table e i σ h right k) };
 
-    ghost stands = { ? };
+    ghost stands = { λ w nodes t h. (h.term.within.there, refl, normal_term w.program.now.sig nodes t h) };
 
-    ghost extends = { ? };
+    ghost extends = { λ w v nodes more h. (h.extends, h.kept) };
 
-    ghost stays = { ? };
+    ghost stays = { λ w nodes r. same_state (basis_of N.operators w) nodes w.table r.0.plain };
 
-    ghost goes_on = { ? };
+    ghost goes_on = { λ u v w nodes more most h k. later_state (basis_of N.operators u)
+        (basis_of N.operators v)
+        (basis_of N.operators w) nodes more most u.table v.table w.table h k };
 
-    ghost begins = { ? };
+    ghost begins = { λ u v nodes more r h. (ready_later (basis_of N.operators u)
+        (basis_of N.operators v) nodes more u.table v.table r.0 h, r.1) };
 
-    ghost keeps = { ? };
+    ghost keeps = { λ u v nodes more h. words_kept L.with_context L.asked L.given L.is_for (basis_of N.operators u)
+        (basis_of N.operators v) nodes more u.table v.table h };
 }

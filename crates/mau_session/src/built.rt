@@ -1,11 +1,12 @@
 //! What isn't built yet.
-ghost use Rattle.std.specs.Prelude.{◌≡◌, ◌↔◌, [], All, true, false, Ok, IsTrue};
+ghost use Rattle.std.specs.Prelude.{◌≡◌, ◌↔◌, true, Ok, IsTrue};
 ghost use Rattle.mau_modtext.specs.declared.raw.RawBody.TheVariants as RawBody;
 ghost use Rattle.mau_session.specs.Built;
 
 use mau_modtext::{CommandKind, ModuleKind, RawBody, RawItem, TextFault};
 use mau_module::Module;
-use mau_program::{Equation, Membership};
+use mau_program::Membership;
+use mau_reducer::{derives_nothing, is_unconditional};
 
 /// Whether modules of this kind are built.
 pub fn is_built_module(kind: ModuleKind) -> bool
@@ -31,27 +32,12 @@ pub fn uses_memberships(module: &Module) -> bool
     module.memberships().iter().any(is_used)
 }
 
-/// Whether no membership may be used to evaluate.
-fn derives_nothing(memberships: &[Membership]) -> bool
-    ensures { IsTrue result ↔ All (λ x. x.exec ≡ false) memberships.now }
-{
-    memberships.iter().all(|x| !x.exec)
-}
-
-/// Whether no equation with a condition may be used to evaluate.
-fn is_unconditional(equations: &[Equation]) -> bool
-    ensures { IsTrue result ↔ All (λ x. x.exec ≡ true → x.cond ≡ []) equations.now }
-{
-    equations
-        .iter()
-        .all(|x| !x.exec || x.cond.items().is_empty())
-}
-
 /// Whether terms are evaluated in a module: no membership and no equation with a condition may be used to evaluate.
 pub fn is_evaluated(module: &Module) -> bool
     ensures { result ≡ true ↔ Built.IsEvaluated «module».now }
 {
-    derives_nothing(module.memberships()) && is_unconditional(module.equations())
+    let program = module.program();
+    derives_nothing(program) && is_unconditional(program)
 }
 
 /// Whether a command is a match, with contexts or without.

@@ -3,8 +3,10 @@ ghost use Rattle.std.specs.Prelude.{◌≡◌, ◌<◌, ◌≤◌, ◌++◌, len
 ghost use Rattle.mau_terms.specs.Bare.{IsBare};
 ghost use Rattle.mau_terms.specs.View.{tree_of};
 ghost use Rattle.mau_formula.specs.Operators.{operators};
+ghost use Rattle.mau_program.specs.LawfulPrograms.{IsLawfulProgram};
 ghost use Rattle.mau_statement.specs.Parts;
 ghost use Rattle.mau_session.specs.Terms.{terms_in};
+ghost use Rattle.mau_session.specs.Programs.{program_of};
 ghost use Rattle.mau_session.specs.Environment.{environment_of, meanings_in};
 ghost use Rattle.mau_session.specs.Built.{IsEvaluated};
 ghost use Rattle.mau_session.specs.Answers.{reduce_head};
@@ -15,12 +17,18 @@ ghost use Rattle.mau_session.specs.Gains.{GainsAnswer, GainsTerm, GainsReduce};
 use crate::built::is_evaluated;
 use crate::reading::{is_empty, read_term};
 use crate::refusal::{Refusal, refuse, refuse_term, write_head};
+use crate::results::write_reduced;
 use crate::session::Session;
 use crate::state::{Outcome, State};
+use mau_api::Unwatched;
 use mau_declare::write_text;
+use mau_extend::ExtListing;
+use mau_match::Listing;
 use mau_modtext::RawCommand;
 use mau_module::Module;
 use mau_parse::Goal;
+use mau_reduce::Hooks;
+use mau_reducer::Reducer;
 use mau_terms::{Bare, NoMemory, Vars};
 
 /// Writes what the answer of a reduce command begins with.
@@ -41,12 +49,29 @@ fn reduce(
     vars: &Vars,
     term: &Bare,
 ) -> Result<(), NoMemory>
+    requires lawful { IsLawfulProgram (program_of module.now) }
     requires evaluated { IsEvaluated module.now }
     requires bare { IsBare (terms_in module.now) (tree_of term.now) }
     ensures { OnOk result (GainsAnswer module.now (meanings_in (environment_of (operators session.now.hooks.now) session.now.limit) module.now) false
         vars.now (tree_of term.now) out.old.items out.new.items) }
 {
-    Err(NoMemory)
+    let mut reducer = Reducer::<ExtListing<Listing>, Hooks>::new(
+        session.alloc,
+        module.program(),
+        Hooks::new(session.hooks),
+        session.limit,
+        false,
+    )?;
+    write_reduced(
+        out,
+        session.alloc,
+        module,
+        &mut reducer,
+        session.limit,
+        vars,
+        term,
+        &mut Unwatched,
+    )
 }
 
 /// Answers a reduce command over a module. Gives what it leaves.
@@ -59,6 +84,7 @@ fn answer_term(
 ) -> Result<Outcome, NoMemory>
     requires few { length session.now.words.now ≤ 16777216 }
     requires term { Parts.is_empty session.now.words.now command.now.first ≡ false }
+    requires lawful { IsLawfulProgram (program_of module.now) }
     requires evaluated { IsEvaluated module.now }
     ensures gained { IfOk result (λ left. GainsTerm (environment_of (operators session.now.hooks.now) session.now.limit) session.now.words.now module.now number command.now
         out.old.items out.new.items (outcome_of left)) }

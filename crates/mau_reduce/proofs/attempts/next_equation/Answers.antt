@@ -38,7 +38,7 @@ returns-in_ok-binding-in-Some-clause-is g c = (refl, subst (λ o. IfSome o (λ x
 
 pub returns-in_ok-binding-in-Some-clause-listed : goal.returns-in_ok-binding-in-Some-clause-listed
 returns-in_ok-binding-in-Some-clause-listed g c =
-    let kept = at_some (λ x. IfSome c.next_found.new.tried (λ y. y.number ≡ x.number) × IfSome c.next_found.new.tried (λ y. g.L.Lister.given y.listing ≡ Some x.solution) × IsSome c.next_found.new.tried) c.in_ok-found.field-0 c.in-Some.found c.in-Some.is c.in_ok-found.ensures.kept_tried in
+    let kept = at_some (λ x. IfSome c.next_found.new.tried (λ y. y.number ≡ x.number) × IfSome c.next_found.new.tried (λ y. g.L.Lister.given y.listing ≡ Some x.solution) × IsSome c.next_found.new.tried) _ c.in-Some.found c.in-Some.is c.in_ok-found.ensures.kept_tried in
     listed_of g.L.Lister.with_context c.requires.contexts c.args.program.now c.next_found.new.store c.next_found.new.table c.args.term (λ y. y.number) (λ y. g.L.Lister.asked y.listing) (λ y. g.L.Lister.given y.listing) (λ y. g.L.Lister.is_for y.listing c.args.program.now.sig)
     c.next_found.new.tried c.in-Some.found.number c.in-Some.found.solution kept.2 kept.0 kept.1
-    (at_some (λ x. IfSome c.next_found.new.tried (λ y. IsTried g.L.Lister.with_context c.args.program.now c.next_found.new.store c.next_found.new.table c.args.term y.number (g.L.Lister.asked y.listing) (g.L.Lister.given y.listing) (g.L.Lister.is_for y.listing c.args.program.now.sig))) c.in_ok-found.field-0 c.in-Some.found c.in-Some.is c.in_ok-found.ensures.tried)
+    (at_some (λ x. IfSome c.next_found.new.tried (λ y. IsTried g.L.Lister.with_context c.args.program.now c.next_found.new.store c.next_found.new.table c.args.term y.number (g.L.Lister.asked y.listing) (g.L.Lister.given y.listing) (g.L.Lister.is_for y.listing c.args.program.now.sig))) _ c.in-Some.found c.in-Some.is c.in_ok-found.ensures.tried)

@@ -1,0 +1,57 @@
+-- The answers of an evaluation.
+use Rattle.std.proofs.Common.{◌≡◌, ◌⊎◌, inl, inr, ℕ, ◌≤◌, List, [], Bool, true, false, ◌&&◌, Option, Some, None, Result, Ok, Err, IfOk, IfErr, OnOk, min, refl, sym, ap, ◌∙◌, subst, arith}
+use Rattle.mau_terms.specs.Tree.{Tree}
+use Rattle.mau_store.specs.Node.{Node}
+use Rattle.mau_store.specs.Trees.{tree_at}
+use Rattle.mau_evaluation.specs.Run.{Outcome, done, ended, Run, stopped, too_deep, overflowed}
+use Rattle.mau_api.specs.Meanings.{Meanings}
+use Rattle.mau_api.specs.Told.{shown_count}
+use Rattle.mau_api.specs.Answers.{levels_of_item, HasCause, GivesUnder, LeavesEnough, IsAnswered, IsExact, IsAllowed}
+use Rattle.mau_api.specs.declared.results.Reduced.{Reduced}
+use Rattle.mau_api.specs.declared.results.EvalEnd.{EvalEnd}
+use Rattle.mau_api.specs.declared.results.EvalEnd.TheVariants.{Stopped, TooDeep, Overflow, NoMemory}
+use Rattle.mau_machine.specs.Words.{capped, IsEnd}
+
+-- ---- counts
+
+as_counted : (o : Outcome Tree) (v : Tree) (r b : ℕ) → capped o ≡ done v r b → (q : ℕ) × (o ≡ done v q b) × (r ≡ shown_count q)
+as_counted (done x q c) v r b e =
+    let tree : x ≡ v = cc in
+    let left : c ≡ b = cc in
+    let count : min q (2 ^ 64 - 1) ≡ r = cc in
+    (q, ap (λ t. done t q c) tree ∙ ap (λ d. done v q d) left, sym count)
+as_counted (ended d) v r b e = cc
+
+-- ---- the answer of an evaluation, where n are the levels of an item
+
+module _ (m : Meanings) (same : m.remembers ≡ false) (n : ℕ) (levels : n ≡ levels_of_item) (t : Tree) (b : ℕ) (nodes : List Node) where
+  answered : (result : Result Reduced EvalEnd) (after : ℕ) → IfOk result (λ x. capped (m.evaluation n m.limit t b) ≡ done (tree_at nodes x.term.0) x.rewrites after) →
+      IfErr result (IsEnd (m.evaluation n m.limit t b)) → IsAnswered (m.evaluation n m.limit t b) nodes result after
+  answered (Ok x) after ok err = as_counted (m.evaluation n m.limit t b) (tree_at nodes x.term.0) x.rewrites after ok
+  answered (Err Stopped) after ok err = err
+  answered (Err TooDeep) after ok err = err
+  answered (Err Overflow) after ok err = err
+  answered (Err NoMemory) after ok err = tt
+
+  -- it is that for just these limits
+  pub exact : (result : Result Reduced EvalEnd) (after : ℕ) → IfOk result (λ x. capped (m.evaluation n m.limit t b) ≡ done (tree_at nodes x.term.0) x.rewrites after) →
+      IfErr result (IsEnd (m.evaluation n m.limit t b)) → IsExact m t b nodes result after
+  exact result after ok err = record { levels = n; enough = omega arith; just = λ d. levels; is = answered result after ok err }
+
+  -- so it is allowed
+  allowed : (result : Result Reduced EvalEnd) (after : ℕ) → IsAnswered (m.evaluation n m.limit t b) nodes result after → IsAllowed m false t b nodes result
+  allowed (Ok x) after is = (is.0, (n, m.limit, b, after, omega arith, omega arith, omega arith, is.1), is.2)
+  allowed (Err Stopped) after is = ((n, is), λ e. cc)
+  allowed (Err TooDeep) after is = (m.limit, b, subst (λ k. m.evaluation k m.limit t b ≡ ended too_deep) levels is)
+  allowed (Err Overflow) after is = (n, m.limit, b, omega arith, omega arith, omega arith, is)
+  allowed (Err NoMemory) after is = tt
+
+  pub is_allowed : (wanted : Bool) (result : Result Reduced EvalEnd) (after : ℕ) → IfOk result (λ x. capped (m.evaluation n m.limit t b) ≡ done (tree_at nodes x.term.0) x.rewrites after) →
+      IfErr result (IsEnd (m.evaluation n m.limit t b)) → IsAllowed m false t b nodes result
+  is_allowed wanted result after ok err = allowed result after (answered result after ok err)
+
+  -- what is left is enough
+  pub left_enough : (result : Result Reduced EvalEnd) (after : ℕ) → IfOk result (λ x. capped (m.evaluation n m.limit t b) ≡ done (tree_at nodes x.term.0) x.rewrites after) →
+      OnOk result (LeavesEnough (m.evaluation n m.limit t b) after)
+  left_enough (Ok x) after ok = λ v r left e. let own = as_counted (m.evaluation n m.limit t b) (tree_at nodes x.term.0) x.rewrites after ok in let two : done v r left ≡ done (tree_at nodes x.term.0) own.0 after = sym e ∙ own.1 in let same : left ≡ after = cc in omega arith
+  left_enough (Err d) after ok = tt
