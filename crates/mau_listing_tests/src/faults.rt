@@ -1,5 +1,5 @@
 //! What is told of declarations: the fault of the first one that makes no signature, or else what the check says of the signature.
-use crate::signed::declared;
+use mau_fixtures::declared;
 use mau_sigcheck::check;
 use std::alloc::Global;
 use std::process::Abort;

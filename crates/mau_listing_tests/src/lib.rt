@@ -29,8 +29,6 @@ mod readers;
 #[cfg(test)]
 mod signature;
 #[cfg(test)]
-mod signed;
-#[cfg(test)]
 mod solutions;
 #[cfg(test)]
 mod sorts;

@@ -1,7 +1,7 @@
 //! What a signature says of its operators: over the sorts 0 < 1 and 0 < 2 of the kind 4, and the sort 3 of the kind 5.
 ghost use Rattle.mau_signature.specs.Signature.{IsOperator};
 
-use crate::signed::{assert_sorts, form, signature};
+use mau_fixtures::{assert_sorts, form, signature};
 use mau_signature::Signature;
 use mau_terms::{Args, Bare, Identity, OpId, VarId};
 use std::alloc::Global;

@@ -1,6 +1,6 @@
 //! The signature of the tests: an operator of each theory over the sort `Elt` of single elements and the sort `All` of all terms above
 //! it, the numerals, and sixty constants.
-use crate::signed::signature;
+use mau_fixtures::signature;
 use mau_signature::Signature;
 use mau_terms::NoMemory;
 use std::alloc::Global;

@@ -1,5 +1,5 @@
 //! Lists of terms in order, solutions that are copied, and values that no listing settles.
-use crate::signed::signature;
+use mau_fixtures::signature;
 use mau_listing::{Solution, compare_lists, settle_value};
 use mau_sorts::SortTable;
 use mau_store::{NodeView, Store};

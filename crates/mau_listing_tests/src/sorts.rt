@@ -1,6 +1,6 @@
 //! Rows over a signature made by hand. A sort is below another where the pairs of the signature lead there; the minimal sorts of a
 //! term are what its operator's declarations give by the sorts of its arguments, without those above another.
-use crate::signed::signature;
+use mau_fixtures::signature;
 use mau_sigcheck::check;
 use mau_terms::TermId;
 use std::alloc::Global;

@@ -11,14 +11,10 @@ mod formulas;
 #[cfg(test)]
 mod modules;
 #[cfg(test)]
-mod notation;
-#[cfg(test)]
 mod parsing;
 #[cfg(test)]
 mod printing;
 #[cfg(test)]
 mod productions;
-#[cfg(test)]
-mod signed;
 #[cfg(test)]
 mod tokens;

@@ -5,7 +5,7 @@ ghost use Rattle.std.specs.Prelude.{List, ℕ, IfOk};
 ghost use Rattle.mau_grammar.specs.declared.aliases.Alias.{Alias};
 ghost use Rattle.mau_grammar.specs.Grammar.{IsGrammarOf};
 
-use crate::signed::signature;
+use mau_fixtures::signature;
 use mau_grammar::{Alias, Grammar};
 use mau_print::Printer;
 use mau_signature::Signature;

@@ -1,6 +1,6 @@
 //! Texts that are terms, and texts that are none.
 use crate::modules::module_of;
-use crate::notation::term as term_of;
+use mau_fixtures::term as term_of;
 use mau_grammar::Grammar;
 use mau_parse::{Goal, ParseFault, parse};
 use mau_terms::{Bare, VarId, Vars};

@@ -1,5 +1,5 @@
 //! The productions of a small signature, as text: `kind level op: parts`, where a place is written `<kind:upto>`.
-use crate::signed::signature;
+use mau_fixtures::signature;
 use mau_grammar::{Grammar, Part, Production};
 use mau_terms::{NoMemory, OpId, Text};
 use std::alloc::Global;

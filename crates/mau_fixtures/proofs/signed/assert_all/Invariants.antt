@@ -1,7 +1,7 @@
 use Rattle.std.proofs.Common.{take, All}
 use Rattle.mau_poset.specs.Order.{kind_of}
 use Rattle.mau_signature.specs.Faults.{HasSorts, IsSuccessorIn}
-use Rattle.mau_listing_tests.proofs.signed.assert_all.Given as goal
+use Rattle.mau_fixtures.proofs.signed.assert_all.Given as goal
 
 abbrev pub invariant-loop-decl : goal.invariant-loop-decl
 invariant-loop-decl g l = record {

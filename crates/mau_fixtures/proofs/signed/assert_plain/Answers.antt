@@ -2,7 +2,7 @@ use Rattle.std.proofs.Common.{All, subst}
 use Rattle.std.proofs.lemmas.List.{take_all}
 use Rattle.std.proofs.lemmas.List.Elements.{All-more}
 use Rattle.mau_signature.specs.Faults.{HasSorts}
-use Rattle.mau_listing_tests.proofs.signed.assert_plain.Goals as goal
+use Rattle.mau_fixtures.proofs.signed.assert_plain.Goals as goal
 
 pub loop-decl-preserved : goal.loop-decl-preserved
 loop-decl-preserved g c =

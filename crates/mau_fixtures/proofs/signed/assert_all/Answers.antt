@@ -3,7 +3,7 @@ use Rattle.std.proofs.lemmas.List.{take_all}
 use Rattle.std.proofs.lemmas.List.Elements.{All-more}
 use Rattle.mau_poset.specs.Order.{kind_of}
 use Rattle.mau_signature.specs.Faults.{HasSorts, IsSuccessorIn}
-use Rattle.mau_listing_tests.proofs.signed.assert_all.Goals as goal
+use Rattle.mau_fixtures.proofs.signed.assert_all.Goals as goal
 
 pub loop-decl-preserved : goal.loop-decl-preserved
 loop-decl-preserved g c =
