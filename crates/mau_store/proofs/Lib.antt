@@ -1,7 +1,6 @@
 -- Lemmas on nodes and the trees of their numbers, lowest first.
 
 -- the derived `==` of stored nodes
-pub mod Equal
 -- a list of nodes into which a node is put
 pub mod Places
 -- lists of ids, and their numbers
@@ -22,3 +21,5 @@ pub mod Compared
 pub mod SortedIds
 -- computed cases of the definitions
 pub mod Examples
+-- where a node stands that was looked up
+pub mod Looking

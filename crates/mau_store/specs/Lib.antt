@@ -10,3 +10,6 @@ pub mod View
 pub mod Trees
 -- what is proved of these
 pub mod Laws
+-- What makes a node that is read findable among stored ones.
+pub mod Equal
+pub mod Looked

@@ -3,11 +3,12 @@ ghost use Rattle.std.specs.Prelude.{◌≡◌, ◌==◌, not, find, IfOk};
 ghost use Rattle.std.specs.List.{zip};
 ghost use Rattle.std.specs.Option.{option_map};
 
+use indexmap::Equivalent;
 use mau_terms::{NoMemory, OpId, TermId, VarId};
 use std::alloc::Global;
 
 /// A node as it is read: a numeral, a variable, or an operator over the numbers of its arguments.
-#[derive(Clone, Copy, Debug, PartialEq, Eq)]
+#[derive(Clone, Copy, Debug, PartialEq, Eq, Hash)]
 pub enum NodeView<'a> {
     Num(u128),
     Var(VarId),
@@ -44,6 +45,27 @@ impl StoredNode {
             StoredNode::Num(n) => NodeView::Num(*n),
             StoredNode::Var(v) => NodeView::Var(*v),
             StoredNode::App(op, args) => NodeView::App(*op, args),
+        }
+    }
+}
+
+/// A stored node is looked up by a node as it is read.
+impl<'a> Equivalent<StoredNode> for NodeView<'a> {
+    ghost use Rattle.mau_store.specs.View.{same_as_stored};
+    ghost use Rattle.mau_store.specs.Looked.{hashed_alike, equal_alike};
+
+    ghost equivalent = { same_as_stored };
+
+    ghost respects_hash = { hashed_alike };
+
+    ghost respects_eq = { equal_alike };
+
+    fn equivalent(&self, key: &StoredNode) -> bool {
+        match (self, key) {
+            (NodeView::Num(m), StoredNode::Num(n)) => m == n,
+            (NodeView::Var(v), StoredNode::Var(w)) => v == w,
+            (NodeView::App(f, ts), StoredNode::App(g, us)) => f == g && *ts == us.as_slice(),
+            _ => false,
         }
     }
 }

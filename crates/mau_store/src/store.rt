@@ -81,6 +81,23 @@ impl Store {
         ensures unchanged { OnErr result (self.new ≡ self.old) }
         ensures nodes { AreNodes self.new }
     {
+        match self.nodes.get_full(node) {
+            Some((index, _)) => Ok(TermId(index)),
+            None => self.add(node),
+        }
+    }
+
+    /// The same, where the node is not looked up before its arguments are copied.
+    fn add(&mut self, node: NodeView<'_>) -> Result<TermId, NoMemory>
+        requires { AreOf self.old (arguments (node_of node)) }
+        ensures ok { IfOk result (λ id. slice_get self.new id.0 ≡ Some (node_of node.entry)) }
+        ensures there { (k : ℕ) → slice_get self.old k ≡ Some (node_of node.entry) → IfOk result (λ id. id.0 ≡ k) }
+        ensures tree { IfOk result (λ id. tree_at self.new id.0 ≡ tree_over (tree_at self.old) (node_of node.entry)) }
+        ensures added { OnOk result ((self.new ≡ self.old) ⊎ (self.new ≡ self.old ++ node_of node.entry ∷ [])) }
+        ensures extends { Extends self.old self.new }
+        ensures unchanged { OnErr result (self.new ≡ self.old) }
+        ensures nodes { AreNodes self.new }
+    {
         let depth = self.depth_over(node);
         let node = StoredNode::new(self.alloc, node)?;
         self.depths.push(depth)?;

@@ -5,7 +5,7 @@ use Rattle.mau_terms.specs.Tree.{node, variable, numeral}
 use Rattle.mau_terms.specs.declared.ids.TermId.{TermId}
 use Rattle.mau_store.specs.Trees.{tree_at, trees_at, tree_over}
 use Rattle.mau_store.specs.View.{numbers, node_of}
-use Rattle.mau_store.proofs.Equal.{Decides-ids}
+use Rattle.mau_store.specs.Equal.{Decides-ids}
 use Rattle.mau_evaluation.specs.Evaluation.{count_up, is_none, names_all}
 use Rattle.mau_reduce.proofs.Tops.{same_tops, same_ids, there_of, none_of, is_no_node, is_list, is_same, is_free, is_exchanged, is_other}
 use Rattle.mau_reduce.proofs.rebuilding.top_changed.Goals as goal

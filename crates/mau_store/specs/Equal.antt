@@ -13,14 +13,14 @@ use Rattle.mau_store.specs.contracts.node.StoredNodePartialEq.TheImpl.{eq-value}
 use Rattle.mau_terms.specs.contracts.ids.TermIdPartialEq.TheImpl.{eq-value as id_eq}
 
 -- both parts of a test hold
-parts : (p q : Bool) → (p && q) ≡ true → (p ≡ true) × (q ≡ true)
+pub parts : (p q : Bool) → (p && q) ≡ true → (p ≡ true) × (q ≡ true)
 parts true q h = (refl, h)
 parts false q h = absurd (cc)
 
-same_number : (m n : ℕ) → eqb m n ≡ true → m ≡ n
+pub same_number : (m n : ℕ) → eqb m n ≡ true → m ≡ n
 same_number m n = (Decides-eqb m n).0
 
-number_same : (m n : ℕ) → m ≡ n → eqb m n ≡ true
+pub number_same : (m n : ℕ) → m ≡ n → eqb m n ≡ true
 number_same m n = (Decides-eqb m n).1
 
 same_ids : (xs ys : List TermId) → pointwise id_eq.it xs ys ≡ true → numbers xs ≡ numbers ys
