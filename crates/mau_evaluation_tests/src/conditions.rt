@@ -33,7 +33,7 @@ fn tell_value(
     requires known { IsKnown sig.now store.old sorts.now run.old }
     ensures known { OnOk result (IsKnown sig.now store.new sorts.now run.new) }
 {
-    assert!(rt; sorts.has(sig, term, 0) == Some(true));
+    assert!(rt; sig.poset().sorts() > 0);
     match run.ask(store, sig, sorts)? {
         Ask::Evaluate(again) => {
             assert_eq!(rt; again, term);
@@ -94,7 +94,7 @@ fn answer(
             Ok(false)
         }
         Ask::Match(fragment, _) => {
-            log.push((b'0').wrapping_add(fragment as u8) as char)?;
+            log.push((b'0').wrapping_add((fragment & 15) as u8) as char)?;
             let letter = letter(lists, fragment, next_of(counts, fragment));
             tell_solution(rt, run, store, sig, sorts, fragment, letter)?;
             Ok(false)
@@ -195,6 +195,30 @@ fn sorts_of(
     Ok(sorts)
 }
 
+/// What a run answers up to each solution and up to its end, parted by spaces.
+fn rounds(
+    rt: &impl Abort,
+    run: &mut CondRun,
+    store: &mut Store,
+    sig: &Signature,
+    sorts: &SortTable,
+    lists: &str,
+    counts: &mut [usize],
+) -> Result<String, Fail>
+    requires over { AreOver sig.now.hierarchy sorts.now }
+    requires known { IsKnown sig.now store.old sorts.now run.old }
+{
+    let mut log = String::new(store.allocator());
+    for _ in 0..10 {
+        round(rt, run, store, sig, sorts, lists, counts, &mut log)?;
+        if log.as_str().ends_with('F') {
+            return Ok(log);
+        }
+        log.push(' ')?;
+    }
+    Err("no end".into())
+}
+
 /// What a condition answers up to each solution and up to its end, parted by spaces, where the values of the fragments' variables are those of a text
 /// and the first fragment begins with the one of a number.
 fn answers(
@@ -210,24 +234,7 @@ fn answers(
     assert_fragments(rt, &sig, cond);
     let mut run = CondRun::start(alloc, cond, &[])?;
     let mut counts = Vec::from_array(alloc, [first, 0, 0])?;
-    let mut log = String::new(alloc);
-    for _ in 0..10 {
-        round(
-            rt,
-            &mut run,
-            &mut store,
-            &sig,
-            &sorts,
-            lists,
-            &mut counts,
-            &mut log,
-        )?;
-        if log.as_str().ends_with('F') {
-            return Ok(log);
-        }
-        log.push(' ')?;
-    }
-    Err("no end".into())
+    rounds(rt, &mut run, &mut store, &sig, &sorts, lists, &mut counts)
 }
 
 /// A variable as a term.

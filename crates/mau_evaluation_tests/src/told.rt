@@ -2,7 +2,9 @@
 //! constants of the word `i` of a text, one after the other.
 ghost use Rattle.std.specs.Prelude.{◌≡◌, All, IfOk, OnOk, Some};
 ghost use Rattle.mau_store.specs.Node.{Extends, IsOf};
-ghost use Rattle.mau_sorts.specs.Table.{AreOver};
+ghost use Rattle.mau_signature.specs.Faults.{IsSort};
+ghost use Rattle.mau_sorts.specs.SortSets.{SortsOf, IsIn};
+ghost use Rattle.mau_sorts.specs.Table.{AreOver, entry_at};
 ghost use Rattle.mau_api.specs.Answers.{IsValueOf};
 ghost use Rattle.mau_cond.specs.Known.{IsToldValue};
 
@@ -23,8 +25,27 @@ pub fn constant(alloc: Global, letter: u8) -> Bare {
 }
 
 /// The variable `index`, which is of the sort 0.
-pub fn variable(index: u32) -> VarId {
+pub fn variable(index: u32) -> VarId
+    ensures { result.sort ≡ 0 }
+{
     VarId { index, sort: 0 }
+}
+
+/// The term has the sort 0.
+fn assert_sort(sig: &Signature, sorts: &SortTable, id: TermId) -> Result<(), Fail>
+    requires over { AreOver sig.now.hierarchy sorts.now }
+    requires sort { IsSort sig.now.hierarchy 0 }
+    ensures { OnOk result ((e : SortsOf) × (entry_at sorts.now id.0 ≡ Some e) × IsIn sig.now.hierarchy e 0) }
+{
+    match sorts.has(sig, id, 0) {
+        Some(has) => {
+            if has {
+                return Ok(());
+            }
+            Err("another sort".into())
+        }
+        None => Err("no sorts".into()),
+    }
 }
 
 /// The constant of a letter as a value of a variable.
@@ -47,7 +68,7 @@ pub fn value(
     assert!(rt; sig.poset().sorts() > 0);
     assert!(rt; sig.kind(&constant) == sig.poset().kind_of(0));
     let id = build_bare(store, sig, &constant)?;
-    assert!(rt; sorts.has(sig, id, 0) == Some(true));
+    assert_sort(sig, sorts, id)?;
     Ok((variable(index), id))
 }
 
@@ -77,7 +98,7 @@ pub fn name(store: &Store, id: TermId) -> char
     requires { IsOf store.now id.0 }
 {
     match store.view(id) {
-        NodeView::App(op, _) => (op.0 as u8).wrapping_add(b'`') as char,
+        NodeView::App(op, _) => ((op.0 & 255) as u8).wrapping_add(b'`') as char,
         _ => '?',
     }
 }
