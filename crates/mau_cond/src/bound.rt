@@ -38,6 +38,16 @@ impl Bound {
         }
     }
 
+    /// The same once more.
+    pub fn copy(&self, alloc: Global) -> Result<Bound, NoMemory>
+        ensures { IfOk result (λ b. b ≡ self.now) }
+    {
+        Ok(Bound {
+            variables: Vec::from_slice(alloc, &self.variables)?,
+            values: Vec::from_slice(alloc, &self.values)?,
+        })
+    }
+
     /// How many variables there are.
     pub fn len(&self) -> usize
         ensures { result ≡ length self.now }
