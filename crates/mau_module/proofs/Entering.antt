@@ -3,7 +3,8 @@ use Rattle.std.proofs.Common.{◌≡◌, ◌+◌, ◌<◌, List, [], ◌∷◌, 
 use Rattle.std.specs.Prelude.{All}
 use Rattle.std.proofs.lemmas.List.Elements.{All-push}
 use Rattle.mau_module.specs.Modules.{ModuleOf}
-use Rattle.mau_module.specs.Library.{IsLibrary, IsNext}
+use Rattle.mau_module.specs.Libraries.{IsLibrary, IsNext}
+use Rattle.mau_module.proofs.MadeOver.{one_more_made}
 
 module _ (ms : List ModuleOf) (m : ModuleOf) (lib : IsLibrary ms) (next : IsNext ms m) where
   longer : length (ms ++ m ∷ []) ≡ length ms + 1
@@ -12,4 +13,5 @@ module _ (ms : List ModuleOf) (m : ModuleOf) (lib : IsLibrary ms) (next : IsNext
   pub entered : IsLibrary (ms ++ m ∷ [])
   entered = record {
     parts = All-push (λ (n : ModuleOf). All (λ p. p < length (ms ++ m ∷ [])) n.parts) ms m (λ k d l j e r. omega (arith, lib.parts k d l j e r, longer)) (λ j e r. omega (arith, next.parts j e r, longer));
+    made = one_more_made ms m lib.made next.made;
   }

@@ -1,5 +1,5 @@
 use Rattle.std.proofs.Common.{sym, subst}
-use Rattle.mau_module.specs.Library.{IsLibrary, IsNext}
+use Rattle.mau_module.specs.Libraries.{IsLibrary, IsNext}
 use Rattle.mau_module.proofs.Entering.{entered}
 use Rattle.mau_module.proofs.library.Library.enter.Goals as goal
 

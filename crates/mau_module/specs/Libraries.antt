@@ -1,0 +1,14 @@
+-- What holds of each library, and what may be entered next.
+use Rattle.std.specs.Prelude.{◌<◌, ◌≤◌, List, length, All}
+use Rattle.mau_module.specs.Modules.{ModuleOf}
+use Rattle.mau_module.specs.Lawful.{IsMadeOver, AreMade}
+
+-- modules include modules that are there, and each is one over those before it
+pub record IsLibrary (ms : List ModuleOf) : Type 0 where
+  pub parts : All (λ m. All (λ p. p < length ms) m.parts) ms
+  pub made : AreMade ms
+
+-- a module that may be the next one: it includes modules that are there, and itself, and is one over them
+pub record IsNext (ms : List ModuleOf) (m : ModuleOf) : Type 0 where
+  pub parts : All (λ p. p ≤ length ms) m.parts
+  pub made : IsMadeOver ms m
