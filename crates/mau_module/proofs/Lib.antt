@@ -37,3 +37,4 @@ pub mod NumberRows
 pub mod PreludeFacts
 pub mod BoolLawful
 pub mod PreludeMade
+pub mod ReadyMade

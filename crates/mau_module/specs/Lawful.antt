@@ -105,6 +105,14 @@ pub record IsClosed (ms : List ModuleOf) (names : List (List ℕ)) (parts : List
   pub closed : (p q : ℕ) → IsIn p parts → IsIn q (of_module ms (λ x. x.parts) p) → IsIn q parts
   pub known : AreKnown ms names parts
 
+-- its signature was made and accepted, what it declares is over it, and so are left sides and heads of what it carries
+pub record IsRightOver (ms : List ModuleOf) (m : ModuleOf) (included : List ℕ) : Type 0 where
+  pub made : IsSignature m.signature
+  pub poset : IsPoset m.signature.hierarchy
+  pub accepted : IsAccepted m.signature
+  pub over : IsOver m.signature m.own.pairs m.own.declarations
+  pub tops : AreLawful m.signature (carried ms m.sorts m.signature included)
+
 pub record IsSignedOver (ms : List ModuleOf) (m : ModuleOf) (included : List ℕ) : Type 0 where
   pub closed : IsClosed ms m.sorts included
   pub parts : m.parts ≡ all_parts ms included

@@ -219,8 +219,8 @@ fn module_in(
     ensures fault { IfErr result (IfFault (λ f. FlattenedAs library.now words.now raw.now (Err f))) }
 {
     // What is known of every library and of every signature is needed below, and these calls tell it.
-    let _ = library.len();
-    let _ = signed.signature.operators();
+    let _modules = library.len();
+    let _operators = signed.signature.operators();
     let grammar = match grammar_in(alloc, words, &frame.names, &signed.signature, &elements) {
         Ok(grammar) => grammar,
         Err(NoMemory) => return Err(ModuleFault::NoMemory),
@@ -250,7 +250,7 @@ impl Library {
     ghost use Rattle.std.specs.Prelude.{Ok, Err, IfOk, IfErr};
     ghost use Rattle.mau_module.specs.Faults.{IfFault};
     ghost use Rattle.mau_module.specs.Library.{HasPrelude};
-    ghost use Rattle.mau_module.specs.Libraries.{IsNext, IsPreludeMade};
+    ghost use Rattle.mau_module.specs.Libraries.{IsNext};
     ghost use Rattle.mau_program.specs.LawfulPrograms.{IsLawfulProgram};
     ghost use Rattle.mau_module.specs.Lawful.{program_of};
     ghost use Rattle.mau_module.specs.Flattened.{FlattenedAs};
@@ -265,7 +265,7 @@ impl Library {
         requires { HasPrelude self.now }
         ensures ok { IfOk result (λ m. FlattenedAs self.now words.now raw.now (Ok m)) }
         ensures next { IfOk result (IsNext self.now) }
-        ensures lawful { IsPreludeMade self.now → IfOk result (λ m. IsLawfulProgram (program_of m)) }
+        ensures lawful { IfOk result (λ m. IsLawfulProgram (program_of m)) }
         ensures fault { IfErr result (IfFault (λ f. FlattenedAs self.now words.now raw.now (Err f))) }
     {
         let frame = match framed(alloc, self, words, raw) {

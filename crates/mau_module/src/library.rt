@@ -70,7 +70,7 @@ fn last_named(modules: &[Module], name: &str) -> Option<usize>
 impl Library {
     ghost use Rattle.std.specs.Prelude.{◌≡◌, ◌<◌, ◌≤◌, ◌∷◌, ◌++◌, [], length, All, Some, IfSome, OnOk, OnErr, slice_get};
     ghost use Rattle.mau_module.specs.Library.{last_named};
-    ghost use Rattle.mau_module.specs.Libraries.{IsLibrary, IsNext, IsPreludeMade};
+    ghost use Rattle.mau_module.specs.Libraries.{IsLibrary, IsNext, IsLawfulAt, AreLawfulModules};
     ghost use Rattle.mau_program.specs.LawfulPrograms.{IsLawfulProgram};
     ghost use Rattle.mau_module.specs.Lawful.{program_of};
 
@@ -95,6 +95,7 @@ impl Library {
     pub fn find(&self, name: &str) -> Option<usize>
         ensures number { result ≡ last_named self.now name.now }
         ensures within { IfSome result (λ i. i < length self.now) }
+        ensures lawful { IfSome result (IsLawfulAt self.now) }
     {
         last_named(&self.modules, name)
     }
@@ -104,7 +105,7 @@ impl Library {
         requires { number < length self.now }
         ensures there { slice_get self.now number ≡ Some result.now }
         ensures parts { All (λ p. p < length self.now) result.now.parts }
-        ensures lawful { IsPreludeMade self.now → IsLawfulProgram (program_of result.now) }
+        ensures lawful { IsLawfulProgram (program_of result.now) }
     {
         &self.modules[number]
     }
@@ -113,6 +114,7 @@ impl Library {
     pub fn enter(&mut self, module: Module) -> Result<(), NoMemory>
         requires { IsNext self.old «module» }
         ensures ok { OnOk result (self.new ≡ self.old ++ «module» ∷ []) }
+        ensures lawful { AreLawfulModules self.new }
         ensures err { OnErr result (self.new ≡ self.old) }
     {
         self.modules.push(module)?;

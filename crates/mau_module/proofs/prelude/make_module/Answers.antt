@@ -13,15 +13,18 @@ use Rattle.mau_module.proofs.prelude.make_module.Goals as goal
 pub sign_table-requires-clause-known : goal.sign_table-requires-clause-known
 sign_table-requires-clause-known c = known_in c.args.library.now c.args.frame _ c.deref.result.now c.frame.view_is c.deref.ensures.value c.requires.known
 
-pub carried-requires-clause-parts : goal.carried-requires-clause-parts
-carried-requires-clause-parts c =
+pub read_carried-requires-clause-parts : goal.read_carried-requires-clause-parts
+read_carried-requires-clause-parts c =
     subst (All (λ p. p < length c.args.library.now)) (sym (c.deref-4.ensures.value ∙ ap (λ (x : Frame). x.parts) c.frame.view_is)) c.requires.parts
 
-pub carried-requires-clause-known : goal.carried-requires-clause-known
-carried-requires-clause-known c = known_in c.args.library.now c.args.frame _ c.deref-4.result.now c.frame.view_is c.deref-4.ensures.value c.requires.known
+pub read_carried-requires-clause-known : goal.read_carried-requires-clause-known
+read_carried-requires-clause-known c = known_in c.args.library.now c.args.frame _ c.deref-4.result.now c.frame.view_is c.deref-4.ensures.value c.requires.known
 
-pub returns : goal.returns
-returns c = λ sorts.
+pub returns-clause-right : goal.returns-clause-right
+returns-clause-right c = ?
+
+pub returns-clause-value : goal.returns-clause-value
+returns-clause-value c = λ sorts.
     let ms = c.args.library.now in
     let f = c.args.frame in
     let t : TableOf = record { name = c.args.name; sorts = sorts; pairs = c.args.pairs.items; declarations = c.args.declarations.items; variables = c.args.variables.items; equations = c.args.equations.items } in
