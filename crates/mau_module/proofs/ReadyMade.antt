@@ -12,7 +12,7 @@ use Rattle.mau_signing.specs.Signed.{SignatureRead}
 use Rattle.mau_signing.proofs.OneSignature.{signature_is}
 use Rattle.mau_module.specs.Modules.{ModuleOf}
 use Rattle.mau_module.specs.Library.{truth_value, truth, bool}
-use Rattle.mau_module.specs.Libraries.{IsLibrary, IsNext, AreLawfulModules}
+use Rattle.mau_module.specs.Libraries.{IsLibrary, IsNext}
 use Rattle.mau_module.specs.Included.{parts_of}
 use Rattle.mau_module.specs.Known.{AreKnown}
 use Rattle.mau_module.specs.Framed.{Frame}
@@ -25,10 +25,6 @@ use Rattle.mau_module.proofs.Flattening.{parts_are_next}
 use Rattle.mau_module.proofs.TextMade.{read_right}
 use Rattle.mau_module.proofs.PreludeFacts.{ms1, ms2, ms3}
 use Rattle.mau_module.proofs.PreludeMade.{truth_value_ready, truth_ready, bool_ready, nat_ready}
-
--- each module of a library is lawful
-pub lawful_there : (ms : List ModuleOf) → IsLibrary ms → AreLawfulModules ms
-lawful_there ms lib i m e = (lib.made i m e).lawful
 
 -- a signature that is read is right
 pub right_as : (ms : List ModuleOf) (names : List (List ℕ)) (parts : List ℕ) (h : Hierarchy) (ds : List Decl) (s : SignatureOf) → SignatureRead names (given_over ms parts names h ds) None (Ok s)

@@ -114,7 +114,7 @@ impl Library {
     pub fn enter(&mut self, module: Module) -> Result<(), NoMemory>
         requires { IsNext self.old «module» }
         ensures ok { OnOk result (self.new ≡ self.old ++ «module» ∷ []) }
-        ensures lawful { AreLawfulModules self.new }
+        ensures lawful { OnOk result (AreLawfulModules self.new) }
         ensures err { OnErr result (self.new ≡ self.old) }
     {
         self.modules.push(module)?;
