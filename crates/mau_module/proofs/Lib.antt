@@ -38,3 +38,4 @@ pub mod PreludeFacts
 pub mod BoolLawful
 pub mod PreludeMade
 pub mod ReadyMade
+pub mod NativeRows

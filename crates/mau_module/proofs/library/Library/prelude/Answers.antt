@@ -2,6 +2,7 @@ use Rattle.std.proofs.Common.{[], ◌∷◌, ap, ◌∙◌}
 use Rattle.mau_prelude.specs.declared.module.PreludeModule.TheVariants.{TruthValue, Truth, Bool, Nat}
 use Rattle.mau_module.specs.Library.{truth_value, truth, bool}
 use Rattle.mau_module.specs.Prelude.{with_table, prelude}
+use Rattle.mau_module.proofs.Entering.{lawful_there}
 use Rattle.mau_module.proofs.ReadyMade.{ready_first, ready_second, ready_third, ready_fourth}
 use Rattle.mau_module.proofs.library.Library.prelude.Goals as goal
 
@@ -32,3 +33,6 @@ enter_table-4-requires-clause-ready c =
     ∙ ap (λ ms. with_table ms (truth ∷ []) Bool) (c.in_ok-enter_table-2.ensures.modules
     ∙ ap (λ ms. with_table ms (truth_value ∷ []) Truth) (c.in_ok-enter_table.ensures.modules
     ∙ ap (λ ms. with_table ms [] TruthValue) c.new-library.ensures)))
+
+pub returns-clause-lawful : goal.returns-clause-lawful
+returns-clause-lawful c = lawful_there _ c.len-_modules.ensures.library
