@@ -6,7 +6,6 @@ ghost use Rattle.mau_signature.specs.Faults.{HasSorts, IsSort};
 ghost use Rattle.mau_grammar.specs.Grammar.{grammar_of};
 ghost use Rattle.mau_declare.specs.Names.{with_name};
 ghost use Rattle.mau_declare.specs.Flattened.{AreLower};
-ghost use Rattle.mau_prelude.specs.Tables.{table_of};
 ghost use Rattle.mau_signing.specs.Signed.{signature_over};
 ghost use Rattle.mau_statement.specs.Context.{IsItsGrammar};
 ghost use Rattle.mau_module.specs.Known.{AreKnown};
@@ -16,7 +15,7 @@ ghost use Rattle.mau_module.specs.Libraries.{IsNext};
 ghost use Rattle.mau_module.specs.Lawful.{IsRightOver};
 ghost use Rattle.mau_module.specs.Ready.{module_of, IsReady};
 ghost use Rattle.mau_sigcheck.specs.Accepted.{IsAccepted};
-ghost use Rattle.mau_module.specs.Prelude.{table_frame, table_module, with_table, prelude};
+ghost use Rattle.mau_module.specs.Prelude.{table_module, with_table, prelude};
 
 use crate::MAX_DEPTH;
 use crate::context::grammar_over;

@@ -10,6 +10,9 @@ use Rattle.std.proofs.Math.ListN.{drop_of_length-le}
 use Rattle.mau_module.proofs.own.read_own.Goals as goal
 use Rattle.mau_module.proofs.own.read_own.Goals.{in-Some+in-Ok+in_ok-add-in-Ok, in-None}
 
+pub loop-element-init : goal.loop-element-init
+loop-element-init c = ?
+
 pub loop-element-preserved : goal.loop-element-preserved
 loop-element-preserved c =
     elim c.match-statement_in.branch [
