@@ -5,13 +5,18 @@ use Rattle.mau_module.specs.Modules.{no_statements}
 use Rattle.mau_module.specs.Stated.{OwnRead, none_left}
 use Rattle.mau_module.specs.Lawful.{AreLawfulOver}
 use Rattle.mau_module.proofs.Adding.{one_added}
+use Rattle.mau_module.proofs.LawfulCarried.{nothing_lawful}
 use Rattle.mau_module.proofs.Owns.{passed, read, refused, numbered}
 use Rattle.std.proofs.Math.ListN.{drop_of_length-le}
 use Rattle.mau_module.proofs.own.read_own.Goals as goal
 use Rattle.mau_module.proofs.own.read_own.Goals.{in-Some+in-Ok+in_ok-add-in-Ok, in-None}
 
 pub loop-element-init : goal.loop-element-init
-loop-element-init c = ?
+loop-element-init c = record {
+  few = omega arith;
+  rest = λ r o. subst (λ a. OwnRead c.args.words.now c.args.context.now a 1 c.args.elements.now r) c.new-own.ensures o;
+  lawful = subst (AreLawfulOver c.args.context.now.signature) (sym c.new-own.ensures) (nothing_lawful c.args.context.now.signature);
+}
 
 pub loop-element-preserved : goal.loop-element-preserved
 loop-element-preserved c =
