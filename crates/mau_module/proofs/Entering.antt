@@ -21,9 +21,12 @@ pub no_library : IsLibrary []
 no_library = record { parts = All-nil (λ (n : ModuleOf). All (λ p. p < 0) n.parts); made = λ i m e. absurd cc }
 
 -- each module of a library is lawful, and so is one that is found
+pub lawful_at : (ms : List ModuleOf) → IsLibrary ms → (i : ℕ) → IsLawfulAt ms i
+lawful_at ms lib i m e = (lib.made i m e).lawful
+
 pub lawful_there : (ms : List ModuleOf) → IsLibrary ms → AreLawfulModules ms
-lawful_there ms lib i m e = (lib.made i m e).lawful
+lawful_there ms lib = record { each = lawful_at ms lib }
 
 pub found_lawful : (ms : List ModuleOf) → IsLibrary ms → (o : Option ℕ) → IfSome o (IsLawfulAt ms)
-found_lawful ms lib (Some i) = lawful_there ms lib i
+found_lawful ms lib (Some i) = lawful_at ms lib i
 found_lawful ms lib None = tt

@@ -18,5 +18,5 @@ pub record IsNext (ms : List ModuleOf) (m : ModuleOf) : Type 0 where
 abbrev pub IsLawfulAt : List ModuleOf → ℕ → Type 0
 IsLawfulAt ms i = (m : ModuleOf) → slice_get ms i ≡ Some m → IsLawfulProgram (program_of m)
 
-abbrev pub AreLawfulModules : List ModuleOf → Type 0
-AreLawfulModules ms = (i : ℕ) → IsLawfulAt ms i
+pub record AreLawfulModules (ms : List ModuleOf) : Type 0 where
+  pub each : (i : ℕ) → IsLawfulAt ms i

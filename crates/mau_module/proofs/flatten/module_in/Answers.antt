@@ -24,7 +24,6 @@ returns-in-Ok-make_module-clause-next c =
     let e = c.args.elements in
     let s = c.args.signed.signature in
     let it = c.in-Ok-read_statements.ensures.ok in
-    let grammar = c.in-Ok.ensures.value ∙ ap (λ (x : Frame). grammar_in c.args.words.now x e s) c.frame.view_is in
     let over : IsOver s e.pairs c.args.signed.own.items = record {
       within = subst (λ (x : Hierarchy). IsWithin e.pairs x.sorts) (sym c.requires.hierarchy) c.requires.over.pairs;
       sorts = subst (λ x. All (HasSorts x) c.args.signed.own.items) (sym c.requires.hierarchy) c.requires.sorts;

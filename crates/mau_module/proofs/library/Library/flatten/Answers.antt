@@ -1,3 +1,6 @@
+use Rattle.mau_program.specs.LawfulPrograms.{IsLawfulProgram}
+use Rattle.mau_module.specs.Lawful.{program_of}
+use Rattle.mau_module.specs.Libraries.{IsNext}
 use Rattle.mau_module.proofs.Faulted.{no_signature}
 use Rattle.std.proofs.lemmas.Result.{IfOk-weaker}
 use Rattle.mau_module.proofs.library.Library.flatten.Goals as goal
@@ -8,4 +11,4 @@ returns-in-Err-sign_over-clause-fault c =
     c.in-Err-sign_over.fault c.in-Err-sign_over.ensures.refused
 
 pub returns-clause-lawful : goal.returns-clause-lawful
-returns-clause-lawful c = IfOk-weaker c.module_in.result _ _ (λ m next. next.made.lawful) c.module_in.ensures.next
+returns-clause-lawful c = IfOk-weaker c.module_in.result (IsNext c.args.self.now) (λ m. IsLawfulProgram (program_of m)) (λ m next. next.made.lawful) c.module_in.ensures.next

@@ -4,4 +4,4 @@ use Rattle.mau_module.proofs.Entering.{no_library}
 use Rattle.mau_module.proofs.library.Library.new.Goals as goal
 
 pub invariant_of-result : goal.invariant_of-result
-invariant_of-result c = subst IsLibrary (sym c.new.ensures) no_library
+invariant_of-result c = subst IsLibrary (sym c.new.ensures.items) no_library
