@@ -29,5 +29,5 @@ returns-in-Ok-make_module-clause-next c =
       sorts = subst (λ x. All (HasSorts x) c.args.signed.own.items) (sym c.requires.hierarchy) c.requires.sorts;
     } in
     text_next ms c.args.words.now c.args.raw.now f c.requires.frame e s c.requires.signed c.requires.within c.requires.known
-    c.operators-_operators.ensures.signature c.in-Ok.grammar c.args.signed.own.items c.in-Ok-read_statements.read.0 c.in-Ok-read_statements.read.1 c.requires.own over it
-    c.requires.prelude c.len-_modules.ensures.library.made c.in-Ok-make_module.module c.in-Ok-make_module.ensures
+    c.operators-operators.ensures.signature c.in-Ok.grammar c.args.signed.own.items c.in-Ok-read_statements.read.0 c.in-Ok-read_statements.read.1 c.requires.own over it
+    c.requires.prelude c.len-modules.ensures.library.made c.in-Ok-make_module.module c.in-Ok-make_module.ensures

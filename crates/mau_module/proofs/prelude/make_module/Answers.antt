@@ -40,7 +40,7 @@ returns-clause-right c =
     let whole = c.in-Ok.ensures.ok ∙ carried_as ms f t c.frame.inside.names c.deref-4.result.now s names (c.deref-4.ensures.value ∙ ap (λ (x : Frame). x.parts) c.frame.view_is) in
     right_given ms f.parts c.new.result (made ms f t c.len.result s c.in_ok-grammar.grammar c.in_ok-signed.signed.own.items c.append.new.self (behind c.counts-included.result c.append.new.self)) c.new.ensures
     (record {
-      made = c.operators-_operators.ensures.signature;
+      made = c.operators-operators.ensures.signature;
       poset = c.in_ok-signed.ensures.right.0;
       accepted = c.in_ok-signed.ensures.right.1;
       over = over;

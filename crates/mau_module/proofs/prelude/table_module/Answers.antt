@@ -34,6 +34,6 @@ pub returns-clause-next : goal.returns-clause-next
 returns-clause-next c =
     let t = table_of c.args.«module» in
     let over : List (List ℕ) → Frame = λ xs. record { depth = depth_over c.args.library.now c.args.imports.now; parts = parts_of c.args.library.now c.args.imports.now; names = fold with_name (sorts_of c.args.library.now (parts_of c.args.library.now c.args.imports.now)) xs } in
-    table_next c.args.library.now c.args.imports.now c.args.«module» c.len-_modules.ensures.library c.requires.ready c.requires.imports
+    table_next c.args.library.now c.args.imports.now c.args.«module» c.len-modules.ensures.library c.requires.ready c.requires.imports
     c.make_module.result c.in_ok-frame.frame (c.in_ok-frame.ensures.frame ∙ ap over (c.deref.ensures.value ∙ c.in_ok-table.ensures.sorts)) c.in_ok-frame.ensures.within c.in_ok-frame.ensures.known
     (returns-clause-value c) c.make_module.ensures.right

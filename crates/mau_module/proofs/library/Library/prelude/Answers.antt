@@ -35,4 +35,4 @@ enter_table-4-requires-clause-ready c =
     ∙ ap (λ ms. with_table ms [] TruthValue) c.new-library.ensures)))
 
 pub returns-clause-lawful : goal.returns-clause-lawful
-returns-clause-lawful c = lawful_there _ c.len-_modules.ensures.library
+returns-clause-lawful c = lawful_there _ c.len-modules.ensures.library
