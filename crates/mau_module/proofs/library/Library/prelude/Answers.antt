@@ -18,17 +18,17 @@ returns-clause-value c =
 pub enter_table-requires-clause-ready : goal.enter_table-requires-clause-ready
 enter_table-requires-clause-ready c = ready_first _ c.new-library.ensures
 
-pub enter_table-2-requires-clause-ready : goal.enter_table-2-requires-clause-ready
-enter_table-2-requires-clause-ready c = ready_second _ (c.in_ok-enter_table.ensures.modules ∙ ap (λ ms. with_table ms [] TruthValue) c.new-library.ensures)
+pub enter_table-requires-2-clause-ready : goal.enter_table-requires-2-clause-ready
+enter_table-requires-2-clause-ready c = ready_second _ (c.in_ok-enter_table.ensures.modules ∙ ap (λ ms. with_table ms [] TruthValue) c.new-library.ensures)
 
-pub enter_table-3-requires-clause-ready : goal.enter_table-3-requires-clause-ready
-enter_table-3-requires-clause-ready c =
+pub enter_table-requires-3-clause-ready : goal.enter_table-requires-3-clause-ready
+enter_table-requires-3-clause-ready c =
     ready_third _ (c.in_ok-enter_table-2.ensures.modules
     ∙ ap (λ ms. with_table ms (truth_value ∷ []) Truth) (c.in_ok-enter_table.ensures.modules
     ∙ ap (λ ms. with_table ms [] TruthValue) c.new-library.ensures))
 
-pub enter_table-4-requires-clause-ready : goal.enter_table-4-requires-clause-ready
-enter_table-4-requires-clause-ready c =
+pub enter_table-requires-4-clause-ready : goal.enter_table-requires-4-clause-ready
+enter_table-requires-4-clause-ready c =
     ready_fourth _ (c.in_ok-enter_table-3.ensures.modules
     ∙ ap (λ ms. with_table ms (truth ∷ []) Bool) (c.in_ok-enter_table-2.ensures.modules
     ∙ ap (λ ms. with_table ms (truth_value ∷ []) Truth) (c.in_ok-enter_table.ensures.modules
