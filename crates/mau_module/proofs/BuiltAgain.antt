@@ -275,7 +275,7 @@ module _ (ms : List ModuleOf) (names : List (List ℕ)) (parts : List ℕ) (all_
         → HasBuiltIn names s (Sources.place h whole numerals (declaration_to to d) + 1) name
     own_built_moved d name i e t =
         let there : IsIn d source = in_left d (declarations_of_parts (take q ms) m.sorts over part.made.included ++ m.own.declarations) (if_truth (has_truth (part.made.included ++ length (take q ms) ∷ [])) over m.sorts)
-            (in_right d (declarations_of_parts (take q ms) m.sorts over part.made.included) m.own.declarations i) in
+        (in_right d (declarations_of_parts (take q ms) m.sorts over part.made.included) m.own.declarations i) in
         let g = Sources.place over source their_numerals d + 1 in
         let o = Sources.is_operator_of over source their_numerals d there in
         let built = subst (λ (x : SignatureOf). HasBuiltIn m.sorts x (number_at x d) name) part.made.signature (part.made.built_ins d name i e) in
@@ -295,10 +295,10 @@ module _ (ms : List ModuleOf) (names : List (List ℕ)) (parts : List ℕ) (all_
       let r = name_moved 0 m part (codes "Bool") b (number_found m.sorts (codes "Bool") t.sort) in
       let to_new = to 0 m part in
       let in_source : (d : Decl) → IsIn d m.own.declarations → IsIn d (source 0 m part) = λ d j.
-          in_left d (declarations_of_parts (take 0 ms) m.sorts (over 0 m part) part.made.included ++ m.own.declarations) (if_truth (has_truth (part.made.included ++ length (take 0 ms) ∷ [])) (over 0 m part) m.sorts)
-          (in_right d (declarations_of_parts (take 0 ms) m.sorts (over 0 m part) part.made.included) m.own.declarations j) in
+      in_left d (declarations_of_parts (take 0 ms) m.sorts (over 0 m part) part.made.included ++ m.own.declarations) (if_truth (has_truth (part.made.included ++ length (take 0 ms) ∷ [])) (over 0 m part) m.sorts)
+      (in_right d (declarations_of_parts (take 0 ms) m.sorts (over 0 m part) part.made.included) m.own.declarations j) in
       let again : (d : Decl) → IsIn d m.own.declarations → IsIn (declaration_to to_new d) whole = λ d j.
-          moved ms names parts all_made closed pairs own accepted 0 m part d (in_source d j) in
+      moved ms names parts all_made closed pairs own accepted 0 m part d (in_source d j) in
       record {
         bool = to_new b;
         named = r.1;
@@ -332,9 +332,9 @@ module _ (ms : List ModuleOf) (names : List (List ℕ)) (parts : List ℕ) (all_
 
     declared_built : (d : Decl) (name : List ℕ) → IsIn d whole → d.attrs.builtin ≡ Some name → HasBuiltIn names s (Sources.place h whole numerals d + 1) name
     declared_built d name i b = elim (in_both d (declarations_of_parts ms names h parts ++ own) (if_truth (has_truth (parts ++ length ms ∷ [])) h names) i) [
-        inl j ↦ elim (in_both d (declarations_of_parts ms names h parts) own j) [ inl k ↦ from_parts d name k b | inr k ↦ own_built d name k b (truth_there first) ]
+      | inl j ↦ elim (in_both d (declarations_of_parts ms names h parts) own j) [ inl k ↦ from_parts d name k b | inr k ↦ own_built d name k b (truth_there first) ]
       | inr j ↦ from_truth d name (has_truth (parts ++ length ms ∷ [])) i j b
-      ]
+    ]
 
     pub all_built : AreBuiltIn names s
     all_built f name o e =

@@ -35,6 +35,7 @@ was_part ps q x i = by (has_part ps q) i
     last : IsIn x (q ∷ []) → IsIn x ps ⊎ (x ≡ q)
     last (inl e) = inr e
     last (inr e) = absurd e
+
     by : (b : Bool) → IsIn x (cond b ps (ps ++ q ∷ [])) → IsIn x ps ⊎ (x ≡ q)
     by true j = inl j
     by false j = elim (in_both x ps (q ∷ []) j) [ inl k ↦ inl k | inr k ↦ last k ]
@@ -51,9 +52,9 @@ come_parts (q ∷ more) ps x (inr i) = come_parts more (with_part ps q) x i
 were_parts : (more ps : List ℕ) (x : ℕ) → IsIn x (fold with_part ps more) → IsIn x ps ⊎ IsIn x more
 were_parts [] ps x i = inl i
 were_parts (q ∷ more) ps x i = elim (were_parts more (with_part ps q) x i) [
-    inl j ↦ elim (was_part ps q x j) [ inl k ↦ inl k | inr e ↦ inr (inl e) ]
+  | inl j ↦ elim (was_part ps q x j) [ inl k ↦ inl k | inr e ↦ inr (inl e) ]
   | inr j ↦ inr (inr j)
-  ]
+]
 
 module _ (ms : List ModuleOf) where
   abbrev their : ℕ → List ℕ
@@ -72,9 +73,9 @@ module _ (ms : List ModuleOf) where
       → IsIn x ps ⊎ ((j : ℕ) × IsIn j imports × IsIn x (of_module ms (λ m. m.parts) j))
   were_all [] ps x i = inl i
   were_all (l ∷ imports) ps x i = elim (were_all imports (fold with_part ps (their l)) x i) [
-      inl k ↦ elim (were_parts (their l) ps x k) [ inl a ↦ inl a | inr a ↦ inr (l, inl refl, a) ]
+    | inl k ↦ elim (were_parts (their l) ps x k) [ inl a ↦ inl a | inr a ↦ inr (l, inl refl, a) ]
     | inr k ↦ inr (k.0, inr k.1, k.2)
-    ]
+  ]
 
   pub part_of_import : (imports : List ℕ) (j x : ℕ) → IsIn j imports → IsIn x (of_module ms (λ m. m.parts) j) → IsIn x (parts_of ms imports)
   part_of_import imports j x k i = come_all imports [] j x k i
@@ -95,11 +96,11 @@ module _ (ms : List ModuleOf) where
       let have : (x : ℕ) → IsIn x m.parts → IsIn x (parts_of ms imports) = λ x a. part_of_import imports j x r.1 (in_of_it ms (λ m. m.parts) j m x t.1 a) in
       let it : IsIn p (its.included ++ length (take j ms) ∷ []) = subst (IsIn p) its.parts (out_of_it ms (λ m. m.parts) j m p t.1 r.2) in
       elim (in_both p its.included (length (take j ms) ∷ []) it) [
-        inl a ↦
-          let less : p < j = subst (λ n. p < n) (length_take ms j l) (all_in (λ x. x < length (take j ms)) its.included p its.within a) in
-          let same = ap (λ o. Rattle.std.specs.Option.option_map_or (λ (x : ModuleOf). x.parts) o []) (still_there ms j p less) in
-          have q (subst (IsIn q) (sym its.parts) (in_left q its.included (length (take j ms) ∷ []) (its.closed p q a (subst (IsIn q) (sym same) k))))
-      | inr a ↦ have q (out_of_it ms (λ m. m.parts) j m q t.1 (subst (λ n. IsIn q (of_module ms (λ m. m.parts) n)) (is_last p j l a) k))
+        | inl a ↦
+            let less : p < j = subst (λ n. p < n) (length_take ms j l) (all_in (λ x. x < length (take j ms)) its.included p its.within a) in
+            let same = ap (λ o. Rattle.std.specs.Option.option_map_or (λ (x : ModuleOf). x.parts) o []) (still_there ms j p less) in
+            have q (subst (IsIn q) (sym its.parts) (in_left q its.included (length (take j ms) ∷ []) (its.closed p q a (subst (IsIn q) (sym same) k))))
+        | inr a ↦ have q (out_of_it ms (λ m. m.parts) j m q t.1 (subst (λ n. IsIn q (of_module ms (λ m. m.parts) n)) (is_last p j l a) k))
       ]
     where
       is_last : (p j : ℕ) → j < length ms → IsIn p (length (take j ms) ∷ []) → p ≡ j

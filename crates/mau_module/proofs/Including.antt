@@ -96,13 +96,15 @@ pub record IsPart (ms : List ModuleOf) (names : List (List ℕ)) (parts : List �
 pub part_is : (ms : List ModuleOf) (names : List (List ℕ)) (parts : List ℕ) → AreMade ms → IsClosed ms names parts → (q : ℕ) → IsIn q parts → (m : ModuleOf) × IsPart ms names parts q m
 part_is ms names parts made closed q i =
     let r = module_there ms q (all_in (λ p. p < length ms) parts q closed.within i) in
-    let all = all_in (λ p. All (λ x. has_name names x ≡ true) (of_module ms (λ m. m.sorts) p)) parts q closed.known i in
-    (r.0, record {
-      there = r.1;
-      among = i;
-      made = made q r.0 r.1;
-      names_known = λ x h. all_in (λ x. has_name names x ≡ true) (of_module ms (λ m. m.sorts) q) x all (in_of_it ms (λ m. m.sorts) q r.0 x r.1 h);
-    })
+    let all = all_in (λ p. All (λ x. has_name names x ≡ true) (of_module ms (λ m. m.sorts) p)) parts q closed.known i in (
+      r.0,
+      record {
+        there = r.1;
+        among = i;
+        made = made q r.0 r.1;
+        names_known = λ x h. all_in (λ x. has_name names x ≡ true) (of_module ms (λ m. m.sorts) q) x all (in_of_it ms (λ m. m.sorts) q r.0 x r.1 h);
+      },
+    )
 
 module _ (ms : List ModuleOf) (names : List (List ℕ)) (parts : List ℕ) (all_made : AreMade ms) (closed : IsClosed ms names parts) (pairs : List (ℕ × ℕ)) where
   abbrev h : Hierarchy
@@ -155,16 +157,16 @@ module _ (ms : List ModuleOf) (names : List (List ℕ)) (parts : List ℕ) (all_
         let there : IsIn (a, b) (theirs ++ m.own.pairs) = contains_in over.pairs (a, b) l in
         let moved : ℕ × ℕ = (sort_to m.sorts names a, sort_to m.sorts names b) in
         in_contains h.pairs moved (elim (in_both (a, b) theirs m.own.pairs there) [
-          inl i ↦
-            let f = in_flattened (of_module (take q ms) (λ x. map (pair_to x.sorts m.sorts) x.own.pairs)) part.made.included (a, b) i in
-            let r = f.0 in
-            let p = part_there r f.1 in
-            let n = p.0 in
-            let g = in_mapped (pair_to n.sorts m.sorts) n.own.pairs (a, b) (out_of_it (take q ms) (λ x. map (pair_to x.sorts m.sorts) x.own.pairs) r n (a, b) p.1.there f.2) in
-            let same : moved ≡ pair_to n.sorts names g.0 =
-                ap (λ (y : ℕ × ℕ). let v : ℕ × ℕ = (sort_to m.sorts names y.0, sort_to m.sorts names y.1) in v) g.2 ∙ pair_again r n g.0 p.1 g.1 in
-            subst (λ (y : ℕ × ℕ). IsIn y h.pairs) (sym same) (pair_there r n g.0 (before_it ms q r n p.1.there) (included_again r f.1) g.1)
-        | inr i ↦ pair_there q m (a, b) part.there part.among i
+          | inl i ↦
+              let f = in_flattened (of_module (take q ms) (λ x. map (pair_to x.sorts m.sorts) x.own.pairs)) part.made.included (a, b) i in
+              let r = f.0 in
+              let p = part_there r f.1 in
+              let n = p.0 in
+              let g = in_mapped (pair_to n.sorts m.sorts) n.own.pairs (a, b) (out_of_it (take q ms) (λ x. map (pair_to x.sorts m.sorts) x.own.pairs) r n (a, b) p.1.there f.2) in
+              let same : moved ≡ pair_to n.sorts names g.0 =
+              ap (λ (y : ℕ × ℕ). let v : ℕ × ℕ = (sort_to m.sorts names y.0, sort_to m.sorts names y.1) in v) g.2 ∙ pair_again r n g.0 p.1 g.1 in
+              subst (λ (y : ℕ × ℕ). IsIn y h.pairs) (sym same) (pair_there r n g.0 (before_it ms q r n p.1.there) (included_again r f.1) g.1)
+          | inr i ↦ pair_there q m (a, b) part.there part.among i
         ])
 
     pub part_numbering : IsNumbering m.sorts over names h

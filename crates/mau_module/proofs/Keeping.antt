@@ -176,9 +176,9 @@ module _ (ms : List ModuleOf) (names : List (List ℕ)) (parts : List ℕ) (all_
 
     nat_included : IsIn nat (theirs ++ length before ∷ []) → IsIn nat parts
     nat_included i = elim (in_both nat theirs (length before ∷ []) i) [
-        inl j ↦ included_again ms names parts all_made closed pairs q m part nat j
+      | inl j ↦ included_again ms names parts all_made closed pairs q m part nat j
       | inr j ↦ closed.closed q nat part.among (in_of_it ms (λ x. x.parts) q m nat part.there (subst (IsIn nat) (sym part.made.parts) (in_right nat theirs (length before ∷ []) j)))
-      ]
+    ]
 
     numerals_by : (b : Bool) → has_part (theirs ++ length before ∷ []) nat ≡ b → (k : ℕ)
         → option_map (λ (p : ℕ × ℕ). kind_of over p.0) (if b then Some (number_in m.sorts (codes "Zero"), number_in m.sorts (codes "NzNat")) else None) ≡ Some k

@@ -99,7 +99,7 @@ module _ (ms : List ModuleOf) (names : List (List ℕ)) (parts : List ℕ) (all_
       let r = part_is ms names parts all_made closed p i in
       let m = r.0 in
       let is : carried_part ms names s p ≡ carried_from (numbers_from m names s) m.own.statements =
-          ap (λ o. option_map_or (λ (x : ModuleOf). carried_from (numbers_from x names s) x.own.statements) o no_statements) r.1.there in
+      ap (λ o. option_map_or (λ (x : ModuleOf). carried_from (numbers_from x names s) x.own.statements) o no_statements) r.1.there in
       let keeps = keeps_kinds ms names parts all_made closed pairs own accepted p m r.1 in
       subst (AreLawfulOver s) (sym is)
       (moved_lawful (numbers_from m names s) m.signature s (all_stay (numbers_from m names s) m.signature s keeps) m.own.statements r.1.made.own (subst (HaveTops s) is tops))

@@ -97,12 +97,12 @@ last_cases [] m zero x e = let same : m ≡ x = cc in inr (same, refl)
 last_cases [] m (suc i) x e = absurd cc
 last_cases (y ∷ ms) m zero x e = inl (e, refl)
 last_cases (y ∷ ms) m (suc i) x e = elim (last_cases ms m i x e) [
-    inl p ↦ inl (p.0, ap (λ zs. y ∷ zs) p.1)
+  | inl p ↦ inl (p.0, ap (λ zs. y ∷ zs) p.1)
   | inr p ↦ inr (p.0, ap (λ zs. y ∷ zs) p.1)
-  ]
+]
 
 pub one_more_made : (ms : List ModuleOf) (m : ModuleOf) → AreMade ms → IsMadeOver ms m → AreMade (ms ++ m ∷ [])
 one_more_made ms m made over i x e = elim (last_cases ms m i x e) [
-    inl p ↦ subst (λ ys. IsMadeOver ys x) (sym p.1) (made i x p.0)
+  | inl p ↦ subst (λ ys. IsMadeOver ys x) (sym p.1) (made i x p.0)
   | inr p ↦ subst (λ ys. IsMadeOver ys x) (sym p.1) (subst (IsMadeOver ms) p.0 over)
-  ]
+]

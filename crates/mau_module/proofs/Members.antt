@@ -73,9 +73,9 @@ module _ {A B : Type 0} (f : A → List B) where
   pub in_flattened : (xs : List A) (y : B) → IsIn y (flat_map f xs) → (x : A) × IsIn x xs × IsIn y (f x)
   in_flattened [] y h = absurd h
   in_flattened (z ∷ xs) y h = elim (in_both y (f z) (flat_map f xs) h) [
-      inl a ↦ (z, inl refl, a)
+    | inl a ↦ (z, inl refl, a)
     | inr b ↦ let r = in_flattened xs y b in (r.0, inr r.1, r.2)
-    ]
+  ]
 
 eq_or : (a b : ℕ) → a < b + 1 → (b ≡ a) ⊎ (a + 1 < b + 1)
 eq_or zero zero w = inl refl

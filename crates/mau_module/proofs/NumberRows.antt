@@ -51,9 +51,9 @@ module _ (names : List (List ℕ)) (h : Hierarchy) (ds : List Decl) (numerals : 
   same_two d e a b x y form p q da ea =
       let over : List Piece → List ℕ → Operator = λ f as_. record { form = f; arguments = as_; constant = None } in
       let left : operator_of h d ≡ over d.form (kind_of h a ∷ kind_of h b ∷ []) =
-          ap (λ as_. record { form = d.form; arguments = map (kind_of h) as_; constant = Rattle.mau_signature.specs.Names.if_constant as_ (kind_of h d.result) }) da in
+      ap (λ as_. record { form = d.form; arguments = map (kind_of h) as_; constant = Rattle.mau_signature.specs.Names.if_constant as_ (kind_of h d.result) }) da in
       let right : operator_of h e ≡ over e.form (kind_of h x ∷ kind_of h y ∷ []) =
-          ap (λ as_. record { form = e.form; arguments = map (kind_of h) as_; constant = Rattle.mau_signature.specs.Names.if_constant as_ (kind_of h e.result) }) ea in
+      ap (λ as_. record { form = e.form; arguments = map (kind_of h) as_; constant = Rattle.mau_signature.specs.Names.if_constant as_ (kind_of h e.result) }) ea in
       left ∙ ap₂ over form (ap₂ (λ u v. u ∷ v ∷ []) p q) ∙ sym right
 
   at_row : (d e : Decl) (name word : List ℕ) → d ≡ e → d.attrs.builtin ≡ Some name → e.attrs.builtin ≡ Some word → HasBuiltIn names made (number e) word → HasBuiltIn names made (number d) name
@@ -362,45 +362,24 @@ module _ (names : List (List ℕ)) (h : Hierarchy) (ds : List Decl) (numerals : 
   }) truth numbers
 
   pub rows_built : (d : Decl) (name : List ℕ) → IsIn d number_declarations → d.attrs.builtin ≡ Some name → HasBuiltIn names made (number d) name
-
   rows_built d name (inl e) b = at_row d d0 name (codes "succ") e b refl built0
-
   rows_built d name (inr (inl e)) b = at_row d d1 name (codes "nat-add") e b refl built1
-
   rows_built d name (inr (inr (inl e))) b = at_row d d2 name (codes "nat-add") e b refl built2
-
   rows_built d name (inr (inr (inr (inl e)))) b = at_row d d3 name (codes "nat-sd") e b refl built3
-
   rows_built d name (inr (inr (inr (inr (inl e))))) b = at_row d d4 name (codes "nat-mul") e b refl built4
-
   rows_built d name (inr (inr (inr (inr (inr (inl e)))))) b = at_row d d5 name (codes "nat-mul") e b refl built5
-
   rows_built d name (inr (inr (inr (inr (inr (inr (inl e))))))) b = at_row d d6 name (codes "nat-quo") e b refl built6
-
   rows_built d name (inr (inr (inr (inr (inr (inr (inr (inl e)))))))) b = at_row d d7 name (codes "nat-rem") e b refl built7
-
   rows_built d name (inr (inr (inr (inr (inr (inr (inr (inr (inl e))))))))) b = at_row d d8 name (codes "nat-pow") e b refl built8
-
   rows_built d name (inr (inr (inr (inr (inr (inr (inr (inr (inr (inl e)))))))))) b = at_row d d9 name (codes "nat-pow") e b refl built9
-
   rows_built d name (inr (inr (inr (inr (inr (inr (inr (inr (inr (inr (inl e))))))))))) b = at_row d d10 name (codes "nat-gcd") e b refl built10
-
   rows_built d name (inr (inr (inr (inr (inr (inr (inr (inr (inr (inr (inr (inl e)))))))))))) b = at_row d d11 name (codes "nat-gcd") e b refl built11
-
   rows_built d name (inr (inr (inr (inr (inr (inr (inr (inr (inr (inr (inr (inr (inl e))))))))))))) b = at_row d d12 name (codes "nat-min") e b refl built12
-
   rows_built d name (inr (inr (inr (inr (inr (inr (inr (inr (inr (inr (inr (inr (inr (inl e)))))))))))))) b = at_row d d13 name (codes "nat-min") e b refl built13
-
   rows_built d name (inr (inr (inr (inr (inr (inr (inr (inr (inr (inr (inr (inr (inr (inr (inl e))))))))))))))) b = at_row d d14 name (codes "nat-max") e b refl built14
-
   rows_built d name (inr (inr (inr (inr (inr (inr (inr (inr (inr (inr (inr (inr (inr (inr (inr (inl e)))))))))))))))) b = at_row d d15 name (codes "nat-max") e b refl built15
-
   rows_built d name (inr (inr (inr (inr (inr (inr (inr (inr (inr (inr (inr (inr (inr (inr (inr (inr (inl e))))))))))))))))) b = at_row d d16 name (codes "nat-lt") e b refl built16
-
   rows_built d name (inr (inr (inr (inr (inr (inr (inr (inr (inr (inr (inr (inr (inr (inr (inr (inr (inr (inl e)))))))))))))))))) b = at_row d d17 name (codes "nat-le") e b refl built17
-
   rows_built d name (inr (inr (inr (inr (inr (inr (inr (inr (inr (inr (inr (inr (inr (inr (inr (inr (inr (inr (inl e))))))))))))))))))) b = at_row d d18 name (codes "nat-gt") e b refl built18
-
   rows_built d name (inr (inr (inr (inr (inr (inr (inr (inr (inr (inr (inr (inr (inr (inr (inr (inr (inr (inr (inr (inl e)))))))))))))))))))) b = at_row d d19 name (codes "nat-ge") e b refl built19
-
   rows_built d name (inr (inr (inr (inr (inr (inr (inr (inr (inr (inr (inr (inr (inr (inr (inr (inr (inr (inr (inr (inr e)))))))))))))))))))) b = absurd e

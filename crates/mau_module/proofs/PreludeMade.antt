@@ -104,7 +104,7 @@ bool_ready made k =
     made_over ms2 m parts made k bool_equations (subst (IsIn 0) (sym k.parts) (in_left 0 parts (length ms2 ∷ []) first))
     (λ d name i e. absurd (connectives_plain d name i e)) (λ e. absurd (omega (arith, e, length2))) (λ e. absurd (omega (arith, e, length2)))
     (all_built ms2 m.sorts parts made k.closed m.own.pairs m.own.declarations (well_declared_so ms2 m parts made k bool_equations) first
-      (λ d name i e t. absurd (connectives_plain d name i e)))
+    (λ d name i e t. absurd (connectives_plain d name i e)))
 
 -- ---- numbers
 
@@ -121,33 +121,33 @@ nat_ready made k =
     let accepted = well_declared_so ms3 m parts made k own in
     let four : length names ≡ 4 = ap length names3 in
     let below : (a b : ℕ) → IsIn (a, b) number_pairs → a < 4 → b < 4 → kind_of h a ≡ kind_of h b = λ a b i l r.
-        (joined_sorts h a b (omega (arith, four)) (omega (arith, four))).1
-        (step (inl (in_contains h.pairs (a, b) (in_right (a, b) (pairs_of ms3 names parts) number_pairs i))) no_step) in
+    (joined_sorts h a b (omega (arith, four)) (omega (arith, four))).1
+    (step (inl (in_contains h.pairs (a, b) (in_right (a, b) (pairs_of ms3 names parts) number_pairs i))) no_step) in
     let zero_kind = below 1 3 (inl refl) (omega arith) (omega arith) in
     let one_kind = below 2 3 (inr (inl refl)) (omega arith) (omega arith) in
     let named : (x : List ℕ) (a : ℕ) → position (bytes_eq x) (codes "Bool" ∷ codes "Zero" ∷ codes "NzNat" ∷ codes "Nat" ∷ []) ≡ Some a → IsNamed names x a = λ x a e.
-        subst (λ ns. position (bytes_eq x) ns ≡ Some a) (sym names3) e in
+    subst (λ ns. position (bytes_eq x) ns ≡ Some a) (sym names3) e in
     let has : (x : List ℕ) → has_name (codes "Bool" ∷ codes "Zero" ∷ codes "NzNat" ∷ codes "Nat" ∷ []) x ≡ true → has_name names x ≡ true = λ x e.
-        subst (λ ns. has_name ns x ≡ true) (sym names3) e in
+    subst (λ ns. has_name ns x ≡ true) (sym names3) e in
     let truth = truth_there ms3 names parts made k.closed m.own.pairs m.own.declarations accepted first in
     let included = in_part (parts ++ length ms3 ∷ []) 3 (in_right 3 parts (length ms3 ∷ []) (inl (sym length3))) in
     let zero_is : number_in names (codes "Zero") ≡ 1 = ap (λ ns. number_in ns (codes "Zero")) names3 in
     let numbers : HasNumbers names (signature_over (given_over ms3 parts names h m.own.declarations)) = record {
-          nat = 3;
-          named = named (codes "Nat") 3 refl;
-          nz_nat = 2;
-          nz_named = named (codes "NzNat") 2 refl;
-          one_kind = one_kind;
-          numerals =
-            ap (λ b. option_map (λ (p : ℕ × ℕ). kind_of h p.0) (if b then Some (number_in names (codes "Zero"), number_in names (codes "NzNat")) else None)) included
-            ∙ ap Some (ap (kind_of h) zero_is ∙ zero_kind);
-        } in
+      nat = 3;
+      named = named (codes "Nat") 3 refl;
+      nz_nat = 2;
+      nz_named = named (codes "NzNat") 2 refl;
+      one_kind = one_kind;
+      numerals =
+          ap (λ b. option_map (λ (p : ℕ × ℕ). kind_of h p.0) (if b then Some (number_in names (codes "Zero"), number_in names (codes "NzNat")) else None)) included
+          ∙ ap Some (ap (kind_of h) zero_is ∙ zero_kind);
+    } in
     let rows : (d : Decl) (name : List ℕ) → IsIn d number_declarations → d.attrs.builtin ≡ Some name
-          → HasBuiltIn names (signature_over (given_over ms3 parts names h m.own.declarations)) (Sources.place h whole numerals d + 1) name =
-        rows_built names h whole numerals accepted
-        (λ d i. in_left d (declarations_of ms3 names h parts ++ m.own.declarations) (if_truth (has_truth (parts ++ length ms3 ∷ [])) h names)
-          (in_right d (declarations_of ms3 names h parts) m.own.declarations i))
-        (omega (arith, four)) one_kind (named (codes "Bool") 0 refl) (named (codes "NzNat") 2 refl) (named (codes "Nat") 3 refl) truth numbers in
+    → HasBuiltIn names (signature_over (given_over ms3 parts names h m.own.declarations)) (Sources.place h whole numerals d + 1) name =
+    rows_built names h whole numerals accepted
+    (λ d i. in_left d (declarations_of ms3 names h parts ++ m.own.declarations) (if_truth (has_truth (parts ++ length ms3 ∷ [])) h names)
+    (in_right d (declarations_of ms3 names h parts) m.own.declarations i))
+    (omega (arith, four)) one_kind (named (codes "Bool") 0 refl) (named (codes "NzNat") 2 refl) (named (codes "Nat") 3 refl) truth numbers in
     made_over ms3 m parts made k own (subst (IsIn 0) (sym k.parts) (in_left 0 parts (length ms3 ∷ []) first))
     (λ d name i e. subst (λ (x : SignatureOf). HasBuiltIn names x (number_at x d) name) (sym k.signature) (rows d name i e))
     (λ e. absurd (omega (arith, e, length3))) (λ e. record { zero = has (codes "Zero") refl; others = has (codes "NzNat") refl })

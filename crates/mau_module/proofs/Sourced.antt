@@ -63,9 +63,9 @@ truth_name ms names parts made closed i =
 
 pub truth_named : (ms : List ModuleOf) (m : ModuleOf) → AreMade ms → IsMadeOver ms m → has_name m.sorts (codes "Bool") ≡ true
 truth_named ms m made over = elim (in_both 0 over.included (length ms ∷ []) (subst (IsIn 0) over.parts over.first)) [
-    inl i ↦ truth_name ms m.sorts over.included made (closed_of ms m over) i
+  | inl i ↦ truth_name ms m.sorts over.included made (closed_of ms m over) i
   | inr i ↦ own i
-  ]
+]
   where
     own : IsIn 0 (length ms ∷ []) → has_name m.sorts (codes "Bool") ≡ true
     own (inl e) = (over.truth (sym e)).sort
@@ -141,13 +141,13 @@ module _ (ms : List ModuleOf) (names : List (List ℕ)) (parts : List ℕ) (all_
         let p = part_there ms names parts all_made closed pairs q m part r i in
         let n = p.0 in
         let g = in_mapped (declaration_to (number_from n m.sorts over)) n.own.declarations d
-            (out_of_it before (λ n. map (declaration_to (number_from n m.sorts over)) n.own.declarations) r n d p.1.there j) in
+        (out_of_it before (λ n. map (declaration_to (number_from n m.sorts over)) n.own.declarations) r n d p.1.there j) in
         let first = numbered before m.sorts theirs (made_before ms q all_made) (closed_there ms names parts all_made closed pairs q m part) m.own.pairs r n p.1 in
         let has = all_in (HasSorts n.signature.hierarchy) n.own.declarations g.0 p.1.made.over.sorts g.1 in
         let same : declaration_to to d ≡ declaration_to (number_from n names h) g.0 =
-            ap (declaration_to to) g.2
-            ∙ declared_again n.signature.hierarchy to (number_from n m.sorts over) (number_from n names h)
-              (λ a s. number_again n.sorts n.signature.hierarchy m.sorts over names h first its a s) g.0 has in
+        ap (declaration_to to) g.2
+        ∙ declared_again n.signature.hierarchy to (number_from n m.sorts over) (number_from n names h)
+        (λ a s. number_again n.sorts n.signature.hierarchy m.sorts over names h first its a s) g.0 has in
         subst (λ x. IsIn x whole) (sym same)
         (own_of_part r n g.0 (included_again ms names parts all_made closed pairs q m part r i) (before_it ms q r n p.1.there) g.1)
 
@@ -173,17 +173,17 @@ module _ (ms : List ModuleOf) (names : List (List ℕ)) (parts : List ℕ) (all_
         let at_least : h.sorts ≤ to k = subst (λ x. h.sorts ≤ x) (sym there) (kind_of-above h (sort_to m.sorts names (first_sort_of over k))) in
         let at_most : to k < h.sorts + kinds h = number_there m.sorts over names h its k w.1 in
         let among : IsIn truth parts = elim (in_both truth theirs (length before ∷ []) (part_in (theirs ++ length before ∷ []) truth e)) [
-              inl j ↦ included_again ms names parts all_made closed pairs q m part truth j
-            | inr j ↦ closed.closed q truth part.among (in_of_it ms (λ x. x.parts) q m truth part.there (subst (IsIn truth) (sym part.made.parts) (in_right truth theirs (length before ∷ []) j)))
-            ] in
+          | inl j ↦ included_again ms names parts all_made closed pairs q m part truth j
+          | inr j ↦ closed.closed q truth part.among (in_of_it ms (λ x. x.parts) q m truth part.there (subst (IsIn truth) (sym part.made.parts) (in_right truth theirs (length before ∷ []) j)))
+        ] in
         truth_of_kind (declaration_to to d) (to k) among at_least at_most (truth_moved to (number_in m.sorts (codes "Bool")) k (number_in names (codes "Bool")) d truth_number f.2)
 
     -- each declaration of the part
     pub from_source : m.signature.hierarchy ≡ over → (d : Decl) → IsIn d (all_declarations before theirs m.sorts over m.own.declarations) → IsIn (declaration_to to d) whole
     from_source e d i = elim (in_both d (declarations_of before m.sorts over theirs ++ m.own.declarations) (if_truth (has_truth (theirs ++ length before ∷ [])) over m.sorts) i) [
-        inl j ↦ elim (in_both d (declarations_of before m.sorts over theirs) m.own.declarations j) [
-            inl k ↦ (let f = in_flattened (of_module before (λ n. map (declaration_to (number_from n m.sorts over)) n.own.declarations)) theirs d k in from_part f.0 d f.1 f.2)
-          | inr k ↦ from_own e d k
-          ]
-      | inr j ↦ from_truth d (has_truth (theirs ++ length before ∷ [])) refl j
+      | inl j ↦ elim (in_both d (declarations_of before m.sorts over theirs) m.own.declarations j) [
+        | inl k ↦ (let f = in_flattened (of_module before (λ n. map (declaration_to (number_from n m.sorts over)) n.own.declarations)) theirs d k in from_part f.0 d f.1 f.2)
+        | inr k ↦ from_own e d k
       ]
+      | inr j ↦ from_truth d (has_truth (theirs ++ length before ∷ [])) refl j
+    ]

@@ -124,12 +124,16 @@ module _ (h : Hierarchy) (ds : List Decl) (numerals : Option (ℕ × ℕ)) where
     where
       f : Operator
       f = get_or (operators_of h ds) (n - 1) no_operator
+
       lt : n - 1 < length (operators_of h ds)
       lt = omega (arith, o.0, o.1, length-map (operators_of h ds) group)
+
       at : declarations_at made n ≡ group f
       at = get_or-map group (operators_of h ds) (n - 1) no_operator [] lt
+
       some : declarations_of h ds f ≢ []
       some = some_kept (λ d. same_operator f (operator_of h d)) ds (all_declared h ds (n - 1) no_operator lt)
+
       by : (xs : List Decl) → declarations_of h ds f ≡ xs → AreOf n
       by [] e = absurd (some e)
       by (d ∷ rest) e =

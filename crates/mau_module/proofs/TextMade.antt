@@ -42,6 +42,7 @@ last_lt (m ∷ ms) x = by (last_named ms x) (last_lt ms x)
     here : (b : Bool) → IfSome (cond b (Some 0) None) (λ i. i < suc (length ms))
     here true = omega arith
     here false = tt
+
     by : (o : Option ℕ) → IfSome o (λ i. i < length ms) → IfSome (next_or o (cond (bytes_eq m.name x) (Some 0) None)) (λ i. i < suc (length ms))
     by (Some i) l = omega (arith, l)
     by None l = here (bytes_eq m.name x)
