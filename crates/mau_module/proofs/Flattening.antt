@@ -15,7 +15,6 @@ use Rattle.mau_module.specs.declared.fault.ModuleFault.{ModuleFault}
 use Rattle.mau_module.specs.declared.fault.ModuleFault.TheVariants.{UnknownModule, ImportTooDeep, TooLarge, UnknownSort, Signed, Statement, NoMemory}
 use Rattle.mau_module.specs.Faults.{IfFault, IfOwn}
 use Rattle.mau_module.specs.Modules.{ModuleOf, StatementsOf, no_statements, and_more, behind, counts_of}
-use Rattle.mau_module.specs.Library.{IsNext}
 use Rattle.mau_module.specs.declared.statements.Counts.{Counts}
 use Rattle.mau_module.specs.Framed.{Frame, all_parts, frame_of}
 use Rattle.mau_module.specs.Stated.{AreLawful, HasCarriedFault, OwnRead}
@@ -86,8 +85,5 @@ module _ (ms : List ModuleOf) (ws : List Word) (raw : RawModule) (f : Frame) (q 
       (flattened e s are.own signed (lawful_there are.lawful) (subst (λ (y : Frame). OwnRead ws (context_in ms ws y e s) no_statements 1 raw.elements (Ok are.own)) q are.read))
 
 -- it includes modules that are there, and itself
-parts_are_next : (ms : List ModuleOf) (parts : List ℕ) → All (λ p. p < length ms) parts → All (λ p. p ≤ length ms) (all_parts ms parts)
+pub parts_are_next : (ms : List ModuleOf) (parts : List ℕ) → All (λ p. p < length ms) parts → All (λ p. p ≤ length ms) (all_parts ms parts)
 parts_are_next ms parts within = All-push (λ p. p ≤ length ms) parts (length ms) (λ k d l. omega (arith, within k d l)) (omega arith)
-
-pub is_next : (ms : List ModuleOf) (parts : List ℕ) (m : ModuleOf) → All (λ p. p < length ms) parts → m.parts ≡ all_parts ms parts → IsNext ms m
-is_next ms parts m within e = record { parts = subst (All (λ p. p ≤ length ms)) (sym e) (parts_are_next ms parts within) }

@@ -6,7 +6,6 @@ pub mod FaultLemmas
 pub mod Parts
 pub mod Numbers
 pub mod Truths
-pub mod Entering
 pub mod Pairs
 pub mod Alls
 pub mod Carries
@@ -17,3 +16,26 @@ pub mod Truthful
 pub mod Flattening
 pub mod Tabled
 pub mod OneModule
+-- lawful modules: elements of lists, what stands in a signature, numbers of sorts and kinds, declarations of parts, what keeps kinds, what
+-- is built in, attributes of a text, parts of imports, carried statements
+pub mod Members
+pub mod Sources
+pub mod Numberings
+pub mod Including
+pub mod Sourced
+pub mod Keeping
+pub mod BuiltAgain
+pub mod Plain
+pub mod Framing
+pub mod LawfulCarried
+pub mod MadeOver
+pub mod Entering
+pub mod Adding
+pub mod TextMade
+-- and those of the prelude: the rows of numbers, what they have, their equations, and the whole
+pub mod NumberRows
+pub mod PreludeFacts
+pub mod BoolLawful
+pub mod PreludeMade
+pub mod ReadyMade
+pub mod NativeRows

@@ -28,6 +28,7 @@ use Rattle.mau_module.specs.Included.{first_unknown, numerals_of, numeral_kind, 
 use Rattle.mau_module.specs.Framed.{Frame, all_parts, frame_of, included_declarations, limit_passed}
 use Rattle.mau_module.specs.Declarations.{hierarchy_over, given_over}
 use Rattle.mau_module.specs.Carried.{carried}
+use Rattle.mau_module.specs.Lawful.{AreLawfulOver}
 use Rattle.mau_module.specs.Stated.{AreLawful, HasCarriedFault, OwnRead}
 
 -- ---- its signature
@@ -122,5 +123,6 @@ pub record AreStatements (ms : List ModuleOf) (ws : List Word) (raw : RawModule)
   pub lawful : AreLawful s (carried_in ms f s)
   pub own : StatementsOf
   pub read : OwnRead ws (context_in ms ws f e s) no_statements 1 raw.elements (Ok own)
+  pub its : AreLawfulOver s own
   pub counted : n ≡ counts_of (carried_in ms f s)
   pub whole : all ≡ and_more (carried_in ms f s) own

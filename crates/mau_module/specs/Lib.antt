@@ -20,5 +20,9 @@ pub mod Faults
 pub mod Flattened
 pub mod Prelude
 pub mod Kept
+-- what holds of every accepted module, on which later ones rest
+pub mod Lawful
+pub mod Libraries
+pub mod Ready
 -- what holds of this
 pub mod Laws

@@ -1,5 +1,5 @@
 -- The library of a session: all modules that were accepted, in order, counted from 0. The first four are those of the prelude.
-use Rattle.std.specs.Prelude.{ℕ, suc, ◌<◌, ◌≤◌, List, [], ◌∷◌, length, All, Option, Some, None, bytes_eq, if◌then◌else◌}
+use Rattle.std.specs.Prelude.{ℕ, suc, ◌≤◌, List, [], ◌∷◌, length, Option, Some, None, bytes_eq, if◌then◌else◌}
 use Rattle.mau_module.specs.Modules.{ModuleOf}
 
 -- the modules of the prelude by their numbers
@@ -24,14 +24,6 @@ next_or None other = other
 abbrev pub last_named : List ModuleOf → List ℕ → Option ℕ
 last_named [] name = None
 last_named (m ∷ ms) name = next_or (last_named ms name) (if bytes_eq m.name name then Some 0 else None)
-
--- what holds of each library: modules include modules that are there
-pub record IsLibrary (ms : List ModuleOf) : Type 0 where
-  pub parts : All (λ m. All (λ p. p < length ms) m.parts) ms
-
--- a module that may be the next one: it includes modules that are there, and itself
-pub record IsNext (ms : List ModuleOf) (m : ModuleOf) : Type 0 where
-  pub parts : All (λ p. p ≤ length ms) m.parts
 
 -- the modules of the prelude are there, before any other
 abbrev pub HasPrelude : List ModuleOf → Type 0

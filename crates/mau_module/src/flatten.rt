@@ -5,7 +5,9 @@ ghost use Rattle.mau_statement.specs.Context.{IsItsGrammar};
 ghost use Rattle.mau_poset.specs.declared.TheConstants.{MAX_SORTS};
 ghost use Rattle.mau_declare.specs.Elements.{AreOver, elements_of};
 ghost use Rattle.mau_declare.specs.Flattened.{AreLower, declared_forms};
-ghost use Rattle.mau_module.specs.Library.{HasPrelude, IsNext};
+ghost use Rattle.mau_module.specs.Library.{HasPrelude};
+ghost use Rattle.mau_module.specs.Libraries.{IsNext};
+ghost use Rattle.mau_module.specs.Lawful.{AreLawfulOver};
 ghost use Rattle.mau_module.specs.Known.{AreKnown};
 ghost use Rattle.mau_module.specs.Faults.{IfFault};
 ghost use Rattle.mau_module.specs.Framed.{all_parts, frame_of, included_declarations};
@@ -102,6 +104,7 @@ fn own_statements(
     requires its { IsItsGrammar frame.now.names signature.now grammar.now }
     requires grammar { grammar.now ≡ grammar_in words.now frame.now elements.now signature.now }
     ensures ok { IfOk result (λ own. OwnRead words.now (context_in library.now words.now frame.now elements.now signature.now) no_statements 1 raw.now.elements (Ok own)) }
+    ensures lawful { IfOk result (AreLawfulOver signature.now) }
     ensures at_fault { IfErr result (IfOwn (λ i f. OwnRead words.now (context_in library.now words.now frame.now elements.now signature.now) no_statements 1 raw.now.elements (Err (i, f)))) }
 {
     let truth = truth_in(alloc, library, frame, signature)?;
@@ -207,6 +210,7 @@ fn module_in(
     requires few { length frame.names ≤ MAX_SORTS }
     requires over { AreOver (length frame.names) elements }
     requires hierarchy { signed.signature.hierarchy ≡ hierarchy_in library.now frame elements }
+    requires prelude { HasPrelude library.now }
     requires lower { AreLower (length frame.names) (hierarchy_in library.now frame elements).pairs signed.lower.items }
     requires own { signed.own.items ≡ own_in library.now frame elements }
     requires sorts { All (HasSorts (hierarchy_in library.now frame elements)) signed.own.items }
@@ -214,6 +218,9 @@ fn module_in(
     ensures next { IfOk result (IsNext library.now) }
     ensures fault { IfErr result (IfFault (λ f. FlattenedAs library.now words.now raw.now (Err f))) }
 {
+    // What is known of every library and of every signature is needed below, and these calls tell it.
+    let _modules = library.len();
+    let _operators = signed.signature.operators();
     let grammar = match grammar_in(alloc, words, &frame.names, &signed.signature, &elements) {
         Ok(grammar) => grammar,
         Err(NoMemory) => return Err(ModuleFault::NoMemory),
@@ -242,7 +249,10 @@ fn module_in(
 impl Library {
     ghost use Rattle.std.specs.Prelude.{Ok, Err, IfOk, IfErr};
     ghost use Rattle.mau_module.specs.Faults.{IfFault};
-    ghost use Rattle.mau_module.specs.Library.{HasPrelude, IsNext};
+    ghost use Rattle.mau_module.specs.Library.{HasPrelude};
+    ghost use Rattle.mau_module.specs.Libraries.{IsNext};
+    ghost use Rattle.mau_program.specs.LawfulPrograms.{IsLawfulProgram};
+    ghost use Rattle.mau_module.specs.Lawful.{program_of};
     ghost use Rattle.mau_module.specs.Flattened.{FlattenedAs};
 
     /// The module of a text over the modules of the library, with all that it includes, or the first fault. It is not entered.
@@ -255,6 +265,7 @@ impl Library {
         requires { HasPrelude self.now }
         ensures ok { IfOk result (λ m. FlattenedAs self.now words.now raw.now (Ok m)) }
         ensures next { IfOk result (IsNext self.now) }
+        ensures lawful { IfOk result (λ m. IsLawfulProgram (program_of m)) }
         ensures fault { IfErr result (IfFault (λ f. FlattenedAs self.now words.now raw.now (Err f))) }
     {
         let frame = match framed(alloc, self, words, raw) {

@@ -35,7 +35,7 @@ impl Model for Library {
     ghost use Rattle.mau_program.specs.contracts.definitions.StratDef as definition;
     ghost use Rattle.mau_program.specs.contracts.definitions.StratDecl as strat;
     ghost use Rattle.mau_module.specs.Modules.{ModuleOf};
-    ghost use Rattle.mau_module.specs.Library.{IsLibrary};
+    ghost use Rattle.mau_module.specs.Libraries.{IsLibrary};
 
     ghost Value = { List ModuleOf };
 
@@ -69,7 +69,10 @@ fn last_named(modules: &[Module], name: &str) -> Option<usize>
 
 impl Library {
     ghost use Rattle.std.specs.Prelude.{◌≡◌, ◌<◌, ◌≤◌, ◌∷◌, ◌++◌, [], length, All, Some, IfSome, OnOk, OnErr, slice_get};
-    ghost use Rattle.mau_module.specs.Library.{last_named, IsLibrary, IsNext};
+    ghost use Rattle.mau_module.specs.Library.{last_named};
+    ghost use Rattle.mau_module.specs.Libraries.{IsLibrary, IsNext, IsLawfulAt, AreLawfulModules};
+    ghost use Rattle.mau_program.specs.LawfulPrograms.{IsLawfulProgram};
+    ghost use Rattle.mau_module.specs.Lawful.{program_of};
 
     /// No modules, not even those of the prelude.
     pub(crate) fn new(alloc: Global) -> Library
@@ -92,6 +95,7 @@ impl Library {
     pub fn find(&self, name: &str) -> Option<usize>
         ensures number { result ≡ last_named self.now name.now }
         ensures within { IfSome result (λ i. i < length self.now) }
+        ensures lawful { IfSome result (IsLawfulAt self.now) }
     {
         last_named(&self.modules, name)
     }
@@ -101,6 +105,7 @@ impl Library {
         requires { number < length self.now }
         ensures there { slice_get self.now number ≡ Some result.now }
         ensures parts { All (λ p. p < length self.now) result.now.parts }
+        ensures lawful { IsLawfulProgram (program_of result.now) }
     {
         &self.modules[number]
     }
@@ -109,6 +114,7 @@ impl Library {
     pub fn enter(&mut self, module: Module) -> Result<(), NoMemory>
         requires { IsNext self.old «module» }
         ensures ok { OnOk result (self.new ≡ self.old ++ «module» ∷ []) }
+        ensures lawful { OnOk result (AreLawfulModules self.new) }
         ensures err { OnErr result (self.new ≡ self.old) }
     {
         self.modules.push(module)?;

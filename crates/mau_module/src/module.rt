@@ -42,6 +42,7 @@ impl Model for Module {
     ghost use Rattle.mau_program.specs.contracts.definitions.StratDef as definition;
     ghost use Rattle.mau_program.specs.contracts.definitions.StratDecl as strat;
     ghost use Rattle.mau_module.specs.Modules.{ModuleOf, StatementsOf, behind};
+    ghost use Rattle.std.specs.Prelude.{◌≡◌};
     ghost use Rattle.mau_module.specs.Kept.{IsKept};
 
     ghost Value = { ModuleOf };
@@ -59,7 +60,7 @@ impl Model for Module {
       own = record { pairs = m.pairs.items; declarations = m.declarations.items; statements = behind m.included all };
     } };
 
-    ghost invariant = { λ m. IsKept m.sorts m.lower.items m.program.sig m.grammar m.pairs.items m.declarations.items m.depth };
+    ghost invariant = { λ m. IsKept m.sorts m.lower.items m.program.sig m.grammar m.pairs.items m.declarations.items m.depth × (m.program.sorts ≡ m.sorts) };
 }
 
 /// The items from a number on; none behind the last one.
@@ -83,6 +84,7 @@ impl Module {
     ghost use Rattle.mau_module.specs.declared.TheConstants.{MAX_DEPTH};
     ghost use Rattle.mau_module.specs.Kept.{AreKept, IsOver};
     ghost use Rattle.mau_module.specs.Modules.{behind};
+    ghost use Rattle.mau_module.specs.Lawful.{program_of};
 
     /// The module with this number, which includes the parts of a frame and itself. Of its statements, so many are those of its parts.
     pub fn new(
@@ -173,6 +175,13 @@ impl Module {
         ensures named { length self.now.sorts ≡ self.now.signature.hierarchy.sorts }
     {
         &self.program.sig
+    }
+
+    /// What it says to those that run it.
+    pub fn program(&self) -> &Program
+        ensures { result.now ≡ program_of self.now }
+    {
+        &self.program
     }
 
     /// How the terms are written.

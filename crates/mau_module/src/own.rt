@@ -7,6 +7,7 @@ ghost use Rattle.mau_module.specs.Faults.{IfOwn};
 ghost use Rattle.mau_poset.specs.declared.TheConstants.{MAX_SORTS};
 ghost use Rattle.mau_module.specs.Known.{AreKnown};
 ghost use Rattle.mau_module.specs.Carried.{carried};
+ghost use Rattle.mau_module.specs.Lawful.{AreLawfulOver};
 
 use crate::fault::ModuleFault;
 use crate::library::Library;
@@ -117,6 +118,7 @@ pub fn read_own(
     elements: &[RawElement],
 ) -> Result<Statements, ModuleFault>
     ensures ok { IfOk result (λ own. OwnRead words.now context.now no_statements 1 elements.now (Ok own)) }
+    ensures lawful { IfOk result (AreLawfulOver context.now.signature) }
     ensures at_fault { IfErr result (IfOwn (λ i f. OwnRead words.now context.now no_statements 1 elements.now (Err (i, f)))) }
 {
     let mut own = Statements::new(alloc);

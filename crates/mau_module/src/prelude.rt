@@ -1,19 +1,21 @@
 //! The modules of the prelude, made from their tables.
 ghost use Rattle.std.specs.Prelude.{◌≡◌, ◌<◌, ◌≤◌, ℕ, List, length, fold, true, All, IfOk, OnOk};
-ghost use Rattle.mau_poset.specs.Order.{IsWithin};
+ghost use Rattle.mau_poset.specs.Order.{IsWithin, IsPoset};
 ghost use Rattle.mau_poset.specs.declared.TheConstants.{MAX_SORTS};
 ghost use Rattle.mau_signature.specs.Faults.{HasSorts, IsSort};
 ghost use Rattle.mau_grammar.specs.Grammar.{grammar_of};
 ghost use Rattle.mau_declare.specs.Names.{with_name};
 ghost use Rattle.mau_declare.specs.Flattened.{AreLower};
-ghost use Rattle.mau_prelude.specs.Tables.{table_of};
 ghost use Rattle.mau_signing.specs.Signed.{signature_over};
 ghost use Rattle.mau_statement.specs.Context.{IsItsGrammar};
 ghost use Rattle.mau_module.specs.Known.{AreKnown};
 ghost use Rattle.mau_module.specs.Included.{depth_over, parts_of, sorts_of};
 ghost use Rattle.mau_module.specs.Declarations.{hierarchy_over, given_over};
-ghost use Rattle.mau_module.specs.Library.{IsNext};
-ghost use Rattle.mau_module.specs.Prelude.{table_frame, table_module, with_table, prelude};
+ghost use Rattle.mau_module.specs.Libraries.{IsNext};
+ghost use Rattle.mau_module.specs.Lawful.{IsRightOver};
+ghost use Rattle.mau_module.specs.Ready.{module_of, IsReady};
+ghost use Rattle.mau_sigcheck.specs.Accepted.{IsAccepted};
+ghost use Rattle.mau_module.specs.Prelude.{table_module, with_table, prelude};
 
 use crate::MAX_DEPTH;
 use crate::context::grammar_over;
@@ -22,9 +24,9 @@ use crate::frame::Frame;
 use crate::include::{depth_over, parts_of, sorts_of};
 use crate::library::{BOOL, Library, TRUTH, TRUTH_VALUE};
 use crate::module::Module;
+use crate::own::read_carried;
 use crate::signing::{Signed, sign_declarations};
 use crate::statements::Statements;
-use crate::tables::carried;
 use mau_declare::{Names, lower_sorts};
 use mau_grammar::{Alias, Grammar};
 use mau_poset::{MAX_SORTS, Poset};
@@ -146,6 +148,7 @@ fn sign_table(
     ensures within { OnOk result (IsWithin pairs.now (length names.now)) }
     ensures signature { IfOk result (λ s. s.signature ≡ signature_over (given_over library.now parts.now names.now (hierarchy_over library.now parts.now names.now pairs.now) own.items)) }
     ensures hierarchy { IfOk result (λ s. s.signature.hierarchy ≡ hierarchy_over library.now parts.now names.now pairs.now) }
+    ensures right { IfOk result (λ s. IsPoset s.signature.hierarchy × IsAccepted s.signature) }
     ensures lower { IfOk result (λ s. AreLower (length names.now) (hierarchy_over library.now parts.now names.now pairs.now).pairs s.lower.items) }
     ensures own { IfOk result (λ s. s.own.items ≡ own.items) }
     ensures sorts { IfOk result (λ s. All (HasSorts (hierarchy_over library.now parts.now names.now pairs.now)) s.own.items) }
@@ -205,7 +208,8 @@ fn make_module(
     requires depth { frame.depth ≤ MAX_DEPTH }
     requires parts { All (λ p. p < length library.now) frame.parts }
     requires known { AreKnown library.now frame.names frame.parts }
-    ensures { (sorts : List (List ℕ)) → IfOk result (λ m. m ≡ table_module library.now frame (record { name = name; sorts = sorts; pairs = pairs.items; declarations = declarations.items; variables = variables.items; equations = equations.items })) }
+    ensures value { (sorts : List (List ℕ)) → IfOk result (λ m. m ≡ table_module library.now frame (record { name = name; sorts = sorts; pairs = pairs.items; declarations = declarations.items; variables = variables.items; equations = equations.items })) }
+    ensures right { IfOk result (λ m. IsRightOver library.now m frame.parts) }
 {
     let signed = sign_table(
         alloc,
@@ -216,13 +220,18 @@ fn make_module(
         declarations,
     )?;
     let grammar = table_grammar(alloc, &frame.names, &signed.signature, &variables)?;
-    let mut statements = carried(
+    // What is known of every signature is needed below, and this call tells it.
+    let _operators = signed.signature.operators();
+    let mut statements = match read_carried(
         alloc,
         library,
         &frame.names,
         &signed.signature,
         &frame.parts,
-    )?;
+    ) {
+        Ok(statements) => statements,
+        Err(_) => return Err(NoMemory),
+    };
     let included = statements.counts();
     statements.append(Statements::of_equations(alloc, equations))?;
     Module::new(
@@ -246,9 +255,12 @@ fn table_module(
     module: PreludeModule,
 ) -> Result<Module, NoMemory>
     requires imports { All (λ i. i < length library.now) imports.now }
-    ensures value { IfOk result (λ m. m ≡ table_module library.now (table_frame library.now imports.now (table_of «module»)) (table_of «module»)) }
+    requires ready { IsReady library.now imports.now «module» }
+    ensures value { IfOk result (λ m. m ≡ module_of library.now imports.now «module») }
     ensures next { IfOk result (IsNext library.now) }
 {
+    // What is known of every library is needed below, and this call tells it.
+    let _modules = library.len();
     let table = table(alloc, module)?;
     let frame = table_frame(alloc, library, imports, &table.sorts)?;
     if frame.depth > MAX_DEPTH {
@@ -270,6 +282,8 @@ impl Library {
     ghost use Rattle.std.specs.Prelude.{◌≡◌, ◌<◌, ◌+◌, length, All, IfOk, OnOk};
     ghost use Rattle.mau_module.specs.Library.{HasPrelude};
     ghost use Rattle.mau_module.specs.Prelude.{with_table, prelude};
+    ghost use Rattle.mau_module.specs.Libraries.{AreLawfulModules};
+    ghost use Rattle.mau_module.specs.Ready.{IsReady};
 
     /// Adds the module of a table, where it imports these.
     fn enter_table(
@@ -278,7 +292,8 @@ impl Library {
         imports: &[usize],
         module: PreludeModule,
     ) -> Result<(), NoMemory>
-        requires { All (λ i. i < length self.old) imports.now }
+        requires imports { All (λ i. i < length self.old) imports.now }
+        requires ready { IsReady self.old imports.now «module» }
         ensures modules { OnOk result (self.new ≡ with_table self.old imports.now «module») }
         ensures count { OnOk result (length self.new ≡ length self.old + 1) }
     {
@@ -292,12 +307,15 @@ impl Library {
     pub fn prelude(alloc: Global) -> Result<Library, NoMemory>
         ensures value { IfOk result (λ l. l ≡ prelude) }
         ensures count { IfOk result HasPrelude }
+        ensures lawful { IfOk result AreLawfulModules }
     {
         let mut library = Library::new(alloc);
         library.enter_table(alloc, &[], PreludeModule::TruthValue)?;
         library.enter_table(alloc, &[TRUTH_VALUE], PreludeModule::Truth)?;
         library.enter_table(alloc, &[TRUTH], PreludeModule::Bool)?;
         library.enter_table(alloc, &[BOOL], PreludeModule::Nat)?;
+        // What is known of every library is said below, and this call tells it.
+        let _modules = library.len();
         Ok(library)
     }
 }

@@ -1,7 +1,8 @@
 //! The state of a session: the modules that were accepted, the current one, and what `continue` goes on with.
 ghost use Rattle.std.specs.Prelude.{◌≡◌, ◌<◌, ℕ, length, true, false, slice_get, IfOk, IfErr, OnOk, Some, None};
 ghost use Rattle.mau_module.specs.Modules.{ModuleOf};
-ghost use Rattle.mau_module.specs.Library.{last_named, IsNext};
+ghost use Rattle.mau_module.specs.Library.{last_named};
+ghost use Rattle.mau_module.specs.Libraries.{IsNext};
 ghost use Rattle.mau_session.specs.State.{at_first, accepted, selected, IsChosen, IsUnknown, state_after, refuses};
 ghost use Rattle.mau_session.specs.KeptState.{state_of, outcome_of, IsReadyState, IsReadyOutcome};
 

@@ -1,8 +1,13 @@
-use Rattle.std.proofs.Common.{ap, ◌∙◌}
+use Rattle.std.proofs.Common.{ap, sym, subst, ◌∙◌}
 use Rattle.mau_module.specs.Framed.{Frame}
 use Rattle.mau_module.specs.Flattened.{grammar_in}
 use Rattle.mau_module.specs.Modules.{ModuleOf}
-use Rattle.mau_module.proofs.Flattening.{made_of_text, is_next}
+use Rattle.mau_module.proofs.Flattening.{made_of_text}
+use Rattle.std.specs.Prelude.{All}
+use Rattle.mau_poset.specs.Order.{Hierarchy, IsWithin}
+use Rattle.mau_signature.specs.Faults.{HasSorts}
+use Rattle.mau_module.specs.Kept.{IsOver}
+use Rattle.mau_module.proofs.TextMade.{text_next}
 use Rattle.mau_module.proofs.flatten.module_in.Goals as goal
 
 pub returns-in-Ok-make_module-clause-ok : goal.returns-in-Ok-make_module-clause-ok
@@ -14,4 +19,15 @@ returns-in-Ok-make_module-clause-ok c =
 
 pub returns-in-Ok-make_module-clause-next : goal.returns-in-Ok-make_module-clause-next
 returns-in-Ok-make_module-clause-next c =
-    is_next c.args.library.now c.args.frame.parts c.in-Ok-make_module.module c.requires.within (ap (λ (m : ModuleOf). m.parts) c.in-Ok-make_module.ensures)
+    let ms = c.args.library.now in
+    let f = c.args.frame in
+    let e = c.args.elements in
+    let s = c.args.signed.signature in
+    let it = c.in-Ok-read_statements.ensures.ok in
+    let over : IsOver s e.pairs c.args.signed.own.items = record {
+      within = subst (λ (x : Hierarchy). IsWithin e.pairs x.sorts) (sym c.requires.hierarchy) c.requires.over.pairs;
+      sorts = subst (λ x. All (HasSorts x) c.args.signed.own.items) (sym c.requires.hierarchy) c.requires.sorts;
+    } in
+    text_next ms c.args.words.now c.args.raw.now f c.requires.frame e s c.requires.signed c.requires.within c.requires.known
+    c.operators-operators.ensures.signature c.in-Ok.grammar c.args.signed.own.items c.in-Ok-read_statements.read.0 c.in-Ok-read_statements.read.1 c.requires.own over it
+    c.requires.prelude c.len-modules.ensures.library.made c.in-Ok-make_module.module c.in-Ok-make_module.ensures

@@ -3,10 +3,20 @@ use Rattle.std.specs.Option.{option_copied}
 use Rattle.mau_statement.specs.Statements.{StatementRead}
 use Rattle.mau_module.specs.Modules.{no_statements}
 use Rattle.mau_module.specs.Stated.{OwnRead, none_left}
+use Rattle.mau_module.specs.Lawful.{AreLawfulOver}
+use Rattle.mau_module.proofs.Adding.{one_added}
+use Rattle.mau_module.proofs.LawfulCarried.{nothing_lawful}
 use Rattle.mau_module.proofs.Owns.{passed, read, refused, numbered}
 use Rattle.std.proofs.Math.ListN.{drop_of_length-le}
 use Rattle.mau_module.proofs.own.read_own.Goals as goal
 use Rattle.mau_module.proofs.own.read_own.Goals.{in-Some+in-Ok+in_ok-add-in-Ok, in-None}
+
+pub loop-element-init : goal.loop-element-init
+loop-element-init c = record {
+  few = omega arith;
+  rest = λ r o. subst (λ a. OwnRead c.args.words.now c.args.context.now a 1 c.args.elements.now r) c.new-own.ensures o;
+  lawful = subst (AreLawfulOver c.args.context.now.signature) (sym c.new-own.ensures) (nothing_lawful c.args.context.now.signature);
+}
 
 pub loop-element-preserved : goal.loop-element-preserved
 loop-element-preserved c =
@@ -16,11 +26,13 @@ loop-element-preserved c =
         rest = λ r o. c.loop-element.invariant.rest r (read c.args.words.now c.args.context.now c.args.elements.now c.loop-element.own c.loop-element.before c.loop-element.element-index c.element-item.result
             (omega (arith, c.loop-element-test.true)) c.element-item.is r c.match-statement_in.own c.match-statement_in.before w.in-Some.raw.now w.in-Ok.statement (sym c.statement_in.ensures ∙ ap option_copied w.in-Some.is) w.in-Ok.ensures.read
             (w.own-is ∙ w.in_ok-add-in-Ok.ensures) w.before-is o);
+        lawful = one_added c.args.context.now.signature c.loop-element.own c.match-statement_in.own w.in-Ok.statement (w.own-is ∙ w.in_ok-add-in-Ok.ensures) c.loop-element.invariant.lawful w.in-Ok.ensures.lawful;
       }
       | in-None w ↦ record {
         few = omega (arith, w.before-is, c.loop-element.invariant.few);
         rest = λ r o. c.loop-element.invariant.rest r (passed c.args.words.now c.args.context.now c.args.elements.now c.loop-element.own c.loop-element.before c.loop-element.element-index c.element-item.result
             (omega (arith, c.loop-element-test.true)) c.element-item.is r c.match-statement_in.own c.match-statement_in.before (sym c.statement_in.ensures ∙ ap option_copied w.in-None.is) w.own-is w.before-is o);
+        lawful = subst (AreLawfulOver c.args.context.now.signature) (sym w.own-is) c.loop-element.invariant.lawful;
       }
     ]
 

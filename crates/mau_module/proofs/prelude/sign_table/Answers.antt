@@ -4,6 +4,7 @@ use Rattle.mau_signature.specs.Faults.{HasSorts}
 use Rattle.mau_declare.specs.Flattened.{AreLower}
 use Rattle.mau_module.specs.Declarations.{hierarchy_over}
 use Rattle.mau_module.proofs.Tabled.{ordered_as, signed_as}
+use Rattle.mau_module.proofs.ReadyMade.{right_as}
 use Rattle.mau_module.proofs.prelude.sign_table.Goals as goal
 
 pub returns-in-Ok-sign_declarations-clause-signature : goal.returns-in-Ok-sign_declarations-clause-signature
@@ -32,3 +33,7 @@ returns-in-Ok-sign_declarations-clause-sorts c =
     (c.deref-2.ensures.value ∙ c.in_ok-extend_from_slice.ensures.items ∙ ap (λ ps. ps ++ c.args.pairs.now) c.in_ok-all.ensures.pairs)
     c.in-Ok.poset c.in-Ok.ensures.ok)
     (subst (All (HasSorts c.in-Ok.poset)) c.deref-3.ensures.value (c.have_sorts.ensures c.if-not-have_sorts.false))
+
+pub returns-in-Ok-sign_declarations-clause-right : goal.returns-in-Ok-sign_declarations-clause-right
+returns-in-Ok-sign_declarations-clause-right c =
+    right_as c.args.library.now c.args.names.now c.args.parts.now c.in-Ok.poset c.deref-5.result.now c.in-Ok-sign_declarations.signature c.in-Ok-sign_declarations.ensures.ok

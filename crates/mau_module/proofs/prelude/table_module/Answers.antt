@@ -1,17 +1,15 @@
 use Rattle.std.proofs.Common.{◌≡◌, ℕ, List, [], ap, ap₂, ◌∙◌}
 use Rattle.std.specs.Prelude.{fold}
-use Rattle.std.proofs.lemmas.Result.{IfOk-weaker}
 use Rattle.mau_signature.specs.declared.decl.Decl.{Decl}
 use Rattle.mau_grammar.specs.declared.aliases.Alias.{Alias}
 use Rattle.mau_program.specs.declared.statements.Equation.{Equation}
 use Rattle.mau_prelude.specs.Tables.{TableOf, table_of}
 use Rattle.mau_declare.specs.Names.{with_name}
-use Rattle.mau_module.specs.Modules.{ModuleOf}
 use Rattle.mau_module.specs.Included.{depth_over, parts_of, sorts_of}
 use Rattle.mau_module.specs.Framed.{Frame}
 use Rattle.mau_module.specs.Prelude.{table_frame, table_module}
-use Rattle.mau_module.proofs.Flattening.{is_next}
 use Rattle.mau_module.proofs.Tabled.{if_ok_is}
+use Rattle.mau_module.proofs.ReadyMade.{table_next}
 use Rattle.mau_module.proofs.prelude.table_module.Goals as goal
 
 pub returns-clause-value : goal.returns-clause-value
@@ -25,7 +23,7 @@ returns-clause-value c =
     if_ok_is c.make_module.result
     (table_module ms c.in_ok-frame.frame (each c.in_ok-table.table.name c.in_ok-table.table.pairs.items c.in_ok-table.table.declarations.items c.in_ok-table.table.variables.items c.in_ok-table.table.equations.items))
     (table_module ms (table_frame ms c.args.imports.now t) t)
-    (c.make_module.ensures t.sorts)
+    (c.make_module.ensures.value t.sorts)
     (ap (λ x. table_module ms x (each c.in_ok-table.table.name c.in_ok-table.table.pairs.items c.in_ok-table.table.declarations.items c.in_ok-table.table.variables.items c.in_ok-table.table.equations.items)) frame
     ∙ ap (table_module ms (table_frame ms c.args.imports.now t))
     (ap₂ (λ x y. each x y c.in_ok-table.table.declarations.items c.in_ok-table.table.variables.items c.in_ok-table.table.equations.items) e.name e.pairs
@@ -34,5 +32,8 @@ returns-clause-value c =
 
 pub returns-clause-next : goal.returns-clause-next
 returns-clause-next c =
-    IfOk-weaker c.make_module.result _ _
-    (λ m is. is_next c.args.library.now c.in_ok-frame.frame.parts m c.in_ok-frame.ensures.within (ap (λ (x : ModuleOf). x.parts) is)) (c.make_module.ensures [])
+    let t = table_of c.args.«module» in
+    let over : List (List ℕ) → Frame = λ xs. record { depth = depth_over c.args.library.now c.args.imports.now; parts = parts_of c.args.library.now c.args.imports.now; names = fold with_name (sorts_of c.args.library.now (parts_of c.args.library.now c.args.imports.now)) xs } in
+    table_next c.args.library.now c.args.imports.now c.args.«module» c.len-modules.ensures.library c.requires.ready c.requires.imports
+    c.make_module.result c.in_ok-frame.frame (c.in_ok-frame.ensures.frame ∙ ap over (c.deref.ensures.value ∙ c.in_ok-table.ensures.sorts)) c.in_ok-frame.ensures.within c.in_ok-frame.ensures.known
+    (returns-clause-value c) c.make_module.ensures.right
