@@ -14,13 +14,17 @@ use Rattle.mau_terms.specs.View.{tree_of}
 use Rattle.mau_terms.specs.declared.bare.Bare.{Bare}
 use Rattle.mau_session.specs.Terms.{Pairs}
 use Rattle.mau_session.specs.Query.{QueryOf, asked_first, shown_more}
-use Rattle.mau_session.specs.State.{GoingOf, StateOf, at_first, IsChosen, OutcomeOf, left_by, refuses, state_after}
+use Rattle.mau_session.specs.State.{a_listing, GoingOf, StateOf, at_first, IsChosen, OutcomeOf, has_ended, left_by, refuses, state_after}
 use Rattle.mau_session.specs.Bounds.{bound_of}
 use Rattle.mau_session.specs.Commands.{unbuilt}
+use Rattle.mau_parse.specs.declared.goals.Goal.TheVariants.{AnyKind}
+use Rattle.mau_statement.specs.Parts.{TermReads}
+use Rattle.mau_session.specs.Environment.{Environment, meanings_in}
 use Rattle.mau_session.specs.Next.{GainsShown}
-use Rattle.mau_session.specs.Transcript.{PatternReads, SubjectReads, TermsAnswer, too_deep, overflows, listed, MatchAnswer, listing_not_built, bound_refused, command_answered, ContinueAnswer, continued, BodyAnswer, item_faulty, item_answered, ItemsAnswer, item_first}
-use Rattle.mau_session.specs.Gains.{GainsListing, GainsListed, gains_solutions, gains_too_deep, gains_overflow, GainsTerms, ChosenAnswer, chosen_not_built, chosen_refused, chosen_answered, GainsChosen, GainsMatch, GainsOn, GainsContinue, GainsBody, GainsItem}
-use Rattle.mau_session.specs.Answers.{listing_lines, match_head, continue_head, too_deep_line, overflow_line}
+use Rattle.mau_session.specs.Transcript.{PatternReads, SubjectReads, TermsAnswer, too_deep, overflows, listed, MatchAnswer, listing_not_built, bound_refused, command_answered, ContinueAnswer, continued, term_answered, BodyAnswer, item_faulty, item_answered, ItemsAnswer, item_first}
+use Rattle.mau_session.specs.Gains.{GainsListing, GainsListed, gains_solutions, gains_too_deep, gains_overflow, GainsTerms, ChosenAnswer, chosen_not_built, chosen_refused, chosen_answered, GainsChosen, GainsMatch, GainsOn, GainsContinue, GainsAnswer, GainsTerm, GainsBody, GainsItem}
+use Rattle.mau_session.specs.Lines.{too_deep_line, overflow_line, answer_lines}
+use Rattle.mau_session.specs.Answers.{listing_lines, match_head, continue_head, reduce_head}
 
 -- what was written answers an item, where it is known whether that is a refusal
 pub answered_with : {E A : Type 0} (v : Bool) (P : Bool → Type 0) (r : Result Bool E) → OnOk r A → IfOk r (λ b. b ≡ v) → (A → P v) → IfOk r P
@@ -49,29 +53,29 @@ or_nothing : (r : Bool) → (r || false) ≡ r
 or_nothing true = refl
 or_nothing false = refl
 
-module _ (ws : List Word) where
-  pub one_more : (st next : StateOf) (k : ℕ) (item : RawItem) (items : List RawItem) (o n : List ℕ) (r b s : Bool) → GainsItem ws st k item next o n b → s ≡ (r || b)
-      → (all : List RawItem) → ((more : List ℕ) (later : Bool) → ItemsAnswer ws st k (item ∷ items) more later → ItemsAnswer ws at_first 1 all (o ++ more) (r || later))
-      → (more : List ℕ) (later : Bool) → ItemsAnswer ws next (k + 1) items more later → ItemsAnswer ws at_first 1 all (n ++ more) (s || later)
-  one_more st next k item items o n r b s g e all rest more later a =
+module _ (e : Environment) (ws : List Word) where
+  pub one_more : (st next : StateOf) (k : ℕ) (item : RawItem) (items : List RawItem) (o n : List ℕ) (r b s : Bool) → GainsItem e ws st k item next o n b → s ≡ (r || b)
+      → (all : List RawItem) → ((more : List ℕ) (later : Bool) → ItemsAnswer e ws st k (item ∷ items) more later → ItemsAnswer e ws at_first 1 all (o ++ more) (r || later))
+      → (more : List ℕ) (later : Bool) → ItemsAnswer e ws next (k + 1) items more later → ItemsAnswer e ws at_first 1 all (n ++ more) (s || later)
+  one_more st next k item items o n r b s g same all rest more later a =
       let whole = rest (g.bytes ++ more) (b || later) (item_first st next k item items g.bytes more b later g.answer a) in
-      subst (λ x. ItemsAnswer ws at_first 1 all x (s || later)) (sym (append_assoc o g.bytes more) ∙ ap (λ x. x ++ more) (sym g.gained))
-      (subst (λ x. ItemsAnswer ws at_first 1 all (o ++ (g.bytes ++ more)) x) (or_parts r b later ∙ ap (λ x. x || later) (sym e)) whole)
+      subst (λ x. ItemsAnswer e ws at_first 1 all x (s || later)) (sym (append_assoc o g.bytes more) ∙ ap (λ x. x ++ more) (sym g.gained))
+      (subst (λ x. ItemsAnswer e ws at_first 1 all (o ++ (g.bytes ++ more)) x) (or_parts r b later ∙ ap (λ x. x || later) (sym same)) whole)
 
   -- nothing more is answered
-  pub all_answered : (st : StateOf) (k : ℕ) (items all : List RawItem) (o : List ℕ) (r : Bool) → ItemsAnswer ws st k items [] false
-      → ((more : List ℕ) (later : Bool) → ItemsAnswer ws st k items more later → ItemsAnswer ws at_first 1 all (o ++ more) (r || later)) → ItemsAnswer ws at_first 1 all o r
+  pub all_answered : (st : StateOf) (k : ℕ) (items all : List RawItem) (o : List ℕ) (r : Bool) → ItemsAnswer e ws st k items [] false
+      → ((more : List ℕ) (later : Bool) → ItemsAnswer e ws st k items more later → ItemsAnswer e ws at_first 1 all (o ++ more) (r || later)) → ItemsAnswer e ws at_first 1 all o r
   all_answered st k items all o r none rest =
-      subst (λ x. ItemsAnswer ws at_first 1 all x r) (append-nil o)
-      (subst (λ x. ItemsAnswer ws at_first 1 all (o ++ []) x) (or_nothing r) (rest [] false none))
+      subst (λ x. ItemsAnswer e ws at_first 1 all x r) (append-nil o)
+      (subst (λ x. ItemsAnswer e ws at_first 1 all (o ++ []) x) (or_nothing r) (rest [] false none))
 
 -- ---- one item
 
-module _ (ws : List Word) (st : StateOf) (k : ℕ) (item : RawItem) (i : ℕ) (at : i ≡ index_at ws item.at) where
-  pub item_says : (b : RawBody) (next : StateOf) (o n : List ℕ) (r : Bool) → item.body ≡ Ok b → GainsBody ws st k i b next o n r → GainsItem ws st k item next o n r
-  item_says b next o n r h g = record { bytes = g.bytes; answer = item_answered b next g.bytes r h (subst (λ i. BodyAnswer ws st k i b next g.bytes r) at g.answer); gained = g.gained }
+module _ (e : Environment) (ws : List Word) (st : StateOf) (k : ℕ) (item : RawItem) (i : ℕ) (at : i ≡ index_at ws item.at) where
+  pub item_says : (b : RawBody) (next : StateOf) (o n : List ℕ) (r : Bool) → item.body ≡ Ok b → GainsBody e ws st k i b next o n r → GainsItem e ws st k item next o n r
+  item_says b next o n r h g = record { bytes = g.bytes; answer = item_answered b next g.bytes r h (subst (λ i. BodyAnswer e ws st k i b next g.bytes r) at g.answer); gained = g.gained }
 
-  pub item_fails : (f : TextFault) (o n : List ℕ) → item.body ≡ Err f → n ≡ o ++ fault_answer k ws i f → GainsItem ws st k item st o n true
+  pub item_fails : (f : TextFault) (o n : List ℕ) → item.body ≡ Err f → n ≡ o ++ fault_answer k ws i f → GainsItem e ws st k item st o n true
   item_fails f o n h g = record { bytes = _; answer = item_faulty f h; gained = g ∙ ap (λ i. o ++ fault_answer k ws i f) at }
 
 -- ---- listings
@@ -104,19 +108,19 @@ gains_listing m ns w p t most q next left old new ended e g l =
     record { found = h.found; ended = ended; listing = h.shows; leaves = l ∙ ap (left_by ended) h.after; gained = h.gained }
 
 -- what a query shows that goes on, behind the first line of the answer
-pub gains_on : (st : StateOf) (k : ℕ) (g : GoingOf) (most : Option ℕ) (m : ModuleOf) (at_number : slice_get st.modules g.number ≡ Some m) (next : QueryOf) (after : StateOf) (o a n : List ℕ) (ended refused : Bool)
-    → a ≡ o ++ continue_head k m → GainsShown m g.query next most a n ended → after ≡ state_after st g.number (left_by ended next) → refused ≡ refuses (left_by ended next)
-    → GainsOn st k g most after o n refused
-gains_on st k g most m at_number next after o a n ended refused head shown is answered = record {
+pub gains_on : (st : StateOf) (k i : ℕ) (q : QueryOf) (most : Option ℕ) (m : ModuleOf) (at_number : slice_get st.modules i ≡ Some m) (next : QueryOf) (after : StateOf) (o a n : List ℕ) (ended refused : Bool)
+    → a ≡ o ++ continue_head k m → GainsShown m q next most a n ended → after ≡ state_after st i (left_by ended next) → refused ≡ refuses (left_by ended next)
+    → GainsOn st k i q most after o n refused
+gains_on st k i q most m at_number next after o a n ended refused head shown is answered = record {
   «module» = m;
   there = at_number;
   found = shown.found;
   ended = ended;
   shows = shown.shows;
-  after = is ∙ ap (λ q. state_after st g.number (left_by ended q)) shown.after;
+  after = is ∙ ap (λ p. state_after st i (left_by ended p)) shown.after;
   gained =
-      shown.gained ∙ ap (λ x. x ++ listing_lines m g.query.variables g.query.with_context g.query.pattern g.query.shown shown.found ended) head
-      ∙ append_assoc o (continue_head k m) (listing_lines m g.query.variables g.query.with_context g.query.pattern g.query.shown shown.found ended);
+      shown.gained ∙ ap (λ x. x ++ listing_lines m q.variables q.with_context q.pattern q.shown shown.found ended) head
+      ∙ append_assoc o (continue_head k m) (listing_lines m q.variables q.with_context q.pattern q.shown shown.found ended);
   answered = answered ∙ never ended;
 }
   where
@@ -130,16 +134,16 @@ same_after st taken n true q = refl
 same_after st taken n false q = refl
 
 -- the answer of a command that continues a query
-pub continues : (ws : List Word) (st : StateOf) (taken : Option GoingOf) (k : ℕ) (c : RawCommand) (most : Option ℕ) (g : GoingOf) (next : StateOf) (o n : List ℕ) (refused : Bool)
-    → bound_of ws c.bound ≡ Ok most → st.going ≡ Some g → GainsOn (record st { going = taken }) k g most next o n refused → GainsContinue ws st k c next o n refused
-continues ws st taken k c most g next o n refused bound going on =
-    let bytes = continue_head k on.«module» ++ listing_lines on.«module» g.query.variables g.query.with_context g.query.pattern g.query.shown on.found on.ended in
-    let q = shown_more g.query on.found in
+pub continues : (ws : List Word) (st : StateOf) (taken : Option GoingOf) (k : ℕ) (c : RawCommand) (most : Option ℕ) (i : ℕ) (q : QueryOf) (next : StateOf) (o n : List ℕ) (refused : Bool)
+    → bound_of ws c.bound ≡ Ok most → st.going ≡ Some (record { number = i; what = a_listing q }) → GainsOn (record st { going = taken }) k i q most next o n refused → GainsContinue ws st k c next o n refused
+continues ws st taken k c most i q next o n refused bound going on =
+    let bytes = continue_head k on.«module» ++ listing_lines on.«module» q.variables q.with_context q.pattern q.shown on.found on.ended in
+    let p = shown_more q on.found in
     record {
       bytes = bytes;
-      answer = subst (λ s. ContinueAnswer ws st k c s bytes refused) (sym (on.after ∙ same_after st taken g.number on.ended q))
-          (subst (λ b. ContinueAnswer ws st k c (state_after st g.number (left_by on.ended q)) bytes b) (sym on.answered)
-          (continued most g on.«module» on.found on.ended bound going on.there on.shows));
+      answer = subst (λ s. ContinueAnswer ws st k c s bytes refused) (sym (on.after ∙ same_after st taken i on.ended p))
+          (subst (λ b. ContinueAnswer ws st k c (state_after st i (left_by on.ended p)) bytes b) (sym on.answered)
+          (continued most i q on.«module» on.found on.ended bound going on.there on.shows));
       gained = on.gained;
     }
 
@@ -152,3 +156,14 @@ gains_chosen ws st k i c n next old new refused built chosen g = record { bytes 
     by (chosen_not_built m there uses) = listing_not_built n m built chosen there uses
     by (chosen_refused m r there none e) = bound_refused n m r built chosen there none e
     by (chosen_answered m most left bytes there none e a) = command_answered n m most left bytes built chosen there none e a
+
+-- ---- evaluations
+
+-- the answer of a reduce command whose term is read
+pub gains_term : (e : Environment) (ws : List Word) (m : ModuleOf) (k : ℕ) (c : RawCommand) (t : Bare) (ns : Pairs) → TermReads ws m.grammar c.first AnyKind [] ns t
+    → (o a n : List ℕ) → a ≡ o ++ reduce_head k m → GainsAnswer m (meanings_in e m) e.remembers ns (tree_of t) a n → GainsTerm e ws m k c o n has_ended
+gains_term e ws m k c t ns reads o a n head g = record {
+  bytes = reduce_head k m ++ answer_lines m ns e.budget g.answer;
+  answer = term_answered t ns g.answer reads g.allowed;
+  gained = g.gained ∙ ap (λ x. x ++ answer_lines m ns e.budget g.answer) head ∙ append_assoc o (reduce_head k m) (answer_lines m ns e.budget g.answer);
+}

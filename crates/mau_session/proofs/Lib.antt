@@ -14,6 +14,7 @@ pub mod Values
 pub mod Lines
 pub mod Naming
 pub mod Answering
+pub mod Evaluated
 pub mod OneListing
 pub mod OneTranscript
 pub mod Spanned

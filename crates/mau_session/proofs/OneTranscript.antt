@@ -31,13 +31,21 @@ use Rattle.mau_session.specs.Terms.{Pairs, terms_in, kind_of_term}
 use Rattle.mau_statement.specs.Parts.{part_tokens, part_texts, TermReads, IsUnread}
 use Rattle.mau_session.specs.Matching.{Shows}
 use Rattle.mau_session.specs.Commands.{unbuilt}
-use Rattle.mau_session.specs.Built.{uses_memberships, has_context, fault_answer}
-use Rattle.mau_session.specs.Answers.{refusal_line, faulty_line, shown_parse_fault, fault_line, module_line, match_head, continue_head, listing_lines}
-use Rattle.mau_session.specs.Query.{asked_first, shown_more}
-use Rattle.mau_session.specs.State.{GoingOf, StateOf, at_first, accepted, selected, IsChosen, current_one, named_one, NamesNone, OutcomeOf, left_by, refuses, state_after}
+use Rattle.mau_session.specs.Built.{uses_memberships, is_evaluated, has_context, fault_answer}
+use Rattle.mau_session.specs.Answers.{refusal_line, faulty_line, shown_parse_fault, fault_line, module_line, match_head, continue_head, reduce_head, listing_lines}
+use Rattle.mau_session.specs.Environment.{Environment, meanings_in}
+use Rattle.mau_session.specs.Laws.{TranscriptsAreOne}
+use Rattle.mau_session.specs.Query.{QueryOf, asked_first, shown_more}
+use Rattle.mau_session.specs.State.{a_listing, GoingOf, StateOf, at_first, accepted, selected, IsChosen, current_one, named_one, NamesNone, OutcomeOf, left_by, refuses, state_after}
 use Rattle.mau_session.specs.Bounds.{bound_of}
-use Rattle.mau_session.specs.Transcript.{PatternReads, SubjectReads, TermsAnswer, pattern_refused, subject_refused, too_deep, overflows, listed, MatchAnswer, command_not_built, module_unknown, listing_not_built, bound_refused, command_answered, ContinueAnswer, number_refused, nothing_to_continue, continued, BodyAnswer, module_not_built, module_accepted, module_refused, match_answered, continue_answered, other_unknown, other_not_built, SettingAnswer, trace_not_built, trace_off, changes_nothing, module_selected, selects_none, setting_answered, ItemAnswer, item_faulty, item_answered, ItemsAnswer, items_end, item_quits, item_first, Transcript, text_refused, items_answered}
-use Rattle.mau_tokens.proofs.Answer.{answers_are_one}
+use Rattle.mau_session.specs.Transcript.{TermAnswer, term_refused, term_answered, ReduceAnswer, reduces_nothing, reduce_unknown, reduce_not_built, reduce_answered, reduce_is_answered, PatternReads, SubjectReads, TermsAnswer, pattern_refused, subject_refused, too_deep, overflows, listed, MatchAnswer, command_not_built, module_unknown, listing_not_built, bound_refused, command_answered, ContinueAnswer, number_refused, nothing_to_continue, continued, BodyAnswer, module_not_built, module_accepted, module_refused, match_answered, continue_answered, other_unknown, other_not_built, SettingAnswer, trace_not_built, trace_off, changes_nothing, module_selected, selects_none, setting_answered, ItemAnswer, item_faulty, item_answered, ItemsAnswer, items_end, item_quits, item_first, Transcript, text_refused, items_answered}
+use Rattle.mau_tokens.proofs.Answer.{answers_are_one as tokens_are_one}
+use Rattle.mau_api.proofs.LawfulMeanings.{meanings_are_lawful}
+use Rattle.mau_module.specs.Lawful.{program_of}
+use Rattle.mau_results.specs.Results.{AnswerOf, MayAnswer}
+use Rattle.mau_session.specs.Lines.{answer_lines}
+use Rattle.mau_results.proofs.Allowed.{answers_are_one}
+use Rattle.mau_session.proofs.Evaluated.{evaluated_derives}
 use Rattle.mau_session.proofs.OneListing.{shows_once}
 use Rattle.mau_parse.proofs.OneReading.{AreOneTerm, term_once, term_no_fault, fault_once}
 use Rattle.mau_module.proofs.OneModule.{module_once}
@@ -243,32 +251,77 @@ module _ (ws : List Word) (st : StateOf) (k i : ℕ) (c : RawCommand) where
   continue_once : {u v : StateOf} {b d : List ℕ} {r q : Bool} → ContinueAnswer ws st k c u b r → ContinueAnswer ws st k c v d q → AreOneItem u v b d r q
   continue_once (number_refused r e) (number_refused r' e') = record { state = refl; bytes = ap (refusal_line k ws) (refusal_once e e'); refused = refl }
   continue_once (number_refused r e) (nothing_to_continue most' e' n') = absurd (bound_or_refused e' e)
-  continue_once (number_refused r e) (continued most' g' m' found' b' e' n' h' l') = absurd (bound_or_refused e' e)
+  continue_once (number_refused r e) (continued most' n' q' m' found' b' e' g' h' l') = absurd (bound_or_refused e' e)
   continue_once (nothing_to_continue most e n) (number_refused r' e') = absurd (bound_or_refused e e')
   continue_once (nothing_to_continue most e n) (nothing_to_continue most' e' n') = one_item
-  continue_once (nothing_to_continue most e n) (continued most' g' m' found' b' e' n' h' l') = let o = sym n ∙ n' in absurd cc
-  continue_once (continued most g m found b e n h l) (number_refused r' e') = absurd (bound_or_refused e e')
-  continue_once (continued most g m found b e n h l) (nothing_to_continue most' e' n') = let o = sym n' ∙ n in absurd cc
-  continue_once (continued most g m found b e n h l) (continued most' g' m' found' b' e' n' h' l') =
-      let o = sym n ∙ n' in
-      let going : g ≡ g' = cc in
-      let at = sym h ∙ ap (λ (x : GoingOf). slice_get st.modules x.number) going ∙ h' in
+  continue_once (nothing_to_continue most e n) (continued most' n' q' m' found' b' e' g' h' l') = let o = sym n ∙ g' in absurd cc
+  continue_once (continued most n q m found b e g h l) (number_refused r' e') = absurd (bound_or_refused e e')
+  continue_once (continued most n q m found b e g h l) (nothing_to_continue most' e' n') = let o = sym n' ∙ g in absurd cc
+  continue_once (continued most n q m found b e g h l) (continued most' n' q' m' found' b' e' g' h' l') =
+      let x : GoingOf = record { number = n; what = a_listing q } in
+      let y : GoingOf = record { number = n'; what = a_listing q' } in
+      let o : Some x ≡ Some y = sym g ∙ g' in
+      let going : x ≡ y = cc in
+      let number : n ≡ n' = ap (λ (z : GoingOf). z.number) going in
+      let what : a_listing q ≡ a_listing q' = ap (λ (z : GoingOf). z.what) going in
+      let query : q ≡ q' = cc in
+      let at : Some m ≡ Some m' = sym h ∙ ap (slice_get st.modules) number ∙ h' in
       let same : m ≡ m' = cc in
-      let l'' = subst (λ m. Shows m g.query.with_context g.query.pattern g.query.subject g.query.last most found' b') (sym same)
-      (subst (λ (x : GoingOf). Shows m' x.query.with_context x.query.pattern x.query.subject x.query.last most found' b') (sym going)
-      (subst (λ a. Shows m' g'.query.with_context g'.query.pattern g'.query.subject g'.query.last a found' b') (sym (bound_once e e')) l')) in
-      let one = shows_once m g.query.with_context g.query.pattern g.query.subject g.query.last most found found' b b' l l'' in
+      let l'' = subst (λ m. Shows m q.with_context q.pattern q.subject q.last most found' b') (sym same)
+      (subst (λ (x : QueryOf). Shows m' x.with_context x.pattern x.subject x.last most found' b') (sym query)
+      (subst (λ a. Shows m' q'.with_context q'.pattern q'.subject q'.last a found' b') (sym (bound_once e e')) l')) in
+      let one = shows_once m q.with_context q.pattern q.subject q.last most found found' b b' l l'' in
       record {
         state =
-            ap (λ (x : GoingOf). state_after st x.number (left_by b (shown_more x.query found))) going
-            ∙ ap₂ (λ f b. state_after st g'.number (left_by b (shown_more g'.query f))) one.found one.ended;
+            ap₂ (λ n (x : QueryOf). state_after st n (left_by b (shown_more x found))) number query
+            ∙ ap₂ (λ f b. state_after st n' (left_by b (shown_more q' f))) one.found one.ended;
         bytes =
-            ap₂ (λ m (x : GoingOf). continue_head k m ++ listing_lines m x.query.variables x.query.with_context x.query.pattern x.query.shown found b) same going
-            ∙ ap₂ (λ f b. continue_head k m' ++ listing_lines m' g'.query.variables g'.query.with_context g'.query.pattern g'.query.shown f b) one.found one.ended;
+            ap₂ (λ m (x : QueryOf). continue_head k m ++ listing_lines m x.variables x.with_context x.pattern x.shown found b) same query
+            ∙ ap₂ (λ f b. continue_head k m' ++ listing_lines m' q'.variables q'.with_context q'.pattern q'.shown f b) one.found one.ended;
         refused = refl;
       }
 
-module _ (ws : List Word) (st : StateOf) (k i : ℕ) where
+module _ (env : Environment) (free : env.remembers ≡ false) (ws : List Word) (st : StateOf) (k i : ℕ) (c : RawCommand) where
+  -- what may be answered for one term is one
+  one_term : (m : ModuleOf) → is_evaluated m ≡ true → (t u : Tree) (a b : AnswerOf) → t ≡ u → MayAnswer (meanings_in env m) env.remembers t a → MayAnswer (meanings_in env m) env.remembers u b → a ≡ b
+  one_term m evaluated t u a b e x y =
+      answers_are_one (meanings_in env m) (meanings_are_lawful (program_of m) env.operators env.budget env.remembers) (evaluated_derives env m evaluated) u a b
+      (subst (λ r. MayAnswer (meanings_in env m) r u a) free (subst (λ v. MayAnswer (meanings_in env m) env.remembers v a) e x))
+      (subst (λ r. MayAnswer (meanings_in env m) r u b) free y)
+
+  term_once_answered : {m : ModuleOf} → is_evaluated m ≡ true → {b d : List ℕ} {r q : OutcomeOf} → TermAnswer env ws m k c r b → TermAnswer env ws m k c q d → AreOneEnd b d r q
+  term_once_answered {m} evaluated (term_refused f u n) (term_refused f' u' n') = record { bytes = ap (faulty_line k) (shown_once f f' (fault_once m.grammar (part_tokens ws c.first) (part_texts ws c.first) AnyKind [] f f' u u' n n')); left = refl }
+  term_once_answered {m} evaluated (term_refused f u n) (term_answered t' ns' a' x' y') = absurd (no_pattern_read ws m k c f u n t' ns' x')
+  term_once_answered {m} evaluated (term_answered t ns a x y) (term_refused f' u' n') = absurd (no_pattern_read ws m k c f' u' n' t ns x)
+  term_once_answered {m} evaluated (term_answered t ns a x y) (term_answered t' ns' a' x' y') =
+      let one = pattern_once ws m k c t t' ns ns' x x' in
+      record { bytes = ap₂ (λ os a. reduce_head k m ++ answer_lines m os env.budget a) one.pairs (one_term m evaluated (tree_of t) (tree_of t') a a' one.tree y y'); left = refl }
+
+  evaluated_or_not : {n o : ℕ} {m l : ModuleOf} → IsChosen ws st c n → slice_get st.modules n ≡ Some m → IsChosen ws st c o → slice_get st.modules o ≡ Some l → is_evaluated m ≡ true → is_evaluated l ≡ false → ⊥
+  evaluated_or_not x h y l yes no = yes_no _ (ap is_evaluated (sym (module_at ws st k i c x h y l)) ∙ yes) no
+
+  reduce_once : {u v : StateOf} {b d : List ℕ} {r q : Bool} → ReduceAnswer env ws st k i c u b r → ReduceAnswer env ws st k i c v d q → AreOneItem u v b d r q
+  reduce_once (reduces_nothing e) (reduces_nothing e') = one_item
+  reduce_once (reduces_nothing e) (reduce_unknown t' e' x') = absurd (yes_no _ e e')
+  reduce_once (reduces_nothing e) (reduce_not_built n' m' e' x' h' w') = absurd (yes_no _ e e')
+  reduce_once (reduces_nothing e) (reduce_answered n' m' left' b' e' x' h' w' y') = absurd (yes_no _ e e')
+  reduce_once (reduce_unknown t e x) (reduces_nothing e') = absurd (yes_no _ e' e)
+  reduce_once (reduce_unknown t e x) (reduce_unknown t' e' x') = record { state = refl; bytes = ap (λ t. refusal_line k ws (UnknownModule (token_index ws t))) (unknown_once ws st k i c x x'); refused = refl }
+  reduce_once (reduce_unknown t e x) (reduce_not_built n' m' e' x' h' w') = absurd (never_chosen ws st k i c x x')
+  reduce_once (reduce_unknown t e x) (reduce_answered n' m' left' b' e' x' h' w' y') = absurd (never_chosen ws st k i c x x')
+  reduce_once (reduce_not_built n m e x h w) (reduces_nothing e') = absurd (yes_no _ e' e)
+  reduce_once (reduce_not_built n m e x h w) (reduce_unknown t' e' x') = absurd (never_chosen ws st k i c x' x)
+  reduce_once (reduce_not_built n m e x h w) (reduce_not_built n' m' e' x' h' w') = one_item
+  reduce_once (reduce_not_built n m e x h w) (reduce_answered n' m' left' b' e' x' h' w' y') = absurd (evaluated_or_not x' h' x h w' w)
+  reduce_once (reduce_answered n m left b e x h w y) (reduces_nothing e') = absurd (yes_no _ e' e)
+  reduce_once (reduce_answered n m left b e x h w y) (reduce_unknown t' e' x') = absurd (never_chosen ws st k i c x' x)
+  reduce_once (reduce_answered n m left b e x h w y) (reduce_not_built n' m' e' x' h' w') = absurd (evaluated_or_not x h x' h' w w')
+  reduce_once (reduce_answered n m left b e x h w y) (reduce_answered n' m' left' b' e' x' h' w' y') =
+      let same = module_at ws st k i c x h x' h' in
+      let o = term_once_answered w y (subst (λ m. TermAnswer env ws m k c left' b') (sym same) y') in
+      record { state = ap₂ (state_after st) (chosen_once ws st k i c x x') o.left; bytes = o.bytes; refused = ap refuses o.left }
+
+module _ (env : Environment) (free : env.remembers ≡ false) (ws : List Word) (st : StateOf) (k i : ℕ) where
   setting_once : {x : Setting} {u v : StateOf} {b c : List ℕ} {r s : Bool} → SettingAnswer ws st k i x u b r → SettingAnswer ws st k i x v c s → AreOneItem u v b c r s
   setting_once trace_not_built trace_not_built = one_item
   setting_once trace_off trace_off = one_item
@@ -281,7 +334,7 @@ module _ (ws : List Word) (st : StateOf) (k i : ℕ) where
   setting_once (selects_none name h) (module_selected name' n' h') = let one = sym h ∙ h' in absurd cc
   setting_once (selects_none name h) (selects_none name' h') = one_item
 
-  body_once : {x : RawBody} {u v : StateOf} {b c : List ℕ} {r s : Bool} → BodyAnswer ws st k i x u b r → BodyAnswer ws st k i x v c s → AreOneItem u v b c r s
+  body_once : {x : RawBody} {u v : StateOf} {b c : List ℕ} {r s : Bool} → BodyAnswer env ws st k i x u b r → BodyAnswer env ws st k i x v c s → AreOneItem u v b c r s
   body_once (module_not_built raw f) (module_not_built raw' f') = one_item
   body_once (module_not_built raw f) (module_accepted raw' m' t' x') = absurd (yes_no _ t' f)
   body_once (module_not_built raw f) (module_refused raw' w' t' x') = absurd (yes_no _ t' f)
@@ -297,25 +350,34 @@ module _ (ws : List Word) (st : StateOf) (k i : ℕ) where
       record { state = refl; bytes = ap (faulty_line k) (module_shown_once w w' (module_once st.modules ws raw x x')); refused = refl }
   body_once (match_answered c n b r t x) (match_answered c' n' b' r' t' x') = match_once ws st k i c x x'
   body_once (match_answered c n b r t x) (continue_answered c' n' b' r' f' t' x') = absurd (yes_no _ t f')
-  body_once (match_answered c n b r t x) (other_unknown c' u' f' g' h') = absurd (yes_no _ t f')
-  body_once (match_answered c n b r t x) (other_not_built c' o' f' g' h') = absurd (yes_no _ t f')
+  body_once (match_answered c n b r t x) (reduce_is_answered c' n' b' r' f' g' t' x') = absurd (yes_no _ t f')
+  body_once (match_answered c n b r t x) (other_unknown c' u' f' g' j' h') = absurd (yes_no _ t f')
+  body_once (match_answered c n b r t x) (other_not_built c' o' f' g' j' h') = absurd (yes_no _ t f')
   body_once (continue_answered c n b r f t x) (match_answered c' n' b' r' t' x') = absurd (yes_no _ t' f)
   body_once (continue_answered c n b r f t x) (continue_answered c' n' b' r' f' t' x') = continue_once ws st k i c x x'
-  body_once (continue_answered c n b r f t x) (other_unknown c' u' f' g' h') = absurd (yes_no _ t g')
-  body_once (continue_answered c n b r f t x) (other_not_built c' o' f' g' h') = absurd (yes_no _ t g')
-  body_once (other_unknown c u f g h) (match_answered c' n' b' r' t' x') = absurd (yes_no _ t' f)
-  body_once (other_unknown c u f g h) (continue_answered c' n' b' r' f' t' x') = absurd (yes_no _ t' g)
-  body_once (other_unknown c u f g h) (other_unknown c' u' f' g' h') =
+  body_once (continue_answered c n b r f t x) (reduce_is_answered c' n' b' r' f' g' t' x') = absurd (yes_no _ t g')
+  body_once (continue_answered c n b r f t x) (other_unknown c' u' f' g' j' h') = absurd (yes_no _ t g')
+  body_once (continue_answered c n b r f t x) (other_not_built c' o' f' g' j' h') = absurd (yes_no _ t g')
+  body_once (reduce_is_answered c n b r f g t x) (match_answered c' n' b' r' t' x') = absurd (yes_no _ t' f)
+  body_once (reduce_is_answered c n b r f g t x) (continue_answered c' n' b' r' f' t' x') = absurd (yes_no _ t' g)
+  body_once (reduce_is_answered c n b r f g t x) (reduce_is_answered c' n' b' r' f' g' t' x') = reduce_once env free ws st k i c x x'
+  body_once (reduce_is_answered c n b r f g t x) (other_unknown c' u' f' g' j' h') = absurd (yes_no _ t j')
+  body_once (reduce_is_answered c n b r f g t x) (other_not_built c' o' f' g' j' h') = absurd (yes_no _ t j')
+  body_once (other_unknown c u f g j h) (match_answered c' n' b' r' t' x') = absurd (yes_no _ t' f)
+  body_once (other_unknown c u f g j h) (continue_answered c' n' b' r' f' t' x') = absurd (yes_no _ t' g)
+  body_once (other_unknown c u f g j h) (reduce_is_answered c' n' b' r' f' g' t' x') = absurd (yes_no _ t' j)
+  body_once (other_unknown c u f g j h) (other_unknown c' u' f' g' j' h') =
       record { state = refl; bytes = ap (λ t. refusal_line k ws (UnknownModule (token_index ws t))) (unknown_once ws st k i c h h'); refused = refl }
-  body_once (other_unknown c u f g h) (other_not_built c' o' f' g' h') = absurd (never_chosen ws st k i c h h')
-  body_once (other_not_built c o f g h) (match_answered c' n' b' r' t' x') = absurd (yes_no _ t' f)
-  body_once (other_not_built c o f g h) (continue_answered c' n' b' r' f' t' x') = absurd (yes_no _ t' g)
-  body_once (other_not_built c o f g h) (other_unknown c' u' f' g' h') = absurd (never_chosen ws st k i c h' h)
-  body_once (other_not_built c o f g h) (other_not_built c' o' f' g' h') = one_item
+  body_once (other_unknown c u f g j h) (other_not_built c' o' f' g' j' h') = absurd (never_chosen ws st k i c h h')
+  body_once (other_not_built c o f g j h) (match_answered c' n' b' r' t' x') = absurd (yes_no _ t' f)
+  body_once (other_not_built c o f g j h) (continue_answered c' n' b' r' f' t' x') = absurd (yes_no _ t' g)
+  body_once (other_not_built c o f g j h) (reduce_is_answered c' n' b' r' f' g' t' x') = absurd (yes_no _ t' j)
+  body_once (other_not_built c o f g j h) (other_unknown c' u' f' g' j' h') = absurd (never_chosen ws st k i c h' h)
+  body_once (other_not_built c o f g j h) (other_not_built c' o' f' g' j' h') = one_item
   body_once (setting_answered x n b r h) (setting_answered x' n' b' r' h') = setting_once h h'
 
-module _ (ws : List Word) (st : StateOf) (k : ℕ) (item : RawItem) where
-  item_once : {u v : StateOf} {b c : List ℕ} {r s : Bool} → ItemAnswer ws st k item u b r → ItemAnswer ws st k item v c s → AreOneItem u v b c r s
+module _ (env : Environment) (free : env.remembers ≡ false) (ws : List Word) (st : StateOf) (k : ℕ) (item : RawItem) where
+  item_once : {u v : StateOf} {b c : List ℕ} {r s : Bool} → ItemAnswer env ws st k item u b r → ItemAnswer env ws st k item v c s → AreOneItem u v b c r s
   item_once (item_faulty f e) (item_faulty f' e') =
       let o = sym e ∙ e' in
       let h : f ≡ f' = cc in
@@ -325,35 +387,35 @@ module _ (ws : List Word) (st : StateOf) (k : ℕ) (item : RawItem) where
   item_once (item_answered b ns bs r e x) (item_answered b' ns' bs' r' e' x') =
       let o = sym e' ∙ e in
       let h : b' ≡ b = cc in
-      body_once ws st k (index_at ws item.at) x (subst (λ b. BodyAnswer ws st k (index_at ws item.at) b ns' bs' r') h x')
+      body_once env free ws st k (index_at ws item.at) x (subst (λ b. BodyAnswer env ws st k (index_at ws item.at) b ns' bs' r') h x')
 
-  never_quits : {next : StateOf} {b : List ℕ} {r : Bool} → ItemAnswer ws st k item next b r → item.body ≡ Ok Quit → ⊥
+  never_quits : {next : StateOf} {b : List ℕ} {r : Bool} → ItemAnswer env ws st k item next b r → item.body ≡ Ok Quit → ⊥
   never_quits (item_faulty f e) q = let o = sym e ∙ q in absurd cc
-  never_quits (item_answered b ns bs r e x) q = let o = sym e ∙ q in let h : b ≡ Quit = cc in none (subst (λ b. BodyAnswer ws st k (index_at ws item.at) b ns bs r) h x)
+  never_quits (item_answered b ns bs r e x) q = let o = sym e ∙ q in let h : b ≡ Quit = cc in none (subst (λ b. BodyAnswer env ws st k (index_at ws item.at) b ns bs r) h x)
     where
-      none : {next : StateOf} {b : List ℕ} {r : Bool} → BodyAnswer ws st k (index_at ws item.at) Quit next b r → ⊥
+      none : {next : StateOf} {b : List ℕ} {r : Bool} → BodyAnswer env ws st k (index_at ws item.at) Quit next b r → ⊥
       none x = elim x [ ]
 
-module _ (ws : List Word) where
-  items_once : {st : StateOf} {k : ℕ} {items : List RawItem} {b c : List ℕ} {r s : Bool} → ItemsAnswer ws st k items b r → ItemsAnswer ws st k items c s → AreOneAnswer b c r s
+module _ (env : Environment) (free : env.remembers ≡ false) (ws : List Word) where
+  items_once : {st : StateOf} {k : ℕ} {items : List RawItem} {b c : List ℕ} {r s : Bool} → ItemsAnswer env ws st k items b r → ItemsAnswer env ws st k items c s → AreOneAnswer b c r s
   items_once (items_end ms k) (items_end ms' k') = one_answer
   items_once (item_quits ms k item items q) (item_quits ms' k' item' items' q') = one_answer
-  items_once (item_quits ms k item items q) (item_first ms' ns' k' item' items' b' more' r' later' x' y') = absurd (never_quits ws ms k item x' q)
-  items_once (item_first ms ns k item items b more r later x y) (item_quits ms' k' item' items' q') = absurd (never_quits ws ms k item x q')
+  items_once (item_quits ms k item items q) (item_first ms' ns' k' item' items' b' more' r' later' x' y') = absurd (never_quits env free ws ms k item x' q)
+  items_once (item_first ms ns k item items b more r later x y) (item_quits ms' k' item' items' q') = absurd (never_quits env free ws ms k item x q')
   items_once (item_first ms ns k item items b more r later x y) (item_first ms' ns' k' item' items' b' more' r' later' x' y') =
-      let one = item_once ws ms k item x x' in
-      let rest = items_once y (subst (λ ns. ItemsAnswer ws ns (k + 1) items more' later') (sym one.state) y') in
+      let one = item_once env free ws ms k item x x' in
+      let rest = items_once y (subst (λ ns. ItemsAnswer env ws ns (k + 1) items more' later') (sym one.state) y') in
       record { bytes = ap₂ (λ b more. b ++ more) one.bytes rest.bytes; refused = ap₂ (λ r later. r || later) one.refused rest.refused }
 
-pub transcript_once : (text b c : List ℕ) (r s : Bool) → Transcript text b r → Transcript text c s → (b ≡ c) × (r ≡ s)
-transcript_once text b c r s (text_refused f x) (text_refused f' x') = let o = answers_are_one text _ _ x x' in let e : f ≡ f' = cc in (ap fault_line e, refl)
-transcript_once text b c r s (text_refused f x) (items_answered tokens' items' b' r' x' z' y') = let o = answers_are_one text _ _ x x' in absurd cc
-transcript_once text b c r s (items_answered tokens items b' r' x z y) (text_refused f' x') = let o = answers_are_one text _ _ x x' in absurd cc
-transcript_once text b c r s (items_answered tokens items b' r' x z y) (items_answered tokens' items' b'' r'' x' z' y') =
-    let o = answers_are_one text _ _ x x' in
+pub transcript_once : TranscriptsAreOne
+transcript_once env free text b c r s (text_refused f x) (text_refused f' x') = let o = tokens_are_one text _ _ x x' in let e : f ≡ f' = cc in (ap fault_line e, refl)
+transcript_once env free text b c r s (text_refused f x) (items_answered tokens' items' b' r' x' z' y') = let o = tokens_are_one text _ _ x x' in absurd cc
+transcript_once env free text b c r s (items_answered tokens items b' r' x z y) (text_refused f' x') = let o = tokens_are_one text _ _ x x' in absurd cc
+transcript_once env free text b c r s (items_answered tokens items b' r' x z y) (items_answered tokens' items' b'' r'' x' z' y') =
+    let o = tokens_are_one text _ _ x x' in
     let e : tokens ≡ tokens' = cc in
     let d = sym z ∙ ap (λ tokens. parts item_part (words_of text tokens)) e ∙ z' in
     let i : items ≡ items' = cc d in
-    let y'' = subst (λ tokens. ItemsAnswer (words_of text tokens) at_first 1 items b'' r'') (sym e) (subst (λ items. ItemsAnswer (words_of text tokens') at_first 1 items b'' r'') (sym i) y') in
-    let one = items_once (words_of text tokens) y y'' in
+    let y'' = subst (λ tokens. ItemsAnswer env (words_of text tokens) at_first 1 items b'' r'') (sym e) (subst (λ items. ItemsAnswer env (words_of text tokens') at_first 1 items b'' r'') (sym i) y') in
+    let one = items_once env free (words_of text tokens) y y'' in
     (one.bytes, one.refused)

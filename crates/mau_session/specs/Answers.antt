@@ -201,9 +201,5 @@ match_head k w m = item_head k ++ match_name w ++ codes " in " ++ m.name ++ code
 abbrev pub continue_head : ℕ → ModuleOf → List ℕ
 continue_head k m = item_head k ++ codes "continue in " ++ m.name ++ codes "\n"
 
--- what stands in place of solutions
-abbrev pub too_deep_line : List ℕ
-too_deep_line = codes "Too deep.\n"
-
-abbrev pub overflow_line : List ℕ
-overflow_line = codes "Overflow.\n"
+abbrev pub reduce_head : ℕ → ModuleOf → List ℕ
+reduce_head k m = item_head k ++ codes "reduce in " ++ m.name ++ codes "\n"

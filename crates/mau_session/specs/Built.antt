@@ -1,14 +1,17 @@
 -- Items that aren't built yet, and the answers of items that say nothing.
-use Rattle.std.specs.Prelude.{ℕ, List, Bool, true, false, ◌||◌, if◌then◌else◌, codes}
+use Rattle.std.specs.Prelude.{ℕ, List, Bool, true, false, not, ◌&&◌, ◌||◌, if◌then◌else◌, codes}
 use Rattle.std.specs.Str.{bytes_eq}
 use Rattle.std.specs.List.{list_any}
 use Rattle.mau_modtext.specs.Word.{Word}
 use Rattle.mau_modtext.specs.declared.raw.ModuleKind.{ModuleKind}
 use Rattle.mau_modtext.specs.declared.raw.ModuleKind.TheVariants.{StrategyModule}
 use Rattle.mau_modtext.specs.declared.raw.CommandKind.{CommandKind}
-use Rattle.mau_modtext.specs.declared.raw.CommandKind.TheVariants.{Match, Xmatch, Continue}
+use Rattle.mau_modtext.specs.declared.raw.CommandKind.TheVariants.{Match, Xmatch, Reduce, Continue}
 use Rattle.mau_modtext.specs.declared.raw.TextFault.{TextFault}
 use Rattle.mau_modtext.specs.declared.raw.TextFault.TheVariants.{Unended}
+use Rattle.mau_program.specs.declared.statements.Fragment.{Fragment}
+use Rattle.mau_program.specs.declared.statements.Fragment.TheVariants.{Reach}
+use Rattle.mau_program.specs.declared.statements.Equation.{Equation}
 use Rattle.mau_program.specs.declared.statements.Membership.{Membership}
 use Rattle.mau_declare.specs.Words.{text_at}
 use Rattle.mau_module.specs.Modules.{ModuleOf}
@@ -24,6 +27,18 @@ is_built_module _ = true
 abbrev pub uses_memberships : ModuleOf → Bool
 uses_memberships m = list_any (λ (x : Membership). x.exec) m.statements.memberships
 
+-- an equation may be used to evaluate, and a part of its condition is solved by rules
+abbrev pub is_reach : Fragment → Bool
+is_reach (Reach t u) = true
+is_reach _ = false
+
+abbrev pub asks_rules : Equation → Bool
+asks_rules x = x.exec && list_any is_reach x.cond
+
+-- terms are evaluated in the module: no membership may be used to evaluate, and no equation whose condition has a part that is solved by rules
+abbrev pub is_evaluated : ModuleOf → Bool
+is_evaluated m = not (uses_memberships m) && not (list_any asks_rules m.statements.equations)
+
 abbrev pub is_match : CommandKind → Bool
 is_match Match = true
 is_match Xmatch = true
@@ -34,6 +49,10 @@ abbrev pub has_context : CommandKind → Bool
 has_context Xmatch = true
 has_context _ = false
 
+abbrev pub is_reduce : CommandKind → Bool
+is_reduce Reduce = true
+is_reduce _ = false
+
 abbrev pub is_continue : CommandKind → Bool
 is_continue Continue = true
 is_continue _ = false
@@ -41,7 +60,7 @@ is_continue _ = false
 -- the words with which items begin that aren't built yet
 abbrev pub begins_unbuilt : List ℕ → Bool
 begins_unbuilt w =
-    bytes_eq w (codes "smod") || bytes_eq w (codes "reduce") || bytes_eq w (codes "red") || bytes_eq w (codes "rewrite") || bytes_eq w (codes "rew")
+    bytes_eq w (codes "smod") || bytes_eq w (codes "rewrite") || bytes_eq w (codes "rew")
     || bytes_eq w (codes "frewrite") || bytes_eq w (codes "frew") || bytes_eq w (codes "dsrewrite") || bytes_eq w (codes "dsrew")
 
 abbrev pub is_unended : TextFault → Bool

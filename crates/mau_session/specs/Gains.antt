@@ -13,14 +13,18 @@ use Rattle.mau_modtext.specs.declared.raw.Setting.{Setting}
 use Rattle.mau_module.specs.Modules.{ModuleOf}
 use Rattle.mau_session.specs.Terms.{Pairs, terms_in}
 use Rattle.mau_session.specs.Matching.{Shows}
-use Rattle.mau_session.specs.Query.{asked_first, shown_more}
-use Rattle.mau_session.specs.State.{GoingOf, StateOf, OutcomeOf, has_ended, left_by, refuses, state_after}
+use Rattle.mau_session.specs.Environment.{Environment}
+use Rattle.mau_session.specs.Query.{QueryOf, asked_first, shown_more}
+use Rattle.mau_session.specs.State.{StateOf, OutcomeOf, has_ended, left_by, refuses, state_after}
 use Rattle.mau_session.specs.Bounds.{bound_of}
 use Rattle.mau_session.specs.declared.refusal.Refusal.{Refusal}
 use Rattle.mau_session.specs.declared.refusal.Refusal.TheVariants.{NotBuilt}
 use Rattle.mau_session.specs.Built.{uses_memberships}
-use Rattle.mau_session.specs.Answers.{refusal_line, continue_head, listing_lines, too_deep_line, overflow_line}
-use Rattle.mau_session.specs.Transcript.{TermsAnswer, MatchAnswer, ContinueAnswer, SettingAnswer, BodyAnswer, ItemAnswer}
+use Rattle.mau_api.specs.Meanings.{Meanings}
+use Rattle.mau_results.specs.Results.{AnswerOf, MayAnswer}
+use Rattle.mau_session.specs.Lines.{too_deep_line, overflow_line, answer_lines}
+use Rattle.mau_session.specs.Answers.{refusal_line, continue_head, listing_lines}
+use Rattle.mau_session.specs.Transcript.{TermsAnswer, MatchAnswer, ContinueAnswer, TermAnswer, ReduceAnswer, SettingAnswer, BodyAnswer, ItemAnswer}
 
 -- the bytes gained are the lines of the listing
 pub record GainsListing (m : ModuleOf) (ns : Pairs) (w : Bool) (p t : Tree) (most : Option ℕ) (left : OutcomeOf) (old new : List ℕ) : Type 0 where
@@ -60,15 +64,15 @@ pub record GainsMatch (ws : List Word) (st : StateOf) (k i : ℕ) (c : RawComman
   pub answer : MatchAnswer ws st k i c next bytes refused
   pub gained : new ≡ old ++ bytes
 
--- a query has gone on
-pub record GainsOn (st : StateOf) (k : ℕ) (g : GoingOf) (most : Option ℕ) (next : StateOf) (old new : List ℕ) (refused : Bool) : Type 0 where
+-- a query over the module with the number n has gone on
+pub record GainsOn (st : StateOf) (k n : ℕ) (q : QueryOf) (most : Option ℕ) (next : StateOf) (old new : List ℕ) (refused : Bool) : Type 0 where
   pub «module» : ModuleOf
-  pub there : slice_get st.modules g.number ≡ Some «module»
+  pub there : slice_get st.modules n ≡ Some «module»
   pub found : List Matcher
   pub ended : Bool
-  pub shows : Shows «module» g.query.with_context g.query.pattern g.query.subject g.query.last most found ended
-  pub after : next ≡ state_after st g.number (left_by ended (shown_more g.query found))
-  pub gained : new ≡ old ++ (continue_head k «module» ++ listing_lines «module» g.query.variables g.query.with_context g.query.pattern g.query.shown found ended)
+  pub shows : Shows «module» q.with_context q.pattern q.subject q.last most found ended
+  pub after : next ≡ state_after st n (left_by ended (shown_more q found))
+  pub gained : new ≡ old ++ (continue_head k «module» ++ listing_lines «module» q.variables q.with_context q.pattern q.shown found ended)
   pub answered : refused ≡ false
 
 pub record GainsContinue (ws : List Word) (st : StateOf) (k : ℕ) (c : RawCommand) (next : StateOf) (old new : List ℕ) (refused : Bool) : Type 0 where
@@ -81,12 +85,29 @@ pub record GainsSetting (ws : List Word) (st : StateOf) (k i : ℕ) (s : Setting
   pub answer : SettingAnswer ws st k i s next bytes refused
   pub gained : new ≡ old ++ bytes
 
-pub record GainsBody (ws : List Word) (st : StateOf) (k i : ℕ) (b : RawBody) (next : StateOf) (old new : List ℕ) (refused : Bool) : Type 0 where
+-- the bytes gained are those of an allowed answer for the term t, by the budget of the meanings
+pub record GainsAnswer (m : ModuleOf) (means : Meanings) (remembered : Bool) (ns : Pairs) (t : Tree) (old new : List ℕ) : Type 0 where
+  pub answer : AnswerOf
+  pub allowed : MayAnswer means remembered t answer
+  pub gained : new ≡ old ++ answer_lines m ns means.limit answer
+
+-- the bytes of the term of a reduce command
+pub record GainsTerm (e : Environment) (ws : List Word) (m : ModuleOf) (k : ℕ) (c : RawCommand) (old new : List ℕ) (left : OutcomeOf) : Type 0 where
   pub bytes : List ℕ
-  pub answer : BodyAnswer ws st k i b next bytes refused
+  pub answer : TermAnswer e ws m k c left bytes
   pub gained : new ≡ old ++ bytes
 
-pub record GainsItem (ws : List Word) (st : StateOf) (k : ℕ) (item : RawItem) (next : StateOf) (old new : List ℕ) (refused : Bool) : Type 0 where
+pub record GainsReduce (e : Environment) (ws : List Word) (st : StateOf) (k i : ℕ) (c : RawCommand) (next : StateOf) (old new : List ℕ) (refused : Bool) : Type 0 where
   pub bytes : List ℕ
-  pub answer : ItemAnswer ws st k item next bytes refused
+  pub answer : ReduceAnswer e ws st k i c next bytes refused
+  pub gained : new ≡ old ++ bytes
+
+pub record GainsBody (e : Environment) (ws : List Word) (st : StateOf) (k i : ℕ) (b : RawBody) (next : StateOf) (old new : List ℕ) (refused : Bool) : Type 0 where
+  pub bytes : List ℕ
+  pub answer : BodyAnswer e ws st k i b next bytes refused
+  pub gained : new ≡ old ++ bytes
+
+pub record GainsItem (e : Environment) (ws : List Word) (st : StateOf) (k : ℕ) (item : RawItem) (next : StateOf) (old new : List ℕ) (refused : Bool) : Type 0 where
+  pub bytes : List ℕ
+  pub answer : ItemAnswer e ws st k item next bytes refused
   pub gained : new ≡ old ++ bytes

@@ -7,6 +7,8 @@ pub mod Terms
 pub mod Reading
 pub mod Shown
 -- commands, and what answers them
+pub mod Environment
+pub mod Lines
 pub mod Matching
 pub mod Commands
 pub mod Answers

@@ -1,11 +1,10 @@
 -- How variables and terms of a module are printed.
 use Rattle.std.specs.Prelude.{ℕ, List, [], ◌++◌, slice_get, codes, nat_eq, if◌then◌else◌}
 use Rattle.std.specs.Option.{option_map_or}
-use Rattle.mau_print.specs.Printed.{PrinterOf}
+use Rattle.mau_print.specs.Printed.{Pairs, PrinterOf}
 use Rattle.mau_print.specs.Layouts.{printer_of}
 use Rattle.mau_declare.specs.Flattened.{sort_name, kind_names}
 use Rattle.mau_module.specs.Modules.{ModuleOf}
-use Rattle.mau_session.specs.Terms.{Pairs}
 
 -- the name of the variable with this index and sort; one that isn't there has none
 abbrev pub variable_name : Pairs → ℕ → ℕ → List ℕ

@@ -11,10 +11,15 @@ use Rattle.mau_session.specs.Query.{QueryOf}
 use Rattle.mau_session.specs.declared.refusal.Refusal.{Refusal}
 use Rattle.mau_session.specs.declared.refusal.Refusal.TheVariants.{UnknownModule}
 
--- what `continue` goes on with: a query over the module with this number
+-- what may be continued
+pub data ContinuedOf : Type 0 where
+  -- a listing of solutions
+  a_listing : QueryOf → ContinuedOf
+
+-- what `continue` goes on with, over the module with this number
 pub record GoingOf : Type 0 where
   pub number : ℕ
-  pub query : QueryOf
+  pub what : ContinuedOf
 
 -- all modules in order, numbered from 0, those of the prelude first; the number of the current one; and what `continue` goes on with, if
 -- there is something
@@ -55,24 +60,24 @@ pub record IsUnknown (ws : List Word) (st : StateOf) (c : RawCommand) (r : Refus
 
 -- ---- what a command leaves
 
--- it is refused and changes nothing, or there is nothing to continue behind it, or this query
+-- it is refused and changes nothing, or there is nothing to continue behind it, or this
 pub data OutcomeOf : Type 0 where
   is_refused : OutcomeOf
   has_ended : OutcomeOf
-  goes_on : QueryOf → OutcomeOf
+  goes_on : ContinuedOf → OutcomeOf
 
 -- what a query leaves, where it is said whether its listing has ended
 abbrev pub left_by : Bool → QueryOf → OutcomeOf
 left_by true q = has_ended
-left_by false q = goes_on q
+left_by false q = goes_on (a_listing q)
 
 abbrev pub refuses : OutcomeOf → Bool
 refuses is_refused = true
 refuses has_ended = false
-refuses (goes_on q) = false
+refuses (goes_on what) = false
 
 -- the state after a command over the module with a number
 abbrev pub state_after : StateOf → ℕ → OutcomeOf → StateOf
 state_after st i is_refused = st
 state_after st i has_ended = record st { going = None }
-state_after st i (goes_on q) = record st { going = Some (record { number = i; query = q }) }
+state_after st i (goes_on what) = record st { going = Some (record { number = i; what = what }) }

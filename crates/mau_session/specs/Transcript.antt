@@ -23,7 +23,7 @@ use Rattle.mau_modtext.specs.declared.raw.TextFault.{TextFault}
 use Rattle.mau_parse.specs.declared.goals.Goal.TheVariants.{AnyKind, Kind}
 use Rattle.mau_parse.specs.declared.fault.ParseFault.{ParseFault}
 use Rattle.mau_parse.specs.declared.fault.ParseFault.TheVariants.{NoMemory as NoMemoryOfParse}
-use Rattle.mau_declare.specs.Words.{index_at, token_index}
+use Rattle.mau_declare.specs.Words.{index_at, token_index, first_index}
 use Rattle.mau_module.specs.Modules.{ModuleOf}
 use Rattle.mau_module.specs.Library.{last_named}
 use Rattle.mau_module.specs.declared.fault.ModuleFault.{ModuleFault}
@@ -31,14 +31,17 @@ use Rattle.mau_module.specs.Flattened.{FlattenedAs}
 use Rattle.mau_session.specs.declared.refusal.Refusal.{Refusal}
 use Rattle.mau_session.specs.declared.refusal.Refusal.TheVariants.{NotBuilt, UnknownModule, NothingToContinue}
 use Rattle.mau_session.specs.Terms.{Pairs, terms_in, kind_of_term}
-use Rattle.mau_statement.specs.Parts.{TermReads, IsUnread}
+use Rattle.mau_statement.specs.Parts.{TermReads, IsUnread, is_empty}
 use Rattle.mau_session.specs.Matching.{Shows}
-use Rattle.mau_session.specs.Query.{asked_first, shown_more}
-use Rattle.mau_session.specs.State.{GoingOf, StateOf, at_first, accepted, selected, IsChosen, NamesNone, OutcomeOf, is_refused, has_ended, left_by, refuses, state_after}
+use Rattle.mau_results.specs.Results.{AnswerOf, MayAnswer}
+use Rattle.mau_session.specs.Lines.{too_deep_line, overflow_line, answer_lines}
+use Rattle.mau_session.specs.Environment.{Environment, meanings_in}
+use Rattle.mau_session.specs.Query.{QueryOf, asked_first, shown_more}
+use Rattle.mau_session.specs.State.{a_listing, StateOf, at_first, accepted, selected, IsChosen, NamesNone, OutcomeOf, is_refused, has_ended, left_by, refuses, state_after}
 use Rattle.mau_session.specs.Bounds.{bound_of}
 use Rattle.mau_session.specs.Commands.{unbuilt}
-use Rattle.mau_session.specs.Built.{is_built_module, uses_memberships, is_match, has_context, is_continue, fault_answer}
-use Rattle.mau_session.specs.Answers.{refusal_line, fault_line, parse_fault_line, module_fault_line, ok_line, unknown_module_line, module_line, match_head, continue_head, too_deep_line, overflow_line, listing_lines}
+use Rattle.mau_session.specs.Built.{is_built_module, uses_memberships, is_evaluated, is_match, has_context, is_reduce, is_continue, fault_answer}
+use Rattle.mau_session.specs.Answers.{refusal_line, fault_line, parse_fault_line, module_fault_line, ok_line, unknown_module_line, module_line, match_head, continue_head, reduce_head, listing_lines}
 
 -- ---- the answer of a match command
 
@@ -85,10 +88,28 @@ pub data MatchAnswer (ws : List Word) (st : StateOf) (k i : ℕ) (c : RawCommand
 pub data ContinueAnswer (ws : List Word) (st : StateOf) (k : ℕ) (c : RawCommand) : StateOf → List ℕ → Bool → Type 0 where
   number_refused : (r : Refusal) → bound_of ws c.bound ≡ Err r → ContinueAnswer ws st k c st (refusal_line k ws r) true
   nothing_to_continue : (most : Option ℕ) → bound_of ws c.bound ≡ Ok most → st.going ≡ None → ContinueAnswer ws st k c st (refusal_line k ws NothingToContinue) true
-  continued : (most : Option ℕ) (g : GoingOf) (m : ModuleOf) (found : List Matcher) (ended : Bool) → bound_of ws c.bound ≡ Ok most → st.going ≡ Some g
-      → slice_get st.modules g.number ≡ Some m → Shows m g.query.with_context g.query.pattern g.query.subject g.query.last most found ended
-      → ContinueAnswer ws st k c (state_after st g.number (left_by ended (shown_more g.query found)))
-      (continue_head k m ++ listing_lines m g.query.variables g.query.with_context g.query.pattern g.query.shown found ended) false
+  continued : (most : Option ℕ) (n : ℕ) (q : QueryOf) (m : ModuleOf) (found : List Matcher) (ended : Bool) → bound_of ws c.bound ≡ Ok most
+      → st.going ≡ Some (record { number = n; what = a_listing q }) → slice_get st.modules n ≡ Some m → Shows m q.with_context q.pattern q.subject q.last most found ended
+      → ContinueAnswer ws st k c (state_after st n (left_by ended (shown_more q found)))
+      (continue_head k m ++ listing_lines m q.variables q.with_context q.pattern q.shown found ended) false
+
+-- ---- the answer of a reduce command
+
+-- The term is read in any kind. What may be answered for it, with the budget of the item, is shown, and leaves nothing to continue.
+pub data TermAnswer (e : Environment) (ws : List Word) (m : ModuleOf) (k : ℕ) (c : RawCommand) : OutcomeOf → List ℕ → Type 0 where
+  term_refused : (f : ParseFault) → IsUnread ws m.grammar c.first AnyKind [] f → f ≢ NoMemoryOfParse → TermAnswer e ws m k c is_refused (parse_fault_line k f)
+  term_answered : (t : Bare) (ns : Pairs) (a : AnswerOf) → TermReads ws m.grammar c.first AnyKind [] ns t → MayAnswer (meanings_in e m) e.remembers (tree_of t) a
+      → TermAnswer e ws m k c has_ended (reduce_head k m ++ answer_lines m ns e.budget a)
+
+-- The reduce command begins at the word i; the state after it is told. The place of a term without tokens, which no command has, is refused before its
+-- module is looked for, and a module in which terms aren't evaluated before the term is read.
+pub data ReduceAnswer (e : Environment) (ws : List Word) (st : StateOf) (k i : ℕ) (c : RawCommand) : StateOf → List ℕ → Bool → Type 0 where
+  reduces_nothing : is_empty ws c.first ≡ true → ReduceAnswer e ws st k i c st (refusal_line k ws (NotBuilt (first_index ws c.first))) true
+  reduce_unknown : (t : Token) → is_empty ws c.first ≡ false → NamesNone ws st c t → ReduceAnswer e ws st k i c st (refusal_line k ws (UnknownModule (token_index ws t))) true
+  reduce_not_built : (n : ℕ) (m : ModuleOf) → is_empty ws c.first ≡ false → IsChosen ws st c n → slice_get st.modules n ≡ Some m → is_evaluated m ≡ false
+      → ReduceAnswer e ws st k i c st (refusal_line k ws (NotBuilt i)) true
+  reduce_answered : (n : ℕ) (m : ModuleOf) (left : OutcomeOf) (bytes : List ℕ) → is_empty ws c.first ≡ false → IsChosen ws st c n → slice_get st.modules n ≡ Some m
+      → is_evaluated m ≡ true → TermAnswer e ws m k c left bytes → ReduceAnswer e ws st k i c (state_after st n left) bytes (refuses left)
 
 -- ---- the answer of a setting that begins at the word i
 
@@ -103,38 +124,40 @@ pub data SettingAnswer (ws : List Word) (st : StateOf) (k i : ℕ) : Setting →
 -- ---- the answer of an item, which is the k-th
 
 -- what it says, from the word i on: the state after it, its bytes, and whether it was refused
-pub data BodyAnswer (ws : List Word) (st : StateOf) (k i : ℕ) : RawBody → StateOf → List ℕ → Bool → Type 0 where
-  module_not_built : (raw : RawModule) → is_built_module raw.kind ≡ false → BodyAnswer ws st k i (Module raw) st (refusal_line k ws (NotBuilt i)) true
+pub data BodyAnswer (e : Environment) (ws : List Word) (st : StateOf) (k i : ℕ) : RawBody → StateOf → List ℕ → Bool → Type 0 where
+  module_not_built : (raw : RawModule) → is_built_module raw.kind ≡ false → BodyAnswer e ws st k i (Module raw) st (refusal_line k ws (NotBuilt i)) true
   module_accepted : (raw : RawModule) (m : ModuleOf) → is_built_module raw.kind ≡ true → FlattenedAs st.modules ws raw (Ok m)
-      → BodyAnswer ws st k i (Module raw) (accepted st m) (module_line k m) false
+      → BodyAnswer e ws st k i (Module raw) (accepted st m) (module_line k m) false
   module_refused : (raw : RawModule) (f : ModuleFault) → is_built_module raw.kind ≡ true → FlattenedAs st.modules ws raw (Err f)
-      → BodyAnswer ws st k i (Module raw) st (module_fault_line k f) true
+      → BodyAnswer e ws st k i (Module raw) st (module_fault_line k f) true
   match_answered : (c : RawCommand) (next : StateOf) (bytes : List ℕ) (refused : Bool) → is_match c.kind ≡ true → MatchAnswer ws st k i c next bytes refused
-      → BodyAnswer ws st k i (Command c) next bytes refused
+      → BodyAnswer e ws st k i (Command c) next bytes refused
   continue_answered : (c : RawCommand) (next : StateOf) (bytes : List ℕ) (refused : Bool) → is_match c.kind ≡ false → is_continue c.kind ≡ true
-      → ContinueAnswer ws st k c next bytes refused → BodyAnswer ws st k i (Command c) next bytes refused
-  other_unknown : (c : RawCommand) (t : Token) → is_match c.kind ≡ false → is_continue c.kind ≡ false → NamesNone ws st c t
-      → BodyAnswer ws st k i (Command c) st (refusal_line k ws (UnknownModule (token_index ws t))) true
-  other_not_built : (c : RawCommand) (n : ℕ) → is_match c.kind ≡ false → is_continue c.kind ≡ false → IsChosen ws st c n
-      → BodyAnswer ws st k i (Command c) st (refusal_line k ws (NotBuilt i)) true
+      → ContinueAnswer ws st k c next bytes refused → BodyAnswer e ws st k i (Command c) next bytes refused
+  reduce_is_answered : (c : RawCommand) (next : StateOf) (bytes : List ℕ) (refused : Bool) → is_match c.kind ≡ false → is_continue c.kind ≡ false → is_reduce c.kind ≡ true
+      → ReduceAnswer e ws st k i c next bytes refused → BodyAnswer e ws st k i (Command c) next bytes refused
+  other_unknown : (c : RawCommand) (t : Token) → is_match c.kind ≡ false → is_continue c.kind ≡ false → is_reduce c.kind ≡ false → NamesNone ws st c t
+      → BodyAnswer e ws st k i (Command c) st (refusal_line k ws (UnknownModule (token_index ws t))) true
+  other_not_built : (c : RawCommand) (n : ℕ) → is_match c.kind ≡ false → is_continue c.kind ≡ false → is_reduce c.kind ≡ false → IsChosen ws st c n
+      → BodyAnswer e ws st k i (Command c) st (refusal_line k ws (NotBuilt i)) true
   setting_answered : (s : Setting) (next : StateOf) (bytes : List ℕ) (refused : Bool) → SettingAnswer ws st k i s next bytes refused
-      → BodyAnswer ws st k i (SettingBody s) next bytes refused
+      → BodyAnswer e ws st k i (SettingBody s) next bytes refused
 
 -- an item that says nothing is refused by its fault
-pub data ItemAnswer (ws : List Word) (st : StateOf) (k : ℕ) (item : RawItem) : StateOf → List ℕ → Bool → Type 0 where
-  item_faulty : (f : TextFault) → item.body ≡ Err f → ItemAnswer ws st k item st (fault_answer k ws (index_at ws item.at) f) true
-  item_answered : (b : RawBody) (next : StateOf) (bytes : List ℕ) (refused : Bool) → item.body ≡ Ok b → BodyAnswer ws st k (index_at ws item.at) b next bytes refused
-      → ItemAnswer ws st k item next bytes refused
+pub data ItemAnswer (e : Environment) (ws : List Word) (st : StateOf) (k : ℕ) (item : RawItem) : StateOf → List ℕ → Bool → Type 0 where
+  item_faulty : (f : TextFault) → item.body ≡ Err f → ItemAnswer e ws st k item st (fault_answer k ws (index_at ws item.at) f) true
+  item_answered : (b : RawBody) (next : StateOf) (bytes : List ℕ) (refused : Bool) → item.body ≡ Ok b → BodyAnswer e ws st k (index_at ws item.at) b next bytes refused
+      → ItemAnswer e ws st k item next bytes refused
 
 -- the answers of items, numbered from k, in this state, up to one that quits: their bytes, and whether one of them was refused
-pub data ItemsAnswer (ws : List Word) : StateOf → ℕ → List RawItem → List ℕ → Bool → Type 0 where
-  items_end : (st : StateOf) (k : ℕ) → ItemsAnswer ws st k [] [] false
-  item_quits : (st : StateOf) (k : ℕ) (item : RawItem) (items : List RawItem) → item.body ≡ Ok Quit → ItemsAnswer ws st k (item ∷ items) [] false
+pub data ItemsAnswer (e : Environment) (ws : List Word) : StateOf → ℕ → List RawItem → List ℕ → Bool → Type 0 where
+  items_end : (st : StateOf) (k : ℕ) → ItemsAnswer e ws st k [] [] false
+  item_quits : (st : StateOf) (k : ℕ) (item : RawItem) (items : List RawItem) → item.body ≡ Ok Quit → ItemsAnswer e ws st k (item ∷ items) [] false
   item_first : (st next : StateOf) (k : ℕ) (item : RawItem) (items : List RawItem) (bytes more : List ℕ) (refused later : Bool)
-      → ItemAnswer ws st k item next bytes refused → ItemsAnswer ws next (k + 1) items more later → ItemsAnswer ws st k (item ∷ items) (bytes ++ more) (refused || later)
+      → ItemAnswer e ws st k item next bytes refused → ItemsAnswer e ws next (k + 1) items more later → ItemsAnswer e ws st k (item ∷ items) (bytes ++ more) (refused || later)
 
--- the transcript of a text, and whether it was refused or one of its items
-pub data Transcript (text : List ℕ) : List ℕ → Bool → Type 0 where
-  text_refused : (f : TokenFault) → TokensOf text (Err f) → Transcript text (fault_line f) true
+-- the transcript of a text in an environment, and whether it was refused or one of its items
+pub data Transcript (e : Environment) (text : List ℕ) : List ℕ → Bool → Type 0 where
+  text_refused : (f : TokenFault) → TokensOf text (Err f) → Transcript e text (fault_line f) true
   items_answered : (tokens : List Token) (items : List RawItem) (bytes : List ℕ) (refused : Bool) → TokensOf text (Ok tokens) → AreItems (words_of text tokens) items
-      → ItemsAnswer (words_of text tokens) at_first 1 items bytes refused → Transcript text bytes refused
+      → ItemsAnswer e (words_of text tokens) at_first 1 items bytes refused → Transcript e text bytes refused

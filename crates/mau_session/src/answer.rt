@@ -1,5 +1,5 @@
 //! The answers of items.
-ghost use Rattle.std.specs.Prelude.{◌≡◌, ◌≢◌, ◌<◌, ◌≤◌, ◌++◌, ℕ, List, [], length, take, true, false, OnOk, Ok, IfOk};
+ghost use Rattle.std.specs.Prelude.{◌≡◌, ◌≢◌, ◌<◌, ◌≤◌, ◌++◌, ℕ, List, [], length, take, true, false, All, OnOk, Ok, IfOk, Some, slice_get};
 ghost use Rattle.mau_terms.specs.Bare.{IsBare};
 ghost use Rattle.mau_terms.specs.Subst.{variables};
 ghost use Rattle.mau_terms.specs.View.{tree_of};
@@ -8,7 +8,8 @@ ghost use Rattle.mau_session.specs.Matching.{numbered_from};
 ghost use Rattle.mau_modtext.specs.Word.{Word};
 ghost use Rattle.mau_modtext.specs.declared.raw.Setting.TheVariants as Setting;
 ghost use Rattle.mau_modtext.specs.declared.raw.RawBody.TheVariants as RawBody;
-ghost use Rattle.mau_session.specs.State.{at_first};
+ghost use Rattle.mau_session.specs.Query.{QueryOf};
+ghost use Rattle.mau_session.specs.State.{at_first, a_listing};
 ghost use Rattle.mau_session.specs.KeptState.{state_of, going_of, outcome_of, IsReadyState, IsReadyAt, IsReadyOutcome};
 ghost use Rattle.mau_session.specs.declared.state.Outcome.TheVariants as Outcome;
 ghost use Rattle.mau_module.specs.Modules.{ModuleOf};
@@ -17,44 +18,35 @@ ghost use Rattle.mau_session.specs.Answers.{module_line, match_name, match_head,
 ghost use Rattle.mau_statement.specs.Parts.{is_empty};
 ghost use Rattle.mau_session.specs.Reading.{IsBareOf};
 ghost use Rattle.mau_session.specs.Built.{fault_answer};
+ghost use Rattle.mau_formula.specs.Operators.{operators};
+ghost use Rattle.mau_built_ins.specs.NativeNumerals.{GivesNumerals};
+ghost use Rattle.mau_session.specs.Environment.{Environment, environment_of};
 ghost use Rattle.mau_session.specs.Transcript.{ItemsAnswer, PatternReads};
 ghost use Rattle.mau_session.specs.Gains.{GainsListed, GainsTerms, GainsChosen, GainsMatch, GainsOn, GainsContinue, GainsSetting, GainsBody, GainsItem};
 
 use crate::bounds::bound_of;
 use crate::built::{
-    begins_unbuilt, has_context, is_built_module, is_continue, is_match, is_unended, quits,
-    uses_memberships,
+    begins_unbuilt, has_context, is_built_module, is_continue, is_match, is_reduce, is_unended,
+    quits, uses_memberships,
 };
 use crate::command::unbuilt;
 use crate::listings::show_query;
 use crate::query::Query;
 use crate::reading::{kind_of_term, read_term};
+use crate::reduce::answer_reduce;
 use crate::refusal::{
-    Refusal, write_faulty, write_head, write_module_fault, write_refusal, write_text_fault,
-    write_unread,
+    Refusal, refuse, refuse_term, write_faulty, write_head, write_module_fault, write_refusal,
+    write_text_fault,
 };
-use crate::state::{Going, Outcome, State};
+use crate::session::Session;
+use crate::state::{Continued, Going, Outcome, State};
 use mau_canon::BuildFault;
 use mau_declare::{Words, write_text};
 use mau_modtext::{RawBody, RawCommand, RawItem, RawModule, Setting, TextFault};
 use mau_module::Module;
-use mau_parse::{Goal, ParseFault};
+use mau_parse::Goal;
 use mau_terms::{Bare, NoMemory, Vars};
 use std::alloc::Global;
-
-/// Writes a refusal, and says that the item was refused.
-fn refuse(
-    out: &mut Vec<u8>,
-    words: &Words,
-    number: usize,
-    refusal: Refusal,
-) -> Result<bool, NoMemory>
-    ensures bytes { OnOk result (out.new.items ≡ out.old.items ++ refusal_line number words.now refusal) }
-    ensures refused { IfOk result (λ refused. refused ≡ true) }
-{
-    write_refusal(out, words, number, refusal)?;
-    Ok(true)
-}
 
 /// What a command is called, by whether its solutions have contexts.
 fn match_name_of(with_context: bool) -> &'static str
@@ -107,7 +99,7 @@ fn left_by(query: Query, has_ended: bool) -> Outcome
     if has_ended {
         Outcome::Ended
     } else {
-        Outcome::GoesOn(query)
+        Outcome::GoesOn(Continued::Listing(query))
     }
 }
 
@@ -154,16 +146,6 @@ fn answer_listing(
         }
         Err(BuildFault::NoMemory) => Err(NoMemory),
     }
-}
-
-/// Writes why tokens are no term, so that the item is refused.
-fn refuse_term(out: &mut Vec<u8>, number: usize, fault: &ParseFault) -> Result<Outcome, NoMemory>
-    ensures bytes { OnOk result (out.new.items ≡ out.old.items ++ parse_fault_line number fault.now) }
-    ensures refused { IfOk result (λ left. left ≡ Outcome.Refused) }
-    ensures named { OnOk result (fault.now ≢ ParseFault.NoMemory) }
-{
-    write_unread(out, number, fault)?;
-    Ok(Outcome::Refused)
 }
 
 /// Answers a match command over a module, whose pattern was read. Gives what it leaves.
@@ -302,7 +284,30 @@ fn answer_match(
     }
 }
 
-/// Shows the solutions of a query behind the last one shown, at most so many. Says that the item was not refused.
+/// Shows the solutions of a query over the module with the number `chosen`, behind the last one shown, at most so many. Says that the item was
+/// not refused.
+fn list_on(
+    out: &mut Vec<u8>,
+    alloc: Global,
+    state: &mut State,
+    number: usize,
+    chosen: usize,
+    query: Query,
+    most: Option<u64>,
+) -> Result<bool, NoMemory>
+    requires ready { IsReadyState state.old }
+    requires query { (m : ModuleOf) × (slice_get state.old.library chosen ≡ Some m) × IsReady m.signature query }
+    ensures gained { IfOk result (GainsOn (state_of state.old) number chosen (query_of query) most (state_of state.new) out.old.items out.new.items) }
+    ensures ready { OnOk result (IsReadyState state.new) }
+{
+    let mut query = query;
+    let module = state.library.module(chosen);
+    write_continue_head(out, number, module)?;
+    let has_ended = show_query(out, alloc, module, &mut query, most)?;
+    Ok(state.conclude(chosen, left_by(query, has_ended)))
+}
+
+/// Goes on with what may be continued. Says that the item was not refused.
 fn go_on(
     out: &mut Vec<u8>,
     alloc: Global,
@@ -313,15 +318,14 @@ fn go_on(
 ) -> Result<bool, NoMemory>
     requires ready { IsReadyState state.old }
     requires going { IsReadyAt state.old.library going }
-    ensures gained { IfOk result (GainsOn (state_of state.old) number (going_of going) most (state_of state.new) out.old.items out.new.items) }
+    ensures gained { IfOk result (λ refused. (q : QueryOf) × ((going_of going).what ≡ a_listing q)
+        × GainsOn (state_of state.old) number going.number q most (state_of state.new) out.old.items out.new.items refused) }
     ensures ready { OnOk result (IsReadyState state.new) }
 {
     let chosen = going.number;
-    let mut query = going.query;
-    let module = state.library.module(chosen);
-    write_continue_head(out, number, module)?;
-    let has_ended = show_query(out, alloc, module, &mut query, most)?;
-    Ok(state.conclude(chosen, left_by(query, has_ended)))
+    match going.what {
+        Continued::Listing(query) => list_on(out, alloc, state, number, chosen, query, most),
+    }
 }
 
 /// Answers `continue`. Says whether it was refused.
@@ -358,7 +362,8 @@ fn answer_unbuilt(
     requires ready { IsReadyState state.now }
     requires no_match { Rattle.mau_session.specs.Built.is_match command.now.kind ≡ false }
     requires no_continue { Rattle.mau_session.specs.Built.is_continue command.now.kind ≡ false }
-    ensures gained { IfOk result (GainsBody words.now (state_of state.now) number item (RawBody.Command command.now) (state_of state.now) out.old.items out.new.items) }
+    requires no_reduce { Rattle.mau_session.specs.Built.is_reduce command.now.kind ≡ false }
+    ensures gained { (e : Environment) → IfOk result (GainsBody e words.now (state_of state.now) number item (RawBody.Command command.now) (state_of state.now) out.old.items out.new.items) }
 {
     match state.choose(words, command) {
         Err(refusal) => refuse(out, words, number, refusal),
@@ -369,22 +374,26 @@ fn answer_unbuilt(
 /// Answers a command that begins at the word `item`. Says whether it was refused.
 fn answer_command(
     out: &mut Vec<u8>,
-    alloc: Global,
-    words: &Words,
+    session: &Session,
     state: &mut State,
     number: usize,
     item: usize,
     command: &RawCommand,
 ) -> Result<bool, NoMemory>
-    requires few { length words.now ≤ 16777216 }
+    requires few { length session.now.words.now ≤ 16777216 }
+    requires numerals { All GivesNumerals (operators session.now.hooks.now) }
     requires ready { IsReadyState state.old }
-    ensures gained { IfOk result (GainsBody words.now (state_of state.old) number item (RawBody.Command command.now) (state_of state.new) out.old.items out.new.items) }
+    ensures gained { IfOk result (GainsBody (environment_of (operators session.now.hooks.now) session.now.limit) session.now.words.now (state_of state.old) number item (RawBody.Command command.now) (state_of state.new) out.old.items out.new.items) }
     ensures ready { OnOk result (IsReadyState state.new) }
 {
+    let alloc = session.alloc;
+    let words = session.words;
     if is_match(command.kind) {
         answer_match(out, alloc, words, state, number, item, command)
     } else if is_continue(command.kind) {
         answer_continue(out, alloc, words, state, number, command)
+    } else if is_reduce(command.kind) {
+        answer_reduce(out, session, state, number, item, command)
     } else {
         answer_unbuilt(out, words, state, number, item, command)
     }
@@ -401,7 +410,7 @@ fn answer_module(
     raw: &RawModule,
 ) -> Result<bool, NoMemory>
     requires ready { IsReadyState state.old }
-    ensures gained { IfOk result (GainsBody words.now (state_of state.old) number item (RawBody.Module raw.now) (state_of state.new) out.old.items out.new.items) }
+    ensures gained { (e : Environment) → IfOk result (GainsBody e words.now (state_of state.old) number item (RawBody.Module raw.now) (state_of state.new) out.old.items out.new.items) }
     ensures ready { OnOk result (IsReadyState state.new) }
 {
     if !is_built_module(raw.kind) {
@@ -491,24 +500,24 @@ fn answer_setting(
 /// Answers what an item says that begins at the word `item`. Says whether it was refused.
 fn answer_body(
     out: &mut Vec<u8>,
-    alloc: Global,
-    words: &Words,
+    session: &Session,
     state: &mut State,
     number: usize,
     item: usize,
     body: &RawBody,
 ) -> Result<bool, NoMemory>
-    requires few { length words.now ≤ 16777216 }
+    requires few { length session.now.words.now ≤ 16777216 }
+    requires numerals { All GivesNumerals (operators session.now.hooks.now) }
     requires ready { IsReadyState state.old }
     requires stays { body.now ≢ RawBody.Quit }
-    ensures gained { IfOk result (GainsBody words.now (state_of state.old) number item body.now (state_of state.new) out.old.items out.new.items) }
+    ensures gained { IfOk result (GainsBody (environment_of (operators session.now.hooks.now) session.now.limit) session.now.words.now (state_of state.old) number item body.now (state_of state.new) out.old.items out.new.items) }
     ensures ready { OnOk result (IsReadyState state.new) }
 {
+    let alloc = session.alloc;
+    let words = session.words;
     match body {
         RawBody::Module(raw) => answer_module(out, alloc, words, state, number, item, raw),
-        RawBody::Command(command) => {
-            answer_command(out, alloc, words, state, number, item, command)
-        }
+        RawBody::Command(command) => answer_command(out, session, state, number, item, command),
         RawBody::Setting(setting) => answer_setting(
             out, alloc, words, state, number, item, setting,
         ),
@@ -536,46 +545,43 @@ fn answer_fault(
 /// Answers an item that doesn't quit. Says whether it was refused.
 fn answer_item(
     out: &mut Vec<u8>,
-    alloc: Global,
-    words: &Words,
+    session: &Session,
     state: &mut State,
     number: usize,
     item: &RawItem,
 ) -> Result<bool, NoMemory>
-    requires few { length words.now ≤ 16777216 }
+    requires few { length session.now.words.now ≤ 16777216 }
+    requires numerals { All GivesNumerals (operators session.now.hooks.now) }
     requires ready { IsReadyState state.old }
     requires stays { item.now.body ≢ Ok RawBody.Quit }
-    ensures gained { IfOk result (GainsItem words.now (state_of state.old) number item.now (state_of state.new) out.old.items out.new.items) }
+    ensures gained { IfOk result (GainsItem (environment_of (operators session.now.hooks.now) session.now.limit) session.now.words.now (state_of state.old) number item.now (state_of state.new) out.old.items out.new.items) }
     ensures ready { OnOk result (IsReadyState state.new) }
 {
-    let word = words.index_at(item.at);
+    let word = session.words.index_at(item.at);
     match &item.body {
-        Ok(body) => answer_body(out, alloc, words, state, number, word, body),
+        Ok(body) => answer_body(out, session, state, number, word, body),
         Err(fault) => {
-            answer_fault(out, words, number, word, fault)?;
+            answer_fault(out, session.words, number, word, fault)?;
             Ok(true)
         }
     }
 }
 
 /// Answers items, up to one that quits. Gives the bytes, and whether one of the items was refused.
-pub fn answer_items(
-    alloc: Global,
-    words: &Words,
-    items: &[RawItem],
-) -> Result<(Vec<u8>, bool), NoMemory>
-    requires { length words.now ≤ 16777216 }
-    ensures { IfOk result (λ r. ItemsAnswer words.now at_first 1 items.now r.0.items r.1) }
+pub fn answer_items(session: &Session, items: &[RawItem]) -> Result<(Vec<u8>, bool), NoMemory>
+    requires few { length session.now.words.now ≤ 16777216 }
+    requires numerals { All GivesNumerals (operators session.now.hooks.now) }
+    ensures { IfOk result (λ r. ItemsAnswer (environment_of (operators session.now.hooks.now) session.now.limit) session.now.words.now at_first 1 items.now r.0.items r.1) }
 {
-    let mut out = Vec::new(alloc);
-    let mut state = State::new(alloc)?;
+    let mut out = Vec::new(session.alloc);
+    let mut state = State::new(session.alloc)?;
     let mut refused = false;
     let mut number = 1;
     for item in items {
         if quits(item) {
             return Ok((out, refused));
         }
-        let is_refused = answer_item(&mut out, alloc, words, &mut state, number, item)?;
+        let is_refused = answer_item(&mut out, session, &mut state, number, item)?;
         refused = refused || is_refused;
         number += 1;
     }

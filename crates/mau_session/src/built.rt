@@ -5,7 +5,7 @@ ghost use Rattle.mau_session.specs.Built;
 
 use mau_modtext::{CommandKind, ModuleKind, RawBody, RawItem, TextFault};
 use mau_module::Module;
-use mau_program::Membership;
+use mau_program::{Equation, Fragment, Membership};
 
 /// Whether modules of this kind are built.
 pub fn is_built_module(kind: ModuleKind) -> bool
@@ -31,6 +31,31 @@ pub fn uses_memberships(module: &Module) -> bool
     module.memberships().iter().any(is_used)
 }
 
+/// Whether a part of a condition is solved by rules.
+fn is_reach(part: &Fragment) -> bool
+    ensures { result ≡ Built.is_reach part.now }
+{
+    match part {
+        Fragment::Reach(_, _) => true,
+        _ => false,
+    }
+}
+
+/// Whether an equation may be used to evaluate, and a part of its condition is solved by rules.
+fn asks_rules(equation: &Equation) -> bool
+    ensures { result ≡ Built.asks_rules equation.now }
+{
+    equation.exec && equation.cond.items().iter().any(is_reach)
+}
+
+/// Whether terms are evaluated in a module: no membership may be used to evaluate, and no equation whose condition has a part that is solved by
+/// rules.
+pub fn is_evaluated(module: &Module) -> bool
+    ensures { result ≡ Built.is_evaluated «module».now }
+{
+    !uses_memberships(module) && !module.equations().iter().any(asks_rules)
+}
+
 /// Whether a command is a match, with contexts or without.
 pub fn is_match(kind: CommandKind) -> bool
     ensures { result ≡ Built.is_match kind }
@@ -51,6 +76,16 @@ pub fn has_context(kind: CommandKind) -> bool
     }
 }
 
+/// Whether a command is a reduce.
+pub fn is_reduce(kind: CommandKind) -> bool
+    ensures { result ≡ Built.is_reduce kind }
+{
+    match kind {
+        CommandKind::Reduce => true,
+        _ => false,
+    }
+}
+
 /// Whether a command is `continue`.
 pub fn is_continue(kind: CommandKind) -> bool
     ensures { result ≡ Built.is_continue kind }
@@ -67,7 +102,7 @@ pub fn begins_unbuilt(word: &str) -> bool
 {
     matches!(
         word,
-        "smod" | "reduce" | "red" | "rewrite" | "rew" | "frewrite" | "frew" | "dsrewrite" | "dsrew"
+        "smod" | "rewrite" | "rew" | "frewrite" | "frew" | "dsrewrite" | "dsrew"
     )
 }
 

@@ -1,7 +1,6 @@
 //! What the words of the command line mean.
 ghost use Rattle.std.specs.Prelude.{◌≡◌};
 ghost use Rattle.mau_session.specs.Meanings;
-ghost use Rattle.mau_session.specs.Meanings.{has_meaning};
 
 use crate::bounds::bound_in;
 use mau_terms::Text;
@@ -20,8 +19,9 @@ fn budget_in(word: &str) -> Option<u64>
     bound_in(word)
 }
 
-/// The budget of the session that the words of the command line, without the program's name, ask for. None where they have no meaning.
-fn budget_of(words: &[Text]) -> Option<u64>
+/// The budget of each item that the words of the command line, without the program's name, ask for: `run` alone, or `run`, `--limit` and a
+/// budget. None where they have no meaning.
+pub fn budget_of(words: &[Text]) -> Option<u64>
     ensures { result ≡ Meanings.budget_of words.now }
 {
     if words.len() == 1 && words[0].as_str() == "run" {
@@ -31,12 +31,4 @@ fn budget_of(words: &[Text]) -> Option<u64>
         return budget_in(words[2].as_str());
     }
     None
-}
-
-/// Whether the words of the command line have a meaning: `run` alone, or `run`, `--limit` and a budget. No command evaluates yet, so no
-/// budget is used up.
-pub fn have_meaning(words: &[Text]) -> bool
-    ensures { result ≡ has_meaning words.now }
-{
-    budget_of(words).is_some()
 }

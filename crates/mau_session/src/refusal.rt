@@ -1,8 +1,10 @@
 //! Why an item is refused.
-ghost use Rattle.std.specs.Prelude.{◌≡◌, ◌≢◌, ◌++◌, decimal, OnOk};
+ghost use Rattle.std.specs.Prelude.{◌≡◌, ◌≢◌, ◌++◌, true, decimal, OnOk, IfOk};
 ghost use Rattle.mau_declare.specs.Words.{place_at};
+ghost use Rattle.mau_session.specs.declared.state.Outcome.TheVariants as Outcome;
 ghost use Rattle.mau_session.specs.Answers.{item_head, refusal_line, faulty_line, shown_text_fault, text_fault_line, fault_line, shown_parse_fault, parse_fault_line, limit_name, statement_limit_name, shown_statement_fault, shown_module_fault, module_fault_line};
 
+use crate::state::Outcome;
 use mau_declare::{Words, write_number, write_text};
 use mau_modtext::TextFault;
 use mau_module::{Limit, ModuleFault};
@@ -258,4 +260,32 @@ fn write_count(out: &mut Vec<u8>, text: &str, count: usize) -> Result<(), NoMemo
 {
     write_text(out, text)?;
     write_number(out, count as u128)
+}
+
+/// Writes a refusal, and says that the item was refused.
+pub fn refuse(
+    out: &mut Vec<u8>,
+    words: &Words,
+    number: usize,
+    refusal: Refusal,
+) -> Result<bool, NoMemory>
+    ensures bytes { OnOk result (out.new.items ≡ out.old.items ++ refusal_line number words.now refusal) }
+    ensures refused { IfOk result (λ refused. refused ≡ true) }
+{
+    write_refusal(out, words, number, refusal)?;
+    Ok(true)
+}
+
+/// Writes why tokens are no term, so that the item is refused.
+pub fn refuse_term(
+    out: &mut Vec<u8>,
+    number: usize,
+    fault: &ParseFault,
+) -> Result<Outcome, NoMemory>
+    ensures bytes { OnOk result (out.new.items ≡ out.old.items ++ parse_fault_line number fault.now) }
+    ensures refused { IfOk result (λ left. left ≡ Outcome.Refused) }
+    ensures named { OnOk result (fault.now ≢ ParseFault.NoMemory) }
+{
+    write_unread(out, number, fault)?;
+    Ok(Outcome::Refused)
 }

@@ -1,10 +1,12 @@
 //! The top call.
-ghost use Rattle.std.specs.Prelude.{◌≡◌, ◌≤◌, ◌↔◌, ◌⊎◌, ℕ, List, length, take, true, false, IfOk, IfErr, IsErrOf};
+ghost use Rattle.std.specs.Prelude.{◌≡◌, ◌≤◌, ◌↔◌, ◌⊎◌, ℕ, List, length, take, true, false, All, IfOk, IfErr, IsErrOf};
 ghost use Rattle.std.specs.Io.KnownBytes.{prepend_known, append_known};
 ghost use Rattle.mau_bytes.specs.Faults.{Rose};
+ghost use Rattle.mau_formula.specs.Operators.{operators};
+ghost use Rattle.mau_built_ins.specs.NativeNumerals.{GivesNumerals};
 ghost use Rattle.mau_session.specs.Run.{IsRead, IsRun};
 
-use crate::meaning::have_meaning;
+use crate::meaning::budget_of;
 use crate::transcript::transcript;
 use mau_bytes::{ReadEnd, Sink, Source, read_all, write_all};
 use mau_formula::HookTable;
@@ -51,30 +53,30 @@ impl Status {
 }
 
 /// Does all that the program does. `words` are those of the command line without the program's name. The text is
-/// read to its end, its transcript is made whole, and then it is written. `_hooks` are the native operators, which
-/// no command applies yet.
+/// read to its end, its transcript is made whole, and then it is written. `hooks` are the native operators.
 ///
 /// `Status::Usage` comes exactly where the words have no meaning, before anything is read or written;
 /// `ReadFault` and `WriteFault` only where a read or a write failed; `InputTooLong` exactly where more than
 /// 16,777,216 bytes were read; `NoMemory` where memory was wanting, and then nothing is written.
 pub fn run<S: Source, K: Sink>(
     alloc: Global,
-    _hooks: &HookTable,
+    hooks: &HookTable,
     words: &[Text],
     source: &mut S,
     sink: &mut K,
 ) -> Status
-    ensures run { IsRun words.now (S.faults source.old) (S.faults source.new) (K.faults sink.old) (K.faults sink.new)
+    requires { All GivesNumerals (operators hooks.now) }
+    ensures run { IsRun (operators hooks.now) words.now (S.faults source.old) (S.faults source.new) (K.faults sink.old) (K.faults sink.new)
         (S.left source.old) (S.left source.new) (K.written sink.old) (K.written sink.new) result }
 {
-    if !have_meaning(words) {
-        return Status::Usage;
-    }
-    match read_text(alloc, source) {
-        Err(status) => status,
-        Ok(text) => match transcript(alloc, &text) {
-            Err(_) => Status::NoMemory,
-            Ok((bytes, is_refused)) => write_answers(sink, &bytes, is_refused),
+    match budget_of(words) {
+        None => Status::Usage,
+        Some(limit) => match read_text(alloc, source) {
+            Err(status) => status,
+            Ok(text) => match transcript(alloc, hooks, limit, &text) {
+                Err(_) => Status::NoMemory,
+                Ok((bytes, is_refused)) => write_answers(sink, &bytes, is_refused),
+            },
         },
     }
 }

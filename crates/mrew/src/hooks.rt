@@ -24,7 +24,7 @@ pub fn run_with_hooks<S: Source, K: Sink>(
     source: &mut S,
     sink: &mut K,
 ) -> Result<Status, NoMemory>
-    ensures run { IfOk result (IsRun words.now (S.faults source.old) (S.faults source.new) (K.faults sink.old) (K.faults sink.new)
+    ensures run { IfOk result (IsRun (map native_operator natives) words.now (S.faults source.old) (S.faults source.new) (K.faults sink.old) (K.faults sink.new)
         (S.left source.old) (S.left source.new) (K.written sink.old) (K.written sink.new)) }
     ensures untouched { OnErr result ((source.new ≡ source.old) × (sink.new ≡ sink.old)) }
 {

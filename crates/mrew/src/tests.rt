@@ -8,13 +8,14 @@ mod long_lists;
 mod mixfix;
 mod modules;
 mod prelude;
+mod reduce;
 mod refusals;
 mod runs;
 mod settings;
 
 use mau_bytes::{MemorySink, MemorySource};
-use mau_formula::HookTable;
-use mau_session::{Status, run};
+use crate::hooks::run_with_hooks;
+use mau_session::Status;
 use mau_terms::Text;
 use std::alloc::Global;
 use std::test::Fail;
@@ -35,12 +36,6 @@ fn answer(alloc: Global, words: &[&str], text: &str) -> Result<(Vec<u8>, Status)
     let given = texts(alloc, words)?;
     let mut source = MemorySource::new(text.as_bytes().to_vec(alloc)?, Vec::new(alloc));
     let mut sink = MemorySink::new(alloc, 100_000, Vec::new(alloc))?;
-    let status = run(
-        alloc,
-        &HookTable::new(alloc),
-        &given,
-        &mut source,
-        &mut sink,
-    );
+    let status = run_with_hooks(alloc, &given, &mut source, &mut sink)?;
     Ok((sink.bytes().to_vec(alloc)?, status))
 }

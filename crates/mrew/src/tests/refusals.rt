@@ -52,9 +52,14 @@ fn refuses_by_name_and_place(rt: HostRuntime) -> Result<(), Fail> {
             "set include on .",
             "[1] refused: Unsupported set include 0\n",
         ),
-        ("reduce a .", "[1] refused: NotBuilt reduce 0\n"),
-        ("red .", "[1] refused: NotBuilt red 0\n"),
-        ("reduce in NAT : 1 .", "[1] refused: NotBuilt reduce 0\n"),
+        ("reduce a .", "[1] refused: NoParse 7\n"),
+        ("red .", "[1] refused: Unexpected 4\n"),
+        ("rewrite a .", "[1] refused: NotBuilt rewrite 0\n"),
+        ("rew .", "[1] refused: NotBuilt rew 0\n"),
+        (
+            "rewrite in NAT : 1 .",
+            "[1] refused: NotBuilt rewrite 0\n",
+        ),
         ("reduce in NOPE : a .", "[1] refused: UnknownModule NOPE\n"),
         (
             "frewrite in NOPE : a .",

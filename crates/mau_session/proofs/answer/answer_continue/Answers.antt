@@ -25,7 +25,9 @@ returns-in-None-clause-gained c =
 pub returns-in-Some-clause-gained : goal.returns-in-Some-clause-gained
 returns-in-Some-clause-gained c =
     let st = state_of c.args.state.now in
-    let some : c.args.state.now.going ≡ Some c.in-Some.going = cc in
+    let going = c.in-Some.going in
+    let some : c.args.state.now.going ≡ Some going = cc in
     IfOk-weaker c.go_on.result _ _
-    (λ r g. continues c.args.words.now st (option_map going_of c.take.new.self) c.args.number c.args.command.now c.in-Ok.most (going_of c.in-Some.going) (state_of c.go_on.new.state) c.args.out.now.items
-    c.go_on.new.out.items r (sym c.bound_of.ensures ∙ c.in-Ok.is) (ap (option_map going_of) some) g) c.go_on.ensures.gained
+    (λ r g. continues c.args.words.now st (option_map going_of c.take.new.self) c.args.number c.args.command.now c.in-Ok.most going.number g.0 (state_of c.go_on.new.state)
+    c.args.out.now.items c.go_on.new.out.items r (sym c.bound_of.ensures ∙ c.in-Ok.is)
+    (ap (option_map going_of) some ∙ ap (λ w. Some (record { number = going.number; what = w })) g.1) g.2) c.go_on.ensures.gained

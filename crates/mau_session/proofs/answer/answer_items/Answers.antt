@@ -3,6 +3,8 @@ use Rattle.std.proofs.lemmas.List.{drop_all}
 use Rattle.std.proofs.Math.Seq.{drop-cons}
 use Rattle.mau_modtext.specs.declared.raw.RawItem.{RawItem}
 use Rattle.mau_session.specs.KeptState.{state_of}
+use Rattle.mau_formula.specs.Operators.{operators}
+use Rattle.mau_session.specs.Environment.{environment_of}
 use Rattle.mau_session.specs.Transcript.{ItemsAnswer, items_end, item_quits}
 use Rattle.mau_session.proofs.Answering.{one_more, all_answered, or_first}
 use Rattle.mau_session.proofs.answer.answer_items.Goals as goal
@@ -18,8 +20,8 @@ returns-then-quits c =
     let all = c.args.items.now in
     let here = from_item all c.loop-item.item-index item c.loop-item-test.true c.item-item.is in
     let quits = c.quits.ensures.0 c.if-quits.true in
-    all_answered c.args.words.now _ _ (drop c.loop-item.item-index all) all c.loop-item.out.items c.loop-item.refused
-    (subst (λ items. ItemsAnswer c.args.words.now (state_of c.loop-item.state) c.loop-item.number items [] false) (sym here) (item_quits _ _ item _ quits)) c.loop-item.invariant.rest
+    all_answered (environment_of (operators c.args.session.now.hooks.now) c.args.session.now.limit) c.args.session.now.words.now _ _ (drop c.loop-item.item-index all) all c.loop-item.out.items c.loop-item.refused
+    (subst (λ items. ItemsAnswer (environment_of (operators c.args.session.now.hooks.now) c.args.session.now.limit) c.args.session.now.words.now (state_of c.loop-item.state) c.loop-item.number items [] false) (sym here) (item_quits _ _ item _ quits)) c.loop-item.invariant.rest
 
 pub loop-item-preserved : goal.loop-item-preserved
 loop-item-preserved c =
@@ -33,13 +35,13 @@ loop-item-preserved c =
     record {
       ready = c.in_ok-is_refused.ensures.ready;
       few = omega (arith, c.loop-item.invariant.few);
-      rest = λ more later h. one_more c.args.words.now _ _ c.loop-item.number item (drop (c.loop-item.item-index + 1) all) _ _ c.loop-item.refused c.in_ok-is_refused.is_refused c.if-refused.refused c.in_ok-is_refused.ensures.gained so all
-          (λ more later x. c.loop-item.invariant.rest more later (subst (λ items. ItemsAnswer c.args.words.now (state_of c.loop-item.state) c.loop-item.number items more later) (sym here) x)) more later h;
+      rest = λ more later h. one_more (environment_of (operators c.args.session.now.hooks.now) c.args.session.now.limit) c.args.session.now.words.now _ _ c.loop-item.number item (drop (c.loop-item.item-index + 1) all) _ _ c.loop-item.refused c.in_ok-is_refused.is_refused c.if-refused.refused c.in_ok-is_refused.ensures.gained so all
+          (λ more later x. c.loop-item.invariant.rest more later (subst (λ items. ItemsAnswer (environment_of (operators c.args.session.now.hooks.now) c.args.session.now.limit) c.args.session.now.words.now (state_of c.loop-item.state) c.loop-item.number items more later) (sym here) x)) more later h;
     }
 
 pub returns : goal.returns
 returns c =
     let all = c.args.items.now in
     let none = drop_all c.loop-item.item-index all c.loop-item-test.false in
-    all_answered c.args.words.now _ _ (drop c.loop-item.item-index all) all c.loop-item.out.items c.loop-item.refused
-    (subst (λ items. ItemsAnswer c.args.words.now (state_of c.loop-item.state) c.loop-item.number items [] false) (sym none) (items_end _ _)) c.loop-item.invariant.rest
+    all_answered (environment_of (operators c.args.session.now.hooks.now) c.args.session.now.limit) c.args.session.now.words.now _ _ (drop c.loop-item.item-index all) all c.loop-item.out.items c.loop-item.refused
+    (subst (λ items. ItemsAnswer (environment_of (operators c.args.session.now.hooks.now) c.args.session.now.limit) c.args.session.now.words.now (state_of c.loop-item.state) c.loop-item.number items [] false) (sym none) (items_end _ _)) c.loop-item.invariant.rest

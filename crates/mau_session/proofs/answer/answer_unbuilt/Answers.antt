@@ -12,11 +12,11 @@ returns-in-Err c =
     let st = state_of c.args.state.now in
     let u = c.in-Err.ensures.unknown in
     record {
-      gained = refused_with _ c.refuse.result c.refuse.ensures.bytes c.refuse.ensures.refused
+      gained = λ e. refused_with _ c.refuse.result c.refuse.ensures.bytes c.refuse.ensures.refused
           (λ g. record {
             bytes = _;
-            answer = subst (λ r. BodyAnswer ws st c.args.number c.args.item (Command c.args.command.now) st (refusal_line c.args.number ws r) true) (sym u.named)
-                (other_unknown c.args.command.now u.token c.requires.no_match c.requires.no_continue u.none);
+            answer = subst (λ r. BodyAnswer e ws st c.args.number c.args.item (Command c.args.command.now) st (refusal_line c.args.number ws r) true) (sym u.named)
+                (other_unknown c.args.command.now u.token c.requires.no_match c.requires.no_continue c.requires.no_reduce u.none);
             gained = g;
           });
     }
@@ -24,6 +24,6 @@ returns-in-Err c =
 pub returns-in-Ok : goal.returns-in-Ok
 returns-in-Ok c =
     record {
-      gained = refused_with _ c.refuse-in-Ok.result c.refuse-in-Ok.ensures.bytes c.refuse-in-Ok.ensures.refused
-          (λ g. record { bytes = _; answer = other_not_built c.args.command.now _ c.requires.no_match c.requires.no_continue c.in-Ok.ensures.chosen; gained = g });
+      gained = λ e. refused_with _ c.refuse-in-Ok.result c.refuse-in-Ok.ensures.bytes c.refuse-in-Ok.ensures.refused
+          (λ g. record { bytes = _; answer = other_not_built c.args.command.now _ c.requires.no_match c.requires.no_continue c.requires.no_reduce c.in-Ok.ensures.chosen; gained = g });
     }

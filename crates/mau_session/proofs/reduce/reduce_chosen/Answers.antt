@@ -1,0 +1,33 @@
+use Rattle.std.proofs.Common.{◌≡◌, true, false, sym, ◌∙◌, subst}
+use Rattle.mau_formula.specs.Operators.{operators}
+use Rattle.mau_session.specs.Environment.{environment_of}
+use Rattle.mau_session.specs.KeptState.{state_of, outcome_of}
+use Rattle.mau_session.specs.State.{state_after}
+use Rattle.mau_session.specs.Transcript.{ReduceAnswer, reduce_not_built, reduce_answered}
+use Rattle.mau_session.proofs.Answering.{refused_with}
+use Rattle.mau_session.proofs.reduce.reduce_chosen.Goals as goal
+
+pub returns-then-not-is_evaluated-clause-gained : goal.returns-then-not-is_evaluated-clause-gained
+returns-then-not-is_evaluated-clause-gained c =
+    refused_with _ c.refuse.result c.refuse.ensures.bytes c.refuse.ensures.refused
+    (λ g. record {
+      bytes = _;
+      answer = reduce_not_built c.args.chosen c.module-module.result.now c.requires.term c.requires.chosen c.module-module.ensures.there
+          (sym c.is_evaluated.ensures ∙ c.if-not-is_evaluated.true);
+      gained = g;
+    })
+
+pub returns-in_ok-left-clause-gained : goal.returns-in_ok-left-clause-gained
+returns-in_ok-left-clause-gained c =
+    let e = environment_of (operators c.args.session.now.hooks.now) c.args.session.now.limit in
+    let ws = c.args.session.now.words.now in
+    let st = state_of c.args.state.now in
+    let left = outcome_of c.in_ok-left.left in
+    let g = c.in_ok-left.ensures.gained in
+    record {
+      bytes = g.bytes;
+      answer = subst (λ s. ReduceAnswer e ws st c.args.number c.args.item c.args.command.now s g.bytes c.conclude.result) (sym c.conclude.ensures.state)
+          (subst (λ b. ReduceAnswer e ws st c.args.number c.args.item c.args.command.now (state_after st c.args.chosen left) g.bytes b) (sym c.conclude.ensures.refused)
+          (reduce_answered c.args.chosen c.module-module.result.now left g.bytes c.requires.term c.requires.chosen c.module-module.ensures.there (sym c.is_evaluated.ensures ∙ c.if-not-is_evaluated.false) g.answer));
+      gained = g.gained;
+    }
