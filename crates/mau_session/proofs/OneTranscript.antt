@@ -31,7 +31,7 @@ use Rattle.mau_session.specs.Terms.{Pairs, terms_in, kind_of_term}
 use Rattle.mau_statement.specs.Parts.{part_tokens, part_texts, TermReads, IsUnread}
 use Rattle.mau_session.specs.Matching.{Shows}
 use Rattle.mau_session.specs.Commands.{unbuilt}
-use Rattle.mau_session.specs.Built.{uses_memberships, is_evaluated, has_context, fault_answer}
+use Rattle.mau_session.specs.Built.{uses_memberships, has_context, fault_answer}
 use Rattle.mau_session.specs.Answers.{refusal_line, faulty_line, shown_parse_fault, fault_line, module_line, match_head, continue_head, reduce_head, listing_lines}
 use Rattle.mau_session.specs.Environment.{Environment, meanings_in}
 use Rattle.mau_session.specs.Laws.{TranscriptsAreOne}
@@ -283,22 +283,19 @@ module _ (ws : List Word) (st : StateOf) (k i : ℕ) (c : RawCommand) where
 
 module _ (env : Environment) (free : env.remembers ≡ false) (ws : List Word) (st : StateOf) (k i : ℕ) (c : RawCommand) where
   -- what may be answered for one term is one
-  one_term : (m : ModuleOf) → is_evaluated m ≡ true → (t u : Tree) (a b : AnswerOf) → t ≡ u → MayAnswer (meanings_in env m) env.remembers t a → MayAnswer (meanings_in env m) env.remembers u b → a ≡ b
+  one_term : (m : ModuleOf) → uses_memberships m ≡ false → (t u : Tree) (a b : AnswerOf) → t ≡ u → MayAnswer (meanings_in env m) env.remembers t a → MayAnswer (meanings_in env m) env.remembers u b → a ≡ b
   one_term m evaluated t u a b e x y =
       answers_are_one (meanings_in env m) (meanings_are_lawful (program_of m) env.operators env.budget env.remembers) (evaluated_derives env m evaluated) u a b
       (subst (λ r. MayAnswer (meanings_in env m) r u a) free (subst (λ v. MayAnswer (meanings_in env m) env.remembers v a) e x))
       (subst (λ r. MayAnswer (meanings_in env m) r u b) free y)
 
-  term_once_answered : {m : ModuleOf} → is_evaluated m ≡ true → {b d : List ℕ} {r q : OutcomeOf} → TermAnswer env ws m k c r b → TermAnswer env ws m k c q d → AreOneEnd b d r q
+  term_once_answered : {m : ModuleOf} → uses_memberships m ≡ false → {b d : List ℕ} {r q : OutcomeOf} → TermAnswer env ws m k c r b → TermAnswer env ws m k c q d → AreOneEnd b d r q
   term_once_answered {m} evaluated (term_refused f u n) (term_refused f' u' n') = record { bytes = ap (faulty_line k) (shown_once f f' (fault_once m.grammar (part_tokens ws c.first) (part_texts ws c.first) AnyKind [] f f' u u' n n')); left = refl }
   term_once_answered {m} evaluated (term_refused f u n) (term_answered t' ns' a' x' y') = absurd (no_pattern_read ws m k c f u n t' ns' x')
   term_once_answered {m} evaluated (term_answered t ns a x y) (term_refused f' u' n') = absurd (no_pattern_read ws m k c f' u' n' t ns x)
   term_once_answered {m} evaluated (term_answered t ns a x y) (term_answered t' ns' a' x' y') =
       let one = pattern_once ws m k c t t' ns ns' x x' in
       record { bytes = ap₂ (λ os a. reduce_head k m ++ answer_lines m os env.budget a) one.pairs (one_term m evaluated (tree_of t) (tree_of t') a a' one.tree y y'); left = refl }
-
-  evaluated_or_not : {n o : ℕ} {m l : ModuleOf} → IsChosen ws st c n → slice_get st.modules n ≡ Some m → IsChosen ws st c o → slice_get st.modules o ≡ Some l → is_evaluated m ≡ true → is_evaluated l ≡ false → ⊥
-  evaluated_or_not x h y l yes no = yes_no _ (ap is_evaluated (sym (module_at ws st k i c x h y l)) ∙ yes) no
 
   reduce_once : {u v : StateOf} {b d : List ℕ} {r q : Bool} → ReduceAnswer env ws st k i c u b r → ReduceAnswer env ws st k i c v d q → AreOneItem u v b d r q
   reduce_once (reduces_nothing e) (reduces_nothing e') = one_item
@@ -312,10 +309,10 @@ module _ (env : Environment) (free : env.remembers ≡ false) (ws : List Word) (
   reduce_once (reduce_not_built n m e x h w) (reduces_nothing e') = absurd (yes_no _ e' e)
   reduce_once (reduce_not_built n m e x h w) (reduce_unknown t' e' x') = absurd (never_chosen ws st k i c x' x)
   reduce_once (reduce_not_built n m e x h w) (reduce_not_built n' m' e' x' h' w') = one_item
-  reduce_once (reduce_not_built n m e x h w) (reduce_answered n' m' left' b' e' x' h' w' y') = absurd (evaluated_or_not x' h' x h w' w)
+  reduce_once (reduce_not_built n m e x h w) (reduce_answered n' m' left' b' e' x' h' w' y') = absurd (used_or_not ws st k i c x h x' h' w w')
   reduce_once (reduce_answered n m left b e x h w y) (reduces_nothing e') = absurd (yes_no _ e' e)
   reduce_once (reduce_answered n m left b e x h w y) (reduce_unknown t' e' x') = absurd (never_chosen ws st k i c x' x)
-  reduce_once (reduce_answered n m left b e x h w y) (reduce_not_built n' m' e' x' h' w') = absurd (evaluated_or_not x h x' h' w w')
+  reduce_once (reduce_answered n m left b e x h w y) (reduce_not_built n' m' e' x' h' w') = absurd (used_or_not ws st k i c x' h' x h w' w)
   reduce_once (reduce_answered n m left b e x h w y) (reduce_answered n' m' left' b' e' x' h' w' y') =
       let same = module_at ws st k i c x h x' h' in
       let o = term_once_answered w y (subst (λ m. TermAnswer env ws m k c left' b') (sym same) y') in

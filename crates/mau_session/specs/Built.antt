@@ -1,5 +1,5 @@
 -- Items that aren't built yet, and the answers of items that say nothing.
-use Rattle.std.specs.Prelude.{ℕ, List, Bool, true, false, not, ◌&&◌, ◌||◌, if◌then◌else◌, codes}
+use Rattle.std.specs.Prelude.{ℕ, List, Bool, true, false, ◌||◌, if◌then◌else◌, codes}
 use Rattle.std.specs.Str.{bytes_eq}
 use Rattle.std.specs.List.{list_any}
 use Rattle.mau_modtext.specs.Word.{Word}
@@ -9,9 +9,6 @@ use Rattle.mau_modtext.specs.declared.raw.CommandKind.{CommandKind}
 use Rattle.mau_modtext.specs.declared.raw.CommandKind.TheVariants.{Match, Xmatch, Reduce, Continue}
 use Rattle.mau_modtext.specs.declared.raw.TextFault.{TextFault}
 use Rattle.mau_modtext.specs.declared.raw.TextFault.TheVariants.{Unended}
-use Rattle.mau_program.specs.declared.statements.Fragment.{Fragment}
-use Rattle.mau_program.specs.declared.statements.Fragment.TheVariants.{Reach}
-use Rattle.mau_program.specs.declared.statements.Equation.{Equation}
 use Rattle.mau_program.specs.declared.statements.Membership.{Membership}
 use Rattle.mau_declare.specs.Words.{text_at}
 use Rattle.mau_module.specs.Modules.{ModuleOf}
@@ -23,21 +20,10 @@ abbrev pub is_built_module : ModuleKind → Bool
 is_built_module StrategyModule = false
 is_built_module _ = true
 
--- a membership of the module may be used to evaluate, so that a term may have a lower sort than the declared one
+-- A membership of the module may be used to evaluate, so that a term may have a lower sort than the declared one. In such a module nothing is listed
+-- and no term is evaluated.
 abbrev pub uses_memberships : ModuleOf → Bool
 uses_memberships m = list_any (λ (x : Membership). x.exec) m.statements.memberships
-
--- an equation may be used to evaluate, and a part of its condition is solved by rules
-abbrev pub is_reach : Fragment → Bool
-is_reach (Reach t u) = true
-is_reach _ = false
-
-abbrev pub asks_rules : Equation → Bool
-asks_rules x = x.exec && list_any is_reach x.cond
-
--- terms are evaluated in the module: no membership may be used to evaluate, and no equation whose condition has a part that is solved by rules
-abbrev pub is_evaluated : ModuleOf → Bool
-is_evaluated m = not (uses_memberships m) && not (list_any asks_rules m.statements.equations)
 
 abbrev pub is_match : CommandKind → Bool
 is_match Match = true

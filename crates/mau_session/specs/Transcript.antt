@@ -40,7 +40,7 @@ use Rattle.mau_session.specs.Query.{QueryOf, asked_first, shown_more}
 use Rattle.mau_session.specs.State.{a_listing, StateOf, at_first, accepted, selected, IsChosen, NamesNone, OutcomeOf, is_refused, has_ended, left_by, refuses, state_after}
 use Rattle.mau_session.specs.Bounds.{bound_of}
 use Rattle.mau_session.specs.Commands.{unbuilt}
-use Rattle.mau_session.specs.Built.{is_built_module, uses_memberships, is_evaluated, is_match, has_context, is_reduce, is_continue, fault_answer}
+use Rattle.mau_session.specs.Built.{is_built_module, uses_memberships, is_match, has_context, is_reduce, is_continue, fault_answer}
 use Rattle.mau_session.specs.Answers.{refusal_line, fault_line, parse_fault_line, module_fault_line, ok_line, unknown_module_line, module_line, match_head, continue_head, reduce_head, listing_lines}
 
 -- ---- the answer of a match command
@@ -102,14 +102,14 @@ pub data TermAnswer (e : Environment) (ws : List Word) (m : ModuleOf) (k : ℕ) 
       → TermAnswer e ws m k c has_ended (reduce_head k m ++ answer_lines m ns e.budget a)
 
 -- The reduce command begins at the word i; the state after it is told. The place of a term without tokens, which no command has, is refused before its
--- module is looked for, and a module in which terms aren't evaluated before the term is read.
+-- module is looked for, and a module in which memberships may be used before the term is read.
 pub data ReduceAnswer (e : Environment) (ws : List Word) (st : StateOf) (k i : ℕ) (c : RawCommand) : StateOf → List ℕ → Bool → Type 0 where
   reduces_nothing : is_empty ws c.first ≡ true → ReduceAnswer e ws st k i c st (refusal_line k ws (NotBuilt (first_index ws c.first))) true
   reduce_unknown : (t : Token) → is_empty ws c.first ≡ false → NamesNone ws st c t → ReduceAnswer e ws st k i c st (refusal_line k ws (UnknownModule (token_index ws t))) true
-  reduce_not_built : (n : ℕ) (m : ModuleOf) → is_empty ws c.first ≡ false → IsChosen ws st c n → slice_get st.modules n ≡ Some m → is_evaluated m ≡ false
+  reduce_not_built : (n : ℕ) (m : ModuleOf) → is_empty ws c.first ≡ false → IsChosen ws st c n → slice_get st.modules n ≡ Some m → uses_memberships m ≡ true
       → ReduceAnswer e ws st k i c st (refusal_line k ws (NotBuilt i)) true
   reduce_answered : (n : ℕ) (m : ModuleOf) (left : OutcomeOf) (bytes : List ℕ) → is_empty ws c.first ≡ false → IsChosen ws st c n → slice_get st.modules n ≡ Some m
-      → is_evaluated m ≡ true → TermAnswer e ws m k c left bytes → ReduceAnswer e ws st k i c (state_after st n left) bytes (refuses left)
+      → uses_memberships m ≡ false → TermAnswer e ws m k c left bytes → ReduceAnswer e ws st k i c (state_after st n left) bytes (refuses left)
 
 -- ---- the answer of a setting that begins at the word i
 

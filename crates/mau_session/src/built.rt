@@ -5,7 +5,7 @@ ghost use Rattle.mau_session.specs.Built;
 
 use mau_modtext::{CommandKind, ModuleKind, RawBody, RawItem, TextFault};
 use mau_module::Module;
-use mau_program::{Equation, Fragment, Membership};
+use mau_program::Membership;
 
 /// Whether modules of this kind are built.
 pub fn is_built_module(kind: ModuleKind) -> bool
@@ -24,36 +24,11 @@ fn is_used(membership: &Membership) -> bool
     membership.exec
 }
 
-/// Whether a module has a membership that may be used to evaluate: listings in such modules aren't built.
+/// Whether a module has a membership that may be used to evaluate: neither listings nor evaluations in such modules are built.
 pub fn uses_memberships(module: &Module) -> bool
     ensures { result ≡ Built.uses_memberships «module».now }
 {
     module.memberships().iter().any(is_used)
-}
-
-/// Whether a part of a condition is solved by rules.
-fn is_reach(part: &Fragment) -> bool
-    ensures { result ≡ Built.is_reach part.now }
-{
-    match part {
-        Fragment::Reach(_, _) => true,
-        _ => false,
-    }
-}
-
-/// Whether an equation may be used to evaluate, and a part of its condition is solved by rules.
-fn asks_rules(equation: &Equation) -> bool
-    ensures { result ≡ Built.asks_rules equation.now }
-{
-    equation.exec && equation.cond.items().iter().any(is_reach)
-}
-
-/// Whether terms are evaluated in a module: no membership may be used to evaluate, and no equation whose condition has a part that is solved by
-/// rules.
-pub fn is_evaluated(module: &Module) -> bool
-    ensures { result ≡ Built.is_evaluated «module».now }
-{
-    !uses_memberships(module) && !module.equations().iter().any(asks_rules)
 }
 
 /// Whether a command is a match, with contexts or without.

@@ -1,5 +1,5 @@
 //! The answers of reduce commands.
-ghost use Rattle.std.specs.Prelude.{◌≡◌, ◌<◌, ◌≤◌, ◌++◌, length, true, false, All, OnOk, IfOk};
+ghost use Rattle.std.specs.Prelude.{◌≡◌, ◌<◌, ◌≤◌, ◌++◌, length, false, All, OnOk, IfOk};
 ghost use Rattle.mau_terms.specs.Bare.{IsBare};
 ghost use Rattle.mau_terms.specs.View.{tree_of};
 ghost use Rattle.mau_formula.specs.Operators.{operators};
@@ -15,7 +15,7 @@ ghost use Rattle.mau_session.specs.KeptState.{state_of, outcome_of, IsReadyState
 ghost use Rattle.mau_session.specs.State.{IsChosen};
 ghost use Rattle.mau_session.specs.Gains.{GainsAnswer, GainsTerm, GainsReduce};
 
-use crate::built::is_evaluated;
+use crate::built::uses_memberships;
 use crate::reading::{is_empty, read_term};
 use crate::refusal::{Refusal, refuse, refuse_term, write_head};
 use crate::results::write_reduced;
@@ -51,13 +51,13 @@ fn reduce(
     term: &Bare,
 ) -> Result<(), NoMemory>
     requires lawful { IsLawfulProgram (program_of module.now) }
-    requires evaluated { Built.is_evaluated module.now ≡ true }
+    requires plain { Built.uses_memberships module.now ≡ false }
     requires numerals { All GivesNumerals (operators session.now.hooks.now) }
     requires bare { IsBare (terms_in module.now) (tree_of term.now) }
     ensures { OnOk result (GainsAnswer module.now (meanings_in (environment_of (operators session.now.hooks.now) session.now.limit) module.now) false
         vars.now (tree_of term.now) out.old.items out.new.items) }
 {
-    let mut reducer = Reducer::<ExtListing<Listing>, Hooks>::new(
+    let mut reducer = Reducer::<ExtListing<Listing>, Listing, Hooks>::new(
         session.alloc,
         module.program(),
         Hooks::new(session.hooks),
@@ -88,7 +88,7 @@ fn answer_term(
     requires numerals { All GivesNumerals (operators session.now.hooks.now) }
     requires term { Parts.is_empty session.now.words.now command.now.first ≡ false }
     requires lawful { IsLawfulProgram (program_of module.now) }
-    requires evaluated { Built.is_evaluated module.now ≡ true }
+    requires plain { Built.uses_memberships module.now ≡ false }
     ensures gained { IfOk result (λ left. GainsTerm (environment_of (operators session.now.hooks.now) session.now.limit) session.now.words.now module.now number command.now
         out.old.items out.new.items (outcome_of left)) }
     ensures ready { IfOk result (IsReadyOutcome module.now) }
@@ -132,7 +132,7 @@ fn reduce_chosen(
     ensures ready { OnOk result (IsReadyState state.new) }
 {
     let module = state.library.module(chosen);
-    if !is_evaluated(module) {
+    if uses_memberships(module) {
         return refuse(out, session.words, number, Refusal::NotBuilt(item));
     }
     let left = answer_term(out, session, module, number, command)?;

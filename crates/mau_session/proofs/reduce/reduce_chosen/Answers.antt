@@ -7,13 +7,13 @@ use Rattle.mau_session.specs.Transcript.{ReduceAnswer, reduce_not_built, reduce_
 use Rattle.mau_session.proofs.Answering.{refused_with}
 use Rattle.mau_session.proofs.reduce.reduce_chosen.Goals as goal
 
-pub returns-then-not-is_evaluated-clause-gained : goal.returns-then-not-is_evaluated-clause-gained
-returns-then-not-is_evaluated-clause-gained c =
+pub returns-then-uses_memberships-clause-gained : goal.returns-then-uses_memberships-clause-gained
+returns-then-uses_memberships-clause-gained c =
     refused_with _ c.refuse.result c.refuse.ensures.bytes c.refuse.ensures.refused
     (λ g. record {
       bytes = _;
       answer = reduce_not_built c.args.chosen c.module-module.result.now c.requires.term c.requires.chosen c.module-module.ensures.there
-          (sym c.is_evaluated.ensures ∙ c.if-not-is_evaluated.true);
+          (sym c.uses_memberships.ensures ∙ c.if-uses_memberships.true);
       gained = g;
     })
 
@@ -28,6 +28,6 @@ returns-in_ok-left-clause-gained c =
       bytes = g.bytes;
       answer = subst (λ s. ReduceAnswer e ws st c.args.number c.args.item c.args.command.now s g.bytes c.conclude.result) (sym c.conclude.ensures.state)
           (subst (λ b. ReduceAnswer e ws st c.args.number c.args.item c.args.command.now (state_after st c.args.chosen left) g.bytes b) (sym c.conclude.ensures.refused)
-          (reduce_answered c.args.chosen c.module-module.result.now left g.bytes c.requires.term c.requires.chosen c.module-module.ensures.there (sym c.is_evaluated.ensures ∙ c.if-not-is_evaluated.false) g.answer));
+          (reduce_answered c.args.chosen c.module-module.result.now left g.bytes c.requires.term c.requires.chosen c.module-module.ensures.there (sym c.uses_memberships.ensures ∙ c.if-uses_memberships.false) g.answer));
       gained = g.gained;
     }
