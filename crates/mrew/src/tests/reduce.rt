@@ -63,6 +63,47 @@ fn built_ins_and_strategies(rt: HostRuntime) -> Result<(), Fail> {
 }
 
 #[test]
+fn conditions(rt: HostRuntime) -> Result<(), Fail> {
+    let rows = [
+        (
+            "fmod K is protecting NAT . op big : Nat Nat -> Nat . vars X Y : Nat . ceq big(X, Y) = X if Y <= X . \
+            eq big(X, Y) = Y [owise] . endfm reduce big(3, 7) . reduce big(7, 3) .",
+            "[1] module K\n[2] reduce in K\nrewrites: 1\nresult NzNat: 7\n[3] reduce in K\nrewrites: 2\nresult NzNat: 7\n",
+        ),
+        (
+            "fmod LST is sorts Elt Lst . subsort Elt < Lst . ops a b : -> Elt . op __ : Lst Lst -> Lst [assoc] . \
+            op last : Lst -> Elt . vars L M : Lst . var E : Elt . eq last(E) = E . ceq last(L) = E if M E := L . endfm \
+            reduce last(a b a) .",
+            "[1] module LST\n[2] reduce in LST\nrewrites: 1\nresult Elt: a\n",
+        ),
+    ];
+    for (text, wanted) in rows {
+        let (bytes, status) = answer(rt.alloc(), &["run"], text)?;
+        assert_eq!(rt; bytes.as_slice(), wanted.as_bytes());
+        assert_eq!(rt; status, Status::Done);
+    }
+    Ok(())
+}
+
+#[test]
+fn failed_conditions_use_the_budget(rt: HostRuntime) -> Result<(), Fail> {
+    let text = "fmod B is sort S . ops a b c d : -> S . eq b = c . ceq d = a if b = a . eq d = c . endfm reduce d .";
+    let rows = [
+        ("1", "[1] module B\n[2] reduce in B\nStopped: 1.\n"),
+        (
+            "2",
+            "[1] module B\n[2] reduce in B\nrewrites: 1\nresult S: c\n",
+        ),
+    ];
+    for (limit, wanted) in rows {
+        let (bytes, status) = answer(rt.alloc(), &["run", "--limit", limit], text)?;
+        assert_eq!(rt; bytes.as_slice(), wanted.as_bytes());
+        assert_eq!(rt; status, Status::Done);
+    }
+    Ok(())
+}
+
+#[test]
 fn the_budget_of_each_item(rt: HostRuntime) -> Result<(), Fail> {
     let text = "fmod L is protecting NAT . op l : -> Nat . eq l = l . endfm reduce l . reduce 1 + 2 .";
     let wanted = "[1] module L\n[2] reduce in L\nStopped: 1000.\n[3] reduce in L\nrewrites: 1\nresult NzNat: 3\n";

@@ -62,6 +62,10 @@ fn refuses_by_name_and_place(rt: HostRuntime) -> Result<(), Fail> {
         ),
         ("reduce in NOPE : a .", "[1] refused: UnknownModule NOPE\n"),
         (
+            "fmod A is sorts T S . subsort T < S . ops a b : -> S . mb a : T . endfm reduce a .",
+            "[1] module A\n[2] refused: NotBuilt reduce 72\n",
+        ),
+        (
             "frewrite in NOPE : a .",
             "[1] refused: UnknownModule NOPE\n",
         ),
