@@ -165,7 +165,8 @@ fn answer_subject(
     requires subject { is_empty words.now command.now.second ≡ false }
     requires pattern { PatternReads words.now module.now command.now pattern vars }
     requires bare { IsBareOf module.now Goal.AnyKind pattern }
-    ensures gained { IfOk result (λ left. GainsTerms words.now module.now number command.now most out.old.items out.new.items (outcome_of left)) }
+    ensures gained { IfOk result (λ left. GainsTerms words.now
+        module.now number command.now most out.old.items out.new.items (outcome_of left)) }
     ensures ready { IfOk result (IsReadyOutcome module.now) }
 {
     let mut vars = vars;
@@ -209,7 +210,8 @@ fn answer_terms(
     requires few { length words.now ≤ 16777216 }
     requires pattern { is_empty words.now command.now.first ≡ false }
     requires subject { is_empty words.now command.now.second ≡ false }
-    ensures gained { IfOk result (λ left. GainsTerms words.now module.now number command.now most out.old.items out.new.items (outcome_of left)) }
+    ensures gained { IfOk result (λ left. GainsTerms words.now
+        module.now number command.now most out.old.items out.new.items (outcome_of left)) }
     ensures ready { IfOk result (IsReadyOutcome module.now) }
 {
     let mut vars = Vars::new(alloc);
@@ -244,7 +246,8 @@ fn answer_chosen(
     requires within { chosen < length state.old.library }
     requires pattern { is_empty words.now command.now.first ≡ false }
     requires subject { is_empty words.now command.now.second ≡ false }
-    ensures gained { IfOk result (GainsChosen words.now (state_of state.old) number item command.now chosen (state_of state.new) out.old.items out.new.items) }
+    ensures gained { IfOk result (GainsChosen words.now (state_of state.old) number item command.now chosen
+        (state_of state.new) out.old.items out.new.items) }
     ensures ready { OnOk result (IsReadyState state.new) }
 {
     let module = state.library.module(chosen);
@@ -272,7 +275,8 @@ fn answer_match(
 ) -> Result<bool, NoMemory>
     requires few { length words.now ≤ 16777216 }
     requires ready { IsReadyState state.old }
-    ensures gained { IfOk result (GainsMatch words.now (state_of state.old) number item command.now (state_of state.new) out.old.items out.new.items) }
+    ensures gained { IfOk result (GainsMatch words.now (state_of state.old) number item command.now
+        (state_of state.new) out.old.items out.new.items) }
     ensures ready { OnOk result (IsReadyState state.new) }
 {
     match unbuilt(words, command) {
@@ -297,7 +301,8 @@ fn list_on(
 ) -> Result<bool, NoMemory>
     requires ready { IsReadyState state.old }
     requires query { (m : ModuleOf) × (slice_get state.old.library chosen ≡ Some m) × IsReady m.signature query }
-    ensures gained { IfOk result (GainsOn (state_of state.old) number chosen (query_of query) most (state_of state.new) out.old.items out.new.items) }
+    ensures gained { IfOk result (GainsOn (state_of state.old) number chosen (query_of query) most
+        (state_of state.new) out.old.items out.new.items) }
     ensures ready { OnOk result (IsReadyState state.new) }
 {
     let mut query = query;
@@ -338,7 +343,8 @@ fn answer_continue(
     command: &RawCommand,
 ) -> Result<bool, NoMemory>
     requires ready { IsReadyState state.old }
-    ensures gained { IfOk result (GainsContinue words.now (state_of state.old) number command.now (state_of state.new) out.old.items out.new.items) }
+    ensures gained { IfOk result (GainsContinue words.now (state_of state.old) number command.now
+        (state_of state.new) out.old.items out.new.items) }
     ensures ready { OnOk result (IsReadyState state.new) }
 {
     match bound_of(words, command.bound) {
@@ -363,7 +369,8 @@ fn answer_unbuilt(
     requires no_match { Rattle.mau_session.specs.Built.is_match command.now.kind ≡ false }
     requires no_continue { Rattle.mau_session.specs.Built.is_continue command.now.kind ≡ false }
     requires no_reduce { Rattle.mau_session.specs.Built.is_reduce command.now.kind ≡ false }
-    ensures gained { (e : Environment) → IfOk result (GainsBody e words.now (state_of state.now) number item (RawBody.Command command.now) (state_of state.now) out.old.items out.new.items) }
+    ensures gained { (e : Environment) → IfOk result (GainsBody e words.now (state_of state.now) number item (RawBody.Command command.now)
+        (state_of state.now) out.old.items out.new.items) }
 {
     match state.choose(words, command) {
         Err(refusal) => refuse(out, words, number, refusal),
@@ -383,7 +390,8 @@ fn answer_command(
     requires few { length session.now.words.now ≤ 16777216 }
     requires numerals { All GivesNumerals (operators session.now.hooks.now) }
     requires ready { IsReadyState state.old }
-    ensures gained { IfOk result (GainsBody (environment_of (operators session.now.hooks.now) session.now.limit) session.now.words.now (state_of state.old) number item (RawBody.Command command.now) (state_of state.new) out.old.items out.new.items) }
+    ensures gained { IfOk result (GainsBody (environment_of (operators session.now.hooks.now) session.now.limit) session.now.words.now
+        (state_of state.old) number item (RawBody.Command command.now) (state_of state.new) out.old.items out.new.items) }
     ensures ready { OnOk result (IsReadyState state.new) }
 {
     let alloc = session.alloc;
@@ -410,7 +418,8 @@ fn answer_module(
     raw: &RawModule,
 ) -> Result<bool, NoMemory>
     requires ready { IsReadyState state.old }
-    ensures gained { (e : Environment) → IfOk result (GainsBody e words.now (state_of state.old) number item (RawBody.Module raw.now) (state_of state.new) out.old.items out.new.items) }
+    ensures gained { (e : Environment) → IfOk result (GainsBody e words.now (state_of state.old) number item (RawBody.Module raw.now)
+        (state_of state.new) out.old.items out.new.items) }
     ensures ready { OnOk result (IsReadyState state.new) }
 {
     if !is_built_module(raw.kind) {
@@ -465,7 +474,8 @@ fn answer_select(
     name: &str,
 ) -> Result<bool, NoMemory>
     requires ready { IsReadyState state.old }
-    ensures gained { (ws : List Word) (i : ℕ) → IfOk result (GainsSetting ws (state_of state.old) number i (Setting.Select name.now) (state_of state.new) out.old.items out.new.items) }
+    ensures gained { (ws : List Word) (i : ℕ) → IfOk result (GainsSetting ws (state_of state.old) number i (Setting.Select name.now)
+        (state_of state.new) out.old.items out.new.items) }
     ensures ready { OnOk result (IsReadyState state.new) }
 {
     if state.select(name) {
@@ -486,7 +496,8 @@ fn answer_setting(
     setting: &Setting,
 ) -> Result<bool, NoMemory>
     requires ready { IsReadyState state.old }
-    ensures gained { IfOk result (GainsSetting words.now (state_of state.old) number item setting.now (state_of state.new) out.old.items out.new.items) }
+    ensures gained { IfOk result (GainsSetting words.now (state_of state.old) number item setting.now
+        (state_of state.new) out.old.items out.new.items) }
     ensures ready { OnOk result (IsReadyState state.new) }
 {
     match setting {
@@ -510,7 +521,8 @@ fn answer_body(
     requires numerals { All GivesNumerals (operators session.now.hooks.now) }
     requires ready { IsReadyState state.old }
     requires stays { body.now ≢ RawBody.Quit }
-    ensures gained { IfOk result (GainsBody (environment_of (operators session.now.hooks.now) session.now.limit) session.now.words.now (state_of state.old) number item body.now (state_of state.new) out.old.items out.new.items) }
+    ensures gained { IfOk result (GainsBody (environment_of (operators session.now.hooks.now) session.now.limit) session.now.words.now
+        (state_of state.old) number item body.now (state_of state.new) out.old.items out.new.items) }
     ensures ready { OnOk result (IsReadyState state.new) }
 {
     let alloc = session.alloc;
@@ -554,7 +566,8 @@ fn answer_item(
     requires numerals { All GivesNumerals (operators session.now.hooks.now) }
     requires ready { IsReadyState state.old }
     requires stays { item.now.body ≢ Ok RawBody.Quit }
-    ensures gained { IfOk result (GainsItem (environment_of (operators session.now.hooks.now) session.now.limit) session.now.words.now (state_of state.old) number item.now (state_of state.new) out.old.items out.new.items) }
+    ensures gained { IfOk result (GainsItem (environment_of (operators session.now.hooks.now) session.now.limit) session.now.words.now
+        (state_of state.old) number item.now (state_of state.new) out.old.items out.new.items) }
     ensures ready { OnOk result (IsReadyState state.new) }
 {
     let word = session.words.index_at(item.at);
@@ -571,7 +584,8 @@ fn answer_item(
 pub fn answer_items(session: &Session, items: &[RawItem]) -> Result<(Vec<u8>, bool), NoMemory>
     requires few { length session.now.words.now ≤ 16777216 }
     requires numerals { All GivesNumerals (operators session.now.hooks.now) }
-    ensures { IfOk result (λ r. ItemsAnswer (environment_of (operators session.now.hooks.now) session.now.limit) session.now.words.now at_first 1 items.now r.0.items r.1) }
+    ensures { IfOk result (λ r. ItemsAnswer (environment_of (operators session.now.hooks.now) session.now.limit) session.now.words.now
+        at_first 1 items.now r.0.items r.1) }
 {
     let mut out = Vec::new(session.alloc);
     let mut state = State::new(session.alloc)?;

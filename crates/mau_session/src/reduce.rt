@@ -54,8 +54,8 @@ fn reduce(
     requires plain { Built.uses_memberships module.now ≡ false }
     requires numerals { All GivesNumerals (operators session.now.hooks.now) }
     requires bare { IsBare (terms_in module.now) (tree_of term.now) }
-    ensures { OnOk result (GainsAnswer module.now (meanings_in (environment_of (operators session.now.hooks.now) session.now.limit) module.now) false
-        vars.now (tree_of term.now) out.old.items out.new.items) }
+    ensures { OnOk result (GainsAnswer module.now
+        (meanings_in (environment_of (operators session.now.hooks.now) session.now.limit) module.now) false vars.now (tree_of term.now) out.old.items out.new.items) }
 {
     let mut reducer = Reducer::<ExtListing<Listing>, Listing, Hooks>::new(
         session.alloc,
@@ -89,8 +89,8 @@ fn answer_term(
     requires term { Parts.is_empty session.now.words.now command.now.first ≡ false }
     requires lawful { IsLawfulProgram (program_of module.now) }
     requires plain { Built.uses_memberships module.now ≡ false }
-    ensures gained { IfOk result (λ left. GainsTerm (environment_of (operators session.now.hooks.now) session.now.limit) session.now.words.now module.now number command.now
-        out.old.items out.new.items (outcome_of left)) }
+    ensures gained { IfOk result (λ left. GainsTerm (environment_of (operators session.now.hooks.now) session.now.limit)
+        session.now.words.now module.now number command.now out.old.items out.new.items (outcome_of left)) }
     ensures ready { IfOk result (IsReadyOutcome module.now) }
 {
     let mut vars = Vars::new(session.alloc);
@@ -127,8 +127,8 @@ fn reduce_chosen(
     requires chosen { IsChosen session.now.words.now (state_of state.old) command.now chosen }
     requires within { chosen < length state.old.library }
     requires term { Parts.is_empty session.now.words.now command.now.first ≡ false }
-    ensures gained { IfOk result (GainsReduce (environment_of (operators session.now.hooks.now) session.now.limit) session.now.words.now (state_of state.old) number item command.now
-        (state_of state.new) out.old.items out.new.items) }
+    ensures gained { IfOk result (GainsReduce (environment_of (operators session.now.hooks.now) session.now.limit) session.now.words.now
+        (state_of state.old) number item command.now (state_of state.new) out.old.items out.new.items) }
     ensures ready { OnOk result (IsReadyState state.new) }
 {
     let module = state.library.module(chosen);
@@ -151,8 +151,8 @@ pub fn answer_reduce(
     requires few { length session.now.words.now ≤ 16777216 }
     requires numerals { All GivesNumerals (operators session.now.hooks.now) }
     requires ready { IsReadyState state.old }
-    ensures gained { IfOk result (GainsReduce (environment_of (operators session.now.hooks.now) session.now.limit) session.now.words.now (state_of state.old) number item command.now
-        (state_of state.new) out.old.items out.new.items) }
+    ensures gained { IfOk result (GainsReduce (environment_of (operators session.now.hooks.now) session.now.limit) session.now.words.now
+        (state_of state.old) number item command.now (state_of state.new) out.old.items out.new.items) }
     ensures ready { OnOk result (IsReadyState state.new) }
 {
     let words = session.words;

@@ -96,9 +96,11 @@ pub fn write_reduced<E: Evaluator, W: StepWatcher>(
     watcher: &mut W,
 ) -> Result<(), NoMemory>
     requires bare { IsBare (terms_in module.now) (tree_of term.now) }
-    requires meanings { E.meanings evaluator.old ≡ meanings_by (program_of module.now) (E.meanings evaluator.old).hooks limit (E.meanings evaluator.old).remembers }
+    requires meanings { E.meanings evaluator.old ≡ meanings_by (program_of module.now)
+        (E.meanings evaluator.old).hooks limit (E.meanings evaluator.old).remembers }
     requires fits { E.fits evaluator.old [] }
-    ensures gained { OnOk result (GainsAnswer module.now (E.meanings evaluator.old) (uses_results (E.meanings evaluator.old) (W.wanted watcher.old))
+    ensures gained { OnOk result (GainsAnswer module.now (E.meanings evaluator.old)
+        (uses_results (E.meanings evaluator.old) (W.wanted watcher.old))
         vars.now (tree_of term.now) out.old.items out.new.items) }
 {
     let mut store = Store::new(alloc);

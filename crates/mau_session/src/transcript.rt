@@ -43,7 +43,8 @@ fn answers(
     requires spans { AreSpans text.now tokens.now }
     requires few { length tokens.now ≤ 16777216 }
     requires numerals { All GivesNumerals (operators hooks.now) }
-    ensures { IfOk result (λ r. ItemsAnswer (environment_of (operators hooks.now) limit) (words_of text.now tokens.now) at_first 1 items.now r.0.items r.1) }
+    ensures { IfOk result (λ r. ItemsAnswer (environment_of (operators hooks.now) limit) (words_of text.now tokens.now)
+        at_first 1 items.now r.0.items r.1) }
 {
     let words = Words::new(text, tokens);
     let session = Session {
