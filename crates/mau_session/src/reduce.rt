@@ -55,12 +55,15 @@ fn reduce(
     requires numerals { All GivesNumerals (operators session.now.hooks.now) }
     requires bare { IsBare (terms_in module.now) (tree_of term.now) }
     ensures { OnOk result (GainsAnswer module.now
-        (meanings_in (environment_of (operators session.now.hooks.now) session.now.limit) module.now) false vars.now (tree_of term.now) out.old.items out.new.items) }
+        (meanings_in (environment_of (operators session.now.hooks.now) session.now.limit) module.now) false
+        vars.now (tree_of term.now) out.old.items out.new.items) }
 {
+    let program = module.program();
+    let natives = Hooks::new(session.hooks);
     let mut reducer = Reducer::<ExtListing<Listing>, Listing, Hooks>::new(
         session.alloc,
-        module.program(),
-        Hooks::new(session.hooks),
+        program,
+        natives,
         session.limit,
         false,
     )?;

@@ -2,7 +2,6 @@
 ghost use Rattle.std.specs.Prelude.{◌≡◌, map, IfOk, OnErr};
 ghost use Rattle.mau_formula.specs.Expr.{value};
 ghost use Rattle.mau_formula.specs.Native.{formula_of, native_operator, natives};
-ghost use Rattle.mau_formula.specs.Operators.{operators};
 ghost use Rattle.mau_session.specs.Run.{IsRun};
 
 use mau_bytes::{Sink, Source};
@@ -10,11 +9,6 @@ use mau_formula::{Hook, HookAnswer, HookTable, Native};
 use mau_session::{Status, run};
 use mau_terms::{NoMemory, Text};
 use std::alloc::Global;
-
-/// Asserts that a table has all native operators on numbers, in their order, and no other.
-fn assert_all(_hooks: &HookTable)
-    requires { operators _hooks.now ≡ map native_operator natives }
-{}
 
 /// Runs with all native operators on numbers, each a closure beside the formula that it computes. The status tells all that that of `run`
 /// does. Where memory is wanting for the operators, the source and the sink stay as they are.
@@ -40,6 +34,5 @@ pub fn run_with_hooks<S: Source, K: Sink>(
             return Err(NoMemory);
         }
     }
-    assert_all(&hooks);
     Ok(run(alloc, &hooks, words, source, sink))
 }
