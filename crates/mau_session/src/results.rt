@@ -99,7 +99,7 @@ pub fn write_reduced<E: Evaluator, W: StepWatcher>(
     requires meanings { E.meanings evaluator.old ≡ meanings_by (program_of module.now)
         (E.meanings evaluator.old).hooks limit (E.meanings evaluator.old).remembers }
     requires fits { E.fits evaluator.old [] }
-    ensures gained { OnOk result (GainsAnswer module.now (E.meanings evaluator.old)
+    ensures { OnOk result (GainsAnswer module.now (E.meanings evaluator.old)
         (uses_results (E.meanings evaluator.old) (W.wanted watcher.old))
         vars.now (tree_of term.now) out.old.items out.new.items) }
 {

@@ -1,10 +1,25 @@
 //! Whole runs: states, ends and statuses.
 
 use super::{F, answer, texts};
+use crate::hooks::run_with_hooks;
 use mau_bytes::{MemorySink, MemorySource};
-use mau_formula::HookTable;
-use mau_session::{Status, run};
+use mau_session::Status;
+use mau_terms::Text;
+use std::alloc::Global;
 use std::test::Fail;
+
+/// The status of a run.
+fn status_of(
+    alloc: Global,
+    words: &[Text],
+    source: &mut MemorySource,
+    sink: &mut MemorySink,
+) -> Status {
+    match run_with_hooks(alloc, words, source, sink) {
+        Ok(status) => status,
+        Err(_) => Status::NoMemory,
+    }
+}
 
 #[test]
 fn keeps_the_accepted_modules(rt: HostRuntime) -> Result<(), Fail> {
@@ -104,13 +119,7 @@ fn has_a_cause_for_each_status(rt: HostRuntime) -> Result<(), Fail> {
     let mut source = MemorySource::new(bytes, failing);
     let mut sink = MemorySink::new(rt.alloc(), 1000, Vec::new(rt.alloc()))?;
     assert_eq!(rt;
-        run(
-            rt.alloc(),
-            &HookTable::new(rt.alloc()),
-            &words,
-            &mut source,
-            &mut sink
-        ),
+        status_of(rt.alloc(), &words, &mut source, &mut sink),
         Status::ReadFault
     );
     assert!(rt; sink.bytes().is_empty(), "a read that fails writes nothing");
@@ -120,13 +129,7 @@ fn has_a_cause_for_each_status(rt: HostRuntime) -> Result<(), Fail> {
     let mut source = MemorySource::new(bytes, Vec::new(rt.alloc()));
     let mut sink = MemorySink::new(rt.alloc(), 1000, failing)?;
     assert_eq!(rt;
-        run(
-            rt.alloc(),
-            &HookTable::new(rt.alloc()),
-            &words,
-            &mut source,
-            &mut sink
-        ),
+        status_of(rt.alloc(), &words, &mut source, &mut sink),
         Status::WriteFault
     );
     assert!(rt; sink.bytes().is_empty(), "the first write fails");
@@ -135,13 +138,7 @@ fn has_a_cause_for_each_status(rt: HostRuntime) -> Result<(), Fail> {
     let mut source = MemorySource::new(bytes, Vec::new(rt.alloc()));
     let mut sink = MemorySink::new(rt.alloc(), wanted.len() - 1, Vec::new(rt.alloc()))?;
     assert_eq!(rt;
-        run(
-            rt.alloc(),
-            &HookTable::new(rt.alloc()),
-            &words,
-            &mut source,
-            &mut sink
-        ),
+        status_of(rt.alloc(), &words, &mut source, &mut sink),
         Status::WriteFault
     );
     assert_eq!(rt; sink.bytes(), &wanted[..wanted.len() - 1]);
@@ -159,13 +156,7 @@ fn reads_texts_up_to_the_limit(rt: HostRuntime) -> Result<(), Fail> {
     let mut source = MemorySource::new(copy, Vec::new(rt.alloc()));
     let mut sink = MemorySink::new(rt.alloc(), 1000, Vec::new(rt.alloc()))?;
     assert_eq!(rt;
-        run(
-            rt.alloc(),
-            &HookTable::new(rt.alloc()),
-            &words,
-            &mut source,
-            &mut sink
-        ),
+        status_of(rt.alloc(), &words, &mut source, &mut sink),
         Status::Done
     );
     assert!(rt; sink.bytes().is_empty(), "spaces have no answers");
@@ -173,13 +164,7 @@ fn reads_texts_up_to_the_limit(rt: HostRuntime) -> Result<(), Fail> {
     spaces.push(b' ')?;
     let mut source = MemorySource::new(spaces, Vec::new(rt.alloc()));
     assert_eq!(rt;
-        run(
-            rt.alloc(),
-            &HookTable::new(rt.alloc()),
-            &words,
-            &mut source,
-            &mut sink
-        ),
+        status_of(rt.alloc(), &words, &mut source, &mut sink),
         Status::InputTooLong
     );
     assert!(rt; sink.bytes().is_empty(), "nothing is written");
