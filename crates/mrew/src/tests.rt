@@ -13,8 +13,8 @@ mod refusals;
 mod runs;
 mod settings;
 
-use mau_bytes::{MemorySink, MemorySource};
 use crate::hooks::run_with_hooks;
+use mau_bytes::{MemorySink, MemorySource};
 use mau_session::Status;
 use mau_terms::Text;
 use std::alloc::Global;

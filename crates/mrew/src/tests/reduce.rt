@@ -87,7 +87,8 @@ fn conditions(rt: HostRuntime) -> Result<(), Fail> {
 
 #[test]
 fn failed_conditions_use_the_budget(rt: HostRuntime) -> Result<(), Fail> {
-    let text = "fmod B is sort S . ops a b c d : -> S . eq b = c . ceq d = a if b = a . eq d = c . endfm reduce d .";
+    let text =
+        "fmod B is sort S . ops a b c d : -> S . eq b = c . ceq d = a if b = a . eq d = c . endfm reduce d .";
     let rows = [
         ("1", "[1] module B\n[2] reduce in B\nStopped: 1.\n"),
         (
@@ -105,8 +106,10 @@ fn failed_conditions_use_the_budget(rt: HostRuntime) -> Result<(), Fail> {
 
 #[test]
 fn the_budget_of_each_item(rt: HostRuntime) -> Result<(), Fail> {
-    let text = "fmod L is protecting NAT . op l : -> Nat . eq l = l . endfm reduce l . reduce 1 + 2 .";
-    let wanted = "[1] module L\n[2] reduce in L\nStopped: 1000.\n[3] reduce in L\nrewrites: 1\nresult NzNat: 3\n";
+    let text =
+        "fmod L is protecting NAT . op l : -> Nat . eq l = l . endfm reduce l . reduce 1 + 2 .";
+    let wanted =
+        "[1] module L\n[2] reduce in L\nStopped: 1000.\n[3] reduce in L\nrewrites: 1\nresult NzNat: 3\n";
     let (bytes, status) = answer(rt.alloc(), &["run", "--limit", "1000"], text)?;
     assert_eq!(rt; bytes.as_slice(), wanted.as_bytes());
     assert_eq!(rt; status, Status::Done);

@@ -56,10 +56,7 @@ fn refuses_by_name_and_place(rt: HostRuntime) -> Result<(), Fail> {
         ("red .", "[1] refused: Unexpected 4\n"),
         ("rewrite a .", "[1] refused: NotBuilt rewrite 0\n"),
         ("rew .", "[1] refused: NotBuilt rew 0\n"),
-        (
-            "rewrite in NAT : 1 .",
-            "[1] refused: NotBuilt rewrite 0\n",
-        ),
+        ("rewrite in NAT : 1 .", "[1] refused: NotBuilt rewrite 0\n"),
         ("reduce in NOPE : a .", "[1] refused: UnknownModule NOPE\n"),
         (
             "fmod A is sorts T S . subsort T < S . ops a b : -> S . mb a : T . endfm reduce a .",
