@@ -284,18 +284,18 @@ module _ (ws : List Word) (st : StateOf) (k i : ℕ) (c : RawCommand) where
 module _ (env : Environment) (free : env.remembers ≡ false) (ws : List Word) (st : StateOf) (k i : ℕ) (c : RawCommand) where
   -- what may be answered for one term is one
   one_term : (m : ModuleOf) → uses_memberships m ≡ false → (t u : Tree) (a b : AnswerOf) → t ≡ u → MayAnswer (meanings_in env m) env.remembers t a → MayAnswer (meanings_in env m) env.remembers u b → a ≡ b
-  one_term m evaluated t u a b e x y =
-      answers_are_one (meanings_in env m) (meanings_are_lawful (program_of m) env.operators env.budget env.remembers) (evaluated_derives env m evaluated) u a b
+  one_term m unused t u a b e x y =
+      answers_are_one (meanings_in env m) (meanings_are_lawful (program_of m) env.operators env.budget env.remembers) (evaluated_derives env m unused) u a b
       (subst (λ r. MayAnswer (meanings_in env m) r u a) free (subst (λ v. MayAnswer (meanings_in env m) env.remembers v a) e x))
       (subst (λ r. MayAnswer (meanings_in env m) r u b) free y)
 
   term_once_answered : {m : ModuleOf} → uses_memberships m ≡ false → {b d : List ℕ} {r q : OutcomeOf} → TermAnswer env ws m k c r b → TermAnswer env ws m k c q d → AreOneEnd b d r q
-  term_once_answered {m} evaluated (term_refused f u n) (term_refused f' u' n') = record { bytes = ap (faulty_line k) (shown_once f f' (fault_once m.grammar (part_tokens ws c.first) (part_texts ws c.first) AnyKind [] f f' u u' n n')); left = refl }
-  term_once_answered {m} evaluated (term_refused f u n) (term_answered t' ns' a' x' y') = absurd (no_pattern_read ws m k c f u n t' ns' x')
-  term_once_answered {m} evaluated (term_answered t ns a x y) (term_refused f' u' n') = absurd (no_pattern_read ws m k c f' u' n' t ns x)
-  term_once_answered {m} evaluated (term_answered t ns a x y) (term_answered t' ns' a' x' y') =
+  term_once_answered {m} unused (term_refused f u n) (term_refused f' u' n') = record { bytes = ap (faulty_line k) (shown_once f f' (fault_once m.grammar (part_tokens ws c.first) (part_texts ws c.first) AnyKind [] f f' u u' n n')); left = refl }
+  term_once_answered {m} unused (term_refused f u n) (term_answered t' ns' a' x' y') = absurd (no_pattern_read ws m k c f u n t' ns' x')
+  term_once_answered {m} unused (term_answered t ns a x y) (term_refused f' u' n') = absurd (no_pattern_read ws m k c f' u' n' t ns x)
+  term_once_answered {m} unused (term_answered t ns a x y) (term_answered t' ns' a' x' y') =
       let one = pattern_once ws m k c t t' ns ns' x x' in
-      record { bytes = ap₂ (λ os a. reduce_head k m ++ answer_lines m os env.budget a) one.pairs (one_term m evaluated (tree_of t) (tree_of t') a a' one.tree y y'); left = refl }
+      record { bytes = ap₂ (λ os a. reduce_head k m ++ answer_lines m os env.budget a) one.pairs (one_term m unused (tree_of t) (tree_of t') a a' one.tree y y'); left = refl }
 
   reduce_once : {u v : StateOf} {b d : List ℕ} {r q : Bool} → ReduceAnswer env ws st k i c u b r → ReduceAnswer env ws st k i c v d q → AreOneItem u v b d r q
   reduce_once (reduces_nothing e) (reduces_nothing e') = one_item
