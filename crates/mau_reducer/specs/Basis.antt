@@ -1,5 +1,5 @@
 -- What an evaluator goes by, which no call changes.
-use Rattle.std.specs.Prelude.{◌≡◌, ℕ, suc, List, [], map, true, false, All, slice_index_or, length}
+use Rattle.std.specs.Prelude.{◌≡◌, ℕ, suc, List, map, false, All, slice_index_or, length}
 use Rattle.mau_signature.specs.Signature.{SignatureOf, IsOperator}
 use Rattle.mau_formula.specs.Operator.{Operator}
 use Rattle.mau_program.specs.declared.program.Program.{Program}
@@ -17,10 +17,6 @@ use Rattle.mau_reduce.specs.Trying.{order_of_all}
 abbrev pub DerivesNothing : Program → Type 0
 DerivesNothing p = All (λ m. m.exec ≡ false) p.memberships
 
--- no executable equation has a condition
-abbrev pub HasNoCondition : Program → Type 0
-HasNoCondition p = All (λ e. e.exec ≡ true → e.cond ≡ []) p.equations
-
 -- there is one for each operator, in their order, and it is what is built in of it
 pub record AreBuiltIns (s : SignatureOf) (hooks : List Operator) (bs : List BuiltIn) : Type 0 where
   pub one_each : length bs ≡ length s.declarations
@@ -35,11 +31,10 @@ pub record Basis : Type 0 where
   pub order : List ℕ
   pub built_ins : List BuiltIn
 
--- the program is lawful, derives no sorts and has no conditions, built-ins give terms of their operators' kinds, and the rest is as it says
+-- the program is lawful and derives no sorts, built-ins give terms of their operators' kinds, and the rest is as it says
 pub record IsBasis (b : Basis) : Type 0 where
   pub lawful : IsLawfulProgram b.program
   pub reducible : IsReducible b.program
-  pub unconditional : HasNoCondition b.program
   pub gives : GivesInKind b.program.sig b.hooks
   pub order : b.order ≡ order_of_all (map equation_of b.program.equations)
   pub built_ins : AreBuiltIns b.program.sig b.hooks b.built_ins

@@ -1,9 +1,10 @@
 -- What the handles of a program's world stand for over the nodes of a store, and which of them are known.
-use Rattle.std.specs.Prelude.{◌≡◌, ℕ, List, [], map, drop, Bool, Option, Some, None, IfSome, slice_get, refl}
+use Rattle.std.specs.Prelude.{◌≡◌, ℕ, suc, List, [], map, drop, take, fold, Bool, true, Option, Some, None, IfSome, slice_get, refl, if◌then◌else◌}
 use Rattle.std.specs.Option.{option_map}
-use Rattle.mau_terms.specs.Tree.{numeral}
 use Rattle.mau_terms.specs.Bare.{IsLawful}
 use Rattle.mau_terms.specs.Solution.{HaveSorts}
+use Rattle.mau_terms.specs.Subst.{Variable}
+use Rattle.mau_terms.specs.declared.bare.Bare.{Bare}
 use Rattle.mau_terms.specs.View.{variable_of}
 use Rattle.mau_signature.specs.Signature.{SignatureOf, terms_over}
 use Rattle.mau_store.specs.Node.{Node}
@@ -17,23 +18,25 @@ use Rattle.mau_program.specs.declared.program.Program as Typed
 use Rattle.mau_program.specs.declared.statements.Fragment as Written
 use Rattle.mau_program.specs.declared.statements.Fragment.TheVariants.{Equal, Match, Sort, Reach}
 use Rattle.mau_program.specs.declared.statements.Equation.{Equation}
-use Rattle.mau_evaluation.specs.Run.{gives}
+use Rattle.mau_program.specs.Binding.{bound_behind, are_bound}
+use Rattle.mau_evaluation.specs.Evaluation.{levels}
 use Rattle.mau_api.specs.Programs.{program_over, fragment_of}
 use Rattle.mau_api.specs.Terms.{IsTerm}
-use Rattle.mau_api.specs.Answers.{AreSettled}
+use Rattle.mau_api.specs.Answers.{AreSettled, binding_in}
 use Rattle.mau_reduce.specs.declared.binding.Binding.{Binding}
 use Rattle.mau_reduce.specs.Kinds.{AreUnder}
 use Rattle.mau_reduce.specs.Bindings.{bound_in, AreValues}
 use Rattle.mau_reduce.specs.Reducible.{IsReducible}
-use Rattle.mau_reduce.specs.Trying.{order_of_all, IsTried}
+use Rattle.mau_reduce.specs.Trying.{order_of_all, solution_in, IsTried}
 use Rattle.mau_reduce.specs.Giving.{IsGivenAt}
 use Rattle.mau_reduce.specs.Lasts.{left_variables, IsLast, IsLastListed}
 use Rattle.mau_reduce.specs.Attempting.{untried_by, makes_of}
 use Rattle.mau_machine.specs.declared.goal.Goal.{Goal}
 use Rattle.mau_machine.specs.declared.goal.Goal.TheVariants.{Nothing, Equality, Sort as OfSort, Matching, Reaching}
-use Rattle.mau_machine.specs.Words.{Rules, Words}
+use Rattle.mau_machine.specs.Words.{Rules, Words, Asks, rest_of, pattern_in}
 use Rattle.mau_reducer.specs.declared.reducer.Candidates.{Candidates}
-use Rattle.mau_reducer.specs.declared.reducer.Choices.{Choices}
+use Rattle.mau_choices.specs.declared.choices.Choices.{Choices}
+use Rattle.mau_choices.specs.Choosing.{left_of_choices, IsChoosing}
 use Rattle.mau_reducer.specs.Basis.{Basis}
 
 -- ---- conditions by the numbers of their equations
@@ -45,6 +48,14 @@ written_in None = []
 -- the condition of the equation with a number, as it is written; a number past them has none
 abbrev pub written_at : Typed.Program → ℕ → List Written.Fragment
 written_at p e = written_in (slice_get p.equations e)
+
+-- the variables that are bound before its fragment with the number i, counted from 0: those of the left side, and then those that are matched
+abbrev pub bound_before : Typed.Program → ℕ → ℕ → List Variable
+bound_before p e i = fold bound_behind (left_variables p e) (take i (written_at p e))
+
+-- the variables bound before that fragment are all that it and those behind it may have, but for what they match
+abbrev pub AreBoundFrom : Typed.Program → ℕ → ℕ → Type 0
+AreBoundFrom p e i = are_bound (bound_before p e i) (drop i (written_at p e)) ≡ true
 
 -- what an evaluation goes by
 abbrev pub rules_of : Basis → Rules
@@ -67,6 +78,30 @@ goal_in (Some (Match p u)) = Matching
 goal_in (Some (Sort t s)) = OfSort
 goal_in (Some (Reach t u)) = Reaching
 
+-- the left or the right side of a fragment that is evaluated
+abbrev pub side_written : Bool → Option Written.Fragment → Option Bare
+side_written right None = None
+side_written right (Some (Equal t u)) = Some (if right then u else t)
+side_written right (Some (Match p u)) = Some u
+side_written right (Some (Sort t s)) = Some t
+side_written right (Some (Reach t u)) = None
+
+-- what a fragment p := u matches
+abbrev pub pattern_written : Option Written.Fragment → Option Bare
+pattern_written None = None
+pattern_written (Some (Equal t u)) = None
+pattern_written (Some (Match p u)) = Some p
+pattern_written (Some (Sort t s)) = None
+pattern_written (Some (Reach t u)) = None
+
+-- the sort for which a fragment t : s tests
+abbrev pub sort_written : Option Written.Fragment → Option ℕ
+sort_written None = None
+sort_written (Some (Equal t u)) = None
+sort_written (Some (Match p u)) = None
+sort_written (Some (Sort t s)) = Some s
+sort_written (Some (Reach t u)) = None
+
 -- ---- known handles
 
 abbrev pub as_id : ℕ → TermId
@@ -87,15 +122,17 @@ pub record AreKnownOperands (s : SignatureOf) (nodes : List Node) (f : ℕ) (ids
   pub lawful : IsLawful (terms_over s)
   pub under : AreUnder s nodes f (numbers ids)
 
--- the values are those of the variables of the left side, and have their kinds and their sorts; and the condition has no fragment from there on
+-- the values are those of all variables that are bound before the fragment i of the condition e, and have their kinds and their sorts; and the fragments
+-- from there on have no others
 pub record IsKnownBinding (b : Basis) (nodes : List Node) (table : Table) (e i : ℕ) (σ : Binding) : Type 0 where
   pub values : AreValues b.program.sig nodes σ
-  pub variables : map variable_of σ.variables.items ≡ left_variables b.program e
+  pub variables : map variable_of σ.variables.items ≡ bound_before b.program e i
   pub sorts : HaveSorts (HasEntry b.program.sig nodes table) (map variable_of σ.variables.items) (trees_at nodes (numbers σ.values.items))
-  pub nothing : drop i ((rules_of b).cond e) ≡ []
+  pub bound : AreBoundFrom b.program e i
 
--- c says whether listings have contexts
-module _ {L : Type 0} (c : Bool) (asked : L → Asked) (given : L → Option Solution) (is_for : L → SignatureOf → Type 0) (b : Basis) (nodes : List Node) (table : Table) where
+-- c says whether the listings of equations have contexts; those of fragments have none
+module _ {L M : Type 0} (c : Bool) (asked : L → Asked) (given : L → Option Solution) (is_for : L → SignatureOf → Type 0)
+    (asked_whole : M → Asked) (given_whole : M → Option Solution) (is_for_whole : M → SignatureOf → Type 0) (b : Basis) (nodes : List Node) (table : Table) where
   -- what the built-in gives is as it says, and the listing with which they go on is one for their term, and can go on
   pub record AreKnownCandidates (t : ℕ) (a : Candidates L) : Type 0 where
     pub own : a.term.0 ≡ t
@@ -112,7 +149,15 @@ module _ {L : Type 0} (c : Bool) (asked : L → Asked) (given : L → Option Sol
     pub last : IsLast b.program nodes (tree_at nodes t) e a.attempts.given a.attempts.last
     pub listed : IsLastListed b.program nodes table (as_id t) e a.attempts.given a.attempts.last
 
-  abbrev pub words_of : Words (Candidates L) Choices Binding
+  -- the fragment i of the condition e is p := u, and the solutions are those of p, where the variables that are bound before it have values
+  pub record AreKnownChoices (e i : ℕ) (x : Choices M) : Type 0 where
+    pub asks : Asks (rules_of b) e i Matching
+    pub choosing : IsChoosing b.program.sig nodes table (pattern_in (rest_of (rules_of b) e i)) x.binding x.value (asked_whole x.listing) (given_whole x.listing)
+        (is_for_whole x.listing b.program.sig)
+    pub variables : map (λ y. variable_of y.0) x.binding ≡ bound_before b.program e i
+    pub bound : AreBoundFrom b.program e i
+
+  abbrev pub words_of : Words (Candidates L) (Choices M) Binding
   words_of = record {
     rules = rules_of b;
     tree = tree_at nodes;
@@ -126,8 +171,9 @@ module _ {L : Type 0} (c : Bool) (asked : L → Asked) (given : L → Option Sol
     knows_attempts = AreKnownCandidates;
     makes = λ a. makes_of (program_over b.program b.hooks) nodes (tree_at nodes a.term.0) a.attempts.given a.attempts.last;
     knows_candidate = IsKnownCandidate;
-    unchosen = λ x k e i. gives None;
-    knows_choices = λ e i x. ⊥;
-    chosen_from = λ x. [];
-    chosen_value = λ x. numeral 0;
+    unchosen = λ x k e i. left_of_choices (program_over b.program b.hooks) (levels (program_over b.program b.hooks) b.limit k) (pattern_in (rest_of (rules_of b) e i))
+        (rest_of (rules_of b) e (suc i)) (binding_in nodes x.binding) (tree_at nodes x.value.0) (option_map (solution_in nodes) (given_whole x.listing));
+    knows_choices = AreKnownChoices;
+    chosen_from = λ x. binding_in nodes x.binding;
+    chosen_value = λ x. tree_at nodes x.value.0;
   }

@@ -1,5 +1,5 @@
 -- States that come of one another.
-use Rattle.std.proofs.Common.{◌≡◌, ℕ, List, [], ◌∷◌, Bool, Option, Some, None, IfSome, map, drop, refl, sym, ap, ◌∙◌, subst}
+use Rattle.std.proofs.Common.{◌≡◌, ℕ, suc, List, [], ◌∷◌, Bool, Option, Some, None, IfSome, map, drop, refl, sym, ap, ◌∙◌, subst}
 use Rattle.std.specs.Option.{option_map}
 use Rattle.mau_terms.specs.Tree.{Tree}
 use Rattle.mau_terms.specs.declared.ids.TermId.{TermId}
@@ -20,7 +20,7 @@ use Rattle.mau_listing.proofs.Growth.{AreOfStore, entry_kept}
 use Rattle.mau_api.specs.Terms.{IsTerm}
 use Rattle.mau_api.specs.Programs.{program_over}
 use Rattle.mau_evaluation.specs.Program.{Program}
-use Rattle.mau_evaluation.specs.Evaluation.{Binding}
+use Rattle.mau_evaluation.specs.Evaluation.{Binding, levels}
 use Rattle.mau_reduce.specs.declared.binding.Binding.{Binding as Kept}
 use Rattle.mau_reduce.specs.declared.trying.Tried.{Tried}
 use Rattle.mau_reduce.specs.Bindings.{bound_in}
@@ -32,11 +32,13 @@ use Rattle.mau_reduce.specs.Attempting.{untried_by, makes_of}
 use Rattle.mau_reduce.specs.Giving.{IsGivenAt}
 use Rattle.mau_reduce.specs.Lasts.{IsLast}
 use Rattle.mau_reduce.proofs.LaterStores.{tried_grown, untried_grown, last_there, last_grown, listed_grown, taken_there, given_grown, makes_grown, bound_grown, values_grown}
-use Rattle.mau_machine.specs.Words.{Keeps}
+use Rattle.mau_machine.specs.Words.{rest_of, pattern_in, Keeps}
 use Rattle.mau_reducer.specs.declared.reducer.Candidates.{Candidates}
+use Rattle.mau_choices.specs.declared.choices.Choices.{Choices}
 use Rattle.mau_reducer.specs.Basis.{Basis}
-use Rattle.mau_reducer.specs.Handles.{as_id, IsKnownTerm, IsKnownValue, AreKnownOperands, IsKnownBinding, AreKnownCandidates, IsKnownCandidate, words_of}
+use Rattle.mau_reducer.specs.Handles.{rules_of, as_id, IsKnownTerm, IsKnownValue, AreKnownOperands, IsKnownBinding, AreKnownCandidates, IsKnownCandidate, AreKnownChoices, words_of}
 use Rattle.mau_reducer.specs.States.{IsFit, IsReady, ComesOf}
+use Rattle.mau_reducer.specs.ChoicesGrown.{bound_same, choosing_later, left_same}
 
 -- ---- they are an order
 
@@ -110,14 +112,15 @@ binding_later b old new before after h e i σ k =
             subst (HaveSorts (HasEntry b.program.sig new after) (map variable_of σ.variables.items)) (sym same)
             (HaveSorts-then (HasEntry b.program.sig old before) (HasEntry b.program.sig new after) (λ r t. entry_kept old new h.extends before after h.kept b.program.sig r t) (map variable_of σ.variables.items)
             (trees_at old (numbers σ.values.items)) k.sorts);
-        nothing = k.nothing;
+        bound = k.bound;
       },
       bound_grown b.program old new h.extends σ k.values.within,
     )
 
 -- ---- candidates
 
-module _ {L : Type 0} (c : Bool) (asked : L → Asked) (given : L → Option Solution) (is_for : L → SignatureOf → Type 0) (b : Basis) (old new : List Node) (before after : Table)
+module _ {L M : Type 0} (c : Bool) (asked : L → Asked) (given : L → Option Solution) (is_for : L → SignatureOf → Type 0)
+    (asked_whole : M → Asked) (given_whole : M → Option Solution) (is_for_whole : M → SignatureOf → Type 0) (b : Basis) (old new : List Node) (before after : Table)
     (h : ComesOf b b old new before after) where
   abbrev P : Program
   P = program_over b.program b.hooks
@@ -137,7 +140,7 @@ module _ {L : Type 0} (c : Bool) (asked : L → Asked) (given : L → Option Sol
   tree_same : (t : ℕ) → IsTerm b.program.sig old t → tree_at new t ≡ tree_at old t
   tree_same t is = tree_kept (theory_at b.program.sig) old new t h.extends is.within
 
-  candidates_known : (t : ℕ) (a : Candidates L) → AreKnownCandidates c asked given is_for b old before t a → AreKnownCandidates c asked given is_for b new after t a
+  candidates_known : (t : ℕ) (a : Candidates L) → AreKnownCandidates c asked given is_for asked_whole given_whole is_for_whole b old before t a → AreKnownCandidates c asked given is_for asked_whole given_whole is_for_whole b new after t a
   candidates_known t a k = record {
     own = k.own;
     term = is_term_kept b.program.sig old new t h.extends k.term;
@@ -147,15 +150,15 @@ module _ {L : Type 0} (c : Bool) (asked : L → Asked) (given : L → Option Sol
         (given_grown b.program old new h.extends b.hooks (tree_at old t) a.attempts.given k.given_at);
   }
 
-  untried_same : (t : ℕ) (a : Candidates L) → AreKnownCandidates c asked given is_for b old before t a → (k n : ℕ) →
-      (words_of c asked given is_for b new after).untried a k n ≡ (words_of c asked given is_for b old before).untried a k n
+  untried_same : (t : ℕ) (a : Candidates L) → AreKnownCandidates c asked given is_for asked_whole given_whole is_for_whole b old before t a → (k n : ℕ) →
+      (words_of c asked given is_for asked_whole given_whole is_for_whole b new after).untried a k n ≡ (words_of c asked given is_for asked_whole given_whole is_for_whole b old before).untried a k n
   untried_same t a is k n =
       ap (λ u. untried_by P b.limit k new u a.attempts.given (option_map (λ x. (x.number, given x.listing)) a.attempts.tried) (drop a.attempts.next (order_of_all P.equations)) n)
       (tree_same a.term.0 (subst (IsTerm b.program.sig old) (sym is.own) is.term))
       ∙ ap (λ r. r n) (untried_grown old new h.extends P b.limit k (tree_at old a.term.0) (drop a.attempts.next (order_of_all P.equations)) a.attempts.given
       (taken_there b.program old new h.extends a.attempts.given is.given_at.taken) (option_map (λ x. (x.number, given x.listing)) a.attempts.tried) (last_ones (as_id t) a.attempts.tried is.tried))
 
-  candidate_known : (t e : ℕ) (a : Candidates L) → IsKnownCandidate c asked given is_for b old before t e a → IsKnownCandidate c asked given is_for b new after t e a
+  candidate_known : (t e : ℕ) (a : Candidates L) → IsKnownCandidate c asked given is_for asked_whole given_whole is_for_whole b old before t e a → IsKnownCandidate c asked given is_for asked_whole given_whole is_for_whole b new after t e a
   candidate_known t e a k =
       let same = tree_same t k.term in
       record {
@@ -170,14 +173,31 @@ module _ {L : Type 0} (c : Bool) (asked : L → Asked) (given : L → Option Sol
             listed_grown b.program old new h.extends before after h.kept k.reducible (as_id t) k.term e a.attempts.given a.attempts.last k.listed;
       }
 
-  makes_same : (t e : ℕ) (a : Candidates L) → IsKnownCandidate c asked given is_for b old before t e a → (σ : Binding) →
-      (words_of c asked given is_for b new after).makes a σ ≡ (words_of c asked given is_for b old before).makes a σ
+  makes_same : (t e : ℕ) (a : Candidates L) → IsKnownCandidate c asked given is_for asked_whole given_whole is_for_whole b old before t e a → (σ : Binding) →
+      (words_of c asked given is_for asked_whole given_whole is_for_whole b new after).makes a σ ≡ (words_of c asked given is_for asked_whole given_whole is_for_whole b old before).makes a σ
   makes_same t e a k σ =
       ap (λ u. makes_of P new u a.attempts.given a.attempts.last σ) (tree_same a.term.0 (subst (IsTerm b.program.sig old) (sym k.own) k.term))
       ∙ makes_grown b.program old new h.extends b.hooks (tree_at old a.term.0) e a.attempts.given a.attempts.last σ k.given_at.taken
       (subst (λ i. IsLast b.program old (tree_at old i) e a.attempts.given a.attempts.last) (sym k.own) k.last)
 
-  words_stay : Keeps (words_of c asked given is_for b old before) (words_of c asked given is_for b new after)
+  choices_known : (e i : ℕ) (x : Choices M) → AreKnownChoices c asked given is_for asked_whole given_whole is_for_whole b old before e i x →
+      AreKnownChoices c asked given is_for asked_whole given_whole is_for_whole b new after e i x
+  choices_known e i x k = record {
+    asks = k.asks;
+    choosing = choosing_later b.program.sig old new before after h.extends h.kept h.plain.over (pattern_in (rest_of (rules_of b) e i)) x.binding x.value (asked_whole x.listing) (given_whole x.listing)
+        (is_for_whole x.listing b.program.sig) k.choosing;
+    variables = k.variables;
+    bound = k.bound;
+  }
+
+  choices_same : (e i : ℕ) (x : Choices M) → AreKnownChoices c asked given is_for asked_whole given_whole is_for_whole b old before e i x → (k n : ℕ) →
+      (words_of c asked given is_for asked_whole given_whole is_for_whole b new after).unchosen x k e i n
+      ≡ (words_of c asked given is_for asked_whole given_whole is_for_whole b old before).unchosen x k e i n
+  choices_same e i x is k n =
+      left_same b.program.sig old new before after h.extends h.kept (pattern_in (rest_of (rules_of b) e i)) x.binding x.value (asked_whole x.listing) (given_whole x.listing)
+      (is_for_whole x.listing b.program.sig) is.choosing P (levels P b.limit k) (rest_of (rules_of b) e (suc i)) n
+
+  words_stay : Keeps (words_of c asked given is_for asked_whole given_whole is_for_whole b old before) (words_of c asked given is_for asked_whole given_whole is_for_whole b new after)
   words_stay = record {
     rules = refl;
     terms = term_later b.program.sig old new h.extends;
@@ -186,12 +206,14 @@ module _ {L : Type 0} (c : Bool) (asked : L → Asked) (given : L → Option Sol
     bindings = binding_later b old new before after h;
     attempts = λ t a k. (candidates_known t a k, untried_same t a k);
     candidates = λ t e a k. (candidate_known t e a k, makes_same t e a k);
-    choices = λ e i x k. absurd k;
-    chosen = λ e i x k. absurd k;
+    choices = λ e i x k. (choices_known e i x k, choices_same e i x k);
+    chosen = λ e i x k.
+        (bound_same b.program.sig old new before after h.extends h.kept x.binding k.choosing.values, tree_same x.value.0 k.choosing.value);
   }
 
-pub words_kept : {L : Type 0} (c : Bool) (asked : L → Asked) (given : L → Option Solution) (is_for : L → SignatureOf → Type 0) (b d : Basis) (old new : List Node) (before after : Table) → ComesOf b d old new before after →
-    Keeps (words_of c asked given is_for b old before) (words_of c asked given is_for d new after)
-words_kept c asked given is_for b d old new before after h =
-    subst (λ (x : Basis). Keeps (words_of c asked given is_for b old before) (words_of c asked given is_for x new after)) (sym h.basis)
-    (words_stay c asked given is_for b old new before after (record { basis = refl; extends = h.extends; kept = h.kept; plain = h.plain }))
+pub words_kept : {L M : Type 0} (c : Bool) (asked : L → Asked) (given : L → Option Solution) (is_for : L → SignatureOf → Type 0)
+    (asked_whole : M → Asked) (given_whole : M → Option Solution) (is_for_whole : M → SignatureOf → Type 0) (b d : Basis) (old new : List Node) (before after : Table) → ComesOf b d old new before after →
+    Keeps (words_of c asked given is_for asked_whole given_whole is_for_whole b old before) (words_of c asked given is_for asked_whole given_whole is_for_whole d new after)
+words_kept c asked given is_for asked_whole given_whole is_for_whole b d old new before after h =
+    subst (λ (x : Basis). Keeps (words_of c asked given is_for asked_whole given_whole is_for_whole b old before) (words_of c asked given is_for asked_whole given_whole is_for_whole x new after)) (sym h.basis)
+    (words_stay c asked given is_for asked_whole given_whole is_for_whole b old new before after (record { basis = refl; extends = h.extends; kept = h.kept; plain = h.plain }))

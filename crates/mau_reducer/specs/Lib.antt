@@ -15,7 +15,8 @@ pub mod Handles
 pub mod States
 -- lemmas by which it has the laws of worlds and of evaluators
 pub mod KnownHandles
-pub mod NoFragments
+pub mod Fragments
+pub mod ChoicesGrown
 pub mod LaterStates
 pub mod MeantLaws
 pub mod DerivedTables

@@ -5,6 +5,7 @@ ghost use Rattle.mau_api.specs.Answers.{levels_of_item};
 
 use crate::reducer::Reducer;
 use mau_api::{EvalEnd, Evaluator, Fragment, Lister, Reduced, Solution, StepWatcher};
+use mau_listing::WholeLister;
 use mau_reduce::{Natives, settle, settle_identities};
 use mau_sorts::SortTable;
 use mau_store::Store;
@@ -17,7 +18,7 @@ fn levels_of_item() -> u32
     2000
 }
 
-impl<'a, L: Lister + Drop, N: Natives + Drop> Reducer<'a, L, N> {
+impl<'a, L: Lister + Drop, M: WholeLister + Drop, N: Natives + Drop> Reducer<'a, L, M, N> {
     ghost use Rattle.mau_reducer.specs.Worlds.{basis_of};
     ghost use Rattle.mau_reducer.specs.States.{IsFit, IsReady, ComesOf};
 
@@ -39,7 +40,7 @@ impl<'a, L: Lister + Drop, N: Natives + Drop> Reducer<'a, L, N> {
     }
 }
 
-impl<'a, L: Lister + Drop, N: Natives + Drop> Evaluator for Reducer<'a, L, N> {
+impl<'a, L: Lister + Drop, M: WholeLister + Drop, N: Natives + Drop> Evaluator for Reducer<'a, L, M, N> {
     ghost use Rattle.std.specs.Prelude.{true};
     ghost use Rattle.mau_reducer.specs.Worlds.{basis_of};
     ghost use Rattle.mau_reducer.specs.Meant.{meanings_of};
@@ -110,10 +111,10 @@ impl<'a, L: Lister + Drop, N: Natives + Drop> Evaluator for Reducer<'a, L, N> {
         }
     }
 
-    fn list<M: Lister>(
+    fn list<K: Lister>(
         &mut self,
         store: &mut Store,
-        listing: &mut M,
+        listing: &mut K,
     ) -> Result<Option<Solution>, NoMemory> {
         listing.next(store, &self.program.sig, &mut self.table)
     }

@@ -2,10 +2,11 @@
 #![tactic(auto)]
 
 mod evaluating;
+mod fragments;
 pub mod laws;
 mod reducer;
 mod tests_of_programs;
 mod world;
 
-pub use reducer::{Candidates, Choices, Reducer};
-pub use tests_of_programs::{derives_nothing, is_unconditional};
+pub use reducer::{Candidates, Reducer};
+pub use tests_of_programs::derives_nothing;

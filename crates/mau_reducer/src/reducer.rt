@@ -1,8 +1,7 @@
 //! The evaluator: a program with its native operators, and the sorts that are settled.
-ghost use Rattle.std.specs.Prelude.{◌≡◌, ℕ, List, All, true, false, IfOk, slice_get};
-ghost use Rattle.std.specs.Option.{option_copied};
+ghost use Rattle.std.specs.Prelude.{◌≡◌, List, All, true, false, IfOk};
 ghost use Rattle.mau_terms.specs.Bare.{IsLawful};
-ghost use Rattle.mau_signature.specs.Signature.{IsOperator, terms_over};
+ghost use Rattle.mau_signature.specs.Signature.{terms_over};
 ghost use Rattle.mau_formula.specs.Operator.{Operator};
 ghost use Rattle.mau_store.specs.Trees.{tree_at};
 ghost use Rattle.mau_program.specs.LawfulPrograms.{IsLawfulProgram};
@@ -10,9 +9,10 @@ ghost use Rattle.mau_api.specs.Terms.{IsTerm};
 ghost use Rattle.mau_api.specs.Meanings.{meanings_by};
 ghost use Rattle.mau_reduce.specs.BuiltOperators.{IsBuiltAt};
 ghost use Rattle.mau_built_ins.specs.NativeNumerals.{GivesNumerals};
-ghost use Rattle.mau_reducer.specs.Basis.{DerivesNothing, HasNoCondition, AreBuiltIns, IsBasis};
+ghost use Rattle.mau_reducer.specs.Basis.{DerivesNothing, AreBuiltIns};
 
-use mau_api::{Evaluator, Fragment, Lister, Program};
+use mau_api::{Evaluator, Lister, Program};
+use mau_listing::WholeLister;
 use mau_reduce::{Attempts, BuiltIn, Natives, built_in_of, equations_in_order};
 use mau_sorts::SortTable;
 use mau_store::{NodeView, Store};
@@ -27,14 +27,10 @@ pub struct Candidates<L> {
     pub(crate) attempts: Attempts<L>,
 }
 
-/// Solutions of a fragment. There are none, since no condition has a fragment.
+/// Evaluates by a program and its native operators, with listings of the type `L` for equations and of the type `M` for conditions. It
+/// keeps in which order equations are tried, what is built in of the operators, and the sorts that are settled.
 #[derive(Drop)]
-pub struct Choices;
-
-/// Evaluates by a program and its native operators, with listings of the type `L`. It keeps in which order equations are tried, what is
-/// built in of the operators, and the sorts that are settled.
-#[derive(Drop)]
-pub struct Reducer<'a, L, N> {
+pub struct Reducer<'a, L, M, N> {
     pub(crate) program: &'a Program,
     pub(crate) natives: N,
     pub(crate) limit: u64,
@@ -44,6 +40,7 @@ pub struct Reducer<'a, L, N> {
     /// Whether the identities are settled.
     pub(crate) begun: bool,
     of: PhantomData<L>,
+    of_conditions: PhantomData<M>,
 }
 
 /// What is built in of the operators of a program, in their order.
@@ -58,9 +55,8 @@ fn built_ins_of(alloc: Global, program: &Program) -> Result<Vec<BuiltIn>, NoMemo
     Ok(found)
 }
 
-impl<'a, L: Lister + Drop, N: Natives + Drop> Reducer<'a, L, N> {
+impl<'a, L: Lister + Drop, M: WholeLister + Drop, N: Natives + Drop> Reducer<'a, L, M, N> {
     ghost use Rattle.mau_reducer.specs.Worlds.{basis_of};
-    ghost use Rattle.mau_reducer.specs.Handles.{written_at};
     ghost use Rattle.mau_reducer.specs.States.{IsFit};
     ghost use Rattle.mau_store.specs.Node.{Node};
 
@@ -72,14 +68,13 @@ impl<'a, L: Lister + Drop, N: Natives + Drop> Reducer<'a, L, N> {
         natives: N,
         limit: u64,
         _remember: bool,
-    ) -> Result<Reducer<'a, L, N>, NoMemory>
+    ) -> Result<Reducer<'a, L, M, N>, NoMemory>
         requires lawful { IsLawfulProgram program.now }
         requires derives_nothing { DerivesNothing program.now }
-        requires unconditional { HasNoCondition program.now }
         requires numerals { All GivesNumerals (N.operators natives) }
         requires contexts { L.with_context ≡ true }
-        ensures meanings { IfOk result (λ e. ⟦<Reducer<'a, L, N> as Evaluator>⟧.meanings e ≡ meanings_by program.now (N.operators natives) limit false) }
-        ensures fits { (nodes : List Node) → IfOk result (λ e. ⟦<Reducer<'a, L, N> as Evaluator>⟧.fits e nodes) }
+        ensures meanings { IfOk result (λ e. ⟦<Reducer<'a, L, M, N> as Evaluator>⟧.meanings e ≡ meanings_by program.now (N.operators natives) limit false) }
+        ensures fits { (nodes : List Node) → IfOk result (λ e. ⟦<Reducer<'a, L, M, N> as Evaluator>⟧.fits e nodes) }
     {
         let order = equations_in_order(alloc, program)?;
         let built_ins = built_ins_of(alloc, program)?;
@@ -92,6 +87,7 @@ impl<'a, L: Lister + Drop, N: Natives + Drop> Reducer<'a, L, N> {
             table: SortTable::new(alloc),
             begun: false,
             of: PhantomData,
+            of_conditions: PhantomData,
         })
     }
 
@@ -105,16 +101,6 @@ impl<'a, L: Lister + Drop, N: Natives + Drop> Reducer<'a, L, N> {
         match store.view(term) {
             NodeView::App(op, _) => self.built_ins[op.0 as usize - 1],
             NodeView::Num(_) | NodeView::Var(_) => BuiltIn::Nothing,
-        }
-    }
-
-    /// The fragment at a place of the condition with a number, if there is one.
-    pub(crate) fn fragment(&self, condition: usize, at: usize) -> Option<&Fragment>
-        ensures { option_copied result ≡ slice_get (written_at self.now.program.now condition) at }
-    {
-        match self.program.equations.items().get(condition) {
-            Some(equation) => equation.cond.items().get(at),
-            None => None,
         }
     }
 }

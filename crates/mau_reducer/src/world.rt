@@ -3,11 +3,15 @@ ghost use Rattle.std.specs.Prelude.{◌≡◌};
 ghost use Rattle.std.specs.Option.{option_copied};
 ghost use Rattle.mau_reducer.specs.Handles.{goal_in};
 
-use crate::reducer::{Candidates, Choices, Reducer};
+use crate::fragments::{fragment_at, pattern_at, side_at, sort_at};
+use crate::reducer::{Candidates, Reducer};
 use mau_api::{EvalEnd, Fragment, Lister, Step};
+use mau_choices::{Choices, begin_choices, next_choice};
+use mau_cond::Bound;
+use mau_listing::WholeLister;
 use mau_machine::{Goal, World};
 use mau_reduce::{
-    Binding, Natives, begin_attempts, make, next_attempt, open, rebuild, settle, step,
+    Binding, Natives, begin_attempts, instance, make, next_attempt, open, rebuild, settle, step,
 };
 use mau_store::Store;
 use mau_terms::{NoMemory, OpId, TermId};
@@ -25,22 +29,22 @@ fn goal_in(fragment: Option<&Fragment>) -> Goal
     }
 }
 
-impl<'a, L: Lister + Drop, N: Natives + Drop> World for Reducer<'a, L, N> {
+impl<'a, L: Lister + Drop, M: WholeLister + Drop, N: Natives + Drop> World for Reducer<'a, L, M, N> {
     ghost use Rattle.mau_reducer.specs.Worlds.{basis_of};
     ghost use Rattle.mau_reducer.specs.Handles.{words_of};
     ghost use Rattle.mau_reducer.specs.States.{IsReady, ComesOf};
     ghost use Rattle.std.specs.Prelude.{refl, true};
     ghost use Rattle.mau_reducer.specs.KnownHandles.{operand_put, operand_known, normal_term};
-    ghost use Rattle.mau_reducer.specs.NoFragments.{none_passes, has_none};
+    ghost use Rattle.mau_reducer.specs.Fragments.{passes_on, has_values_of};
     ghost use Rattle.mau_reducer.specs.LaterStates.{same_state, later_state, ready_later, words_kept};
 
     type Attempts = Candidates<L>;
 
-    type Choices = Choices;
+    type Choices = Choices<M>;
 
     type Binding = Binding;
 
-    ghost words = { λ w nodes. words_of L.with_context L.asked L.given L.is_for (basis_of N.operators w) nodes w.table };
+    ghost words = { λ w nodes. words_of L.with_context L.asked L.given L.is_for M.asked M.given M.is_for (basis_of N.operators w) nodes w.table };
 
     ghost table = { λ w. w.table };
 
@@ -131,19 +135,21 @@ impl<'a, L: Lister + Drop, N: Natives + Drop> World for Reducer<'a, L, N> {
     }
 
     fn goal(&self, condition: usize, at: usize) -> Goal {
-        goal_in(self.fragment(condition, at))
+        goal_in(fragment_at(self.program, condition, at))
     }
 
     fn side(
         &mut self,
-        _: &mut Store,
-        _: usize,
-        _: usize,
-        _: bool,
-        _: &Binding,
+        store: &mut Store,
+        condition: usize,
+        at: usize,
+        right: bool,
+        binding: &Binding,
     ) -> Result<TermId, EvalEnd> {
-        // Never: no condition has a fragment.
-        Err(EvalEnd::NoMemory)
+        match side_at(self.program, condition, at, right) {
+            Some(side) => instance(store, &self.program.sig, side, binding),
+            None => unreachable!(),
+        }
     }
 
     fn same(&self, store: &Store, left: TermId, right: TermId) -> bool {
@@ -152,32 +158,60 @@ impl<'a, L: Lister + Drop, N: Natives + Drop> World for Reducer<'a, L, N> {
         left == right
     }
 
-    fn sorted(&mut self, _: &mut Store, _: usize, _: usize, _: TermId) -> Result<bool, NoMemory> {
-        // Never: no condition has a fragment.
-        Err(NoMemory)
+    fn sorted(
+        &mut self,
+        store: &mut Store,
+        condition: usize,
+        at: usize,
+        value: TermId,
+    ) -> Result<bool, NoMemory> {
+        // What holds of the nodes of a store is told with their number.
+        let _nodes = store.len();
+        match sort_at(self.program, condition, at) {
+            Some(sort) => match self.table.has(&self.program.sig, value, sort) {
+                Some(has) => Ok(has),
+                None => unreachable!(),
+            },
+            None => unreachable!(),
+        }
     }
 
     fn choices(
         &mut self,
-        _: &mut Store,
-        _: usize,
-        _: usize,
-        _: Binding,
-        _: TermId,
-    ) -> Result<Choices, NoMemory> {
-        // Never: no condition has a fragment.
-        Err(NoMemory)
+        store: &mut Store,
+        condition: usize,
+        at: usize,
+        binding: Binding,
+        value: TermId,
+    ) -> Result<Choices<M>, NoMemory> {
+        match pattern_at(self.program, condition, at) {
+            Some(pattern) => {
+                let bound = Bound::from_parts(binding.variables, binding.values);
+                begin_choices(store, &self.program.sig, &self.table, pattern, bound, value)
+            }
+            None => unreachable!(),
+        }
     }
 
     fn choose(
         &mut self,
-        _: &mut Store,
-        _: usize,
-        _: usize,
-        _: &mut Choices,
+        store: &mut Store,
+        condition: usize,
+        at: usize,
+        choices: &mut Choices<M>,
     ) -> Result<Option<Binding>, NoMemory> {
-        // Never: there are none.
-        Err(NoMemory)
+        let program = self.program;
+        match pattern_at(program, condition, at) {
+            Some(pattern) => match next_choice(store, program, &mut self.table, pattern, choices) {
+                Ok(Some(bound)) => {
+                    let (variables, values) = bound.into_parts();
+                    Ok(Some(Binding { variables, values }))
+                }
+                Ok(None) => Ok(None),
+                Err(end) => Err(end),
+            },
+            None => unreachable!(),
+        }
     }
 
     // ---- laws
@@ -192,9 +226,9 @@ impl<'a, L: Lister + Drop, N: Natives + Drop> World for Reducer<'a, L, N> {
 
     ghost holds = { λ w nodes f ts i t h e. operand_known w.program.now.sig nodes f ts i t h e };
 
-    ghost passes = { λ w nodes e i σ h p. none_passes (basis_of N.operators w) nodes w.table e i σ h p };
+    ghost passes = { λ w nodes e i σ h p. passes_on (basis_of N.operators w) nodes w.table e i σ h p };
 
-    ghost has_values = { λ w nodes e i right σ τ h k x. absurd (has_none (basis_of N.operators w) nodes w.table e i σ h right k) };
+    ghost has_values = { λ w nodes e i right σ τ h k x. has_values_of (basis_of N.operators w) nodes w.table e i σ h right τ k x };
 
     ghost stands = { λ w nodes t h. (h.term.within.there, refl, normal_term w.program.now.sig nodes t h) };
 
@@ -212,6 +246,6 @@ impl<'a, L: Lister + Drop, N: Natives + Drop> World for Reducer<'a, L, N> {
       r.1,
     ) };
 
-    ghost keeps = { λ u v nodes more h. words_kept L.with_context L.asked L.given L.is_for (basis_of N.operators u)
+    ghost keeps = { λ u v nodes more h. words_kept L.with_context L.asked L.given L.is_for M.asked M.given M.is_for (basis_of N.operators u)
         (basis_of N.operators v) nodes more u.table v.table h };
 }
