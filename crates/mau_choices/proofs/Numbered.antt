@@ -6,7 +6,7 @@ use Rattle.mau_terms.specs.Tree.{Tree, variable, numeral, apply, Trees, no_trees
 use Rattle.mau_terms.specs.Norm.{norm}
 use Rattle.mau_terms.specs.Bare.{IsBare}
 use Rattle.mau_terms.specs.Reading.{reading}
-use Rattle.mau_terms.specs.Subst.{Variable, variables, value_at, has_variable, instance, instances, Occurs, OccursIn}
+use Rattle.mau_terms.specs.Subst.{Variable, variables, add_variables, value_at, has_variable, instance, instances, Occurs, OccursIn}
 use Rattle.mau_terms.specs.Solution.{HaveSorts}
 use Rattle.mau_terms.specs.Finite.{IsIn}
 use Rattle.mau_terms.specs.View.{variable_of}
@@ -46,6 +46,7 @@ use Rattle.mau_reduce.specs.Trying.{solution_in}
 use Rattle.mau_reduce.proofs.Candidates.{matchers_of}
 use Rattle.mau_choices.specs.Choosing.{left_of_choices, AreApart}
 use Rattle.mau_choices.proofs.Agreeing.{bound_variables, HaveNorms}
+use Rattle.mau_choices.proofs.Added.{variables_extended}
 use Rattle.mau_choices.proofs.Extending.{extension_keeps, extension_has, apart_extended}
 use Rattle.mau_choices.proofs.Next.{none_left, one_left, is_listed, one_each, values_of_kinds, suits, value_bare, instance_is}
 
@@ -184,6 +185,11 @@ module _ (p : Typed.Program) (red : IsReducible p) (pat : Tree) (bare_pat : IsBa
       apart_still =
           subst AreApart (variables_bound new τ)
           (subst (λ z. AreApart (bound_variables z)) (sym binding_is) (apart_extended (variables pat) y.values σ apart_so))
+
+      pub variables_are : map (λ b. variable_of b.0) τ ≡ add_variables (map (λ b. variable_of b.0) bound) pat
+      variables_are =
+          sym (variables_bound new τ)
+          ∙ (ap bound_variables binding_is ∙ (variables_extended pat y.values σ as_many ∙ ap (λ xs. add_variables xs pat) (variables_bound old bound)))
 
       pub extension_is : IsExtension σ (binding_in new τ)
       extension_is z h = subst (λ u. (binds u z ≡ true) × (look_up u z ≡ look_up σ z)) (sym binding_is) (extension_keeps (variables pat) y.values σ z h)

@@ -4,7 +4,7 @@ ghost use Rattle.std.specs.Option.{option_map};
 ghost use Rattle.mau_terms.specs.Tree.{Tree};
 ghost use Rattle.mau_terms.specs.Norm.{norm};
 ghost use Rattle.mau_terms.specs.Bare.{IsBare, IsLawful};
-ghost use Rattle.mau_terms.specs.Subst.{Variable, variables, has_variable, instance};
+ghost use Rattle.mau_terms.specs.Subst.{Variable, variables, add_variables, has_variable, instance};
 ghost use Rattle.mau_terms.specs.View.{tree_of, variable_of};
 ghost use Rattle.mau_signature.specs.Signature.{theory_at, terms_over};
 ghost use Rattle.mau_formula.specs.Operator.{Operator};
@@ -98,6 +98,7 @@ pub fn next_choice<L: WholeLister>(
         (solve (program_over program.now hooks) (levels (program_over program.now hooks) B k) c (binding_in store.new τ) b))) }
     ensures values { IfOk result (λ o. IfSome o (All (IsValueOf program.now.sig store.new table.new))) }
     ensures apart { IfOk result (λ o. IfSome o (λ τ. AreApart (map (λ b. variable_of b.0) τ))) }
+    ensures variables { IfOk result (λ o. IfSome o (λ τ. map (λ b. variable_of b.0) τ ≡ add_variables (map (λ b. variable_of b.0) choices.old.binding) (tree_of pattern.now))) }
     ensures extension { IfOk result (λ o. IfSome o (λ τ. IsExtension (binding_in store.old choices.old.binding) (binding_in store.new τ))) }
     ensures binds { IfOk result (λ o. IfSome o (λ τ. (x : Variable) → has_variable (variables (tree_of pattern.now)) x ≡ true
         → binds (binding_in store.new τ) x ≡ true)) }
@@ -107,7 +108,7 @@ pub fn next_choice<L: WholeLister>(
         (L.asked choices.new.listing) (L.given choices.new.listing) (L.is_for choices.new.listing program.now.sig)) }
     ensures binding { choices.new.binding ≡ choices.old.binding }
     ensures value { choices.new.value ≡ choices.old.value }
-    ensures plain { OnOk result (IsPlainTable program.now.sig store.new table.new) }
+    ensures plain { IsPlainTable program.now.sig store.new table.new }
     ensures kept { KeepsEntries table.old table.new }
     ensures extends { Extends store.old store.new }
 {

@@ -10,7 +10,7 @@ use Rattle.mau_api.specs.Programs.{equation_of}
 use Rattle.mau_reduce.specs.Giving.{GivesInKind}
 use Rattle.mau_reduce.specs.Tables.{IsPlainTable}
 use Rattle.mau_reduce.specs.Trying.{order_of_all}
-use Rattle.mau_reducer.specs.Basis.{DerivesNothing, HasNoCondition, AreBuiltIns, Basis}
+use Rattle.mau_reducer.specs.Basis.{DerivesNothing, AreBuiltIns, Basis}
 use Rattle.mau_reducer.specs.States.{IsFit}
 use Rattle.mau_reducer.proofs.FromLawful.{reducible}
 
@@ -21,11 +21,11 @@ plain_empty s nodes table e over = record {
   closed = subst (IsClosedTable nodes) (sym e) (λ i settled. absurd (cc settled));
 }
 
-pub begins : (b : Basis) → IsLawfulProgram b.program → IsLawful (terms_over b.program.sig) → DerivesNothing b.program → HasNoCondition b.program → GivesInKind b.program.sig b.hooks →
+pub begins : (b : Basis) → IsLawfulProgram b.program → IsLawful (terms_over b.program.sig) → DerivesNothing b.program → GivesInKind b.program.sig b.hooks →
     b.order ≡ order_of_all (map equation_of b.program.equations) → AreBuiltIns b.program.sig b.hooks b.built_ins → (nodes : List Node) (table : Table) → table ≡ empty_table → AreOver b.program.sig.hierarchy table →
     IsFit b nodes table false
-begins b is lawful none unconditional gives order built_ins nodes table e over = record {
-  basis = record { lawful = is; reducible = reducible b.program is lawful none; unconditional = unconditional; gives = gives; order = order; built_ins = built_ins };
+begins b is lawful none gives order built_ins nodes table e over = record {
+  basis = record { lawful = is; reducible = reducible b.program is lawful none; gives = gives; order = order; built_ins = built_ins };
   plain = plain_empty b.program.sig nodes table e over;
   identities = λ (k : false ≡ true). absurd (cc k);
 }

@@ -19,5 +19,11 @@ pub mod Taking
 pub mod Attempted
 -- the answers of an evaluation
 pub mod WhatIsMeant
+-- bindings in two lists, and as pairs
+pub mod Pairs
+-- the solutions of matching fragments
+pub mod Choosing
+-- sides and tests of fragments
+pub mod Sides
 -- conditions without fragments
 pub mod EmptyConditions

@@ -1,6 +1,6 @@
 -- What the world's calls give, from what the calls of mau_reduce do.
-use Rattle.std.proofs.Common.{◌≡◌, ◌<◌, ◌-◌, ℕ, zero, suc, inl, inr, fold, get_or, slice_get, arith, nat_eq, eqb-true, length, List, [], Bool, true, false, Option, Some, None, Result, Ok, Err, IfOk, IfErr, map, All, refl, sym, ap, ◌∙◌, subst}
-use Rattle.mau_terms.specs.Tree.{Tree, Trees, apply}
+use Rattle.std.proofs.Common.{◌≡◌, ◌<◌, ◌-◌, ℕ, zero, suc, inl, inr, fold, get_or, slice_get, arith, nat_eq, eqb-true, length, List, [], ◌∷◌, Bool, true, false, if◌then◌else◌, Option, Some, None, Result, Ok, Err, IfOk, IfErr, map, drop, All, refl, sym, ap, ap₂, ◌∙◌, subst}
+use Rattle.mau_terms.specs.Tree.{Tree, variable, numeral, apply, Trees, no_trees, tree}
 use Rattle.mau_terms.specs.Bare.{IsLawful}
 use Rattle.mau_terms.specs.Finite.{IsIn}
 use Rattle.mau_terms.specs.declared.ids.TermId.{TermId}
@@ -26,7 +26,7 @@ use Rattle.mau_program.specs.declared.program.Program as Typed
 use Rattle.mau_evaluation.specs.Run.{Outcome, done}
 use Rattle.mau_evaluation.specs.Program.{Membership, Program}
 use Rattle.mau_evaluation.specs.Evaluation.{levels, settle}
-use Rattle.mau_api.specs.Programs.{program_over}
+use Rattle.mau_api.specs.Programs.{program_over, fragment_of}
 use Rattle.mau_reduce.specs.Kinds.{IsTermIn, AreUnder}
 use Rattle.mau_reduce.specs.Reducible.{IsReducible}
 use Rattle.mau_reduce.specs.Tables.{IsPlainTable}
@@ -37,10 +37,12 @@ use Rattle.mau_reduce.proofs.PlainTables.{plain_grown}
 use Rattle.mau_reduce.proofs.PlainSorts.{plain_sorts, settle_known}
 use Rattle.std.proofs.lemmas.List.{get_or_default}
 use Rattle.std.proofs.lemmas.Option.{slice_get_past, slice_get_within, get_or_from_slice_get}
-use Rattle.mau_terms.specs.Subst.{value_at, variables}
-use Rattle.mau_terms.specs.View.{tree_of}
+use Rattle.mau_terms.specs.Subst.{Variable, same_variable, value_at, instance, instances, variables}
+use Rattle.mau_terms.specs.View.{tree_of, variable_of}
 use Rattle.mau_signature.specs.Signature.{IsOperator}
 use Rattle.mau_program.specs.declared.statements.Equation.{Equation}
+use Rattle.mau_program.specs.declared.statements.Fragment.{Fragment}
+use Rattle.mau_program.specs.declared.statements.Fragment.TheVariants.{Equal, Match, Sort, Reach}
 use Rattle.mau_program.specs.LawfulStatements.{IsLawfulEquation}
 use Rattle.mau_program.specs.Binding.{bound_behind}
 use Rattle.mau_evaluation.specs.Evaluation.{Binding, look_up}
@@ -51,6 +53,10 @@ use Rattle.mau_api.specs.declared.step.Step.{Step}
 use Rattle.mau_terms.specs.declared.memory.NoMemory.{NoMemory as Failed}
 use Rattle.mau_reduce.specs.Attempting.{makes_of}
 use Rattle.mau_machine.specs.Uses.{SameInstances, IsUse}
+use Rattle.mau_machine.specs.declared.goal.Goal.TheVariants as Goals
+use Rattle.mau_machine.specs.Words.{goal_of, Asks}
+use Rattle.mau_reduce.specs.declared.binding.Binding.{Binding as Kept}
+use Rattle.mau_reduce.specs.Bindings.{paired}
 use Rattle.mau_reduce.specs.declared.built_in.BuiltIn.{BuiltIn}
 use Rattle.mau_reduce.specs.declared.built_in.BuiltIn.TheVariants.{Nothing}
 use Rattle.mau_reduce.specs.declared.given.Given.{Given}
@@ -62,8 +68,9 @@ use Rattle.mau_reduce.specs.Lasts.{left_variables_of, left_variables, IsLast}
 use Rattle.mau_reduce.specs.Steps.{equation_variables_of, equation_variables, IsEquationStep, IsBuiltInStep}
 use Rattle.mau_reduce.proofs.AllBound.{bound_are_all}
 use Rattle.mau_reducer.specs.Basis.{Basis, IsBasis, AreBuiltIns}
-use Rattle.mau_reducer.specs.Handles.{written_in, written_at}
-use Rattle.mau_reducer.specs.Handles.{IsKnownTerm}
+use Rattle.mau_reducer.specs.Handles.{written_in, written_at, rules_of, IsKnownTerm, IsKnownBinding}
+use Rattle.mau_reducer.specs.Fragments.{all_taken, rest_is}
+use Rattle.mau_reducer.proofs.Conditions.{at_place}
 use Rattle.mau_reducer.specs.States.{ComesOf}
 use Rattle.mau_reducer.specs.LaterStates.{numbers_mapped}
 
@@ -142,44 +149,80 @@ top_built s hooks bs are t f ts e is x x_is = λ g us k. built g us k
 
 -- ---- equations at their places
 
-at_place : {A : Type 0} (P : A → Type 0) (xs : List A) → All P xs → (i : ℕ) (x : A) → slice_get xs i ≡ Some x → P x
-at_place P xs all i x e = subst P (get_or_from_slice_get xs i x x e) (all i x (slice_get_within xs i x e))
-
-pub no_condition : (b : Basis) → IsBasis b → (e : ℕ) (q : Equation) → slice_get b.program.equations e ≡ Some q → q.exec ≡ true → q.cond ≡ []
-no_condition b is e q at exec = at_place (λ (z : Equation). z.exec ≡ true → z.cond ≡ []) b.program.equations is.unconditional e q at exec
-
 one_equation : (b : Basis) → IsBasis b → (e : ℕ) (q : Equation) → slice_get b.program.equations e ≡ Some q → q.exec ≡ true →
-    statement_variables (tree_of q.left) q.cond (tree_of q.right) ≡ variables (tree_of q.left)
+    statement_variables (tree_of q.left) q.cond (tree_of q.right) ≡ fold bound_behind (variables (tree_of q.left)) q.cond
 one_equation b is e q at exec =
     bound_are_all (tree_of q.left) q.cond (tree_of q.right) ((at_place (IsLawfulEquation b.program.sig) b.program.equations is.lawful.equations e q at).bound exec)
-    ∙ ap (fold bound_behind (variables (tree_of q.left))) (no_condition b is e q at exec)
 
 -- ---- the variables of the last candidate
 
-pub variables_are : (b : Basis) → IsBasis b → (nodes : List Node) (t : Tree) (e : ℕ) (given : Given) (last : Option Found) → IsLast b.program nodes t e given last → left_variables b.program e ≡ equation_variables b.program e
+-- those that are bound behind its whole condition
+abbrev pub bound_at_end : Typed.Program → ℕ → List Variable
+bound_at_end p e = fold bound_behind (left_variables p e) (written_at p e)
+
+pub variables_are : (b : Basis) → IsBasis b → (nodes : List Node) (t : Tree) (e : ℕ) (given : Given) (last : Option Found) → IsLast b.program nodes t e given last → bound_at_end b.program e ≡ equation_variables b.program e
 variables_are b is nodes t e given last h = by given last h
   where
-    behind : e ≡ length b.program.equations → left_variables b.program e ≡ equation_variables b.program e
+    abbrev ended : Option Equation → List Variable
+    ended o = fold bound_behind (left_variables_of o) (written_in o)
+
+    behind : e ≡ length b.program.equations → bound_at_end b.program e ≡ equation_variables b.program e
     behind d =
         let none : slice_get b.program.equations e ≡ None = ap (slice_get b.program.equations) d ∙ slice_get_past b.program.equations (length b.program.equations) (omega arith) in
-        ap left_variables_of none ∙ sym (ap equation_variables_of none)
+        ap ended none ∙ sym (ap equation_variables_of none)
 
-    by : (given : Given) (last : Option Found) → IsLast b.program nodes t e given last → left_variables b.program e ≡ equation_variables b.program e
-    by Giving.Nothing (Some y) k = ap left_variables_of k.1.at ∙ (sym (one_equation b is e k.1.equation k.1.at k.1.exec) ∙ sym (ap equation_variables_of k.1.at))
+    by : (given : Given) (last : Option Found) → IsLast b.program nodes t e given last → bound_at_end b.program e ≡ equation_variables b.program e
+    by Giving.Nothing (Some y) k = ap ended k.1.at ∙ (sym (one_equation b is e k.1.equation k.1.at k.1.exec) ∙ sym (ap equation_variables_of k.1.at))
     by Giving.Nothing None k = absurd k
     by Giving.TooLarge last k = absurd k
     by (Giving.Argument j) last k = behind k
     by (Giving.Whole l) last k = behind k
     by (Giving.Before l) last k = behind k
 
+-- a solution of the condition has the values of them all
+pub solved_variables : (b : Basis) (nodes : List Node) (table : Table) (e i : ℕ) (σ : Kept) → IsKnownBinding b nodes table e i σ → Asks (rules_of b) e i Goals.Nothing → map variable_of σ.variables.items ≡ bound_at_end b.program e
+solved_variables b nodes table e i σ h k =
+    h.variables ∙ ap (fold bound_behind (left_variables b.program e)) (all_taken (written_at b.program e) i (none (drop i (written_at b.program e)) (k ∙ ap goal_of (rest_is b e i))))
+  where
+    none : (fs : List Fragment) → Goals.Nothing ≡ goal_of (map fragment_of fs) → fs ≡ []
+    none [] d = refl
+    none (Equal t u ∷ fs) d = cc
+    none (Match t u ∷ fs) d = cc
+    none (Sort t s ∷ fs) d = cc
+    none (Reach t u ∷ fs) d = cc
+
+-- ---- instances by the values of a solution
+
+paired_value : (xs : List Variable) (vs : List Tree) (x : Variable) → look_up (paired xs vs) x ≡ value_at xs vs x
+paired_value [] vs x = refl
+paired_value (y ∷ xs) [] x = refl
+paired_value (y ∷ xs) (v ∷ vs) x = ap (λ t. if same_variable y x then v else t) (paired_value xs vs x)
+
+mutual
+  instance_all : (g h : Variable → Tree) → ((x : Variable) → g x ≡ h x) → (t : Tree) → instance g t ≡ instance h t
+  instance_all g h f (variable i s) = f (i, s)
+  instance_all g h f (numeral n) = refl
+  instance_all g h f (apply o ts) = ap (apply o) (instances_all g h f ts)
+
+  instances_all : (g h : Variable → Tree) → ((x : Variable) → g x ≡ h x) → (ts : Trees) → instances g ts ≡ instances h ts
+  instances_all g h f no_trees = refl
+  instances_all g h f (tree t ts) = ap₂ tree (instance_all g h f t) (instances_all g h f ts)
+
+same_instances : (g h : Variable → Tree) → ((x : Variable) → g x ≡ h x) → (fs : List Fragment) → SameInstances g h fs
+same_instances g h f [] = tt
+same_instances g h f (Equal t u ∷ fs) = (instance_all g h f (tree_of t), instance_all g h f (tree_of u), same_instances g h f fs)
+same_instances g h f (Match q u ∷ fs) = (instance_all g h f (tree_of q), instance_all g h f (tree_of u), same_instances g h f fs)
+same_instances g h f (Sort t r ∷ fs) = (instance_all g h f (tree_of t), same_instances g h f fs)
+same_instances g h f (Reach t u ∷ fs) = tt
+
 -- ---- the step that is told
 
 pub use_of : (b : Basis) → IsBasis b → (P : ℕ → Tree → Type 0) (nodes : List Node) (u : Tree) (e : ℕ) (given : Given) (last : Option Found) → IsLast b.program nodes u e given last →
-    (σ : Binding) (vs : List Tree) (t v : Tree) (x : StepOf) →
-    ((GivesValue given → ⊥) → IsEquationStep b.program P e vs t v x) → (GivesValue given → IsBuiltInStep b.program b.hooks t v x) → IsUse b.program b.hooks P (written_at b.program e) σ t v x
-use_of b is P nodes u e given last h σ vs t v x equation built = by given last h equation built
+    (xs : List Variable) (vs : List Tree) → xs ≡ equation_variables b.program e → (t v : Tree) (x : StepOf) →
+    ((GivesValue given → ⊥) → IsEquationStep b.program P e vs t v x) → (GivesValue given → IsBuiltInStep b.program b.hooks t v x) → IsUse b.program b.hooks P (written_at b.program e) (paired xs vs) t v x
+use_of b is P nodes u e given last h xs vs are t v x equation built = by given last h equation built
   where
-    of_built : e ≡ length b.program.equations → IsBuiltInStep b.program b.hooks t v x → IsUse b.program b.hooks P (written_at b.program e) σ t v x
+    of_built : e ≡ length b.program.equations → IsBuiltInStep b.program b.hooks t v x → IsUse b.program b.hooks P (written_at b.program e) (paired xs vs) t v x
     of_built d s =
         inr (record {
           operator = s.operator;
@@ -190,9 +233,10 @@ use_of b is P nodes u e given last h σ vs t v x equation built = by given last 
         })
 
     by : (given : Given) (last : Option Found) → IsLast b.program nodes u e given last → ((GivesValue given → ⊥) → IsEquationStep b.program P e vs t v x) → (GivesValue given → IsBuiltInStep b.program b.hooks t v x) →
-        IsUse b.program b.hooks P (written_at b.program e) σ t v x
+        IsUse b.program b.hooks P (written_at b.program e) (paired xs vs) t v x
     by Giving.Nothing (Some y) k equation built =
         let s = equation (λ z. z) in
+        let named : xs ≡ statement_variables (tree_of s.equation.left) s.equation.cond (tree_of s.equation.right) = are ∙ ap equation_variables_of s.at in
         let cond : written_at b.program e ≡ s.equation.cond = ap written_in s.at in
         inl (record {
           number = suc e;
@@ -203,7 +247,8 @@ use_of b is P nodes u e given last h σ vs t v x equation built = by given last 
           statement = s.statement;
           instance = s.instance;
           same =
-              subst (SameInstances (look_up σ) (value_at (statement_variables (tree_of s.equation.left) s.equation.cond (tree_of s.equation.right)) x.values)) (sym (cond ∙ no_condition b is e s.equation s.at s.exec)) tt;
+              same_instances (look_up (paired xs vs)) (value_at (statement_variables (tree_of s.equation.left) s.equation.cond (tree_of s.equation.right)) x.values)
+              (λ z. paired_value xs vs z ∙ ap₂ (λ ys us. value_at ys us z) named (sym s.values)) (written_at b.program e);
           leads = s.leads;
         })
     by Giving.Nothing None k equation built = absurd k
@@ -221,11 +266,11 @@ value_made P nodes t (Giving.Whole l) last σ v = refl
 value_made P nodes t (Giving.Before l) last σ v = refl
 
 pub use_told : (b : Basis) → IsBasis b → (P : ℕ → Tree → Type 0) (old new : List Node) (u : Tree) (e : ℕ) (given : Given) (last : Option Found) → IsLast b.program old u e given last →
-    (σ : Binding) (vs : List Tree) (t v : Tree) (r : Result Step Failed) →
+    (xs : List Variable) (vs : List Tree) → xs ≡ equation_variables b.program e → (t v : Tree) (r : Result Step Failed) →
     ((GivesValue given → ⊥) → IfOk r (λ x. IsEquationStep b.program P e vs t v (step_in new x))) → (GivesValue given → IfOk r (λ x. IsBuiltInStep b.program b.hooks t v (step_in new x))) →
-    IfOk r (λ x. IsUse b.program b.hooks P (written_at b.program e) σ t v (step_in new x))
-use_told b is P old new u e given last h σ vs t v (Ok x) equation built = use_of b is P old u e given last h σ vs t v (step_in new x) equation built
-use_told b is P old new u e given last h σ vs t v (Err d) equation built = tt
+    IfOk r (λ x. IsUse b.program b.hooks P (written_at b.program e) (paired xs vs) t v (step_in new x))
+use_told b is P old new u e given last h xs vs are t v (Ok x) equation built = use_of b is P old u e given last h xs vs are t v (step_in new x) equation built
+use_told b is P old new u e given last h xs vs are t v (Err d) equation built = tt
 
 -- ---- what is made
 

@@ -35,10 +35,10 @@ use Rattle.mau_reduce.proofs.LaterStores.{tried_grown, untried_grown, last_there
 use Rattle.mau_machine.specs.Words.{rest_of, pattern_in, Keeps}
 use Rattle.mau_reducer.specs.declared.reducer.Candidates.{Candidates}
 use Rattle.mau_choices.specs.declared.choices.Choices.{Choices}
+use Rattle.mau_choices.proofs.Later.{value_same, binding_same, choosing_grown, left_same}
 use Rattle.mau_reducer.specs.Basis.{Basis}
 use Rattle.mau_reducer.specs.Handles.{rules_of, as_id, IsKnownTerm, IsKnownValue, AreKnownOperands, IsKnownBinding, AreKnownCandidates, IsKnownCandidate, AreKnownChoices, words_of}
 use Rattle.mau_reducer.specs.States.{IsFit, IsReady, ComesOf}
-use Rattle.mau_reducer.specs.ChoicesGrown.{bound_same, choosing_later, left_same}
 
 -- ---- they are an order
 
@@ -184,8 +184,8 @@ module _ {L M : Type 0} (c : Bool) (asked : L → Asked) (given : L → Option S
       AreKnownChoices c asked given is_for asked_whole given_whole is_for_whole b new after e i x
   choices_known e i x k = record {
     asks = k.asks;
-    choosing = choosing_later b.program.sig old new before after h.extends h.kept h.plain.over (pattern_in (rest_of (rules_of b) e i)) x.binding x.value (asked_whole x.listing) (given_whole x.listing)
-        (is_for_whole x.listing b.program.sig) k.choosing;
+    choosing = choosing_grown b.program.sig old new before after (pattern_in (rest_of (rules_of b) e i)) x.binding x.value (asked_whole x.listing) (given_whole x.listing)
+        (is_for_whole x.listing b.program.sig) h.extends h.kept h.plain k.choosing;
     variables = k.variables;
     bound = k.bound;
   }
@@ -194,8 +194,9 @@ module _ {L M : Type 0} (c : Bool) (asked : L → Asked) (given : L → Option S
       (words_of c asked given is_for asked_whole given_whole is_for_whole b new after).unchosen x k e i n
       ≡ (words_of c asked given is_for asked_whole given_whole is_for_whole b old before).unchosen x k e i n
   choices_same e i x is k n =
-      left_same b.program.sig old new before after h.extends h.kept (pattern_in (rest_of (rules_of b) e i)) x.binding x.value (asked_whole x.listing) (given_whole x.listing)
-      (is_for_whole x.listing b.program.sig) is.choosing P (levels P b.limit k) (rest_of (rules_of b) e (suc i)) n
+      ap (λ r. r n)
+      (left_same b.program.sig old new before after (pattern_in (rest_of (rules_of b) e i)) x.binding x.value (asked_whole x.listing) (given_whole x.listing) (is_for_whole x.listing b.program.sig)
+      h.extends h.kept h.plain is.choosing P (levels P b.limit k) (rest_of (rules_of b) e (suc i)))
 
   words_stay : Keeps (words_of c asked given is_for asked_whole given_whole is_for_whole b old before) (words_of c asked given is_for asked_whole given_whole is_for_whole b new after)
   words_stay = record {
@@ -208,7 +209,10 @@ module _ {L M : Type 0} (c : Bool) (asked : L → Asked) (given : L → Option S
     candidates = λ t e a k. (candidate_known t e a k, makes_same t e a k);
     choices = λ e i x k. (choices_known e i x k, choices_same e i x k);
     chosen = λ e i x k.
-        (bound_same b.program.sig old new before after h.extends h.kept x.binding k.choosing.values, tree_same x.value.0 k.choosing.value);
+        let p = pattern_in (rest_of (rules_of b) e i) in (
+          binding_same b.program.sig old new before after p x.binding x.value (asked_whole x.listing) (given_whole x.listing) (is_for_whole x.listing b.program.sig) h.extends h.kept h.plain k.choosing,
+          value_same b.program.sig old new before after p x.binding x.value (asked_whole x.listing) (given_whole x.listing) (is_for_whole x.listing b.program.sig) h.extends h.kept h.plain k.choosing,
+        );
   }
 
 pub words_kept : {L M : Type 0} (c : Bool) (asked : L → Asked) (given : L → Option Solution) (is_for : L → SignatureOf → Type 0)

@@ -16,7 +16,6 @@ pub mod States
 -- lemmas by which it has the laws of worlds and of evaluators
 pub mod KnownHandles
 pub mod Fragments
-pub mod ChoicesGrown
 pub mod LaterStates
 pub mod MeantLaws
 pub mod DerivedTables

@@ -1,6 +1,7 @@
 //! A program and a store as a world.
-ghost use Rattle.std.specs.Prelude.{◌≡◌};
-ghost use Rattle.std.specs.Option.{option_copied};
+ghost use Rattle.std.specs.Prelude.{◌≡◌, IfSome, length};
+ghost use Rattle.std.specs.List.{zip};
+ghost use Rattle.std.specs.Option.{option_copied, option_map};
 ghost use Rattle.mau_reducer.specs.Handles.{goal_in};
 
 use crate::fragments::{fragment_at, pattern_at, side_at, sort_at};
@@ -26,6 +27,20 @@ fn goal_in(fragment: Option<&Fragment>) -> Goal
         Some(Fragment::Match(_, _)) => Goal::Matching,
         Some(Fragment::Sort(_, _)) => Goal::Sort,
         Some(Fragment::Reach(_, _)) => Goal::Reaching,
+    }
+}
+
+/// A binding in two lists.
+fn parted(bound: Option<Bound>) -> Option<Binding>
+    ensures pairs { option_map (λ b. zip b.variables.items b.values.items) result ≡ bound }
+    ensures one_each { IfSome result (λ b. length b.variables.items ≡ length b.values.items) }
+{
+    match bound {
+        Some(bound) => {
+            let (variables, values) = bound.into_parts();
+            Some(Binding { variables, values })
+        }
+        None => None,
     }
 }
 
@@ -203,11 +218,7 @@ impl<'a, L: Lister + Drop, M: WholeLister + Drop, N: Natives + Drop> World for R
         let program = self.program;
         match pattern_at(program, condition, at) {
             Some(pattern) => match next_choice(store, program, &mut self.table, pattern, choices) {
-                Ok(Some(bound)) => {
-                    let (variables, values) = bound.into_parts();
-                    Ok(Some(Binding { variables, values }))
-                }
-                Ok(None) => Ok(None),
+                Ok(next) => Ok(parted(next)),
                 Err(end) => Err(end),
             },
             None => unreachable!(),

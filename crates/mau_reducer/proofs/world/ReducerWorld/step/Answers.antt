@@ -14,8 +14,12 @@ use Rattle.mau_reducer.proofs.world.ReducerWorld.step.Goals as goal
 pub step-requires-clause-variables : goal.step-requires-clause-variables
 step-requires-clause-variables g c =
     let a = c.args.attempts.now.attempts in
-    c.requires.solution.1.variables
+    let σ = c.requires.solution in
+    solved_variables (basis_of g.N.Natives.operators c.args.self.now) c.args.store.now c.args.self.now.table c.args.condition σ.0 c.args.binding.now σ.1 σ.2
     ∙ variables_are (basis_of g.N.Natives.operators c.args.self.now) c.requires.ready.0.basis c.args.store.now (tree_at c.args.store.now c.args.term.0) c.args.condition a.given a.last c.requires.candidate.last
+
+variables_now : goal.step-requires-clause-variables
+variables_now g c = step-requires-clause-variables g c
 
 pub returns-clause-used : goal.returns-clause-used
 returns-clause-used g c =
@@ -26,7 +30,7 @@ returns-clause-used g c =
     let a = c.args.attempts.now.attempts in
     let σ = c.args.binding.now in
     use_told b c.requires.ready.0.basis (HasEntry s new c.args.self.now.table) old new (tree_at old c.args.term.0) c.args.condition a.given a.last c.requires.candidate.last
-    (bound_in new σ) (trees_at new (numbers σ.values.items)) (tree_at new c.args.term.0) (tree_at new c.args.after.0) c.step.result
+    (map variable_of σ.variables.items) (trees_at new (numbers σ.values.items)) (variables_now g c) (tree_at new c.args.term.0) (tree_at new c.args.after.0) c.step.result
     (c.step.ensures.equation c.args.self.now.table c.requires.solution.1.sorts)
     (λ v. c.step.ensures.built_in (g.N.Natives.operators c.args.self.now.natives) v c.requires.candidate.given_at
     (c.requires.is
