@@ -2,6 +2,7 @@
 use Rattle.std.proofs.Common.{◌≡◌, ◌∷◌, ℕ, suc, List, [], All, Bool, true, Option, Some, None, IfSome, IfNone, Result, Ok, Err, IfOk, map, drop, take, length, slice_get, refl, sym, ap, ◌∙◌, subst}
 use Rattle.std.specs.Option.{option_map}
 use Rattle.std.specs.List.{zip}
+use Rattle.std.specs.Prelude.{fold}
 use Rattle.mau_terms.specs.Tree.{Tree}
 use Rattle.mau_terms.specs.Norm.{norm}
 use Rattle.mau_terms.specs.Subst.{Variable, variables, add_variables, instance}
@@ -10,6 +11,7 @@ use Rattle.mau_terms.specs.declared.bare.Bare.{Bare}
 use Rattle.mau_terms.specs.declared.ids.VarId.{VarId}
 use Rattle.mau_terms.specs.declared.ids.TermId.{TermId}
 use Rattle.mau_terms.specs.declared.memory.NoMemory.{NoMemory as Failed}
+use Rattle.mau_terms.proofs.Variables.{distinct}
 use Rattle.mau_signature.specs.Signature.{SignatureOf, theory_at}
 use Rattle.mau_store.specs.Node.{Node}
 use Rattle.mau_store.specs.Trees.{tree_at, trees_at}
@@ -18,7 +20,9 @@ use Rattle.mau_sorts.specs.Table.{Table}
 use Rattle.mau_listing.specs.Asked.{Asked}
 use Rattle.mau_listing.specs.declared.solution.Solution.{Solution}
 use Rattle.mau_program.specs.declared.statements.Fragment as Written
-use Rattle.mau_program.specs.declared.statements.Fragment.TheVariants.{Match}
+use Rattle.mau_program.specs.declared.statements.Fragment.TheVariants.{Equal, Match, Sort, Reach}
+use Rattle.mau_program.specs.declared.statements.Equation.{Equation}
+use Rattle.mau_program.specs.Binding.{bound_behind}
 use Rattle.mau_evaluation.specs.Run.{Run, done, or_go_on}
 use Rattle.mau_evaluation.specs.Program as Evaluated
 use Rattle.mau_evaluation.specs.Program.{Program}
@@ -28,10 +32,11 @@ use Rattle.mau_api.specs.Answers.{IsValueOf, binding_in}
 use Rattle.mau_reduce.specs.declared.binding.Binding.{Binding as Kept}
 use Rattle.mau_reduce.specs.Bindings.{bound_in}
 use Rattle.mau_reduce.specs.Trying.{solution_in}
+use Rattle.mau_reduce.specs.Lasts.{left_variables_of, left_variables}
 use Rattle.mau_machine.specs.declared.goal.Goal.TheVariants as Goals
 use Rattle.mau_machine.specs.Words.{Words, rest_of, pattern_in, solve_on, Asks, IsUnchosen, IsExtension, IsChoiceOf}
 use Rattle.mau_choices.specs.declared.choices.Choices.{Choices}
-use Rattle.mau_choices.specs.Choosing.{left_of_choices, IsChoosing}
+use Rattle.mau_choices.specs.Choosing.{left_of_choices, AreApart, IsChoosing}
 use Rattle.mau_choices.proofs.Begun.{unchosen_begun}
 use Rattle.mau_choices.proofs.Later.{value_same, binding_same, left_same}
 use Rattle.mau_reducer.specs.Basis.{Basis}
@@ -58,6 +63,24 @@ module _ (b : Basis) (nodes : List Node) (table : Table) (e i : ℕ) (σ : Kept)
 
   pub all_variables : map (λ (y : VarId × TermId). variable_of y.0) (pairs_of σ) ≡ bound_before b.program e i
   all_variables = variables_paired σ.variables.items σ.values.items one_value_each ∙ h.variables
+
+-- variables that are bound one after another are apart
+bound_apart : (fs : List Written.Fragment) (xs : List Variable) → AreApart xs → AreApart (fold bound_behind xs fs)
+bound_apart [] xs d = d
+bound_apart (Equal t u ∷ fs) xs d = bound_apart fs xs d
+bound_apart (Match p u ∷ fs) xs d = bound_apart fs (add_variables xs (tree_of p)) (distinct (tree_of p) xs d)
+bound_apart (Sort t s ∷ fs) xs d = bound_apart fs xs d
+bound_apart (Reach t u ∷ fs) xs d = bound_apart fs (add_variables xs (tree_of u)) (distinct (tree_of u) xs d)
+
+left_apart : (o : Option Equation) → AreApart (left_variables_of o)
+left_apart None = tt
+left_apart (Some q) = distinct (tree_of q.left) [] tt
+
+pub before_apart : (b : Basis) (e i : ℕ) → AreApart (bound_before b.program e i)
+before_apart b e i = bound_apart (take i (written_at b.program e)) (left_variables b.program e) (left_apart (slice_get b.program.equations e))
+
+pub all_apart : (b : Basis) (nodes : List Node) (table : Table) (e i : ℕ) (σ : Kept) → IsKnownBinding b nodes table e i σ → AreApart (map (λ (y : VarId × TermId). variable_of y.0) (pairs_of σ))
+all_apart b nodes table e i σ h = subst AreApart (sym (all_variables b nodes table e i σ h)) (before_apart b e i)
 
 -- ---- where they begin
 
@@ -106,6 +129,14 @@ module _ {L M : Type 0} (c : Bool) (asked : L → Asked) (given : L → Option S
   begun_known pattern q k (Err d) p choosing = tt
 
 -- ---- the next one
+
+-- as it is asked
+pub asked_for : {L M : Type 0} (c : Bool) (asked : L → Asked) (given : L → Option Solution) (is_for : L → SignatureOf → Type 0)
+    (asked_whole : M → Asked) (given_whole : M → Option Solution) (is_for_whole : M → SignatureOf → Type 0) (b : Basis) (nodes : List Node) (table : Table)
+    (e i : ℕ) (p u : Bare) → slice_get (written_at b.program e) i ≡ Some (Match p u) → (x : Choices M) → AreKnownChoices c asked given is_for asked_whole given_whole is_for_whole b nodes table e i x →
+    IsChoosing b.program.sig nodes table (tree_of p) x.binding x.value (asked_whole x.listing) (given_whole x.listing) (is_for_whole x.listing b.program.sig)
+asked_for c asked given is_for asked_whole given_whole is_for_whole b nodes table e i p u at x k =
+    subst (λ t. IsChoosing b.program.sig nodes table t x.binding x.value (asked_whole x.listing) (given_whole x.listing) (is_for_whole x.listing b.program.sig)) (pattern_is b e i p u at) k.choosing
 
 module _ {L M : Type 0} (c : Bool) (asked : L → Asked) (given : L → Option Solution) (is_for : L → SignatureOf → Type 0)
     (asked_whole : M → Asked) (given_whole : M → Option Solution) (is_for_whole : M → SignatureOf → Type 0) (b : Basis) (old new : List Node) (before after : Table)

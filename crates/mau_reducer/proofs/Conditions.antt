@@ -1,5 +1,5 @@
 -- Conditions as they are written.
-use Rattle.std.proofs.Common.{◌≡◌, ℕ, zero, suc, List, [], ◌∷◌, All, Bool, true, false, Option, Some, None, map, drop, slice_get, refl, sym, ap, ◌∙◌, subst}
+use Rattle.std.proofs.Common.{◌≡◌, ◌<◌, ℕ, zero, suc, List, [], ◌∷◌, All, Bool, true, false, Option, Some, None, map, drop, slice_get, refl, sym, ap, ◌∙◌, subst}
 use Rattle.std.specs.Option.{option_map}
 use Rattle.std.proofs.lemmas.Option.{slice_get-map, slice_get_within, get_or_from_slice_get}
 use Rattle.mau_terms.specs.Tree.{Tree}
@@ -163,3 +163,7 @@ module _ (b : Basis) (e i : ℕ) where
 
   pub sort_is : (t : Bare) (r : ℕ) → here ≡ Some (Sort t r) → sort_in (rest_of (rules_of b) e i) ≡ r
   sort_is t r h = ap sort_in (rest_from (Sort t r) h)
+
+  -- it is one of the signature
+  pub sort_over : IsLawfulProgram b.program → (r : ℕ) → sort_written here ≡ Some r → r < b.program.sig.hierarchy.sorts
+  sort_over is r h = let t = sort_at r h in (fragment_lawful b.program is e i (Sort t.0 r) t.1).1

@@ -1,5 +1,6 @@
-use Rattle.std.proofs.Common.{ap, ◌∙◌}
+use Rattle.std.proofs.Common.{map, ap, ◌∙◌}
 use Rattle.mau_terms.specs.Norm.{norm}
+use Rattle.mau_terms.specs.View.{variable_of}
 use Rattle.mau_signature.specs.Signature.{theory_at}
 use Rattle.mau_store.specs.Trees.{tree_at, trees_at}
 use Rattle.mau_store.specs.View.{numbers}
@@ -8,7 +9,7 @@ use Rattle.mau_api.specs.Programs.{program_over}
 use Rattle.mau_reduce.specs.Bindings.{bound_in}
 use Rattle.mau_reduce.specs.Attempting.{makes_of}
 use Rattle.mau_reducer.specs.Worlds.{basis_of}
-use Rattle.mau_reducer.proofs.Taking.{variables_are, use_told, value_made, store_grown}
+use Rattle.mau_reducer.proofs.Taking.{solved_variables, variables_are, use_told, value_made, store_grown}
 use Rattle.mau_reducer.proofs.world.ReducerWorld.step.Goals as goal
 
 pub step-requires-clause-variables : goal.step-requires-clause-variables
