@@ -39,6 +39,7 @@ use Rattle.mau_choices.specs.declared.choices.Choices.{Choices}
 use Rattle.mau_choices.specs.Choosing.{left_of_choices, AreApart, IsChoosing}
 use Rattle.mau_choices.proofs.Begun.{unchosen_begun}
 use Rattle.mau_choices.proofs.Later.{value_same, binding_same, left_same}
+use Rattle.mau_reducer.specs.declared.reducer.Candidates.{Candidates}
 use Rattle.mau_reducer.specs.Basis.{Basis}
 use Rattle.mau_reducer.specs.Handles.{written_at, bound_before, AreBoundFrom, rules_of, IsKnownBinding, AreKnownChoices, words_of}
 use Rattle.mau_reducer.specs.States.{ComesOf}
@@ -87,7 +88,7 @@ all_apart b nodes table e i σ h = subst AreApart (sym (all_variables b nodes ta
 module _ {L M : Type 0} (c : Bool) (asked : L → Asked) (given : L → Option Solution) (is_for : L → SignatureOf → Type 0)
     (asked_whole : M → Asked) (given_whole : M → Option Solution) (is_for_whole : M → SignatureOf → Type 0) (b : Basis) (nodes : List Node) (table : Table)
     (e i : ℕ) (σ : Kept) (h : IsKnownBinding b nodes table e i σ) (v : TermId) where
-  abbrev words : Words _ (Choices M) Kept
+  abbrev words : Words (Candidates L) (Choices M) Kept
   words = words_of c asked given is_for asked_whole given_whole is_for_whole b nodes table
 
   abbrev P : Program
@@ -142,7 +143,7 @@ module _ {L M : Type 0} (c : Bool) (asked : L → Asked) (given : L → Option S
     (asked_whole : M → Asked) (given_whole : M → Option Solution) (is_for_whole : M → SignatureOf → Type 0) (b : Basis) (old new : List Node) (before after : Table)
     (h : ComesOf b b old new before after) (e i : ℕ) (p u : Bare) (at : slice_get (written_at b.program e) i ≡ Some (Match p u)) (x x' : Choices M)
     (is : AreKnownChoices c asked given is_for asked_whole given_whole is_for_whole b old before e i x) (same_binding : x'.binding ≡ x.binding) (same_value : x'.value ≡ x.value) where
-  abbrev words_now : Words _ (Choices M) Kept
+  abbrev words_now : Words (Candidates L) (Choices M) Kept
   words_now = words_of c asked given is_for asked_whole given_whole is_for_whole b new after
 
   abbrev P : Program

@@ -160,12 +160,12 @@ one_equation b is e q at exec =
 abbrev pub bound_at_end : Typed.Program → ℕ → List Variable
 bound_at_end p e = fold bound_behind (left_variables p e) (written_at p e)
 
+abbrev ended : Option Equation → List Variable
+ended o = fold bound_behind (left_variables_of o) (written_in o)
+
 pub variables_are : (b : Basis) → IsBasis b → (nodes : List Node) (t : Tree) (e : ℕ) (given : Given) (last : Option Found) → IsLast b.program nodes t e given last → bound_at_end b.program e ≡ equation_variables b.program e
 variables_are b is nodes t e given last h = by given last h
   where
-    abbrev ended : Option Equation → List Variable
-    ended o = fold bound_behind (left_variables_of o) (written_in o)
-
     behind : e ≡ length b.program.equations → bound_at_end b.program e ≡ equation_variables b.program e
     behind d =
         let none : slice_get b.program.equations e ≡ None = ap (slice_get b.program.equations) d ∙ slice_get_past b.program.equations (length b.program.equations) (omega arith) in

@@ -19,9 +19,6 @@ step-requires-clause-variables g c =
     solved_variables (basis_of g.N.Natives.operators c.args.self.now) c.args.store.now c.args.self.now.table c.args.condition σ.0 c.args.binding.now σ.1 σ.2
     ∙ variables_are (basis_of g.N.Natives.operators c.args.self.now) c.requires.ready.0.basis c.args.store.now (tree_at c.args.store.now c.args.term.0) c.args.condition a.given a.last c.requires.candidate.last
 
-variables_now : goal.step-requires-clause-variables
-variables_now g c = step-requires-clause-variables g c
-
 pub returns-clause-used : goal.returns-clause-used
 returns-clause-used g c =
     let b = basis_of g.N.Natives.operators c.args.self.now in
@@ -30,9 +27,11 @@ returns-clause-used g c =
     let new = c.step.new.store in
     let a = c.args.attempts.now.attempts in
     let σ = c.args.binding.now in
+    let k = c.requires.solution in
+    let named = solved_variables b old c.args.self.now.table c.args.condition k.0 σ k.1 k.2 ∙ variables_are b c.requires.ready.0.basis old (tree_at old c.args.term.0) c.args.condition a.given a.last c.requires.candidate.last in
     use_told b c.requires.ready.0.basis (HasEntry s new c.args.self.now.table) old new (tree_at old c.args.term.0) c.args.condition a.given a.last c.requires.candidate.last
-    (map variable_of σ.variables.items) (trees_at new (numbers σ.values.items)) (variables_now g c) (tree_at new c.args.term.0) (tree_at new c.args.after.0) c.step.result
-    (c.step.ensures.equation c.args.self.now.table c.requires.solution.1.sorts)
+    (map variable_of σ.variables.items) (trees_at new (numbers σ.values.items)) named (tree_at new c.args.term.0) (tree_at new c.args.after.0) c.step.result
+    (c.step.ensures.equation c.args.self.now.table k.1.sorts)
     (λ v. c.step.ensures.built_in (g.N.Natives.operators c.args.self.now.natives) v c.requires.candidate.given_at
     (c.requires.is
     ∙ (ap (λ n. norm (theory_at s) (makes_of (program_over c.args.self.now.program.now (g.N.Natives.operators c.args.self.now.natives)) old (tree_at old n) a.given a.last (bound_in old σ))) c.requires.candidate.own
