@@ -38,22 +38,22 @@ found [] d b i = absurd i
 found (e ∷ es) d b (inl q) =
     let s : same_variable e.0 b.0 ≡ true = subst (λ (z : Variable × Tree). same_variable z.0 b.0 ≡ true) q (same_itself b.0) in
     (ap (λ w. w || binds es b.0) s, ap (λ w. if w then e.1 else look_up es b.0) s ∙ ap (λ (z : Variable × Tree). z.1) (sym q))
-found (e ∷ es) d b (inr i) = by (same_variable e.0 b.0) refl
+found (e ∷ es) d b (inr i) = by (same_variable e.0 b.0) refl (found es d.1 b i)
   where
-    by : (w : Bool) → same_variable e.0 b.0 ≡ w → ((w || binds es b.0) ≡ true) × ((if w then e.1 else look_up es b.0) ≡ b.1)
-    by true h =
+    by : (w : Bool) → same_variable e.0 b.0 ≡ w → (binds es b.0 ≡ true) × (look_up es b.0 ≡ b.1) → ((w || binds es b.0) ≡ true) × ((if w then e.1 else look_up es b.0) ≡ b.1)
+    by true h below =
         let k : has_variable (bound_variables es) e.0 ≡ true = subst (λ z. has_variable (bound_variables es) z ≡ true) (sym (same-is e.0 b.0 h)) (has_bound es b i) in
         let c : true ≡ false = sym k ∙ d.0 in cc
-    by false h = found es d.1 b i
+    by false h below = below
 
 -- what is bound stands in an entry
 pub entry_of : (σ : Binding) (x : Variable) → binds σ x ≡ true → IsIn (x, look_up σ x) σ
 entry_of [] x e = cc
-entry_of (f ∷ fs) x e = by (same_variable f.0 x) refl e
+entry_of (f ∷ fs) x e = by (same_variable f.0 x) refl e (entry_of fs x)
   where
-    by : (w : Bool) → same_variable f.0 x ≡ w → (w || binds fs x) ≡ true → IsIn (x, (if w then f.1 else look_up fs x)) (f ∷ fs)
-    by true h k = inl (sym (ap (λ (z : Variable). let p : Variable × Tree = (z, f.1) in p) (same-is f.0 x h)))
-    by false h k = inr (entry_of fs x k)
+    by : (w : Bool) → same_variable f.0 x ≡ w → (w || binds fs x) ≡ true → (binds fs x ≡ true → IsIn (x, look_up fs x) fs) → IsIn (x, (if w then f.1 else look_up fs x)) (f ∷ fs)
+    by true h k below = inl (sym (ap (λ (z : Variable). let p : Variable × Tree = (z, f.1) in p) (same-is f.0 x h)))
+    by false h k below = inr (below k)
 
 norm_of : (th : ℕ → Theory) (σ : Binding) → HaveNorms th σ → (b : Variable × Tree) → IsIn b σ → norm th b.1 ≡ b.1
 norm_of th [] n b i = absurd i

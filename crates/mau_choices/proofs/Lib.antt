@@ -6,3 +6,7 @@ pub mod Extending
 pub mod Next
 -- the same by numbers of a store
 pub mod Numbered
+-- solutions that begin
+pub mod Begun
+-- later stores and tables
+pub mod Later

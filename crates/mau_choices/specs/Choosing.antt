@@ -38,11 +38,11 @@ AreApart [] = Unit {0}
 AreApart (x ∷ xs) = (has_variable xs x ≡ false) × AreApart xs
 
 -- The solutions of p in a value under a binding are listed without contexts, and the listing can go on behind the last one.
-pub record IsChoosing (s : SignatureOf) (nodes : List Node) (table : Table) (p : Tree) (bound : List (VarId × TermId)) (value : TermId) (asked : Asked) (last : Option Given.Solution) (is_for : Type 0) : Type 0 where
-  pub asked : asked ≡ asks p bound value
+pub record IsChoosing (s : SignatureOf) (nodes : List Node) (table : Table) (p : Tree) (bound : List (VarId × TermId)) (v : TermId) (asks_for : Asked) (last : Option Given.Solution) (is_for : Type 0) : Type 0 where
+  pub asked : asks_for ≡ asks p bound v
   pub signature : is_for
-  pub ready : CanGoOn false s nodes table asked last
+  pub ready : CanGoOn false s nodes table asks_for last
   pub values : All (IsValueOf s nodes table) bound
   pub apart : AreApart (map (λ b. variable_of b.0) bound)
-  pub value : IsTerm s nodes value.0
-  pub settled : AreSettled s nodes table (tree_at nodes value.0)
+  pub value : IsTerm s nodes v.0
+  pub settled : AreSettled s nodes table (tree_at nodes v.0)
