@@ -146,15 +146,15 @@ module _ {L M : Type 0} (c : Bool) (asked : L → Asked) (given : L → Option S
   abbrev words_now : Words (Candidates L) (Choices M) Kept
   words_now = words_of c asked given is_for asked_whole given_whole is_for_whole b new after
 
-  abbrev P : Program
-  P = program_over b.program b.hooks
+  abbrev Q : Program
+  Q = program_over b.program b.hooks
 
   abbrev behind_it : List Evaluated.Fragment
   behind_it = rest_of (rules_of b) e (suc i)
 
   -- as they are told of
   abbrev left_in : ℕ → List Node → Option Solution → Run (Option Binding)
-  left_in k nodes o = left_of_choices P (levels P b.limit k) (tree_of p) behind_it (binding_in old x.binding) (tree_at old x.value.0) (option_map (solution_in nodes) o)
+  left_in k nodes o = left_of_choices Q (levels Q b.limit k) (tree_of p) behind_it (binding_in old x.binding) (tree_at old x.value.0) (option_map (solution_in nodes) o)
 
   pattern_so : pattern_in (rest_of (rules_of b) e i) ≡ tree_of p
   pattern_so = pattern_is b e i p u at
@@ -163,8 +163,8 @@ module _ {L M : Type 0} (c : Bool) (asked : L → Asked) (given : L → Option S
   unchosen_was k n =
       ap (λ r. r n)
       (left_same b.program.sig old new before after (pattern_in (rest_of (rules_of b) e i)) x.binding x.value (asked_whole x.listing) (given_whole x.listing) (is_for_whole x.listing b.program.sig)
-      h.extends h.kept h.plain is.choosing P (levels P b.limit k) behind_it)
-      ∙ ap (λ t. left_of_choices P (levels P b.limit k) t behind_it (binding_in old x.binding) (tree_at old x.value.0) (option_map (solution_in old) (given_whole x.listing)) n) pattern_so
+      h.extends h.kept h.plain is.choosing Q (levels Q b.limit k) behind_it)
+      ∙ ap (λ t. left_of_choices Q (levels Q b.limit k) t behind_it (binding_in old x.binding) (tree_at old x.value.0) (option_map (solution_in old) (given_whole x.listing)) n) pattern_so
 
   binding_so : binding_in new x.binding ≡ binding_in old x.binding
   binding_so =
@@ -184,9 +184,9 @@ module _ {L M : Type 0} (c : Bool) (asked : L → Asked) (given : L → Option S
 
   unchosen_now : (k : ℕ) → words_now.unchosen x' k e i ≡ left_in k new (given_whole x'.listing)
   unchosen_now k =
-      ap (λ t. left_of_choices P (levels P b.limit k) t behind_it (binding_in new x'.binding) (tree_at new x'.value.0) (option_map (solution_in new) (given_whole x'.listing))) pattern_so
-      ∙ (ap (λ σ. left_of_choices P (levels P b.limit k) (tree_of p) behind_it σ (tree_at new x'.value.0) (option_map (solution_in new) (given_whole x'.listing))) from_same
-      ∙ ap (λ t. left_of_choices P (levels P b.limit k) (tree_of p) behind_it (binding_in old x.binding) t (option_map (solution_in new) (given_whole x'.listing))) value_now)
+      ap (λ t. left_of_choices Q (levels Q b.limit k) t behind_it (binding_in new x'.binding) (tree_at new x'.value.0) (option_map (solution_in new) (given_whole x'.listing))) pattern_so
+      ∙ (ap (λ σ. left_of_choices Q (levels Q b.limit k) (tree_of p) behind_it σ (tree_at new x'.value.0) (option_map (solution_in new) (given_whole x'.listing))) from_same
+      ∙ ap (λ t. left_of_choices Q (levels Q b.limit k) (tree_of p) behind_it (binding_in old x.binding) t (option_map (solution_in new) (given_whole x'.listing))) value_now)
 
   -- there is none
   pub none_next : (k n : ℕ) (o : Option (List (VarId × TermId))) (r : Option Kept) → option_map pairs_of r ≡ o →
@@ -196,16 +196,16 @@ module _ {L M : Type 0} (c : Bool) (asked : L → Asked) (given : L → Option S
   none_next k n (Some τ) None q f = absurd (cc q)
 
   some_one : (k n : ℕ) (σ : Kept) (τ : List (VarId × TermId)) → pairs_of σ ≡ τ →
-      left_in k old (given_whole x.listing) n ≡ or_go_on (left_in k new (given_whole x'.listing)) (solve P (levels P b.limit k) behind_it (binding_in new τ) n) →
+      left_in k old (given_whole x.listing) n ≡ or_go_on (left_in k new (given_whole x'.listing)) (solve Q (levels Q b.limit k) behind_it (binding_in new τ) n) →
       words_now.unchosen x k e i n ≡ or_go_on (words_now.unchosen x' k e i) (solve_on (rules_of b) k e (suc i) (bound_in new σ) n)
   some_one k n σ τ q f =
       unchosen_was k n
       ∙ (f
-      ∙ (ap (λ r. or_go_on r (solve P (levels P b.limit k) behind_it (binding_in new τ) n)) (sym (unchosen_now k))
-      ∙ ap (λ ρ. or_go_on (words_now.unchosen x' k e i) (solve P (levels P b.limit k) behind_it ρ n)) (sym (bound_pairs new σ τ q))))
+      ∙ (ap (λ r. or_go_on r (solve Q (levels Q b.limit k) behind_it (binding_in new τ) n)) (sym (unchosen_now k))
+      ∙ ap (λ ρ. or_go_on (words_now.unchosen x' k e i) (solve Q (levels Q b.limit k) behind_it ρ n)) (sym (bound_pairs new σ τ q))))
 
   pub some_next : (k n : ℕ) (o : Option (List (VarId × TermId))) (r : Option Kept) → option_map pairs_of r ≡ o →
-      IfSome o (λ τ. left_in k old (given_whole x.listing) n ≡ or_go_on (left_in k new (given_whole x'.listing)) (solve P (levels P b.limit k) behind_it (binding_in new τ) n)) →
+      IfSome o (λ τ. left_in k old (given_whole x.listing) n ≡ or_go_on (left_in k new (given_whole x'.listing)) (solve Q (levels Q b.limit k) behind_it (binding_in new τ) n)) →
       IfSome r (λ σ. words_now.unchosen x k e i n ≡ or_go_on (words_now.unchosen x' k e i) (solve_on (rules_of b) k e (suc i) (bound_in new σ) n))
   some_next k n o None q f = tt
   some_next k n None (Some σ) q f = absurd (cc q)

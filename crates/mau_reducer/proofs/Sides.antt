@@ -92,10 +92,10 @@ entry_there None h = absurd (cc h)
 entry_there (Some x) h = (x, refl)
 
 module _ (b : Basis) (basis : IsBasis b) (nodes : List Node) (table : Table) (plain : IsPlainTable b.program.sig nodes table) (are : AreNodes nodes) (v : ℕ) (h : IsKnownValue b.program.sig nodes table v) where
-  abbrev P : Program
-  P = program_over b.program b.hooks
+  abbrev Q : Program
+  Q = program_over b.program b.hooks
 
-  none : (m : Membership) → IsAmong m P.memberships → m.exec ≡ false
+  none : (m : Membership) → IsAmong m Q.memberships → m.exec ≡ false
   none m i = by m.exec refl
     where
       by : (x : Bool) → m.exec ≡ x → m.exec ≡ false
@@ -116,9 +116,9 @@ module _ (b : Basis) (basis : IsBasis b) (nodes : List Node) (table : Table) (pl
         let own = plain_exact b.program b.hooks basis.reducible.accepted none t (term_over b.program.sig basis.reducible.lawful nodes v h.known.term) r in
         let kept = (plain.entries v x.0 x.1).1.exact r in
         let test = found x.0 x.1 in (
-          plain_sorts P none t,
-          sorts_known P none b.limit k t n,
-          ap (has_number (plain_sorts P none t)) is ∙ same_test (has_number (plain_sorts P none t) r) has (λ d. test.1 (kept.1 (own.0 d))) (λ d. own.1 (kept.0 (test.0 d))),
+          plain_sorts Q none t,
+          sorts_known Q none b.limit k t n,
+          ap (has_number (plain_sorts Q none t)) is ∙ same_test (has_number (plain_sorts Q none t) r) has (λ d. test.1 (kept.1 (own.0 d))) (λ d. own.1 (kept.0 (test.0 d))),
         )
 
     pub sort_entered : has ≡ true → HasEntry b.program.sig nodes table (sort_in (rest_of (rules_of b) e i)) (tree_at nodes v)

@@ -17,7 +17,7 @@ next_choice-requires-clause-pattern g c =
 pub next_choice-requires-clause-choosing : goal.next_choice-requires-clause-choosing
 next_choice-requires-clause-choosing g c =
     let u = pattern_at (basis_of g.N.Natives.operators c.args.self.now) c.args.condition c.args.at c.in-Some.pattern.now (sym c.in-Some.ensures) in
-    asked_for g.L.Lister.with_context g.L.Lister.asked g.L.Lister.given g.L.Lister.is_for g.M.WholeLister.Lister.asked g.M.WholeLister.Lister.given g.M.WholeLister.Lister.is_for
+    asked_for g.L.Lister.with_context g.L.Lister.asked g.L.Lister.given g.L.Lister.is_for g.M.Lister.asked g.M.Lister.given g.M.Lister.is_for
     (basis_of g.N.Natives.operators c.args.self.now) c.args.store.now c.args.self.now.table c.args.condition c.args.at c.in-Some.pattern.now u.0 u.1 c.args.choices.now c.requires.choices
 
 pub returns-in-Ok-clause-none : goal.returns-in-Ok-clause-none
@@ -25,7 +25,7 @@ returns-in-Ok-clause-none g c = λ k n.
     let u = pattern_at (basis_of g.N.Natives.operators c.args.self.now) c.args.condition c.args.at c.in-Some.pattern.now (sym c.in-Some.ensures) in
     let e = c.next_choice.ensures in
     let b = (basis_of g.N.Natives.operators c.args.self.now) in
-    none_next g.L.Lister.with_context g.L.Lister.asked g.L.Lister.given g.L.Lister.is_for g.M.WholeLister.Lister.asked g.M.WholeLister.Lister.given g.M.WholeLister.Lister.is_for
+    none_next g.L.Lister.with_context g.L.Lister.asked g.L.Lister.given g.L.Lister.is_for g.M.Lister.asked g.M.Lister.given g.M.Lister.is_for
     (basis_of g.N.Natives.operators c.args.self.now) c.args.store.now c.next_choice.new.store c.args.self.now.table c.next_choice.new.table (record { basis = refl; extends = e.extends; kept = e.kept; plain = e.plain })
     c.args.condition c.args.at c.in-Some.pattern.now u.0 u.1 c.args.choices.now c.next_choice.new.choices c.requires.choices e.binding e.value
     k n c.in-Ok.next c.parted.result c.parted.ensures.pairs (c.in-Ok.ensures.none b.hooks b.limit k n (rest_of (rules_of b) c.args.condition (suc c.args.at)))
@@ -35,7 +35,7 @@ returns-in-Ok-clause-some g c = λ k n.
     let u = pattern_at (basis_of g.N.Natives.operators c.args.self.now) c.args.condition c.args.at c.in-Some.pattern.now (sym c.in-Some.ensures) in
     let e = c.next_choice.ensures in
     let b = (basis_of g.N.Natives.operators c.args.self.now) in
-    some_next g.L.Lister.with_context g.L.Lister.asked g.L.Lister.given g.L.Lister.is_for g.M.WholeLister.Lister.asked g.M.WholeLister.Lister.given g.M.WholeLister.Lister.is_for
+    some_next g.L.Lister.with_context g.L.Lister.asked g.L.Lister.given g.L.Lister.is_for g.M.Lister.asked g.M.Lister.given g.M.Lister.is_for
     (basis_of g.N.Natives.operators c.args.self.now) c.args.store.now c.next_choice.new.store c.args.self.now.table c.next_choice.new.table (record { basis = refl; extends = e.extends; kept = e.kept; plain = e.plain })
     c.args.condition c.args.at c.in-Some.pattern.now u.0 u.1 c.args.choices.now c.next_choice.new.choices c.requires.choices e.binding e.value
     k n c.in-Ok.next c.parted.result c.parted.ensures.pairs (c.in-Ok.ensures.some b.hooks b.limit k n (rest_of (rules_of b) c.args.condition (suc c.args.at)))
@@ -44,7 +44,7 @@ pub returns-in-Ok-clause-known : goal.returns-in-Ok-clause-known
 returns-in-Ok-clause-known g c =
     let u = pattern_at (basis_of g.N.Natives.operators c.args.self.now) c.args.condition c.args.at c.in-Some.pattern.now (sym c.in-Some.ensures) in
     let e = c.next_choice.ensures in
-    known_next g.L.Lister.with_context g.L.Lister.asked g.L.Lister.given g.L.Lister.is_for g.M.WholeLister.Lister.asked g.M.WholeLister.Lister.given g.M.WholeLister.Lister.is_for
+    known_next g.L.Lister.with_context g.L.Lister.asked g.L.Lister.given g.L.Lister.is_for g.M.Lister.asked g.M.Lister.given g.M.Lister.is_for
     (basis_of g.N.Natives.operators c.args.self.now) c.args.store.now c.next_choice.new.store c.args.self.now.table c.next_choice.new.table (record { basis = refl; extends = e.extends; kept = e.kept; plain = e.plain })
     c.args.condition c.args.at c.in-Some.pattern.now u.0 u.1 c.args.choices.now c.next_choice.new.choices c.requires.choices e.binding e.value
     c.in-Ok.next c.parted.result c.parted.ensures.pairs c.parted.ensures.one_each c.in-Ok.ensures.values c.in-Ok.ensures.variables c.in-Ok.ensures.choosing
@@ -53,7 +53,7 @@ pub returns-in-Ok-clause-begun : goal.returns-in-Ok-clause-begun
 returns-in-Ok-clause-begun g c =
     let u = pattern_at (basis_of g.N.Natives.operators c.args.self.now) c.args.condition c.args.at c.in-Some.pattern.now (sym c.in-Some.ensures) in
     let e = c.next_choice.ensures in
-    from_now g.L.Lister.with_context g.L.Lister.asked g.L.Lister.given g.L.Lister.is_for g.M.WholeLister.Lister.asked g.M.WholeLister.Lister.given g.M.WholeLister.Lister.is_for
+    from_now g.L.Lister.with_context g.L.Lister.asked g.L.Lister.given g.L.Lister.is_for g.M.Lister.asked g.M.Lister.given g.M.Lister.is_for
     (basis_of g.N.Natives.operators c.args.self.now) c.args.store.now c.next_choice.new.store c.args.self.now.table c.next_choice.new.table (record { basis = refl; extends = e.extends; kept = e.kept; plain = e.plain })
     c.args.condition c.args.at c.in-Some.pattern.now u.0 u.1 c.args.choices.now c.next_choice.new.choices c.requires.choices e.binding e.value
     c.parted.result
@@ -62,7 +62,7 @@ pub returns-in-Ok-clause-solves : goal.returns-in-Ok-clause-solves
 returns-in-Ok-clause-solves g c =
     let u = pattern_at (basis_of g.N.Natives.operators c.args.self.now) c.args.condition c.args.at c.in-Some.pattern.now (sym c.in-Some.ensures) in
     let e = c.next_choice.ensures in
-    choice_next g.L.Lister.with_context g.L.Lister.asked g.L.Lister.given g.L.Lister.is_for g.M.WholeLister.Lister.asked g.M.WholeLister.Lister.given g.M.WholeLister.Lister.is_for
+    choice_next g.L.Lister.with_context g.L.Lister.asked g.L.Lister.given g.L.Lister.is_for g.M.Lister.asked g.M.Lister.given g.M.Lister.is_for
     (basis_of g.N.Natives.operators c.args.self.now) c.args.store.now c.next_choice.new.store c.args.self.now.table c.next_choice.new.table (record { basis = refl; extends = e.extends; kept = e.kept; plain = e.plain })
     c.args.condition c.args.at c.in-Some.pattern.now u.0 u.1 c.args.choices.now c.next_choice.new.choices c.requires.choices e.binding e.value
     c.in-Ok.next c.parted.result c.parted.ensures.pairs c.in-Ok.ensures.extension c.in-Ok.ensures.solves

@@ -4,4 +4,4 @@ use Rattle.mau_reducer.proofs.Conditions.{goal_is}
 use Rattle.mau_reducer.proofs.world.ReducerWorld.goal.Goals as goal
 
 pub returns : goal.returns
-returns g c = λ nodes. c.goal_in.ensures ∙ (ap goal_in c.fragment.ensures ∙ goal_is (written_at c.args.self.now.program.now c.args.condition) c.args.at)
+returns g c = λ nodes. c.goal_in.ensures ∙ (ap goal_in c.fragment_at.ensures ∙ goal_is (written_at c.args.self.now.program.now c.args.condition) c.args.at)
