@@ -7,10 +7,11 @@ use Rattle.mau_terms.specs.declared.ids.TermId.{TermId}
 use Rattle.mau_signature.specs.Signature.{SignatureOf, theory_at}
 use Rattle.mau_store.specs.Node.{Node, Extends}
 use Rattle.mau_store.specs.Trees.{tree_at}
-use Rattle.mau_sorts.specs.Table.{Table, KeepsEntries}
-use Rattle.mau_listing.specs.Asked.{Asked}
+use Rattle.mau_sorts.specs.HasSort.{Known}
+use Rattle.mau_sorts.specs.Table.{Table, KeepsEntries, AreOver}
+use Rattle.mau_listing.specs.Asked.{Asked, last_after, IsTableOf, IsClosedTable, IsGiven, CanGoOn}
 use Rattle.mau_listing.specs.declared.solution.Solution as Given
-use Rattle.mau_listing.proofs.Growth.{listings_go_on, last_found_same}
+use Rattle.mau_listing.proofs.Growth.{listings_go_on, last_found_same, given_is_last}
 use Rattle.mau_evaluation.specs.Program.{Fragment, Program}
 use Rattle.mau_evaluation.specs.Listing.{Solution}
 use Rattle.mau_evaluation.specs.Evaluation.{Level}
@@ -19,7 +20,7 @@ use Rattle.mau_cond.proofs.Grown.{each, value_grown, bound_grown}
 use Rattle.mau_reduce.specs.Tables.{IsPlainTable}
 use Rattle.mau_reduce.specs.Trying.{solution_in}
 use Rattle.mau_reduce.proofs.KindsKept.{tree_kept, is_term_kept}
-use Rattle.mau_reduce.proofs.PlainTables.{settled_grown}
+use Rattle.mau_reduce.proofs.PlainTables.{settled_grown, plain_is_table}
 use Rattle.mau_reduce.proofs.Candidates.{same_option, matchers_of}
 use Rattle.mau_choices.specs.Choosing.{left_of_choices, IsChoosing}
 
@@ -54,3 +55,34 @@ module _ (s : SignatureOf) (old new : List Node) (before after : Table) (p : Tre
       ap (λ σ. left_of_choices P l p c σ (tree_at new v.0) (option_map (solution_in new) last)) binding_same
       ∙ (ap (λ t. left_of_choices P l p c (binding_in old bound) t (option_map (solution_in new) last)) value_same
       ∙ ap (left_of_choices P l p c (binding_in old bound) (tree_at old v.0)) last_same)
+
+  -- and so it does behind one more solution
+  pub choosing_on : (c : Bool) → c ≡ false → (b : Asked) → b ≡ a → (answer more : Option Given.Solution) → more ≡ last_after last answer → IfSome answer (IsGiven c s new after a) →
+      (still : Type 0) → still → IsChoosing s new after p bound v b more still
+  choosing_on c w b e answer more m given still for = record {
+    asked = e ∙ is.asked;
+    signature = for;
+    ready = subst (λ z. CanGoOn false s new after z more) (sym e) (subst (CanGoOn false s new after a) (sym m) (by answer given));
+    values = choosing_grown.values;
+    apart = is.apart;
+    value = choosing_grown.value;
+    settled = choosing_grown.settled;
+  }
+    where
+      by : (o : Option Given.Solution) → IfSome o (IsGiven c s new after a) → CanGoOn false s new after a (last_after last o)
+      by None h = choosing_grown.ready
+      by (Some x) h = record {
+        askable = choosing_grown.ready.askable;
+        settled = choosing_grown.ready.settled;
+        over = choosing_grown.ready.over;
+        given = given_is_last false s new after a x (subst (λ z. IsGiven z s new after a x) w h);
+      }
+
+-- a table that a listing has grown
+pub plain_after : (s : SignatureOf) (old new : List Node) (before after : Table) → IsPlainTable s old before → AreOver s.hierarchy after →
+    ((known : Known) → IsTableOf s known old before → IsTableOf s known new after) → (IsClosedTable old before → IsClosedTable new after) → IsPlainTable s new after
+plain_after s old new before after plain over table closed = record {
+  over = over;
+  entries = (table [] (plain_is_table s old before plain)).entries;
+  closed = closed plain.closed;
+}

@@ -1,5 +1,5 @@
 -- The next solution by numbers of a store, and the binding that it gives.
-use Rattle.std.proofs.Common.{◌≡◌, ℕ, List, [], ◌∷◌, map, All, Bool, true, false, inl, inr, Option, Some, None, length, refl, sym, ap, ap₂, ◌∙◌, subst}
+use Rattle.std.proofs.Common.{◌≡◌, ℕ, List, [], ◌∷◌, map, All, Bool, true, false, inl, inr, Option, Some, None, IfSome, length, refl, sym, ap, ap₂, ◌∙◌, subst}
 use Rattle.std.specs.Option.{option_map}
 use Rattle.std.proofs.lemmas.List.Elements.{All-head, All-tail, All-nil, All-cons}
 use Rattle.mau_terms.specs.Tree.{Tree, variable, numeral, apply, Trees, no_trees, tree}
@@ -24,13 +24,14 @@ use Rattle.mau_canon.specs.Standing.{StandsWithin, StandWithin}
 use Rattle.mau_sorts.specs.Table.{Table, KeepsEntries}
 use Rattle.mau_listing.specs.Question.{OfNorm, IsWhole, IsSolution}
 use Rattle.mau_listing.specs.Next.{matcher_cmp, IsNext}
-use Rattle.mau_listing.specs.Asked.{Asked, asks, question_in, matcher_in, BySort, HasEntry, IsGiven}
+use Rattle.mau_listing.specs.Asked.{Asked, asks, question_in, matcher_in, last_after, BySort, HasEntry, IsGiven}
 use Rattle.mau_listing.specs.declared.solution.Solution as Given
+use Rattle.mau_listing.proofs.Growth.{trees_long}
 use Rattle.mau_program.specs.declared.program.Program as Typed
 use Rattle.mau_evaluation.specs.Run.{done, or_go_on}
 use Rattle.mau_evaluation.specs.Program.{Fragment, Program}
-use Rattle.mau_evaluation.specs.Listing.{Solution}
-use Rattle.mau_evaluation.specs.Evaluation.{Binding, levels, look_up, binds, extend, solve}
+use Rattle.mau_evaluation.specs.Listing.{Solution, solutions}
+use Rattle.mau_evaluation.specs.Evaluation.{Binding, levels, look_up, binds, extend, agree, solve}
 use Rattle.mau_api.specs.Terms.{IsTerm}
 use Rattle.mau_api.specs.Programs.{program_over}
 use Rattle.mau_api.specs.Remaining.{as_matcher}
@@ -97,6 +98,19 @@ mutual
 
 -- ---- the next solution
 
+-- τ is the binding by the next solution in v, behind the last one: what it says of what is left, where `more` is the last one afterwards, and of τ
+pub record IsChoice (p : Typed.Program) (pat : Tree) (old new : List Node) (after : Table) (bound : List (VarId × TermId)) (v : TermId) (last more : Option Given.Solution) (τ : List (VarId × TermId)) : Type 0 where
+  pub some : (hooks : List Operator) (B k b : ℕ) (f : List Fragment) →
+      left_of_choices (program_over p hooks) (levels (program_over p hooks) B k) pat f (binding_in old bound) (tree_at old v.0) (option_map (solution_in old) last) b
+      ≡ or_go_on (left_of_choices (program_over p hooks) (levels (program_over p hooks) B k) pat f (binding_in old bound) (tree_at old v.0) (option_map (solution_in new) more))
+      (solve (program_over p hooks) (levels (program_over p hooks) B k) f (binding_in new τ) b)
+  pub values : All (IsValueOf p.sig new after) τ
+  pub apart : AreApart (map (λ b. variable_of b.0) τ)
+  pub variables : map (λ b. variable_of b.0) τ ≡ add_variables (map (λ b. variable_of b.0) bound) pat
+  pub extension : IsExtension (binding_in old bound) (binding_in new τ)
+  pub each_bound : (z : Variable) → has_variable (variables pat) z ≡ true → binds (binding_in new τ) z ≡ true
+  pub solves : (υ : Binding) → IsExtension (binding_in new τ) υ → norm (theory_at p.sig) (instance (look_up υ) pat) ≡ tree_at old v.0
+
 module _ (p : Typed.Program) (red : IsReducible p) (pat : Tree) (bare_pat : IsBare (terms_over p.sig) pat) (old new : List Node) (before after : Table) (extends : Extends old new) (kept : KeepsEntries before after)
     (bound : List (VarId × TermId)) (values : All (IsValueOf p.sig old before) bound) (apart : AreApart (map (λ b. variable_of b.0) bound)) (v : TermId) (term : IsTerm p.sig old v.0)
     (settled : AreSettled p.sig old before (tree_at old v.0)) (a : Asked) (g : a ≡ asks pat bound v) (c : Bool) (w : c ≡ false) (last : Option Given.Solution) where
@@ -133,7 +147,7 @@ module _ (p : Typed.Program) (red : IsReducible p) (pat : Tree) (bare_pat : IsBa
     abbrev y : Solution
     y = solution_in new x
 
-    abbrev known : _
+    abbrev known : IsIn y (solutions (terms_over p.sig) pat t) × (agree (theory_at p.sig) σ (variables pat) y.values ≡ true) × HaveSorts (BySort p.sig []) (variables pat) y.values
     known = is_listed p red [] pat bare_pat t term.within.normal term.bare old before settled σ norms apart_so (option_map (solution_in old) last) y (next_so (Some x) is)
 
     pub as_many : length (trees_at new (numbers x.values)) ≡ length (variables pat)
@@ -209,3 +223,33 @@ module _ (p : Typed.Program) (red : IsReducible p) (pat : Tree) (bare_pat : IsBa
           (instance_along (look_up υ) (value_at (variables pat) y.values) pat
           (λ z o. let h = has_each z (has_occurring z pat o) in let m = more z h.0 in m.1 ∙ h.1))
           ∙ instance_is p red [] pat bare_pat t term.within.normal term.bare old before settled σ norms apart_so y known.0
+
+      pub choice_is : IsGiven c p.sig new after a x → (more : Option Given.Solution) → more ≡ Some x → IsChoice p pat old new after bound v last more τ
+      choice_is given more m = record {
+        some = λ hooks B k b f.
+            let P = program_over p hooks in
+            some_is hooks B k b f
+            ∙ ap (λ o. or_go_on (left_of_choices P (levels P B k) pat f σ t (option_map (solution_in new) o)) (solve P (levels P B k) f (binding_in new τ) b)) (sym m);
+        values = values_are given;
+        apart = apart_still;
+        variables = variables_are;
+        extension = extension_is;
+        each_bound = binds_each;
+        solves = pattern_is;
+      }
+
+  -- ---- as the code has it
+
+  module _ (answer : Option Given.Solution) (is : Next answer) where
+    pub none_of : answer ≡ None → (hooks : List Operator) (B k b : ℕ) (f : List Fragment) →
+        left_of_choices (program_over p hooks) (levels (program_over p hooks) B k) pat f (binding_in old bound) (tree_at old v.0) (option_map (solution_in old) last) b ≡ done None 0 b
+    none_of e = none_is (subst Next e is)
+
+    pub values_long : (x : Given.Solution) → answer ≡ Some x → length x.values ≡ length (variables pat)
+    values_long x e = sym (trees_long new x.values) ∙ as_many x (subst Next e is)
+
+    pub choice_of : (x : Given.Solution) → answer ≡ Some x → IfSome answer (IsGiven c p.sig new after a) → (more : Option Given.Solution) → more ≡ last_after last answer →
+        (told τ : List (VarId × TermId)) → map (λ b. variable_of b.0) told ≡ variables pat → map (λ b. b.1) told ≡ x.values → τ ≡ extended bound told →
+        IsChoice p pat old new after bound v last more τ
+    choice_of x e given more m told τ names numbered more_bound =
+        choice_is x (subst Next e is) told τ names numbered more_bound (subst (λ o. IfSome o (IsGiven c p.sig new after a)) e given) more (m ∙ ap (last_after last) e)

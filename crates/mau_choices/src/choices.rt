@@ -84,27 +84,33 @@ pub fn next_choice<L: WholeLister>(
     requires reducible { IsReducible program.now }
     requires pattern { IsBare (terms_over program.now.sig) (tree_of pattern.now) }
     requires plain { IsPlainTable program.now.sig store.old table.old }
-    requires choosing { IsChoosing program.now.sig store.old table.old (tree_of pattern.now) choices.old.binding choices.old.value
+    requires choosing { IsChoosing program.now.sig store.old table.old (tree_of pattern.now)
+        choices.old.binding choices.old.value
         (L.asked choices.old.listing) (L.given choices.old.listing) (L.is_for choices.old.listing program.now.sig) }
-    ensures none { (hooks : List Operator) (B k b : ℕ) (c : List Fragment) → IfOk result (λ o. IfNone o (left_of_choices (program_over program.now hooks) (levels (program_over program.now hooks) B k)
-        (tree_of pattern.now) c (binding_in store.old choices.old.binding) (tree_at store.old choices.old.value.0)
+    ensures none { (hooks : List Operator) (B k b : ℕ) (c : List Fragment) → IfOk result (λ o. IfNone o
+        (left_of_choices (program_over program.now hooks) (levels (program_over program.now hooks) B k) (tree_of pattern.now) c
+        (binding_in store.old choices.old.binding) (tree_at store.old choices.old.value.0)
         (option_map (solution_in store.old) (L.given choices.old.listing)) b ≡ done None 0 b)) }
-    ensures some { (hooks : List Operator) (B k b : ℕ) (c : List Fragment) → IfOk result (λ o. IfSome o (λ τ. left_of_choices (program_over program.now hooks) (levels (program_over program.now hooks) B k)
-        (tree_of pattern.now) c (binding_in store.old choices.old.binding) (tree_at store.old choices.old.value.0)
+    ensures some { (hooks : List Operator) (B k b : ℕ) (c : List Fragment) → IfOk result (λ o. IfSome o (λ τ.
+        left_of_choices (program_over program.now hooks) (levels (program_over program.now hooks) B k) (tree_of pattern.now) c
+        (binding_in store.old choices.old.binding) (tree_at store.old choices.old.value.0)
         (option_map (solution_in store.old) (L.given choices.old.listing)) b
-        ≡ or_go_on (left_of_choices (program_over program.now hooks) (levels (program_over program.now hooks) B k)
-        (tree_of pattern.now) c (binding_in store.old choices.old.binding) (tree_at store.old choices.old.value.0)
+        ≡ or_go_on (left_of_choices (program_over program.now hooks) (levels (program_over program.now hooks) B k) (tree_of pattern.now) c
+        (binding_in store.old choices.old.binding) (tree_at store.old choices.old.value.0)
         (option_map (solution_in store.new) (L.given choices.new.listing)))
         (solve (program_over program.now hooks) (levels (program_over program.now hooks) B k) c (binding_in store.new τ) b))) }
     ensures values { IfOk result (λ o. IfSome o (All (IsValueOf program.now.sig store.new table.new))) }
     ensures apart { IfOk result (λ o. IfSome o (λ τ. AreApart (map (λ b. variable_of b.0) τ))) }
-    ensures variables { IfOk result (λ o. IfSome o (λ τ. map (λ b. variable_of b.0) τ ≡ add_variables (map (λ b. variable_of b.0) choices.old.binding) (tree_of pattern.now))) }
-    ensures extension { IfOk result (λ o. IfSome o (λ τ. IsExtension (binding_in store.old choices.old.binding) (binding_in store.new τ))) }
+    ensures variables { IfOk result (λ o. IfSome o (λ τ. map (λ b. variable_of b.0) τ
+        ≡ add_variables (map (λ b. variable_of b.0) choices.old.binding) (tree_of pattern.now))) }
+    ensures extension { IfOk result (λ o. IfSome o (λ τ.
+        IsExtension (binding_in store.old choices.old.binding) (binding_in store.new τ))) }
     ensures binds { IfOk result (λ o. IfSome o (λ τ. (x : Variable) → has_variable (variables (tree_of pattern.now)) x ≡ true
         → binds (binding_in store.new τ) x ≡ true)) }
     ensures solves { IfOk result (λ o. IfSome o (λ τ. (υ : Binding) → IsExtension (binding_in store.new τ) υ
         → norm (theory_at program.now.sig) (instance (look_up υ) (tree_of pattern.now)) ≡ tree_at store.old choices.old.value.0)) }
-    ensures choosing { OnOk result (IsChoosing program.now.sig store.new table.new (tree_of pattern.now) choices.old.binding choices.old.value
+    ensures choosing { OnOk result (IsChoosing program.now.sig store.new table.new (tree_of pattern.now)
+        choices.old.binding choices.old.value
         (L.asked choices.new.listing) (L.given choices.new.listing) (L.is_for choices.new.listing program.now.sig)) }
     ensures binding { choices.new.binding ≡ choices.old.binding }
     ensures value { choices.new.value ≡ choices.old.value }
