@@ -25,7 +25,7 @@ returns-clause-entry g c =
 
 pub unreachable-requires : goal.unreachable-requires
 unreachable-requires g c =
-    c.in-None.ensures.none (value_settled (basis_of g.N.Natives.operators c.args.self.now) c.requires.ready.0.basis c.args.store.now c.args.self.now.table c.requires.ready.0.plain c.len-nodes.ensures.nodes c.args.value.0 c.requires.value)
+    c.in-None-has.ensures.none (value_settled (basis_of g.N.Natives.operators c.args.self.now) c.requires.ready.0.basis c.args.store.now c.args.self.now.table c.requires.ready.0.plain c.len-nodes.ensures.nodes c.args.value.0 c.requires.value)
 
 pub unreachable-requires-in-None : goal.unreachable-requires-in-None
 unreachable-requires-in-None g c = has_sort_there (basis_of g.N.Natives.operators c.args.self.now) c.args.condition c.args.at c.requires.asks (sym c.in-None.ensures)
