@@ -47,8 +47,8 @@ returns-in_ok-extend-in-Some-clause-some g c =
     c.args.choices.now.binding c.requires.choosing.values c.requires.choosing.apart c.args.choices.now.value c.requires.choosing.value c.requires.choosing.settled (g.L.Lister.asked c.args.choices.now.listing) c.requires.choosing.asked
     g.L.Lister.with_context g.met.L.WholeLister.whole (g.L.Lister.given c.args.choices.now.listing) c.in_ok-solution.field-0
     (c.in_ok-solution.ensures.next [] (plain_is_table c.args.program.now.sig c.args.store.now c.args.table.now c.requires.plain))
-    c.in-Some.solution c.in-Some.is c.in_ok-solution.ensures.solves (g.L.Lister.given c.next.new.self) c.in_ok-solution.ensures.given c.in_ok-told.told.items c.extend.new.self
-    c.in_ok-told.ensures.variables (c.in_ok-told.ensures.values ∙ c.items.ensures) (c.in_ok-extend.ensures.more ∙ ap₂ extended c.in_ok-binding.ensures c.deref.ensures.value) in
+    c.in-Some.solution c.in-Some.is c.in_ok-solution.ensures.solves (g.L.Lister.given c.next.new.self) c.in_ok-solution.ensures.given c.in_ok-told-in-Some.told.items c.extend.new.self
+    c.in_ok-told-in-Some.ensures.variables (c.in_ok-told-in-Some.ensures.values ∙ c.items.ensures) (c.in_ok-extend-in-Some.ensures.more ∙ ap₂ extended c.in_ok-binding-in-Some.ensures c.deref.ensures.value) in
     k.some
 
 pub returns-in_ok-extend-in-Some-clause-values : goal.returns-in_ok-extend-in-Some-clause-values
@@ -57,8 +57,8 @@ returns-in_ok-extend-in-Some-clause-values g c =
     c.args.choices.now.binding c.requires.choosing.values c.requires.choosing.apart c.args.choices.now.value c.requires.choosing.value c.requires.choosing.settled (g.L.Lister.asked c.args.choices.now.listing) c.requires.choosing.asked
     g.L.Lister.with_context g.met.L.WholeLister.whole (g.L.Lister.given c.args.choices.now.listing) c.in_ok-solution.field-0
     (c.in_ok-solution.ensures.next [] (plain_is_table c.args.program.now.sig c.args.store.now c.args.table.now c.requires.plain))
-    c.in-Some.solution c.in-Some.is c.in_ok-solution.ensures.solves (g.L.Lister.given c.next.new.self) c.in_ok-solution.ensures.given c.in_ok-told.told.items c.extend.new.self
-    c.in_ok-told.ensures.variables (c.in_ok-told.ensures.values ∙ c.items.ensures) (c.in_ok-extend.ensures.more ∙ ap₂ extended c.in_ok-binding.ensures c.deref.ensures.value) in
+    c.in-Some.solution c.in-Some.is c.in_ok-solution.ensures.solves (g.L.Lister.given c.next.new.self) c.in_ok-solution.ensures.given c.in_ok-told-in-Some.told.items c.extend.new.self
+    c.in_ok-told-in-Some.ensures.variables (c.in_ok-told-in-Some.ensures.values ∙ c.items.ensures) (c.in_ok-extend-in-Some.ensures.more ∙ ap₂ extended c.in_ok-binding-in-Some.ensures c.deref.ensures.value) in
     k.values
 
 pub returns-in_ok-extend-in-Some-clause-apart : goal.returns-in_ok-extend-in-Some-clause-apart
@@ -67,8 +67,8 @@ returns-in_ok-extend-in-Some-clause-apart g c =
     c.args.choices.now.binding c.requires.choosing.values c.requires.choosing.apart c.args.choices.now.value c.requires.choosing.value c.requires.choosing.settled (g.L.Lister.asked c.args.choices.now.listing) c.requires.choosing.asked
     g.L.Lister.with_context g.met.L.WholeLister.whole (g.L.Lister.given c.args.choices.now.listing) c.in_ok-solution.field-0
     (c.in_ok-solution.ensures.next [] (plain_is_table c.args.program.now.sig c.args.store.now c.args.table.now c.requires.plain))
-    c.in-Some.solution c.in-Some.is c.in_ok-solution.ensures.solves (g.L.Lister.given c.next.new.self) c.in_ok-solution.ensures.given c.in_ok-told.told.items c.extend.new.self
-    c.in_ok-told.ensures.variables (c.in_ok-told.ensures.values ∙ c.items.ensures) (c.in_ok-extend.ensures.more ∙ ap₂ extended c.in_ok-binding.ensures c.deref.ensures.value) in
+    c.in-Some.solution c.in-Some.is c.in_ok-solution.ensures.solves (g.L.Lister.given c.next.new.self) c.in_ok-solution.ensures.given c.in_ok-told-in-Some.told.items c.extend.new.self
+    c.in_ok-told-in-Some.ensures.variables (c.in_ok-told-in-Some.ensures.values ∙ c.items.ensures) (c.in_ok-extend-in-Some.ensures.more ∙ ap₂ extended c.in_ok-binding-in-Some.ensures c.deref.ensures.value) in
     k.apart
 
 pub returns-in_ok-extend-in-Some-clause-variables : goal.returns-in_ok-extend-in-Some-clause-variables
@@ -77,8 +77,8 @@ returns-in_ok-extend-in-Some-clause-variables g c =
     c.args.choices.now.binding c.requires.choosing.values c.requires.choosing.apart c.args.choices.now.value c.requires.choosing.value c.requires.choosing.settled (g.L.Lister.asked c.args.choices.now.listing) c.requires.choosing.asked
     g.L.Lister.with_context g.met.L.WholeLister.whole (g.L.Lister.given c.args.choices.now.listing) c.in_ok-solution.field-0
     (c.in_ok-solution.ensures.next [] (plain_is_table c.args.program.now.sig c.args.store.now c.args.table.now c.requires.plain))
-    c.in-Some.solution c.in-Some.is c.in_ok-solution.ensures.solves (g.L.Lister.given c.next.new.self) c.in_ok-solution.ensures.given c.in_ok-told.told.items c.extend.new.self
-    c.in_ok-told.ensures.variables (c.in_ok-told.ensures.values ∙ c.items.ensures) (c.in_ok-extend.ensures.more ∙ ap₂ extended c.in_ok-binding.ensures c.deref.ensures.value) in
+    c.in-Some.solution c.in-Some.is c.in_ok-solution.ensures.solves (g.L.Lister.given c.next.new.self) c.in_ok-solution.ensures.given c.in_ok-told-in-Some.told.items c.extend.new.self
+    c.in_ok-told-in-Some.ensures.variables (c.in_ok-told-in-Some.ensures.values ∙ c.items.ensures) (c.in_ok-extend-in-Some.ensures.more ∙ ap₂ extended c.in_ok-binding-in-Some.ensures c.deref.ensures.value) in
     k.variables
 
 pub returns-in_ok-extend-in-Some-clause-extension : goal.returns-in_ok-extend-in-Some-clause-extension
@@ -87,8 +87,8 @@ returns-in_ok-extend-in-Some-clause-extension g c =
     c.args.choices.now.binding c.requires.choosing.values c.requires.choosing.apart c.args.choices.now.value c.requires.choosing.value c.requires.choosing.settled (g.L.Lister.asked c.args.choices.now.listing) c.requires.choosing.asked
     g.L.Lister.with_context g.met.L.WholeLister.whole (g.L.Lister.given c.args.choices.now.listing) c.in_ok-solution.field-0
     (c.in_ok-solution.ensures.next [] (plain_is_table c.args.program.now.sig c.args.store.now c.args.table.now c.requires.plain))
-    c.in-Some.solution c.in-Some.is c.in_ok-solution.ensures.solves (g.L.Lister.given c.next.new.self) c.in_ok-solution.ensures.given c.in_ok-told.told.items c.extend.new.self
-    c.in_ok-told.ensures.variables (c.in_ok-told.ensures.values ∙ c.items.ensures) (c.in_ok-extend.ensures.more ∙ ap₂ extended c.in_ok-binding.ensures c.deref.ensures.value) in
+    c.in-Some.solution c.in-Some.is c.in_ok-solution.ensures.solves (g.L.Lister.given c.next.new.self) c.in_ok-solution.ensures.given c.in_ok-told-in-Some.told.items c.extend.new.self
+    c.in_ok-told-in-Some.ensures.variables (c.in_ok-told-in-Some.ensures.values ∙ c.items.ensures) (c.in_ok-extend-in-Some.ensures.more ∙ ap₂ extended c.in_ok-binding-in-Some.ensures c.deref.ensures.value) in
     k.extension
 
 pub returns-in_ok-extend-in-Some-clause-binds : goal.returns-in_ok-extend-in-Some-clause-binds
@@ -97,8 +97,8 @@ returns-in_ok-extend-in-Some-clause-binds g c =
     c.args.choices.now.binding c.requires.choosing.values c.requires.choosing.apart c.args.choices.now.value c.requires.choosing.value c.requires.choosing.settled (g.L.Lister.asked c.args.choices.now.listing) c.requires.choosing.asked
     g.L.Lister.with_context g.met.L.WholeLister.whole (g.L.Lister.given c.args.choices.now.listing) c.in_ok-solution.field-0
     (c.in_ok-solution.ensures.next [] (plain_is_table c.args.program.now.sig c.args.store.now c.args.table.now c.requires.plain))
-    c.in-Some.solution c.in-Some.is c.in_ok-solution.ensures.solves (g.L.Lister.given c.next.new.self) c.in_ok-solution.ensures.given c.in_ok-told.told.items c.extend.new.self
-    c.in_ok-told.ensures.variables (c.in_ok-told.ensures.values ∙ c.items.ensures) (c.in_ok-extend.ensures.more ∙ ap₂ extended c.in_ok-binding.ensures c.deref.ensures.value) in
+    c.in-Some.solution c.in-Some.is c.in_ok-solution.ensures.solves (g.L.Lister.given c.next.new.self) c.in_ok-solution.ensures.given c.in_ok-told-in-Some.told.items c.extend.new.self
+    c.in_ok-told-in-Some.ensures.variables (c.in_ok-told-in-Some.ensures.values ∙ c.items.ensures) (c.in_ok-extend-in-Some.ensures.more ∙ ap₂ extended c.in_ok-binding-in-Some.ensures c.deref.ensures.value) in
     k.each_bound
 
 pub returns-in_ok-extend-in-Some-clause-solves : goal.returns-in_ok-extend-in-Some-clause-solves
@@ -107,8 +107,8 @@ returns-in_ok-extend-in-Some-clause-solves g c =
     c.args.choices.now.binding c.requires.choosing.values c.requires.choosing.apart c.args.choices.now.value c.requires.choosing.value c.requires.choosing.settled (g.L.Lister.asked c.args.choices.now.listing) c.requires.choosing.asked
     g.L.Lister.with_context g.met.L.WholeLister.whole (g.L.Lister.given c.args.choices.now.listing) c.in_ok-solution.field-0
     (c.in_ok-solution.ensures.next [] (plain_is_table c.args.program.now.sig c.args.store.now c.args.table.now c.requires.plain))
-    c.in-Some.solution c.in-Some.is c.in_ok-solution.ensures.solves (g.L.Lister.given c.next.new.self) c.in_ok-solution.ensures.given c.in_ok-told.told.items c.extend.new.self
-    c.in_ok-told.ensures.variables (c.in_ok-told.ensures.values ∙ c.items.ensures) (c.in_ok-extend.ensures.more ∙ ap₂ extended c.in_ok-binding.ensures c.deref.ensures.value) in
+    c.in-Some.solution c.in-Some.is c.in_ok-solution.ensures.solves (g.L.Lister.given c.next.new.self) c.in_ok-solution.ensures.given c.in_ok-told-in-Some.told.items c.extend.new.self
+    c.in_ok-told-in-Some.ensures.variables (c.in_ok-told-in-Some.ensures.values ∙ c.items.ensures) (c.in_ok-extend-in-Some.ensures.more ∙ ap₂ extended c.in_ok-binding-in-Some.ensures c.deref.ensures.value) in
     k.solves
 
 pub returns-in_err-solution-clause-plain : goal.returns-in_err-solution-clause-plain
