@@ -1,5 +1,5 @@
 -- The variables of a binding that is extended by the values of a pattern's variables: those that it had, and then those of the pattern.
-use Rattle.std.proofs.Common.{◌≡◌, ℕ, suc, List, [], ◌∷◌, ◌++◌, length, Bool, true, false, ◌||◌, if◌then◌else◌, refl, sym, ap, ◌∙◌, subst}
+use Rattle.std.proofs.Common.{◌≡◌, suc, List, [], ◌∷◌, ◌++◌, length, Bool, true, false, ◌||◌, if◌then◌else◌, refl, sym, ap, ◌∙◌, subst}
 use Rattle.mau_terms.specs.Tree.{Tree, variable, numeral, apply, Trees, no_trees, tree}
 use Rattle.mau_terms.specs.Subst.{Variable, same_variable, has_variable, add_variables, add_all_variables, variables}
 use Rattle.mau_terms.proofs.Variables.{same-is}
@@ -39,7 +39,7 @@ stays_in (y ∷ ys) xs x h = by (has_variable xs y) (λ zs. stays_in ys zs x)
 
 comes_in : (ys xs : List Variable) (x : Variable) → has_variable ys x ≡ true → has_variable (add_each xs ys) x ≡ true
 comes_in [] xs x h = cc
-comes_in (y ∷ ys) xs x h = first (same_variable y x) refl h
+comes_in (y ∷ ys) xs x h = first (same_variable y x) refl (λ zs. comes_in ys zs x) h
   where
     here : same_variable y x ≡ true → (w : Bool) → has_variable xs y ≡ w → has_variable (if w then xs else xs ++ y ∷ []) x ≡ true
     here s true k = has_same xs k
@@ -48,9 +48,9 @@ comes_in (y ∷ ys) xs x h = first (same_variable y x) refl h
         has_same zs q = subst (λ z. has_variable zs z ≡ true) (same-is y x s) q
     here s false k = has_last xs y x s
 
-    first : (w : Bool) → same_variable y x ≡ w → (w || has_variable ys x) ≡ true → has_variable (add_each (if has_variable xs y then xs else xs ++ y ∷ []) ys) x ≡ true
-    first true s k = stays_in ys (if has_variable xs y then xs else xs ++ y ∷ []) x (here s (has_variable xs y) refl)
-    first false s k = comes_in ys (if has_variable xs y then xs else xs ++ y ∷ []) x k
+    first : (w : Bool) → same_variable y x ≡ w → ((zs : List Variable) → has_variable ys x ≡ true → has_variable (add_each zs ys) x ≡ true) → (w || has_variable ys x) ≡ true → has_variable (add_each (if has_variable xs y then xs else xs ++ y ∷ []) ys) x ≡ true
+    first true s rest k = stays_in ys (if has_variable xs y then xs else xs ++ y ∷ []) x (here s (has_variable xs y) refl)
+    first false s rest k = rest (if has_variable xs y then xs else xs ++ y ∷ []) k
 
 -- ---- one after another
 

@@ -12,7 +12,6 @@ use Rattle.mau_terms.specs.Finite.{IsIn}
 use Rattle.mau_terms.specs.View.{variable_of}
 use Rattle.mau_terms.specs.declared.ids.VarId.{VarId}
 use Rattle.mau_terms.specs.declared.ids.TermId.{TermId}
-use Rattle.mau_terms.specs.declared.theory.Theory.{Theory}
 use Rattle.mau_terms.proofs.Instances.{has_occurring}
 use Rattle.mau_terms.proofs.Variables.{distinct}
 use Rattle.mau_signature.specs.Signature.{SignatureOf, theory_at, terms_over}
@@ -29,7 +28,7 @@ use Rattle.mau_listing.specs.declared.solution.Solution as Given
 use Rattle.mau_listing.proofs.Growth.{trees_long}
 use Rattle.mau_program.specs.declared.program.Program as Typed
 use Rattle.mau_evaluation.specs.Run.{done, or_go_on}
-use Rattle.mau_evaluation.specs.Program.{Fragment, Program}
+use Rattle.mau_evaluation.specs.Program.{Fragment}
 use Rattle.mau_evaluation.specs.Listing.{Solution, solutions}
 use Rattle.mau_evaluation.specs.Evaluation.{Binding, levels, look_up, binds, extend, agree, solve}
 use Rattle.mau_api.specs.Terms.{IsTerm}
@@ -106,7 +105,7 @@ pub record IsChoice (p : Typed.Program) (pat : Tree) (old new : List Node) (afte
       (solve (program_over p hooks) (levels (program_over p hooks) B k) f (binding_in new τ) b)
   pub values : All (IsValueOf p.sig new after) τ
   pub apart : AreApart (map (λ b. variable_of b.0) τ)
-  pub variables : map (λ b. variable_of b.0) τ ≡ add_variables (map (λ b. variable_of b.0) bound) pat
+  pub named : map (λ b. variable_of b.0) τ ≡ add_variables (map (λ b. variable_of b.0) bound) pat
   pub extension : IsExtension (binding_in old bound) (binding_in new τ)
   pub each_bound : (z : Variable) → has_variable (variables pat) z ≡ true → binds (binding_in new τ) z ≡ true
   pub solves : (υ : Binding) → IsExtension (binding_in new τ) υ → norm (theory_at p.sig) (instance (look_up υ) pat) ≡ tree_at old v.0
@@ -232,7 +231,7 @@ module _ (p : Typed.Program) (red : IsReducible p) (pat : Tree) (bare_pat : IsBa
             ∙ ap (λ o. or_go_on (left_of_choices P (levels P B k) pat f σ t (option_map (solution_in new) o)) (solve P (levels P B k) f (binding_in new τ) b)) (sym m);
         values = values_are given;
         apart = apart_still;
-        variables = variables_are;
+        named = variables_are;
         extension = extension_is;
         each_bound = binds_each;
         solves = pattern_is;

@@ -79,7 +79,7 @@ returns-in_ok-extend-in-Some-clause-variables g c =
     (c.in_ok-solution.ensures.next [] (plain_is_table c.args.program.now.sig c.args.store.now c.args.table.now c.requires.plain))
     c.in-Some.solution c.in-Some.is c.in_ok-solution.ensures.solves (g.L.Lister.given c.next.new.self) c.in_ok-solution.ensures.given c.in_ok-told-in-Some.told.items c.extend.new.self
     c.in_ok-told-in-Some.ensures.variables (c.in_ok-told-in-Some.ensures.values ∙ c.items.ensures) (c.in_ok-extend-in-Some.ensures.more ∙ ap₂ extended c.in_ok-binding-in-Some.ensures c.deref.ensures.value) in
-    k.variables
+    k.named
 
 pub returns-in_ok-extend-in-Some-clause-extension : goal.returns-in_ok-extend-in-Some-clause-extension
 returns-in_ok-extend-in-Some-clause-extension g c =
