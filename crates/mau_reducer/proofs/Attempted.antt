@@ -1,5 +1,5 @@
 -- The next candidate: what it leaves, and what is known of it in the later state.
-use Rattle.std.proofs.Common.{◌≡◌, ℕ, List, [], Bool, Option, Some, None, IfSome, IfNone, Result, Ok, Err, IfOk, IfErr, map, drop, length, slice_get, sym, ap, ◌∙◌, subst, arith}
+use Rattle.std.proofs.Common.{◌≡◌, ℕ, List, Bool, Option, Some, None, IfSome, IfNone, Result, Ok, Err, IfOk, IfErr, map, drop, length, slice_get, sym, ap, ◌∙◌, subst, arith}
 use Rattle.std.specs.Option.{option_map}
 use Rattle.std.proofs.lemmas.Option.{slice_get_past}
 use Rattle.std.proofs.lemmas.Bool.{and_parts}

@@ -1,11 +1,11 @@
 -- The solutions of a matching fragment: with what they begin, and what the next one gives.
-use Rattle.std.proofs.Common.{◌≡◌, ◌∷◌, ℕ, suc, List, [], All, Bool, true, Option, Some, None, IfSome, IfNone, Result, Ok, Err, IfOk, map, drop, take, length, slice_get, refl, sym, ap, ◌∙◌, subst}
+use Rattle.std.proofs.Common.{◌≡◌, ◌∷◌, ℕ, suc, List, [], All, Bool, Option, Some, None, IfSome, IfNone, Result, Ok, Err, IfOk, map, drop, take, length, slice_get, sym, ap, ◌∙◌, subst}
 use Rattle.std.specs.Option.{option_map}
 use Rattle.std.specs.List.{zip}
 use Rattle.std.specs.Prelude.{fold}
 use Rattle.mau_terms.specs.Tree.{Tree}
 use Rattle.mau_terms.specs.Norm.{norm}
-use Rattle.mau_terms.specs.Subst.{Variable, variables, add_variables, instance}
+use Rattle.mau_terms.specs.Subst.{Variable, add_variables, instance}
 use Rattle.mau_terms.specs.View.{tree_of, variable_of}
 use Rattle.mau_terms.specs.declared.bare.Bare.{Bare}
 use Rattle.mau_terms.specs.declared.ids.VarId.{VarId}
@@ -14,8 +14,7 @@ use Rattle.mau_terms.specs.declared.memory.NoMemory.{NoMemory as Failed}
 use Rattle.mau_terms.proofs.Variables.{distinct}
 use Rattle.mau_signature.specs.Signature.{SignatureOf, theory_at}
 use Rattle.mau_store.specs.Node.{Node}
-use Rattle.mau_store.specs.Trees.{tree_at, trees_at}
-use Rattle.mau_store.specs.View.{numbers}
+use Rattle.mau_store.specs.Trees.{tree_at}
 use Rattle.mau_sorts.specs.Table.{Table}
 use Rattle.mau_listing.specs.Asked.{Asked}
 use Rattle.mau_listing.specs.declared.solution.Solution.{Solution}
@@ -26,8 +25,8 @@ use Rattle.mau_program.specs.Binding.{bound_behind}
 use Rattle.mau_evaluation.specs.Run.{Run, done, or_go_on}
 use Rattle.mau_evaluation.specs.Program as Evaluated
 use Rattle.mau_evaluation.specs.Program.{Program}
-use Rattle.mau_evaluation.specs.Evaluation.{Binding, Level, levels, look_up, solve}
-use Rattle.mau_api.specs.Programs.{program_over, fragment_of}
+use Rattle.mau_evaluation.specs.Evaluation.{Binding, levels, look_up, solve}
+use Rattle.mau_api.specs.Programs.{program_over}
 use Rattle.mau_api.specs.Answers.{IsValueOf, binding_in}
 use Rattle.mau_reduce.specs.declared.binding.Binding.{Binding as Kept}
 use Rattle.mau_reduce.specs.Bindings.{bound_in}
@@ -41,7 +40,7 @@ use Rattle.mau_choices.proofs.Begun.{unchosen_begun}
 use Rattle.mau_choices.proofs.Later.{value_same, binding_same, left_same}
 use Rattle.mau_reducer.specs.declared.reducer.Candidates.{Candidates}
 use Rattle.mau_reducer.specs.Basis.{Basis}
-use Rattle.mau_reducer.specs.Handles.{written_at, bound_before, AreBoundFrom, rules_of, IsKnownBinding, AreKnownChoices, words_of}
+use Rattle.mau_reducer.specs.Handles.{written_at, bound_before, rules_of, IsKnownBinding, AreKnownChoices, words_of}
 use Rattle.mau_reducer.specs.States.{ComesOf}
 use Rattle.mau_reducer.specs.Fragments.{bound_next, bound_on}
 use Rattle.mau_reducer.proofs.Conditions.{from_place, pattern_is}

@@ -1,5 +1,5 @@
 -- Bindings in two lists, and as pairs.
-use Rattle.std.proofs.Common.{◌≡◌, List, [], ◌∷◌, All, length, map, refl, sym, ap, ◌∙◌, arith}
+use Rattle.std.proofs.Common.{◌≡◌, List, [], ◌∷◌, All, length, map, refl, ap, arith}
 use Rattle.std.proofs.lemmas.List.Elements.{All-head, All-tail, All-nil, All-cons}
 use Rattle.std.specs.List.{zip}
 use Rattle.mau_terms.specs.Tree.{Tree}

@@ -3,7 +3,7 @@ use Rattle.std.proofs.Common.{◌≡◌, ◌↔◌, ℕ, suc, List, Bool, true, 
 use Rattle.std.specs.Prelude.{IsTrue}
 use Rattle.mau_terms.specs.Tree.{Tree}
 use Rattle.mau_terms.specs.Norm.{norm}
-use Rattle.mau_terms.specs.Bare.{IsBare, IsBareIn, IsLawful}
+use Rattle.mau_terms.specs.Bare.{IsLawful}
 use Rattle.mau_terms.specs.Finite.{IsIn as IsAmong}
 use Rattle.mau_terms.specs.Subst.{instance}
 use Rattle.mau_terms.specs.View.{tree_of}
@@ -11,13 +11,12 @@ use Rattle.mau_terms.specs.declared.bare.Bare.{Bare}
 use Rattle.mau_terms.specs.declared.ids.TermId.{TermId}
 use Rattle.mau_terms.proofs.Normal.{norm-norm}
 use Rattle.mau_signature.specs.Signature.{theory_at, terms_over}
-use Rattle.mau_store.specs.Node.{Node, IsOf, AreNodes, Extends}
+use Rattle.mau_store.specs.Node.{Node, AreNodes, Extends}
 use Rattle.mau_store.specs.Trees.{tree_at}
 use Rattle.mau_store.proofs.Numbers.{one_number}
 use Rattle.mau_sorts.specs.SortSets.{SortsOf, IsIn}
 use Rattle.mau_sorts.specs.Table.{Table, entry_at, IsSettled}
 use Rattle.mau_listing.specs.Asked.{HasEntry}
-use Rattle.mau_evaluation.specs.Run.{Run, done}
 use Rattle.mau_evaluation.specs.Program.{Program, Membership}
 use Rattle.mau_evaluation.specs.Evaluation.{look_up, has_number, admit, eval}
 use Rattle.mau_api.specs.Programs.{program_over}

@@ -36,7 +36,7 @@ use Rattle.mau_reducer.specs.KnownHandles.{term_kind, is_term}
 use Rattle.mau_reduce.proofs.PlainTables.{plain_grown}
 use Rattle.mau_reduce.proofs.PlainSorts.{plain_sorts, settle_known}
 use Rattle.std.proofs.lemmas.List.{get_or_default}
-use Rattle.std.proofs.lemmas.Option.{slice_get_past, slice_get_within, get_or_from_slice_get}
+use Rattle.std.proofs.lemmas.Option.{slice_get_past}
 use Rattle.mau_terms.specs.Subst.{Variable, same_variable, value_at, instance, instances, variables}
 use Rattle.mau_terms.specs.View.{tree_of, variable_of}
 use Rattle.mau_signature.specs.Signature.{IsOperator}

@@ -40,7 +40,8 @@ impl<'a, L: Lister + Drop, M: WholeLister + Drop, N: Natives + Drop> Reducer<'a,
     }
 }
 
-impl<'a, L: Lister + Drop, M: WholeLister + Drop, N: Natives + Drop> Evaluator for Reducer<'a, L, M, N> {
+impl<'a, L: Lister + Drop, M: WholeLister + Drop, N: Natives + Drop> Evaluator
+    for Reducer<'a, L, M, N> {
     ghost use Rattle.std.specs.Prelude.{true};
     ghost use Rattle.mau_reducer.specs.Worlds.{basis_of};
     ghost use Rattle.mau_reducer.specs.Meant.{meanings_of};

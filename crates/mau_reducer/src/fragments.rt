@@ -17,12 +17,7 @@ pub(crate) fn fragment_at(program: &Program, condition: usize, at: usize) -> Opt
 }
 
 /// The left or the right side of that fragment, if it has such a side that is evaluated.
-pub(crate) fn side_at(
-    program: &Program,
-    condition: usize,
-    at: usize,
-    right: bool,
-) -> Option<&Bare>
+pub(crate) fn side_at(program: &Program, condition: usize, at: usize, right: bool) -> Option<&Bare>
     ensures { option_copied result ≡ side_written right (slice_get (written_at program.now condition) at) }
 {
     match fragment_at(program, condition, at) {

@@ -44,7 +44,8 @@ fn parted(bound: Option<Bound>) -> Option<Binding>
     }
 }
 
-impl<'a, L: Lister + Drop, M: WholeLister + Drop, N: Natives + Drop> World for Reducer<'a, L, M, N> {
+impl<'a, L: Lister + Drop, M: WholeLister + Drop, N: Natives + Drop> World
+    for Reducer<'a, L, M, N> {
     ghost use Rattle.mau_reducer.specs.Worlds.{basis_of};
     ghost use Rattle.mau_reducer.specs.Handles.{words_of};
     ghost use Rattle.mau_reducer.specs.States.{IsReady, ComesOf};

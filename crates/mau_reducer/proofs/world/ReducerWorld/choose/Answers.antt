@@ -2,7 +2,7 @@ use Rattle.std.proofs.Common.{suc, refl, sym}
 use Rattle.mau_machine.specs.Words.{rest_of}
 use Rattle.mau_reducer.specs.Handles.{rules_of}
 use Rattle.mau_reducer.specs.Worlds.{basis_of}
-use Rattle.mau_reducer.proofs.Conditions.{has_pattern, pattern_at, pattern_is, pattern_bare}
+use Rattle.mau_reducer.proofs.Conditions.{has_pattern, pattern_at, pattern_bare}
 use Rattle.mau_reducer.proofs.Choosing.{asked_for, none_next, some_next, from_now, choice_next, known_next}
 use Rattle.mau_reducer.proofs.world.ReducerWorld.choose.Goals as goal
 

@@ -1,4 +1,4 @@
-use Rattle.std.proofs.Common.{◌<◌, ℕ, sym, arith}
+use Rattle.std.proofs.Common.{sym, arith}
 use Rattle.mau_reducer.specs.Worlds.{basis_of}
 use Rattle.mau_reducer.proofs.Conditions.{has_sort_there, sort_at, sort_is, sort_over}
 use Rattle.mau_reducer.proofs.Sides.{value_settled, sort_tested, sort_entered}
