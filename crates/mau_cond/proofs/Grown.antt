@@ -43,7 +43,7 @@ module _ (s : SignatureOf) (old new : List Node) (before after : Table) (extends
     bare = subst (λ t. IsBare (terms_over s) (reading (theory_at s) t)) (sym (tree_at-extends old new i extends h.within.there)) h.bare;
   }
 
-  value_grown : (b : VarId × TermId) → IsValueOf s old before b → IsValueOf s new after b
+  pub value_grown : (b : VarId × TermId) → IsValueOf s old before b → IsValueOf s new after b
   value_grown b h =
       let same : tree_at new b.1.0 ≡ tree_at old b.1.0 = tree_at-extends old new b.1.0 extends h.term.within.there in
       record {

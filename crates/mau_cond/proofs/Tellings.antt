@@ -43,7 +43,7 @@ bound_end : (nodes : List Node) (bs : List (VarId × TermId)) (b : VarId × Term
 bound_end nodes [] b = refl
 bound_end nodes (x ∷ bs) b = ap {A = Binding} {B = Binding} (λ σ. (variable_of x.0, tree_at nodes x.1.0) ∷ σ) (bound_end nodes bs b)
 
-extended_is : (nodes : List Node) (told bs : List (VarId × TermId)) →
+pub extended_is : (nodes : List Node) (told bs : List (VarId × TermId)) →
     binding_in nodes (extended bs told) ≡ extend (binding_in nodes bs) (map (λ b. variable_of b.0) told) (map (λ b. tree_at nodes b.1.0) told)
 extended_is nodes [] bs = refl
 extended_is nodes (b ∷ told) bs =

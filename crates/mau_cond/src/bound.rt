@@ -1,5 +1,6 @@
 //! Variables with their values.
 ghost use Rattle.std.specs.Prelude.{◌≡◌, ◌++◌, ◌∷◌, ◌≤◌, [], length, map, take, IfOk, OnOk, OnErr};
+ghost use Rattle.std.specs.List.{zip};
 ghost use Rattle.mau_store.specs.View.{numbers};
 ghost use Rattle.mau_cond.specs.Bound.{is_bound, extended};
 
@@ -36,6 +37,32 @@ impl Bound {
             variables: Vec::new(alloc),
             values: Vec::new(alloc),
         }
+    }
+
+    /// The same once more.
+    pub fn copy(&self, alloc: Global) -> Result<Bound, NoMemory>
+        ensures { IfOk result (λ b. b ≡ self.now) }
+    {
+        Ok(Bound {
+            variables: Vec::from_slice(alloc, &self.variables)?,
+            values: Vec::from_slice(alloc, &self.values)?,
+        })
+    }
+
+    /// Variables with the values in their places.
+    pub fn from_parts(variables: Vec<VarId>, values: Vec<TermId>) -> Bound
+        requires { length variables.items ≡ length values.items }
+        ensures { result ≡ zip variables.items values.items }
+    {
+        Bound { variables, values }
+    }
+
+    /// The variables and their values.
+    pub fn into_parts(self) -> (Vec<VarId>, Vec<TermId>)
+        ensures pairs { zip result.0.items result.1.items ≡ self }
+        ensures one_each { length result.0.items ≡ length result.1.items }
+    {
+        (self.variables, self.values)
     }
 
     /// How many variables there are.

@@ -6,5 +6,6 @@ mod run;
 mod stage;
 mod step;
 
+pub use bound::Bound;
 pub use run::CondRun;
 pub use stage::Ask;

@@ -52,7 +52,7 @@ use Rattle.mau_reduce.proofs.Leftover.{head, first_passed, none_passes, one_pass
 as_solution : Matcher → Solution
 as_solution m = record { left = m.left; right = m.right; values = m.values }
 
-same_option : (a b : Option Solution) → option_map as_matcher a ≡ option_map as_matcher b → a ≡ b
+pub same_option : (a b : Option Solution) → option_map as_matcher a ≡ option_map as_matcher b → a ≡ b
 unfolding as_solution
 same_option a b e = sym (back a) ∙ (ap (option_map as_solution) e ∙ back b)
   where
@@ -60,7 +60,7 @@ same_option a b e = sym (back a) ∙ (ap (option_map as_solution) e ∙ back b)
     back None = refl
     back (Some x) = refl
 
-matchers_of : (nodes : List Node) (o : Option Given.Solution) → option_map (matcher_in nodes) o ≡ option_map as_matcher (option_map (solution_in nodes) o)
+pub matchers_of : (nodes : List Node) (o : Option Given.Solution) → option_map (matcher_in nodes) o ≡ option_map as_matcher (option_map (solution_in nodes) o)
 matchers_of nodes None = refl
 matchers_of nodes (Some x) = refl
 

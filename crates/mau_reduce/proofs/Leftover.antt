@@ -67,7 +67,7 @@ module _ (c : Solution → Solution → Ordering) (total : IsTotalOrder c) where
 
   -- ---- one solution after another, where each is tested
 
-  module _ (f : Solution → Run (Option Tree)) (test : Solution → Bool) where
+  module _ {A : Type 0} (f : Solution → Run (Option A)) (test : Solution → Bool) where
     abbrev pub Fails : List Solution → Type 0
     Fails xs = (x : Solution) → IsIn x xs → test x ≡ false → (b : ℕ) → f x b ≡ done None 0 b
 
