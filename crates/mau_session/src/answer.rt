@@ -1,5 +1,5 @@
 //! The answers of items.
-ghost use Rattle.std.specs.Prelude.{◌≡◌, ◌≢◌, ◌<◌, ◌≤◌, ◌++◌, ℕ, List, [], length, take, true, false, All, OnOk, Ok, IfOk, Some, slice_get};
+ghost use Rattle.std.specs.Prelude.{◌≡◌, ◌≢◌, ◌<◌, ◌≤◌, ◌++◌, ℕ, List, [], length, take, true, false, All, OnOk, Ok, IfOk};
 ghost use Rattle.mau_terms.specs.Bare.{IsBare};
 ghost use Rattle.mau_terms.specs.Subst.{variables};
 ghost use Rattle.mau_terms.specs.View.{tree_of};
@@ -8,9 +8,8 @@ ghost use Rattle.mau_session.specs.Matching.{numbered_from};
 ghost use Rattle.mau_modtext.specs.Word.{Word};
 ghost use Rattle.mau_modtext.specs.declared.raw.Setting.TheVariants as Setting;
 ghost use Rattle.mau_modtext.specs.declared.raw.RawBody.TheVariants as RawBody;
-ghost use Rattle.mau_session.specs.Query.{QueryOf};
-ghost use Rattle.mau_session.specs.State.{at_first, a_listing};
-ghost use Rattle.mau_session.specs.KeptState.{state_of, going_of, outcome_of, IsReadyState, IsReadyAt, IsReadyOutcome};
+ghost use Rattle.mau_session.specs.State.{at_first};
+ghost use Rattle.mau_session.specs.KeptState.{state_of, outcome_of, IsReadyState, IsReadyAt, IsReadyOutcome};
 ghost use Rattle.mau_session.specs.declared.state.Outcome.TheVariants as Outcome;
 ghost use Rattle.mau_module.specs.Modules.{ModuleOf};
 ghost use Rattle.mau_session.specs.KeptQuery.{query_of, IsReady};
@@ -39,7 +38,7 @@ use crate::refusal::{
     write_text_fault,
 };
 use crate::session::Session;
-use crate::state::{Continued, Going, Outcome, State};
+use crate::state::{Going, Outcome, State};
 use mau_canon::BuildFault;
 use mau_declare::{Words, write_text};
 use mau_modtext::{RawBody, RawCommand, RawItem, RawModule, Setting, TextFault};
@@ -99,7 +98,7 @@ fn left_by(query: Query, has_ended: bool) -> Outcome
     if has_ended {
         Outcome::Ended
     } else {
-        Outcome::GoesOn(Continued::Listing(query))
+        Outcome::GoesOn(query)
     }
 }
 
@@ -288,31 +287,7 @@ fn answer_match(
     }
 }
 
-/// Shows the solutions of a query over the module with the number `chosen`, behind the last one shown, at most so many. Says that the item was
-/// not refused.
-fn list_on(
-    out: &mut Vec<u8>,
-    alloc: Global,
-    state: &mut State,
-    number: usize,
-    chosen: usize,
-    query: Query,
-    most: Option<u64>,
-) -> Result<bool, NoMemory>
-    requires ready { IsReadyState state.old }
-    requires query { (m : ModuleOf) × (slice_get state.old.library chosen ≡ Some m) × IsReady m.signature query }
-    ensures gained { IfOk result (GainsOn (state_of state.old) number chosen (query_of query) most
-        (state_of state.new) out.old.items out.new.items) }
-    ensures ready { OnOk result (IsReadyState state.new) }
-{
-    let mut query = query;
-    let module = state.library.module(chosen);
-    write_continue_head(out, number, module)?;
-    let has_ended = show_query(out, alloc, module, &mut query, most)?;
-    Ok(state.conclude(chosen, left_by(query, has_ended)))
-}
-
-/// Goes on with what may be continued. Says that the item was not refused.
+/// Shows the solutions of a query behind the last one shown, at most so many. Says that the item was not refused.
 fn go_on(
     out: &mut Vec<u8>,
     alloc: Global,
@@ -323,14 +298,16 @@ fn go_on(
 ) -> Result<bool, NoMemory>
     requires ready { IsReadyState state.old }
     requires going { IsReadyAt state.old.library going }
-    ensures gained { IfOk result (λ refused. (q : QueryOf) × ((going_of going).what ≡ a_listing q)
-        × GainsOn (state_of state.old) number going.number q most (state_of state.new) out.old.items out.new.items refused) }
+    ensures gained { IfOk result (GainsOn (state_of state.old) number going.number (query_of going.query) most
+        (state_of state.new) out.old.items out.new.items) }
     ensures ready { OnOk result (IsReadyState state.new) }
 {
     let chosen = going.number;
-    match going.what {
-        Continued::Listing(query) => list_on(out, alloc, state, number, chosen, query, most),
-    }
+    let mut query = going.query;
+    let module = state.library.module(chosen);
+    write_continue_head(out, number, module)?;
+    let has_ended = show_query(out, alloc, module, &mut query, most)?;
+    Ok(state.conclude(chosen, left_by(query, has_ended)))
 }
 
 /// Answers `continue`. Says whether it was refused.

@@ -14,18 +14,11 @@ use mau_module::{Library, Module, NAT};
 use mau_terms::NoMemory;
 use std::alloc::Global;
 
-/// What may be continued.
-#[derive(Drop)]
-pub enum Continued {
-    /// A listing of solutions.
-    Listing(Query),
-}
-
-/// What `continue` goes on with, over the module with this number.
+/// What `continue` goes on with: a query over the module with this number.
 #[derive(Drop)]
 pub struct Going {
     pub number: usize,
-    pub what: Continued,
+    pub query: Query,
 }
 
 /// All modules, those of the prelude first, the number of the current one, and what `continue` goes on with, if there is something.
@@ -36,12 +29,12 @@ pub struct State {
     pub going: Option<Going>,
 }
 
-/// What a command leaves: it is refused and changes nothing, or there is nothing to continue behind it, or this.
+/// What a command leaves: it is refused and changes nothing, or there is nothing to continue behind it, or this query.
 #[derive(Drop)]
 pub enum Outcome {
     Refused,
     Ended,
-    GoesOn(Continued),
+    GoesOn(Query),
 }
 
 impl State {
@@ -116,8 +109,8 @@ impl State {
                 self.going = None;
                 false
             }
-            Outcome::GoesOn(what) => {
-                self.going = Some(Going { number, what });
+            Outcome::GoesOn(query) => {
+                self.going = Some(Going { number, query });
                 false
             }
         }

@@ -4,12 +4,12 @@ use Rattle.mau_session.specs.Transcript.{match_answered, continue_answered, redu
 use Rattle.mau_session.proofs.answer.answer_command.Goals as goal
 
 pub returns-then-is_match-clause-gained : goal.returns-then-is_match-clause-gained
-returns-then-is_match-clause-gained c =
+returns-then-is_match-clause-gained g c =
     IfOk-weaker c.answer_match.result _ _
     (λ b g. record { bytes = g.bytes; answer = match_answered _ _ g.bytes b (sym c.is_match.ensures ∙ c.if-is_match.true) g.answer; gained = g.gained }) c.answer_match.ensures.gained
 
 pub returns-then-is_continue-clause-gained : goal.returns-then-is_continue-clause-gained
-returns-then-is_continue-clause-gained c =
+returns-then-is_continue-clause-gained g c =
     IfOk-weaker c.answer_continue.result _ _
     (λ b g. record {
       bytes = g.bytes;
@@ -18,7 +18,7 @@ returns-then-is_continue-clause-gained c =
     }) c.answer_continue.ensures.gained
 
 pub returns-then-is_reduce-clause-gained : goal.returns-then-is_reduce-clause-gained
-returns-then-is_reduce-clause-gained c =
+returns-then-is_reduce-clause-gained g c =
     IfOk-weaker c.answer_reduce.result _ _
     (λ b g. record {
       bytes = g.bytes;

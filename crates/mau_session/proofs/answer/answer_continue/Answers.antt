@@ -1,6 +1,7 @@
 use Rattle.std.proofs.Common.{◌≡◌, Some, None, IfOk, sym, ap, ◌∙◌, subst}
 use Rattle.std.specs.Option.{option_map}
 use Rattle.std.proofs.lemmas.Result.{IfOk-weaker}
+use Rattle.mau_session.specs.KeptQuery.{query_of}
 use Rattle.mau_session.specs.KeptState.{state_of, going_of}
 use Rattle.mau_session.specs.Gains.{GainsContinue}
 use Rattle.mau_session.specs.Transcript.{number_refused, nothing_to_continue}
@@ -28,6 +29,5 @@ returns-in-Some-clause-gained c =
     let going = c.in-Some.going in
     let some : c.args.state.now.going ≡ Some going = cc in
     IfOk-weaker c.go_on.result _ _
-    (λ r g. continues c.args.words.now st (option_map going_of c.take.new.self) c.args.number c.args.command.now c.in-Ok.most going.number g.0 (state_of c.go_on.new.state)
-    c.args.out.now.items c.go_on.new.out.items r (sym c.bound_of.ensures ∙ c.in-Ok.is)
-    (ap (option_map going_of) some ∙ ap (λ w. Some (record { number = going.number; what = w })) g.1) g.2) c.go_on.ensures.gained
+    (λ r g. continues c.args.words.now st (option_map going_of c.take.new.self) c.args.number c.args.command.now c.in-Ok.most going.number (query_of going.query)
+    (state_of c.go_on.new.state) c.args.out.now.items c.go_on.new.out.items r (sym c.bound_of.ensures ∙ c.in-Ok.is) (ap (option_map going_of) some) g) c.go_on.ensures.gained

@@ -15,7 +15,7 @@ from_item : (items : List RawItem) (i : ℕ) (item : RawItem) → i < length ite
 from_item items i item h e = drop-cons items i item h ∙ ap (λ x. x ∷ drop (suc i) items) (sym e) ∙ ap (λ n. item ∷ drop n items) (sym (add-one i))
 
 pub returns-then-quits : goal.returns-then-quits
-returns-then-quits c =
+returns-then-quits g c =
     let item = c.item-item.result in
     let all = c.args.items.now in
     let here = from_item all c.loop-item.item-index item c.loop-item-test.true c.item-item.is in
@@ -24,7 +24,7 @@ returns-then-quits c =
     (subst (λ items. ItemsAnswer (environment_of (operators c.args.session.now.hooks.now) c.args.session.now.limit) c.args.session.now.words.now (state_of c.loop-item.state) c.loop-item.number items [] false) (sym here) (item_quits _ _ item _ quits)) c.loop-item.invariant.rest
 
 pub loop-item-preserved : goal.loop-item-preserved
-loop-item-preserved c =
+loop-item-preserved g c =
     let item = c.item-item.result in
     let all = c.args.items.now in
     let here = from_item all c.loop-item.item-index item c.loop-item-test.true c.item-item.is in
@@ -40,7 +40,7 @@ loop-item-preserved c =
     }
 
 pub returns : goal.returns
-returns c =
+returns g c =
     let all = c.args.items.now in
     let none = drop_all c.loop-item.item-index all c.loop-item-test.false in
     all_answered (environment_of (operators c.args.session.now.hooks.now) c.args.session.now.limit) c.args.session.now.words.now _ _ (drop c.loop-item.item-index all) all c.loop-item.out.items c.loop-item.refused

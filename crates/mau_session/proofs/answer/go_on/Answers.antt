@@ -1,13 +1,19 @@
-use Rattle.std.proofs.Common.{ap, subst}
-use Rattle.std.proofs.lemmas.Result.{IfOk-weaker}
+use Rattle.std.proofs.Common.{ap, ◌∙◌}
 use Rattle.mau_session.specs.KeptQuery.{query_of}
-use Rattle.mau_session.specs.KeptState.{continued_of, IsReadyOver}
+use Rattle.mau_session.specs.KeptState.{state_of}
+use Rattle.mau_session.specs.State.{state_after, refuses}
+use Rattle.mau_session.proofs.Answering.{gains_on}
 use Rattle.mau_session.proofs.answer.go_on.Goals as goal
 
-pub list_on-requires-clause-query : goal.list_on-requires-clause-query
-list_on-requires-clause-query c =
-    let at = c.requires.going in
-    (at.«module», at.there, subst (IsReadyOver at.«module») c.in-Listing.is at.ready)
+pub conclude-requires-clause-left : goal.conclude-requires-clause-left
+conclude-requires-clause-left c =
+    (c.module-module.result.now, c.module-module.ensures.there, c.left_by.ensures.ready c.module-module.result.now c.in_ok-has_ended.ensures.ready)
 
-pub returns-in-Listing-clause-gained : goal.returns-in-Listing-clause-gained
-returns-in-Listing-clause-gained c = IfOk-weaker c.list_on.result _ _ (λ r g. (query_of c.in-Listing.query, ap continued_of c.in-Listing.is, g)) c.list_on.ensures.gained
+pub returns-clause-gained : goal.returns-clause-gained
+returns-clause-gained c =
+    let st = state_of c.args.state.now in
+    let going = c.args.going in
+    gains_on st c.args.number going.number (query_of going.query) c.args.most c.module-module.result.now c.module-module.ensures.there
+    (query_of c.show_query.new.query) (state_of c.conclude.new.self) c.args.out.now.items
+    c.write_continue_head.new.out.items c.show_query.new.out.items c.in_ok-has_ended.has_ended c.conclude.result c.in_ok-write_continue_head.ensures c.in_ok-has_ended.ensures.shown
+    (c.conclude.ensures.state ∙ ap (state_after st going.number) c.left_by.ensures.left) (c.conclude.ensures.refused ∙ ap refuses c.left_by.ensures.left)

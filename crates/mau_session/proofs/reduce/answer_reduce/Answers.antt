@@ -11,7 +11,7 @@ use Rattle.mau_session.proofs.Answering.{refused_with}
 use Rattle.mau_session.proofs.reduce.answer_reduce.Goals as goal
 
 pub returns-in-Err-clause-gained : goal.returns-in-Err-clause-gained
-returns-in-Err-clause-gained c =
+returns-in-Err-clause-gained g c =
     let e = environment_of (operators c.args.session.now.hooks.now) c.args.session.now.limit in
     let ws = c.args.session.now.words.now in
     let st = state_of c.args.state.now in
@@ -24,7 +24,7 @@ returns-in-Err-clause-gained c =
     })
 
 pub returns-then-is_empty-clause-gained : goal.returns-then-is_empty-clause-gained
-returns-then-is_empty-clause-gained c =
+returns-then-is_empty-clause-gained g c =
     let e = environment_of (operators c.args.session.now.hooks.now) c.args.session.now.limit in
     let ws = c.args.session.now.words.now in
     let st = state_of c.args.state.now in
@@ -39,4 +39,4 @@ returns-then-is_empty-clause-gained c =
     })
 
 pub reduce_chosen-requires-clause-term : goal.reduce_chosen-requires-clause-term
-reduce_chosen-requires-clause-term c = ap (is_empty c.args.session.now.words.now) (sym c.items-term.ensures) ∙ sym c.is_empty.ensures ∙ c.if-is_empty.false
+reduce_chosen-requires-clause-term g c = ap (is_empty c.args.session.now.words.now) (sym c.items-term.ensures) ∙ sym c.is_empty.ensures ∙ c.if-is_empty.false

@@ -13,7 +13,7 @@ use Rattle.mau_session.proofs.Answering.{unread_with, gains_term}
 use Rattle.mau_session.proofs.reduce.answer_term.Goals as goal
 
 pub returns-in-Err-clause-gained : goal.returns-in-Err-clause-gained
-returns-in-Err-clause-gained c =
+returns-in-Err-clause-gained g c =
     let e = environment_of (operators c.args.session.now.hooks.now) c.args.session.now.limit in
     let ws = c.args.session.now.words.now in
     let m = c.args.module.now in
@@ -27,11 +27,11 @@ returns-in-Err-clause-gained c =
     })
 
 pub returns-in-Err-clause-ready : goal.returns-in-Err-clause-ready
-returns-in-Err-clause-ready c =
+returns-in-Err-clause-ready g c =
     unread_with Refused (IsReadyOutcome c.args.module.now) c.refuse_term.result c.refuse_term.ensures.bytes c.refuse_term.ensures.named c.refuse_term.ensures.refused (λ g n. tt)
 
-pub returns-in_ok-reduce-in-Ok-clause-gained : goal.returns-in_ok-reduce-in-Ok-clause-gained
-returns-in_ok-reduce-in-Ok-clause-gained c =
+pub returns-clause-gained : goal.returns-clause-gained
+returns-clause-gained g c =
     let e = environment_of (operators c.args.session.now.hooks.now) c.args.session.now.limit in
     let ws = c.args.session.now.words.now in
     let m = c.args.module.now in

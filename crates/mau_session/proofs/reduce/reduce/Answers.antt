@@ -1,4 +1,4 @@
-use Rattle.std.proofs.Common.{List, All, false, sym, ◌∙◌, ap, subst}
+use Rattle.std.proofs.Common.{List, [], All, false, sym, ◌∙◌, ap, subst}
 use Rattle.std.proofs.lemmas.Result.{on_ok_weaker}
 use Rattle.mau_terms.specs.View.{tree_of}
 use Rattle.mau_formula.specs.Operator.{Operator}
@@ -11,21 +11,24 @@ use Rattle.mau_reducer.specs.Basis.{DerivesNothing}
 use Rattle.mau_session.proofs.Evaluated.{none_used, meant_by, gains_plainly}
 use Rattle.mau_session.proofs.reduce.reduce.Goals as goal
 
-pub new-reducer-requires-clause-lawful : goal.new-reducer-requires-clause-lawful
-new-reducer-requires-clause-lawful c = subst IsLawfulProgram (sym c.program-program.ensures) c.requires.lawful
+pub new-requires-clause-lawful : goal.new-requires-clause-lawful
+new-requires-clause-lawful g c = subst IsLawfulProgram (sym c.program-program.ensures) c.requires.lawful
 
-pub new-reducer-requires-clause-derives_nothing : goal.new-reducer-requires-clause-derives_nothing
-new-reducer-requires-clause-derives_nothing c = subst DerivesNothing (sym c.program-program.ensures) (none_used c.args.module.now c.requires.plain)
+pub new-requires-clause-derives_nothing : goal.new-requires-clause-derives_nothing
+new-requires-clause-derives_nothing g c = subst DerivesNothing (sym c.program-program.ensures) (none_used c.args.module.now c.requires.plain)
 
-pub new-reducer-requires-clause-numerals : goal.new-reducer-requires-clause-numerals
-new-reducer-requires-clause-numerals c = subst (All GivesNumerals) (sym c.new-natives.ensures) c.requires.numerals
+pub new-requires-clause-numerals : goal.new-requires-clause-numerals
+new-requires-clause-numerals g c = subst (All GivesNumerals) (sym c.new-natives.ensures) c.requires.numerals
 
 pub write_reduced-requires-clause-meanings : goal.write_reduced-requires-clause-meanings
-write_reduced-requires-clause-meanings c = meant_by _ _ _ _ _ c.program-program.ensures false c.in_ok-reducer.ensures.meanings
+write_reduced-requires-clause-meanings g c = meant_by _ _ _ _ _ c.program-program.ensures false c.in_ok-reducer.ensures.meanings
 
-pub returns-in_ok-reducer : goal.returns-in_ok-reducer
-returns-in_ok-reducer c =
+pub write_reduced-requires-clause-fits : goal.write_reduced-requires-clause-fits
+write_reduced-requires-clause-fits g c = c.in_ok-reducer.ensures.fits []
+
+pub returns : goal.returns
+returns g c =
     on_ok_weaker c.write_reduced.result
     (gains_plainly _ _ _ _ _ c.program-program.ensures
     (c.in_ok-reducer.ensures.meanings ∙ ap (λ h. meanings_by c.program-program.result.now h c.args.session.now.limit false) c.new-natives.ensures)
-    c.args.module.now _ c.args.vars.now (tree_of c.args.term.now) c.args.out.now.items c.write_reduced.new.out.items) c.write_reduced.ensures
+    c.args.module.now false c.args.vars.now (tree_of c.args.term.now) c.args.out.now.items c.write_reduced.new.out.items) c.write_reduced.ensures

@@ -8,7 +8,7 @@ use Rattle.mau_session.proofs.Answering.{refused_with}
 use Rattle.mau_session.proofs.reduce.reduce_chosen.Goals as goal
 
 pub returns-then-uses_memberships-clause-gained : goal.returns-then-uses_memberships-clause-gained
-returns-then-uses_memberships-clause-gained c =
+returns-then-uses_memberships-clause-gained g c =
     refused_with _ c.refuse.result c.refuse.ensures.bytes c.refuse.ensures.refused
     (λ g. record {
       bytes = _;
@@ -17,8 +17,8 @@ returns-then-uses_memberships-clause-gained c =
       gained = g;
     })
 
-pub returns-in_ok-left-clause-gained : goal.returns-in_ok-left-clause-gained
-returns-in_ok-left-clause-gained c =
+pub returns-clause-gained : goal.returns-clause-gained
+returns-clause-gained g c =
     let e = environment_of (operators c.args.session.now.hooks.now) c.args.session.now.limit in
     let ws = c.args.session.now.words.now in
     let st = state_of c.args.state.now in

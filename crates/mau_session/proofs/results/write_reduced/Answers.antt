@@ -28,8 +28,8 @@ evaluate_bare-requires-clause-meanings g c =
     let by : Meanings = meanings_by (program_of c.args.module.now) m.hooks c.args.limit m.remembers in
     subst AreByDefinition (sym c.requires.meanings) (let same : by ≡ by = refl in same)
 
-pub returns-in_ok-answer : goal.returns-in_ok-answer
-returns-in_ok-answer g c =
+pub returns : goal.returns
+returns g c =
     let m = g.E.Evaluator.meanings c.args.evaluator.now in
     let limit : c.args.limit ≡ m.limit = sym (ap (λ (m : Meanings). m.limit) c.requires.meanings) in
     on_ok_weaker c.write_answer.result (λ gained. record {

@@ -12,15 +12,15 @@ use Rattle.mau_session.proofs.Spanned.{few_tokens}
 use Rattle.mau_session.proofs.transcript.transcript.Goals as goal
 
 pub answers-requires-clause-spans : goal.answers-requires-clause-spans
-answers-requires-clause-spans c =
+answers-requires-clause-spans g c =
     subst (λ t. AreSpans t c.deref-in-Ok-from_utf8.result.now) (sym c.in-Ok-from_utf8.ensures.cases.0) (subst (AreSpans c.args.text.now) (sym c.deref-in-Ok-from_utf8.ensures.value) c.in-Ok.ensures.spans)
 
 pub answers-requires-clause-few : goal.answers-requires-clause-few
-answers-requires-clause-few c =
+answers-requires-clause-few g c =
     let few = few_tokens _ _ c.in-Ok.ensures.spans in omega (arith, few, ap length c.deref-in-Ok-from_utf8.ensures.value, c.requires.few)
 
 pub returns-in-Ok-from_utf8 : goal.returns-in-Ok-from_utf8
-returns-in-Ok-from_utf8 c =
+returns-in-Ok-from_utf8 g c =
     let e = environment_of (operators c.args.hooks.now) c.args.limit in
     let text = c.args.text.now in
     let tokens = c.in-Ok.found.items in
@@ -33,5 +33,5 @@ returns-in-Ok-from_utf8 c =
     c.answers.ensures
 
 pub returns-in_ok-write_fault-in-Err : goal.returns-in_ok-write_fault-in-Err
-returns-in_ok-write_fault-in-Err c =
+returns-in_ok-write_fault-in-Err g c =
     subst (λ x. Transcript (environment_of (operators c.args.hooks.now) c.args.limit) c.args.text.now x true) (sym (c.in_ok-write_fault-in-Err.ensures ∙ ap (λ x. x ++ fault_line c.in-Err.fault) c.new-out.ensures.items)) (text_refused c.in-Err.fault (c.in-Err.ensures.fault (c.is_no_memory.ensures c.if-is_no_memory.false)))
