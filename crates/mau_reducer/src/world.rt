@@ -60,7 +60,8 @@ impl<'a, L: Lister + Drop, M: WholeLister + Drop, N: Natives + Drop> World
 
     type Binding = Binding;
 
-    ghost words = { λ w nodes. words_of L.with_context L.asked L.given L.is_for M.asked M.given M.is_for (basis_of N.operators w) nodes w.table };
+    ghost words = { λ w nodes. words_of L.with_context L.asked L.given L.is_for M.asked M.given M.is_for
+        (basis_of N.operators w) nodes w.table };
 
     ghost table = { λ w. w.table };
 
