@@ -70,6 +70,10 @@ impl<'a, L: Lister + Drop, M: WholeLister + Drop, N: Natives + Drop> World
     ghost grows = { λ w nodes v more. ComesOf (basis_of N.operators w)
         (basis_of N.operators v) nodes more w.table v.table };
 
+    fn rests(&self, _: &Store, _: TermId, _: u32) -> bool {
+        false
+    }
+
     fn arguments(
         &self,
         store: &Store,
