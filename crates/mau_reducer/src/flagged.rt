@@ -1,5 +1,5 @@
 //! An evaluator that flags the terms that it has found to be reduced.
-ghost use Rattle.std.specs.Prelude.{◌≡◌, List, All, true, IfOk};
+ghost use Rattle.std.specs.Prelude.{◌≡◌, List, All, true, false, IfOk};
 ghost use Rattle.mau_store.specs.Node.{Node};
 ghost use Rattle.mau_program.specs.LawfulPrograms.{IsLawfulProgram};
 ghost use Rattle.mau_api.specs.Meanings.{meanings_by};
@@ -79,7 +79,7 @@ impl<'a, L: Lister + Drop, M: WholeLister + Drop, N: Natives + Drop> Evaluator
         match self.world.world.begin(store) {
             Ok(()) => {
                 let levels = levels_of_item();
-                mau_machine::evaluate(
+                mau_resting::evaluate(
                     store.allocator(),
                     &mut self.world,
                     store,

@@ -5,6 +5,7 @@ use Rattle.mau_api.specs.Answers.{levels_of_item, LeavesEnough}
 use Rattle.mau_reducer.specs.Worlds.{basis_of}
 use Rattle.mau_reducer.specs.Meant.{meanings_of}
 use Rattle.mau_reducer.specs.LaterStates.{ready_later}
+use Rattle.mau_reducer.specs.Flags.{flags_later}
 use Rattle.mau_reducer.proofs.WhatIsMeant.{fit_ready, term_known, value_is, end_is, exact, is_allowed, left_enough}
 use Rattle.mau_reducer.proofs.flagged.FlaggedEvaluator.evaluate.Goals as goal
 
@@ -51,11 +52,33 @@ returns-in-Ok-clause-left g c =
     c.evaluate.new.store c.evaluate.result c.evaluate.new.budget c.evaluate.ensures.value))
 
 pub returns-in-Ok-clause-fits : goal.returns-in-Ok-clause-fits
-returns-in-Ok-clause-fits g c = ?
+returns-in-Ok-clause-fits g c =
+    let d = basis_of g.N.Natives.operators c.begin.new.self in
+    let e = basis_of g.N.Natives.operators c.evaluate.new.resting.world in (
+      fit_ready e c.evaluate.new.store c.evaluate.new.resting.world.table c.evaluate.new.resting.world.begun
+          (ready_later d e c.begin.new.store c.evaluate.new.store c.begin.new.self.table c.evaluate.new.resting.world.table c.in-Ok.ensures.ready c.evaluate.ensures.grows),
+      c.requires.fits.1,
+      c.evaluate.ensures.resting,
+    )
+
+pub evaluate-requires-clause-resting : goal.evaluate-requires-clause-resting
+evaluate-requires-clause-resting g c =
+    flags_later g.L.Lister.with_context g.L.Lister.asked g.L.Lister.given g.L.Lister.is_for g.M.Lister.asked g.M.Lister.given g.M.Lister.is_for
+    (basis_of g.N.Natives.operators c.args.self.now.world.world) (basis_of g.N.Natives.operators c.begin.new.self) c.args.store.now c.begin.new.store
+    c.args.self.now.world.world.table c.begin.new.self.table c.begin.ensures.comes c.args.self.now.world.levels.items c.requires.fits.2
 
 pub returns-in-Ok-clause-kept : goal.returns-in-Ok-clause-kept
 returns-in-Ok-clause-kept g c =
-    kept_on c.args.self.now.world.world.table c.begin.new.self.table c.evaluate.new.world.world.table c.begin.ensures.comes.kept c.evaluate.ensures.grows.kept
+    kept_on c.args.self.now.world.world.table c.begin.new.self.table c.evaluate.new.resting.world.table c.begin.ensures.comes.kept c.evaluate.ensures.grows.kept
 
 pub returns-in-Err-clause-exact : goal.returns-in-Err-clause-exact
 returns-in-Err-clause-exact g c = λ e. record { levels = levels_of_item; enough = omega arith; just = λ d. refl; is = tt }
+
+pub returns-in-Err-clause-fits : goal.returns-in-Err-clause-fits
+returns-in-Err-clause-fits g c = (
+  c.begin.ensures.fits,
+  c.requires.fits.1,
+  flags_later g.L.Lister.with_context g.L.Lister.asked g.L.Lister.given g.L.Lister.is_for g.M.Lister.asked g.M.Lister.given g.M.Lister.is_for
+      (basis_of g.N.Natives.operators c.args.self.now.world.world) (basis_of g.N.Natives.operators c.begin.new.self) c.args.store.now c.begin.new.store
+      c.args.self.now.world.world.table c.begin.new.self.table c.begin.ensures.comes c.args.self.now.world.levels.items c.requires.fits.2,
+)
