@@ -17,5 +17,6 @@ pub mod States
 pub mod KnownHandles
 pub mod Fragments
 pub mod LaterStates
+pub mod Flags
 pub mod MeantLaws
 pub mod DerivedTables

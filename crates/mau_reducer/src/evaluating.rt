@@ -12,7 +12,7 @@ use mau_store::Store;
 use mau_terms::{NoMemory, TermId, VarId};
 
 /// The levels of an item.
-fn levels_of_item() -> u32
+pub(crate) fn levels_of_item() -> u32
     ensures { result ≡ levels_of_item }
 {
     2000
@@ -23,7 +23,7 @@ impl<'a, L: Lister + Drop, M: WholeLister + Drop, N: Natives + Drop> Reducer<'a,
     ghost use Rattle.mau_reducer.specs.States.{IsFit, IsReady, ComesOf};
 
     /// Settles the identities, if they are not settled yet.
-    fn begin(&mut self, store: &mut Store) -> Result<(), NoMemory>
+    pub(crate) fn begin(&mut self, store: &mut Store) -> Result<(), NoMemory>
         requires fits { IsFit (basis_of N.operators self.old) store.old self.old.table self.old.begun }
         ensures ready { OnOk result (IsReady (basis_of N.operators self.new) store.new self.new.table) }
         ensures fits { IsFit (basis_of N.operators self.new) store.new self.new.table self.new.begun }

@@ -2,11 +2,13 @@
 #![tactic(auto)]
 
 mod evaluating;
+mod flagged;
 mod fragments;
 pub mod laws;
 mod reducer;
 mod tests_of_programs;
 mod world;
 
+pub use flagged::Flagged;
 pub use reducer::{Candidates, Reducer};
 pub use tests_of_programs::derives_nothing;

@@ -60,7 +60,8 @@ impl<'a, L: Lister + Drop, M: WholeLister + Drop, N: Natives + Drop> World
 
     type Binding = Binding;
 
-    ghost words = { λ w nodes. words_of L.with_context L.asked L.given L.is_for M.asked M.given M.is_for (basis_of N.operators w) nodes w.table };
+    ghost words = { λ w nodes. words_of L.with_context L.asked L.given L.is_for M.asked M.given M.is_for
+        (basis_of N.operators w) nodes w.table };
 
     ghost table = { λ w. w.table };
 
@@ -68,6 +69,10 @@ impl<'a, L: Lister + Drop, M: WholeLister + Drop, N: Natives + Drop> World
 
     ghost grows = { λ w nodes v more. ComesOf (basis_of N.operators w)
         (basis_of N.operators v) nodes more w.table v.table };
+
+    fn rests(&self, _: &Store, _: TermId, _: u32) -> bool {
+        false
+    }
 
     fn arguments(
         &self,

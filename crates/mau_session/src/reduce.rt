@@ -29,7 +29,7 @@ use mau_modtext::RawCommand;
 use mau_module::Module;
 use mau_parse::Goal;
 use mau_reduce::Hooks;
-use mau_reducer::Reducer;
+use mau_reducer::Flagged;
 use mau_terms::{Bare, NoMemory, Vars};
 
 /// Writes what the answer of a reduce command begins with.
@@ -60,7 +60,7 @@ fn reduce(
 {
     let program = module.program();
     let natives = Hooks::new(session.hooks);
-    let mut reducer = Reducer::<ExtListing<Listing>, Listing, Hooks>::new(
+    let mut reducer = Flagged::<ExtListing<Listing>, Listing, Hooks>::new(
         session.alloc,
         program,
         natives,

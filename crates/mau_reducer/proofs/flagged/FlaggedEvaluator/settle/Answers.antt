@@ -1,0 +1,13 @@
+use Rattle.mau_reducer.specs.Worlds.{basis_of}
+use Rattle.mau_reducer.specs.Flags.{flags_by}
+use Rattle.mau_reducer.proofs.flagged.FlaggedEvaluator.settle.Goals as goal
+
+pub returns-clause-fits : goal.returns-clause-fits
+returns-clause-fits g c =
+    let e = c.settle.ensures in (
+      e.fits.0,
+      e.fits.1,
+      flags_by g.L.Lister.with_context g.L.Lister.asked g.L.Lister.given g.L.Lister.is_for g.M.Lister.asked g.M.Lister.given g.M.Lister.is_for
+          (basis_of g.N.Natives.operators c.args.self.now.world.world) (basis_of g.N.Natives.operators c.settle.new.self) e.meanings c.args.store.now c.settle.new.store
+          c.args.self.now.world.world.table c.settle.new.self.table e.extends e.kept e.fits.0.plain c.args.self.now.world.levels.items c.requires.fits.2,
+    )

@@ -1,0 +1,47 @@
+//! The loop over a world that remembers which terms are their own values.
+ghost use Rattle.std.specs.Prelude.{◌≡◌, ◌≤◌, true, false, IfOk, IfErr};
+ghost use Rattle.mau_evaluation.specs.Run.{done};
+ghost use Rattle.mau_api.specs.Told.{TellsEvaluation, TellsMore};
+ghost use Rattle.mau_machine.specs.Words.{capped, IsEnd, eval_on, kind_of};
+ghost use Rattle.mau_resting.specs.Rests.{AreResting};
+
+use crate::Resting;
+use mau_api::{EvalEnd, Reduced, StepWatcher};
+use mau_machine::World;
+use mau_store::Store;
+use mau_terms::TermId;
+use std::alloc::Global;
+
+/// The value of a term by `level` levels. The terms that were found to be their own values are not evaluated again.
+pub fn evaluate<W: World + Drop, T: StepWatcher>(
+    alloc: Global,
+    resting: &mut Resting<W>,
+    store: &mut Store,
+    term: TermId,
+    level: u32,
+    budget: &mut u64,
+    watcher: &mut T,
+) -> Result<Reduced, EvalEnd>
+    requires ready { W.ready resting.old.world store.old }
+    requires resting { AreResting (W.words resting.old.world store.old) resting.old.levels.items }
+    requires term { (W.words resting.old.world store.old).knows_term term.0 }
+    ensures value { IfOk result (λ x. capped (eval_on (W.words resting.old.world store.old).rules level
+        ((W.words resting.old.world store.old).tree term.0) budget.old)
+        ≡ done ((W.words resting.new.world store.new).tree x.term.0) x.rewrites budget.new) }
+    ensures ends { IfErr result (IsEnd (eval_on (W.words resting.old.world store.old).rules level
+        ((W.words resting.old.world store.old).tree term.0) budget.old)) }
+    ensures known { IfOk result (λ x. (W.words resting.new.world store.new).knows_value x.term.0) }
+    ensures kind { IfOk result (λ x. kind_of (W.words resting.new.world store.new) x.term.0
+        ≡ kind_of (W.words resting.old.world store.old) term.0) }
+    ensures falls { budget.new ≤ budget.old }
+    ensures grows { W.grows resting.old.world store.old resting.new.world store.new }
+    ensures resting { AreResting (W.words resting.new.world store.new) resting.new.levels.items }
+    ensures told { T.wanted watcher.old ≡ true → IfOk result (λ x. TellsEvaluation (W.words resting.new.world store.new).rules.written
+        (W.words resting.new.world store.new).rules.hooks
+        store.new (W.table resting.new.world) (T.told watcher.old) (T.told watcher.new) term x.term x.rewrites) }
+    ensures before { T.wanted watcher.old ≡ true → TellsMore (T.told watcher.old) (T.told watcher.new) }
+    ensures silent { T.wanted watcher.old ≡ false → T.told watcher.new ≡ T.told watcher.old }
+    ensures wanted { T.wanted watcher.new ≡ T.wanted watcher.old }
+{
+    mau_machine::evaluate(alloc, resting, store, term, level, budget, watcher)
+}
