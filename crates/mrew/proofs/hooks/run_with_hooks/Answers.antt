@@ -26,4 +26,4 @@ run-requires g c =
 pub returns-clause-run : goal.returns-clause-run
 returns-clause-run g c =
     let same = c.loop-native.invariant ∙ ap (map native_operator) (take_all c.loop-native.native-index natives c.loop-native-test.false) in
-    rw same at c.run.ensures
+    rw same at c.run.ensures.run
