@@ -1,5 +1,5 @@
 -- Solutions that begin: a listing that can be asked, and all solutions that are left.
-use Rattle.std.proofs.Common.{◌≡◌, ℕ, suc, List, [], ◌∷◌, All, Bool, true, false, Option, None, Some, IfSome, inl, refl, sym, ap, ap₂, subst}
+use Rattle.std.proofs.Common.{◌≡◌, ℕ, suc, List, [], ◌∷◌, All, false, Option, None, inl, refl, sym, ap, subst}
 use Rattle.mau_terms.specs.Tree.{Tree}
 use Rattle.mau_terms.specs.Bare.{IsBare}
 use Rattle.mau_terms.specs.declared.ids.VarId.{VarId}

@@ -1,5 +1,5 @@
 -- What is known of solutions stays in a later store and table, and what is left of them is the same.
-use Rattle.std.proofs.Common.{◌≡◌, ℕ, List, [], ◌∷◌, Bool, false, Option, None, Some, IfSome, refl, sym, ap, ap₂, ◌∙◌, subst}
+use Rattle.std.proofs.Common.{◌≡◌, List, [], Bool, false, Option, None, Some, IfSome, sym, ap, ◌∙◌, subst}
 use Rattle.std.specs.Option.{option_map}
 use Rattle.mau_terms.specs.Tree.{Tree}
 use Rattle.mau_terms.specs.declared.ids.VarId.{VarId}
@@ -13,7 +13,6 @@ use Rattle.mau_listing.specs.Asked.{Asked, last_after, IsTableOf, IsClosedTable,
 use Rattle.mau_listing.specs.declared.solution.Solution as Given
 use Rattle.mau_listing.proofs.Growth.{listings_go_on, last_found_same, given_is_last}
 use Rattle.mau_evaluation.specs.Program.{Fragment, Program}
-use Rattle.mau_evaluation.specs.Listing.{Solution}
 use Rattle.mau_evaluation.specs.Evaluation.{Level}
 use Rattle.mau_api.specs.Answers.{AreSettled, IsValueOf, binding_in}
 use Rattle.mau_cond.proofs.Grown.{each, value_grown, bound_grown}

@@ -1,5 +1,5 @@
 -- The next solution that agrees with a binding, from what a listing gives.
-use Rattle.std.proofs.Common.{◌≡◌, ◌↔◌, ℕ, suc, ◌+◌, List, [], ◌∷◌, map, Bool, true, false, ◌&&◌, if◌then◌else◌, Option, Some, None, inl, inr, length, refl, sym, ap, ◌∙◌, subst, zero-add}
+use Rattle.std.proofs.Common.{◌≡◌, ◌↔◌, ℕ, List, [], ◌∷◌, map, Bool, true, false, ◌&&◌, if◌then◌else◌, Option, Some, None, length, refl, sym, ap, ◌∙◌, subst, zero-add}
 use Rattle.std.specs.Option.{option_map}
 use Rattle.std.proofs.lemmas.Bool.{and_parts}
 use Rattle.std.proofs.lemmas.List.{length-map}
@@ -7,7 +7,7 @@ use Rattle.mau_terms.specs.Tree.{Tree}
 use Rattle.mau_terms.specs.Norm.{norm}
 use Rattle.mau_terms.specs.Bare.{IsBare}
 use Rattle.mau_terms.specs.Reading.{reading}
-use Rattle.mau_terms.specs.Subst.{Variable, variables, value_at, instance, with_values}
+use Rattle.mau_terms.specs.Subst.{variables, value_at, instance}
 use Rattle.mau_terms.specs.Solution.{Fits, HaveSorts}
 use Rattle.mau_terms.specs.Laws.{AreNorms}
 use Rattle.mau_terms.specs.Finite.{IsIn}
@@ -25,13 +25,13 @@ use Rattle.mau_listing.specs.Matcher.{Matcher}
 use Rattle.mau_listing.specs.Next.{matcher_cmp, IsNext}
 use Rattle.mau_listing.specs.Asked.{BySort}
 use Rattle.mau_program.specs.declared.program.Program as Typed
-use Rattle.mau_evaluation.specs.Run.{Outcome, done, ended, Run, gives, try_on, counted, counted_if, or_go_on, where_true}
+use Rattle.mau_evaluation.specs.Run.{Outcome, done, ended, Run, try_on, counted_if, or_go_on, where_true}
 use Rattle.mau_evaluation.specs.Program.{Fragment, Membership, Program}
 use Rattle.mau_evaluation.specs.Listing.{Solution, keep, compare, solutions, solutions_within, IsAscending}
-use Rattle.mau_evaluation.specs.Evaluation.{Binding, levels, look_up, binds, extend, agree, solve}
+use Rattle.mau_evaluation.specs.Evaluation.{Binding, levels, look_up, extend, agree, solve}
 use Rattle.mau_evaluation.proofs.BareTerms.{norm-reading-is}
 use Rattle.mau_evaluation.proofs.Inside.{in_list, from_list}
-use Rattle.mau_evaluation.proofs.Listed.{compare_total, in_keep, from_keep}
+use Rattle.mau_evaluation.proofs.Listed.{compare_total, from_keep}
 use Rattle.mau_evaluation.proofs.Solved.{kept_ascend, solutions_are_listed}
 use Rattle.mau_api.specs.Programs.{program_over}
 use Rattle.mau_api.specs.Remaining.{as_matcher, IsAccepted, AreLeftOf, first_left, is_whole}

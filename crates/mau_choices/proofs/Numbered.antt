@@ -12,7 +12,6 @@ use Rattle.mau_terms.specs.Finite.{IsIn}
 use Rattle.mau_terms.specs.View.{variable_of}
 use Rattle.mau_terms.specs.declared.ids.VarId.{VarId}
 use Rattle.mau_terms.specs.declared.ids.TermId.{TermId}
-use Rattle.mau_terms.specs.declared.theory.Theory.{Theory}
 use Rattle.mau_terms.proofs.Instances.{has_occurring}
 use Rattle.mau_terms.proofs.Variables.{distinct}
 use Rattle.mau_signature.specs.Signature.{SignatureOf, theory_at, terms_over}
@@ -29,7 +28,7 @@ use Rattle.mau_listing.specs.declared.solution.Solution as Given
 use Rattle.mau_listing.proofs.Growth.{trees_long}
 use Rattle.mau_program.specs.declared.program.Program as Typed
 use Rattle.mau_evaluation.specs.Run.{done, or_go_on}
-use Rattle.mau_evaluation.specs.Program.{Fragment, Program}
+use Rattle.mau_evaluation.specs.Program.{Fragment}
 use Rattle.mau_evaluation.specs.Listing.{Solution, solutions}
 use Rattle.mau_evaluation.specs.Evaluation.{Binding, levels, look_up, binds, extend, agree, solve}
 use Rattle.mau_api.specs.Terms.{IsTerm}

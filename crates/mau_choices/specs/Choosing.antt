@@ -1,5 +1,5 @@
 -- The solutions of a fragment p := u of a condition, where u has a value: those of p in the value that agree with the binding so far, one after another.
-use Rattle.std.specs.Prelude.{◌≡◌, ℕ, List, [], ◌∷◌, map, All, false, Option}
+use Rattle.std.specs.Prelude.{◌≡◌, List, [], ◌∷◌, map, All, false, Option}
 use Rattle.mau_terms.specs.Tree.{Tree}
 use Rattle.mau_terms.specs.Subst.{Variable, variables, has_variable}
 use Rattle.mau_terms.specs.View.{variable_of}
