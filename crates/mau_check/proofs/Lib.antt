@@ -1,0 +1,8 @@
+-- results that may hold nothing
+pub mod Results
+-- what is kept, by numbers
+pub mod Numbers
+pub mod Saids
+pub mod Equals
+-- an operator over terms
+pub mod Overs

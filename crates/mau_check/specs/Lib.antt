@@ -1,0 +1,3 @@
+-- How what is kept stands for what a section says.
+pub mod Kept
+pub mod Said
