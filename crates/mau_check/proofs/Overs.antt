@@ -1,15 +1,14 @@
 -- An operator over some terms: when it is a bare term, and what it stands for.
 use Rattle.std.proofs.Common.{◌≡◌, ◌↔◌, ℕ, zero, suc, ◌<◌, ◌≤◌, get_or, take, append_assoc, List, [], ◌∷◌, ◌++◌, length, map, Bool, true, false, ◌&&◌, Option, Some, None, refl, sym, ap, ap₂, ◌∙◌, subst, arith, if◌then◌else◌, append-nil}
-use Rattle.std.specs.Prelude.{All, nat_lt, nat_le}
+use Rattle.std.specs.Prelude.{All, nat_lt}
 use Rattle.std.specs.Bool.{MatchBool}
 use Rattle.std.specs.List.{AllZip}
 use Rattle.std.proofs.lemmas.Bool.{ltb-false, le-ltb, lt-ltb, le-leb}
-use Rattle.std.proofs.lemmas.List.Elements.{All-nil, All-cons, All-head, All-tail, All-map}
+use Rattle.std.proofs.lemmas.List.Elements.{All-nil, All-cons, All-head, All-tail}
 use Rattle.mau_poset.specs.Order.{kind_of}
-use Rattle.mau_terms.specs.Tree.{Tree, apply, Trees, no_trees, tree, node, trees_of}
+use Rattle.mau_terms.specs.Tree.{Tree, no_trees, tree, node, trees_of}
 use Rattle.mau_terms.specs.Norm.{norm}
 use Rattle.mau_terms.specs.Reading.{nest, nest_from}
-use Rattle.mau_terms.specs.Axioms.{binary}
 use Rattle.mau_terms.specs.Bare.{IsBare, IsBareIn, AreBareIn, IsLawful}
 use Rattle.mau_terms.proofs.Leads.{two_bare}
 use Rattle.mau_terms.proofs.Normal.{norm-norm}

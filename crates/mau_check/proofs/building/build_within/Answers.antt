@@ -1,10 +1,8 @@
 use Rattle.mau_terms.specs.Tree.{node}
 use Rattle.mau_terms.specs.Norm.{norm}
 use Rattle.mau_signature.specs.Signature.{theory_at}
-use Rattle.mau_store.specs.Trees.{StandsFor, trees_at}
+use Rattle.mau_store.specs.Trees.{trees_at}
 use Rattle.mau_store.specs.View.{numbers}
-use Rattle.mau_canon.specs.Standing.{StandsWithin}
-use Rattle.mau_canon.specs.Within.{IsWithin}
 use Rattle.mau_check.proofs.Results.{always_none}
 use Rattle.mau_check.proofs.building.build_within.Goals as goal
 

@@ -1,4 +1,4 @@
-use Rattle.std.proofs.Common.{◌≡◌, ◌++◌, [], ◌∷◌, take, get_or, sym, subst}
+use Rattle.std.proofs.Common.{◌++◌, [], ◌∷◌, take, get_or, sym, subst}
 use Rattle.std.proofs.lemmas.List.{take_all, take_more}
 use Rattle.mau_logic.specs.Lines.{term_at}
 use Rattle.mau_logic.specs.Justified.{With}

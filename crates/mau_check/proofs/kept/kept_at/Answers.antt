@@ -1,4 +1,4 @@
-use Rattle.std.proofs.Common.{inl, inr, arith}
+use Rattle.std.proofs.Common.{inl, inr}
 use Rattle.mau_check.proofs.Numbers.{if_some, if_none, no_term}
 use Rattle.mau_check.proofs.kept.kept_at.Goals as goal
 use Rattle.mau_check.proofs.kept.kept_at.Goals.{then-number-eq0-via-then-number-eq0, then-number-eq0-via-else-number-eq0+then-number-kept}

@@ -1,9 +1,4 @@
 use Rattle.std.proofs.Common.{◌≡◌, true, arith}
-use Rattle.mau_terms.specs.Bare.{IsBare}
-use Rattle.mau_signature.specs.Signature.{terms_over}
-use Rattle.mau_api.specs.Terms.{IsBareWithin}
-use Rattle.mau_logic.specs.Lines.{over}
-use Rattle.mau_check.specs.Kept.{kinds_of}
 use Rattle.mau_check.proofs.Overs.{kept_suited}
 use Rattle.mau_check.proofs.over.build_over.Goals as goal
 use Rattle.mau_check.proofs.over.build_over.Goals.{then-op-eq0-via-then-op-eq0, then-op-eq0-via-else-op-eq0+then-op-count}

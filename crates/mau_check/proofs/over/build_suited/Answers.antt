@@ -1,4 +1,4 @@
-use Rattle.std.proofs.Common.{◌≡◌, sym, ap, ◌∙◌, subst}
+use Rattle.std.proofs.Common.{sym, ap, ◌∙◌, subst}
 use Rattle.mau_signature.specs.Signature.{theory_at}
 use Rattle.mau_store.specs.View.{numbers}
 use Rattle.mau_canon.specs.Standing.{StandWithin}

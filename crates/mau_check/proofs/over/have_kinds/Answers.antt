@@ -1,4 +1,4 @@
-use Rattle.std.proofs.Common.{◌≡◌, get_or, arith, refl, sym, ap, ◌∙◌}
+use Rattle.std.proofs.Common.{get_or, arith, refl, sym, ap, ◌∙◌}
 use Rattle.mau_poset.specs.Order.{Hierarchy, kind_of}
 use Rattle.mau_check.specs.declared.kept.Holes.TheVariants.{Absent}
 use Rattle.mau_check.proofs.Overs.{kinds_differ, kinds_same}

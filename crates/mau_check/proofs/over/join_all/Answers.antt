@@ -1,4 +1,4 @@
-use Rattle.std.proofs.Common.{◌≡◌, ◌++◌, [], ◌∷◌, take, arith, refl, sym, ap, ◌∙◌, subst, add-one, ◌+◌}
+use Rattle.std.proofs.Common.{◌≡◌, ◌++◌, [], ◌∷◌, take, arith, sym, ap, ◌∙◌, subst, add-one, ◌+◌}
 use Rattle.std.proofs.lemmas.List.{take_all}
 use Rattle.mau_terms.specs.Tree.{trees_of}
 use Rattle.mau_api.specs.Terms.{holes, holes_in}

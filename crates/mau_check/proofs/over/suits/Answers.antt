@@ -1,7 +1,7 @@
-use Rattle.std.proofs.Common.{◌≡◌, true, arith, sym, ap, ◌∙◌, subst, length}
+use Rattle.std.proofs.Common.{◌≡◌, true, arith, sym, ap, ◌∙◌, subst}
 use Rattle.std.specs.Prelude.{All}
 use Rattle.mau_terms.specs.declared.theory.Theory.{Theory}
-use Rattle.mau_signature.specs.Signature.{theory_at, terms_over}
+use Rattle.mau_signature.specs.Signature.{theory_at}
 use Rattle.mau_check.specs.Kept.{kinds_of}
 use Rattle.mau_check.proofs.Overs.{at_list, length_kinds}
 use Rattle.mau_check.proofs.over.suits.Goals as goal
