@@ -6,3 +6,5 @@ pub mod Saids
 pub mod Equals
 -- an operator over terms
 pub mod Overs
+-- facts that lead from one term to another
+pub mod Leading

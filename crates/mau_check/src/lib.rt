@@ -4,4 +4,5 @@
 mod building;
 pub mod kept;
 pub mod over;
+pub mod plain;
 pub mod said;
