@@ -1,26 +1,26 @@
 -- Facts that lead from one term to another without a statement.
-use Rattle.std.proofs.Common.{◌≡◌, ◌↔◌, ℕ, zero, suc, ◌<◌, ◌==◌, length, get_or, arith, List, [], ◌∷◌, ◌++◌, Bool, true, false, ◌&&◌, cond, if◌then◌else◌, Option, Some, None, refl, sym, ap, ap₂, ◌∙◌, subst, eq-eqb}
-use Rattle.std.specs.Prelude.{All, IfSome, IfNone, IsTrue}
+use Rattle.std.proofs.Common.{◌≡◌, ◌↔◌, ℕ, zero, suc, ◌<◌, ◌==◌, length, get_or, arith, List, [], ◌∷◌, ◌++◌, Bool, true, false, ◌&&◌, if◌then◌else◌, Option, Some, None, refl, sym, ap, ap₂, ◌∙◌, subst, eq-eqb}
+use Rattle.std.specs.Prelude.{IsTrue}
 use Rattle.std.proofs.Common.{Result, Ok, Err, IfOk}
 use Rattle.std.specs.List.{AllZip}
-use Rattle.std.specs.Option.{option_map, option_and_then}
+use Rattle.std.specs.Option.{option_and_then}
 use Rattle.std.proofs.lemmas.Bool.{eqb-true}
 use Rattle.mau_terms.specs.Tree.{Tree}
-use Rattle.mau_terms.specs.Bare.{IsBare, EqualModulo, IsLawful}
-use Rattle.mau_terms.proofs.Chains.{last_bare, EqualModulo-trans, EqualModulo-sym}
+use Rattle.mau_terms.specs.Bare.{EqualModulo, IsLawful}
+use Rattle.mau_terms.proofs.Chains.{last_bare, EqualModulo-sym}
 use Rattle.mau_terms.proofs.Law.{equal_norm}
 use Rattle.mau_canon.specs.Within.{IsWithin}
 use Rattle.mau_signature.specs.Signature.{SignatureOf, IsOperator, theory_at, terms_over}
 use Rattle.mau_store.specs.Node.{Node, AreNodes}
 use Rattle.mau_api.specs.Terms.{IsBareWithin}
-use Rattle.mau_logic.specs.Lines.{all_numbered, over, term_at}
-use Rattle.mau_logic.specs.Says.{Says, leads, of_sort, says_nothing, leads_if, all_equational, start_of, end_of, or_none, facts_at}
-use Rattle.mau_logic.specs.Justified.{With, WithTerm, Lead, LeadOn, IsUnder}
+use Rattle.mau_logic.specs.Lines.{over}
+use Rattle.mau_logic.specs.Says.{Says, leads, of_sort, says_nothing, leads_if, all_equational, start_of, end_of, or_none}
+use Rattle.mau_logic.specs.Justified.{With, Lead, LeadOn, IsUnder}
 use Rattle.mau_check.specs.declared.kept.Kept.{Kept}
 use Rattle.mau_check.specs.declared.said.Said.{Said}
 use Rattle.mau_check.specs.declared.said.Said.TheVariants.{Leads, Sorted}
 use Rattle.mau_check.specs.Kept.{IsKeptFor, AreKeptFor}
-use Rattle.mau_check.specs.Said.{IsSaid, AreSaid, Decides, onward, onward_all, StartsAt, EndsAt, by_equations, AreEnds}
+use Rattle.mau_check.specs.Said.{IsSaid, AreSaid, Decides, onward_all, StartsAt, EndsAt, by_equations, AreEnds}
 use Rattle.mau_check.proofs.Equals.{kept_equal}
 use Rattle.mau_check.proofs.Numbers.{zip_push}
 use Rattle.mau_check.proofs.Overs.{with_weaker}

@@ -6,7 +6,7 @@ use Rattle.mau_poset.specs.Order.{kind_of}
 use Rattle.mau_terms.specs.Bare.{IsBareIn}
 use Rattle.mau_signature.specs.Signature.{SignatureOf, terms_over}
 use Rattle.mau_store.specs.Node.{Node}
-use Rattle.mau_logic.specs.Says.{Says, leads, of_sort, says_nothing}
+use Rattle.mau_logic.specs.Says.{Says, leads, of_sort}
 use Rattle.mau_check.specs.declared.said.Said.{Said}
 use Rattle.mau_check.specs.declared.said.Said.TheVariants.{Leads, Sorted}
 use Rattle.mau_check.specs.declared.kept.Kept.{Kept}

@@ -1,4 +1,3 @@
-use Rattle.std.proofs.Common.{◌≡◌}
 use Rattle.mau_terms.specs.Bare.{EqualModulo}
 use Rattle.mau_signature.specs.Signature.{terms_over}
 use Rattle.mau_api.specs.Terms.{IsBareWithin}

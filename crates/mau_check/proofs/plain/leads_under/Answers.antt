@@ -1,4 +1,4 @@
-use Rattle.std.proofs.Common.{◌≡◌, [], true, length, refl, sym, ap, ◌∙◌, subst, eq-eqb}
+use Rattle.std.proofs.Common.{◌≡◌, true, length, sym, ap, subst, eq-eqb}
 use Rattle.mau_terms.specs.Tree.{numeral}
 use Rattle.mau_check.specs.Kept.{AreKeptFor}
 use Rattle.mau_check.proofs.Equals.{kept_extended, all_extended}

@@ -1,7 +1,6 @@
-use Rattle.std.proofs.Common.{◌≡◌, List, None, sym, subst}
+use Rattle.std.proofs.Common.{◌≡◌, None, sym, subst}
 use Rattle.mau_logic.specs.Lines.{all_numbered, term_at}
 use Rattle.mau_logic.specs.Justified.{With, IsUnder}
-use Rattle.mau_logic.specs.Says.{Says}
 use Rattle.mau_check.specs.Said.{AreSaid}
 use Rattle.mau_check.proofs.Leading.{no_first, no_second, not_there, some_with, under_found_in}
 use Rattle.mau_check.proofs.plain.under.Goals as goal
