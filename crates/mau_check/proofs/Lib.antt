@@ -8,3 +8,5 @@ pub mod Equals
 pub mod Overs
 -- facts that lead from one term to another
 pub mod Leading
+-- sorts that facts tell
+pub mod Tells

@@ -1,12 +1,12 @@
 -- What facts say, by the numbers of their terms in a store.
-use Rattle.std.specs.Prelude.{◌≡◌, ◌<◌, ◌==◌, List, [], ◌∷◌, Bool, true, false, ◌&&◌, Option, Some, None, if◌then◌else◌}
+use Rattle.std.specs.Prelude.{◌≡◌, ◌<◌, ◌==◌, ◌⊎◌, List, [], ◌∷◌, Bool, true, false, ◌&&◌, Option, Some, None, if◌then◌else◌}
 use Rattle.std.specs.Option.{option_and_then}
 use Rattle.std.specs.List.{AllZip}
 use Rattle.mau_poset.specs.Order.{kind_of}
 use Rattle.mau_terms.specs.Bare.{IsBareIn}
 use Rattle.mau_signature.specs.Signature.{SignatureOf, terms_over}
 use Rattle.mau_store.specs.Node.{Node}
-use Rattle.mau_logic.specs.Says.{Says, leads, of_sort}
+use Rattle.mau_logic.specs.Says.{Says, leads, of_sort, says_nothing}
 use Rattle.mau_check.specs.declared.said.Said.{Said}
 use Rattle.mau_check.specs.declared.said.Said.TheVariants.{Leads, Sorted}
 use Rattle.mau_check.specs.declared.kept.Kept.{Kept}
@@ -60,3 +60,10 @@ pub record AreEnds (xs : List Said) (equations : Bool) (starts ends : List Kept)
   pub equational : equations ≡ by_equations xs
   pub from : AllZip StartsAt xs starts
   pub to : AllZip EndsAt xs ends
+
+-- ---- one of some facts
+
+-- P holds of one of them
+abbrev pub SomeSaid : (Said → Type 0) → List Said → Type 0
+SomeSaid P [] = ⊥
+SomeSaid P (x ∷ xs) = P x ⊎ SomeSaid P xs

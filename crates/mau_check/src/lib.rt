@@ -6,3 +6,4 @@ pub mod kept;
 pub mod over;
 pub mod plain;
 pub mod said;
+pub mod sorts;
