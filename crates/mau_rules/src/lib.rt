@@ -1,0 +1,10 @@
+//! Runs of rules.
+#![tactic(auto)]
+
+mod attempt;
+mod one;
+mod run;
+mod search;
+mod walk;
+
+pub use run::{RuleEnd, RuleRun};
