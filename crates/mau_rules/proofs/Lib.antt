@@ -6,3 +6,5 @@ pub mod Cyclic
 pub mod Walking
 pub mod Solving
 pub mod Trying
+pub mod Rounds
+pub mod Valued

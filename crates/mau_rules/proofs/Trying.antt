@@ -85,6 +85,22 @@ module _ (p : Typed.Program) (run : IsRunnable p) (hooks : List Operator) (q : R
   abbrev pub question : Question
   question = record { pattern = q.left; bound = []; subject = t }
 
+  -- where it holds, the values have their sorts by declarations alone
+  pub declared_sorts : (xs : List Variable) (vs : List Tree) → ((v : Tree) → IsIn v vs → IsTreeOver p.sig v) → having P none xs vs ≡ true → HaveSorts (BySort p.sig []) xs vs
+  declared_sorts [] vs over e = tt
+  declared_sorts (x ∷ xs) [] over e = cc
+  declared_sorts (x ∷ xs) (v ∷ vs) over e = by (declared_sorts xs vs (λ w i. over w (inr i))) (has_number (plain_sorts P none v) x.1) refl
+    where
+      at : (b : Bool) → has_number (plain_sorts P none v) x.1 ≡ b → (if b then having P none xs vs else false) ≡ true
+      at b h = ap (λ c. if c then having P none xs vs else false) (sym h) ∙ e
+
+      by : (having P none xs vs ≡ true → HaveSorts (BySort p.sig []) xs vs) → (b : Bool) → has_number (plain_sorts P none v) x.1 ≡ b → BySort p.sig [] x.1 v × HaveSorts (BySort p.sig []) xs vs
+      by rest true h = ((plain_exact p hooks run.reducible.accepted none v (over v (inl refl)) x.1).0 h, rest (at true h))
+      by rest false h = absurd (clash (at false h))
+        where
+          clash : false ≡ true → ⊥
+          clash k = cc
+
   -- ---- the test tells which solutions a listing gives
 
   module _ (limit : ℕ) (remembers : Bool) (nodes : List Node) (table : Table) (derived : IsDerivedTable (meanings_by p hooks limit remembers) nodes table) (settled : AreSettled p.sig nodes table t) where
@@ -117,22 +133,6 @@ module _ (p : Typed.Program) (run : IsRunnable p) (hooks : List Operator) (q : R
 
     pub left_of_all : AreLeftOf true p.sig derived.known question None (map as_matcher (keep test all))
     left_of_all = listed_are_left true p.sig run.reducible.lawful derived.known question normal bare test tells
-
-    -- where it holds, the values have their sorts by declarations alone
-    pub declared_sorts : (xs : List Variable) (vs : List Tree) → ((v : Tree) → IsIn v vs → IsTreeOver p.sig v) → having P none xs vs ≡ true → HaveSorts (BySort p.sig []) xs vs
-    declared_sorts [] vs over e = tt
-    declared_sorts (x ∷ xs) [] over e = cc
-    declared_sorts (x ∷ xs) (v ∷ vs) over e = by (declared_sorts xs vs (λ w i. over w (inr i))) (has_number (plain_sorts P none v) x.1) refl
-      where
-        at : (b : Bool) → has_number (plain_sorts P none v) x.1 ≡ b → (if b then having P none xs vs else false) ≡ true
-        at b h = ap (λ c. if c then having P none xs vs else false) (sym h) ∙ e
-
-        by : (having P none xs vs ≡ true → HaveSorts (BySort p.sig []) xs vs) → (b : Bool) → has_number (plain_sorts P none v) x.1 ≡ b → BySort p.sig [] x.1 v × HaveSorts (BySort p.sig []) xs vs
-        by rest true h = ((plain_exact p hooks run.reducible.accepted none v (over v (inl refl)) x.1).0 h, rest (at true h))
-        by rest false h = absurd (clash (at false h))
-          where
-            clash : false ≡ true → ⊥
-            clash k = cc
 
     -- behind those that were given
     left_behind : (given more : List Matcher) (last : Option Matcher) → AreLeftOf true p.sig derived.known question last (given ++ more) → AreLeftOf true p.sig derived.known question (last_of last given) more
