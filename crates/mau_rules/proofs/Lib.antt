@@ -8,3 +8,9 @@ pub mod Solving
 pub mod Trying
 pub mod Rounds
 pub mod Valued
+pub mod Pairs
+pub mod Shown
+pub mod Answered
+pub mod Turned
+pub mod Placed
+pub mod Running

@@ -44,7 +44,7 @@ module _ (p : Typed.Program) (run : IsRunnable p) (m : Meanings) (goes : GoesBy 
     abbrev F : ℕ → ℕ → Run (Option Binding)
     F k B = m.solving k B c σ
 
-    same_solving : F ≡ solving_by (program_over p m.hooks) c σ
+    pub same_solving : F ≡ solving_by (program_over p m.hooks) c σ
     same_solving = ap (λ (n : Meanings). (λ k B. n.solving k B c σ)) goes.defined
 
     abbrev law : StaysUnderLimits F
@@ -80,7 +80,7 @@ module _ (p : Typed.Program) (run : IsRunnable p) (m : Meanings) (goes : GoesBy 
     abbrev G : ℕ → ℕ → Run Tree
     G k B = m.evaluation (suc k) B t
 
-    same_evaluation : G ≡ (λ k B. eval (program_over p m.hooks) (suc k) B t)
+    pub same_evaluation : G ≡ (λ k B. eval (program_over p m.hooks) (suc k) B t)
     same_evaluation = ap (λ (n : Meanings). (λ k B. n.evaluation (suc k) B t)) goes.defined
 
     abbrev own : StaysUnderLimits (λ k B. m.evaluation k B t)

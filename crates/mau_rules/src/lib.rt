@@ -2,9 +2,7 @@
 #![tactic(auto)]
 
 mod attempt;
-mod one;
 mod run;
-mod search;
 mod walk;
 
 pub use run::{RuleEnd, RuleRun};

@@ -1,0 +1,70 @@
+-- All rules at a place, one after another; and all places of a term.
+use Rattle.std.proofs.Common.{◌≡◌, ◌≤◌, ◌<◌, ◌+◌, ◌++◌, ◌∷◌, [], List, length, drop, get_or, ℕ, zero, suc, Bool, true, false, Option, Some, None, refl, sym, ap, ap₂, ◌∙◌, subst, arith, append-nil}
+use Rattle.std.proofs.lemmas.List.{drop_more, drop_all}
+use Rattle.mau_terms.specs.Tree.{Tree, variable, numeral, apply}
+use Rattle.mau_evaluation.specs.Run.{End, Run, first_of}
+use Rattle.mau_evaluation.specs.Program.{Rule, Program}
+use Rattle.mau_evaluation.specs.Rules.{Place, places, places_of}
+use Rattle.mau_evaluation.specs.RuleRuns.{Turns, Stand, numbered, cyclically, rules_at}
+use Rattle.mau_rules.specs.Known.{Item, Gives, Fails, Got, got, fails, nothing, Known, GoesOn}
+use Rattle.mau_rules.specs.Found.{rule_at, rules_in, one_by, turn_at}
+use Rattle.mau_rules.proofs.Combined.{first_among, none_known, passed_by, goes_on_twice, else_some, else_fails_first}
+
+-- ---- the first of a list, one element after another
+
+module _ (I : Item) {A B : Type 0} (f : ℕ → ℕ → A → Run (Option B)) (w : ℕ → ℕ → Run (Option B)) (b0 : ℕ) where
+  abbrev pub LeftFrom : List A → ℕ → Type 0
+  LeftFrom xs b = GoesOn I w b0 (first_among I f xs) b
+
+  pub past_one : (x : A) (xs : List A) (b after : ℕ) → LeftFrom (x ∷ xs) b → Gives I (λ k E. f k E x) b None 0 after → LeftFrom xs after
+  past_one x xs b after h G = goes_on_twice I f w (first_among I f (x ∷ xs)) (first_among I f xs) b0 b after h (passed_by I f x xs b 0 after G)
+
+  pub past_all : (b : ℕ) → LeftFrom [] b → Gives I w b0 None 0 b
+  past_all b h = h.known (got None 0) b (none_known I f b)
+
+  pub found_here : (x : A) (xs : List A) (b : ℕ) → LeftFrom (x ∷ xs) b → (u : B) (r after : ℕ) → Gives I (λ k E. f k E x) b (Some u) r after → Gives I w b0 (Some u) r after
+  found_here x xs b h u r after G = h.known (got (Some u) r) after (else_some I (λ k E. f k E x) (first_among I f xs) b u r after G)
+
+  pub ends_here : (x : A) (xs : List A) (b : ℕ) → LeftFrom (x ∷ xs) b → (e : End) → Fails I (λ k E. f k E x) b e → Fails I w b0 e
+  ends_here x xs b h e G = h.known (fails e) 0 (else_fails_first I (λ k E. f k E x) (first_among I f xs) b e G)
+
+  -- the same by the index of an element
+  module _ (xs : List A) (i : ℕ) (d x : A) (low : i < length xs) (at : get_or xs i d ≡ x) (b : ℕ) (h : LeftFrom (drop i xs) b) where
+    opened_at : LeftFrom (x ∷ drop (i + 1) xs) b
+    opened_at = subst (λ zs. LeftFrom zs b) (drop_more xs i d low ∙ ap (λ z. z ∷ drop (i + 1) xs) at) h
+
+    pub past_at : (after : ℕ) → Gives I (λ k E. f k E x) b None 0 after → LeftFrom (drop (i + 1) xs) after
+    past_at after G = past_one x (drop (i + 1) xs) b after opened_at G
+
+    pub found_at : (u : B) (r after : ℕ) → Gives I (λ k E. f k E x) b (Some u) r after → Gives I w b0 (Some u) r after
+    found_at u r after G = found_here x (drop (i + 1) xs) b opened_at u r after G
+
+    pub ends_at : (e : End) → Fails I (λ k E. f k E x) b e → Fails I w b0 e
+    ends_at e G = ends_here x (drop (i + 1) xs) b opened_at e G
+
+  pub none_at : (xs : List A) (i : ℕ) → length xs ≤ i → (b : ℕ) → LeftFrom (drop i xs) b → Gives I w b0 None 0 b
+  none_at xs i h b left = past_all b (subst (λ zs. LeftFrom zs b) (drop_all i xs h) left)
+
+-- ---- the rules at a place
+
+module _ (P : Program) (I : Item) (h : Turns) (s : Place) where
+  abbrev pub each_rule : ℕ → ℕ → ℕ × Rule → Run (Option Stand)
+  each_rule k E q = rule_at P h s q k E
+
+  rules_cyclic : (t : Tree) → rules_at (numbered 0 P.rules) h t ≡ cyclically (turn_at h t) (numbered 0 P.rules)
+  rules_cyclic (variable i r) = sym (append-nil (numbered 0 P.rules))
+  rules_cyclic (numeral n) = sym (append-nil (numbered 0 P.rules))
+  rules_cyclic (apply f ts) = refl
+
+  pub place_begins : (n : ℕ) → turn_at h s.term ≡ n → (b : ℕ) → LeftFrom I each_rule (rules_in P h s) b (cyclically n (numbered 0 P.rules)) b
+  place_begins n e b =
+      subst (λ zs. LeftFrom I each_rule (rules_in P h s) b zs b) (rules_cyclic s.term ∙ ap (λ k. cyclically k (numbered 0 P.rules)) e) (record { known = λ o after G. G })
+
+-- ---- the places of a term
+
+module _ (P : Program) (I : Item) (s : Stand) where
+  abbrev pub each_place : ℕ → ℕ → Place → Run (Option Stand)
+  each_place k E q = rules_in P s.turns q k E
+
+  pub places_begin : (b : ℕ) → LeftFrom I each_place (one_by P s) b (places P.frozen (λ v. v) s.term) b
+  places_begin b = record { known = λ o after G. G }
