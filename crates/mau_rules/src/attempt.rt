@@ -107,7 +107,6 @@ fn shown_for<E: Evaluator, W: StepWatcher>(
 }
 
 /// A rule at a term: its least solution whose values have their sorts and whose condition holds.
-#[tactic(none)]
 pub(crate) fn by_rule<E: Evaluator, L: Lister + Drop, W: StepWatcher>(
     program: &Program,
     store: &mut Store,

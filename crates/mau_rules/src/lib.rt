@@ -3,6 +3,7 @@
 
 mod attempt;
 mod run;
+mod search;
 mod walk;
 
 pub use run::{RuleEnd, RuleRun};
