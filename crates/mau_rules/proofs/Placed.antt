@@ -1,4 +1,4 @@
--- All rules at a place, one after another; and all places of a term.
+-- All rules at a place, one after another.
 use Rattle.std.proofs.Common.{◌≡◌, ◌≤◌, ◌<◌, ◌+◌, ◌++◌, ◌∷◌, [], List, length, drop, get_or, map, slice_get, Result, Ok, Err, ℕ, zero, suc, Bool, true, false, Option, Some, None, refl, sym, ap, ap₂, ◌∙◌, subst, arith, append-nil}
 use Rattle.std.proofs.lemmas.List.{drop_more, drop_all}
 use Rattle.mau_terms.specs.Tree.{Tree, variable, numeral, apply}
@@ -15,10 +15,10 @@ use Rattle.mau_api.specs.declared.results.EvalEnd.TheVariants.{Stopped, TooDeep,
 use Rattle.mau_rules.specs.declared.attempt.Found.{Found}
 use Rattle.mau_evaluation.specs.Run.{End, stopped, too_deep, overflowed, Run, first_of}
 use Rattle.mau_evaluation.specs.Program.{Rule, Program}
-use Rattle.mau_evaluation.specs.Rules.{Place, places, places_of}
+use Rattle.mau_evaluation.specs.Rules.{Place}
 use Rattle.mau_evaluation.specs.RuleRuns.{Turns, Stand, numbered, cyclically, rules_at}
 use Rattle.mau_rules.specs.Known.{Item, Gives, Fails, Got, got, fails, nothing, Known, GoesOn}
-use Rattle.mau_rules.specs.Found.{IsFound, KnownSearch, item_of, found_stand, stand_with, stand_by, rule_at, rules_in, one_by, turn_at}
+use Rattle.mau_rules.specs.Found.{IsFound, KnownSearch, item_of, found_stand, stand_with, stand_by, rule_at, rules_in, turn_at}
 use Rattle.mau_rules.proofs.Combined.{first_among, none_known, passed_by, goes_on_twice, else_some, else_fails_first}
 
 -- ---- the first of a list, one element after another
@@ -112,12 +112,3 @@ module _ (p : Typed.Program) (P : Program) (I : Item) (h : Turns) (s : Place) (b
 
   pub search_past : KnownSearch I (rule_at P h s q) b (found_stand p P h s nodes) (Ok None) after → LeftFrom I (each_rule P I h s) (rules_in P h s) b0 (drop (i + 1) xs) after
   search_past k = past_at I (each_rule P I h s) (rules_in P h s) b0 xs i q q low at b left after k
-
--- ---- the places of a term
-
-module _ (P : Program) (I : Item) (s : Stand) where
-  abbrev pub each_place : ℕ → ℕ → Place → Run (Option Stand)
-  each_place k E q = rules_in P s.turns q k E
-
-  pub places_begin : (b : ℕ) → LeftFrom I each_place (one_by P s) b (places P.frozen (λ v. v) s.term) b
-  places_begin b = record { known = λ o after G. G }

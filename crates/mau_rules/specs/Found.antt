@@ -20,7 +20,7 @@ use Rattle.mau_evaluation.specs.Run.{Run, stopped, too_deep, overflowed}
 use Rattle.mau_evaluation.specs.Program.{Fragment, Rule, Program}
 use Rattle.mau_evaluation.specs.Evaluation.{Binding, look_up, in_context, levels, solve}
 use Rattle.mau_evaluation.specs.Rules.{Place}
-use Rattle.mau_evaluation.specs.RuleRuns.{Turns, Stand, turn_to, numbered, by_rule, at_place, one_rewrite}
+use Rattle.mau_evaluation.specs.RuleRuns.{Turns, Stand, turn_to, by_rule, at_place}
 use Rattle.mau_api.specs.Told.{shown_count}
 use Rattle.mau_api.specs.Programs.{rule_of}
 use Rattle.mau_api.specs.Meanings.{Meanings}
@@ -105,15 +105,12 @@ KnownSearch I f before stand (Err TooDeep) after = IsTooDeep I f before
 KnownSearch I f before stand (Err Overflow) after = Overflows I f before
 KnownSearch I f before stand (Err NoMemory) after = Unit {0}
 
--- the computations of one rule at a place, of all rules there, and of all places, under limits
+-- the computations of one rule at a place, and of all rules there, under limits
 abbrev pub rule_at : Program → Turns → Place → ℕ × Rule → ℕ → ℕ → Run (Option Stand)
 rule_at P g s q k B = by_rule P (levels P B (suc k)).eval (levels P B (suc k)).sorts (solve P (levels P B k)) g s q
 
 abbrev pub rules_in : Program → Turns → Place → ℕ → ℕ → Run (Option Stand)
 rules_in P g s k B = at_place P (levels P B (suc k)).eval (levels P B (suc k)).sorts (solve P (levels P B k)) g s
-
-abbrev pub one_by : Program → Stand → ℕ → ℕ → Run (Option Stand)
-one_by P s k B = one_rewrite P (levels P B (suc k)).eval (levels P B (suc k)).sorts (solve P (levels P B k)) s
 
 -- the number of the rule that is tried first at a term
 abbrev pub turn_at : Turns → Tree → ℕ

@@ -1,14 +1,8 @@
--- What a user of rule runs has to read, in this order.
+-- What a user of rules at one place has to read, in this order.
 
--- programs whose rules are run, and evaluators that go by the definitions
+-- programs whose rules are applied, and evaluators that go by the definitions
 pub mod Runnable
--- what a run stands for, and what its calls answer
-pub mod Runs
--- ---- what only inner contracts and proofs cite
-
--- what is known of a computation under limits
+-- what is known of a computation under limits, once calls of an evaluator have answered
 pub mod Known
--- uses of rules that were found
+-- uses of rules that were found, and what is known of the search for them
 pub mod Found
--- the places of a term, one after another
-pub mod Walk

@@ -99,7 +99,12 @@ fn shown_for<E: Evaluator, W: StepWatcher>(
     ensures wanted { W.wanted watcher.new ≡ W.wanted watcher.old }
 {
     let rule = &program.rules.items()[number];
-    let bound = match bound_by(store.allocator(), &program.sig, &rule.left, &solution.values) {
+    let bound = match bound_by(
+        store.allocator(),
+        &program.sig,
+        &rule.left,
+        &solution.values,
+    ) {
         Ok(bound) => bound,
         Err(_) => return Err(EvalEnd::NoMemory),
     };
@@ -107,7 +112,7 @@ fn shown_for<E: Evaluator, W: StepWatcher>(
 }
 
 /// A rule at a term: its least solution whose values have their sorts and whose condition holds.
-pub(crate) fn by_rule<E: Evaluator, L: Lister + Drop, W: StepWatcher>(
+pub fn by_rule<E: Evaluator, L: Lister + Drop, W: StepWatcher>(
     program: &Program,
     store: &mut Store,
     evaluator: &mut E,
@@ -151,7 +156,9 @@ pub(crate) fn by_rule<E: Evaluator, L: Lister + Drop, W: StepWatcher>(
             Ok(None) => return Ok(None),
             Err(_) => return Err(EvalEnd::NoMemory),
         };
-        match shown_for(program, store, evaluator, number, &solution, budget, watcher) {
+        match shown_for(
+            program, store, evaluator, number, &solution, budget, watcher,
+        ) {
             Ok(Some((bound, rewrites))) => return Ok(Some(Found {
                 term,
                 number,

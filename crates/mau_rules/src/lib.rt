@@ -1,9 +1,8 @@
-//! Runs of rules.
+//! Rules at one place, by any evaluator and any listing with contexts.
 #![tactic(auto)]
 
 mod attempt;
-mod run;
 mod search;
-mod walk;
 
-pub use run::{RuleEnd, RuleRun};
+pub use attempt::{Found, by_rule};
+pub use search::at_place;

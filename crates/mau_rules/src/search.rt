@@ -35,7 +35,7 @@ fn cyclic(turn: usize, index: usize, count: usize) -> usize
 }
 
 /// The rules at a term, cyclically from one behind the first `turn` on: the first that has a solution whose condition holds.
-pub(crate) fn at_place<E: Evaluator, L: Lister + Drop, W: StepWatcher>(
+pub fn at_place<E: Evaluator, L: Lister + Drop, W: StepWatcher>(
     program: &Program,
     store: &mut Store,
     evaluator: &mut E,

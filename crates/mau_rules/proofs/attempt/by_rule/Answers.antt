@@ -122,7 +122,7 @@ returns-in-Ok-None-clause-known g c = λ h around rule there.
     let settled = settled_grown p.sig began now (g.E.Evaluator.table c.args.evaluator.now) before t i.extends i.kept c.requires.settled in
     none_turn p run m c.requires.goes_by rule c.args.number t normal bare I c.args.budget.now c.loop.budget now new before after wc c.requires.contexts a c.args.term (i.asked rule there) subject later given s same derived settled (i.left rule there run normal bare)
     (subst (λ (o : Option Listed.Solution). (known : Known) → IsTableOf s known now before →
-        IsNext (IsSolution wc s (BySort s known) (question_in now a)) (matcher_cmp (theory_at s) a.pattern) (option_map (matcher_in now) given) (option_map (matcher_in new) o)) c.in-Ok-None.field-0-is c.in-Ok-None.ensures.next) h around
+    IsNext (IsSolution wc s (BySort s known) (question_in now a)) (matcher_cmp (theory_at s) a.pattern) (option_map (matcher_in now) given) (option_map (matcher_in new) o)) c.in-Ok-None.field-0-is c.in-Ok-None.ensures.next) h around
 
 pub shown_for-requires-clause-goes_by : goal.shown_for-requires-clause-goes_by
 shown_for-requires-clause-goes_by g c = subst (λ (n : Meanings). GoesBy c.args.program.now n) (sym (c.list.ensures.meanings ∙ c.loop.invariant.meanings)) c.requires.goes_by
@@ -161,7 +161,7 @@ shown_for-requires-clause-values g c = λ rule there.
     let x = c.in-Ok-Some.solution in
     let next = some_turn p run m c.requires.goes_by rule c.args.number t normal bare I c.args.budget.now c.loop.budget now new before after wc c.requires.contexts a c.args.term (i.asked rule there) subject later given s same derived settled (i.left rule there run normal bare) x
     (subst (λ (o : Option Listed.Solution). (known : Known) → IsTableOf s known now before →
-        IsNext (IsSolution wc s (BySort s known) (question_in now a)) (matcher_cmp (theory_at s) a.pattern) (option_map (matcher_in now) given) (option_map (matcher_in new) o)) c.in-Ok-Some.field-0-is c.in-Ok-Some.ensures.next) in
+    IsNext (IsSolution wc s (BySort s known) (question_in now a)) (matcher_cmp (theory_at s) a.pattern) (option_map (matcher_in now) given) (option_map (matcher_in new) o)) c.in-Ok-Some.field-0-is c.in-Ok-Some.ensures.next) in
     let solves : IsGiven wc s new after a x = subst (λ (o : Option Listed.Solution). IfSome o (IsGiven wc s new after a)) c.in-Ok-Some.field-0-is c.in-Ok-Some.ensures.solves in
     valued_turn p run m c.requires.goes_by rule c.args.number t normal bare I c.args.budget.now c.loop.budget now new before after wc c.requires.contexts a c.args.term (i.asked rule there) subject later given s same derived settled (i.left rule there run normal bare) x next solves
 
@@ -197,19 +197,22 @@ returns-in-Ok-Some-shown_for-clause-known g c = λ h around rule there.
     let x = c.in-Ok-Some.solution in
     let next = some_turn p run m c.requires.goes_by rule c.args.number t normal bare I c.args.budget.now c.loop.budget now new before after wc c.requires.contexts a c.args.term (i.asked rule there) subject later given s same derived settled (i.left rule there run normal bare) x
     (subst (λ (o : Option Listed.Solution). (known : Known) → IsTableOf s known now before →
-        IsNext (IsSolution wc s (BySort s known) (question_in now a)) (matcher_cmp (theory_at s) a.pattern) (option_map (matcher_in now) given) (option_map (matcher_in new) o)) c.in-Ok-Some.field-0-is c.in-Ok-Some.ensures.next) in
+    IsNext (IsSolution wc s (BySort s known) (question_in now a)) (matcher_cmp (theory_at s) a.pattern) (option_map (matcher_in now) given) (option_map (matcher_in new) o)) c.in-Ok-Some.field-0-is c.in-Ok-Some.ensures.next) in
     let solves : IsGiven wc s new after a x = subst (λ (o : Option Listed.Solution). IfSome o (IsGiven wc s new after a)) c.in-Ok-Some.field-0-is c.in-Ok-Some.ensures.solves in
     let told = asked_so m (g.E.Evaluator.meanings c.list.new.self) (g.W.StepWatcher.wanted c.loop.watcher) (g.W.StepWatcher.wanted c.args.watcher.now) (c.list.ensures.meanings ∙ i.meanings) i.wanted
     (λ n. solving_by (program_over p n.hooks) (rule_of rule).cond (binding_of (rule_of rule).left (solution_in new x))) c.loop.budget c.shown_for.new.store (Ok (Some (c.in-Ok-Some-shown_for.bound.items, c.in-Ok-Some-shown_for.rewrites))) c.shown_for.new.budget
     (subst (λ (o : Option (Vec (VarId × TermId) Global × ℕ)). KnownSolving (item_of (g.E.Evaluator.meanings c.list.new.self) (g.W.StepWatcher.wanted c.loop.watcher))
-        (solving_by (program_over p (g.E.Evaluator.meanings c.list.new.self).hooks) (rule_of rule).cond (binding_of (rule_of rule).left (solution_in new x))) c.loop.budget c.shown_for.new.store (Ok (option_map (λ (z : Vec (VarId × TermId) Global × ℕ). (z.0.items, z.1)) o)) c.shown_for.new.budget)
-        c.in-Ok-Some-shown_for.field-0-is (c.in-Ok-Some-shown_for.ensures.known rule there)) in
+    (solving_by (program_over p (g.E.Evaluator.meanings c.list.new.self).hooks) (rule_of rule).cond (binding_of (rule_of rule).left (solution_in new x))) c.loop.budget c.shown_for.new.store (Ok (option_map (λ (z : Vec (VarId × TermId) Global × ℕ). (z.0.items, z.1)) o)) c.shown_for.new.budget)
+    c.in-Ok-Some-shown_for.field-0-is (c.in-Ok-Some-shown_for.ensures.known rule there)) in
     let held = answer_holds p run m rule t normal bare I c.args.number c.args.budget.now c.loop.budget new c.shown_for.new.store x next h around c.in-Ok-Some-shown_for.bound.items c.in-Ok-Some-shown_for.rewrites c.shown_for.new.budget told
     (record { term = c.args.term; number = c.args.number; solution = x; bound = c.in-Ok-Some-shown_for.bound; rewrites = c.in-Ok-Some-shown_for.rewrites }) refl refl refl refl
-    (trees_kept (theory_at s) new c.shown_for.new.store (numbers x.left) c.shown_for.ensures.extends solves.left) (trees_kept (theory_at s) new c.shown_for.new.store (numbers x.right) c.shown_for.ensures.extends solves.right) in
-    (held.0, held.1, subst (λ (o : Option Rule). Gives I (rule_at (program_over p m.hooks) h (record { term = t; around = around }) (c.args.number, rule_of rule)) c.args.budget.now
-        (stand_with (program_over p m.hooks) h (record { term = t; around = around }) c.shown_for.new.store (record { term = c.args.term; number = c.args.number; solution = x; bound = c.in-Ok-Some-shown_for.bound; rewrites = c.in-Ok-Some-shown_for.rewrites }) o)
-        held.0 c.shown_for.new.budget) (sym there) held.2)
+    (trees_kept (theory_at s) new c.shown_for.new.store (numbers x.left) c.shown_for.ensures.extends solves.left) (trees_kept (theory_at s) new c.shown_for.new.store (numbers x.right) c.shown_for.ensures.extends solves.right) in (
+      held.0,
+      held.1,
+      subst (λ (o : Option Rule). Gives I (rule_at (program_over p m.hooks) h (record { term = t; around = around }) (c.args.number, rule_of rule)) c.args.budget.now
+          (stand_with (program_over p m.hooks) h (record { term = t; around = around }) c.shown_for.new.store (record { term = c.args.term; number = c.args.number; solution = x; bound = c.in-Ok-Some-shown_for.bound; rewrites = c.in-Ok-Some-shown_for.rewrites }) o)
+          held.0 c.shown_for.new.budget) (sym there) held.2,
+    )
 
 pub returns-in-Ok-Some-shown_for-clause-found : goal.returns-in-Ok-Some-shown_for-clause-found
 returns-in-Ok-Some-shown_for-clause-found g c =
@@ -241,7 +244,7 @@ returns-in-Ok-Some-shown_for-clause-found g c =
     let x = c.in-Ok-Some.solution in
     let next = some_turn p run m c.requires.goes_by rule c.args.number t normal bare I c.args.budget.now c.loop.budget now new before after wc c.requires.contexts a c.args.term (i.asked rule there) subject later given s same derived settled (i.left rule there run normal bare) x
     (subst (λ (o : Option Listed.Solution). (known : Known) → IsTableOf s known now before →
-        IsNext (IsSolution wc s (BySort s known) (question_in now a)) (matcher_cmp (theory_at s) a.pattern) (option_map (matcher_in now) given) (option_map (matcher_in new) o)) c.in-Ok-Some.field-0-is c.in-Ok-Some.ensures.next) in
+    IsNext (IsSolution wc s (BySort s known) (question_in now a)) (matcher_cmp (theory_at s) a.pattern) (option_map (matcher_in now) given) (option_map (matcher_in new) o)) c.in-Ok-Some.field-0-is c.in-Ok-Some.ensures.next) in
     let solves : IsGiven wc s new after a x = subst (λ (o : Option Listed.Solution). IfSome o (IsGiven wc s new after a)) c.in-Ok-Some.field-0-is c.in-Ok-Some.ensures.solves in
     record {
       rule = rule;
@@ -280,7 +283,7 @@ returns-in-Err-shown_for-clause-known g c = λ h around rule there.
     let x = c.in-Ok-Some.solution in
     let next = some_turn p run m c.requires.goes_by rule c.args.number t normal bare I c.args.budget.now c.loop.budget now new before after wc c.requires.contexts a c.args.term (i.asked rule there) subject later given s same derived settled (i.left rule there run normal bare) x
     (subst (λ (o : Option Listed.Solution). (known : Known) → IsTableOf s known now before →
-        IsNext (IsSolution wc s (BySort s known) (question_in now a)) (matcher_cmp (theory_at s) a.pattern) (option_map (matcher_in now) given) (option_map (matcher_in new) o)) c.in-Ok-Some.field-0-is c.in-Ok-Some.ensures.next) in
+    IsNext (IsSolution wc s (BySort s known) (question_in now a)) (matcher_cmp (theory_at s) a.pattern) (option_map (matcher_in now) given) (option_map (matcher_in new) o)) c.in-Ok-Some.field-0-is c.in-Ok-Some.ensures.next) in
     let solves : IsGiven wc s new after a x = subst (λ (o : Option Listed.Solution). IfSome o (IsGiven wc s new after a)) c.in-Ok-Some.field-0-is c.in-Ok-Some.ensures.solves in
     let told = asked_so m (g.E.Evaluator.meanings c.list.new.self) (g.W.StepWatcher.wanted c.loop.watcher) (g.W.StepWatcher.wanted c.args.watcher.now) (c.list.ensures.meanings ∙ i.meanings) i.wanted
     (λ n. solving_by (program_over p n.hooks) (rule_of rule).cond (binding_of (rule_of rule).left (solution_in new x))) c.loop.budget c.shown_for.new.store (Err c.in-Err-shown_for.end) c.shown_for.new.budget (c.in-Err-shown_for.ensures.known rule there) in
@@ -317,14 +320,14 @@ loop-preserved g c =
     let x = c.in-Ok-Some.solution in
     let next = some_turn p run m c.requires.goes_by rule c.args.number t normal bare I c.args.budget.now c.loop.budget now new before after wc c.requires.contexts a c.args.term (i.asked rule there) subject later given s same derived settled (i.left rule there run normal bare) x
     (subst (λ (o : Option Listed.Solution). (known : Known) → IsTableOf s known now before →
-        IsNext (IsSolution wc s (BySort s known) (question_in now a)) (matcher_cmp (theory_at s) a.pattern) (option_map (matcher_in now) given) (option_map (matcher_in new) o)) c.in-Ok-Some.field-0-is c.in-Ok-Some.ensures.next) in
+    IsNext (IsSolution wc s (BySort s known) (question_in now a)) (matcher_cmp (theory_at s) a.pattern) (option_map (matcher_in now) given) (option_map (matcher_in new) o)) c.in-Ok-Some.field-0-is c.in-Ok-Some.ensures.next) in
     let solves : IsGiven wc s new after a x = subst (λ (o : Option Listed.Solution). IfSome o (IsGiven wc s new after a)) c.in-Ok-Some.field-0-is c.in-Ok-Some.ensures.solves in
     let final = c.shown_for.new.store in
     let last = g.E.Evaluator.table c.shown_for.new.evaluator in
     let meanings : g.E.Evaluator.meanings c.shown_for.new.evaluator ≡ m = c.shown_for.ensures.meanings ∙ (c.list.ensures.meanings ∙ i.meanings) in
     let over : (e : g.row.E.Denot) (nodes : List Node) → g.E.Evaluator.fits e nodes → g.E.Evaluator.meanings e ≡ m → AreOver p.sig.hierarchy (g.E.Evaluator.table e) = (λ e nodes fits same_m.
-        subst (λ (q : Program). AreOver q.sig.hierarchy (g.E.Evaluator.table e)) c.requires.goes_by.program
-        (subst (λ (n : Meanings). AreOver n.program.sig.hierarchy (g.E.Evaluator.table e)) same_m (g.met.E.Evaluator.derived e nodes fits).over)) in
+    subst (λ (q : Program). AreOver q.sig.hierarchy (g.E.Evaluator.table e)) c.requires.goes_by.program
+    (subst (λ (n : Meanings). AreOver n.program.sig.hierarchy (g.E.Evaluator.table e)) same_m (g.met.E.Evaluator.derived e nodes fits).over)) in
     let ready = listings_go_on wc p.sig now new before after c.list.ensures.extends c.list.ensures.kept (over c.list.new.self new c.list.ensures.fits (c.list.ensures.meanings ∙ i.meanings)) a given i.ready in
     let listed : IsGiven wc p.sig new after a x = subst (λ (z : SignatureOf). IsGiven wc z new after a x) same solves in
     let further = listings_go_on wc p.sig new final after last c.shown_for.ensures.extends c.shown_for.ensures.kept (over c.shown_for.new.evaluator final c.shown_for.ensures.fits meanings) a (Some x)
@@ -343,12 +346,12 @@ loop-preserved g c =
       left = λ r k run' normal' bare'.
           let turn = some_turn p run' m c.requires.goes_by r c.args.number t normal' bare' I c.args.budget.now c.loop.budget now new before after wc c.requires.contexts a c.args.term (i.asked r k) subject later given s same derived settled (i.left r k run' normal' bare') x
           (subst (λ (o : Option Listed.Solution). (known : Known) → IsTableOf s known now before →
-              IsNext (IsSolution wc s (BySort s known) (question_in now a)) (matcher_cmp (theory_at s) a.pattern) (option_map (matcher_in now) given) (option_map (matcher_in new) o)) c.in-Ok-Some.field-0-is c.in-Ok-Some.ensures.next) in
+          IsNext (IsSolution wc s (BySort s known) (question_in now a)) (matcher_cmp (theory_at s) a.pattern) (option_map (matcher_in now) given) (option_map (matcher_in new) o)) c.in-Ok-Some.field-0-is c.in-Ok-Some.ensures.next) in
           let told = asked_so m (g.E.Evaluator.meanings c.list.new.self) (g.W.StepWatcher.wanted c.loop.watcher) (g.W.StepWatcher.wanted c.args.watcher.now) (c.list.ensures.meanings ∙ i.meanings) i.wanted
           (λ n. solving_by (program_over p n.hooks) (rule_of r).cond (binding_of (rule_of r).left (solution_in new x))) c.loop.budget final (Ok None) c.shown_for.new.budget
           (subst (λ (o : Option (Vec (VarId × TermId) Global × ℕ)). KnownSolving (item_of (g.E.Evaluator.meanings c.list.new.self) (g.W.StepWatcher.wanted c.loop.watcher))
-              (solving_by (program_over p (g.E.Evaluator.meanings c.list.new.self).hooks) (rule_of r).cond (binding_of (rule_of r).left (solution_in new x))) c.loop.budget final (Ok (option_map (λ (z : Vec (VarId × TermId) Global × ℕ). (z.0.items, z.1)) o)) c.shown_for.new.budget)
-              c.in-Ok-None-shown_for.field-0-is (c.in-Ok-None-shown_for.ensures.known r k)) in
+          (solving_by (program_over p (g.E.Evaluator.meanings c.list.new.self).hooks) (rule_of r).cond (binding_of (rule_of r).left (solution_in new x))) c.loop.budget final (Ok (option_map (λ (z : Vec (VarId × TermId) Global × ℕ). (z.0.items, z.1)) o)) c.shown_for.new.budget)
+          c.in-Ok-None-shown_for.field-0-is (c.in-Ok-None-shown_for.ensures.known r k)) in
           let one = trees_kept (theory_at s) new final (numbers x.left) c.shown_for.ensures.extends solves.left in
           let two = trees_kept (theory_at s) new final (numbers x.right) c.shown_for.ensures.extends solves.right in
           let three = trees_kept (theory_at s) new final (numbers x.values) c.shown_for.ensures.extends solves.values in

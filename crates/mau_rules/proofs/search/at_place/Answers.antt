@@ -81,7 +81,7 @@ returns-in-Ok-Some-clause-known g c = λ h around e.
     let at : get_or xs c.loop-index.index q ≡ q = c.cyclic-number.ensures.number P.rules (rule_of r.0) q (length-map p.rules rule_of ∙ sym count) ∙ ap (λ z. (number, z)) (get_mapped rule_of p.rules number r.0 (rule_of r.0) r.1) in
     let x = c.in-Ok-Some.found in
     let known = subst (λ (o : Option Found). KnownSearch (item_of n (g.W.StepWatcher.wanted c.loop-index.watcher)) (rule_at (program_over p n.hooks) h (record { term = tree_at now c.args.term.0; around = around }) q) c.loop-index.budget
-        (found_stand p (program_over p n.hooks) h (record { term = tree_at now c.args.term.0; around = around }) new) (Ok o) c.by_rule.new.budget) c.in-Ok-Some.field-0-is (c.in-Ok-Some.ensures.known h around r.0 r.1) in
+    (found_stand p (program_over p n.hooks) h (record { term = tree_at now c.args.term.0; around = around }) new) (Ok o) c.by_rule.new.budget) c.in-Ok-Some.field-0-is (c.in-Ok-Some.ensures.known h around r.0 r.1) in
     let is = subst (λ (u : Tree). IsFound p new (g.E.Evaluator.table c.by_rule.new.evaluator) u x) same (subst (λ (o : Option Found). IfSome o (IsFound p new (g.E.Evaluator.table c.by_rule.new.evaluator) (tree_at now c.args.term.0))) c.in-Ok-Some.field-0-is c.in-Ok-Some.ensures.found) in
     search_found p P I h (record { term = t; around = around }) c.args.budget.now xs c.loop-index.index q low at c.loop-index.budget (i.goes_on h around e) new (g.E.Evaluator.table c.by_rule.new.evaluator) c.by_rule.new.budget x is
     (search_so p m n (g.W.StepWatcher.wanted c.loop-index.watcher) (g.W.StepWatcher.wanted c.args.watcher.now) i.meanings i.wanted t (tree_at now c.args.term.0) same h around q c.loop-index.budget new (Ok (Some x)) c.by_rule.new.budget known)
@@ -145,7 +145,7 @@ loop-index-preserved g c =
       wanted = c.by_rule.ensures.wanted ∙ i.wanted;
       goes_on = λ h around e.
           let known = subst (λ (o : Option Found). KnownSearch (item_of n (g.W.StepWatcher.wanted c.loop-index.watcher)) (rule_at (program_over p n.hooks) h (record { term = tree_at now c.args.term.0; around = around }) q) c.loop-index.budget
-              (found_stand p (program_over p n.hooks) h (record { term = tree_at now c.args.term.0; around = around }) new) (Ok o) c.by_rule.new.budget) c.in-Ok-None.field-0-is (c.in-Ok-None.ensures.known h around r.0 r.1) in
+          (found_stand p (program_over p n.hooks) h (record { term = tree_at now c.args.term.0; around = around }) new) (Ok o) c.by_rule.new.budget) c.in-Ok-None.field-0-is (c.in-Ok-None.ensures.known h around r.0 r.1) in
           search_past p P I h (record { term = t; around = around }) c.args.budget.now xs c.loop-index.index q low at c.loop-index.budget (i.goes_on h around e) new (g.E.Evaluator.table c.by_rule.new.evaluator) c.by_rule.new.budget
           (search_so p m n (g.W.StepWatcher.wanted c.loop-index.watcher) (g.W.StepWatcher.wanted c.args.watcher.now) i.meanings i.wanted t (tree_at now c.args.term.0) same h around q c.loop-index.budget new (Ok None) c.by_rule.new.budget known);
     }
