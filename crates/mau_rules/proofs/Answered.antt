@@ -1,11 +1,10 @@
 -- Answers of a listing and of an evaluator, as the search for a rule has them.
-use Rattle.std.proofs.Common.{◌≡◌, ◌≤◌, ◌+◌, ◌++◌, ◌∷◌, [], List, map, ℕ, suc, Bool, true, false, Option, Some, None, Result, Ok, Err, IfOk, IfSome, OnOk, refl, sym, ap, ◌∙◌, subst}
+use Rattle.std.proofs.Common.{◌≡◌, [], List, ℕ, Bool, true, Option, Some, Ok, Err, refl, sym, ap, ◌∙◌, subst}
 use Rattle.std.specs.Option.{option_map}
 use Rattle.mau_terms.specs.Tree.{Tree}
 use Rattle.mau_terms.specs.Norm.{norm}
 use Rattle.mau_terms.specs.Bare.{IsBare}
 use Rattle.mau_terms.specs.Reading.{reading}
-use Rattle.mau_terms.specs.View.{tree_of}
 use Rattle.mau_terms.specs.declared.ids.TermId.{TermId}
 use Rattle.mau_terms.specs.declared.ids.VarId.{VarId}
 use Rattle.mau_signature.specs.Signature.{SignatureOf, theory_at, terms_over}
@@ -16,28 +15,27 @@ use Rattle.mau_sorts.specs.HasSort.{Known}
 use Rattle.mau_sorts.specs.Table.{Table}
 use Rattle.mau_listing.specs.Asked.{Asked, asks, question_in, matcher_in, BySort}
 use Rattle.mau_listing.specs.Next.{matcher_cmp, IsNext}
-use Rattle.mau_listing.specs.Question.{Question, IsSolution}
+use Rattle.mau_listing.specs.Question.{IsSolution}
 use Rattle.mau_listing.specs.declared.solution.Solution as Listed
 use Rattle.mau_program.specs.declared.program.Program as Typed
 use Rattle.mau_program.specs.declared.statements.Rule as Written
-use Rattle.mau_evaluation.specs.Run.{End, stopped, too_deep, overflowed}
-use Rattle.mau_evaluation.specs.Program.{Rule}
+use Rattle.mau_evaluation.specs.Run.{stopped, too_deep, overflowed}
 use Rattle.mau_evaluation.specs.Evaluation.{binding_of}
 use Rattle.mau_evaluation.specs.Rules.{Place}
 use Rattle.mau_evaluation.specs.RuleRuns.{Turns, Stand}
 use Rattle.mau_api.specs.Remaining.{as_matcher}
 use Rattle.mau_api.specs.Programs.{rule_of, program_over}
 use Rattle.mau_api.specs.Meanings.{Meanings, meanings_by}
-use Rattle.mau_api.specs.Answers.{IsDerivedTable, AreSettled, mapped, binding_in}
+use Rattle.mau_api.specs.Answers.{IsDerivedTable, binding_in}
 use Rattle.mau_api.specs.declared.results.EvalEnd.{EvalEnd}
 use Rattle.mau_api.specs.declared.results.EvalEnd.TheVariants.{Stopped, TooDeep, Overflow, NoMemory}
 use Rattle.mau_reduce.specs.Trying.{solution_in}
 use Rattle.mau_reduce.proofs.Candidates.{matchers_of}
 use Rattle.mau_rules.specs.declared.attempt.Found.{Found}
 use Rattle.mau_rules.specs.Runnable.{IsRunnable, GoesBy}
-use Rattle.mau_rules.specs.Known.{Item, Gives, Fails}
-use Rattle.mau_rules.specs.Found.{KnownSolving, KnownSearch, rule_at, solving_by, stand_by, stand_with, found_stand}
-use Rattle.mau_rules.proofs.Rounds.{Left, HasNext, goes_past, comes_to, ends_so}
+use Rattle.mau_rules.specs.Known.{Item, Gives}
+use Rattle.mau_rules.specs.Found.{KnownSolving, KnownSearch, rule_at, solving_by, stand_by, stand_with}
+use Rattle.mau_rules.proofs.Rounds.{HasNext, comes_to, ends_so}
 
 -- an evaluator's table
 pub derived_as : (p : Typed.Program) (m : Meanings) → GoesBy p m → (nodes : List Node) (table : Table) → IsDerivedTable m nodes table → IsDerivedTable (meanings_by p m.hooks m.limit m.remembers) nodes table

@@ -1,6 +1,6 @@
 -- What an answer of an evaluator says of a computation that stays the same under larger limits.
-use Rattle.std.proofs.Common.{◌≡◌, ◌⊎◌, inl, inr, ◌≤◌, ◌+◌, ◌-◌, ℕ, zero, suc, Bool, true, false, refl, sym, ap, ◌∙◌, subst, arith}
-use Rattle.mau_evaluation.specs.Run.{End, stopped, too_deep, overflowed, Outcome, done, ended, Run}
+use Rattle.std.proofs.Common.{◌≡◌, ◌⊎◌, inl, inr, ◌≤◌, ◌+◌, ◌-◌, ℕ, true, false, refl, sym, ap, ◌∙◌, subst, arith}
+use Rattle.mau_evaluation.specs.Run.{stopped, too_deep, overflowed, Outcome, done, ended, Run}
 use Rattle.mau_evaluation.specs.Laws.{StaysTheSame}
 use Rattle.mau_evaluation.specs.Higher.{IsHigher, IsRicher, with_more}
 use Rattle.mau_evaluation.proofs.Stay.{stays_one}

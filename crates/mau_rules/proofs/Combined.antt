@@ -1,8 +1,8 @@
 -- What is known of computations that are put together by the words of mau_evaluation.
-use Rattle.std.proofs.Common.{◌≡◌, ◌⊎◌, inl, inr, ◌≤◌, ◌+◌, ◌++◌, ◌∷◌, [], List, ℕ, zero, suc, Bool, true, false, Option, Some, None, refl, sym, ap, ◌∙◌, subst, arith}
-use Rattle.mau_evaluation.specs.Run.{End, stopped, too_deep, overflowed, Outcome, done, ended, Run, gives, counted, go_on, and_then, spend, spending, or_go_on, or_else, counted_if, try_on, and_try, first_of, where_true, choose}
-use Rattle.mau_rules.specs.Known.{Item, IsCut, Leaves, cut, left_of, IsExactly, Gives, Stops, IsTooDeep, Overflows, Fails, Got, got, fails, nothing, Known, more, more_if, GoesOn}
-use Rattle.mau_rules.proofs.Composed.{then_gives, then_fails, fails_first, always_gives, same_known}
+use Rattle.std.proofs.Common.{◌≡◌, ◌⊎◌, inl, inr, ◌≤◌, ◌+◌, ◌++◌, ◌∷◌, [], List, ℕ, zero, suc, Option, Some, None, refl, ap, ◌∙◌, arith}
+use Rattle.mau_evaluation.specs.Run.{End, stopped, too_deep, overflowed, Outcome, done, ended, Run, counted, go_on, and_then, spend, spending, or_go_on, or_else, counted_if, try_on, and_try, first_of}
+use Rattle.mau_rules.specs.Known.{Item, IsCut, Leaves, cut, left_of, IsExactly, Gives, Fails, Got, got, fails, nothing, Known, more, more_if, GoesOn}
+use Rattle.mau_rules.proofs.Composed.{then_gives, then_fails, fails_first, always_gives}
 
 module _ (I : Item) where
   -- ---- and_then

@@ -1,7 +1,7 @@
 -- How what is known of a computation follows from what is known of its parts.
-use Rattle.std.proofs.Common.{◌≡◌, ◌⊎◌, inl, inr, ◌≤◌, ◌+◌, ◌-◌, ℕ, zero, suc, Bool, true, false, Option, Some, None, refl, sym, ap, ◌∙◌, subst, arith}
-use Rattle.mau_evaluation.specs.Run.{End, stopped, too_deep, overflowed, Outcome, done, ended, Run, gives, counted, go_on, and_then, spend, spending, or_go_on, or_else, counted_if, try_on, and_try}
-use Rattle.mau_rules.specs.Known.{Item, IsCut, Leaves, cut, left_of, IsExactly, Gives, Stops, IsTooDeep, Overflows, Fails, Got, got, fails, nothing, Known}
+use Rattle.std.proofs.Common.{◌≡◌, ◌⊎◌, inl, inr, ◌+◌, ◌-◌, ℕ, refl, ap, ◌∙◌, arith}
+use Rattle.mau_evaluation.specs.Run.{End, stopped, too_deep, overflowed, Outcome, done, ended, Run}
+use Rattle.mau_rules.specs.Known.{Item, IsCut, Leaves, cut, left_of, IsExactly, Gives, Fails, Got, got, fails, nothing, Known}
 
 -- ---- first one part, and then another
 

@@ -1,5 +1,5 @@
 -- Rules in their cyclic order.
-use Rattle.std.proofs.Common.{◌≡◌, ◌≤◌, ◌<◌, ◌+◌, ◌-◌, ◌++◌, ◌∷◌, [], List, ℕ, zero, suc, length, take, drop, get_or, refl, sym, ap, ap₂, ◌∙◌, subst, arith, append-nil, length-append, length-drop, length-take, min}
+use Rattle.std.proofs.Common.{◌≡◌, ◌≤◌, ◌<◌, ◌+◌, ◌-◌, ◌∷◌, [], List, ℕ, zero, suc, length, take, drop, get_or, refl, ap, ap₂, ◌∙◌, arith, append-nil, length-append, length-drop, length-take, min}
 use Rattle.std.proofs.lemmas.List.{get_or-take, get_or-drop, get_or_append_left, get_or-append_right}
 use Rattle.mau_evaluation.specs.Program.{Rule}
 use Rattle.mau_evaluation.specs.RuleRuns.{numbered, cyclically}

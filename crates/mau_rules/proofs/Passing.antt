@@ -1,6 +1,5 @@
 -- A list of which the elements for which a test holds come one after another.
-use Rattle.std.proofs.Common.{◌≡◌, ◌++◌, ◌∷◌, [], List, Bool, true, false, if◌then◌else◌, inl, inr, refl, sym, ap, ◌∙◌, subst}
-use Rattle.mau_terms.specs.Finite.{IsIn}
+use Rattle.std.proofs.Common.{◌≡◌, ◌++◌, ◌∷◌, [], List, Bool, true, false, if◌then◌else◌, refl, sym, ap, ◌∙◌}
 use Rattle.mau_evaluation.specs.Listing.{keep}
 
 module _ {A : Type 0} (test : A → Bool) where

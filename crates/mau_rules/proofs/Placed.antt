@@ -1,5 +1,5 @@
 -- All rules at a place, one after another.
-use Rattle.std.proofs.Common.{◌≡◌, ◌≤◌, ◌<◌, ◌+◌, ◌++◌, ◌∷◌, [], List, length, drop, get_or, map, slice_get, Result, Ok, Err, ℕ, zero, suc, Bool, true, false, Option, Some, None, refl, sym, ap, ap₂, ◌∙◌, subst, arith, append-nil}
+use Rattle.std.proofs.Common.{◌≡◌, ◌≤◌, ◌<◌, ◌+◌, ◌∷◌, [], List, length, drop, get_or, map, slice_get, Result, Ok, Err, ℕ, zero, suc, Bool, Option, Some, None, refl, sym, ap, ◌∙◌, subst, arith, append-nil}
 use Rattle.std.proofs.lemmas.List.{drop_more, drop_all}
 use Rattle.mau_terms.specs.Tree.{Tree, variable, numeral, apply}
 use Rattle.mau_store.specs.Node.{Node}
@@ -13,11 +13,11 @@ use Rattle.mau_api.specs.Answers.{binding_in}
 use Rattle.mau_api.specs.declared.results.EvalEnd.{EvalEnd}
 use Rattle.mau_api.specs.declared.results.EvalEnd.TheVariants.{Stopped, TooDeep, Overflow, NoMemory}
 use Rattle.mau_rules.specs.declared.attempt.Found.{Found}
-use Rattle.mau_evaluation.specs.Run.{End, stopped, too_deep, overflowed, Run, first_of}
+use Rattle.mau_evaluation.specs.Run.{End, stopped, too_deep, overflowed, Run}
 use Rattle.mau_evaluation.specs.Program.{Rule, Program}
 use Rattle.mau_evaluation.specs.Rules.{Place}
 use Rattle.mau_evaluation.specs.RuleRuns.{Turns, Stand, numbered, cyclically, rules_at}
-use Rattle.mau_rules.specs.Known.{Item, Gives, Fails, Got, got, fails, nothing, Known, GoesOn}
+use Rattle.mau_rules.specs.Known.{Item, Gives, Fails, got, fails, GoesOn}
 use Rattle.mau_rules.specs.Found.{IsFound, KnownSearch, item_of, found_stand, stand_with, stand_by, rule_at, rules_in, turn_at}
 use Rattle.mau_rules.proofs.Combined.{first_among, none_known, passed_by, goes_on_twice, else_some, else_fails_first}
 

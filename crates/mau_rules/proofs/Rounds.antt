@@ -1,5 +1,5 @@
 -- A rule at a place, while its solutions are gone through.
-use Rattle.std.proofs.Common.{◌≡◌, ◌≤◌, ◌+◌, ◌++◌, ◌∷◌, [], List, map, ℕ, zero, suc, Bool, true, false, Option, Some, None, if◌then◌else◌, inl, inr, refl, sym, ap, ◌∙◌, subst, arith, append_assoc, append-nil}
+use Rattle.std.proofs.Common.{◌≡◌, ◌++◌, ◌∷◌, [], List, map, ℕ, Bool, true, Option, Some, None, if◌then◌else◌, inl, inr, refl, sym, ap, ◌∙◌, subst, append_assoc, append-nil}
 use Rattle.std.proofs.lemmas.List.{map-append}
 use Rattle.std.specs.Option.{option_map}
 use Rattle.mau_terms.specs.Tree.{Tree}
@@ -27,11 +27,11 @@ use Rattle.mau_api.specs.Remaining.{as_matcher}
 use Rattle.mau_api.specs.Meanings.{meanings_by}
 use Rattle.mau_api.specs.Answers.{IsDerivedTable, AreSettled}
 use Rattle.mau_rules.specs.Runnable.{IsRunnable}
-use Rattle.mau_rules.specs.Known.{Item, Gives, Fails, Got, got, fails, nothing, Known as IsKnown, GoesOn}
+use Rattle.mau_rules.specs.Known.{Item, Gives, Fails, got, fails, Known as IsKnown, GoesOn}
 use Rattle.mau_rules.specs.Found.{rule_at, solving_by, stand_by}
 use Rattle.mau_rules.proofs.Combined.{else_some, else_fails_first, first_among, none_known, passed_by, goes_on_twice, all_passed_by}
-use Rattle.mau_rules.proofs.Passing.{AllFail, HasFirst, first_kept, none_kept, fail_kept, keep-append}
-use Rattle.mau_rules.proofs.Trying.{head, all, test, question, next_first, one, fail_none, one_not_shown, one_shown, one_ends, whole, at_all}
+use Rattle.mau_rules.proofs.Passing.{HasFirst, first_kept, none_kept, keep-append}
+use Rattle.mau_rules.proofs.Trying.{head, all, test, question, next_first, one, fail_none, one_not_shown, one_shown, one_ends, at_all}
 
 last_more : (last : Option Matcher) (xs : List Matcher) (y : Matcher) → last_of last (xs ++ y ∷ []) ≡ Some y
 last_more last [] y = refl

@@ -1,10 +1,10 @@
 -- The condition of a rule, asked for a solution of its left side.
-use Rattle.std.proofs.Common.{◌≡◌, ◌≤◌, ◌<◌, ◌+◌, ◌∷◌, [], List, map, ℕ, zero, suc, Bool, true, false, Option, Some, None, Result, Ok, Err, IfOk, OnOk, All, slice_get, inl, inr, refl, sym, ap, ap₂, ◌∙◌, subst}
+use Rattle.std.proofs.Common.{◌≡◌, ◌∷◌, [], List, map, ℕ, Bool, true, false, Option, Some, None, Result, Ok, Err, OnOk, All, slice_get, inl, inr, refl, sym, ap, ◌∙◌, subst}
 use Rattle.std.proofs.lemmas.List.Elements.{All-nil, All-cons, All-head, All-tail}
 use Rattle.std.specs.List.{zip}
 use Rattle.mau_terms.specs.Tree.{Tree}
 use Rattle.mau_terms.specs.Finite.{IsIn}
-use Rattle.mau_terms.specs.Subst.{Variable, variables}
+use Rattle.mau_terms.specs.Subst.{variables}
 use Rattle.mau_terms.specs.View.{tree_of, variable_of}
 use Rattle.mau_terms.specs.declared.ids.VarId.{VarId}
 use Rattle.mau_terms.specs.declared.ids.TermId.{TermId}
@@ -19,7 +19,7 @@ use Rattle.mau_program.specs.declared.statements.Fragment as WrittenFragment
 use Rattle.mau_program.specs.declared.statements.Fragment.TheVariants as Part
 use Rattle.mau_program.specs.declared.statements.Rule as Written
 use Rattle.mau_evaluation.specs.Run.{Run}
-use Rattle.mau_evaluation.specs.Program.{Fragment, Rule}
+use Rattle.mau_evaluation.specs.Program.{Fragment}
 use Rattle.mau_evaluation.specs.Evaluation.{Binding, binding_of}
 use Rattle.mau_evaluation.specs.Rules.{has_reach}
 use Rattle.mau_api.specs.Programs.{fragment_of, rule_of, program_over}

@@ -1,5 +1,5 @@
 -- What the answers of an evaluator say of evaluations and conditions.
-use Rattle.std.proofs.Common.{◌≡◌, ◌⊎◌, inl, inr, ◌≤◌, ◌+◌, ◌-◌, ℕ, zero, suc, Bool, true, false, List, Option, Some, None, Result, Ok, Err, OnOk, refl, sym, ap, ◌∙◌, subst, arith}
+use Rattle.std.proofs.Common.{◌≡◌, ◌⊎◌, inl, inr, ◌≤◌, ◌-◌, ℕ, suc, Bool, true, false, List, Option, Some, None, Result, Ok, Err, OnOk, sym, ap, ◌∙◌, subst, arith}
 use Rattle.mau_terms.specs.Tree.{Tree}
 use Rattle.mau_terms.specs.Finite.{IsIn}
 use Rattle.mau_terms.specs.declared.ids.VarId.{VarId}
@@ -7,22 +7,21 @@ use Rattle.mau_terms.specs.declared.ids.TermId.{TermId}
 use Rattle.mau_store.specs.Node.{Node}
 use Rattle.mau_store.specs.Trees.{tree_at}
 use Rattle.mau_program.specs.declared.program.Program as Typed
-use Rattle.mau_evaluation.specs.Run.{End, stopped, too_deep, overflowed, Outcome, done, ended, Run}
-use Rattle.mau_evaluation.specs.Program.{Fragment, Program, Membership}
-use Rattle.mau_evaluation.specs.Evaluation.{Binding, levels, solve, eval}
+use Rattle.mau_evaluation.specs.Run.{stopped, too_deep, overflowed, Outcome, done, ended, Run}
+use Rattle.mau_evaluation.specs.Program.{Fragment, Program}
+use Rattle.mau_evaluation.specs.Evaluation.{Binding, eval}
 use Rattle.mau_evaluation.specs.Laws.{StaysTheSame}
-use Rattle.mau_api.specs.Told.{shown_count}
 use Rattle.mau_api.specs.Programs.{program_over}
-use Rattle.mau_api.specs.Meanings.{Meanings, program_of, meanings_by, StaysUnderLimits, AreMeanings}
-use Rattle.mau_api.specs.Answers.{uses_results, levels_of_item, levels_of_condition, DerivesNothing, HasCause, GivesUnder, LeavesEnough, binding_in, solving_from, IsSolved, IsSolvedExactly, MaySolve, IsAnswered, IsExact, IsAllowed}
+use Rattle.mau_api.specs.Meanings.{Meanings, program_of, StaysUnderLimits, AreMeanings}
+use Rattle.mau_api.specs.Answers.{uses_results, levels_of_item, levels_of_condition, DerivesNothing, HasCause, LeavesEnough, binding_in, solving_from, IsSolvedExactly, MaySolve, IsExact, IsAllowed}
 use Rattle.mau_api.specs.declared.results.EvalEnd.{EvalEnd}
 use Rattle.mau_api.specs.declared.results.EvalEnd.TheVariants.{Stopped, TooDeep, Overflow, NoMemory}
 use Rattle.mau_api.specs.declared.results.Reduced.{Reduced}
 use Rattle.mau_reduce.proofs.Candidates.{none_executable}
 use Rattle.mau_rules.specs.Runnable.{IsRunnable, GoesBy}
-use Rattle.mau_rules.specs.Known.{Item, Gives, Stops, IsTooDeep, Overflows}
+use Rattle.mau_rules.specs.Known.{Item, Stops}
 use Rattle.mau_rules.specs.Found.{item_of, KnownSolving, KnownEvaluation, solving_by}
-use Rattle.mau_rules.proofs.Base.{IsAt, base_gives, base_stops, base_deep, base_overflows}
+use Rattle.mau_rules.proofs.Base.{base_gives, base_stops, base_deep, base_overflows}
 
 module _ (p : Typed.Program) (run : IsRunnable p) (m : Meanings) (goes : GoesBy p m) (laws : AreMeanings m) (wanted : Bool) where
   abbrev I : Item

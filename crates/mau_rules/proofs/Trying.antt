@@ -1,5 +1,5 @@
 -- One rule at one place: what is known of it, one solution of its left side after another.
-use Rattle.std.proofs.Common.{◌≡◌, ◌↔◌, ◌≤◌, ◌+◌, ◌++◌, ◌∷◌, [], List, map, ℕ, zero, suc, Bool, true, false, Option, Some, None, Result, Ok, Err, IfOk, IfSome, inl, inr, refl, sym, ap, ◌∙◌, subst, arith, append_assoc, if◌then◌else◌}
+use Rattle.std.proofs.Common.{◌≡◌, ◌↔◌, ◌+◌, ◌++◌, ◌∷◌, [], List, map, ℕ, suc, Bool, true, false, Option, Some, None, inl, inr, refl, sym, ap, ◌∙◌, subst, arith, if◌then◌else◌}
 use Rattle.std.proofs.lemmas.List.{map-append}
 use Rattle.std.specs.Option.{option_map}
 use Rattle.mau_terms.specs.Tree.{Tree}
@@ -9,21 +9,18 @@ use Rattle.mau_terms.specs.Bare.{IsBare}
 use Rattle.mau_terms.specs.Reading.{reading}
 use Rattle.mau_terms.specs.Subst.{Variable, variables}
 use Rattle.mau_terms.specs.Solution.{HaveSorts}
-use Rattle.mau_terms.specs.declared.ids.VarId.{VarId}
-use Rattle.mau_terms.specs.declared.ids.TermId.{TermId}
 use Rattle.mau_signature.specs.OverSignature.{IsTreeOver}
-use Rattle.mau_signature.specs.Signature.{SignatureOf, theory_at, terms_over}
+use Rattle.mau_signature.specs.Signature.{theory_at, terms_over}
 use Rattle.mau_formula.specs.Operator.{Operator}
 use Rattle.mau_store.specs.Node.{Node}
-use Rattle.mau_sorts.specs.HasSort.{Known}
 use Rattle.mau_sorts.specs.Table.{Table}
 use Rattle.mau_listing.specs.Asked.{BySort}
 use Rattle.mau_listing.specs.Matcher.{Matcher}
 use Rattle.mau_listing.specs.Next.{matcher_cmp, IsNext, last_of}
-use Rattle.mau_listing.specs.Question.{Question, IsSolution, AgreesWith}
+use Rattle.mau_listing.specs.Question.{Question, IsSolution}
 use Rattle.mau_program.specs.declared.program.Program as Typed
-use Rattle.mau_evaluation.specs.Run.{End, stopped, too_deep, overflowed, Outcome, done, ended, Run, gives, and_try, where_true, first_of, go_on, choose, counted}
-use Rattle.mau_evaluation.specs.Program.{Fragment, Membership, Rule, Program}
+use Rattle.mau_evaluation.specs.Run.{End, done, Run, gives, and_try, where_true, first_of, go_on, choose, counted}
+use Rattle.mau_evaluation.specs.Program.{Membership, Rule, Program}
 use Rattle.mau_evaluation.specs.Listing.{Solution, keep, solutions_within}
 use Rattle.mau_evaluation.specs.Evaluation.{Binding, has_number, have_sorts, binding_of, levels, solve}
 use Rattle.mau_evaluation.specs.Rules.{Place}
@@ -40,11 +37,11 @@ use Rattle.mau_api.proofs.ValuesFit.{values_settled}
 use Rattle.mau_reduce.proofs.Candidates.{none_executable, same_option}
 use Rattle.mau_reduce.proofs.PlainSorts.{plain_sorts, sorts_known, plain_exact}
 use Rattle.mau_rules.specs.Runnable.{IsRunnable}
-use Rattle.mau_rules.specs.Known.{Item, Gives, Fails, Got, got, fails, nothing, Known as IsKnown, more_if, GoesOn}
+use Rattle.mau_rules.specs.Known.{Item, Gives, Fails, Got, got, fails, Known as IsKnown, more_if}
 use Rattle.mau_rules.specs.Found.{rule_at, solving_by, stand_by}
 use Rattle.mau_rules.proofs.Composed.{always_gives}
-use Rattle.mau_rules.proofs.Combined.{try_known, try_fails_first, else_some, else_fails_first, first_among, none_known, passed_by, goes_on_twice, NoneOf, of_no_one, of_one_more, all_passed_by}
-use Rattle.mau_rules.proofs.Passing.{AllFail, no_more_fail, one_fails, HasFirst, first_kept, none_kept, fail_kept, keep-append}
+use Rattle.mau_rules.proofs.Combined.{try_known, try_fails_first, first_among, NoneOf, of_no_one, of_one_more}
+use Rattle.mau_rules.proofs.Passing.{AllFail, no_more_fail, one_fails, keep-append}
 
 module _ (P : Program) (none : (m : Membership) → IsIn m P.memberships → m.exec ≡ false) where
   -- values have the sorts of variables, by declarations

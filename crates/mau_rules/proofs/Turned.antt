@@ -1,5 +1,5 @@
 -- One answer of a listing, in the search for a solution of a rule.
-use Rattle.std.proofs.Common.{◌≡◌, ◌≤◌, ◌∷◌, [], List, map, ℕ, suc, Bool, true, false, Option, Some, None, slice_get, refl, sym, ap, ◌∙◌, subst}
+use Rattle.std.proofs.Common.{◌≡◌, [], List, ℕ, Bool, true, Option, Some, None, refl, sym, subst}
 use Rattle.std.specs.Option.{option_map}
 use Rattle.mau_terms.specs.Tree.{Tree}
 use Rattle.mau_terms.specs.Norm.{norm}
@@ -19,7 +19,6 @@ use Rattle.mau_listing.specs.Question.{IsSolution}
 use Rattle.mau_listing.specs.declared.solution.Solution as Listed
 use Rattle.mau_program.specs.declared.program.Program as Typed
 use Rattle.mau_program.specs.declared.statements.Rule as Written
-use Rattle.mau_evaluation.specs.Rules.{Place}
 use Rattle.mau_evaluation.specs.RuleRuns.{Turns}
 use Rattle.mau_api.specs.Programs.{rule_of, program_over}
 use Rattle.mau_api.specs.Meanings.{Meanings, meanings_by}

@@ -1,12 +1,11 @@
 -- What is known of a solution that is listed.
-use Rattle.std.proofs.Common.{◌≡◌, ◌≤◌, ◌+◌, ◌++◌, ◌∷◌, [], List, map, length, ℕ, zero, suc, Bool, true, false, All, Option, Some, None, inl, inr, refl, sym, ap, ◌∙◌, subst, arith}
+use Rattle.std.proofs.Common.{◌≡◌, ◌∷◌, [], List, map, length, ℕ, true, All, Option, Some, None, inl, inr, refl, sym, ◌∙◌, subst}
 use Rattle.std.proofs.lemmas.List.{length-map}
 use Rattle.std.proofs.lemmas.List.Elements.{All-nil, All-cons, All-head, All-tail}
 use Rattle.std.specs.List.{zip}
 use Rattle.mau_terms.specs.Tree.{Tree}
 use Rattle.mau_terms.specs.Norm.{norm}
 use Rattle.mau_terms.specs.Finite.{IsIn}
-use Rattle.mau_terms.specs.Laws.{AreNorms}
 use Rattle.mau_terms.specs.Bare.{IsBare, IsBareIn}
 use Rattle.mau_terms.specs.Reading.{reading}
 use Rattle.mau_terms.specs.Subst.{Variable, variables}
@@ -25,7 +24,7 @@ use Rattle.mau_store.specs.View.{numbers}
 use Rattle.mau_canon.specs.Standing.{StandsWithin, StandWithin}
 use Rattle.mau_sorts.specs.Table.{Table}
 use Rattle.mau_listing.specs.Asked.{asks, IsGiven, HasEntry}
-use Rattle.mau_listing.specs.Question.{OfNorm, IsSolution}
+use Rattle.mau_listing.specs.Question.{OfNorm}
 use Rattle.mau_listing.specs.declared.solution.Solution as Listed
 use Rattle.mau_listing.proofs.Growth.{trees_long}
 use Rattle.mau_program.specs.declared.program.Program as Typed
@@ -33,7 +32,6 @@ use Rattle.mau_evaluation.specs.Program.{Rule}
 use Rattle.mau_evaluation.specs.Listing.{Solution, solutions_within}
 use Rattle.mau_evaluation.proofs.BareTerms.{norm-reading-is}
 use Rattle.mau_evaluation.proofs.Solved.{solutions_within_are_listed}
-use Rattle.mau_api.specs.Terms.{IsTerm}
 use Rattle.mau_api.specs.Answers.{IsValueOf, AreSettled}
 use Rattle.mau_api.proofs.ValuesFit.{values_settled}
 use Rattle.mau_reduce.specs.Bindings.{HaveKinds}

@@ -16,7 +16,7 @@ use Rattle.mau_sorts.specs.Table.{Table}
 use Rattle.mau_listing.specs.declared.solution.Solution as Listed
 use Rattle.mau_program.specs.declared.program.Program as Typed
 use Rattle.mau_program.specs.declared.statements.Rule as Written
-use Rattle.mau_evaluation.specs.Run.{Run, stopped, too_deep, overflowed}
+use Rattle.mau_evaluation.specs.Run.{Run}
 use Rattle.mau_evaluation.specs.Program.{Fragment, Rule, Program}
 use Rattle.mau_evaluation.specs.Evaluation.{Binding, look_up, in_context, levels, solve}
 use Rattle.mau_evaluation.specs.Rules.{Place}

@@ -1,5 +1,5 @@
 -- Programs whose rules are run, and evaluators that go by the definitions.
-use Rattle.std.specs.Prelude.{◌≡◌, Bool, true, false, List, map, All}
+use Rattle.std.specs.Prelude.{◌≡◌, true, false, List, map, All}
 use Rattle.mau_terms.specs.Finite.{IsIn}
 use Rattle.mau_formula.specs.Operator.{Operator}
 use Rattle.mau_program.specs.declared.program.Program as Typed

@@ -1,4 +1,4 @@
-use Rattle.std.proofs.Common.{◌≡◌, ◌++◌, [], drop, sym, ap, ◌∙◌, append-nil, arith}
+use Rattle.std.proofs.Common.{◌++◌, sym, ap, ◌∙◌, append-nil, arith}
 use Rattle.std.specs.List.{zip}
 use Rattle.mau_rules.proofs.Pairs.{zip_read, zip_end}
 use Rattle.mau_rules.proofs.attempt.pairs.Goals as goal

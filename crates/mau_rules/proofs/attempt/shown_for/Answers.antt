@@ -1,12 +1,10 @@
-use Rattle.std.proofs.Common.{◌≡◌, List, Some, All, IfOk, IfSome, slice_get, sym, ap, ◌∙◌, subst}
+use Rattle.std.proofs.Common.{List, All, IfOk, IfSome, sym, ap, ◌∙◌, subst}
 use Rattle.std.specs.Option.{option_map}
-use Rattle.mau_terms.specs.View.{tree_of}
 use Rattle.mau_terms.specs.declared.ids.VarId.{VarId}
 use Rattle.mau_terms.specs.declared.ids.TermId.{TermId}
 use Rattle.mau_signature.specs.Signature.{SignatureOf}
 use Rattle.mau_program.specs.declared.program.Program.{Program}
 use Rattle.mau_program.specs.declared.statements.Fragment.{Fragment}
-use Rattle.mau_program.specs.declared.statements.Rule.{Rule}
 use Rattle.mau_api.specs.Answers.{IsFragment, IsValueOf}
 use Rattle.mau_reduce.proofs.Numbered.{at_index}
 use Rattle.mau_rules.proofs.Shown.{lawful_rule, executable_here, fragments_here, shown_at}
