@@ -49,7 +49,6 @@ module _ (P : Program) (B k : ℕ) where
       one None e = refl
       one (Some v) e = step_to (lower.eval v) (λ w. gives (put ts i w)) b v ts (h i here v e b) (ap (λ w. done w 0 b) (put_same ts i v e))
 
-
   -- a normal form within the limits at whose top nothing applies, where its sorts are known
   module _ (t : Tree) (b : ℕ) (ss : List ℕ) (admits : admit P.sign.theory t b ≡ done t 0 b) (settles : settle P lower own t b ≡ done ss 0 b) (none : applied P lower own t b ≡ done None 0 b) where
     top_rests : (next : Tree → Run Tree) → at_top P lower own next t b ≡ done t 0 b

@@ -19,9 +19,10 @@ module _ {A C S : Type 0} (w w' : Words A C S) (keeps : Keeps w w') where
   pub untried_kept : (t : ℕ) (a : A) → w.knows_value t → w.knows_attempts t a → IsUntried w (w.tree t) a → IsUntried w' (w'.tree t) a
   untried_kept t a v k h = λ j b.
       let e = (keeps.values t v).1 in
-      let settled = subst (λ (r : Rules). (ss : List ℕ) × (settle_on r j (w'.tree t) b ≡ done ss 0 b)) (sym keeps.rules) (subst (λ u. (ss : List ℕ) × (settle_on w.rules j u b ≡ done ss 0 b)) (sym e) (h j b).0) in
-      (settled,
-       (keeps.attempts t a k).1 j b ∙ ((h j b).1 ∙ (ap (λ u. applied_on w.rules j u b) (sym e) ∙ ap (λ (r : Rules). applied_on r j (w'.tree t) b) (sym keeps.rules))))
+      let settled = subst (λ (r : Rules). (ss : List ℕ) × (settle_on r j (w'.tree t) b ≡ done ss 0 b)) (sym keeps.rules) (subst (λ u. (ss : List ℕ) × (settle_on w.rules j u b ≡ done ss 0 b)) (sym e) (h j b).0) in (
+        settled,
+        (keeps.attempts t a k).1 j b ∙ ((h j b).1 ∙ (ap (λ u. applied_on w.rules j u b) (sym e) ∙ ap (λ (r : Rules). applied_on r j (w'.tree t) b) (sym keeps.rules))),
+      )
 
   pub kept_words : Keeps (words_over w) (words_over w')
   kept_words = record {

@@ -80,7 +80,11 @@ impl<W: World + Drop> World for Resting<W> {
         self.world.build(store, op, args, order)
     }
 
-    fn attempts(&mut self, store: &mut Store, term: TermId) -> Result<Trying<W::Attempts>, NoMemory> {
+    fn attempts(
+        &mut self,
+        store: &mut Store,
+        term: TermId,
+    ) -> Result<Trying<W::Attempts>, NoMemory> {
         match self.world.attempts(store, term) {
             Ok(attempts) => Ok(Trying {
                 attempts,

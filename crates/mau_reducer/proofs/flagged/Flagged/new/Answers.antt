@@ -12,5 +12,5 @@ returns-clause-fits g c = λ nodes.
       subst (λ (r : Reducer _ _ _). IsFit (basis_of g.N.Natives.operators r) nodes r.table r.begun) (sym c.new-2.ensures.world) h.0,
       h.1,
       subst (λ (r : Reducer _ _ _). AreResting (words_of g.L.Lister.with_context g.L.Lister.asked g.L.Lister.given g.L.Lister.is_for g.M.Lister.asked g.M.Lister.given g.M.Lister.is_for
-      (basis_of g.N.Natives.operators r) nodes r.table) c.new-2.result.levels.items) (sym c.new-2.ensures.world) (c.new-2.ensures.resting nodes),
+          (basis_of g.N.Natives.operators r) nodes r.table) c.new-2.result.levels.items) (sym c.new-2.ensures.world) (c.new-2.ensures.resting nodes),
     )

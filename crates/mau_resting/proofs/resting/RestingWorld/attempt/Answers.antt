@@ -33,18 +33,24 @@ returns-in-Ok-Some-clause-some g c = λ k b.
 
 pub returns-in-Ok-Some-clause-grows : goal.returns-in-Ok-Some-clause-grows
 returns-in-Ok-Some-clause-grows g c =
-    let h = c.attempt.ensures.grows in
-    (h, resting_kept (g.W.World.words c.args.self.now.world c.args.store.now) (g.W.World.words c.attempt.new.self c.attempt.new.store)
-    (g.met.W.World.keeps c.args.self.now.world c.attempt.new.self c.args.store.now c.attempt.new.store h) c.args.self.now.levels.items c.requires.ready.1)
+    let h = c.attempt.ensures.grows in (
+      h,
+      resting_kept (g.W.World.words c.args.self.now.world c.args.store.now) (g.W.World.words c.attempt.new.self c.attempt.new.store)
+          (g.met.W.World.keeps c.args.self.now.world c.attempt.new.self c.args.store.now c.attempt.new.store h) c.args.self.now.levels.items c.requires.ready.1,
+    )
 
 pub returns-in-Err-clause-grows : goal.returns-in-Err-clause-grows
 returns-in-Err-clause-grows g c =
-    let h = c.attempt.ensures.grows in
-    (h, resting_kept (g.W.World.words c.args.self.now.world c.args.store.now) (g.W.World.words c.attempt.new.self c.attempt.new.store)
-    (g.met.W.World.keeps c.args.self.now.world c.attempt.new.self c.args.store.now c.attempt.new.store h) c.args.self.now.levels.items c.requires.ready.1)
+    let h = c.attempt.ensures.grows in (
+      h,
+      resting_kept (g.W.World.words c.args.self.now.world c.args.store.now) (g.W.World.words c.attempt.new.self c.attempt.new.store)
+          (g.met.W.World.keeps c.args.self.now.world c.attempt.new.self c.args.store.now c.attempt.new.store h) c.args.self.now.levels.items c.requires.ready.1,
+    )
 
 pub returns-then-not-untried-clause-grows : goal.returns-then-not-untried-clause-grows
 returns-then-not-untried-clause-grows g c =
-    let h = c.attempt.ensures.grows in
-    (h, resting_kept (g.W.World.words c.args.self.now.world c.args.store.now) (g.W.World.words c.attempt.new.self c.attempt.new.store)
-    (g.met.W.World.keeps c.args.self.now.world c.attempt.new.self c.args.store.now c.attempt.new.store h) c.args.self.now.levels.items c.requires.ready.1)
+    let h = c.attempt.ensures.grows in (
+      h,
+      resting_kept (g.W.World.words c.args.self.now.world c.args.store.now) (g.W.World.words c.attempt.new.self c.attempt.new.store)
+          (g.met.W.World.keeps c.args.self.now.world c.attempt.new.self c.args.store.now c.attempt.new.store h) c.args.self.now.levels.items c.requires.ready.1,
+    )
