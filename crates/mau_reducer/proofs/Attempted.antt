@@ -1,7 +1,7 @@
 -- The next candidate: what it leaves, and what is known of it in the later state.
-use Rattle.std.proofs.Common.{◌≡◌, ℕ, List, Bool, Option, Some, None, IfSome, IfNone, Result, Ok, Err, IfOk, IfErr, map, drop, length, slice_get, sym, ap, ◌∙◌, subst, arith}
+use Rattle.std.proofs.Common.{◌≡◌, ◌==◌, ◌≤◌, ℕ, suc, List, [], Bool, true, false, if◌then◌else◌, Option, Some, None, IfSome, IfNone, Result, Ok, Err, IfOk, IfErr, map, drop, length, slice_get, sym, ap, ap₂, ◌∙◌, subst, arith}
 use Rattle.std.specs.Option.{option_map}
-use Rattle.std.proofs.lemmas.Option.{slice_get_past}
+use Rattle.std.proofs.lemmas.Option.{slice_get_past, slice_get_within}
 use Rattle.std.proofs.lemmas.Bool.{and_parts}
 use Rattle.std.specs.Prelude.{fold}
 use Rattle.mau_terms.specs.Tree.{Tree}
@@ -41,24 +41,48 @@ use Rattle.mau_machine.specs.Words as Ends
 use Rattle.mau_machine.specs.Words.{Words, solve_on}
 use Rattle.mau_reducer.specs.declared.reducer.Candidates.{Candidates}
 use Rattle.mau_reducer.specs.Basis.{Basis, IsBasis}
-use Rattle.mau_reducer.specs.Handles.{as_id, written_in, written_at, AreBoundFrom, AreKnownCandidates, IsKnownCandidate, IsKnownBinding, words_of}
+use Rattle.mau_reducer.specs.Handles.{as_id, written_in, written_at, first_in, first_at, AreBoundFrom, AreKnownCandidates, IsKnownCandidate, IsKnownBinding, words_of}
 use Rattle.mau_reducer.specs.States.{ComesOf}
 use Rattle.mau_reducer.specs.LaterStates.{words_kept}
-use Rattle.mau_reducer.proofs.Conditions.{at_place, condition_is}
+use Rattle.mau_reducer.proofs.Conditions.{at_place, not_asked, condition_is}
 use Rattle.mau_reducer.proofs.Taking.{as_end}
 
 -- the left side of a candidate binds what its condition may have
 module _ (b : Basis) (is : IsBasis b) (nodes : List Node) (u : Tree) (e : ℕ) where
-  abbrev begun : Option Equation → Bool
-  begun o = are_bound (left_variables_of o) (written_in o)
+  abbrev begun : Bool → Option Equation → Bool
+  begun w o = are_bound (first_in (if w then b.asked_under else []) o) (written_in (if w then b.asked else []) o)
 
-  behind : e ≡ length b.program.equations → AreBoundFrom b.program e 0
-  behind d = ap begun (ap (slice_get b.program.equations) d ∙ slice_get_past b.program.equations (length b.program.equations) (omega arith))
+  none_there : e ≡ length b.program.equations → slice_get b.program.equations e ≡ None
+  none_there d = ap (slice_get b.program.equations) d ∙ slice_get_past b.program.equations (length b.program.equations) (omega arith)
 
-  bound_first : (g : Given) (last : Option Found) → IsLast b.program nodes u e g last → AreBoundFrom b.program e 0
+  behind : e ≡ length b.program.equations → AreBoundFrom b e 0
+  behind d = ap₂ begun (not_asked (length b.program.equations) e (omega (arith, d))) (none_there d)
+
+  low_one : (g : Given) (last : Option Found) → IsLast b.program nodes u e g last → e ≤ length b.program.equations
+  low_one Giving.Nothing (Some y) k = let within = slice_get_within b.program.equations e k.1.equation k.1.at in omega (arith, within)
+  low_one Giving.Nothing None k = absurd k
+  low_one Giving.TooLarge last k = absurd k
+  low_one (Giving.Argument j) last k = omega (arith, k)
+  low_one (Giving.Whole l) last k = omega (arith, k)
+  low_one (Giving.Before l) last k = omega (arith, k)
+
+  first_behind : e ≡ length b.program.equations → left_variables b.program e ≡ first_at b e
+  first_behind d =
+      ap left_variables_of (none_there d)
+      ∙ sym (ap₂ (λ (w : Bool) (o : Option Equation). first_in (if w then b.asked_under else []) o) (not_asked (length b.program.equations) e (omega (arith, d))) (none_there d))
+
+  first_is : (g : Given) (last : Option Found) → IsLast b.program nodes u e g last → left_variables b.program e ≡ first_at b e
+  first_is Giving.Nothing (Some y) k = ap left_variables_of k.1.at ∙ sym (ap (first_in (if e == suc (length b.program.equations) then b.asked_under else [])) k.1.at)
+  first_is Giving.Nothing None k = absurd k
+  first_is Giving.TooLarge last k = absurd k
+  first_is (Giving.Argument j) last k = first_behind k
+  first_is (Giving.Whole l) last k = first_behind k
+  first_is (Giving.Before l) last k = first_behind k
+
+  bound_first : (g : Given) (last : Option Found) → IsLast b.program nodes u e g last → AreBoundFrom b e 0
   bound_first Giving.Nothing (Some y) k =
       let q = k.1.equation in
-      ap begun k.1.at
+      ap (begun (e == suc (length b.program.equations))) k.1.at
       ∙ (and_parts (are_bound (variables (tree_of q.left)) q.cond) (has_only (fold bound_behind (variables (tree_of q.left)) q.cond) (tree_of q.right))
       ((at_place (IsLawfulEquation b.program.sig) b.program.equations is.lawful.equations e q k.1.at).bound k.1.exec)).0
   bound_first Giving.Nothing None k = absurd k
@@ -111,21 +135,21 @@ module _ {L M : Type 0} (c : Bool) (asked : L → Asked) (given : L → Option S
       at_own : tree_at old t ≡ tree_at new a'.term.0
       at_own = sym (ap (tree_at new) own ∙ same)
 
-      after_same : (k n e : ℕ) (σ : Kept) → after_one k n σ (tree_at old t) order (cond_at P e)
-          ≡ after_one k n σ (tree_at new a'.term.0) (order_of_all P.equations) (map fragment_of (written_at b.program e))
-      after_same k n e σ =
+      after_same : (k n e : ℕ) (σ : Kept) → e ≤ length b.program.equations → after_one k n σ (tree_at old t) order (cond_at P e)
+          ≡ after_one k n σ (tree_at new a'.term.0) (order_of_all P.equations) (map fragment_of (written_at b e))
+      after_same k n e σ low =
           ap (λ u. after_one k n σ u order (cond_at P e)) at_own
           ∙ (ap (λ os. after_one k n σ (tree_at new a'.term.0) os (cond_at P e)) all_in_order
-          ∙ ap (after_one k n σ (tree_at new a'.term.0) (order_of_all P.equations)) (condition_is b.program b.hooks e))
+          ∙ ap (after_one k n σ (tree_at new a'.term.0) (order_of_all P.equations)) (condition_is b e low))
 
-      pub some : (k n : ℕ) (r : Result (Option (ℕ × Kept)) EvalEnd) →
+      pub some : (k n : ℕ) (r : Result (Option (ℕ × Kept)) EvalEnd) → IfOk r (λ o. IfSome o (λ x. IsLast b.program new (tree_at old t) x.0 a'.attempts.given a'.attempts.last)) →
           IfOk r (λ o. IfSome o (λ x. left_of old (tree_at old t) order a.attempts k n ≡ after_one k n x.1 (tree_at old t) order (cond_at P x.0))) →
           IfOk r (λ o. IfSome o (λ x. (words_of c asked given is_for asked_whole given_whole is_for_whole b new after).untried a k n
           ≡ or_go_on ((words_of c asked given is_for asked_whole given_whole is_for_whole b new after).untried a' k)
           (try_on (λ σ. gives (option_map ((words_of c asked given is_for asked_whole given_whole is_for_whole b new after).makes a') σ)) (solve_on (words_of c asked given is_for asked_whole given_whole is_for_whole b new after).rules k x.0 0 ((words_of c asked given is_for asked_whole given_whole is_for_whole b new after).bound x.1) n))))
-      some k n (Ok None) e = tt
-      some k n (Ok (Some x)) e = untried_was k n ∙ (e ∙ after_same k n x.0 x.1)
-      some k n (Err d) e = tt
+      some k n (Ok None) last e = tt
+      some k n (Ok (Some x)) last e = untried_was k n ∙ (e ∙ after_same k n x.0 x.1 (low_one b is new (tree_at old t) x.0 a'.attempts.given a'.attempts.last last))
+      some k n (Err d) last e = tt
 
       -- what is known
       module _ (given_is : a'.attempts.given ≡ a.attempts.given) where
@@ -151,7 +175,7 @@ module _ {L M : Type 0} (c : Bool) (asked : L → Asked) (given : L → Option S
           },
           record {
             values = values;
-            variables = variables;
+            variables = variables ∙ first_is b is new (tree_at old t) x.0 a'.attempts.given a'.attempts.last last;
             sorts = sorts;
             bound = bound_first b is new (tree_at old t) x.0 a'.attempts.given a'.attempts.last last;
           },

@@ -29,7 +29,7 @@ returns-in-Ok-clause-some g c = λ k n.
     let e = c.next_attempt.ensures in
     some g.L.Lister.with_context g.L.Lister.asked g.L.Lister.given g.L.Lister.is_for g.M.Lister.asked g.M.Lister.given g.M.Lister.is_for b c.requires.ready.0.basis c.args.store.now c.next_attempt.new.store c.args.self.now.table c.next_attempt.new.table
     (record { basis = refl; extends = e.extends; kept = e.kept; plain = e.plain }) c.args.term.0 c.requires.term.known.term c.deref.result.now c.deref.ensures.value c.args.attempts.now c.requires.attempts
-    (record { term = c.args.attempts.now.term; attempts = c.next_attempt.new.attempts }) c.requires.attempts.own k n (Ok c.in-Ok.next) (c.in-Ok.ensures.some b.hooks b.limit k n)
+    (record { term = c.args.attempts.now.term; attempts = c.next_attempt.new.attempts }) c.requires.attempts.own k n (Ok c.in-Ok.next) c.in-Ok.ensures.last (c.in-Ok.ensures.some b.hooks b.limit k n)
 
 pub returns-in-Ok-clause-known : goal.returns-in-Ok-clause-known
 returns-in-Ok-clause-known g c =
