@@ -11,12 +11,12 @@ ghost use Rattle.mau_reduce.specs.BuiltOperators.{IsBuiltAt};
 ghost use Rattle.mau_built_ins.specs.NativeNumerals.{GivesNumerals};
 ghost use Rattle.mau_reducer.specs.Basis.{DerivesNothing, AreBuiltIns};
 
-use mau_api::{Evaluator, Lister, Program};
+use mau_api::{Evaluator, Fragment, Lister, Program};
 use mau_listing::WholeLister;
 use mau_reduce::{Attempts, BuiltIn, Natives, built_in_of, equations_in_order};
 use mau_sorts::SortTable;
 use mau_store::{NodeView, Store};
-use mau_terms::{NoMemory, OpId, TermId};
+use mau_terms::{NoMemory, OpId, TermId, VarId};
 use std::alloc::Global;
 use std::marker::PhantomData;
 
@@ -36,6 +36,9 @@ pub struct Reducer<'a, L, M, N> {
     pub(crate) limit: u64,
     pub(crate) order: Vec<usize>,
     pub(crate) built_ins: Vec<BuiltIn>,
+    /// The condition that is asked, and the variables that have values before it.
+    pub(crate) asked: Vec<Fragment>,
+    pub(crate) asked_under: Vec<VarId>,
     pub(crate) table: SortTable,
     /// Whether the identities are settled.
     pub(crate) begun: bool,
@@ -78,12 +81,16 @@ impl<'a, L: Lister + Drop, M: WholeLister + Drop, N: Natives + Drop> Reducer<'a,
     {
         let order = equations_in_order(alloc, program)?;
         let built_ins = built_ins_of(alloc, program)?;
+        let asked = Vec::new(alloc);
+        let asked_under = Vec::new(alloc);
         Ok(Reducer {
             program,
             natives,
             limit,
             order,
             built_ins,
+            asked,
+            asked_under,
             table: SortTable::new(alloc),
             begun: false,
             of: PhantomData,

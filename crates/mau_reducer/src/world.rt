@@ -151,7 +151,7 @@ impl<'a, L: Lister + Drop, M: WholeLister + Drop, N: Natives + Drop> World
     }
 
     fn goal(&self, condition: usize, at: usize) -> Goal {
-        goal_in(fragment_at(self.program, condition, at))
+        goal_in(fragment_at(self.program, &self.asked, condition, at))
     }
 
     fn side(
@@ -162,7 +162,7 @@ impl<'a, L: Lister + Drop, M: WholeLister + Drop, N: Natives + Drop> World
         right: bool,
         binding: &Binding,
     ) -> Result<TermId, EvalEnd> {
-        match side_at(self.program, condition, at, right) {
+        match side_at(self.program, &self.asked, condition, at, right) {
             Some(side) => instance(store, &self.program.sig, side, binding),
             None => unreachable!(),
         }
@@ -183,7 +183,7 @@ impl<'a, L: Lister + Drop, M: WholeLister + Drop, N: Natives + Drop> World
     ) -> Result<bool, NoMemory> {
         // What holds of the nodes of a store is told with their number.
         let _nodes = store.len();
-        match sort_at(self.program, condition, at) {
+        match sort_at(self.program, &self.asked, condition, at) {
             Some(sort) => match self.table.has(&self.program.sig, value, sort) {
                 Some(has) => Ok(has),
                 None => unreachable!(),
@@ -200,7 +200,7 @@ impl<'a, L: Lister + Drop, M: WholeLister + Drop, N: Natives + Drop> World
         binding: Binding,
         value: TermId,
     ) -> Result<Choices<M>, NoMemory> {
-        match pattern_at(self.program, condition, at) {
+        match pattern_at(self.program, &self.asked, condition, at) {
             Some(pattern) => {
                 let bound = Bound::from_parts(binding.variables, binding.values);
                 begin_choices(store, &self.program.sig, &self.table, pattern, bound, value)
@@ -217,7 +217,7 @@ impl<'a, L: Lister + Drop, M: WholeLister + Drop, N: Natives + Drop> World
         choices: &mut Choices<M>,
     ) -> Result<Option<Binding>, NoMemory> {
         let program = self.program;
-        match pattern_at(program, condition, at) {
+        match pattern_at(program, &self.asked, condition, at) {
             Some(pattern) => match next_choice(store, program, &mut self.table, pattern, choices) {
                 Ok(next) => Ok(parted(next)),
                 Err(end) => Err(end),
