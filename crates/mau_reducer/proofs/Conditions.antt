@@ -1,5 +1,5 @@
 -- Conditions as they are written.
-use Rattle.std.proofs.Common.{◌≡◌, ◌==◌, ◌<◌, ◌≤◌, ℕ, zero, suc, length, arith, eqb-true, if◌then◌else◌, List, [], ◌∷◌, All, Bool, true, false, Option, Some, None, map, drop, slice_get, refl, sym, ap, ◌∙◌, subst}
+use Rattle.std.proofs.Common.{◌≡◌, ◌==◌, ◌<◌, ◌≤◌, ℕ, zero, suc, length, arith, eqb-true, eq-eqb, if◌then◌else◌, List, [], ◌∷◌, All, Bool, true, false, Option, Some, None, map, drop, slice_get, refl, sym, ap, ◌∙◌, subst}
 use Rattle.std.specs.Option.{option_map}
 use Rattle.std.proofs.lemmas.Option.{slice_get-map, slice_get_within, get_or_from_slice_get}
 use Rattle.mau_terms.specs.Bare.{IsBare}
@@ -19,7 +19,7 @@ use Rattle.mau_machine.specs.declared.goal.Goal.TheVariants as Goals
 use Rattle.mau_machine.specs.Words.{goal_of, HasSideBy, side_by, pattern_in, sort_in, rest_of, Asks, HasSide}
 use Rattle.mau_signature.specs.Faults.{IsSort}
 use Rattle.mau_reducer.specs.Basis.{IsBuiltFragment, Basis, IsBasis}
-use Rattle.mau_reducer.specs.Handles.{written_in, written_at, side_written, pattern_written, sort_written, rules_of, goal_in}
+use Rattle.mau_reducer.specs.Handles.{written_in, written_by, written_at, side_written, pattern_written, sort_written, rules_of, goal_in}
 use Rattle.mau_reducer.specs.Fragments.{rest_is}
 
 -- ---- the same condition
@@ -188,3 +188,18 @@ module _ (b : Basis) (e i : ℕ) where
   -- it is one of the signature
   pub sort_over : IsBasis b → (r : ℕ) → sort_written here ≡ Some r → IsSort b.program.sig.hierarchy r
   sort_over is r h = let t = sort_at r h in (fragment_built b is e i (Sort t.0 r) t.1).1
+
+-- ---- the condition that is asked
+
+pub asked_there : (p : Typed.Program) (asked : List Written.Fragment) (e i : ℕ) → slice_get p.equations e ≡ None → e ≡ suc (length p.equations) → slice_get (written_by p asked e) i ≡ slice_get asked i
+asked_there p asked e i none is =
+    ap (λ (o : Option Equation). slice_get (written_in (if e == suc (length p.equations) then asked else []) o) i) none
+    ∙ ap (λ (w : Bool). slice_get (if w then asked else []) i) (eq-eqb e (suc (length p.equations)) is)
+
+pub asked_not : (p : Typed.Program) (asked : List Written.Fragment) (e i : ℕ) → slice_get p.equations e ≡ None → (e ≡ suc (length p.equations) → ⊥) → slice_get (written_by p asked e) i ≡ None
+asked_not p asked e i none not_it =
+    ap (λ (o : Option Equation). slice_get (written_in (if e == suc (length p.equations) then asked else []) o) i) none ∙ by (e == suc (length p.equations)) refl
+  where
+    by : (w : Bool) → (e == suc (length p.equations)) ≡ w → slice_get (if w then asked else []) i ≡ None
+    by true q = absurd (not_it (eqb-true e (suc (length p.equations)) q))
+    by false q = refl
