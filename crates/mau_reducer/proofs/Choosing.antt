@@ -1,5 +1,5 @@
 -- The solutions of a matching fragment: with what they begin, and what the next one gives.
-use Rattle.std.proofs.Common.{◌≡◌, ◌==◌, if◌then◌else◌, false, ◌∷◌, ℕ, suc, List, [], All, Bool, Option, Some, None, IfSome, IfNone, Result, Ok, Err, IfOk, map, drop, take, length, slice_get, sym, ap, ◌∙◌, subst}
+use Rattle.std.proofs.Common.{◌≡◌, ◌==◌, if◌then◌else◌, true, false, ◌∷◌, ℕ, suc, List, [], All, Bool, Option, Some, None, IfSome, IfNone, Result, Ok, Err, IfOk, map, drop, take, length, slice_get, sym, ap, ◌∙◌, subst}
 use Rattle.std.specs.Option.{option_map}
 use Rattle.std.specs.List.{zip}
 use Rattle.std.specs.Prelude.{fold}
