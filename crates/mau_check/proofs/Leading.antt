@@ -1,0 +1,179 @@
+-- Facts that lead from one term to another without a statement.
+use Rattle.std.proofs.Common.{◌≡◌, ◌↔◌, ℕ, ◌==◌, List, [], ◌∷◌, ◌++◌, Bool, true, false, ◌&&◌, cond, if◌then◌else◌, Option, Some, None, refl, sym, ap, ap₂, ◌∙◌, subst}
+use Rattle.std.specs.Prelude.{All, IfSome, IfNone, IsTrue}
+use Rattle.std.specs.List.{AllZip}
+use Rattle.std.specs.Option.{option_map, option_and_then}
+use Rattle.std.proofs.lemmas.Bool.{eqb-true}
+use Rattle.mau_terms.specs.Tree.{Tree}
+use Rattle.mau_terms.specs.Bare.{IsBare, EqualModulo, IsLawful}
+use Rattle.mau_terms.proofs.Chains.{EqualModulo-trans, EqualModulo-sym}
+use Rattle.mau_signature.specs.Signature.{SignatureOf, IsOperator, terms_over}
+use Rattle.mau_store.specs.Node.{Node, AreNodes}
+use Rattle.mau_api.specs.Terms.{IsBareWithin}
+use Rattle.mau_logic.specs.Lines.{all_numbered, over, term_at}
+use Rattle.mau_logic.specs.Says.{Says, leads, of_sort, says_nothing, leads_if, all_equational, start_of, end_of, or_none, facts_at}
+use Rattle.mau_logic.specs.Justified.{With, WithTerm, Lead, LeadOn, IsUnder}
+use Rattle.mau_check.specs.declared.kept.Kept.{Kept}
+use Rattle.mau_check.specs.declared.said.Said.{Said}
+use Rattle.mau_check.specs.declared.said.Said.TheVariants.{Leads, Sorted}
+use Rattle.mau_check.specs.Kept.{IsKeptFor, AreKeptFor}
+use Rattle.mau_check.specs.Said.{IsSaid, AreSaid, Decides, onward, onward_all, StartsAt, EndsAt, by_equations, AreEnds}
+use Rattle.mau_check.proofs.Equals.{kept_equal}
+use Rattle.mau_check.proofs.Overs.{with_weaker}
+
+eq_true : (a b : ℕ) → a ≡ b → (a == b) ≡ true
+eq_true a b e = cc
+
+-- a fact that names a term which is not there, or not within the limits
+pub no_first : (s : SignatureOf) (o : Option Tree) (P : Tree → Type 0) → (With o (IsBareWithin s) → ⊥) → With o (λ t. IsBareWithin s t × P t) → ⊥
+no_first s o P f h = f (with_weaker o (λ t. IsBareWithin s t × P t) (IsBareWithin s) (λ t g. g.0) h)
+
+pub no_second : (s : SignatureOf) (o p : Option Tree) (P : Tree → Tree → Type 0) → (With p (IsBareWithin s) → ⊥) → With o (λ t. IsBareWithin s t × With p (λ u. IsBareWithin s u × P t u)) → ⊥
+no_second s None p P f h = h
+no_second s (Some t) p P f h = no_first s p (P t) f h.1
+
+module _ (s : SignatureOf) (lawful : IsLawful (terms_over s)) (nodes : List Node) (are : AreNodes nodes) where
+  -- ---- two terms
+
+  pub same_terms : (a b : Kept) (o p : Option Tree) → With o (IsKeptFor s nodes a) → With p (IsKeptFor s nodes b) → a.id.0 ≡ b.id.0 →
+      Decides s nodes (Some (Leads true a b)) (With o (λ t. IsBareWithin s t × With p (λ u. IsBareWithin s u × EqualModulo (terms_over s) t u))) (leads_if true o p)
+  same_terms a b None p h g e = absurd h
+  same_terms a b (Some t) None h g e = absurd g
+  same_terms a b (Some t) (Some u) h g e = ((h.within, g.within, (kept_equal s lawful nodes are a b t u h g).0 e), (refl, h, g))
+
+  pub other_terms : (a b : Kept) (o p : Option Tree) → With o (IsKeptFor s nodes a) → With p (IsKeptFor s nodes b) → (a.id.0 ≡ b.id.0 → ⊥) →
+      With o (λ t. IsBareWithin s t × With p (λ u. IsBareWithin s u × EqualModulo (terms_over s) t u)) → ⊥
+  other_terms a b None p h g n w = h
+  other_terms a b (Some t) None h g n w = g
+  other_terms a b (Some t) (Some u) h g n w = n ((kept_equal s lawful nodes are a b t u h g).1 w.1.1)
+
+  -- ---- chains
+
+  lead_on_from : (d e : Bool) (t v u : Tree) (ys : List Says) → LeadOn s (leads d t u ∷ ys) → LeadOn s (leads e v u ∷ ys)
+  lead_on_from d e t v u [] h = tt
+  lead_on_from d e t v u (leads c x y ∷ ys) h = h
+  lead_on_from d e t v u (of_sort x r ∷ ys) h = h
+  lead_on_from d e t v u (says_nothing ∷ ys) h = h
+
+  end_from : (d e : Bool) (t v u : Tree) (ys : List Says) → end_of (leads d t u ∷ ys) ≡ end_of (leads e v u ∷ ys)
+  end_from d e t v u [] = refl
+  end_from d e t v u (y ∷ ys) = refl
+
+  and_true : (b : Bool) → (b && true) ≡ b
+  and_true true = refl
+  and_true false = refl
+
+  and_assoc : (a b c : Bool) → ((a && b) && c) ≡ (a && (b && c))
+  and_assoc true b c = refl
+  and_assoc false b c = refl
+
+  decides_as : (o : Option Said) (J K : Type 0) (x y : Says) → (J → K) → (K → J) → x ≡ y → Decides s nodes o J x → Decides s nodes o K y
+  decides_as None J K x y f g e h = λ k. h (g k)
+  decides_as (Some z) J K x y f g e h = (f h.0, subst (IsSaid s nodes z) e h.1)
+
+  pub chain_from : (e : Bool) (a b : Kept) (xs : List Said) (d : Bool) (t u : Tree) (ys : List Says) → e ≡ d → IsKeptFor s nodes a t → IsKeptFor s nodes b u → AreSaid s nodes xs ys →
+      Decides s nodes (onward_all (Leads e a b) xs) (LeadOn s (leads d t u ∷ ys)) (leads_if (d && all_equational ys) (Some t) (end_of (leads d t u ∷ ys)))
+  chain_from e a b [] d t u [] i h g k = (tt, (i ∙ sym (and_true d), h, g))
+  chain_from e a b [] d t u (y ∷ ys) i h g k = absurd k
+  chain_from e a b (x ∷ xs) d t u [] i h g k = absurd k
+  chain_from e a b (Sorted c r ∷ xs) d t u (leads q v w ∷ ys) i h g k = absurd k.0
+  chain_from e a b (Sorted c r ∷ xs) d t u (of_sort v q ∷ ys) i h g k = λ on. on
+  chain_from e a b (Sorted c r ∷ xs) d t u (says_nothing ∷ ys) i h g k = absurd k.0
+  chain_from e a b (Leads j c f ∷ xs) d t u (of_sort v q ∷ ys) i h g k = absurd k.0
+  chain_from e a b (Leads j c f ∷ xs) d t u (says_nothing ∷ ys) i h g k = absurd k.0
+  chain_from e a b (Leads j c f ∷ xs) d t u (leads q v w ∷ ys) i h g k =
+      by (b.id.0 == c.id.0) refl (chain_from (e && j) a f xs (d && q) t w ys (ap₂ (λ m n. m && n) i k.0.0) h k.0.2 k.1)
+    where
+      by : (z : Bool) → (b.id.0 == c.id.0) ≡ z →
+          Decides s nodes (onward_all (Leads (e && j) a f) xs) (LeadOn s (leads (d && q) t w ∷ ys)) (leads_if ((d && q) && all_equational ys) (Some t) (end_of (leads (d && q) t w ∷ ys))) →
+          Decides s nodes (option_and_then (λ z. onward_all z xs) (if z then Some (Leads (e && j) a f) else None)) (EqualModulo (terms_over s) u v × LeadOn s (leads q v w ∷ ys))
+          (leads_if (d && (q && all_equational ys)) (Some t) (end_of (leads q v w ∷ ys)))
+      by true same rest =
+          decides_as (onward_all (Leads (e && j) a f) xs) (LeadOn s (leads (d && q) t w ∷ ys)) (EqualModulo (terms_over s) u v × LeadOn s (leads q v w ∷ ys))
+          (leads_if ((d && q) && all_equational ys) (Some t) (end_of (leads (d && q) t w ∷ ys))) (leads_if (d && (q && all_equational ys)) (Some t) (end_of (leads q v w ∷ ys)))
+          (λ on. ((kept_equal s lawful nodes are b c u v g k.0.1).0 (eqb-true b.id.0 c.id.0 same), lead_on_from (d && q) q t v w ys on))
+          (λ on. lead_on_from q (d && q) v t w ys on.1)
+          (ap₂ (λ m n. leads_if m (Some t) n) (and_assoc d q (all_equational ys)) (end_from (d && q) q t v w ys)) rest
+      by false differ rest = λ on. not_both (eq_true b.id.0 c.id.0 ((kept_equal s lawful nodes are b c u v g k.0.1).1 on.0))
+        where
+          not_both : (b.id.0 == c.id.0) ≡ true → ⊥
+          not_both e = cc
+
+  -- a chain that begins with a fact
+  pub chain_of : (e : Bool) (a b : Kept) (rest : List Said) (ys : List Says) → AreSaid s nodes (Leads e a b ∷ rest) ys →
+      Decides s nodes (onward_all (Leads e a b) rest) (LeadOn s ys) (leads_if (all_equational ys) (start_of ys) (end_of ys))
+  chain_of e a b rest [] h = absurd h
+  chain_of e a b rest (leads d t u ∷ ys) h = chain_from e a b rest d t u ys h.0.0 h.0.1 h.0.2 h.1
+  chain_of e a b rest (of_sort t r ∷ ys) h = absurd h.0
+  chain_of e a b rest (says_nothing ∷ ys) h = absurd h.0
+
+  pub no_chain_of_none : (ys : List Says) → AreSaid s nodes [] ys → LeadOn s ys → ⊥
+  no_chain_of_none [] h on = on
+  no_chain_of_none (y ∷ ys) h on = absurd h
+
+  pub no_chain_of_sort : (a : Kept) (r : ℕ) (rest : List Said) (ys : List Says) → AreSaid s nodes (Sorted a r ∷ rest) ys → LeadOn s ys → ⊥
+  no_chain_of_sort a r rest [] h on = on
+  no_chain_of_sort a r rest (leads d t u ∷ ys) h on = absurd h.0
+  no_chain_of_sort a r rest (of_sort t q ∷ ys) h on = on
+  no_chain_of_sort a r rest (says_nothing ∷ ys) h on = on
+
+  pub chain_found : (o : Option Said) (uses : List Said) (us : Option (List Says)) → With us (AreSaid s nodes uses) →
+      ((ys : List Says) → AreSaid s nodes uses ys → Decides s nodes o (LeadOn s ys) (leads_if (all_equational ys) (start_of ys) (end_of ys))) →
+      Decides s nodes o (With us (LeadOn s)) (leads_if (all_equational (or_none us)) (start_of (or_none us)) (end_of (or_none us)))
+  chain_found o uses None h f = absurd h
+  chain_found o uses (Some ys) h f = f ys h
+
+  pub chain_missing : (us : Option (List Says)) → us ≡ None → With us (LeadOn s) → ⊥
+  chain_missing None e h = h
+  chain_missing (Some ys) e h = absurd cc
+
+  -- ---- an operator over facts
+
+  pub ends_lead : (xs : List Said) (starts ends : List Kept) (ys : List Says) → AllZip StartsAt xs starts → AllZip EndsAt xs ends → AreSaid s nodes xs ys →
+      (ts : List Tree) × (us : List Tree) × Lead ys ts us × AreKeptFor s nodes starts ts × AreKeptFor s nodes ends us
+  ends_lead [] [] [] [] f g h = ([], [], (refl, refl), tt, tt)
+  ends_lead [] [] [] (y ∷ ys) f g h = absurd h
+  ends_lead [] [] (e ∷ ends) ys f g h = absurd g
+  ends_lead [] (a ∷ starts) ends ys f g h = absurd f
+  ends_lead (x ∷ xs) [] ends ys f g h = absurd f
+  ends_lead (x ∷ xs) (a ∷ starts) [] ys f g h = absurd g
+  ends_lead (x ∷ xs) (a ∷ starts) (b ∷ ends) [] f g h = absurd h
+  ends_lead (Leads e c d ∷ xs) (a ∷ starts) (b ∷ ends) (leads q t u ∷ ys) f g h =
+      let k = ends_lead xs starts ends ys f.1 g.1 h.1 in
+      (t ∷ k.0, u ∷ k.1, (k.0, k.1, k.2, refl, refl), (subst (λ z. IsKeptFor s nodes z t) (sym f.0) h.0.1, k.3), (subst (λ z. IsKeptFor s nodes z u) (sym g.0) h.0.2, k.4))
+  ends_lead (Leads e c d ∷ xs) (a ∷ starts) (b ∷ ends) (of_sort t r ∷ ys) f g h = absurd h.0
+  ends_lead (Leads e c d ∷ xs) (a ∷ starts) (b ∷ ends) (says_nothing ∷ ys) f g h = absurd h.0
+  ends_lead (Sorted c r ∷ xs) (a ∷ starts) (b ∷ ends) (y ∷ ys) f g h = absurd f.0
+
+  pub said_equational : (xs : List Said) (ys : List Says) → AreSaid s nodes xs ys → by_equations xs ≡ all_equational ys
+  said_equational [] [] h = refl
+  said_equational [] (y ∷ ys) h = absurd h
+  said_equational (x ∷ xs) [] h = absurd h
+  said_equational (Leads e a b ∷ xs) (leads d t u ∷ ys) h = ap₂ (λ m n. m && n) h.0.0 (said_equational xs ys h.1)
+  said_equational (Leads e a b ∷ xs) (of_sort t r ∷ ys) h = absurd h.0
+  said_equational (Leads e a b ∷ xs) (says_nothing ∷ ys) h = absurd h.0
+  said_equational (Sorted a q ∷ xs) (leads d t u ∷ ys) h = absurd h.0
+  said_equational (Sorted a q ∷ xs) (of_sort t r ∷ ys) h = refl
+  said_equational (Sorted a q ∷ xs) (says_nothing ∷ ys) h = absurd h.0
+
+  -- where facts lead, they have ends
+  pub lead_ends : (xs : List Said) (ys : List Says) (ts us : List Tree) → AreSaid s nodes xs ys → Lead ys ts us → (starts : List Kept) × (ends : List Kept) × AreEnds xs (by_equations xs) starts ends
+  lead_ends xs ys ts us h l = let k = by xs ys ts us h l in (k.0, k.1, record { equational = refl; from = k.2; to = k.3 })
+    where
+      by : (xs : List Said) (ys : List Says) (ts us : List Tree) → AreSaid s nodes xs ys → Lead ys ts us → (starts : List Kept) × (ends : List Kept) × AllZip StartsAt xs starts × AllZip EndsAt xs ends
+      by [] [] ts us h l = ([], [], tt, tt)
+      by [] (y ∷ ys) ts us h l = absurd h
+      by (x ∷ xs) [] ts us h l = absurd h
+      by (Leads e a b ∷ xs) (leads d t u ∷ ys) ts us h l = let k = by xs ys l.0 l.1 h.1 l.2 in (a ∷ k.0, b ∷ k.1, (refl, k.2), (refl, k.3))
+      by (Leads e a b ∷ xs) (of_sort t r ∷ ys) ts us h l = absurd h.0
+      by (Leads e a b ∷ xs) (says_nothing ∷ ys) ts us h l = absurd h.0
+      by (Sorted a q ∷ xs) (leads d t u ∷ ys) ts us h l = absurd h.0
+      by (Sorted a q ∷ xs) (of_sort t r ∷ ys) ts us h l = absurd l
+      by (Sorted a q ∷ xs) (says_nothing ∷ ys) ts us h l = absurd h.0
+
+  -- what facts lead from and to is determined
+  pub one_lead : (ys : List Says) (ts us vs ws : List Tree) → Lead ys ts us → Lead ys vs ws → (ts ≡ vs) × (us ≡ ws)
+  one_lead [] ts us vs ws h g = (h.0 ∙ sym g.0, h.1 ∙ sym g.1)
+  one_lead (leads d t u ∷ ys) ts us vs ws h g = let k = one_lead ys h.0 h.1 g.0 g.1 h.2 g.2 in (h.3 ∙ ap (λ xs. t ∷ xs) k.0 ∙ sym g.3, h.4 ∙ ap (λ xs. u ∷ xs) k.1 ∙ sym g.4)
+  one_lead (of_sort t r ∷ ys) ts us vs ws h g = absurd h
+  one_lead (says_nothing ∷ ys) ts us vs ws h g = absurd h

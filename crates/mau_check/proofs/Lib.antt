@@ -1,0 +1,9 @@
+-- what is kept, by numbers
+pub mod Numbers
+pub mod Saids
+pub mod Equals
+-- an operator over terms
+pub mod Overs
+pub mod Leading
+-- contexts
+pub mod Fills

@@ -1,0 +1,121 @@
+//! A term in the hole of a context.
+ghost use Rattle.std.specs.Prelude.{◌≡◌, List, All, map, length, false, IfOk, IfSome, IfNone, OnOk};
+ghost use Rattle.mau_terms.specs.Norm.{norm};
+ghost use Rattle.mau_terms.specs.Lawful.{AreLawful};
+ghost use Rattle.mau_signature.specs.Signature.{theory_at};
+ghost use Rattle.mau_signature.specs.OverSignature.{IsTreeOver};
+ghost use Rattle.mau_store.specs.Node.{Node, arguments, AreBelow, Extends};
+ghost use Rattle.mau_store.specs.Trees.{StandsFor, tree_over, tree_at, trees_at};
+ghost use Rattle.mau_store.specs.View.{node_of, numbers};
+ghost use Rattle.mau_canon.specs.Standing.{StandsWithin, StandWithin};
+ghost use Rattle.mau_canon.specs.Within.{IsWithin};
+ghost use Rattle.mau_api.specs.Terms.{fill};
+ghost use Rattle.mau_check.specs.Marks.{HasNoHole, AreMarks};
+
+use crate::building::build_within;
+use mau_signature::Signature;
+use mau_store::{NodeView, Store};
+use mau_terms::{NoMemory, TermId};
+
+/// The index of the variables that are holes.
+pub const HOLE: u32 = 4_294_967_295;
+
+/// Whether a node may hold a hole, by the marks of older ones.
+fn is_marked(node: NodeView<'_>, marks: &[bool]) -> bool
+    requires { AreBelow (length marks.now) (arguments (node_of node)) }
+    ensures { (nodes : List Node) → AreMarks nodes marks.now → result ≡ false → HasNoHole (tree_over (tree_at nodes) (node_of node)) }
+{
+    match node {
+        NodeView::Num(_) => false,
+        NodeView::Var(v) => v.index == HOLE,
+        NodeView::App(_, args) => args.iter().any(|arg| marks[arg.0]),
+    }
+}
+
+/// Marks each term of a store that may hold a hole, as far as they are not marked.
+pub fn mark(store: &Store, marks: &mut Vec<bool>) -> Result<(), NoMemory>
+    requires marks { AreMarks store.now marks.old.items }
+    ensures marks { AreMarks store.now marks.new.items }
+    ensures all { OnOk result (length marks.new.items ≡ length store.now) }
+{
+    for i in marks.len()..store.len() {
+        let marked = is_marked(store.view(TermId(i)), marks);
+        marks.push(marked)?;
+    }
+    Ok(())
+}
+
+/// The normal form of a context with a term in its holes, if it is within the limits. It takes a stack as deep as the context.
+#[cycle(filling)]
+pub fn fill(
+    store: &mut Store,
+    sig: &Signature,
+    marks: &[bool],
+    context: TermId,
+    term: TermId,
+) -> Result<Option<TermId>, NoMemory>
+    requires lawful { AreLawful (theory_at sig.now) }
+    requires marks { AreMarks store.old marks.now }
+    requires over { IsTreeOver sig.now (tree_at store.old context.0) }
+    requires context { StandsWithin (theory_at sig.now) store.old context.0 }
+    requires term { StandsWithin (theory_at sig.now) store.old term.0 }
+    ensures some { IfOk result (λ o. IfSome o (λ id. StandsFor (theory_at sig.now) store.new id.0 (fill (tree_at store.old context.0) (tree_at store.old term.0)))) }
+    ensures within { IfOk result (λ o. IfSome o (λ id. StandsWithin (theory_at sig.now) store.new id.0)) }
+    ensures none { IfOk result (λ o. IfNone o (IsWithin (theory_at sig.now) (norm (theory_at sig.now) (fill (tree_at store.old context.0) (tree_at store.old term.0))) → ⊥)) }
+    ensures extends { Extends store.old store.new }
+{
+    if context.0 < marks.len() && !marks[context.0] {
+        return Ok(Some(context));
+    }
+    match store.view(context) {
+        NodeView::Num(_) => Ok(Some(context)),
+        NodeView::Var(v) => {
+            if v.index == HOLE {
+                return Ok(Some(term));
+            }
+            Ok(Some(context))
+        }
+        NodeView::App(op, args) => {
+            let args = Vec::from_slice(store.allocator(), args)?;
+            let filled = fill_all(store, sig, marks, &args, context.0, term)?;
+            match filled {
+                Some(filled) => build_within(store, sig, op, &filled),
+                None => Ok(None),
+            }
+        }
+    }
+}
+
+/// The same of some contexts, all of which have numbers below this one.
+#[cycle(filling)]
+fn fill_all(
+    store: &mut Store,
+    sig: &Signature,
+    marks: &[bool],
+    contexts: &[TermId],
+    below: usize,
+    term: TermId,
+) -> Result<Option<Vec<TermId>>, NoMemory>
+    requires lawful { AreLawful (theory_at sig.now) }
+    requires marks { AreMarks store.old marks.now }
+    requires below { AreBelow below (numbers contexts.now) }
+    requires over { All (IsTreeOver sig.now) (trees_at store.old (numbers contexts.now)) }
+    requires contexts { StandWithin (theory_at sig.now) store.old (numbers contexts.now) }
+    requires term { StandsWithin (theory_at sig.now) store.old term.0 }
+    ensures some { IfOk result (λ o. IfSome o (λ v. trees_at store.new (numbers v.items)
+        ≡ map (λ c. norm (theory_at sig.now) (fill c (tree_at store.old term.0))) (trees_at store.old (numbers contexts.now)))) }
+    ensures within { IfOk result (λ o. IfSome o (λ v. StandWithin (theory_at sig.now) store.new (numbers v.items))) }
+    ensures none { IfOk result (λ o. IfNone o (All (λ c. IsWithin (theory_at sig.now) (norm (theory_at sig.now) (fill c (tree_at store.old term.0)))) (trees_at store.old (numbers contexts.now)) → ⊥)) }
+    ensures extends { Extends store.old store.new }
+{
+    let mut all = Vec::new(store.allocator());
+    for context in contexts {
+        let filled = match fill(store, sig, marks, *context, term) {
+            Ok(Some(filled)) => filled,
+            Ok(None) => return Ok(None),
+            Err(fault) => return Err(fault),
+        };
+        all.push(filled)?;
+    }
+    Ok(Some(all))
+}

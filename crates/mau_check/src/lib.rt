@@ -1,0 +1,12 @@
+//! Whether the facts of a section are justified.
+#![tactic(auto)]
+
+mod building;
+mod filling;
+mod instances;
+mod kept;
+mod over;
+mod plain;
+mod said;
+mod sorts;
+mod variables;

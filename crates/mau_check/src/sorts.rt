@@ -1,0 +1,199 @@
+//! Sorts by declarations, given the sorts that facts tell.
+ghost use Rattle.std.specs.Prelude.{◌≡◌, ◌↔◌, true, ℕ, List, [], All, length, map, IfOk, IfSome, OnOk, IsTrue};
+ghost use Rattle.std.specs.List.{filter_map};
+ghost use Rattle.mau_terms.specs.Tree.{Tree};
+ghost use Rattle.mau_terms.specs.View.{variable_of};
+ghost use Rattle.mau_terms.specs.Solution.{HaveSorts};
+ghost use Rattle.mau_signature.specs.Faults.{IsSort};
+ghost use Rattle.mau_signature.specs.Signature.{SignatureOf};
+ghost use Rattle.mau_signature.specs.OverSignature.{IsTreeOver};
+ghost use Rattle.mau_store.specs.Node.{Node, IsOf};
+ghost use Rattle.mau_store.specs.Trees.{tree_at};
+ghost use Rattle.mau_sorts.specs.HasSort.{Known, HasSort};
+ghost use Rattle.mau_sorts.specs.Table.{IsSettled, IsReady, AreEntries, AreOver, KeepsEntries};
+ghost use Rattle.mau_logic.specs.Says.{Says};
+ghost use Rattle.mau_logic.specs.Shown.{known_by, HasSortBy};
+ghost use Rattle.mau_check.specs.Kept.{AreKeptFor};
+ghost use Rattle.mau_check.specs.Said.{AreSaid};
+ghost use Rattle.mau_check.specs.Told.{told_of, AreToldSorts, IsToldBy, IsWholeTable, IsPlainTable};
+
+use crate::kept::Kept;
+use crate::said::Said;
+use mau_signature::Signature;
+use mau_sorts::SortTable;
+use mau_store::Store;
+use mau_terms::{NoMemory, TermId, VarId};
+use std::alloc::Global;
+
+/// The sort that a fact tells of a term.
+fn sort_told(said: Said, id: TermId) -> Option<u32>
+    ensures { result ≡ told_of id.0 said }
+{
+    match said {
+        Said::Leads(_, _, _) => None,
+        Said::Sorted(term, sort) => {
+            if term.id.0 == id.0 {
+                return Some(sort);
+            }
+            None
+        }
+    }
+}
+
+/// The sorts that facts tell of a term.
+fn sorts_told(alloc: Global, uses: &[Said], id: TermId) -> Result<Vec<u32>, NoMemory>
+    ensures { IfOk result (λ sorts. sorts.items ≡ filter_map (told_of id.0) uses.now) }
+{
+    let mut sorts = Vec::new(alloc);
+    for said in uses {
+        if let Some(sort) = sort_told(*said, id) {
+            sorts.push(sort)?;
+        }
+    }
+    Ok(sorts)
+}
+
+/// Settles the sorts of a term, if its arguments are settled.
+fn settle_one(
+    alloc: Global,
+    sig: &Signature,
+    store: &Store,
+    uses: &[Said],
+    table: &mut SortTable,
+    id: TermId,
+) -> Result<(), NoMemory>
+    requires told { AreToldSorts sig.now uses.now }
+    requires over { AreOver sig.now.hierarchy table.old }
+    ensures settled { OnOk result (IsReady sig.now store.now table.old id.0 → IsSettled table.new id.0) }
+    ensures kept { OnOk result (KeepsEntries table.old table.new) }
+    ensures over { AreOver sig.now.hierarchy table.new }
+    ensures entries { OnOk result ((us : List Says) → AreSaid sig.now store.now uses.now us → AreEntries sig.now (known_by sig.now us) store.now table.old
+        → AreEntries sig.now (known_by sig.now us) store.now table.new) }
+{
+    if table.is_settled(id) {
+        return Ok(());
+    }
+    if !table.is_ready(sig, store, id) {
+        return Ok(());
+    }
+    let told = sorts_told(alloc, uses, id)?;
+    table.settle_declared(sig, store, id, &told)?;
+    Ok(())
+}
+
+/// The sorts of all terms of a store, where facts tell sorts besides.
+fn sorts_by(
+    alloc: Global,
+    sig: &Signature,
+    store: &Store,
+    uses: &[Said],
+) -> Result<SortTable, NoMemory>
+    requires told { AreToldSorts sig.now uses.now }
+    ensures entries { IfOk result (λ table. (us : List Says) → AreSaid sig.now store.now uses.now us → AreEntries sig.now (known_by sig.now us) store.now table) }
+    ensures settled { IfOk result (λ table. (i : ℕ) → IsOf store.now i → IsTreeOver sig.now (tree_at store.now i) → IsSettled table i) }
+    ensures over { IfOk result (AreOver sig.now.hierarchy) }
+{
+    let mut table = SortTable::new(alloc);
+    for i in 0..store.len() {
+        settle_one(alloc, sig, store, uses, &mut table, TermId(i))?;
+    }
+    Ok(table)
+}
+
+/// The sorts of all terms of a store by declarations and by what facts tell, if they tell any.
+pub fn told_by(
+    alloc: Global,
+    sig: &Signature,
+    store: &Store,
+    uses: &[Said],
+) -> Result<Option<SortTable>, NoMemory>
+    requires told { AreToldSorts sig.now uses.now }
+    ensures told { IfOk result (λ told. (us : List Says) → AreSaid sig.now store.now uses.now us → IsToldBy sig.now (known_by sig.now us) store.now told) }
+    ensures settled { IfOk result (λ told. IfSome told (IsWholeTable sig.now store.now)) }
+{
+    if are_none_told(uses) {
+        return Ok(None);
+    }
+    let table = sorts_by(alloc, sig, store, uses)?;
+    Ok(Some(table))
+}
+
+/// Whether no fact tells a sort.
+fn are_none_told(uses: &[Said]) -> bool
+    ensures { (s : SignatureOf) (nodes : List Node) (us : List Says) → AreSaid s nodes uses.now us → result ≡ true → known_by s us ≡ [] }
+{
+    for said in uses {
+        match said {
+            Said::Leads(_, _, _) => {}
+            Said::Sorted(_, _) => return false,
+        }
+    }
+    true
+}
+
+/// What a table says of a settled term.
+fn has_entry(sig: &Signature, table: &SortTable, id: TermId, sort: u32) -> bool
+    requires over { AreOver sig.now.hierarchy table.now }
+    requires settled { IsSettled table.now id.0 }
+    requires sort { IsSort sig.now.hierarchy sort }
+    ensures { (known : Known) (nodes : List Node) → AreEntries sig.now known nodes table.now → IsTrue result ↔ HasSort sig.now known (tree_at nodes id.0) sort }
+{
+    match table.has(sig, id, sort) {
+        Some(has) => has,
+        None => unreachable!(),
+    }
+}
+
+/// Whether a term has a sort by declarations and by what facts tell. Where these tell no sort, it is entered into the table of sorts by
+/// declarations alone.
+pub fn has_sort(
+    sig: &Signature,
+    store: &Store,
+    plain: &mut SortTable,
+    told: &Option<SortTable>,
+    id: TermId,
+    sort: u32,
+) -> Result<bool, NoMemory>
+    requires term { IsOf store.now id.0 }
+    requires tree { IsTreeOver sig.now (tree_at store.now id.0) }
+    requires sort { IsSort sig.now.hierarchy sort }
+    requires plain { IsPlainTable sig.now store.now plain.old }
+    requires told { IfSome told.now (IsWholeTable sig.now store.now) }
+    ensures plain { IsPlainTable sig.now store.now plain.new }
+    ensures has { IfOk result (λ yes. (known : Known) → IsToldBy sig.now known store.now told.now → IsTrue yes ↔ HasSort sig.now known (tree_at store.now id.0) sort) }
+{
+    match told {
+        Some(table) => Ok(has_entry(sig, table, id, sort)),
+        None => {
+            plain.settle_term(sig, store, id)?;
+            Ok(has_entry(sig, plain, id, sort))
+        }
+    }
+}
+
+/// Whether each value has its variable's sort.
+pub fn have_sorts(
+    sig: &Signature,
+    store: &Store,
+    plain: &mut SortTable,
+    told: &Option<SortTable>,
+    variables: &[VarId],
+    values: &[Kept],
+) -> Result<bool, NoMemory>
+    requires sorts { All (λ v. IsSort sig.now.hierarchy v.sort) variables.now }
+    requires many { length values.now ≡ length variables.now }
+    requires values { (vs : List Tree) × AreKeptFor sig.now store.now values.now vs }
+    requires plain { IsPlainTable sig.now store.now plain.old }
+    requires told { IfSome told.now (IsWholeTable sig.now store.now) }
+    ensures plain { IsPlainTable sig.now store.now plain.new }
+    ensures have { IfOk result (λ yes. (us : List Says) (vs : List Tree) → IsToldBy sig.now (known_by sig.now us) store.now told.now → AreKeptFor sig.now store.now values.now vs →
+        IsTrue yes ↔ HaveSorts (HasSortBy sig.now us) (map variable_of variables.now) vs) }
+{
+    let _ = sig.operators();
+    for i in 0..variables.len() {
+        if !has_sort(sig, store, plain, told, values[i].id, variables[i].sort)? {
+            return Ok(false);
+        }
+    }
+    Ok(true)
+}
