@@ -7,3 +7,7 @@ pub mod Overs
 pub mod Leading
 -- contexts
 pub mod Fills
+-- sorts
+pub mod Tells
+-- fragments
+pub mod Shown

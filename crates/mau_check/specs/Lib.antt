@@ -7,3 +7,4 @@ pub mod Marks
 pub mod Told
 pub mod Variables
 pub mod Instances
+pub mod Named

@@ -1,11 +1,11 @@
 -- Sorts that facts tell, and tables of sorts.
-use Rattle.std.specs.Prelude.{◌≡◌, ◌<◌, ◌==◌, ℕ, List, [], ◌∷◌, Option, Some, None, if◌then◌else◌}
+use Rattle.std.specs.Prelude.{◌≡◌, ◌<◌, ◌==◌, true, ℕ, List, [], ◌∷◌, Option, Some, None, if◌then◌else◌}
 use Rattle.mau_terms.specs.Tree.{Tree}
 use Rattle.mau_signature.specs.Signature.{SignatureOf}
 use Rattle.mau_signature.specs.OverSignature.{IsTreeOver}
 use Rattle.mau_store.specs.Node.{Node, IsOf}
 use Rattle.mau_store.specs.Trees.{tree_at}
-use Rattle.mau_sorts.specs.HasSort.{Known}
+use Rattle.mau_sorts.specs.HasSort.{Known, HasSort}
 use Rattle.mau_sorts.specs.Table.{Table, IsSettled, AreEntries, AreOver}
 use Rattle.mau_check.specs.declared.said.Said.{Said}
 use Rattle.mau_check.specs.declared.said.Said.TheVariants.{Leads, Sorted}
@@ -35,3 +35,8 @@ pub record IsPlainTable (s : SignatureOf) (nodes : List Node) (table : Table) : 
 abbrev pub IsToldBy : SignatureOf → Known → List Node → Option Table → Type 0
 IsToldBy s known nodes None = known ≡ []
 IsToldBy s known nodes (Some table) = AreEntries s known nodes table
+
+-- x leads by equations from the number i to a term of the sort r
+abbrev pub EndsInSort : SignatureOf → List Node → Known → ℕ → ℕ → Said → Type 0
+EndsInSort s nodes known i r (Leads e a b) = (e ≡ true) × (a.id.0 ≡ i) × HasSort s known (tree_at nodes b.id.0) r
+EndsInSort s nodes known i r (Sorted a q) = ⊥

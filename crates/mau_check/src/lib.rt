@@ -3,10 +3,12 @@
 
 mod building;
 mod filling;
+mod fragments;
 mod instances;
 mod kept;
 mod over;
 mod plain;
 mod said;
 mod sorts;
+mod statements;
 mod variables;

@@ -1,8 +1,7 @@
 //! Sorts by declarations, given the sorts that facts tell.
-ghost use Rattle.std.specs.Prelude.{◌≡◌, ◌↔◌, true, ℕ, List, [], All, length, map, IfOk, IfSome, OnOk, IsTrue};
+ghost use Rattle.std.specs.Prelude.{◌≡◌, ◌↔◌, true, ℕ, List, [], length, IfOk, IfSome, OnOk, IsTrue};
 ghost use Rattle.std.specs.List.{filter_map};
 ghost use Rattle.mau_terms.specs.Tree.{Tree};
-ghost use Rattle.mau_terms.specs.View.{variable_of};
 ghost use Rattle.mau_terms.specs.Solution.{HaveSorts};
 ghost use Rattle.mau_signature.specs.Faults.{IsSort};
 ghost use Rattle.mau_signature.specs.Signature.{SignatureOf};
@@ -14,8 +13,9 @@ ghost use Rattle.mau_sorts.specs.Table.{IsSettled, IsReady, AreEntries, AreOver,
 ghost use Rattle.mau_logic.specs.Says.{Says};
 ghost use Rattle.mau_logic.specs.Shown.{known_by, HasSortBy};
 ghost use Rattle.mau_check.specs.Kept.{AreKeptFor};
-ghost use Rattle.mau_check.specs.Said.{AreSaid};
-ghost use Rattle.mau_check.specs.Told.{told_of, AreToldSorts, IsToldBy, IsWholeTable, IsPlainTable};
+ghost use Rattle.mau_check.specs.Said.{IsSaid, AreSaid, SomeSaid};
+ghost use Rattle.mau_check.specs.Told.{told_of, AreToldSorts, IsToldBy, IsWholeTable, IsPlainTable, EndsInSort};
+ghost use Rattle.mau_check.specs.Variables.{AreOfSorts, variables_in};
 
 use crate::kept::Kept;
 use crate::said::Said;
@@ -101,7 +101,7 @@ fn sorts_by(
 }
 
 /// The sorts of all terms of a store by declarations and by what facts tell, if they tell any.
-pub fn told_by(
+fn told_by(
     alloc: Global,
     sig: &Signature,
     store: &Store,
@@ -146,7 +146,7 @@ fn has_entry(sig: &Signature, table: &SortTable, id: TermId, sort: u32) -> bool
 
 /// Whether a term has a sort by declarations and by what facts tell. Where these tell no sort, it is entered into the table of sorts by
 /// declarations alone.
-pub fn has_sort(
+fn has_sort(
     sig: &Signature,
     store: &Store,
     plain: &mut SortTable,
@@ -171,29 +171,84 @@ pub fn has_sort(
     }
 }
 
-/// Whether each value has its variable's sort.
+/// Whether each value has its variable's sort by declarations and by what facts tell.
 pub fn have_sorts(
     sig: &Signature,
     store: &Store,
     plain: &mut SortTable,
-    told: &Option<SortTable>,
+    uses: &[Said],
     variables: &[VarId],
     values: &[Kept],
 ) -> Result<bool, NoMemory>
-    requires sorts { All (λ v. IsSort sig.now.hierarchy v.sort) variables.now }
+    requires sorts { AreOfSorts sig.now variables.now }
     requires many { length values.now ≡ length variables.now }
     requires values { (vs : List Tree) × AreKeptFor sig.now store.now values.now vs }
+    requires uses { (us : List Says) × AreSaid sig.now store.now uses.now us }
     requires plain { IsPlainTable sig.now store.now plain.old }
-    requires told { IfSome told.now (IsWholeTable sig.now store.now) }
     ensures plain { IsPlainTable sig.now store.now plain.new }
-    ensures have { IfOk result (λ yes. (us : List Says) (vs : List Tree) → IsToldBy sig.now (known_by sig.now us) store.now told.now → AreKeptFor sig.now store.now values.now vs →
-        IsTrue yes ↔ HaveSorts (HasSortBy sig.now us) (map variable_of variables.now) vs) }
+    ensures have { IfOk result (λ yes. (us : List Says) (vs : List Tree) → AreSaid sig.now store.now uses.now us → AreKeptFor sig.now store.now values.now vs →
+        IsTrue yes ↔ HaveSorts (HasSortBy sig.now us) (variables_in variables.now) vs) }
 {
     let _ = sig.operators();
+    let told = told_by(store.allocator(), sig, store, uses)?;
     for i in 0..variables.len() {
-        if !has_sort(sig, store, plain, told, values[i].id, variables[i].sort)? {
+        if !has_sort(sig, store, plain, &told, values[i].id, variables[i].sort)? {
             return Ok(false);
         }
     }
     Ok(true)
+}
+
+/// Whether a fact leads by equations from a term to one of a sort.
+fn ends_in_sort(
+    sig: &Signature,
+    store: &Store,
+    plain: &mut SortTable,
+    told: &Option<SortTable>,
+    said: Said,
+    from: TermId,
+    sort: u32,
+) -> Result<bool, NoMemory>
+    requires said { (y : Says) × IsSaid sig.now store.now said y }
+    requires sort { IsSort sig.now.hierarchy sort }
+    requires plain { IsPlainTable sig.now store.now plain.old }
+    requires told { IfSome told.now (IsWholeTable sig.now store.now) }
+    ensures plain { IsPlainTable sig.now store.now plain.new }
+    ensures has { IfOk result (λ yes. (known : Known) → IsToldBy sig.now known store.now told.now → IsTrue yes ↔ EndsInSort sig.now store.now known from.0 sort said) }
+{
+    let _ = sig.operators();
+    match said {
+        Said::Leads(equations, start, end) => {
+            if !equations || start.id.0 != from.0 {
+                return Ok(false);
+            }
+            has_sort(sig, store, plain, told, end.id, sort)
+        }
+        Said::Sorted(_, _) => Ok(false),
+    }
+}
+
+/// Whether one of some facts does.
+pub fn end_in_sort(
+    sig: &Signature,
+    store: &Store,
+    plain: &mut SortTable,
+    uses: &[Said],
+    from: TermId,
+    sort: u32,
+) -> Result<bool, NoMemory>
+    requires uses { (us : List Says) × AreSaid sig.now store.now uses.now us }
+    requires sort { IsSort sig.now.hierarchy sort }
+    requires plain { IsPlainTable sig.now store.now plain.old }
+    ensures plain { IsPlainTable sig.now store.now plain.new }
+    ensures end { IfOk result (λ yes. (us : List Says) → AreSaid sig.now store.now uses.now us →
+        IsTrue yes ↔ SomeSaid (EndsInSort sig.now store.now (known_by sig.now us) from.0 sort) uses.now) }
+{
+    let told = told_by(store.allocator(), sig, store, uses)?;
+    for said in uses {
+        if ends_in_sort(sig, store, plain, &told, *said, from, sort)? {
+            return Ok(true);
+        }
+    }
+    Ok(false)
 }

@@ -1,0 +1,198 @@
+-- Sorts that facts tell.
+use Rattle.std.proofs.Common.{◌≡◌, ◌↔◌, ℕ, zero, suc, ◌+◌, ◌<◌, ◌≤◌, ◌==◌, List, [], ◌∷◌, ◌++◌, length, map, Bool, true, false, ◌⊎◌, inl, inr, Option, Some, None, refl, sym, ap, ◌∙◌, subst, arith, if◌then◌else◌, get_or}
+use Rattle.std.specs.Prelude.{All, Contains, IsTrue, is_some, slice_get, take}
+use Rattle.std.specs.List.{AllZip, filter_map, cons_option}
+use Rattle.std.proofs.lemmas.Bool.{eqb-true}
+use Rattle.std.proofs.lemmas.List.Elements.{All-nil, All-cons, Contains-append_left, Contains-append_right, Contains-append_cases}
+use Rattle.mau_poset.specs.Order.{Hierarchy, kind_of}
+use Rattle.mau_terms.specs.Tree.{Tree}
+use Rattle.mau_terms.specs.Norm.{norm}
+use Rattle.mau_terms.specs.Bare.{IsBare, IsBareIn, IsLawful}
+use Rattle.mau_terms.specs.Solution.{HaveSorts}
+use Rattle.mau_terms.specs.View.{variable_of}
+use Rattle.mau_terms.specs.declared.ids.VarId.{VarId}
+use Rattle.mau_signature.specs.Signature.{SignatureOf, theory_at, terms_over}
+use Rattle.mau_signature.specs.OverSignature.{IsTreeOver}
+use Rattle.mau_signature.proofs.OverSignature.{norm_over}
+use Rattle.mau_store.specs.Node.{Node, arguments, IsOf, AreNodes}
+use Rattle.mau_store.specs.Trees.{tree_at}
+use Rattle.mau_store.proofs.Numbers.{node_there, one_number}
+use Rattle.mau_store.proofs.Standing.{tree_of_node}
+use Rattle.mau_sorts.specs.SortSets.{SortsOf, IsIn, AreSorts}
+use Rattle.mau_sorts.specs.HasSort.{Known, HasSort}
+use Rattle.mau_sorts.specs.Table.{Table, entry_at, IsSettled, IsReady, AreEntries, IsKnownOf}
+use Rattle.mau_sorts.proofs.Settling.{argument_over, is_ready}
+use Rattle.mau_built_ins.proofs.NormalTerms.{read_bare}
+use Rattle.mau_logic.specs.Says.{Says, leads, of_sort, says_nothing}
+use Rattle.mau_logic.specs.Shown.{known_by, HasSortBy}
+use Rattle.mau_check.specs.declared.kept.Kept.{Kept}
+use Rattle.mau_check.specs.declared.said.Said.{Said}
+use Rattle.mau_check.specs.declared.said.Said.TheVariants.{Leads, Sorted}
+use Rattle.mau_check.specs.Kept.{IsKeptFor, AreKeptFor}
+use Rattle.mau_check.specs.Said.{IsSaid, AreSaid}
+use Rattle.mau_check.specs.Told.{told_of, AreToldSorts}
+use Rattle.mau_check.specs.Variables.{variables_in}
+
+-- ---- membership in lists
+
+here : {A : Type 0} (x : A) (xs : List A) → Contains (x ∷ xs) x
+here x xs = (0, omega arith, refl)
+
+later : {A : Type 0} (x y : A) (xs : List A) → Contains xs y → Contains (x ∷ xs) y
+later x y xs (k, l, e) = (suc k, omega arith, e)
+
+cases : {A : Type 0} (x y : A) (xs : List A) → Contains (x ∷ xs) y → (x ≡ y) ⊎ Contains xs y
+cases x y xs (zero, l, e) = inl e
+cases x y xs (suc k, l, e) = inr (k, omega arith, e)
+
+none : {A : Type 0} (y : A) → Contains [] y → ⊥
+none y (k, l, e) = omega arith
+
+-- ---- what facts tell of a term
+
+module _ (s : SignatureOf) (nodes : List Node) where
+  pub told_sorts : (xs : List Said) (ys : List Says) → AreSaid s nodes xs ys → AreToldSorts s xs
+  told_sorts [] [] h = tt
+  told_sorts [] (y ∷ ys) h = absurd h
+  told_sorts (x ∷ xs) [] h = absurd h
+  told_sorts (Leads e a b ∷ xs) (y ∷ ys) h = told_sorts xs ys h.1
+  told_sorts (Sorted a q ∷ xs) (leads d t u ∷ ys) h = absurd h.0
+  told_sorts (Sorted a q ∷ xs) (of_sort t r ∷ ys) h = (subst (λ z. z < s.hierarchy.sorts) (sym h.0.0) h.0.2, told_sorts xs ys h.1)
+  told_sorts (Sorted a q ∷ xs) (says_nothing ∷ ys) h = absurd h.0
+
+  module _ (are : AreNodes nodes) (i : ℕ) (there : IsOf nodes i) where
+    -- by one fact more
+    more_told : (o : Option ℕ) (ns : List ℕ) (r : ℕ) → Contains ns r → Contains (cons_option o ns) r
+    more_told None ns r c = c
+    more_told (Some q) ns r c = later q r ns c
+
+    one_told : (a : Kept) (q r : ℕ) (ns : List ℕ) (b : Bool) → (a.id.0 == i) ≡ b → Contains (cons_option (if b then Some q else None) ns) r → ((a.id.0 ≡ i) × (q ≡ r)) ⊎ Contains ns r
+    one_told a q r ns true e c = by (cases q r ns c)
+      where
+        by : (q ≡ r) ⊎ Contains ns r → ((a.id.0 ≡ i) × (q ≡ r)) ⊎ Contains ns r
+        by (inl same) = inl (eqb-true a.id.0 i e, same)
+        by (inr rest) = inr rest
+    one_told a q r ns false e c = inr c
+
+    told_this : (a : Kept) (q r : ℕ) (ns : List ℕ) → a.id.0 ≡ i → q ≡ r → Contains (cons_option (if a.id.0 == i then Some q else None) ns) r
+    told_this a q r ns e d =
+        let t : (a.id.0 == i) ≡ true = cc in
+        subst (λ (b : Bool). Contains (cons_option (if b then Some q else None) ns) r) (sym t) (subst (λ (z : ℕ). Contains (q ∷ ns) z) d (here q ns))
+
+    pub known_told : (xs : List Said) (ys : List Says) → AreSaid s nodes xs ys → IsKnownOf (known_by s ys) (tree_at nodes i) (filter_map (told_of i) xs)
+    known_told [] [] h r = ((λ c. absurd (none (tree_at nodes i, r) c)), λ c. absurd (none r c))
+    known_told [] (y ∷ ys) h r = absurd h
+    known_told (x ∷ xs) [] h r = absurd h
+    known_told (Leads e a b ∷ xs) (leads d t u ∷ ys) h r = known_told xs ys h.1 r
+    known_told (Leads e a b ∷ xs) (of_sort t q ∷ ys) h r = absurd h.0
+    known_told (Leads e a b ∷ xs) (says_nothing ∷ ys) h r = absurd h.0
+    known_told (Sorted a q ∷ xs) (leads d t u ∷ ys) h r = absurd h.0
+    known_told (Sorted a q ∷ xs) (says_nothing ∷ ys) h r = absurd h.0
+    known_told (Sorted a q ∷ xs) (of_sort t p ∷ ys) h r = (forth, back)
+      where
+        rest : List ℕ
+        rest = filter_map (told_of i) xs
+
+        forth : Contains ((norm (theory_at s) t, p) ∷ known_by s ys) (tree_at nodes i, r) → Contains (cons_option (if a.id.0 == i then Some q else None) rest) r
+        forth c = by (cases (norm (theory_at s) t, p) (tree_at nodes i, r) (known_by s ys) c)
+          where
+            by : ((norm (theory_at s) t, p) ≡ (tree_at nodes i, r)) ⊎ Contains (known_by s ys) (tree_at nodes i, r) → Contains (cons_option (if a.id.0 == i then Some q else None) rest) r
+            by (inl e) =
+                let et : norm (theory_at s) t ≡ tree_at nodes i = ap (λ (z : Tree × ℕ). z.0) e in
+                let er : p ≡ r = ap (λ (z : Tree × ℕ). z.1) e in
+                told_this a q r rest (one_number nodes are a.id.0 i h.0.1.there there (h.0.1.stands ∙ et)) (h.0.0 ∙ er)
+            by (inr d) = more_told (if a.id.0 == i then Some q else None) rest r ((known_told xs ys h.1 r).0 d)
+
+        back : Contains (cons_option (if a.id.0 == i then Some q else None) rest) r → Contains ((norm (theory_at s) t, p) ∷ known_by s ys) (tree_at nodes i, r)
+        back c = by (one_told a q r rest (a.id.0 == i) refl c)
+          where
+            by : ((a.id.0 ≡ i) × (q ≡ r)) ⊎ Contains rest r → Contains ((norm (theory_at s) t, p) ∷ known_by s ys) (tree_at nodes i, r)
+            by (inl e) =
+                let et : norm (theory_at s) t ≡ tree_at nodes i = sym h.0.1.stands ∙ ap (tree_at nodes) e.0 in
+                let er : p ≡ r = sym h.0.0 ∙ e.1 in
+                subst (λ (z : Tree). Contains ((norm (theory_at s) t, p) ∷ known_by s ys) (z, r)) et
+                (subst (λ (z : ℕ). Contains ((norm (theory_at s) t, p) ∷ known_by s ys) (norm (theory_at s) t, z)) er (here (norm (theory_at s) t, p) (known_by s ys)))
+            by (inr d) = later (norm (theory_at s) t, p) (tree_at nodes i, r) (known_by s ys) ((known_told xs ys h.1 r).1 d)
+
+-- told sorts are sorts
+pub told_below : (s : SignatureOf) (i : ℕ) (xs : List Said) → AreToldSorts s xs → AreSorts s.hierarchy (filter_map (told_of i) xs)
+told_below s i [] h = All-nil (λ m. m < s.hierarchy.sorts)
+told_below s i (Leads e a b ∷ xs) h = told_below s i xs h
+told_below s i (Sorted a q ∷ xs) h = by (a.id.0 == i)
+  where
+    by : (b : Bool) → AreSorts s.hierarchy (cons_option (if b then Some q else None) (filter_map (told_of i) xs))
+    by true = All-cons (λ m. m < s.hierarchy.sorts) q (filter_map (told_of i) xs) h.0 (told_below s i xs h.1)
+    by false = told_below s i xs h.1
+
+-- ---- tables
+
+-- a term over the signature is ready, where the older ones are settled
+pub ready_over : (s : SignatureOf) (nodes : List Node) → AreNodes nodes → (table : Table) (i : ℕ) → IsOf nodes i → ((j : ℕ) → j < i → IsTreeOver s (tree_at nodes j) → IsSettled table j) → IsTreeOver s (tree_at nodes i) → IsReady s nodes table i
+ready_over s nodes are table i there settled over =
+    let at = node_there nodes i there in
+    let n = at.0 in
+    let tree = tree_of_node nodes are i n at.1 in
+    is_ready s nodes table i n there at.1 tree over
+    (λ k below. settled (get_or (arguments n) k 0) (are.closed i n at.1 k 0 below) (argument_over s (tree_at nodes) n (subst (IsTreeOver s) tree over) k below))
+
+entry_of : (e : Option SortsOf) → is_some e ≡ true → (x : SortsOf) × (e ≡ Some x)
+entry_of (Some x) h = (x, refl)
+entry_of None h = absurd cc
+
+pub decided : (s : SignatureOf) (known : Known) (nodes : List Node) (table : Table) (i sort : ℕ) (has : Bool) → AreEntries s known nodes table → IsSettled table i
+    → ((e : SortsOf) → entry_at table i ≡ Some e → IsTrue has ↔ IsIn s.hierarchy e sort) → IsTrue has ↔ HasSort s known (tree_at nodes i) sort
+decided s known nodes table i sort has h settled g =
+    let x = entry_of (entry_at table i) settled in
+    let k = (h i x.0 x.1).1 in
+    let b = g x.0 x.1 in
+    ((λ t. (k.exact sort).0 (b.0 t)), (λ t. b.1 ((k.exact sort).1 t)))
+
+-- a term that is kept is a term over the signature
+pub kept_over : (s : SignatureOf) → IsLawful (terms_over s) → (nodes : List Node) (k : Kept) (t : Tree) → IsKeptFor s nodes k t → IsTreeOver s (tree_at nodes k.id.0)
+kept_over s lawful nodes k t h = subst (IsTreeOver s) (sym h.stands) (norm_over s lawful t (k.kind, read_bare s lawful t k.kind h.kind))
+
+-- ---- values
+
+module _ (s : SignatureOf) (nodes : List Node) (us : List Says) where
+  -- each value has its variable's sort
+  abbrev pub AreSorted : List VarId → List Kept → Type 0
+  AreSorted xs ks = AllZip (λ x k. HasSort s (known_by s us) (tree_at nodes k.id.0) x.sort) xs ks
+
+  sort_same : (k : Kept) (t : Tree) (r : ℕ) → IsKeptFor s nodes k t → HasSort s (known_by s us) (tree_at nodes k.id.0) r ↔ HasSortBy s us r t
+  sort_same k t r h = (subst (λ z. HasSort s (known_by s us) z r) h.stands, subst (λ z. HasSort s (known_by s us) z r) (sym h.stands))
+
+  pub sorted_values : (xs : List VarId) (ks : List Kept) (vs : List Tree) → AreKeptFor s nodes ks vs → AreSorted xs ks → HaveSorts (HasSortBy s us) (variables_in xs) vs
+  sorted_values [] [] vs h g = tt
+  sorted_values [] (k ∷ ks) vs h g = absurd g
+  sorted_values (x ∷ xs) [] vs h g = absurd g
+  sorted_values (x ∷ xs) (k ∷ ks) [] h g = absurd h
+  sorted_values (x ∷ xs) (k ∷ ks) (v ∷ vs) h g = ((sort_same k v x.sort h.0).0 g.0, sorted_values xs ks vs h.1 g.1)
+
+  pub values_sorted : (xs : List VarId) (ks : List Kept) (vs : List Tree) → length ks ≡ length xs → AreKeptFor s nodes ks vs → HaveSorts (HasSortBy s us) (variables_in xs) vs → AreSorted xs ks
+  values_sorted [] [] vs l h g = tt
+  values_sorted [] (k ∷ ks) vs l h g = absurd (omega arith)
+  values_sorted (x ∷ xs) [] vs l h g = absurd (omega arith)
+  values_sorted (x ∷ xs) (k ∷ ks) [] l h g = absurd h
+  values_sorted (x ∷ xs) (k ∷ ks) (v ∷ vs) l h g = ((sort_same k v x.sort h.0).1 g.0, values_sorted xs ks vs (omega arith) h.1 g.1)
+
+-- ---- facts that tell no sort
+
+abbrev pub TellNone : List Said → Type 0
+TellNone [] = Unit {0}
+TellNone (Leads e a b ∷ xs) = TellNone xs
+TellNone (Sorted a r ∷ xs) = ⊥
+
+pub none_more : (xs : List Said) (i : ℕ) (e : Bool) (a b : Kept) → TellNone (take i xs) → slice_get xs i ≡ Some (Leads e a b) → TellNone (take (suc i) xs)
+none_more [] i e a b h g = tt
+none_more (x ∷ xs) zero e a b h g = subst (λ z. TellNone (z ∷ take 0 xs)) (let d : Leads e a b ≡ x = cc in d) tt
+none_more (Leads d c f ∷ xs) (suc i) e a b h g = none_more xs i e a b h g
+none_more (Sorted c r ∷ xs) (suc i) e a b h g = h
+
+pub none_known : (s : SignatureOf) (nodes : List Node) (xs : List Said) (ys : List Says) → AreSaid s nodes xs ys → TellNone xs → known_by s ys ≡ []
+none_known s nodes [] [] h n = refl
+none_known s nodes [] (y ∷ ys) h n = absurd h
+none_known s nodes (x ∷ xs) [] h n = absurd h
+none_known s nodes (Leads e a b ∷ xs) (leads d t u ∷ ys) h n = none_known s nodes xs ys h.1 n
+none_known s nodes (Leads e a b ∷ xs) (of_sort t r ∷ ys) h n = absurd h.0
+none_known s nodes (Leads e a b ∷ xs) (says_nothing ∷ ys) h n = absurd h.0
+none_known s nodes (Sorted a r ∷ xs) (y ∷ ys) h n = absurd n
