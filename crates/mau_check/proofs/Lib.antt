@@ -1,3 +1,5 @@
+-- results that may hold nothing
+pub mod Results
 -- what is kept, by numbers
 pub mod Numbers
 pub mod Saids
@@ -7,7 +9,10 @@ pub mod Overs
 pub mod Leading
 -- contexts
 pub mod Fills
+pub mod Filled
 -- sorts
 pub mod Tells
 -- fragments
 pub mod Shown
+-- texts of variables
+pub mod Texts

@@ -1,5 +1,5 @@
 -- An operator over some terms: when it is a bare term, and what it stands for.
-use Rattle.std.proofs.Common.{◌≡◌, ℕ, zero, suc, ◌≤◌, List, [], ◌∷◌, ◌++◌, length, map, Bool, true, false, ◌&&◌, Option, Some, None, refl, sym, ap, ap₂, ◌∙◌, subst, arith, if◌then◌else◌, append-nil}
+use Rattle.std.proofs.Common.{◌≡◌, ◌↔◌, ℕ, zero, suc, ◌<◌, ◌≤◌, get_or, take, append_assoc, List, [], ◌∷◌, ◌++◌, length, map, Bool, true, false, ◌&&◌, Option, Some, None, refl, sym, ap, ap₂, ◌∙◌, subst, arith, if◌then◌else◌, append-nil}
 use Rattle.std.specs.Prelude.{All, nat_lt, nat_le}
 use Rattle.std.specs.Bool.{MatchBool}
 use Rattle.std.specs.List.{AllZip}
@@ -14,17 +14,22 @@ use Rattle.mau_terms.specs.Bare.{IsBare, IsBareIn, AreBareIn, IsLawful}
 use Rattle.mau_terms.proofs.Leads.{two_bare}
 use Rattle.mau_terms.proofs.Normal.{norm-norm}
 use Rattle.mau_terms.proofs.Taken.{one_kind}
-use Rattle.mau_signature.specs.Signature.{SignatureOf, IsOperator, declarations_at, theory_at, terms_over}
+use Rattle.mau_signature.specs.Signature.{SignatureOf, IsOperator, declarations_at, result_of, theory_at, terms_over}
 use Rattle.mau_signature.proofs.Operators.{is_operator}
 use Rattle.mau_store.specs.Node.{Node}
+use Rattle.mau_store.specs.Trees.{tree_at, trees_at, StandsFor}
+use Rattle.mau_store.specs.View.{numbers}
+use Rattle.mau_terms.specs.declared.ids.TermId.{TermId}
+use Rattle.mau_canon.specs.Standing.{StandsWithin}
 use Rattle.mau_canon.specs.Within.{IsWithin}
 use Rattle.mau_canon.proofs.Depths.{arguments_are_within}
 use Rattle.mau_canon.proofs.Standing.{list_stands_for_nested}
 use Rattle.mau_api.specs.Terms.{IsBareWithin, holes, holes_in}
 use Rattle.mau_logic.specs.Lines.{over}
 use Rattle.mau_logic.specs.Justified.{With}
+use Rattle.mau_check.specs.declared.kept.Holes.{Holes}
 use Rattle.mau_check.specs.declared.kept.Kept.{Kept}
-use Rattle.mau_check.specs.Kept.{IsKeptFor, AreKeptFor, kinds_of, SuitsKinds}
+use Rattle.mau_check.specs.Kept.{AreHoles, IsKeptFor, AreKeptFor, kinds_of, SuitsKinds}
 
 -- ---- the operator over terms, if it is a term
 
@@ -211,3 +216,89 @@ pub holes_nest : (a : Bool) (f : ℕ) (ts : List Tree) → holes (nest a f ts) �
 holes_nest false f ts = refl
 holes_nest true f [] = refl
 holes_nest true f (t ∷ ts) = holes_nest_from f t ts
+
+-- ---- kinds that differ
+
+pub kinds_differ : (h : ℕ → ℕ) (ks : List Kept) (rs : List ℕ) (i : ℕ) (d : Kept) (e : ℕ) → i < length ks → i < length rs → ((get_or ks i d).kind ≡ h (get_or rs i e) → ⊥) → kinds_of ks ≡ map h rs → ⊥
+kinds_differ h [] rs i d e l m f q = omega arith
+kinds_differ h (k ∷ ks) [] i d e l m f q = omega arith
+kinds_differ h (k ∷ ks) (r ∷ rs) zero d e l m f q = f (let s : k.kind ≡ h r = cc in s)
+kinds_differ h (k ∷ ks) (r ∷ rs) (suc i) d e l m f q = kinds_differ h ks rs i d e (omega arith) (omega arith) f (let s : kinds_of ks ≡ map h rs = cc in s)
+
+pub kinds_same : (h : ℕ → ℕ) (ks : List Kept) (rs : List ℕ) → length ks ≡ length rs → ((i : ℕ) (d : Kept) (e : ℕ) → i < length ks → (get_or ks i d).kind ≡ h (get_or rs i e)) → kinds_of ks ≡ map h rs
+kinds_same h [] [] l f = refl
+kinds_same h [] (r ∷ rs) l f = absurd (omega arith)
+kinds_same h (k ∷ ks) [] l f = absurd (omega arith)
+kinds_same h (k ∷ ks) (r ∷ rs) l f = ap₂ (λ m ms. m ∷ ms) (f 0 k r (omega arith)) (kinds_same h ks rs (omega arith) (λ i d e m. f (suc i) d e (omega arith)))
+
+-- ---- holes of some terms
+
+pub holes_more : (xs : List Tree) (t : Tree) → holes_in (trees_of (xs ++ t ∷ [])) ≡ holes_in (trees_of xs) ++ holes t
+holes_more [] t = append-nil (holes t)
+holes_more (x ∷ xs) t = ap (λ ks. holes x ++ ks) (holes_more xs t) ∙ sym (append_assoc (holes x) (holes_in (trees_of xs)) (holes t))
+
+-- the term at a place
+pub kept_at_place : (s : SignatureOf) (nodes : List Node) (ks : List Kept) (ts : List Tree) (i : ℕ) (d : Kept) → AreKeptFor s nodes ks ts → i < length ks → (t : Tree) × (take (suc i) ts ≡ take i ts ++ t ∷ []) × IsKeptFor s nodes (get_or ks i d) t
+kept_at_place s nodes [] ts i d h l = absurd (omega arith)
+kept_at_place s nodes (k ∷ ks) [] i d h l = absurd h
+kept_at_place s nodes (k ∷ ks) (t ∷ ts) zero d h l = (t, refl, h.0)
+kept_at_place s nodes (k ∷ ks) (t ∷ ts) (suc i) d h l = let g = kept_at_place s nodes ks ts i d h.1 (omega arith) in (g.0, ap (λ us. t ∷ us) g.1, g.2)
+
+-- ---- kinds that are one
+
+pub at_list : (b : Bool) (P Q R : Type 0) → b ≡ true → R ↔ P → R ↔ MatchBool b P Q
+at_list true P Q R e h = h
+at_list false P Q R e h = absurd cc
+
+pub length_kinds : (ks : List Kept) → length (kinds_of ks) ≡ length ks
+length_kinds [] = refl
+length_kinds (k ∷ ks) = ap suc (length_kinds ks)
+
+pub one_of_kind : (r : ℕ) (ks : List Kept) (i : ℕ) (d : Kept) → i < length ks → All (λ k. k ≡ r) (kinds_of ks) → (get_or ks i d).kind ≡ r
+one_of_kind r [] i d l all = absurd (omega arith)
+one_of_kind r (k ∷ ks) zero d l all = All-head (λ m. m ≡ r) k.kind (kinds_of ks) all
+one_of_kind r (k ∷ ks) (suc i) d l all = one_of_kind r ks i d (omega arith) (All-tail (λ m. m ≡ r) k.kind (kinds_of ks) all)
+
+pub all_of_kind : (r : ℕ) (ks : List Kept) → ((i : ℕ) (d : Kept) → i < length ks → (get_or ks i d).kind ≡ r) → All (λ k. k ≡ r) (kinds_of ks)
+all_of_kind r [] f = All-nil (λ m. m ≡ r)
+all_of_kind r (k ∷ ks) f = All-cons (λ m. m ≡ r) k.kind (kinds_of ks) (f 0 k (omega arith)) (all_of_kind r ks (λ i d l. f (suc i) d (omega arith)))
+
+-- ---- what is built
+
+pub numbers_ids : (ks : List Kept) → numbers (map (λ k. k.id) ks) ≡ map (λ k. k.id.0) ks
+numbers_ids [] = refl
+numbers_ids (k ∷ ks) = ap (λ ns. k.id.0 ∷ ns) (numbers_ids ks)
+
+pub kept_trees : (s : SignatureOf) (nodes : List Node) (ks : List Kept) (ts : List Tree) → AreKeptFor s nodes ks ts → trees_at nodes (numbers (map (λ k. k.id) ks)) ≡ map (norm (theory_at s)) ts
+kept_trees s nodes [] [] h = refl
+kept_trees s nodes [] (t ∷ ts) h = absurd h
+kept_trees s nodes (k ∷ ks) [] h = absurd h
+kept_trees s nodes (k ∷ ks) (t ∷ ts) h = ap₂ (λ u us. u ∷ us) h.0.stands (kept_trees s nodes ks ts h.1)
+
+module _ (s : SignatureOf) (lawful : IsLawful (terms_over s)) (f : ℕ) where
+  pub kept_suited : (nodes : List Node) (ks : List Kept) (ts : List Tree) → AreKeptFor s nodes ks ts → With (over s f ts) (IsBareWithin s) → IsOperator s f × SuitsKinds s f (kinds_of ks)
+  kept_suited nodes ks ts h w = suited_over s lawful f (kinds_of ks) ts (kept_lie s nodes ks ts h) (with_weaker (over s f ts) (IsBareWithin s) (IsBare (terms_over s)) (λ t b. b.0) w)
+
+  module _ (nodes : List Node) (ks : List Kept) (ts : List Tree) (ids : List TermId) (h : AreKeptFor s nodes ks ts) (e : ids ≡ map (λ k. k.id) ks) where
+    over_stands : norm (theory_at s) (node f (trees_at nodes (numbers ids))) ≡ norm (theory_at s) (nest (theory_at s f).assoc f ts)
+    over_stands = ap (λ us. norm (theory_at s) (node f us)) (ap (λ is. trees_at nodes (numbers is)) e ∙ kept_trees s nodes ks ts h) ∙ over_norm s lawful f ts
+
+    -- what is not within the limits
+    pub not_over : (IsWithin (theory_at s) (norm (theory_at s) (node f (trees_at nodes (numbers ids)))) → ⊥) → With (over s f ts) (IsBareWithin s) → ⊥
+    not_over no w = no (subst (IsWithin (theory_at s)) (sym over_stands) (from_over s f ts (IsBareWithin s) w).1.1)
+
+  pub over_made : (old new : List Node) (ks : List Kept) (ts : List Tree) (ids : List TermId) (id : TermId) (kind : ℕ) (hs : Holes) → IsOperator s f → SuitsKinds s f (kinds_of ks) → AreKeptFor s old ks ts → ids ≡ map (λ k. k.id) ks →
+      StandsFor (theory_at s) new id.0 (node f (trees_at old (numbers ids))) → StandsWithin (theory_at s) new id.0 → kind ≡ kind_of s.hierarchy (result_of (declarations_at s f)) → AreHoles hs (holes_in (trees_of ts)) →
+      With (over s f ts) (IsKeptFor s new (record { id = id; kind = kind; holes = hs }))
+  over_made old new ks ts ids id kind hs is suited h e stands within k hk =
+      let made = over_suited s lawful f (kinds_of ks) ts is (kept_lie s old ks ts h) suited in
+      let whole : tree_at new id.0 ≡ norm (theory_at s) (nest (theory_at s f).assoc f ts) = stands ∙ over_stands old ks ts ids h e in
+      let here : IsBareIn (terms_over s) (nest (theory_at s f).assoc f ts) kind = subst (IsBareIn (terms_over s) (nest (theory_at s f).assoc f ts)) (sym k) made.1 in
+      with_over s f ts (IsKeptFor s new (record { id = id; kind = kind; holes = hs })) made.0
+      (record {
+        within = ((kind, here), subst (IsWithin (theory_at s)) whole within.within);
+        kind = here;
+        there = within.there;
+        stands = whole;
+        holes = subst (AreHoles hs) (sym (holes_nest (theory_at s f).assoc f ts)) hk;
+      })

@@ -47,7 +47,7 @@ pub record SomeLead (us : List Says) (P : Bool → Tree → Tree → Type 0) : T
   pub is : P equational start end
 
 some_later : (y : Says) (us : List Says) (P : Bool → Tree → Tree → Type 0) → SomeLead us P → SomeLead (y ∷ us) P
-some_later y us P (record { equational = e; start = t; end = u; fact = (k, l, q); is = p }) = record { equational = e; start = t; end = u; fact = (suc k, omega arith, q); is = p }
+some_later y us P l = record { equational = l.equational; start = l.start; end = l.end; fact = (suc l.fact.0, let b = l.fact.1 in omega arith, l.fact.2); is = l.is }
 
 module _ (s : SignatureOf) (nodes : List Node) where
   -- of facts and what they say: one for which Q holds, and one of which P holds

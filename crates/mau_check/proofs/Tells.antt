@@ -41,9 +41,9 @@ here x xs = (0, omega arith, refl)
 later : {A : Type 0} (x y : A) (xs : List A) → Contains xs y → Contains (x ∷ xs) y
 later x y xs (k, l, e) = (suc k, omega arith, e)
 
-cases : {A : Type 0} (x y : A) (xs : List A) → Contains (x ∷ xs) y → (x ≡ y) ⊎ Contains xs y
-cases x y xs (zero, l, e) = inl e
-cases x y xs (suc k, l, e) = inr (k, omega arith, e)
+head_or_later : {A : Type 0} (x y : A) (xs : List A) → Contains (x ∷ xs) y → (x ≡ y) ⊎ Contains xs y
+head_or_later x y xs (zero, l, e) = inl e
+head_or_later x y xs (suc k, l, e) = inr (k, omega arith, e)
 
 none : {A : Type 0} (y : A) → Contains [] y → ⊥
 none y (k, l, e) = omega arith
@@ -67,7 +67,7 @@ module _ (s : SignatureOf) (nodes : List Node) where
     more_told (Some q) ns r c = later q r ns c
 
     one_told : (a : Kept) (q r : ℕ) (ns : List ℕ) (b : Bool) → (a.id.0 == i) ≡ b → Contains (cons_option (if b then Some q else None) ns) r → ((a.id.0 ≡ i) × (q ≡ r)) ⊎ Contains ns r
-    one_told a q r ns true e c = by (cases q r ns c)
+    one_told a q r ns true e c = by (head_or_later q r ns c)
       where
         by : (q ≡ r) ⊎ Contains ns r → ((a.id.0 ≡ i) × (q ≡ r)) ⊎ Contains ns r
         by (inl same) = inl (eqb-true a.id.0 i e, same)
@@ -94,7 +94,7 @@ module _ (s : SignatureOf) (nodes : List Node) where
         rest = filter_map (told_of i) xs
 
         forth : Contains ((norm (theory_at s) t, p) ∷ known_by s ys) (tree_at nodes i, r) → Contains (cons_option (if a.id.0 == i then Some q else None) rest) r
-        forth c = by (cases (norm (theory_at s) t, p) (tree_at nodes i, r) (known_by s ys) c)
+        forth c = by (head_or_later (norm (theory_at s) t, p) (tree_at nodes i, r) (known_by s ys) c)
           where
             by : ((norm (theory_at s) t, p) ≡ (tree_at nodes i, r)) ⊎ Contains (known_by s ys) (tree_at nodes i, r) → Contains (cons_option (if a.id.0 == i then Some q else None) rest) r
             by (inl e) =

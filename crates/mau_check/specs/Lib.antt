@@ -8,3 +8,4 @@ pub mod Told
 pub mod Variables
 pub mod Instances
 pub mod Named
+pub mod Texts

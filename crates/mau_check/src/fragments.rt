@@ -1,5 +1,5 @@
 //! Whether facts show the fragments of a condition.
-ghost use Rattle.std.specs.Prelude.{◌≡◌, ◌↔◌, List, All, IfOk, IsTrue, true};
+ghost use Rattle.std.specs.Prelude.{◌≡◌, ◌↔◌, ◌<◌, List, All, IfOk, IsTrue, true};
 ghost use Rattle.std.specs.List.{list_any};
 ghost use Rattle.mau_terms.specs.Tree.{Tree};
 ghost use Rattle.mau_terms.specs.Bare.{IsBare, IsLawful};

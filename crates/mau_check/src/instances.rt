@@ -1,5 +1,5 @@
 //! Instances by the values of variables.
-ghost use Rattle.std.specs.Prelude.{◌≡◌, List, map, IfOk, IfSome, IfNone};
+ghost use Rattle.std.specs.Prelude.{◌≡◌, List, IfOk, IfSome, IfNone};
 ghost use Rattle.mau_terms.specs.Tree.{Tree};
 ghost use Rattle.mau_terms.specs.Norm.{norm};
 ghost use Rattle.mau_terms.specs.Bare.{IsBare};
@@ -15,25 +15,15 @@ ghost use Rattle.mau_check.specs.Instances.{AreValuesOf};
 ghost use Rattle.mau_check.specs.Variables.{variables_in};
 
 use crate::building::instance_within;
-use crate::kept::Kept;
 use mau_signature::Signature;
 use mau_store::Store;
 use mau_terms::{Bare, NoMemory, TermId, VarId};
-use std::alloc::Global;
 
 /// Variables with the numbers of their values.
 #[derive(Drop, Debug)]
 pub struct Values {
     pub variables: Vec<VarId>,
     pub ids: Vec<TermId>,
-}
-
-/// The numbers of terms.
-pub fn ids_of(alloc: Global, values: &[Kept]) -> Result<Vec<TermId>, NoMemory>
-    ensures { IfOk result (λ ids. ids.items ≡ map (λ k. k.id) values.now) }
-{
-    let ids = values.iter().map(|value| value.id).collect(alloc)?;
-    Ok(ids)
 }
 
 /// The normal form of an instance, if it is within the limits.

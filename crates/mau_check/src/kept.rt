@@ -1,5 +1,5 @@
 //! The terms of a section, as numbers of a store.
-ghost use Rattle.std.specs.Prelude.{◌++◌, ℕ, List, Option, All, IfOk, IfSome, IfNone};
+ghost use Rattle.std.specs.Prelude.{◌≡◌, ◌++◌, ℕ, List, Option, All, map, IfOk, IfSome, IfNone};
 ghost use Rattle.mau_terms.specs.Tree.{Tree};
 ghost use Rattle.mau_signature.specs.Signature.{SignatureOf};
 ghost use Rattle.mau_store.specs.Node.{Node};
@@ -74,4 +74,12 @@ pub fn kept_all(
         all.push(one)?;
     }
     Ok(Some(all))
+}
+
+/// The numbers of terms.
+pub fn ids_of(alloc: Global, values: &[Kept]) -> Result<Vec<TermId>, NoMemory>
+    ensures { IfOk result (λ ids. ids.items ≡ map (λ k. k.id) values.now) }
+{
+    let ids = values.iter().map(|value| value.id).collect(alloc)?;
+    Ok(ids)
 }

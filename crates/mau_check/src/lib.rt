@@ -11,4 +11,5 @@ mod plain;
 mod said;
 mod sorts;
 mod statements;
+mod scratch;
 mod variables;

@@ -11,10 +11,10 @@ ghost use Rattle.mau_logic.specs.Justified.{With};
 ghost use Rattle.mau_check.specs.Kept.{AreHoles, IsKeptFor, AreKeptFor, kinds_of, SuitsKinds};
 
 use crate::building::build_within;
-use crate::kept::{Holes, Kept, join};
+use crate::kept::{Holes, Kept, ids_of, join};
 use mau_signature::Signature;
 use mau_store::Store;
-use mau_terms::{NoMemory, OpId, TermId};
+use mau_terms::{NoMemory, OpId};
 
 /// The sorts of an operator's arguments.
 fn arguments(sig: &Signature, op: OpId) -> &[u32]
@@ -44,6 +44,18 @@ fn have_kinds(sig: &Signature, sorts: &[u32], args: &[Kept]) -> bool
     true
 }
 
+/// Whether terms lie in one kind.
+fn are_of_kind(args: &[Kept], kind: u32) -> bool
+    ensures { IsTrue result ↔ All (λ k. k ≡ kind) (kinds_of args.now) }
+{
+    for arg in args {
+        if arg.kind != kind {
+            return false;
+        }
+    }
+    true
+}
+
 /// Whether an operator may stand over terms of these kinds.
 fn suits(sig: &Signature, op: OpId, args: &[Kept]) -> bool
     requires { IsOperator sig.now op.0 }
@@ -53,7 +65,7 @@ fn suits(sig: &Signature, op: OpId, args: &[Kept]) -> bool
         return have_kinds(sig, arguments(sig, op), args);
     }
     let kind = sig.result_kind(op);
-    args.len() >= 2 && args.iter().all(|arg| arg.kind == kind)
+    args.len() >= 2 && are_of_kind(args, kind)
 }
 
 /// The holes of some terms, from left to right.
@@ -82,7 +94,7 @@ fn build_suited(
     ensures extends { Extends store.old store.new }
 {
     let _ = sig.operators();
-    let ids: Vec<TermId> = args.iter().map(|arg| arg.id).collect(store.allocator())?;
+    let ids = ids_of(store.allocator(), args)?;
     let id = match build_within(store, sig, op, &ids) {
         Ok(Some(id)) => id,
         Ok(None) => return Ok(None),
@@ -107,7 +119,8 @@ pub fn build_over(
     ensures none { (ts : List Tree) → AreKeptFor sig.now store.old args.now ts → IfOk result (λ o. IfNone o (With (over sig.now op ts) (IsBareWithin sig.now) → ⊥)) }
     ensures extends { Extends store.old store.new }
 {
-    if op == 0 || op > sig.operators() {
+    let count = sig.operators();
+    if op == 0 || op > count {
         return Ok(None);
     }
     if !suits(sig, OpId(op), args) {

@@ -1,5 +1,5 @@
 //! Facts that lead from one term to another without a statement: equal terms, chains, an operator over facts.
-ghost use Rattle.std.specs.Prelude.{◌≡◌, ◌↔◌, List, Bool, Option, IfOk, IfSome, IfNone, IsTrue};
+ghost use Rattle.std.specs.Prelude.{◌≡◌, ◌↔◌, List, Bool, true, Option, IfOk, IfSome, IfNone, IsTrue};
 ghost use Rattle.mau_terms.specs.Tree.{Tree};
 ghost use Rattle.mau_terms.specs.Bare.{EqualModulo};
 ghost use Rattle.mau_signature.specs.Signature.{IsOperator, terms_over};

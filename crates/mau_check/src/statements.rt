@@ -26,8 +26,8 @@ ghost use Rattle.mau_check.specs.Variables.{variables_in};
 
 use crate::filling::fill;
 use crate::fragments::shows_all;
-use crate::instances::{Values, ids_of, instance_of};
-use crate::kept::{Holes, Kept};
+use crate::instances::{Values, instance_of};
+use crate::kept::{Holes, Kept, ids_of};
 use crate::said::Said;
 use crate::sorts::have_sorts;
 use crate::variables::{add_term, variables_of};

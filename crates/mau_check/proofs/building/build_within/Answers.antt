@@ -1,0 +1,14 @@
+use Rattle.mau_terms.specs.Tree.{node}
+use Rattle.mau_terms.specs.Norm.{norm}
+use Rattle.mau_signature.specs.Signature.{theory_at}
+use Rattle.mau_store.specs.Trees.{StandsFor, trees_at}
+use Rattle.mau_store.specs.View.{numbers}
+use Rattle.mau_canon.specs.Standing.{StandsWithin}
+use Rattle.mau_canon.specs.Within.{IsWithin}
+use Rattle.mau_check.proofs.Results.{always_none}
+use Rattle.mau_check.proofs.building.build_within.Goals as goal
+
+pub returns-in-Err-clause-none : goal.returns-in-Err-clause-none
+returns-in-Err-clause-none c =
+    always_none c.refused.result _
+    (c.refused.ensures.beyond (theory_at c.args.sig.now) (norm (theory_at c.args.sig.now) (node c.args.op.0 (trees_at c.args.store.now (numbers c.args.args.now)))) c.in-Err.ensures.refused)
