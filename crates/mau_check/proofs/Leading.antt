@@ -1,5 +1,5 @@
 -- Facts that lead from one term to another without a statement.
-use Rattle.std.proofs.Common.{◌≡◌, ◌↔◌, ℕ, ◌==◌, List, [], ◌∷◌, ◌++◌, Bool, true, false, ◌&&◌, cond, if◌then◌else◌, Option, Some, None, refl, sym, ap, ap₂, ◌∙◌, subst}
+use Rattle.std.proofs.Common.{◌≡◌, ◌↔◌, ℕ, zero, suc, ◌<◌, ◌==◌, length, get_or, arith, List, [], ◌∷◌, ◌++◌, Bool, true, false, ◌&&◌, cond, if◌then◌else◌, Option, Some, None, refl, sym, ap, ap₂, ◌∙◌, subst, eq-eqb}
 use Rattle.std.specs.Prelude.{All, IfSome, IfNone, IsTrue}
 use Rattle.std.specs.List.{AllZip}
 use Rattle.std.specs.Option.{option_map, option_and_then}
@@ -19,10 +19,11 @@ use Rattle.mau_check.specs.declared.said.Said.TheVariants.{Leads, Sorted}
 use Rattle.mau_check.specs.Kept.{IsKeptFor, AreKeptFor}
 use Rattle.mau_check.specs.Said.{IsSaid, AreSaid, Decides, onward, onward_all, StartsAt, EndsAt, by_equations, AreEnds}
 use Rattle.mau_check.proofs.Equals.{kept_equal}
+use Rattle.mau_check.proofs.Numbers.{zip_push}
 use Rattle.mau_check.proofs.Overs.{with_weaker}
 
 eq_true : (a b : ℕ) → a ≡ b → (a == b) ≡ true
-eq_true a b e = cc
+eq_true a b e = eq-eqb a b e
 
 -- a fact that names a term which is not there, or not within the limits
 pub no_first : (s : SignatureOf) (o : Option Tree) (P : Tree → Type 0) → (With o (IsBareWithin s) → ⊥) → With o (λ t. IsBareWithin s t × P t) → ⊥
@@ -39,7 +40,7 @@ module _ (s : SignatureOf) (lawful : IsLawful (terms_over s)) (nodes : List Node
       Decides s nodes (Some (Leads true a b)) (With o (λ t. IsBareWithin s t × With p (λ u. IsBareWithin s u × EqualModulo (terms_over s) t u))) (leads_if true o p)
   same_terms a b None p h g e = absurd h
   same_terms a b (Some t) None h g e = absurd g
-  same_terms a b (Some t) (Some u) h g e = ((h.within, g.within, (kept_equal s lawful nodes are a b t u h g).0 e), (refl, h, g))
+  same_terms a b (Some t) (Some u) h g e = ((h.within, (g.within, (kept_equal s lawful nodes are a b t u h g).0 e)), (refl, h, g))
 
   pub other_terms : (a b : Kept) (o p : Option Tree) → With o (IsKeptFor s nodes a) → With p (IsKeptFor s nodes b) → (a.id.0 ≡ b.id.0 → ⊥) →
       With o (λ t. IsBareWithin s t × With p (λ u. IsBareWithin s u × EqualModulo (terms_over s) t u)) → ⊥
@@ -177,3 +178,98 @@ module _ (s : SignatureOf) (lawful : IsLawful (terms_over s)) (nodes : List Node
   one_lead (leads d t u ∷ ys) ts us vs ws h g = let k = one_lead ys h.0 h.1 g.0 g.1 h.2 g.2 in (h.3 ∙ ap (λ xs. t ∷ xs) k.0 ∙ sym g.3, h.4 ∙ ap (λ xs. u ∷ xs) k.1 ∙ sym g.4)
   one_lead (of_sort t r ∷ ys) ts us vs ws h g = absurd h
   one_lead (says_nothing ∷ ys) ts us vs ws h g = absurd h
+
+-- ---- an operator over facts, decided
+
+said_none : (s : SignatureOf) (nodes : List Node) (xs : List Said) (ys : List Says) → AreSaid s nodes xs ys → ys ≡ [] → xs ≡ []
+said_none s nodes [] [] h e = refl
+said_none s nodes [] (y ∷ ys) h e = refl
+said_none s nodes (x ∷ xs) [] h e = absurd h
+said_none s nodes (x ∷ xs) (y ∷ ys) h e = cc
+
+none_said : (s : SignatureOf) (nodes : List Node) (xs : List Said) (ys : List Says) → AreSaid s nodes xs ys → xs ≡ [] → ys ≡ []
+none_said s nodes [] [] h e = refl
+none_said s nodes [] (y ∷ ys) h e = absurd h
+none_said s nodes (x ∷ xs) [] h e = refl
+none_said s nodes (x ∷ xs) (y ∷ ys) h e = cc
+
+module _ (s : SignatureOf) (lawful : IsLawful (terms_over s)) (nodes : List Node) (are : AreNodes nodes) (f : ℕ) (uses : List Said) (xs : List Says) (said : AreSaid s nodes uses xs) (t u : Tree) where
+  -- an operator stands over a list of facts that is not empty
+  pub not_under_none : uses ≡ [] → IsUnder s f xs t u → ⊥
+  not_under_none e h = h.some (none_said s nodes uses xs said e)
+
+  -- each fact leads from a term to a term
+  pub not_under_sorts : ((e : Bool) (starts ends : List Kept) → AreEnds uses e starts ends → ⊥) → IsUnder s f xs t u → ⊥
+  not_under_sorts no h = let k = lead_ends s lawful nodes are uses xs h.starts h.ends said h.lead in no (by_equations uses) k.0 k.1 k.2
+
+  module _ (e : Bool) (starts ends : List Kept) (are_ends : AreEnds uses e starts ends) where
+    abbrev lead : (ts : List Tree) × (us : List Tree) × Lead xs ts us × AreKeptFor s nodes starts ts × AreKeptFor s nodes ends us
+    lead = ends_lead s lawful nodes are uses starts ends xs are_ends.from are_ends.to said
+
+    abbrev pub first_terms : List Tree
+    first_terms = lead.0
+
+    abbrev pub last_terms : List Tree
+    last_terms = lead.1
+
+    pub first_kept : AreKeptFor s nodes starts first_terms
+    first_kept = lead.3
+
+    pub last_kept : AreKeptFor s nodes ends last_terms
+    last_kept = lead.4
+
+    pub under_from : IsUnder s f xs t u → IsOperator s f × With (over s f first_terms) (EqualModulo (terms_over s) t)
+    under_from h = (h.operator, subst (λ ts. With (over s f ts) (EqualModulo (terms_over s) t)) (one_lead s lawful nodes are xs h.starts h.ends first_terms last_terms h.lead lead.2).0 h.from)
+
+    pub under_to : IsUnder s f xs t u → IsOperator s f × With (over s f last_terms) (EqualModulo (terms_over s) u)
+    under_to h = (
+      h.operator,
+      with_weaker (over s f last_terms) (λ v. EqualModulo (terms_over s) v u) (EqualModulo (terms_over s) u) (λ v q. EqualModulo-sym q)
+          (subst (λ ts. With (over s f ts) (λ v. EqualModulo (terms_over s) v u)) (one_lead s lawful nodes are xs h.starts h.ends first_terms last_terms h.lead lead.2).1 h.to),
+    )
+
+    pub under_made : (uses ≡ [] → ⊥) → IsOperator s f × With (over s f first_terms) (EqualModulo (terms_over s) t) → IsOperator s f × With (over s f last_terms) (EqualModulo (terms_over s) u) → IsUnder s f xs t u
+    under_made some a b = record {
+      operator = a.0;
+      starts = first_terms;
+      ends = last_terms;
+      lead = lead.2;
+      some = λ q. some (said_none s nodes uses xs said q);
+      from = a.1;
+      to = with_weaker (over s f last_terms) (EqualModulo (terms_over s) u) (λ v. EqualModulo (terms_over s) v u) (λ v q. EqualModulo-sym q) b.1;
+    }
+
+    pub ends_equational : e ≡ all_equational xs
+    ends_equational = are_ends.equational ∙ said_equational s lawful nodes are uses xs said
+
+-- ---- ends of more facts
+
+pub ends_more : (xs : List Said) (e d : Bool) (starts ends : List Kept) (a b : Kept) → AreEnds xs e starts ends → AreEnds (xs ++ Leads d a b ∷ []) (e && d) (starts ++ a ∷ []) (ends ++ b ∷ [])
+ends_more xs e d starts ends a b h = record {
+  equational = ap (λ z. z && d) h.equational ∙ more xs;
+  from = zip_push StartsAt xs starts (Leads d a b) a h.from refl;
+  to = zip_push EndsAt xs ends (Leads d a b) b h.to refl;
+}
+  where
+    more : (ys : List Said) → (by_equations ys && d) ≡ by_equations (ys ++ Leads d a b ∷ [])
+    more [] = by d
+      where
+        by : (z : Bool) → (true && z) ≡ (z && true)
+        by true = refl
+        by false = refl
+    more (Leads q x y ∷ ys) = assoc q (by_equations ys) ∙ ap (λ z. q && z) (more ys)
+      where
+        assoc : (p r : Bool) → ((p && r) && d) ≡ (p && (r && d))
+        assoc true r = refl
+        assoc false r = refl
+    more (Sorted x r ∷ ys) = refl
+
+-- a fact about a sort has no ends
+pub no_ends : (xs : List Said) (i : ℕ) (d : Said) (a : Kept) (r : ℕ) (e : Bool) (starts ends : List Kept) → i < length xs → get_or xs i d ≡ Sorted a r → AreEnds xs e starts ends → ⊥
+no_ends xs i d a r e starts ends l q h = by xs starts i l q h.from
+  where
+    by : (xs : List Said) (ks : List Kept) (i : ℕ) → i < length xs → get_or xs i d ≡ Sorted a r → AllZip StartsAt xs ks → ⊥
+    by [] ks i l q h = omega arith
+    by (x ∷ xs) [] i l q h = h
+    by (x ∷ xs) (k ∷ ks) zero l q h = subst (λ z. StartsAt z k) q h.0
+    by (x ∷ xs) (k ∷ ks) (suc i) l q h = by xs ks i (omega arith) q h.1

@@ -111,7 +111,7 @@ module _ (s : SignatureOf) where
     make_nest is t [] b all = b
     make_nest is t (u ∷ us) b all =
         let rest = make_nest is u us (All-head (λ w. IsBareIn (terms_over s) w d) u us all) (All-tail (λ w. IsBareIn (terms_over s) w d) u us all) in
-        (has_operator s f is, refl, subst (AreBareIn (terms_over s) (tree t (tree (nest_from f u us) no_trees))) (sym (lawful.assoc_kinds f a)) (b, rest, tt))
+        (has_operator s f is, refl, subst (AreBareIn (terms_over s) (tree t (tree (nest_from f u us) no_trees))) (sym (lawful.assoc_kinds f a)) (b, (rest, tt)))
 
     from_nest : (t : Tree) (ts : List Tree) → IsBareIn (terms_over s) (nest_from f t ts) d → All (λ u. IsBareIn (terms_over s) u d) (t ∷ ts)
     from_nest t [] b = All-cons (λ u. IsBareIn (terms_over s) u d) t [] b (All-nil (λ u. IsBareIn (terms_over s) u d))
@@ -285,7 +285,7 @@ module _ (s : SignatureOf) (lawful : IsLawful (terms_over s)) (f : ℕ) where
 
     -- what is not within the limits
     pub not_over : (IsWithin (theory_at s) (norm (theory_at s) (node f (trees_at nodes (numbers ids)))) → ⊥) → With (over s f ts) (IsBareWithin s) → ⊥
-    not_over no w = no (subst (IsWithin (theory_at s)) (sym over_stands) (from_over s f ts (IsBareWithin s) w).1.1)
+    not_over refuses w = refuses (subst (IsWithin (theory_at s)) (sym over_stands) (from_over s f ts (IsBareWithin s) w).1.1)
 
   pub over_made : (old new : List Node) (ks : List Kept) (ts : List Tree) (ids : List TermId) (id : TermId) (kind : ℕ) (hs : Holes) → IsOperator s f → SuitsKinds s f (kinds_of ks) → AreKeptFor s old ks ts → ids ≡ map (λ k. k.id) ks →
       StandsFor (theory_at s) new id.0 (node f (trees_at old (numbers ids))) → StandsWithin (theory_at s) new id.0 → kind ≡ kind_of s.hierarchy (result_of (declarations_at s f)) → AreHoles hs (holes_in (trees_of ts)) →

@@ -1,5 +1,5 @@
 -- Facts in use, by the numbers of their terms.
-use Rattle.std.proofs.Common.{◌≡◌, ◌↔◌, ℕ, zero, suc, ◌<◌, ◌==◌, List, [], ◌∷◌, ◌++◌, length, map, Bool, true, false, not, ◌&&◌, ◌||◌, ◌⊎◌, inl, inr, Option, Some, None, refl, sym, ap, ap₂, ◌∙◌, subst, arith}
+use Rattle.std.proofs.Common.{◌≡◌, ◌↔◌, ℕ, zero, suc, ◌<◌, ◌==◌, List, [], ◌∷◌, ◌++◌, length, map, Bool, true, false, not, ◌&&◌, ◌||◌, ◌⊎◌, inl, inr, Option, Some, None, refl, sym, ap, ap₂, ◌∙◌, subst, arith, eq-eqb}
 use Rattle.std.specs.Prelude.{Contains, All, slice_index_or}
 use Rattle.std.specs.List.{AllZip, list_any}
 use Rattle.std.proofs.lemmas.Bool.{eqb-true, and_parts}
@@ -27,7 +27,7 @@ use Rattle.mau_check.specs.Instances.{ShowsEqual, ShowsSort}
 use Rattle.mau_check.proofs.Equals.{equal_numbers}
 
 eq_true : (a b : ℕ) → a ≡ b → (a == b) ≡ true
-eq_true a b e = cc
+eq_true a b e = eq-eqb a b e
 
 -- the number i stands for the bare term t
 pub record Stands (s : SignatureOf) (nodes : List Node) (i : ℕ) (t : Tree) : Type 0 where
@@ -78,22 +78,22 @@ module _ (s : SignatureOf) (nodes : List Node) where
             at (Sorted a r) i = absurd i
 
 -- a test of the facts
+any_here : (b c : Bool) (P Q : Type 0) → (b ≡ true → P) → (c ≡ true → Q) → (b || c) ≡ true → P ⊎ Q
+any_here true c P Q f g e = inl (f refl)
+any_here false c P Q f g e = inr (g e)
+
+any_there : (b c : Bool) → c ≡ true → (b || c) ≡ true
+any_there true c e = refl
+any_there false c e = e
+
 pub any_some : (p : Said → Bool) (Q : Said → Type 0) → ((x : Said) → p x ≡ true → Q x) → (xs : List Said) → list_any p xs ≡ true → SomeSaid Q xs
 any_some p Q f [] e = absurd cc
-any_some p Q f (x ∷ xs) e = by (p x) refl e
-  where
-    by : (b : Bool) → p x ≡ b → (b || list_any p xs) ≡ true → Q x ⊎ SomeSaid Q xs
-    by true q d = inl (f x q)
-    by false q d = inr (any_some p Q f xs d)
+any_some p Q f (x ∷ xs) e = any_here (p x) (list_any p xs) (Q x) (SomeSaid Q xs) (f x) (any_some p Q f xs) e
 
 pub some_any : (p : Said → Bool) (Q : Said → Type 0) → ((x : Said) → Q x → p x ≡ true) → (xs : List Said) → SomeSaid Q xs → list_any p xs ≡ true
 some_any p Q f [] q = absurd q
 some_any p Q f (x ∷ xs) (inl q) = ap (λ b. b || list_any p xs) (f x q)
-some_any p Q f (x ∷ xs) (inr q) = by (p x)
-  where
-    by : (b : Bool) → (b || list_any p xs) ≡ true
-    by true = refl
-    by false = some_any p Q f xs q
+some_any p Q f (x ∷ xs) (inr q) = any_there (p x) (list_any p xs) (some_any p Q f xs q)
 
 module _ (s : SignatureOf) (lawful : IsLawful (terms_over s)) (nodes : List Node) (are : AreNodes nodes) where
   same_number : (i : ℕ) (t : Tree) (a : Kept) (v : Tree) → Stands s nodes i t → IsKeptFor s nodes a v → (i ≡ a.id.0) ↔ EqualModulo (terms_over s) t v

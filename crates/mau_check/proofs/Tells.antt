@@ -1,7 +1,7 @@
 -- Sorts that facts tell.
-use Rattle.std.proofs.Common.{◌≡◌, ◌↔◌, ℕ, zero, suc, ◌+◌, ◌<◌, ◌≤◌, ◌==◌, List, [], ◌∷◌, ◌++◌, length, map, Bool, true, false, ◌⊎◌, inl, inr, Option, Some, None, refl, sym, ap, ◌∙◌, subst, arith, if◌then◌else◌, get_or}
-use Rattle.std.specs.Prelude.{All, Contains, IsTrue, is_some, slice_get, take}
-use Rattle.std.specs.List.{AllZip, filter_map, cons_option}
+use Rattle.std.proofs.Common.{◌≡◌, ◌↔◌, ℕ, zero, suc, ◌+◌, ◌<◌, ◌≤◌, ◌==◌, List, [], ◌∷◌, ◌++◌, length, map, Bool, true, false, ◌⊎◌, inl, inr, Option, Some, None, refl, sym, ap, ◌∙◌, subst, arith, if◌then◌else◌, get_or, eq-eqb}
+use Rattle.std.specs.Prelude.{All, Contains, IsTrue, is_some}
+use Rattle.std.specs.List.{AllZip, filter_map, cons_option, list_any}
 use Rattle.std.proofs.lemmas.Bool.{eqb-true}
 use Rattle.std.proofs.lemmas.List.Elements.{All-nil, All-cons, Contains-append_left, Contains-append_right, Contains-append_cases}
 use Rattle.mau_poset.specs.Order.{Hierarchy, kind_of}
@@ -30,7 +30,7 @@ use Rattle.mau_check.specs.declared.said.Said.{Said}
 use Rattle.mau_check.specs.declared.said.Said.TheVariants.{Leads, Sorted}
 use Rattle.mau_check.specs.Kept.{IsKeptFor, AreKeptFor}
 use Rattle.mau_check.specs.Said.{IsSaid, AreSaid}
-use Rattle.mau_check.specs.Told.{told_of, AreToldSorts}
+use Rattle.mau_check.specs.Told.{told_of, tells_sort, AreToldSorts}
 use Rattle.mau_check.specs.Variables.{variables_in}
 
 -- ---- membership in lists
@@ -76,8 +76,33 @@ module _ (s : SignatureOf) (nodes : List Node) where
 
     told_this : (a : Kept) (q r : ℕ) (ns : List ℕ) → a.id.0 ≡ i → q ≡ r → Contains (cons_option (if a.id.0 == i then Some q else None) ns) r
     told_this a q r ns e d =
-        let t : (a.id.0 == i) ≡ true = cc in
+        let t : (a.id.0 == i) ≡ true = eq-eqb a.id.0 i e in
         subst (λ (b : Bool). Contains (cons_option (if b then Some q else None) ns) r) (sym t) (subst (λ (z : ℕ). Contains (q ∷ ns) z) d (here q ns))
+
+    told_step : (a : Kept) (q : ℕ) (t : Tree) (p : ℕ) (ks : Known) (ns : List ℕ) → q ≡ p → IsKeptFor s nodes a t → (r : ℕ) → (Contains ks (tree_at nodes i, r) ↔ Contains ns r) →
+        Contains ((norm (theory_at s) t, p) ∷ ks) (tree_at nodes i, r) ↔ Contains (cons_option (if a.id.0 == i then Some q else None) ns) r
+    told_step a q t p ks ns same h r rest = (forth, back)
+      where
+        forth : Contains ((norm (theory_at s) t, p) ∷ ks) (tree_at nodes i, r) → Contains (cons_option (if a.id.0 == i then Some q else None) ns) r
+        forth c = by (head_or_later (norm (theory_at s) t, p) (tree_at nodes i, r) ks c)
+          where
+            by : ((norm (theory_at s) t, p) ≡ (tree_at nodes i, r)) ⊎ Contains ks (tree_at nodes i, r) → Contains (cons_option (if a.id.0 == i then Some q else None) ns) r
+            by (inl e) =
+                let et : norm (theory_at s) t ≡ tree_at nodes i = ap (λ (z : Tree × ℕ). z.0) e in
+                let er : p ≡ r = ap (λ (z : Tree × ℕ). z.1) e in
+                told_this a q r ns (one_number nodes are a.id.0 i h.there there (h.stands ∙ et)) (same ∙ er)
+            by (inr d) = more_told (if a.id.0 == i then Some q else None) ns r (rest.0 d)
+
+        back : Contains (cons_option (if a.id.0 == i then Some q else None) ns) r → Contains ((norm (theory_at s) t, p) ∷ ks) (tree_at nodes i, r)
+        back c = by (one_told a q r ns (a.id.0 == i) refl c)
+          where
+            by : ((a.id.0 ≡ i) × (q ≡ r)) ⊎ Contains ns r → Contains ((norm (theory_at s) t, p) ∷ ks) (tree_at nodes i, r)
+            by (inl e) =
+                let et : norm (theory_at s) t ≡ tree_at nodes i = sym h.stands ∙ ap (tree_at nodes) e.0 in
+                let er : p ≡ r = sym same ∙ e.1 in
+                subst (λ (z : Tree). Contains ((norm (theory_at s) t, p) ∷ ks) (z, r)) et
+                (subst (λ (z : ℕ). Contains ((norm (theory_at s) t, p) ∷ ks) (norm (theory_at s) t, z)) er (here (norm (theory_at s) t, p) ks))
+            by (inr d) = later (norm (theory_at s) t, p) (tree_at nodes i, r) ks (rest.1 d)
 
     pub known_told : (xs : List Said) (ys : List Says) → AreSaid s nodes xs ys → IsKnownOf (known_by s ys) (tree_at nodes i) (filter_map (told_of i) xs)
     known_told [] [] h r = ((λ c. absurd (none (tree_at nodes i, r) c)), λ c. absurd (none r c))
@@ -88,41 +113,17 @@ module _ (s : SignatureOf) (nodes : List Node) where
     known_told (Leads e a b ∷ xs) (says_nothing ∷ ys) h r = absurd h.0
     known_told (Sorted a q ∷ xs) (leads d t u ∷ ys) h r = absurd h.0
     known_told (Sorted a q ∷ xs) (says_nothing ∷ ys) h r = absurd h.0
-    known_told (Sorted a q ∷ xs) (of_sort t p ∷ ys) h r = (forth, back)
-      where
-        rest : List ℕ
-        rest = filter_map (told_of i) xs
-
-        forth : Contains ((norm (theory_at s) t, p) ∷ known_by s ys) (tree_at nodes i, r) → Contains (cons_option (if a.id.0 == i then Some q else None) rest) r
-        forth c = by (head_or_later (norm (theory_at s) t, p) (tree_at nodes i, r) (known_by s ys) c)
-          where
-            by : ((norm (theory_at s) t, p) ≡ (tree_at nodes i, r)) ⊎ Contains (known_by s ys) (tree_at nodes i, r) → Contains (cons_option (if a.id.0 == i then Some q else None) rest) r
-            by (inl e) =
-                let et : norm (theory_at s) t ≡ tree_at nodes i = ap (λ (z : Tree × ℕ). z.0) e in
-                let er : p ≡ r = ap (λ (z : Tree × ℕ). z.1) e in
-                told_this a q r rest (one_number nodes are a.id.0 i h.0.1.there there (h.0.1.stands ∙ et)) (h.0.0 ∙ er)
-            by (inr d) = more_told (if a.id.0 == i then Some q else None) rest r ((known_told xs ys h.1 r).0 d)
-
-        back : Contains (cons_option (if a.id.0 == i then Some q else None) rest) r → Contains ((norm (theory_at s) t, p) ∷ known_by s ys) (tree_at nodes i, r)
-        back c = by (one_told a q r rest (a.id.0 == i) refl c)
-          where
-            by : ((a.id.0 ≡ i) × (q ≡ r)) ⊎ Contains rest r → Contains ((norm (theory_at s) t, p) ∷ known_by s ys) (tree_at nodes i, r)
-            by (inl e) =
-                let et : norm (theory_at s) t ≡ tree_at nodes i = sym h.0.1.stands ∙ ap (tree_at nodes) e.0 in
-                let er : p ≡ r = sym h.0.0 ∙ e.1 in
-                subst (λ (z : Tree). Contains ((norm (theory_at s) t, p) ∷ known_by s ys) (z, r)) et
-                (subst (λ (z : ℕ). Contains ((norm (theory_at s) t, p) ∷ known_by s ys) (norm (theory_at s) t, z)) er (here (norm (theory_at s) t, p) (known_by s ys)))
-            by (inr d) = later (norm (theory_at s) t, p) (tree_at nodes i, r) (known_by s ys) ((known_told xs ys h.1 r).1 d)
+    known_told (Sorted a q ∷ xs) (of_sort t p ∷ ys) h r = told_step a q t p (known_by s ys) (filter_map (told_of i) xs) h.0.0 h.0.1 r (known_told xs ys h.1 r)
 
 -- told sorts are sorts
+below_more : (n : ℕ) (b : Bool) (q : ℕ) (ns : List ℕ) → q < n → All (λ m. m < n) ns → All (λ m. m < n) (cons_option (if b then Some q else None) ns)
+below_more n true q ns l all = All-cons (λ m. m < n) q ns l all
+below_more n false q ns l all = all
+
 pub told_below : (s : SignatureOf) (i : ℕ) (xs : List Said) → AreToldSorts s xs → AreSorts s.hierarchy (filter_map (told_of i) xs)
 told_below s i [] h = All-nil (λ m. m < s.hierarchy.sorts)
 told_below s i (Leads e a b ∷ xs) h = told_below s i xs h
-told_below s i (Sorted a q ∷ xs) h = by (a.id.0 == i)
-  where
-    by : (b : Bool) → AreSorts s.hierarchy (cons_option (if b then Some q else None) (filter_map (told_of i) xs))
-    by true = All-cons (λ m. m < s.hierarchy.sorts) q (filter_map (told_of i) xs) h.0 (told_below s i xs h.1)
-    by false = told_below s i xs h.1
+told_below s i (Sorted a q ∷ xs) h = below_more s.hierarchy.sorts (a.id.0 == i) q (filter_map (told_of i) xs) h.0 (told_below s i xs h.1)
 
 -- ---- tables
 
@@ -177,22 +178,11 @@ module _ (s : SignatureOf) (nodes : List Node) (us : List Says) where
 
 -- ---- facts that tell no sort
 
-abbrev pub TellNone : List Said → Type 0
-TellNone [] = Unit {0}
-TellNone (Leads e a b ∷ xs) = TellNone xs
-TellNone (Sorted a r ∷ xs) = ⊥
-
-pub none_more : (xs : List Said) (i : ℕ) (e : Bool) (a b : Kept) → TellNone (take i xs) → slice_get xs i ≡ Some (Leads e a b) → TellNone (take (suc i) xs)
-none_more [] i e a b h g = tt
-none_more (x ∷ xs) zero e a b h g = subst (λ z. TellNone (z ∷ take 0 xs)) (let d : Leads e a b ≡ x = cc in d) tt
-none_more (Leads d c f ∷ xs) (suc i) e a b h g = none_more xs i e a b h g
-none_more (Sorted c r ∷ xs) (suc i) e a b h g = h
-
-pub none_known : (s : SignatureOf) (nodes : List Node) (xs : List Said) (ys : List Says) → AreSaid s nodes xs ys → TellNone xs → known_by s ys ≡ []
+pub none_known : (s : SignatureOf) (nodes : List Node) (xs : List Said) (ys : List Says) → AreSaid s nodes xs ys → list_any tells_sort xs ≡ false → known_by s ys ≡ []
 none_known s nodes [] [] h n = refl
 none_known s nodes [] (y ∷ ys) h n = absurd h
 none_known s nodes (x ∷ xs) [] h n = absurd h
 none_known s nodes (Leads e a b ∷ xs) (leads d t u ∷ ys) h n = none_known s nodes xs ys h.1 n
 none_known s nodes (Leads e a b ∷ xs) (of_sort t r ∷ ys) h n = absurd h.0
 none_known s nodes (Leads e a b ∷ xs) (says_nothing ∷ ys) h n = absurd h.0
-none_known s nodes (Sorted a r ∷ xs) (y ∷ ys) h n = absurd n
+none_known s nodes (Sorted a r ∷ xs) (y ∷ ys) h n = absurd cc

@@ -1,5 +1,5 @@
 -- Variables as they are written: where their text is cut.
-use Rattle.std.proofs.Common.{◌≡◌, ℕ, zero, suc, ◌+◌, ◌-◌, ◌<◌, ◌==◌, List, [], ◌∷◌, length, take, drop, get_or, Bool, true, false, Option, Some, None, refl, sym, ap, ◌∙◌, subst, arith, if◌then◌else◌, add-one}
+use Rattle.std.proofs.Common.{◌≡◌, ℕ, zero, suc, ◌+◌, ◌-◌, ◌<◌, ◌==◌, List, [], ◌∷◌, length, take, drop, get_or, Bool, true, false, Option, Some, None, refl, sym, ap, ◌∙◌, subst, arith, if◌then◌else◌, eq-eqb}
 use Rattle.std.specs.Prelude.{slice_index}
 use Rattle.std.proofs.lemmas.Bool.{eqb-true}
 use Rattle.std.specs.Option.{option_map}
@@ -7,7 +7,7 @@ use Rattle.mau_logic.specs.Lines.{cut, before_bracket, in_brackets}
 use Rattle.mau_check.specs.Texts.{IsLastColon, HasNoColon}
 
 same_true : (a b : ℕ) → a ≡ b → (a == b) ≡ true
-same_true a b e = cc
+same_true a b e = eq-eqb a b e
 
 other_false : (a b : ℕ) → (a ≡ b → ⊥) → (a == b) ≡ false
 other_false a b f = by (a == b) refl

@@ -1,5 +1,5 @@
 -- Sorts that facts tell, and tables of sorts.
-use Rattle.std.specs.Prelude.{◌≡◌, ◌<◌, ◌==◌, true, ℕ, List, [], ◌∷◌, Option, Some, None, if◌then◌else◌}
+use Rattle.std.specs.Prelude.{◌≡◌, ◌<◌, ◌==◌, Bool, true, false, ℕ, List, [], ◌∷◌, Option, Some, None, if◌then◌else◌}
 use Rattle.mau_terms.specs.Tree.{Tree}
 use Rattle.mau_signature.specs.Signature.{SignatureOf}
 use Rattle.mau_signature.specs.OverSignature.{IsTreeOver}
@@ -14,6 +14,10 @@ use Rattle.mau_check.specs.declared.said.Said.TheVariants.{Leads, Sorted}
 abbrev pub told_of : ℕ → Said → Option ℕ
 told_of i (Leads e a b) = None
 told_of i (Sorted a r) = if a.id.0 == i then Some r else None
+
+abbrev pub tells_sort : Said → Bool
+tells_sort (Leads e a b) = false
+tells_sort (Sorted a r) = true
 
 -- what facts tell are sorts
 abbrev pub AreToldSorts : SignatureOf → List Said → Type 0

@@ -1,6 +1,6 @@
 //! Sorts by declarations, given the sorts that facts tell.
 ghost use Rattle.std.specs.Prelude.{◌≡◌, ◌↔◌, true, ℕ, List, [], length, IfOk, IfSome, OnOk, IsTrue};
-ghost use Rattle.std.specs.List.{filter_map};
+ghost use Rattle.std.specs.List.{filter_map, list_any};
 ghost use Rattle.mau_terms.specs.Tree.{Tree};
 ghost use Rattle.mau_terms.specs.Solution.{HaveSorts};
 ghost use Rattle.mau_signature.specs.Faults.{IsSort};
@@ -14,7 +14,7 @@ ghost use Rattle.mau_logic.specs.Says.{Says};
 ghost use Rattle.mau_logic.specs.Shown.{known_by, HasSortBy};
 ghost use Rattle.mau_check.specs.Kept.{AreKeptFor};
 ghost use Rattle.mau_check.specs.Said.{IsSaid, AreSaid, SomeSaid};
-ghost use Rattle.mau_check.specs.Told.{told_of, AreToldSorts, IsToldBy, IsWholeTable, IsPlainTable, EndsInSort};
+ghost use Rattle.mau_check.specs.Told.{told_of, tells_sort, AreToldSorts, IsToldBy, IsWholeTable, IsPlainTable, EndsInSort};
 ghost use Rattle.mau_check.specs.Variables.{AreOfSorts, variables_in};
 
 use crate::kept::Kept;
@@ -70,6 +70,7 @@ fn settle_one(
     ensures entries { OnOk result ((us : List Says) → AreSaid sig.now store.now uses.now us → AreEntries sig.now (known_by sig.now us) store.now table.old
         → AreEntries sig.now (known_by sig.now us) store.now table.new) }
 {
+    let _ = store.len();
     if table.is_settled(id) {
         return Ok(());
     }
@@ -111,24 +112,28 @@ fn told_by(
     ensures told { IfOk result (λ told. (us : List Says) → AreSaid sig.now store.now uses.now us → IsToldBy sig.now (known_by sig.now us) store.now told) }
     ensures settled { IfOk result (λ told. IfSome told (IsWholeTable sig.now store.now)) }
 {
-    if are_none_told(uses) {
+    if !tell_sorts(uses) {
         return Ok(None);
     }
     let table = sorts_by(alloc, sig, store, uses)?;
     Ok(Some(table))
 }
 
-/// Whether no fact tells a sort.
-fn are_none_told(uses: &[Said]) -> bool
-    ensures { (s : SignatureOf) (nodes : List Node) (us : List Says) → AreSaid s nodes uses.now us → result ≡ true → known_by s us ≡ [] }
+/// Whether a fact tells a sort.
+fn tells_sort(said: Said) -> bool
+    ensures { result ≡ tells_sort said }
 {
-    for said in uses {
-        match said {
-            Said::Leads(_, _, _) => {}
-            Said::Sorted(_, _) => return false,
-        }
+    match said {
+        Said::Leads(_, _, _) => false,
+        Said::Sorted(_, _) => true,
     }
-    true
+}
+
+/// Whether one of some facts does.
+fn tell_sorts(uses: &[Said]) -> bool
+    ensures { result ≡ list_any tells_sort uses.now }
+{
+    uses.iter().any(|said| tells_sort(*said))
 }
 
 /// What a table says of a settled term.
