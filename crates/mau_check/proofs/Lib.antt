@@ -14,5 +14,7 @@ pub mod Filled
 pub mod Tells
 -- fragments
 pub mod Shown
+-- statements
+pub mod UseOf
 -- texts of variables
 pub mod Texts

@@ -22,7 +22,7 @@ pub const HOLE: u32 = 4_294_967_295;
 
 /// Whether a node may hold a hole, by the marks of older ones.
 fn is_marked(node: NodeView<'_>, marks: &[bool]) -> bool
-    requires { AreBelow (length marks.now) (arguments (node_of node.entry)) }
+    requires { AreBelow (length marks.now) (arguments (node_of node)) }
     ensures { (nodes : List Node) → AreMarks nodes marks.now → result ≡ false → HasNoHole (tree_over (tree_at nodes) (node_of node.entry)) }
 {
     match node {

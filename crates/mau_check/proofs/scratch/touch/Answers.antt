@@ -9,6 +9,7 @@ use Rattle.mau_check.proofs.Fills.{fill_of_norms}
 use Rattle.mau_check.proofs.Filled.{filled_equal}
 use Rattle.mau_check.proofs.Tells.{known_told}
 use Rattle.mau_check.proofs.Shown.{lead_found}
+use Rattle.mau_check.proofs.UseOf.{bound_kinds}
 use Rattle.mau_check.proofs.Texts.{cut_at}
 use Rattle.mau_check.proofs.scratch.touch.Goals as goal
 
