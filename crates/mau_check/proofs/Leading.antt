@@ -1,13 +1,16 @@
 -- Facts that lead from one term to another without a statement.
 use Rattle.std.proofs.Common.{◌≡◌, ◌↔◌, ℕ, zero, suc, ◌<◌, ◌==◌, length, get_or, arith, List, [], ◌∷◌, ◌++◌, Bool, true, false, ◌&&◌, cond, if◌then◌else◌, Option, Some, None, refl, sym, ap, ap₂, ◌∙◌, subst, eq-eqb}
 use Rattle.std.specs.Prelude.{All, IfSome, IfNone, IsTrue}
+use Rattle.std.proofs.Common.{Result, Ok, Err, IfOk}
 use Rattle.std.specs.List.{AllZip}
 use Rattle.std.specs.Option.{option_map, option_and_then}
 use Rattle.std.proofs.lemmas.Bool.{eqb-true}
 use Rattle.mau_terms.specs.Tree.{Tree}
 use Rattle.mau_terms.specs.Bare.{IsBare, EqualModulo, IsLawful}
-use Rattle.mau_terms.proofs.Chains.{EqualModulo-trans, EqualModulo-sym}
-use Rattle.mau_signature.specs.Signature.{SignatureOf, IsOperator, terms_over}
+use Rattle.mau_terms.proofs.Chains.{last_bare, EqualModulo-trans, EqualModulo-sym}
+use Rattle.mau_terms.proofs.Law.{equal_norm}
+use Rattle.mau_canon.specs.Within.{IsWithin}
+use Rattle.mau_signature.specs.Signature.{SignatureOf, IsOperator, theory_at, terms_over}
 use Rattle.mau_store.specs.Node.{Node, AreNodes}
 use Rattle.mau_api.specs.Terms.{IsBareWithin}
 use Rattle.mau_logic.specs.Lines.{all_numbered, over, term_at}
@@ -118,16 +121,6 @@ module _ (s : SignatureOf) (lawful : IsLawful (terms_over s)) (nodes : List Node
   no_chain_of_sort a r rest (of_sort t q ∷ ys) h on = on
   no_chain_of_sort a r rest (says_nothing ∷ ys) h on = on
 
-  pub chain_found : (o : Option Said) (uses : List Said) (us : Option (List Says)) → With us (AreSaid s nodes uses) →
-      ((ys : List Says) → AreSaid s nodes uses ys → Decides s nodes o (LeadOn s ys) (leads_if (all_equational ys) (start_of ys) (end_of ys))) →
-      Decides s nodes o (With us (LeadOn s)) (leads_if (all_equational (or_none us)) (start_of (or_none us)) (end_of (or_none us)))
-  chain_found o uses None h f = absurd h
-  chain_found o uses (Some ys) h f = f ys h
-
-  pub chain_missing : (us : Option (List Says)) → us ≡ None → With us (LeadOn s) → ⊥
-  chain_missing None e h = h
-  chain_missing (Some ys) e h = absurd cc
-
   -- ---- an operator over facts
 
   pub ends_lead : (xs : List Said) (starts ends : List Kept) (ys : List Says) → AllZip StartsAt xs starts → AllZip EndsAt xs ends → AreSaid s nodes xs ys →
@@ -200,7 +193,7 @@ module _ (s : SignatureOf) (lawful : IsLawful (terms_over s)) (nodes : List Node
 
   -- each fact leads from a term to a term
   pub not_under_sorts : ((e : Bool) (starts ends : List Kept) → AreEnds uses e starts ends → ⊥) → IsUnder s f xs t u → ⊥
-  not_under_sorts no h = let k = lead_ends s lawful nodes are uses xs h.starts h.ends said h.lead in no (by_equations uses) k.0 k.1 k.2
+  not_under_sorts none h = let k = lead_ends s lawful nodes are uses xs h.starts h.ends said h.lead in none (by_equations uses) k.0 k.1 k.2
 
   module _ (e : Bool) (starts ends : List Kept) (are_ends : AreEnds uses e starts ends) where
     abbrev lead : (ts : List Tree) × (us : List Tree) × Lead xs ts us × AreKeptFor s nodes starts ts × AreKeptFor s nodes ends us
@@ -273,3 +266,68 @@ no_ends xs i d a r e starts ends l q h = by xs starts i l q h.from
     by (x ∷ xs) [] i l q h = h
     by (x ∷ xs) (k ∷ ks) zero l q h = subst (λ z. StartsAt z k) q h.0
     by (x ∷ xs) (k ∷ ks) (suc i) l q h = by xs ks i (omega arith) q h.1
+
+-- ---- facts by their numbers
+
+pub chain_found : (s : SignatureOf) (nodes : List Node) (o : Option Said) (uses : List Said) (us : Option (List Says)) → With us (AreSaid s nodes uses) →
+    ((ys : List Says) → AreSaid s nodes uses ys → Decides s nodes o (LeadOn s ys) (leads_if (all_equational ys) (start_of ys) (end_of ys))) →
+    Decides s nodes o (With us (LeadOn s)) (leads_if (all_equational (or_none us)) (start_of (or_none us)) (end_of (or_none us)))
+chain_found s nodes o uses None h f = absurd h
+chain_found s nodes o uses (Some ys) h f = f ys h
+
+pub chain_missing : (s : SignatureOf) (us : Option (List Says)) → us ≡ None → With us (LeadOn s) → ⊥
+chain_missing s None e h = h
+chain_missing s (Some ys) e h = absurd cc
+
+no_third : (s : SignatureOf) (o p : Option Tree) (us : Option (List Says)) (P : Tree → Tree → List Says → Type 0) → us ≡ None → With o (λ t. IsBareWithin s t × With p (λ u. IsBareWithin s u × With us (P t u))) → ⊥
+no_third s None p us P e h = h
+no_third s (Some t) None us P e h = h.1
+no_third s (Some t) (Some u) None P e h = h.1.1
+no_third s (Some t) (Some u) (Some xs) P e h = absurd cc
+
+pub not_there : (s : SignatureOf) (o p : Option Tree) (us : Option (List Says)) (P : Tree → Tree → List Says → Type 0) → us ≡ None → With o (λ t. IsBareWithin s t × With p (λ u. IsBareWithin s u × With us (P t u))) → ⊥
+not_there s o p us P e h = no_third s o p us P e h
+
+pub some_with : {A : Type 0} (o : Option A) (P : A → Type 0) → With o P → (x : A) × P x
+some_with None P h = absurd h
+some_with (Some x) P h = (x, h)
+
+pub under_found : (s : SignatureOf) (old new : List Node) (f : ℕ) (o : Option Said) (uses : List Said) (a b : Kept) (x y : Option Tree) (us : Option (List Says)) →
+    With x (IsKeptFor s old a) → With y (IsKeptFor s old b) → With us (AreSaid s old uses) →
+    ((xs : List Says) (t u : Tree) → AreSaid s old uses xs → IsKeptFor s old a t → IsKeptFor s old b u → Decides s new o (IsUnder s f xs t u) (leads (all_equational xs) t u)) →
+    Decides s new o (With x (λ t. IsBareWithin s t × With y (λ u. IsBareWithin s u × With us (λ xs. IsUnder s f xs t u)))) (leads_if (all_equational (or_none us)) x y)
+under_found s old new f o uses a b None y us h g k d = absurd h
+under_found s old new f o uses a b (Some t) None us h g k d = absurd g
+under_found s old new f o uses a b (Some t) (Some u) None h g k d = absurd k
+under_found s old new f None uses a b (Some t) (Some u) (Some xs) h g k d = λ w. d xs t u k h g w.1.1
+under_found s old new f (Some z) uses a b (Some t) (Some u) (Some xs) h g k d = let e = d xs t u k h g in ((h.within, (g.within, e.0)), e.1)
+
+pub under_found_in : {E : Type 0} (s : SignatureOf) (old new : List Node) (f : ℕ) (r : Result (Option Said) E) (uses : List Said) (a b : Kept) (x y : Option Tree) (us : Option (List Says)) →
+    With x (IsKeptFor s old a) → With y (IsKeptFor s old b) → With us (AreSaid s old uses) →
+    ((xs : List Says) (t u : Tree) → AreSaid s old uses xs → IsKeptFor s old a t → IsKeptFor s old b u → IfOk r (λ o. Decides s new o (IsUnder s f xs t u) (leads (all_equational xs) t u))) →
+    IfOk r (λ o. Decides s new o (With x (λ t. IsBareWithin s t × With y (λ u. IsBareWithin s u × With us (λ xs. IsUnder s f xs t u)))) (leads_if (all_equational (or_none us)) x y))
+under_found_in s old new f (Ok o) uses a b x y us h g k d = under_found s old new f o uses a b x y us h g k d
+under_found_in s old new f (Err e) uses a b x y us h g k d = tt
+
+-- ---- what an operator over some terms is equal to
+
+pub over_equal : (s : SignatureOf) (lawful : IsLawful (terms_over s)) (nodes : List Node) → AreNodes nodes → (f : ℕ) (ts : List Tree) (t : Tree) (built whole : Kept) → IsOperator s f → With (over s f ts) (IsKeptFor s nodes built) → IsKeptFor s nodes whole t →
+    IsTrue (built.id.0 == whole.id.0) ↔ (IsOperator s f × With (over s f ts) (EqualModulo (terms_over s) t))
+over_equal s lawful nodes are f ts t built whole is h k = by (over s f ts) h
+  where
+    by : (o : Option Tree) → With o (IsKeptFor s nodes built) → IsTrue (built.id.0 == whole.id.0) ↔ (IsOperator s f × With o (EqualModulo (terms_over s) t))
+    by None g = absurd g
+    by (Some v) g =
+        let both = kept_equal s lawful nodes are whole built t v k g in (
+          (λ e. (is, both.0 (sym (eqb-true built.id.0 whole.id.0 e)))),
+          λ q. eq-eqb built.id.0 whole.id.0 (sym (both.1 q.1)),
+        )
+
+-- what is equal to a term within the limits is such a term
+pub equal_within : (s : SignatureOf) → IsLawful (terms_over s) → (t v : Tree) → IsBareWithin s t → EqualModulo (terms_over s) t v → IsBareWithin s v
+equal_within s lawful t v b q = (last_bare q, subst (IsWithin (theory_at s)) (equal_norm (terms_over s) lawful q) b.1)
+
+-- the same of what is equal
+pub ends_as : (xs ys : List Said) (e d : Bool) (ks ls ms ns : List Kept) → xs ≡ ys → e ≡ d → ks ≡ ls → ms ≡ ns → AreEnds ys d ls ns → AreEnds xs e ks ms
+ends_as xs ys e d ks ls ms ns p q r s h =
+    subst (λ w. AreEnds w e ks ms) (sym p) (subst (λ w. AreEnds ys w ks ms) (sym q) (subst (λ w. AreEnds ys d w ms) (sym r) (subst (λ w. AreEnds ys d ls w) (sym s) h)))

@@ -86,7 +86,7 @@ module _ (s : SignatureOf) (nodes : List Node) where
         forth : Contains ((norm (theory_at s) t, p) ∷ ks) (tree_at nodes i, r) → Contains (cons_option (if a.id.0 == i then Some q else None) ns) r
         forth c = by (head_or_later (norm (theory_at s) t, p) (tree_at nodes i, r) ks c)
           where
-            by : ((norm (theory_at s) t, p) ≡ (tree_at nodes i, r)) ⊎ Contains ks (tree_at nodes i, r) → Contains (cons_option (if a.id.0 == i then Some q else None) ns) r
+            by : ◌≡◌ {A = Tree × ℕ} (norm (theory_at s) t, p) (tree_at nodes i, r) ⊎ Contains ks (tree_at nodes i, r) → Contains (cons_option (if a.id.0 == i then Some q else None) ns) r
             by (inl e) =
                 let et : norm (theory_at s) t ≡ tree_at nodes i = ap (λ (z : Tree × ℕ). z.0) e in
                 let er : p ≡ r = ap (λ (z : Tree × ℕ). z.1) e in
@@ -175,6 +175,19 @@ module _ (s : SignatureOf) (nodes : List Node) (us : List Says) where
   values_sorted (x ∷ xs) [] vs l h g = absurd (omega arith)
   values_sorted (x ∷ xs) (k ∷ ks) [] l h g = absurd h
   values_sorted (x ∷ xs) (k ∷ ks) (v ∷ vs) l h g = ((sort_same k v x.sort h.0).1 g.0, values_sorted xs ks vs (omega arith) h.1 g.1)
+
+  -- one that has not its variable's sort
+  pub sorted_at : (xs : List VarId) (ks : List Kept) (i : ℕ) (d : VarId) (e : Kept) → i < length xs → AreSorted xs ks → HasSort s (known_by s us) (tree_at nodes (get_or ks i e).id.0) (get_or xs i d).sort
+  sorted_at [] ks i d e l h = absurd (omega arith)
+  sorted_at (x ∷ xs) [] i d e l h = absurd h
+  sorted_at (x ∷ xs) (k ∷ ks) zero d e l h = h.0
+  sorted_at (x ∷ xs) (k ∷ ks) (suc i) d e l h = sorted_at xs ks i d e (omega arith) h.1
+
+-- where a fact leads to
+pub said_end : (s : SignatureOf) (nodes : List Node) (e : Bool) (a b : Kept) (y : Says) → IsSaid s nodes (Leads e a b) y → (t : Tree) × IsKeptFor s nodes b t
+said_end s nodes e a b (leads d t u) h = (u, h.2)
+said_end s nodes e a b (of_sort t r) h = absurd h
+said_end s nodes e a b says_nothing h = absurd h
 
 -- ---- facts that tell no sort
 

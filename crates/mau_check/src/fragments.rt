@@ -57,7 +57,8 @@ fn is_meeting(uses: &[Said], said: Said, first: TermId, second: TermId) -> bool
 fn some_meeting(uses: &[Said], first: TermId, second: TermId) -> bool
     ensures { result ≡ list_any (is_meeting uses.now first.0 second.0) uses.now }
 {
-    uses.iter().any(|said| is_meeting(uses, *said, first, second))
+    uses.iter()
+        .any(|said| is_meeting(uses, *said, first, second))
 }
 
 /// Whether facts lead from the instance of a term to that of another, where `equations` by equations alone.

@@ -9,7 +9,7 @@ mod kept;
 mod over;
 mod plain;
 mod said;
+mod scratch;
 mod sorts;
 mod statements;
-mod scratch;
 mod variables;

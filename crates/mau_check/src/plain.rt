@@ -1,5 +1,5 @@
 //! Facts that lead from one term to another without a statement: equal terms, chains, an operator over facts.
-ghost use Rattle.std.specs.Prelude.{◌≡◌, ◌↔◌, List, Bool, true, Option, IfOk, IfSome, IfNone, IsTrue};
+ghost use Rattle.std.specs.Prelude.{◌≡◌, ◌↔◌, ◌&&◌, List, Bool, true, Option, IfOk, IfSome, IfNone, IsTrue};
 ghost use Rattle.mau_terms.specs.Tree.{Tree};
 ghost use Rattle.mau_terms.specs.Bare.{EqualModulo};
 ghost use Rattle.mau_signature.specs.Signature.{IsOperator, terms_over};
@@ -20,7 +20,13 @@ use mau_terms::NoMemory;
 use std::alloc::Global;
 
 /// Whether two terms are equal modulo the axioms.
-pub fn same(sig: &Signature, store: &Store, kept: &[Option<Kept>], first: u64, second: u64) -> Option<Said>
+pub fn same(
+    sig: &Signature,
+    store: &Store,
+    kept: &[Option<Kept>],
+    first: u64,
+    second: u64,
+) -> Option<Said>
     ensures { (terms : List (Option Tree)) → AreKept sig.now store.now kept.now terms → Decides sig.now store.now result
         (WithTerm sig.now terms first λ t. WithTerm sig.now terms second λ u. EqualModulo (terms_over sig.now) t u) (leads_if true (term_at terms first) (term_at terms second)) }
 {
@@ -34,7 +40,7 @@ pub fn same(sig: &Signature, store: &Store, kept: &[Option<Kept>], first: u64, s
         Some(b) => b,
         None => return None,
     };
-    if a.id != b.id {
+    if a.id.0 != b.id.0 {
         return None;
     }
     Some(Said::Leads(true, a, b))
@@ -116,6 +122,13 @@ struct Ends {
     ends: Vec<Kept>,
 }
 
+/// Whether both hold.
+fn both(first: bool, second: bool) -> bool
+    ensures { result ≡ (first && second) }
+{
+    first && second
+}
+
 /// What facts lead from and to, if each leads from a term to a term.
 fn ends_of(alloc: Global, uses: &[Said]) -> Result<Option<Ends>, NoMemory>
     ensures some { IfOk result (λ o. IfSome o (λ e. AreEnds uses.now e.equations e.starts.items e.ends.items)) }
@@ -125,11 +138,11 @@ fn ends_of(alloc: Global, uses: &[Said]) -> Result<Option<Ends>, NoMemory>
     let mut starts = Vec::new(alloc);
     let mut ends = Vec::new(alloc);
     for said in uses {
-        let (e, a, b) = match said {
-            Said::Leads(e, a, b) => (*e, *a, *b),
+        let (e, a, b) = match *said {
+            Said::Leads(e, a, b) => (e, a, b),
             Said::Sorted(_, _) => return Ok(None),
         };
-        equations = equations && e;
+        equations = both(equations, e);
         starts.push(a)?;
         ends.push(b)?;
     }
@@ -157,7 +170,7 @@ fn is_over(
     let built = build_over(store, sig, op, args)?;
     let _ = store.len();
     match built {
-        Some(built) => Ok(built.id == whole.id),
+        Some(built) => Ok(built.id.0 == whole.id.0),
         None => Ok(false),
     }
 }
@@ -177,6 +190,8 @@ fn leads_under(
         IfOk result (λ o. Decides sig.now store.new o (IsUnder sig.now op xs t u) (leads (all_equational xs) t u)) }
     ensures extends { Extends store.old store.new }
 {
+    let _ = sig.operators();
+    let _ = store.len();
     let ends = match ends_of(alloc, uses) {
         Ok(Some(ends)) => ends,
         Ok(None) => return Ok(None),
@@ -185,10 +200,12 @@ fn leads_under(
     if uses.is_empty() {
         return Ok(None);
     }
-    if !is_over(store, sig, op, &ends.starts, from)? {
+    let begins = is_over(store, sig, op, &ends.starts, from)?;
+    if !begins {
         return Ok(None);
     }
-    if !is_over(store, sig, op, &ends.ends, to)? {
+    let finishes = is_over(store, sig, op, &ends.ends, to)?;
+    if !finishes {
         return Ok(None);
     }
     Ok(Some(Said::Leads(ends.equations, from, to)))

@@ -44,12 +44,10 @@ fn sort_told(said: Said, id: TermId) -> Option<u32>
 fn sorts_told(alloc: Global, uses: &[Said], id: TermId) -> Result<Vec<u32>, NoMemory>
     ensures { IfOk result (λ sorts. sorts.items ≡ filter_map (told_of id.0) uses.now) }
 {
-    let mut sorts = Vec::new(alloc);
-    for said in uses {
-        if let Some(sort) = sort_told(*said, id) {
-            sorts.push(sort)?;
-        }
-    }
+    let sorts = uses
+        .iter()
+        .filter_map(|said| sort_told(*said, id))
+        .collect(alloc)?;
     Ok(sorts)
 }
 

@@ -61,7 +61,11 @@ fn add_all(sig: &Signature, found: &mut Vec<VarId>, terms: &[Bare]) -> Result<()
 }
 
 /// The same of a fragment.
-fn add_fragment(sig: &Signature, found: &mut Vec<VarId>, fragment: &Fragment) -> Result<(), NoMemory>
+fn add_fragment(
+    sig: &Signature,
+    found: &mut Vec<VarId>,
+    fragment: &Fragment,
+) -> Result<(), NoMemory>
     requires lawful { IsLawfulFragment sig.now fragment.now }
     requires sorts { AreOfSorts sig.now found.old.items }
     ensures ok { OnOk result (variables_in found.new.items ≡ fragment_variables (variables_in found.old.items) fragment.now) }
