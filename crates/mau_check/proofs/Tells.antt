@@ -1,5 +1,5 @@
 -- Sorts that facts tell.
-use Rattle.std.proofs.Common.{◌≡◌, ◌↔◌, ℕ, zero, suc, ◌+◌, ◌<◌, ◌≤◌, ◌==◌, List, [], ◌∷◌, ◌++◌, length, map, Bool, true, false, ◌⊎◌, inl, inr, Option, Some, None, refl, sym, ap, ◌∙◌, subst, arith, if◌then◌else◌, get_or, eq-eqb}
+use Rattle.std.proofs.Common.{◌≡◌, ◌↔◌, ℕ, zero, suc, ◌+◌, ◌<◌, ◌≤◌, ◌==◌, List, [], ◌∷◌, ◌++◌, length, map, Bool, true, false, ◌⊎◌, inl, inr, Option, Some, None, refl, sym, ap, ◌∙◌, subst, arith, if◌then◌else◌, get_or, drop, eq-eqb}
 use Rattle.std.specs.Prelude.{All, Contains, IsTrue, is_some}
 use Rattle.std.specs.List.{AllZip, filter_map, cons_option, list_any}
 use Rattle.std.proofs.lemmas.Bool.{eqb-true}
@@ -29,8 +29,8 @@ use Rattle.mau_check.specs.declared.kept.Kept.{Kept}
 use Rattle.mau_check.specs.declared.said.Said.{Said}
 use Rattle.mau_check.specs.declared.said.Said.TheVariants.{Leads, Sorted}
 use Rattle.mau_check.specs.Kept.{IsKeptFor, AreKeptFor}
-use Rattle.mau_check.specs.Said.{IsSaid, AreSaid}
-use Rattle.mau_check.specs.Told.{told_of, tells_sort, AreToldSorts}
+use Rattle.mau_check.specs.Said.{IsSaid, AreSaid, SomeSaid}
+use Rattle.mau_check.specs.Told.{told_of, tells_sort, AreToldSorts, EndsInSort}
 use Rattle.mau_check.specs.Variables.{variables_in}
 
 -- ---- membership in lists
@@ -199,3 +199,35 @@ none_known s nodes (Leads e a b ∷ xs) (leads d t u ∷ ys) h n = none_known s 
 none_known s nodes (Leads e a b ∷ xs) (of_sort t r ∷ ys) h n = absurd h.0
 none_known s nodes (Leads e a b ∷ xs) (says_nothing ∷ ys) h n = absurd h.0
 none_known s nodes (Sorted a r ∷ xs) (y ∷ ys) h n = absurd cc
+
+-- ---- one of some facts
+
+pub said_at_place : (s : SignatureOf) (nodes : List Node) (xs : List Said) (ys : List Says) (i : ℕ) (d : Said) → i < length xs → AreSaid s nodes xs ys → (y : Says) × IsSaid s nodes (get_or xs i d) y
+said_at_place s nodes [] ys i d l h = absurd (omega arith)
+said_at_place s nodes (x ∷ xs) [] i d l h = absurd h
+said_at_place s nodes (x ∷ xs) (y ∷ ys) zero d l h = (y, h.0)
+said_at_place s nodes (x ∷ xs) (y ∷ ys) (suc i) d l h = said_at_place s nodes xs ys i d (omega arith) h.1
+
+pub some_here : (P : Said → Type 0) (xs : List Said) (i : ℕ) (d : Said) → i < length xs → P (get_or xs i d) → SomeSaid P xs
+some_here P [] i d l p = absurd (omega arith)
+some_here P (x ∷ xs) zero d l p = inl p
+some_here P (x ∷ xs) (suc i) d l p = inr (some_here P xs i d (omega arith) p)
+
+pub not_here : (P : Said → Type 0) (xs : List Said) (i : ℕ) (d : Said) → i < length xs → (P (get_or xs i d) → ⊥) → SomeSaid P (drop i xs) → SomeSaid P (drop (i + 1) xs)
+not_here P xs i d l n h = let e : suc i ≡ i + 1 = omega arith in subst (λ m. SomeSaid P (drop m xs)) e (by xs i l n h)
+  where
+    by : (xs : List Said) (i : ℕ) → i < length xs → (P (get_or xs i d) → ⊥) → SomeSaid P (drop i xs) → SomeSaid P (drop (suc i) xs)
+    by [] i l n h = absurd (omega arith)
+    by (x ∷ xs) zero l n (inl p) = absurd (n p)
+    by (x ∷ xs) zero l n (inr q) = q
+    by (x ∷ xs) (suc i) l n h = by xs i (omega arith) n h
+
+pub none_left : (P : Said → Type 0) (xs : List Said) (i : ℕ) → length xs ≤ i → SomeSaid P (drop i xs) → ⊥
+none_left P [] zero l h = h
+none_left P [] (suc i) l h = h
+none_left P (x ∷ xs) zero l h = absurd (omega arith)
+none_left P (x ∷ xs) (suc i) l h = none_left P xs i (omega arith) h
+
+pub ends_as_sort : (s : SignatureOf) (nodes : List Node) (known : Known) (i r : ℕ) (e : Bool) (a b : Kept) (has : Bool) (x : Said) → x ≡ Leads e a b → e ≡ true → a.id.0 ≡ i → IsTrue has ↔ HasSort s known (tree_at nodes b.id.0) r →
+    IsTrue has ↔ EndsInSort s nodes known i r x
+ends_as_sort s nodes known i r e a b has x q t n h = subst (λ z. IsTrue has ↔ EndsInSort s nodes known i r z) (sym q) ((λ y. (t, n, h.0 y)), λ g. h.1 g.2)

@@ -174,6 +174,34 @@ fn has_sort(
     }
 }
 
+/// Whether each value has its variable's sort, where facts tell the sorts of a table.
+fn all_sorted(
+    sig: &Signature,
+    store: &Store,
+    plain: &mut SortTable,
+    told: &Option<SortTable>,
+    variables: &[VarId],
+    values: &[Kept],
+) -> Result<bool, NoMemory>
+    requires sorts { AreOfSorts sig.now variables.now }
+    requires many { length values.now ≡ length variables.now }
+    requires values { (vs : List Tree) × AreKeptFor sig.now store.now values.now vs }
+    requires plain { IsPlainTable sig.now store.now plain.old }
+    requires told { IfSome told.now (IsWholeTable sig.now store.now) }
+    ensures plain { IsPlainTable sig.now store.now plain.new }
+    ensures have { IfOk result (λ yes. (us : List Says) (vs : List Tree) → IsToldBy sig.now (known_by sig.now us) store.now told.now → AreKeptFor sig.now store.now values.now vs →
+        IsTrue yes ↔ HaveSorts (HasSortBy sig.now us) (variables_in variables.now) vs) }
+{
+    let _ = sig.operators();
+    for i in 0..variables.len() {
+        let has = has_sort(sig, store, plain, told, values[i].id, variables[i].sort)?;
+        if !has {
+            return Ok(false);
+        }
+    }
+    Ok(true)
+}
+
 /// Whether each value has its variable's sort by declarations and by what facts tell.
 pub fn have_sorts(
     sig: &Signature,
@@ -192,14 +220,8 @@ pub fn have_sorts(
     ensures have { IfOk result (λ yes. (us : List Says) (vs : List Tree) → AreSaid sig.now store.now uses.now us → AreKeptFor sig.now store.now values.now vs →
         IsTrue yes ↔ HaveSorts (HasSortBy sig.now us) (variables_in variables.now) vs) }
 {
-    let _ = sig.operators();
     let told = told_by(store.allocator(), sig, store, uses)?;
-    for i in 0..variables.len() {
-        if !has_sort(sig, store, plain, &told, values[i].id, variables[i].sort)? {
-            return Ok(false);
-        }
-    }
-    Ok(true)
+    all_sorted(sig, store, plain, &told, variables, values)
 }
 
 /// Whether a fact leads by equations from a term to one of a sort.
@@ -232,6 +254,33 @@ fn ends_in_sort(
 }
 
 /// Whether one of some facts does.
+fn some_ends_in_sort(
+    sig: &Signature,
+    store: &Store,
+    plain: &mut SortTable,
+    told: &Option<SortTable>,
+    uses: &[Said],
+    from: TermId,
+    sort: u32,
+) -> Result<bool, NoMemory>
+    requires uses { (us : List Says) × AreSaid sig.now store.now uses.now us }
+    requires sort { IsSort sig.now.hierarchy sort }
+    requires plain { IsPlainTable sig.now store.now plain.old }
+    requires told { IfSome told.now (IsWholeTable sig.now store.now) }
+    ensures plain { IsPlainTable sig.now store.now plain.new }
+    ensures end { IfOk result (λ yes. (known : Known) → IsToldBy sig.now known store.now told.now →
+        IsTrue yes ↔ SomeSaid (EndsInSort sig.now store.now known from.0 sort) uses.now) }
+{
+    for said in uses {
+        let ends = ends_in_sort(sig, store, plain, told, *said, from, sort)?;
+        if ends {
+            return Ok(true);
+        }
+    }
+    Ok(false)
+}
+
+/// The same by declarations and by what facts tell.
 pub fn end_in_sort(
     sig: &Signature,
     store: &Store,
@@ -248,10 +297,5 @@ pub fn end_in_sort(
         IsTrue yes ↔ SomeSaid (EndsInSort sig.now store.now (known_by sig.now us) from.0 sort) uses.now) }
 {
     let told = told_by(store.allocator(), sig, store, uses)?;
-    for said in uses {
-        if ends_in_sort(sig, store, plain, &told, *said, from, sort)? {
-            return Ok(true);
-        }
-    }
-    Ok(false)
+    some_ends_in_sort(sig, store, plain, &told, uses, from, sort)
 }
