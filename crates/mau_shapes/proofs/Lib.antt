@@ -1,0 +1,10 @@
+-- words one after another, and parts
+pub mod Running
+-- words by their roles
+pub mod Tables
+-- the text of a strategy leads behind it
+pub mod Reading
+-- what stands in a state
+pub mod Standing
+-- one word more
+pub mod Stepping
