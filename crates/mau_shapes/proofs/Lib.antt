@@ -8,3 +8,5 @@ pub mod Reading
 pub mod Standing
 -- one word more
 pub mod Stepping
+-- a state may go on; the end, and the first word at fault
+pub mod Completing

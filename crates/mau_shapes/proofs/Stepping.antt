@@ -385,7 +385,7 @@ one_stands v (reading g p d k) y ws h q = subst (λ z. Stands (z ++ v ∷ []) y)
 one_stands v (such_of w p u k) y ws h q = subst (λ z. Stands (z ++ v ∷ []) y) h.words (such_stands v w p u k y h.right q)
 
 pub all_stand : (vs : Words) (x y : State) (ws : Words) → Stands ws x → run vs x ≡ Some y → Stands (ws ++ vs) y
-all_stand [] x y ws h q = subst (Stands ws) (same_state x y q) (subst (λ z. Stands z x) (sym (append-nil ws)) h)
+all_stand [] x y ws h q = subst (λ z. Stands z y) (sym (append-nil ws)) (to ws x y q h)
 all_stand (v ∷ vs) x y ws h q =
     (elim (step v x) as (λ o. step v x ≡ o → go_on o (run vs) ≡ Some y → Stands (ws ++ v ∷ vs) y) [
       None ↦ λ e r. cc
