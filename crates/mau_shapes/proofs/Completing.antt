@@ -1,6 +1,6 @@
 -- What stands in a state may go on to be a strategy; and the first word with which none goes on.
 use Rattle.std.proofs.Common.{◌≡◌, ℕ, zero, suc, ◌+◌, ◌-◌, ◌≤◌, ◌<◌, List, [], ◌∷◌, ◌++◌, length, take, drop, get_or, Bool, true, false, ◌||◌, ◌&&◌, ◌⊎◌, inl, inr, Option, Some, None, refl, sym, ap, ◌∙◌, subst, arith, append_assoc, append-nil, All}
-use Rattle.std.proofs.lemmas.Bool.{false≢true, and_right}
+use Rattle.std.proofs.lemmas.Bool.{false≢true, and_left, and_right, ne_eqb}
 use Rattle.std.proofs.lemmas.List.{take_more, take-append-drop}
 use Rattle.std.proofs.lemmas.List.Elements.{All-nil, All-cons, All-push}
 use Rattle.std.specs.Prelude.{codes, nat_eq, if◌then◌else◌}
@@ -100,8 +100,10 @@ unfolding closers
 closers_clear f zero = refl
 closers_clear f (suc d) =
     let e : suc d - 1 ≡ d = omega arith in
+    let z : nat_eq (suc d) 0 ≡ false = ne_eqb (suc d) 0 (λ e. omega (arith, e)) in
+    let n : stops f (suc d) closing_round ≡ false = and_left (nat_eq (suc d) 0) (f closing_round || true) z in
     ap (λ r. if stops f (suc d) r then false else is_clear f (behind (suc d) r) (closers d)) of_closing_round
-    ∙ (ap (λ n. is_clear f n (closers d)) e ∙ closers_clear f d)
+    ∙ (ap (λ b. if b then false else is_clear f (suc d - 1) (closers d)) n ∙ (ap (λ n. is_clear f n (closers d)) e ∙ closers_clear f d))
 
 tail_clear : (f : Role → Bool) (d : ℕ) → f no_role ≡ false → is_clear f d (tail d) ≡ true
 unfolding tail

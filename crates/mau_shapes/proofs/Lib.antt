@@ -10,3 +10,5 @@ pub mod Standing
 pub mod Stepping
 -- a state may go on; the end, and the first word at fault
 pub mod Completing
+-- each text has one answer
+pub mod Answering

@@ -58,10 +58,10 @@ pub record Closed (m : ℕ) (s : Shape) (k : Frames) (x : Shape × Frames) : Typ
   pub admits : Admits m x.1
   pub words : opened x.1 ++ text x.0 ≡ opened k ++ text s
 
-regroup : (a b : Words) (w : Word) (c : Words) → a ++ (b ++ w ∷ c) ≡ (a ++ (b ++ w ∷ [])) ++ c
+pub regroup : (a b : Words) (w : Word) (c : Words) → a ++ (b ++ w ∷ c) ≡ (a ++ (b ++ w ∷ [])) ++ c
 regroup a b w c = sym (append_assoc a (b ++ w ∷ []) c ∙ ap (λ z. a ++ z) (append_assoc b (w ∷ []) c))
 
-regroup_two : (a b : Words) (v : Word) (c : Words) (w : Word) (d : Words) → a ++ (b ++ v ∷ (c ++ w ∷ d)) ≡ (a ++ (b ++ v ∷ (c ++ w ∷ []))) ++ d
+pub regroup_two : (a b : Words) (v : Word) (c : Words) (w : Word) (d : Words) → a ++ (b ++ v ∷ (c ++ w ∷ d)) ≡ (a ++ (b ++ v ∷ (c ++ w ∷ []))) ++ d
 regroup_two a b v c w d =
     sym (append_assoc a (b ++ v ∷ (c ++ w ∷ [])) d ∙ ap (λ z. a ++ z) (append_assoc b (v ∷ (c ++ w ∷ [])) d
       ∙ ap (λ z. b ++ v ∷ z) (append_assoc c (w ∷ []) d)))

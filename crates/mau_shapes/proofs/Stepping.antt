@@ -23,10 +23,10 @@ same_state x y h = cc
 to : (ws : Words) (x y : State) → Some x ≡ Some y → Stands ws x → Stands ws y
 to ws x y h s = subst (Stands ws) (same_state x y h) s
 
-wide : (s : Shape) (k : Frames) → is_narrow k ≡ false → MayStand s k
+pub wide : (s : Shape) (k : Frames) → is_narrow k ≡ false → MayStand s k
 wide s k free n = absurd (false≢true (sym free ∙ n))
 
-pushed_some : {A : Type 0} (ts : List A) (t : A) → ts ++ t ∷ [] ≡ [] → ⊥
+pub pushed_some : {A : Type 0} (ts : List A) (t : A) → ts ++ t ∷ [] ≡ [] → ⊥
 pushed_some [] t h = cc
 pushed_some (u ∷ ts) t h = cc
 
@@ -54,10 +54,10 @@ begin_stands of_name v k y e o h = to (opened k ++ v ∷ []) (named v k) y h (re
 tail_word : (a b : Words) (v : Word) → a ++ (b ++ v ∷ []) ≡ (a ++ b) ++ v ∷ []
 tail_word a b v = sym (append_assoc a b (v ∷ []))
 
-in_brackets : (a : Words) (w : Word) (b : Words) (v : Word) → a ++ (w ∷ (b ++ v ∷ [])) ≡ ((a ++ w ∷ []) ++ b) ++ v ∷ []
+pub in_brackets : (a : Words) (w : Word) (b : Words) (v : Word) → a ++ (w ∷ (b ++ v ∷ [])) ≡ ((a ++ w ∷ []) ++ b) ++ v ∷ []
 in_brackets a w b v = simp append_assoc
 
-in_two : (a : Words) (w u : Word) (b : Words) (v : Word) → a ++ (w ∷ u ∷ (b ++ v ∷ [])) ≡ ((a ++ w ∷ u ∷ []) ++ b) ++ v ∷ []
+pub in_two : (a : Words) (w u : Word) (b : Words) (v : Word) → a ++ (w ∷ u ∷ (b ++ v ∷ [])) ≡ ((a ++ w ∷ u ∷ []) ++ b) ++ v ∷ []
 in_two a w u b v = simp append_assoc
 
 behind_question : (a b : Words) (q : Word) (c : Words) (v : Word) → a ++ (b ++ q ∷ (c ++ v ∷ [])) ≡ ((a ++ (b ++ q ∷ [])) ++ c) ++ v ∷ []
@@ -155,7 +155,7 @@ follow_stands _ v s k y e h t a o q = cc
 
 -- ---- behind a name
 
-names_alone : (b : Beginning) → names b ≡ true → stands_alone b ≡ true
+pub names_alone : (b : Beginning) → names b ≡ true → stands_alone b ≡ true
 names_alone of_top h = refl
 names_alone of_wrapper h = refl
 names_alone of_name h = refl
@@ -165,7 +165,7 @@ names_alone of_form h = refl
 names_alone of_test h = absurd (false≢true h)
 names_alone of_nothing h = absurd (false≢true h)
 
-names_rule : (b : Beginning) → names b ≡ true → begins_rule b ≡ true
+pub names_rule : (b : Beginning) → names b ≡ true → begins_rule b ≡ true
 names_rule of_top h = refl
 names_rule of_wrapper h = refl
 names_rule of_name h = refl
