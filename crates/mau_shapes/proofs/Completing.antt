@@ -5,7 +5,7 @@ use Rattle.std.proofs.lemmas.List.{take_more, take-append-drop}
 use Rattle.std.proofs.lemmas.List.Elements.{All-nil, All-cons, All-push}
 use Rattle.std.specs.Prelude.{codes, nat_eq, if◌then◌else◌}
 use Rattle.mau_shapes.specs.Words.{Word, Words, Beginning, of_all, of_test, of_top, of_wrapper, of_name, beginning, names, stands_alone, Role, joint, no_role, closing_round, role, closes, behind, ends_test, ends_fragment, ends_variable, ends_term}
-use Rattle.mau_shapes.specs.Shape.{Such, Use, Shape, plain, assigned, called, wrapped, within, tested, marked, joined, chosen, parted, use_text, use_texts, text, stops, is_clear, IsPart, IsUse, IsSuch, begins_rule, is_rule_form, takes_marks, Fits, IsTextOf}
+use Rattle.mau_shapes.specs.Shape.{SuchThat, Use, Shape, plain, assigned, called, wrapped, within, tested, marked, joined, chosen, parted, use_text, use_texts, text, stops, is_clear, IsPart, IsUse, IsSuch, begins_rule, is_rule_form, takes_marks, Fits, IsTextOf}
 use Rattle.mau_shapes.specs.Front.{IsFront, IsUnexpected}
 use Rattle.mau_shapes.specs.Reader.{Frame, bracket, wrapper, top_wrapper, left, asked, answered, Frames, Goal, argument, variable, value, pattern, fragment, State, operand, named, done, reading, such_of, ends, close, is_narrow, step, go_on, run, whole, whole_in, finish}
 use Rattle.mau_shapes.proofs.Running.{run_more, of_closing_round}

@@ -12,3 +12,7 @@ pub mod Stepping
 pub mod Completing
 -- each text has one answer
 pub mod Answering
+-- the reader of the code
+pub mod Coding
+pub mod Closing
+pub mod Leading

@@ -6,7 +6,12 @@ pub mod Words
 pub mod Shape
 -- beginnings of strategies, and the first word with which none goes on
 pub mod Front
+-- the pieces of a shape, and what reading gives
+pub mod Pieces
+pub mod Reading
 -- the laws
 pub mod Laws
 -- What only inner contracts and proofs cite: shapes found word by word.
 pub mod Reader
+-- the reader of the code
+pub mod Machine

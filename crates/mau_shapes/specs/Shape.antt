@@ -3,8 +3,8 @@ use Rattle.std.specs.Prelude.{◌≡◌, ◌⊎◌, ℕ, zero, suc, ◌-◌, ◌
 use Rattle.mau_shapes.specs.Words.{Word, Words, Beginning, of_all, of_test, of_top, of_wrapper, of_name, beginning, names, stands_alone, Role, mark, joint, role, closes, behind, ends_test, ends_fragment, ends_variable, ends_term}
 
 -- a condition: `s.t.` or `such that`, and its fragments
-abbrev pub Such : Type 0
-Such = Words × List Words
+abbrev pub SuchThat : Type 0
+SuchThat = Words × List Words
 
 -- X <- t
 abbrev pub Use : Type 0
@@ -17,7 +17,7 @@ pub data Shape : Type 0 where
   called : Word → List Words → Shape              -- name(t, u)
   wrapped : Word → Shape → Shape                  -- top(A), not(E), try(E), test(E)
   within : Shape → Shape                          -- ( E )
-  tested : Word → Words → Option Such → Shape     -- match P s.t. C
+  tested : Word → Words → Option SuchThat → Shape     -- match P s.t. C
   marked : Shape → Word → Shape                   -- E *, E +, E !
   joined : Word → Shape → Shape → Shape           -- E ; F, E | F, E or-else F
   chosen : Shape → Shape → Shape → Shape          -- E ? F : G
@@ -41,7 +41,7 @@ abbrev pub use_texts : List Use → List Words
 use_texts [] = []
 use_texts (u ∷ us) = use_text u ∷ use_texts us
 
-abbrev pub such_text : Option Such → Words
+abbrev pub such_text : Option SuchThat → Words
 such_text None = []
 such_text (Some c) = c.0 ++ parted (codes "/\\") c.1
 
@@ -75,12 +75,12 @@ pub record IsUse (u : Use) : Type 0 where
   pub variable : IsPart ends_variable u.0
   pub value : IsPart ends_term u.1
 
-pub record IsSuch (c : Such) : Type 0 where
+pub record IsSuch (c : SuchThat) : Type 0 where
   pub sign : (c.0 ≡ codes "s.t." ∷ []) ⊎ (c.0 ≡ codes "such" ∷ codes "that" ∷ [])
   pub some : c.1 ≡ [] → ⊥
   pub fragments : All (IsPart ends_fragment) c.1
 
-abbrev pub IfSuch : Option Such → Type 0
+abbrev pub IfSuch : Option SuchThat → Type 0
 IfSuch None = Unit {0}
 IfSuch (Some c) = IsSuch c
 

@@ -1,5 +1,9 @@
 -- What single words are in texts of strategies.
 use Rattle.std.specs.Prelude.{ℕ, suc, ◌-◌, List, Bool, true, false, ◌||◌, if◌then◌else◌, codes, bytes_eq}
+pub use Rattle.mau_shapes.specs.declared.words.Beginning.{Beginning}
+pub use Rattle.mau_shapes.specs.declared.words.Beginning.TheVariants.{Parenthesis as of_bracket, All as of_all, Form as of_form, Test as of_test, Top as of_top, Wrapper as of_wrapper, Nothing as of_nothing, Name as of_name}
+pub use Rattle.mau_shapes.specs.declared.words.Role.{Role}
+pub use Rattle.mau_shapes.specs.declared.words.Role.TheVariants.{Mark as mark, Joint as joint, Question as question, Colon as colon, Condition as condition, Such as such, Conjunction as conjunction, Comma as comma, Arrow as arrow, OpeningRound as opening_round, OpeningSquare as opening_square, OpeningCurly as opening_curly, ClosingRound as closing_round, ClosingSquare as closing_square, ClosingCurly as closing_curly, Other as no_role}
 
 abbrev pub Word : Type 0
 Word = List ℕ
@@ -11,17 +15,7 @@ Words = List Word
 abbrev pub is : Word → Word → Bool
 is v w = bytes_eq v w
 
--- ---- words with which a strategy may begin
-
-pub data Beginning : Type 0 where
-  of_bracket : Beginning     -- (
-  of_all : Beginning         -- all
-  of_form : Beginning        -- idle, fail
-  of_test : Beginning        -- match, xmatch, amatch
-  of_top : Beginning         -- top
-  of_wrapper : Beginning     -- not, try, test
-  of_nothing : Beginning     -- what never begins a strategy
-  of_name : Beginning        -- any other word
+-- ---- words with which a strategy may begin: `(`; `all`; `idle`, `fail`; a test; `top`; `not`, `try`, `test`; names
 
 -- the words of forms that are none yet, the signs that stand behind a strategy, and closing brackets
 abbrev pub begins_nothing : Word → Bool
@@ -52,25 +46,7 @@ stands_alone of_all = true
 stands_alone of_form = true
 stands_alone b = names b
 
--- ---- words behind these
-
-pub data Role : Type 0 where
-  mark : Role                 -- *, +, !
-  joint : ℕ → Role            -- ; and | and or-else, with the levels of their forms
-  question : Role             -- ?
-  colon : Role                -- :
-  condition : Role            -- s.t.
-  such : Role                 -- such
-  conjunction : Role          -- /\
-  comma : Role                -- ,
-  arrow : Role                -- <-
-  opening_round : Role        -- (
-  opening_square : Role       -- [
-  opening_curly : Role        -- {
-  closing_round : Role        -- )
-  closing_square : Role       -- ]
-  closing_curly : Role        -- }
-  no_role : Role              -- any other word
+-- ---- words behind these: marks, signs with the levels of their forms, brackets
 
 unfoldable pub role : Word → Role
 role w =

@@ -1,4 +1,15 @@
 //! Texts of strategies: shapes, which leave the words of terms as they stand, and the first word that no strategy has there.
 #![tactic(auto)]
 
+mod fault;
+mod frames;
 pub mod laws;
+mod pieces;
+mod reader;
+mod shape;
+mod text;
+mod words;
+
+pub use fault::ShapeFault;
+pub use pieces::{Part, Piece, Pieces};
+pub use shape::read_shape;

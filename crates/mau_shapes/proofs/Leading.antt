@@ -1,0 +1,91 @@
+-- The code's reader behind some words of a text.
+use Rattle.std.proofs.Common.{◌≡◌, ℕ, zero, suc, ◌+◌, ◌-◌, ◌≤◌, ◌<◌, List, [], ◌∷◌, ◌++◌, length, take, get_or, Bool, true, false, Option, Some, None, refl, sym, ap, ◌∙◌, subst, arith}
+use Rattle.std.proofs.lemmas.List.{take_more, length-take-le}
+use Rattle.mau_shapes.specs.Words.{Word, Words}
+use Rattle.mau_shapes.specs.Shape.{Shape, IsTextOf}
+use Rattle.mau_shapes.specs.Front.{IsUnexpected}
+use Rattle.mau_shapes.specs.Pieces.{pieces}
+use Rattle.mau_shapes.specs.Reading.{ArePiecesOf}
+use Rattle.mau_shapes.specs.Reader.{State, operand, step, go_on, run, finish}
+use Rattle.mau_shapes.specs.Machine.{next, steps_by, finished}
+use Rattle.mau_shapes.specs.declared.pieces.Piece.{Piece}
+use Rattle.mau_shapes.specs.declared.reader.Mode.TheVariants as mode
+use Rattle.mau_shapes.specs.declared.reader.Reader.{Reader}
+use Rattle.mau_shapes.proofs.Running.{run_more}
+use Rattle.mau_shapes.proofs.Standing.{state_words, Stands}
+use Rattle.mau_shapes.proofs.Completing.{stands_behind, is_whole, leads_nowhere, ends_early}
+use Rattle.mau_shapes.proofs.Coding.{code, image, step_image, pieces_in, finish_image}
+
+-- it is behind the first i words
+pub record Led (ws : Words) (i : ℕ) (r : Reader) : Type 0 where
+  pub state : State
+  pub leads : run (take i ws) (operand []) ≡ Some state
+  pub same : r ≡ code state
+
+pub led_none : (ws : Words) (r : Reader) → r.mode ≡ mode.Operand → r.frames ≡ [] → r.pieces ≡ [] → Led ws 0 r
+led_none ws r m f p =
+    let e : r ≡ code (operand []) = cc in
+    record { state = operand []; leads = refl; same = e }
+
+at_place : (ws : Words) (i : ℕ) (x : State) → i ≤ length ws → run (take i ws) (operand []) ≡ Some x → length (state_words x) ≡ i
+at_place ws i x le h = ap length ((stands_behind (take i ws) x h).words) ∙ length-take-le i ws le
+
+-- what the next word makes
+tells : (ws : Words) (i : ℕ) (r : Reader) (h : Led ws i r) → i < length ws → next (get_or ws i []) i r ≡ image (step (get_or ws i []) h.state)
+tells ws i r h l =
+    let n : length (state_words h.state) ≡ i = at_place ws i h.state (omega (arith, l)) h.leads in
+    ap (next (get_or ws i []) i) h.same ∙ (ap (λ j. next (get_or ws i []) j (code h.state)) (sym n) ∙ step_image (get_or ws i []) h.state)
+
+pub led_more : (ws : Words) (i : ℕ) (r q : Reader) → Led ws i r → i < length ws → next (get_or ws i []) i r ≡ steps_by true q → Led ws (i + 1) q
+led_more ws i r q h l e =
+    let t : image (step (get_or ws i []) h.state) ≡ Some q = sym (tells ws i r h l) ∙ e in
+    (elim (step (get_or ws i []) h.state) as (λ o. step (get_or ws i []) h.state ≡ o → image o ≡ Some q → Led ws (i + 1) q) [
+      None ↦ λ s u. absurd (let n : ◌≡◌ {A = Option Reader} None (Some q) = u in cc)
+    | Some y ↦ λ s u. record {
+        state = y;
+        leads = ap (λ z. run z (operand [])) (take_more ws i [] l) ∙ (run_more (take i ws) (get_or ws i [] ∷ []) (operand [])
+          ∙ (ap (λ o. go_on o (run (get_or ws i [] ∷ []))) h.leads ∙ ap (λ o. go_on o (run [])) s));
+        same = (let n : ◌≡◌ {A = Option Reader} (Some (code y)) (Some q) = u in cc);
+      }
+    ]) refl t
+
+pub led_nowhere : (ws : Words) (i : ℕ) (r q : Reader) → Led ws i r → i < length ws → next (get_or ws i []) i r ≡ steps_by false q → IsUnexpected ws i
+led_nowhere ws i r q h l e =
+    let t : image (step (get_or ws i []) h.state) ≡ None = sym (tells ws i r h l) ∙ e in
+    (elim (step (get_or ws i []) h.state) as (λ o. step (get_or ws i []) h.state ≡ o → image o ≡ None → IsUnexpected ws i) [
+      None ↦ λ s u. leads_nowhere ws i h.state l h.leads s
+    | Some y ↦ λ s u. absurd (let n : ◌≡◌ {A = Option Reader} (Some (code y)) None = u in cc)
+    ]) refl t
+
+-- all words
+all_of : (ws : Words) (x : State) → run (take (length ws) ws) (operand []) ≡ Some x → run ws (operand []) ≡ Some x
+all_of ws x h = subst (λ z. run z (operand []) ≡ Some x) (take_all ws) h
+  where
+    take_all : (ws : Words) → take (length ws) ws ≡ ws
+    take_all [] = refl
+    take_all (w ∷ ws) = ap (λ z. w ∷ z) (take_all ws)
+
+ends_with : (ws : Words) (r : Reader) (h : Led ws (length ws) r) → finished (length ws) r ≡ pieces_in (finish h.state)
+ends_with ws r h =
+    let n : length (state_words h.state) ≡ length ws = at_place ws (length ws) h.state (omega arith) h.leads in
+    ap (finished (length ws)) h.same ∙ (ap (λ j. finished j (code h.state)) (sym n) ∙ finish_image h.state)
+
+pub led_whole : (ws : Words) (r : Reader) (ps : List Piece) → Led ws (length ws) r → finished (length ws) r ≡ Some ps → ArePiecesOf ws ps
+led_whole ws r ps h e =
+    let t : pieces_in (finish h.state) ≡ Some ps = sym (ends_with ws r h) ∙ e in
+    (elim (finish h.state) as (λ o. finish h.state ≡ o → pieces_in o ≡ Some ps → ArePiecesOf ws ps) [
+      None ↦ λ s u. absurd (let n : ◌≡◌ {A = Option (List Piece)} None (Some ps) = u in cc)
+    | Some y ↦ λ s u. record {
+        shape = y;
+        reads = is_whole ws h.state y (all_of ws h.state h.leads) s;
+        pieces = (let n : ◌≡◌ {A = Option (List Piece)} (Some (pieces 0 y)) (Some ps) = u in cc);
+      }
+    ]) refl t
+
+pub led_early : (ws : Words) (r : Reader) → 0 < length ws → Led ws (length ws) r → finished (length ws) r ≡ None → IsUnexpected ws (length ws - 1)
+led_early ws r l h e =
+    let t : pieces_in (finish h.state) ≡ None = sym (ends_with ws r h) ∙ e in
+    (elim (finish h.state) as (λ o. finish h.state ≡ o → pieces_in o ≡ None → IsUnexpected ws (length ws - 1)) [
+      None ↦ λ s u. ends_early ws h.state l (all_of ws h.state h.leads) s
+    | Some y ↦ λ s u. absurd (let n : ◌≡◌ {A = Option (List Piece)} (Some (pieces 0 y)) None = u in cc)
+    ]) refl t
