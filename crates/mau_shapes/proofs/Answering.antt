@@ -31,18 +31,18 @@ pub led_or_stuck : (ws : Words) (x : State) → ((y : State) × (run ws x ≡ So
 led_or_stuck [] x = inl (x, refl)
 led_or_stuck (w ∷ ws) x =
     (elim (step w x) as (λ o. step w x ≡ o → ((y : State) × (go_on o (run ws) ≡ Some y)) ⊎ Stuck (w ∷ ws) x) [
-      None ↦ λ e. inr (record { place = 0; state = x; within = omega arith; leads = refl; stops = e })
-    | Some y ↦ λ e. elim (led_or_stuck ws y) [ inl a ↦ inl a | inr b ↦ inr (later w ws x y e b) ]
+      | None ↦ λ e. inr (record { place = 0; state = x; within = omega arith; leads = refl; stops = e })
+      | Some y ↦ λ e. elim (led_or_stuck ws y) [ inl a ↦ inl a | inr b ↦ inr (later w ws x y e b) ]
     ]) refl
 
 pub answered : (ws : Words) → 0 < length ws → ((s : Shape) × IsTextOf ws s) ⊎ ((i : ℕ) × IsUnexpected ws i)
 answered ws l = elim (led_or_stuck ws (operand [])) [
-    inl a ↦ (elim (finish a.0) as (λ o. finish a.0 ≡ o → ((s : Shape) × IsTextOf ws s) ⊎ ((i : ℕ) × IsUnexpected ws i)) [
-        None ↦ λ e. inr (length ws - 1, ends_early ws a.0 l a.1 e)
-      | Some s ↦ λ e. inl (s, is_whole ws a.0 s a.1 e)
-      ]) refl
+  | inl a ↦ (elim (finish a.0) as (λ o. finish a.0 ≡ o → ((s : Shape) × IsTextOf ws s) ⊎ ((i : ℕ) × IsUnexpected ws i)) [
+    | None ↦ λ e. inr (length ws - 1, ends_early ws a.0 l a.1 e)
+    | Some s ↦ λ e. inl (s, is_whole ws a.0 s a.1 e)
+  ]) refl
   | inr b ↦ inr (b.place, leads_nowhere ws b.place b.state b.within b.leads b.stops)
-  ]
+]
 
 -- ---- one answer
 
@@ -52,7 +52,7 @@ front_before ws i j le f =
     let t : take i (take j ws) ≡ take i ws = take-take i j ws le in
     let r : take i (take j ws) ++ drop i (take j ws) ≡ take j ws = take-append-drop i (take j ws) in
     let e : take j ws ++ f.more ≡ take i ws ++ (drop i (take j ws) ++ f.more)
-      = ap (λ z. z ++ f.more) (sym r) ∙ (append_assoc (take i (take j ws)) (drop i (take j ws)) f.more ∙ ap (λ z. z ++ (drop i (take j ws) ++ f.more)) t) in
+    = ap (λ z. z ++ f.more) (sym r) ∙ (append_assoc (take i (take j ws)) (drop i (take j ws)) f.more ∙ ap (λ z. z ++ (drop i (take j ws) ++ f.more)) t) in
     record { shape = f.shape; more = drop i (take j ws) ++ f.more; reads = subst (λ z. IsTextOf z f.shape) e f.reads }
 
 front_of_text : (ws : Words) (i : ℕ) (s : Shape) → IsTextOf ws s → IsFront (take i ws)
@@ -63,12 +63,12 @@ no_text ws i u s h = elim u.fault [ inl f ↦ f (front_of_text ws (i + 1) s h) |
 
 not_before : (ws : Words) (i j : ℕ) → IsUnexpected ws i → IsUnexpected ws j → i < j → ⊥
 not_before ws i j u v l = elim u.fault [
-    inl f ↦ f (front_before ws (i + 1) j (omega (arith, l)) v.front)
+  | inl f ↦ f (front_before ws (i + 1) j (omega (arith, l)) v.front)
   | inr e ↦ absurd (let there : j < length ws = v.there in let last : i + 1 ≡ length ws = e.0 in omega (arith, l))
-  ]
+]
 
 pub one_fault : (ws : Words) (i j : ℕ) → IsUnexpected ws i → IsUnexpected ws j → i ≡ j
 one_fault ws i j u v = elim (cases_order i j) [
-    inl e ↦ e
+  | inl e ↦ e
   | inr o ↦ elim o [ inl l ↦ absurd (not_before ws i j u v l) | inr l ↦ absurd (not_before ws j i v u l) ]
-  ]
+]

@@ -63,7 +63,7 @@ place_behind a b w = length-append a (b ++ w ∷ []) ∙ (ap (λ n. length a + n
 place_answered : (a b : Words) (q : Word) (c : Words) (v : Word) → length (a ++ (b ++ q ∷ (c ++ v ∷ []))) ≡ length a + length b + 1 + length c + 1
 place_answered a b q c v =
     length-append a (b ++ q ∷ (c ++ v ∷ [])) ∙ (ap (λ n. length a + n) (length-append b (q ∷ (c ++ v ∷ []))
-      ∙ ap (λ n. length b + suc n) (one_longer c v)) ∙ omega arith)
+    ∙ ap (λ n. length b + suc n) (one_longer c v)) ∙ omega arith)
 
 narrow_image : (k : Frames) → is_top (top_of (frames_of k)) ≡ is_narrow k
 narrow_image [] = refl
@@ -86,13 +86,13 @@ joined_pieces w m e s k =
 chosen_pieces : (e f s : Shape) (k : Frames) → behind_it s (answered e f ∷ k) ++ piece.Chosen ∷ [] ≡ behind_it (chosen e f s) k
 chosen_pieces e f s k =
     ap (λ i. ((pieces_of k ++ (pieces (place k) e ++ pieces (place k + length (text e) + 1) f)) ++ pieces i s) ++ piece.Chosen ∷ [])
-      (place_answered (opened k) (text e) (codes "?") (text f) (codes ":"))
+    (place_answered (opened k) (text e) (codes "?") (text f) (codes ":"))
     ∙ (append_assoc (pieces_of k ++ (pieces (place k) e ++ pieces (place k + length (text e) + 1) f))
-        (pieces (place k + length (text e) + 1 + length (text f) + 1) s) (piece.Chosen ∷ [])
+    (pieces (place k + length (text e) + 1 + length (text f) + 1) s) (piece.Chosen ∷ [])
     ∙ (append_assoc (pieces_of k) (pieces (place k) e ++ pieces (place k + length (text e) + 1) f)
-        (pieces (place k + length (text e) + 1 + length (text f) + 1) s ++ piece.Chosen ∷ [])
+    (pieces (place k + length (text e) + 1 + length (text f) + 1) s ++ piece.Chosen ∷ [])
     ∙ ap (λ z. pieces_of k ++ z) (append_assoc (pieces (place k) e) (pieces (place k + length (text e) + 1) f)
-        (pieces (place k + length (text e) + 1 + length (text f) + 1) s ++ piece.Chosen ∷ []))))
+    (pieces (place k + length (text e) + 1 + length (text f) + 1) s ++ piece.Chosen ∷ []))))
 
 abbrev pub both : Shape × Frames → List Frame × List Piece
 both x = (frames_of x.1, behind_it x.0 x.1)
@@ -108,16 +108,16 @@ close_image m s (top_wrapper w ∷ k) = refl
 close_image m s (asked e ∷ k) = refl
 close_image m s (left w j e ∷ k) =
     elim (nat_lt j m) as (λ b. go m (waiting.Left j (place k + length (text e))) (frames_of k) (behind_it s (left w j e ∷ k))
-          (if b then Some (piece.Joined (place k + length (text e))) else None)
-        ≡ both (if b then close m (joined w e s) k else (s, left w j e ∷ k))) [
-      true ↦ ap (closed m (frames_of k)) (joined_pieces w j e s k) ∙ close_image m (joined w e s) k
-    | false ↦ refl
+    (if b then Some (piece.Joined (place k + length (text e))) else None)
+    ≡ both (if b then close m (joined w e s) k else (s, left w j e ∷ k))) [
+      | true ↦ ap (closed m (frames_of k)) (joined_pieces w j e s k) ∙ close_image m (joined w e s) k
+      | false ↦ refl
     ]
 close_image m s (answered e f ∷ k) =
     elim (nat_lt 6 m) as (λ b. go m waiting.Answered (frames_of k) (behind_it s (answered e f ∷ k)) (if b then Some piece.Chosen else None)
-        ≡ both (if b then close m (chosen e f s) k else (s, answered e f ∷ k))) [
-      true ↦ ap (closed m (frames_of k)) (chosen_pieces e f s k) ∙ close_image m (chosen e f s) k
-    | false ↦ refl
+    ≡ both (if b then close m (chosen e f s) k else (s, answered e f ∷ k))) [
+      | true ↦ ap (closed m (frames_of k)) (chosen_pieces e f s k) ∙ close_image m (chosen e f s) k
+      | false ↦ refl
     ]
 
 -- the words stay
@@ -138,13 +138,13 @@ close_words m s (top_wrapper w ∷ k) = refl
 close_words m s (asked e ∷ k) = refl
 close_words m s (left w j e ∷ k) =
     elim (nat_lt j m) as (λ b. all_words (if b then close m (joined w e s) k else (s, left w j e ∷ k)) ≡ opened (left w j e ∷ k) ++ text s) [
-      true ↦ close_words m (joined w e s) k ∙ sym (left_words (opened k) (text e) w (text s))
-    | false ↦ refl
+      | true ↦ close_words m (joined w e s) k ∙ sym (left_words (opened k) (text e) w (text s))
+      | false ↦ refl
     ]
 close_words m s (answered e f ∷ k) =
     elim (nat_lt 6 m) as (λ b. all_words (if b then close m (chosen e f s) k else (s, answered e f ∷ k)) ≡ opened (answered e f ∷ k) ++ text s) [
-      true ↦ close_words m (chosen e f s) k ∙ sym (answered_words (opened k) (text e) (codes "?") (text f) (codes ":") (text s))
-    | false ↦ refl
+      | true ↦ close_words m (chosen e f s) k ∙ sym (answered_words (opened k) (text e) (codes "?") (text f) (codes ":") (text s))
+      | false ↦ refl
     ]
 
 -- ---- states
@@ -192,13 +192,13 @@ leave_image (bracket ∷ k) s =
 leave_image (wrapper w ∷ k) s =
     ap (λ i. Some (reader mode.Done (frames_of k) (((pieces_of k ++ piece.Wrapper (place k) ∷ []) ++ pieces i s) ++ piece.Wrapped (place k) ∷ []))) (two_longer (opened k) w (codes "("))
     ∙ ap (λ z. Some (reader mode.Done (frames_of k) z))
-      (append_assoc (pieces_of k ++ piece.Wrapper (place k) ∷ []) (pieces (place k + 2) s) (piece.Wrapped (place k) ∷ [])
-        ∙ append_assoc (pieces_of k) (piece.Wrapper (place k) ∷ []) (pieces (place k + 2) s ++ piece.Wrapped (place k) ∷ []))
+    (append_assoc (pieces_of k ++ piece.Wrapper (place k) ∷ []) (pieces (place k + 2) s) (piece.Wrapped (place k) ∷ [])
+    ∙ append_assoc (pieces_of k) (piece.Wrapper (place k) ∷ []) (pieces (place k + 2) s ++ piece.Wrapped (place k) ∷ []))
 leave_image (top_wrapper w ∷ k) s =
     ap (λ i. Some (reader mode.Done (frames_of k) (((pieces_of k ++ piece.Wrapper (place k) ∷ []) ++ pieces i s) ++ piece.Wrapped (place k) ∷ []))) (two_longer (opened k) w (codes "("))
     ∙ ap (λ z. Some (reader mode.Done (frames_of k) z))
-      (append_assoc (pieces_of k ++ piece.Wrapper (place k) ∷ []) (pieces (place k + 2) s) (piece.Wrapped (place k) ∷ [])
-        ∙ append_assoc (pieces_of k) (piece.Wrapper (place k) ∷ []) (pieces (place k + 2) s ++ piece.Wrapped (place k) ∷ []))
+    (append_assoc (pieces_of k ++ piece.Wrapper (place k) ∷ []) (pieces (place k + 2) s) (piece.Wrapped (place k) ∷ [])
+    ∙ append_assoc (pieces_of k) (piece.Wrapper (place k) ∷ []) (pieces (place k + 2) s ++ piece.Wrapped (place k) ∷ []))
 leave_image (left w m e ∷ k) s = refl
 leave_image (asked e ∷ k) s = refl
 leave_image (answered e f ∷ k) s = refl
@@ -218,22 +218,22 @@ follow_image : (r : Role) (v : Word) (s : Shape) (k : Frames) (m : Mode)
     → machine.follow r (length (opened k ++ text s)) (reader m (frames_of k) (behind_it s k)) ≡ image (whole.follow r v s k)
 follow_image mark v s k m =
     unless_image (is_top (top_of (frames_of k))) (is_narrow k) _ (Some (done (marked s v) k)) (narrow_image k)
-      (ap (λ i. Some (reader mode.Done (frames_of k) ((pieces_of k ++ pieces (place k) s) ++ piece.Marked i ∷ []))) (length-append (opened k) (text s))
-        ∙ ap (λ z. Some (reader mode.Done (frames_of k) z)) (append_assoc (pieces_of k) (pieces (place k) s) (piece.Marked (place k + length (text s)) ∷ [])))
+    (ap (λ i. Some (reader mode.Done (frames_of k) ((pieces_of k ++ pieces (place k) s) ++ piece.Marked i ∷ []))) (length-append (opened k) (text s))
+    ∙ ap (λ z. Some (reader mode.Done (frames_of k) z)) (append_assoc (pieces_of k) (pieces (place k) s) (piece.Marked (place k + length (text s)) ∷ [])))
 follow_image (joint n) v s k m =
     let x = close n s k in
     let i : length (opened k ++ text s) ≡ place x.1 + length (text x.0) = ap length (sym (close_words n s k)) ∙ length-append (opened x.1) (text x.0) in
     unless_image (is_top (top_of (frames_of k))) (is_narrow k) _ (Some (operand (left v n x.0 ∷ x.1))) (narrow_image k)
-      (ap (λ y. Some (machine.waits (waiting.Left n (length (opened k ++ text s))) y)) (close_image n s k)
-        ∙ ap (λ j. Some (reader mode.Operand (waiting.Left n j ∷ frames_of x.1) (behind_it x.0 x.1))) i)
+    (ap (λ y. Some (machine.waits (waiting.Left n (length (opened k ++ text s))) y)) (close_image n s k)
+    ∙ ap (λ j. Some (reader mode.Operand (waiting.Left n j ∷ frames_of x.1) (behind_it x.0 x.1))) i)
 follow_image question v s k m =
     let x = close 6 s k in
     unless_image (is_top (top_of (frames_of k))) (is_narrow k) _ (Some (operand (asked x.0 ∷ x.1))) (narrow_image k)
-      (ap (λ y. Some (machine.waits waiting.Asked y)) (close_image 6 s k))
+    (ap (λ y. Some (machine.waits waiting.Asked y)) (close_image 6 s k))
 follow_image colon v s k m =
     let x = close 7 s k in
     unless_image (is_top (top_of (frames_of k))) (is_narrow k) _ (whole.answer_in x.0 x.1) (narrow_image k)
-      (ap machine.answer (close_image 7 s k) ∙ answer_image x.1 x.0)
+    (ap machine.answer (close_image 7 s k) ∙ answer_image x.1 x.0)
 follow_image closing_round v s k m =
     let x = close 7 s k in
     ap machine.leave (close_image 7 s k) ∙ leave_image x.1 x.0
@@ -296,7 +296,7 @@ term_more i [] t = let z : i ≡ i + 0 = omega arith in ap (λ n. piece.Argument
 term_more i (u ∷ ts) t =
     let z : i + length u + 1 + length (before (codes ",") ts) ≡ i + length (before (codes ",") (u ∷ ts)) = omega (arith, before_length (codes ",") u ts) in
     ap (λ ps. piece.Argument (part i u) ∷ ps) (term_more (i + length u + 1) ts t
-      ∙ ap (λ n. term_pieces (i + length u + 1) ts ++ piece.Argument (part n t) ∷ []) z)
+    ∙ ap (λ n. term_pieces (i + length u + 1) ts ++ piece.Argument (part n t) ∷ []) z)
 
 fragment_more : (i : ℕ) (ts : List Words) (t : Words)
     → fragment_pieces i (ts ++ t ∷ []) ≡ fragment_pieces i ts ++ piece.Fragment (part (i + length (before (codes "/\\") ts)) t) ∷ []
@@ -304,7 +304,7 @@ fragment_more i [] t = let z : i ≡ i + 0 = omega arith in ap (λ n. piece.Frag
 fragment_more i (u ∷ ts) t =
     let z : i + length u + 1 + length (before (codes "/\\") ts) ≡ i + length (before (codes "/\\") (u ∷ ts)) = omega (arith, before_length (codes "/\\") u ts) in
     ap (λ ps. piece.Fragment (part i u) ∷ ps) (fragment_more (i + length u + 1) ts t
-      ∙ ap (λ n. fragment_pieces (i + length u + 1) ts ++ piece.Fragment (part n t) ∷ []) z)
+    ∙ ap (λ n. fragment_pieces (i + length u + 1) ts ++ piece.Fragment (part n t) ∷ []) z)
 
 use_length : (u : Use) → length (use_text u) ≡ length u.0 + 1 + length u.1
 use_length u = length-append u.0 (codes "<-" ∷ u.1) ∙ omega arith
@@ -315,9 +315,9 @@ use_more i [] u n h =
     let z : i ≡ n = omega (arith, h) in ap (λ n. piece.Variable (part n u.0) ∷ piece.Value (part (n + length u.0 + 1) u.1) ∷ []) z
 use_more i (y ∷ us) u n h =
     let z : i + length y.0 + 1 + length y.1 + 1 + length (before (codes ",") (use_texts us)) ≡ n
-      = omega (arith, before_length (codes ",") (use_text y) (use_texts us), use_length y, h) in
+    = omega (arith, before_length (codes ",") (use_text y) (use_texts us), use_length y, h) in
     ap (λ ps. piece.Variable (part i y.0) ∷ piece.Value (part (i + length y.0 + 1) y.1) ∷ ps)
-      (use_more (i + length y.0 + 1 + length y.1 + 1) us u n z)
+    (use_more (i + length y.0 + 1 + length y.1 + 1) us u n z)
 
 -- the pieces with those of one more part
 abbrev goal_from : Goal → Frames → ℕ
@@ -336,7 +336,7 @@ argument_pieces : (w : Word) (ts : List Words) (p : Words) (k : Frames)
     → with_part (argument w ts) p k ≡ pieces_of k ++ goal_pieces (place k) (argument w (ts ++ p ∷ []))
 argument_pieces w ts p k =
     let h : part_at (argument w ts) p k ≡ part (place k + 2 + length (before (codes ",") ts)) p
-      = here_part (opened k) (goal_words (argument w ts)) p (place k + 2 + length (before (codes ",") ts)) (omega arith) in
+    = here_part (opened k) (goal_words (argument w ts)) p (place k + 2 + length (before (codes ",") ts)) (omega arith) in
     append_assoc (pieces_of k) (goal_pieces (place k) (argument w ts)) (piece.Argument (part_at (argument w ts) p k) ∷ [])
     ∙ (ap (λ x. pieces_of k ++ (piece.Call (place k) ∷ (term_pieces (place k + 2) ts ++ piece.Argument x ∷ []))) h
     ∙ ap (λ z. pieces_of k ++ (piece.Call (place k) ∷ z)) (sym (term_more (place k + 2) ts p)))
@@ -344,7 +344,7 @@ argument_pieces w ts p k =
 variable_pieces : (w : Word) (us : List Use) (p : Words) (k : Frames) → with_part (variable w us) p k ≡ pieces_of k ++ goal_pieces (place k) (value w us p)
 variable_pieces w us p k =
     let h : part_at (variable w us) p k ≡ part (place k + 2 + length (before (codes ",") (use_texts us))) p
-      = here_part (opened k) (goal_words (variable w us)) p (place k + 2 + length (before (codes ",") (use_texts us))) (omega arith) in
+    = here_part (opened k) (goal_words (variable w us)) p (place k + 2 + length (before (codes ",") (use_texts us))) (omega arith) in
     append_assoc (pieces_of k) (goal_pieces (place k) (variable w us)) (piece.Variable (part_at (variable w us) p k) ∷ [])
     ∙ ap (λ x. pieces_of k ++ (piece.Label (place k) ∷ (use_pieces (place k + 2) us ++ piece.Variable x ∷ []))) h
 
@@ -356,7 +356,7 @@ value_pieces : (w : Word) (us : List Use) (x p : Words) (k : Frames)
 value_pieces w us x p k =
     let n = place k + 2 + length (before (codes ",") (use_texts us)) in
     let h : part_at (value w us x) p k ≡ part (n + length x + 1) p
-      = here_part (opened k) (goal_words (value w us x)) p (n + length x + 1) (omega (arith, value_length (before (codes ",") (use_texts us)) x (codes "<-"))) in
+    = here_part (opened k) (goal_words (value w us x)) p (n + length x + 1) (omega (arith, value_length (before (codes ",") (use_texts us)) x (codes "<-"))) in
     append_assoc (pieces_of k) (goal_pieces (place k) (value w us x)) (piece.Value (part_at (value w us x) p k) ∷ [])
     ∙ (ap (λ y. pieces_of k ++ (piece.Label (place k) ∷ ((use_pieces (place k + 2) us ++ piece.Variable (part n x) ∷ []) ++ piece.Value y ∷ []))) h
     ∙ (ap (λ z. pieces_of k ++ (piece.Label (place k) ∷ z)) (append_assoc (use_pieces (place k + 2) us) (piece.Variable (part n x) ∷ []) (piece.Value (part (n + length x + 1) p) ∷ []))
@@ -377,7 +377,7 @@ fragment_pieces_more : (w : Word) (p c : Words) (cs : List Words) (q : Words) (k
 fragment_pieces_more w p c cs q k =
     let f = place k + 1 + length p + length c in
     let h : part_at (fragment w p c cs) q k ≡ part (f + length (before (codes "/\\") cs)) q
-      = here_part (opened k) (goal_words (fragment w p c cs)) q (f + length (before (codes "/\\") cs)) (omega (arith, fragment_length w p c (before (codes "/\\") cs))) in
+    = here_part (opened k) (goal_words (fragment w p c cs)) q (f + length (before (codes "/\\") cs)) (omega (arith, fragment_length w p c (before (codes "/\\") cs))) in
     append_assoc (pieces_of k) (goal_pieces (place k) (fragment w p c cs)) (piece.Fragment (part_at (fragment w p c cs) q k) ∷ [])
     ∙ (ap (λ x. pieces_of k ++ (piece.Test (place k) ∷ piece.Pattern (part (place k + 1) p) ∷ (fragment_pieces f cs ++ piece.Fragment x ∷ []))) h
     ∙ ap (λ z. pieces_of k ++ (piece.Test (place k) ∷ piece.Pattern (part (place k + 1) p) ∷ z)) (sym (fragment_more f cs q)))
@@ -388,19 +388,19 @@ argument_image : (r : Role) (m : Mode) (w : Word) (ts : List Words) (p : Words) 
     → machine.end_argument r (goal_to (argument w ts) p k) (reader m (frames_of k) (with_part (argument w ts) p k)) ≡ image (whole.end_argument r w ts p k)
 argument_image comma m w ts p k =
     ap (λ i. Some (reader (mode.Reading kind.Argument i 0) (frames_of k) (with_part (argument w ts) p k)))
-      (next_from (opened k) (goal_words (argument w ts)) p (goal_words (argument w (ts ++ p ∷ []))) (codes ",") (ap (λ z. w ∷ codes "(" ∷ z) (before_more (codes ",") ts p)))
+    (next_from (opened k) (goal_words (argument w ts)) p (goal_words (argument w (ts ++ p ∷ []))) (codes ",") (ap (λ z. w ∷ codes "(" ∷ z) (before_more (codes ",") ts p)))
     ∙ ap (λ z. Some (reader (mode.Reading kind.Argument (goal_from (argument w (ts ++ p ∷ [])) k) 0) (frames_of k) z)) (argument_pieces w ts p k)
 argument_image closing_round m w ts p k =
     ap (λ z. Some (reader mode.Done (frames_of k) (z ++ piece.Called ∷ []))) (argument_pieces w ts p k)
     ∙ ap (λ z. Some (reader mode.Done (frames_of k) z))
-      (append_assoc (pieces_of k) (goal_pieces (place k) (argument w (ts ++ p ∷ []))) (piece.Called ∷ []))
+    (append_assoc (pieces_of k) (goal_pieces (place k) (argument w (ts ++ p ∷ []))) (piece.Called ∷ []))
 argument_image _ m w ts p k = refl
 
 variable_image : (r : Role) (m : Mode) (w : Word) (us : List Use) (p : Words) (k : Frames)
     → machine.end_variable r (goal_to (variable w us) p k) (reader m (frames_of k) (with_part (variable w us) p k)) ≡ image (whole.end_variable r w us p k)
 variable_image arrow m w us p k =
     ap (λ i. Some (reader (mode.Reading kind.Value i 0) (frames_of k) (with_part (variable w us) p k)))
-      (next_from (opened k) (goal_words (variable w us)) p (goal_words (value w us p)) (codes "<-") refl)
+    (next_from (opened k) (goal_words (variable w us)) p (goal_words (value w us p)) (codes "<-") refl)
     ∙ ap (λ z. Some (reader (mode.Reading kind.Value (goal_from (value w us p) k) 0) (frames_of k) z)) (variable_pieces w us p k)
 variable_image _ m w us p k = refl
 
@@ -411,9 +411,9 @@ value_image : (r : Role) (m : Mode) (w : Word) (us : List Use) (x p : Words) (k 
     → machine.end_value r (goal_to (value w us x) p k) (reader m (frames_of k) (with_part (value w us x) p k)) ≡ image (whole.end_value r w us (x, p) k)
 value_image comma m w us x p k =
     ap (λ i. Some (reader (mode.Reading kind.Variable i 0) (frames_of k) (with_part (value w us x) p k)))
-      (next_from (opened k) (goal_words (value w us x)) p (goal_words (variable w (us ++ (x, p) ∷ []))) (codes ",")
-        (ap (λ z. w ∷ codes "[" ∷ z) (ap (before (codes ",")) (uses_more us (x, p)) ∙ (before_more (codes ",") (use_texts us) (use_text (x, p))
-          ∙ use_step (before (codes ",") (use_texts us)) x p (codes "<-") (codes ",")))))
+    (next_from (opened k) (goal_words (value w us x)) p (goal_words (variable w (us ++ (x, p) ∷ []))) (codes ",")
+    (ap (λ z. w ∷ codes "[" ∷ z) (ap (before (codes ",")) (uses_more us (x, p)) ∙ (before_more (codes ",") (use_texts us) (use_text (x, p))
+    ∙ use_step (before (codes ",") (use_texts us)) x p (codes "<-") (codes ",")))))
     ∙ ap (λ z. Some (reader (mode.Reading kind.Variable (goal_from (variable w (us ++ (x, p) ∷ [])) k) 0) (frames_of k) z)) (value_pieces w us x p k)
 value_image closing_square m w us x p k = ap (λ z. Some (reader mode.Done (frames_of k) z)) (value_pieces w us x p k)
 value_image _ m w us x p k = refl
@@ -422,7 +422,7 @@ pattern_image : (r : Role) (m : Mode) (v w : Word) (p : Words) (k : Frames)
     → machine.end_pattern r (goal_to (pattern w) p k) (reader m (frames_of k) (with_part (pattern w) p k)) ≡ image (whole.end_pattern r v w p k)
 pattern_image condition m v w p k =
     ap (λ i. Some (reader (mode.Reading kind.Fragment i 0) (frames_of k) (with_part (pattern w) p k)))
-      (next_from (opened k) (w ∷ []) p (goal_words (fragment w p (v ∷ []) [])) v refl)
+    (next_from (opened k) (w ∷ []) p (goal_words (fragment w p (v ∷ []) [])) v refl)
     ∙ ap (λ z. Some (reader (mode.Reading kind.Fragment (goal_from (fragment w p (v ∷ []) []) k) 0) (frames_of k) z)) (pattern_pieces w p k)
 pattern_image such m v w p k = ap (λ z. Some (reader mode.Such (frames_of k) z)) (pattern_pieces w p k)
 pattern_image r m v w p k =
@@ -444,8 +444,8 @@ fragment_image : (r : Role) (m : Mode) (v w : Word) (p c : Words) (cs : List Wor
     ≡ image (whole.end_fragment r v w p c (cs ++ q ∷ []) k)
 fragment_image conjunction m v w p c cs q k =
     ap (λ i. Some (reader (mode.Reading kind.Fragment i 0) (frames_of k) (with_part (fragment w p c cs) q k)))
-      (next_from (opened k) (goal_words (fragment w p c cs)) q (goal_words (fragment w p c (cs ++ q ∷ []))) (codes "/\\")
-        (ap (λ z. w ∷ (p ++ (c ++ z))) (before_more (codes "/\\") cs q) ∙ fragment_next w p c (before (codes "/\\") cs) q (codes "/\\")))
+    (next_from (opened k) (goal_words (fragment w p c cs)) q (goal_words (fragment w p c (cs ++ q ∷ []))) (codes "/\\")
+    (ap (λ z. w ∷ (p ++ (c ++ z))) (before_more (codes "/\\") cs q) ∙ fragment_next w p c (before (codes "/\\") cs) q (codes "/\\")))
     ∙ ap (λ z. Some (reader (mode.Reading kind.Fragment (goal_from (fragment w p c (cs ++ q ∷ [])) k) 0) (frames_of k) z)) (fragment_pieces_more w p c cs q k)
 fragment_image r m v w p c cs q k =
     ap (λ z. machine.follow r (goal_to (fragment w p c cs) q k) (reader m (frames_of k) z)) (fragment_pieces_more w p c cs q k)
@@ -492,8 +492,8 @@ read_image : (g : Goal) (p : Words) (d : ℕ) (k : Frames) (v : Word)
     → machine.read (kind_of g) (goal_from g k) d (role v) (goal_to g p k) (code (reading g p d k)) ≡ image (whole.read g v p d k)
 read_image g p d k v =
     choose_image (stops (part_ends (kind_of g)) d (role v)) (stops (ends g) d (role v)) _ _ (whole.end_some g v p k)
-      (Some (reading g (p ++ v ∷ []) (behind d (role v)) k)) (ap (λ f. stops f d (role v)) (ends_image g))
-      (some_image g (mode.Reading (kind_of g) (goal_from g k) d) v p k) refl
+    (Some (reading g (p ++ v ∷ []) (behind d (role v)) k)) (ap (λ f. stops f d (role v)) (ends_image g))
+    (some_image g (mode.Reading (kind_of g) (goal_from g k) d) v p k) refl
 
 -- ---- one step
 
@@ -510,8 +510,8 @@ step_image v (done s k) = follow_image (role v) v s k mode.Done
 step_image v (reading g p d k) = read_image g p d k v
 step_image v (such_of w p u k) =
     choose_image (is v (codes "that")) (is v (codes "that")) _ None (Some (reading (fragment w p (u ∷ v ∷ []) []) [] 0 k)) None refl
-      (ap (λ i. Some (reader (mode.Reading kind.Fragment i 0) (frames_of k) (pieces_of k ++ (piece.Test (place k) ∷ piece.Pattern (part (place k + 1) p) ∷ []))))
-        (such_place (opened k) w p u v)) refl
+    (ap (λ i. Some (reader (mode.Reading kind.Fragment i 0) (frames_of k) (pieces_of k ++ (piece.Test (place k) ∷ piece.Pattern (part (place k + 1) p) ∷ []))))
+    (such_place (opened k) w p u v)) refl
 
 -- ---- the end
 
@@ -536,7 +536,7 @@ finish_pattern w (v ∷ p) zero k =
     ∙ (ap (λ z. machine.whole (closed 7 (frames_of k) z)) (pattern_pieces w (v ∷ p) k) ∙ whole_image (tested w (v ∷ p) None) k)
 finish_pattern w (v ∷ p) (suc d) k =
     ap (λ b. if b && not (nat_eq (goal_from (pattern w) k) (goal_to (pattern w) (v ∷ p) k)) then machine.whole (closed 7 (frames_of k) (with_part (pattern w) (v ∷ p) k)) else None)
-      (ne_eqb (suc d) 0 (λ e. omega (arith, e)))
+    (ne_eqb (suc d) 0 (λ e. omega (arith, e)))
 
 finish_fragment : (w : Word) (p c : Words) (cs : List Words) (q : Words) (d : ℕ) (k : Frames)
     → machine.finished (goal_to (fragment w p c cs) q k) (code (reading (fragment w p c cs) q d k)) ≡ pieces_in (whole.finish (reading (fragment w p c cs) q d k))
@@ -548,8 +548,8 @@ finish_fragment w p c cs (v ∷ q) zero k =
     ∙ (ap (λ z. machine.whole (closed 7 (frames_of k) z)) (fragment_pieces_more w p c cs (v ∷ q) k) ∙ whole_image (tested w p (Some (c, cs ++ (v ∷ q) ∷ []))) k)
 finish_fragment w p c cs (v ∷ q) (suc d) k =
     ap (λ b. if b && not (nat_eq (goal_from (fragment w p c cs) k) (goal_to (fragment w p c cs) (v ∷ q) k))
-        then machine.whole (closed 7 (frames_of k) (with_part (fragment w p c cs) (v ∷ q) k)) else None)
-      (ne_eqb (suc d) 0 (λ e. omega (arith, e)))
+    then machine.whole (closed 7 (frames_of k) (with_part (fragment w p c cs) (v ∷ q) k)) else None)
+    (ne_eqb (suc d) 0 (λ e. omega (arith, e)))
 
 pub finish_image : (x : State) → machine.finished (length (state_words x)) (code x) ≡ pieces_in (whole.finish x)
 finish_image (operand k) = refl

@@ -62,25 +62,25 @@ pub complete : (k : Frames) (s : Shape) (n : ℕ) (ws more : Words) → AreOpen 
 complete [] s n ws more o h le a e = record { shape = s; more = more; reads = record { strategy = looser s n 6 le h; words = e } }
 complete (bracket ∷ k) s n ws more o h le a e =
     complete k (within s) 2 ws (more ++ codes ")" ∷ []) o.1 (looser s n 6 le h) (omega arith) (tight k (within s) o.1 (wide (within s) k o.0))
-      (in_brackets (opened k) (codes "(") (text s) (codes ")") ∙ more_words (opened (bracket ∷ k) ++ text s) ws more (codes ")" ∷ []) e)
+    (in_brackets (opened k) (codes "(") (text s) (codes ")") ∙ more_words (opened (bracket ∷ k) ++ text s) ws more (codes ")" ∷ []) e)
 complete (wrapper w ∷ k) s n ws more o h le a e =
     complete k (wrapped w s) 2 ws (more ++ codes ")" ∷ []) o.2 (inl o.0, looser s n 6 le h) (omega arith) (tight k (wrapped w s) o.2 (wide (wrapped w s) k o.1))
-      (in_two (opened k) w (codes "(") (text s) (codes ")") ∙ more_words (opened (wrapper w ∷ k) ++ text s) ws more (codes ")" ∷ []) e)
+    (in_two (opened k) w (codes "(") (text s) (codes ")") ∙ more_words (opened (wrapper w ∷ k) ++ text s) ws more (codes ")" ∷ []) e)
 complete (top_wrapper w ∷ k) s n ws more o h le a e =
     complete k (wrapped w s) 2 ws (more ++ codes ")" ∷ []) o.2 (inr (o.0, a), looser s n 6 le h) (omega arith) (tight k (wrapped w s) o.2 (wide (wrapped w s) k o.1))
-      (in_two (opened k) w (codes "(") (text s) (codes ")") ∙ more_words (opened (top_wrapper w ∷ k) ++ text s) ws more (codes ")" ∷ []) e)
+    (in_two (opened k) w (codes "(") (text s) (codes ")") ∙ more_words (opened (top_wrapper w ∷ k) ++ text s) ws more (codes ")" ∷ []) e)
 complete (left w m f ∷ k) s n ws more o h le a e =
     let b : (3 ≤ m) × (m ≤ 5) = known_as w (joint m) o.0 in
     complete k (joined w f s) m ws more o.3 (m, o.0, omega arith, o.1, looser s n m a h) (omega (arith, b.1)) (admitted k m (joined w f s) o.2)
-      (regroup (opened k) (text f) w (text s) ∙ e)
+    (regroup (opened k) (text f) w (text s) ∙ e)
 complete (asked f ∷ k) s n ws more o h le a e =
     complete k (chosen f s (plain (codes "all"))) 6 ws (more ++ codes ":" ∷ codes "all" ∷ []) o.2 (omega arith, o.0, looser s n 6 le h, stands_by_itself) (omega arith)
-      (admitted k 6 (chosen f s (plain (codes "all"))) o.1)
-      (asked_words (opened k) (text f) (codes "?") (text s) (codes ":" ∷ codes "all" ∷ [])
-        ∙ more_words (opened (asked f ∷ k) ++ text s) ws more (codes ":" ∷ codes "all" ∷ []) e)
+    (admitted k 6 (chosen f s (plain (codes "all"))) o.1)
+    (asked_words (opened k) (text f) (codes "?") (text s) (codes ":" ∷ codes "all" ∷ [])
+    ∙ more_words (opened (asked f ∷ k) ++ text s) ws more (codes ":" ∷ codes "all" ∷ []) e)
 complete (answered f g ∷ k) s n ws more o h le a e =
     complete k (chosen f g s) 6 ws more o.3 (omega arith, o.0, o.1, looser s n 6 le h) (omega arith) (admitted k 6 (chosen f g s) o.2)
-      (regroup_two (opened k) (text f) (codes "?") (text g) (codes ":") (text s) ∙ e)
+    (regroup_two (opened k) (text f) (codes "?") (text g) (codes ":") (text s) ∙ e)
 
 -- ---- parts that are begun are ended
 
@@ -155,58 +155,63 @@ part_front (argument w ts) p d k h b o =
     let part = ended ends_term p d refl b in
     let s = called w (ts ++ (p ++ tail d) ∷ []) in
     complete k s 2 (opened k ++ (goal_words (argument w ts) ++ p)) (tail d ++ codes ")" ∷ []) o
-      (h.0, pushed_some ts (p ++ tail d), All-push (IsPart ends_term) ts (p ++ tail d) h.1 part) (omega arith) (tight k s o (wide s k h.2))
-      (ap (λ z. opened k ++ (w ∷ codes "(" ∷ (z ++ codes ")" ∷ []))) (parted_more (codes ",") ts (p ++ tail d))
-        ∙ argument_words (opened k) w (codes "(") (before (codes ",") ts) p (tail d) (codes ")" ∷ []))
+    (h.0, pushed_some ts (p ++ tail d), All-push (IsPart ends_term) ts (p ++ tail d) h.1 part) (omega arith) (tight k s o (wide s k h.2))
+    (ap (λ z. opened k ++ (w ∷ codes "(" ∷ (z ++ codes ")" ∷ []))) (parted_more (codes ",") ts (p ++ tail d))
+    ∙ argument_words (opened k) w (codes "(") (before (codes ",") ts) p (tail d) (codes ")" ∷ []))
 part_front (variable w us) p d k h b o =
     let part = ended ends_variable p d refl b in
     let s = assigned w (us ++ (p ++ tail d, codes "all" ∷ []) ∷ []) in
-    complete k s 2 (opened k ++ (goal_words (variable w us) ++ p)) (tail d ++ codes "<-" ∷ codes "all" ∷ codes "]" ∷ []) o
-      (h.0, pushed_some us (p ++ tail d, codes "all" ∷ []),
-        All-push IsUse us (p ++ tail d, codes "all" ∷ []) h.1 (record { variable = part; value = one_word ends_term refl })) (omega arith) (tight k s o (λ n. refl))
-      (ap (λ z. opened k ++ (w ∷ codes "[" ∷ (z ++ codes "]" ∷ []))) (ap (parted (codes ",")) (uses_more us (p ++ tail d, codes "all" ∷ []))
-          ∙ parted_more (codes ",") (use_texts us) (use_text (p ++ tail d, codes "all" ∷ [])))
-        ∙ variable_words (opened k) w (codes "[") (before (codes ",") (use_texts us)) p (tail d) (codes "<-") (codes "all" ∷ []) (codes "]" ∷ []))
+    complete k s 2 (opened k ++ (goal_words (variable w us) ++ p)) (tail d ++ codes "<-" ∷ codes "all" ∷ codes "]" ∷ []) o (
+      h.0,
+      pushed_some us (p ++ tail d, codes "all" ∷ []),
+      All-push IsUse us (p ++ tail d, codes "all" ∷ []) h.1 (record { variable = part; value = one_word ends_term refl }),
+    ) (omega arith) (tight k s o (λ n. refl))
+    (ap (λ z. opened k ++ (w ∷ codes "[" ∷ (z ++ codes "]" ∷ []))) (ap (parted (codes ",")) (uses_more us (p ++ tail d, codes "all" ∷ []))
+    ∙ parted_more (codes ",") (use_texts us) (use_text (p ++ tail d, codes "all" ∷ [])))
+    ∙ variable_words (opened k) w (codes "[") (before (codes ",") (use_texts us)) p (tail d) (codes "<-") (codes "all" ∷ []) (codes "]" ∷ []))
 part_front (value w us x) p d k h b o =
     let part = ended ends_term p d refl b in
     let s = assigned w (us ++ (x, p ++ tail d) ∷ []) in
     complete k s 2 (opened k ++ (goal_words (value w us x) ++ p)) (tail d ++ codes "]" ∷ []) o
-      (h.0, pushed_some us (x, p ++ tail d), All-push IsUse us (x, p ++ tail d) h.1 (record { variable = h.2; value = part })) (omega arith) (tight k s o (λ n. refl))
-      (ap (λ z. opened k ++ (w ∷ codes "[" ∷ (z ++ codes "]" ∷ []))) (ap (parted (codes ",")) (uses_more us (x, p ++ tail d))
-          ∙ parted_more (codes ",") (use_texts us) (use_text (x, p ++ tail d)))
-        ∙ value_words (opened k) w (codes "[") (before (codes ",") (use_texts us)) x (codes "<-") p (tail d) (codes "]" ∷ []))
+    (h.0, pushed_some us (x, p ++ tail d), All-push IsUse us (x, p ++ tail d) h.1 (record { variable = h.2; value = part })) (omega arith) (tight k s o (λ n. refl))
+    (ap (λ z. opened k ++ (w ∷ codes "[" ∷ (z ++ codes "]" ∷ []))) (ap (parted (codes ",")) (uses_more us (x, p ++ tail d))
+    ∙ parted_more (codes ",") (use_texts us) (use_text (x, p ++ tail d)))
+    ∙ value_words (opened k) w (codes "[") (before (codes ",") (use_texts us)) x (codes "<-") p (tail d) (codes "]" ∷ []))
 part_front (pattern w) p d k h b o =
     let part = ended ends_test p d refl b in
     let s = tested w (p ++ tail d) None in
     complete k s 2 (opened k ++ (goal_words (pattern w) ++ p)) (tail d) o (h.0, part, tt) (omega arith) (tight k s o (wide s k h.1))
-      (pattern_words (opened k) w p (tail d))
+    (pattern_words (opened k) w p (tail d))
 part_front (fragment w p c cs) q d k h b o =
     let part = ended ends_fragment q d refl b in
     let s = tested w p (Some (c, cs ++ (q ++ tail d) ∷ [])) in
     complete k s 2 (opened k ++ (goal_words (fragment w p c cs) ++ q)) (tail d) o
-      (h.0, h.2, record { sign = h.3; some = pushed_some cs (q ++ tail d); fragments = All-push (IsPart ends_fragment) cs (q ++ tail d) h.4 part })
-      (omega arith) (tight k s o (wide s k h.1))
-      (ap (λ z. opened k ++ (w ∷ (p ++ (c ++ z)))) (parted_more (codes "/\\") cs (q ++ tail d))
-        ∙ fragment_words (opened k) w p c (before (codes "/\\") cs) q (tail d))
+    (h.0, h.2, record { sign = h.3; some = pushed_some cs (q ++ tail d); fragments = All-push (IsPart ends_fragment) cs (q ++ tail d) h.4 part })
+    (omega arith) (tight k s o (wide s k h.1))
+    (ap (λ z. opened k ++ (w ∷ (p ++ (c ++ z)))) (parted_more (codes "/\\") cs (q ++ tail d))
+    ∙ fragment_words (opened k) w p c (before (codes "/\\") cs) q (tail d))
 
 such_front : (w : Word) (p : Words) (v : Word) (k : Frames) → beginning w ≡ of_test → is_narrow k ≡ false → IsPart ends_test p → v ≡ codes "such" → AreOpen k
     → IsFront (opened k ++ w ∷ (p ++ v ∷ []))
 such_front w p v k h free part e o =
     let s = tested w p (Some (v ∷ codes "that" ∷ [], (codes "all" ∷ []) ∷ [])) in
-    complete k s 2 (opened k ++ w ∷ (p ++ v ∷ [])) (codes "that" ∷ codes "all" ∷ []) o
-      (h, part, record {
+    complete k s 2 (opened k ++ w ∷ (p ++ v ∷ [])) (codes "that" ∷ codes "all" ∷ []) o (
+      h,
+      part,
+      record {
         sign = inr (ap (λ z. z ∷ codes "that" ∷ []) e);
         some = λ x. cc;
         fragments = All-cons (IsPart ends_fragment) (codes "all" ∷ []) [] (one_word ends_fragment refl) (All-nil (IsPart ends_fragment));
-      })
-      (omega arith) (tight k s o (wide s k free)) (such_words (opened k) w p v (codes "that" ∷ codes "all" ∷ []))
+      },
+    )
+    (omega arith) (tight k s o (wide s k free)) (such_words (opened k) w p v (codes "that" ∷ codes "all" ∷ []))
 
 pub front_of : (ws : Words) (x : State) → Stands ws x → IsFront ws
 front_of ws (operand k) h = subst IsFront h.words
     (complete k (plain (codes "all")) 2 (opened k) (codes "all" ∷ []) h.right stands_by_itself (omega arith) (tight k (plain (codes "all")) h.right (λ n. is_rule)) refl)
 front_of ws (named w k) h = subst IsFront h.words
     (complete k (plain w) 2 (opened k ++ w ∷ []) [] h.right.1 (names_alone (beginning w) h.right.0) (omega arith)
-      (tight k (plain w) h.right.1 (λ n. names_rule (beginning w) h.right.0)) (sym (append-nil (opened k ++ w ∷ []))))
+    (tight k (plain w) h.right.1 (λ n. names_rule (beginning w) h.right.0)) (sym (append-nil (opened k ++ w ∷ []))))
 front_of ws (done s k) h = subst IsFront h.words
     (complete k s 2 (opened k ++ text s) [] h.right.3 h.right.0 (omega arith) (tight k s h.right.3 h.right.2) (sym (append-nil (opened k ++ text s))))
 front_of ws (reading g p d k) h = subst IsFront h.words (part_front g p d k h.right.0 h.right.1 h.right.2)
@@ -232,26 +237,26 @@ narrow_end (answered e f ∷ k) s t n q = absurd (false≢true n)
 whole_stands : (k : Frames) (s t : Shape) → Fits 2 s → AreOpen k → whole (close 7 s k) ≡ Some t → IsTextOf (opened k ++ text s) t
 whole_stands k s t h o q =
     (elim (is_narrow k) as (λ b. is_narrow k ≡ b → IsTextOf (opened k ++ text s) t) [
-      true ↦ λ n. absurd (narrow_end k s t n q)
-    | false ↦ λ free.
-        let c : Closed 7 s k (close 7 s k) = closing k 7 2 s h (omega arith) (omega arith) (admits_two k o free) o in
-        whole_at (close 7 s k).1 (close 7 s k).0 t (opened k ++ text s) c.fits q c.words
+      | true ↦ λ n. absurd (narrow_end k s t n q)
+      | false ↦ λ free.
+          let c : Closed 7 s k (close 7 s k) = closing k 7 2 s h (omega arith) (omega arith) (admits_two k o free) o in
+          whole_at (close 7 s k).1 (close 7 s k).0 t (opened k ++ text s) c.fits q c.words
     ]) refl
 
 part_whole : (g : Goal) (p : Words) (d : ℕ) (k : Frames) (t : Shape) → IsGoal g k → IsBegun (ends g) p d → AreOpen k → finish (reading g p d k) ≡ Some t
     → IsTextOf (opened k ++ (goal_words g ++ p)) t
 part_whole (pattern w) (v ∷ p) zero k t h b o q =
     subst (λ z. IsTextOf (opened k ++ w ∷ z) t) (append-nil (v ∷ p))
-      (whole_stands k (tested w (v ∷ p) None) t (h.0, part_of ends_test (v ∷ p) b (λ e. cc), tt) o q)
+    (whole_stands k (tested w (v ∷ p) None) t (h.0, part_of ends_test (v ∷ p) b (λ e. cc), tt) o q)
 part_whole (fragment w p c cs) (v ∷ x) zero k t h b o q =
     let part : IsPart ends_fragment (v ∷ x) = part_of ends_fragment (v ∷ x) b (λ e. cc) in
     let s = tested w p (Some (c, cs ++ (v ∷ x) ∷ [])) in
     subst (λ z. IsTextOf z t)
-      (ap (λ z. opened k ++ (w ∷ (p ++ (c ++ z)))) (parted_more (codes "/\\") cs (v ∷ x))
-        ∙ (ap (λ z. opened k ++ (w ∷ (p ++ (c ++ (before (codes "/\\") cs ++ z))))) (sym (append-nil (v ∷ x)))
-        ∙ (fragment_words (opened k) w p c (before (codes "/\\") cs) (v ∷ x) [] ∙ append-nil (opened k ++ (goal_words (fragment w p c cs) ++ (v ∷ x))))))
-      (whole_stands k s t
-        (h.0, h.2, record { sign = h.3; some = pushed_some cs (v ∷ x); fragments = All-push (IsPart ends_fragment) cs (v ∷ x) h.4 part }) o q)
+    (ap (λ z. opened k ++ (w ∷ (p ++ (c ++ z)))) (parted_more (codes "/\\") cs (v ∷ x))
+    ∙ (ap (λ z. opened k ++ (w ∷ (p ++ (c ++ (before (codes "/\\") cs ++ z))))) (sym (append-nil (v ∷ x)))
+    ∙ (fragment_words (opened k) w p c (before (codes "/\\") cs) (v ∷ x) [] ∙ append-nil (opened k ++ (goal_words (fragment w p c cs) ++ (v ∷ x))))))
+    (whole_stands k s t
+    (h.0, h.2, record { sign = h.3; some = pushed_some cs (v ∷ x); fragments = All-push (IsPart ends_fragment) cs (v ∷ x) h.4 part }) o q)
 part_whole _ _ _ k t h b o q = cc
 
 pub finish_stands : (ws : Words) (x : State) (t : Shape) → Stands ws x → finish x ≡ Some t → IsTextOf ws t
@@ -276,7 +281,7 @@ leads_nowhere ws i x l h q = record {
   there = l;
   front = front_of (take i ws) x (stands_behind (take i ws) x h);
   fault = inl (λ f. goes (take (i + 1) ws) f.more f.shape f.reads
-    (ap (λ z. run z (operand [])) (take_more ws i [] l) ∙ (run_more (take i ws) (get_or ws i [] ∷ []) (operand [])
+      (ap (λ z. run z (operand [])) (take_more ws i [] l) ∙ (run_more (take i ws) (get_or ws i [] ∷ []) (operand [])
       ∙ (ap (λ o. go_on o (run (get_or ws i [] ∷ []))) h ∙ ap (λ o. go_on o (run [])) q))));
 }
 
@@ -286,8 +291,8 @@ led ws i x h =
     let r : take i ws ++ drop i ws ≡ ws = take-append-drop i ws in
     let all : go_on (run (take i ws) (operand [])) (run (drop i ws)) ≡ Some x = sym e ∙ (ap (λ z. run z (operand [])) r ∙ h) in
     (elim (run (take i ws) (operand [])) as (λ o. run (take i ws) (operand []) ≡ o → go_on o (run (drop i ws)) ≡ Some x → IsFront (take i ws)) [
-      None ↦ λ n a. cc
-    | Some y ↦ λ s a. front_of (take i ws) y (stands_behind (take i ws) y s)
+      | None ↦ λ n a. cc
+      | Some y ↦ λ s a. front_of (take i ws) y (stands_behind (take i ws) y s)
     ]) refl all
 
 -- words behind which a strategy doesn't end

@@ -40,11 +40,11 @@ pub led_more : (ws : Words) (i : ℕ) (r q : Reader) → Led ws i r → i < leng
 led_more ws i r q h l e =
     let t : image (step (get_or ws i []) h.state) ≡ Some q = sym (tells ws i r h l) ∙ e in
     (elim (step (get_or ws i []) h.state) as (λ o. step (get_or ws i []) h.state ≡ o → image o ≡ Some q → Led ws (i + 1) q) [
-      None ↦ λ s u. absurd (let n : ◌≡◌ {A = Option Reader} None (Some q) = u in cc)
-    | Some y ↦ λ s u. record {
+      | None ↦ λ s u. absurd (let n : ◌≡◌ {A = Option Reader} None (Some q) = u in cc)
+      | Some y ↦ λ s u. record {
         state = y;
         leads = ap (λ z. run z (operand [])) (take_more ws i [] l) ∙ (run_more (take i ws) (get_or ws i [] ∷ []) (operand [])
-          ∙ (ap (λ o. go_on o (run (get_or ws i [] ∷ []))) h.leads ∙ ap (λ o. go_on o (run [])) s));
+            ∙ (ap (λ o. go_on o (run (get_or ws i [] ∷ []))) h.leads ∙ ap (λ o. go_on o (run [])) s));
         same = (let n : ◌≡◌ {A = Option Reader} (Some (code y)) (Some q) = u in cc);
       }
     ]) refl t
@@ -53,8 +53,8 @@ pub led_nowhere : (ws : Words) (i : ℕ) (r q : Reader) → Led ws i r → i < l
 led_nowhere ws i r q h l e =
     let t : image (step (get_or ws i []) h.state) ≡ None = sym (tells ws i r h l) ∙ e in
     (elim (step (get_or ws i []) h.state) as (λ o. step (get_or ws i []) h.state ≡ o → image o ≡ None → IsUnexpected ws i) [
-      None ↦ λ s u. leads_nowhere ws i h.state l h.leads s
-    | Some y ↦ λ s u. absurd (let n : ◌≡◌ {A = Option Reader} (Some (code y)) None = u in cc)
+      | None ↦ λ s u. leads_nowhere ws i h.state l h.leads s
+      | Some y ↦ λ s u. absurd (let n : ◌≡◌ {A = Option Reader} (Some (code y)) None = u in cc)
     ]) refl t
 
 -- all words
@@ -74,8 +74,8 @@ pub led_whole : (ws : Words) (r : Reader) (ps : List Piece) → Led ws (length w
 led_whole ws r ps h e =
     let t : pieces_in (finish h.state) ≡ Some ps = sym (ends_with ws r h) ∙ e in
     (elim (finish h.state) as (λ o. finish h.state ≡ o → pieces_in o ≡ Some ps → ArePiecesOf ws ps) [
-      None ↦ λ s u. absurd (let n : ◌≡◌ {A = Option (List Piece)} None (Some ps) = u in cc)
-    | Some y ↦ λ s u. record {
+      | None ↦ λ s u. absurd (let n : ◌≡◌ {A = Option (List Piece)} None (Some ps) = u in cc)
+      | Some y ↦ λ s u. record {
         shape = y;
         reads = is_whole ws h.state y (all_of ws h.state h.leads) s;
         pieces = (let n : ◌≡◌ {A = Option (List Piece)} (Some (pieces 0 y)) (Some ps) = u in cc);
@@ -86,6 +86,6 @@ pub led_early : (ws : Words) (r : Reader) → 0 < length ws → Led ws (length w
 led_early ws r l h e =
     let t : pieces_in (finish h.state) ≡ None = sym (ends_with ws r h) ∙ e in
     (elim (finish h.state) as (λ o. finish h.state ≡ o → pieces_in o ≡ None → IsUnexpected ws (length ws - 1)) [
-      None ↦ λ s u. ends_early ws h.state l (all_of ws h.state h.leads) s
-    | Some y ↦ λ s u. absurd (let n : ◌≡◌ {A = Option (List Piece)} (Some (pieces 0 y)) None = u in cc)
+      | None ↦ λ s u. ends_early ws h.state l (all_of ws h.state h.leads) s
+      | Some y ↦ λ s u. absurd (let n : ◌≡◌ {A = Option (List Piece)} (Some (pieces 0 y)) None = u in cc)
     ]) refl t

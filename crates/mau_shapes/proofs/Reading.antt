@@ -138,11 +138,11 @@ uses_read w k acc x t [] some hs =
 uses_read w k acc x t (u ∷ us) some hs =
     first (step_at (value w acc x) (codes ",") t k comma some of_comma refl ∙ ap (λ r. end_value r w acc (x, t) k) of_comma)
     (subst (λ ws. Leads ws (reading (variable w (acc ++ (x, t) ∷ [])) [] 0 k) (done (assigned w (acc ++ (x, t) ∷ u ∷ us)) k))
-      (sym (append_assoc (use_text u) (each (codes ",") (use_texts us)) (codes "]" ∷ [])))
-      (chain (use_reads w k (acc ++ (x, t) ∷ []) u (All-head IsUse u us hs))
-        (subst (λ vs. Leads (each (codes ",") (use_texts us) ++ codes "]" ∷ []) (reading (value w (acc ++ (x, t) ∷ []) u.0) u.1 0 k) (done (assigned w vs) k))
-          (append_assoc acc ((x, t) ∷ []) (u ∷ us))
-          (uses_read w k (acc ++ (x, t) ∷ []) u.0 u.1 us (All-head IsUse u us hs).value.some (All-tail IsUse u us hs)))))
+    (sym (append_assoc (use_text u) (each (codes ",") (use_texts us)) (codes "]" ∷ [])))
+    (chain (use_reads w k (acc ++ (x, t) ∷ []) u (All-head IsUse u us hs))
+    (subst (λ vs. Leads (each (codes ",") (use_texts us) ++ codes "]" ∷ []) (reading (value w (acc ++ (x, t) ∷ []) u.0) u.1 0 k) (done (assigned w vs) k))
+    (append_assoc acc ((x, t) ∷ []) (u ∷ us))
+    (uses_read w k (acc ++ (x, t) ∷ []) u.0 u.1 us (All-head IsUse u us hs).value.some (All-tail IsUse u us hs)))))
 
 terms_read : (w : Word) (k : Frames) (acc : List Words) (t : Words) (ts : List Words) → (t ≡ [] → ⊥) → All (IsPart ends_term) ts
     → Leads (each (codes ",") ts ++ codes ")" ∷ []) (reading (argument w acc) t 0 k) (done (called w (acc ++ t ∷ ts)) k)
@@ -151,11 +151,11 @@ terms_read w k acc t [] some hs =
 terms_read w k acc t (u ∷ us) some hs =
     first (step_at (argument w acc) (codes ",") t k comma some of_comma refl ∙ ap (λ r. end_argument r w acc t k) of_comma)
     (subst (λ ws. Leads ws (reading (argument w (acc ++ t ∷ [])) [] 0 k) (done (called w (acc ++ t ∷ u ∷ us)) k))
-      (sym (append_assoc u (each (codes ",") us) (codes ")" ∷ [])))
-      (chain (reads_part (argument w (acc ++ t ∷ [])) k u (All-head (IsPart ends_term) u us hs))
-        (subst (λ vs. Leads (each (codes ",") us ++ codes ")" ∷ []) (reading (argument w (acc ++ t ∷ [])) u 0 k) (done (called w vs) k))
-          (append_assoc acc (t ∷ []) (u ∷ us))
-          (terms_read w k (acc ++ t ∷ []) u us (All-head (IsPart ends_term) u us hs).some (All-tail (IsPart ends_term) u us hs)))))
+    (sym (append_assoc u (each (codes ",") us) (codes ")" ∷ [])))
+    (chain (reads_part (argument w (acc ++ t ∷ [])) k u (All-head (IsPart ends_term) u us hs))
+    (subst (λ vs. Leads (each (codes ",") us ++ codes ")" ∷ []) (reading (argument w (acc ++ t ∷ [])) u 0 k) (done (called w vs) k))
+    (append_assoc acc (t ∷ []) (u ∷ us))
+    (terms_read w k (acc ++ t ∷ []) u us (All-head (IsPart ends_term) u us hs).some (All-tail (IsPart ends_term) u us hs)))))
 
 record FragmentsRead (n : ℕ) (w : Word) (p c : Words) (k : Frames) (acc : List Words) (q : Words) (rest : List Words) : Type 0 where
   pub state : State
@@ -172,7 +172,7 @@ fragments_read n w p c k acc q (r ∷ rest) some hs =
       state = more.state;
       leads = first (step_at (fragment w p c acc) (codes "/\\") q k conjunction some of_conjunction refl
           ∙ ap (λ r. end_fragment r (codes "/\\") w p c (acc ++ q ∷ []) k) of_conjunction)
-        (chain (reads_part (fragment w p c (acc ++ q ∷ [])) k r (All-head (IsPart ends_fragment) r rest hs)) more.leads);
+          (chain (reads_part (fragment w p c (acc ++ q ∷ [])) k r (All-head (IsPart ends_fragment) r rest hs)) more.leads);
       after = subst (λ cs. Behind n (tested w p (Some (c, cs))) k more.state) (append_assoc acc (q ∷ []) (r ∷ rest)) more.after;
     }
 
@@ -223,8 +223,8 @@ assigned_reads n w [] k h some hs = absurd (some refl)
 assigned_reads n w (u ∷ us) k h some hs = record {
   state = done (assigned w (u ∷ us)) k;
   leads = first (begins_name (beginning w) w k h)
-    (first (ap (λ r. behind_name r (codes "[") w k) of_opening_square)
-    (subst (λ ws. Leads ws (reading (variable w []) [] 0 k) (done (assigned w (u ∷ us)) k))
+      (first (ap (λ r. behind_name r (codes "[") w k) of_opening_square)
+      (subst (λ ws. Leads ws (reading (variable w []) [] 0 k) (done (assigned w (u ∷ us)) k))
       (sym (append_assoc (use_text u) (each (codes ",") (use_texts us)) (codes "]" ∷ [])))
       (chain (use_reads w k [] u (All-head IsUse u us hs)) (uses_read w k [] u.0 u.1 us (All-head IsUse u us hs).value.some (All-tail IsUse u us hs)))));
   after = behind_done n (assigned w (u ∷ us)) k;
@@ -236,9 +236,9 @@ called_reads n w [] k h free some hs = absurd (some refl)
 called_reads n w (t ∷ ts) k h free some hs = record {
   state = done (called w (t ∷ ts)) k;
   leads = first (ap (λ b. begin b w k) h)
-    (first (ap (λ r. behind_name r (codes "(") w k) of_opening_round
-        ∙ (ap (λ b. unless b (open_round (beginning w) w k)) free ∙ ap (λ b. open_round b w k) h))
-    (subst (λ ws. Leads ws (reading (argument w []) [] 0 k) (done (called w (t ∷ ts)) k))
+      (first (ap (λ r. behind_name r (codes "(") w k) of_opening_round
+      ∙ (ap (λ b. unless b (open_round (beginning w) w k)) free ∙ ap (λ b. open_round b w k) h))
+      (subst (λ ws. Leads ws (reading (argument w []) [] 0 k) (done (called w (t ∷ ts)) k))
       (sym (append_assoc t (each (codes ",") ts) (codes ")" ∷ [])))
       (chain (reads_part (argument w []) k t (All-head (IsPart ends_term) t ts hs)) (terms_read w k [] t ts (All-head (IsPart ends_term) t ts hs).some (All-tail (IsPart ends_term) t ts hs)))));
   after = behind_done n (called w (t ∷ ts)) k;
@@ -251,9 +251,9 @@ wrapper_reads : (n : ℕ) (w : Word) (e : Shape) (k : Frames) → beginning w �
 wrapper_reads n w e k h free r = record {
   state = done (wrapped w e) k;
   leads = first (ap (λ b. begin b w k) h)
-    (first (ap (λ r. behind_name r (codes "(") w k) of_opening_round
-        ∙ (ap (λ b. unless b (open_round (beginning w) w k)) free ∙ ap (λ b. open_round b w k) h))
-    (chain r.leads (one (r.after.follows (codes ")") closes_all ∙ ap (λ r. follow r (codes ")") e (wrapper w ∷ k)) of_closing_round))));
+      (first (ap (λ r. behind_name r (codes "(") w k) of_opening_round
+      ∙ (ap (λ b. unless b (open_round (beginning w) w k)) free ∙ ap (λ b. open_round b w k) h))
+      (chain r.leads (one (r.after.follows (codes ")") closes_all ∙ ap (λ r. follow r (codes ")") e (wrapper w ∷ k)) of_closing_round))));
   after = behind_done n (wrapped w e) k;
 }
 
@@ -261,9 +261,9 @@ top_reads : (n : ℕ) (w : Word) (e : Shape) (k : Frames) → beginning w ≡ of
 top_reads n w e k h free r = record {
   state = done (wrapped w e) k;
   leads = first (ap (λ b. begin b w k) h)
-    (first (ap (λ r. behind_name r (codes "(") w k) of_opening_round
-        ∙ (ap (λ b. unless b (open_round (beginning w) w k)) free ∙ ap (λ b. open_round b w k) h))
-    (chain r.leads (one (r.after.follows (codes ")") closes_all ∙ ap (λ r. follow r (codes ")") e (top_wrapper w ∷ k)) of_closing_round))));
+      (first (ap (λ r. behind_name r (codes "(") w k) of_opening_round
+      ∙ (ap (λ b. unless b (open_round (beginning w) w k)) free ∙ ap (λ b. open_round b w k) h))
+      (chain r.leads (one (r.after.follows (codes ")") closes_all ∙ ap (λ r. follow r (codes ")") e (top_wrapper w ∷ k)) of_closing_round))));
   after = behind_done n (wrapped w e) k;
 }
 
@@ -286,7 +286,7 @@ within_reads : (n : ℕ) (e : Shape) (k : Frames) → is_narrow k ≡ false → 
 within_reads n e k free r = record {
   state = done (within e) k;
   leads = first (ap (λ b. begin b (codes "(") k) opens_bracket ∙ ap (λ b. unless b (Some (operand (bracket ∷ k)))) free)
-    (chain r.leads (one (r.after.follows (codes ")") closes_all ∙ ap (λ r. follow r (codes ")") e (bracket ∷ k)) of_closing_round)));
+      (chain r.leads (one (r.after.follows (codes ")") closes_all ∙ ap (λ r. follow r (codes ")") e (bracket ∷ k)) of_closing_round)));
   after = behind_done n (within e) k;
 }
 
@@ -306,9 +306,9 @@ condition_reads n w p c (q ∷ rest) k h free hp hc =
     record {
       state = more.state;
       leads = first (ap (λ b. begin b w k) h ∙ ap (λ b. unless b (Some (reading (pattern w) [] 0 k))) free)
-        (chain (reads_part (pattern w) k p hp)
-        (chain (sign_reads w p c k hp.some hc.sign)
-        (chain (reads_part (fragment w p c []) k q (All-head (IsPart ends_fragment) q rest hc.fragments)) more.leads)));
+          (chain (reads_part (pattern w) k p hp)
+          (chain (sign_reads w p c k hp.some hc.sign)
+          (chain (reads_part (fragment w p c []) k q (All-head (IsPart ends_fragment) q rest hc.fragments)) more.leads)));
       after = more.after;
     }
 
@@ -317,7 +317,7 @@ tested_reads : (n : ℕ) (w : Word) (p : Words) (c : Option SuchThat) (k : Frame
 tested_reads n w p None k h free hp hc = record {
   state = reading (pattern w) p 0 k;
   leads = first (ap (λ b. begin b w k) h ∙ ap (λ b. unless b (Some (reading (pattern w) [] 0 k))) free)
-    (subst (λ ws. Leads ws (reading (pattern w) [] 0 k) (reading (pattern w) p 0 k)) (sym (append-nil p)) (reads_part (pattern w) k p hp));
+      (subst (λ ws. Leads ws (reading (pattern w) [] 0 k) (reading (pattern w) p 0 k)) (sym (append-nil p)) (reads_part (pattern w) k p hp));
   after = behind_pattern n w p k hp.some;
 }
 tested_reads n w p (Some c) k h free hp hc = condition_reads n w p c.0 c.1 k h free hp hc
@@ -384,7 +384,7 @@ chosen_reads n e f g k le a p q r =
       state = r.state;
       leads = chain p.leads (first (p.after.follows (codes "?") asks ∙ (ap (λ r. follow r (codes "?") e k) of_question
           ∙ (ap (λ b. unless b (ask (close 6 e k))) free ∙ ap ask (stays 6 e k (omega arith) (fewer 6 n k le a)))))
-        (chain q.leads (first (q.after.follows (codes ":") answers ∙ ap (λ r. follow r (codes ":") f (asked e ∷ k)) of_colon) r.leads)));
+          (chain q.leads (first (q.after.follows (codes ":") answers ∙ ap (λ r. follow r (codes ":") f (asked e ∷ k)) of_colon) r.leads)));
       after = record {
         follows = λ v l. r.after.follows v (omega (arith, l, le)) ∙ follow_answered (role v) v e f g k (omega (arith, l, le)) free;
         marks = λ v t l x. absurd (omega (arith, l, le));
@@ -399,9 +399,9 @@ reads (plain w) n k h a = plain_by (beginning w) n w k refl h (not_narrow n k a)
 reads (assigned w us) n k h a = assigned_reads n w us k h.0 h.1 h.2
 reads (called w ts) n k h a = called_reads n w ts k h.0 (not_narrow n k a) h.1 h.2
 reads (wrapped w e) n k h a = elim h.0 [
-    inl b ↦ wrapper_reads n w e k b (not_narrow n k a) (reads e 6 (wrapper w ∷ k) h.1 tt)
+  | inl b ↦ wrapper_reads n w e k b (not_narrow n k a) (reads e 6 (wrapper w ∷ k) h.1 tt)
   | inr b ↦ top_reads n w e k b.0 (not_narrow n k a) (rule_form_reads e 6 6 (top_wrapper w ∷ k) b.1 h.1)
-  ]
+]
 reads (within e) n k h a = within_reads n e k (not_narrow n k a) (reads e 6 (bracket ∷ k) h tt)
 reads (tested w p c) n k h a = tested_reads n w p c k h.0 (not_narrow n k a) h.1 h.2
 reads (marked e w) n k h a = marked_reads n e w k h.1 h.2 (not_narrow n k a) (reads e 2 k h.3 (fewer 2 n k h.0 a))

@@ -87,10 +87,10 @@ read_on g k [] q d h =
     cc
 read_on g k (w ∷ p) q d h =
     (elim (stops (ends g) d (role w)) as (λ b. (if b then false else is_clear (ends g) (behind d (role w)) p) ≡ true
-        → go_on (if b then end_some g w q k else Some (reading g (q ++ w ∷ []) (behind d (role w)) k)) (run p) ≡ Some (reading g (q ++ w ∷ p) 0 k)) [
-      true ↦ λ e. cc
-    | false ↦ λ e. subst (λ z. run p (reading g (q ++ w ∷ []) (behind d (role w)) k) ≡ Some (reading g z 0 k)) (append_assoc q (w ∷ []) p)
-        (read_on g k p (q ++ w ∷ []) (behind d (role w)) e)
+    → go_on (if b then end_some g w q k else Some (reading g (q ++ w ∷ []) (behind d (role w)) k)) (run p) ≡ Some (reading g (q ++ w ∷ p) 0 k)) [
+      | true ↦ λ e. cc
+      | false ↦ λ e. subst (λ z. run p (reading g (q ++ w ∷ []) (behind d (role w)) k) ≡ Some (reading g z 0 k)) (append_assoc q (w ∷ []) p)
+          (read_on g k p (q ++ w ∷ []) (behind d (role w)) e)
     ]) h
 
 pub reads_part : (g : Goal) (k : Frames) (p : Words) → IsPart (ends g) p → Leads p (reading g [] 0 k) (reading g p 0 k)

@@ -64,7 +64,7 @@ regroup a b w c = sym (append_assoc a (b ++ w ∷ []) c ∙ ap (λ z. a ++ z) (a
 pub regroup_two : (a b : Words) (v : Word) (c : Words) (w : Word) (d : Words) → a ++ (b ++ v ∷ (c ++ w ∷ d)) ≡ (a ++ (b ++ v ∷ (c ++ w ∷ []))) ++ d
 regroup_two a b v c w d =
     sym (append_assoc a (b ++ v ∷ (c ++ w ∷ [])) d ∙ ap (λ z. a ++ z) (append_assoc b (v ∷ (c ++ w ∷ [])) d
-      ∙ ap (λ z. b ++ v ∷ z) (append_assoc c (w ∷ []) d)))
+    ∙ ap (λ z. b ++ v ∷ z) (append_assoc c (w ∷ []) d)))
 
 close_left : (b : Bool) (m n j : ℕ) (s e : Shape) (w : Word) (k : Frames) → nat_lt j m ≡ b → Fits n s → n < m → Admits n (left w j e ∷ k) → AreOpen (left w j e ∷ k)
     → Closed m (joined w e s) k (close m (joined w e s) k) ⊎ (b ≡ false)
@@ -96,16 +96,16 @@ closing (asked e ∷ k) m n s h l le a o = record { fits = looser s n (m - 1) (o
 closing (left w j e ∷ k) m n s h l le a o =
     let whole : Fits j (joined w e s) = at_level w e s j o.0 o.1 (looser s n j a h) in
     close_left (nat_lt j m) m n j s e w k refl h l a o
-      (elim (nat_lt j m) as (λ b. nat_lt j m ≡ b → Closed m (joined w e s) k (close m (joined w e s) k) ⊎ (b ≡ false)) [
-        true ↦ λ t. inl (closing k m j (joined w e s) whole (ltb-true j m t) le o.2 o.3)
+    (elim (nat_lt j m) as (λ b. nat_lt j m ≡ b → Closed m (joined w e s) k (close m (joined w e s) k) ⊎ (b ≡ false)) [
+      | true ↦ λ t. inl (closing k m j (joined w e s) whole (ltb-true j m t) le o.2 o.3)
       | false ↦ λ t. inr refl
-      ] refl)
+    ] refl)
 closing (answered e f ∷ k) m n s h l le a o =
     close_answered (nat_lt 6 m) m n s e f k refl h l o
-      (elim (nat_lt 6 m) as (λ b. nat_lt 6 m ≡ b → Closed m (chosen e f s) k (close m (chosen e f s) k) ⊎ (b ≡ false)) [
-        true ↦ λ t. inl (closing k m 6 (chosen e f s) (omega arith, o.0, o.1, looser s n 6 (omega (arith, l, le)) h) (ltb-true 6 m t) le o.2 o.3)
+    (elim (nat_lt 6 m) as (λ b. nat_lt 6 m ≡ b → Closed m (chosen e f s) k (close m (chosen e f s) k) ⊎ (b ≡ false)) [
+      | true ↦ λ t. inl (closing k m 6 (chosen e f s) (omega arith, o.0, o.1, looser s n 6 (omega (arith, l, le)) h) (ltb-true 6 m t) le o.2 o.3)
       | false ↦ λ t. inr refl
-      ] refl)
+    ] refl)
 
 -- ---- parts
 

@@ -146,10 +146,10 @@ follow_stands colon v s k y e h t a o q =
     closed_words 7 s k x v y c (answer_stands x.1 x.0 v y (known_as v colon e) c.fits c.open_still g.1)
 follow_stands closing_round v s k y e h t a o q =
     (elim (is_narrow k) as (λ b. is_narrow k ≡ b → Stands ((opened k ++ text s) ++ v ∷ []) y) [
-      true ↦ λ n. narrow_stands k s v y (known_as v closing_round e) (looser s 2 6 (omega arith) h) n a o q
-    | false ↦ λ free.
-        let c : Closed 7 s k (close 7 s k) = closing k 7 2 s h (omega arith) (omega arith) (admits_two k o free) o in
-        closed_words 7 s k (close 7 s k) v y c (leave_stands (close 7 s k).1 (close 7 s k).0 v y (known_as v closing_round e) c.fits c.admits c.open_still q)
+      | true ↦ λ n. narrow_stands k s v y (known_as v closing_round e) (looser s 2 6 (omega arith) h) n a o q
+      | false ↦ λ free.
+          let c : Closed 7 s k (close 7 s k) = closing k 7 2 s h (omega arith) (omega arith) (admits_two k o free) o in
+          closed_words 7 s k (close 7 s k) v y c (leave_stands (close 7 s k).1 (close 7 s k).0 v y (known_as v closing_round e) c.fits c.admits c.open_still q)
     ]) refl
 follow_stands _ v s k y e h t a o q = cc
 
@@ -230,14 +230,14 @@ argument_stands comma v w ts p k y e h i o q =
       right = ((h.0, All-push (IsPart ends_term) ts p h.1 i, h.2), begun_none ends_term, o);
       words = list_words (opened k) (goal_words (argument w ts)) p (goal_words (argument w (ts ++ p ∷ []))) (codes ",")
           (ap (λ z. w ∷ codes "(" ∷ z) (before_more (codes ",") ts p))
-        ∙ ap (λ z. (opened k ++ (goal_words (argument w ts) ++ p)) ++ z ∷ []) (sym (known_as v comma e));
+          ∙ ap (λ z. (opened k ++ (goal_words (argument w ts) ++ p)) ++ z ∷ []) (sym (known_as v comma e));
     })
 argument_stands closing_round v w ts p k y e h i o q =
     to ((opened k ++ (goal_words (argument w ts) ++ p)) ++ v ∷ []) (done (called w (ts ++ p ∷ [])) k) y q (record {
       right = ((h.0, pushed_some ts p, All-push (IsPart ends_term) ts p h.1 i), refl, wide (called w (ts ++ p ∷ [])) k h.2, o);
       words = end_words (opened k) (goal_words (argument w ts)) p (w ∷ codes "(" ∷ parted (codes ",") (ts ++ p ∷ [])) (codes ")")
           (ap (λ z. w ∷ codes "(" ∷ z) (parted_more (codes ",") ts p))
-        ∙ ap (λ z. (opened k ++ (goal_words (argument w ts) ++ p)) ++ z ∷ []) (sym (known_as v closing_round e));
+          ∙ ap (λ z. (opened k ++ (goal_words (argument w ts) ++ p)) ++ z ∷ []) (sym (known_as v closing_round e));
     })
 argument_stands _ v w ts p k y e h i o q = cc
 
@@ -250,7 +250,7 @@ variable_stands arrow v w us p k y e h i o q =
     to ((opened k ++ (goal_words (variable w us) ++ p)) ++ v ∷ []) (reading (value w us p) [] 0 k) y q (record {
       right = ((h.0, h.1, i), begun_none ends_term, o);
       words = list_words (opened k) (goal_words (variable w us)) p (goal_words (value w us p)) (codes "<-") refl
-        ∙ ap (λ z. (opened k ++ (goal_words (variable w us) ++ p)) ++ z ∷ []) (sym (known_as v arrow e));
+          ∙ ap (λ z. (opened k ++ (goal_words (variable w us) ++ p)) ++ z ∷ []) (sym (known_as v arrow e));
     })
 variable_stands _ v w us p k y e h i o q = cc
 
@@ -267,16 +267,16 @@ value_stands comma v w us x p k y e h i o q =
       right = ((h.0, All-push IsUse us (x, p) h.1 (record { variable = h.2; value = i })), begun_none ends_variable, o);
       words = list_words (opened k) (goal_words (value w us x)) p (goal_words (variable w (us ++ (x, p) ∷ []))) (codes ",")
           (ap (λ z. w ∷ codes "[" ∷ z) (ap (before (codes ",")) (uses_more us (x, p)) ∙ (before_more (codes ",") (use_texts us) (use_text (x, p))
-            ∙ use_words (before (codes ",") (use_texts us)) x p (codes "<-") (codes ","))))
-        ∙ ap (λ z. (opened k ++ (goal_words (value w us x) ++ p)) ++ z ∷ []) (sym (known_as v comma e));
+          ∙ use_words (before (codes ",") (use_texts us)) x p (codes "<-") (codes ","))))
+          ∙ ap (λ z. (opened k ++ (goal_words (value w us x) ++ p)) ++ z ∷ []) (sym (known_as v comma e));
     })
 value_stands closing_square v w us x p k y e h i o q =
     to ((opened k ++ (goal_words (value w us x) ++ p)) ++ v ∷ []) (done (assigned w (us ++ (x, p) ∷ [])) k) y q (record {
       right = ((h.0, pushed_some us (x, p), All-push IsUse us (x, p) h.1 (record { variable = h.2; value = i })), refl, λ n. refl, o);
       words = end_words (opened k) (goal_words (value w us x)) p (w ∷ codes "[" ∷ parted (codes ",") (use_texts (us ++ (x, p) ∷ []))) (codes "]")
           (ap (λ z. w ∷ codes "[" ∷ z) (ap (parted (codes ",")) (uses_more us (x, p)) ∙ (parted_more (codes ",") (use_texts us) (use_text (x, p))
-            ∙ last_use_words (before (codes ",") (use_texts us)) x p (codes "<-"))))
-        ∙ ap (λ z. (opened k ++ (goal_words (value w us x) ++ p)) ++ z ∷ []) (sym (known_as v closing_square e));
+          ∙ last_use_words (before (codes ",") (use_texts us)) x p (codes "<-"))))
+          ∙ ap (λ z. (opened k ++ (goal_words (value w us x) ++ p)) ++ z ∷ []) (sym (known_as v closing_square e));
     })
 value_stands _ v w us x p k y e h i o q = cc
 
@@ -300,7 +300,7 @@ pattern_stands such v w p k y e n h i o q =
     })
 pattern_stands r v w p k y e n h i o q =
     subst (λ z. Stands ((opened k ++ w ∷ z) ++ v ∷ []) y) (append-nil p)
-      (follow_stands r v (tested w p None) k y e (h.0, i, tt) (no_mark ends_test r (tested w p None) refl n) (wide (tested w p None) k h.1) o q)
+    (follow_stands r v (tested w p None) k y e (h.0, i, tt) (no_mark ends_test r (tested w p None) refl n) (wide (tested w p None) k h.1) o q)
 
 fragment_list : (w : Word) (p c b q : Words) (v : Word) → w ∷ (p ++ (c ++ (b ++ (q ++ v ∷ [])))) ≡ (w ∷ (p ++ (c ++ b))) ++ (q ++ v ∷ [])
 fragment_list w p c b q v = simp append_assoc
@@ -316,14 +316,14 @@ fragment_stands conjunction v w p c cs q k y e n h i o x =
       right = ((h.0, h.1, h.2, h.3, All-push (IsPart ends_fragment) cs q h.4 i), begun_none ends_fragment, o);
       words = list_words (opened k) (goal_words (fragment w p c cs)) q (goal_words (fragment w p c (cs ++ q ∷ []))) (codes "/\\")
           (ap (λ z. w ∷ (p ++ (c ++ z))) (before_more (codes "/\\") cs q) ∙ fragment_list w p c (before (codes "/\\") cs) q (codes "/\\"))
-        ∙ ap (λ z. (opened k ++ (goal_words (fragment w p c cs) ++ q)) ++ z ∷ []) (sym (known_as v conjunction e));
+          ∙ ap (λ z. (opened k ++ (goal_words (fragment w p c cs) ++ q)) ++ z ∷ []) (sym (known_as v conjunction e));
     })
 fragment_stands r v w p c cs q k y e n h i o x =
     subst (λ z. Stands ((opened k ++ z) ++ v ∷ []) y)
-      (ap (λ z. w ∷ (p ++ (c ++ z))) (parted_more (codes "/\\") cs q) ∙ fragment_last w p c (before (codes "/\\") cs) q)
-      (follow_stands r v (tested w p (Some (c, cs ++ q ∷ []))) k y e
-        (h.0, h.2, record { sign = h.3; some = pushed_some cs q; fragments = All-push (IsPart ends_fragment) cs q h.4 i })
-        (no_mark ends_fragment r (tested w p (Some (c, cs ++ q ∷ []))) refl n) (wide (tested w p (Some (c, cs ++ q ∷ []))) k h.1) o x)
+    (ap (λ z. w ∷ (p ++ (c ++ z))) (parted_more (codes "/\\") cs q) ∙ fragment_last w p c (before (codes "/\\") cs) q)
+    (follow_stands r v (tested w p (Some (c, cs ++ q ∷ []))) k y e
+    (h.0, h.2, record { sign = h.3; some = pushed_some cs q; fragments = All-push (IsPart ends_fragment) cs q h.4 i })
+    (no_mark ends_fragment r (tested w p (Some (c, cs ++ q ∷ []))) refl n) (wide (tested w p (Some (c, cs ++ q ∷ []))) k h.1) o x)
 
 end_stands : (g : Goal) (v : Word) (p : Words) (k : Frames) (y : State) → IsGoal g k → IsPart (ends g) p → AreOpen k → stops (ends g) 0 (role v) ≡ true
     → end_part g v p k ≡ Some y → Stands ((opened k ++ (goal_words g ++ p)) ++ v ∷ []) y
@@ -345,16 +345,16 @@ read_stands : (g : Goal) (v : Word) (p : Words) (d : ℕ) (k : Frames) (y : Stat
     → Stands ((opened k ++ (goal_words g ++ p)) ++ v ∷ []) y
 read_stands g v p d k y h b o q =
     (elim (stops (ends g) d (role v)) as (λ t. stops (ends g) d (role v) ≡ t
-        → (if t then end_some g v p k else Some (reading g (p ++ v ∷ []) (behind d (role v)) k)) ≡ Some y
-        → Stands ((opened k ++ (goal_words g ++ p)) ++ v ∷ []) y) [
-      true ↦ λ n e.
-        let z : d ≡ 0 = outside (ends g) d (role v) n in
-        some_stands g v p k y h (subst (IsBegun (ends g) p) z b) o (subst (λ d. stops (ends g) d (role v) ≡ true) z n) e
-    | false ↦ λ n e.
-        to ((opened k ++ (goal_words g ++ p)) ++ v ∷ []) (reading g (p ++ v ∷ []) (behind d (role v)) k) y e (record {
-          right = (h, begun_more (ends g) p d v b n, o);
-          words = part_words (opened k) (goal_words g) p v;
-        })
+    → (if t then end_some g v p k else Some (reading g (p ++ v ∷ []) (behind d (role v)) k)) ≡ Some y
+    → Stands ((opened k ++ (goal_words g ++ p)) ++ v ∷ []) y) [
+      | true ↦ λ n e.
+          let z : d ≡ 0 = outside (ends g) d (role v) n in
+          some_stands g v p k y h (subst (IsBegun (ends g) p) z b) o (subst (λ d. stops (ends g) d (role v) ≡ true) z n) e
+      | false ↦ λ n e.
+          to ((opened k ++ (goal_words g ++ p)) ++ v ∷ []) (reading g (p ++ v ∷ []) (behind d (role v)) k) y e (record {
+            right = (h, begun_more (ends g) p d v b n, o);
+            words = part_words (opened k) (goal_words g) p v;
+          })
     ]) refl q
 
 such_words : (a : Words) (w : Word) (p : Words) (u v : Word) → a ++ ((w ∷ (p ++ ((u ∷ v ∷ []) ++ []))) ++ []) ≡ (a ++ w ∷ (p ++ u ∷ [])) ++ v ∷ []
@@ -364,14 +364,14 @@ such_stands : (v w : Word) (p : Words) (u : Word) (k : Frames) (y : State) → I
     → Stands ((opened k ++ w ∷ (p ++ u ∷ [])) ++ v ∷ []) y
 such_stands v w p u k y h q =
     (elim (is v (codes "that")) as (λ b. is v (codes "that") ≡ b → (if b then Some (reading (fragment w p (u ∷ v ∷ []) []) [] 0 k) else None) ≡ Some y
-        → Stands ((opened k ++ w ∷ (p ++ u ∷ [])) ++ v ∷ []) y) [
-      true ↦ λ e x.
-        let that : v ≡ codes "that" = (bytes_eq-Decides v (codes "that")).0 e in
-        to ((opened k ++ w ∷ (p ++ u ∷ [])) ++ v ∷ []) (reading (fragment w p (u ∷ v ∷ []) []) [] 0 k) y x (record {
-          right = ((h.0, h.1, h.2, inr (ap (λ z. z ∷ v ∷ []) h.3 ∙ ap (λ z. codes "such" ∷ z ∷ []) that), All-nil (IsPart ends_fragment)), begun_none ends_fragment, h.4);
-          words = such_words (opened k) w p u v;
-        })
-    | false ↦ λ e x. cc
+    → Stands ((opened k ++ w ∷ (p ++ u ∷ [])) ++ v ∷ []) y) [
+      | true ↦ λ e x.
+          let that : v ≡ codes "that" = (bytes_eq-Decides v (codes "that")).0 e in
+          to ((opened k ++ w ∷ (p ++ u ∷ [])) ++ v ∷ []) (reading (fragment w p (u ∷ v ∷ []) []) [] 0 k) y x (record {
+            right = ((h.0, h.1, h.2, inr (ap (λ z. z ∷ v ∷ []) h.3 ∙ ap (λ z. codes "such" ∷ z ∷ []) that), All-nil (IsPart ends_fragment)), begun_none ends_fragment, h.4);
+            words = such_words (opened k) w p u v;
+          })
+      | false ↦ λ e x. cc
     ]) refl q
 
 -- ---- one word more, and all
@@ -388,8 +388,8 @@ pub all_stand : (vs : Words) (x y : State) (ws : Words) → Stands ws x → run 
 all_stand [] x y ws h q = subst (λ z. Stands z y) (sym (append-nil ws)) (to ws x y q h)
 all_stand (v ∷ vs) x y ws h q =
     (elim (step v x) as (λ o. step v x ≡ o → go_on o (run vs) ≡ Some y → Stands (ws ++ v ∷ vs) y) [
-      None ↦ λ e r. cc
-    | Some z ↦ λ e r. subst (λ u. Stands u y) (append_assoc ws (v ∷ []) vs) (all_stand vs z y (ws ++ v ∷ []) (one_stands v x z ws h e) r)
+      | None ↦ λ e r. cc
+      | Some z ↦ λ e r. subst (λ u. Stands u y) (append_assoc ws (v ∷ []) vs) (all_stand vs z y (ws ++ v ∷ []) (one_stands v x z ws h e) r)
     ]) refl q
 
 pub start_stands : Stands [] (operand [])

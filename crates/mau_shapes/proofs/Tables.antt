@@ -72,20 +72,20 @@ pub begins : (w : Word) → Begins (beginning w) w
 unfolding beginning
 begins w =
     (elim (is w (codes "(")) as (λ b. is w (codes "(") ≡ b → Begins (if b then of_bracket else
-      (if is w (codes "all") then of_all else
-      (if is w (codes "idle") || is w (codes "fail") then of_form else
-      (if is w (codes "match") || (is w (codes "xmatch") || is w (codes "amatch")) then of_test else
-      (if is w (codes "top") then of_top else
-      (if is w (codes "not") || (is w (codes "try") || is w (codes "test")) then of_wrapper else
-      (if begins_nothing w then of_nothing else of_name))))))) w) [
-      true ↦ λ e. same w (codes "(") e
-    | false ↦ λ e.
-      begins_any (is w (codes "all")) _ _ w tt (
-      begins_any (is w (codes "idle") || is w (codes "fail")) _ _ w tt (
-      begins_any (is w (codes "match") || (is w (codes "xmatch") || is w (codes "amatch"))) _ _ w tt (
-      begins_any (is w (codes "top")) _ _ w tt (
-      begins_any (is w (codes "not") || (is w (codes "try") || is w (codes "test"))) _ _ w tt (
-      begins_any (begins_nothing w) of_nothing of_name w tt tt)))))
+    (if is w (codes "all") then of_all else
+    (if is w (codes "idle") || is w (codes "fail") then of_form else
+    (if is w (codes "match") || (is w (codes "xmatch") || is w (codes "amatch")) then of_test else
+    (if is w (codes "top") then of_top else
+    (if is w (codes "not") || (is w (codes "try") || is w (codes "test")) then of_wrapper else
+    (if begins_nothing w then of_nothing else of_name))))))) w) [
+      | true ↦ λ e. same w (codes "(") e
+      | false ↦ λ e.
+          begins_any (is w (codes "all")) _ _ w tt (
+          begins_any (is w (codes "idle") || is w (codes "fail")) _ _ w tt (
+          begins_any (is w (codes "match") || (is w (codes "xmatch") || is w (codes "amatch"))) _ _ w tt (
+          begins_any (is w (codes "top")) _ _ w tt (
+          begins_any (is w (codes "not") || (is w (codes "try") || is w (codes "test"))) _ _ w tt (
+          begins_any (begins_nothing w) of_nothing of_name w tt tt)))))
     ]) refl
 
 pub bracket_word : (w : Word) → beginning w ≡ of_bracket → w ≡ codes "("

@@ -5,29 +5,29 @@ use Rattle.mau_shapes.specs.Shape.{SuchThat, Use, Shape, plain, assigned, called
 
 -- what waits for a strategy, the latest one first
 pub data Frame : Type 0 where
-  bracket : Frame                     -- (
-  wrapper : Word → Frame              -- not(
-  top_wrapper : Word → Frame          -- top(
-  left : Word → ℕ → Shape → Frame     -- E ;
-  asked : Shape → Frame               -- E ?
-  answered : Shape → Shape → Frame    -- E ? F :
+  bracket : Frame  -- (
+  wrapper : Word → Frame  -- not(
+  top_wrapper : Word → Frame  -- top(
+  left : Word → ℕ → Shape → Frame  -- E ;
+  asked : Shape → Frame  -- E ?
+  answered : Shape → Shape → Frame  -- E ? F :
 
 abbrev pub Frames : Type 0
 Frames = List Frame
 
 -- what the words at hand are a part of
 pub data Goal : Type 0 where
-  argument : Word → List Words → Goal                     -- name(t,
-  variable : Word → List Use → Goal                       -- label[X <- t,
-  value : Word → List Use → Words → Goal                  -- label[X <-
-  pattern : Word → Goal                                   -- match
-  fragment : Word → Words → Words → List Words → Goal     -- match P s.t. C /\
+  argument : Word → List Words → Goal  -- name(t,
+  variable : Word → List Use → Goal  -- label[X <- t,
+  value : Word → List Use → Words → Goal  -- label[X <-
+  pattern : Word → Goal  -- match
+  fragment : Word → Words → Words → List Words → Goal  -- match P s.t. C /\
 
 pub data State : Type 0 where
-  operand : Frames → State                        -- a strategy is wanted
-  named : Word → Frames → State                   -- behind a name
-  done : Shape → Frames → State                   -- behind a strategy
-  reading : Goal → Words → ℕ → Frames → State     -- within a part, with so many open brackets
+  operand : Frames → State  -- a strategy is wanted
+  named : Word → Frames → State  -- behind a name
+  done : Shape → Frames → State  -- behind a strategy
+  reading : Goal → Words → ℕ → Frames → State  -- within a part, with so many open brackets
   such_of : Word → Words → Word → Frames → State  -- behind `such`
 
 abbrev pub ends : Goal → Role → Bool

@@ -12,15 +12,15 @@ Use = Words × Words
 
 -- parentheses are a part of the shape, and leave no trace in its strategy
 pub data Shape : Type 0 where
-  plain : Word → Shape                            -- idle, fail, all, a label or a name
-  assigned : Word → List Use → Shape              -- label[X <- t, Y <- u]
-  called : Word → List Words → Shape              -- name(t, u)
-  wrapped : Word → Shape → Shape                  -- top(A), not(E), try(E), test(E)
-  within : Shape → Shape                          -- ( E )
-  tested : Word → Words → Option SuchThat → Shape     -- match P s.t. C
-  marked : Shape → Word → Shape                   -- E *, E +, E !
-  joined : Word → Shape → Shape → Shape           -- E ; F, E | F, E or-else F
-  chosen : Shape → Shape → Shape → Shape          -- E ? F : G
+  plain : Word → Shape  -- idle, fail, all, a label or a name
+  assigned : Word → List Use → Shape  -- label[X <- t, Y <- u]
+  called : Word → List Words → Shape  -- name(t, u)
+  wrapped : Word → Shape → Shape  -- top(A), not(E), try(E), test(E)
+  within : Shape → Shape  -- ( E )
+  tested : Word → Words → Option SuchThat → Shape  -- match P s.t. C
+  marked : Shape → Word → Shape  -- E *, E +, E !
+  joined : Word → Shape → Shape → Shape  -- E ; F, E | F, E or-else F
+  chosen : Shape → Shape → Shape → Shape  -- E ? F : G
 
 -- ---- the text of a shape
 

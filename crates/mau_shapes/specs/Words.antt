@@ -20,18 +20,18 @@ is v w = bytes_eq v w
 -- the words of forms that are none yet, the signs that stand behind a strategy, and closing brackets
 abbrev pub begins_nothing : Word → Bool
 begins_nothing w =
-  is w (codes "matchrew") || (is w (codes "xmatchrew") || (is w (codes "amatchrew") || (is w (codes ";") || (is w (codes "|")
-  || (is w (codes "?") || (is w (codes ":") || (is w (codes ")") || (is w (codes "]") || is w (codes "}")))))))))
+    is w (codes "matchrew") || (is w (codes "xmatchrew") || (is w (codes "amatchrew") || (is w (codes ";") || (is w (codes "|")
+    || (is w (codes "?") || (is w (codes ":") || (is w (codes ")") || (is w (codes "]") || is w (codes "}")))))))))
 
 unfoldable pub beginning : Word → Beginning
 beginning w =
-  if is w (codes "(") then of_bracket else
-  (if is w (codes "all") then of_all else
-  (if is w (codes "idle") || is w (codes "fail") then of_form else
-  (if is w (codes "match") || (is w (codes "xmatch") || is w (codes "amatch")) then of_test else
-  (if is w (codes "top") then of_top else
-  (if is w (codes "not") || (is w (codes "try") || is w (codes "test")) then of_wrapper else
-  (if begins_nothing w then of_nothing else of_name))))))
+    if is w (codes "(") then of_bracket else
+    (if is w (codes "all") then of_all else
+    (if is w (codes "idle") || is w (codes "fail") then of_form else
+    (if is w (codes "match") || (is w (codes "xmatch") || is w (codes "amatch")) then of_test else
+    (if is w (codes "top") then of_top else
+    (if is w (codes "not") || (is w (codes "try") || is w (codes "test")) then of_wrapper else
+    (if begins_nothing w then of_nothing else of_name))))))
 
 -- a word that is a name where no `(` follows
 abbrev pub names : Beginning → Bool
@@ -50,23 +50,23 @@ stands_alone b = names b
 
 unfoldable pub role : Word → Role
 role w =
-  if is w (codes "(") then opening_round else
-  (if is w (codes ")") then closing_round else
-  (if is w (codes "[") then opening_square else
-  (if is w (codes "]") then closing_square else
-  (if is w (codes "{") then opening_curly else
-  (if is w (codes "}") then closing_curly else
-  (if is w (codes ",") then comma else
-  (if is w (codes ";") then joint 3 else
-  (if is w (codes "|") then joint 4 else
-  (if is w (codes "or-else") then joint 5 else
-  (if is w (codes "?") then question else
-  (if is w (codes ":") then colon else
-  (if is w (codes "*") || (is w (codes "+") || is w (codes "!")) then mark else
-  (if is w (codes "s.t.") then condition else
-  (if is w (codes "such") then such else
-  (if is w (codes "/\\") then conjunction else
-  (if is w (codes "<-") then arrow else no_role))))))))))))))))
+    if is w (codes "(") then opening_round else
+    (if is w (codes ")") then closing_round else
+    (if is w (codes "[") then opening_square else
+    (if is w (codes "]") then closing_square else
+    (if is w (codes "{") then opening_curly else
+    (if is w (codes "}") then closing_curly else
+    (if is w (codes ",") then comma else
+    (if is w (codes ";") then joint 3 else
+    (if is w (codes "|") then joint 4 else
+    (if is w (codes "or-else") then joint 5 else
+    (if is w (codes "?") then question else
+    (if is w (codes ":") then colon else
+    (if is w (codes "*") || (is w (codes "+") || is w (codes "!")) then mark else
+    (if is w (codes "s.t.") then condition else
+    (if is w (codes "such") then such else
+    (if is w (codes "/\\") then conjunction else
+    (if is w (codes "<-") then arrow else no_role))))))))))))))))
 
 -- ---- brackets
 

@@ -51,7 +51,11 @@ fn closing_piece(frame: Option<Frame>, level: u32) -> Option<Piece>
 {
     match frame {
         Some(Frame::Left(below, place)) => {
-            if below < level { Some(Piece::Joined(place)) } else { None }
+            if below < level {
+                Some(Piece::Joined(place))
+            } else {
+                None
+            }
         }
         Some(Frame::Answered) => { if 6 < level { Some(Piece::Chosen) } else { None } }
         _ => None,
@@ -213,13 +217,21 @@ impl Reader {
                 Ok(true)
             }
             Beginning::Form => self.pass(Piece::Plain(at), Mode::Done),
-            Beginning::Test => self.pass(Piece::Test(at), Mode::Reading(PartKind::Pattern, at + 1, 0)),
+            Beginning::Test => self.pass(
+                Piece::Test(at),
+                Mode::Reading(PartKind::Pattern, at + 1, 0),
+            ),
             _ => unreachable!(),
         }
     }
 
     /// `(` behind the name at `place`.
-    fn open_round(&mut self, beginning: Beginning, place: usize, at: usize) -> Result<bool, NoMemory>
+    fn open_round(
+        &mut self,
+        beginning: Beginning,
+        place: usize,
+        at: usize,
+    ) -> Result<bool, NoMemory>
         requires { at + 1 < 2 ^ 64 }
         ensures { IfOk result (λ more. Machine.open_round beginning place at self.old ≡ steps_by more self.new) }
     {
@@ -232,12 +244,21 @@ impl Reader {
                 self.frames.push(Frame::Wrapper(place))?;
                 self.pass(Piece::Wrapper(place), Mode::Operand)
             }
-            _ => self.pass(Piece::Call(place), Mode::Reading(PartKind::Argument, at + 1, 0)),
+            _ => self.pass(
+                Piece::Call(place),
+                Mode::Reading(PartKind::Argument, at + 1, 0),
+            ),
         }
     }
 
     /// A word behind the name at `place`.
-    fn behind_name(&mut self, role: Role, beginning: Beginning, place: usize, at: usize) -> Result<bool, NoMemory>
+    fn behind_name(
+        &mut self,
+        role: Role,
+        beginning: Beginning,
+        place: usize,
+        at: usize,
+    ) -> Result<bool, NoMemory>
         requires { at + 1 < 2 ^ 64 }
         ensures { IfOk result (λ more. Machine.behind_name role beginning place at self.old ≡ steps_by more self.new) }
     {
@@ -248,7 +269,10 @@ impl Reader {
                 }
                 self.open_round(beginning, place, at)
             }
-            Role::OpeningSquare => self.pass(Piece::Label(place), Mode::Reading(PartKind::Variable, at + 1, 0)),
+            Role::OpeningSquare => self.pass(
+                Piece::Label(place),
+                Mode::Reading(PartKind::Variable, at + 1, 0),
+            ),
             _ => {
                 self.pieces.push(Piece::Plain(place))?;
                 self.follow(role, at)
@@ -289,7 +313,13 @@ impl Reader {
     }
 
     /// A word that ends a part, which is one piece more.
-    fn end_part(&mut self, kind: PartKind, start: usize, role: Role, at: usize) -> Result<bool, NoMemory>
+    fn end_part(
+        &mut self,
+        kind: PartKind,
+        start: usize,
+        role: Role,
+        at: usize,
+    ) -> Result<bool, NoMemory>
         requires { at + 1 < 2 ^ 64 }
         ensures { IfOk result (λ more. Machine.end_part kind role at (Machine.with_part kind start at self.old) ≡ steps_by more self.new) }
     {
@@ -302,7 +332,14 @@ impl Reader {
     }
 
     /// A word in a part.
-    fn read(&mut self, kind: PartKind, start: usize, depth: usize, role: Role, at: usize) -> Result<bool, NoMemory>
+    fn read(
+        &mut self,
+        kind: PartKind,
+        start: usize,
+        depth: usize,
+        role: Role,
+        at: usize,
+    ) -> Result<bool, NoMemory>
         requires { at + 1 < 2 ^ 64 }
         ensures { IfOk result (λ more. Machine.read kind start depth role at self.old ≡ steps_by more self.new) }
     {

@@ -86,7 +86,13 @@ pub fn beginning_of(word: &str) -> Beginning
         "match" | "xmatch" | "amatch" => Beginning::Test,
         "top" => Beginning::Top,
         "not" | "try" | "test" => Beginning::Wrapper,
-        _ => { if begins_nothing(word) { Beginning::Nothing } else { Beginning::Name } }
+        _ => {
+            if begins_nothing(word) {
+                Beginning::Nothing
+            } else {
+                Beginning::Name
+            }
+        }
     }
 }
 
@@ -121,7 +127,10 @@ pub fn role_of(word: &str) -> Role
 pub fn closes(role: Role) -> bool
     ensures { result ≡ Words.closes role }
 {
-    matches!(role, Role::ClosingRound | Role::ClosingSquare | Role::ClosingCurly)
+    matches!(
+        role,
+        Role::ClosingRound | Role::ClosingSquare | Role::ClosingCurly
+    )
 }
 
 /// How many brackets are open behind a word, where `depth` are open before it. More than can be counted don't fit into memory.
@@ -129,11 +138,15 @@ pub fn behind(depth: usize, role: Role) -> Result<usize, NoMemory>
     ensures { IfOk result (λ d. d ≡ Words.behind depth role) }
 {
     match role {
-        Role::OpeningRound | Role::OpeningSquare | Role::OpeningCurly => match depth.checked_add(1) {
+        Role::OpeningRound | Role::OpeningSquare | Role::OpeningCurly => match depth.checked_add(
+            1,
+        ) {
             Some(more) => Ok(more),
             None => Err(NoMemory),
         },
-        Role::ClosingRound | Role::ClosingSquare | Role::ClosingCurly => Ok(depth.saturating_sub(1)),
+        Role::ClosingRound | Role::ClosingSquare | Role::ClosingCurly => Ok(depth.saturating_sub(
+            1,
+        )),
         _ => Ok(depth),
     }
 }
