@@ -9,6 +9,8 @@ use Rattle.mau_shapes.specs.Reading.{ArePiecesOf}
 use Rattle.mau_shapes.specs.Reader.{State, operand, step, go_on, run, finish}
 use Rattle.mau_shapes.specs.Machine.{next, steps_by, finished}
 use Rattle.mau_shapes.specs.declared.pieces.Piece.{Piece}
+use Rattle.mau_shapes.specs.declared.frames.Frame.{Frame}
+use Rattle.mau_shapes.specs.declared.reader.Mode.{Mode}
 use Rattle.mau_shapes.specs.declared.reader.Mode.TheVariants as mode
 use Rattle.mau_shapes.specs.declared.reader.Reader.{Reader}
 use Rattle.mau_shapes.proofs.Running.{run_more}
@@ -22,10 +24,15 @@ pub record Led (ws : Words) (i : ℕ) (r : Reader) : Type 0 where
   pub leads : run (take i ws) (operand []) ≡ Some state
   pub same : r ≡ code state
 
+abbrev made : Mode → List Frame → List Piece → Reader
+made m fs ps = record { mode = m; frames = fs; pieces = ps }
+
 pub led_none : (ws : Words) (r : Reader) → r.mode ≡ mode.Operand → r.frames ≡ [] → r.pieces ≡ [] → Led ws 0 r
-led_none ws r m f p =
-    let e : r ≡ code (operand []) = cc in
-    record { state = operand []; leads = refl; same = e }
+led_none ws r m f p = record {
+  state = operand [];
+  leads = refl;
+  same = ap (λ z. made z r.frames r.pieces) m ∙ (ap (λ z. made mode.Operand z r.pieces) f ∙ ap (λ z. made mode.Operand [] z) p);
+}
 
 at_place : (ws : Words) (i : ℕ) (x : State) → i ≤ length ws → run (take i ws) (operand []) ≡ Some x → length (state_words x) ≡ i
 at_place ws i x le h = ap length ((stands_behind (take i ws) x h).words) ∙ length-take-le i ws le
@@ -89,3 +96,23 @@ led_early ws r l h e =
       | None ↦ λ s u. ends_early ws h.state l (all_of ws h.state h.leads) s
       | Some y ↦ λ s u. absurd (let n : ◌≡◌ {A = Option (List Piece)} (Some (pieces 0 y)) None = u in cc)
     ]) refl t
+
+-- ---- as the code knows it
+
+pub word_more : (ws : Words) (i : ℕ) (r q : Reader) (w : Word) (b : Bool) → Led ws i r → i < length ws → w ≡ get_or ws i [] → b ≡ true
+    → next w i r ≡ steps_by b q → Led ws (i + 1) q
+word_more ws i r q w b h l e t s = led_more ws i r q h l (ap (λ z. next z i r) (sym e) ∙ (s ∙ ap (λ b. steps_by b q) t))
+
+pub word_nowhere : (ws : Words) (i : ℕ) (r q : Reader) (w : Word) (b : Bool) → Led ws i r → i < length ws → w ≡ get_or ws i [] → b ≡ false
+    → next w i r ≡ steps_by b q → IsUnexpected ws i
+word_nowhere ws i r q w b h l e t s = led_nowhere ws i r q h l (ap (λ z. next z i r) (sym e) ∙ (s ∙ ap (λ b. steps_by b q) t))
+
+pub whole_at : (ws : Words) (i n : ℕ) (r : Reader) (o : Option (List Piece)) (ps : List Piece) → Led ws i r → i ≡ length ws → n ≡ length ws
+    → finished n r ≡ o → o ≡ Some ps → ArePiecesOf ws ps
+whole_at ws i n r o ps h e m f q = led_whole ws r ps (subst (λ j. Led ws j r) e h) (ap (λ j. finished j r) (sym m) ∙ (f ∙ q))
+
+pub early_at : (ws : Words) (i n : ℕ) (r : Reader) (o : Option (List Piece)) → Led ws i r → i ≡ length ws → n ≡ length ws → 0 < n
+    → finished n r ≡ o → o ≡ None → IsUnexpected ws (n - 1)
+early_at ws i n r o h e m l f q =
+    let l' : 0 < length ws = omega (arith, m, l) in
+    subst (λ j. IsUnexpected ws (j - 1)) (sym m) (led_early ws r l' (subst (λ j. Led ws j r) e h) (ap (λ j. finished j r) (sym m) ∙ (f ∙ q)))
