@@ -1,5 +1,5 @@
 -- Forms that are closed one after another.
-use Rattle.std.proofs.Common.{◌≡◌, ℕ, suc, ◌+◌, ◌<◌, List, [], ◌∷◌, ◌++◌, length, Option, Some, None, refl, sym, ap, ◌∙◌, arith}
+use Rattle.std.proofs.Common.{◌≡◌, ℕ, ◌<◌, List, [], ◌∷◌, ◌++◌, length, Option, Some, None, refl, ap, arith}
 use Rattle.mau_shapes.specs.declared.pieces.Piece.{Piece}
 use Rattle.mau_shapes.specs.declared.frames.Frame.{Frame}
 use Rattle.mau_shapes.specs.Machine.{top_of, rest_of, close_piece, closed}

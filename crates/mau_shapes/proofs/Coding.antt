@@ -1,10 +1,10 @@
 -- The code's reader keeps places where shapes have words: one step of the one is a step of the other.
-use Rattle.std.proofs.Common.{◌≡◌, ℕ, zero, suc, ◌+◌, ◌-◌, ◌≤◌, ◌<◌, List, [], ◌∷◌, ◌++◌, length, Bool, true, false, not, ◌||◌, ◌&&◌, ◌⊎◌, inl, inr, Option, Some, None, refl, sym, ap, ◌∙◌, subst, arith, append_assoc, append-nil, length-append}
-use Rattle.std.proofs.lemmas.Bool.{false≢true, ne_eqb, eq-eqb, and_right}
+use Rattle.std.proofs.Common.{◌≡◌, ℕ, zero, suc, ◌+◌, List, [], ◌∷◌, ◌++◌, length, Bool, true, false, not, ◌&&◌, Option, Some, None, refl, sym, ap, ◌∙◌, arith, append_assoc, append-nil, length-append}
+use Rattle.std.proofs.lemmas.Bool.{ne_eqb, eq-eqb, and_right}
 use Rattle.std.specs.Prelude.{codes, nat_eq, nat_lt, if◌then◌else◌}
-use Rattle.mau_shapes.specs.Words.{Word, Words, is, Beginning, of_bracket, of_all, of_form, of_test, of_top, of_wrapper, of_nothing, of_name, beginning, Role, mark, joint, question, colon, condition, such, conjunction, comma, arrow, opening_round, opening_square, opening_curly, closing_round, closing_square, closing_curly, no_role, role, behind}
-use Rattle.mau_shapes.specs.Shape.{SuchThat, Use, Shape, plain, assigned, called, wrapped, within, tested, marked, joined, chosen, parted, use_text, use_texts, text, stops}
-use Rattle.mau_shapes.specs.Pieces.{part, term_pieces, fragment_pieces, use_pieces, such_pieces, pieces}
+use Rattle.mau_shapes.specs.Words.{Word, Words, is, Beginning, of_bracket, of_all, of_form, of_test, of_top, of_wrapper, of_nothing, of_name, beginning, Role, mark, joint, question, colon, condition, such, conjunction, comma, arrow, opening_round, opening_square, closing_round, closing_square, role, behind}
+use Rattle.mau_shapes.specs.Shape.{Use, Shape, plain, tested, marked, joined, chosen, use_text, use_texts, text, stops}
+use Rattle.mau_shapes.specs.Pieces.{part, term_pieces, fragment_pieces, use_pieces, pieces}
 use Rattle.mau_shapes.specs.Reader as whole
 use Rattle.mau_shapes.specs.Reader.{bracket, wrapper, top_wrapper, left, asked, answered, Frames, Goal, argument, variable, value, pattern, fragment, State, operand, named, done, reading, such_of, ends, close, is_narrow, step, go_on, run}
 use Rattle.mau_shapes.specs.Machine as machine

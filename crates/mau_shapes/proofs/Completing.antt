@@ -1,17 +1,17 @@
 -- What stands in a state may go on to be a strategy; and the first word with which none goes on.
-use Rattle.std.proofs.Common.{◌≡◌, ℕ, zero, suc, ◌+◌, ◌-◌, ◌≤◌, ◌<◌, List, [], ◌∷◌, ◌++◌, length, take, drop, get_or, Bool, true, false, ◌||◌, ◌&&◌, ◌⊎◌, inl, inr, Option, Some, None, refl, sym, ap, ◌∙◌, subst, arith, append_assoc, append-nil, All}
+use Rattle.std.proofs.Common.{◌≡◌, ℕ, zero, suc, ◌+◌, ◌-◌, ◌≤◌, ◌<◌, [], ◌∷◌, ◌++◌, length, take, drop, get_or, Bool, true, false, ◌||◌, inl, inr, Some, None, refl, sym, ap, ◌∙◌, subst, arith, append_assoc, append-nil}
 use Rattle.std.proofs.lemmas.Bool.{false≢true, and_left, and_right, ne_eqb}
 use Rattle.std.proofs.lemmas.List.{take_more, take-append-drop}
 use Rattle.std.proofs.lemmas.List.Elements.{All-nil, All-cons, All-push}
 use Rattle.std.specs.Prelude.{codes, nat_eq, if◌then◌else◌}
-use Rattle.mau_shapes.specs.Words.{Word, Words, Beginning, of_all, of_test, of_top, of_wrapper, of_name, beginning, names, stands_alone, Role, joint, no_role, closing_round, role, closes, behind, ends_test, ends_fragment, ends_variable, ends_term}
-use Rattle.mau_shapes.specs.Shape.{SuchThat, Use, Shape, plain, assigned, called, wrapped, within, tested, marked, joined, chosen, parted, use_text, use_texts, text, stops, is_clear, IsPart, IsUse, IsSuch, begins_rule, is_rule_form, takes_marks, Fits, IsTextOf}
+use Rattle.mau_shapes.specs.Words.{Word, Words, of_test, beginning, stands_alone, Role, joint, no_role, closing_round, role, behind, ends_test, ends_fragment, ends_variable, ends_term}
+use Rattle.mau_shapes.specs.Shape.{Shape, plain, assigned, called, wrapped, within, tested, joined, chosen, parted, use_text, use_texts, text, stops, is_clear, IsPart, IsUse, begins_rule, is_rule_form, Fits, IsTextOf}
 use Rattle.mau_shapes.specs.Front.{IsFront, IsUnexpected}
-use Rattle.mau_shapes.specs.Reader.{Frame, bracket, wrapper, top_wrapper, left, asked, answered, Frames, Goal, argument, variable, value, pattern, fragment, State, operand, named, done, reading, such_of, ends, close, is_narrow, step, go_on, run, whole, whole_in, finish}
+use Rattle.mau_shapes.specs.Reader.{bracket, wrapper, top_wrapper, left, asked, answered, Frames, Goal, argument, variable, value, pattern, fragment, State, operand, named, done, reading, such_of, ends, close, is_narrow, step, go_on, run, whole, whole_in, finish}
 use Rattle.mau_shapes.proofs.Running.{run_more, of_closing_round}
 use Rattle.mau_shapes.proofs.Tables.{known_as}
-use Rattle.mau_shapes.proofs.Reading.{Admits, result, found, goes, ends_nowhere}
-use Rattle.mau_shapes.proofs.Standing.{opened, AreOpen, admits_two, looser, Closed, closing, regroup, regroup_two, before, parted_more, uses_more, IsBegun, part_of, IsGoal, goal_words, MayStand, state_words, Stands}
+use Rattle.mau_shapes.proofs.Reading.{Admits, result, goes, ends_nowhere}
+use Rattle.mau_shapes.proofs.Standing.{opened, AreOpen, admits_two, looser, Closed, closing, regroup, regroup_two, before, parted_more, uses_more, IsBegun, part_of, IsGoal, goal_words, MayStand, Stands}
 use Rattle.mau_shapes.proofs.Stepping.{wide, pushed_some, names_alone, names_rule, in_brackets, in_two, all_stand, start_stands}
 
 -- ---- forms that are open are closed

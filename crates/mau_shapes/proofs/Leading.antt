@@ -1,8 +1,7 @@
 -- The code's reader behind some words of a text.
-use Rattle.std.proofs.Common.{◌≡◌, ℕ, zero, suc, ◌+◌, ◌-◌, ◌≤◌, ◌<◌, List, [], ◌∷◌, ◌++◌, length, take, get_or, Bool, true, false, Option, Some, None, refl, sym, ap, ◌∙◌, subst, arith}
+use Rattle.std.proofs.Common.{◌≡◌, ℕ, ◌+◌, ◌-◌, ◌≤◌, ◌<◌, List, [], ◌∷◌, length, take, get_or, Bool, true, false, Option, Some, None, refl, sym, ap, ◌∙◌, subst, arith}
 use Rattle.std.proofs.lemmas.List.{take_more, length-take-le}
 use Rattle.mau_shapes.specs.Words.{Word, Words}
-use Rattle.mau_shapes.specs.Shape.{Shape, IsTextOf}
 use Rattle.mau_shapes.specs.Front.{IsUnexpected}
 use Rattle.mau_shapes.specs.Pieces.{pieces}
 use Rattle.mau_shapes.specs.Reading.{ArePiecesOf}
@@ -14,7 +13,7 @@ use Rattle.mau_shapes.specs.declared.reader.Mode.{Mode}
 use Rattle.mau_shapes.specs.declared.reader.Mode.TheVariants as mode
 use Rattle.mau_shapes.specs.declared.reader.Reader.{Reader}
 use Rattle.mau_shapes.proofs.Running.{run_more}
-use Rattle.mau_shapes.proofs.Standing.{state_words, Stands}
+use Rattle.mau_shapes.proofs.Standing.{state_words}
 use Rattle.mau_shapes.proofs.Completing.{stands_behind, is_whole, leads_nowhere, ends_early}
 use Rattle.mau_shapes.proofs.Coding.{code, image, step_image, pieces_in, finish_image}
 

@@ -1,11 +1,11 @@
 -- The text of a strategy leads from where one is wanted to behind it.
-use Rattle.std.proofs.Common.{◌≡◌, ℕ, zero, suc, ◌+◌, ◌-◌, ◌≤◌, ◌<◌, List, [], ◌∷◌, ◌++◌, Bool, true, false, ◌||◌, ◌&&◌, ◌⊎◌, inl, inr, Option, Some, None, refl, sym, ap, ◌∙◌, subst, arith, append_assoc, append-nil, le-ltb, lt-ltb, All}
+use Rattle.std.proofs.Common.{◌≡◌, ℕ, ◌-◌, ◌≤◌, ◌<◌, List, [], ◌∷◌, ◌++◌, true, false, ◌⊎◌, inl, inr, Option, Some, None, refl, sym, ap, ◌∙◌, subst, arith, append_assoc, append-nil, le-ltb, lt-ltb, All}
 use Rattle.std.proofs.lemmas.Bool.{false≢true}
 use Rattle.std.proofs.lemmas.List.Elements.{All-head, All-tail}
 use Rattle.std.specs.Prelude.{codes, if◌then◌else◌}
-use Rattle.mau_shapes.specs.Words.{Word, Words, Beginning, of_bracket, of_all, of_form, of_test, of_top, of_wrapper, of_nothing, of_name, beginning, names, stands_alone, Role, mark, joint, question, colon, condition, such, conjunction, comma, arrow, opening_round, opening_square, opening_curly, closing_round, closing_square, closing_curly, no_role, role, behind, ends_test, ends_fragment, ends_term}
-use Rattle.mau_shapes.specs.Shape.{SuchThat, Use, Shape, plain, assigned, called, wrapped, within, tested, marked, joined, chosen, each, parted, use_text, use_texts, such_text, text, stops, IsPart, IsUse, IsSuch, IfSuch, begins_rule, is_rule_form, takes_marks, Fits, IsTextOf}
-use Rattle.mau_shapes.specs.Reader.{Frame, bracket, wrapper, top_wrapper, left, asked, answered, Frames, Goal, argument, variable, value, pattern, fragment, State, operand, named, done, reading, such_of, ends, close, is_narrow, leave, answer, join, ask, unless, follow, begin, open_round, behind_name, end_argument, end_variable, end_value, end_pattern, end_fragment, end_part, read, step, go_on, run, whole, finish}
+use Rattle.mau_shapes.specs.Words.{Word, Words, Beginning, of_bracket, of_all, of_form, of_test, of_top, of_wrapper, of_nothing, of_name, beginning, names, stands_alone, Role, mark, joint, question, colon, condition, such, conjunction, comma, arrow, opening_round, opening_square, closing_round, closing_square, role, behind, ends_test, ends_fragment, ends_term}
+use Rattle.mau_shapes.specs.Shape.{SuchThat, Use, Shape, plain, assigned, called, wrapped, within, tested, marked, joined, chosen, each, use_text, use_texts, text, stops, IsPart, IsUse, IsSuch, IfSuch, begins_rule, is_rule_form, takes_marks, Fits, IsTextOf}
+use Rattle.mau_shapes.specs.Reader.{bracket, wrapper, top_wrapper, left, asked, answered, Frames, Goal, argument, variable, value, pattern, fragment, State, operand, named, done, reading, ends, close, is_narrow, leave, answer, join, ask, unless, follow, begin, open_round, behind_name, end_argument, end_variable, end_value, end_pattern, end_fragment, end_part, step, go_on, run, whole, finish}
 use Rattle.mau_shapes.proofs.Running.{run_more, Leads, chain, one, first, nothing, reads_part, end_step, of_comma, of_arrow, of_opening_round, of_opening_square, of_closing_round, of_closing_square, of_conjunction, of_question, of_colon, of_condition, of_such}
 use Rattle.mau_shapes.proofs.Tables.{known_as}
 

@@ -1,8 +1,8 @@
 -- Words one after another.
-use Rattle.std.proofs.Common.{◌≡◌, ℕ, zero, suc, ◌+◌, ◌-◌, ◌≤◌, ◌<◌, List, [], ◌∷◌, ◌++◌, Bool, true, false, ◌||◌, ◌&&◌, cond, Option, Some, None, refl, sym, ap, ◌∙◌, subst, arith, append_assoc, append-nil, All}
+use Rattle.std.proofs.Common.{◌≡◌, ℕ, [], ◌∷◌, ◌++◌, true, false, Some, None, refl, ap, ◌∙◌, subst, append_assoc, append-nil}
 use Rattle.std.proofs.lemmas.Bool.{eqb-true}
 use Rattle.std.specs.Prelude.{codes, nat_eq, if◌then◌else◌}
-use Rattle.mau_shapes.specs.Words.{Word, Words, is, Role, role, closes, behind, comma, arrow, opening_round, opening_square, opening_curly, closing_round, closing_square, closing_curly, conjunction, question, colon, condition, such}
+use Rattle.mau_shapes.specs.Words.{Word, Words, role, behind, comma, arrow, opening_round, opening_square, closing_round, closing_square, conjunction, question, colon, condition, such}
 use Rattle.mau_shapes.specs.Shape.{stops, is_clear, IsPart}
 use Rattle.mau_shapes.specs.Reader.{State, reading, Goal, ends, Frames, end_part, end_some, step, go_on, run}
 

@@ -1,13 +1,12 @@
 -- What stands in a state: words that were read, of which all so far may be a strategy.
-use Rattle.std.proofs.Common.{◌≡◌, ℕ, zero, suc, ◌+◌, ◌-◌, ◌≤◌, ◌<◌, List, [], ◌∷◌, ◌++◌, Bool, true, false, ◌||◌, ◌&&◌, ◌⊎◌, inl, inr, Option, Some, None, refl, sym, ap, ◌∙◌, subst, arith, append_assoc, append-nil, le-ltb, lt-ltb, All}
-use Rattle.std.proofs.lemmas.Bool.{false≢true, ltb-true, ltb-false, and_parts}
-use Rattle.std.proofs.lemmas.List.Elements.{All-nil, All-cons, All-push}
-use Rattle.std.specs.Prelude.{codes, nat_eq, nat_lt, if◌then◌else◌}
-use Rattle.mau_shapes.specs.Words.{Word, Words, Beginning, of_bracket, of_all, of_form, of_test, of_top, of_wrapper, of_nothing, of_name, beginning, names, stands_alone, Role, mark, joint, question, colon, condition, such, conjunction, comma, arrow, opening_round, opening_square, opening_curly, closing_round, closing_square, closing_curly, no_role, role, closes, behind, ends_test, ends_fragment, ends_variable, ends_term}
-use Rattle.mau_shapes.specs.Shape.{SuchThat, Use, Shape, plain, assigned, called, wrapped, within, tested, marked, joined, chosen, each, parted, use_text, use_texts, such_text, text, stops, is_clear, IsPart, IsUse, IsSuch, IfSuch, begins_rule, is_rule_form, takes_marks, Fits, IsTextOf}
-use Rattle.mau_shapes.specs.Reader.{Frame, bracket, wrapper, top_wrapper, left, asked, answered, Frames, Goal, argument, variable, value, pattern, fragment, State, operand, named, done, reading, such_of, ends, close, is_narrow}
+use Rattle.std.proofs.Common.{◌≡◌, ℕ, ◌-◌, ◌≤◌, ◌<◌, List, [], ◌∷◌, ◌++◌, Bool, true, false, ◌⊎◌, inl, inr, refl, sym, ap, ◌∙◌, arith, append_assoc, append-nil, All}
+use Rattle.std.proofs.lemmas.Bool.{false≢true, ltb-true, ltb-false}
+use Rattle.std.specs.Prelude.{codes, nat_lt, if◌then◌else◌}
+use Rattle.mau_shapes.specs.Words.{Word, Words, of_test, of_top, of_wrapper, of_name, beginning, names, Role, joint, role, behind, ends_test, ends_fragment, ends_variable, ends_term}
+use Rattle.mau_shapes.specs.Shape.{Use, Shape, plain, assigned, called, wrapped, within, tested, marked, joined, chosen, each, parted, use_text, use_texts, text, stops, is_clear, IsPart, IsUse, is_rule_form, takes_marks, Fits}
+use Rattle.mau_shapes.specs.Reader.{bracket, wrapper, top_wrapper, left, asked, answered, Frames, Goal, argument, variable, value, pattern, fragment, State, operand, named, done, reading, such_of, ends, close, is_narrow}
 use Rattle.mau_shapes.proofs.Tables.{known_as}
-use Rattle.mau_shapes.proofs.Reading.{Admits, fewer, not_narrow}
+use Rattle.mau_shapes.proofs.Reading.{Admits}
 
 -- ---- what is open
 

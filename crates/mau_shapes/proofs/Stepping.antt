@@ -1,15 +1,15 @@
 -- One word more: what stands in a state, and the word, stand in the next one.
-use Rattle.std.proofs.Common.{◌≡◌, ℕ, zero, suc, ◌+◌, ◌-◌, ◌≤◌, ◌<◌, List, [], ◌∷◌, ◌++◌, Bool, true, false, ◌||◌, ◌&&◌, ◌⊎◌, inl, inr, Option, Some, None, refl, sym, ap, ◌∙◌, subst, arith, append_assoc, append-nil, All}
+use Rattle.std.proofs.Common.{◌≡◌, ℕ, ◌≤◌, List, [], ◌∷◌, ◌++◌, Bool, true, false, ◌||◌, inl, inr, Option, Some, None, refl, sym, ap, ◌∙◌, subst, arith, append_assoc, append-nil}
 use Rattle.std.proofs.lemmas.Bool.{false≢true, and_parts, eqb-true}
-use Rattle.std.proofs.lemmas.List.Elements.{All-nil, All-cons, All-push}
+use Rattle.std.proofs.lemmas.List.Elements.{All-nil, All-push}
 use Rattle.std.proofs.lemmas.Slice.Eq.{bytes_eq-Decides}
 use Rattle.std.specs.Prelude.{codes, nat_eq, if◌then◌else◌}
-use Rattle.mau_shapes.specs.Words.{Word, Words, is, Beginning, of_bracket, of_all, of_form, of_test, of_top, of_wrapper, of_nothing, of_name, beginning, names, stands_alone, Role, mark, joint, question, colon, condition, such, conjunction, comma, arrow, opening_round, opening_square, opening_curly, closing_round, closing_square, closing_curly, no_role, role, closes, behind, ends_test, ends_fragment, ends_variable, ends_term}
-use Rattle.mau_shapes.specs.Shape.{SuchThat, Use, Shape, plain, assigned, called, wrapped, within, tested, marked, joined, chosen, parted, use_text, use_texts, text, stops, IsPart, IsUse, IsSuch, begins_rule, is_rule_form, takes_marks, Fits}
-use Rattle.mau_shapes.specs.Reader.{Frame, bracket, wrapper, top_wrapper, left, asked, answered, Frames, Goal, argument, variable, value, pattern, fragment, State, operand, named, done, reading, such_of, ends, close, is_narrow, leave, leave_in, answer, answer_in, join, ask, unless, follow, begin, open_round, behind_name, end_argument, end_variable, end_value, end_pattern, end_fragment, end_part, end_some, read, step, go_on, run}
-use Rattle.mau_shapes.proofs.Tables.{Known, known_as, bracket_word}
+use Rattle.mau_shapes.specs.Words.{Word, Words, is, Beginning, of_bracket, of_all, of_form, of_test, of_top, of_wrapper, of_nothing, of_name, beginning, names, stands_alone, Role, mark, joint, question, colon, condition, such, conjunction, comma, arrow, opening_round, opening_square, closing_round, closing_square, role, closes, behind, ends_test, ends_fragment, ends_variable, ends_term}
+use Rattle.mau_shapes.specs.Shape.{Use, Shape, plain, assigned, called, wrapped, within, tested, marked, parted, use_text, use_texts, text, stops, IsPart, IsUse, begins_rule, takes_marks, Fits}
+use Rattle.mau_shapes.specs.Reader.{bracket, wrapper, top_wrapper, left, asked, answered, Frames, Goal, argument, variable, value, pattern, fragment, State, operand, named, done, reading, such_of, ends, close, is_narrow, leave, leave_in, answer_in, unless, follow, begin, open_round, behind_name, end_argument, end_variable, end_value, end_pattern, end_fragment, end_part, end_some, read, step, go_on, run}
+use Rattle.mau_shapes.proofs.Tables.{known_as, bracket_word}
 use Rattle.mau_shapes.proofs.Reading.{Admits}
-use Rattle.mau_shapes.proofs.Standing.{opened, AreOpen, admits_two, looser, Closed, closing, before, before_more, parted_more, uses_more, IsBegun, begun_none, begun_more, part_of, IsSign, IsGoal, goal_words, MayStand, IsState, state_words, Stands}
+use Rattle.mau_shapes.proofs.Standing.{opened, AreOpen, admits_two, looser, Closed, closing, before, before_more, parted_more, uses_more, IsBegun, begun_none, begun_more, part_of, IsGoal, goal_words, MayStand, IsState, Stands}
 
 -- ---- what a step tells
 

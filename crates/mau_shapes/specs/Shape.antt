@@ -1,5 +1,5 @@
 -- The shapes of strategies: a strategy with its parentheses, the words of its terms left as words. A shape has one text.
-use Rattle.std.specs.Prelude.{◌≡◌, ◌⊎◌, ℕ, zero, suc, ◌-◌, ◌≤◌, List, [], ◌∷◌, ◌++◌, Bool, true, false, ◌&&◌, ◌||◌, if◌then◌else◌, codes, nat_eq, Option, Some, None, All}
+use Rattle.std.specs.Prelude.{◌≡◌, ◌⊎◌, ℕ, ◌-◌, ◌≤◌, List, [], ◌∷◌, ◌++◌, Bool, true, false, ◌&&◌, ◌||◌, if◌then◌else◌, codes, nat_eq, Option, Some, None, All}
 use Rattle.mau_shapes.specs.Words.{Word, Words, Beginning, of_all, of_test, of_top, of_wrapper, of_name, beginning, names, stands_alone, Role, mark, joint, role, closes, behind, ends_test, ends_fragment, ends_variable, ends_term}
 
 -- a condition: `s.t.` or `such that`, and its fragments
