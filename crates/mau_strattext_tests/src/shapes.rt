@@ -13,51 +13,128 @@ const LEVELS: [Row; 14] = [
     ("not", &[Piece::Plain(0)]),
     (
         "a ; b ; c",
-        &[Piece::Plain(0), Piece::Plain(2), Piece::Plain(4), Piece::Joined(3), Piece::Joined(1)],
+        &[
+            Piece::Plain(0),
+            Piece::Plain(2),
+            Piece::Plain(4),
+            Piece::Joined(3),
+            Piece::Joined(1),
+        ],
     ),
     (
         "a ; b | c",
-        &[Piece::Plain(0), Piece::Plain(2), Piece::Joined(1), Piece::Plain(4), Piece::Joined(3)],
+        &[
+            Piece::Plain(0),
+            Piece::Plain(2),
+            Piece::Joined(1),
+            Piece::Plain(4),
+            Piece::Joined(3),
+        ],
     ),
     (
         "a | b ; c",
-        &[Piece::Plain(0), Piece::Plain(2), Piece::Plain(4), Piece::Joined(3), Piece::Joined(1)],
+        &[
+            Piece::Plain(0),
+            Piece::Plain(2),
+            Piece::Plain(4),
+            Piece::Joined(3),
+            Piece::Joined(1),
+        ],
     ),
     (
         "a or-else b | c",
-        &[Piece::Plain(0), Piece::Plain(2), Piece::Plain(4), Piece::Joined(3), Piece::Joined(1)],
+        &[
+            Piece::Plain(0),
+            Piece::Plain(2),
+            Piece::Plain(4),
+            Piece::Joined(3),
+            Piece::Joined(1),
+        ],
     ),
     (
         "a | b or-else c",
-        &[Piece::Plain(0), Piece::Plain(2), Piece::Joined(1), Piece::Plain(4), Piece::Joined(3)],
+        &[
+            Piece::Plain(0),
+            Piece::Plain(2),
+            Piece::Joined(1),
+            Piece::Plain(4),
+            Piece::Joined(3),
+        ],
     ),
     (
         "a ; b * !",
-        &[Piece::Plain(0), Piece::Plain(2), Piece::Marked(3), Piece::Marked(4), Piece::Joined(1)],
+        &[
+            Piece::Plain(0),
+            Piece::Plain(2),
+            Piece::Marked(3),
+            Piece::Marked(4),
+            Piece::Joined(1),
+        ],
     ),
     (
         "( a ; b ) +",
-        &[Piece::Plain(1), Piece::Plain(3), Piece::Joined(2), Piece::Marked(5)],
+        &[
+            Piece::Plain(1),
+            Piece::Plain(3),
+            Piece::Joined(2),
+            Piece::Marked(5),
+        ],
     ),
     (
         "a or-else b ? c : d",
-        &[Piece::Plain(0), Piece::Plain(2), Piece::Joined(1), Piece::Plain(4), Piece::Plain(6), Piece::Chosen],
+        &[
+            Piece::Plain(0),
+            Piece::Plain(2),
+            Piece::Joined(1),
+            Piece::Plain(4),
+            Piece::Plain(6),
+            Piece::Chosen,
+        ],
     ),
     (
         "a ? b ? c : d : e",
-        &[Piece::Plain(0), Piece::Plain(2), Piece::Plain(4), Piece::Plain(6), Piece::Chosen, Piece::Plain(8), Piece::Chosen],
+        &[
+            Piece::Plain(0),
+            Piece::Plain(2),
+            Piece::Plain(4),
+            Piece::Plain(6),
+            Piece::Chosen,
+            Piece::Plain(8),
+            Piece::Chosen,
+        ],
     ),
     (
         "a ? b : c ? d : e",
-        &[Piece::Plain(0), Piece::Plain(2), Piece::Plain(4), Piece::Plain(6), Piece::Plain(8), Piece::Chosen, Piece::Chosen],
+        &[
+            Piece::Plain(0),
+            Piece::Plain(2),
+            Piece::Plain(4),
+            Piece::Plain(6),
+            Piece::Plain(8),
+            Piece::Chosen,
+            Piece::Chosen,
+        ],
     ),
     (
         "not ( a | b ) ; c",
-        &[Piece::Wrapper(0), Piece::Plain(2), Piece::Plain(4), Piece::Joined(3), Piece::Wrapped(0), Piece::Plain(7), Piece::Joined(6)],
+        &[
+            Piece::Wrapper(0),
+            Piece::Plain(2),
+            Piece::Plain(4),
+            Piece::Joined(3),
+            Piece::Wrapped(0),
+            Piece::Plain(7),
+            Piece::Joined(6),
+        ],
     ),
     (
         "top ( all ) !",
-        &[Piece::Wrapper(0), Piece::Plain(2), Piece::Wrapped(0), Piece::Marked(4)],
+        &[
+            Piece::Wrapper(0),
+            Piece::Plain(2),
+            Piece::Wrapped(0),
+            Piece::Marked(4),
+        ],
     ),
 ];
 
@@ -86,15 +163,30 @@ const TERMS: [Row; 7] = [
     // the marks belong to the term
     (
         "match a * , b ; c",
-        &[Piece::Test(0), Piece::Pattern(Part { start: 1, end: 5 }), Piece::Plain(6), Piece::Joined(5)],
+        &[
+            Piece::Test(0),
+            Piece::Pattern(Part { start: 1, end: 5 }),
+            Piece::Plain(6),
+            Piece::Joined(5),
+        ],
     ),
     (
         "( match a ) *",
-        &[Piece::Test(1), Piece::Pattern(Part { start: 2, end: 3 }), Piece::Marked(4)],
+        &[
+            Piece::Test(1),
+            Piece::Pattern(Part { start: 2, end: 3 }),
+            Piece::Marked(4),
+        ],
     ),
     (
         "match ( a ; b ] ? c : d",
-        &[Piece::Test(0), Piece::Pattern(Part { start: 1, end: 6 }), Piece::Plain(7), Piece::Plain(9), Piece::Chosen],
+        &[
+            Piece::Test(0),
+            Piece::Pattern(Part { start: 1, end: 6 }),
+            Piece::Plain(7),
+            Piece::Plain(9),
+            Piece::Chosen,
+        ],
     ),
     (
         "xmatch a /\\ b s.t. c = d /\\ ( e : S ) | f",
@@ -109,7 +201,11 @@ const TERMS: [Row; 7] = [
     ),
     (
         "amatch a such that b",
-        &[Piece::Test(0), Piece::Pattern(Part { start: 1, end: 2 }), Piece::Fragment(Part { start: 4, end: 5 })],
+        &[
+            Piece::Test(0),
+            Piece::Pattern(Part { start: 1, end: 2 }),
+            Piece::Fragment(Part { start: 4, end: 5 }),
+        ],
     ),
 ];
 
