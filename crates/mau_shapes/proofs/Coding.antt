@@ -51,16 +51,16 @@ pieces_of (answered e f ∷ k) = pieces_of k ++ (pieces (place k) e ++ pieces (p
 abbrev pub behind_it : Shape → Frames → List Piece
 behind_it s k = pieces_of k ++ pieces (place k) s
 
-one_longer : (a : Words) (w : Word) → length (a ++ w ∷ []) ≡ length a + 1
+pub one_longer : (a : Words) (w : Word) → length (a ++ w ∷ []) ≡ length a + 1
 one_longer a w = simp length-append
 
-two_longer : (a : Words) (w u : Word) → length (a ++ w ∷ u ∷ []) ≡ length a + 2
+pub two_longer : (a : Words) (w u : Word) → length (a ++ w ∷ u ∷ []) ≡ length a + 2
 two_longer a w u = simp length-append
 
-place_behind : (a b : Words) (w : Word) → length (a ++ (b ++ w ∷ [])) ≡ length a + length b + 1
+pub place_behind : (a b : Words) (w : Word) → length (a ++ (b ++ w ∷ [])) ≡ length a + length b + 1
 place_behind a b w = length-append a (b ++ w ∷ []) ∙ (ap (λ n. length a + n) (one_longer b w) ∙ omega arith)
 
-place_answered : (a b : Words) (q : Word) (c : Words) (v : Word) → length (a ++ (b ++ q ∷ (c ++ v ∷ []))) ≡ length a + length b + 1 + length c + 1
+pub place_answered : (a b : Words) (q : Word) (c : Words) (v : Word) → length (a ++ (b ++ q ∷ (c ++ v ∷ []))) ≡ length a + length b + 1 + length c + 1
 place_answered a b q c v =
     length-append a (b ++ q ∷ (c ++ v ∷ [])) ∙ (ap (λ n. length a + n) (length-append b (q ∷ (c ++ v ∷ []))
     ∙ ap (λ n. length b + suc n) (one_longer c v)) ∙ omega arith)
@@ -76,14 +76,14 @@ narrow_image (answered e f ∷ k) = refl
 
 -- ---- closed forms
 
-joined_pieces : (w : Word) (m : ℕ) (e s : Shape) (k : Frames)
+pub joined_pieces : (w : Word) (m : ℕ) (e s : Shape) (k : Frames)
     → behind_it s (left w m e ∷ k) ++ piece.Joined (place k + length (text e)) ∷ [] ≡ behind_it (joined w e s) k
 joined_pieces w m e s k =
     ap (λ i. ((pieces_of k ++ pieces (place k) e) ++ pieces i s) ++ piece.Joined (place k + length (text e)) ∷ []) (place_behind (opened k) (text e) w)
     ∙ (append_assoc (pieces_of k ++ pieces (place k) e) (pieces (place k + length (text e) + 1) s) (piece.Joined (place k + length (text e)) ∷ [])
     ∙ append_assoc (pieces_of k) (pieces (place k) e) (pieces (place k + length (text e) + 1) s ++ piece.Joined (place k + length (text e)) ∷ []))
 
-chosen_pieces : (e f s : Shape) (k : Frames) → behind_it s (answered e f ∷ k) ++ piece.Chosen ∷ [] ≡ behind_it (chosen e f s) k
+pub chosen_pieces : (e f s : Shape) (k : Frames) → behind_it s (answered e f ∷ k) ++ piece.Chosen ∷ [] ≡ behind_it (chosen e f s) k
 chosen_pieces e f s k =
     ap (λ i. ((pieces_of k ++ (pieces (place k) e ++ pieces (place k + length (text e) + 1) f)) ++ pieces i s) ++ piece.Chosen ∷ [])
     (place_answered (opened k) (text e) (codes "?") (text f) (codes ":"))
@@ -163,7 +163,7 @@ goal_pieces i (value w us x) = piece.Label i ∷ (use_pieces (i + 2) us ++ piece
 goal_pieces i (pattern w) = piece.Test i ∷ []
 goal_pieces i (fragment w p c cs) = piece.Test i ∷ piece.Pattern (part (i + 1) p) ∷ fragment_pieces (i + 1 + length p + length c) cs
 
-abbrev reader : Mode → List Frame → List Piece → Reader
+abbrev pub reader : Mode → List Frame → List Piece → Reader
 reader m fs ps = record { mode = m; frames = fs; pieces = ps }
 
 abbrev pub code : State → Reader
@@ -272,7 +272,7 @@ name_image r v w k = follow_image r v (plain w) k (mode.Named (place k) (beginni
 
 -- ---- parts
 
-part_end : (a b p : Words) → length (a ++ (b ++ p)) ≡ length (a ++ b) + length p
+pub part_end : (a b p : Words) → length (a ++ (b ++ p)) ≡ length (a ++ b) + length p
 part_end a b p = ap length (sym (append_assoc a b p)) ∙ length-append (a ++ b) p
 
 -- the part p behind the words a and b
@@ -287,10 +287,10 @@ next_from : (a b p c : Words) (v : Word) → c ≡ b ++ (p ++ v ∷ []) → leng
 next_from a b p c v h =
     sym (one_longer (a ++ (b ++ p)) v) ∙ ap length (append_assoc a (b ++ p) (v ∷ []) ∙ (ap (λ z. a ++ z) (append_assoc b p (v ∷ [])) ∙ ap (λ z. a ++ z) (sym h)))
 
-before_length : (w : Word) (t : Words) (ts : List Words) → length (before w (t ∷ ts)) ≡ length t + 1 + length (before w ts)
+pub before_length : (w : Word) (t : Words) (ts : List Words) → length (before w (t ∷ ts)) ≡ length t + 1 + length (before w ts)
 before_length w t ts = length-append t (w ∷ before w ts) ∙ omega arith
 
-term_more : (i : ℕ) (ts : List Words) (t : Words)
+pub term_more : (i : ℕ) (ts : List Words) (t : Words)
     → term_pieces i (ts ++ t ∷ []) ≡ term_pieces i ts ++ piece.Argument (part (i + length (before (codes ",") ts)) t) ∷ []
 term_more i [] t = let z : i ≡ i + 0 = omega arith in ap (λ n. piece.Argument (part n t) ∷ []) z
 term_more i (u ∷ ts) t =
@@ -298,7 +298,7 @@ term_more i (u ∷ ts) t =
     ap (λ ps. piece.Argument (part i u) ∷ ps) (term_more (i + length u + 1) ts t
     ∙ ap (λ n. term_pieces (i + length u + 1) ts ++ piece.Argument (part n t) ∷ []) z)
 
-fragment_more : (i : ℕ) (ts : List Words) (t : Words)
+pub fragment_more : (i : ℕ) (ts : List Words) (t : Words)
     → fragment_pieces i (ts ++ t ∷ []) ≡ fragment_pieces i ts ++ piece.Fragment (part (i + length (before (codes "/\\") ts)) t) ∷ []
 fragment_more i [] t = let z : i ≡ i + 0 = omega arith in ap (λ n. piece.Fragment (part n t) ∷ []) z
 fragment_more i (u ∷ ts) t =
@@ -306,10 +306,10 @@ fragment_more i (u ∷ ts) t =
     ap (λ ps. piece.Fragment (part i u) ∷ ps) (fragment_more (i + length u + 1) ts t
     ∙ ap (λ n. fragment_pieces (i + length u + 1) ts ++ piece.Fragment (part n t) ∷ []) z)
 
-use_length : (u : Use) → length (use_text u) ≡ length u.0 + 1 + length u.1
+pub use_length : (u : Use) → length (use_text u) ≡ length u.0 + 1 + length u.1
 use_length u = length-append u.0 (codes "<-" ∷ u.1) ∙ omega arith
 
-use_more : (i : ℕ) (us : List Use) (u : Use) (n : ℕ) → i + length (before (codes ",") (use_texts us)) ≡ n
+pub use_more : (i : ℕ) (us : List Use) (u : Use) (n : ℕ) → i + length (before (codes ",") (use_texts us)) ≡ n
     → use_pieces i (us ++ u ∷ []) ≡ use_pieces i us ++ (piece.Variable (part n u.0) ∷ piece.Value (part (n + length u.0 + 1) u.1) ∷ [])
 use_more i [] u n h =
     let z : i ≡ n = omega (arith, h) in ap (λ n. piece.Variable (part n u.0) ∷ piece.Value (part (n + length u.0 + 1) u.1) ∷ []) z
@@ -320,19 +320,19 @@ use_more i (y ∷ us) u n h =
     (use_more (i + length y.0 + 1 + length y.1 + 1) us u n z)
 
 -- the pieces with those of one more part
-abbrev goal_from : Goal → Frames → ℕ
+abbrev pub goal_from : Goal → Frames → ℕ
 goal_from g k = length (opened k ++ goal_words g)
 
-abbrev goal_to : Goal → Words → Frames → ℕ
+abbrev pub goal_to : Goal → Words → Frames → ℕ
 goal_to g p k = length (opened k ++ (goal_words g ++ p))
 
-abbrev part_at : Goal → Words → Frames → Part
+abbrev pub part_at : Goal → Words → Frames → Part
 part_at g p k = record { start = goal_from g k; end = goal_to g p k }
 
-abbrev with_part : Goal → Words → Frames → List Piece
+abbrev pub with_part : Goal → Words → Frames → List Piece
 with_part g p k = (pieces_of k ++ goal_pieces (place k) g) ++ machine.part_piece (kind_of g) (part_at g p k) ∷ []
 
-argument_pieces : (w : Word) (ts : List Words) (p : Words) (k : Frames)
+pub argument_pieces : (w : Word) (ts : List Words) (p : Words) (k : Frames)
     → with_part (argument w ts) p k ≡ pieces_of k ++ goal_pieces (place k) (argument w (ts ++ p ∷ []))
 argument_pieces w ts p k =
     let h : part_at (argument w ts) p k ≡ part (place k + 2 + length (before (codes ",") ts)) p
@@ -341,17 +341,17 @@ argument_pieces w ts p k =
     ∙ (ap (λ x. pieces_of k ++ (piece.Call (place k) ∷ (term_pieces (place k + 2) ts ++ piece.Argument x ∷ []))) h
     ∙ ap (λ z. pieces_of k ++ (piece.Call (place k) ∷ z)) (sym (term_more (place k + 2) ts p)))
 
-variable_pieces : (w : Word) (us : List Use) (p : Words) (k : Frames) → with_part (variable w us) p k ≡ pieces_of k ++ goal_pieces (place k) (value w us p)
+pub variable_pieces : (w : Word) (us : List Use) (p : Words) (k : Frames) → with_part (variable w us) p k ≡ pieces_of k ++ goal_pieces (place k) (value w us p)
 variable_pieces w us p k =
     let h : part_at (variable w us) p k ≡ part (place k + 2 + length (before (codes ",") (use_texts us))) p
     = here_part (opened k) (goal_words (variable w us)) p (place k + 2 + length (before (codes ",") (use_texts us))) (omega arith) in
     append_assoc (pieces_of k) (goal_pieces (place k) (variable w us)) (piece.Variable (part_at (variable w us) p k) ∷ [])
     ∙ ap (λ x. pieces_of k ++ (piece.Label (place k) ∷ (use_pieces (place k + 2) us ++ piece.Variable x ∷ []))) h
 
-value_length : (b x : Words) (a : Word) → length (b ++ (x ++ a ∷ [])) ≡ length b + length x + 1
+pub value_length : (b x : Words) (a : Word) → length (b ++ (x ++ a ∷ [])) ≡ length b + length x + 1
 value_length b x a = place_behind b x a
 
-value_pieces : (w : Word) (us : List Use) (x p : Words) (k : Frames)
+pub value_pieces : (w : Word) (us : List Use) (x p : Words) (k : Frames)
     → with_part (value w us x) p k ≡ pieces_of k ++ goal_pieces (place k) (variable w (us ++ (x, p) ∷ []))
 value_pieces w us x p k =
     let n = place k + 2 + length (before (codes ",") (use_texts us)) in
@@ -362,17 +362,17 @@ value_pieces w us x p k =
     ∙ (ap (λ z. pieces_of k ++ (piece.Label (place k) ∷ z)) (append_assoc (use_pieces (place k + 2) us) (piece.Variable (part n x) ∷ []) (piece.Value (part (n + length x + 1) p) ∷ []))
     ∙ ap (λ z. pieces_of k ++ (piece.Label (place k) ∷ z)) (sym (use_more (place k + 2) us (x, p) n refl))))
 
-pattern_pieces : (w : Word) (p : Words) (k : Frames)
+pub pattern_pieces : (w : Word) (p : Words) (k : Frames)
     → with_part (pattern w) p k ≡ pieces_of k ++ (piece.Test (place k) ∷ piece.Pattern (part (place k + 1) p) ∷ [])
 pattern_pieces w p k =
     let h : part_at (pattern w) p k ≡ part (place k + 1) p = here_part (opened k) (w ∷ []) p (place k + 1) refl in
     append_assoc (pieces_of k) (piece.Test (place k) ∷ []) (piece.Pattern (part_at (pattern w) p k) ∷ [])
     ∙ ap (λ x. pieces_of k ++ (piece.Test (place k) ∷ piece.Pattern x ∷ [])) h
 
-fragment_length : (w : Word) (p c b : Words) → length (w ∷ (p ++ (c ++ b))) ≡ 1 + length p + length c + length b
+pub fragment_length : (w : Word) (p c b : Words) → length (w ∷ (p ++ (c ++ b))) ≡ 1 + length p + length c + length b
 fragment_length w p c b = ap suc (length-append p (c ++ b) ∙ ap (λ n. length p + n) (length-append c b)) ∙ omega arith
 
-fragment_pieces_more : (w : Word) (p c : Words) (cs : List Words) (q : Words) (k : Frames)
+pub fragment_pieces_more : (w : Word) (p c : Words) (cs : List Words) (q : Words) (k : Frames)
     → with_part (fragment w p c cs) q k ≡ pieces_of k ++ goal_pieces (place k) (fragment w p c (cs ++ q ∷ []))
 fragment_pieces_more w p c cs q k =
     let f = place k + 1 + length p + length c in
@@ -430,7 +430,7 @@ pattern_image r m v w p k =
     ∙ (ap (λ z. machine.follow r (length (opened k ++ w ∷ z)) (reader m (frames_of k) (behind_it (tested w p None) k))) (sym (append-nil p))
     ∙ follow_image r v (tested w p None) k m)
 
-fragment_text : (w : Word) (p c : Words) (cs : List Words) (q : Words) → text (tested w p (Some (c, cs ++ q ∷ []))) ≡ goal_words (fragment w p c cs) ++ q
+pub fragment_text : (w : Word) (p c : Words) (cs : List Words) (q : Words) → text (tested w p (Some (c, cs ++ q ∷ []))) ≡ goal_words (fragment w p c cs) ++ q
 fragment_text w p c cs q = ap (λ z. w ∷ (p ++ (c ++ z))) (parted_more (codes "/\\") cs q) ∙ last_words w p c (before (codes "/\\") cs) q
   where
     last_words : (w : Word) (p c b q : Words) → w ∷ (p ++ (c ++ (b ++ q))) ≡ (w ∷ (p ++ (c ++ b))) ++ q

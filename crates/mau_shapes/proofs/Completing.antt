@@ -26,7 +26,7 @@ MayBe n s (left w m e ∷ k) = n ≤ m
 MayBe n s (asked e ∷ k) = Unit {0}
 MayBe n s (answered e f ∷ k) = Unit {0}
 
-admitted : (k : Frames) (n : ℕ) (s : Shape) → Admits n k → MayBe n s k
+pub admitted : (k : Frames) (n : ℕ) (s : Shape) → Admits n k → MayBe n s k
 admitted [] n s h = tt
 admitted (bracket ∷ k) n s h = tt
 admitted (wrapper w ∷ k) n s h = tt
@@ -35,7 +35,7 @@ admitted (left w m e ∷ k) n s h = h
 admitted (asked e ∷ k) n s h = tt
 admitted (answered e f ∷ k) n s h = tt
 
-tight : (k : Frames) (s : Shape) → AreOpen k → MayStand s k → MayBe 2 s k
+pub tight : (k : Frames) (s : Shape) → AreOpen k → MayStand s k → MayBe 2 s k
 tight [] s o h = tt
 tight (bracket ∷ k) s o h = tt
 tight (wrapper w ∷ k) s o h = tt
@@ -44,18 +44,18 @@ tight (left w m e ∷ k) s o h = let b : (3 ≤ m) × (m ≤ 5) = known_as w (jo
 tight (asked e ∷ k) s o h = tt
 tight (answered e f ∷ k) s o h = tt
 
-stands_by_itself : stands_alone (beginning (codes "all")) ≡ true
+pub stands_by_itself : stands_alone (beginning (codes "all")) ≡ true
 unfolding beginning
 stands_by_itself = refl
 
-is_rule : begins_rule (beginning (codes "all")) ≡ true
+pub is_rule : begins_rule (beginning (codes "all")) ≡ true
 unfolding beginning
 is_rule = refl
 
-more_words : (a ws more b : Words) → a ≡ ws ++ more → a ++ b ≡ ws ++ (more ++ b)
+pub more_words : (a ws more b : Words) → a ≡ ws ++ more → a ++ b ≡ ws ++ (more ++ b)
 more_words a ws more b h = ap (λ z. z ++ b) h ∙ append_assoc ws more b
 
-asked_words : (a b : Words) (q : Word) (s c : Words) → a ++ (b ++ q ∷ (s ++ c)) ≡ ((a ++ (b ++ q ∷ [])) ++ s) ++ c
+pub asked_words : (a b : Words) (q : Word) (s c : Words) → a ++ (b ++ q ∷ (s ++ c)) ≡ ((a ++ (b ++ q ∷ [])) ++ s) ++ c
 asked_words a b q s c = simp append_assoc
 
 pub complete : (k : Frames) (s : Shape) (n : ℕ) (ws more : Words) → AreOpen k → Fits n s → n ≤ 6 → MayBe n s k → opened k ++ text s ≡ ws ++ more → IsFront ws
@@ -84,11 +84,11 @@ complete (answered f g ∷ k) s n ws more o h le a e =
 
 -- ---- parts that are begun are ended
 
-closers : ℕ → Words
+pub closers : ℕ → Words
 closers zero = []
 closers (suc d) = codes ")" ∷ closers d
 
-tail : ℕ → Words
+pub tail : ℕ → Words
 tail d = codes "all" ∷ closers d
 
 of_all_role : role (codes "all") ≡ no_role
@@ -119,35 +119,35 @@ no_end (value w us x) = refl
 no_end (pattern w) = refl
 no_end (fragment w p c cs) = refl
 
-tail_some : (p : Words) (d : ℕ) → p ++ tail d ≡ [] → ⊥
+pub tail_some : (p : Words) (d : ℕ) → p ++ tail d ≡ [] → ⊥
 unfolding tail
 tail_some [] d h = cc
 tail_some (w ∷ p) d h = cc
 
-ended : (f : Role → Bool) (p : Words) (d : ℕ) → f no_role ≡ false → IsBegun f p d → IsPart f (p ++ tail d)
+pub ended : (f : Role → Bool) (p : Words) (d : ℕ) → f no_role ≡ false → IsBegun f p d → IsPart f (p ++ tail d)
 ended f p d n h = record { some = tail_some p d; clear = h.clear (tail d) ∙ tail_clear f d n }
 
-one_word : (f : Role → Bool) → f no_role ≡ false → IsPart f (codes "all" ∷ [])
+pub one_word : (f : Role → Bool) → f no_role ≡ false → IsPart f (codes "all" ∷ [])
 unfolding tail closers
 one_word f n = record { some = λ e. cc; clear = tail_clear f 0 n }
 
-argument_words : (a : Words) (w o : Word) (b p t : Words) (c : Words) → a ++ (w ∷ o ∷ ((b ++ (p ++ t)) ++ c)) ≡ (a ++ ((w ∷ o ∷ b) ++ p)) ++ (t ++ c)
+pub argument_words : (a : Words) (w o : Word) (b p t : Words) (c : Words) → a ++ (w ∷ o ∷ ((b ++ (p ++ t)) ++ c)) ≡ (a ++ ((w ∷ o ∷ b) ++ p)) ++ (t ++ c)
 argument_words a w o b p t c = simp append_assoc
 
-variable_words : (a : Words) (w o : Word) (b p t : Words) (x : Word) (u c : Words) → a ++ (w ∷ o ∷ ((b ++ ((p ++ t) ++ x ∷ u)) ++ c)) ≡ (a ++ ((w ∷ o ∷ b) ++ p)) ++ (t ++ x ∷ (u ++ c))
+pub variable_words : (a : Words) (w o : Word) (b p t : Words) (x : Word) (u c : Words) → a ++ (w ∷ o ∷ ((b ++ ((p ++ t) ++ x ∷ u)) ++ c)) ≡ (a ++ ((w ∷ o ∷ b) ++ p)) ++ (t ++ x ∷ (u ++ c))
 variable_words a w o b p t x u c = simp append_assoc
 
-value_words : (a : Words) (w o : Word) (b x : Words) (v : Word) (p t c : Words)
+pub value_words : (a : Words) (w o : Word) (b x : Words) (v : Word) (p t c : Words)
     → a ++ (w ∷ o ∷ ((b ++ (x ++ v ∷ (p ++ t))) ++ c)) ≡ (a ++ ((w ∷ o ∷ (b ++ (x ++ v ∷ []))) ++ p)) ++ (t ++ c)
 value_words a w o b x v p t c = simp append_assoc
 
-pattern_words : (a : Words) (w : Word) (p t : Words) → a ++ (w ∷ ((p ++ t) ++ [])) ≡ (a ++ ((w ∷ []) ++ p)) ++ t
+pub pattern_words : (a : Words) (w : Word) (p t : Words) → a ++ (w ∷ ((p ++ t) ++ [])) ≡ (a ++ ((w ∷ []) ++ p)) ++ t
 pattern_words a w p t = simp (append_assoc, append-nil)
 
-fragment_words : (a : Words) (w : Word) (p c b q t : Words) → a ++ (w ∷ (p ++ (c ++ (b ++ (q ++ t))))) ≡ (a ++ ((w ∷ (p ++ (c ++ b))) ++ q)) ++ t
+pub fragment_words : (a : Words) (w : Word) (p c b q t : Words) → a ++ (w ∷ (p ++ (c ++ (b ++ (q ++ t))))) ≡ (a ++ ((w ∷ (p ++ (c ++ b))) ++ q)) ++ t
 fragment_words a w p c b q t = simp append_assoc
 
-such_words : (a : Words) (w : Word) (p : Words) (v : Word) (t : Words) → a ++ (w ∷ (p ++ v ∷ t)) ≡ (a ++ (w ∷ (p ++ v ∷ []))) ++ t
+pub such_words : (a : Words) (w : Word) (p : Words) (v : Word) (t : Words) → a ++ (w ∷ (p ++ v ∷ t)) ≡ (a ++ (w ∷ (p ++ v ∷ []))) ++ t
 such_words a w p v t = simp append_assoc
 
 part_front : (g : Goal) (p : Words) (d : ℕ) (k : Frames) → IsGoal g k → IsBegun (ends g) p d → AreOpen k → IsFront (opened k ++ (goal_words g ++ p))

@@ -14,5 +14,7 @@ pub mod Completing
 pub mod Answering
 -- the reader of the code
 pub mod Coding
+-- the pieces before a fault
+pub mod Before
 pub mod Closing
 pub mod Leading

@@ -220,7 +220,7 @@ part_words a b p v = simp append_assoc
 list_words : (a b p c : Words) (v : Word) → c ≡ b ++ (p ++ v ∷ []) → a ++ (c ++ []) ≡ (a ++ (b ++ p)) ++ v ∷ []
 list_words a b p c v h = ap (λ z. a ++ z) (append-nil c ∙ h) ∙ part_words a b p v
 
-end_words : (a b p c : Words) (v : Word) → c ≡ b ++ p → a ++ (c ++ v ∷ []) ≡ (a ++ (b ++ p)) ++ v ∷ []
+pub end_words : (a b p c : Words) (v : Word) → c ≡ b ++ p → a ++ (c ++ v ∷ []) ≡ (a ++ (b ++ p)) ++ v ∷ []
 end_words a b p c v h = ap (λ z. a ++ (z ++ v ∷ [])) h ∙ tail_word a (b ++ p) v
 
 argument_stands : (r : Role) (v w : Word) (ts : List Words) (p : Words) (k : Frames) (y : State) → role v ≡ r → IsGoal (argument w ts) k → IsPart ends_term p → AreOpen k

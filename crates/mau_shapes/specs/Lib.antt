@@ -15,3 +15,5 @@ pub mod Laws
 pub mod Reader
 -- the reader of the code
 pub mod Machine
+-- a draft: the pieces before a fault
+pub mod Before

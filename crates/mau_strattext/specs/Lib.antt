@@ -6,3 +6,6 @@ pub mod Setting
 pub mod Fragments
 -- what a shape reads as
 pub mod Reads
+-- the first fault of pieces, and what a text reads as
+pub mod Faults
+pub mod Strategies

@@ -1,0 +1,243 @@
+-- The pieces that stand before a fault: those that are whole, and a strategy that begins so.
+use Rattle.std.proofs.Common.{◌≡◌, ℕ, zero, suc, ◌+◌, ◌-◌, ◌≤◌, ◌<◌, List, [], ◌∷◌, ◌++◌, length, Bool, true, false, ◌⊎◌, inl, inr, Option, Some, None, refl, sym, ap, ◌∙◌, subst, arith, append_assoc, append-nil, length-append, All}
+use Rattle.std.proofs.lemmas.List.Elements.{All-nil, All-cons, All-append, All-push}
+use Rattle.std.specs.Prelude.{codes}
+use Rattle.mau_shapes.specs.Words.{Word, Words, of_test, beginning, names, role, joint, ends_test, ends_fragment, ends_variable, ends_term}
+use Rattle.mau_shapes.specs.Shape.{SuchThat, Use, Shape, plain, assigned, called, wrapped, within, tested, marked, joined, chosen, each, parted, use_text, use_texts, such_text, text, IsPart, IsUse, IsSuch, Fits, IsTextOf}
+use Rattle.mau_shapes.specs.Pieces.{part, term_pieces, fragment_pieces, use_pieces, such_pieces, pieces}
+use Rattle.mau_shapes.specs.Before.{IsWhole, IsBehind, ArePiecesBefore}
+use Rattle.mau_shapes.specs.Reader.{bracket, wrapper, top_wrapper, left, asked, answered, Frames, Goal, argument, variable, value, pattern, fragment, State, operand, named, done, reading, such_of, ends, is_narrow}
+use Rattle.mau_shapes.specs.declared.pieces.Piece.{Piece}
+use Rattle.mau_shapes.specs.declared.pieces.Piece.TheVariants as piece
+use Rattle.mau_shapes.proofs.Tables.{known_as}
+use Rattle.mau_shapes.proofs.Standing.{opened, AreOpen, looser, regroup, regroup_two, before, parted_more, uses_more, IsBegun, part_of, IsGoal, goal_words, MayStand, state_words, Stands}
+use Rattle.mau_shapes.proofs.Stepping.{wide, pushed_some, names_alone, names_rule, in_brackets, in_two, end_words}
+use Rattle.mau_shapes.proofs.Completing.{MayBe, tight, admitted, stands_by_itself, is_rule, more_words, asked_words, tail, ended, one_word, argument_words, variable_words, value_words, pattern_words, fragment_words, such_words}
+use Rattle.mau_shapes.proofs.Coding.{place, pieces_of, behind_it, one_longer, two_longer, place_behind, place_answered, joined_pieces, chosen_pieces, goal_pieces, before_length, term_more, fragment_more, use_length, use_more, part_end, with_part, part_at, argument_pieces, variable_pieces, value_pieces, pattern_pieces, fragment_pieces_more, value_length, fragment_length}
+
+-- ---- pieces lie within their text
+
+each_before : (w : Word) (ts : List Words) → length (each w ts) ≡ length (before w ts)
+each_before w [] = refl
+each_before w (t ∷ ts) =
+    ap suc (length-append t (each w ts) ∙ ap (λ n. length t + n) (each_before w ts)) ∙ (omega arith ∙ sym (before_length w t ts))
+
+parted_before : (w : Word) (ts : List Words) → length (before w ts) ≤ length (parted w ts) + 1
+parted_before w [] = omega arith
+parted_before w (t ∷ ts) = omega (arith, before_length w t ts, length-append t (each w ts), each_before w ts)
+
+terms_within : (n i : ℕ) (ts : List Words) → i + length (before (codes ",") ts) ≤ n + 1 → All (IsWhole n) (term_pieces i ts)
+terms_within n i [] h = All-nil (IsWhole n)
+terms_within n i (t ∷ ts) h =
+    All-cons (IsWhole n) (piece.Argument (part i t)) (term_pieces (i + length t + 1) ts) (omega (arith, h, before_length (codes ",") t ts))
+      (terms_within n (i + length t + 1) ts (omega (arith, h, before_length (codes ",") t ts)))
+
+fragments_within : (n i : ℕ) (ts : List Words) → i + length (before (codes "/\\") ts) ≤ n + 1 → All (IsWhole n) (fragment_pieces i ts)
+fragments_within n i [] h = All-nil (IsWhole n)
+fragments_within n i (t ∷ ts) h =
+    All-cons (IsWhole n) (piece.Fragment (part i t)) (fragment_pieces (i + length t + 1) ts) (omega (arith, h, before_length (codes "/\\") t ts))
+      (fragments_within n (i + length t + 1) ts (omega (arith, h, before_length (codes "/\\") t ts)))
+
+uses_within : (n i : ℕ) (us : List Use) → i + length (before (codes ",") (use_texts us)) ≤ n + 1 → All (IsWhole n) (use_pieces i us)
+uses_within n i [] h = All-nil (IsWhole n)
+uses_within n i (u ∷ us) h =
+    All-cons (IsWhole n) (piece.Variable (part i u.0)) (piece.Value (part (i + length u.0 + 1) u.1) ∷ use_pieces (i + length u.0 + 1 + length u.1 + 1) us)
+      (omega (arith, h, before_length (codes ",") (use_text u) (use_texts us), use_length u))
+    (All-cons (IsWhole n) (piece.Value (part (i + length u.0 + 1) u.1)) (use_pieces (i + length u.0 + 1 + length u.1 + 1) us)
+      (omega (arith, h, before_length (codes ",") (use_text u) (use_texts us), use_length u))
+      (uses_within n (i + length u.0 + 1 + length u.1 + 1) us (omega (arith, h, before_length (codes ",") (use_text u) (use_texts us), use_length u))))
+
+such_within : (n i : ℕ) (c : Option SuchThat) → i + length (such_text c) ≤ n → All (IsWhole n) (such_pieces i c)
+such_within n i None h = All-nil (IsWhole n)
+such_within n i (Some c) h =
+    fragments_within n (i + length c.0) c.1 (omega (arith, h, length-append c.0 (parted (codes "/\\") c.1), parted_before (codes "/\\") c.1))
+
+pub pieces_within : (s : Shape) (i n : ℕ) → i + length (text s) ≤ n → All (IsWhole n) (pieces i s)
+pieces_within (plain w) i n h = All-cons (IsWhole n) (piece.Plain i) [] (omega (arith, h)) (All-nil (IsWhole n))
+pieces_within (assigned w us) i n h =
+    All-cons (IsWhole n) (piece.Label i) (use_pieces (i + 2) us) (omega (arith, h))
+      (uses_within n (i + 2) us (omega (arith, h, length-append (parted (codes ",") (use_texts us)) (codes "]" ∷ []), parted_before (codes ",") (use_texts us))))
+pieces_within (called w ts) i n h =
+    All-cons (IsWhole n) (piece.Call i) (term_pieces (i + 2) ts ++ piece.Called ∷ []) (omega (arith, h))
+      (All-push (IsWhole n) (term_pieces (i + 2) ts) piece.Called
+        (terms_within n (i + 2) ts (omega (arith, h, length-append (parted (codes ",") ts) (codes ")" ∷ []), parted_before (codes ",") ts))) tt)
+pieces_within (wrapped w e) i n h =
+    All-cons (IsWhole n) (piece.Wrapper i) (pieces (i + 2) e ++ piece.Wrapped i ∷ []) (omega (arith, h))
+      (All-push (IsWhole n) (pieces (i + 2) e) (piece.Wrapped i) (pieces_within e (i + 2) n (omega (arith, h, length-append (text e) (codes ")" ∷ [])))) tt)
+pieces_within (within e) i n h = pieces_within e (i + 1) n (omega (arith, h, length-append (text e) (codes ")" ∷ [])))
+pieces_within (tested w p c) i n h =
+    All-cons (IsWhole n) (piece.Test i) (piece.Pattern (part (i + 1) p) ∷ such_pieces (i + 1 + length p) c) (omega (arith, h))
+    (All-cons (IsWhole n) (piece.Pattern (part (i + 1) p)) (such_pieces (i + 1 + length p) c) (omega (arith, h, length-append p (such_text c)))
+      (such_within n (i + 1 + length p) c (omega (arith, h, length-append p (such_text c)))))
+pieces_within (marked e w) i n h =
+    All-push (IsWhole n) (pieces i e) (piece.Marked (i + length (text e))) (pieces_within e i n (omega (arith, h, length-append (text e) (w ∷ [])))) tt
+pieces_within (joined w e f) i n h =
+    All-append (IsWhole n) (pieces i e) (pieces (i + length (text e) + 1) f ++ piece.Joined (i + length (text e)) ∷ [])
+      (pieces_within e i n (omega (arith, h, length-append (text e) (w ∷ text f))))
+      (All-push (IsWhole n) (pieces (i + length (text e) + 1) f) (piece.Joined (i + length (text e)))
+        (pieces_within f (i + length (text e) + 1) n (omega (arith, h, length-append (text e) (w ∷ text f)))) tt)
+pieces_within (chosen e f g) i n h =
+    let a : length (text e ++ codes "?" ∷ (text f ++ codes ":" ∷ text g)) ≡ length (text e) + (length (text f) + (length (text g) + 1) + 1)
+      = length-append (text e) (codes "?" ∷ (text f ++ codes ":" ∷ text g)) ∙ ap (λ n. length (text e) + suc n) (length-append (text f) (codes ":" ∷ text g)) ∙ omega arith in
+    All-append (IsWhole n) (pieces i e) (pieces (i + length (text e) + 1) f ++ (pieces (i + length (text e) + 1 + length (text f) + 1) g ++ piece.Chosen ∷ []))
+      (pieces_within e i n (omega (arith, h, a)))
+    (All-append (IsWhole n) (pieces (i + length (text e) + 1) f) (pieces (i + length (text e) + 1 + length (text f) + 1) g ++ piece.Chosen ∷ [])
+      (pieces_within f (i + length (text e) + 1) n (omega (arith, h, a)))
+    (All-push (IsWhole n) (pieces (i + length (text e) + 1 + length (text f) + 1) g) piece.Chosen
+      (pieces_within g (i + length (text e) + 1 + length (text f) + 1) n (omega (arith, h, a))) tt))
+
+pub frames_within : (k : Frames) (n : ℕ) → place k ≤ n → All (IsWhole n) (pieces_of k)
+frames_within [] n h = All-nil (IsWhole n)
+frames_within (bracket ∷ k) n h = frames_within k n (omega (arith, h, one_longer (opened k) (codes "(")))
+frames_within (wrapper w ∷ k) n h =
+    All-push (IsWhole n) (pieces_of k) (piece.Wrapper (place k)) (frames_within k n (omega (arith, h, two_longer (opened k) w (codes "("))))
+      (omega (arith, h, two_longer (opened k) w (codes "(")))
+frames_within (top_wrapper w ∷ k) n h =
+    All-push (IsWhole n) (pieces_of k) (piece.Wrapper (place k)) (frames_within k n (omega (arith, h, two_longer (opened k) w (codes "("))))
+      (omega (arith, h, two_longer (opened k) w (codes "(")))
+frames_within (left w m e ∷ k) n h =
+    All-append (IsWhole n) (pieces_of k) (pieces (place k) e) (frames_within k n (omega (arith, h, place_behind (opened k) (text e) w)))
+      (pieces_within e (place k) n (omega (arith, h, place_behind (opened k) (text e) w)))
+frames_within (asked e ∷ k) n h =
+    All-append (IsWhole n) (pieces_of k) (pieces (place k) e) (frames_within k n (omega (arith, h, place_behind (opened k) (text e) (codes "?"))))
+      (pieces_within e (place k) n (omega (arith, h, place_behind (opened k) (text e) (codes "?"))))
+frames_within (answered e f ∷ k) n h =
+    let a = place_answered (opened k) (text e) (codes "?") (text f) (codes ":") in
+    All-append (IsWhole n) (pieces_of k) (pieces (place k) e ++ pieces (place k + length (text e) + 1) f) (frames_within k n (omega (arith, h, a)))
+    (All-append (IsWhole n) (pieces (place k) e) (pieces (place k + length (text e) + 1) f) (pieces_within e (place k) n (omega (arith, h, a)))
+      (pieces_within f (place k + length (text e) + 1) n (omega (arith, h, a))))
+
+goal_within : (g : Goal) (k : Frames) (n : ℕ) → length (opened k ++ goal_words g) ≤ n → All (IsWhole n) (pieces_of k ++ goal_pieces (place k) g)
+goal_within (argument w ts) k n h =
+    let a = length-append (opened k) (goal_words (argument w ts)) in
+    All-append (IsWhole n) (pieces_of k) (goal_pieces (place k) (argument w ts)) (frames_within k n (omega (arith, h, a)))
+    (All-cons (IsWhole n) (piece.Call (place k)) (term_pieces (place k + 2) ts) (omega (arith, h, a)) (terms_within n (place k + 2) ts (omega (arith, h, a))))
+goal_within (variable w us) k n h =
+    let a = length-append (opened k) (goal_words (variable w us)) in
+    All-append (IsWhole n) (pieces_of k) (goal_pieces (place k) (variable w us)) (frames_within k n (omega (arith, h, a)))
+    (All-cons (IsWhole n) (piece.Label (place k)) (use_pieces (place k + 2) us) (omega (arith, h, a)) (uses_within n (place k + 2) us (omega (arith, h, a))))
+goal_within (value w us x) k n h =
+    let a = length-append (opened k) (goal_words (value w us x)) in
+    let b = value_length (before (codes ",") (use_texts us)) x (codes "<-") in
+    All-append (IsWhole n) (pieces_of k) (goal_pieces (place k) (value w us x)) (frames_within k n (omega (arith, h, a)))
+    (All-cons (IsWhole n) (piece.Label (place k)) (use_pieces (place k + 2) us ++ piece.Variable (part (place k + 2 + length (before (codes ",") (use_texts us))) x) ∷ [])
+      (omega (arith, h, a))
+    (All-push (IsWhole n) (use_pieces (place k + 2) us) (piece.Variable (part (place k + 2 + length (before (codes ",") (use_texts us))) x))
+      (uses_within n (place k + 2) us (omega (arith, h, a, b))) (omega (arith, h, a, b))))
+goal_within (pattern w) k n h =
+    let a = length-append (opened k) (w ∷ []) in
+    All-append (IsWhole n) (pieces_of k) (piece.Test (place k) ∷ []) (frames_within k n (omega (arith, h, a)))
+    (All-cons (IsWhole n) (piece.Test (place k)) [] (omega (arith, h, a)) (All-nil (IsWhole n)))
+goal_within (fragment w p c cs) k n h =
+    let a = length-append (opened k) (goal_words (fragment w p c cs)) in
+    let b = fragment_length w p c (before (codes "/\\") cs) in
+    All-append (IsWhole n) (pieces_of k) (goal_pieces (place k) (fragment w p c cs)) (frames_within k n (omega (arith, h, a)))
+    (All-cons (IsWhole n) (piece.Test (place k)) (piece.Pattern (part (place k + 1) p) ∷ fragment_pieces (place k + 1 + length p + length c) cs) (omega (arith, h, a, b))
+    (All-cons (IsWhole n) (piece.Pattern (part (place k + 1) p)) (fragment_pieces (place k + 1 + length p + length c) cs) (omega (arith, h, a, b))
+      (fragments_within n (place k + 1 + length p + length c) cs (omega (arith, h, a, b)))))
+
+-- ---- a strategy that begins so, with its pieces
+
+record Goes (k : Frames) (s : Shape) (f : Words) : Type 0 where
+  pub shape : Shape
+  pub more : Words
+  pub reads : IsTextOf (f ++ more) shape
+  pub rest : List Piece
+  pub split : pieces 0 shape ≡ behind_it s k ++ rest
+  pub behind : All (IsBehind (length f)) rest
+
+wrapped_split : (a : List Piece) (x : Piece) (b : List Piece) (y : Piece) (r : List Piece) → (a ++ (x ∷ (b ++ y ∷ []))) ++ r ≡ ((a ++ x ∷ []) ++ b) ++ y ∷ r
+wrapped_split a x b y r = simp append_assoc
+
+asked_split : (a b c : List Piece) (x y : Piece) (r : List Piece) → (((a ++ (b ++ c)) ++ x ∷ []) ++ y ∷ []) ++ r ≡ ((a ++ b) ++ c) ++ x ∷ y ∷ r
+asked_split a b c x y r = simp append_assoc
+
+in_front : (f more : Words) (ws : Words) → ws ≡ f ++ more → length f ≤ length ws
+in_front f more ws h = omega (arith, ap length h, length-append f more)
+
+goes_on : (k : Frames) (s : Shape) (n : ℕ) (f more : Words) → AreOpen k → Fits n s → n ≤ 6 → MayBe n s k → opened k ++ text s ≡ f ++ more → Goes k s f
+goes_on [] s n f more o h le a e = record {
+  shape = s;
+  more = more;
+  reads = record { strategy = looser s n 6 le h; words = e };
+  rest = [];
+  split = sym (append-nil (pieces 0 s));
+  behind = All-nil (IsBehind (length f));
+}
+goes_on (bracket ∷ k) s n f more o h le a e =
+    let r = goes_on k (within s) 2 f (more ++ codes ")" ∷ []) o.1 (looser s n 6 le h) (omega arith) (tight k (within s) o.1 (wide (within s) k o.0))
+      (in_brackets (opened k) (codes "(") (text s) (codes ")") ∙ more_words (opened (bracket ∷ k) ++ text s) f more (codes ")" ∷ []) e) in
+    record {
+      shape = r.shape;
+      more = r.more;
+      reads = r.reads;
+      rest = r.rest;
+      split = r.split ∙ ap (λ i. (pieces_of k ++ pieces i s) ++ r.rest) (sym (one_longer (opened k) (codes "(")));
+      behind = r.behind;
+    }
+goes_on (wrapper w ∷ k) s n f more o h le a e =
+    let r = goes_on k (wrapped w s) 2 f (more ++ codes ")" ∷ []) o.2 (inl o.0, looser s n 6 le h) (omega arith) (tight k (wrapped w s) o.2 (wide (wrapped w s) k o.1))
+      (in_two (opened k) w (codes "(") (text s) (codes ")") ∙ more_words (opened (wrapper w ∷ k) ++ text s) f more (codes ")" ∷ []) e) in
+    record {
+      shape = r.shape;
+      more = r.more;
+      reads = r.reads;
+      rest = piece.Wrapped (place k) ∷ r.rest;
+      split = r.split ∙ (wrapped_split (pieces_of k) (piece.Wrapper (place k)) (pieces (place k + 2) s) (piece.Wrapped (place k)) r.rest
+        ∙ ap (λ i. ((pieces_of k ++ piece.Wrapper (place k) ∷ []) ++ pieces i s) ++ piece.Wrapped (place k) ∷ r.rest) (sym (two_longer (opened k) w (codes "("))));
+      behind = All-cons (IsBehind (length f)) (piece.Wrapped (place k)) r.rest tt r.behind;
+    }
+goes_on (top_wrapper w ∷ k) s n f more o h le a e =
+    let r = goes_on k (wrapped w s) 2 f (more ++ codes ")" ∷ []) o.2 (inr (o.0, a), looser s n 6 le h) (omega arith) (tight k (wrapped w s) o.2 (wide (wrapped w s) k o.1))
+      (in_two (opened k) w (codes "(") (text s) (codes ")") ∙ more_words (opened (top_wrapper w ∷ k) ++ text s) f more (codes ")" ∷ []) e) in
+    record {
+      shape = r.shape;
+      more = r.more;
+      reads = r.reads;
+      rest = piece.Wrapped (place k) ∷ r.rest;
+      split = r.split ∙ (wrapped_split (pieces_of k) (piece.Wrapper (place k)) (pieces (place k + 2) s) (piece.Wrapped (place k)) r.rest
+        ∙ ap (λ i. ((pieces_of k ++ piece.Wrapper (place k) ∷ []) ++ pieces i s) ++ piece.Wrapped (place k) ∷ r.rest) (sym (two_longer (opened k) w (codes "("))));
+      behind = All-cons (IsBehind (length f)) (piece.Wrapped (place k)) r.rest tt r.behind;
+    }
+goes_on (left w m e ∷ k) s n f more o h le a q =
+    let b : (3 ≤ m) × (m ≤ 5) = known_as w (joint m) o.0 in
+    let r = goes_on k (joined w e s) m f more o.3 (m, o.0, omega arith, o.1, looser s n m a h) (omega (arith, b.1)) (admitted k m (joined w e s) o.2)
+      (regroup (opened k) (text e) w (text s) ∙ q) in
+    record {
+      shape = r.shape;
+      more = r.more;
+      reads = r.reads;
+      rest = piece.Joined (place k + length (text e)) ∷ r.rest;
+      split = r.split ∙ (ap (λ z. z ++ r.rest) (sym (joined_pieces w m e s k)) ∙ append_assoc (behind_it s (left w m e ∷ k)) (piece.Joined (place k + length (text e)) ∷ []) r.rest);
+      behind = All-cons (IsBehind (length f)) (piece.Joined (place k + length (text e))) r.rest tt r.behind;
+    }
+goes_on (asked e ∷ k) s n f more o h le a q =
+    let all = plain (codes "all") in
+    let at = place (answered e s ∷ k) in
+    let r = goes_on k (chosen e s all) 6 f (more ++ codes ":" ∷ codes "all" ∷ []) o.2 (omega arith, o.0, looser s n 6 le h, stands_by_itself) (omega arith)
+      (admitted k 6 (chosen e s all) o.1)
+      (asked_words (opened k) (text e) (codes "?") (text s) (codes ":" ∷ codes "all" ∷ [])
+        ∙ more_words (opened (asked e ∷ k) ++ text s) f more (codes ":" ∷ codes "all" ∷ []) q) in
+    let far : length f ≤ at = omega (arith, in_front f more (opened (asked e ∷ k) ++ text s) q, length-append (opened (asked e ∷ k)) (text s),
+      place_behind (opened k) (text e) (codes "?"), place_answered (opened k) (text e) (codes "?") (text s) (codes ":")) in
+    record {
+      shape = r.shape;
+      more = r.more;
+      reads = r.reads;
+      rest = piece.Plain at ∷ piece.Chosen ∷ r.rest;
+      split = r.split ∙ (ap (λ z. z ++ r.rest) (sym (chosen_pieces e s all k))
+        ∙ (asked_split (pieces_of k) (pieces (place k) e) (pieces (place k + length (text e) + 1) s) (piece.Plain at) piece.Chosen r.rest
+        ∙ ap (λ i. ((pieces_of k ++ pieces (place k) e) ++ pieces i s) ++ piece.Plain at ∷ piece.Chosen ∷ r.rest) (sym (place_behind (opened k) (text e) (codes "?")))));
+      behind = All-cons (IsBehind (length f)) (piece.Plain at) (piece.Chosen ∷ r.rest) far (All-cons (IsBehind (length f)) piece.Chosen r.rest tt r.behind);
+    }
+goes_on (answered e g ∷ k) s n f more o h le a q =
+    let r = goes_on k (chosen e g s) 6 f more o.3 (omega arith, o.0, o.1, looser s n 6 le h) (omega arith) (admitted k 6 (chosen e g s) o.2)
+      (regroup_two (opened k) (text e) (codes "?") (text g) (codes ":") (text s) ∙ q) in
+    record {
+      shape = r.shape;
+      more = r.more;
+      reads = r.reads;
+      rest = piece.Chosen ∷ r.rest;
+      split = r.split ∙ (ap (λ z. z ++ r.rest) (sym (chosen_pieces e g s k)) ∙ append_assoc (behind_it s (answered e g ∷ k)) (piece.Chosen ∷ []) r.rest);
+      behind = All-cons (IsBehind (length f)) piece.Chosen r.rest tt r.behind;
+    }
