@@ -13,7 +13,8 @@ use Rattle.mau_shapes.proofs.Tables.{known_as}
 use Rattle.mau_shapes.proofs.Standing.{opened, AreOpen, looser, regroup, regroup_two, before, parted_more, uses_more, IsBegun, part_of, IsGoal, goal_words, MayStand, state_words, Stands}
 use Rattle.mau_shapes.proofs.Stepping.{wide, pushed_some, names_alone, names_rule, in_brackets, in_two, end_words}
 use Rattle.mau_shapes.proofs.Completing.{MayBe, tight, admitted, stands_by_itself, is_rule, more_words, asked_words, tail, ended, one_word, argument_words, variable_words, value_words, pattern_words, fragment_words, such_words}
-use Rattle.mau_shapes.proofs.Coding.{place, pieces_of, behind_it, one_longer, two_longer, place_behind, place_answered, joined_pieces, chosen_pieces, goal_pieces, before_length, term_more, fragment_more, use_length, use_more, part_end, with_part, part_at, argument_pieces, variable_pieces, value_pieces, pattern_pieces, fragment_pieces_more, value_length, fragment_length}
+use Rattle.mau_shapes.specs.Machine as machine
+use Rattle.mau_shapes.proofs.Coding.{kind_of, fragment_text, place, pieces_of, behind_it, one_longer, two_longer, place_behind, place_answered, joined_pieces, chosen_pieces, goal_pieces, before_length, term_more, fragment_more, use_length, use_more, part_end, with_part, part_at, argument_pieces, variable_pieces, value_pieces, pattern_pieces, fragment_pieces_more, value_length, fragment_length}
 
 -- ---- pieces lie within their text
 
@@ -241,3 +242,270 @@ goes_on (answered e g ∷ k) s n f more o h le a q =
       split = r.split ∙ (ap (λ z. z ++ r.rest) (sym (chosen_pieces e g s k)) ∙ append_assoc (behind_it s (answered e g ∷ k)) (piece.Chosen ∷ []) r.rest);
       behind = All-cons (IsBehind (length f)) piece.Chosen r.rest tt r.behind;
     }
+
+-- ---- what is whole behind a state
+
+abbrev pub flush_part : Goal → Words → ℕ → Frames → List Piece
+flush_part g (v ∷ p) zero k = with_part g (v ∷ p) k
+flush_part g p d k = pieces_of k ++ goal_pieces (place k) g
+
+-- the pieces, with the name or the part at hand
+abbrev pub flushed : State → List Piece
+flushed (operand k) = pieces_of k
+flushed (named w k) = pieces_of k ++ piece.Plain (place k) ∷ []
+flushed (done s k) = behind_it s k
+flushed (reading g p d k) = flush_part g p d k
+flushed (such_of w p v k) = pieces_of k ++ (piece.Test (place k) ∷ piece.Pattern (part (place k + 1) p) ∷ [])
+
+make : (k : Frames) (s : Shape) (f : Words) (ps rest : List Piece) → Goes k s f → behind_it s k ≡ ps ++ rest → All (IsWhole (length f)) ps → All (IsBehind (length f)) rest
+    → ArePiecesBefore f ps
+make k s f ps rest g e h b = record {
+  shape = g.shape;
+  more = g.more;
+  reads = g.reads;
+  rest = rest ++ g.rest;
+  split = g.split ∙ (ap (λ z. z ++ g.rest) e ∙ append_assoc ps rest g.rest);
+  whole = h;
+  behind = All-append (IsBehind (length f)) rest g.rest b g.behind;
+}
+
+nothing_behind : (n : ℕ) → All (IsBehind n) []
+nothing_behind n = All-nil (IsBehind n)
+
+-- ---- a part that ends here
+
+with_part_whole : (g : Goal) (p : Words) (k : Frames) → ((x : part_at g p k ≡ part_at g p k) → IsWhole (length (opened k ++ (goal_words g ++ p))) (machine.part_piece (kind_of g) (part_at g p k)))
+    → All (IsWhole (length (opened k ++ (goal_words g ++ p)))) (with_part g p k)
+with_part_whole g p k h =
+    All-push (IsWhole (length (opened k ++ (goal_words g ++ p)))) (pieces_of k ++ goal_pieces (place k) g) (machine.part_piece (kind_of g) (part_at g p k))
+      (goal_within g k (length (opened k ++ (goal_words g ++ p))) (omega (arith, part_end (opened k) (goal_words g) p))) (h refl)
+
+ended_part : (g : Goal) (v : Word) (p : Words) (k : Frames) → IsGoal g k → IsBegun (ends g) (v ∷ p) 0 → AreOpen k
+    → ArePiecesBefore (opened k ++ (goal_words g ++ v ∷ p)) (with_part g (v ∷ p) k)
+ended_part (argument w ts) v p k h b o =
+    let f = opened k ++ (goal_words (argument w ts) ++ v ∷ p) in
+    let q = part_of ends_term (v ∷ p) b (λ e. cc) in
+    let s = called w (ts ++ (v ∷ p) ∷ []) in
+    let g = goes_on k s 2 f (codes ")" ∷ []) o (h.0, pushed_some ts (v ∷ p), All-push (IsPart ends_term) ts (v ∷ p) h.1 q) (omega arith) (tight k s o (wide s k h.2))
+      (end_words (opened k) (goal_words (argument w ts)) (v ∷ p) (w ∷ codes "(" ∷ parted (codes ",") (ts ++ (v ∷ p) ∷ [])) (codes ")")
+        (ap (λ z. w ∷ codes "(" ∷ z) (parted_more (codes ",") ts (v ∷ p)))) in
+    make k s f (with_part (argument w ts) (v ∷ p) k) (piece.Called ∷ []) g
+      (sym (append_assoc (pieces_of k) (goal_pieces (place k) (argument w (ts ++ (v ∷ p) ∷ []))) (piece.Called ∷ []))
+        ∙ ap (λ z. z ++ piece.Called ∷ []) (sym (argument_pieces w ts (v ∷ p) k)))
+      (with_part_whole (argument w ts) (v ∷ p) k (λ e. omega arith)) (All-cons (IsBehind (length f)) piece.Called [] tt (nothing_behind (length f)))
+ended_part (variable w us) v p k h b o =
+    let f = opened k ++ (goal_words (variable w us) ++ v ∷ p) in
+    let q = part_of ends_variable (v ∷ p) b (λ e. cc) in
+    let all : Words = codes "all" ∷ [] in
+    let u : Use = (v ∷ p, all) in
+    let s = assigned w (us ++ u ∷ []) in
+    let n = place k + 2 + length (before (codes ",") (use_texts us)) in
+    let x = piece.Value (part (n + length (v ∷ p) + 1) all) in
+    let g = goes_on k s 2 f (codes "<-" ∷ codes "all" ∷ codes "]" ∷ []) o
+      (h.0, pushed_some us u, All-push IsUse us u h.1 (record { variable = q; value = one_word ends_term refl })) (omega arith) (tight k s o (λ n. refl))
+      (ap (λ z. opened k ++ (w ∷ codes "[" ∷ (z ++ codes "]" ∷ []))) (ap (parted (codes ",")) (uses_more us u) ∙ parted_more (codes ",") (use_texts us) (use_text u))
+        ∙ use_end (opened k) w (codes "[") (before (codes ",") (use_texts us)) (v ∷ p) (codes "<-") (codes "all") (codes "]")) in
+    make k s f (with_part (variable w us) (v ∷ p) k) (x ∷ []) g
+      (ap (λ z. pieces_of k ++ (piece.Label (place k) ∷ z)) (use_more (place k + 2) us u n refl
+          ∙ sym (append_assoc (use_pieces (place k + 2) us) (piece.Variable (part n (v ∷ p)) ∷ []) (x ∷ [])))
+        ∙ (sym (append_assoc (pieces_of k) (piece.Label (place k) ∷ (use_pieces (place k + 2) us ++ piece.Variable (part n (v ∷ p)) ∷ [])) (x ∷ []))
+        ∙ ap (λ z. z ++ x ∷ []) (sym (variable_pieces w us (v ∷ p) k))))
+      (with_part_whole (variable w us) (v ∷ p) k (λ e. omega arith))
+      (All-cons (IsBehind (length f)) x [] (omega (arith, part_end (opened k) (goal_words (variable w us)) (v ∷ p), length-append (opened k) (goal_words (variable w us))))
+        (nothing_behind (length f)))
+  where
+    use_end : (a : Words) (w o : Word) (b p : Words) (x u c : Word) → a ++ (w ∷ o ∷ ((b ++ (p ++ x ∷ u ∷ [])) ++ c ∷ [])) ≡ (a ++ ((w ∷ o ∷ b) ++ p)) ++ x ∷ u ∷ c ∷ []
+    use_end a w o b p x u c = simp append_assoc
+ended_part (value w us x) v p k h b o =
+    let f = opened k ++ (goal_words (value w us x) ++ v ∷ p) in
+    let q = part_of ends_term (v ∷ p) b (λ e. cc) in
+    let u : Use = (x, v ∷ p) in
+    let s = assigned w (us ++ u ∷ []) in
+    let g = goes_on k s 2 f (codes "]" ∷ []) o
+      (h.0, pushed_some us u, All-push IsUse us u h.1 (record { variable = h.2; value = q })) (omega arith) (tight k s o (λ n. refl))
+      (ap (λ z. opened k ++ (w ∷ codes "[" ∷ (z ++ codes "]" ∷ []))) (ap (parted (codes ",")) (uses_more us u) ∙ parted_more (codes ",") (use_texts us) (use_text u))
+        ∙ value_end (opened k) w (codes "[") (before (codes ",") (use_texts us)) x (codes "<-") (v ∷ p) (codes "]")) in
+    make k s f (with_part (value w us x) (v ∷ p) k) [] g
+      (sym (value_pieces w us x (v ∷ p) k) ∙ sym (append-nil (with_part (value w us x) (v ∷ p) k)))
+      (with_part_whole (value w us x) (v ∷ p) k (λ e. omega arith)) (nothing_behind (length f))
+  where
+    value_end : (a : Words) (w o : Word) (b x : Words) (v : Word) (p : Words) (c : Word) → a ++ (w ∷ o ∷ ((b ++ (x ++ v ∷ p)) ++ c ∷ [])) ≡ (a ++ ((w ∷ o ∷ (b ++ (x ++ v ∷ []))) ++ p)) ++ c ∷ []
+    value_end a w o b x v p c = simp append_assoc
+ended_part (pattern w) v p k h b o =
+    let f = opened k ++ (goal_words (pattern w) ++ v ∷ p) in
+    let q = part_of ends_test (v ∷ p) b (λ e. cc) in
+    let s = tested w (v ∷ p) None in
+    let g = goes_on k s 2 f [] o (h.0, q, tt) (omega arith) (tight k s o (wide s k h.1))
+      (ap (λ z. opened k ++ w ∷ z) (append-nil (v ∷ p)) ∙ sym (append-nil f)) in
+    make k s f (with_part (pattern w) (v ∷ p) k) [] g
+      (sym (pattern_pieces w (v ∷ p) k) ∙ sym (append-nil (with_part (pattern w) (v ∷ p) k)))
+      (with_part_whole (pattern w) (v ∷ p) k (λ e. omega arith)) (nothing_behind (length f))
+ended_part (fragment w p c cs) v q k h b o =
+    let f = opened k ++ (goal_words (fragment w p c cs) ++ v ∷ q) in
+    let t = part_of ends_fragment (v ∷ q) b (λ e. cc) in
+    let s = tested w p (Some (c, cs ++ (v ∷ q) ∷ [])) in
+    let g = goes_on k s 2 f [] o
+      (h.0, h.2, record { sign = h.3; some = pushed_some cs (v ∷ q); fragments = All-push (IsPart ends_fragment) cs (v ∷ q) h.4 t })
+      (omega arith) (tight k s o (wide s k h.1)) (ap (λ z. opened k ++ z) (fragment_text w p c cs (v ∷ q)) ∙ sym (append-nil f)) in
+    make k s f (with_part (fragment w p c cs) (v ∷ q) k) [] g
+      (sym (fragment_pieces_more w p c cs (v ∷ q) k) ∙ sym (append-nil (with_part (fragment w p c cs) (v ∷ q) k)))
+      (with_part_whole (fragment w p c cs) (v ∷ q) k (λ e. omega arith)) (nothing_behind (length f))
+
+-- ---- a part that goes on
+
+tail_longer : (p : Words) (d : ℕ) → length p < length (p ++ tail d)
+unfolding tail
+tail_longer p d = omega (arith, length-append p (tail d))
+
+begun_part : (g : Goal) (p : Words) (d : ℕ) (k : Frames) → IsGoal g k → IsBegun (ends g) p d → AreOpen k
+    → ArePiecesBefore (opened k ++ (goal_words g ++ p)) (pieces_of k ++ goal_pieces (place k) g)
+begun_part (argument w ts) p d k h b o =
+    let f = opened k ++ (goal_words (argument w ts) ++ p) in
+    let t = p ++ tail d in
+    let q = ended ends_term p d refl b in
+    let s = called w (ts ++ t ∷ []) in
+    let n = place k + 2 + length (before (codes ",") ts) in
+    let g = goes_on k s 2 f (tail d ++ codes ")" ∷ []) o (h.0, pushed_some ts t, All-push (IsPart ends_term) ts t h.1 q) (omega arith) (tight k s o (wide s k h.2))
+      (ap (λ z. opened k ++ (w ∷ codes "(" ∷ (z ++ codes ")" ∷ []))) (parted_more (codes ",") ts t)
+        ∙ argument_words (opened k) w (codes "(") (before (codes ",") ts) p (tail d) (codes ")" ∷ [])) in
+    make k s f (pieces_of k ++ goal_pieces (place k) (argument w ts)) (piece.Argument (part n t) ∷ piece.Called ∷ []) g
+      (ap (λ z. pieces_of k ++ (piece.Call (place k) ∷ (z ++ piece.Called ∷ []))) (term_more (place k + 2) ts t)
+        ∙ last_two (pieces_of k) (piece.Call (place k)) (term_pieces (place k + 2) ts) (piece.Argument (part n t)) piece.Called)
+      (goal_within (argument w ts) k (length f) (omega (arith, part_end (opened k) (goal_words (argument w ts)) p)))
+      (All-cons (IsBehind (length f)) (piece.Argument (part n t)) (piece.Called ∷ [])
+        (omega (arith, tail_longer p d, part_end (opened k) (goal_words (argument w ts)) p, length-append (opened k) (goal_words (argument w ts))))
+        (All-cons (IsBehind (length f)) piece.Called [] tt (nothing_behind (length f))))
+  where
+    last_two : (a : List Piece) (c : Piece) (b : List Piece) (x y : Piece) → a ++ (c ∷ ((b ++ x ∷ []) ++ y ∷ [])) ≡ (a ++ (c ∷ b)) ++ x ∷ y ∷ []
+    last_two a c b x y = simp append_assoc
+begun_part (variable w us) p d k h b o =
+    let f = opened k ++ (goal_words (variable w us) ++ p) in
+    let t = p ++ tail d in
+    let q = ended ends_variable p d refl b in
+    let all : Words = codes "all" ∷ [] in
+    let u : Use = (t, all) in
+    let s = assigned w (us ++ u ∷ []) in
+    let n = place k + 2 + length (before (codes ",") (use_texts us)) in
+    let x = piece.Value (part (n + length t + 1) all) in
+    let g = goes_on k s 2 f (tail d ++ codes "<-" ∷ codes "all" ∷ codes "]" ∷ []) o
+      (h.0, pushed_some us u, All-push IsUse us u h.1 (record { variable = q; value = one_word ends_term refl })) (omega arith) (tight k s o (λ n. refl))
+      (ap (λ z. opened k ++ (w ∷ codes "[" ∷ (z ++ codes "]" ∷ []))) (ap (parted (codes ",")) (uses_more us u) ∙ parted_more (codes ",") (use_texts us) (use_text u))
+        ∙ variable_words (opened k) w (codes "[") (before (codes ",") (use_texts us)) p (tail d) (codes "<-") (codes "all" ∷ []) (codes "]" ∷ [])) in
+    make k s f (pieces_of k ++ goal_pieces (place k) (variable w us)) (piece.Variable (part n t) ∷ x ∷ []) g
+      (ap (λ z. pieces_of k ++ (piece.Label (place k) ∷ z)) (use_more (place k + 2) us u n refl)
+        ∙ sym (append_assoc (pieces_of k) (piece.Label (place k) ∷ use_pieces (place k + 2) us) (piece.Variable (part n t) ∷ x ∷ [])))
+      (goal_within (variable w us) k (length f) (omega (arith, part_end (opened k) (goal_words (variable w us)) p)))
+      (All-cons (IsBehind (length f)) (piece.Variable (part n t)) (x ∷ [])
+        (omega (arith, tail_longer p d, part_end (opened k) (goal_words (variable w us)) p, length-append (opened k) (goal_words (variable w us))))
+        (All-cons (IsBehind (length f)) x []
+          (omega (arith, tail_longer p d, part_end (opened k) (goal_words (variable w us)) p, length-append (opened k) (goal_words (variable w us))))
+          (nothing_behind (length f))))
+begun_part (value w us x) p d k h b o =
+    let f = opened k ++ (goal_words (value w us x) ++ p) in
+    let t = p ++ tail d in
+    let q = ended ends_term p d refl b in
+    let u : Use = (x, t) in
+    let s = assigned w (us ++ u ∷ []) in
+    let n = place k + 2 + length (before (codes ",") (use_texts us)) in
+    let y = piece.Value (part (n + length x + 1) t) in
+    let g = goes_on k s 2 f (tail d ++ codes "]" ∷ []) o
+      (h.0, pushed_some us u, All-push IsUse us u h.1 (record { variable = h.2; value = q })) (omega arith) (tight k s o (λ n. refl))
+      (ap (λ z. opened k ++ (w ∷ codes "[" ∷ (z ++ codes "]" ∷ []))) (ap (parted (codes ",")) (uses_more us u) ∙ parted_more (codes ",") (use_texts us) (use_text u))
+        ∙ value_words (opened k) w (codes "[") (before (codes ",") (use_texts us)) x (codes "<-") p (tail d) (codes "]" ∷ [])) in
+    make k s f (pieces_of k ++ goal_pieces (place k) (value w us x)) (y ∷ []) g
+      (ap (λ z. pieces_of k ++ (piece.Label (place k) ∷ z)) (use_more (place k + 2) us u n refl
+          ∙ sym (append_assoc (use_pieces (place k + 2) us) (piece.Variable (part n x) ∷ []) (y ∷ [])))
+        ∙ sym (append_assoc (pieces_of k) (piece.Label (place k) ∷ (use_pieces (place k + 2) us ++ piece.Variable (part n x) ∷ [])) (y ∷ [])))
+      (goal_within (value w us x) k (length f) (omega (arith, part_end (opened k) (goal_words (value w us x)) p)))
+      (All-cons (IsBehind (length f)) y []
+        (omega (arith, tail_longer p d, part_end (opened k) (goal_words (value w us x)) p, length-append (opened k) (goal_words (value w us x)),
+          value_length (before (codes ",") (use_texts us)) x (codes "<-")))
+        (nothing_behind (length f)))
+begun_part (pattern w) p d k h b o =
+    let f = opened k ++ (goal_words (pattern w) ++ p) in
+    let t = p ++ tail d in
+    let q = ended ends_test p d refl b in
+    let s = tested w t None in
+    let g = goes_on k s 2 f (tail d) o (h.0, q, tt) (omega arith) (tight k s o (wide s k h.1)) (pattern_words (opened k) w p (tail d)) in
+    make k s f (pieces_of k ++ goal_pieces (place k) (pattern w)) (piece.Pattern (part (place k + 1) t) ∷ []) g
+      (sym (append_assoc (pieces_of k) (piece.Test (place k) ∷ []) (piece.Pattern (part (place k + 1) t) ∷ [])))
+      (goal_within (pattern w) k (length f) (omega (arith, part_end (opened k) (w ∷ []) p)))
+      (All-cons (IsBehind (length f)) (piece.Pattern (part (place k + 1) t)) []
+        (omega (arith, tail_longer p d, part_end (opened k) (w ∷ []) p, length-append (opened k) (w ∷ []))) (nothing_behind (length f)))
+begun_part (fragment w p c cs) q d k h b o =
+    let f = opened k ++ (goal_words (fragment w p c cs) ++ q) in
+    let t = q ++ tail d in
+    let part_t = ended ends_fragment q d refl b in
+    let s = tested w p (Some (c, cs ++ t ∷ [])) in
+    let m = place k + 1 + length p + length c in
+    let x = piece.Fragment (part (m + length (before (codes "/\\") cs)) t) in
+    let g = goes_on k s 2 f (tail d) o
+      (h.0, h.2, record { sign = h.3; some = pushed_some cs t; fragments = All-push (IsPart ends_fragment) cs t h.4 part_t })
+      (omega arith) (tight k s o (wide s k h.1))
+      (ap (λ z. opened k ++ (w ∷ (p ++ (c ++ z)))) (parted_more (codes "/\\") cs t) ∙ fragment_words (opened k) w p c (before (codes "/\\") cs) q (tail d)) in
+    make k s f (pieces_of k ++ goal_pieces (place k) (fragment w p c cs)) (x ∷ []) g
+      (ap (λ z. pieces_of k ++ (piece.Test (place k) ∷ piece.Pattern (part (place k + 1) p) ∷ z)) (fragment_more m cs t)
+        ∙ sym (append_assoc (pieces_of k) (goal_pieces (place k) (fragment w p c cs)) (x ∷ [])))
+      (goal_within (fragment w p c cs) k (length f) (omega (arith, part_end (opened k) (goal_words (fragment w p c cs)) q)))
+      (All-cons (IsBehind (length f)) x []
+        (omega (arith, tail_longer q d, part_end (opened k) (goal_words (fragment w p c cs)) q, length-append (opened k) (goal_words (fragment w p c cs)),
+          fragment_length w p c (before (codes "/\\") cs)))
+        (nothing_behind (length f)))
+
+part_before : (g : Goal) (p : Words) (d : ℕ) (k : Frames) → IsGoal g k → IsBegun (ends g) p d → AreOpen k
+    → ArePiecesBefore (opened k ++ (goal_words g ++ p)) (flush_part g p d k)
+part_before g [] d k h b o = begun_part g [] d k h b o
+part_before g (v ∷ p) zero k h b o = ended_part g v p k h b o
+part_before g (v ∷ p) (suc d) k h b o = begun_part g (v ∷ p) (suc d) k h b o
+
+such_before : (w : Word) (p : Words) (v : Word) (k : Frames) → beginning w ≡ of_test → is_narrow k ≡ false → IsPart ends_test p → v ≡ codes "such" → AreOpen k
+    → ArePiecesBefore (opened k ++ w ∷ (p ++ v ∷ [])) (flushed (such_of w p v k))
+such_before w p v k h free q e o =
+    let f = opened k ++ w ∷ (p ++ v ∷ []) in
+    let all : Words = codes "all" ∷ [] in
+    let s = tested w p (Some (v ∷ codes "that" ∷ [], all ∷ [])) in
+    let x = piece.Fragment (part (place k + 1 + length p + 2) all) in
+    let l : length f ≡ place k + 1 + length p + 1 = length-append (opened k) (w ∷ (p ++ v ∷ [])) ∙ (ap (λ n. place k + suc n) (one_longer p v) ∙ omega arith) in
+    let g = goes_on k s 2 f (codes "that" ∷ codes "all" ∷ []) o
+      (h, q, record {
+        sign = inr (ap (λ z. z ∷ codes "that" ∷ []) e);
+        some = λ x. cc;
+        fragments = All-cons (IsPart ends_fragment) all [] (one_word ends_fragment refl) (All-nil (IsPart ends_fragment));
+      })
+      (omega arith) (tight k s o (wide s k free)) (such_words (opened k) w p v (codes "that" ∷ codes "all" ∷ [])) in
+    make k s f (flushed (such_of w p v k)) (x ∷ []) g
+      (sym (append_assoc (pieces_of k) (piece.Test (place k) ∷ piece.Pattern (part (place k + 1) p) ∷ []) (x ∷ [])))
+      (All-append (IsWhole (length f)) (pieces_of k) (piece.Test (place k) ∷ piece.Pattern (part (place k + 1) p) ∷ []) (frames_within k (length f) (omega (arith, l)))
+        (All-cons (IsWhole (length f)) (piece.Test (place k)) (piece.Pattern (part (place k + 1) p) ∷ []) (omega (arith, l))
+        (All-cons (IsWhole (length f)) (piece.Pattern (part (place k + 1) p)) [] (omega (arith, l)) (All-nil (IsWhole (length f))))))
+      (All-cons (IsBehind (length f)) x [] (omega (arith, l)) (nothing_behind (length f)))
+
+pub pieces_before : (f : Words) (x : State) → Stands f x → ArePiecesBefore f (flushed x)
+pieces_before f (operand k) h =
+    let all = plain (codes "all") in
+    subst (λ z. ArePiecesBefore z (pieces_of k)) h.words
+      (make k all (opened k) (pieces_of k) (piece.Plain (place k) ∷ [])
+        (goes_on k all 2 (opened k) (codes "all" ∷ []) h.right stands_by_itself (omega arith) (tight k all h.right (λ n. is_rule)) refl) refl
+        (frames_within k (place k) (omega arith))
+        (All-cons (IsBehind (place k)) (piece.Plain (place k)) [] (omega arith) (nothing_behind (place k))))
+pieces_before f (named w k) h =
+    let l = one_longer (opened k) w in
+    subst (λ z. ArePiecesBefore z (behind_it (plain w) k)) h.words
+      (make k (plain w) (opened k ++ w ∷ []) (behind_it (plain w) k) []
+        (goes_on k (plain w) 2 (opened k ++ w ∷ []) [] h.right.1 (names_alone (beginning w) h.right.0) (omega arith)
+          (tight k (plain w) h.right.1 (λ n. names_rule (beginning w) h.right.0)) (sym (append-nil (opened k ++ w ∷ []))))
+        (sym (append-nil (behind_it (plain w) k)))
+        (All-push (IsWhole (length (opened k ++ w ∷ []))) (pieces_of k) (piece.Plain (place k)) (frames_within k (length (opened k ++ w ∷ [])) (omega (arith, l))) (omega (arith, l)))
+        (nothing_behind (length (opened k ++ w ∷ []))))
+pieces_before f (done s k) h =
+    let l = length-append (opened k) (text s) in
+    subst (λ z. ArePiecesBefore z (behind_it s k)) h.words
+      (make k s (opened k ++ text s) (behind_it s k) []
+        (goes_on k s 2 (opened k ++ text s) [] h.right.3 h.right.0 (omega arith) (tight k s h.right.3 h.right.2) (sym (append-nil (opened k ++ text s))))
+        (sym (append-nil (behind_it s k)))
+        (All-append (IsWhole (length (opened k ++ text s))) (pieces_of k) (pieces (place k) s) (frames_within k (length (opened k ++ text s)) (omega (arith, l)))
+          (pieces_within s (place k) (length (opened k ++ text s)) (omega (arith, l))))
+        (nothing_behind (length (opened k ++ text s))))
+pieces_before f (reading g p d k) h = subst (λ z. ArePiecesBefore z (flush_part g p d k)) h.words (part_before g p d k h.right.0 h.right.1 h.right.2)
+pieces_before f (such_of w p v k) h =
+    subst (λ z. ArePiecesBefore z (flushed (such_of w p v k))) h.words (such_before w p v k h.right.0 h.right.1 h.right.2 h.right.3 h.right.4)

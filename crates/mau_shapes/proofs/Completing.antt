@@ -84,11 +84,11 @@ complete (answered f g ∷ k) s n ws more o h le a e =
 
 -- ---- parts that are begun are ended
 
-pub closers : ℕ → Words
+unfoldable pub closers : ℕ → Words
 closers zero = []
 closers (suc d) = codes ")" ∷ closers d
 
-pub tail : ℕ → Words
+unfoldable pub tail : ℕ → Words
 tail d = codes "all" ∷ closers d
 
 of_all_role : role (codes "all") ≡ no_role
