@@ -47,7 +47,7 @@ answered ws l = elim (led_or_stuck ws (operand [])) [
 -- ---- one answer
 
 -- the words before a front are one
-front_before : (ws : Words) (i j : ℕ) → i ≤ j → IsFront (take j ws) → IsFront (take i ws)
+pub front_before : (ws : Words) (i j : ℕ) → i ≤ j → IsFront (take j ws) → IsFront (take i ws)
 front_before ws i j le f =
     let t : take i (take j ws) ≡ take i ws = take-take i j ws le in
     let r : take i (take j ws) ++ drop i (take j ws) ≡ take j ws = take-append-drop i (take j ws) in

@@ -460,10 +460,10 @@ end_image (value w us x) m v p k = value_image (role v) m w us x p k
 end_image (pattern w) m v p k = pattern_image (role v) m v w p k
 end_image (fragment w p c cs) m v q k = fragment_image (role v) m v w p c cs q k
 
-same_place : (g : Goal) (k : Frames) → nat_eq (goal_from g k) (goal_to g [] k) ≡ true
+pub same_place : (g : Goal) (k : Frames) → nat_eq (goal_from g k) (goal_to g [] k) ≡ true
 same_place g k = eq-eqb (goal_from g k) (goal_to g [] k) (ap (λ z. length (opened k ++ z)) (sym (append-nil (goal_words g))))
 
-other_place : (g : Goal) (w : Word) (p : Words) (k : Frames) → nat_eq (goal_from g k) (goal_to g (w ∷ p) k) ≡ false
+pub other_place : (g : Goal) (w : Word) (p : Words) (k : Frames) → nat_eq (goal_from g k) (goal_to g (w ∷ p) k) ≡ false
 other_place g w p k = ne_eqb (goal_from g k) (goal_to g (w ∷ p) k) (λ e. omega (arith, e, part_end (opened k) (goal_words g) (w ∷ p)))
 
 some_image : (g : Goal) (m : Mode) (v : Word) (p : Words) (k : Frames)

@@ -276,14 +276,14 @@ pub is_whole : (ws : Words) (x : State) (s : Shape) → run ws (operand []) ≡ 
 is_whole ws x s h q = finish_stands ws x s (stands_behind ws x h) q
 
 -- a word that leads nowhere
+pub no_front : (ws : Words) (i : ℕ) (x : State) → i < length ws → run (take i ws) (operand []) ≡ Some x → step (get_or ws i []) x ≡ None → IsFront (take (i + 1) ws) → ⊥
+no_front ws i x l h q f =
+    goes (take (i + 1) ws) f.more f.shape f.reads
+    (ap (λ z. run z (operand [])) (take_more ws i [] l) ∙ (run_more (take i ws) (get_or ws i [] ∷ []) (operand [])
+    ∙ (ap (λ o. go_on o (run (get_or ws i [] ∷ []))) h ∙ ap (λ o. go_on o (run [])) q)))
+
 pub leads_nowhere : (ws : Words) (i : ℕ) (x : State) → i < length ws → run (take i ws) (operand []) ≡ Some x → step (get_or ws i []) x ≡ None → IsUnexpected ws i
-leads_nowhere ws i x l h q = record {
-  there = l;
-  front = front_of (take i ws) x (stands_behind (take i ws) x h);
-  fault = inl (λ f. goes (take (i + 1) ws) f.more f.shape f.reads
-      (ap (λ z. run z (operand [])) (take_more ws i [] l) ∙ (run_more (take i ws) (get_or ws i [] ∷ []) (operand [])
-      ∙ (ap (λ o. go_on o (run (get_or ws i [] ∷ []))) h ∙ ap (λ o. go_on o (run [])) q))));
-}
+leads_nowhere ws i x l h q = record { there = l; front = front_of (take i ws) x (stands_behind (take i ws) x h); fault = inl (no_front ws i x l h q) }
 
 led : (ws : Words) (i : ℕ) (x : State) → run ws (operand []) ≡ Some x → IsFront (take i ws)
 led ws i x h =

@@ -1,12 +1,13 @@
 -- The code's reader behind some words of a text.
-use Rattle.std.proofs.Common.{◌≡◌, ℕ, ◌+◌, ◌-◌, ◌≤◌, ◌<◌, List, [], ◌∷◌, length, take, get_or, Bool, true, false, Option, Some, None, refl, sym, ap, ◌∙◌, subst, arith}
-use Rattle.std.proofs.lemmas.List.{take_more, length-take-le}
+use Rattle.std.proofs.Common.{◌≡◌, ℕ, ◌+◌, ◌-◌, ◌≤◌, ◌<◌, List, [], ◌∷◌, length, take, drop, get_or, Bool, true, false, inl, inr, Option, Some, None, refl, sym, ap, ◌∙◌, subst, arith}
+use Rattle.std.proofs.lemmas.List.{take_more, take-append-drop, length-take-le}
 use Rattle.mau_shapes.specs.Words.{Word, Words}
-use Rattle.mau_shapes.specs.Front.{IsUnexpected}
+use Rattle.mau_shapes.specs.Front.{IsFront, IsUnexpected}
+use Rattle.mau_shapes.specs.Before.{IsLongestFront, ArePiecesBefore}
 use Rattle.mau_shapes.specs.Pieces.{pieces}
 use Rattle.mau_shapes.specs.Reading.{ArePiecesOf}
 use Rattle.mau_shapes.specs.Reader.{State, operand, step, go_on, run, finish}
-use Rattle.mau_shapes.specs.Machine.{next, steps_by, finished}
+use Rattle.mau_shapes.specs.Machine.{next, steps_by, finished, flushed}
 use Rattle.mau_shapes.specs.declared.pieces.Piece.{Piece}
 use Rattle.mau_shapes.specs.declared.frames.Frame.{Frame}
 use Rattle.mau_shapes.specs.declared.reader.Mode.{Mode}
@@ -14,7 +15,10 @@ use Rattle.mau_shapes.specs.declared.reader.Mode.TheVariants as mode
 use Rattle.mau_shapes.specs.declared.reader.Reader.{Reader}
 use Rattle.mau_shapes.proofs.Running.{run_more}
 use Rattle.mau_shapes.proofs.Standing.{state_words}
-use Rattle.mau_shapes.proofs.Completing.{stands_behind, is_whole, leads_nowhere, ends_early}
+use Rattle.mau_shapes.proofs.Completing.{stands_behind, front_of, no_front, is_whole, leads_nowhere, ends_early}
+use Rattle.mau_shapes.proofs.Answering.{front_before}
+use Rattle.mau_shapes.proofs.Before as before
+use Rattle.mau_shapes.proofs.Before.{pieces_before, flushed_image}
 use Rattle.mau_shapes.proofs.Coding.{code, image, step_image, pieces_in, finish_image}
 
 -- it is behind the first i words
@@ -115,3 +119,54 @@ pub early_at : (ws : Words) (i n : ℕ) (r : Reader) (o : Option (List Piece)) �
 early_at ws i n r o h e m l f q =
     let l' : 0 < length ws = omega (arith, m, l) in
     subst (λ j. IsUnexpected ws (j - 1)) (sym m) (led_early ws r l' (subst (λ j. Led ws j r) e h) (ap (λ j. finished j r) (sym m) ∙ (f ∙ q)))
+
+-- ---- beginnings
+
+pub word_stuck : (ws : Words) (i : ℕ) (r q : Reader) (w : Word) (b : Bool) → Led ws i r → i < length ws → w ≡ get_or ws i [] → b ≡ false
+    → next w i r ≡ steps_by b q → IsFront (take (i + 1) ws) → ⊥
+word_stuck ws i r q w b h l e t s f =
+    let u : image (step (get_or ws i []) h.state) ≡ None = sym (tells ws i r h l) ∙ (ap (λ z. next z i r) (sym e) ∙ (s ∙ ap (λ b. steps_by b q) t)) in
+    (elim (step (get_or ws i []) h.state) as (λ o. step (get_or ws i []) h.state ≡ o → image o ≡ None → ⊥) [
+      | None ↦ λ n u. no_front ws i h.state l h.leads n f
+      | Some y ↦ λ n u. (let n : ◌≡◌ {A = Option Reader} (Some (code y)) None = u in cc)
+    ]) refl u
+
+pub front_at : (ws : Words) (i : ℕ) (r : Reader) → Led ws i r → IsFront (take i ws)
+front_at ws i r h = front_of (take i ws) h.state (stands_behind (take i ws) h.state h.leads)
+
+take_all : (ws : Words) → take (length ws) ws ≡ ws
+take_all [] = refl
+take_all (w ∷ ws) = ap (λ z. w ∷ z) (take_all ws)
+
+pub stuck_front : (ws : Words) (i : ℕ) (r q : Reader) (w : Word) (b : Bool) → Led ws i r → i < length ws → w ≡ get_or ws i [] → b ≡ false
+    → next w i r ≡ steps_by b q → IsLongestFront ws (take i ws)
+stuck_front ws i r q w b h l e t s =
+    let n : length (take i ws) ≡ i = length-take-le i ws (omega (arith, l)) in
+    record {
+      front = front_at ws i r h;
+      more = drop i ws;
+      begins = sym (take-append-drop i ws);
+      longest = inr (λ f. word_stuck ws i r q w b h l e t s (subst (λ j. IsFront (take (j + 1) ws)) n f));
+    }
+
+pub whole_front : (ws : Words) (i n : ℕ) (r : Reader) → Led ws i r → i ≡ length ws → n ≡ length ws → IsLongestFront ws (take n ws)
+whole_front ws i n r h e m =
+    let s : i ≡ n = e ∙ sym m in
+    record {
+      front = subst (λ j. IsFront (take j ws)) s (front_at ws i r h);
+      more = drop n ws;
+      begins = sym (take-append-drop n ws);
+      longest = inl (ap (λ j. take j ws) m ∙ take_all ws);
+    }
+
+pub never_stuck : (ws : Words) (i n : ℕ) (r q : Reader) (w : Word) (b : Bool) → Led ws i r → i < n → n ≤ length ws → IsFront (take n ws) → w ≡ get_or ws i [] → b ≡ false
+    → next w i r ≡ steps_by b q → ⊥
+never_stuck ws i n r q w b h l le f e t s =
+    word_stuck ws i r q w b h (omega (arith, l, le)) e t s (front_before ws (i + 1) n (omega (arith, l)) f)
+
+pub first_pieces : (ws : Words) (i n : ℕ) (r : Reader) (ps : List Piece) → Led ws i r → i ≡ n → n ≤ length ws → flushed n r ≡ ps → ArePiecesBefore (take n ws) ps
+first_pieces ws i n r ps h e le q =
+    let g : Led ws n r = subst (λ j. Led ws j r) e h in
+    let m : length (state_words g.state) ≡ n = at_place ws n g.state le g.leads in
+    let f : ps ≡ before.flushed g.state = sym q ∙ (ap (flushed n) g.same ∙ (ap (λ j. flushed j (code g.state)) (sym m) ∙ flushed_image g.state)) in
+    subst (ArePiecesBefore (take n ws)) (sym f) (pieces_before (take n ws) g.state (stands_behind (take n ws) g.state g.leads))

@@ -1,4 +1,4 @@
--- The pieces that stand in a text before its first fault. Nothing gives them yet.
+-- The pieces that stand in a text before its first fault.
 use Rattle.std.specs.Prelude.{◌≡◌, ◌⊎◌, ℕ, ◌+◌, ◌≤◌, ◌<◌, List, ◌++◌, length, take, All}
 use Rattle.mau_shapes.specs.Words.{Words}
 use Rattle.mau_shapes.specs.Shape.{Shape, IsTextOf}
@@ -51,3 +51,9 @@ pub record ArePiecesBefore (f : Words) (ps : List Piece) : Type 0 where
   pub split : pieces 0 shape ≡ ps ++ rest
   pub whole : All (IsWhole (length f)) ps
   pub behind : All (IsBehind (length f)) rest
+
+-- the pieces of a text before the first word with which no strategy goes on; all, where there is no such word
+pub record AreFirstPieces (ws : Words) (ps : List Piece) : Type 0 where
+  pub front : Words
+  pub longest : IsLongestFront ws front
+  pub before : ArePiecesBefore front ps

@@ -9,11 +9,11 @@ pub mod Front
 -- the pieces of a shape, and what reading gives
 pub mod Pieces
 pub mod Reading
+-- the pieces before a fault
+pub mod Before
 -- the laws
 pub mod Laws
 -- What only inner contracts and proofs cite: shapes found word by word.
 pub mod Reader
 -- the reader of the code
 pub mod Machine
--- a draft: the pieces before a fault
-pub mod Before

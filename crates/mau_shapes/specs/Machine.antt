@@ -201,3 +201,14 @@ finished_in mode.Such n r = None
 
 abbrev pub finished : ℕ → Reader → Option (List Piece)
 finished n r = finished_in r.mode n r
+
+-- ---- where the words end in the middle of a text, at the place n: the name or the part at hand is a piece
+
+abbrev pub flushed_in : Mode → ℕ → Reader → List Piece
+flushed_in (mode.Named j b) n r = r.pieces ++ piece.Plain j ∷ []
+flushed_in (mode.Reading k s d) n r =
+    if nat_eq d 0 && not (nat_eq s n) then r.pieces ++ part_piece k (record { start = s; end = n }) ∷ [] else r.pieces
+flushed_in _ n r = r.pieces
+
+abbrev pub flushed : ℕ → Reader → List Piece
+flushed n r = flushed_in r.mode n r

@@ -3,6 +3,7 @@
 
 mod fault;
 mod frames;
+mod fronts;
 pub mod laws;
 mod pieces;
 mod reader;
@@ -11,5 +12,6 @@ mod text;
 mod words;
 
 pub use fault::ShapeFault;
+pub use fronts::pieces_before;
 pub use pieces::{Part, Piece, Pieces};
 pub use shape::read_shape;

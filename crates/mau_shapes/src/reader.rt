@@ -418,4 +418,30 @@ impl Reader {
             _ => Ok(None),
         }
     }
+
+    /// The pieces where the words end in the middle of a text, at this place: the name or the part at hand is one.
+    pub fn flush(self, end: usize) -> Result<Pieces, NoMemory>
+        ensures { IfOk result (λ pieces. Machine.flushed end self ≡ pieces) }
+    {
+        let Reader {
+            mode,
+            frames: _frames,
+            mut pieces,
+        } = self;
+        match mode {
+            Mode::Named(place, _) => {
+                pieces.push(Piece::Plain(place))?;
+                Ok(pieces)
+            }
+            Mode::Reading(kind, start, depth) => {
+                if depth == 0 && start != end {
+                    pieces.push(part_piece(kind, Part { start, end }))?;
+                    Ok(pieces)
+                } else {
+                    Ok(pieces)
+                }
+            }
+            _ => Ok(pieces),
+        }
+    }
 }
