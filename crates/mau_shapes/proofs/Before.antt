@@ -1,17 +1,17 @@
 -- The pieces that stand before a fault: those that are whole, and a strategy that begins so.
-use Rattle.std.proofs.Common.{◌≡◌, ℕ, zero, suc, ◌+◌, ◌-◌, ◌≤◌, ◌<◌, List, [], ◌∷◌, ◌++◌, length, Bool, true, false, not, ◌&&◌, ◌⊎◌, inl, inr, Option, Some, None, refl, sym, ap, ◌∙◌, subst, arith, append_assoc, append-nil, length-append, All}
+use Rattle.std.proofs.Common.{◌≡◌, ℕ, zero, suc, ◌+◌, ◌≤◌, ◌<◌, List, [], ◌∷◌, ◌++◌, length, false, not, ◌&&◌, inl, inr, Option, Some, None, refl, sym, ap, ◌∙◌, subst, arith, append_assoc, append-nil, length-append, All}
 use Rattle.std.proofs.lemmas.List.Elements.{All-nil, All-cons, All-append, All-push}
 use Rattle.std.specs.Prelude.{codes, nat_eq, if◌then◌else◌}
 use Rattle.std.proofs.lemmas.Bool.{and_right, ne_eqb}
-use Rattle.mau_shapes.specs.Words.{Word, Words, of_test, beginning, names, role, joint, ends_test, ends_fragment, ends_variable, ends_term}
-use Rattle.mau_shapes.specs.Shape.{SuchThat, Use, Shape, plain, assigned, called, wrapped, within, tested, marked, joined, chosen, each, parted, use_text, use_texts, such_text, text, IsPart, IsUse, IsSuch, Fits, IsTextOf}
+use Rattle.mau_shapes.specs.Words.{Word, Words, of_test, beginning, joint, ends_test, ends_fragment, ends_variable, ends_term}
+use Rattle.mau_shapes.specs.Shape.{SuchThat, Use, Shape, plain, assigned, called, wrapped, within, tested, marked, joined, chosen, each, parted, use_text, use_texts, such_text, text, IsPart, IsUse, Fits, IsTextOf}
 use Rattle.mau_shapes.specs.Pieces.{part, term_pieces, fragment_pieces, use_pieces, such_pieces, pieces}
 use Rattle.mau_shapes.specs.Before.{IsWhole, IsBehind, ArePiecesBefore}
 use Rattle.mau_shapes.specs.Reader.{bracket, wrapper, top_wrapper, left, asked, answered, Frames, Goal, argument, variable, value, pattern, fragment, State, operand, named, done, reading, such_of, ends, is_narrow}
 use Rattle.mau_shapes.specs.declared.pieces.Piece.{Piece}
 use Rattle.mau_shapes.specs.declared.pieces.Piece.TheVariants as piece
 use Rattle.mau_shapes.proofs.Tables.{known_as}
-use Rattle.mau_shapes.proofs.Standing.{opened, AreOpen, looser, regroup, regroup_two, before, parted_more, uses_more, IsBegun, part_of, IsGoal, goal_words, MayStand, state_words, Stands}
+use Rattle.mau_shapes.proofs.Standing.{opened, AreOpen, looser, regroup, regroup_two, before, parted_more, uses_more, IsBegun, part_of, IsGoal, goal_words, state_words, Stands}
 use Rattle.mau_shapes.proofs.Stepping.{wide, pushed_some, names_alone, names_rule, in_brackets, in_two, end_words}
 use Rattle.mau_shapes.proofs.Completing.{MayBe, tight, admitted, stands_by_itself, is_rule, more_words, asked_words, tail, ended, one_word, argument_words, variable_words, value_words, pattern_words, fragment_words, such_words}
 use Rattle.mau_shapes.specs.Machine as machine

@@ -5,7 +5,7 @@ use Rattle.mau_shapes.specs.Shape.{Shape, IsTextOf}
 use Rattle.mau_shapes.specs.Front.{IsFront}
 use Rattle.mau_shapes.specs.Pieces.{pieces}
 use Rattle.mau_shapes.specs.declared.pieces.Piece.{Piece}
-use Rattle.mau_shapes.specs.declared.pieces.Piece.TheVariants.{Plain, Label, Variable, Value, Call, Argument, Called, Test, Pattern, Fragment, Wrapper, Wrapped, Marked, Joined, Chosen}
+use Rattle.mau_shapes.specs.declared.pieces.Piece.TheVariants.{Plain, Label, Variable, Value, Call, Argument, Test, Pattern, Fragment, Wrapper}
 
 -- f are the words of the text before the first with which no strategy goes on; all of them, where there is no such word
 pub record IsLongestFront (ws f : Words) : Type 0 where

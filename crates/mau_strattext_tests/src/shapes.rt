@@ -1,5 +1,5 @@
 //! Texts of strategies, their pieces, and the first word at fault.
-use mau_shapes::{Part, Piece, Pieces, ShapeFault, read_shape};
+use mau_shapes::{Part, Piece, Pieces, ShapeFault, pieces_before, read_shape};
 use mau_tokens::tokens;
 use std::alloc::Global;
 use std::process::Abort;
@@ -239,6 +239,34 @@ const FAULTS: [(&str, usize); 26] = [
     ("matchrew a by X using b", 0),
 ];
 
+/// Each text with a fault, and the pieces before it.
+const BEFORE: [Row; 7] = [
+    ("foo )", &[Piece::Plain(0)]),
+    ("( foo [ ]", &[Piece::Label(1)]),
+    (
+        "f ( a b ]",
+        &[Piece::Call(0), Piece::Argument(Part { start: 2, end: 4 })],
+    ),
+    (
+        "f ( a , b",
+        &[
+            Piece::Call(0),
+            Piece::Argument(Part { start: 2, end: 3 }),
+            Piece::Argument(Part { start: 4, end: 5 }),
+        ],
+    ),
+    ("top ( a ; b )", &[Piece::Wrapper(0), Piece::Plain(2)]),
+    ("match ( a", &[Piece::Test(0)]),
+    (
+        "a ? match b c",
+        &[
+            Piece::Plain(0),
+            Piece::Test(2),
+            Piece::Pattern(Part { start: 3, end: 5 }),
+        ],
+    ),
+];
+
 /// What the text is read as.
 fn read(rt: &impl Abort, alloc: Global, text: &str) -> Result<Result<Pieces, ShapeFault>, Fail> {
     assert!(rt; text.len() <= 16777216);
@@ -274,6 +302,19 @@ fn the_first_word_at_fault_is_named(rt: HostRuntime) -> Result<(), Fail> {
         match read(&rt, rt.alloc(), text)? {
             Ok(_) => assert!(rt; false, "{text}"),
             Err(fault) => assert!(rt; fault == ShapeFault::Unexpected(place), "{text}"),
+        }
+    }
+    Ok(())
+}
+
+#[test]
+fn pieces_stand_before_a_fault(rt: HostRuntime) -> Result<(), Fail> {
+    for (text, wanted) in BEFORE {
+        assert!(rt; text.len() <= 16777216);
+        let found = tokens(rt.alloc(), text.as_bytes())?;
+        match pieces_before(rt.alloc(), text, &found) {
+            Ok(pieces) => assert!(rt; pieces.items() == wanted, "{text}"),
+            Err(_) => assert!(rt; false, "{text}"),
         }
     }
     Ok(())

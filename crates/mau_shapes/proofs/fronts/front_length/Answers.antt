@@ -15,7 +15,7 @@ returns-in-Ok-false-clause-front c =
     let m : length ws ≡ length c.args.tokens.now = length-map c.args.tokens.now (text_of c.args.text.now) in
     let l : c.loop-place.place < length ws = omega (arith, m) in
     stuck_front ws c.loop-place.place c.loop-place.reader c.step.new.self c.word_at.result.now c.in-Ok-false.field-0 c.loop-place.invariant l c.word_at.ensures
-      c.in-Ok-false.field-0-test c.in-Ok-false.ensures
+    c.in-Ok-false.field-0-test c.in-Ok-false.ensures
 
 pub loop-place-preserved : goal.loop-place-preserved
 loop-place-preserved c =
@@ -23,7 +23,7 @@ loop-place-preserved c =
     let m : length ws ≡ length c.args.tokens.now = length-map c.args.tokens.now (text_of c.args.text.now) in
     let l : c.loop-place.place < length ws = omega (arith, m) in
     word_more ws c.loop-place.place c.loop-place.reader c.step.new.self c.word_at.result.now c.in-Ok-true.field-0 c.loop-place.invariant l c.word_at.ensures
-      c.in-Ok-true.field-0-test c.in-Ok-true.ensures
+    c.in-Ok-true.field-0-test c.in-Ok-true.ensures
 
 pub returns-clause-front : goal.returns-clause-front
 returns-clause-front c =

@@ -1,4 +1,4 @@
-use Rattle.std.proofs.Common.{◌≡◌, ◌<◌, ◌≤◌, length, sym, arith}
+use Rattle.std.proofs.Common.{◌≡◌, ◌<◌, ◌≤◌, length, arith}
 use Rattle.std.proofs.lemmas.List.{length-map}
 use Rattle.mau_tokens.specs.Laws.{text_of}
 use Rattle.mau_shapes.specs.Reading.{words_of}
@@ -16,7 +16,7 @@ unreachable-requires c =
     let l : c.loop-place.place < c.args.count = omega (arith, m) in
     let le : c.args.count ≤ length ws = omega (arith, m) in
     never_stuck ws c.loop-place.place c.args.count c.loop-place.reader c.step.new.self c.word_at.result.now c.in-Ok-false.field-0 c.loop-place.invariant l le
-      c.requires.front c.word_at.ensures c.in-Ok-false.field-0-test c.in-Ok-false.ensures
+    c.requires.front c.word_at.ensures c.in-Ok-false.field-0-test c.in-Ok-false.ensures
 
 pub loop-place-preserved : goal.loop-place-preserved
 loop-place-preserved c =
@@ -24,7 +24,7 @@ loop-place-preserved c =
     let m : length ws ≡ length c.args.tokens.now = length-map c.args.tokens.now (text_of c.args.text.now) in
     let l : c.loop-place.place < length ws = omega (arith, m) in
     word_more ws c.loop-place.place c.loop-place.reader c.step.new.self c.word_at.result.now c.in-Ok-true.field-0 c.loop-place.invariant l c.word_at.ensures
-      c.in-Ok-true.field-0-test c.in-Ok-true.ensures
+    c.in-Ok-true.field-0-test c.in-Ok-true.ensures
 
 pub returns-in-Ok : goal.returns-in-Ok
 returns-in-Ok c =
