@@ -206,6 +206,10 @@ module _ {A C S : Type 0} (w : Words A C S) (nodes : List Node) (table : Table) 
   leaf_told (evaluating t0) n j t es h = begun_runs w.rules nodes table t0 (w.tree t.0) es h
   leaf_told (solving d i σ) n j t es h = absurd h
 
+  pub rested_told : (J : Job) (n : ℕ) (t : TermId) (es : List Event) → TellsTask w nodes table J (Next.Eval n t) es → TellsTask w nodes table J (Next.Value t) es
+  rested_told (evaluating t0) n t es h = begun_runs w.rules nodes table t0 (w.tree t.0) es h
+  rested_told (solving d i σ) n t es h = absurd h
+
   pub skipped_told : (J : Job) (a : Arguments) (n : ℕ) (es : List Event) → TellsTask w nodes table J (Next.Evaluating a) es → TellsTask w nodes table J (Next.Evaluating (record a { next = n })) es
   skipped_told (evaluating t0) a n es h = h
   skipped_told (solving d i σ) a n es h = absurd h

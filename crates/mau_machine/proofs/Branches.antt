@@ -94,6 +94,10 @@ module _ (R : Rules) where
   leaf next k (numeral n) h b = refl
   leaf next k (apply f ts) h b = absurd h
 
+  -- a term that is its own value
+  pub rested : (k : ℕ) (t : Tree) → ((b : ℕ) → eval_on R k t b ≡ done t 0 b) → (r b : ℕ) → capped (as_value (counted r (eval_on R k t b))) ≡ capped (done (gave t) r b)
+  rested k t e r b = ap (λ o. capped (as_value (counted r o))) (e b) ∙ ap (λ n. capped (done (gave t) n b)) (zero_more r)
+
   -- a numeral or a variable
   pub opened_leaf : (k : ℕ) → (k ≡ 0 → ⊥) → (t : Tree) → norm P.sign.theory t ≡ t → IsWithin P.sign.theory t → IsLeaf t → (r b : ℕ) →
       capped (as_value (counted r (eval_on R k t b))) ≡ capped (as_value (counted r (from_built R (k - 1) false t b)))

@@ -61,7 +61,7 @@ pub fn step<W: World, T: StepWatcher>(
     }
 }
 
-/// A term is taken apart.
+/// A term is taken apart, unless it is known to be its own value.
 fn open<W: World>(
     world: &W,
     store: &Store,
@@ -81,6 +81,9 @@ fn open<W: World>(
 {
     if level == 0 {
         return Err(EvalEnd::TooDeep);
+    }
+    if world.rests(store, term, level) {
+        return Ok(Control::Value(term));
     }
     match world.arguments(store, term) {
         Ok(Some((op, args, order))) => Ok(Control::Evaluating(Arguments {

@@ -91,6 +91,15 @@ pub trait World {
     /// The second state comes of the first one by calls.
     ghost grows: { Self → List Node → Self → List Node → Type 0 };
 
+    /// Whether it is known that a term is its own value by so many levels, and that no application and no condition leads to it. `false`
+    /// says nothing.
+    fn rests(&self, store: &Store, term: TermId, level: u32) -> bool
+        requires ready { ready self.now store.now }
+        requires term { (words self.now store.now).knows_term term.0 }
+        ensures value { result ≡ true → (b : ℕ) → eval_on (words self.now store.now).rules level ((words self.now store.now).tree term.0) b
+            ≡ done ((words self.now store.now).tree term.0) 0 b }
+        ensures known { result ≡ true → (words self.now store.now).knows_value term.0 };
+
     /// The operator, the arguments, and the places of those that are evaluated; `None` for a numeral or a variable.
     fn arguments(
         &self,

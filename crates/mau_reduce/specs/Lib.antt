@@ -14,6 +14,8 @@ pub mod Bindings
 pub mod Contexts
 -- tables of sorts
 pub mod Tables
+-- left sides without axioms
+pub mod Compiled
 -- equations that are tried
 pub mod Trying
 -- what is built in of an operator

@@ -12,10 +12,12 @@ ghost use Rattle.mau_sorts.specs.Table.{KeepsEntries};
 ghost use Rattle.mau_listing.specs.Asked.{HasEntry};
 ghost use Rattle.mau_evaluation.specs.Run.{done, or_go_on, try_on, gives};
 ghost use Rattle.mau_evaluation.specs.Evaluation.{levels, applied, solve};
+ghost use Rattle.mau_trial.specs.Tried.{HoldsAtEach};
 ghost use Rattle.mau_api.specs.Terms.{IsTerm};
 ghost use Rattle.mau_api.specs.Programs.{program_over};
 ghost use Rattle.mau_api.specs.Answers.{AreSettled};
 ghost use Rattle.mau_reduce.specs.Reducible.{IsReducible};
+ghost use Rattle.mau_reduce.specs.Compiled.{IsCompiled};
 ghost use Rattle.mau_reduce.specs.Bindings.{bound_in, AreValues};
 ghost use Rattle.mau_reduce.specs.Ends.{IsEnd};
 ghost use Rattle.mau_reduce.specs.Tables.{IsPlainTable};
@@ -32,6 +34,7 @@ use crate::{Binding, BuiltIn, Given, Natives};
 use mau_api::{EvalEnd, Lister, Program};
 use mau_sorts::SortTable;
 use mau_store::Store;
+use mau_syntactic::Pattern;
 use mau_terms::{NoMemory, TermId};
 use std::alloc::Global;
 
@@ -78,6 +81,7 @@ fn next_equation<L: Lister + Drop>(
     program: &Program,
     table: &mut SortTable,
     order: &[usize],
+    patterns: &[Option<Pattern>],
     term: TermId,
     attempts: &mut Attempts<L>,
 ) -> Result<Option<(usize, Binding)>, NoMemory>
@@ -85,6 +89,7 @@ fn next_equation<L: Lister + Drop>(
     requires reducible { IsReducible program.now }
     requires order { All (λ i. i < length program.now.equations) order.now }
     requires executable { All (IsExecutable program.now) order.now }
+    requires patterns { HoldsAtEach (IsCompiled program.now.sig) program.now.equations patterns.now }
     requires term { IsTerm program.now.sig store.old term.0 }
     requires settled { AreSettled program.now.sig store.old table.old (tree_at store.old term.0) }
     requires plain { IsPlainTable program.now.sig store.old table.old }
@@ -114,6 +119,7 @@ fn next_equation<L: Lister + Drop>(
         program,
         table,
         order,
+        patterns,
         term,
         &mut attempts.next,
         &mut attempts.tried,
@@ -154,6 +160,7 @@ pub fn next_attempt<L: Lister + Drop>(
     program: &Program,
     table: &mut SortTable,
     order: &[usize],
+    patterns: &[Option<Pattern>],
     term: TermId,
     attempts: &mut Attempts<L>,
 ) -> Result<Option<(usize, Binding)>, EvalEnd>
@@ -161,6 +168,7 @@ pub fn next_attempt<L: Lister + Drop>(
     requires reducible { IsReducible program.now }
     requires order { All (λ i. i < length program.now.equations) order.now }
     requires executable { All (IsExecutable program.now) order.now }
+    requires patterns { HoldsAtEach (IsCompiled program.now.sig) program.now.equations patterns.now }
     requires term { IsTerm program.now.sig store.old term.0 }
     requires settled { AreSettled program.now.sig store.old table.old (tree_at store.old term.0) }
     requires plain { IsPlainTable program.now.sig store.old table.old }
@@ -188,7 +196,7 @@ pub fn next_attempt<L: Lister + Drop>(
 {
     match attempts.given {
         Given::Nothing => {
-            match next_equation(store, program, table, order, term, attempts) {
+            match next_equation(store, program, table, order, patterns, term, attempts) {
                 Ok(Some((number, binding))) => Ok(Some((number, binding))),
                 Ok(None) => Ok(None),
                 Err(NoMemory) => Err(EvalEnd::NoMemory),

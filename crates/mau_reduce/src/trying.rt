@@ -1,5 +1,5 @@
 //! The candidates of one equation, one after another.
-ghost use Rattle.std.specs.Prelude.{◌≡◌, ℕ, List, [], true, Option, Some, None, IfOk, IfSome, IfNone, OnOk, IsSome, All, drop, length, ◌<◌};
+ghost use Rattle.std.specs.Prelude.{◌≡◌, ℕ, List, [], true, Option, Some, None, IfOk, IfSome, IfNone, OnOk, IsSome, All, drop, length, slice_get, ◌<◌};
 ghost use Rattle.std.specs.Option.{option_map};
 ghost use Rattle.mau_terms.specs.Bare.{IsBare};
 ghost use Rattle.mau_terms.specs.View.{tree_of};
@@ -10,16 +10,19 @@ ghost use Rattle.mau_store.specs.Trees.{tree_at};
 ghost use Rattle.mau_sorts.specs.Table.{KeepsEntries};
 ghost use Rattle.mau_listing.specs.Asked.{asks, last_after, CanGoOn};
 ghost use Rattle.mau_evaluation.specs.Run.{done, or_go_on, first_of};
+ghost use Rattle.mau_trial.specs.Tried.{HoldsAtEach};
 ghost use Rattle.mau_api.specs.Terms.{IsTerm};
 ghost use Rattle.mau_api.specs.Programs.{program_over, equation_of};
 ghost use Rattle.mau_api.specs.Answers.{AreSettled};
 ghost use Rattle.mau_reduce.specs.Reducible.{IsReducible};
+ghost use Rattle.mau_reduce.specs.Compiled.{IsCompiled};
 ghost use Rattle.mau_reduce.specs.Tables.{IsPlainTable};
 ghost use Rattle.mau_reduce.specs.Trying.{solution_in, solutions_behind, applied_by, candidate_gives, left_of_number, number_gives, applied_number, left_of_all, left_by, IsCandidate, IsExecutable, IsTried, IsFound};
 
 use mau_api::{Equation, Lister, Program, Solution};
 use mau_sorts::SortTable;
 use mau_store::Store;
+use mau_syntactic::Pattern;
 use mau_terms::{NoMemory, TermId};
 
 /// An equation, by its number, and a listing of its left side.
@@ -73,8 +76,51 @@ pub(crate) fn next_candidate<L: Lister>(
     listing.next(store, &program.sig, table)
 }
 
-/// Begins with an equation: its first candidate, if it has one.
-fn first_candidate<L: Lister + Drop>(
+/// Begins with an equation whose left side has no axioms: its one candidate, if it has one.
+fn first_match<L: Lister + Drop>(
+    store: &Store,
+    program: &Program,
+    table: &SortTable,
+    number: usize,
+    term: TermId,
+    pattern: &Pattern,
+) -> Result<Option<(Tried<L>, Solution)>, NoMemory>
+    requires contexts { L.with_context ≡ true }
+    requires reducible { IsReducible program.now }
+    requires number { number < length program.now.equations }
+    requires executable { IsExecutable program.now number }
+    requires pattern { IfSome (slice_get program.now.equations number) (λ e. IsCompiled program.now.sig e (Some pattern.now)) }
+    requires term { IsTerm program.now.sig store.now term.0 }
+    requires settled { AreSettled program.now.sig store.now table.now (tree_at store.now term.0) }
+    requires plain { IsPlainTable program.now.sig store.now table.now }
+    ensures none { (hooks : List Operator) (B k b : ℕ) → IfOk result (λ o. IfNone o (left_of_number (program_over program.now hooks) B k (tree_at store.now term.0) number None b ≡ done None 0 b)) }
+    ensures some { (hooks : List Operator) (B k b : ℕ) → IfOk result (λ o. IfSome o (λ x. left_of_number (program_over program.now hooks) B k (tree_at store.now term.0) number None b
+        ≡ or_go_on (left_of_number (program_over program.now hooks) B k (tree_at store.now term.0) number (Some (solution_in store.now x.1)))
+        (number_gives (program_over program.now hooks) B k (tree_at store.now term.0) number (solution_in store.now x.1) b))) }
+    ensures number { IfOk result (λ o. IfSome o (λ x. x.0.number ≡ number)) }
+    ensures given { IfOk result (λ o. IfSome o (λ x. L.given x.0.listing ≡ Some x.1)) }
+    ensures tried { IfOk result (λ o. IfSome o (λ x. IsTried L.with_context program.now store.now table.now term number (L.asked x.0.listing) (L.given x.0.listing) (L.is_for x.0.listing program.now.sig))) }
+    ensures found { IfOk result (λ o. IfSome o (λ x. IsFound program.now store.now (tree_at store.now term.0) number x.1)) }
+{
+    let equation = &program.equations.items()[number];
+    match pattern.solution(store, &program.sig, table, term)? {
+        Some(solution) => {
+            let listing = L::resume(
+                store.allocator(),
+                &program.sig,
+                &equation.left,
+                &[],
+                term,
+                &solution,
+            )?;
+            Ok(Some((Tried { number, listing }, solution)))
+        }
+        None => Ok(None),
+    }
+}
+
+/// Begins with an equation by a listing: its first candidate, if it has one.
+fn first_listed<L: Lister + Drop>(
     store: &mut Store,
     program: &Program,
     table: &mut SortTable,
@@ -105,6 +151,47 @@ fn first_candidate<L: Lister + Drop>(
     match next_candidate(store, program, table, equation, term, &mut listing)? {
         Some(solution) => Ok(Some((Tried { number, listing }, solution))),
         None => Ok(None),
+    }
+}
+
+/// Begins with an equation: its first candidate, if it has one.
+fn first_candidate<L: Lister + Drop>(
+    store: &mut Store,
+    program: &Program,
+    table: &mut SortTable,
+    patterns: &[Option<Pattern>],
+    number: usize,
+    term: TermId,
+) -> Result<Option<(Tried<L>, Solution)>, NoMemory>
+    requires contexts { L.with_context ≡ true }
+    requires reducible { IsReducible program.now }
+    requires number { number < length program.now.equations }
+    requires executable { IsExecutable program.now number }
+    requires patterns { HoldsAtEach (IsCompiled program.now.sig) program.now.equations patterns.now }
+    requires term { IsTerm program.now.sig store.old term.0 }
+    requires settled { AreSettled program.now.sig store.old table.old (tree_at store.old term.0) }
+    requires plain { IsPlainTable program.now.sig store.old table.old }
+    ensures none { (hooks : List Operator) (B k b : ℕ) → IfOk result (λ o. IfNone o (left_of_number (program_over program.now hooks) B k (tree_at store.old term.0) number None b ≡ done None 0 b)) }
+    ensures some { (hooks : List Operator) (B k b : ℕ) → IfOk result (λ o. IfSome o (λ x. left_of_number (program_over program.now hooks) B k (tree_at store.old term.0) number None b
+        ≡ or_go_on (left_of_number (program_over program.now hooks) B k (tree_at store.old term.0) number (Some (solution_in store.new x.1)))
+        (number_gives (program_over program.now hooks) B k (tree_at store.old term.0) number (solution_in store.new x.1) b))) }
+    ensures number { IfOk result (λ o. IfSome o (λ x. x.0.number ≡ number)) }
+    ensures given { IfOk result (λ o. IfSome o (λ x. L.given x.0.listing ≡ Some x.1)) }
+    ensures tried { IfOk result (λ o. IfSome o (λ x. IsTried L.with_context program.now store.new table.new term number (L.asked x.0.listing) (L.given x.0.listing) (L.is_for x.0.listing program.now.sig))) }
+    ensures found { IfOk result (λ o. IfSome o (λ x. IsFound program.now store.new (tree_at store.old term.0) number x.1)) }
+    ensures plain { IsPlainTable program.now.sig store.new table.new }
+    ensures kept { KeepsEntries table.old table.new }
+    ensures extends { Extends store.old store.new }
+{
+    match &patterns[number] {
+        Some(pattern) => {
+            let found = first_match::<L>(store, program, table, number, term, pattern)?;
+            Ok(found)
+        }
+        None => {
+            let found = first_listed::<L>(store, program, table, number, term)?;
+            Ok(found)
+        }
     }
 }
 
@@ -147,6 +234,7 @@ fn first_among<L: Lister + Drop>(
     program: &Program,
     table: &mut SortTable,
     order: &[usize],
+    patterns: &[Option<Pattern>],
     term: TermId,
     next: &mut usize,
 ) -> Result<Option<(Tried<L>, Solution)>, NoMemory>
@@ -154,6 +242,7 @@ fn first_among<L: Lister + Drop>(
     requires reducible { IsReducible program.now }
     requires order { All (λ i. i < length program.now.equations) order.now }
     requires executable { All (IsExecutable program.now) order.now }
+    requires patterns { HoldsAtEach (IsCompiled program.now.sig) program.now.equations patterns.now }
     requires term { IsTerm program.now.sig store.old term.0 }
     requires settled { AreSettled program.now.sig store.old table.old (tree_at store.old term.0) }
     requires plain { IsPlainTable program.now.sig store.old table.old }
@@ -171,7 +260,7 @@ fn first_among<L: Lister + Drop>(
     while *next < order.len() {
         let number = order[*next];
         *next += 1;
-        match first_candidate::<L>(store, program, table, number, term)? {
+        match first_candidate::<L>(store, program, table, patterns, number, term)? {
             Some(found) => return Ok(Some(found)),
             None => {}
         }
@@ -224,6 +313,7 @@ fn begin_next<L: Lister + Drop>(
     program: &Program,
     table: &mut SortTable,
     order: &[usize],
+    patterns: &[Option<Pattern>],
     term: TermId,
     next: &mut usize,
     tried: &mut Option<Tried<L>>,
@@ -232,6 +322,7 @@ fn begin_next<L: Lister + Drop>(
     requires reducible { IsReducible program.now }
     requires order { All (λ i. i < length program.now.equations) order.now }
     requires executable { All (IsExecutable program.now) order.now }
+    requires patterns { HoldsAtEach (IsCompiled program.now.sig) program.now.equations patterns.now }
     requires term { IsTerm program.now.sig store.old term.0 }
     requires settled { AreSettled program.now.sig store.old table.old (tree_at store.old term.0) }
     requires plain { IsPlainTable program.now.sig store.old table.old }
@@ -246,7 +337,7 @@ fn begin_next<L: Lister + Drop>(
     ensures kept { KeepsEntries table.old table.new }
     ensures extends { Extends store.old store.new }
 {
-    match first_among::<L>(store, program, table, order, term, next)? {
+    match first_among::<L>(store, program, table, order, patterns, term, next)? {
         Some((begun, solution)) => {
             let number = begun.number;
             *tried = Some(begun);
@@ -262,6 +353,7 @@ pub(crate) fn next_found<L: Lister + Drop>(
     program: &Program,
     table: &mut SortTable,
     order: &[usize],
+    patterns: &[Option<Pattern>],
     term: TermId,
     next: &mut usize,
     tried: &mut Option<Tried<L>>,
@@ -270,6 +362,7 @@ pub(crate) fn next_found<L: Lister + Drop>(
     requires reducible { IsReducible program.now }
     requires order { All (λ i. i < length program.now.equations) order.now }
     requires executable { All (IsExecutable program.now) order.now }
+    requires patterns { HoldsAtEach (IsCompiled program.now.sig) program.now.equations patterns.now }
     requires term { IsTerm program.now.sig store.old term.0 }
     requires settled { AreSettled program.now.sig store.old table.old (tree_at store.old term.0) }
     requires plain { IsPlainTable program.now.sig store.old table.old }
@@ -289,6 +382,6 @@ pub(crate) fn next_found<L: Lister + Drop>(
 {
     match go_on_tried(store, program, table, term, tried)? {
         Some(found) => Ok(Some(found)),
-        None => begin_next(store, program, table, order, term, next, tried),
+        None => begin_next(store, program, table, order, patterns, term, next, tried),
     }
 }

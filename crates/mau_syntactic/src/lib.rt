@@ -7,6 +7,7 @@ mod free;
 pub mod laws;
 mod part;
 mod pattern;
+mod solving;
 mod step;
 mod template;
 

@@ -7,7 +7,7 @@ use Rattle.mau_api.specs.Programs.{program_over, equation_of}
 use Rattle.mau_api.proofs.Started.{can_start}
 use Rattle.mau_reduce.specs.Trying.{solution_in, left_of_number, IsCandidate}
 use Rattle.mau_reduce.proofs.Numbered.{at_index, exec_at, equation_there, in_equations, none_of_number, one_of_number}
-use Rattle.mau_reduce.proofs.trying.first_candidate.Goals as goal
+use Rattle.mau_reduce.proofs.trying.first_listed.Goals as goal
 
 pub next_candidate-requires-clause-left : goal.next_candidate-requires-clause-left
 next_candidate-requires-clause-left g c =
