@@ -22,7 +22,6 @@ use Rattle.mau_evaluation.specs.Listing.{same_tree, Solution, solutions, solutio
 use Rattle.mau_evaluation.specs.Evaluation.{Binding, extend, has_number, Level, levels, have_sorts, solve, any, joined, holds_for, by_membership, sorts_in, size, sizes, binding_of, replaced, apply_for, try_equation, by_equations, by_answer, applied, order_of, settle, at, put, put_value, in_places, go_from, at_top, on_normal, rounds, admitted, within_limits, admit, depth_limit, count_up, names_all, is_none, top_changed_by, top_changed, solve_at}
 use Rattle.mau_evaluation.specs.Laws.{IsNo}
 use Rattle.mau_evaluation.specs.Irreducible.{IsUnconditional, ValuesStay}
-use Rattle.mau_evaluation.specs.Kept.{IsLeaf}
 use Rattle.mau_evaluation.proofs.Invert.{not_done, same_value, some_is_not_none, counted_done, went}
 use Rattle.mau_evaluation.proofs.Places.{names_itself, Good, each_good, in_places_good}
 use Rattle.mau_evaluation.proofs.Stay.{stays_one, having_sorts_stays}
@@ -216,76 +215,6 @@ module _ (th : ℕ → Theory) where
           (itself (arrange (th f).comm (list_of ts)) n.1.ordered)
           (ap (λ z. not (is_none is) && (not (names_all (count_up 0 (list_of ts)) is) && not z)) (itself (list_of ts) refl) ∙ false_and (not (is_none is)) (not (names_all (count_up 0 (list_of ts)) is)))
 
--- ---- arguments that are their own values, and a term over them
-
-module _ (P : Program) (B k : ℕ) where
-  abbrev lower : Level
-  lower = levels P B k
-
-  abbrev own : Tree → Run (List ℕ)
-  own = (levels P B (suc k)).sorts
-
-  in_places_stay : (ts : List Tree) (is : List ℕ) → ((j : ℕ) → has_number is j ≡ true → (v : Tree) → at ts j ≡ Some v → (b : ℕ) → lower.eval v b ≡ done v 0 b) → (b : ℕ) → in_places P lower own is ts b ≡ done ts 0 b
-  in_places_stay ts [] h b = refl
-  in_places_stay ts (i ∷ is) h b =
-      step_to (put_value P lower own lower.eval ts i (at ts i)) (in_places P lower own is) b ts ts (one (at ts i) refl) (in_places_stay ts is (λ j q. h j (or_right (i == j) (has_number is j) q)) b)
-    where
-      or_right : (x y : Bool) → y ≡ true → (x || y) ≡ true
-      or_right true y e = refl
-      or_right false y e = e
-
-      put_same : (us : List Tree) (n : ℕ) (v : Tree) → at us n ≡ Some v → put us n v ≡ us
-      put_same [] n v e = refl
-      put_same (t ∷ us) zero v e = ap (λ w. w ∷ us) (sym (ap (got t) e))
-        where
-          got : Tree → Option Tree → Tree
-          got t None = t
-          got t (Some w) = w
-      put_same (t ∷ us) (suc n) v e = ap (λ w. t ∷ w) (put_same us n v e)
-
-      here : has_number (i ∷ is) i ≡ true
-      here = ap (λ z. z || has_number is i) (eq-eqb i i refl)
-
-      one : (o : Option Tree) → at ts i ≡ o → put_value P lower own lower.eval ts i o b ≡ done ts 0 b
-      one None e = refl
-      one (Some v) e = step_to (lower.eval v) (λ w. gives (put ts i w)) b v ts (h i here v e b) (ap (λ w. done w 0 b) (put_same ts i v e))
-
-  -- a normal form at whose top nothing applies, where its sorts are known
-  module _ (t : Tree) (normal : IsNormal P.sign.theory t) (shallow : depth t ≤ depth_limit) (small : holds_overflow P.sign.theory t ≡ false) (b : ℕ) (ss : List ℕ) (settles : settle P lower own t b ≡ done ss 0 b)
-      (none : applied P lower own t b ≡ done None 0 b) where
-    top_rests : (next : Tree → Run Tree) → at_top P lower own next t b ≡ done t 0 b
-    top_rests next =
-        step_to (settle P lower own t) (λ us. and_then (applied P lower own t) λ o. go_from P lower own next t o) b ss t settles
-        (step_to (applied P lower own t) (λ o. go_from P lower own next t o) b None t none refl)
-
-    fitting : within_limits P.sign.theory t b ≡ done t 0 b
-    fitting = ap₂ (λ x y. admitted x y t b) (le-ltb depth_limit (depth t) shallow) small
-
-    round_rests : (n : ℕ) → ((next : Tree → Run Tree) → on_normal P lower own next t b ≡ done t 0 b) → rounds P lower own n t b ≡ done t 0 b
-    round_rests zero on = step_to (admit P.sign.theory t) (on_normal P lower own (λ u. ends stopped)) b t t (ap (λ w. within_limits P.sign.theory w b) (normal_fixed P.sign.theory t normal) ∙ fitting) (on (λ u. ends stopped))
-    round_rests (suc m) on = step_to (admit P.sign.theory t) (on_normal P lower own (rounds P lower own m)) b t t (ap (λ w. within_limits P.sign.theory w b) (normal_fixed P.sign.theory t normal) ∙ fitting) (on (rounds P lower own m))
-
-  -- it is its own value, where it has no arguments
-  pub leaf_rests : (t : Tree) → IsLeaf t → IsNormal P.sign.theory t → depth t ≤ depth_limit → holds_overflow P.sign.theory t ≡ false → (b : ℕ) (ss : List ℕ) → settle P lower own t b ≡ done ss 0 b →
-      applied P lower own t b ≡ done None 0 b → (levels P B (suc k)).eval t b ≡ done t 0 b
-  leaf_rests (variable i s) q n d o b ss h g = round_rests (variable i s) n d o b ss h g b (top_rests (variable i s) n d o b ss h g)
-  leaf_rests (numeral m) q n d o b ss h g = round_rests (numeral m) n d o b ss h g b (top_rests (numeral m) n d o b ss h g)
-  leaf_rests (apply q ts) h n d o b ss e g = absurd h
-
-  -- or where its arguments are their own values by k levels
-  pub node_rests : (q : ℕ) (ts : Trees) → IsNormal P.sign.theory (apply q ts) → depth (apply q ts) ≤ depth_limit → holds_overflow P.sign.theory (apply q ts) ≡ false →
-      ((P.sign.theory q).assoc ≡ true → nat_lt (length (list_of ts)) 2 ≡ false) → ((j : ℕ) (v : Tree) → at (list_of ts) j ≡ Some v → (c : ℕ) → lower.eval v c ≡ done v 0 c) →
-      (b : ℕ) (ss : List ℕ) → settle P lower own (apply q ts) b ≡ done ss 0 b → applied P lower own (apply q ts) b ≡ done None 0 b → (levels P B (suc k)).eval (apply q ts) b ≡ done (apply q ts) 0 b
-  node_rests q ts n d o long g b ss h none =
-      round_rests (apply q ts) n d o b ss h none b λ next.
-      let is = order_of P q (list_of ts) in
-      let t = apply q ts in
-      step_to (in_places P lower own is (list_of ts)) (λ us. and_then (within_limits P.sign.theory (build (P.sign.theory q) q us)) λ w. choose (top_changed (P.sign.theory q) is q us w) (lower.eval w) (at_top P lower own next w)) b (list_of ts) t
-      (in_places_stay (list_of ts) is (λ j i v e. g j v e) b)
-      (step_to (within_limits P.sign.theory (build (P.sign.theory q) q (list_of ts))) (λ w. choose (top_changed (P.sign.theory q) is q (list_of ts) w) (lower.eval w) (at_top P lower own next w)) b t t
-      (ap (λ w. within_limits P.sign.theory w b) (built_again P.sign.theory q ts n) ∙ fitting t n d o b ss h none)
-      (ap (λ z. choose z (lower.eval t) (at_top P lower own next t) b) (not_changed P.sign.theory q ts is n long) ∙ top_rests t n d o b ss h none next))
-
 module _ (P : Program) (lawful : AreLawful P.sign.theory) (plain : IsUnconditional P) where
   no_condition : (l : Level) (σ : Binding) (c : List Fragment) → c ≡ [] → Always (solve P l c σ)
   no_condition l σ c e = subst (λ d. Always (solve P l d σ)) (sym e) (gives_always (Some σ))
@@ -380,6 +309,31 @@ module _ (P : Program) (lawful : AreLawful P.sign.theory) (plain : IsUncondition
         step_to (settle P l f t) (λ ss. and_then (applied P l f t) λ o. go_from P l f next t o) b s.0 t s.1
         (step_to (applied P l f t) (λ o. go_from P l f next t o) b None t (never_applied t h b) refl)
 
+    in_places_stay : (ts : List Tree) (is : List ℕ) → ((j : ℕ) → has_number is j ≡ true → (v : Tree) → at ts j ≡ Some v → (b : ℕ) → l.eval v b ≡ done v 0 b) → (b : ℕ) → in_places P l f is ts b ≡ done ts 0 b
+    in_places_stay ts [] h b = refl
+    in_places_stay ts (i ∷ is) h b =
+        step_to (put_value P l f l.eval ts i (at ts i)) (in_places P l f is) b ts ts (one (at ts i) refl) (in_places_stay ts is (λ j q. h j (or_right (i == j) (has_number is j) q)) b)
+      where
+        or_right : (x y : Bool) → y ≡ true → (x || y) ≡ true
+        or_right true y e = refl
+        or_right false y e = e
+
+        put_same : (us : List Tree) (n : ℕ) (v : Tree) → at us n ≡ Some v → put us n v ≡ us
+        put_same [] n v e = refl
+        put_same (t ∷ us) zero v e = ap (λ w. w ∷ us) (sym (ap (got t) e))
+          where
+            got : Tree → Option Tree → Tree
+            got t None = t
+            got t (Some w) = w
+        put_same (t ∷ us) (suc n) v e = ap (λ w. t ∷ w) (put_same us n v e)
+
+        here : has_number (i ∷ is) i ≡ true
+        here = ap (λ z. z || has_number is i) (eq-eqb i i refl)
+
+        one : (o : Option Tree) → at ts i ≡ o → put_value P l f l.eval ts i o b ≡ done ts 0 b
+        one None e = refl
+        one (Some v) e = step_to (l.eval v) (λ w. gives (put ts i w)) b v ts (h i here v e b) (ap (λ w. done w 0 b) (put_same ts i v e))
+
   -- ---- the value itself
 
   no_trees_at : (j : ℕ) (v : Tree) → at [] j ≡ Some v → ⊥
@@ -407,7 +361,7 @@ module _ (P : Program) (lawful : AreLawful P.sign.theory) (plain : IsUncondition
         let is = order_of P q (list_of ts) in
         let again = built_again P.sign.theory q ts n in
         step_to (in_places P (l B k) (f B k) is (list_of ts)) (λ us. and_then (within_limits P.sign.theory (build (P.sign.theory q) q us)) λ t. choose (top_changed (P.sign.theory q) is q us t) ((l B k).eval t) (at_top P (l B k) (f B k) next t)) b (list_of ts) (apply q ts)
-        (in_places_stay P B k (list_of ts) is g b)
+        (in_places_stay B k (list_of ts) is g b)
         (step_to (within_limits P.sign.theory (build (P.sign.theory q) q (list_of ts))) (λ t. choose (top_changed (P.sign.theory q) is q (list_of ts) t) ((l B k).eval t) (at_top P (l B k) (f B k) next t)) b (apply q ts) (apply q ts)
         (ap (λ w. within_limits P.sign.theory w b) again ∙ admit_stays (apply q ts) n d o b)
         (ap (λ z. choose z ((l B k).eval (apply q ts)) (at_top P (l B k) (f B k) next (apply q ts)) b) (not_changed P.sign.theory q ts is n h.1) ∙ at_top_stays B k next (apply q ts) h.0 b))

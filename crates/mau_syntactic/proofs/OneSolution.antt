@@ -1,5 +1,5 @@
 -- The solution of a pattern, from what matches and what the entries of a table say.
-use Rattle.std.proofs.Common.{◌≡◌, ◌⊎◌, ℕ, List, [], ◌∷◌, Bool, true, false, Option, None, Some, All, Contains, length, suc, map, inl, inr, refl, sym, ap, ◌∙◌, subst, absurd}
+use Rattle.std.proofs.Common.{◌≡◌, ◌⊎◌, ℕ, List, [], ◌∷◌, Bool, true, false, Option, None, Some, All, Contains, length, suc, map, inl, inr, refl, sym, ap, ◌∙◌, subst, arith}
 use Rattle.std.specs.Prelude.{is_some}
 use Rattle.std.specs.Option.{option_map}
 use Rattle.std.proofs.lemmas.List.Elements.{All-nil, All-cons, All-head, All-tail}
@@ -88,10 +88,10 @@ module _ (s : SignatureOf) (lawful : IsLawful (terms_over s)) (nodes : List Node
   -- ---- none
 
   pub none_matches : ((vs : List Tree) → IsMatch p t vs → ⊥) → (known : Known) → Next known None
-  none_matches no known = λ x is behind. no x.values (matched (BySort s known) x is)
+  none_matches refuses known = λ x is behind. refuses x.values (matched (BySort s known) x is)
 
   pub none_on_top : (f : ℕ) → top_of p ≡ Some f → (top_of t ≡ Some f → ⊥) → (known : Known) → Next known None
-  none_on_top f e no = none_matches (λ vs m. no (top_same p t vs m f e))
+  none_on_top f e refuses = none_matches (λ vs m. refuses (top_same p t vs m f e))
 
   module _ (vs : List TermId) (there : AreOf nodes (numbers vs)) (m : IsMatch p t (trees_at nodes (numbers vs))) where
     -- ---- the values are settled
@@ -160,17 +160,28 @@ module _ (s : SignatureOf) (lawful : IsLawful (terms_over s)) (nodes : List Node
     no_values b i h = absurd (none_there i)
       where
         none_there : Contains [] b → ⊥
-        none_there i = i.2
+        none_there i = omega (arith, i.1)
+
+    lengths : (us : List TermId) → length (trees_at nodes (numbers us)) ≡ length us
+    lengths [] = refl
+    lengths (u ∷ us) = ap suc (lengths us)
+
+    mapped : (ys : List VarId) → length (map variable_of ys) ≡ length ys
+    mapped [] = refl
+    mapped (y ∷ ys) = ap suc (mapped ys)
 
     module _ (xs : List VarId) (names : map variable_of xs ≡ variables p) where
-      pub none_sorted : (HoldsAtEach Fits xs vs → ⊥) → length vs ≡ length xs → (known : Known) → IsTableOf s known nodes table → Next known None
-      none_sorted no long known is = λ x solves behind.
+      long : length vs ≡ length xs
+      long = sym (lengths vs) ∙ (m.one_each ∙ (sym (ap length names) ∙ mapped xs))
+
+      pub none_sorted : (HoldsAtEach Fits xs vs → ⊥) → (known : Known) → IsTableOf s known nodes table → Next known None
+      none_sorted refuses known is = λ x solves behind.
           let h = (solved s lawful (BySort s known) q free within.normal bare true x).0 solves in
           let same : x.values ≡ values = match_is_one p t x.values values h.2 m in
-          no
+          refuses
           (to_entries known is xs vs long (subst (λ ys. HaveSorts (BySort s known) ys values) (sym names) (subst (HaveSorts (BySort s known) (variables p)) same h.3)) values_settled)
 
-      pub given : HoldsAtEach Fits xs vs → StandWithin (theory_at s) nodes (numbers vs) → IsGiven true s nodes table (asks p [] id) answer
+      given : HoldsAtEach Fits xs vs → StandWithin (theory_at s) nodes (numbers vs) → IsGiven true s nodes table (asks p [] id) answer
       given fit stand = record {
         left = All-nil (StandsWithin (theory_at s) nodes);
         right = All-nil (StandsWithin (theory_at s) nodes);
@@ -182,7 +193,7 @@ module _ (s : SignatureOf) (lawful : IsLawful (terms_over s)) (nodes : List Node
           has : HoldsAtEach Fits xs vs → HaveSorts (HasEntry s nodes table) (variables p) values
           has fit = subst (λ ys. HaveSorts (HasEntry s nodes table) ys values) names (by_entries xs vs there fit)
 
-      pub one : HoldsAtEach Fits xs vs → (known : Known) → IsTableOf s known nodes table → Next known (Some (matcher_in nodes answer))
+      one : HoldsAtEach Fits xs vs → (known : Known) → IsTableOf s known nodes table → Next known (Some (matcher_in nodes answer))
       one fit known is = record {
         is_one =
             (solved s lawful (BySort s known) q free within.normal bare true (matcher_in nodes answer)).1
@@ -192,4 +203,19 @@ module _ (s : SignatureOf) (lawful : IsLawful (terms_over s)) (nodes : List Node
       }
         where
           same : (y : Matcher) → (y.left ≡ []) × (y.right ≡ []) × IsMatch p t y.values × HaveSorts (BySort s known) (variables p) y.values × AgreesWith p [] y.values → matcher_in nodes answer ≡ y
-          same y h = let e : y.values ≡ values = match_is_one p t y.values values h.2 m in cc
+          same y h =
+              let of : List Tree → List Tree → List Tree → Matcher = λ a b c. record { left = a; right = b; values = c } in
+              sym (ap (λ a. of a y.right y.values) h.0 ∙ (ap (λ b. of [] b y.values) h.1 ∙ ap (λ c. of [] [] c) (match_is_one p t y.values values h.2 m)))
+
+      -- the same as the code has it
+      module _ (ls rs ws : List TermId) (no_left : ls ≡ []) (no_right : rs ≡ []) (same : ws ≡ vs) (fit : HoldsAtEach Fits xs vs) where
+        is_answer : (record { left = ls; right = rs; values = ws }) ≡ answer
+        is_answer =
+            let make : List TermId → List TermId → List TermId → Given.Solution = λ a b c. record { left = a; right = b; values = c } in
+            ap (λ a. make a rs ws) no_left ∙ (ap (λ b. make [] b ws) no_right ∙ ap (λ c. make [] [] c) same)
+
+        pub one_next : (known : Known) → IsTableOf s known nodes table → Next known (Some (matcher_in nodes (record { left = ls; right = rs; values = ws })))
+        one_next known is = subst (λ y. Next known (Some (matcher_in nodes y))) (sym is_answer) (one fit known is)
+
+        pub one_given : StandWithin (theory_at s) nodes (numbers vs) → IsGiven true s nodes table (asks p [] id) (record { left = ls; right = rs; values = ws })
+        one_given stand = subst (IsGiven true s nodes table (asks p [] id)) (sym is_answer) (given fit stand)

@@ -1,5 +1,5 @@
 //! Solutions of patterns.
-ghost use Rattle.std.specs.Prelude.{◌≡◌, ◌⊎◌, ℕ, List, [], All, map, true, false, None, IfOk, IfSome, IfNone, IsTrue};
+ghost use Rattle.std.specs.Prelude.{◌≡◌, ◌⊎◌, ◌↔◌, ℕ, List, [], All, map, true, None, Some, IfOk, IfSome, IsTrue};
 ghost use Rattle.std.specs.Option.{option_map};
 ghost use Rattle.mau_terms.specs.Tree.{Tree};
 ghost use Rattle.mau_terms.specs.Bare.{IsBare};
@@ -27,14 +27,14 @@ use mau_store::{NodeView, Store};
 use mau_terms::{NoMemory, OpId, Seq, TermId, VarId};
 use mau_trial::is_for;
 
-/// The operator on top of a term, if it has one.
-fn top(store: &Store, term: TermId) -> Option<OpId>
+/// Whether a term has an operator on top.
+fn has_top(store: &Store, term: TermId, op: OpId) -> bool
     requires { IsOf store.now term.0 }
-    ensures { option_map (λ op. op.0) result ≡ top_of (tree_at store.now term.0) }
+    ensures { IsTrue result ↔ (top_of (tree_at store.now term.0) ≡ Some op.0) }
 {
     match store.view(term) {
-        NodeView::App(op, _) => Some(op),
-        NodeView::Num(_) | NodeView::Var(_) => None,
+        NodeView::App(other, _) => other == op,
+        NodeView::Num(_) | NodeView::Var(_) => false,
     }
 }
 
@@ -83,9 +83,8 @@ impl Pattern {
     {
         is_lawful(sig);
         has_nodes(store);
-        let top_here = top(store, term);
         if let Some(op) = self.top() {
-            if top_here != Some(op) {
+            if !has_top(store, term, op) {
                 return Ok(None);
             }
         }
