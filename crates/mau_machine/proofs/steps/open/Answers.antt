@@ -4,7 +4,7 @@ use Rattle.mau_terms.specs.Tree.{node}
 use Rattle.mau_evaluation.specs.Evaluation.{order_of}
 use Rattle.mau_machine.specs.Words.{trees, IsLeaf}
 use Rattle.mau_machine.proofs.Branches.{opened_leaf, opened}
-use Rattle.mau_machine.proofs.Advance.{opened_told, leaf_told}
+use Rattle.mau_machine.proofs.Advance.{opened_told, leaf_told, rested_told}
 use Rattle.mau_machine.proofs.steps.open.Goals as goal
 
 pub returns-in-Ok-Some-clause-goes : goal.returns-in-Ok-Some-clause-goes
@@ -37,3 +37,8 @@ pub returns-in-Ok-None-clause-told : goal.returns-in-Ok-None-clause-told
 returns-in-Ok-None-clause-told g c =
     let w = (g.W.World.words c.args.world.now c.args.store.now) in
     λ J r n es h. (leaf_told w c.args.store.now (g.W.World.table c.args.world.now) J c.args.level (c.args.level - 1) c.args.term es h.0, h.1)
+
+pub returns-then-rests-clause-told : goal.returns-then-rests-clause-told
+returns-then-rests-clause-told g c =
+    let w = (g.W.World.words c.args.world.now c.args.store.now) in
+    λ J r n es h. (rested_told w c.args.store.now (g.W.World.table c.args.world.now) J c.args.level c.args.term es h.0, h.1)
