@@ -59,7 +59,7 @@ impl Bound {
 
     /// The variables and their values.
     pub fn into_parts(self) -> (Vec<VarId>, Vec<TermId>)
-        ensures pairs { zip result.0.items result.1.items ≡ self.now }
+        ensures pairs { zip result.0.items result.1.items ≡ self }
         ensures one_each { length result.0.items ≡ length result.1.items }
     {
         (self.variables, self.values)

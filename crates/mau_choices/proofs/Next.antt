@@ -1,0 +1,213 @@
+-- The next solution that agrees with a binding, from what a listing gives.
+use Rattle.std.proofs.Common.{◌≡◌, ◌↔◌, ℕ, List, [], ◌∷◌, map, Bool, true, false, ◌&&◌, if◌then◌else◌, Option, Some, None, length, refl, sym, ap, ◌∙◌, subst, zero-add}
+use Rattle.std.specs.Option.{option_map}
+use Rattle.std.proofs.lemmas.Bool.{and_parts}
+use Rattle.std.proofs.lemmas.List.{length-map}
+use Rattle.mau_terms.specs.Tree.{Tree}
+use Rattle.mau_terms.specs.Norm.{norm}
+use Rattle.mau_terms.specs.Bare.{IsBare}
+use Rattle.mau_terms.specs.Reading.{reading}
+use Rattle.mau_terms.specs.Subst.{variables, value_at, instance}
+use Rattle.mau_terms.specs.Solution.{Fits, HaveSorts}
+use Rattle.mau_terms.specs.Laws.{AreNorms}
+use Rattle.mau_terms.specs.Finite.{IsIn}
+use Rattle.mau_terms.specs.declared.theory.Theory.{Theory}
+use Rattle.mau_terms.proofs.Law.{equal_norm}
+use Rattle.mau_terms.proofs.Variables.{distinct}
+use Rattle.mau_signature.specs.Signature.{SignatureOf, theory_at, terms_over}
+use Rattle.mau_signature.specs.OverSignature.{IsTreeOver}
+use Rattle.mau_signature.proofs.OverSignature.{norm_over}
+use Rattle.mau_formula.specs.Operator.{Operator}
+use Rattle.mau_store.specs.Node.{Node}
+use Rattle.mau_sorts.specs.Table.{Table}
+use Rattle.mau_listing.specs.Question.{Question, IsSolution, AgreesWith}
+use Rattle.mau_listing.specs.Matcher.{Matcher}
+use Rattle.mau_listing.specs.Next.{matcher_cmp, IsNext}
+use Rattle.mau_listing.specs.Asked.{BySort}
+use Rattle.mau_program.specs.declared.program.Program as Typed
+use Rattle.mau_evaluation.specs.Run.{Outcome, done, ended, Run, try_on, counted_if, or_go_on, where_true}
+use Rattle.mau_evaluation.specs.Program.{Fragment, Membership, Program}
+use Rattle.mau_evaluation.specs.Listing.{Solution, keep, compare, solutions, solutions_within, IsAscending}
+use Rattle.mau_evaluation.specs.Evaluation.{Binding, levels, look_up, extend, agree, solve}
+use Rattle.mau_evaluation.proofs.BareTerms.{norm-reading-is}
+use Rattle.mau_evaluation.proofs.Inside.{in_list, from_list}
+use Rattle.mau_evaluation.proofs.Listed.{compare_total, from_keep}
+use Rattle.mau_evaluation.proofs.Solved.{kept_ascend, solutions_are_listed}
+use Rattle.mau_api.specs.Programs.{program_over}
+use Rattle.mau_api.specs.Remaining.{as_matcher, IsAccepted, AreLeftOf, first_left, is_whole}
+use Rattle.mau_api.specs.Answers.{AreSettled}
+use Rattle.mau_api.proofs.Remaining.{next_is}
+use Rattle.mau_api.proofs.Bridge.{listed_are_left}
+use Rattle.mau_api.proofs.Wholes.{wholes_are_kept}
+use Rattle.mau_api.proofs.ValuesFit.{IsSettledValue, values_settled}
+use Rattle.mau_reduce.specs.Reducible.{IsReducible}
+use Rattle.mau_reduce.specs.Bindings.{HaveKinds}
+use Rattle.mau_reduce.proofs.Bound.{instance_read}
+use Rattle.mau_reduce.proofs.PlainSorts.{having, having_known, having_exact}
+use Rattle.mau_reduce.proofs.SortKinds.{have_kinds}
+use Rattle.mau_reduce.proofs.Leftover.{head, first_passed, none_passes, one_passes, left_behind}
+use Rattle.mau_reduce.proofs.Candidates.{none_executable, same_option}
+use Rattle.mau_choices.specs.Choosing.{solution_gives, agreeing, left_of_choices, AreApart}
+use Rattle.mau_choices.proofs.Agreeing.{bound_variables, HaveNorms, agrees, agreed, entry_of}
+use Rattle.mau_choices.proofs.Extending.{Suit}
+
+-- a failure counts nothing already
+zero_tried : {A : Type 0} (k : Run (Option A)) (o : Outcome (Option A)) → or_go_on k (counted_if 0 o) ≡ or_go_on k o
+zero_tried k (done (Some x) q b) = ap (λ n. done (Some x) n b) (zero-add q)
+zero_tried k (done None q b) = refl
+zero_tried k (ended e) = refl
+
+kept_twice : {A : Type 0} (f g : A → Bool) (xs : List A) → keep g (keep f xs) ≡ keep (λ x. f x && g x) xs
+kept_twice f g [] = refl
+kept_twice f g (x ∷ xs) = by (f x) (kept_twice f g xs)
+  where
+    by : (w : Bool) → keep g (keep f xs) ≡ keep (λ x. f x && g x) xs →
+        keep g (if w then x ∷ keep f xs else keep f xs) ≡ (if w && g x then x ∷ keep (λ x. f x && g x) xs else keep (λ x. f x && g x) xs)
+    by true e = ap (λ zs. if g x then x ∷ zs else zs) e
+    by false e = e
+
+both_true : (a b : Bool) → a ≡ true → b ≡ true → (a && b) ≡ true
+both_true a b e f = ap (λ w. w && b) e ∙ f
+
+module _ (p : Typed.Program) (red : IsReducible p) (hooks : List Operator) (pat : Tree) (bare_pat : IsBare (terms_over p.sig) pat) (t : Tree) (normal : norm (theory_at p.sig) t ≡ t)
+    (bare : IsBare (terms_over p.sig) (reading (theory_at p.sig) t)) (nodes : List Node) (table : Table) (settled : AreSettled p.sig nodes table t)
+    (σ : Binding) (norms : HaveNorms (theory_at p.sig) σ) (apart : AreApart (bound_variables σ)) where
+  abbrev P : Program
+  P = program_over p hooks
+
+  abbrev s : SignatureOf
+  s = p.sig
+
+  abbrev th : ℕ → Theory
+  th = theory_at p.sig
+
+  abbrev none : (m : Membership) → IsIn m (program_over p hooks).memberships → m.exec ≡ false
+  none = none_executable p red hooks
+
+  abbrev all : List Solution
+  all = solutions (terms_over p.sig) pat t
+
+  abbrev ys : List Solution
+  ys = agreeing P pat σ t
+
+  abbrev agreeable : Solution → Bool
+  agreeable x = agree (theory_at p.sig) σ (variables pat) x.values
+
+  abbrev test : Solution → Bool
+  test x = having P none (variables pat) x.values
+
+  abbrev both : Solution → Bool
+  both x = agreeable x && test x
+
+  abbrev q : Question
+  q = record { pattern = pat; bound = σ; subject = t }
+
+  read : norm th (reading th t) ≡ t
+  read = norm-reading-is th red.lawful.theories t normal
+
+  listed : (x : Solution) → IsIn x all → (x.left ≡ []) × (x.right ≡ []) × AreNorms th x.values × Fits (terms_over s) pat (reading th t) (map (reading th) x.values)
+  listed x i = (solutions_are_listed (terms_over s) red.lawful pat (reading th t) bare).0 x (subst (λ u. IsIn x (solutions (terms_over s) pat u)) (sym read) i)
+
+  pub one_each : (x : Solution) → IsIn x all → length x.values ≡ length (variables pat)
+  one_each x i = sym (length-map x.values (reading th)) ∙ (listed x i).3.one_each
+
+  -- a solution without contexts is one with empty ones
+  within : (x : Solution) → IsIn x all → IsIn x (solutions_within (terms_over s) pat t)
+  within x i =
+      let kept : all ≡ keep is_whole (solutions_within (terms_over s) pat t) =
+      sym (subst (λ u. keep is_whole (solutions_within (terms_over s) pat u) ≡ solutions (terms_over s) pat u) read (wholes_are_kept (terms_over s) red.lawful pat (reading th t) bare)) in
+      (from_keep is_whole x (solutions_within (terms_over s) pat t) (subst (IsIn x) kept i)).0
+
+  value_settled : (x : Solution) → IsIn x all → (v : Tree) → IsIn v x.values → IsSettledValue s nodes table v
+  value_settled x i v j = values_settled s red.lawful nodes table t normal bare settled pat x (within x i) v j
+
+  value_over : (x : Solution) → IsIn x all → (v : Tree) → IsIn v x.values → IsTreeOver s v
+  value_over x i v j =
+      let is = value_settled x i v j in
+      subst (IsTreeOver s) is.normal (norm_over s red.lawful v (subst (λ u. IsBare (terms_over s) (reading th u)) (sym is.normal) is.bare))
+
+  pub value_bare : (x : Solution) → IsIn x all → (v : Tree) → IsIn v x.values → IsBare (terms_over s) (reading th v)
+  value_bare x i v j = (value_settled x i v j).bare
+
+  agrees_with : (x : Solution) → agreeable x ≡ true → AgreesWith pat σ x.values
+  agrees_with x e b i h = agrees th σ apart norms (variables pat) x.values e b (from_list b σ i) h
+
+  agreed_with : (x : Solution) → IsIn x all → AgreesWith pat σ x.values → agreeable x ≡ true
+  agreed_with x i h = agreed th σ apart norms (variables pat) x.values (distinct pat [] tt) (one_each x i) (λ b j e. h b (in_list b σ j) e)
+
+  tells : (x : Solution) → IsIn x all → (both x ≡ true) ↔ IsAccepted s [] q x
+  tells x i =
+      let h = having_exact p hooks red.accepted none (variables pat) x.values (value_over x i) in (
+        (λ e. let k = and_parts (agreeable x) (test x) e in (h.0 k.1, agrees_with x k.0)),
+        (λ a. both_true (agreeable x) (test x) (agreed_with x i a.1) (h.1 a.0)),
+      )
+
+  ascends : IsAscending (compare th pat) ys
+  ascends = kept_ascend th pat agreeable all (subst (λ u. IsAscending (compare th pat) (solutions (terms_over s) pat u)) read (solutions_are_listed (terms_over s) red.lawful pat (reading th t) bare).2)
+
+  abbrev pub Is : Matcher → Type 0
+  Is = IsSolution false p.sig (BySort p.sig []) (record { pattern = pat; bound = σ; subject = t })
+
+  first_of_matchers : (c : Solution → Solution → _) (total : _) (f : Solution → Run (Option Binding)) (g : Solution → Bool) (zs : List Solution) → first_left (map as_matcher zs) ≡ option_map as_matcher (head c total f g zs)
+  first_of_matchers c total f g [] = refl
+  first_of_matchers c total f g (z ∷ zs) = refl
+
+  module _ (B k : ℕ) (c : List Fragment) where
+    abbrev f : Solution → Run (Option Binding)
+    f = solution_gives (program_over p hooks) (levels (program_over p hooks) B k) pat c σ
+
+    -- the next answer is the first solution behind the last one that passes the test
+    next_first : (last o : Option Solution) → IsNext Is (matcher_cmp th pat) (option_map as_matcher last) (option_map as_matcher o) →
+        first_passed (compare th pat) (compare_total th pat) f test last ys ≡ o
+    next_first last o is =
+        let begun = subst (λ zs. AreLeftOf false p.sig [] q None (map as_matcher zs)) (sym (kept_twice agreeable test all)) (listed_are_left false s red.lawful [] q normal bare both tells) in
+        let left = left_behind Is th pat test ys ascends begun last in
+        let first = next_is false s [] q (option_map as_matcher last) _ left (option_map as_matcher o) is in
+        sym (same_option o _ (first ∙ first_of_matchers (compare th pat) (compare_total th pat) f test _))
+
+    after_sorts : Solution → Bool → Run (Option Binding)
+    after_sorts x ok = where_true ok (solve (program_over p hooks) (levels (program_over p hooks) B k) c (extend σ (variables pat) x.values))
+
+    by_test : (x : Solution) (w : Bool) → test x ≡ w → (b : ℕ) → f x b ≡ counted_if 0 (after_sorts x w b)
+    unfolding after_sorts
+    by_test x w h b = ap (try_on (λ ok. where_true ok (solve P (levels P B k) c (extend σ (variables pat) x.values)))) (having_known P none B k (variables pat) x.values b ∙ ap (λ z. done z 0 b) h)
+
+    fails : (x : Solution) → IsIn x ys → test x ≡ false → (b : ℕ) → f x b ≡ done None 0 b
+    unfolding after_sorts
+    fails x i h b = by_test x false h b
+
+    pub none_left : (last : Option Solution) → IsNext Is (matcher_cmp th pat) (option_map as_matcher last) None → (b : ℕ) →
+        left_of_choices P (levels P B k) pat c σ t last b ≡ done None 0 b
+    none_left last is b = none_passes (compare th pat) (compare_total th pat) f test last ys fails (next_first last None is) b
+
+    pub one_left : (last : Option Solution) (x : Solution) → IsNext Is (matcher_cmp th pat) (option_map as_matcher last) (Some (as_matcher x)) → (b : ℕ) →
+        left_of_choices P (levels P B k) pat c σ t last b
+        ≡ or_go_on (left_of_choices P (levels P B k) pat c σ t (Some x)) (solve P (levels P B k) c (extend σ (variables pat) x.values) b)
+    unfolding after_sorts
+    one_left last x is b =
+        let one = one_passes (compare th pat) (compare_total th pat) f test last ys x ascends fails (next_first last (Some x) is) in
+        let m = left_of_choices P (levels P B k) pat c σ t (Some x) in
+        one.rest b ∙ (ap (or_go_on m) (by_test x true one.tested b) ∙ zero_tried m (solve P (levels P B k) c (extend σ (variables pat) x.values) b))
+
+  -- and it is one of the solutions, which agrees, and whose values have their sorts
+  pub is_listed : (last : Option Solution) (x : Solution) → IsNext Is (matcher_cmp th pat) (option_map as_matcher last) (Some (as_matcher x)) →
+      IsIn x all × (agreeable x ≡ true) × HaveSorts (BySort s []) (variables pat) x.values
+  is_listed last x is =
+      let one = one_passes (compare th pat) (compare_total th pat) (f 0 0 []) test last ys x ascends (fails 0 0 []) (next_first 0 0 [] last (Some x) is) in
+      let k = from_keep agreeable x all one.there in
+      (k.0, k.1, (having_exact p hooks red.accepted none (variables pat) x.values (value_over x k.0)).0 one.tested)
+
+  pub values_of_kinds : (x : Solution) → IsIn x all → HaveSorts (BySort s []) (variables pat) x.values → HaveKinds s (variables pat) x.values
+  values_of_kinds x i h =
+      have_kinds s red.accepted red.lawful (variables pat) x.values
+      (λ v j. let z = value_settled x i v j in (z.normal, value_over x i v j, z.bare)) h
+
+  -- the values that are bound are those of the solution
+  pub suits : (x : Solution) → IsIn x all → agreeable x ≡ true → Suit σ (variables pat) x.values
+  suits x i e y h b = sym (agrees th σ apart norms (variables pat) x.values e (y, look_up σ y) (entry_of σ y b) h)
+
+  -- by the values of a solution the pattern has the value
+  pub instance_is : (x : Solution) → IsIn x all → norm th (instance (value_at (variables pat) x.values) pat) ≡ t
+  instance_is x i =
+      let l = listed x i in
+      instance_read s red.lawful (variables pat) x.values l.2 pat ∙ (equal_norm (terms_over s) red.lawful l.3.equal ∙ read)

@@ -1,0 +1,254 @@
+-- The next solution by numbers of a store, and the binding that it gives.
+use Rattle.std.proofs.Common.{◌≡◌, ℕ, List, [], ◌∷◌, map, All, Bool, true, false, inl, inr, Option, Some, None, IfSome, length, refl, sym, ap, ap₂, ◌∙◌, subst}
+use Rattle.std.specs.Option.{option_map}
+use Rattle.std.proofs.lemmas.List.Elements.{All-head, All-tail, All-nil, All-cons}
+use Rattle.mau_terms.specs.Tree.{Tree, variable, numeral, apply, Trees, no_trees, tree}
+use Rattle.mau_terms.specs.Norm.{norm}
+use Rattle.mau_terms.specs.Bare.{IsBare}
+use Rattle.mau_terms.specs.Reading.{reading}
+use Rattle.mau_terms.specs.Subst.{Variable, variables, add_variables, value_at, has_variable, instance, instances, Occurs, OccursIn}
+use Rattle.mau_terms.specs.Solution.{HaveSorts}
+use Rattle.mau_terms.specs.Finite.{IsIn}
+use Rattle.mau_terms.specs.View.{variable_of}
+use Rattle.mau_terms.specs.declared.ids.VarId.{VarId}
+use Rattle.mau_terms.specs.declared.ids.TermId.{TermId}
+use Rattle.mau_terms.proofs.Instances.{has_occurring}
+use Rattle.mau_terms.proofs.Variables.{distinct}
+use Rattle.mau_signature.specs.Signature.{SignatureOf, theory_at, terms_over}
+use Rattle.mau_formula.specs.Operator.{Operator}
+use Rattle.mau_store.specs.Node.{Node, Extends}
+use Rattle.mau_store.specs.Trees.{tree_at, trees_at}
+use Rattle.mau_store.specs.View.{numbers}
+use Rattle.mau_canon.specs.Standing.{StandsWithin, StandWithin}
+use Rattle.mau_sorts.specs.Table.{Table, KeepsEntries}
+use Rattle.mau_listing.specs.Question.{OfNorm, IsWhole, IsSolution}
+use Rattle.mau_listing.specs.Next.{matcher_cmp, IsNext}
+use Rattle.mau_listing.specs.Asked.{Asked, asks, question_in, matcher_in, last_after, BySort, HasEntry, IsGiven}
+use Rattle.mau_listing.specs.declared.solution.Solution as Given
+use Rattle.mau_listing.proofs.Growth.{trees_long}
+use Rattle.mau_program.specs.declared.program.Program as Typed
+use Rattle.mau_evaluation.specs.Run.{done, or_go_on}
+use Rattle.mau_evaluation.specs.Program.{Fragment}
+use Rattle.mau_evaluation.specs.Listing.{Solution, solutions}
+use Rattle.mau_evaluation.specs.Evaluation.{Binding, levels, look_up, binds, extend, agree, solve}
+use Rattle.mau_api.specs.Terms.{IsTerm}
+use Rattle.mau_api.specs.Programs.{program_over}
+use Rattle.mau_api.specs.Remaining.{as_matcher}
+use Rattle.mau_api.specs.Answers.{AreSettled, IsValueOf, binding_in}
+use Rattle.mau_machine.specs.Words.{IsExtension}
+use Rattle.mau_cond.specs.Bound.{extended}
+use Rattle.mau_cond.proofs.Pairs.{all_extended}
+use Rattle.mau_cond.proofs.Grown.{each, value_grown, bound_grown}
+use Rattle.mau_cond.proofs.Tellings.{extended_is}
+use Rattle.mau_reduce.specs.Reducible.{IsReducible}
+use Rattle.mau_reduce.specs.Bindings.{HaveKinds}
+use Rattle.mau_reduce.specs.Trying.{solution_in}
+use Rattle.mau_reduce.proofs.Candidates.{matchers_of}
+use Rattle.mau_choices.specs.Choosing.{left_of_choices, AreApart}
+use Rattle.mau_choices.proofs.Agreeing.{bound_variables, HaveNorms}
+use Rattle.mau_choices.proofs.Added.{variables_extended}
+use Rattle.mau_choices.proofs.Extending.{extension_keeps, extension_has, apart_extended}
+use Rattle.mau_choices.proofs.Next.{none_left, one_left, is_listed, one_each, values_of_kinds, suits, value_bare, instance_is}
+
+-- ---- bindings by numbers
+
+pub variables_bound : (nodes : List Node) (bs : List (VarId × TermId)) → bound_variables (binding_in nodes bs) ≡ map (λ b. variable_of b.0) bs
+variables_bound nodes [] = refl
+variables_bound nodes (b ∷ bs) = ap (λ xs. variable_of b.0 ∷ xs) (variables_bound nodes bs)
+
+norms_bound : (s : SignatureOf) (nodes : List Node) (table : Table) (bs : List (VarId × TermId)) → All (IsValueOf s nodes table) bs → HaveNorms (theory_at s) (binding_in nodes bs)
+norms_bound s nodes table [] h = tt
+norms_bound s nodes table (b ∷ bs) h =
+    ((All-head (IsValueOf s nodes table) b bs h).term.within.normal, norms_bound s nodes table bs (All-tail (IsValueOf s nodes table) b bs h))
+
+trees_told : (nodes : List Node) (told : List (VarId × TermId)) → map (λ b. tree_at nodes b.1.0) told ≡ trees_at nodes (numbers (map (λ b. b.1) told))
+trees_told nodes [] = refl
+trees_told nodes (b ∷ told) = ap (λ ts. tree_at nodes b.1.0 ∷ ts) (trees_told nodes told)
+
+-- variables with values of their kinds and sorts
+values_told : (s : SignatureOf) (nodes : List Node) (table : Table) (told : List (VarId × TermId)) → StandWithin (theory_at s) nodes (numbers (map (λ b. b.1) told)) →
+    ((v : Tree) → IsIn v (trees_at nodes (numbers (map (λ b. b.1) told))) → IsBare (terms_over s) (reading (theory_at s) v)) →
+    HaveKinds s (map (λ b. variable_of b.0) told) (trees_at nodes (numbers (map (λ b. b.1) told))) →
+    HaveSorts (HasEntry s nodes table) (map (λ b. variable_of b.0) told) (trees_at nodes (numbers (map (λ b. b.1) told))) → All (IsValueOf s nodes table) told
+values_told s nodes table [] stand bare kinds sorts = All-nil (IsValueOf s nodes table)
+values_told s nodes table (b ∷ told) stand bare kinds sorts =
+    All-cons (IsValueOf s nodes table) b told (record {
+      term = record { within = All-head (StandsWithin (theory_at s) nodes) b.1.0 (numbers (map (λ b. b.1) told)) stand; bare = bare (tree_at nodes b.1.0) (inl refl) };
+      kind = kinds.0;
+      sort = sorts.0;
+    })
+    (values_told s nodes table told (All-tail (StandsWithin (theory_at s) nodes) b.1.0 (numbers (map (λ b. b.1) told)) stand) (λ v i. bare v (inr i)) kinds.1 sorts.1)
+
+sorts_of_bare : (s : SignatureOf) (P : ℕ → Tree → Type 0) (xs : List Variable) (vs : List Tree) → HaveSorts (OfNorm P s) xs vs → HaveSorts P xs (map (norm (theory_at s)) vs)
+sorts_of_bare s P [] vs h = tt
+sorts_of_bare s P (x ∷ xs) [] h = h
+sorts_of_bare s P (x ∷ xs) (v ∷ vs) h = (h.0, sorts_of_bare s P xs vs h.1)
+
+-- what an instance is depends on the values of the variables that occur
+mutual
+  instance_along : (g h : Variable → Tree) (p : Tree) → ((x : Variable) → Occurs x p → g x ≡ h x) → instance g p ≡ instance h p
+  instance_along g h (variable i s) f = f (i, s) refl
+  instance_along g h (numeral n) f = refl
+  instance_along g h (apply o ts) f = ap (apply o) (instances_along g h ts f)
+
+  instances_along : (g h : Variable → Tree) (ts : Trees) → ((x : Variable) → OccursIn x ts → g x ≡ h x) → instances g ts ≡ instances h ts
+  instances_along g h no_trees f = refl
+  instances_along g h (tree t ts) f = ap₂ tree (instance_along g h t (λ x o. f x (inl o))) (instances_along g h ts (λ x o. f x (inr o)))
+
+-- ---- the next solution
+
+-- τ is the binding by the next solution in v, behind the last one: what it says of what is left, where `more` is the last one afterwards, and of τ
+pub record IsChoice (p : Typed.Program) (pat : Tree) (old new : List Node) (after : Table) (bound : List (VarId × TermId)) (v : TermId) (last more : Option Given.Solution) (τ : List (VarId × TermId)) : Type 0 where
+  pub some : (hooks : List Operator) (B k b : ℕ) (f : List Fragment) →
+      left_of_choices (program_over p hooks) (levels (program_over p hooks) B k) pat f (binding_in old bound) (tree_at old v.0) (option_map (solution_in old) last) b
+      ≡ or_go_on (left_of_choices (program_over p hooks) (levels (program_over p hooks) B k) pat f (binding_in old bound) (tree_at old v.0) (option_map (solution_in new) more))
+      (solve (program_over p hooks) (levels (program_over p hooks) B k) f (binding_in new τ) b)
+  pub values : All (IsValueOf p.sig new after) τ
+  pub apart : AreApart (map (λ b. variable_of b.0) τ)
+  pub named : map (λ b. variable_of b.0) τ ≡ add_variables (map (λ b. variable_of b.0) bound) pat
+  pub extension : IsExtension (binding_in old bound) (binding_in new τ)
+  pub each_bound : (z : Variable) → has_variable (variables pat) z ≡ true → binds (binding_in new τ) z ≡ true
+  pub solves : (υ : Binding) → IsExtension (binding_in new τ) υ → norm (theory_at p.sig) (instance (look_up υ) pat) ≡ tree_at old v.0
+
+module _ (p : Typed.Program) (red : IsReducible p) (pat : Tree) (bare_pat : IsBare (terms_over p.sig) pat) (old new : List Node) (before after : Table) (extends : Extends old new) (kept : KeepsEntries before after)
+    (bound : List (VarId × TermId)) (values : All (IsValueOf p.sig old before) bound) (apart : AreApart (map (λ b. variable_of b.0) bound)) (v : TermId) (term : IsTerm p.sig old v.0)
+    (settled : AreSettled p.sig old before (tree_at old v.0)) (a : Asked) (g : a ≡ asks pat bound v) (c : Bool) (w : c ≡ false) (last : Option Given.Solution) where
+  abbrev pub Next : Option Given.Solution → Type 0
+  Next o = IsNext (IsSolution c p.sig (BySort p.sig []) (question_in old a)) (matcher_cmp (theory_at p.sig) a.pattern) (option_map (matcher_in old) last) (option_map (matcher_in new) o)
+
+  abbrev t : Tree
+  t = tree_at old v.0
+
+  abbrev σ : Binding
+  σ = binding_in old bound
+
+  norms : HaveNorms (theory_at p.sig) σ
+  norms = norms_bound p.sig old before bound values
+
+  apart_so : AreApart (bound_variables σ)
+  apart_so = subst AreApart (sym (variables_bound old bound)) apart
+
+  next_so : (o : Option Given.Solution) → Next o →
+      IsNext (IsSolution false p.sig (BySort p.sig []) (record { pattern = pat; bound = binding_in old bound; subject = tree_at old v.0 })) (matcher_cmp (theory_at p.sig) pat)
+      (option_map as_matcher (option_map (solution_in old) last)) (option_map as_matcher (option_map (solution_in new) o))
+  next_so o is =
+      let one = subst (λ z. IsNext (IsSolution z p.sig (BySort p.sig []) (question_in old a)) (matcher_cmp (theory_at p.sig) a.pattern) (option_map (matcher_in old) last) (option_map (matcher_in new) o)) w is in
+      let two = subst (λ z. IsNext (IsSolution false p.sig (BySort p.sig []) (question_in old z)) (matcher_cmp (theory_at p.sig) z.pattern) (option_map (matcher_in old) last) (option_map (matcher_in new) o)) g one in
+      let three = subst (λ z. IsNext (IsSolution false p.sig (BySort p.sig []) (question_in old (asks pat bound v))) (matcher_cmp (theory_at p.sig) pat) z (option_map (matcher_in new) o)) (matchers_of old last) two in
+      subst (λ z. IsNext (IsSolution false p.sig (BySort p.sig []) (question_in old (asks pat bound v))) (matcher_cmp (theory_at p.sig) pat) (option_map as_matcher (option_map (solution_in old) last)) z) (matchers_of new o) three
+
+  pub none_is : Next None → (hooks : List Operator) (B k b : ℕ) (f : List Fragment) →
+      left_of_choices (program_over p hooks) (levels (program_over p hooks) B k) pat f σ t (option_map (solution_in old) last) b ≡ done None 0 b
+  none_is is hooks B k b f = none_left p red hooks pat bare_pat t term.within.normal term.bare old before settled σ norms apart_so B k f (option_map (solution_in old) last) (next_so None is) b
+
+  -- what is known of the next one
+  module _ (x : Given.Solution) (is : Next (Some x)) where
+    abbrev y : Solution
+    y = solution_in new x
+
+    abbrev known : IsIn y (solutions (terms_over p.sig) pat t) × (agree (theory_at p.sig) σ (variables pat) y.values ≡ true) × HaveSorts (BySort p.sig []) (variables pat) y.values
+    known = is_listed p red [] pat bare_pat t term.within.normal term.bare old before settled σ norms apart_so (option_map (solution_in old) last) y (next_so (Some x) is)
+
+    pub as_many : length (trees_at new (numbers x.values)) ≡ length (variables pat)
+    as_many = one_each p red [] pat bare_pat t term.within.normal term.bare old before settled σ norms apart_so y known.0
+
+    module _ (told τ : List (VarId × TermId)) (names : map (λ b. variable_of b.0) told ≡ variables pat) (numbered : map (λ b. b.1) told ≡ x.values) (e : τ ≡ extended bound told) where
+      pub binding_is : binding_in new τ ≡ extend σ (variables pat) y.values
+      binding_is =
+          ap (binding_in new) e
+          ∙ (extended_is new told bound
+          ∙ (ap (λ z. extend (binding_in new bound) z (map (λ b. tree_at new b.1.0) told)) names
+          ∙ (ap (extend (binding_in new bound) (variables pat)) (trees_told new told ∙ ap (λ ids. trees_at new (numbers ids)) numbered)
+          ∙ ap (λ z. extend z (variables pat) y.values) (bound_grown p.sig old new before after extends kept bound values))))
+
+      pub some_is : (hooks : List Operator) (B k b : ℕ) (f : List Fragment) →
+          left_of_choices (program_over p hooks) (levels (program_over p hooks) B k) pat f σ t (option_map (solution_in old) last) b
+          ≡ or_go_on (left_of_choices (program_over p hooks) (levels (program_over p hooks) B k) pat f σ t (Some (solution_in new x)))
+          (solve (program_over p hooks) (levels (program_over p hooks) B k) f (binding_in new τ) b)
+      some_is hooks B k b f =
+          let P = program_over p hooks in
+          one_left p red hooks pat bare_pat t term.within.normal term.bare old before settled σ norms apart_so B k f (option_map (solution_in old) last) y (next_so (Some x) is) b
+          ∙ ap (λ z. or_go_on (left_of_choices P (levels P B k) pat f σ t (Some (solution_in new x))) (solve P (levels P B k) f z b)) (sym binding_is)
+
+      moved : (H : List Variable → List Tree → Type 0) → H (variables pat) y.values → H (map (λ b. variable_of b.0) told) (trees_at new (numbers (map (λ b. b.1) told)))
+      moved H h =
+          subst (λ xs. H xs (trees_at new (numbers (map (λ b. b.1) told)))) (sym names) (subst (λ ids. H (variables pat) (trees_at new (numbers ids))) (sym numbered) h)
+
+      entries_of : IsGiven c p.sig new after a x → HaveSorts (HasEntry p.sig new after) (variables pat) y.values
+      entries_of given =
+          let whole : IsWhole p.sig (HasEntry p.sig new after) (question_in new a) (matcher_in new x) =
+          subst (λ z. IsSolution z p.sig (HasEntry p.sig new after) (question_in new a) (matcher_in new x)) w given.solves in
+          subst (HaveSorts (HasEntry p.sig new after) (variables pat)) whole.values
+          (sorts_of_bare p.sig (HasEntry p.sig new after) (variables pat) whole.bare
+          (subst (λ z. HaveSorts (OfNorm (HasEntry p.sig new after) p.sig) (variables z.pattern) whole.bare) g whole.solves.1))
+
+      bare_of : (u : Tree) → IsIn u (trees_at new (numbers (map (λ b. b.1) told))) → IsBare (terms_over p.sig) (reading (theory_at p.sig) u)
+      bare_of u i =
+          value_bare p red [] pat bare_pat t term.within.normal term.bare old before settled σ norms apart_so y known.0 u (subst (λ ids. IsIn u (trees_at new (numbers ids))) numbered i)
+
+      pub values_are : IsGiven c p.sig new after a x → All (IsValueOf p.sig new after) τ
+      values_are given =
+          subst (All (IsValueOf p.sig new after)) (sym e)
+          (all_extended (IsValueOf p.sig new after) told bound (each (IsValueOf p.sig old before) (IsValueOf p.sig new after) (value_grown p.sig old new before after extends kept) bound values)
+          (values_told p.sig new after told (subst (λ ids. StandWithin (theory_at p.sig) new (numbers ids)) (sym numbered) given.values) bare_of
+          (moved (HaveKinds p.sig) (values_of_kinds p red [] pat bare_pat t term.within.normal term.bare old before settled σ norms apart_so y known.0 known.2))
+          (moved (HaveSorts (HasEntry p.sig new after)) (entries_of given))))
+
+      pub apart_still : AreApart (map (λ b. variable_of b.0) τ)
+      apart_still =
+          subst AreApart (variables_bound new τ)
+          (subst (λ z. AreApart (bound_variables z)) (sym binding_is) (apart_extended (variables pat) y.values σ apart_so))
+
+      pub variables_are : map (λ b. variable_of b.0) τ ≡ add_variables (map (λ b. variable_of b.0) bound) pat
+      variables_are =
+          sym (variables_bound new τ)
+          ∙ (ap bound_variables binding_is ∙ (variables_extended pat y.values σ as_many ∙ ap (λ xs. add_variables xs pat) (variables_bound old bound)))
+
+      pub extension_is : IsExtension σ (binding_in new τ)
+      extension_is z h = subst (λ u. (binds u z ≡ true) × (look_up u z ≡ look_up σ z)) (sym binding_is) (extension_keeps (variables pat) y.values σ z h)
+
+      has_each : (z : Variable) → has_variable (variables pat) z ≡ true → (binds (binding_in new τ) z ≡ true) × (look_up (binding_in new τ) z ≡ value_at (variables pat) y.values z)
+      has_each z h =
+          subst (λ u. (binds u z ≡ true) × (look_up u z ≡ value_at (variables pat) y.values z)) (sym binding_is)
+          (extension_has (variables pat) y.values σ (distinct pat [] tt) as_many
+          (suits p red [] pat bare_pat t term.within.normal term.bare old before settled σ norms apart_so y known.0 known.1) z h)
+
+      pub binds_each : (z : Variable) → has_variable (variables pat) z ≡ true → binds (binding_in new τ) z ≡ true
+      binds_each z h = (has_each z h).0
+
+      pub pattern_is : (υ : Binding) → IsExtension (binding_in new τ) υ → norm (theory_at p.sig) (instance (look_up υ) pat) ≡ t
+      pattern_is υ more =
+          ap (norm (theory_at p.sig))
+          (instance_along (look_up υ) (value_at (variables pat) y.values) pat
+          (λ z o. let h = has_each z (has_occurring z pat o) in let m = more z h.0 in m.1 ∙ h.1))
+          ∙ instance_is p red [] pat bare_pat t term.within.normal term.bare old before settled σ norms apart_so y known.0
+
+      pub choice_is : IsGiven c p.sig new after a x → (more : Option Given.Solution) → more ≡ Some x → IsChoice p pat old new after bound v last more τ
+      choice_is given more m = record {
+        some = λ hooks B k b f.
+            let P = program_over p hooks in
+            some_is hooks B k b f
+            ∙ ap (λ o. or_go_on (left_of_choices P (levels P B k) pat f σ t (option_map (solution_in new) o)) (solve P (levels P B k) f (binding_in new τ) b)) (sym m);
+        values = values_are given;
+        apart = apart_still;
+        named = variables_are;
+        extension = extension_is;
+        each_bound = binds_each;
+        solves = pattern_is;
+      }
+
+  -- ---- as the code has it
+
+  module _ (answer : Option Given.Solution) (is : Next answer) where
+    pub none_of : answer ≡ None → (hooks : List Operator) (B k b : ℕ) (f : List Fragment) →
+        left_of_choices (program_over p hooks) (levels (program_over p hooks) B k) pat f (binding_in old bound) (tree_at old v.0) (option_map (solution_in old) last) b ≡ done None 0 b
+    none_of e = none_is (subst Next e is)
+
+    pub values_long : (x : Given.Solution) → answer ≡ Some x → length x.values ≡ length (variables pat)
+    values_long x e = sym (trees_long new x.values) ∙ as_many x (subst Next e is)
+
+    pub choice_of : (x : Given.Solution) → answer ≡ Some x → IfSome answer (IsGiven c p.sig new after a) → (more : Option Given.Solution) → more ≡ last_after last answer →
+        (told τ : List (VarId × TermId)) → map (λ b. variable_of b.0) told ≡ variables pat → map (λ b. b.1) told ≡ x.values → τ ≡ extended bound told →
+        IsChoice p pat old new after bound v last more τ
+    choice_of x e given more m told τ names numbered more_bound =
+        choice_is x (subst Next e is) told τ names numbered more_bound (subst (λ o. IfSome o (IsGiven c p.sig new after a)) e given) more (m ∙ ap (last_after last) e)

@@ -1,0 +1,7 @@
+//! The solutions of a matching fragment of a condition, one after another.
+#![tactic(auto)]
+
+mod choices;
+mod told;
+
+pub use choices::{Choices, begin_choices, next_choice};

@@ -1,0 +1,168 @@
+-- Conditions as they are written.
+use Rattle.std.proofs.Common.{◌≡◌, ◌<◌, ℕ, zero, suc, List, [], ◌∷◌, All, Bool, true, false, Option, Some, None, map, drop, slice_get, refl, sym, ap, ◌∙◌, subst}
+use Rattle.std.specs.Option.{option_map}
+use Rattle.std.proofs.lemmas.Option.{slice_get-map, slice_get_within, get_or_from_slice_get}
+use Rattle.mau_terms.specs.Bare.{IsBare}
+use Rattle.mau_terms.specs.View.{tree_of}
+use Rattle.mau_terms.specs.declared.bare.Bare.{Bare}
+use Rattle.mau_signature.specs.Signature.{terms_over}
+use Rattle.mau_program.specs.declared.program.Program as Typed
+use Rattle.mau_program.specs.declared.statements.Equation.{Equation}
+use Rattle.mau_program.specs.declared.statements.Fragment as Written
+use Rattle.mau_program.specs.declared.statements.Fragment.TheVariants.{Equal, Match, Sort, Reach}
+use Rattle.mau_formula.specs.Operator.{Operator}
+use Rattle.mau_api.specs.Programs.{program_over, equation_of, fragment_of}
+use Rattle.mau_reduce.specs.Attempting.{cond_in, cond_at}
+use Rattle.mau_program.specs.LawfulPrograms.{IsLawfulProgram}
+use Rattle.mau_program.specs.LawfulStatements.{IsLawfulFragment, IsLawfulEquation}
+use Rattle.mau_evaluation.specs.Program as Evaluated
+use Rattle.mau_machine.specs.declared.goal.Goal.TheVariants as Goals
+use Rattle.mau_machine.specs.Words.{goal_of, HasSideBy, side_by, pattern_in, sort_in, rest_of, Asks, HasSide}
+use Rattle.mau_reducer.specs.Basis.{Basis}
+use Rattle.mau_reducer.specs.Handles.{written_in, written_at, side_written, pattern_written, sort_written, rules_of, goal_in}
+use Rattle.mau_reducer.specs.Fragments.{rest_is}
+
+-- ---- the same condition
+
+condition_in : (o : Option Equation) → cond_in (option_map equation_of o) ≡ map fragment_of (written_in o)
+condition_in (Some e) = refl
+condition_in None = refl
+
+pub condition_is : (p : Typed.Program) (hooks : List Operator) (e : ℕ) → cond_at (program_over p hooks) e ≡ map fragment_of (written_at p e)
+condition_is p hooks e = ap cond_in (slice_get-map equation_of p.equations e) ∙ condition_in (slice_get p.equations e)
+
+-- ---- what the next fragment asks
+
+pub goal_is : (fs : List Written.Fragment) (i : ℕ) → goal_in (slice_get fs i) ≡ goal_of (drop i (map fragment_of fs))
+goal_is [] zero = refl
+goal_is [] (suc i) = refl
+goal_is (Equal t u ∷ fs) zero = refl
+goal_is (Match t u ∷ fs) zero = refl
+goal_is (Sort t s ∷ fs) zero = refl
+goal_is (Reach t u ∷ fs) zero = refl
+goal_is (f ∷ fs) (suc i) = goal_is fs i
+
+-- ---- the fragment at a place
+
+pub at_place : {A : Type 0} (P : A → Type 0) (xs : List A) → All P xs → (i : ℕ) (x : A) → slice_get xs i ≡ Some x → P x
+at_place P xs all i x e = subst P (get_or_from_slice_get xs i x x e) (all i x (slice_get_within xs i x e))
+
+pub from_place : {A : Type 0} (xs : List A) (i : ℕ) (x : A) → slice_get xs i ≡ Some x → drop i xs ≡ x ∷ drop (suc i) xs
+from_place [] i x e = cc
+from_place (y ∷ xs) zero x e = let same : y ≡ x = cc in ap (λ z. z ∷ xs) same
+from_place (y ∷ xs) (suc i) x e = from_place xs i x e
+
+-- it is lawful
+pub fragment_lawful : (p : Typed.Program) → IsLawfulProgram p → (e i : ℕ) (f : Written.Fragment) → slice_get (written_at p e) i ≡ Some f → IsLawfulFragment p.sig f
+fragment_lawful p is e i f h = by (slice_get p.equations e) refl h
+  where
+    by : (o : Option Equation) → slice_get p.equations e ≡ o → slice_get (written_in o) i ≡ Some f → IsLawfulFragment p.sig f
+    by None d k = absurd (cc k)
+    by (Some q) d k = at_place (IsLawfulFragment p.sig) q.cond (at_place (IsLawfulEquation p.sig) p.equations is.equations e q d).parts.condition i f k
+
+-- what it asks
+module _ (b : Basis) (e i : ℕ) where
+  abbrev here : Option Written.Fragment
+  here = slice_get (written_at b.program e) i
+
+  pub asked_is : goal_of (rest_of (rules_of b) e i) ≡ goal_in here
+  asked_is = sym (goal_is (written_at b.program e) i)
+
+  -- from it on
+  pub rest_from : (f : Written.Fragment) → here ≡ Some f → rest_of (rules_of b) e i ≡ fragment_of f ∷ map fragment_of (drop (suc i) (written_at b.program e))
+  rest_from f h = rest_is b e i ∙ ap (map fragment_of) (from_place (written_at b.program e) i f h)
+
+  -- ---- sides
+
+  -- such a side is there
+  side_there : (right : Bool) (o : Option Written.Fragment) → HasSideBy right (goal_in o) → side_written right o ≡ None → ⊥
+  side_there right None k n = k
+  side_there right (Some (Equal t u)) k n = cc
+  side_there right (Some (Match p u)) k n = cc
+  side_there right (Some (Sort t s)) k n = cc
+  side_there right (Some (Reach t u)) k n = k
+
+  pub has_side : (right : Bool) → HasSide (rules_of b) e i right → side_written right here ≡ None → ⊥
+  has_side right k n = side_there right here (subst (HasSideBy right) asked_is k) n
+
+  -- it is the one that is evaluated
+  side_in : (right : Bool) (o : Option Written.Fragment) (t : Bare) → side_written right o ≡ Some t → HasSideBy right (goal_in o) → (f : Written.Fragment) × (o ≡ Some f) × ((c : List Evaluated.Fragment) → side_by right (fragment_of f ∷ c) ≡ tree_of t)
+  side_in right None t h k = cc
+  side_in true (Some (Equal v u)) t h k = let same : u ≡ t = cc in (Equal v u, refl, λ c. ap tree_of same)
+  side_in false (Some (Equal v u)) t h k = let same : v ≡ t = cc in (Equal v u, refl, λ c. ap tree_of same)
+  side_in right (Some (Match p u)) t h k = let same : u ≡ t = cc in (Match p u, refl, λ c. ap tree_of same)
+  side_in right (Some (Sort v s)) t h k = let same : v ≡ t = cc in (Sort v s, refl, λ c. ap tree_of same)
+  side_in right (Some (Reach v u)) t h k = cc
+
+  pub side_is : (right : Bool) (t : Bare) → side_written right here ≡ Some t → HasSide (rules_of b) e i right → side_by right (rest_of (rules_of b) e i) ≡ tree_of t
+  side_is right t h k =
+      let f = side_in right here t h (subst (HasSideBy right) asked_is k) in
+      ap (side_by right) (rest_from f.0 f.1) ∙ f.2 (map fragment_of (drop (suc i) (written_at b.program e)))
+
+  side_bare_of : (right : Bool) (o : Option Written.Fragment) (t : Bare) → side_written right o ≡ Some t → ((f : Written.Fragment) → o ≡ Some f → IsLawfulFragment b.program.sig f) → IsBare (terms_over b.program.sig) (tree_of t)
+  side_bare_of right None t h lawful = absurd (cc h)
+  side_bare_of true (Some (Equal v u)) t h lawful = let same : u ≡ t = cc in let l = lawful (Equal v u) refl in subst (λ z. IsBare (terms_over b.program.sig) (tree_of z)) same (l.kind, l.second)
+  side_bare_of false (Some (Equal v u)) t h lawful = let same : v ≡ t = cc in let l = lawful (Equal v u) refl in subst (λ z. IsBare (terms_over b.program.sig) (tree_of z)) same (l.kind, l.first)
+  side_bare_of right (Some (Match p u)) t h lawful = let same : u ≡ t = cc in let l = lawful (Match p u) refl in subst (λ z. IsBare (terms_over b.program.sig) (tree_of z)) same (l.kind, l.second)
+  side_bare_of right (Some (Sort v s)) t h lawful = let same : v ≡ t = cc in let l = lawful (Sort v s) refl in subst (λ z. IsBare (terms_over b.program.sig) (tree_of z)) same l.0
+  side_bare_of right (Some (Reach v u)) t h lawful = absurd (cc h)
+
+  pub side_bare : IsLawfulProgram b.program → (right : Bool) (t : Bare) → side_written right here ≡ Some t → IsBare (terms_over b.program.sig) (tree_of t)
+  side_bare is right t h = side_bare_of right here t h (λ f d. fragment_lawful b.program is e i f d)
+
+  -- ---- patterns
+
+  pattern_there : (o : Option Written.Fragment) → Goals.Matching ≡ goal_in o → pattern_written o ≡ None → ⊥
+  pattern_there None k n = cc
+  pattern_there (Some (Equal t u)) k n = cc
+  pattern_there (Some (Match p u)) k n = cc
+  pattern_there (Some (Sort t s)) k n = cc
+  pattern_there (Some (Reach t u)) k n = cc
+
+  pub has_pattern : Asks (rules_of b) e i Goals.Matching → pattern_written here ≡ None → ⊥
+  has_pattern k n = pattern_there here (k ∙ asked_is) n
+
+  matched : (o : Option Written.Fragment) (p : Bare) → pattern_written o ≡ Some p → (u : Bare) × (o ≡ Some (Match p u))
+  matched None p h = cc
+  matched (Some (Equal t u)) p h = cc
+  matched (Some (Match q u)) p h = let same : q ≡ p = cc in (u, ap (λ z. Some (Match z u)) same)
+  matched (Some (Sort t s)) p h = cc
+  matched (Some (Reach t u)) p h = cc
+
+  pub pattern_at : (p : Bare) → pattern_written here ≡ Some p → (u : Bare) × (here ≡ Some (Match p u))
+  pattern_at p h = matched here p h
+
+  pub pattern_is : (p u : Bare) → here ≡ Some (Match p u) → pattern_in (rest_of (rules_of b) e i) ≡ tree_of p
+  pattern_is p u h = ap pattern_in (rest_from (Match p u) h)
+
+  pub pattern_bare : IsLawfulProgram b.program → (p u : Bare) → here ≡ Some (Match p u) → IsBare (terms_over b.program.sig) (tree_of p)
+  pattern_bare is p u h = let l = fragment_lawful b.program is e i (Match p u) h in (l.kind, l.first)
+
+  -- ---- tested sorts
+
+  sort_there : (o : Option Written.Fragment) → Goals.Sort ≡ goal_in o → sort_written o ≡ None → ⊥
+  sort_there None k n = cc
+  sort_there (Some (Equal t u)) k n = cc
+  sort_there (Some (Match p u)) k n = cc
+  sort_there (Some (Sort t s)) k n = cc
+  sort_there (Some (Reach t u)) k n = cc
+
+  pub has_sort_there : Asks (rules_of b) e i Goals.Sort → sort_written here ≡ None → ⊥
+  has_sort_there k n = sort_there here (k ∙ asked_is) n
+
+  tested : (o : Option Written.Fragment) (r : ℕ) → sort_written o ≡ Some r → (t : Bare) × (o ≡ Some (Sort t r))
+  tested None r h = cc
+  tested (Some (Equal t u)) r h = cc
+  tested (Some (Match q u)) r h = cc
+  tested (Some (Sort t s)) r h = let same : s ≡ r = cc in (t, ap (λ z. Some (Sort t z)) same)
+  tested (Some (Reach t u)) r h = cc
+
+  pub sort_at : (r : ℕ) → sort_written here ≡ Some r → (t : Bare) × (here ≡ Some (Sort t r))
+  sort_at r h = tested here r h
+
+  pub sort_is : (t : Bare) (r : ℕ) → here ≡ Some (Sort t r) → sort_in (rest_of (rules_of b) e i) ≡ r
+  sort_is t r h = ap sort_in (rest_from (Sort t r) h)
+
+  -- it is one of the signature
+  pub sort_over : IsLawfulProgram b.program → (r : ℕ) → sort_written here ≡ Some r → r < b.program.sig.hierarchy.sorts
+  sort_over is r h = let t = sort_at r h in (fragment_lawful b.program is e i (Sort t.0 r) t.1).1

@@ -1,0 +1,29 @@
+-- Lemmas of the evaluator, lowest first.
+
+-- what lawful programs have
+pub mod FromLawful
+-- what is built in, and what it gives
+pub mod BuiltIns
+pub mod GivenKinds
+-- the first state
+pub mod Beginning
+-- conditions
+pub mod Conditions
+-- sorts by declarations
+pub mod SortsGrow
+-- heads of memberships, and values
+pub mod Heads
+-- what the world's calls give
+pub mod Taking
+-- the next candidate
+pub mod Attempted
+-- the answers of an evaluation
+pub mod WhatIsMeant
+-- bindings in two lists, and as pairs
+pub mod Pairs
+-- the solutions of matching fragments
+pub mod Choosing
+-- sides and tests of fragments
+pub mod Sides
+-- conditions without fragments
+pub mod EmptyConditions

@@ -1,0 +1,223 @@
+-- States that come of one another.
+use Rattle.std.proofs.Common.{◌≡◌, ℕ, suc, List, [], ◌∷◌, Bool, Option, Some, None, IfSome, map, drop, refl, sym, ap, ◌∙◌, subst}
+use Rattle.std.specs.Option.{option_map}
+use Rattle.mau_terms.specs.Tree.{Tree}
+use Rattle.mau_terms.specs.declared.ids.TermId.{TermId}
+use Rattle.mau_terms.specs.Subst.{Variable}
+use Rattle.mau_terms.specs.Solution.{HaveSorts}
+use Rattle.mau_terms.specs.View.{variable_of}
+use Rattle.mau_api.specs.Answers.{AreSettled}
+use Rattle.mau_signature.specs.Signature.{SignatureOf, theory_at}
+use Rattle.mau_store.specs.Node.{Node, Extends}
+use Rattle.mau_store.specs.Trees.{tree_at, trees_at}
+use Rattle.mau_store.specs.View.{numbers}
+use Rattle.mau_store.proofs.Growth.{extension_is_preorder}
+use Rattle.mau_sorts.specs.Table.{Table, KeepsEntries}
+use Rattle.mau_sorts.proofs.Settling.{kept_same, kept_on}
+use Rattle.mau_listing.specs.Asked.{Asked, HasEntry}
+use Rattle.mau_listing.specs.declared.solution.Solution.{Solution}
+use Rattle.mau_listing.proofs.Growth.{AreOfStore, entry_kept}
+use Rattle.mau_api.specs.Terms.{IsTerm}
+use Rattle.mau_api.specs.Programs.{program_over}
+use Rattle.mau_evaluation.specs.Program.{Program}
+use Rattle.mau_evaluation.specs.Evaluation.{Binding, levels}
+use Rattle.mau_reduce.specs.declared.binding.Binding.{Binding as Kept}
+use Rattle.mau_reduce.specs.declared.trying.Tried.{Tried}
+use Rattle.mau_reduce.specs.Bindings.{bound_in}
+use Rattle.mau_reduce.specs.Tables.{IsPlainTable}
+use Rattle.mau_reduce.specs.Trying.{IsTried, order_of_all}
+use Rattle.mau_reduce.proofs.KindsKept.{is_term_kept, tree_kept, trees_kept, under_kept}
+use Rattle.mau_reduce.proofs.PlainTables.{plain_grown, identities_grown, settled_grown}
+use Rattle.mau_reduce.specs.Attempting.{untried_by, makes_of}
+use Rattle.mau_reduce.specs.Giving.{IsGivenAt}
+use Rattle.mau_reduce.specs.Lasts.{IsLast}
+use Rattle.mau_reduce.proofs.LaterStores.{tried_grown, untried_grown, last_there, last_grown, listed_grown, taken_there, given_grown, makes_grown, bound_grown, values_grown}
+use Rattle.mau_machine.specs.Words.{rest_of, pattern_in, Keeps}
+use Rattle.mau_reducer.specs.declared.reducer.Candidates.{Candidates}
+use Rattle.mau_choices.specs.declared.choices.Choices.{Choices}
+use Rattle.mau_choices.proofs.Later.{value_same, binding_same, choosing_grown, left_same}
+use Rattle.mau_reducer.specs.Basis.{Basis}
+use Rattle.mau_reducer.specs.Handles.{rules_of, as_id, IsKnownTerm, IsKnownValue, AreKnownOperands, IsKnownBinding, AreKnownCandidates, IsKnownCandidate, AreKnownChoices, words_of}
+use Rattle.mau_reducer.specs.States.{IsFit, IsReady, ComesOf}
+
+-- ---- they are an order
+
+pub same_state : (b : Basis) (nodes : List Node) (table : Table) → IsPlainTable b.program.sig nodes table → ComesOf b b nodes nodes table table
+same_state b nodes table plain = record { basis = refl; extends = extension_is_preorder.reflexive nodes; kept = kept_same table; plain = plain }
+
+pub later_state : (b c d : Basis) (nodes more most : List Node) (one two three : Table) → ComesOf b c nodes more one two → ComesOf c d more most two three → ComesOf b d nodes most one three
+later_state b c d nodes more most one two three h k = record {
+  basis = k.basis ∙ h.basis;
+  extends = extension_is_preorder.transitive nodes more most h.extends k.extends;
+  kept = kept_on one two three h.kept k.kept;
+  plain = subst (λ (x : Basis). IsPlainTable x.program.sig most three) h.basis k.plain;
+}
+
+pub ready_later : (b c : Basis) (nodes more : List Node) (one two : Table) → IsReady b nodes one → ComesOf b c nodes more one two → IsReady c more two
+ready_later b c nodes more one two ready h =
+    subst (λ (x : Basis). IsReady x more two) (sym h.basis)
+    (record { basis = ready.basis; plain = h.plain; identities = identities_grown b.program.sig nodes more one two h.extends h.kept ready.identities })
+
+pub fit_later : (b c : Basis) (nodes more : List Node) (one two : Table) (begun : Bool) → IsFit b nodes one begun → ComesOf b c nodes more one two → IsFit c more two begun
+fit_later b c nodes more one two begun fit h =
+    subst (λ (x : Basis). IsFit x more two begun) (sym h.basis)
+    (record { basis = fit.basis; plain = h.plain; identities = λ e. identities_grown b.program.sig nodes more one two h.extends h.kept (fit.identities e) })
+
+pub fit_grown : (b : Basis) (old new : List Node) (table : Table) (begun : Bool) → Extends old new → IsFit b old table begun → IsFit b new table begun
+fit_grown b old new table begun x fit = record {
+  basis = fit.basis;
+  plain = plain_grown b.program.sig old new table x fit.plain;
+  identities = λ e. identities_grown b.program.sig old new table table x (kept_same table) (fit.identities e);
+}
+
+-- ---- what handles stand for stays the same
+
+pub numbers_mapped : (f : ℕ → Tree) (ts : List TermId) → map f (numbers ts) ≡ map (λ t. f t.0) ts
+numbers_mapped f [] = refl
+numbers_mapped f (t ∷ ts) = ap (λ us. f t.0 ∷ us) (numbers_mapped f ts)
+
+module _ (s : SignatureOf) (old new : List Node) (x : Extends old new) where
+  pub term_later : (i : ℕ) → IsKnownTerm s old i → IsKnownTerm s new i × (tree_at new i ≡ tree_at old i)
+  term_later i h = (record { lawful = h.lawful; term = is_term_kept s old new i x h.term }, tree_kept (theory_at s) old new i x h.term.within)
+
+  pub value_later : (before after : Table) → KeepsEntries before after → (i : ℕ) → IsKnownValue s old before i → IsKnownValue s new after i × (tree_at new i ≡ tree_at old i)
+  value_later before after kept i h =
+      let same = tree_kept (theory_at s) old new i x h.known.term.within in (
+        record {
+          known = (term_later i h.known).0;
+          settled = subst (λ t. AreSettled s new after t) (sym same) (settled_grown s old new before after (tree_at old i) x kept h.settled);
+        },
+        same,
+      )
+
+  pub operands_later : (f : ℕ) (ts : List TermId) → AreKnownOperands s old f ts → AreKnownOperands s new f ts × (map (λ t. tree_at new t.0) ts ≡ map (λ t. tree_at old t.0) ts)
+  operands_later f ts h = (
+    record { lawful = h.lawful; under = under_kept s old new f (numbers ts) x h.under },
+    sym (numbers_mapped (tree_at new) ts) ∙ (trees_kept (theory_at s) old new (numbers ts) x h.under.within ∙ numbers_mapped (tree_at old) ts),
+  )
+
+HaveSorts-then : (P Q : ℕ → Tree → Type 0) → ((r : ℕ) (t : Tree) → P r t → Q r t) → (xs : List Variable) (vs : List Tree) → HaveSorts P xs vs → HaveSorts Q xs vs
+HaveSorts-then P Q h [] vs has = tt
+HaveSorts-then P Q h (x ∷ xs) [] has = absurd has
+HaveSorts-then P Q h (x ∷ xs) (v ∷ vs) has = (h x.1 v has.0, HaveSorts-then P Q h xs vs has.1)
+
+pub binding_later : (b : Basis) (old new : List Node) (before after : Table) → ComesOf b b old new before after → (e i : ℕ) (σ : Kept) → IsKnownBinding b old before e i σ →
+    IsKnownBinding b new after e i σ × (bound_in new σ ≡ bound_in old σ)
+binding_later b old new before after h e i σ k =
+    let same = trees_kept (theory_at b.program.sig) old new (numbers σ.values.items) h.extends k.values.within in (
+      record {
+        values = values_grown b.program old new h.extends σ k.values;
+        variables = k.variables;
+        sorts =
+            subst (HaveSorts (HasEntry b.program.sig new after) (map variable_of σ.variables.items)) (sym same)
+            (HaveSorts-then (HasEntry b.program.sig old before) (HasEntry b.program.sig new after) (λ r t. entry_kept old new h.extends before after h.kept b.program.sig r t) (map variable_of σ.variables.items)
+            (trees_at old (numbers σ.values.items)) k.sorts);
+        bound = k.bound;
+      },
+      bound_grown b.program old new h.extends σ k.values.within,
+    )
+
+-- ---- candidates
+
+module _ {L M : Type 0} (c : Bool) (asked : L → Asked) (given : L → Option Solution) (is_for : L → SignatureOf → Type 0)
+    (asked_whole : M → Asked) (given_whole : M → Option Solution) (is_for_whole : M → SignatureOf → Type 0) (b : Basis) (old new : List Node) (before after : Table)
+    (h : ComesOf b b old new before after) where
+  abbrev P : Program
+  P = program_over b.program b.hooks
+
+  tried_later : (t : TermId) (o : Option (Tried L)) →
+      IfSome o (λ x. IsTried c b.program old before t x.number (asked x.listing) (given x.listing) (is_for x.listing b.program.sig)) →
+      IfSome o (λ x. IsTried c b.program new after t x.number (asked x.listing) (given x.listing) (is_for x.listing b.program.sig))
+  tried_later t None k = tt
+  tried_later t (Some x) k = tried_grown c b.program old new before after t x.number (asked x.listing) (given x.listing) (is_for x.listing b.program.sig) h.extends h.kept h.plain.over k
+
+  last_ones : (t : TermId) (o : Option (Tried L)) →
+      IfSome o (λ x. IsTried c b.program old before t x.number (asked x.listing) (given x.listing) (is_for x.listing b.program.sig)) →
+      IfSome {T = ℕ × Option Solution} (option_map (λ x. (x.number, given x.listing)) o) (λ y. IfSome y.1 (AreOfStore old))
+  last_ones t None k = tt
+  last_ones t (Some x) k = last_there old new h.extends c b.program before t x.number (asked x.listing) (given x.listing) (is_for x.listing b.program.sig) k
+
+  tree_same : (t : ℕ) → IsTerm b.program.sig old t → tree_at new t ≡ tree_at old t
+  tree_same t is = tree_kept (theory_at b.program.sig) old new t h.extends is.within
+
+  candidates_known : (t : ℕ) (a : Candidates L) → AreKnownCandidates c asked given is_for asked_whole given_whole is_for_whole b old before t a → AreKnownCandidates c asked given is_for asked_whole given_whole is_for_whole b new after t a
+  candidates_known t a k = record {
+    own = k.own;
+    term = is_term_kept b.program.sig old new t h.extends k.term;
+    tried = tried_later (as_id t) a.attempts.tried k.tried;
+    given_at =
+        subst (λ u. IsGivenAt b.program.sig b.hooks new u a.attempts.given) (sym (tree_same t k.term))
+        (given_grown b.program old new h.extends b.hooks (tree_at old t) a.attempts.given k.given_at);
+  }
+
+  untried_same : (t : ℕ) (a : Candidates L) → AreKnownCandidates c asked given is_for asked_whole given_whole is_for_whole b old before t a → (k n : ℕ) →
+      (words_of c asked given is_for asked_whole given_whole is_for_whole b new after).untried a k n ≡ (words_of c asked given is_for asked_whole given_whole is_for_whole b old before).untried a k n
+  untried_same t a is k n =
+      ap (λ u. untried_by P b.limit k new u a.attempts.given (option_map (λ x. (x.number, given x.listing)) a.attempts.tried) (drop a.attempts.next (order_of_all P.equations)) n)
+      (tree_same a.term.0 (subst (IsTerm b.program.sig old) (sym is.own) is.term))
+      ∙ ap (λ r. r n) (untried_grown old new h.extends P b.limit k (tree_at old a.term.0) (drop a.attempts.next (order_of_all P.equations)) a.attempts.given
+      (taken_there b.program old new h.extends a.attempts.given is.given_at.taken) (option_map (λ x. (x.number, given x.listing)) a.attempts.tried) (last_ones (as_id t) a.attempts.tried is.tried))
+
+  candidate_known : (t e : ℕ) (a : Candidates L) → IsKnownCandidate c asked given is_for asked_whole given_whole is_for_whole b old before t e a → IsKnownCandidate c asked given is_for asked_whole given_whole is_for_whole b new after t e a
+  candidate_known t e a k =
+      let same = tree_same t k.term in
+      record {
+        own = k.own;
+        term = is_term_kept b.program.sig old new t h.extends k.term;
+        reducible = k.reducible;
+        given_at = subst (λ u. IsGivenAt b.program.sig b.hooks new u a.attempts.given) (sym same) (given_grown b.program old new h.extends b.hooks (tree_at old t) a.attempts.given k.given_at);
+        last =
+            subst (λ u. IsLast b.program new u e a.attempts.given a.attempts.last) (sym same)
+            (last_grown b.program old new h.extends (tree_at old t) e a.attempts.given a.attempts.last k.last);
+        listed =
+            listed_grown b.program old new h.extends before after h.kept k.reducible (as_id t) k.term e a.attempts.given a.attempts.last k.listed;
+      }
+
+  makes_same : (t e : ℕ) (a : Candidates L) → IsKnownCandidate c asked given is_for asked_whole given_whole is_for_whole b old before t e a → (σ : Binding) →
+      (words_of c asked given is_for asked_whole given_whole is_for_whole b new after).makes a σ ≡ (words_of c asked given is_for asked_whole given_whole is_for_whole b old before).makes a σ
+  makes_same t e a k σ =
+      ap (λ u. makes_of P new u a.attempts.given a.attempts.last σ) (tree_same a.term.0 (subst (IsTerm b.program.sig old) (sym k.own) k.term))
+      ∙ makes_grown b.program old new h.extends b.hooks (tree_at old a.term.0) e a.attempts.given a.attempts.last σ k.given_at.taken
+      (subst (λ i. IsLast b.program old (tree_at old i) e a.attempts.given a.attempts.last) (sym k.own) k.last)
+
+  choices_known : (e i : ℕ) (x : Choices M) → AreKnownChoices c asked given is_for asked_whole given_whole is_for_whole b old before e i x →
+      AreKnownChoices c asked given is_for asked_whole given_whole is_for_whole b new after e i x
+  choices_known e i x k = record {
+    asks = k.asks;
+    choosing = choosing_grown b.program.sig old new before after (pattern_in (rest_of (rules_of b) e i)) x.binding x.value (asked_whole x.listing) (given_whole x.listing)
+        (is_for_whole x.listing b.program.sig) h.extends h.kept h.plain k.choosing;
+    variables = k.variables;
+    bound = k.bound;
+  }
+
+  choices_same : (e i : ℕ) (x : Choices M) → AreKnownChoices c asked given is_for asked_whole given_whole is_for_whole b old before e i x → (k n : ℕ) →
+      (words_of c asked given is_for asked_whole given_whole is_for_whole b new after).unchosen x k e i n
+      ≡ (words_of c asked given is_for asked_whole given_whole is_for_whole b old before).unchosen x k e i n
+  choices_same e i x is k n =
+      ap (λ r. r n)
+      (left_same b.program.sig old new before after (pattern_in (rest_of (rules_of b) e i)) x.binding x.value (asked_whole x.listing) (given_whole x.listing) (is_for_whole x.listing b.program.sig)
+      h.extends h.kept h.plain is.choosing P (levels P b.limit k) (rest_of (rules_of b) e (suc i)))
+
+  words_stay : Keeps (words_of c asked given is_for asked_whole given_whole is_for_whole b old before) (words_of c asked given is_for asked_whole given_whole is_for_whole b new after)
+  words_stay = record {
+    rules = refl;
+    terms = term_later b.program.sig old new h.extends;
+    values = value_later b.program.sig old new h.extends before after h.kept;
+    operands = operands_later b.program.sig old new h.extends;
+    bindings = binding_later b old new before after h;
+    attempts = λ t a k. (candidates_known t a k, untried_same t a k);
+    candidates = λ t e a k. (candidate_known t e a k, makes_same t e a k);
+    choices = λ e i x k. (choices_known e i x k, choices_same e i x k);
+    chosen = λ e i x k.
+        let p = pattern_in (rest_of (rules_of b) e i) in (
+          binding_same b.program.sig old new before after p x.binding x.value (asked_whole x.listing) (given_whole x.listing) (is_for_whole x.listing b.program.sig) h.extends h.kept h.plain k.choosing,
+          value_same b.program.sig old new before after p x.binding x.value (asked_whole x.listing) (given_whole x.listing) (is_for_whole x.listing b.program.sig) h.extends h.kept h.plain k.choosing,
+        );
+  }
+
+pub words_kept : {L M : Type 0} (c : Bool) (asked : L → Asked) (given : L → Option Solution) (is_for : L → SignatureOf → Type 0)
+    (asked_whole : M → Asked) (given_whole : M → Option Solution) (is_for_whole : M → SignatureOf → Type 0) (b d : Basis) (old new : List Node) (before after : Table) → ComesOf b d old new before after →
+    Keeps (words_of c asked given is_for asked_whole given_whole is_for_whole b old before) (words_of c asked given is_for asked_whole given_whole is_for_whole d new after)
+words_kept c asked given is_for asked_whole given_whole is_for_whole b d old new before after h =
+    subst (λ (x : Basis). Keeps (words_of c asked given is_for asked_whole given_whole is_for_whole b old before) (words_of c asked given is_for asked_whole given_whole is_for_whole x new after)) (sym h.basis)
+    (words_stay c asked given is_for asked_whole given_whole is_for_whole b old new before after (record { basis = refl; extends = h.extends; kept = h.kept; plain = h.plain }))

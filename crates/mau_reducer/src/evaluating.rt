@@ -1,0 +1,132 @@
+//! A program and a store as an evaluator.
+ghost use Rattle.std.specs.Prelude.{◌≡◌, true, OnOk};
+ghost use Rattle.mau_store.specs.Node.{Extends};
+ghost use Rattle.mau_api.specs.Answers.{levels_of_item};
+
+use crate::reducer::Reducer;
+use mau_api::{EvalEnd, Evaluator, Fragment, Lister, Reduced, Solution, StepWatcher};
+use mau_listing::WholeLister;
+use mau_reduce::{Natives, settle, settle_identities};
+use mau_sorts::SortTable;
+use mau_store::Store;
+use mau_terms::{NoMemory, TermId, VarId};
+
+/// The levels of an item.
+fn levels_of_item() -> u32
+    ensures { result ≡ levels_of_item }
+{
+    2000
+}
+
+impl<'a, L: Lister + Drop, M: WholeLister + Drop, N: Natives + Drop> Reducer<'a, L, M, N> {
+    ghost use Rattle.mau_reducer.specs.Worlds.{basis_of};
+    ghost use Rattle.mau_reducer.specs.States.{IsFit, IsReady, ComesOf};
+
+    /// Settles the identities, if they are not settled yet.
+    fn begin(&mut self, store: &mut Store) -> Result<(), NoMemory>
+        requires fits { IsFit (basis_of N.operators self.old) store.old self.old.table self.old.begun }
+        ensures ready { OnOk result (IsReady (basis_of N.operators self.new) store.new self.new.table) }
+        ensures fits { IsFit (basis_of N.operators self.new) store.new self.new.table self.new.begun }
+        ensures comes { ComesOf (basis_of N.operators self.old)
+            (basis_of N.operators self.new) store.old store.new self.old.table self.new.table }
+        ensures same { self.new.program ≡ self.old.program }
+    {
+        if self.begun {
+            return Ok(());
+        }
+        settle_identities(store, &self.program.sig, &mut self.table)?;
+        self.begun = true;
+        Ok(())
+    }
+}
+
+impl<'a, L: Lister + Drop, M: WholeLister + Drop, N: Natives + Drop> Evaluator
+    for Reducer<'a, L, M, N> {
+    ghost use Rattle.std.specs.Prelude.{true};
+    ghost use Rattle.mau_reducer.specs.Worlds.{basis_of};
+    ghost use Rattle.mau_reducer.specs.Meant.{meanings_of};
+    ghost use Rattle.mau_reducer.specs.States.{IsFit};
+    ghost use Rattle.mau_reducer.specs.MeantLaws.{are_meanings};
+    ghost use Rattle.mau_reducer.specs.LaterStates.{fit_grown};
+    ghost use Rattle.mau_reducer.specs.DerivedTables.{derived_table};
+
+    ghost meanings = { λ w. meanings_of (basis_of N.operators w) };
+
+    ghost table = { λ w. w.table };
+
+    ghost fits = { λ w nodes. IsFit (basis_of N.operators w) nodes w.table w.begun × (L.with_context ≡ true) };
+
+    fn evaluate<W: StepWatcher>(
+        &mut self,
+        store: &mut Store,
+        term: TermId,
+        budget: &mut u64,
+        watcher: &mut W,
+    ) -> Result<Reduced, EvalEnd> {
+        match self.begin(store) {
+            Ok(()) => {
+                let levels = levels_of_item();
+                mau_machine::evaluate(
+                    store.allocator(),
+                    self,
+                    store,
+                    term,
+                    levels,
+                    budget,
+                    watcher,
+                )
+            }
+            Err(NoMemory) => Err(EvalEnd::NoMemory),
+        }
+    }
+
+    fn solve<W: StepWatcher>(
+        &mut self,
+        store: &mut Store,
+        cond: &[Fragment],
+        bound: &[(VarId, TermId)],
+        last: Option<&[(VarId, TermId)]>,
+        _: &mut u64,
+        _: &mut W,
+    ) -> Result<Option<(Vec<(VarId, TermId)>, u64)>, EvalEnd> {
+        if !cond.is_empty() {
+            // A condition with fragments is not solved yet.
+            return Err(EvalEnd::NoMemory);
+        }
+        match last {
+            Some(_) => Ok(None),
+            None => match Vec::from_slice(store.allocator(), bound) {
+                Ok(values) => Ok(Some((values, 0))),
+                Err(_) => Err(EvalEnd::NoMemory),
+            },
+        }
+    }
+
+    fn settle(&mut self, store: &mut Store, term: TermId) -> Result<(), EvalEnd> {
+        match self.begin(store) {
+            Ok(()) => match settle(store, &self.program.sig, &mut self.table, term) {
+                Ok(()) => Ok(()),
+                Err(NoMemory) => Err(EvalEnd::NoMemory),
+            },
+            Err(NoMemory) => Err(EvalEnd::NoMemory),
+        }
+    }
+
+    fn list<K: Lister>(
+        &mut self,
+        store: &mut Store,
+        listing: &mut K,
+    ) -> Result<Option<Solution>, NoMemory> {
+        listing.next(store, &self.program.sig, &mut self.table)
+    }
+
+    fn sorts(&self) -> &SortTable {
+        &self.table
+    }
+
+    ghost laws = { λ w. are_meanings (basis_of N.operators w) };
+
+    ghost grows = { λ w old new x fit. (fit_grown (basis_of N.operators w) old new w.table w.begun x fit.0, fit.1) };
+
+    ghost derived = { λ w nodes fit. derived_table (basis_of N.operators w) fit.0.basis nodes w.table fit.0.plain };
+}

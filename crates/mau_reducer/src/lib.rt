@@ -1,0 +1,12 @@
+//! The evaluator of the product: a program, its native operators, and the sorts that are settled.
+#![tactic(auto)]
+
+mod evaluating;
+mod fragments;
+pub mod laws;
+mod reducer;
+mod tests_of_programs;
+mod world;
+
+pub use reducer::{Candidates, Reducer};
+pub use tests_of_programs::derives_nothing;
