@@ -1,7 +1,9 @@
 -- An equation whose left side has no axioms, by the one solution that it has in a term.
-use Rattle.std.proofs.Common.{◌≡◌, ℕ, zero, suc, List, [], ◌∷◌, slice_get, Bool, true, Option, Some, None, IfSome, IfNone, Result, Ok, refl, sym, ap, ◌∙◌, subst}
+use Rattle.std.proofs.Common.{◌≡◌, ℕ, zero, suc, List, [], ◌∷◌, ◌++◌, ◌↔◌, take, slice_get, Bool, true, Option, Some, None, IfSome, IfNone, Result, Ok, refl, sym, ap, ◌∙◌, subst}
+use Rattle.std.specs.Prelude.{IsSome}
 use Rattle.std.specs.Option.{option_map}
 use Rattle.mau_terms.specs.Tree.{Tree}
+use Rattle.mau_terms.specs.Bare.{IsBare}
 use Rattle.mau_terms.specs.View.{tree_of}
 use Rattle.mau_terms.specs.declared.ids.TermId.{TermId}
 use Rattle.mau_signature.specs.Signature.{SignatureOf, theory_at, terms_over}
@@ -21,6 +23,7 @@ use Rattle.mau_api.specs.Answers.{AreSettled}
 use Rattle.mau_api.specs.Programs.{program_over, equation_of}
 use Rattle.mau_api.proofs.Started.{can_start}
 use Rattle.mau_trial.specs.Tried.{HoldsAtEach}
+use Rattle.mau_syntactic.specs.Free.{has_free_operators}
 use Rattle.mau_reduce.specs.Compiled.{IsCompiled}
 use Rattle.mau_reduce.specs.Reducible.{IsReducible}
 use Rattle.mau_reduce.specs.Trying.{solution_in, left_of_number, number_gives, IsCandidate, IsExecutable, IsTried, IsFound}
@@ -33,7 +36,7 @@ module _ (p : Typed.Program) (red : IsReducible p) (i : ℕ) (exec : IsExecutabl
   abbrev t : Tree
   t = tree_at nodes id.0
 
-  abbrev bare : _
+  abbrev bare : IsBare (terms_over p.sig) (tree_of e.left)
   bare = let sides = red.sides (equation_of e) (in_equations p i e at) in (sides.kind, sides.left)
 
   pub free_none : o ≡ None → (hooks : List Operator) (B k b : ℕ) → left_of_number (program_over p hooks) B k t i None b ≡ done None 0 b
@@ -82,6 +85,25 @@ module _ (p : Typed.Program) (red : IsReducible p) (i : ℕ) (exec : IsExecutabl
         can = record { askable = start.askable; settled = start.settled; over = start.over; given = given }
 
 -- ---- compiled ones
+
+-- one more behind the others
+pub compiled_more : (s : SignatureOf) (es : List Written.Equation) (qs : List (Option Tree)) (i : ℕ) (e : Written.Equation) (q : Option Tree) → slice_get es i ≡ Some e → HoldsAtEach (IsCompiled s) (take i es) qs → IsCompiled s e q →
+    HoldsAtEach (IsCompiled s) (take (suc i) es) (qs ++ q ∷ [])
+compiled_more s [] qs i e q at all one = cc
+compiled_more s (d ∷ es) [] zero e q at all one = let same : d ≡ e = cc in (subst (λ z. IsCompiled s z q) (sym same) one, tt)
+compiled_more s (d ∷ es) (r ∷ qs) zero e q at all one = absurd all
+compiled_more s (d ∷ es) [] (suc i) e q at all one = absurd all
+compiled_more s (d ∷ es) (r ∷ qs) (suc i) e q at all one = (all.0, compiled_more s es qs i e q at all.1 one)
+
+-- a left side is a bare term
+pub left_bare : (p : Typed.Program) → IsReducible p → (i : ℕ) (e : Written.Equation) → slice_get p.equations i ≡ Some e → IsBare (terms_over p.sig) (tree_of e.left)
+left_bare p red i e at = let sides = red.sides (equation_of e) (in_equations p i e at) in (sides.kind, sides.left)
+
+-- what it is, by what is said of a pattern that was made
+pub compiled_by : (s : SignatureOf) (e : Written.Equation) (o : Option Tree) → IfSome o (λ t. t ≡ tree_of e.left) → IsSome o ↔ (has_free_operators (theory_at s) (tree_of e.left) ≡ true) → IsCompiled s e o
+compiled_by s e None is free = tt
+compiled_by s e (Some t) is free = (is, subst (λ z. has_free_operators (theory_at s) z ≡ true) (sym is) (free.0 tt))
+
 
 compiled_in : (s : SignatureOf) (es : List Written.Equation) (qs : List (Option Tree)) (i : ℕ) (e : Written.Equation) (q : Option Tree) → HoldsAtEach (IsCompiled s) es qs → slice_get es i ≡ Some e → slice_get qs i ≡ Some q → IsCompiled s e q
 compiled_in s [] qs i e q all at is = cc

@@ -25,6 +25,10 @@ pub mod Fitting
 pub mod Candidates
 -- equations by their numbers
 pub mod Numbered
+-- left sides without axioms
+pub mod FreeMatches
+-- operators that stay on top
+pub mod FirmTops
 -- built-ins
 pub mod BuiltTables
 -- what built-ins give

@@ -15,8 +15,10 @@ pub fn patterns_of(alloc: Global, program: &Program) -> Result<Vec<Option<Patter
     ensures { IfOk result (λ patterns. HoldsAtEach (IsCompiled program.now.sig) program.now.equations patterns.items) }
 {
     let mut patterns = Vec::new(alloc);
-    for equation in program.equations.items() {
-        patterns.push(Pattern::new(alloc, &program.sig, &equation.left)?)?;
+    let equations = program.equations.items();
+    for number in 0..equations.len() {
+        let pattern = Pattern::new(alloc, &program.sig, &equations[number].left)?;
+        patterns.push(pattern)?;
     }
     Ok(patterns)
 }
