@@ -38,7 +38,8 @@ impl<'a, L: Lister + Drop, M: WholeLister + Drop, N: Natives + Drop> Flagged<'a,
         requires derives_nothing { DerivesNothing program.now }
         requires numerals { All GivesNumerals (N.operators natives) }
         requires contexts { L.with_context ≡ true }
-        ensures meanings { IfOk result (λ e. ⟦<Flagged<'a, L, M, N> as Evaluator>⟧.meanings e ≡ meanings_by program.now (N.operators natives) limit false) }
+        ensures meanings { IfOk result (λ e. ⟦<Flagged<'a, L, M, N> as Evaluator>⟧.meanings e
+            ≡ meanings_by program.now (N.operators natives) limit false) }
         ensures fits { (nodes : List Node) → IfOk result (λ e. ⟦<Flagged<'a, L, M, N> as Evaluator>⟧.fits e nodes) }
     {
         let reducer = Reducer::new(alloc, program, natives, limit, remember)?;

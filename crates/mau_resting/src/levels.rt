@@ -38,8 +38,10 @@ fn levels_of<W: World>(
     requires ready { W.ready world.old store.old }
     requires value { (W.words world.old store.old).knows_value term.0 }
     requires resting { AreResting (W.words world.old store.old) levels.now }
-    requires settles { (k b : ℕ) → (ss : List ℕ) × (settle_on (W.words world.old store.old).rules k ((W.words world.old store.old).tree term.0) b ≡ done ss 0 b) }
-    requires none { (k b : ℕ) → applied_on (W.words world.old store.old).rules k ((W.words world.old store.old).tree term.0) b ≡ done None 0 b }
+    requires settles { (k b : ℕ) → (ss : List ℕ) × (settle_on (W.words world.old store.old).rules k
+        ((W.words world.old store.old).tree term.0) b ≡ done ss 0 b) }
+    requires none { (k b : ℕ) → applied_on (W.words world.old store.old).rules k
+        ((W.words world.old store.old).tree term.0) b ≡ done None 0 b }
     ensures rests { IfSome result (λ n. RestsBy (W.words world.old store.old) n term.0) }
     ensures some { IfSome result (λ n. 0 < n) }
     ensures grows { W.grows world.old store.old world.new store.new }
@@ -64,7 +66,8 @@ fn levels_of<W: World>(
 
 /// Puts a number at a place, behind as many zeros as are wanted; where there is no memory for them nothing is put.
 fn put(levels: &mut Vec<u32>, place: usize, value: u32)
-    ensures { (i n : ℕ) → slice_get levels.new.items i ≡ Some (suc n) → (slice_get levels.old.items i ≡ Some (suc n)) ⊎ ((i ≡ place) × (suc n ≡ value)) }
+    ensures { (i n : ℕ) → slice_get levels.new.items i ≡ Some (suc n)
+        → (slice_get levels.old.items i ≡ Some (suc n)) ⊎ ((i ≡ place) × (suc n ≡ value)) }
 {
     while levels.len() <= place {
         match levels.push(0) {
@@ -80,8 +83,10 @@ pub(crate) fn mark<W: World>(world: &mut W, store: &mut Store, levels: &mut Vec<
     requires ready { W.ready world.old store.old }
     requires value { (W.words world.old store.old).knows_value term.0 }
     requires resting { AreResting (W.words world.old store.old) levels.old.items }
-    requires settles { (k b : ℕ) → (ss : List ℕ) × (settle_on (W.words world.old store.old).rules k ((W.words world.old store.old).tree term.0) b ≡ done ss 0 b) }
-    requires none { (k b : ℕ) → applied_on (W.words world.old store.old).rules k ((W.words world.old store.old).tree term.0) b ≡ done None 0 b }
+    requires settles { (k b : ℕ) → (ss : List ℕ) × (settle_on (W.words world.old store.old).rules k
+        ((W.words world.old store.old).tree term.0) b ≡ done ss 0 b) }
+    requires none { (k b : ℕ) → applied_on (W.words world.old store.old).rules k
+        ((W.words world.old store.old).tree term.0) b ≡ done None 0 b }
     ensures resting { AreResting (W.words world.new store.new) levels.new.items }
     ensures grows { W.grows world.old store.old world.new store.new }
 {
