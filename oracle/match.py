@@ -168,4 +168,5 @@ def compare(number, program):
     return had, difference(program, text, wanted)
 
 
-compare_texts(compare)
+if __name__ == "__main__":
+    compare_texts(compare)

@@ -1,10 +1,10 @@
 #!/usr/bin/env python3
 """Compares `reduce` on random modules with a plain evaluator, written from the specification apart from the code and its proofs.
 
-usage: oracle/reduce.py PROGRAM FIRST LAST [conditions]
+usage: oracle/reduce.py PROGRAM FIRST LAST [conditions [plain]]
 
 For each number from FIRST on and below LAST it makes a module with random equations, ordinary ones and `owise`, and reduces random terms in it, with a
-small budget; with the word `conditions` equations have conditions, and there are memberships. What is compared is the count, the value with its shown
+small budget; with the word `conditions` equations have conditions, and there are memberships, but not with the word `plain` too. What is compared is the count, the value with its shown
 sort, and each end. Modules that are refused are the other comparisons' matter.
 """
 import random
@@ -20,6 +20,7 @@ from statements_of import is_no_head, is_variable, pairs_of
 
 LIMIT = 40
 HAS_CONDITIONS = "conditions" in sys.argv[4:]
+HAS_MEMBERSHIPS = HAS_CONDITIONS and "plain" not in sys.argv[4:]
 sys.setrecursionlimit(30_000)
 
 
@@ -46,7 +47,7 @@ def random_statement(sig, r):
     """An equation or a membership that is accepted, with its text; or nothing."""
     kinds = sorted({sig.kind[a] for a in sig.sorts if a != "Bool"})
     pool = {(name, r.choice(sig.sorts) if r.random() < 0.9 else r.choice(kinds)) for name in r.sample("XYZW", r.choice([1, 2, 3]))}
-    kind, is_membership = r.choice(kinds), HAS_CONDITIONS and r.random() < 0.3
+    kind, is_membership = r.choice(kinds), HAS_MEMBERSHIPS and r.random() < 0.3
     left = random_term(sig, r, kind, r.choice([1, 1, 2]), sorted(pool), 0.5)
     if left is None or (is_no_head if is_membership else is_variable)(sig, left):
         return None

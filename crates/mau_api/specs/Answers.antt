@@ -1,15 +1,16 @@
 -- What the answers of an evaluator say.
-use Rattle.std.specs.Prelude.{◌≡◌, ◌⊎◌, ◌↔◌, ℕ, ◌≤◌, List, map, Bool, true, ◌&&◌, not, Option, Some, None, Result, Ok, Err}
+use Rattle.std.specs.Prelude.{◌≡◌, ◌⊎◌, ◌↔◌, ℕ, ◌≤◌, List, [], ◌∷◌, map, All, Bool, true, false, ◌&&◌, not, Option, Some, None, Result, Ok, Err}
 use Rattle.mau_terms.specs.Tree.{Tree}
 use Rattle.mau_terms.specs.Norm.{unit_tree}
 use Rattle.mau_terms.specs.Finite as Finite
-use Rattle.mau_terms.specs.Subst.{Variable}
+use Rattle.mau_terms.specs.Subst.{Variable, has_variable}
 use Rattle.mau_terms.specs.Bare.{IsBareIn, IsBare}
 use Rattle.mau_terms.specs.Reading.{reading}
 use Rattle.mau_terms.specs.View.{tree_of, variable_of}
 use Rattle.mau_terms.specs.declared.ids.VarId.{VarId}
 use Rattle.mau_terms.specs.declared.ids.TermId.{TermId}
 use Rattle.mau_terms.specs.declared.theory.Identity.{Identity}
+use Rattle.mau_signature.specs.Faults.{IsSort}
 use Rattle.mau_signature.specs.Signature.{SignatureOf, theory_at, terms_over}
 use Rattle.mau_store.specs.Node.{Node}
 use Rattle.mau_store.specs.Trees.{tree_at}
@@ -19,6 +20,7 @@ use Rattle.mau_sorts.specs.Table.{Table, entry_at, AreOver}
 use Rattle.mau_listing.specs.Asked.{HasEntry, IsTreeSettled, IsTableOf, IsClosedTable, IsBelow}
 use Rattle.mau_program.specs.declared.statements.Fragment as Written
 use Rattle.mau_program.specs.declared.statements.Fragment.TheVariants.{Equal, Match, Sort, Reach}
+use Rattle.mau_program.specs.Binding.{are_bound}
 use Rattle.mau_evaluation.specs.Run.{Outcome, done, ended, Run, stopped, too_deep, overflowed}
 use Rattle.mau_evaluation.specs.Program.{Fragment, Membership}
 use Rattle.mau_evaluation.specs.Evaluation.{Binding, has_number}
@@ -98,12 +100,24 @@ IsAllowed m remembered t b nodes (Err e) = HasCause (λ k B. m.evaluation k B t)
 abbrev pub binding_in : List Node → List (VarId × TermId) → Binding
 binding_in nodes bound = map {B = Variable × Tree} (λ b. (variable_of b.0, tree_at nodes b.1.0)) bound
 
--- no fragment is solved by rules, and all terms are bare
+-- no fragment is solved by rules, all terms are bare, and what is tested is a sort or a kind
 abbrev pub IsFragment : SignatureOf → Written.Fragment → Type 0
 IsFragment s (Equal t u) = IsBare (terms_over s) (tree_of t) × IsBare (terms_over s) (tree_of u)
 IsFragment s (Match p u) = IsBare (terms_over s) (tree_of p) × IsBare (terms_over s) (tree_of u)
-IsFragment s (Sort t r) = IsBare (terms_over s) (tree_of t)
+IsFragment s (Sort t r) = IsBare (terms_over s) (tree_of t) × IsSort s.hierarchy r
 IsFragment s (Reach t u) = ⊥
+
+-- no variable stands twice
+abbrev pub AreApart : List Variable → Type 0
+AreApart [] = Unit {0}
+AreApart (x ∷ xs) = (has_variable xs x ≡ false) × AreApart xs
+
+-- a condition may be asked where these variables have values: none of them stands twice, and its fragments have no others than these and
+-- those that are matched before
+pub record IsAskable (s : SignatureOf) (xs : List Variable) (cond : List Written.Fragment) : Type 0 where
+  pub fragments : All (IsFragment s) cond
+  pub bound : are_bound xs cond ≡ true
+  pub apart : AreApart xs
 
 -- a value of a variable: a term of its kind, which by its entry has its sort
 pub record IsValueOf (s : SignatureOf) (nodes : List Node) (table : Table) (b : VarId × TermId) : Type 0 where

@@ -1,5 +1,5 @@
 -- A typed program with the native operators of a table, as the definitions of evaluation see it: statements by their trees, and what they ask of a signature computed.
-use Rattle.std.specs.Prelude.{ℕ, zero, suc, List, [], ◌∷◌, map, length}
+use Rattle.std.specs.Prelude.{ℕ, zero, suc, Bool, if◌then◌else◌, Option, List, [], ◌∷◌, map, length}
 use Rattle.std.specs.List.{flat_map, range_with_len}
 use Rattle.mau_terms.specs.Tree.{Tree}
 use Rattle.mau_terms.specs.Finite.{units_of}
@@ -38,6 +38,10 @@ places_of [] = []
 places_of (zero ∷ is) = []
 places_of (suc i ∷ is) = i ∷ places_of is
 
+-- whether an argument, counted from 0, is frozen. Of an associative operator all elements are, or none
+abbrev pub is_frozen : Bool → Option (List ℕ) → ℕ → Bool
+is_frozen assoc given i = is_given_number given (if assoc then 1 else suc i)
+
 -- the identities in the order of their operators
 abbrev pub identities_of : SignatureOf → List Tree
 identities_of s = flat_map (λ f. units_of (theory_at s f).id) (range_with_len 1 (length s.declarations))
@@ -53,7 +57,7 @@ program_over p hooks = record {
   memberships = map membership_of p.memberships;
   rules = map rule_of p.rules;
   strat = λ f. places_of (strategy_of (declarations_at p.sig f));
-  frozen = λ f i. is_given_number (attributes_of (declarations_at p.sig f)).frozen (suc i);
+  frozen = λ f i. is_frozen (theory_at p.sig f).assoc (attributes_of (declarations_at p.sig f)).frozen i;
   built_in = built_in_at p.sig hooks;
   units = identities_of p.sig;
 }

@@ -1,6 +1,7 @@
 //! Evaluators.
 ghost use Rattle.std.specs.Prelude.{◌≡◌, ◌<◌, ◌≤◌, ℕ, List, map, Bool, true, false, All, Option, Some, None, IfOk, OnOk, OnErr, IfErr, IfSome, OnSome};
 ghost use Rattle.std.specs.Option.{option_map};
+ghost use Rattle.mau_terms.specs.View.{variable_of};
 ghost use Rattle.mau_signature.specs.Signature.{theory_at};
 ghost use Rattle.mau_store.specs.Node.{Node, Extends};
 ghost use Rattle.mau_store.specs.Trees.{tree_at};
@@ -15,7 +16,7 @@ ghost use Rattle.mau_api.specs.Programs.{fragment_of};
 ghost use Rattle.mau_api.specs.Terms.{IsTerm};
 ghost use Rattle.mau_api.specs.Told.{TellsEvaluation, TellsCondition, TellsMore};
 ghost use Rattle.mau_api.specs.Meanings.{Meanings, AreMeanings};
-ghost use Rattle.mau_api.specs.Answers.{uses_results, IsExact, IsAllowed, LeavesEnough, levels_of_item, binding_in, IsFragment, IsValueOf, IsSolutionOf, solving_from, levels_of_condition, IsSolvedExactly, MaySolve, IsDerivedTable, AreSettled, MayEnd, mapped};
+ghost use Rattle.mau_api.specs.Answers.{uses_results, IsExact, IsAllowed, LeavesEnough, levels_of_item, binding_in, IsAskable, IsValueOf, IsSolutionOf, solving_from, levels_of_condition, IsSolvedExactly, MaySolve, IsDerivedTable, AreSettled, MayEnd, mapped};
 
 use crate::{EvalEnd, Reduced, StepWatcher};
 use mau_listing::{Lister, Solution};
@@ -69,7 +70,7 @@ pub trait Evaluator {
         ensures wanted { W.wanted watcher.new ≡ W.wanted watcher.old };
 
     /// The first solution of a condition, or the first one behind `last`, which is a solution of it, and how many applications led to
-    /// it. Terms are evaluated one level deeper than an item. `None` comes only where there is none, and always where there is none
+    /// it. The condition binds its variables in order, behind those that have values. Terms are evaluated one level deeper than an item. `None` comes only where there is none, and always where there is none
     /// and no end is met.
     ///
     /// Where the watcher wants steps, it is told of the evaluations by which the condition holds, and of nothing where it does not; where
@@ -84,7 +85,7 @@ pub trait Evaluator {
         watcher: &mut W,
     ) -> Result<Option<(Vec<Binding>, u64)>, EvalEnd>
         requires fits { fits self.old store.old }
-        requires condition { All (IsFragment (meanings self.old).program.sig) cond.now }
+        requires condition { IsAskable (meanings self.old).program.sig (map (λ b. variable_of b.0) bound.now) cond.now }
         requires bound { All (IsValueOf (meanings self.old).program.sig store.old (table self.old)) bound.now }
         requires last { IfSome last (λ x. All (IsValueOf (meanings self.old).program.sig store.old (table self.old)) x.now) }
         requires solution { IfSome last (λ x. IsSolutionOf (meanings self.old) (map fragment_of cond.now) (binding_in store.old bound.now) (binding_in store.old x.now)) }

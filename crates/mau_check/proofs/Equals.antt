@@ -1,9 +1,12 @@
 -- Terms that are kept: when they are equal, and in stores that grow.
-use Rattle.std.proofs.Common.{◌≡◌, ◌↔◌, ℕ, List, [], ◌∷◌, Option, Some, None, sym, ap, ◌∙◌, subst}
+use Rattle.std.proofs.Common.{◌≡◌, ◌↔◌, ℕ, List, [], ◌∷◌, Option, Some, None, refl, sym, ap, ◌∙◌, subst}
+use Rattle.std.specs.Prelude.{All}
+use Rattle.std.specs.List.{AllZip}
 use Rattle.std.proofs.lemmas.List.Elements.{All-nil, All-cons}
 use Rattle.mau_terms.specs.Tree.{Tree}
 use Rattle.mau_terms.specs.Norm.{norm}
 use Rattle.mau_terms.specs.Bare.{IsBare, EqualModulo, IsLawful}
+use Rattle.mau_terms.specs.Subst.{Variable}
 use Rattle.mau_terms.proofs.Law.{equal_norm, norm_equal}
 use Rattle.mau_terms.proofs.Normal.{norm-norm}
 use Rattle.mau_signature.specs.Signature.{SignatureOf, theory_at, terms_over}
@@ -14,8 +17,11 @@ use Rattle.mau_store.proofs.Numbers.{one_number}
 use Rattle.mau_store.proofs.Standing.{tree_at-extends}
 use Rattle.mau_canon.specs.Within.{IsWithin}
 use Rattle.mau_canon.specs.Standing.{StandsWithin, StandWithin}
+use Rattle.mau_api.specs.Terms.{IsBareWithin}
 use Rattle.mau_logic.specs.Says.{Says, leads, of_sort, says_nothing}
 use Rattle.mau_logic.specs.Justified.{With}
+use Rattle.mau_store.specs.View.{numbers}
+use Rattle.mau_terms.specs.declared.ids.TermId.{TermId}
 use Rattle.std.specs.Prelude.{map}
 use Rattle.mau_check.specs.declared.kept.Kept.{Kept}
 use Rattle.mau_check.specs.declared.said.Said.{Said}

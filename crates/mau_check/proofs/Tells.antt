@@ -25,6 +25,8 @@ use Rattle.mau_sorts.proofs.Settling.{argument_over, is_ready}
 use Rattle.mau_built_ins.proofs.NormalTerms.{read_bare}
 use Rattle.mau_logic.specs.Says.{Says, leads, of_sort, says_nothing}
 use Rattle.mau_logic.specs.Shown.{known_by, HasSortBy}
+use Rattle.mau_logic.proofs.MoreSorts.{has_more}
+use Rattle.mau_terms.specs.Subst.{Variable}
 use Rattle.mau_check.specs.declared.kept.Kept.{Kept}
 use Rattle.mau_check.specs.declared.said.Said.{Said}
 use Rattle.mau_check.specs.declared.said.Said.TheVariants.{Leads, Sorted}
@@ -231,3 +233,19 @@ none_left P (x ∷ xs) (suc i) l h = none_left P xs i (omega arith) h
 pub ends_as_sort : (s : SignatureOf) (nodes : List Node) (known : Known) (i r : ℕ) (e : Bool) (a b : Kept) (has : Bool) (x : Said) → x ≡ Leads e a b → e ≡ true → a.id.0 ≡ i → IsTrue has ↔ HasSort s known (tree_at nodes b.id.0) r →
     IsTrue has ↔ EndsInSort s nodes known i r x
 ends_as_sort s nodes known i r e a b has x q t n h = subst (λ z. IsTrue has ↔ EndsInSort s nodes known i r z) (sym q) ((λ y. (t, n, h.0 y)), λ g. h.1 g.2)
+
+-- ---- what holds by declarations alone
+
+pub sort_more : (s : SignatureOf) (us : List Says) (t : Tree) (r : ℕ) → HasSort s [] t r → HasSort s (known_by s us) t r
+sort_more s us t r h = has_more s [] (known_by s us) (λ x c. absurd (none x c)) t r h
+
+pub values_more : (s : SignatureOf) (us : List Says) (xs : List Variable) (vs : List Tree) → HaveSorts (HasSortBy s []) xs vs → HaveSorts (HasSortBy s us) xs vs
+values_more s us [] vs h = tt
+values_more s us (x ∷ xs) [] h = absurd h
+values_more s us (x ∷ xs) (v ∷ vs) h = (sort_more s us (norm (theory_at s) v) x.1 h.0, values_more s us xs vs h.1)
+
+pub ends_more : (s : SignatureOf) (nodes : List Node) (us : List Says) (i r : ℕ) (xs : List Said) → SomeSaid (EndsInSort s nodes [] i r) xs → SomeSaid (EndsInSort s nodes (known_by s us) i r) xs
+ends_more s nodes us i r [] h = absurd h
+ends_more s nodes us i r (x ∷ xs) (inr h) = inr (ends_more s nodes us i r xs h)
+ends_more s nodes us i r (Leads e a b ∷ xs) (inl h) = inl (h.0, h.1, sort_more s us (tree_at nodes b.id.0) r h.2)
+ends_more s nodes us i r (Sorted a q ∷ xs) (inl h) = absurd h

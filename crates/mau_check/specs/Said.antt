@@ -1,7 +1,7 @@
 -- What facts say, by the numbers of their terms in a store.
-use Rattle.std.specs.Prelude.{◌≡◌, ◌<◌, ◌==◌, ◌⊎◌, List, [], ◌∷◌, Bool, true, false, ◌&&◌, Option, Some, None, if◌then◌else◌}
+use Rattle.std.specs.Prelude.{◌≡◌, ◌<◌, ◌==◌, ◌⊎◌, ◌||◌, not, ℕ, List, [], ◌∷◌, Bool, true, false, ◌&&◌, Option, Some, None, if◌then◌else◌}
 use Rattle.std.specs.Option.{option_and_then}
-use Rattle.std.specs.List.{AllZip}
+use Rattle.std.specs.List.{AllZip, list_any}
 use Rattle.mau_poset.specs.Order.{kind_of}
 use Rattle.mau_terms.specs.Bare.{IsBareIn}
 use Rattle.mau_signature.specs.Signature.{SignatureOf, terms_over}
@@ -67,3 +67,13 @@ pub record AreEnds (xs : List Said) (equations : Bool) (starts ends : List Kept)
 abbrev pub SomeSaid : (Said → Type 0) → List Said → Type 0
 SomeSaid P [] = ⊥
 SomeSaid P (x ∷ xs) = P x ⊎ SomeSaid P xs
+
+-- x leads from the number i to the number j, and by equations where e is true
+abbrev pub is_lead : Bool → ℕ → ℕ → Said → Bool
+is_lead e i j (Leads d a b) = (d || not e) && ((a.id.0 == i) && (b.id.0 == j))
+is_lead e i j (Sorted a r) = false
+
+-- x leads by equations from the number i to where one of us leads from the number j
+abbrev pub is_meeting : List Said → ℕ → ℕ → Said → Bool
+is_meeting us i j (Leads d a b) = (d && (a.id.0 == i)) && list_any (is_lead true j b.id.0) us
+is_meeting us i j (Sorted a r) = false

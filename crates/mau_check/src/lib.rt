@@ -1,9 +1,23 @@
-//! What decides whether the facts of a section are justified: its terms and what its facts say, as numbers of a store.
+//! Whether the facts of a section are justified.
 #![tactic(auto)]
 
 mod building;
-pub mod kept;
-pub mod over;
-pub mod plain;
-pub mod said;
-pub mod sorts;
+mod built;
+mod check;
+mod contexts;
+mod facts;
+mod filling;
+mod fragments;
+mod instances;
+mod kept;
+mod lines;
+mod named;
+mod over;
+mod plain;
+mod said;
+mod sorts;
+mod statements;
+mod variables;
+mod written;
+
+pub use check::{CheckAnswer, Conclusion, Judgement, check_facts, judge};

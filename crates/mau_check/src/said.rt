@@ -20,7 +20,7 @@ pub enum Said {
 }
 
 /// What the fact with a number says, counted from 1.
-fn said_at(said: &[Said], number: u64) -> Option<Said>
+pub fn said_at(said: &[Said], number: u64) -> Option<Said>
     ensures some { (s : SignatureOf) (nodes : List Node) (before : List Says) → AreSaid s nodes said.now before →
         IfSome result (λ x. With (numbered before number) (IsSaid s nodes x)) }
     ensures none { (s : SignatureOf) (nodes : List Node) (before : List Says) → AreSaid s nodes said.now before →

@@ -12,7 +12,7 @@ ghost use Rattle.mau_sorts.specs.HasSort.{Known, HasSort};
 ghost use Rattle.mau_sorts.specs.Table.{IsSettled, IsReady, AreEntries, AreOver, KeepsEntries};
 ghost use Rattle.mau_logic.specs.Says.{Says};
 ghost use Rattle.mau_logic.specs.Shown.{known_by, HasSortBy};
-ghost use Rattle.mau_check.specs.Kept.{AreKeptFor};
+ghost use Rattle.mau_check.specs.Kept.{IsKeptFor, AreKeptFor};
 ghost use Rattle.mau_check.specs.Said.{IsSaid, AreSaid, SomeSaid};
 ghost use Rattle.mau_check.specs.Told.{told_of, tells_sort, AreToldSorts, IsToldBy, IsWholeTable, IsPlainTable, EndsInSort};
 ghost use Rattle.mau_check.specs.Variables.{AreOfSorts, variables_in};
@@ -220,6 +220,11 @@ pub fn have_sorts(
     ensures have { IfOk result (λ yes. (us : List Says) (vs : List Tree) → AreSaid sig.now store.now uses.now us → AreKeptFor sig.now store.now values.now vs →
         IsTrue yes ↔ HaveSorts (HasSortBy sig.now us) (variables_in variables.now) vs) }
 {
+    let nothing = None;
+    let plainly = all_sorted(sig, store, plain, &nothing, variables, values)?;
+    if plainly {
+        return Ok(true);
+    }
     let told = told_by(store.allocator(), sig, store, uses)?;
     all_sorted(sig, store, plain, &told, variables, values)
 }
@@ -296,6 +301,38 @@ pub fn end_in_sort(
     ensures end { IfOk result (λ yes. (us : List Says) → AreSaid sig.now store.now uses.now us →
         IsTrue yes ↔ SomeSaid (EndsInSort sig.now store.now (known_by sig.now us) from.0 sort) uses.now) }
 {
+    let nothing = None;
+    let plainly = some_ends_in_sort(sig, store, plain, &nothing, uses, from, sort)?;
+    if plainly {
+        return Ok(true);
+    }
     let told = told_by(store.allocator(), sig, store, uses)?;
     some_ends_in_sort(sig, store, plain, &told, uses, from, sort)
+}
+
+/// Whether a term has a sort by declarations and by what facts tell.
+pub fn term_has_sort(
+    sig: &Signature,
+    store: &Store,
+    plain: &mut SortTable,
+    uses: &[Said],
+    term: Kept,
+    sort: u32,
+) -> Result<bool, NoMemory>
+    requires term { (t : Tree) × IsKeptFor sig.now store.now term t }
+    requires sort { IsSort sig.now.hierarchy sort }
+    requires uses { (us : List Says) × AreSaid sig.now store.now uses.now us }
+    requires plain { IsPlainTable sig.now store.now plain.old }
+    ensures plain { IsPlainTable sig.now store.now plain.new }
+    ensures has { IfOk result (λ yes. (us : List Says) (t : Tree) → AreSaid sig.now store.now uses.now us → IsKeptFor sig.now store.now term t →
+        IsTrue yes ↔ HasSortBy sig.now us sort t) }
+{
+    let _ = sig.operators();
+    let nothing = None;
+    let plainly = has_sort(sig, store, plain, &nothing, term.id, sort)?;
+    if plainly {
+        return Ok(true);
+    }
+    let told = told_by(store.allocator(), sig, store, uses)?;
+    has_sort(sig, store, plain, &told, term.id, sort)
 }

@@ -11,7 +11,7 @@ use Rattle.mau_evaluation.specs.Listing.{same_tree}
 use Rattle.mau_evaluation.specs.Evaluation.{Binding, look_up, binds, agree}
 use Rattle.mau_evaluation.proofs.Reduced.{same_tree_true}
 use Rattle.mau_evaluation.proofs.Still.{same_tree_itself}
-use Rattle.mau_choices.specs.Choosing.{AreApart}
+use Rattle.mau_api.specs.Answers.{AreApart}
 
 -- the variables that have values
 abbrev pub bound_variables : Binding → List Variable

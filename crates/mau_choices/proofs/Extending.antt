@@ -5,8 +5,8 @@ use Rattle.mau_terms.specs.Tree.{Tree}
 use Rattle.mau_terms.specs.Subst.{Variable, same_variable, has_variable, value_at}
 use Rattle.mau_terms.proofs.Variables.{same-is, same_itself}
 use Rattle.mau_evaluation.specs.Evaluation.{Binding, look_up, binds, extend}
-use Rattle.mau_choices.specs.Choosing.{AreApart}
 use Rattle.mau_choices.proofs.Agreeing.{bound_variables}
+use Rattle.mau_api.specs.Answers.{AreApart}
 
 -- ---- one entry behind the others
 

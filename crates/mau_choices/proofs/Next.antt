@@ -35,7 +35,7 @@ use Rattle.mau_evaluation.proofs.Listed.{compare_total, from_keep}
 use Rattle.mau_evaluation.proofs.Solved.{kept_ascend, solutions_are_listed}
 use Rattle.mau_api.specs.Programs.{program_over}
 use Rattle.mau_api.specs.Remaining.{as_matcher, IsAccepted, AreLeftOf, first_left, is_whole}
-use Rattle.mau_api.specs.Answers.{AreSettled}
+use Rattle.mau_api.specs.Answers.{AreSettled, AreApart}
 use Rattle.mau_api.proofs.Remaining.{next_is}
 use Rattle.mau_api.proofs.Bridge.{listed_are_left}
 use Rattle.mau_api.proofs.Wholes.{wholes_are_kept}
@@ -47,7 +47,7 @@ use Rattle.mau_reduce.proofs.PlainSorts.{having, having_known, having_exact}
 use Rattle.mau_reduce.proofs.SortKinds.{have_kinds}
 use Rattle.mau_reduce.proofs.Leftover.{head, first_passed, none_passes, one_passes, left_behind}
 use Rattle.mau_reduce.proofs.Candidates.{none_executable, same_option}
-use Rattle.mau_choices.specs.Choosing.{solution_gives, agreeing, left_of_choices, AreApart}
+use Rattle.mau_choices.specs.Choosing.{solution_gives, agreeing, left_of_choices}
 use Rattle.mau_choices.proofs.Agreeing.{bound_variables, HaveNorms, agrees, agreed, entry_of}
 use Rattle.mau_choices.proofs.Extending.{Suit}
 

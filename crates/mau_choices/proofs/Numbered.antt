@@ -34,7 +34,7 @@ use Rattle.mau_evaluation.specs.Evaluation.{Binding, levels, look_up, binds, ext
 use Rattle.mau_api.specs.Terms.{IsTerm}
 use Rattle.mau_api.specs.Programs.{program_over}
 use Rattle.mau_api.specs.Remaining.{as_matcher}
-use Rattle.mau_api.specs.Answers.{AreSettled, IsValueOf, binding_in}
+use Rattle.mau_api.specs.Answers.{AreSettled, IsValueOf, binding_in, AreApart}
 use Rattle.mau_machine.specs.Words.{IsExtension}
 use Rattle.mau_cond.specs.Bound.{extended}
 use Rattle.mau_cond.proofs.Pairs.{all_extended}
@@ -44,7 +44,7 @@ use Rattle.mau_reduce.specs.Reducible.{IsReducible}
 use Rattle.mau_reduce.specs.Bindings.{HaveKinds}
 use Rattle.mau_reduce.specs.Trying.{solution_in}
 use Rattle.mau_reduce.proofs.Candidates.{matchers_of}
-use Rattle.mau_choices.specs.Choosing.{left_of_choices, AreApart}
+use Rattle.mau_choices.specs.Choosing.{left_of_choices}
 use Rattle.mau_choices.proofs.Agreeing.{bound_variables, HaveNorms}
 use Rattle.mau_choices.proofs.Added.{variables_extended}
 use Rattle.mau_choices.proofs.Extending.{extension_keeps, extension_has, apart_extended}

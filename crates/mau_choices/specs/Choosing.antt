@@ -1,7 +1,7 @@
 -- The solutions of a fragment p := u of a condition, where u has a value: those of p in the value that agree with the binding so far, one after another.
-use Rattle.std.specs.Prelude.{◌≡◌, List, [], ◌∷◌, map, All, false, Option}
+use Rattle.std.specs.Prelude.{◌≡◌, List, map, All, Option, false}
 use Rattle.mau_terms.specs.Tree.{Tree}
-use Rattle.mau_terms.specs.Subst.{Variable, variables, has_variable}
+use Rattle.mau_terms.specs.Subst.{variables}
 use Rattle.mau_terms.specs.View.{variable_of}
 use Rattle.mau_terms.specs.declared.ids.VarId.{VarId}
 use Rattle.mau_terms.specs.declared.ids.TermId.{TermId}
@@ -17,7 +17,7 @@ use Rattle.mau_evaluation.specs.Program.{Fragment, Program}
 use Rattle.mau_evaluation.specs.Listing.{Solution, keep, compare, solutions}
 use Rattle.mau_evaluation.specs.Evaluation.{Binding, Level, extend, agree, have_sorts, solve}
 use Rattle.mau_api.specs.Terms.{IsTerm}
-use Rattle.mau_api.specs.Answers.{AreSettled, IsValueOf}
+use Rattle.mau_api.specs.Answers.{AreSettled, IsValueOf, AreApart}
 
 -- what a solution x of p gives under the binding σ, with the fragments c behind this one: its values have their sorts, and c is solved for what they
 -- bind
@@ -31,11 +31,6 @@ agreeing P p σ v = keep (λ x. agree P.sign.theory σ (variables p) x.values) (
 -- what those behind the last one give
 abbrev pub left_of_choices : Program → Level → Tree → List Fragment → Binding → Tree → Option Solution → Run (Option Binding)
 left_of_choices P l p c σ v last = first_of (solution_gives P l p c σ) (keep (comes_behind (compare P.sign.theory p) last) (agreeing P p σ v))
-
--- no variable stands twice
-abbrev pub AreApart : List Variable → Type 0
-AreApart [] = Unit {0}
-AreApart (x ∷ xs) = (has_variable xs x ≡ false) × AreApart xs
 
 -- The solutions of p in a value under a binding are listed without contexts, and the listing can go on behind the last one.
 pub record IsChoosing (s : SignatureOf) (nodes : List Node) (table : Table) (p : Tree) (bound : List (VarId × TermId)) (v : TermId) (asks_for : Asked) (last : Option Given.Solution) (is_for : Type 0) : Type 0 where

@@ -16,12 +16,12 @@ ghost use Rattle.mau_evaluation.specs.Program.{Fragment};
 ghost use Rattle.mau_evaluation.specs.Evaluation.{Binding, binds, levels, look_up, solve};
 ghost use Rattle.mau_api.specs.Terms.{IsTerm};
 ghost use Rattle.mau_api.specs.Programs.{program_over};
-ghost use Rattle.mau_api.specs.Answers.{AreSettled, IsValueOf, binding_in};
+ghost use Rattle.mau_api.specs.Answers.{AreSettled, IsValueOf, binding_in, AreApart};
 ghost use Rattle.mau_machine.specs.Words.{IsExtension};
 ghost use Rattle.mau_reduce.specs.Reducible.{IsReducible};
 ghost use Rattle.mau_reduce.specs.Tables.{IsPlainTable};
 ghost use Rattle.mau_reduce.specs.Trying.{solution_in};
-ghost use Rattle.mau_choices.specs.Choosing.{left_of_choices, AreApart, IsChoosing};
+ghost use Rattle.mau_choices.specs.Choosing.{left_of_choices, IsChoosing};
 
 use crate::told::told;
 use mau_api::{Lister, Program};

@@ -121,7 +121,7 @@ term_bare s cond i k t h e = by cond i h (slice_get cond i) refl e
     of : (k : Stage) (f : Written.Fragment) → IsFragment s f → term_by k (Some f) ≡ Some t → IsBare (terms_over s) (tree_of t)
     of Open (Part.Equal x y) h e = bare_is x e h.0
     of Open (Part.Match x y) h e = bare_is y e h.1
-    of Open (Part.Sort x y) h e = bare_is x e h
+    of Open (Part.Sort x y) h e = bare_is x e h.0
     of Open (Part.Reach x y) h e = absurd h
     of (First v) (Part.Equal x y) h e = bare_is y e h.1
     of (First v) (Part.Match x y) h e = cc

@@ -134,8 +134,9 @@ fn assert_fragment(rt: &impl Abort, sig: &Signature, fragment: &Fragment)
             assert!(rt; is_bare(sig, left));
             assert!(rt; is_bare(sig, right));
         }
-        Fragment::Sort(term, _) => {
+        Fragment::Sort(term, sort) => {
             assert!(rt; is_bare(sig, term));
+            assert!(rt; *sort < sig.poset().sorts());
         }
         Fragment::Reach(_, _) => {
             assert!(rt; false);
@@ -228,7 +229,7 @@ fn answers(
     lists: &str,
     first: usize,
 ) -> Result<String, Fail> {
-    let sig = signature(rt, alloc, 1, &[], None, "a : > 0\nb : > 0\nc : > 0")?;
+    let sig = signature(rt, alloc, 2, &[], None, "a : > 0\nb : > 0\nc : > 0")?;
     let mut store = Store::new(alloc);
     let sorts = sorts_of(rt, &sig, &mut store, "abc")?;
     assert_fragments(rt, &sig, cond);
@@ -285,7 +286,7 @@ fn it_goes_on_behind_a_solution(rt: HostRuntime) -> Result<(), Fail> {
 #[test]
 fn a_value_lacks_a_sort(rt: HostRuntime) -> Result<(), Fail> {
     let alloc = rt.alloc();
-    let cond = Vec::from_array(alloc, [first(alloc), Fragment::Sort(x(0), 7)])?;
+    let cond = Vec::from_array(alloc, [first(alloc), Fragment::Sort(x(0), 1)])?;
     assert_eq!(rt; answers(&rt, alloc, &cond, "ab", 0)?.as_str(), "e0e0e0F");
     Ok(())
 }

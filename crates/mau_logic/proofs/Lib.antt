@@ -25,3 +25,4 @@ pub mod AxiomsAlone
 -- computed cases of the definitions
 pub mod Examples
 pub mod ConditionalExamples
+pub mod BuiltExamples

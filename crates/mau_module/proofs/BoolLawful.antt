@@ -1,5 +1,5 @@
 -- The equations of the module of truth values are lawful over its signature.
-use Rattle.std.proofs.Common.{◌≡◌, ◌<◌, ◌^◌, ℕ, List, [], ◌∷◌, ◌++◌, true, refl, sym, subst, lit<}
+use Rattle.std.proofs.Common.{◌≡◌, ◌<◌, ◌≤◌, ◌^◌, ℕ, List, [], ◌∷◌, ◌++◌, length, nat_le, true, refl, sym, subst, lit<}
 use Rattle.std.specs.Prelude.{All}
 use Rattle.std.proofs.lemmas.List.Elements.{All-nil, All-cons, All-append}
 use Rattle.mau_poset.specs.Order.{kind_of, kinds_before, first_sort}
@@ -17,9 +17,14 @@ use Rattle.mau_program.specs.LawfulStatements.{IsLawfulFragment, HasListedIn, Is
 use Rattle.mau_program.specs.LawfulStrategies.{IsLawfulDefinition}
 use Rattle.mau_program.specs.Tops.{is_left_side}
 use Rattle.mau_module.specs.Library.{truth}
-use Rattle.mau_module.specs.Lawful.{AreLawfulOver}
+use Rattle.mau_module.specs.Made.{AreLawfulOver}
 use Rattle.mau_module.specs.Ready.{module_of}
 use Rattle.mau_module.proofs.PreludeFacts.{ms1, ms2}
+use Rattle.mau_module.proofs.Deciding.{every, every_in}
+use Rattle.mau_module.proofs.PreludeSigned.{in_all}
+use Rattle.mau_module.proofs.LawfulCarried.{nothing_few}
+use Rattle.mau_statement.specs.declared.TheConstants.{MAX_VARIABLES}
+use Rattle.std.proofs.lemmas.Bool.{leb-true}
 
 unfoldable pub bool_signature : SignatureOf
 bool_signature = (module_of ms2 (truth ∷ []) Bool).signature
@@ -209,6 +214,10 @@ last_four =
     (All-cons Holds (equation of_ab (implies a b) (not (xor a (and a b)))) [] holds_9
     (All-nil Holds))))
 
+-- not too many variables, by a test
+all_short : (es : List Equation) → every (λ (e : Equation). nat_le (length e.vars) MAX_VARIABLES) es ≡ true → All (λ (e : Equation). length e.vars ≤ MAX_VARIABLES) es
+all_short es t = in_all (λ (e : Equation). length e.vars ≤ MAX_VARIABLES) es (λ e i. leb-true (length e.vars) MAX_VARIABLES (every_in (λ (x : Equation). nat_le (length x.vars) MAX_VARIABLES) es t e i))
+
 pub bool_equations : AreLawfulOver (module_of ms2 (truth ∷ []) Bool).signature (module_of ms2 (truth ∷ []) Bool).own.statements
 unfolding bool_signature
 bool_equations = record {
@@ -216,4 +225,5 @@ bool_equations = record {
   memberships = All-nil (IsLawfulMembership bool_signature);
   rules = All-nil (IsLawfulRule bool_signature);
   strategies = All-nil (IsLawfulDefinition bool_signature);
+  few = record { equations = all_short (equations_of_and_and_xor ++ equations_that_reduce_to_xor) refl; memberships = nothing_few.memberships; rules = nothing_few.rules; strategies = nothing_few.strategies };
 }

@@ -33,7 +33,7 @@ use Rattle.mau_module.specs.Numbering.{number_in, sort_to, number_to}
 use Rattle.mau_module.specs.Included.{of_module, number_from, numerals_of, has_truth}
 use Rattle.mau_module.specs.Truth.{if_declaration, comparison, truth_over}
 use Rattle.mau_module.specs.Declarations.{declarations_of as declarations_of_parts, hierarchy_over, if_truth, all_declarations, given_over}
-use Rattle.mau_module.specs.Lawful.{number_at, IsMadeOver, AreMade, IsClosed}
+use Rattle.mau_module.specs.Made.{number_at, IsMadeOver, AreMade, IsClosed}
 use Rattle.mau_module.proofs.Alls.{all_one}
 use Rattle.mau_module.proofs.Members.{in_both, all_in, in_filtered, in_mapped, in_flattened, range_in}
 use Rattle.mau_module.proofs.Numbers.{sort_number}

@@ -14,11 +14,13 @@ use Rattle.mau_statement.specs.declared.fault.StatementFault.{StatementFault}
 use Rattle.mau_module.specs.declared.fault.ModuleFault.{ModuleFault}
 use Rattle.mau_module.specs.declared.fault.ModuleFault.TheVariants.{UnknownModule, ImportTooDeep, TooLarge, UnknownSort, Signed, Statement, NoMemory}
 use Rattle.mau_module.specs.Faults.{IfFault, IfOwn}
-use Rattle.mau_module.specs.Modules.{ModuleOf, StatementsOf, no_statements, and_more, behind, counts_of}
+use Rattle.mau_module.specs.Modules.{ModuleOf, StatementsOf, no_statements, and_more}
+use Rattle.mau_module.specs.Behind.{behind, counts_of}
 use Rattle.mau_module.specs.declared.statements.Counts.{Counts}
 use Rattle.mau_module.specs.Framed.{Frame, all_parts, frame_of}
 use Rattle.mau_module.specs.Stated.{AreLawful, HasCarriedFault, OwnRead}
-use Rattle.mau_module.specs.Flattened.{FlattenedAs, IsSigned, AreStatements, carried_in, context_in, grammar_in, own_in, carried_at_fault, own_at_fault, flattened}
+use Rattle.mau_module.specs.Flattened.{FlattenedAs, IsSigned, carried_in, context_in, grammar_in, own_in, carried_at_fault, own_at_fault, flattened}
+use Rattle.mau_module.specs.Gathered.{AreStatements}
 
 -- the fault of a statement, as one of a module
 pub statement_told : (P : ℕ → StatementFault → Type 0) (Q : ModuleFault → Type 0) → ((i : ℕ) (f : StatementFault) → P i f → Q (Statement i f))

@@ -8,7 +8,7 @@ use Rattle.mau_module.specs.Included.{of_module, has_part, with_part, parts_of}
 use Rattle.mau_module.specs.Known.{AreKnown}
 use Rattle.mau_module.specs.Framed.{all_parts, parts_over}
 use Rattle.mau_module.specs.Library.{bool}
-use Rattle.mau_module.specs.Lawful.{IsMadeOver, AreMade, IsClosed}
+use Rattle.mau_module.specs.Made.{IsMadeOver, AreMade, IsClosed}
 use Rattle.mau_module.proofs.Members.{in_both, all_in}
 use Rattle.mau_module.proofs.Including.{module_there, length_take, still_there, in_of_it, out_of_it}
 use Rattle.mau_module.proofs.Sourced.{part_in}

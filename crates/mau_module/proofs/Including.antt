@@ -20,7 +20,7 @@ use Rattle.mau_module.specs.Known.{AreKnown}
 use Rattle.mau_module.specs.Framed.{all_parts}
 use Rattle.mau_module.specs.Truth.{if_declaration, comparison, truth_over, truth_declarations}
 use Rattle.mau_module.specs.Declarations.{declarations_of, hierarchy_over, if_truth, all_declarations}
-use Rattle.mau_module.specs.Lawful.{IsMadeOver, AreMade, IsClosed}
+use Rattle.mau_module.specs.Made.{IsMadeOver, AreMade, IsClosed}
 use Rattle.mau_module.proofs.Members.{in_both, all_in, in_at, at_in, in_mapped, in_flat, in_flattened, in_contains, contains_in, in_range, range_in}
 use Rattle.mau_module.proofs.Numbers.{sort_number, kind_number}
 use Rattle.mau_module.proofs.Numberings.{IsNumbering, name_of_number, number_found, kind_has_sort, number_of_kind, number_again, kinds_kept, number_there, name_in}
@@ -32,7 +32,7 @@ module_there [] i l = absurd (omega arith)
 module_there (m ∷ ms) zero l = (m, refl)
 module_there (m ∷ ms) (suc i) l = module_there ms i (omega arith)
 
-there_below : (ms : List ModuleOf) (i : ℕ) (m : ModuleOf) → slice_get ms i ≡ Some m → i < length ms
+pub there_below : (ms : List ModuleOf) (i : ℕ) (m : ModuleOf) → slice_get ms i ≡ Some m → i < length ms
 there_below [] i m e = absurd cc
 there_below (x ∷ ms) zero m e = omega arith
 there_below (x ∷ ms) (suc i) m e = omega (arith, there_below ms i m e)

@@ -29,7 +29,7 @@ use Rattle.mau_module.specs.Numbering.{number_in, sort_to, number_to}
 use Rattle.mau_module.specs.Included.{of_module, number_from, numerals_of, has_part}
 use Rattle.mau_module.specs.Declarations.{hierarchy_over, all_declarations, given_over}
 use Rattle.mau_module.specs.Carried.{numbers_from}
-use Rattle.mau_module.specs.Lawful.{HasNumberSorts, IsMadeOver, AreMade, IsClosed}
+use Rattle.mau_module.specs.Made.{HasNumberSorts, IsMadeOver, AreMade, IsClosed}
 use Rattle.mau_module.proofs.Members.{in_both, all_in, in_filtered, in_mapped}
 use Rattle.mau_module.proofs.Numbers.{sort_number}
 use Rattle.mau_module.proofs.Numberings.{IsNumbering, name_of_number, number_found, number_within, kinds_kept, number_there, sort_within}
@@ -43,7 +43,7 @@ pub number_sorts : (ms : List ModuleOf) (m : ModuleOf) → AreMade ms → (over 
 number_sorts ms m made over i = elim (in_both nat over.included (length ms ∷ []) i) [ inl j ↦ theirs j | inr j ↦ own j ]
   where
     own : IsIn nat (length ms ∷ []) → HasNumberSorts m
-    own (inl e) = over.numbers (sym e)
+    own (inl e) = (over.numbers (sym e)).sorts
     own (inr e) = absurd e
 
     theirs : IsIn nat over.included → HasNumberSorts m
@@ -51,8 +51,8 @@ number_sorts ms m made over i = elim (in_both nat over.included (length ms ∷ [
         let p = part_is ms m.sorts over.included made (closed_of ms m over) nat j in
         let its = p.1.made.numbers (length_take ms nat (all_in (λ p. p < length ms) over.included nat over.within j)) in
         record {
-          zero = p.1.names_known (codes "Zero") (name_there p.0.sorts (codes "Zero") its.zero);
-          others = p.1.names_known (codes "NzNat") (name_there p.0.sorts (codes "NzNat") its.others);
+          zero = p.1.names_known (codes "Zero") (name_there p.0.sorts (codes "Zero") its.sorts.zero);
+          others = p.1.names_known (codes "NzNat") (name_there p.0.sorts (codes "NzNat") its.sorts.others);
         }
 
 -- ---- a part and the whole

@@ -1,5 +1,5 @@
 -- The statements of all parts, in the numbers of the whole, are lawful where the left sides of equations and the heads of memberships are.
-use Rattle.std.proofs.Common.{◌≡◌, ◌<◌, ℕ, ◌+◌, List, [], ◌∷◌, ◌++◌, true, map, length, get_or, Some, refl, sym, ◌∙◌, ap, subst, inl, inr, arith, length-append}
+use Rattle.std.proofs.Common.{◌≡◌, ◌<◌, ◌≤◌, ℕ, ◌+◌, List, [], ◌∷◌, ◌++◌, true, map, length, get_or, Some, refl, sym, ◌∙◌, ap, subst, inl, inr, arith, length-append}
 use Rattle.std.specs.Prelude.{All, fold, slice_get}
 use Rattle.std.specs.Option.{option_map_or}
 use Rattle.std.proofs.Math.ListN.{get_or-append, get_or-map}
@@ -12,22 +12,59 @@ use Rattle.mau_signature.specs.Signature.{SignatureOf, theory_at}
 use Rattle.mau_sigcheck.specs.Built.{IsBuiltAndAccepted}
 use Rattle.mau_program.specs.declared.statements.Equation.{Equation}
 use Rattle.mau_program.specs.declared.statements.Membership.{Membership}
+use Rattle.mau_program.specs.declared.statements.Rule.{Rule}
+use Rattle.mau_program.specs.declared.definitions.StratDef.{StratDef}
 use Rattle.mau_program.specs.Tops.{is_left_side, is_head}
 use Rattle.mau_program.specs.LawfulStatements.{IsLawfulEquation, IsLawfulMembership, IsLawfulRule}
 use Rattle.mau_program.specs.LawfulStrategies.{IsLawfulDefinition}
-use Rattle.mau_renumber.specs.Carried.{Numbers, equation_to, membership_to, rule_to}
+use Rattle.mau_renumber.specs.Carried.{Numbers, variables_to, equation_to, membership_to, rule_to}
 use Rattle.mau_renumber.specs.Strategies.{definition_to}
 use Rattle.mau_renumber.specs.Keeps.{StatementsStayLawful}
+use Rattle.mau_renumber.proofs.Apart.{variables_apart}
 use Rattle.mau_renumber.proofs.Stays.{all_stay}
+use Rattle.mau_statement.specs.declared.TheConstants.{MAX_VARIABLES}
 use Rattle.mau_signing.specs.Signed.{signature_over}
 use Rattle.mau_module.specs.Modules.{ModuleOf, StatementsOf, no_statements, and_more}
 use Rattle.mau_module.specs.Declarations.{hierarchy_over, given_over}
 use Rattle.mau_module.specs.Carried.{numbers_from, carried_from, carried_part, carried}
-use Rattle.mau_module.specs.Lawful.{AreLawfulOver, IsMadeOver, AreMade, IsClosed}
+use Rattle.mau_module.specs.Made.{HaveFewVariables, AreLawfulOver, IsMadeOver, AreMade, IsClosed}
 use Rattle.mau_module.proofs.Including.{IsPart, part_is}
 use Rattle.mau_module.proofs.Keeping.{keeps_kinds}
 
 -- ---- lists of statements
+
+abbrev Short : {A : Type 0} → (A → List (List ℕ × ℕ)) → A → Type 0
+Short vars x = length (vars x) ≤ MAX_VARIABLES
+
+pub nothing_few : HaveFewVariables no_statements
+nothing_few = record {
+  equations = All-nil (Short (λ (e : Equation). e.vars));
+  memberships = All-nil (Short (λ (m : Membership). m.vars));
+  rules = All-nil (Short (λ (r : Rule). r.vars));
+  strategies = All-nil (Short (λ (d : StratDef). d.vars));
+}
+
+both_few : (a b : StatementsOf) → HaveFewVariables a → HaveFewVariables b → HaveFewVariables (and_more a b)
+both_few a b x y = record {
+  equations = All-append (Short (λ (e : Equation). e.vars)) a.equations b.equations x.equations y.equations;
+  memberships = All-append (Short (λ (m : Membership). m.vars)) a.memberships b.memberships x.memberships y.memberships;
+  rules = All-append (Short (λ (r : Rule). r.vars)) a.rules b.rules x.rules y.rules;
+  strategies = All-append (Short (λ (d : StratDef). d.vars)) a.strategies b.strategies x.strategies y.strategies;
+}
+
+-- in other numbers there are as many
+few_moved : (sort : ℕ → ℕ) (vars : List (List ℕ × ℕ)) → length vars ≤ MAX_VARIABLES → length (variables_to sort vars) ≤ MAX_VARIABLES
+few_moved sort vars l =
+    let same = ap length (variables_apart sort vars).1 in
+    omega (arith, l, same, length-map (variables_to sort vars) (λ (p : List ℕ × ℕ). p.1), length-map vars (λ (p : List ℕ × ℕ). sort p.1))
+
+moved_few : (n : Numbers) (a : StatementsOf) → HaveFewVariables a → HaveFewVariables (carried_from n a)
+moved_few n a l = record {
+  equations = All-map (Short (λ (e : Equation). e.vars)) (equation_to n) a.equations (λ i x w. few_moved n.sort (get_or a.equations i x).vars (l.equations i x w));
+  memberships = All-map (Short (λ (m : Membership). m.vars)) (membership_to n) a.memberships (λ i x w. few_moved n.sort (get_or a.memberships i x).vars (l.memberships i x w));
+  rules = All-map (Short (λ (r : Rule). r.vars)) (rule_to n) a.rules (λ i x w. few_moved n.sort (get_or a.rules i x).vars (l.rules i x w));
+  strategies = All-map (Short (λ (d : StratDef). d.vars)) (definition_to n) a.strategies (λ i x w. few_moved n.sort (get_or a.strategies i x).vars (l.strategies i x w));
+}
 
 pub nothing_lawful : (s : SignatureOf) → AreLawfulOver s no_statements
 nothing_lawful s = record {
@@ -35,6 +72,7 @@ nothing_lawful s = record {
   memberships = All-nil (IsLawfulMembership s);
   rules = All-nil (IsLawfulRule s);
   strategies = All-nil (IsLawfulDefinition s);
+  few = nothing_few;
 }
 
 pub both_lawful : (s : SignatureOf) (a b : StatementsOf) → AreLawfulOver s a → AreLawfulOver s b → AreLawfulOver s (and_more a b)
@@ -43,6 +81,7 @@ both_lawful s a b x y = record {
   memberships = All-append (IsLawfulMembership s) a.memberships b.memberships x.memberships y.memberships;
   rules = All-append (IsLawfulRule s) a.rules b.rules x.rules y.rules;
   strategies = All-append (IsLawfulDefinition s) a.strategies b.strategies x.strategies y.strategies;
+  few = both_few a b x.few y.few;
 }
 
 abbrev IsLeft : SignatureOf → Equation → Type 0
@@ -75,6 +114,7 @@ moved_lawful n old new stay a l tops = record {
   memberships = λ i x w. each (membership_to n) a.memberships (IsHeadOf new) (IsLawfulMembership old) (IsLawfulMembership new) stay.memberships l.memberships tops.heads i x w;
   rules = All-map (IsLawfulRule new) (rule_to n) a.rules (λ i x w. stay.rules (get_or a.rules i x) (l.rules i x w));
   strategies = All-map (IsLawfulDefinition new) (definition_to n) a.strategies (λ i x w. stay.strategies (get_or a.strategies i x) (l.strategies i x w));
+  few = moved_few n a l.few;
 }
   where
     each : {A : Type 0} (f : A → A) (xs : List A) (T P Q : A → Type 0) → ((x : A) → P x → T (f x) → Q (f x)) → All P xs → All T (map f xs) → All Q (map f xs)

@@ -19,6 +19,8 @@ pub mod OneModule
 -- lawful modules: elements of lists, what stands in a signature, numbers of sorts and kinds, declarations of parts, what keeps kinds, what
 -- is built in, attributes of a text, parts of imports, carried statements
 pub mod Members
+pub mod Deciding
+pub mod PreludeSigned
 pub mod Sources
 pub mod Numberings
 pub mod Including
@@ -32,10 +34,14 @@ pub mod MadeOver
 pub mod Entering
 pub mod Adding
 pub mod TextMade
+pub mod Numerals
 -- and those of the prelude: the rows of numbers, what they have, their equations, and the whole
+pub mod Signable
 pub mod NumberRows
 pub mod PreludeFacts
 pub mod BoolLawful
 pub mod PreludeMade
+pub mod PreludeReady
+pub mod PreludeLawful
 pub mod ReadyMade
 pub mod NativeRows

@@ -1,5 +1,5 @@
 -- A module over those before it is lawful, and so is a library with one module more.
-use Rattle.std.proofs.Common.{◌≡◌, ◌<◌, ◌≤◌, ◌⊎◌, ℕ, ◌+◌, zero, suc, List, [], ◌∷◌, ◌++◌, Option, Some, None, length, take, refl, sym, ◌∙◌, ap, subst, inl, inr, arith, length-append}
+use Rattle.std.proofs.Common.{◌≡◌, ◌≢◌, ◌<◌, ◌≤◌, ◌⊎◌, ℕ, ◌+◌, zero, suc, List, [], ◌∷◌, ◌++◌, Option, Some, None, length, take, refl, sym, ◌∙◌, ap, subst, inl, inr, arith, length-append}
 use Rattle.std.specs.Prelude.{All, slice_get}
 use Rattle.std.proofs.lemmas.Bool.{cases_lt}
 use Rattle.mau_poset.specs.Order.{IsPoset}
@@ -20,7 +20,8 @@ use Rattle.mau_module.specs.Framed.{all_parts}
 use Rattle.mau_module.specs.Declarations.{hierarchy_over, given_over}
 use Rattle.mau_module.specs.Carried.{carried}
 use Rattle.mau_module.specs.Stated.{AreLawful}
-use Rattle.mau_module.specs.Lawful.{program_of, AreLawfulOver, DeclaresTruth, HasNumberSorts, AreOwnBuiltIns, IsMadeOver, AreMade, IsSignedOver}
+use Rattle.mau_module.specs.Lawful.{program_of}
+use Rattle.mau_module.specs.Made.{AreLawfulOver, DeclaresTruth, DeclaresNumbers, DeclaresNothingBuiltIn, AreOwnBuiltIns, IsMadeOver, AreMade, IsSignedOver}
 use Rattle.mau_module.proofs.BuiltAgain.{all_built}
 use Rattle.mau_module.proofs.LawfulCarried.{HaveTops, both_lawful, carried_lawful}
 
@@ -61,8 +62,9 @@ module _ (ms : List ModuleOf) (m : ModuleOf) (included : List ℕ) (all_made : A
   }
 
   -- so it is one over those before it
-  pub made_over : IsIn 0 m.parts → AreOwnBuiltIns m → (length ms ≡ 0 → DeclaresTruth m) → (length ms ≡ 3 → HasNumberSorts m) → AreBuiltIn m.sorts s → IsMadeOver ms m
-  made_over first own_built truth numbers built = record {
+  pub made_over : IsIn 0 m.parts → AreOwnBuiltIns m → (length ms ≡ 0 → DeclaresTruth m) → (length ms ≡ 3 → DeclaresNumbers m) → (length ms ≢ 3 → DeclaresNothingBuiltIn m)
+      → AreBuiltIn m.sorts s → IsMadeOver ms m
+  made_over first own_built truth numbers plain built = record {
     included = included;
     parts = k.parts;
     within = k.closed.within;
@@ -75,6 +77,7 @@ module _ (ms : List ModuleOf) (m : ModuleOf) (included : List ℕ) (all_made : A
     built_ins = own_built;
     truth = truth;
     numbers = numbers;
+    plain = plain;
     lawful = program_lawful built;
   }
 
@@ -83,7 +86,7 @@ module _ (ms : List ModuleOf) (m : ModuleOf) (included : List ℕ) (all_made : A
   pub text_made : 4 ≤ length ms → IsIn 0 included → ((d : Decl) → IsIn d m.own.declarations → d.attrs.builtin ≡ None) → IsMadeOver ms m
   text_made far first plain =
       made_over (subst (IsIn 0) (sym k.parts) (in_left 0 included (length ms ∷ []) first))
-      (λ d name i e. absurd (nothing d name i e)) (λ e. absurd (omega arith)) (λ e. absurd (omega arith))
+      (λ d name i e. absurd (nothing d name i e)) (λ e. absurd (omega arith)) (λ e. absurd (omega arith)) (λ e. nothing)
       (all_built ms m.sorts included all_made k.closed m.own.pairs m.own.declarations well_declared_so first (λ d name i e t. absurd (nothing d name i e)))
     where
       nothing : (d : Decl) (name : List ℕ) → IsIn d m.own.declarations → d.attrs.builtin ≡ Some name → ⊥

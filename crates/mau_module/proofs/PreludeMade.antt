@@ -3,13 +3,13 @@ use Rattle.std.proofs.Common.{◌≡◌, ◌<◌, ℕ, ◌+◌, List, [], ◌∷
 use Rattle.std.specs.Prelude.{codes, bytes_eq, position}
 use Rattle.std.specs.Option.{option_map}
 use Rattle.std.proofs.lemmas.List.Elements.{All-nil}
-use Rattle.mau_poset.specs.Order.{kind_of, step, no_step}
+use Rattle.mau_poset.specs.Order.{kind_of, kinds_before, first_sort, step, no_step}
 use Rattle.mau_poset.proofs.Orders.{joined_sorts}
 use Rattle.mau_terms.specs.Finite.{IsIn}
 use Rattle.mau_terms.proofs.Finite.{in_left, in_right}
 use Rattle.mau_signature.specs.declared.decl.Decl.{Decl}
 use Rattle.mau_signature.specs.Signature.{SignatureOf}
-use Rattle.mau_declare.specs.Names.{has_name}
+use Rattle.mau_prelude.specs.declared.module.PreludeModule.{PreludeModule}
 use Rattle.mau_prelude.specs.declared.module.PreludeModule.TheVariants.{TruthValue, Truth, Bool, Nat}
 use Rattle.mau_prelude.specs.Booleans.{constants, connectives}
 use Rattle.mau_prelude.specs.Numbers.{number_pairs}
@@ -17,12 +17,13 @@ use Rattle.mau_program.specs.LawfulStatements.{IsLawfulEquation, IsLawfulMembers
 use Rattle.mau_program.specs.LawfulStrategies.{IsLawfulDefinition}
 use Rattle.mau_program.specs.BuiltIns.{IsNamed, HasNumbers, HasBuiltIn, AreBuiltIn}
 use Rattle.mau_signing.specs.Signed.{signature_over}
+use Rattle.mau_module.specs.Modules.{ModuleOf}
 use Rattle.mau_module.specs.Library.{truth_value, truth, bool}
 use Rattle.mau_module.specs.Numbering.{number_in}
 use Rattle.mau_module.specs.Included.{parts_of, pairs_of, numerals_of, has_truth}
 use Rattle.mau_module.specs.Declarations.{declarations_of, hierarchy_over, if_truth, all_declarations, given_over}
-use Rattle.mau_module.specs.Lawful.{AreLawfulOver, number_at}
-use Rattle.mau_module.specs.Ready.{module_of, IsReady}
+use Rattle.mau_module.specs.Made.{AreLawfulOver, number_at, DeclaresNumbers, IsMadeOver, AreMade, IsSignedOver}
+use Rattle.mau_module.specs.Ready.{module_of}
 use Rattle.mau_module.proofs.Members.{in_contains}
 use Rattle.mau_module.proofs.Sources as Sources
 use Rattle.mau_module.proofs.Sourced.{in_part}
@@ -30,7 +31,13 @@ use Rattle.mau_module.proofs.BuiltAgain.{truth_there, all_built}
 use Rattle.mau_module.proofs.MadeOver.{made_over, well_declared_so}
 use Rattle.mau_module.proofs.NumberRows.{number_declarations, rows_built}
 use Rattle.mau_module.proofs.PreludeFacts.{ms1, ms2, ms3, parts1, parts2, parts3, names3, length1, length2, length3}
+use Rattle.mau_module.proofs.LawfulCarried.{nothing_few}
 use Rattle.mau_module.proofs.BoolLawful.{bool_equations}
+use Rattle.mau_module.proofs.PreludeSigned.{suit}
+
+-- the module of a table is one over those before it, once it is signed
+abbrev pub IsMadeOnce : List ModuleOf → List ℕ → PreludeModule → Type 0
+IsMadeOnce ms imports p = AreMade ms → IsSignedOver ms (module_of ms imports p) (parts_of ms imports) → IsMadeOver ms (module_of ms imports p)
 
 no_equations : (s : SignatureOf) → AreLawfulOver s (record { equations = []; memberships = []; rules = []; strategies = []; strats = [] })
 no_equations s = record {
@@ -38,6 +45,7 @@ no_equations s = record {
   memberships = All-nil (IsLawfulMembership s);
   rules = All-nil (IsLawfulRule s);
   strategies = All-nil (IsLawfulDefinition s);
+  few = nothing_few;
 }
 
 -- ---- truth values
@@ -47,8 +55,8 @@ constants_plain d name (inl e) b = let x = ap (λ (y : Decl). y.attrs.builtin) (
 constants_plain d name (inr (inl e)) b = let x = ap (λ (y : Decl). y.attrs.builtin) (sym e) ∙ b in cc
 constants_plain d name (inr (inr e)) b = absurd e
 
-pub truth_value_ready : IsReady [] [] TruthValue
-truth_value_ready made k =
+pub truth_value_made : IsMadeOnce [] [] TruthValue
+truth_value_made made k =
     made_over [] (module_of [] [] TruthValue) [] made k (no_equations (module_of [] [] TruthValue).signature) (inl refl)
     (λ d name i e. absurd (constants_plain d name i e))
     (λ e. record {
@@ -57,6 +65,7 @@ truth_value_ready made k =
       no = record { declaration = _; declared = inr (inl refl); form = refl; args = refl; result = refl };
     })
     (λ e. absurd (omega arith))
+    (λ e. constants_plain)
     built
   where
     built : AreBuiltIn (module_of [] [] TruthValue).sorts (signature_over (given_over [] [] (module_of [] [] TruthValue).sorts (hierarchy_over [] [] (module_of [] [] TruthValue).sorts []) constants))
@@ -76,14 +85,14 @@ truth_value_ready made k =
 nothing_declared : (d : Decl) (name : List ℕ) → IsIn d [] → d.attrs.builtin ≡ Some name → ⊥
 nothing_declared d name i b = i
 
-pub truth_ready : IsReady ms1 (truth_value ∷ []) Truth
-truth_ready made k =
+pub truth_made : IsMadeOnce ms1 (truth_value ∷ []) Truth
+truth_made made k =
     let m = module_of ms1 (truth_value ∷ []) Truth in
     let parts = parts_of ms1 (truth_value ∷ []) in
     let first : IsIn 0 parts = subst (IsIn 0) (sym parts1) (inl refl) in
     let own = no_equations m.signature in
     made_over ms1 m parts made k own (subst (IsIn 0) (sym k.parts) (in_left 0 parts (length ms1 ∷ []) first))
-    (λ d name i e. absurd i) (λ e. absurd (omega (arith, e, length1))) (λ e. absurd (omega (arith, e, length1)))
+    (λ d name i e. absurd i) (λ e. absurd (omega (arith, e, length1))) (λ e. absurd (omega (arith, e, length1))) (λ e. nothing_declared)
     (all_built ms1 m.sorts parts made k.closed m.own.pairs m.own.declarations (well_declared_so ms1 m parts made k own) first (λ d name i e t. absurd i))
 
 -- ---- what may be computed with truth values
@@ -96,20 +105,29 @@ connectives_plain d name (inr (inr (inr (inl e)))) b = let x = ap (λ (y : Decl)
 connectives_plain d name (inr (inr (inr (inr (inl e))))) b = let x = ap (λ (y : Decl). y.attrs.builtin) (sym e) ∙ b in cc
 connectives_plain d name (inr (inr (inr (inr (inr e))))) b = absurd e
 
-pub bool_ready : IsReady ms2 (truth ∷ []) Bool
-bool_ready made k =
+pub bool_made : IsMadeOnce ms2 (truth ∷ []) Bool
+bool_made made k =
     let m = module_of ms2 (truth ∷ []) Bool in
     let parts = parts_of ms2 (truth ∷ []) in
     let first : IsIn 0 parts = subst (IsIn 0) (sym parts2) (inl refl) in
     made_over ms2 m parts made k bool_equations (subst (IsIn 0) (sym k.parts) (in_left 0 parts (length ms2 ∷ []) first))
-    (λ d name i e. absurd (connectives_plain d name i e)) (λ e. absurd (omega (arith, e, length2))) (λ e. absurd (omega (arith, e, length2)))
+    (λ d name i e. absurd (connectives_plain d name i e)) (λ e. absurd (omega (arith, e, length2))) (λ e. absurd (omega (arith, e, length2))) (λ e. connectives_plain)
     (all_built ms2 m.sorts parts made k.closed m.own.pairs m.own.declarations (well_declared_so ms2 m parts made k bool_equations) first
     (λ d name i e t. absurd (connectives_plain d name i e)))
 
 -- ---- numbers
 
-pub nat_ready : IsReady ms3 (bool ∷ []) Nat
-nat_ready made k =
+declares_numbers : DeclaresNumbers (module_of ms3 (bool ∷ []) Nat)
+unfolding ms1 ms2 ms3 kind_of kinds_before first_sort
+declares_numbers = record {
+  sorts = record { zero = refl; others = refl };
+  one_kind = refl;
+  successor = refl;
+  in_kind = suit (module_of ms3 (bool ∷ []) Nat).signature.hierarchy 5 (module_of ms3 (bool ∷ []) Nat).own.declarations refl;
+}
+
+pub nat_made : IsMadeOnce ms3 (bool ∷ []) Nat
+nat_made made k =
     let m = module_of ms3 (bool ∷ []) Nat in
     let parts = parts_of ms3 (bool ∷ []) in
     let names = m.sorts in
@@ -127,8 +145,6 @@ nat_ready made k =
     let one_kind = below 2 3 (inr (inl refl)) (omega arith) (omega arith) in
     let named : (x : List ℕ) (a : ℕ) → position (bytes_eq x) (codes "Bool" ∷ codes "Zero" ∷ codes "NzNat" ∷ codes "Nat" ∷ []) ≡ Some a → IsNamed names x a = λ x a e.
     subst (λ ns. position (bytes_eq x) ns ≡ Some a) (sym names3) e in
-    let has : (x : List ℕ) → has_name (codes "Bool" ∷ codes "Zero" ∷ codes "NzNat" ∷ codes "Nat" ∷ []) x ≡ true → has_name names x ≡ true = λ x e.
-    subst (λ ns. has_name ns x ≡ true) (sym names3) e in
     let truth = truth_there ms3 names parts made k.closed m.own.pairs m.own.declarations accepted first in
     let included = in_part (parts ++ length ms3 ∷ []) 3 (in_right 3 parts (length ms3 ∷ []) (inl (sym length3))) in
     let zero_is : number_in names (codes "Zero") ≡ 1 = ap (λ ns. number_in ns (codes "Zero")) names3 in
@@ -150,5 +166,5 @@ nat_ready made k =
     (omega (arith, four)) one_kind (named (codes "Bool") 0 refl) (named (codes "NzNat") 2 refl) (named (codes "Nat") 3 refl) truth numbers in
     made_over ms3 m parts made k own (subst (IsIn 0) (sym k.parts) (in_left 0 parts (length ms3 ∷ []) first))
     (λ d name i e. subst (λ (x : SignatureOf). HasBuiltIn names x (number_at x d) name) (sym k.signature) (rows d name i e))
-    (λ e. absurd (omega (arith, e, length3))) (λ e. record { zero = has (codes "Zero") refl; others = has (codes "NzNat") refl })
+    (λ e. absurd (omega (arith, e, length3))) (λ e. declares_numbers) (λ e. absurd (e length3))
     (all_built ms3 names parts made k.closed m.own.pairs m.own.declarations accepted first (λ d name i e t. rows d name i e))

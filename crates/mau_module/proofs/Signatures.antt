@@ -52,7 +52,7 @@ on_cycle_read names news pairs g c n p t w =
 
 module _ (ms : List ModuleOf) (f : Frame) (e : Elements) (names : List (List ℕ)) (parts : List ℕ) (n : names ≡ f.names) (p : parts ≡ f.parts)
     (ps : List (ℕ × ℕ)) (q : ps ≡ (hierarchy_in ms f e).pairs) (h : Hierarchy) (o : h ≡ record { sorts = length names; pairs = ps }) where
-  ordered : h ≡ hierarchy_in ms f e
+  pub ordered : h ≡ hierarchy_in ms f e
   ordered = let both : ℕ → List (ℕ × ℕ) → Hierarchy = λ a b. record { sorts = a; pairs = b } in o ∙ ap₂ both (ap length n) q
 
   numbered : (numerals : Option (ℕ × ℕ)) → numerals ≡ numerals_of names (parts ++ length ms ∷ []) → numerals ≡ numerals_of f.names (all_parts ms f.parts)

@@ -20,7 +20,7 @@ use Rattle.mau_module.specs.Included.{of_module, number_from, has_part, has_trut
 use Rattle.mau_module.specs.Framed.{all_parts}
 use Rattle.mau_module.specs.Truth.{if_declaration, comparison, truth_over, truth_declarations}
 use Rattle.mau_module.specs.Declarations.{declarations_of, hierarchy_over, if_truth, all_declarations}
-use Rattle.mau_module.specs.Lawful.{DeclaresTruth, IsMadeOver, AreMade, IsClosed}
+use Rattle.mau_module.specs.Made.{DeclaresTruth, IsMadeOver, AreMade, IsClosed}
 use Rattle.mau_module.proofs.Members.{in_both, all_in, in_mapped, in_flat, in_flattened, in_range, range_in}
 use Rattle.mau_module.proofs.Numbers.{sort_number, kind_number}
 use Rattle.mau_module.proofs.Numberings.{IsNumbering, name_of_number, number_within, kind_has_sort, number_again, number_there}
@@ -104,7 +104,7 @@ module _ (ms : List ModuleOf) (names : List (List ℕ)) (parts : List ℕ) (all_
   abbrev whole : List Decl
   whole = all_declarations ms parts names h own
 
-  own_of_part : (r : ℕ) (n : ModuleOf) (d : Decl) → IsIn r parts → slice_get ms r ≡ Some n → IsIn d n.own.declarations → IsIn (declaration_to (number_from n names h) d) whole
+  pub own_of_part : (r : ℕ) (n : ModuleOf) (d : Decl) → IsIn r parts → slice_get ms r ≡ Some n → IsIn d n.own.declarations → IsIn (declaration_to (number_from n names h) d) whole
   own_of_part r n d i e j =
       let it = declaration_to (number_from n names h) d in
       let theirs = declarations_of ms names h parts in

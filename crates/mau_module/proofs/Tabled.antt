@@ -9,7 +9,8 @@ use Rattle.mau_prelude.specs.Tables.{TableOf}
 use Rattle.mau_signing.specs.Signed.{SignatureRead, signature_over}
 use Rattle.mau_signing.proofs.OneSignature.{signature_is}
 use Rattle.mau_module.specs.declared.statements.Counts.{Counts}
-use Rattle.mau_module.specs.Modules.{ModuleOf, StatementsOf, and_more, behind, counts_of}
+use Rattle.mau_module.specs.Modules.{ModuleOf, StatementsOf, and_more}
+use Rattle.mau_module.specs.Behind.{behind, counts_of}
 use Rattle.mau_module.specs.Included.{pairs_of}
 use Rattle.mau_module.specs.Framed.{Frame}
 use Rattle.mau_module.specs.Declarations.{hierarchy_over, given_over}

@@ -9,6 +9,9 @@ use Rattle.mau_signature.specs.Faults.{Given}
 use Rattle.mau_signature.specs.Made.{IsSignature}
 use Rattle.mau_signature.specs.Signature.{SignatureOf}
 use Rattle.mau_sigcheck.specs.Accepted.{IsAccepted}
+use Rattle.mau_sigcheck.specs.Built.{IsBuiltAndAccepted}
+use Rattle.mau_program.specs.BuiltIns.{HasTruth}
+use Rattle.mau_program.proofs.WellDeclared.{built_and_accepted}
 use Rattle.mau_grammar.specs.Grammar.{GrammarOf}
 use Rattle.mau_modtext.specs.Word.{Word}
 use Rattle.mau_modtext.specs.declared.raw.RawModule.{RawModule}
@@ -16,7 +19,8 @@ use Rattle.mau_declare.specs.Elements.{Elements}
 use Rattle.mau_declare.specs.Imports.{imports}
 use Rattle.mau_signing.specs.Signed.{SignatureRead, signature_read, signature_over}
 use Rattle.mau_signing.proofs.OneSignature.{signature_is}
-use Rattle.mau_module.specs.Modules.{ModuleOf, StatementsOf, and_more, behind}
+use Rattle.mau_module.specs.Modules.{ModuleOf, StatementsOf, and_more}
+use Rattle.mau_module.specs.Behind.{behind}
 use Rattle.mau_module.specs.declared.statements.Counts.{Counts}
 use Rattle.mau_module.specs.Library.{bool, next_or, last_named}
 use Rattle.mau_module.specs.Libraries.{IsNext}
@@ -26,11 +30,13 @@ use Rattle.mau_module.specs.Known.{AreKnown}
 use Rattle.mau_module.specs.Kept.{IsOver}
 use Rattle.mau_module.specs.Framed.{Frame, all_parts, imported, frame_of}
 use Rattle.mau_module.specs.Declarations.{hierarchy_over, given_over}
-use Rattle.mau_module.specs.Flattened.{IsSigned, AreStatements, hierarchy_in, own_in, given_in, carried_in}
-use Rattle.mau_module.specs.Lawful.{AreLawfulOver, IsMadeOver, AreMade, IsClosed, IsSignedOver}
+use Rattle.mau_module.specs.Flattened.{IsSigned, hierarchy_in, own_in, given_in, carried_in}
+use Rattle.mau_module.specs.Gathered.{AreStatements}
+use Rattle.mau_module.specs.Made.{AreLawfulOver, IsMadeOver, AreMade, IsClosed, IsSignedOver}
 use Rattle.mau_module.proofs.Framing.{frame_closed, truth_included}
 use Rattle.mau_module.proofs.Plain.{declared_plain}
 use Rattle.mau_module.proofs.Flattening.{behind_parts, made, parts_are_next}
+use Rattle.mau_module.proofs.BuiltAgain.{truth_there}
 use Rattle.mau_module.proofs.MadeOver.{text_made}
 
 -- ---- the numbers of imports
@@ -60,6 +66,15 @@ numbers_lt ms (x ∷ xs) far = All-cons (λ i. i < length ms) (or_zero (last_nam
 
 -- ---- what a signature that is read is
 
+-- what a module of a text includes is closed
+pub text_closed : (ms : List ModuleOf) (ws : List Word) (raw : RawModule) (f : Frame) → f ≡ frame_of ms ws raw → AreMade ms → 4 ≤ length ms → All (λ p. p < length ms) f.parts
+    → AreKnown ms f.names f.parts → IsClosed ms f.names f.parts
+text_closed ms ws raw f q made far within known =
+    let is : f.parts ≡ parts_of ms (bool ∷ imported ms ws raw) = ap (λ (x : Frame). x.parts) q in
+    let lt = All-cons (λ i. i < length ms) bool (imported ms ws raw) (omega arith) (numbers_lt ms (imports ws raw.elements) far) in
+    subst (λ ps. IsClosed ms f.names ps) (sym is)
+    (frame_closed ms made (bool ∷ imported ms ws raw) f.names lt (subst (All (λ p. p < length ms)) is within) (subst (AreKnown ms f.names) is known))
+
 pub read_right : (names : List (List ℕ)) (g : Given) (c : Option ℕ) {s : SignatureOf} → SignatureRead names g c (Ok s) → IsPoset g.hierarchy × IsAccepted (signature_over g)
 read_right names g c (signature_read p w n a l) = (p, a)
 
@@ -73,9 +88,6 @@ module _ (ms : List ModuleOf) (ws : List Word) (raw : RawModule) (f : Frame) (q 
   parts_are : f.parts ≡ parts_of ms (bool ∷ all_imports)
   parts_are = ap (λ (x : Frame). x.parts) q
 
-  imports_lt : 4 ≤ length ms → All (λ i. i < length ms) (bool ∷ all_imports)
-  imports_lt far = All-cons (λ i. i < length ms) bool all_imports (omega arith) (numbers_lt ms (imports ws raw.elements) far)
-
   signature_so : s ≡ signature_over (given_in ms f e)
   signature_so =
       signature_is (frame_of ms ws raw).names (given_in ms (frame_of ms ws raw) e) (Rattle.mau_module.specs.Flattened.conflict_in ms (frame_of ms ws raw) e) signed.signature
@@ -87,6 +99,17 @@ module _ (ms : List ModuleOf) (ws : List Word) (raw : RawModule) (f : Frame) (q 
       let p = subst (λ (x : Frame). IsPoset (hierarchy_in ms x e) × IsAccepted (signature_over (given_in ms x e))) (sym q) r in
       (p.0, subst IsAccepted (sym signature_so) p.1)
 
+  text_frame : 4 ≤ length ms → AreMade ms → IsClosed ms f.names f.parts
+  text_frame far all_made = text_closed ms ws raw f q all_made far within known
+
+  -- truth values are there
+  pub text_truth : 4 ≤ length ms → AreMade ms → HasTruth f.names s
+  text_truth far all_made =
+      let poset = subst IsPoset (sym (ap (λ (x : SignatureOf). x.hierarchy) signature_so)) right.0 in
+      let accepted = subst IsBuiltAndAccepted signature_so (built_and_accepted s is_signature poset right.1) in
+      subst (HasTruth f.names) (sym signature_so)
+      (truth_there ms f.names f.parts all_made (text_frame far all_made) e.pairs (own_in ms f e) accepted (subst (IsIn 0) (sym parts_are) (truth_included ms all_made all_imports (omega arith))))
+
   module _ (g : GrammarOf) (decls : List Decl) (n : Counts) (all : StatementsOf) (declared : decls ≡ own_in ms f e) (over : IsOver s e.pairs decls) (are : AreStatements ms ws raw f e s n all) where
     abbrev it : ModuleOf
     it = made ms ws raw f q e s signed f g decls all (behind n all)
@@ -96,8 +119,7 @@ module _ (ms : List ModuleOf) (ws : List Word) (raw : RawModule) (f : Frame) (q 
 
     making : 4 ≤ length ms → AreMade ms → IsSignedOver ms it f.parts
     making far all_made = record {
-      closed = subst (λ ps. IsClosed ms f.names ps) (sym parts_are)
-          (frame_closed ms all_made (bool ∷ all_imports) f.names (imports_lt far) (subst (All (λ p. p < length ms)) parts_are within) (subst (AreKnown ms f.names) parts_are known));
+      closed = text_frame far all_made;
       parts = refl;
       signature = signature_so ∙ ap (λ ds. signature_over (given_over ms f.parts f.names (hierarchy_in ms f e) ds)) (sym declared);
       made = is_signature;

@@ -21,14 +21,12 @@ use Rattle.mau_module.specs.declared.fault.Limit.{Limit}
 use Rattle.mau_module.specs.declared.fault.ModuleFault.{ModuleFault}
 use Rattle.mau_module.specs.declared.fault.ModuleFault.TheVariants.{UnknownModule, ImportTooDeep, TooLarge, UnknownSort, Signed, Statement}
 use Rattle.mau_module.specs.declared.TheConstants.{MAX_DEPTH}
-use Rattle.mau_module.specs.declared.statements.Counts.{Counts}
-use Rattle.mau_module.specs.Modules.{StatementsOf, no_statements, and_more, counts_of, ModuleOf}
+use Rattle.mau_module.specs.Modules.{StatementsOf, no_statements, and_more, ModuleOf}
 use Rattle.mau_module.specs.Numbering.{number_in}
 use Rattle.mau_module.specs.Included.{first_unknown, numerals_of, numeral_kind, has_truth}
 use Rattle.mau_module.specs.Framed.{Frame, all_parts, frame_of, included_declarations, limit_passed}
 use Rattle.mau_module.specs.Declarations.{hierarchy_over, given_over}
 use Rattle.mau_module.specs.Carried.{carried}
-use Rattle.mau_module.specs.Lawful.{AreLawfulOver}
 use Rattle.mau_module.specs.Stated.{AreLawful, HasCarriedFault, OwnRead}
 
 -- ---- its signature
@@ -115,14 +113,3 @@ pub data FlattenedAs (ms : List ModuleOf) (ws : List Word) (raw : RawModule) : R
       → AreLawful s (carried_in ms (frame_of ms ws raw) s)
       → OwnRead ws (context_in ms ws (frame_of ms ws raw) e s) no_statements 1 raw.elements (Ok own)
       → FlattenedAs ms ws raw (Ok (module_in ms ws raw e s own))
-
--- ---- what is read of one in turn
-
--- all its statements, of which so many are those of its parts
-pub record AreStatements (ms : List ModuleOf) (ws : List Word) (raw : RawModule) (f : Frame) (e : Elements) (s : SignatureOf) (n : Counts) (all : StatementsOf) : Type 0 where
-  pub lawful : AreLawful s (carried_in ms f s)
-  pub own : StatementsOf
-  pub read : OwnRead ws (context_in ms ws f e s) no_statements 1 raw.elements (Ok own)
-  pub its : AreLawfulOver s own
-  pub counted : n ≡ counts_of (carried_in ms f s)
-  pub whole : all ≡ and_more (carried_in ms f s) own

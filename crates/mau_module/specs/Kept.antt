@@ -5,6 +5,7 @@ use Rattle.mau_poset.specs.declared.TheConstants.{MAX_SORTS}
 use Rattle.mau_signature.specs.Faults.{HasSorts}
 use Rattle.mau_signature.specs.Signature.{SignatureOf}
 use Rattle.mau_grammar.specs.Grammar.{GrammarOf}
+use Rattle.mau_program.specs.BuiltIns.{HasTruth}
 use Rattle.mau_declare.specs.Flattened.{AreLower}
 use Rattle.mau_statement.specs.Context.{IsItsGrammar}
 use Rattle.mau_signature.specs.declared.decl.Decl.{Decl}
@@ -26,3 +27,4 @@ pub record IsKept (sorts : List (List ℕ)) (lower : List Bool) (s : SignatureOf
   pub grammar : IsItsGrammar sorts s g
   pub over : IsOver s pairs decls
   pub shallow : depth ≤ MAX_DEPTH
+  pub truth : HasTruth sorts s

@@ -10,6 +10,8 @@ use Rattle.mau_modtext.specs.declared.raw.RawModule.{RawModule}
 use Rattle.mau_module.specs.Modules.{ModuleOf}
 use Rattle.mau_module.specs.Faults.{told}
 use Rattle.mau_module.specs.Flattened.{FlattenedAs}
+use Rattle.mau_module.specs.Prelude.{prelude}
+use Rattle.mau_module.specs.Libraries.{AreLawfulModules}
 use Rattle.mau_module.specs.declared.fault.ModuleFault.{ModuleFault}
 
 -- over a library a text says one module, or has one fault, but for the two trees of an ambiguity
@@ -19,3 +21,7 @@ ModulesAreOne = (ms : List ModuleOf) (ws : List Word) (raw : RawModule) (r s : R
 -- each declaration of the prelude's module of numbers has built in what the table of what is built in names for its form
 abbrev pub RowsAreNative : Type 0
 RowsAreNative = (d : Decl) → IsIn d (table_of Nat).declarations → (r : Row) × IsIn r number_rows × (d.form ≡ r.form) × (d.attrs.builtin ≡ Some r.name)
+
+-- the program of each module of the prelude is lawful
+abbrev pub PreludeIsLawful : Type 0
+PreludeIsLawful = AreLawfulModules prelude

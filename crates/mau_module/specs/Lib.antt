@@ -1,4 +1,6 @@
--- Whole modules: what a text's module is with all that it imports, and why it is none. To be read in this order.
+-- Whole modules: what a text's module is with all that it imports, and why it is none.
+
+-- ---- what a user of the crate has to read, in this order
 
 -- accepted modules; sorts and kinds in the numbers of another module; the library of a session
 pub mod Modules
@@ -6,7 +8,6 @@ pub mod Numbering
 pub mod Library
 -- what a module includes, in its numbers
 pub mod Included
-pub mod Known
 -- what it includes, and the limits that it may pass
 pub mod Framed
 -- its declarations
@@ -19,10 +20,20 @@ pub mod Stated
 pub mod Faults
 pub mod Flattened
 pub mod Prelude
-pub mod Kept
--- what holds of every accepted module, on which later ones rest
+-- what the conditions of commands over a module are read over
+pub mod Conditions
+-- a module as a program
 pub mod Lawful
+-- what holds of every library, and the laws
 pub mod Libraries
-pub mod Ready
--- what holds of this
 pub mod Laws
+-- ---- what only inner contracts and proofs cite
+
+-- names of sorts that are there; what holds of each module; what a module adds to those that it includes
+pub mod Known
+pub mod Kept
+pub mod Behind
+-- modules made over those before them; what is read of one in turn; the modules of the prelude
+pub mod Made
+pub mod Gathered
+pub mod Ready

@@ -2,7 +2,8 @@
 use Rattle.std.specs.Prelude.{◌≡◌, ◌<◌, ◌≤◌, ℕ, List, length, All, Some, slice_get}
 use Rattle.mau_module.specs.Modules.{ModuleOf}
 use Rattle.mau_program.specs.LawfulPrograms.{IsLawfulProgram}
-use Rattle.mau_module.specs.Lawful.{program_of, IsMadeOver, AreMade}
+use Rattle.mau_module.specs.Lawful.{program_of}
+use Rattle.mau_module.specs.Made.{IsMadeOver, AreMade}
 
 -- modules include modules that are there, and each is one over those before it
 pub record IsLibrary (ms : List ModuleOf) : Type 0 where

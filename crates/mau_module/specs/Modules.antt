@@ -1,5 +1,5 @@
 -- Modules that were accepted.
-use Rattle.std.specs.Prelude.{ℕ, List, [], ◌++◌, drop, ◌+◌, length}
+use Rattle.std.specs.Prelude.{ℕ, List, [], ◌++◌, ◌+◌, length}
 use Rattle.mau_signature.specs.declared.decl.Decl.{Decl}
 use Rattle.mau_signature.specs.Signature.{SignatureOf}
 use Rattle.mau_grammar.specs.Grammar.{GrammarOf}
@@ -8,7 +8,6 @@ use Rattle.mau_program.specs.declared.statements.Membership.{Membership}
 use Rattle.mau_program.specs.declared.statements.Rule.{Rule}
 use Rattle.mau_program.specs.declared.definitions.StratDef.{StratDef}
 use Rattle.mau_program.specs.declared.definitions.StratDecl.{StratDecl}
-use Rattle.mau_module.specs.declared.statements.Counts.{Counts}
 
 -- Statements, each kind in order: equations, memberships, rules, and the definitions of strategies. Beside them the strategies that are
 -- declared.
@@ -58,24 +57,3 @@ pub record ModuleOf : Type 0 where
   pub statements : StatementsOf
   -- what it declares itself
   pub own : PartOf
-
--- ---- the statements that a module adds to those of the modules that it includes
-
--- the statements and declared strategies behind so many
-abbrev pub behind : Counts → StatementsOf → StatementsOf
-behind n a = record {
-  equations = drop n.equations a.equations;
-  memberships = drop n.memberships a.memberships;
-  rules = drop n.rules a.rules;
-  strategies = drop n.strategies a.strategies;
-  strats = drop n.strats a.strats;
-}
-
-abbrev pub counts_of : StatementsOf → Counts
-counts_of a = record {
-  equations = length a.equations;
-  memberships = length a.memberships;
-  rules = length a.rules;
-  strategies = length a.strategies;
-  strats = length a.strats;
-}

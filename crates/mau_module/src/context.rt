@@ -1,5 +1,5 @@
 //! What the statements of a module are read over: how its terms are written, and the constant `true`.
-ghost use Rattle.std.specs.Prelude.{◌≡◌, ◌≤◌, ◌∷◌, [], codes, length, map, true, All, IfOk};
+ghost use Rattle.std.specs.Prelude.{◌≡◌, ◌≤◌, ◌∷◌, [], codes, length, map, All, IfOk};
 ghost use Rattle.std.specs.Option.{ForSome};
 ghost use Rattle.mau_poset.specs.declared.TheConstants.{MAX_SORTS};
 ghost use Rattle.mau_terms.specs.Bare.{IsBare};
@@ -10,16 +10,19 @@ ghost use Rattle.mau_grammar.specs.Grammar.{grammar_of};
 ghost use Rattle.mau_declare.specs.Elements.{AreOver};
 ghost use Rattle.mau_declare.specs.Flattened.{variable_at};
 ghost use Rattle.mau_statement.specs.Context.{IsItsGrammar, constant};
+ghost use Rattle.mau_program.specs.BuiltIns.{HasTruth};
+ghost use Rattle.mau_module.specs.Conditions.{true_among, context_of};
 ghost use Rattle.mau_module.specs.Flattened.{truth_in};
 
 use crate::declarations::has_part;
 use crate::frame::Frame;
 use crate::library::{Library, TRUTH};
+use crate::module::Module;
 use crate::numbering::number_in;
 use mau_declare::{Elements, Names, Words, variables};
 use mau_grammar::{Alias, Grammar};
-use mau_signature::{Attrs, Decl, Form, Piece, Signature, is_bare};
-use mau_terms::{Args, Bare, NoMemory, OpId, Seq, Text};
+use mau_signature::{Attrs, Decl, Form, Piece, Signature};
+use mau_terms::{NoMemory, OpId, Seq, Text};
 use std::alloc::Global;
 
 /// The names as texts.
@@ -72,13 +75,6 @@ pub fn grammar_in(
     grammar_over(alloc, sorts, signature, &variables)
 }
 
-/// Whether an operator is a constant.
-fn is_constant(alloc: Global, signature: &Signature, op: OpId) -> bool
-    ensures { result ≡ true → IsBare (terms_over signature.now) (constant op) }
-{
-    is_bare(signature, &Bare::App(op, Args::new(Vec::new(alloc))))
-}
-
 /// The declaration of the constant `true` of a sort.
 fn true_declaration(alloc: Global, bool: u32) -> Result<Decl, NoMemory>
     ensures { IfOk result (λ d. d ≡ record { form = Piece.Word (codes "true") ∷ []; args = []; result = bool; attrs = no_attributes }) }
@@ -92,7 +88,22 @@ fn true_declaration(alloc: Global, bool: u32) -> Result<Decl, NoMemory>
     })
 }
 
-/// The constant `true`, where truth values are among the parts.
+/// The constant `true` of the kind of `Bool`.
+fn true_among(alloc: Global, sorts: &Names, signature: &Signature) -> Result<Option<OpId>, NoMemory>
+    requires few { length sorts.now ≤ MAX_SORTS }
+    requires named { length sorts.now ≡ signature.now.hierarchy.sorts }
+    requires truth { HasTruth sorts.now signature.now }
+    ensures value { IfOk result (λ truth. truth ≡ true_among sorts.now signature.now) }
+    ensures bare { IfOk result (λ truth. ForSome truth (λ f. IsBare (terms_over signature.now) (constant f))) }
+{
+    let decl = true_declaration(alloc, number_in(sorts, "Bool"))?;
+    match signature.operator(alloc, &decl) {
+        Ok(op) => Ok(op),
+        Err(fault) => Err(fault),
+    }
+}
+
+/// The constant `true`, where the operators on truth values are among the parts.
 pub fn truth_in(
     alloc: Global,
     library: &Library,
@@ -101,23 +112,20 @@ pub fn truth_in(
 ) -> Result<Option<OpId>, NoMemory>
     requires few { length frame.now.names ≤ MAX_SORTS }
     requires named { length frame.now.names ≡ signature.now.hierarchy.sorts }
+    requires truth { HasTruth frame.now.names signature.now }
     ensures value { IfOk result (λ truth. truth ≡ truth_in library.now frame.now signature.now) }
     ensures bare { IfOk result (λ truth. ForSome truth (λ f. IsBare (terms_over signature.now) (constant f))) }
 {
     if !has_part(library, &frame.parts, TRUTH) {
         return Ok(None);
     }
-    if frame.names.len() == 0 {
-        return Err(NoMemory);
-    }
-    let decl = true_declaration(alloc, number_in(&frame.names, "Bool"))?;
-    match signature.operator(alloc, &decl)? {
-        Some(op) => {
-            if !is_constant(alloc, signature, op) {
-                return Err(NoMemory);
-            }
-            Ok(Some(op))
-        }
-        None => Ok(None),
-    }
+    true_among(alloc, &frame.names, signature)
+}
+
+/// The constant `true` of a module, for the conditions of commands.
+pub fn truth_of(alloc: Global, module: &Module) -> Result<Option<OpId>, NoMemory>
+    ensures value { IfOk result (λ truth. truth ≡ (context_of module.now).truth) }
+    ensures bare { IfOk result (λ truth. ForSome truth (λ f. IsBare (terms_over module.now.signature) (constant f))) }
+{
+    true_among(alloc, module.sorts(), module.signature())
 }

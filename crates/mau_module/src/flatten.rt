@@ -3,20 +3,23 @@ ghost use Rattle.std.specs.Prelude.{◌≡◌, ◌<◌, ◌≤◌, ◌+◌, leng
 ghost use Rattle.mau_signature.specs.Faults.{HasSorts};
 ghost use Rattle.mau_statement.specs.Context.{IsItsGrammar};
 ghost use Rattle.mau_poset.specs.declared.TheConstants.{MAX_SORTS};
-ghost use Rattle.mau_declare.specs.Elements.{AreOver, elements_of};
+ghost use Rattle.mau_declare.specs.Elements.{elements_of, AreOver};
 ghost use Rattle.mau_declare.specs.Flattened.{AreLower, declared_forms};
 ghost use Rattle.mau_module.specs.Library.{HasPrelude};
 ghost use Rattle.mau_module.specs.Libraries.{IsNext};
-ghost use Rattle.mau_module.specs.Lawful.{AreLawfulOver};
+ghost use Rattle.mau_program.specs.BuiltIns.{HasTruth};
+ghost use Rattle.mau_module.specs.Made.{AreLawfulOver, IsClosed};
 ghost use Rattle.mau_module.specs.Known.{AreKnown};
 ghost use Rattle.mau_module.specs.Faults.{IfFault};
 ghost use Rattle.mau_module.specs.Framed.{all_parts, frame_of, included_declarations};
 ghost use Rattle.mau_declare.specs.Words.{token_text};
-ghost use Rattle.mau_module.specs.Modules.{no_statements, behind};
+ghost use Rattle.mau_module.specs.Modules.{no_statements};
+ghost use Rattle.mau_module.specs.Behind.{behind};
 ghost use Rattle.mau_module.specs.Kept.{AreKept, IsOver};
 ghost use Rattle.mau_module.specs.Faults.{IfOwn};
 ghost use Rattle.mau_module.specs.Stated.{OwnRead};
-ghost use Rattle.mau_module.specs.Flattened.{FlattenedAs, IsFramed, IsSigned, AreStatements, context_in, grammar_in, hierarchy_in, own_in};
+ghost use Rattle.mau_module.specs.Flattened.{FlattenedAs, IsFramed, IsSigned, context_in, grammar_in, hierarchy_in, own_in};
+ghost use Rattle.mau_module.specs.Gathered.{AreStatements};
 
 use crate::MAX_DEPTH;
 use crate::context::{grammar_in, truth_in};
@@ -48,9 +51,12 @@ pub fn framed(
     ensures framed { OnOk result (IsFramed library.now words.now raw.now) }
     ensures within { IfOk result (λ f. All (λ p. p < length library.now) f.parts) }
     ensures known { IfOk result (λ f. AreKnown library.now f.names f.parts) }
+    ensures closed { IfOk result (λ f. IsClosed library.now f.names f.parts) }
     ensures few { IfOk result (λ f. length f.names ≤ MAX_SORTS) }
     ensures fault { IfErr result (IfFault (λ f. FlattenedAs library.now words.now raw.now (Err f))) }
 {
+    // What is known of every library is needed below, and this call tells it.
+    let _modules = library.len();
     let frame = match frame_of(alloc, library, words, raw) {
         Ok(frame) => frame,
         Err(fault) => return Err(fault),
@@ -102,6 +108,7 @@ fn own_statements(
     requires few { length frame.now.names ≤ MAX_SORTS }
     requires named { length frame.now.names ≡ signature.now.hierarchy.sorts }
     requires its { IsItsGrammar frame.now.names signature.now grammar.now }
+    requires truth { HasTruth frame.now.names signature.now }
     requires grammar { grammar.now ≡ grammar_in words.now frame.now elements.now signature.now }
     ensures ok { IfOk result (λ own. OwnRead words.now (context_in library.now words.now frame.now elements.now signature.now) no_statements 1 raw.now.elements (Ok own)) }
     ensures lawful { IfOk result (AreLawfulOver signature.now) }
@@ -130,6 +137,7 @@ fn read_statements(
     requires few { length frame.now.names ≤ MAX_SORTS }
     requires named { length frame.now.names ≡ signature.now.hierarchy.sorts }
     requires its { IsItsGrammar frame.now.names signature.now grammar.now }
+    requires truth { HasTruth frame.now.names signature.now }
     requires grammar { grammar.now ≡ grammar_in words.now frame.now elements.now signature.now }
     ensures ok { IfOk result (λ r. AreStatements library.now words.now raw.now frame.now elements.now signature.now r.0 r.1) }
     ensures fault { IfErr result (IfFault (λ f. FlattenedAs library.now words.now raw.now (Err f))) }
@@ -168,6 +176,7 @@ fn make_module(
     requires kept { AreKept frame.names signed.lower.items signed.signature }
     requires its { IsItsGrammar frame.names signed.signature grammar }
     requires over { IsOver signed.signature elements.pairs signed.own.items }
+    requires truth { HasTruth frame.names signed.signature }
     ensures { IfOk result (λ m. m ≡ record {
       name = token_text words.now raw.now.name;
       depth = frame.depth;

@@ -20,6 +20,7 @@ mod statements;
 mod tables;
 mod truth;
 
+pub use context::truth_of;
 pub use fault::{Limit, ModuleFault};
 pub use library::{Library, NAT};
 pub use module::Module;

@@ -68,7 +68,7 @@ fn last_named(modules: &[Module], name: &str) -> Option<usize>
 }
 
 impl Library {
-    ghost use Rattle.std.specs.Prelude.{◌≡◌, ◌<◌, ◌≤◌, ◌∷◌, ◌++◌, [], length, All, Some, IfSome, OnOk, OnErr, slice_get};
+    ghost use Rattle.std.specs.Prelude.{◌≡◌, ◌<◌, ◌∷◌, ◌++◌, [], length, All, Some, IfSome, OnOk, OnErr, slice_get};
     ghost use Rattle.mau_module.specs.Library.{last_named};
     ghost use Rattle.mau_module.specs.Libraries.{IsLibrary, IsNext, IsLawfulAt, AreLawfulModules};
     ghost use Rattle.mau_program.specs.LawfulPrograms.{IsLawfulProgram};

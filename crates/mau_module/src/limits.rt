@@ -1,5 +1,5 @@
 //! Which limit a module passes.
-ghost use Rattle.std.specs.Prelude.{◌≡◌, ◌+◌, ◌<◌, length, min, All};
+ghost use Rattle.std.specs.Prelude.{◌≡◌, ◌<◌, length, min, All};
 ghost use Rattle.mau_module.specs.Modules.{statement_total};
 ghost use Rattle.mau_module.specs.Framed.{included_declarations, included_statements, limit_passed};
 

@@ -41,7 +41,8 @@ impl Model for Module {
     ghost use Rattle.mau_program.specs.contracts.statements.Rule as rule;
     ghost use Rattle.mau_program.specs.contracts.definitions.StratDef as definition;
     ghost use Rattle.mau_program.specs.contracts.definitions.StratDecl as strat;
-    ghost use Rattle.mau_module.specs.Modules.{ModuleOf, StatementsOf, behind};
+    ghost use Rattle.mau_module.specs.Modules.{ModuleOf, StatementsOf};
+    ghost use Rattle.mau_module.specs.Behind.{behind};
     ghost use Rattle.std.specs.Prelude.{◌≡◌};
     ghost use Rattle.mau_module.specs.Kept.{IsKept};
 
@@ -81,9 +82,10 @@ impl Module {
     ghost use Rattle.mau_signature.specs.Faults.{HasSorts};
     ghost use Rattle.mau_declare.specs.Flattened.{sort_name, kind_names};
     ghost use Rattle.mau_statement.specs.Context.{IsItsGrammar};
+    ghost use Rattle.mau_program.specs.BuiltIns.{HasTruth};
     ghost use Rattle.mau_module.specs.declared.TheConstants.{MAX_DEPTH};
     ghost use Rattle.mau_module.specs.Kept.{AreKept, IsOver};
-    ghost use Rattle.mau_module.specs.Modules.{behind};
+    ghost use Rattle.mau_module.specs.Behind.{behind};
     ghost use Rattle.mau_module.specs.Lawful.{program_of};
 
     /// The module with this number, which includes the parts of a frame and itself. Of its statements, so many are those of its parts.
@@ -102,6 +104,7 @@ impl Module {
         requires kept { AreKept frame.names signed.lower.items signed.signature }
         requires grammar { IsItsGrammar frame.names signed.signature grammar }
         requires over { IsOver signed.signature pairs.items signed.own.items }
+        requires truth { HasTruth frame.names signed.signature }
         ensures { IfOk result (λ m. m ≡ record {
           name = name;
           depth = frame.depth;
@@ -165,6 +168,7 @@ impl Module {
         ensures names { result.now ≡ self.now.sorts }
         ensures named { length result.now ≡ self.now.signature.hierarchy.sorts }
         ensures few { length result.now ≤ MAX_SORTS }
+        ensures truth { HasTruth self.now.sorts self.now.signature }
     {
         &self.sorts
     }

@@ -7,7 +7,7 @@ ghost use Rattle.mau_module.specs.Faults.{IfOwn};
 ghost use Rattle.mau_poset.specs.declared.TheConstants.{MAX_SORTS};
 ghost use Rattle.mau_module.specs.Known.{AreKnown};
 ghost use Rattle.mau_module.specs.Carried.{carried};
-ghost use Rattle.mau_module.specs.Lawful.{AreLawfulOver};
+ghost use Rattle.mau_module.specs.Made.{AreLawfulOver};
 
 use crate::fault::ModuleFault;
 use crate::library::Library;

@@ -1,23 +1,23 @@
 //! The modules of the prelude, made from their tables.
-ghost use Rattle.std.specs.Prelude.{◌≡◌, ◌<◌, ◌≤◌, ℕ, List, length, fold, true, All, IfOk, OnOk};
-ghost use Rattle.mau_poset.specs.Order.{IsWithin, IsPoset};
-ghost use Rattle.mau_poset.specs.declared.TheConstants.{MAX_SORTS};
+ghost use Rattle.std.specs.Prelude.{◌≡◌, ◌<◌, ◌≤◌, ℕ, List, length, fold, All, IfOk, OnOk};
+ghost use Rattle.mau_poset.specs.Order.{IsPoset};
 ghost use Rattle.mau_signature.specs.Faults.{HasSorts, IsSort};
-ghost use Rattle.mau_grammar.specs.Grammar.{grammar_of};
 ghost use Rattle.mau_declare.specs.Names.{with_name};
 ghost use Rattle.mau_declare.specs.Flattened.{AreLower};
 ghost use Rattle.mau_signing.specs.Signed.{signature_over};
-ghost use Rattle.mau_statement.specs.Context.{IsItsGrammar};
+ghost use Rattle.mau_program.specs.BuiltIns.{HasTruth};
 ghost use Rattle.mau_module.specs.Known.{AreKnown};
 ghost use Rattle.mau_module.specs.Included.{depth_over, parts_of, sorts_of};
 ghost use Rattle.mau_module.specs.Declarations.{hierarchy_over, given_over};
 ghost use Rattle.mau_module.specs.Libraries.{IsNext};
-ghost use Rattle.mau_module.specs.Lawful.{IsRightOver};
-ghost use Rattle.mau_module.specs.Ready.{module_of, IsReady};
+ghost use Rattle.mau_module.specs.Made.{IsRightOver};
+ghost use Rattle.mau_module.specs.declared.TheConstants.{MAX_DEPTH};
+ghost use Rattle.mau_module.specs.Stated.{AreLawful};
+ghost use Rattle.mau_module.specs.Carried.{carried};
+ghost use Rattle.mau_module.specs.Ready.{IsSignable, module_of, IsReady};
 ghost use Rattle.mau_sigcheck.specs.Accepted.{IsAccepted};
 ghost use Rattle.mau_module.specs.Prelude.{table_module, with_table, prelude};
 
-use crate::MAX_DEPTH;
 use crate::context::grammar_over;
 use crate::declarations::pairs_of;
 use crate::frame::Frame;
@@ -25,14 +25,13 @@ use crate::include::{depth_over, parts_of, sorts_of};
 use crate::library::{BOOL, Library, TRUTH, TRUTH_VALUE};
 use crate::module::Module;
 use crate::own::read_carried;
-use crate::signing::{Signed, sign_declarations};
+use crate::signing::{Signed, fault_of, only_memory, sign_declarations};
 use crate::statements::Statements;
 use mau_declare::{Names, lower_sorts};
-use mau_grammar::{Alias, Grammar};
-use mau_poset::{MAX_SORTS, Poset};
+use mau_grammar::Alias;
 use mau_prelude::{PreludeModule, table};
 use mau_program::Equation;
-use mau_signature::{Decl, Signature};
+use mau_signature::Decl;
 use mau_signing::order_sorts;
 use mau_terms::{NoMemory, Text};
 use std::alloc::Global;
@@ -70,70 +69,7 @@ fn table_frame(
     })
 }
 
-/// Whether a sort or kind is there.
-fn is_sort(poset: &Poset, sort: u32) -> bool
-    ensures { result ≡ true → IsSort poset.now sort }
-{
-    sort < poset.sorts() + poset.kinds()
-}
-
-/// Whether these sorts and kinds are there.
-fn are_sorts(poset: &Poset, sorts: &[u32]) -> bool
-    ensures { result ≡ true → All (IsSort poset.now) sorts.now }
-{
-    for sort in sorts {
-        if !is_sort(poset, *sort) {
-            return false;
-        }
-    }
-    true
-}
-
-/// Whether the sorts and kinds of a declaration are there.
-fn has_sorts(poset: &Poset, decl: &Decl) -> bool
-    ensures { result ≡ true → HasSorts poset.now decl.now }
-{
-    are_sorts(poset, decl.args.items()) && is_sort(poset, decl.result)
-}
-
-/// Whether those of all declarations are there.
-fn have_sorts(poset: &Poset, decls: &[Decl]) -> bool
-    ensures { result ≡ true → All (HasSorts poset.now) decls.now }
-{
-    for decl in decls {
-        if !has_sorts(poset, decl) {
-            return false;
-        }
-    }
-    true
-}
-
-/// Whether the sorts of declared variables are there.
-fn are_over(poset: &Poset, variables: &[Alias]) -> bool
-    ensures { result ≡ true → All (λ alias. IsSort poset.now alias.sort) variables.now }
-{
-    for alias in variables {
-        if !is_sort(poset, alias.sort) {
-            return false;
-        }
-    }
-    true
-}
-
-/// Whether pairs name sorts that are there.
-fn are_within(sorts: usize, pairs: &[(u32, u32)]) -> bool
-    ensures { result ≡ true → IsWithin pairs.now sorts }
-{
-    for pair in pairs {
-        if pair.0 as usize >= sorts || pair.1 as usize >= sorts {
-            return false;
-        }
-    }
-    true
-}
-
-/// The signature of a module of the prelude that has these subsort pairs and declarations itself. Where they are no lawful ones, there is
-/// none either: see `Library::prelude`.
+/// The signature of a module of the prelude that has these subsort pairs and declarations itself.
 fn sign_table(
     alloc: Global,
     library: &Library,
@@ -144,8 +80,7 @@ fn sign_table(
 ) -> Result<Signed, NoMemory>
     requires parts { All (λ p. p < length library.now) parts.now }
     requires known { AreKnown library.now names.now parts.now }
-    ensures few { OnOk result (length names.now ≤ MAX_SORTS) }
-    ensures within { OnOk result (IsWithin pairs.now (length names.now)) }
+    requires signable { IsSignable library.now parts.now names.now pairs.now own.items }
     ensures signature { IfOk result (λ s. s.signature ≡ signature_over (given_over library.now parts.now names.now (hierarchy_over library.now parts.now names.now pairs.now) own.items)) }
     ensures hierarchy { IfOk result (λ s. s.signature.hierarchy ≡ hierarchy_over library.now parts.now names.now pairs.now) }
     ensures right { IfOk result (λ s. IsPoset s.signature.hierarchy × IsAccepted s.signature) }
@@ -153,45 +88,21 @@ fn sign_table(
     ensures own { IfOk result (λ s. s.own.items ≡ own.items) }
     ensures sorts { IfOk result (λ s. All (HasSorts (hierarchy_over library.now parts.now names.now pairs.now)) s.own.items) }
 {
-    let sorts = names.len();
-    if sorts > MAX_SORTS as usize || !are_within(sorts, pairs) {
-        return Err(NoMemory);
-    }
     let mut all = pairs_of(alloc, library, names, parts)?;
     all.extend_from_slice(pairs)?;
-    let lower = lower_sorts(alloc, sorts as u32, &all)?;
+    let lower = lower_sorts(alloc, names.len() as u32, &all)?;
     let poset = match order_sorts(alloc, names, &all) {
         Ok(poset) => poset,
-        Err(_) => return Err(NoMemory),
+        Err(fault) => return Err(only_memory(fault_of(fault))),
     };
-    if !have_sorts(&poset, &own) {
-        return Err(NoMemory);
-    }
     match sign_declarations(alloc, library, names, parts, &lower, poset, &own, None) {
         Ok(signature) => Ok(Signed {
             signature,
             lower,
             own,
         }),
-        Err(_) => Err(NoMemory),
+        Err(fault) => Err(only_memory(fault)),
     }
-}
-
-/// The grammar of a module of the prelude that declares these variables. Where the sort of one isn't there, there is none.
-fn table_grammar(
-    alloc: Global,
-    names: &Names,
-    signature: &Signature,
-    variables: &[Alias],
-) -> Result<Grammar, NoMemory>
-    requires { length names.now ≡ signature.now.hierarchy.sorts }
-    ensures value { IfOk result (λ g. g ≡ grammar_of signature.now names.now variables.now) }
-    ensures kept { IfOk result (IsItsGrammar names.now signature.now) }
-{
-    if !are_over(signature.poset(), variables) {
-        return Err(NoMemory);
-    }
-    grammar_over(alloc, names, signature, variables)
 }
 
 /// The module with this frame that declares these pairs, operators, variables and equations itself.
@@ -208,6 +119,11 @@ fn make_module(
     requires depth { frame.depth ≤ MAX_DEPTH }
     requires parts { All (λ p. p < length library.now) frame.parts }
     requires known { AreKnown library.now frame.names frame.parts }
+    requires signable { IsSignable library.now frame.parts frame.names pairs.items declarations.items }
+    requires variables { All (λ alias. IsSort (hierarchy_over library.now frame.parts frame.names pairs.items) alias.sort) variables.items }
+    requires tops { AreLawful (signature_over (given_over library.now frame.parts frame.names (hierarchy_over library.now frame.parts frame.names pairs.items) declarations.items))
+        (carried library.now frame.names (signature_over (given_over library.now frame.parts frame.names (hierarchy_over library.now frame.parts frame.names pairs.items) declarations.items)) frame.parts) }
+    requires truth { HasTruth frame.names (signature_over (given_over library.now frame.parts frame.names (hierarchy_over library.now frame.parts frame.names pairs.items) declarations.items)) }
     ensures value { (sorts : List (List ℕ)) → IfOk result (λ m. m ≡ table_module library.now frame (record { name = name; sorts = sorts; pairs = pairs.items; declarations = declarations.items; variables = variables.items; equations = equations.items })) }
     ensures right { IfOk result (λ m. IsRightOver library.now m frame.parts) }
 {
@@ -219,7 +135,7 @@ fn make_module(
         &pairs,
         declarations,
     )?;
-    let grammar = table_grammar(alloc, &frame.names, &signed.signature, &variables)?;
+    let grammar = grammar_over(alloc, &frame.names, &signed.signature, &variables)?;
     // What is known of every signature is needed below, and this call tells it.
     let _operators = signed.signature.operators();
     let mut statements = match read_carried(
@@ -230,7 +146,7 @@ fn make_module(
         &frame.parts,
     ) {
         Ok(statements) => statements,
-        Err(_) => return Err(NoMemory),
+        Err(fault) => return Err(only_memory(fault)),
     };
     let included = statements.counts();
     statements.append(Statements::of_equations(alloc, equations))?;
@@ -263,9 +179,6 @@ fn table_module(
     let _modules = library.len();
     let table = table(alloc, module)?;
     let frame = table_frame(alloc, library, imports, &table.sorts)?;
-    if frame.depth > MAX_DEPTH {
-        return Err(NoMemory);
-    }
     make_module(
         alloc,
         library,
@@ -302,8 +215,6 @@ impl Library {
     }
 
     /// The library of a session's start: the four modules of the prelude, with the numbers 0 to 3. No text is read.
-    ///
-    /// It answers `NoMemory` also where a table were no lawful module; a test shows that all four are.
     pub fn prelude(alloc: Global) -> Result<Library, NoMemory>
         ensures value { IfOk result (λ l. l ≡ prelude) }
         ensures count { IfOk result HasPrelude }

@@ -1,18 +1,21 @@
 //! The signature of a module over what it includes.
 ghost use Rattle.std.specs.Prelude.{◌≡◌, ◌<◌, ◌≤◌, ◌+◌, ◌++◌, ◌∷◌, [], length, true, All, Ok, Err, IfSome, IfOk, IfErr};
-ghost use Rattle.std.specs.List.{list_any};
 ghost use Rattle.mau_poset.specs.Order.{IsPoset, IsWithin};
 ghost use Rattle.mau_poset.specs.declared.TheConstants.{MAX_SORTS};
-ghost use Rattle.mau_signature.specs.Faults.{HasSorts, AreNumerals, IsSuccessorIn, is_successor};
+ghost use Rattle.mau_signature.specs.Faults.{HasSorts, AreNumerals};
+ghost use Rattle.mau_signature.specs.declared.TheConstants.{MAX_DECLARATIONS};
 ghost use Rattle.mau_declare.specs.Flattened.{AreLower};
 ghost use Rattle.mau_signing.specs.Signed.{SignatureRead};
 ghost use Rattle.mau_module.specs.Faults.{IfSigned};
 ghost use Rattle.mau_declare.specs.Elements.{AreOver};
 ghost use Rattle.mau_declare.specs.Flattened.{declared_forms};
-ghost use Rattle.mau_module.specs.Included.{numeral_kind};
+ghost use Rattle.mau_module.specs.Library.{HasPrelude, nat};
+ghost use Rattle.mau_module.specs.Included.{has_part, numeral_kind};
 ghost use Rattle.mau_module.specs.Known.{AreKnown};
+ghost use Rattle.mau_module.specs.Made.{IsClosed};
+ghost use Rattle.mau_module.specs.Ready.{AreNotBuiltIn};
 ghost use Rattle.mau_module.specs.Framed.{included_declarations};
-ghost use Rattle.mau_module.specs.Declarations.{given_over};
+ghost use Rattle.mau_module.specs.Declarations.{all_declarations, given_over};
 ghost use Rattle.mau_module.specs.Flattened.{hierarchy_in, own_in, given_in, conflict_in};
 
 use crate::declarations::{add_copies, all_declarations, has_part, pairs_of};
@@ -23,7 +26,7 @@ use crate::limits::included_declarations;
 use crate::numbering::number_in;
 use mau_declare::{Elements, Names, add_declarations, first_conflict, lower_sorts};
 use mau_poset::Poset;
-use mau_signature::{Decl, MAX_DECLARATIONS, Signature};
+use mau_signature::{Decl, Signature};
 use mau_signing::{SignFault, order_sorts, sign};
 use mau_terms::NoMemory;
 use std::alloc::Global;
@@ -37,7 +40,7 @@ pub struct Signed {
 }
 
 /// The fault of sorts, declarations or operators, as one of a module.
-fn fault_of(fault: SignFault) -> ModuleFault
+pub fn fault_of(fault: SignFault) -> ModuleFault
     ensures { result ≡ Rattle.mau_module.specs.Faults.fault_of fault }
 {
     match fault {
@@ -46,84 +49,24 @@ fn fault_of(fault: SignFault) -> ModuleFault
     }
 }
 
-/// The sort of 0 and that of all other numerals, if the module of numbers is among the parts. Where that module is a part, the names
-/// are not none.
-fn numerals_of(
-    library: &Library,
-    names: &Names,
-    parts: &[usize],
-) -> Result<Option<(u32, u32)>, NoMemory>
-    requires { length names.now ≤ MAX_SORTS }
-    ensures value { IfOk result (λ numerals. numerals ≡ Rattle.mau_module.specs.Included.numerals_of names.now (parts.now ++ length library.now ∷ [])) }
-    ensures there { IfOk result (λ numerals. IfSome numerals (λ p. (p.0 < length names.now) × (p.1 < length names.now))) }
+/// Want of memory, where a fault can be nothing else.
+pub fn only_memory(_fault: ModuleFault) -> NoMemory
+    requires { _fault ≡ ModuleFault.NoMemory }
+{
+    NoMemory
+}
+
+/// The sort of 0 and that of all other numerals, if the module of numbers is among the parts.
+fn numerals_of(library: &Library, names: &Names, parts: &[usize]) -> Option<(u32, u32)>
+    requires few { length names.now ≤ MAX_SORTS }
+    requires some { has_part (parts.now ++ length library.now ∷ []) nat ≡ true → 0 < length names.now }
+    ensures value { result ≡ Rattle.mau_module.specs.Included.numerals_of names.now (parts.now ++ length library.now ∷ []) }
+    ensures there { IfSome result (λ p. (p.0 < length names.now) × (p.1 < length names.now)) }
 {
     if !has_part(library, parts, NAT) {
-        return Ok(None);
+        return None;
     }
-    if names.len() == 0 {
-        return Err(NoMemory);
-    }
-    Ok(Some((number_in(names, "Zero"), number_in(names, "NzNat"))))
-}
-
-/// Whether a declaration is one of the successor.
-fn is_successor(decl: &Decl) -> bool
-    ensures { result ≡ is_successor decl.now.attrs }
-{
-    match &decl.attrs.builtin {
-        Some(name) => name.as_str() == "succ",
-        None => false,
-    }
-}
-
-/// Whether a declaration, if it is one of the successor, has one argument in a kind, and its result too.
-fn suits_kind(poset: &Poset, kind: u32, decl: &Decl) -> bool
-    requires { HasSorts poset.now decl.now }
-    ensures { result ≡ true → IsSuccessorIn poset.now kind decl.now }
-{
-    if !is_successor(decl) {
-        return true;
-    }
-    match decl.args.items() {
-        [arg] => poset.kind_of(*arg) == kind && poset.kind_of(decl.result) == kind,
-        _ => false,
-    }
-}
-
-/// Whether all declarations of the successor are in a kind.
-fn suit_kind(poset: &Poset, kind: u32, decls: &[Decl]) -> bool
-    requires { All (HasSorts poset.now) decls.now }
-    ensures { result ≡ true → All (IsSuccessorIn poset.now kind) decls.now }
-{
-    for decl in decls {
-        if !suits_kind(poset, kind, decl) {
-            return false;
-        }
-    }
-    true
-}
-
-/// Whether a declaration of the successor is among these.
-fn has_successor(decls: &[Decl]) -> bool
-    ensures { result ≡ list_any (λ d. is_successor d.attrs) decls.now }
-{
-    decls.iter().any(is_successor)
-}
-
-/// Whether these are the sorts of numerals: they are in one kind, and the successor is declared in it and nowhere else; or there are
-/// none, and no successor.
-fn are_numerals(poset: &Poset, decls: &[Decl], numerals: Option<(u32, u32)>) -> bool
-    requires sorts { All (HasSorts poset.now) decls.now }
-    requires there { IfSome numerals (λ p. (p.0 < poset.now.sorts) × (p.1 < poset.now.sorts)) }
-    ensures { result ≡ true → AreNumerals poset.now decls.now numerals }
-{
-    match numerals {
-        None => !has_successor(decls),
-        Some((zero, others)) => {
-            let kind = poset.kind_of(zero);
-            poset.kind_of(others) == kind && has_successor(decls) && suit_kind(poset, kind, decls)
-        }
-    }
+    Some((number_in(names, "Zero"), number_in(names, "NzNat")))
 }
 
 /// The subsort pairs of a module: those of its parts, and its own.
@@ -190,15 +133,15 @@ pub fn sign_declarations(
     requires lower { AreLower poset.sorts poset.pairs lower.now }
     requires sorts { All (HasSorts poset) own.now }
     requires conflict { IfSome conflict (λ c. c < 4294967296) }
+    requires short { length (all_declarations library.now parts.now names.now poset own.now) ≤ MAX_DECLARATIONS }
+    requires numerals { AreNumerals poset (all_declarations library.now parts.now names.now poset own.now)
+        (Rattle.mau_module.specs.Included.numerals_of names.now (parts.now ++ length library.now ∷ [])) }
     ensures ok { IfOk result (λ s. SignatureRead names.now (given_over library.now parts.now names.now poset own.now) conflict (Ok s)) }
     ensures hierarchy { IfOk result (λ s. s.hierarchy ≡ poset) }
     ensures refused { IfErr result (λ fault. IfSigned fault (λ text. SignatureRead names.now (given_over library.now parts.now names.now poset own.now) conflict (Err text))) }
 {
-    let numerals = numerals_of(library, names, parts)?;
+    let numerals = numerals_of(library, names, parts);
     let named = all_declarations(alloc, library, names, &poset, parts, own)?;
-    if named.len() > MAX_DECLARATIONS || !are_numerals(&poset, &named, numerals) {
-        return Err(ModuleFault::NoMemory);
-    }
     let mut decls = Vec::new(alloc);
     add_copies(alloc, &mut decls, &named)?;
     match sign(
@@ -216,10 +159,13 @@ pub fn sign_over(
     frame: &Frame,
     elements: &Elements,
 ) -> Result<Signed, ModuleFault>
+    requires prelude { HasPrelude library.now }
     requires few { length frame.now.names ≤ MAX_SORTS }
     requires parts { All (λ p. p < length library.now) frame.now.parts }
     requires known { AreKnown library.now frame.now.names frame.now.parts }
+    requires closed { IsClosed library.now frame.now.names frame.now.parts }
     requires over { AreOver (length frame.now.names) elements.now }
+    requires plain { AreNotBuiltIn (own_in library.now frame.now elements.now) }
     requires count { included_declarations library.now frame.now.parts + length (declared_forms elements.now.operators) ≤ 1000000 }
     ensures ok { IfOk result (λ signed. SignatureRead frame.now.names (given_in library.now frame.now elements.now) (conflict_in library.now frame.now elements.now) (Ok signed.signature)) }
     ensures hierarchy { IfOk result (λ signed. signed.signature.hierarchy ≡ hierarchy_in library.now frame.now elements.now) }
@@ -228,13 +174,15 @@ pub fn sign_over(
     ensures sorts { IfOk result (λ signed. All (HasSorts (hierarchy_in library.now frame.now elements.now)) signed.own.items) }
     ensures refused { IfErr result (λ fault. IfSigned fault (λ text. SignatureRead frame.now.names (given_in library.now frame.now elements.now) (conflict_in library.now frame.now elements.now) (Err text))) }
 {
+    // What is known of every library is needed below, and this call tells it.
+    let _modules = library.len();
     let pairs = pairs_in(alloc, library, frame, elements)?;
     let lower = lower_sorts(alloc, frame.names.len() as u32, &pairs)?;
     let poset = match order_sorts(alloc, &frame.names, &pairs) {
         Ok(poset) => poset,
         Err(fault) => return Err(fault_of(fault)),
     };
-    let numerals = numerals_of(library, &frame.names, &frame.parts)?;
+    let numerals = numerals_of(library, &frame.names, &frame.parts);
     let mut own = Vec::new(alloc);
     add_declarations(
         alloc,

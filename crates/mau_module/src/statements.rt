@@ -50,8 +50,9 @@ pub struct Counts {
 }
 
 impl Statements {
-    ghost use Rattle.std.specs.Prelude.{◌≡◌, [], OnOk};
-    ghost use Rattle.mau_module.specs.Modules.{no_statements, and_more, counts_of};
+    ghost use Rattle.std.specs.Prelude.{◌≡◌, OnOk};
+    ghost use Rattle.mau_module.specs.Modules.{no_statements, and_more};
+    ghost use Rattle.mau_module.specs.Behind.{counts_of};
     ghost use Rattle.mau_module.specs.Stated.{with_statement};
 
     /// No statements.

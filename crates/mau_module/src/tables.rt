@@ -7,6 +7,12 @@ ghost use Rattle.mau_module.specs.Modules.{no_statements, and_more};
 ghost use Rattle.mau_renumber.specs.Tables.{numbers_in};
 ghost use Rattle.mau_renumber.specs.Carried.{equation_to, membership_to, rule_to};
 ghost use Rattle.mau_renumber.specs.Strategies.{definition_to, strategy_declaration_to};
+ghost use Rattle.mau_program.specs.declared.statements.Equation.{Equation as EquationOf};
+ghost use Rattle.mau_program.specs.declared.statements.Membership.{Membership as MembershipOf};
+ghost use Rattle.mau_program.specs.declared.statements.Rule.{Rule as RuleOf};
+ghost use Rattle.mau_program.specs.declared.definitions.StratDef.{StratDef as StratDefOf};
+ghost use Rattle.mau_statement.specs.declared.TheConstants.{MAX_VARIABLES};
+ghost use Rattle.mau_module.specs.Made.{HaveFewVariables};
 ghost use Rattle.mau_module.specs.Carried.{numbers_from, carried, carried_from};
 
 use crate::library::Library;
@@ -44,6 +50,7 @@ fn add_equations(
     equations: &[Equation],
     out: &mut Vec<Equation>,
 ) -> Result<(), NoMemory>
+    requires { All (λ (e : EquationOf). length e.vars ≤ MAX_VARIABLES) equations.now }
     ensures { OnOk result (out.new.items ≡ out.old.items ++ map (equation_to (numbers_in tables.now)) equations.now) }
 {
     for equation in equations {
@@ -59,6 +66,7 @@ fn add_memberships(
     memberships: &[Membership],
     out: &mut Vec<Membership>,
 ) -> Result<(), NoMemory>
+    requires { All (λ (m : MembershipOf). length m.vars ≤ MAX_VARIABLES) memberships.now }
     ensures { OnOk result (out.new.items ≡ out.old.items ++ map (membership_to (numbers_in tables.now)) memberships.now) }
 {
     for membership in memberships {
@@ -74,6 +82,7 @@ fn add_rules(
     rules: &[Rule],
     out: &mut Vec<Rule>,
 ) -> Result<(), NoMemory>
+    requires { All (λ (r : RuleOf). length r.vars ≤ MAX_VARIABLES) rules.now }
     ensures { OnOk result (out.new.items ≡ out.old.items ++ map (rule_to (numbers_in tables.now)) rules.now) }
 {
     for rule in rules {
@@ -89,6 +98,7 @@ fn add_strategies(
     strategies: &[StratDef],
     out: &mut Vec<StratDef>,
 ) -> Result<(), NoMemory>
+    requires { All (λ (d : StratDefOf). length d.vars ≤ MAX_VARIABLES) strategies.now }
     ensures { OnOk result (out.new.items ≡ out.old.items ++ map (definition_to (numbers_in tables.now)) strategies.now) }
 {
     for strategy in strategies {
@@ -119,6 +129,7 @@ fn add_carried(
     tables: &Tables,
     statements: &mut Statements,
 ) -> Result<(), NoMemory>
+    requires { HaveFewVariables «module».now.own.statements }
     ensures { OnOk result (statements.new ≡ and_more statements.old (carried_from (numbers_in tables.now) «module».now.own.statements)) }
 {
     add_equations(
@@ -169,6 +180,8 @@ pub fn carried(
     requires named { length names.now ≡ signature.now.hierarchy.sorts }
     ensures { IfOk result (λ statements. statements ≡ carried library.now names.now signature.now parts.now) }
 {
+    // What is known of every library is needed below, and this call tells it.
+    let _modules = library.len();
     let mut statements = Statements::new(alloc);
     for part in parts {
         let module = library.module(*part);

@@ -8,7 +8,8 @@ use Rattle.mau_grammar.specs.declared.production.Hole.{Hole}
 use Rattle.mau_grammar.specs.declared.production.Part.{Part}
 use Rattle.mau_grammar.specs.declared.production.Part.TheVariants.{Word, Hole as Place}
 use Rattle.mau_grammar.specs.Production.{place, places, is_place}
-use Rattle.mau_print.specs.Written.{Printed, printed_as, guarded, gap, pieces, spaced, woven, nested, opening, closing, times, IsSecondPlace}
+use Rattle.mau_print.specs.Written.{Printed, printed_as, guarded, gap, pieces, spaced, woven, nested}
+use Rattle.mau_print.specs.LeftToRight.{opening, closing, times, IsSecondPlace}
 
 -- ---- pieces one behind the other
 

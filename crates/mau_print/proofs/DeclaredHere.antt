@@ -27,7 +27,8 @@ use Rattle.mau_grammar.specs.Parts.{parts_from, words_of, one_word, prefix_name,
 use Rattle.mau_grammar.specs.Productions.{operator, argument_kinds, level, is_written, written, list_kind, pair, chained, prefixed_by, with_head, prefixed, of_operator, enclosed}
 use Rattle.mau_grammar.specs.Grammar.{GrammarOf}
 use Rattle.mau_grammar.proofs.KindsKept.{meaning, kind_in, IsProper, all_proper, form_kinds}
-use Rattle.mau_print.specs.Layouts.{IsGrammarFor, form_words}
+use Rattle.mau_print.specs.Layouts.{form_words}
+use Rattle.mau_print.specs.FirstSorts.{IsGrammarFor}
 use Rattle.mau_print.specs.Worded.{Source, form_parts}
 use Rattle.mau_print.specs.Readable.{HasWords, IsWritable}
 use Rattle.mau_print.proofs.Produced.{written-is}

@@ -2,7 +2,8 @@
 use Rattle.std.proofs.Common.{◌≡◌, ℕ, ◌+◌, ◌<◌, ◌==◌, List, [], ◌∷◌, ◌++◌, Bool, true, false, cond, Some, Option, length, get_or, take, refl, sym, ap, ◌∙◌, arith}
 use Rattle.std.proofs.lemmas.List.{take_more}
 use Rattle.mau_grammar.specs.declared.sorts.SortName.{SortName}
-use Rattle.mau_print.specs.Layouts.{first_name, or_name, AreFirstNames}
+use Rattle.mau_print.specs.Layouts.{first_name}
+use Rattle.mau_print.specs.FirstSorts.{or_name, AreFirstNames}
 
 push_by : (b : Bool) (w : List ℕ) (x y : Option (List ℕ)) (c : Bool) (v : List ℕ) → x ≡ or_name y c v → cond b (Some w) x ≡ or_name (cond b (Some w) y) c v
 push_by true w x y c v e = refl

@@ -7,7 +7,7 @@ use Rattle.mau_grammar.specs.declared.production.Production.{Production}
 use Rattle.mau_grammar.specs.declared.sorts.SortName.{SortName}
 use Rattle.mau_grammar.specs.Productions.{of_operator, of_operators, of_kinds, enclosed, sorted, sort_names}
 use Rattle.mau_grammar.specs.Grammar.{GrammarOf}
-use Rattle.mau_print.specs.Layouts.{IsGrammarFor}
+use Rattle.mau_print.specs.FirstSorts.{IsGrammarFor}
 use Rattle.mau_print.proofs.Produced.{around}
 
 abbrev pub IsPresent : {A : Type 0} → List A → A → Type 0

@@ -14,7 +14,8 @@ use Rattle.mau_grammar.specs.Productions.{operator, argument_kinds, level, is_wr
 use Rattle.mau_grammar.specs.Parts.{parts_in_order}
 use Rattle.mau_grammar.specs.Grammar.{GrammarOf}
 use Rattle.mau_grammar.proofs.Shapes.{operators_more}
-use Rattle.mau_print.specs.Layouts.{IsGrammarFor, layout_of, layout_by}
+use Rattle.mau_print.specs.Layouts.{layout_of, layout_by}
+use Rattle.mau_print.specs.FirstSorts.{IsGrammarFor}
 use Rattle.mau_print.specs.declared.layout.Layout.{Layout}
 use Rattle.mau_print.specs.Beforehand.{IsProductionFor}
 use Rattle.mau_parse.proofs.LeavesListed.{below_suc}

@@ -10,7 +10,7 @@ use Rattle.mau_grammar.specs.Productions.{argument_kinds, level}
 use Rattle.mau_print.specs.declared.layout.Layout.{Layout}
 use Rattle.mau_print.specs.declared.layout.Layout.TheVariants.{Form, Chain}
 use Rattle.mau_print.specs.declared.making.Known.{Known}
-use Rattle.mau_print.specs.Layouts.{AreFirstNames}
+use Rattle.mau_print.specs.FirstSorts.{AreFirstNames}
 
 -- this is what is known of the sorts of g, where `owned` are the texts of constants and declared variables
 pub record AreKnown (g : GrammarOf) (owned : List (List ℕ)) (k : Known) : Type 0 where

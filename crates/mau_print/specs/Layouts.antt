@@ -1,5 +1,5 @@
 -- How each operator of a signature is written, by its form and by what else has its text.
-use Rattle.std.specs.Prelude.{◌≡◌, Some, None, ℕ, ◌+◌, ◌<◌, ◌==◌, get_or, nat_lt, List, [], ◌∷◌, ◌++◌, Bool, ◌&&◌, ◌||◌, Option, length, map, filter, fold, count_by, bytes_eq, is_some, if◌then◌else◌}
+use Rattle.std.specs.Prelude.{Some, None, ℕ, ◌+◌, ◌==◌, nat_lt, List, [], ◌∷◌, ◌++◌, Bool, ◌&&◌, ◌||◌, Option, length, map, filter, fold, count_by, bytes_eq, is_some, if◌then◌else◌}
 use Rattle.std.specs.List.{list_any}
 use Rattle.std.specs.Option.{option_map_or}
 use Rattle.mau_numerals.specs.Numerals.{is_numeral}
@@ -10,18 +10,13 @@ use Rattle.mau_signature.specs.declared.form.Piece.TheVariants.{Hole, Word}
 use Rattle.mau_signature.specs.Form.{holes}
 use Rattle.mau_signature.specs.Signature.{SignatureOf}
 use Rattle.mau_grammar.specs.declared.sorts.SortName.{SortName}
-use Rattle.mau_grammar.specs.declared.aliases.Alias.{Alias}
 use Rattle.mau_grammar.specs.Parts.{parts_in_order}
 use Rattle.mau_grammar.specs.Productions.{argument_kinds, level}
-use Rattle.mau_grammar.specs.Grammar.{GrammarOf, grammar_of}
+use Rattle.mau_grammar.specs.Grammar.{GrammarOf}
 use Rattle.mau_print.specs.declared.layout.Layout.{Layout}
 use Rattle.mau_print.specs.declared.layout.Layout.TheVariants.{Constant, Prefix, Form, Chain}
 use Rattle.mau_print.specs.Written.{Printed, joined}
 use Rattle.mau_print.specs.Printed.{PrinterOf, unambiguous}
-
--- g is the grammar of s, for some names of its sorts and some declared variables
-abbrev pub IsGrammarFor : SignatureOf → GrammarOf → Type 0
-IsGrammarFor s g = (names : List (List ℕ)) × (aliases : List Alias) × (g ≡ grammar_of s names aliases)
 
 -- ---- texts that several things have
 
@@ -63,16 +58,6 @@ first_name (n ∷ ns) k = if n.kind == k then Some n.name else first_name ns k
 
 abbrev pub first_sort_name : List SortName → ℕ → List ℕ
 first_sort_name ns k = option_map_or (λ w. w) (first_name ns k) []
-
--- the name that is known, or else this one, if it is wanted
-abbrev pub or_name : Option (List ℕ) → Bool → List ℕ → Option (List ℕ)
-or_name (Some v) is_wanted w = Some v
-or_name None is_wanted w = if is_wanted then Some w else None
-
--- these are the names of the first sorts of so many kinds, which are the numbers from `first` on
-pub record AreFirstNames (sorts : List SortName) (first kinds : ℕ) (firsts : List (Option (List ℕ))) : Type 0 where
-  pub len : length firsts ≡ kinds
-  pub each : (k : ℕ) (d : Option (List ℕ)) → k < length firsts → get_or firsts k d ≡ first_name sorts (first + k)
 
 -- ---- layouts
 

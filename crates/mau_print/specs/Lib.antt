@@ -18,6 +18,9 @@ pub mod Readable
 pub mod Laws
 -- ---- what only inner contracts and proofs cite
 
+-- long lists from left to right; names of first sorts
+pub mod LeftToRight
+pub mod FirstSorts
 -- what is found out for this
 pub mod Beforehand
 -- terms by their numbers

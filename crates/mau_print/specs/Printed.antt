@@ -3,7 +3,6 @@ use Rattle.std.specs.Prelude.{ℕ, ◌-◌, List, [], ◌∷◌, ◌++◌, Bool,
 use Rattle.std.specs.List.{list_any}
 use Rattle.std.specs.Option.{option_map_or}
 use Rattle.mau_terms.specs.Tree.{Tree, variable, numeral, apply, Trees, no_trees, tree}
-use Rattle.mau_store.specs.View.{numbers}
 use Rattle.mau_print.specs.declared.layout.Layout.{Layout}
 use Rattle.mau_print.specs.declared.layout.Layout.TheVariants.{Constant, Prefix, Form, Chain}
 use Rattle.mau_print.specs.Written.{Printed, printed_as, in_parentheses, woven, nested, comma_texts}

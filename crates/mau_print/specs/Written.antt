@@ -1,8 +1,7 @@
 -- Texts that are put together from words and from terms that are printed.
-use Rattle.std.specs.Prelude.{◌≡◌, ℕ, zero, suc, length, List, [], ◌∷◌, ◌++◌, Bool, true, false, nat_le, codes, if◌then◌else◌}
+use Rattle.std.specs.Prelude.{ℕ, List, [], ◌∷◌, ◌++◌, Bool, true, false, nat_le, codes, if◌then◌else◌}
 use Rattle.mau_grammar.specs.declared.production.Part.{Part}
 use Rattle.mau_grammar.specs.declared.production.Part.TheVariants.{Word, Hole as Place}
-use Rattle.mau_grammar.specs.Production.{place, places}
 
 -- A term as it is printed. Its level is 0 in parentheses, and otherwise one more than its precedence.
 pub record Printed : Type 0 where
@@ -49,30 +48,6 @@ nested q ps [] = woven ps []
 nested q ps (x ∷ []) = woven ps (x ∷ [])
 nested q ps (x ∷ y ∷ []) = woven ps (x ∷ y ∷ [])
 nested q ps (x ∷ y ∷ z ∷ zs) = woven ps (x ∷ printed_as q (nested q ps (y ∷ z ∷ zs)) ∷ [])
-
--- ---- how a long list is written from left to right
-
--- the second place of a form stands behind `at` parts, and admits levels up to `upto`
-pub record IsSecondPlace (ps : List Part) (at upto : ℕ) : Type 0 where
-  pub before : List Part
-  pub after : List Part
-  pub kind : ℕ
-  pub split : ps ≡ before ++ place kind upto ∷ after
-  pub len : length before ≡ at
-  pub one : places before ≡ 1
-
--- the first element, with what stands before the list of the others
-abbrev pub opening : Bool → List Part → Printed → List ℕ
-opening in_brackets before x = spaced true (pieces before (x ∷ [])) ++ (codes " " ++ (if in_brackets then codes "(" else []))
-
--- what stands behind the list of the others
-abbrev pub closing : Bool → List Part → List ℕ
-closing in_brackets after = (if in_brackets then codes ")" else []) ++ spaced false (pieces after [])
-
--- the same text n times
-abbrev pub times : ℕ → List ℕ → List ℕ
-times zero w = []
-times (suc n) w = w ++ times n w
 
 -- ---- arguments in parentheses
 

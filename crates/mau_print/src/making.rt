@@ -9,7 +9,8 @@ ghost use Rattle.mau_grammar.specs.Productions.{is_written};
 ghost use Rattle.mau_print.specs.Printed;
 ghost use Rattle.mau_print.specs.Printed.{unambiguous};
 ghost use Rattle.mau_print.specs.Layouts;
-ghost use Rattle.mau_print.specs.Layouts.{IsGrammarFor, as_constant, first_sort_name, layout_by, layout_of, printer_of};
+ghost use Rattle.mau_print.specs.Layouts.{as_constant, first_sort_name, layout_by, layout_of, printer_of};
+ghost use Rattle.mau_print.specs.FirstSorts.{IsGrammarFor};
 ghost use Rattle.mau_print.specs.Beforehand.{AreKnown, IsProductionFor, production_layout};
 ghost use Rattle.mau_grammar.specs.Grammar.{GrammarOf};
 

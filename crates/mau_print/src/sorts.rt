@@ -1,6 +1,6 @@
 //! The first sort of each kind.
 ghost use Rattle.std.specs.Prelude.{◌≡◌, All, ◌+◌, ◌<◌, ◌==◌, ℕ, List, Option, length, get_or, OnOk, IfOk};
-ghost use Rattle.mau_print.specs.Layouts.{or_name, AreFirstNames};
+ghost use Rattle.mau_print.specs.FirstSorts.{or_name, AreFirstNames};
 
 use mau_grammar::SortName;
 use mau_terms::{NoMemory, Text};

@@ -1,13 +1,15 @@
 -- The numbers of equations in the order in which they are tried.
 use Rattle.std.proofs.Common.{◌≡◌, ℕ, zero, suc, ◌+◌, ◌<◌, ◌≤◌, List, [], ◌∷◌, ◌++◌, Bool, true, false, ◌&&◌, not, if◌then◌else◌, All, Some, map, drop, length, get_or, slice_get, refl, sym, ap, ◌∙◌, subst, append_assoc, append-nil, arith, zero-add}
 use Rattle.std.proofs.Math.Seq.{drop-cons}
-use Rattle.std.proofs.lemmas.List.Elements.{All-append, All-cons, All-nil}
+use Rattle.std.proofs.lemmas.List.Elements.{All-append, All-cons, All-nil, All-head, All-tail}
 use Rattle.std.proofs.lemmas.Bool.{and_parts}
 use Rattle.mau_evaluation.specs.Program.{Equation}
 use Rattle.mau_program.specs.declared.program.Program as Typed
 use Rattle.mau_program.specs.declared.statements.Equation as Written
 use Rattle.mau_api.specs.Programs.{equation_of}
+use Rattle.mau_evaluation.specs.Listing.{keep}
 use Rattle.mau_reduce.specs.Trying.{numbers_of, order_of_all, IsExecutable}
+use Rattle.mau_reduce.specs.ByTop.{may_apply_at, order_under}
 
 module _ (o : Bool) (es : List Written.Equation) where
   next : (i : ℕ) (e : Written.Equation) → i < length es → e ≡ get_or es i e → (b : Bool) → (e.exec && (if o then e.owise else not e.owise)) ≡ b →
@@ -90,3 +92,19 @@ order_executable p =
     All-append (IsExecutable p) (numbers_of false 0 (map equation_of p.equations)) (numbers_of true 0 (map equation_of p.equations))
     (executable_from p false 0 p.equations (λ i e at. subst (λ m. slice_get p.equations m ≡ Some e) (sym (zero-add i)) at))
     (executable_from p true 0 p.equations (λ i e at. subst (λ m. slice_get p.equations m ≡ Some e) (sym (zero-add i)) at))
+
+-- ---- and so are those that may apply under a top
+
+kept_all : {A : Type 0} (P : A → Type 0) (f : A → Bool) (xs : List A) → All P xs → All P (keep f xs)
+kept_all P f [] a = a
+kept_all P f (x ∷ xs) a = by (kept_all P f xs (All-tail P x xs a)) (f x)
+  where
+    by : All P (keep f xs) → (w : Bool) → All P (if w then x ∷ keep f xs else keep f xs)
+    by rest true = All-cons P x (keep f xs) (All-head P x xs a) rest
+    by rest false = rest
+
+pub kept_within : (p : Typed.Program) (g : ℕ) → All (λ i. i < length p.equations) (order_under p g)
+kept_within p g = kept_all (λ i. i < length p.equations) (may_apply_at p g) (order_of_all (map equation_of p.equations)) (order_within p.equations)
+
+pub kept_executable : (p : Typed.Program) (g : ℕ) → All (IsExecutable p) (order_under p g)
+kept_executable p g = kept_all (IsExecutable p) (may_apply_at p g) (order_of_all (map equation_of p.equations)) (order_executable p)

@@ -27,17 +27,15 @@ use Rattle.mau_reduce.specs.Lasts.{left_variables_of, left_variables, first_valu
 -- ---- of an equation
 
 -- what a listing gave last
-pub listed_of : (c : Bool) → c ≡ true → (p : Typed.Program) (nodes : List Node) (table : Table) (term : TermId) {Y : Type 0} (num : Y → ℕ) (asked : Y → Asked) (given : Y → Option Listed.Solution) (is_for : Y → Type 0)
-    (o : Option Y) (i : ℕ) (x : Listed.Solution) → IsSome o → IfSome o (λ y. num y ≡ i) → IfSome o (λ y. given y ≡ Some x) →
-    IfSome o (λ y. IsTried c p nodes table term (num y) (asked y) (given y) (is_for y)) → IsListed p nodes table term i x
-listed_of c with_contexts p nodes table term num asked given is_for None i x some number last tried = cc
-listed_of c with_contexts p nodes table term num asked given is_for (Some y) i x some number last tried = record {
+pub listed_by : (c : Bool) → c ≡ true → (p : Typed.Program) (nodes : List Node) (table : Table) (term : TermId) (i : ℕ) (asked : Asked) (given : Option Listed.Solution) (is_for : Type 0) (x : Listed.Solution) → given ≡ Some x →
+    IsTried c p nodes table term i asked given is_for → IsListed p nodes table term i x
+listed_by c with_contexts p nodes table term i asked given is_for x last tried = record {
   equation = tried.equation;
-  at = subst (λ j. slice_get p.equations j ≡ Some tried.equation) number tried.at;
+  at = tried.at;
   solves =
       subst (λ a. IsGiven true p.sig nodes table a x) tried.asked
-      (subst (λ b. CanBeLast b p.sig nodes table (asked y) x) with_contexts
-      (subst (λ (w : Option Listed.Solution). IfSome w (CanBeLast c p.sig nodes table (asked y))) last tried.ready.given));
+      (subst (λ b. CanBeLast b p.sig nodes table asked x) with_contexts
+      (subst (λ (w : Option Listed.Solution). IfSome w (CanBeLast c p.sig nodes table asked)) last tried.ready.given));
 }
 
 pub begun_of : (last : Option Found) (ids : List TermId) → IsSome last → IfSome last (λ y. ids ≡ y.solution.values) → ids ≡ first_values Nothing last

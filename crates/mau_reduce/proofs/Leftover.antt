@@ -39,7 +39,7 @@ module _ (c : Solution → Solution → Ordering) (total : IsTotalOrder c) where
       by o Equal h e = refl
       by o Greater h e = refl
 
-  not_itself : (x : Solution) → is_lt (c x x) ≡ false
+  pub not_itself : (x : Solution) → is_lt (c x x) ≡ false
   not_itself x = by (c x x) refl
     where
       by : (o : Ordering) → c x x ≡ o → is_lt (c x x) ≡ false

@@ -25,14 +25,23 @@ pub mod Fitting
 pub mod Candidates
 -- equations by their numbers
 pub mod Numbered
+-- left sides without axioms
+pub mod FreeMatches
+-- operators that stay on top
+pub mod FirmTops
 -- built-ins
 pub mod BuiltTables
 -- what built-ins give
 pub mod Answering
 -- what is left of all that may be applied
 pub mod AttemptsLeft
+-- equations that are passed by
+pub mod KeptOrders
 -- the order of equations
 pub mod InOrder
+pub mod Ordered
+-- compiled equations
+pub mod CompiledAt
 -- later stores
 pub mod LaterStores
 -- values of built-ins

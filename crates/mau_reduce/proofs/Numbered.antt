@@ -94,15 +94,12 @@ module _ (P : Program) (B k : ℕ) (t : Tree) where
       more : (n : ℕ) → suc n ≡ n + 1
       more n = omega arith
 
-  -- or it has one
-  pub one_found : (is : List ℕ) (n : ℕ) (i : ℕ) (x : Solution) (b : ℕ) → n < length is → i ≡ get_or is n i →
-      left_of_number P B k t i None b ≡ or_go_on (left_of_number P B k t i (Some x)) (number_gives P B k t i x b) →
-      first_of (applied_number P B k t) (drop n is) b ≡ or_go_on (left_of_all P B k t i (Some x) (drop (n + 1) is)) (number_gives P B k t i x b)
-  one_found is n i x b h e z =
-      ap (λ xs. first_of (applied_number P B k t) xs b) (drop-cons is n i h ∙ ap (λ j. j ∷ drop (suc n) is) (sym e))
-      ∙ (ap (λ o. or_go_on (first_of (applied_number P B k t) (drop (suc n) is)) o) (ap (λ r. r b) (sym (number_begins i)) ∙ z)
-      ∙ (or_again (first_of (applied_number P B k t) (drop (suc n) is)) (left_of_number P B k t i (Some x)) (number_gives P B k t i x b)
-      ∙ ap (λ m. or_go_on (left_of_all P B k t i (Some x) (drop m is)) (number_gives P B k t i x b)) (more n)))
+  -- the first of the numbers is begun
+  pub among_begun : (is : List ℕ) (n b : ℕ) → n < length is → first_of (applied_number P B k t) (drop n is) b ≡ left_of_all P B k t (get_or is n 0) None (drop (n + 1) is) b
+  among_begun is n b h =
+      ap (λ xs. first_of (applied_number P B k t) xs b) (drop-cons is n 0 h)
+      ∙ (ap (λ o. or_go_on (first_of (applied_number P B k t) (drop (suc n) is)) o) (ap (λ r. r b) (sym (number_begins (get_or is n 0))))
+      ∙ ap (λ m. left_of_all P B k t (get_or is n 0) None (drop m is) b) (more n))
     where
       more : (n : ℕ) → suc n ≡ n + 1
       more n = omega arith
@@ -151,16 +148,6 @@ module _ (P : Program) (B k : ℕ) (t t' : Tree) (same : t' ≡ t) (is : List �
   among_none e z =
       let y : left_of_number P B k t i None b ≡ done None 0 b = subst (λ u. left_of_number P B k u i None b ≡ done None 0 b) same (subst (λ w. IfNone w (left_of_number P B k t' i None b ≡ done None 0 b)) e z) in
       passed_over P B k t is n i b h (get_or_default is n 0 i h) y
-
-  pub among_found : (x : X) (num : X → ℕ) (sol : X → Solution) → o ≡ Some x → IfSome o (λ y. num y ≡ get_or is n 0) →
-      IfSome o (λ y. left_of_number P B k t' (get_or is n 0) None b ≡ or_go_on (left_of_number P B k t' (get_or is n 0) (Some (sol y))) (number_gives P B k t' (get_or is n 0) (sol y) b)) →
-      first_of (applied_number P B k t) (drop n is) b ≡ or_go_on (left_of_all P B k t (num x) (Some (sol x)) (drop (n + 1) is)) (number_gives P B k t (num x) (sol x) b)
-  among_found x num sol e number z =
-      let own : num x ≡ i = subst (λ w. IfSome w (λ y. num y ≡ i)) e number in
-      let y = subst (λ u. left_of_number P B k u i None b ≡ or_go_on (left_of_number P B k u i (Some (sol x))) (number_gives P B k u i (sol x) b)) same
-      (subst (λ w. IfSome w (λ v. left_of_number P B k t' i None b ≡ or_go_on (left_of_number P B k t' i (Some (sol v))) (number_gives P B k t' i (sol v) b))) e z) in
-      one_found P B k t is n i (sol x) b h (get_or_default is n 0 i h) y
-      ∙ ap (λ m. or_go_on (left_of_all P B k t m (Some (sol x)) (drop (n + 1) is)) (number_gives P B k t m (sol x) b)) (sym own)
 
 -- ---- the order of all equations
 
@@ -231,14 +218,14 @@ module _ (P : Program) (B k : ℕ) (t : Tree) (rest : List ℕ) (b : ℕ) where
       ∙ (ap (λ m. or_go_on (left_of_all P B k t m (Some (solution_in new x)) rest) (number_gives P B k t (num y) (solution_in new x) b)) (sym own)
       ∙ ap (λ w. or_go_on (left_of_all P B k t j (option_map (solution_in new) w) rest) (number_gives P B k t (num y) (solution_in new x) b)) (sym (subst (λ w. IfSome w (λ v. after ≡ Some v)) is given))))
 
--- equations that are begun
-pub begun_behind : (P : Program) (B k : ℕ) (t : Tree) (b : ℕ) (new : List Node) (before rest : List ℕ) {Y : Type 0} (num : Y → ℕ) (last : Y → Option Given.Solution) (o : Option (Y × Given.Solution)) (x : Y × Given.Solution) → o ≡ Some x →
-    IfSome o (λ z. first_of (applied_number P B k t) before b ≡ or_go_on (left_of_all P B k t (num z.0) (Some (solution_in new z.1)) rest) (number_gives P B k t (num z.0) (solution_in new z.1) b)) →
-    IfSome o (λ z. last z.0 ≡ Some z.1) →
-    first_of (applied_number P B k t) before b ≡ or_go_on (left_of_all P B k t (num x.0) (option_map (solution_in new) (last x.0)) rest) (number_gives P B k t (num x.0) (solution_in new x.1) b)
-begun_behind P B k t b new before rest num last o x e z given =
-    subst (λ o. IfSome o (λ z. first_of (applied_number P B k t) before b ≡ or_go_on (left_of_all P B k t (num z.0) (Some (solution_in new z.1)) rest) (number_gives P B k t (num z.0) (solution_in new z.1) b))) e z
-    ∙ ap (λ w. or_go_on (left_of_all P B k t (num x.0) (option_map (solution_in new) w) rest) (number_gives P B k t (num x.0) (solution_in new x.1) b)) (sym (subst (λ o. IfSome o (λ z. last z.0 ≡ Some z.1)) e given))
+-- one candidate of an equation, with the listing that goes on behind it
+pub begun_with : (P : Program) (B k : ℕ) (t : Tree) (rest : List ℕ) (b : ℕ) (new : List Node) {Y : Type 0} (num : Y → ℕ) (last : Y → Option Given.Solution) (i : ℕ) (y : Y) (x : Given.Solution) → num y ≡ i → last y ≡ Some x →
+    left_of_number P B k t i None b ≡ or_go_on (left_of_number P B k t i (Some (solution_in new x))) (number_gives P B k t i (solution_in new x) b) →
+    left_of_all P B k t i None rest b ≡ or_go_on (left_of_all P B k t (num y) (option_map (solution_in new) (last y)) rest) (number_gives P B k t i (solution_in new x) b)
+begun_with P B k t rest b new num last i y x number given z =
+    one_behind P B k t rest b i None (solution_in new x) z
+    ∙ (ap (λ m. or_go_on (left_of_all P B k t m (Some (solution_in new x)) rest) (number_gives P B k t i (solution_in new x) b)) (sym number)
+    ∙ ap (λ w. or_go_on (left_of_all P B k t (num y) (option_map (solution_in new) w) rest) (number_gives P B k t i (solution_in new x) b)) (sym given))
 
 -- what is left first, in a later store in which the term is the same
 pub none_through : {A : Type 0} {X E : Type 0} (r : Result (Option X) E) (F : Tree → A) (l d : A) (t t' : Tree) → t' ≡ t → l ≡ F t → IfOk r (λ o. IfNone o (F t' ≡ d)) → IfOk r (λ o. IfNone o (l ≡ d))

@@ -16,6 +16,10 @@ pub mod Contexts
 pub mod Tables
 -- equations that are tried
 pub mod Trying
+-- which of them may apply under a top
+pub mod ByTop
+-- equations that were compiled
+pub mod Compiled
 -- what is built in of an operator
 pub mod BuiltOperators
 -- what native operators answer

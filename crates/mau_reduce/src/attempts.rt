@@ -1,5 +1,5 @@
 //! All that may be applied at the top of a term, one candidate after another.
-ghost use Rattle.std.specs.Prelude.{◌≡◌, ℕ, suc, List, [], true, Option, Some, None, IfOk, IfErr, IfSome, IfNone, IsSome, All, drop, length, map, slice_get, ◌<◌};
+ghost use Rattle.std.specs.Prelude.{◌≡◌, ℕ, suc, List, [], true, Option, Some, None, IfOk, IfErr, IfSome, IfNone, IsSome, drop, length, map, slice_get};
 ghost use Rattle.std.specs.Option.{option_map};
 ghost use Rattle.mau_terms.specs.Subst.{variables};
 ghost use Rattle.mau_terms.specs.Solution.{HaveSorts};
@@ -19,7 +19,9 @@ ghost use Rattle.mau_reduce.specs.Reducible.{IsReducible};
 ghost use Rattle.mau_reduce.specs.Bindings.{bound_in, AreValues};
 ghost use Rattle.mau_reduce.specs.Ends.{IsEnd};
 ghost use Rattle.mau_reduce.specs.Tables.{IsPlainTable};
-ghost use Rattle.mau_reduce.specs.Trying.{solution_in, number_gives, left_by, order_of_all, IsExecutable, IsTried, IsFound};
+ghost use Rattle.mau_reduce.specs.Trying.{solution_in, number_gives, left_by, IsTried, IsFound};
+ghost use Rattle.mau_reduce.specs.ByTop.{order_for};
+ghost use Rattle.mau_reduce.specs.Compiled.{IsCompiled};
 ghost use Rattle.mau_reduce.specs.BuiltOperators.{IsBuiltAt, IsThere};
 ghost use Rattle.mau_reduce.specs.Giving.{GivesInKind, IsGivenAt};
 ghost use Rattle.mau_reduce.specs.Attempting.{untried_by, cond_at, makes_of};
@@ -28,7 +30,7 @@ ghost use Rattle.mau_reduce.specs.Lasts.{left_variables, first_values, IsLast, I
 use crate::binding::bind;
 use crate::given::given_at;
 use crate::trying::{Found, Tried, next_found};
-use crate::{Binding, BuiltIn, Given, Natives};
+use crate::{Binding, BuiltIn, Compiled, Given, Natives};
 use mau_api::{EvalEnd, Lister, Program};
 use mau_sorts::SortTable;
 use mau_store::Store;
@@ -57,7 +59,7 @@ pub fn begin_attempts<L: Lister, N: Natives>(
     requires term { IsTerm program.now.sig store.now term.0 }
     requires built_in { IsBuiltAt program.now.sig (N.operators natives.now) (tree_at store.now term.0) built_in }
     ensures untried { (B k b : ℕ) → untried_by (program_over program.now (N.operators natives.now)) B k store.now (tree_at store.now term.0) result.given (option_map (λ x. (x.number, L.given x.listing)) result.tried)
-        (drop result.next (order_of_all (program_over program.now (N.operators natives.now)).equations)) b
+        (drop result.next (order_for program.now (tree_at store.now term.0))) b
         ≡ applied (program_over program.now (N.operators natives.now)) (levels (program_over program.now (N.operators natives.now)) B k) (levels (program_over program.now (N.operators natives.now)) B (suc k)).sorts (tree_at store.now term.0) b }
     ensures tried { IfSome result.tried (λ x. ⊥) }
     ensures there { IsThere store.now result.given }
@@ -77,23 +79,22 @@ fn next_equation<L: Lister + Drop>(
     store: &mut Store,
     program: &Program,
     table: &mut SortTable,
-    order: &[usize],
+    compiled: &Compiled,
     term: TermId,
     attempts: &mut Attempts<L>,
 ) -> Result<Option<(usize, Binding)>, NoMemory>
     requires contexts { L.with_context ≡ true }
     requires reducible { IsReducible program.now }
-    requires order { All (λ i. i < length program.now.equations) order.now }
-    requires executable { All (IsExecutable program.now) order.now }
+    requires compiled { IsCompiled program.now compiled.now }
     requires term { IsTerm program.now.sig store.old term.0 }
     requires settled { AreSettled program.now.sig store.old table.old (tree_at store.old term.0) }
     requires plain { IsPlainTable program.now.sig store.old table.old }
     requires tried { IfSome attempts.old.tried (λ x. IsTried L.with_context program.now store.old table.old term x.number (L.asked x.listing) (L.given x.listing) (L.is_for x.listing program.now.sig)) }
     ensures none { (hooks : List Operator) (B k b : ℕ) → IfOk result (λ o. IfNone o (left_by (program_over program.now hooks) B k store.old (tree_at store.old term.0)
-        (option_map (λ x. (x.number, L.given x.listing)) attempts.old.tried) (drop attempts.old.next order.now) b ≡ done None 0 b)) }
+        (option_map (λ x. (x.number, L.given x.listing)) attempts.old.tried) (drop attempts.old.next (order_for program.now (tree_at store.old term.0))) b ≡ done None 0 b)) }
     ensures some { (hooks : List Operator) (B k b : ℕ) → IfOk result (λ o. IfSome o (λ x. IfSome attempts.new.last (λ y. left_by (program_over program.now hooks) B k store.old (tree_at store.old term.0)
-        (option_map (λ z. (z.number, L.given z.listing)) attempts.old.tried) (drop attempts.old.next order.now) b
-        ≡ or_go_on (left_by (program_over program.now hooks) B k store.new (tree_at store.old term.0) (option_map (λ z. (z.number, L.given z.listing)) attempts.new.tried) (drop attempts.new.next order.now))
+        (option_map (λ z. (z.number, L.given z.listing)) attempts.old.tried) (drop attempts.old.next (order_for program.now (tree_at store.old term.0))) b
+        ≡ or_go_on (left_by (program_over program.now hooks) B k store.new (tree_at store.old term.0) (option_map (λ z. (z.number, L.given z.listing)) attempts.new.tried) (drop attempts.new.next (order_for program.now (tree_at store.old term.0))))
         (number_gives (program_over program.now hooks) B k (tree_at store.old term.0) y.number (solution_in store.new y.solution) b)))) }
     ensures last { IfOk result (λ o. IfSome o (λ x. IsSome attempts.new.last)) }
     ensures number { IfOk result (λ o. IfSome o (λ x. IfSome attempts.new.last (λ y. x.0 ≡ y.number))) }
@@ -113,18 +114,16 @@ fn next_equation<L: Lister + Drop>(
         store,
         program,
         table,
-        order,
+        compiled,
         term,
         &mut attempts.next,
         &mut attempts.tried,
     )? {
         Some(found) => {
             let number = found.number;
-            let left = &program.equations.items()[number].left;
             let binding = bind(
                 store.allocator(),
-                &program.sig,
-                left,
+                &compiled.equations[number].variables,
                 &found.solution.values,
             )?;
             attempts.last = Some(found);
@@ -153,27 +152,26 @@ pub fn next_attempt<L: Lister + Drop>(
     store: &mut Store,
     program: &Program,
     table: &mut SortTable,
-    order: &[usize],
+    compiled: &Compiled,
     term: TermId,
     attempts: &mut Attempts<L>,
 ) -> Result<Option<(usize, Binding)>, EvalEnd>
     requires contexts { L.with_context ≡ true }
     requires reducible { IsReducible program.now }
-    requires order { All (λ i. i < length program.now.equations) order.now }
-    requires executable { All (IsExecutable program.now) order.now }
+    requires compiled { IsCompiled program.now compiled.now }
     requires term { IsTerm program.now.sig store.old term.0 }
     requires settled { AreSettled program.now.sig store.old table.old (tree_at store.old term.0) }
     requires plain { IsPlainTable program.now.sig store.old table.old }
     requires tried { IfSome attempts.old.tried (λ x. IsTried L.with_context program.now store.old table.old term x.number (L.asked x.listing) (L.given x.listing) (L.is_for x.listing program.now.sig)) }
     ensures none { (hooks : List Operator) (B k b : ℕ) → IfOk result (λ o. IfNone o (untried_by (program_over program.now hooks) B k store.old (tree_at store.old term.0) attempts.old.given
-        (option_map (λ x. (x.number, L.given x.listing)) attempts.old.tried) (drop attempts.old.next order.now) b ≡ done None 0 b)) }
+        (option_map (λ x. (x.number, L.given x.listing)) attempts.old.tried) (drop attempts.old.next (order_for program.now (tree_at store.old term.0))) b ≡ done None 0 b)) }
     ensures some { (hooks : List Operator) (B k b : ℕ) → IfOk result (λ o. IfSome o (λ x. untried_by (program_over program.now hooks) B k store.old (tree_at store.old term.0) attempts.old.given
-        (option_map (λ z. (z.number, L.given z.listing)) attempts.old.tried) (drop attempts.old.next order.now) b
-        ≡ or_go_on (untried_by (program_over program.now hooks) B k store.new (tree_at store.old term.0) attempts.new.given (option_map (λ z. (z.number, L.given z.listing)) attempts.new.tried) (drop attempts.new.next order.now))
+        (option_map (λ z. (z.number, L.given z.listing)) attempts.old.tried) (drop attempts.old.next (order_for program.now (tree_at store.old term.0))) b
+        ≡ or_go_on (untried_by (program_over program.now hooks) B k store.new (tree_at store.old term.0) attempts.new.given (option_map (λ z. (z.number, L.given z.listing)) attempts.new.tried) (drop attempts.new.next (order_for program.now (tree_at store.old term.0))))
         (try_on (λ σ. gives (option_map (makes_of (program_over program.now hooks) store.new (tree_at store.old term.0) attempts.new.given attempts.new.last) σ))
         (solve (program_over program.now hooks) (levels (program_over program.now hooks) B k) (cond_at (program_over program.now hooks) x.0) (bound_in store.new x.1) b)))) }
     ensures ends { (hooks : List Operator) (B k b : ℕ) → IfErr result (IsEnd (untried_by (program_over program.now hooks) B k store.old (tree_at store.old term.0) attempts.old.given
-        (option_map (λ z. (z.number, L.given z.listing)) attempts.old.tried) (drop attempts.old.next order.now) b)) }
+        (option_map (λ z. (z.number, L.given z.listing)) attempts.old.tried) (drop attempts.old.next (order_for program.now (tree_at store.old term.0))) b)) }
     ensures given { attempts.new.given ≡ attempts.old.given }
     ensures values { IfOk result (λ o. IfSome o (λ x. AreValues program.now.sig store.new x.1)) }
     ensures last { IfOk result (λ o. IfSome o (λ x. IsLast program.now store.new (tree_at store.old term.0) x.0 attempts.new.given attempts.new.last)) }
@@ -188,7 +186,7 @@ pub fn next_attempt<L: Lister + Drop>(
 {
     match attempts.given {
         Given::Nothing => {
-            match next_equation(store, program, table, order, term, attempts) {
+            match next_equation(store, program, table, compiled, term, attempts) {
                 Ok(Some((number, binding))) => Ok(Some((number, binding))),
                 Ok(None) => Ok(None),
                 Err(NoMemory) => Err(EvalEnd::NoMemory),

@@ -1,14 +1,7 @@
 //! Variables with their values.
-ghost use Rattle.std.specs.Prelude.{◌≡◌, map, IfOk};
-ghost use Rattle.mau_terms.specs.Bare.{IsBare};
-ghost use Rattle.mau_terms.specs.Subst.{variables};
-ghost use Rattle.mau_terms.specs.View.{tree_of, variable_of};
-ghost use Rattle.mau_signature.specs.Signature.{terms_over};
+ghost use Rattle.std.specs.Prelude.{◌≡◌, IfOk};
 
-use mau_listing::places_of;
-use mau_signature::Signature;
-use mau_terms::{Bare, NoMemory, Seq, TermId, VarId};
-use mau_trial::variables_of;
+use mau_terms::{NoMemory, Seq, TermId, VarId};
 use std::alloc::Global;
 
 /// Variables with the values in their places.
@@ -18,19 +11,16 @@ pub struct Binding {
     pub values: Vec<TermId>,
 }
 
-/// The variables of a pattern with these values.
+/// Variables with these values.
 pub(crate) fn bind(
     alloc: Global,
-    sig: &Signature,
-    pattern: &Bare,
+    variables: &[VarId],
     values: &Seq<TermId>,
 ) -> Result<Binding, NoMemory>
-    requires { IsBare (terms_over sig.now) (tree_of pattern.now) }
-    ensures variables { IfOk result (λ b. map variable_of b.variables.items ≡ variables (tree_of pattern.now)) }
+    ensures variables { IfOk result (λ b. b.variables.items ≡ variables.now) }
     ensures values { IfOk result (λ b. b.values.items ≡ values.now) }
 {
-    let places = places_of(alloc, sig, pattern)?;
-    let variables = variables_of(alloc, &places)?;
+    let variables = Vec::from_slice(alloc, variables)?;
     let values = Vec::from_slice(alloc, values.items())?;
     Ok(Binding { variables, values })
 }

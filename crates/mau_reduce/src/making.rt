@@ -18,9 +18,11 @@ ghost use Rattle.mau_reduce.specs.Kinds.{IsTermIn};
 ghost use Rattle.mau_reduce.specs.Giving.{GivesInKind, GivesValue, CanBeTaken, IsGivenAt};
 ghost use Rattle.mau_reduce.specs.Attempting.{made_by, makes_of};
 ghost use Rattle.mau_reduce.specs.Lasts.{IsLast};
+ghost use Rattle.mau_reduce.specs.Compiled.{IsCompiled};
 
+use crate::replacing::replace_by;
 use crate::trying::Found;
-use crate::{Attempts, Binding, Given, replace, take_given};
+use crate::{Attempts, Binding, Compiled, Given, take_given};
 use mau_api::{EvalEnd, Program};
 use mau_store::Store;
 use mau_terms::TermId;
@@ -29,11 +31,13 @@ use mau_terms::TermId;
 pub fn made(
     store: &mut Store,
     program: &Program,
+    compiled: &Compiled,
     term: TermId,
     found: &Found,
     binding: &Binding,
 ) -> Result<TermId, EvalEnd>
     requires reducible { IsReducible program.now }
+    requires compiled { IsCompiled program.now compiled.now }
     requires term { IsTerm program.now.sig store.old term.0 }
     requires found { IsFound program.now store.old (tree_at store.old term.0) found.now.number found.now.solution }
     requires values { AreValues program.now.sig store.old binding.now }
@@ -43,12 +47,13 @@ pub fn made(
     ensures extends { Extends store.old store.new }
 {
     let equation = &program.equations.items()[found.number];
-    replace(
+    replace_by(
         store,
         &program.sig,
         term,
         &found.solution,
         &equation.right,
+        &compiled.equations[found.number].right,
         binding,
     )
 }
@@ -71,12 +76,14 @@ pub(crate) fn gives_value(given: Given) -> bool
 fn make_term(
     store: &mut Store,
     program: &Program,
+    compiled: &Compiled,
     term: TermId,
     given: Given,
     last: &Option<Found>,
     binding: &Binding,
 ) -> Result<TermId, EvalEnd>
     requires reducible { IsReducible program.now }
+    requires compiled { IsCompiled program.now compiled.now }
     requires term { IsTerm program.now.sig store.old term.0 }
     requires last { (i : ℕ) × IsLast program.now store.old (tree_at store.old term.0) i given last.now }
     requires taken { CanBeTaken program.now.sig store.old given }
@@ -93,7 +100,7 @@ fn make_term(
         return take_given(store, &program.sig, term, given);
     }
     match last {
-        Some(found) => made(store, program, term, found, binding),
+        Some(found) => made(store, program, compiled, term, found, binding),
         None => unreachable!(),
     }
 }
@@ -102,11 +109,13 @@ fn make_term(
 pub fn make<L>(
     store: &mut Store,
     program: &Program,
+    compiled: &Compiled,
     term: TermId,
     attempts: &Attempts<L>,
     binding: &Binding,
 ) -> Result<TermId, EvalEnd>
     requires reducible { IsReducible program.now }
+    requires compiled { IsCompiled program.now compiled.now }
     requires term { IsTerm program.now.sig store.old term.0 }
     requires last { (i : ℕ) × IsLast program.now store.old (tree_at store.old term.0) i attempts.now.given attempts.now.last }
     requires taken { CanBeTaken program.now.sig store.old attempts.now.given }
@@ -125,6 +134,7 @@ pub fn make<L>(
     make_term(
         store,
         program,
+        compiled,
         term,
         attempts.given,
         &attempts.last,

@@ -59,7 +59,7 @@ fn kind_at(store: &Store, sig: &Signature, term: TermId) -> u32
 }
 
 /// The hole of the kind of a term.
-fn hole_for(store: &Store, sig: &Signature, term: TermId) -> VarId
+pub fn hole_for(store: &Store, sig: &Signature, term: TermId) -> VarId
     requires lawful { IsLawful (terms_over sig.now) }
     requires term { IsTerm sig.now store.now term.0 }
     ensures index { result.index ≡ hole_index }
@@ -107,7 +107,7 @@ fn add_all_holes(found: &mut Vec<u32>, terms: &[Bare]) -> Result<(), NoMemory>
 }
 
 /// Whether a term has just one hole, of this kind.
-fn has_one_hole(alloc: Global, term: &Bare, kind: u32) -> Result<bool, NoMemory>
+pub fn has_one_hole(alloc: Global, term: &Bare, kind: u32) -> Result<bool, NoMemory>
     ensures { IfOk result (λ one. one ≡ true → holes (tree_of term.now) ≡ kind ∷ []) }
 {
     let mut found = Vec::new(alloc);
@@ -145,7 +145,7 @@ fn context_around(
 }
 
 /// Whether a context with a term in its hole has this normal form.
-fn fills(
+pub fn fills(
     store: &mut Store,
     sig: &Signature,
     context: &Bare,
@@ -224,8 +224,8 @@ fn context_of(
     Ok(context)
 }
 
-/// The number of an equation as it is shown.
-fn shown_number(number: usize) -> Result<u32, NoMemory>
+/// The number of a statement as it is shown, counted from 1. One that has no place in 32 bits doesn't fit into memory.
+pub fn shown_number(number: usize) -> Result<u32, NoMemory>
     ensures { IfOk result (λ n. n ≡ suc number) }
 {
     if number >= 4294967295 {

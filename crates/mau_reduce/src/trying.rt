@@ -1,5 +1,5 @@
 //! The candidates of one equation, one after another.
-ghost use Rattle.std.specs.Prelude.{◌≡◌, ℕ, List, [], true, Option, Some, None, IfOk, IfSome, IfNone, OnOk, IsSome, All, drop, length, ◌<◌};
+ghost use Rattle.std.specs.Prelude.{◌≡◌, ℕ, List, [], true, Option, Some, None, IfOk, IfSome, IfNone, OnOk, All, drop, length, slice_get, ◌<◌};
 ghost use Rattle.std.specs.Option.{option_map};
 ghost use Rattle.mau_terms.specs.Bare.{IsBare};
 ghost use Rattle.mau_terms.specs.View.{tree_of};
@@ -15,11 +15,16 @@ ghost use Rattle.mau_api.specs.Programs.{program_over, equation_of};
 ghost use Rattle.mau_api.specs.Answers.{AreSettled};
 ghost use Rattle.mau_reduce.specs.Reducible.{IsReducible};
 ghost use Rattle.mau_reduce.specs.Tables.{IsPlainTable};
+ghost use Rattle.mau_reduce.specs.Lasts.{IsListed};
+ghost use Rattle.mau_reduce.specs.ByTop.{order_for};
+ghost use Rattle.mau_reduce.specs.Compiled.{IsPatternOf, IsCompiled};
 ghost use Rattle.mau_reduce.specs.Trying.{solution_in, solutions_behind, applied_by, candidate_gives, left_of_number, number_gives, applied_number, left_of_all, left_by, IsCandidate, IsExecutable, IsTried, IsFound};
 
+use crate::Compiled;
 use mau_api::{Equation, Lister, Program, Solution};
 use mau_sorts::SortTable;
 use mau_store::Store;
+use mau_syntactic::Pattern;
 use mau_terms::{NoMemory, TermId};
 
 /// An equation, by its number, and a listing of its left side.
@@ -73,8 +78,33 @@ pub(crate) fn next_candidate<L: Lister>(
     listing.next(store, &program.sig, table)
 }
 
-/// Begins with an equation: its first candidate, if it has one.
-fn first_candidate<L: Lister + Drop>(
+/// The one candidate of an equation whose left side has no axioms, if it has one. None is left behind it.
+fn first_match(
+    store: &Store,
+    program: &Program,
+    table: &SortTable,
+    number: usize,
+    term: TermId,
+    pattern: &Pattern,
+) -> Result<Option<Solution>, NoMemory>
+    requires reducible { IsReducible program.now }
+    requires executable { IsExecutable program.now number }
+    requires pattern { IfSome (slice_get program.now.equations number) (λ e. IsPatternOf program.now.sig e pattern.now) }
+    requires term { IsTerm program.now.sig store.now term.0 }
+    requires settled { AreSettled program.now.sig store.now table.now (tree_at store.now term.0) }
+    requires plain { IsPlainTable program.now.sig store.now table.now }
+    ensures none { (hooks : List Operator) (B k b : ℕ) → IfOk result (λ o. IfNone o (left_of_number (program_over program.now hooks) B k (tree_at store.now term.0) number None b ≡ done None 0 b)) }
+    ensures some { (hooks : List Operator) (B k b : ℕ) (rest : List ℕ) → IfOk result (λ o. IfSome o (λ x. left_of_all (program_over program.now hooks) B k (tree_at store.now term.0) number None rest b
+        ≡ or_go_on (first_of (applied_number (program_over program.now hooks) B k (tree_at store.now term.0)) rest)
+        (number_gives (program_over program.now hooks) B k (tree_at store.now term.0) number (solution_in store.now x) b))) }
+    ensures found { IfOk result (λ o. IfSome o (IsFound program.now store.now (tree_at store.now term.0) number)) }
+    ensures listed { IfOk result (λ o. IfSome o (IsListed program.now store.now table.now term number)) }
+{
+    pattern.solution(store, &program.sig, table, term)
+}
+
+/// Begins with an equation by a listing: its first candidate, if it has one.
+fn first_listed<L: Lister + Drop>(
     store: &mut Store,
     program: &Program,
     table: &mut SortTable,
@@ -105,6 +135,51 @@ fn first_candidate<L: Lister + Drop>(
     match next_candidate(store, program, table, equation, term, &mut listing)? {
         Some(solution) => Ok(Some((Tried { number, listing }, solution))),
         None => Ok(None),
+    }
+}
+
+/// Begins with an equation: its first candidate, if it has one. A listing goes on, if more may be left behind it.
+fn first_candidate<L: Lister + Drop>(
+    store: &mut Store,
+    program: &Program,
+    table: &mut SortTable,
+    compiled: &Compiled,
+    number: usize,
+    term: TermId,
+    tried: &mut Option<Tried<L>>,
+) -> Result<Option<Solution>, NoMemory>
+    requires contexts { L.with_context ≡ true }
+    requires reducible { IsReducible program.now }
+    requires number { number < length program.now.equations }
+    requires executable { IsExecutable program.now number }
+    requires compiled { IsCompiled program.now compiled.now }
+    requires term { IsTerm program.now.sig store.old term.0 }
+    requires settled { AreSettled program.now.sig store.old table.old (tree_at store.old term.0) }
+    requires plain { IsPlainTable program.now.sig store.old table.old }
+    ensures none { (hooks : List Operator) (B k b : ℕ) → IfOk result (λ o. IfNone o (left_of_number (program_over program.now hooks) B k (tree_at store.old term.0) number None b ≡ done None 0 b)) }
+    ensures some { (hooks : List Operator) (B k b : ℕ) (rest : List ℕ) → IfOk result (λ o. IfSome o (λ x. left_of_all (program_over program.now hooks) B k (tree_at store.old term.0) number None rest b
+        ≡ or_go_on (left_by (program_over program.now hooks) B k store.new (tree_at store.old term.0) (option_map (λ y. (y.number, L.given y.listing)) tried.new) rest)
+        (number_gives (program_over program.now hooks) B k (tree_at store.old term.0) number (solution_in store.new x) b))) }
+    ensures tried { IfOk result (λ o. IfSome o (λ x. IfSome tried.new (λ y. IsTried L.with_context program.now store.new table.new term y.number (L.asked y.listing) (L.given y.listing) (L.is_for y.listing program.now.sig)))) }
+    ensures found { IfOk result (λ o. IfSome o (IsFound program.now store.new (tree_at store.old term.0) number)) }
+    ensures listed { IfOk result (λ o. IfSome o (IsListed program.now store.new table.new term number)) }
+    ensures plain { IsPlainTable program.now.sig store.new table.new }
+    ensures kept { KeepsEntries table.old table.new }
+    ensures extends { Extends store.old store.new }
+{
+    match &compiled.equations[number].pattern {
+        Some(pattern) => {
+            *tried = None;
+            let found = first_match(store, program, table, number, term, pattern)?;
+            Ok(found)
+        }
+        None => match first_listed::<L>(store, program, table, number, term)? {
+            Some((begun, solution)) => {
+                *tried = Some(begun);
+                Ok(Some(solution))
+            }
+            None => Ok(None),
+        },
     }
 }
 
@@ -146,24 +221,27 @@ fn first_among<L: Lister + Drop>(
     store: &mut Store,
     program: &Program,
     table: &mut SortTable,
+    compiled: &Compiled,
     order: &[usize],
     term: TermId,
     next: &mut usize,
-) -> Result<Option<(Tried<L>, Solution)>, NoMemory>
+    tried: &mut Option<Tried<L>>,
+) -> Result<Option<Found>, NoMemory>
     requires contexts { L.with_context ≡ true }
     requires reducible { IsReducible program.now }
     requires order { All (λ i. i < length program.now.equations) order.now }
     requires executable { All (IsExecutable program.now) order.now }
+    requires compiled { IsCompiled program.now compiled.now }
     requires term { IsTerm program.now.sig store.old term.0 }
     requires settled { AreSettled program.now.sig store.old table.old (tree_at store.old term.0) }
     requires plain { IsPlainTable program.now.sig store.old table.old }
     ensures none { (hooks : List Operator) (B k b : ℕ) → IfOk result (λ o. IfNone o (first_of (applied_number (program_over program.now hooks) B k (tree_at store.old term.0)) (drop next.old order.now) b ≡ done None 0 b)) }
     ensures some { (hooks : List Operator) (B k b : ℕ) → IfOk result (λ o. IfSome o (λ x. first_of (applied_number (program_over program.now hooks) B k (tree_at store.old term.0)) (drop next.old order.now) b
-        ≡ or_go_on (left_of_all (program_over program.now hooks) B k (tree_at store.old term.0) x.0.number (Some (solution_in store.new x.1)) (drop next.new order.now))
-        (number_gives (program_over program.now hooks) B k (tree_at store.old term.0) x.0.number (solution_in store.new x.1) b))) }
-    ensures given { IfOk result (λ o. IfSome o (λ x. L.given x.0.listing ≡ Some x.1)) }
-    ensures tried { IfOk result (λ o. IfSome o (λ x. IsTried L.with_context program.now store.new table.new term x.0.number (L.asked x.0.listing) (L.given x.0.listing) (L.is_for x.0.listing program.now.sig))) }
-    ensures found { IfOk result (λ o. IfSome o (λ x. IsFound program.now store.new (tree_at store.old term.0) x.0.number x.1)) }
+        ≡ or_go_on (left_by (program_over program.now hooks) B k store.new (tree_at store.old term.0) (option_map (λ y. (y.number, L.given y.listing)) tried.new) (drop next.new order.now))
+        (number_gives (program_over program.now hooks) B k (tree_at store.old term.0) x.number (solution_in store.new x.solution) b))) }
+    ensures tried { IfOk result (λ o. IfSome o (λ x. IfSome tried.new (λ y. IsTried L.with_context program.now store.new table.new term y.number (L.asked y.listing) (L.given y.listing) (L.is_for y.listing program.now.sig)))) }
+    ensures found { IfOk result (λ o. IfSome o (λ x. IsFound program.now store.new (tree_at store.old term.0) x.number x.solution)) }
+    ensures listed { IfOk result (λ o. IfSome o (λ x. IsListed program.now store.new table.new term x.number x.solution)) }
     ensures plain { IsPlainTable program.now.sig store.new table.new }
     ensures kept { KeepsEntries table.old table.new }
     ensures extends { Extends store.old store.new }
@@ -171,8 +249,8 @@ fn first_among<L: Lister + Drop>(
     while *next < order.len() {
         let number = order[*next];
         *next += 1;
-        match first_candidate::<L>(store, program, table, number, term)? {
-            Some(found) => return Ok(Some(found)),
+        match first_candidate(store, program, table, compiled, number, term, tried)? {
+            Some(solution) => return Ok(Some(Found { number, solution })),
             None => {}
         }
     }
@@ -199,7 +277,7 @@ fn go_on_tried<L: Lister>(
         (option_map (λ y. (y.number, L.given y.listing)) tried.old) rest b
         ≡ or_go_on (left_by (program_over program.now hooks) B k store.new (tree_at store.old term.0) (option_map (λ y. (y.number, L.given y.listing)) tried.new) rest)
         (number_gives (program_over program.now hooks) B k (tree_at store.old term.0) x.number (solution_in store.new x.solution) b))) }
-    ensures kept_tried { IfOk result (λ o. IfSome o (λ x. IfSome tried.new (λ y. y.number ≡ x.number) × IfSome tried.new (λ y. L.given y.listing ≡ Some x.solution) × IsSome tried.new)) }
+    ensures listed { IfOk result (λ o. IfSome o (λ x. IsListed program.now store.new table.new term x.number x.solution)) }
     ensures tried { IfOk result (λ o. IfSome o (λ x. IfSome tried.new (λ y. IsTried L.with_context program.now store.new table.new term y.number (L.asked y.listing) (L.given y.listing) (L.is_for y.listing program.now.sig)))) }
     ensures found { IfOk result (λ o. IfSome o (λ x. IsFound program.now store.new (tree_at store.old term.0) x.number x.solution)) }
     ensures plain { IsPlainTable program.now.sig store.new table.new }
@@ -218,69 +296,61 @@ fn go_on_tried<L: Lister>(
     }
 }
 
-/// Begins with the equations with these numbers, from a place on.
+/// Begins with the equations that may apply at the top of a term, from a place of their order on.
 fn begin_next<L: Lister + Drop>(
     store: &mut Store,
     program: &Program,
     table: &mut SortTable,
-    order: &[usize],
+    compiled: &Compiled,
     term: TermId,
     next: &mut usize,
     tried: &mut Option<Tried<L>>,
 ) -> Result<Option<Found>, NoMemory>
     requires contexts { L.with_context ≡ true }
     requires reducible { IsReducible program.now }
-    requires order { All (λ i. i < length program.now.equations) order.now }
-    requires executable { All (IsExecutable program.now) order.now }
+    requires compiled { IsCompiled program.now compiled.now }
     requires term { IsTerm program.now.sig store.old term.0 }
     requires settled { AreSettled program.now.sig store.old table.old (tree_at store.old term.0) }
     requires plain { IsPlainTable program.now.sig store.old table.old }
-    ensures none { (hooks : List Operator) (B k b : ℕ) → IfOk result (λ o. IfNone o (first_of (applied_number (program_over program.now hooks) B k (tree_at store.old term.0)) (drop next.old order.now) b ≡ done None 0 b)) }
-    ensures some { (hooks : List Operator) (B k b : ℕ) → IfOk result (λ o. IfSome o (λ x. first_of (applied_number (program_over program.now hooks) B k (tree_at store.old term.0)) (drop next.old order.now) b
-        ≡ or_go_on (left_by (program_over program.now hooks) B k store.new (tree_at store.old term.0) (option_map (λ y. (y.number, L.given y.listing)) tried.new) (drop next.new order.now))
+    ensures none { (hooks : List Operator) (B k b : ℕ) → IfOk result (λ o. IfNone o (first_of (applied_number (program_over program.now hooks) B k (tree_at store.old term.0)) (drop next.old (order_for program.now (tree_at store.old term.0))) b ≡ done None 0 b)) }
+    ensures some { (hooks : List Operator) (B k b : ℕ) → IfOk result (λ o. IfSome o (λ x. first_of (applied_number (program_over program.now hooks) B k (tree_at store.old term.0)) (drop next.old (order_for program.now (tree_at store.old term.0))) b
+        ≡ or_go_on (left_by (program_over program.now hooks) B k store.new (tree_at store.old term.0) (option_map (λ y. (y.number, L.given y.listing)) tried.new) (drop next.new (order_for program.now (tree_at store.old term.0))))
         (number_gives (program_over program.now hooks) B k (tree_at store.old term.0) x.number (solution_in store.new x.solution) b))) }
-    ensures kept_tried { IfOk result (λ o. IfSome o (λ x. IfSome tried.new (λ y. y.number ≡ x.number) × IfSome tried.new (λ y. L.given y.listing ≡ Some x.solution) × IsSome tried.new)) }
+    ensures listed { IfOk result (λ o. IfSome o (λ x. IsListed program.now store.new table.new term x.number x.solution)) }
     ensures tried { IfOk result (λ o. IfSome o (λ x. IfSome tried.new (λ y. IsTried L.with_context program.now store.new table.new term y.number (L.asked y.listing) (L.given y.listing) (L.is_for y.listing program.now.sig)))) }
     ensures found { IfOk result (λ o. IfSome o (λ x. IsFound program.now store.new (tree_at store.old term.0) x.number x.solution)) }
     ensures plain { IsPlainTable program.now.sig store.new table.new }
     ensures kept { KeepsEntries table.old table.new }
     ensures extends { Extends store.old store.new }
 {
-    match first_among::<L>(store, program, table, order, term, next)? {
-        Some((begun, solution)) => {
-            let number = begun.number;
-            *tried = Some(begun);
-            Ok(Some(Found { number, solution }))
-        }
-        None => Ok(None),
-    }
+    let order = compiled.order_at(program, store, term);
+    first_among(store, program, table, compiled, order, term, next, tried)
 }
 
-/// The next candidate: of the equation that is tried, or else of those with these numbers, from a place on.
+/// The next candidate: of the equation that is tried, or else of those that may apply at the top of the term, from a place of their order on.
 pub(crate) fn next_found<L: Lister + Drop>(
     store: &mut Store,
     program: &Program,
     table: &mut SortTable,
-    order: &[usize],
+    compiled: &Compiled,
     term: TermId,
     next: &mut usize,
     tried: &mut Option<Tried<L>>,
 ) -> Result<Option<Found>, NoMemory>
     requires contexts { L.with_context ≡ true }
     requires reducible { IsReducible program.now }
-    requires order { All (λ i. i < length program.now.equations) order.now }
-    requires executable { All (IsExecutable program.now) order.now }
+    requires compiled { IsCompiled program.now compiled.now }
     requires term { IsTerm program.now.sig store.old term.0 }
     requires settled { AreSettled program.now.sig store.old table.old (tree_at store.old term.0) }
     requires plain { IsPlainTable program.now.sig store.old table.old }
     requires tried { IfSome tried.old (λ x. IsTried L.with_context program.now store.old table.old term x.number (L.asked x.listing) (L.given x.listing) (L.is_for x.listing program.now.sig)) }
     ensures none { (hooks : List Operator) (B k b : ℕ) → IfOk result (λ o. IfNone o (left_by (program_over program.now hooks) B k store.old (tree_at store.old term.0)
-        (option_map (λ x. (x.number, L.given x.listing)) tried.old) (drop next.old order.now) b ≡ done None 0 b)) }
+        (option_map (λ x. (x.number, L.given x.listing)) tried.old) (drop next.old (order_for program.now (tree_at store.old term.0))) b ≡ done None 0 b)) }
     ensures some { (hooks : List Operator) (B k b : ℕ) → IfOk result (λ o. IfSome o (λ x. left_by (program_over program.now hooks) B k store.old (tree_at store.old term.0)
-        (option_map (λ y. (y.number, L.given y.listing)) tried.old) (drop next.old order.now) b
-        ≡ or_go_on (left_by (program_over program.now hooks) B k store.new (tree_at store.old term.0) (option_map (λ y. (y.number, L.given y.listing)) tried.new) (drop next.new order.now))
+        (option_map (λ y. (y.number, L.given y.listing)) tried.old) (drop next.old (order_for program.now (tree_at store.old term.0))) b
+        ≡ or_go_on (left_by (program_over program.now hooks) B k store.new (tree_at store.old term.0) (option_map (λ y. (y.number, L.given y.listing)) tried.new) (drop next.new (order_for program.now (tree_at store.old term.0))))
         (number_gives (program_over program.now hooks) B k (tree_at store.old term.0) x.number (solution_in store.new x.solution) b))) }
-    ensures kept_tried { IfOk result (λ o. IfSome o (λ x. IfSome tried.new (λ y. y.number ≡ x.number) × IfSome tried.new (λ y. L.given y.listing ≡ Some x.solution) × IsSome tried.new)) }
+    ensures listed { IfOk result (λ o. IfSome o (λ x. IsListed program.now store.new table.new term x.number x.solution)) }
     ensures tried { IfOk result (λ o. IfSome o (λ x. IfSome tried.new (λ y. IsTried L.with_context program.now store.new table.new term y.number (L.asked y.listing) (L.given y.listing) (L.is_for y.listing program.now.sig)))) }
     ensures found { IfOk result (λ o. IfSome o (λ x. IsFound program.now store.new (tree_at store.old term.0) x.number x.solution)) }
     ensures plain { IsPlainTable program.now.sig store.new table.new }
@@ -289,6 +359,6 @@ pub(crate) fn next_found<L: Lister + Drop>(
 {
     match go_on_tried(store, program, table, term, tried)? {
         Some(found) => Ok(Some(found)),
-        None => begin_next(store, program, table, order, term, next, tried),
+        None => begin_next(store, program, table, compiled, term, next, tried),
     }
 }

@@ -1,7 +1,7 @@
 -- The next candidate: what it leaves, and what is known of it in the later state.
-use Rattle.std.proofs.Common.{◌≡◌, ℕ, List, Bool, Option, Some, None, IfSome, IfNone, Result, Ok, Err, IfOk, IfErr, map, drop, length, slice_get, sym, ap, ◌∙◌, subst, arith}
+use Rattle.std.proofs.Common.{◌≡◌, ◌==◌, ◌≤◌, ℕ, suc, List, [], Bool, if◌then◌else◌, Option, Some, None, IfSome, IfNone, Result, Ok, Err, IfOk, IfErr, map, drop, length, slice_get, sym, ap, ap₂, ◌∙◌, subst, arith}
 use Rattle.std.specs.Option.{option_map}
-use Rattle.std.proofs.lemmas.Option.{slice_get_past}
+use Rattle.std.proofs.lemmas.Option.{slice_get_past, slice_get_within}
 use Rattle.std.proofs.lemmas.Bool.{and_parts}
 use Rattle.std.specs.Prelude.{fold}
 use Rattle.mau_terms.specs.Tree.{Tree}
@@ -31,7 +31,8 @@ use Rattle.mau_reduce.specs.declared.given.Given.TheVariants as Giving
 use Rattle.mau_reduce.specs.declared.trying.Found.{Found}
 use Rattle.mau_reduce.specs.Ends as Reduced
 use Rattle.mau_reduce.specs.Bindings.{bound_in, AreValues}
-use Rattle.mau_reduce.specs.Trying.{order_of_all, IsTried}
+use Rattle.mau_reduce.specs.Trying.{IsTried}
+use Rattle.mau_reduce.specs.ByTop.{order_for}
 use Rattle.mau_reduce.specs.Giving.{IsGivenAt}
 use Rattle.mau_reduce.specs.Attempting.{untried_by, cond_at, makes_of}
 use Rattle.mau_reduce.specs.Lasts.{left_variables_of, left_variables, IsLast, IsLastListed}
@@ -41,24 +42,48 @@ use Rattle.mau_machine.specs.Words as Ends
 use Rattle.mau_machine.specs.Words.{Words, solve_on}
 use Rattle.mau_reducer.specs.declared.reducer.Candidates.{Candidates}
 use Rattle.mau_reducer.specs.Basis.{Basis, IsBasis}
-use Rattle.mau_reducer.specs.Handles.{as_id, written_in, written_at, AreBoundFrom, AreKnownCandidates, IsKnownCandidate, IsKnownBinding, words_of}
+use Rattle.mau_reducer.specs.Handles.{as_id, written_in, written_at, first_in, first_at, AreBoundFrom, AreKnownCandidates, IsKnownCandidate, IsKnownBinding, words_of}
 use Rattle.mau_reducer.specs.States.{ComesOf}
 use Rattle.mau_reducer.specs.LaterStates.{words_kept}
-use Rattle.mau_reducer.proofs.Conditions.{at_place, condition_is}
+use Rattle.mau_reducer.proofs.Conditions.{at_place, not_asked, condition_is}
 use Rattle.mau_reducer.proofs.Taking.{as_end}
 
 -- the left side of a candidate binds what its condition may have
 module _ (b : Basis) (is : IsBasis b) (nodes : List Node) (u : Tree) (e : ℕ) where
-  abbrev begun : Option Equation → Bool
-  begun o = are_bound (left_variables_of o) (written_in o)
+  abbrev begun : Bool → Option Equation → Bool
+  begun w o = are_bound (first_in (if w then b.asked_under else []) o) (written_in (if w then b.asked else []) o)
 
-  behind : e ≡ length b.program.equations → AreBoundFrom b.program e 0
-  behind d = ap begun (ap (slice_get b.program.equations) d ∙ slice_get_past b.program.equations (length b.program.equations) (omega arith))
+  none_there : e ≡ length b.program.equations → slice_get b.program.equations e ≡ None
+  none_there d = ap (slice_get b.program.equations) d ∙ slice_get_past b.program.equations (length b.program.equations) (omega arith)
 
-  bound_first : (g : Given) (last : Option Found) → IsLast b.program nodes u e g last → AreBoundFrom b.program e 0
+  behind : e ≡ length b.program.equations → AreBoundFrom b e 0
+  behind d = ap₂ begun (not_asked (length b.program.equations) e (omega (arith, d))) (none_there d)
+
+  low_one : (g : Given) (last : Option Found) → IsLast b.program nodes u e g last → e ≤ length b.program.equations
+  low_one Giving.Nothing (Some y) k = let within = slice_get_within b.program.equations e k.1.equation k.1.at in omega (arith, within)
+  low_one Giving.Nothing None k = absurd k
+  low_one Giving.TooLarge last k = absurd k
+  low_one (Giving.Argument j) last k = omega (arith, k)
+  low_one (Giving.Whole l) last k = omega (arith, k)
+  low_one (Giving.Before l) last k = omega (arith, k)
+
+  first_behind : e ≡ length b.program.equations → left_variables b.program e ≡ first_at b e
+  first_behind d =
+      ap left_variables_of (none_there d)
+      ∙ sym (ap₂ (λ (w : Bool) (o : Option Equation). first_in (if w then b.asked_under else []) o) (not_asked (length b.program.equations) e (omega (arith, d))) (none_there d))
+
+  first_is : (g : Given) (last : Option Found) → IsLast b.program nodes u e g last → left_variables b.program e ≡ first_at b e
+  first_is Giving.Nothing (Some y) k = ap left_variables_of k.1.at ∙ sym (ap (first_in (if e == suc (length b.program.equations) then b.asked_under else [])) k.1.at)
+  first_is Giving.Nothing None k = absurd k
+  first_is Giving.TooLarge last k = absurd k
+  first_is (Giving.Argument j) last k = first_behind k
+  first_is (Giving.Whole l) last k = first_behind k
+  first_is (Giving.Before l) last k = first_behind k
+
+  bound_first : (g : Given) (last : Option Found) → IsLast b.program nodes u e g last → AreBoundFrom b e 0
   bound_first Giving.Nothing (Some y) k =
       let q = k.1.equation in
-      ap begun k.1.at
+      ap (begun (e == suc (length b.program.equations))) k.1.at
       ∙ (and_parts (are_bound (variables (tree_of q.left)) q.cond) (has_only (fold bound_behind (variables (tree_of q.left)) q.cond) (tree_of q.right))
       ((at_place (IsLawfulEquation b.program.sig) b.program.equations is.lawful.equations e q k.1.at).bound k.1.exec)).0
   bound_first Giving.Nothing None k = absurd k
@@ -67,10 +92,10 @@ module _ (b : Basis) (is : IsBasis b) (nodes : List Node) (u : Tree) (e : ℕ) w
   bound_first (Giving.Whole l) last k = behind k
   bound_first (Giving.Before l) last k = behind k
 
--- a state, and the one after the call; t is the term, and `order` is the order in which equations are tried
+-- a state, and the one after the call; t is the term
 module _ {L M : Type 0} (c : Bool) (asked : L → Asked) (given : L → Option Solution) (is_for : L → SignatureOf → Type 0)
     (asked_whole : M → Asked) (given_whole : M → Option Solution) (is_for_whole : M → SignatureOf → Type 0) (b : Basis) (is : IsBasis b) (old new : List Node) (before after : Table)
-    (h : ComesOf b b old new before after) (t : ℕ) (term : IsTerm b.program.sig old t) (order : List ℕ) (order_is : order ≡ b.order) where
+    (h : ComesOf b b old new before after) (t : ℕ) (term : IsTerm b.program.sig old t) where
   abbrev P : Program
   P = program_over b.program b.hooks
 
@@ -81,63 +106,62 @@ module _ {L M : Type 0} (c : Bool) (asked : L → Asked) (given : L → Option S
   same : tree_at new t ≡ tree_at old t
   same = tree_kept (theory_at b.program.sig) old new t h.extends term.within
 
-  all_in_order : order ≡ order_of_all P.equations
-  all_in_order = order_is ∙ is.order
+  -- the order of the equations that may apply at the top of the term
+  abbrev order : List ℕ
+  order = order_for b.program (tree_at old t)
 
   module _ (a : Candidates L) (known : AreKnownCandidates c asked given is_for asked_whole given_whole is_for_whole b old before t a) where
-    untried_was : (k n : ℕ) → (words_of c asked given is_for asked_whole given_whole is_for_whole b new after).untried a k n ≡ left_of old (tree_at old t) order a.attempts k n
+    untried_was : (k n : ℕ) → (words_of c asked given is_for asked_whole given_whole is_for_whole b new after).untried a k n ≡ left_of old (tree_at old t) order a.attempts.value k n
     untried_was k n =
         ((words_kept c asked given is_for asked_whole given_whole is_for_whole b b old new before after h).attempts t a known).1 k n
-        ∙ (ap (λ i. left_of old (tree_at old i) (order_of_all P.equations) a.attempts k n) known.own
-        ∙ ap (λ os. left_of old (tree_at old t) os a.attempts k n) (sym all_in_order))
+        ∙ ap (λ i. left_of old (tree_at old i) (order_for b.program (tree_at old i)) a.attempts.value k n) known.own
 
-    pub none : (k n : ℕ) (r : Result (Option (ℕ × Kept)) EvalEnd) → IfOk r (λ o. IfNone o (left_of old (tree_at old t) order a.attempts k n ≡ done None 0 n)) →
+    pub none : (k n : ℕ) (r : Result (Option (ℕ × Kept)) EvalEnd) → IfOk r (λ o. IfNone o (left_of old (tree_at old t) order a.attempts.value k n ≡ done None 0 n)) →
         IfOk r (λ o. IfNone o ((words_of c asked given is_for asked_whole given_whole is_for_whole b new after).untried a k n ≡ done None 0 n))
     none k n (Ok None) e = untried_was k n ∙ e
     none k n (Ok (Some x)) e = tt
     none k n (Err d) e = tt
 
-    pub ends : (k n : ℕ) (r : Result (Option (ℕ × Kept)) EvalEnd) → IfErr r (Reduced.IsEnd (left_of old (tree_at old t) order a.attempts k n)) →
+    pub ends : (k n : ℕ) (r : Result (Option (ℕ × Kept)) EvalEnd) → IfErr r (Reduced.IsEnd (left_of old (tree_at old t) order a.attempts.value k n)) →
         IfErr r (Ends.IsEnd ((words_of c asked given is_for asked_whole given_whole is_for_whole b new after).untried a k n))
     ends k n (Ok o) e = tt
-    ends k n (Err d) e = subst (λ o. Ends.IsEnd o d) (sym (untried_was k n)) (as_end (left_of old (tree_at old t) order a.attempts k n) d e)
+    ends k n (Err d) e = subst (λ o. Ends.IsEnd o d) (sym (untried_was k n)) (as_end (left_of old (tree_at old t) order a.attempts.value k n) d e)
 
     -- what is left after the call
     module _ (a' : Candidates L) (own : a'.term.0 ≡ t) where
       abbrev after_one : ℕ → ℕ → Kept → Tree → List ℕ → List Fragment → Outcome (Option Tree)
       after_one k n σ u os fs =
-          or_go_on (left_of new u os a'.attempts k) (try_on (λ τ. gives (option_map (makes_of P new u a'.attempts.given a'.attempts.last) τ)) (solve P (levels P b.limit k) fs (bound_in new σ) n))
+          or_go_on (left_of new u os a'.attempts.value k) (try_on (λ τ. gives (option_map (makes_of P new u a'.attempts.value.given a'.attempts.value.last) τ)) (solve P (levels P b.limit k) fs (bound_in new σ) n))
 
       at_own : tree_at old t ≡ tree_at new a'.term.0
       at_own = sym (ap (tree_at new) own ∙ same)
 
-      after_same : (k n e : ℕ) (σ : Kept) → after_one k n σ (tree_at old t) order (cond_at P e)
-          ≡ after_one k n σ (tree_at new a'.term.0) (order_of_all P.equations) (map fragment_of (written_at b.program e))
-      after_same k n e σ =
-          ap (λ u. after_one k n σ u order (cond_at P e)) at_own
-          ∙ (ap (λ os. after_one k n σ (tree_at new a'.term.0) os (cond_at P e)) all_in_order
-          ∙ ap (after_one k n σ (tree_at new a'.term.0) (order_of_all P.equations)) (condition_is b.program b.hooks e))
+      after_same : (k n e : ℕ) (σ : Kept) → e ≤ length b.program.equations → after_one k n σ (tree_at old t) order (cond_at P e)
+          ≡ after_one k n σ (tree_at new a'.term.0) (order_for b.program (tree_at new a'.term.0)) (map fragment_of (written_at b e))
+      after_same k n e σ low =
+          ap (λ u. after_one k n σ u (order_for b.program u) (cond_at P e)) at_own
+          ∙ ap (after_one k n σ (tree_at new a'.term.0) (order_for b.program (tree_at new a'.term.0))) (condition_is b e low)
 
-      pub some : (k n : ℕ) (r : Result (Option (ℕ × Kept)) EvalEnd) →
-          IfOk r (λ o. IfSome o (λ x. left_of old (tree_at old t) order a.attempts k n ≡ after_one k n x.1 (tree_at old t) order (cond_at P x.0))) →
+      pub some : (k n : ℕ) (r : Result (Option (ℕ × Kept)) EvalEnd) → IfOk r (λ o. IfSome o (λ x. IsLast b.program new (tree_at old t) x.0 a'.attempts.value.given a'.attempts.value.last)) →
+          IfOk r (λ o. IfSome o (λ x. left_of old (tree_at old t) order a.attempts.value k n ≡ after_one k n x.1 (tree_at old t) order (cond_at P x.0))) →
           IfOk r (λ o. IfSome o (λ x. (words_of c asked given is_for asked_whole given_whole is_for_whole b new after).untried a k n
           ≡ or_go_on ((words_of c asked given is_for asked_whole given_whole is_for_whole b new after).untried a' k)
           (try_on (λ σ. gives (option_map ((words_of c asked given is_for asked_whole given_whole is_for_whole b new after).makes a') σ)) (solve_on (words_of c asked given is_for asked_whole given_whole is_for_whole b new after).rules k x.0 0 ((words_of c asked given is_for asked_whole given_whole is_for_whole b new after).bound x.1) n))))
-      some k n (Ok None) e = tt
-      some k n (Ok (Some x)) e = untried_was k n ∙ (e ∙ after_same k n x.0 x.1)
-      some k n (Err d) e = tt
+      some k n (Ok None) last e = tt
+      some k n (Ok (Some x)) last e = untried_was k n ∙ (e ∙ after_same k n x.0 x.1 (low_one b is new (tree_at old t) x.0 a'.attempts.value.given a'.attempts.value.last last))
+      some k n (Err d) last e = tt
 
       -- what is known
-      module _ (given_is : a'.attempts.given ≡ a.attempts.given) where
-        given_now : IsGivenAt b.program.sig b.hooks new (tree_at new t) a'.attempts.given
+      module _ (given_is : a'.attempts.value.given ≡ a.attempts.value.given) where
+        given_now : IsGivenAt b.program.sig b.hooks new (tree_at new t) a'.attempts.value.given
         given_now =
             subst (IsGivenAt b.program.sig b.hooks new (tree_at new t)) (sym given_is)
-            (subst (λ u. IsGivenAt b.program.sig b.hooks new u a.attempts.given) (sym same) (given_grown b.program old new h.extends b.hooks (tree_at old t) a.attempts.given known.given_at))
+            (subst (λ u. IsGivenAt b.program.sig b.hooks new u a.attempts.value.given) (sym same) (given_grown b.program old new h.extends b.hooks (tree_at old t) a.attempts.value.given known.given_at))
 
-        known_one : (x : ℕ × Kept) → AreValues b.program.sig new x.1 → IsLast b.program new (tree_at old t) x.0 a'.attempts.given a'.attempts.last →
-            IsLastListed b.program new after (as_id t) x.0 a'.attempts.given a'.attempts.last → map variable_of x.1.variables.items ≡ left_variables b.program x.0 →
+        known_one : (x : ℕ × Kept) → AreValues b.program.sig new x.1 → IsLast b.program new (tree_at old t) x.0 a'.attempts.value.given a'.attempts.value.last →
+            IsLastListed b.program new after (as_id t) x.0 a'.attempts.value.given a'.attempts.value.last → map variable_of x.1.variables.items ≡ left_variables b.program x.0 →
             HaveSorts (HasEntry b.program.sig new after) (map variable_of x.1.variables.items) (trees_at new (numbers x.1.values.items)) →
-            IfSome a'.attempts.tried (λ y. IsTried c b.program new after (as_id t) y.number (asked y.listing) (given y.listing) (is_for y.listing b.program.sig)) →
+            IfSome a'.attempts.value.tried (λ y. IsTried c b.program new after (as_id t) y.number (asked y.listing) (given y.listing) (is_for y.listing b.program.sig)) →
             AreKnownCandidates c asked given is_for asked_whole given_whole is_for_whole b new after t a' × IsKnownCandidate c asked given is_for asked_whole given_whole is_for_whole b new after t x.0 a' × IsKnownBinding b new after x.0 0 x.1
         known_one x values last listed variables sorts tried = (
           record { own = own; term = is_term_kept b.program.sig old new t h.extends term; tried = tried; given_at = given_now },
@@ -146,23 +170,23 @@ module _ {L M : Type 0} (c : Bool) (asked : L → Asked) (given : L → Option S
             term = is_term_kept b.program.sig old new t h.extends term;
             reducible = is.reducible;
             given_at = given_now;
-            last = subst (λ u. IsLast b.program new u x.0 a'.attempts.given a'.attempts.last) (sym same) last;
+            last = subst (λ u. IsLast b.program new u x.0 a'.attempts.value.given a'.attempts.value.last) (sym same) last;
             listed = listed;
           },
           record {
             values = values;
-            variables = variables;
+            variables = variables ∙ first_is b is new (tree_at old t) x.0 a'.attempts.value.given a'.attempts.value.last last;
             sorts = sorts;
-            bound = bound_first b is new (tree_at old t) x.0 a'.attempts.given a'.attempts.last last;
+            bound = bound_first b is new (tree_at old t) x.0 a'.attempts.value.given a'.attempts.value.last last;
           },
         )
 
         pub all_known : (r : Result (Option (ℕ × Kept)) EvalEnd) → IfOk r (λ o. IfSome o (λ x. AreValues b.program.sig new x.1)) →
-            IfOk r (λ o. IfSome o (λ x. IsLast b.program new (tree_at old t) x.0 a'.attempts.given a'.attempts.last)) →
-            IfOk r (λ o. IfSome o (λ x. IsLastListed b.program new after (as_id t) x.0 a'.attempts.given a'.attempts.last)) →
+            IfOk r (λ o. IfSome o (λ x. IsLast b.program new (tree_at old t) x.0 a'.attempts.value.given a'.attempts.value.last)) →
+            IfOk r (λ o. IfSome o (λ x. IsLastListed b.program new after (as_id t) x.0 a'.attempts.value.given a'.attempts.value.last)) →
             IfOk r (λ o. IfSome o (λ x. map variable_of x.1.variables.items ≡ left_variables b.program x.0)) →
             IfOk r (λ o. IfSome o (λ x. HaveSorts (HasEntry b.program.sig new after) (map variable_of x.1.variables.items) (trees_at new (numbers x.1.values.items)))) →
-            IfOk r (λ o. IfSome o (λ x. IfSome a'.attempts.tried (λ y. IsTried c b.program new after (as_id t) y.number (asked y.listing) (given y.listing) (is_for y.listing b.program.sig)))) →
+            IfOk r (λ o. IfSome o (λ x. IfSome a'.attempts.value.tried (λ y. IsTried c b.program new after (as_id t) y.number (asked y.listing) (given y.listing) (is_for y.listing b.program.sig)))) →
             IfOk r (λ o. IfSome o (λ x. AreKnownCandidates c asked given is_for asked_whole given_whole is_for_whole b new after t a' × IsKnownCandidate c asked given is_for asked_whole given_whole is_for_whole b new after t x.0 a' × IsKnownBinding b new after x.0 0 x.1))
         all_known (Ok None) values last listed variables sorts tried = tt
         all_known (Ok (Some x)) values last listed variables sorts tried = known_one x values last listed variables sorts tried

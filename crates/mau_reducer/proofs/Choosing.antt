@@ -1,5 +1,5 @@
 -- The solutions of a matching fragment: with what they begin, and what the next one gives.
-use Rattle.std.proofs.Common.{◌≡◌, ◌∷◌, ℕ, suc, List, [], All, Bool, Option, Some, None, IfSome, IfNone, Result, Ok, Err, IfOk, map, drop, take, length, slice_get, sym, ap, ◌∙◌, subst}
+use Rattle.std.proofs.Common.{◌≡◌, ◌==◌, if◌then◌else◌, true, false, ◌∷◌, ℕ, suc, List, [], All, Bool, Option, Some, None, IfSome, IfNone, Result, Ok, Err, IfOk, map, drop, take, length, slice_get, sym, ap, ◌∙◌, subst}
 use Rattle.std.specs.Option.{option_map}
 use Rattle.std.specs.List.{zip}
 use Rattle.std.specs.Prelude.{fold}
@@ -27,20 +27,19 @@ use Rattle.mau_evaluation.specs.Program as Evaluated
 use Rattle.mau_evaluation.specs.Program.{Program}
 use Rattle.mau_evaluation.specs.Evaluation.{Binding, levels, look_up, solve}
 use Rattle.mau_api.specs.Programs.{program_over}
-use Rattle.mau_api.specs.Answers.{IsValueOf, binding_in}
+use Rattle.mau_api.specs.Answers.{IsValueOf, binding_in, AreApart}
 use Rattle.mau_reduce.specs.declared.binding.Binding.{Binding as Kept}
 use Rattle.mau_reduce.specs.Bindings.{bound_in}
 use Rattle.mau_reduce.specs.Trying.{solution_in}
-use Rattle.mau_reduce.specs.Lasts.{left_variables_of, left_variables}
 use Rattle.mau_machine.specs.declared.goal.Goal.TheVariants as Goals
 use Rattle.mau_machine.specs.Words.{Words, rest_of, pattern_in, solve_on, Asks, IsUnchosen, IsExtension, IsChoiceOf}
 use Rattle.mau_choices.specs.declared.choices.Choices.{Choices}
-use Rattle.mau_choices.specs.Choosing.{left_of_choices, AreApart, IsChoosing}
+use Rattle.mau_choices.specs.Choosing.{left_of_choices, IsChoosing}
 use Rattle.mau_choices.proofs.Begun.{unchosen_begun}
 use Rattle.mau_choices.proofs.Later.{value_same, binding_same, left_same}
 use Rattle.mau_reducer.specs.declared.reducer.Candidates.{Candidates}
 use Rattle.mau_reducer.specs.Basis.{Basis}
-use Rattle.mau_reducer.specs.Handles.{written_at, bound_before, rules_of, IsKnownBinding, AreKnownChoices, words_of}
+use Rattle.mau_reducer.specs.Handles.{written_at, first_in, first_at, bound_before, rules_of, IsKnownBinding, AreKnownChoices, words_of}
 use Rattle.mau_reducer.specs.States.{ComesOf}
 use Rattle.mau_reducer.specs.Fragments.{bound_next, bound_on}
 use Rattle.mau_reducer.proofs.Conditions.{from_place, pattern_is}
@@ -61,7 +60,7 @@ module _ (b : Basis) (nodes : List Node) (table : Table) (e i : ℕ) (σ : Kept)
   pub all_values : All (IsValueOf b.program.sig nodes table) (pairs_of σ)
   all_values = values_paired b.program.sig nodes table σ.variables.items σ.values.items h.values.within h.values.kinds h.sorts
 
-  pub all_variables : map (λ (y : VarId × TermId). variable_of y.0) (pairs_of σ) ≡ bound_before b.program e i
+  pub all_variables : map (λ (y : VarId × TermId). variable_of y.0) (pairs_of σ) ≡ bound_before b e i
   all_variables = variables_paired σ.variables.items σ.values.items one_value_each ∙ h.variables
 
 -- variables that are bound one after another are apart
@@ -72,15 +71,16 @@ bound_apart (Match p u ∷ fs) xs d = bound_apart fs (add_variables xs (tree_of 
 bound_apart (Sort t s ∷ fs) xs d = bound_apart fs xs d
 bound_apart (Reach t u ∷ fs) xs d = bound_apart fs (add_variables xs (tree_of u)) (distinct (tree_of u) xs d)
 
-left_apart : (o : Option Equation) → AreApart (left_variables_of o)
-left_apart None = tt
-left_apart (Some q) = distinct (tree_of q.left) [] tt
+first_apart : (b : Basis) → AreApart b.asked_under → (w : Bool) (o : Option Equation) → AreApart (first_in (if w then b.asked_under else []) o)
+first_apart b d true None = d
+first_apart b d false None = tt
+first_apart b d w (Some q) = distinct (tree_of q.left) [] tt
 
-pub before_apart : (b : Basis) (e i : ℕ) → AreApart (bound_before b.program e i)
-before_apart b e i = bound_apart (take i (written_at b.program e)) (left_variables b.program e) (left_apart (slice_get b.program.equations e))
+pub before_apart : (b : Basis) → AreApart b.asked_under → (e i : ℕ) → AreApart (bound_before b e i)
+before_apart b d e i = bound_apart (take i (written_at b e)) (first_at b e) (first_apart b d (e == suc (length b.program.equations)) (slice_get b.program.equations e))
 
-pub all_apart : (b : Basis) (nodes : List Node) (table : Table) (e i : ℕ) (σ : Kept) → IsKnownBinding b nodes table e i σ → AreApart (map (λ (y : VarId × TermId). variable_of y.0) (pairs_of σ))
-all_apart b nodes table e i σ h = subst AreApart (sym (all_variables b nodes table e i σ h)) (before_apart b e i)
+pub all_apart : (b : Basis) → AreApart b.asked_under → (nodes : List Node) (table : Table) (e i : ℕ) (σ : Kept) → IsKnownBinding b nodes table e i σ → AreApart (map (λ (y : VarId × TermId). variable_of y.0) (pairs_of σ))
+all_apart b d nodes table e i σ h = subst AreApart (sym (all_variables b nodes table e i σ h)) (before_apart b d e i)
 
 -- ---- where they begin
 
@@ -133,14 +133,14 @@ module _ {L M : Type 0} (c : Bool) (asked : L → Asked) (given : L → Option S
 -- as it is asked
 pub asked_for : {L M : Type 0} (c : Bool) (asked : L → Asked) (given : L → Option Solution) (is_for : L → SignatureOf → Type 0)
     (asked_whole : M → Asked) (given_whole : M → Option Solution) (is_for_whole : M → SignatureOf → Type 0) (b : Basis) (nodes : List Node) (table : Table)
-    (e i : ℕ) (p u : Bare) → slice_get (written_at b.program e) i ≡ Some (Match p u) → (x : Choices M) → AreKnownChoices c asked given is_for asked_whole given_whole is_for_whole b nodes table e i x →
+    (e i : ℕ) (p u : Bare) → slice_get (written_at b e) i ≡ Some (Match p u) → (x : Choices M) → AreKnownChoices c asked given is_for asked_whole given_whole is_for_whole b nodes table e i x →
     IsChoosing b.program.sig nodes table (tree_of p) x.binding x.value (asked_whole x.listing) (given_whole x.listing) (is_for_whole x.listing b.program.sig)
 asked_for c asked given is_for asked_whole given_whole is_for_whole b nodes table e i p u at x k =
     subst (λ t. IsChoosing b.program.sig nodes table t x.binding x.value (asked_whole x.listing) (given_whole x.listing) (is_for_whole x.listing b.program.sig)) (pattern_is b e i p u at) k.choosing
 
 module _ {L M : Type 0} (c : Bool) (asked : L → Asked) (given : L → Option Solution) (is_for : L → SignatureOf → Type 0)
     (asked_whole : M → Asked) (given_whole : M → Option Solution) (is_for_whole : M → SignatureOf → Type 0) (b : Basis) (old new : List Node) (before after : Table)
-    (h : ComesOf b b old new before after) (e i : ℕ) (p u : Bare) (at : slice_get (written_at b.program e) i ≡ Some (Match p u)) (x x' : Choices M)
+    (h : ComesOf b b old new before after) (e i : ℕ) (p u : Bare) (at : slice_get (written_at b e) i ≡ Some (Match p u)) (x x' : Choices M)
     (is : AreKnownChoices c asked given is_for asked_whole given_whole is_for_whole b old before e i x) (same_binding : x'.binding ≡ x.binding) (same_value : x'.value ≡ x.value) where
   abbrev words_now : Words (Candidates L) (Choices M) Kept
   words_now = words_of c asked given is_for asked_whole given_whole is_for_whole b new after
@@ -238,7 +238,7 @@ module _ {L M : Type 0} (c : Bool) (asked : L → Asked) (given : L → Option S
       map (λ (y : VarId × TermId). variable_of y.0) τ ≡ add_variables (map (λ (y : VarId × TermId). variable_of y.0) x.binding) (tree_of p) → IsKnownBinding b new after e (suc i) σ
   known_one σ τ q n values added =
       let all : All (IsValueOf b.program.sig new after) (pairs_of σ) = subst (All (IsValueOf b.program.sig new after)) (sym q) values in
-      let from = from_place (written_at b.program e) i (Match p u) at in
+      let from = from_place (written_at b e) i (Match p u) at in
       record {
         values = record {
           one_each = sym n;
@@ -250,9 +250,9 @@ module _ {L M : Type 0} (c : Bool) (asked : L → Asked) (given : L → Option S
             ∙ (ap (map (λ (y : VarId × TermId). variable_of y.0)) q
             ∙ (added
             ∙ (ap (λ ys. add_variables ys (tree_of p)) is.variables
-            ∙ sym (bound_next b e i (Match p u) (drop (suc i) (written_at b.program e)) from))));
+            ∙ sym (bound_next b e i (Match p u) (drop (suc i) (written_at b e)) from))));
         sorts = paired_sorts b.program.sig new after σ.variables.items σ.values.items n all;
-        bound = (bound_on b e i (Match p u) (drop (suc i) (written_at b.program e)) from is.bound).1;
+        bound = (bound_on b e i (Match p u) (drop (suc i) (written_at b e)) from is.bound).1;
       }
 
   choices_still : IsChoosing b.program.sig new after (tree_of p) x.binding x.value (asked_whole x'.listing) (given_whole x'.listing) (is_for_whole x'.listing b.program.sig) →

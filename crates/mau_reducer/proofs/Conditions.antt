@@ -1,11 +1,11 @@
 -- Conditions as they are written.
-use Rattle.std.proofs.Common.{◌≡◌, ◌<◌, ℕ, zero, suc, List, [], ◌∷◌, All, Bool, true, false, Option, Some, None, map, drop, slice_get, refl, sym, ap, ◌∙◌, subst}
+use Rattle.std.proofs.Common.{◌≡◌, ◌==◌, ◌<◌, ◌≤◌, ℕ, zero, suc, length, arith, eqb-true, eq-eqb, if◌then◌else◌, List, [], ◌∷◌, All, Bool, true, false, Option, Some, None, map, drop, slice_get, refl, sym, ap, ◌∙◌, subst}
 use Rattle.std.specs.Option.{option_map}
 use Rattle.std.proofs.lemmas.Option.{slice_get-map, slice_get_within, get_or_from_slice_get}
 use Rattle.mau_terms.specs.Bare.{IsBare}
 use Rattle.mau_terms.specs.View.{tree_of}
 use Rattle.mau_terms.specs.declared.bare.Bare.{Bare}
-use Rattle.mau_signature.specs.Signature.{terms_over}
+use Rattle.mau_signature.specs.Signature.{SignatureOf, terms_over}
 use Rattle.mau_program.specs.declared.program.Program as Typed
 use Rattle.mau_program.specs.declared.statements.Equation.{Equation}
 use Rattle.mau_program.specs.declared.statements.Fragment as Written
@@ -13,23 +13,37 @@ use Rattle.mau_program.specs.declared.statements.Fragment.TheVariants.{Equal, Ma
 use Rattle.mau_formula.specs.Operator.{Operator}
 use Rattle.mau_api.specs.Programs.{program_over, equation_of, fragment_of}
 use Rattle.mau_reduce.specs.Attempting.{cond_in, cond_at}
-use Rattle.mau_program.specs.LawfulPrograms.{IsLawfulProgram}
 use Rattle.mau_program.specs.LawfulStatements.{IsLawfulFragment, IsLawfulEquation}
 use Rattle.mau_evaluation.specs.Program as Evaluated
 use Rattle.mau_machine.specs.declared.goal.Goal.TheVariants as Goals
 use Rattle.mau_machine.specs.Words.{goal_of, HasSideBy, side_by, pattern_in, sort_in, rest_of, Asks, HasSide}
-use Rattle.mau_reducer.specs.Basis.{Basis}
-use Rattle.mau_reducer.specs.Handles.{written_in, written_at, side_written, pattern_written, sort_written, rules_of, goal_in}
+use Rattle.mau_signature.specs.Faults.{IsSort}
+use Rattle.mau_api.specs.Answers.{IsFragment}
+use Rattle.mau_reducer.specs.Basis.{Basis, IsBasis}
+use Rattle.mau_reducer.specs.Handles.{written_in, written_by, written_at, side_written, pattern_written, sort_written, rules_of, goal_in}
 use Rattle.mau_reducer.specs.Fragments.{rest_is}
 
 -- ---- the same condition
 
-condition_in : (o : Option Equation) → cond_in (option_map equation_of o) ≡ map fragment_of (written_in o)
+condition_in : (o : Option Equation) → cond_in (option_map equation_of o) ≡ map fragment_of (written_in [] o)
 condition_in (Some e) = refl
 condition_in None = refl
 
-pub condition_is : (p : Typed.Program) (hooks : List Operator) (e : ℕ) → cond_at (program_over p hooks) e ≡ map fragment_of (written_at p e)
-condition_is p hooks e = ap cond_in (slice_get-map equation_of p.equations e) ∙ condition_in (slice_get p.equations e)
+condition_of : (p : Typed.Program) (hooks : List Operator) (e : ℕ) → cond_at (program_over p hooks) e ≡ map fragment_of (written_in [] (slice_get p.equations e))
+condition_of p hooks e = ap cond_in (slice_get-map equation_of p.equations e) ∙ condition_in (slice_get p.equations e)
+
+-- it is none that is asked
+pub not_asked : (n e : ℕ) → e ≤ n → (e == suc n) ≡ false
+not_asked n e h = by (e == suc n) refl
+  where
+    by : (w : Bool) → (e == suc n) ≡ w → w ≡ false
+    by false q = refl
+    by true q = let k : e ≡ suc n = eqb-true e (suc n) q in absurd (omega (arith, k, h))
+
+pub condition_is : (b : Basis) (e : ℕ) → e ≤ length b.program.equations → cond_at (program_over b.program b.hooks) e ≡ map fragment_of (written_at b e)
+condition_is b e h =
+    condition_of b.program b.hooks e
+    ∙ ap (λ (w : Bool). map fragment_of (written_in (if w then b.asked else []) (slice_get b.program.equations e))) (sym (not_asked (length b.program.equations) e h))
 
 -- ---- what the next fragment asks
 
@@ -52,25 +66,47 @@ from_place [] i x e = cc
 from_place (y ∷ xs) zero x e = let same : y ≡ x = cc in ap (λ z. z ∷ xs) same
 from_place (y ∷ xs) (suc i) x e = from_place xs i x e
 
--- it is lawful
-pub fragment_lawful : (p : Typed.Program) → IsLawfulProgram p → (e i : ℕ) (f : Written.Fragment) → slice_get (written_at p e) i ≡ Some f → IsLawfulFragment p.sig f
-fragment_lawful p is e i f h = by (slice_get p.equations e) refl h
+-- its terms are bare, and what is tested is a sort or a kind; of one that is solved by rules nothing is asked
+abbrev IsBuiltFragment : SignatureOf → Written.Fragment → Type 0
+IsBuiltFragment s (Equal t u) = IsBare (terms_over s) (tree_of t) × IsBare (terms_over s) (tree_of u)
+IsBuiltFragment s (Match p u) = IsBare (terms_over s) (tree_of p) × IsBare (terms_over s) (tree_of u)
+IsBuiltFragment s (Sort t r) = IsBare (terms_over s) (tree_of t) × IsSort s.hierarchy r
+IsBuiltFragment s (Reach t u) = Unit {0}
+
+asked_built : (s : SignatureOf) (f : Written.Fragment) → IsFragment s f → IsBuiltFragment s f
+asked_built s (Equal t u) h = h
+asked_built s (Match p u) h = h
+asked_built s (Sort t r) h = h
+asked_built s (Reach t u) h = tt
+
+lawful_built : (s : SignatureOf) (f : Written.Fragment) → IsLawfulFragment s f → IsBuiltFragment s f
+lawful_built s (Equal t u) h = ((h.kind, h.first), (h.kind, h.second))
+lawful_built s (Match p u) h = ((h.kind, h.first), (h.kind, h.second))
+lawful_built s (Sort t r) h = (h.0, let low : r < s.hierarchy.sorts = h.1 in omega (arith, low))
+lawful_built s (Reach t u) h = tt
+
+-- it is built as it may be
+fragment_built : (b : Basis) → IsBasis b → (e i : ℕ) (f : Written.Fragment) → slice_get (written_at b e) i ≡ Some f → IsBuiltFragment b.program.sig f
+fragment_built b is e i f h = by (slice_get b.program.equations e) refl (e == suc (length b.program.equations)) h
   where
-    by : (o : Option Equation) → slice_get p.equations e ≡ o → slice_get (written_in o) i ≡ Some f → IsLawfulFragment p.sig f
-    by None d k = absurd (cc k)
-    by (Some q) d k = at_place (IsLawfulFragment p.sig) q.cond (at_place (IsLawfulEquation p.sig) p.equations is.equations e q d).parts.condition i f k
+    by : (o : Option Equation) → slice_get b.program.equations e ≡ o → (w : Bool) → slice_get (written_in (if w then b.asked else []) o) i ≡ Some f → IsBuiltFragment b.program.sig f
+    by None d true k = asked_built b.program.sig f (at_place (IsFragment b.program.sig) b.asked is.askable.fragments i f k)
+    by None d false k = absurd (cc k)
+    by (Some q) d w k =
+        lawful_built b.program.sig f
+        (at_place (IsLawfulFragment b.program.sig) q.cond (at_place (IsLawfulEquation b.program.sig) b.program.equations is.lawful.equations e q d).parts.condition i f k)
 
 -- what it asks
 module _ (b : Basis) (e i : ℕ) where
   abbrev here : Option Written.Fragment
-  here = slice_get (written_at b.program e) i
+  here = slice_get (written_at b e) i
 
   pub asked_is : goal_of (rest_of (rules_of b) e i) ≡ goal_in here
-  asked_is = sym (goal_is (written_at b.program e) i)
+  asked_is = sym (goal_is (written_at b e) i)
 
   -- from it on
-  pub rest_from : (f : Written.Fragment) → here ≡ Some f → rest_of (rules_of b) e i ≡ fragment_of f ∷ map fragment_of (drop (suc i) (written_at b.program e))
-  rest_from f h = rest_is b e i ∙ ap (map fragment_of) (from_place (written_at b.program e) i f h)
+  pub rest_from : (f : Written.Fragment) → here ≡ Some f → rest_of (rules_of b) e i ≡ fragment_of f ∷ map fragment_of (drop (suc i) (written_at b e))
+  rest_from f h = rest_is b e i ∙ ap (map fragment_of) (from_place (written_at b e) i f h)
 
   -- ---- sides
 
@@ -97,18 +133,18 @@ module _ (b : Basis) (e i : ℕ) where
   pub side_is : (right : Bool) (t : Bare) → side_written right here ≡ Some t → HasSide (rules_of b) e i right → side_by right (rest_of (rules_of b) e i) ≡ tree_of t
   side_is right t h k =
       let f = side_in right here t h (subst (HasSideBy right) asked_is k) in
-      ap (side_by right) (rest_from f.0 f.1) ∙ f.2 (map fragment_of (drop (suc i) (written_at b.program e)))
+      ap (side_by right) (rest_from f.0 f.1) ∙ f.2 (map fragment_of (drop (suc i) (written_at b e)))
 
-  side_bare_of : (right : Bool) (o : Option Written.Fragment) (t : Bare) → side_written right o ≡ Some t → ((f : Written.Fragment) → o ≡ Some f → IsLawfulFragment b.program.sig f) → IsBare (terms_over b.program.sig) (tree_of t)
+  side_bare_of : (right : Bool) (o : Option Written.Fragment) (t : Bare) → side_written right o ≡ Some t → ((f : Written.Fragment) → o ≡ Some f → IsBuiltFragment b.program.sig f) → IsBare (terms_over b.program.sig) (tree_of t)
   side_bare_of right None t h lawful = absurd (cc h)
-  side_bare_of true (Some (Equal v u)) t h lawful = let same : u ≡ t = cc in let l = lawful (Equal v u) refl in subst (λ z. IsBare (terms_over b.program.sig) (tree_of z)) same (l.kind, l.second)
-  side_bare_of false (Some (Equal v u)) t h lawful = let same : v ≡ t = cc in let l = lawful (Equal v u) refl in subst (λ z. IsBare (terms_over b.program.sig) (tree_of z)) same (l.kind, l.first)
-  side_bare_of right (Some (Match p u)) t h lawful = let same : u ≡ t = cc in let l = lawful (Match p u) refl in subst (λ z. IsBare (terms_over b.program.sig) (tree_of z)) same (l.kind, l.second)
+  side_bare_of true (Some (Equal v u)) t h lawful = let same : u ≡ t = cc in let l = lawful (Equal v u) refl in subst (λ z. IsBare (terms_over b.program.sig) (tree_of z)) same l.1
+  side_bare_of false (Some (Equal v u)) t h lawful = let same : v ≡ t = cc in let l = lawful (Equal v u) refl in subst (λ z. IsBare (terms_over b.program.sig) (tree_of z)) same l.0
+  side_bare_of right (Some (Match p u)) t h lawful = let same : u ≡ t = cc in let l = lawful (Match p u) refl in subst (λ z. IsBare (terms_over b.program.sig) (tree_of z)) same l.1
   side_bare_of right (Some (Sort v s)) t h lawful = let same : v ≡ t = cc in let l = lawful (Sort v s) refl in subst (λ z. IsBare (terms_over b.program.sig) (tree_of z)) same l.0
   side_bare_of right (Some (Reach v u)) t h lawful = absurd (cc h)
 
-  pub side_bare : IsLawfulProgram b.program → (right : Bool) (t : Bare) → side_written right here ≡ Some t → IsBare (terms_over b.program.sig) (tree_of t)
-  side_bare is right t h = side_bare_of right here t h (λ f d. fragment_lawful b.program is e i f d)
+  pub side_bare : IsBasis b → (right : Bool) (t : Bare) → side_written right here ≡ Some t → IsBare (terms_over b.program.sig) (tree_of t)
+  side_bare is right t h = side_bare_of right here t h (λ f d. fragment_built b is e i f d)
 
   -- ---- patterns
 
@@ -135,8 +171,8 @@ module _ (b : Basis) (e i : ℕ) where
   pub pattern_is : (p u : Bare) → here ≡ Some (Match p u) → pattern_in (rest_of (rules_of b) e i) ≡ tree_of p
   pattern_is p u h = ap pattern_in (rest_from (Match p u) h)
 
-  pub pattern_bare : IsLawfulProgram b.program → (p u : Bare) → here ≡ Some (Match p u) → IsBare (terms_over b.program.sig) (tree_of p)
-  pattern_bare is p u h = let l = fragment_lawful b.program is e i (Match p u) h in (l.kind, l.first)
+  pub pattern_bare : IsBasis b → (p u : Bare) → here ≡ Some (Match p u) → IsBare (terms_over b.program.sig) (tree_of p)
+  pattern_bare is p u h = (fragment_built b is e i (Match p u) h).0
 
   -- ---- tested sorts
 
@@ -164,5 +200,20 @@ module _ (b : Basis) (e i : ℕ) where
   sort_is t r h = ap sort_in (rest_from (Sort t r) h)
 
   -- it is one of the signature
-  pub sort_over : IsLawfulProgram b.program → (r : ℕ) → sort_written here ≡ Some r → r < b.program.sig.hierarchy.sorts
-  sort_over is r h = let t = sort_at r h in (fragment_lawful b.program is e i (Sort t.0 r) t.1).1
+  pub sort_over : IsBasis b → (r : ℕ) → sort_written here ≡ Some r → IsSort b.program.sig.hierarchy r
+  sort_over is r h = let t = sort_at r h in (fragment_built b is e i (Sort t.0 r) t.1).1
+
+-- ---- the condition that is asked
+
+pub asked_there : (p : Typed.Program) (asked : List Written.Fragment) (e i : ℕ) → slice_get p.equations e ≡ None → e ≡ suc (length p.equations) → slice_get (written_by p asked e) i ≡ slice_get asked i
+asked_there p asked e i none is =
+    ap (λ (o : Option Equation). slice_get (written_in (if e == suc (length p.equations) then asked else []) o) i) none
+    ∙ ap (λ (w : Bool). slice_get (if w then asked else []) i) (eq-eqb e (suc (length p.equations)) is)
+
+pub asked_not : (p : Typed.Program) (asked : List Written.Fragment) (e i : ℕ) → slice_get p.equations e ≡ None → (e ≡ suc (length p.equations) → ⊥) → slice_get (written_by p asked e) i ≡ None
+asked_not p asked e i none not_it =
+    ap (λ (o : Option Equation). slice_get (written_in (if e == suc (length p.equations) then asked else []) o) i) none ∙ by (e == suc (length p.equations)) refl
+  where
+    by : (w : Bool) → (e == suc (length p.equations)) ≡ w → slice_get (if w then asked else []) i ≡ None
+    by true q = absurd (not_it (eqb-true e (suc (length p.equations)) q))
+    by false q = refl

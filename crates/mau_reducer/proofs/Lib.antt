@@ -25,5 +25,8 @@ pub mod Pairs
 pub mod Choosing
 -- sides and tests of fragments
 pub mod Sides
+-- conditions that are asked, and their answers
+pub mod WhatIsSolved
+pub mod Asked
 -- conditions without fragments
 pub mod EmptyConditions

@@ -1,5 +1,5 @@
 -- What the world's calls give, from what the calls of mau_reduce do.
-use Rattle.std.proofs.Common.{◌≡◌, ◌<◌, ◌-◌, ℕ, zero, suc, inl, inr, fold, get_or, slice_get, arith, nat_eq, eqb-true, length, List, [], ◌∷◌, Bool, true, false, if◌then◌else◌, Option, Some, None, Result, Ok, Err, IfOk, IfErr, map, drop, All, refl, sym, ap, ap₂, ◌∙◌, subst}
+use Rattle.std.proofs.Common.{◌≡◌, ◌==◌, ◌<◌, ◌-◌, ℕ, zero, suc, inl, inr, fold, get_or, slice_get, arith, nat_eq, eqb-true, length, List, [], ◌∷◌, Bool, true, false, if◌then◌else◌, Option, Some, None, Result, Ok, Err, IfOk, IfErr, map, drop, refl, sym, ap, ap₂, ◌∙◌, subst}
 use Rattle.mau_terms.specs.Tree.{Tree, variable, numeral, apply, Trees, no_trees, tree}
 use Rattle.mau_terms.specs.Bare.{IsLawful}
 use Rattle.mau_terms.specs.Finite.{IsIn}
@@ -16,8 +16,6 @@ use Rattle.mau_reduce.specs.Ends as Reduced
 use Rattle.mau_machine.specs.Words as Ends
 use Rattle.mau_api.specs.declared.results.EvalEnd.{EvalEnd}
 use Rattle.mau_api.specs.declared.results.EvalEnd.TheVariants.{Stopped, TooDeep, Overflow, NoMemory}
-use Rattle.mau_reduce.specs.Trying.{IsExecutable}
-use Rattle.mau_reduce.proofs.InOrder.{order_within, order_executable}
 use Rattle.mau_store.specs.Trees.{tree_at, trees_at}
 use Rattle.mau_store.specs.View.{numbers}
 use Rattle.mau_sorts.specs.Table.{Table}
@@ -64,13 +62,13 @@ use Rattle.mau_reduce.specs.declared.given.Given.TheVariants as Giving
 use Rattle.mau_reduce.specs.declared.trying.Found.{Found}
 use Rattle.mau_reduce.specs.BuiltOperators.{meaning_of, IsBuiltAt}
 use Rattle.mau_reduce.specs.Giving.{GivesValue, given_value}
-use Rattle.mau_reduce.specs.Lasts.{left_variables_of, left_variables, IsLast}
+use Rattle.mau_reduce.specs.Lasts.{IsLast}
 use Rattle.mau_reduce.specs.Steps.{equation_variables_of, equation_variables, IsEquationStep, IsBuiltInStep}
 use Rattle.mau_reduce.proofs.AllBound.{bound_are_all}
 use Rattle.mau_reducer.specs.Basis.{Basis, IsBasis, AreBuiltIns}
-use Rattle.mau_reducer.specs.Handles.{written_in, written_at, rules_of, IsKnownTerm, IsKnownBinding}
+use Rattle.mau_reducer.specs.Handles.{written_in, written_at, first_in, first_at, rules_of, IsKnownTerm, IsKnownBinding}
 use Rattle.mau_reducer.specs.Fragments.{all_taken, rest_is}
-use Rattle.mau_reducer.proofs.Conditions.{at_place}
+use Rattle.mau_reducer.proofs.Conditions.{at_place, not_asked}
 use Rattle.mau_reducer.specs.States.{ComesOf}
 use Rattle.mau_reducer.specs.LaterStates.{numbers_mapped}
 
@@ -119,14 +117,6 @@ pub numbers_same : (nodes : List Node) → AreNodes nodes → (i j : ℕ) → Is
 numbers_same nodes are i j k l true e = sym (ap (λ n. same_tree (tree_at nodes n) (tree_at nodes j)) (eqb-true i j (sym e)) ∙ same_tree_itself (tree_at nodes j))
 numbers_same nodes are i j k l false e = sym (same_tree_not (tree_at nodes i) (tree_at nodes j) (λ q. eqb-false i j (sym e) (one_number nodes are i j k l q)))
 
--- ---- the order of equations
-
-pub order_fits : (b : Basis) → IsBasis b → All (λ i. i < length b.program.equations) b.order
-order_fits b is = subst (All (λ i. i < length b.program.equations)) (sym is.order) (order_within b.program.equations)
-
-pub order_exec : (b : Basis) → IsBasis b → All (IsExecutable b.program) b.order
-order_exec b is = subst (All (IsExecutable b.program)) (sym is.order) (order_executable b.program)
-
 -- ---- what is built in of a top
 
 -- that of the operator f at the top of t, where the built-in with its place is taken
@@ -157,22 +147,22 @@ one_equation b is e q at exec =
 -- ---- the variables of the last candidate
 
 -- those that are bound behind its whole condition
-abbrev pub bound_at_end : Typed.Program → ℕ → List Variable
-bound_at_end p e = fold bound_behind (left_variables p e) (written_at p e)
+abbrev pub bound_at_end : Basis → ℕ → List Variable
+bound_at_end b e = fold bound_behind (first_at b e) (written_at b e)
 
-abbrev ended : Option Equation → List Variable
-ended o = fold bound_behind (left_variables_of o) (written_in o)
+abbrev ended : Basis → Bool → Option Equation → List Variable
+ended b w o = fold bound_behind (first_in (if w then b.asked_under else []) o) (written_in (if w then b.asked else []) o)
 
-pub variables_are : (b : Basis) → IsBasis b → (nodes : List Node) (t : Tree) (e : ℕ) (given : Given) (last : Option Found) → IsLast b.program nodes t e given last → bound_at_end b.program e ≡ equation_variables b.program e
+pub variables_are : (b : Basis) → IsBasis b → (nodes : List Node) (t : Tree) (e : ℕ) (given : Given) (last : Option Found) → IsLast b.program nodes t e given last → bound_at_end b e ≡ equation_variables b.program e
 variables_are b is nodes t e given last h = by given last h
   where
-    behind : e ≡ length b.program.equations → bound_at_end b.program e ≡ equation_variables b.program e
+    behind : e ≡ length b.program.equations → bound_at_end b e ≡ equation_variables b.program e
     behind d =
         let none : slice_get b.program.equations e ≡ None = ap (slice_get b.program.equations) d ∙ slice_get_past b.program.equations (length b.program.equations) (omega arith) in
-        ap ended none ∙ sym (ap equation_variables_of none)
+        ap₂ (ended b) (not_asked (length b.program.equations) e (omega (arith, d))) none ∙ sym (ap equation_variables_of none)
 
-    by : (given : Given) (last : Option Found) → IsLast b.program nodes t e given last → bound_at_end b.program e ≡ equation_variables b.program e
-    by Giving.Nothing (Some y) k = ap ended k.1.at ∙ (sym (one_equation b is e k.1.equation k.1.at k.1.exec) ∙ sym (ap equation_variables_of k.1.at))
+    by : (given : Given) (last : Option Found) → IsLast b.program nodes t e given last → bound_at_end b e ≡ equation_variables b.program e
+    by Giving.Nothing (Some y) k = ap (ended b (e == suc (length b.program.equations))) k.1.at ∙ (sym (one_equation b is e k.1.equation k.1.at k.1.exec) ∙ sym (ap equation_variables_of k.1.at))
     by Giving.Nothing None k = absurd k
     by Giving.TooLarge last k = absurd k
     by (Giving.Argument j) last k = behind k
@@ -180,9 +170,9 @@ variables_are b is nodes t e given last h = by given last h
     by (Giving.Before l) last k = behind k
 
 -- a solution of the condition has the values of them all
-pub solved_variables : (b : Basis) (nodes : List Node) (table : Table) (e i : ℕ) (σ : Kept) → IsKnownBinding b nodes table e i σ → Asks (rules_of b) e i Goals.Nothing → map variable_of σ.variables.items ≡ bound_at_end b.program e
+pub solved_variables : (b : Basis) (nodes : List Node) (table : Table) (e i : ℕ) (σ : Kept) → IsKnownBinding b nodes table e i σ → Asks (rules_of b) e i Goals.Nothing → map variable_of σ.variables.items ≡ bound_at_end b e
 solved_variables b nodes table e i σ h k =
-    h.variables ∙ ap (fold bound_behind (left_variables b.program e)) (all_taken (written_at b.program e) i (none (drop i (written_at b.program e)) (k ∙ ap goal_of (rest_is b e i))))
+    h.variables ∙ ap (fold bound_behind (first_at b e)) (all_taken (written_at b e) i (none (drop i (written_at b e)) (k ∙ ap goal_of (rest_is b e i))))
   where
     none : (fs : List Fragment) → Goals.Nothing ≡ goal_of (map fragment_of fs) → fs ≡ []
     none [] d = refl
@@ -219,25 +209,26 @@ same_instances g h f (Reach t u ∷ fs) = tt
 
 pub use_of : (b : Basis) → IsBasis b → (P : ℕ → Tree → Type 0) (nodes : List Node) (u : Tree) (e : ℕ) (given : Given) (last : Option Found) → IsLast b.program nodes u e given last →
     (xs : List Variable) (vs : List Tree) → xs ≡ equation_variables b.program e → (t v : Tree) (x : StepOf) →
-    ((GivesValue given → ⊥) → IsEquationStep b.program P e vs t v x) → (GivesValue given → IsBuiltInStep b.program b.hooks t v x) → IsUse b.program b.hooks P (written_at b.program e) (paired xs vs) t v x
+    ((GivesValue given → ⊥) → IsEquationStep b.program P e vs t v x) → (GivesValue given → IsBuiltInStep b.program b.hooks t v x) → IsUse b.program b.hooks P (written_at b e) (paired xs vs) t v x
 use_of b is P nodes u e given last h xs vs are t v x equation built = by given last h equation built
   where
-    of_built : e ≡ length b.program.equations → IsBuiltInStep b.program b.hooks t v x → IsUse b.program b.hooks P (written_at b.program e) (paired xs vs) t v x
+    of_built : e ≡ length b.program.equations → IsBuiltInStep b.program b.hooks t v x → IsUse b.program b.hooks P (written_at b e) (paired xs vs) t v x
     of_built d s =
         inr (record {
           operator = s.operator;
-          condition = ap written_in (ap (slice_get b.program.equations) d ∙ slice_get_past b.program.equations (length b.program.equations) (omega arith));
+          condition = ap₂ (λ (w : Bool) (o : Option Equation). written_in (if w then b.asked else []) o) (not_asked (length b.program.equations) e (omega (arith, d)))
+              (ap (slice_get b.program.equations) d ∙ slice_get_past b.program.equations (length b.program.equations) (omega arith));
           statement = s.statement;
           built = s.built;
           leads = s.leads;
         })
 
     by : (given : Given) (last : Option Found) → IsLast b.program nodes u e given last → ((GivesValue given → ⊥) → IsEquationStep b.program P e vs t v x) → (GivesValue given → IsBuiltInStep b.program b.hooks t v x) →
-        IsUse b.program b.hooks P (written_at b.program e) (paired xs vs) t v x
+        IsUse b.program b.hooks P (written_at b e) (paired xs vs) t v x
     by Giving.Nothing (Some y) k equation built =
         let s = equation (λ z. z) in
         let named : xs ≡ statement_variables (tree_of s.equation.left) s.equation.cond (tree_of s.equation.right) = are ∙ ap equation_variables_of s.at in
-        let cond : written_at b.program e ≡ s.equation.cond = ap written_in s.at in
+        let cond : written_at b e ≡ s.equation.cond = ap (written_in (if e == suc (length b.program.equations) then b.asked else [])) s.at in
         inl (record {
           number = suc e;
           equation = s.equation;
@@ -248,7 +239,7 @@ use_of b is P nodes u e given last h xs vs are t v x equation built = by given l
           instance = s.instance;
           same =
               same_instances (look_up (paired xs vs)) (value_at (statement_variables (tree_of s.equation.left) s.equation.cond (tree_of s.equation.right)) x.values)
-              (λ z. paired_value xs vs z ∙ ap₂ (λ ys us. value_at ys us z) named (sym s.values)) (written_at b.program e);
+              (λ z. paired_value xs vs z ∙ ap₂ (λ ys us. value_at ys us z) named (sym s.values)) (written_at b e);
           leads = s.leads;
         })
     by Giving.Nothing None k equation built = absurd k
@@ -268,7 +259,7 @@ value_made P nodes t (Giving.Before l) last σ v = refl
 pub use_told : (b : Basis) → IsBasis b → (P : ℕ → Tree → Type 0) (old new : List Node) (u : Tree) (e : ℕ) (given : Given) (last : Option Found) → IsLast b.program old u e given last →
     (xs : List Variable) (vs : List Tree) → xs ≡ equation_variables b.program e → (t v : Tree) (r : Result Step Failed) →
     ((GivesValue given → ⊥) → IfOk r (λ x. IsEquationStep b.program P e vs t v (step_in new x))) → (GivesValue given → IfOk r (λ x. IsBuiltInStep b.program b.hooks t v (step_in new x))) →
-    IfOk r (λ x. IsUse b.program b.hooks P (written_at b.program e) (paired xs vs) t v (step_in new x))
+    IfOk r (λ x. IsUse b.program b.hooks P (written_at b e) (paired xs vs) t v (step_in new x))
 use_told b is P old new u e given last h xs vs are t v (Ok x) equation built = use_of b is P old u e given last h xs vs are t v (step_in new x) equation built
 use_told b is P old new u e given last h xs vs are t v (Err d) equation built = tt
 

@@ -1,5 +1,5 @@
 -- Terms that are flagged stay so in later states.
-use Rattle.std.proofs.Common.{◌≡◌, ◌≤◌, ℕ, suc, List, Bool, Option, Some, slice_get, refl, sym, ap, ◌∙◌, subst}
+use Rattle.std.proofs.Common.{◌≡◌, ◌≤◌, ℕ, suc, List, Bool, Option, Some, slice_get, refl, sym, ap, subst}
 use Rattle.mau_store.specs.Node.{Node, Extends}
 use Rattle.mau_signature.specs.Signature.{SignatureOf}
 use Rattle.mau_sorts.specs.Table.{Table, KeepsEntries}

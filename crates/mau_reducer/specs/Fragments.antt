@@ -19,11 +19,10 @@ use Rattle.mau_evaluation.specs.Evaluation.{Binding, look_up, binds}
 use Rattle.mau_api.specs.Programs.{fragment_of}
 use Rattle.mau_reduce.specs.declared.binding.Binding.{Binding as Kept}
 use Rattle.mau_reduce.specs.Bindings.{paired, bound_in}
-use Rattle.mau_reduce.specs.Lasts.{left_variables}
 use Rattle.mau_machine.specs.declared.goal.Goal.TheVariants as Goals
 use Rattle.mau_machine.specs.Words.{goal_of, HasSideBy, side_by, rest_of, PassesOn, HasSide, side_of, IsExtension}
 use Rattle.mau_reducer.specs.Basis.{Basis}
-use Rattle.mau_reducer.specs.Handles.{written_at, bound_before, AreBoundFrom, rules_of, IsKnownBinding}
+use Rattle.mau_reducer.specs.Handles.{written_at, first_at, bound_before, AreBoundFrom, rules_of, IsKnownBinding}
 
 -- ---- lists from a place on
 
@@ -49,24 +48,24 @@ next_bound xs (g ∷ fs) zero f rest e = let same : g ≡ f = cc in ap (bound_be
 next_bound xs (g ∷ fs) (suc i) f rest e = next_bound (bound_behind xs g) fs i f rest e
 
 -- behind a fragment just what it binds is bound besides
-pub bound_next : (b : Basis) (e i : ℕ) (f : Fragment) (rest : List Fragment) → drop i (written_at b.program e) ≡ f ∷ rest → bound_before b.program e (suc i) ≡ bound_behind (bound_before b.program e i) f
-bound_next b e i f rest d = next_bound (left_variables b.program e) (written_at b.program e) i f rest d
+pub bound_next : (b : Basis) (e i : ℕ) (f : Fragment) (rest : List Fragment) → drop i (written_at b e) ≡ f ∷ rest → bound_before b e (suc i) ≡ bound_behind (bound_before b e i) f
+bound_next b e i f rest d = next_bound (first_at b e) (written_at b e) i f rest d
 
 -- the fragment has no others than it may have, nor have those behind it
-pub bound_on : (b : Basis) (e i : ℕ) (f : Fragment) (rest : List Fragment) → drop i (written_at b.program e) ≡ f ∷ rest → AreBoundFrom b.program e i →
-    (is_bound (bound_before b.program e i) f ≡ true) × AreBoundFrom b.program e (suc i)
+pub bound_on : (b : Basis) (e i : ℕ) (f : Fragment) (rest : List Fragment) → drop i (written_at b e) ≡ f ∷ rest → AreBoundFrom b e i →
+    (is_bound (bound_before b e i) f ≡ true) × AreBoundFrom b e (suc i)
 bound_on b e i f rest d h =
-    let xs = bound_before b.program e i in
+    let xs = bound_before b e i in
     let all : are_bound xs (f ∷ rest) ≡ true = subst (λ fs. are_bound xs fs ≡ true) d h in
     let p = and_parts (is_bound xs f) (are_bound (bound_behind xs f) rest) all in (
       p.0,
-      ap₂ are_bound (bound_next b e i f rest d) (behind (written_at b.program e) i f rest d) ∙ p.1,
+      ap₂ are_bound (bound_next b e i f rest d) (behind (written_at b e) i f rest d) ∙ p.1,
     )
 
 -- ---- fragments as they are written, and as they are evaluated
 
-pub rest_is : (b : Basis) (e i : ℕ) → rest_of (rules_of b) e i ≡ map fragment_of (drop i (written_at b.program e))
-rest_is b e i = drop-map fragment_of i (written_at b.program e)
+pub rest_is : (b : Basis) (e i : ℕ) → rest_of (rules_of b) e i ≡ map fragment_of (drop i (written_at b e))
+rest_is b e i = drop-map fragment_of i (written_at b e)
 
 only_side : (xs : List Variable) (right : Bool) (fs : List Fragment) → are_bound xs fs ≡ true → HasSideBy right (goal_of (map fragment_of fs)) → has_only xs (side_by right (map fragment_of fs)) ≡ true
 only_side xs right [] h k = absurd k
@@ -106,10 +105,10 @@ paired_binds (y ∷ xs) (v ∷ vs) n x h = by (same_variable y x) (paired_binds 
 
 module _ (b : Basis) (nodes : List Node) (table : Table) (e i : ℕ) (σ : Kept) (h : IsKnownBinding b nodes table e i σ) where
   abbrev ws : List Fragment
-  ws = written_at b.program e
+  ws = written_at b e
 
   -- what binds nothing is passed
-  passed : (f : Fragment) (rest : List Fragment) → drop i ws ≡ f ∷ rest → bound_behind (bound_before b.program e i) f ≡ bound_before b.program e i → IsKnownBinding b nodes table e (suc i) σ
+  passed : (f : Fragment) (rest : List Fragment) → drop i ws ≡ f ∷ rest → bound_behind (bound_before b e i) f ≡ bound_before b e i → IsKnownBinding b nodes table e (suc i) σ
   passed f rest d same = record {
     values = h.values;
     variables = h.variables ∙ sym (bound_next b e i f rest d ∙ same);
@@ -131,12 +130,12 @@ module _ (b : Basis) (nodes : List Node) (table : Table) (e i : ℕ) (σ : Kept)
   passes_on p = passes_by (drop i ws) refl (subst (λ (c : List Evaluated.Fragment). (Goals.Equality ≡ goal_of c) ⊎ (Goals.Sort ≡ goal_of c)) (rest_is b e i) p)
 
   -- all variables that are bound before the fragment are
-  pub all_bound : (x : Variable) → has_variable (bound_before b.program e i) x ≡ true → binds (bound_in nodes σ) x ≡ true
+  pub all_bound : (x : Variable) → has_variable (bound_before b e i) x ≡ true → binds (bound_in nodes σ) x ≡ true
   all_bound x m =
       paired_binds (map variable_of σ.variables.items) (trees_at nodes (numbers σ.values.items)) (trees_long nodes σ.values.items ∙ (h.values.one_each ∙ sym (length-map σ.variables.items variable_of))) x
       (subst (λ xs. has_variable xs x ≡ true) (sym h.variables) m)
 
   pub has_values_of : (right : Bool) (τ : Binding) → HasSide (rules_of b) e i right → IsExtension (bound_in nodes σ) τ → side_of (rules_of b) e i right τ ≡ side_of (rules_of b) e i right (bound_in nodes σ)
   has_values_of right τ k more =
-      instance_same (bound_before b.program e i) (look_up τ) (look_up (bound_in nodes σ)) (λ x m. (more x (all_bound x m)).1) (side_by right (rest_of (rules_of b) e i))
-      (subst (λ c. HasSideBy right (goal_of c) → has_only (bound_before b.program e i) (side_by right c) ≡ true) (sym (rest_is b e i)) (only_side (bound_before b.program e i) right (drop i ws) h.bound) k)
+      instance_same (bound_before b e i) (look_up τ) (look_up (bound_in nodes σ)) (λ x m. (more x (all_bound x m)).1) (side_by right (rest_of (rules_of b) e i))
+      (subst (λ c. HasSideBy right (goal_of c) → has_only (bound_before b e i) (side_by right c) ≡ true) (sym (rest_is b e i)) (only_side (bound_before b e i) right (drop i ws) h.bound) k)

@@ -1,11 +1,11 @@
 -- What the handles of a program's world stand for over the nodes of a store, and which of them are known.
-use Rattle.std.specs.Prelude.{◌≡◌, ℕ, suc, List, [], map, drop, take, fold, Bool, true, Option, Some, None, IfSome, slice_get, refl, if◌then◌else◌}
+use Rattle.std.specs.Prelude.{◌≡◌, ◌==◌, ℕ, suc, length, List, [], map, drop, take, fold, Bool, true, Option, Some, None, IfSome, slice_get, refl, if◌then◌else◌}
 use Rattle.std.specs.Option.{option_map}
 use Rattle.mau_terms.specs.Bare.{IsLawful}
 use Rattle.mau_terms.specs.Solution.{HaveSorts}
-use Rattle.mau_terms.specs.Subst.{Variable}
+use Rattle.mau_terms.specs.Subst.{Variable, variables}
 use Rattle.mau_terms.specs.declared.bare.Bare.{Bare}
-use Rattle.mau_terms.specs.View.{variable_of}
+use Rattle.mau_terms.specs.View.{tree_of, variable_of}
 use Rattle.mau_signature.specs.Signature.{SignatureOf, terms_over}
 use Rattle.mau_store.specs.Node.{Node}
 use Rattle.mau_store.specs.Trees.{tree_at, trees_at}
@@ -27,9 +27,10 @@ use Rattle.mau_reduce.specs.declared.binding.Binding.{Binding}
 use Rattle.mau_reduce.specs.Kinds.{AreUnder}
 use Rattle.mau_reduce.specs.Bindings.{bound_in, AreValues}
 use Rattle.mau_reduce.specs.Reducible.{IsReducible}
-use Rattle.mau_reduce.specs.Trying.{order_of_all, solution_in, IsTried}
+use Rattle.mau_reduce.specs.Trying.{solution_in, IsTried}
+use Rattle.mau_reduce.specs.ByTop.{order_for}
 use Rattle.mau_reduce.specs.Giving.{IsGivenAt}
-use Rattle.mau_reduce.specs.Lasts.{left_variables, IsLast, IsLastListed}
+use Rattle.mau_reduce.specs.Lasts.{IsLast, IsLastListed}
 use Rattle.mau_reduce.specs.Attempting.{untried_by, makes_of}
 use Rattle.mau_machine.specs.declared.goal.Goal.{Goal}
 use Rattle.mau_machine.specs.declared.goal.Goal.TheVariants.{Nothing, Equality, Sort as OfSort, Matching, Reaching}
@@ -41,31 +42,43 @@ use Rattle.mau_reducer.specs.Basis.{Basis}
 
 -- ---- conditions by the numbers of their equations
 
-abbrev pub written_in : Option Equation → List Written.Fragment
-written_in (Some e) = e.cond
-written_in None = []
+abbrev pub written_in : List Written.Fragment → Option Equation → List Written.Fragment
+written_in other (Some e) = e.cond
+written_in other None = other
 
--- the condition of the equation with a number, as it is written; a number past them has none
-abbrev pub written_at : Typed.Program → ℕ → List Written.Fragment
-written_at p e = written_in (slice_get p.equations e)
+-- the condition of the equation with a number, as it is written. Behind all equations stand two more: what a built-in gives has none, and then comes the one
+-- that is asked
+abbrev pub written_by : Typed.Program → List Written.Fragment → ℕ → List Written.Fragment
+written_by p asked e = written_in (if e == suc (length p.equations) then asked else []) (slice_get p.equations e)
 
--- the variables that are bound before its fragment with the number i, counted from 0: those of the left side, and then those that are matched
-abbrev pub bound_before : Typed.Program → ℕ → ℕ → List Variable
-bound_before p e i = fold bound_behind (left_variables p e) (take i (written_at p e))
+abbrev pub written_at : Basis → ℕ → List Written.Fragment
+written_at b e = written_by b.program b.asked e
+
+-- the variables that have values before it: those of the left side
+abbrev pub first_in : List Variable → Option Equation → List Variable
+first_in other (Some e) = variables (tree_of e.left)
+first_in other None = other
+
+abbrev pub first_at : Basis → ℕ → List Variable
+first_at b e = first_in (if e == suc (length b.program.equations) then b.asked_under else []) (slice_get b.program.equations e)
+
+-- the variables that are bound before its fragment with the number i, counted from 0: those that have values before it, and then those that are matched
+abbrev pub bound_before : Basis → ℕ → ℕ → List Variable
+bound_before b e i = fold bound_behind (first_at b e) (take i (written_at b e))
 
 -- the variables bound before that fragment are all that it and those behind it may have, but for what they match
-abbrev pub AreBoundFrom : Typed.Program → ℕ → ℕ → Type 0
-AreBoundFrom p e i = are_bound (bound_before p e i) (drop i (written_at p e)) ≡ true
+abbrev pub AreBoundFrom : Basis → ℕ → ℕ → Type 0
+AreBoundFrom b e i = are_bound (bound_before b e i) (drop i (written_at b e)) ≡ true
 
 -- what an evaluation goes by
 abbrev pub rules_of : Basis → Rules
 rules_of b = record {
   program = program_over b.program b.hooks;
   limit = b.limit;
-  cond = λ e. map fragment_of (written_at b.program e);
+  cond = λ e. map fragment_of (written_at b e);
   written = b.program;
   hooks = b.hooks;
-  fragments = written_at b.program;
+  fragments = written_at b;
   is_cond = λ e. refl;
   is_theory = refl;
 }
@@ -126,9 +139,9 @@ pub record AreKnownOperands (s : SignatureOf) (nodes : List Node) (f : ℕ) (ids
 -- from there on have no others
 pub record IsKnownBinding (b : Basis) (nodes : List Node) (table : Table) (e i : ℕ) (σ : Binding) : Type 0 where
   pub values : AreValues b.program.sig nodes σ
-  pub variables : map variable_of σ.variables.items ≡ bound_before b.program e i
+  pub variables : map variable_of σ.variables.items ≡ bound_before b e i
   pub sorts : HaveSorts (HasEntry b.program.sig nodes table) (map variable_of σ.variables.items) (trees_at nodes (numbers σ.values.items))
-  pub bound : AreBoundFrom b.program e i
+  pub bound : AreBoundFrom b e i
 
 -- c says whether the listings of equations have contexts; those of fragments have none
 module _ {L M : Type 0} (c : Bool) (asked : L → Asked) (given : L → Option Solution) (is_for : L → SignatureOf → Type 0)
@@ -137,25 +150,25 @@ module _ {L M : Type 0} (c : Bool) (asked : L → Asked) (given : L → Option S
   pub record AreKnownCandidates (t : ℕ) (a : Candidates L) : Type 0 where
     pub own : a.term.0 ≡ t
     pub term : IsTerm b.program.sig nodes t
-    pub tried : IfSome a.attempts.tried (λ x. IsTried c b.program nodes table (as_id t) x.number (asked x.listing) (given x.listing) (is_for x.listing b.program.sig))
-    pub given_at : IsGivenAt b.program.sig b.hooks nodes (tree_at nodes t) a.attempts.given
+    pub tried : IfSome a.attempts.value.tried (λ x. IsTried c b.program nodes table (as_id t) x.number (asked x.listing) (given x.listing) (is_for x.listing b.program.sig))
+    pub given_at : IsGivenAt b.program.sig b.hooks nodes (tree_at nodes t) a.attempts.value.given
 
   -- the last one is a candidate of the term t, and has the condition e
   pub record IsKnownCandidate (t e : ℕ) (a : Candidates L) : Type 0 where
     pub own : a.term.0 ≡ t
     pub term : IsTerm b.program.sig nodes t
     pub reducible : IsReducible b.program
-    pub given_at : IsGivenAt b.program.sig b.hooks nodes (tree_at nodes t) a.attempts.given
-    pub last : IsLast b.program nodes (tree_at nodes t) e a.attempts.given a.attempts.last
-    pub listed : IsLastListed b.program nodes table (as_id t) e a.attempts.given a.attempts.last
+    pub given_at : IsGivenAt b.program.sig b.hooks nodes (tree_at nodes t) a.attempts.value.given
+    pub last : IsLast b.program nodes (tree_at nodes t) e a.attempts.value.given a.attempts.value.last
+    pub listed : IsLastListed b.program nodes table (as_id t) e a.attempts.value.given a.attempts.value.last
 
   -- the fragment i of the condition e is p := u, and the solutions are those of p, where the variables that are bound before it have values
   pub record AreKnownChoices (e i : ℕ) (x : Choices M) : Type 0 where
     pub asks : Asks (rules_of b) e i Matching
     pub choosing : IsChoosing b.program.sig nodes table (pattern_in (rest_of (rules_of b) e i)) x.binding x.value (asked_whole x.listing) (given_whole x.listing)
         (is_for_whole x.listing b.program.sig)
-    pub variables : map (λ y. variable_of y.0) x.binding ≡ bound_before b.program e i
-    pub bound : AreBoundFrom b.program e i
+    pub variables : map (λ y. variable_of y.0) x.binding ≡ bound_before b e i
+    pub bound : AreBoundFrom b e i
 
   abbrev pub words_of : Words (Candidates L) (Choices M) Binding
   words_of = record {
@@ -166,10 +179,10 @@ module _ {L M : Type 0} (c : Bool) (asked : L → Asked) (given : L → Option S
     knows_operands = AreKnownOperands b.program.sig nodes;
     bound = bound_in nodes;
     knows_binding = IsKnownBinding b nodes table;
-    untried = λ a k. untried_by (program_over b.program b.hooks) b.limit k nodes (tree_at nodes a.term.0) a.attempts.given
-        (option_map (λ x. (x.number, given x.listing)) a.attempts.tried) (drop a.attempts.next (order_of_all (program_over b.program b.hooks).equations));
+    untried = λ a k. untried_by (program_over b.program b.hooks) b.limit k nodes (tree_at nodes a.term.0) a.attempts.value.given
+        (option_map (λ x. (x.number, given x.listing)) a.attempts.value.tried) (drop a.attempts.value.next (order_for b.program (tree_at nodes a.term.0)));
     knows_attempts = AreKnownCandidates;
-    makes = λ a. makes_of (program_over b.program b.hooks) nodes (tree_at nodes a.term.0) a.attempts.given a.attempts.last;
+    makes = λ a. makes_of (program_over b.program b.hooks) nodes (tree_at nodes a.term.0) a.attempts.value.given a.attempts.value.last;
     knows_candidate = IsKnownCandidate;
     unchosen = λ x k e i. left_of_choices (program_over b.program b.hooks) (levels (program_over b.program b.hooks) b.limit k) (pattern_in (rest_of (rules_of b) e i))
         (rest_of (rules_of b) e (suc i)) (binding_in nodes x.binding) (tree_at nodes x.value.0) (option_map (solution_in nodes) (given_whole x.listing));

@@ -25,7 +25,8 @@ use Rattle.mau_reduce.specs.declared.binding.Binding.{Binding as Kept}
 use Rattle.mau_reduce.specs.declared.trying.Tried.{Tried}
 use Rattle.mau_reduce.specs.Bindings.{bound_in}
 use Rattle.mau_reduce.specs.Tables.{IsPlainTable}
-use Rattle.mau_reduce.specs.Trying.{IsTried, order_of_all}
+use Rattle.mau_reduce.specs.Trying.{IsTried}
+use Rattle.mau_reduce.specs.ByTop.{order_for}
 use Rattle.mau_reduce.proofs.KindsKept.{is_term_kept, tree_kept, trees_kept, under_kept}
 use Rattle.mau_reduce.proofs.PlainTables.{plain_grown, identities_grown, settled_grown}
 use Rattle.mau_reduce.specs.Attempting.{untried_by, makes_of}
@@ -144,19 +145,19 @@ module _ {L M : Type 0} (c : Bool) (asked : L → Asked) (given : L → Option S
   candidates_known t a k = record {
     own = k.own;
     term = is_term_kept b.program.sig old new t h.extends k.term;
-    tried = tried_later (as_id t) a.attempts.tried k.tried;
+    tried = tried_later (as_id t) a.attempts.value.tried k.tried;
     given_at =
-        subst (λ u. IsGivenAt b.program.sig b.hooks new u a.attempts.given) (sym (tree_same t k.term))
-        (given_grown b.program old new h.extends b.hooks (tree_at old t) a.attempts.given k.given_at);
+        subst (λ u. IsGivenAt b.program.sig b.hooks new u a.attempts.value.given) (sym (tree_same t k.term))
+        (given_grown b.program old new h.extends b.hooks (tree_at old t) a.attempts.value.given k.given_at);
   }
 
   untried_same : (t : ℕ) (a : Candidates L) → AreKnownCandidates c asked given is_for asked_whole given_whole is_for_whole b old before t a → (k n : ℕ) →
       (words_of c asked given is_for asked_whole given_whole is_for_whole b new after).untried a k n ≡ (words_of c asked given is_for asked_whole given_whole is_for_whole b old before).untried a k n
   untried_same t a is k n =
-      ap (λ u. untried_by P b.limit k new u a.attempts.given (option_map (λ x. (x.number, given x.listing)) a.attempts.tried) (drop a.attempts.next (order_of_all P.equations)) n)
+      ap (λ u. untried_by P b.limit k new u a.attempts.value.given (option_map (λ x. (x.number, given x.listing)) a.attempts.value.tried) (drop a.attempts.value.next (order_for b.program u)) n)
       (tree_same a.term.0 (subst (IsTerm b.program.sig old) (sym is.own) is.term))
-      ∙ ap (λ r. r n) (untried_grown old new h.extends P b.limit k (tree_at old a.term.0) (drop a.attempts.next (order_of_all P.equations)) a.attempts.given
-      (taken_there b.program old new h.extends a.attempts.given is.given_at.taken) (option_map (λ x. (x.number, given x.listing)) a.attempts.tried) (last_ones (as_id t) a.attempts.tried is.tried))
+      ∙ ap (λ r. r n) (untried_grown old new h.extends P b.limit k (tree_at old a.term.0) (drop a.attempts.value.next (order_for b.program (tree_at old a.term.0))) a.attempts.value.given
+      (taken_there b.program old new h.extends a.attempts.value.given is.given_at.taken) (option_map (λ x. (x.number, given x.listing)) a.attempts.value.tried) (last_ones (as_id t) a.attempts.value.tried is.tried))
 
   candidate_known : (t e : ℕ) (a : Candidates L) → IsKnownCandidate c asked given is_for asked_whole given_whole is_for_whole b old before t e a → IsKnownCandidate c asked given is_for asked_whole given_whole is_for_whole b new after t e a
   candidate_known t e a k =
@@ -165,20 +166,20 @@ module _ {L M : Type 0} (c : Bool) (asked : L → Asked) (given : L → Option S
         own = k.own;
         term = is_term_kept b.program.sig old new t h.extends k.term;
         reducible = k.reducible;
-        given_at = subst (λ u. IsGivenAt b.program.sig b.hooks new u a.attempts.given) (sym same) (given_grown b.program old new h.extends b.hooks (tree_at old t) a.attempts.given k.given_at);
+        given_at = subst (λ u. IsGivenAt b.program.sig b.hooks new u a.attempts.value.given) (sym same) (given_grown b.program old new h.extends b.hooks (tree_at old t) a.attempts.value.given k.given_at);
         last =
-            subst (λ u. IsLast b.program new u e a.attempts.given a.attempts.last) (sym same)
-            (last_grown b.program old new h.extends (tree_at old t) e a.attempts.given a.attempts.last k.last);
+            subst (λ u. IsLast b.program new u e a.attempts.value.given a.attempts.value.last) (sym same)
+            (last_grown b.program old new h.extends (tree_at old t) e a.attempts.value.given a.attempts.value.last k.last);
         listed =
-            listed_grown b.program old new h.extends before after h.kept k.reducible (as_id t) k.term e a.attempts.given a.attempts.last k.listed;
+            listed_grown b.program old new h.extends before after h.kept k.reducible (as_id t) k.term e a.attempts.value.given a.attempts.value.last k.listed;
       }
 
   makes_same : (t e : ℕ) (a : Candidates L) → IsKnownCandidate c asked given is_for asked_whole given_whole is_for_whole b old before t e a → (σ : Binding) →
       (words_of c asked given is_for asked_whole given_whole is_for_whole b new after).makes a σ ≡ (words_of c asked given is_for asked_whole given_whole is_for_whole b old before).makes a σ
   makes_same t e a k σ =
-      ap (λ u. makes_of P new u a.attempts.given a.attempts.last σ) (tree_same a.term.0 (subst (IsTerm b.program.sig old) (sym k.own) k.term))
-      ∙ makes_grown b.program old new h.extends b.hooks (tree_at old a.term.0) e a.attempts.given a.attempts.last σ k.given_at.taken
-      (subst (λ i. IsLast b.program old (tree_at old i) e a.attempts.given a.attempts.last) (sym k.own) k.last)
+      ap (λ u. makes_of P new u a.attempts.value.given a.attempts.value.last σ) (tree_same a.term.0 (subst (IsTerm b.program.sig old) (sym k.own) k.term))
+      ∙ makes_grown b.program old new h.extends b.hooks (tree_at old a.term.0) e a.attempts.value.given a.attempts.value.last σ k.given_at.taken
+      (subst (λ i. IsLast b.program old (tree_at old i) e a.attempts.value.given a.attempts.value.last) (sym k.own) k.last)
 
   choices_known : (e i : ℕ) (x : Choices M) → AreKnownChoices c asked given is_for asked_whole given_whole is_for_whole b old before e i x →
       AreKnownChoices c asked given is_for asked_whole given_whole is_for_whole b new after e i x

@@ -1,5 +1,6 @@
 -- What a world goes by.
-use Rattle.std.specs.Prelude.{List}
+use Rattle.std.specs.Prelude.{List, map}
+use Rattle.mau_terms.specs.View.{variable_of}
 use Rattle.mau_formula.specs.Operator.{Operator}
 use Rattle.mau_reducer.specs.declared.reducer.Reducer.{Reducer}
 use Rattle.mau_reducer.specs.Basis.{Basis}
@@ -10,6 +11,8 @@ basis_of operators w = record {
   program = w.program.now;
   hooks = operators w.natives;
   limit = w.limit;
-  order = w.order.items;
+  compiled = w.compiled;
   built_ins = w.built_ins.items;
+  asked = w.asked.items;
+  asked_under = map variable_of w.asked_under.items;
 }

@@ -1,8 +1,9 @@
 //! A program and a store as an evaluator.
 ghost use Rattle.std.specs.Prelude.{◌≡◌, true, OnOk};
 ghost use Rattle.mau_store.specs.Node.{Extends};
-ghost use Rattle.mau_api.specs.Answers.{levels_of_item};
+ghost use Rattle.mau_api.specs.Answers.{levels_of_item, levels_of_condition};
 
+use crate::asking::as_pairs;
 use crate::reducer::Reducer;
 use mau_api::{EvalEnd, Evaluator, Fragment, Lister, Reduced, Solution, StepWatcher};
 use mau_listing::WholeLister;
@@ -16,6 +17,13 @@ pub(crate) fn levels_of_item() -> u32
     ensures { result ≡ levels_of_item }
 {
     2000
+}
+
+/// The levels of a condition that an item asks.
+pub(crate) fn levels_of_condition() -> u32
+    ensures { result ≡ levels_of_condition }
+{
+    1999
 }
 
 impl<'a, L: Lister + Drop, M: WholeLister + Drop, N: Natives + Drop> Reducer<'a, L, M, N> {
@@ -86,18 +94,37 @@ impl<'a, L: Lister + Drop, M: WholeLister + Drop, N: Natives + Drop> Evaluator
         cond: &[Fragment],
         bound: &[(VarId, TermId)],
         last: Option<&[(VarId, TermId)]>,
-        _: &mut u64,
-        _: &mut W,
+        budget: &mut u64,
+        watcher: &mut W,
     ) -> Result<Option<(Vec<(VarId, TermId)>, u64)>, EvalEnd> {
-        if !cond.is_empty() {
-            // A condition with fragments is not solved yet.
-            return Err(EvalEnd::NoMemory);
-        }
         match last {
-            Some(_) => Ok(None),
-            None => match Vec::from_slice(store.allocator(), bound) {
-                Ok(values) => Ok(Some((values, 0))),
-                Err(_) => Err(EvalEnd::NoMemory),
+            Some(_) => {
+                if !cond.is_empty() {
+                    // What comes behind a solution of a condition with fragments is not solved yet.
+                    return Err(EvalEnd::NoMemory);
+                }
+                Ok(None)
+            }
+            None => match self.begin(store) {
+                Ok(()) => match self.ask(store.allocator(), cond, bound) {
+                    Ok(binding) => {
+                        let condition = self.program.equations.items().len() + 1;
+                        let levels = levels_of_condition();
+                        let solved = mau_machine::solve(
+                            store.allocator(),
+                            self,
+                            store,
+                            condition,
+                            binding,
+                            levels,
+                            budget,
+                            watcher,
+                        );
+                        as_pairs(store.allocator(), solved)
+                    }
+                    Err(NoMemory) => Err(EvalEnd::NoMemory),
+                },
+                Err(NoMemory) => Err(EvalEnd::NoMemory),
             },
         }
     }

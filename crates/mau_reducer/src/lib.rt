@@ -1,6 +1,7 @@
 //! The evaluator of the product: a program, its native operators, and the sorts that are settled.
 #![tactic(auto)]
 
+mod asking;
 mod evaluating;
 mod flagged;
 mod fragments;

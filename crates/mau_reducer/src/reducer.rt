@@ -11,31 +11,34 @@ ghost use Rattle.mau_reduce.specs.BuiltOperators.{IsBuiltAt};
 ghost use Rattle.mau_built_ins.specs.NativeNumerals.{GivesNumerals};
 ghost use Rattle.mau_reducer.specs.Basis.{DerivesNothing, AreBuiltIns};
 
-use mau_api::{Evaluator, Lister, Program};
+use mau_api::{Evaluator, Fragment, Lister, Program};
 use mau_listing::WholeLister;
-use mau_reduce::{Attempts, BuiltIn, Natives, built_in_of, equations_in_order};
+use mau_reduce::{Attempts, BuiltIn, Compiled, Natives, built_in_of};
 use mau_sorts::SortTable;
 use mau_store::{NodeView, Store};
-use mau_terms::{NoMemory, OpId, TermId};
+use mau_terms::{NoMemory, OpId, TermId, VarId};
 use std::alloc::Global;
 use std::marker::PhantomData;
 
-/// All that may be applied at the top of a term and is not yet tried.
+/// All that may be applied at the top of a term and is not yet tried. It is boxed, so that the frames of the loop are small.
 #[derive(Drop)]
 pub struct Candidates<L> {
     pub(crate) term: TermId,
-    pub(crate) attempts: Attempts<L>,
+    pub(crate) attempts: Box<Attempts<L>>,
 }
 
 /// Evaluates by a program and its native operators, with listings of the type `L` for equations and of the type `M` for conditions. It
-/// keeps in which order equations are tried, what is built in of the operators, and the sorts that are settled.
+/// keeps the compiled equations, what is built in of the operators, and the sorts that are settled.
 #[derive(Drop)]
 pub struct Reducer<'a, L, M, N> {
     pub(crate) program: &'a Program,
     pub(crate) natives: N,
     pub(crate) limit: u64,
-    pub(crate) order: Vec<usize>,
+    pub(crate) compiled: Compiled,
     pub(crate) built_ins: Vec<BuiltIn>,
+    /// The condition that is asked, and the variables that have values before it.
+    pub(crate) asked: Vec<Fragment>,
+    pub(crate) asked_under: Vec<VarId>,
     pub(crate) table: SortTable,
     /// Whether the identities are settled.
     pub(crate) begun: bool,
@@ -77,14 +80,18 @@ impl<'a, L: Lister + Drop, M: WholeLister + Drop, N: Natives + Drop> Reducer<'a,
             ≡ meanings_by program.now (N.operators natives) limit false) }
         ensures fits { (nodes : List Node) → IfOk result (λ e. ⟦<Reducer<'a, L, M, N> as Evaluator>⟧.fits e nodes) }
     {
-        let order = equations_in_order(alloc, program)?;
         let built_ins = built_ins_of(alloc, program)?;
+        let compiled = Compiled::new(alloc, program)?;
+        let asked = Vec::new(alloc);
+        let asked_under = Vec::new(alloc);
         Ok(Reducer {
             program,
             natives,
             limit,
-            order,
+            compiled,
             built_ins,
+            asked,
+            asked_under,
             table: SortTable::new(alloc),
             begun: false,
             of: PhantomData,

@@ -101,7 +101,8 @@ impl<'a, L: Lister + Drop, M: WholeLister + Drop, N: Natives + Drop> World
     fn attempts(&mut self, store: &mut Store, term: TermId) -> Result<Candidates<L>, NoMemory> {
         settle(store, &self.program.sig, &mut self.table, term)?;
         let built_in = self.built_in_at(store, term);
-        let attempts = begin_attempts(store, self.program, &self.natives, built_in, term);
+        let begun = begin_attempts(store, self.program, &self.natives, built_in, term);
+        let attempts = Box::new(store.allocator(), begun)?;
         Ok(Candidates { term, attempts })
     }
 
@@ -115,9 +116,9 @@ impl<'a, L: Lister + Drop, M: WholeLister + Drop, N: Natives + Drop> World
             store,
             self.program,
             &mut self.table,
-            &self.order,
+            &self.compiled,
             term,
-            &mut attempts.attempts,
+            &mut *attempts.attempts,
         ) {
             Ok(next) => Ok(next),
             Err(end) => Err(end),
@@ -132,7 +133,14 @@ impl<'a, L: Lister + Drop, M: WholeLister + Drop, N: Natives + Drop> World
         attempts: &Candidates<L>,
         binding: &Binding,
     ) -> Result<TermId, EvalEnd> {
-        make(store, self.program, term, &attempts.attempts, binding)
+        make(
+            store,
+            self.program,
+            &self.compiled,
+            term,
+            &*attempts.attempts,
+            binding,
+        )
     }
 
     fn step(
@@ -149,14 +157,14 @@ impl<'a, L: Lister + Drop, M: WholeLister + Drop, N: Natives + Drop> World
             self.program,
             term,
             condition,
-            &attempts.attempts,
+            &*attempts.attempts,
             binding,
             after,
         )
     }
 
     fn goal(&self, condition: usize, at: usize) -> Goal {
-        goal_in(fragment_at(self.program, condition, at))
+        goal_in(fragment_at(self.program, &self.asked, condition, at))
     }
 
     fn side(
@@ -167,7 +175,7 @@ impl<'a, L: Lister + Drop, M: WholeLister + Drop, N: Natives + Drop> World
         right: bool,
         binding: &Binding,
     ) -> Result<TermId, EvalEnd> {
-        match side_at(self.program, condition, at, right) {
+        match side_at(self.program, &self.asked, condition, at, right) {
             Some(side) => instance(store, &self.program.sig, side, binding),
             None => unreachable!(),
         }
@@ -188,7 +196,7 @@ impl<'a, L: Lister + Drop, M: WholeLister + Drop, N: Natives + Drop> World
     ) -> Result<bool, NoMemory> {
         // What holds of the nodes of a store is told with their number.
         let _nodes = store.len();
-        match sort_at(self.program, condition, at) {
+        match sort_at(self.program, &self.asked, condition, at) {
             Some(sort) => match self.table.has(&self.program.sig, value, sort) {
                 Some(has) => Ok(has),
                 None => unreachable!(),
@@ -205,7 +213,7 @@ impl<'a, L: Lister + Drop, M: WholeLister + Drop, N: Natives + Drop> World
         binding: Binding,
         value: TermId,
     ) -> Result<Choices<M>, NoMemory> {
-        match pattern_at(self.program, condition, at) {
+        match pattern_at(self.program, &self.asked, condition, at) {
             Some(pattern) => {
                 let bound = Bound::from_parts(binding.variables, binding.values);
                 begin_choices(store, &self.program.sig, &self.table, pattern, bound, value)
@@ -222,7 +230,7 @@ impl<'a, L: Lister + Drop, M: WholeLister + Drop, N: Natives + Drop> World
         choices: &mut Choices<M>,
     ) -> Result<Option<Binding>, NoMemory> {
         let program = self.program;
-        match pattern_at(program, condition, at) {
+        match pattern_at(program, &self.asked, condition, at) {
             Some(pattern) => match next_choice(store, program, &mut self.table, pattern, choices) {
                 Ok(next) => Ok(parted(next)),
                 Err(end) => Err(end),

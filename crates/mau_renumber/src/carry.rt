@@ -23,9 +23,6 @@ pub struct Tables {
     pub operators: Vec<u32>,
 }
 
-/// The greatest number of variables that are numbered.
-const MAX_VARIABLES: usize = 4_294_967_295;
-
 /// Adds a variable, with as many apostrophes behind its name as make it none of those that are there.
 fn add_apart(alloc: Global, vars: &mut Vars, name: &str, sort: u32) -> Result<(), NoMemory>
     requires { length vars.old < 4294967295 }
@@ -44,19 +41,17 @@ fn add_apart(alloc: Global, vars: &mut Vars, name: &str, sort: u32) -> Result<()
 }
 
 impl Tables {
-    ghost use Rattle.std.specs.Prelude.{◌≡◌, ◌<◌, [], length, map, get_or, IfOk, OnOk};
+    ghost use Rattle.std.specs.Prelude.{◌≡◌, ◌<◌, ◌≤◌, [], length, map, get_or, IfOk, OnOk};
     ghost use Rattle.mau_terms.specs.View.{tree_of};
     ghost use Rattle.mau_renumber.specs.Tables.{sorts_in, numbers_in};
     ghost use Rattle.mau_renumber.specs.Carried.{carry, tree_to, term_to, fragment_to, equation_to, membership_to, rule_to, variables_to};
 
-    /// The variables of a statement. More than can be numbered don't fit into memory.
+    /// The variables of a statement.
     pub(crate) fn variables(&self, alloc: Global, vars: &Vars) -> Result<Vars, NoMemory>
+        requires few { length vars.now ≤ 4294967295 }
         ensures { IfOk result (λ found. found ≡ variables_to (sorts_in self.now) vars.now) }
     {
         let mut found = Vars::new(alloc);
-        if vars.len() >= MAX_VARIABLES {
-            return Err(NoMemory);
-        }
         for index in 0..vars.len() as u32 {
             self.add_variable(alloc, vars, index, &mut found)?;
         }
@@ -159,6 +154,7 @@ impl Tables {
 
     /// An equation.
     pub fn equation(&self, alloc: Global, equation: &Equation) -> Result<Equation, NoMemory>
+        requires few { length equation.now.vars ≤ 4294967295 }
         ensures { IfOk result (λ found. found ≡ equation_to (numbers_in self.now) equation.now) }
     {
         Ok(Equation {
@@ -173,6 +169,7 @@ impl Tables {
 
     /// A membership.
     pub fn membership(&self, alloc: Global, membership: &Membership) -> Result<Membership, NoMemory>
+        requires few { length membership.now.vars ≤ 4294967295 }
         ensures { IfOk result (λ found. found ≡ membership_to (numbers_in self.now) membership.now) }
     {
         Ok(Membership {
@@ -186,6 +183,7 @@ impl Tables {
 
     /// A rule.
     pub fn rule(&self, alloc: Global, rule: &Rule) -> Result<Rule, NoMemory>
+        requires few { length rule.now.vars ≤ 4294967295 }
         ensures { IfOk result (λ found. found ≡ rule_to (numbers_in self.now) rule.now) }
     {
         Ok(Rule {

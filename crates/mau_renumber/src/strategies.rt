@@ -5,9 +5,9 @@ use mau_terms::{Args, NoMemory, Seq, VarId};
 use std::alloc::Global;
 
 impl Tables {
-    ghost use Rattle.std.specs.Prelude.{◌≡◌, map, IfOk};
+    ghost use Rattle.std.specs.Prelude.{◌≡◌, ◌≤◌, length, map, IfOk};
     ghost use Rattle.mau_program.specs.Strategies.{strategy_of, strategies_of, uses_of};
-    ghost use Rattle.mau_renumber.specs.Tables.{sorts_in, numbers_in};
+    ghost use Rattle.mau_renumber.specs.Tables.{numbers_in};
     ghost use Rattle.mau_renumber.specs.Carried.{tree_to};
     ghost use Rattle.mau_renumber.specs.Parts.{part_to};
     ghost use Rattle.mau_renumber.specs.Strategies.{assign_to, strategy_to, strategies_to, uses_to, definition_to, strategy_declaration_to};
@@ -162,6 +162,7 @@ impl Tables {
 
     /// A definition of a strategy.
     pub fn definition(&self, alloc: Global, definition: &StratDef) -> Result<StratDef, NoMemory>
+        requires few { length definition.now.vars ≤ 4294967295 }
         ensures { IfOk result (λ found. found ≡ definition_to (numbers_in self.now) definition.now) }
     {
         Ok(StratDef {

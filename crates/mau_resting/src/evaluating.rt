@@ -1,8 +1,9 @@
 //! The loop over a world that remembers which terms are their own values.
-ghost use Rattle.std.specs.Prelude.{◌≡◌, ◌≤◌, true, false, IfOk, IfErr};
+ghost use Rattle.std.specs.Prelude.{◌≡◌, ◌≤◌, ℕ, true, false, Some, None, IfOk, IfErr, IfSome, IfNone};
 ghost use Rattle.mau_evaluation.specs.Run.{done};
-ghost use Rattle.mau_api.specs.Told.{TellsEvaluation, TellsMore};
-ghost use Rattle.mau_machine.specs.Words.{capped, IsEnd, eval_on, kind_of};
+ghost use Rattle.mau_evaluation.specs.Evaluation.{look_up};
+ghost use Rattle.mau_api.specs.Told.{TellsEvaluation, TellsCondition, TellsMore};
+ghost use Rattle.mau_machine.specs.Words.{capped, IsEnd, eval_on, solve_on, kind_of, IsSolution};
 ghost use Rattle.mau_resting.specs.Rests.{AreResting};
 
 use crate::Resting;
@@ -44,4 +45,45 @@ pub fn evaluate<W: World + Drop, T: StepWatcher>(
     ensures wanted { T.wanted watcher.new ≡ T.wanted watcher.old }
 {
     mau_machine::evaluate(alloc, resting, store, term, level, budget, watcher)
+}
+
+/// The first solution of a condition by `level` levels, in the same way.
+pub fn solve<W: World + Drop, T: StepWatcher>(
+    alloc: Global,
+    resting: &mut Resting<W>,
+    store: &mut Store,
+    condition: usize,
+    binding: W::Binding,
+    level: u32,
+    budget: &mut u64,
+    watcher: &mut T,
+) -> Result<Option<(W::Binding, u64)>, EvalEnd>
+    requires ready { W.ready resting.old.world store.old }
+    requires resting { AreResting (W.words resting.old.world store.old) resting.old.levels.items }
+    requires binding { (W.words resting.old.world store.old).knows_binding condition 0 binding }
+    ensures some { IfOk result (λ o. IfSome o (λ x. capped (solve_on (W.words resting.old.world store.old).rules level condition 0
+        ((W.words resting.old.world store.old).bound binding) budget.old)
+        ≡ done (Some ((W.words resting.new.world store.new).bound x.0)) x.1 budget.new)) }
+    ensures none { IfOk result (λ o. IfNone o ((r : ℕ) × (solve_on (W.words resting.old.world store.old).rules level condition 0
+        ((W.words resting.old.world store.old).bound binding) budget.old
+        ≡ done None r budget.new))) }
+    ensures ends { IfErr result (IsEnd (solve_on (W.words resting.old.world store.old).rules level condition 0
+        ((W.words resting.old.world store.old).bound binding) budget.old)) }
+    ensures known { IfOk result (λ o. IfSome o (λ x. IsSolution (W.words resting.new.world store.new) condition x.0)) }
+    ensures falls { budget.new ≤ budget.old }
+    ensures grows { W.grows resting.old.world store.old resting.new.world store.new }
+    ensures resting { AreResting (W.words resting.new.world store.new) resting.new.levels.items }
+    ensures told { T.wanted watcher.old ≡ true → IfOk result (λ o. IfSome o
+        (λ x. TellsCondition (W.words resting.new.world store.new).rules.written (W.words resting.new.world store.new).rules.hooks
+        store.new (W.table resting.new.world) (T.told watcher.old) (T.told watcher.new)
+        (look_up ((W.words resting.new.world store.new).bound x.0))
+        ((W.words resting.new.world store.new).rules.fragments condition) x.1)) }
+    ensures untold { T.wanted watcher.old ≡ true → IfOk result (λ o. IfNone o (T.told watcher.new ≡ T.told watcher.old)) }
+    ensures before { T.wanted watcher.old ≡ true → TellsMore (T.told watcher.old) (T.told watcher.new) }
+    ensures silent { T.wanted watcher.old ≡ false → T.told watcher.new ≡ T.told watcher.old }
+    ensures wanted { T.wanted watcher.new ≡ T.wanted watcher.old }
+{
+    mau_machine::solve(
+        alloc, resting, store, condition, binding, level, budget, watcher,
+    )
 }

@@ -5,5 +5,5 @@ mod evaluating;
 mod levels;
 mod resting;
 
-pub use evaluating::evaluate;
+pub use evaluating::{evaluate, solve};
 pub use resting::{Resting, Trying};

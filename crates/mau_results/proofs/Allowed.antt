@@ -23,7 +23,7 @@ use Rattle.mau_results.proofs.ShownSorts.{shown_sort_once}
 -- a value stands under K levels
 module _ {A : Type 0} (f : ℕ → ℕ → Run A) (stays : StaysUnderLimits f) (K each b : ℕ) (x : A) (r left : ℕ) (given : f K each b ≡ done x r left) where
   -- the same value is given under larger limits
-  under_larger : (k B c : ℕ) → K ≤ k → each ≤ B → b ≤ c → f k B c ≡ done x r (left + (c - b))
+  pub under_larger : (k B c : ℕ) → K ≤ k → each ≤ B → b ≤ c → f k B c ≡ done x r (left + (c - b))
   under_larger k B c i j l = subst (λ n. f k B n ≡ done x r (left + (c - b))) (add-sub_of_le l) ((stays.stays K k each B b (c - b) i j).0 x r left given)
 
   not_stopped : (k : ℕ) → f k each b ≡ ended stopped → ⊥
@@ -35,7 +35,7 @@ module _ {A : Type 0} (f : ℕ → ℕ → Run A) (stays : StaysUnderLimits f) (
       higher : K ≤ k → ⊥
       higher i = let d : f k each b ≡ done x r (left + (b - b)) = under_larger k each b i (le_refl each) (le_refl b) in cc
 
-  not_too_deep : (B c : ℕ) → f K B c ≡ ended too_deep → ⊥
+  pub not_too_deep : (B c : ℕ) → f K B c ≡ ended too_deep → ⊥
   not_too_deep B c e = ⊎_elim (λ (s : f K B c ≡ ended stopped). cc) more (stays.budgets K B (B + each) (omega arith) c b)
     where
       d : f K (B + each) (b + c) ≡ done x r (left + c)
@@ -46,7 +46,7 @@ module _ {A : Type 0} (f : ℕ → ℕ → Run A) (stays : StaysUnderLimits f) (
           let m' : f K (B + each) (c + b) ≡ ended too_deep = m ∙ ap (with_more b) e in
           let d' : f K (B + each) (c + b) ≡ done x r (left + c) = subst (λ n. f K (B + each) n ≡ done x r (left + c)) (add_comm b c) d in cc
 
-  not_overflowed : (k B c : ℕ) → K ≤ k → each ≤ B → b ≤ c → f k B c ≡ ended overflowed → ⊥
+  pub not_overflowed : (k B c : ℕ) → K ≤ k → each ≤ B → b ≤ c → f k B c ≡ ended overflowed → ⊥
   not_overflowed k B c i j l e = let d = under_larger k B c i j l in cc
 
 -- so no end has a cause

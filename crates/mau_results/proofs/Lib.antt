@@ -6,3 +6,5 @@ pub mod ShownSorts
 pub mod Allowed
 -- a term and its normal form have the same answers; what is beyond the limits ends so
 pub mod Normals
+-- what a run answers
+pub mod RunAnswers

@@ -4,6 +4,7 @@
 
 -- answers, and which of them are allowed
 pub mod Results
+pub mod Runs
 -- what is proved of these
 pub mod Laws
 -- ---- what only inner contracts and proofs cite

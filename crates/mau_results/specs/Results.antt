@@ -41,6 +41,10 @@ pub record HasShownSort (m : Meanings) (v : Tree) (s : ℕ) : Type 0 where
 abbrev pub item_levels : ℕ
 item_levels = 2000
 
+-- a condition that an item asks is evaluated on so many
+abbrev pub condition_levels : ℕ
+condition_levels = 1999
+
 -- what is shown of a count
 abbrev pub shown_count : ℕ → ℕ
 shown_count r = min r (2 ^ 64 - 1)

@@ -43,7 +43,7 @@ pub enum Answer {
 }
 
 /// The sort that is shown for a term, which is settled.
-fn shown_sort(sig: &Signature, store: &Store, sorts: &SortTable, term: TermId) -> u32
+pub fn shown_sort(sig: &Signature, store: &Store, sorts: &SortTable, term: TermId) -> u32
     requires there { IsOf store.now term.0 }
     requires settled { IsTreeSettled store.now sorts.now (tree_at store.now term.0) }
     ensures shown { Some result ≡ option_map SortSets.shown_sort (entry_at sorts.now term.0) }

@@ -1,5 +1,5 @@
 //! What holds of allowed answers: each function's contract is a law, and its body is empty.
-ghost use Rattle.mau_results.specs.Laws.{LeastSortsAreShown, AnswersAreOne};
+ghost use Rattle.mau_results.specs.Laws.{LeastSortsAreShown, AnswersAreOne, RunAnswersAreOne};
 
 /// A least sort is the one that is shown.
 pub fn least_sorts_are_shown()
@@ -9,4 +9,9 @@ pub fn least_sorts_are_shown()
 /// Where nothing is remembered and nothing derived, a term has one answer.
 pub fn answers_are_one()
     ensures { AnswersAreOne }
+{}
+
+/// So has a run from where it stands.
+pub fn run_answers_are_one()
+    ensures { RunAnswersAreOne }
 {}

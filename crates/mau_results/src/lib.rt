@@ -4,4 +4,4 @@
 mod answer;
 pub mod laws;
 
-pub use answer::{Answer, Evaluated, evaluate_bare, evaluate_item};
+pub use answer::{Answer, Evaluated, evaluate_bare, evaluate_item, shown_sort};

@@ -6,7 +6,6 @@ pub mod Solving
 -- lists of which some elements pass; rules in cyclic order; lists in pairs
 pub mod Passing
 pub mod Cyclic
-pub mod Pairs
 -- one rule at one place: its solutions, one after another
 pub mod Trying
 pub mod Rounds
@@ -16,3 +15,25 @@ pub mod Answered
 pub mod Turned
 -- all rules at a place
 pub mod Placed
+-- all places of a term, one after another: the walk, and paths through open terms
+pub mod Walking
+pub mod Paths
+-- a term that is put back in its place
+pub mod Parted
+pub mod Putting
+pub mod PuttingBack
+pub mod Walked
+-- runs
+pub mod Running
+pub mod Uses
+pub mod RunEnds
+-- passes
+pub mod Counting
+pub mod PassLaws
+pub mod Skipping
+pub mod OpenTerms
+pub mod Onces
+pub mod PassSteps
+pub mod PassEnds
+pub mod Closing
+pub mod PassWalk

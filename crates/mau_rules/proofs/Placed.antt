@@ -1,4 +1,4 @@
--- All rules at a place, one after another.
+-- All rules at a place, one after another; and all places of a term.
 use Rattle.std.proofs.Common.{◌≡◌, ◌≤◌, ◌<◌, ◌+◌, ◌∷◌, [], List, length, drop, get_or, map, slice_get, Result, Ok, Err, ℕ, zero, suc, Bool, Option, Some, None, refl, sym, ap, ◌∙◌, subst, arith, append-nil}
 use Rattle.std.proofs.lemmas.List.{drop_more, drop_all}
 use Rattle.mau_terms.specs.Tree.{Tree, variable, numeral, apply}
@@ -15,10 +15,10 @@ use Rattle.mau_api.specs.declared.results.EvalEnd.TheVariants.{Stopped, TooDeep,
 use Rattle.mau_rules.specs.declared.attempt.Found.{Found}
 use Rattle.mau_evaluation.specs.Run.{End, stopped, too_deep, overflowed, Run}
 use Rattle.mau_evaluation.specs.Program.{Rule, Program}
-use Rattle.mau_evaluation.specs.Rules.{Place}
+use Rattle.mau_evaluation.specs.Rules.{Place, places}
 use Rattle.mau_evaluation.specs.RuleRuns.{Turns, Stand, numbered, cyclically, rules_at}
 use Rattle.mau_rules.specs.Known.{Item, Gives, Fails, got, fails, GoesOn}
-use Rattle.mau_rules.specs.Found.{IsFound, KnownSearch, item_of, found_stand, stand_with, stand_by, rule_at, rules_in, turn_at}
+use Rattle.mau_rules.specs.Found.{IsFound, KnownSearch, item_of, found_stand, stand_with, stand_by, rule_at, rules_in, one_by, turn_at}
 use Rattle.mau_rules.proofs.Combined.{first_among, none_known, passed_by, goes_on_twice, else_some, else_fails_first}
 
 -- ---- the first of a list, one element after another
@@ -112,3 +112,33 @@ module _ (p : Typed.Program) (P : Program) (I : Item) (h : Turns) (s : Place) (b
 
   pub search_past : KnownSearch I (rule_at P h s q) b (found_stand p P h s nodes) (Ok None) after → LeftFrom I (each_rule P I h s) (rules_in P h s) b0 (drop (i + 1) xs) after
   search_past k = past_at I (each_rule P I h s) (rules_in P h s) b0 xs i q q low at b left after k
+
+-- ---- the places of a term
+
+module _ (P : Program) (I : Item) (s : Stand) where
+  abbrev pub each_place : ℕ → ℕ → Place → Run (Option Stand)
+  each_place k E q = rules_in P s.turns q k E
+
+  pub places_begin : (b : ℕ) → LeftFrom I each_place (one_by P s) b (places P.frozen (λ v. v) s.term) b
+  places_begin b = record { known = λ o after G. G }
+
+  module _ (p : Typed.Program) (b0 : ℕ) (q : Place) (qs : List Place) (b : ℕ) (left : LeftFrom I each_place (one_by P s) b0 (q ∷ qs) b) (nodes : List Node) (after : ℕ) where
+    -- what is known of the first one that is left
+    pub place_past : KnownSearch I (rules_in P s.turns q) b (found_stand p P s.turns q nodes) (Ok None) after → LeftFrom I each_place (one_by P s) b0 qs after
+    place_past k = past_one I each_place (one_by P s) b0 q qs b after left k
+
+    pub place_ends : (e : EvalEnd) → (stand : Found → Option Stand) → KnownSearch I (rules_in P s.turns q) b (found_stand p P s.turns q nodes) (Err e) after → KnownSearch I (one_by P s) b0 stand (Err e) after
+    place_ends Stopped stand k = ends_here I each_place (one_by P s) b0 q qs b left stopped k
+    place_ends TooDeep stand k = ends_here I each_place (one_by P s) b0 q qs b left too_deep k
+    place_ends Overflow stand k = ends_here I each_place (one_by P s) b0 q qs b left overflowed k
+    place_ends NoMemory stand k = tt
+
+    pub place_found : (x : Found) (table : Table) → IsFound p nodes table q.term x → KnownSearch I (rules_in P s.turns q) b (found_stand p P s.turns q nodes) (Ok (Some x)) after →
+        KnownSearch I (one_by P s) b0 (found_stand p P s.turns q nodes) (Ok (Some x)) after
+    place_found x table f k =
+        let e = ap (stand_with P s.turns q nodes x) f.at in
+        let u = stand_by P s.turns q (x.number, rule_of f.rule) (trees_at nodes (numbers x.solution.left)) (trees_at nodes (numbers x.solution.right)) (binding_in nodes x.bound.items) in (
+          k.0,
+          k.1,
+          subst (λ o. Gives I (one_by P s) b0 o k.0 after) (sym e) (found_here I each_place (one_by P s) b0 q qs b left u k.0 after (subst (λ o. Gives I (rules_in P s.turns q) b o k.0 after) e k.2)),
+        )

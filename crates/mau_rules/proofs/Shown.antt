@@ -1,6 +1,8 @@
 -- The condition of a rule, asked for a solution of its left side.
-use Rattle.std.proofs.Common.{◌≡◌, ◌∷◌, [], List, map, ℕ, Bool, true, false, Option, Some, None, Result, Ok, Err, OnOk, All, slice_get, inl, inr, refl, sym, ap, ◌∙◌, subst}
+use Rattle.std.proofs.Common.{◌≡◌, ◌<◌, ◌∷◌, [], List, length, map, ℕ, Bool, true, false, Option, Some, None, Result, Ok, Err, OnOk, All, slice_get, inl, inr, refl, sym, ap, ◌∙◌, subst, arith}
 use Rattle.std.proofs.lemmas.List.Elements.{All-nil, All-cons, All-head, All-tail}
+use Rattle.std.proofs.lemmas.List.{length-map}
+use Rattle.std.proofs.lemmas.Bool.{and_parts}
 use Rattle.std.specs.List.{zip}
 use Rattle.mau_terms.specs.Tree.{Tree}
 use Rattle.mau_terms.specs.Finite.{IsIn}
@@ -8,11 +10,14 @@ use Rattle.mau_terms.specs.Subst.{variables}
 use Rattle.mau_terms.specs.View.{tree_of, variable_of}
 use Rattle.mau_terms.specs.declared.ids.VarId.{VarId}
 use Rattle.mau_terms.specs.declared.ids.TermId.{TermId}
+use Rattle.mau_terms.proofs.Variables.{distinct}
+use Rattle.mau_signature.specs.Faults.{IsSort}
 use Rattle.mau_signature.specs.Signature.{SignatureOf}
 use Rattle.mau_store.specs.Node.{Node}
 use Rattle.mau_store.specs.Trees.{tree_at, trees_at}
 use Rattle.mau_store.specs.View.{numbers}
 use Rattle.mau_listing.specs.declared.solution.Solution as Listed
+use Rattle.mau_program.specs.Binding.{are_bound}
 use Rattle.mau_program.specs.LawfulStatements.{IsLawfulFragment, IsLawfulRule}
 use Rattle.mau_program.specs.declared.program.Program as Typed
 use Rattle.mau_program.specs.declared.statements.Fragment as WrittenFragment
@@ -24,7 +29,7 @@ use Rattle.mau_evaluation.specs.Evaluation.{Binding, binding_of}
 use Rattle.mau_evaluation.specs.Rules.{has_reach}
 use Rattle.mau_api.specs.Programs.{fragment_of, rule_of, program_over}
 use Rattle.mau_api.specs.Meanings.{Meanings, AreMeanings}
-use Rattle.mau_api.specs.Answers.{uses_results, levels_of_condition, LeavesEnough, binding_in, IsFragment, solving_from, IsSolvedExactly, MaySolve, mapped}
+use Rattle.mau_api.specs.Answers.{uses_results, levels_of_condition, LeavesEnough, binding_in, IsFragment, IsAskable, solving_from, IsSolvedExactly, MaySolve, mapped}
 use Rattle.mau_api.specs.declared.results.EvalEnd.{EvalEnd}
 use Rattle.mau_reduce.specs.Bindings.{paired}
 use Rattle.mau_reduce.specs.Trying.{solution_in}
@@ -48,6 +53,9 @@ in_mapped f (y ∷ ys) x (inr i) = inr (in_mapped f ys x i)
 
 -- ---- conditions of executable rules
 
+a_sort : (s : SignatureOf) (r : ℕ) → r < s.hierarchy.sorts → IsSort s.hierarchy r
+a_sort s r h = omega arith
+
 fragments : (s : SignatureOf) (cond : List WrittenFragment.Fragment) → All (IsLawfulFragment s) cond → has_reach (map fragment_of cond) ≡ false → All (IsFragment s) cond
 fragments s [] h e = All-nil (IsFragment s)
 fragments s (Part.Equal t u ∷ cs) h e =
@@ -57,7 +65,7 @@ fragments s (Part.Match t u ∷ cs) h e =
     let f = All-head (IsLawfulFragment s) (Part.Match t u) cs h in
     All-cons (IsFragment s) (Part.Match t u) cs ((f.kind, f.first), (f.kind, f.second)) (fragments s cs (All-tail (IsLawfulFragment s) (Part.Match t u) cs h) e)
 fragments s (Part.Sort t r ∷ cs) h e =
-    All-cons (IsFragment s) (Part.Sort t r) cs (All-head (IsLawfulFragment s) (Part.Sort t r) cs h).0 (fragments s cs (All-tail (IsLawfulFragment s) (Part.Sort t r) cs h) e)
+    All-cons (IsFragment s) (Part.Sort t r) cs (let f = All-head (IsLawfulFragment s) (Part.Sort t r) cs h in (f.0, a_sort s r f.1)) (fragments s cs (All-tail (IsLawfulFragment s) (Part.Sort t r) cs h) e)
 fragments s (Part.Reach t u ∷ cs) h e = cc
 
 module _ (p : Typed.Program) (run : IsRunnable p) (i : ℕ) (rule : Written.Rule) (at : slice_get p.rules i ≡ Some rule) where
@@ -71,6 +79,19 @@ module _ (p : Typed.Program) (run : IsRunnable p) (i : ℕ) (rule : Written.Rule
   fragments_here e = fragments p.sig rule.cond lawful_rule.parts.condition (run.no_reach (rule_of rule) (in_mapped rule_of p.rules rule (is_among p.rules i rule at)) e)
 
 -- ---- values
+
+zip_variables : (xs : List VarId) (ids : List TermId) → length ids ≡ length xs → map (λ (b : VarId × TermId). variable_of b.0) (zip xs ids) ≡ map variable_of xs
+zip_variables [] ids e = refl
+zip_variables (x ∷ xs) [] e = absurd (omega (arith, e))
+zip_variables (x ∷ xs) (i ∷ ids) e = ap (λ ys. variable_of x ∷ ys) (zip_variables xs ids (omega (arith, e)))
+
+-- the condition of an executable rule may be asked where the variables of its left side have values
+pub askable_here : (s : SignatureOf) (rule : Written.Rule) → IsLawfulRule s rule → rule.exec ≡ true → All (IsFragment s) rule.cond → (xs : List VarId) (ids : List TermId) → map variable_of xs ≡ variables (tree_of rule.left) →
+    length ids ≡ length (variables (tree_of rule.left)) → IsAskable s (map (λ (b : VarId × TermId). variable_of b.0) (zip xs ids)) rule.cond
+askable_here s rule lawful exec fragments xs ids e many =
+    let same : map (λ (b : VarId × TermId). variable_of b.0) (zip xs ids) ≡ variables (tree_of rule.left) = zip_variables xs ids (many ∙ (ap length (sym e) ∙ length-map xs variable_of)) ∙ e in
+    subst (λ ys. IsAskable s ys rule.cond) (sym same)
+    (record { fragments = fragments; bound = (and_parts (are_bound (variables (tree_of rule.left)) rule.cond) _ (lawful.bound exec)).0; apart = distinct (tree_of rule.left) [] tt })
 
 binding_zipped : (nodes : List Node) (xs : List VarId) (ids : List TermId) → binding_in nodes (zip xs ids) ≡ paired (map variable_of xs) (trees_at nodes (numbers ids))
 binding_zipped nodes [] ids = refl

@@ -20,7 +20,7 @@ use Rattle.mau_evaluation.specs.Run.{Run}
 use Rattle.mau_evaluation.specs.Program.{Fragment, Rule, Program}
 use Rattle.mau_evaluation.specs.Evaluation.{Binding, look_up, in_context, levels, solve}
 use Rattle.mau_evaluation.specs.Rules.{Place}
-use Rattle.mau_evaluation.specs.RuleRuns.{Turns, Stand, turn_to, by_rule, at_place}
+use Rattle.mau_evaluation.specs.RuleRuns.{Turns, Stand, turn_to, by_rule, at_place, one_rewrite}
 use Rattle.mau_api.specs.Told.{shown_count}
 use Rattle.mau_api.specs.Programs.{rule_of}
 use Rattle.mau_api.specs.Meanings.{Meanings}
@@ -69,6 +69,18 @@ stand_with P g s nodes x None = None
 abbrev pub found_stand : Typed.Program → Program → Turns → Place → List Node → Found → Option Stand
 found_stand p P g s nodes x = stand_with P g s nodes x (slice_get p.rules x.number)
 
+-- u in the place of the part that was matched
+abbrev pub between : SignatureOf → List Node → Found → Tree → Tree
+between s nodes x u = in_context (theory_at s) (tree_at nodes x.term.0) (trees_at nodes (numbers x.solution.left)) (trees_at nodes (numbers x.solution.right)) u
+
+-- the instance of the rule's right side there
+abbrev pub tree_with : Typed.Program → List Node → Found → Option Written.Rule → Tree
+tree_with p nodes x (Some rule) = between p.sig nodes x (instance (look_up (binding_in nodes x.bound.items)) (tree_of rule.right))
+tree_with p nodes x None = tree_at nodes x.term.0
+
+abbrev pub found_tree : Typed.Program → List Node → Found → Tree
+found_tree p nodes x = tree_with p nodes x (slice_get p.rules x.number)
+
 -- ---- what is known of a search
 
 -- the limits of an item, for an evaluator that goes by m; no membership is executable
@@ -105,12 +117,15 @@ KnownSearch I f before stand (Err TooDeep) after = IsTooDeep I f before
 KnownSearch I f before stand (Err Overflow) after = Overflows I f before
 KnownSearch I f before stand (Err NoMemory) after = Unit {0}
 
--- the computations of one rule at a place, and of all rules there, under limits
+-- the computations of one rule at a place, of all rules there, and of all places, under limits
 abbrev pub rule_at : Program → Turns → Place → ℕ × Rule → ℕ → ℕ → Run (Option Stand)
 rule_at P g s q k B = by_rule P (levels P B (suc k)).eval (levels P B (suc k)).sorts (solve P (levels P B k)) g s q
 
 abbrev pub rules_in : Program → Turns → Place → ℕ → ℕ → Run (Option Stand)
 rules_in P g s k B = at_place P (levels P B (suc k)).eval (levels P B (suc k)).sorts (solve P (levels P B k)) g s
+
+abbrev pub one_by : Program → Stand → ℕ → ℕ → Run (Option Stand)
+one_by P s k B = one_rewrite P (levels P B (suc k)).eval (levels P B (suc k)).sorts (solve P (levels P B k)) s
 
 -- the number of the rule that is tried first at a term
 abbrev pub turn_at : Turns → Tree → ℕ

@@ -1,17 +1,13 @@
 //! One rule at one place: the solutions of its left side, one after another, until its condition holds.
-ghost use Rattle.std.specs.Prelude.{◌≡◌, ◌≤◌, ◌<◌, ℕ, List, map, length, true, false, All, slice_get, Some, IfOk, IfSome, OnOk};
-ghost use Rattle.std.specs.List.{zip};
+ghost use Rattle.std.specs.Prelude.{◌≡◌, ◌≤◌, ◌<◌, length, true, All, slice_get, Some, IfOk, IfSome};
 ghost use Rattle.std.specs.Option.{option_map};
 ghost use Rattle.mau_terms.specs.Tree.{Tree};
-ghost use Rattle.mau_terms.specs.Bare.{IsBare};
 ghost use Rattle.mau_terms.specs.Subst.{variables};
-ghost use Rattle.mau_terms.specs.View.{tree_of, variable_of};
+ghost use Rattle.mau_terms.specs.View.{tree_of};
 ghost use Rattle.mau_terms.specs.declared.ids.VarId.{VarId};
-ghost use Rattle.mau_signature.specs.Signature.{terms_over};
 ghost use Rattle.mau_store.specs.Node.{Extends};
 ghost use Rattle.mau_store.specs.Trees.{tree_at};
 ghost use Rattle.mau_sorts.specs.Table.{KeepsEntries};
-ghost use Rattle.mau_listing.specs.Asked.{asks, IsGiven};
 ghost use Rattle.mau_program.specs.declared.statements.Rule.{Rule};
 ghost use Rattle.mau_evaluation.specs.Evaluation.{binding_of};
 ghost use Rattle.mau_evaluation.specs.RuleRuns.{Turns};
@@ -22,12 +18,10 @@ ghost use Rattle.mau_reduce.specs.Trying.{solution_in};
 ghost use Rattle.mau_rules.specs.Runnable.{IsRunnable, GoesBy};
 ghost use Rattle.mau_rules.specs.Found.{IsFound, IsExecutable, IsValued, KnownSolving, solving_by, found_stand, item_of, KnownSearch, rule_at};
 
-use mau_api::{EvalEnd, Evaluator, Lister, Program, Solution, StepWatcher, places_of};
-use mau_signature::Signature;
+use mau_api::{EvalEnd, Evaluator, Lister, Program, Solution, StepWatcher};
+use mau_holding::bound_by;
 use mau_store::Store;
-use mau_terms::{Bare, NoMemory, Seq, TermId, VarId};
-use mau_trial::variables_of;
-use std::alloc::Global;
+use mau_terms::{NoMemory, TermId, VarId};
 
 /// A use of a rule: the term, the number of the rule, counted from 0, a solution of its left side, the values of its variables for
 /// which its condition holds, and how many applications led to that.
@@ -38,37 +32,6 @@ pub struct Found {
     pub solution: Solution,
     pub bound: Vec<(VarId, TermId)>,
     pub rewrites: u64,
-}
-
-/// Variables with the values in their places.
-fn pairs(
-    alloc: Global,
-    variables: &[VarId],
-    values: &[TermId],
-) -> Result<Vec<(VarId, TermId)>, NoMemory>
-    ensures { IfOk result (λ found. found.items ≡ zip variables.now values.now) }
-{
-    let mut found = Vec::new(alloc);
-    let count = variables.len().min(values.len());
-    for index in 0..count {
-        found.push((variables[index], values[index]))?;
-    }
-    Ok(found)
-}
-
-/// The variables of a left side, by first occurrence, with these values.
-fn bound_by(
-    alloc: Global,
-    sig: &Signature,
-    left: &Bare,
-    values: &Seq<TermId>,
-) -> Result<Vec<(VarId, TermId)>, NoMemory>
-    requires { IsBare (terms_over sig.now) (tree_of left.now) }
-    ensures { IfOk result (λ found. (xs : List VarId) × (map variable_of xs ≡ variables (tree_of left.now)) × (found.items ≡ zip xs values.now)) }
-{
-    let places = places_of(alloc, sig, left)?;
-    let variables = variables_of(alloc, &places)?;
-    pairs(alloc, &variables, values.items())
 }
 
 /// The first solution of a rule's condition by a solution of its left side, and how many applications led to it.

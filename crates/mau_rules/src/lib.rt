@@ -1,8 +1,17 @@
-//! Rules at one place, by any evaluator and any listing with contexts.
+//! Rules at one place, and runs of rules, by any evaluator and any listing with contexts.
 #![tactic(auto)]
 
 mod attempt;
+mod frames;
+mod one;
+mod passes;
+mod round;
+mod run;
 mod search;
+mod tops;
+mod walk;
+mod whole;
 
 pub use attempt::{Found, by_rule};
+pub use run::{RuleEnd, RuleRun};
 pub use search::at_place;

@@ -1,5 +1,5 @@
 -- The answers of items, from what their parts give.
-use Rattle.std.proofs.Common.{◌≡◌, ℕ, ◌+◌, List, [], ◌∷◌, ◌++◌, Bool, true, false, ◌||◌, Option, None, Some, Result, Ok, Err, IfOk, OnOk, refl, sym, ◌∙◌, ap, subst, append_assoc, append-nil}
+use Rattle.std.proofs.Common.{◌≡◌, ℕ, ◌+◌, List, [], ◌∷◌, ◌++◌, Bool, true, false, ◌||◌, Option, None, Some, Result, Ok, Err, IfOk, OnOk, refl, sym, ◌∙◌, ap, ap₂, subst, append_assoc, append-nil}
 use Rattle.std.specs.Prelude.{slice_get}
 use Rattle.mau_terms.specs.Tree.{Tree}
 use Rattle.mau_module.specs.Modules.{ModuleOf}
@@ -14,15 +14,18 @@ use Rattle.mau_terms.specs.View.{tree_of}
 use Rattle.mau_terms.specs.declared.bare.Bare.{Bare}
 use Rattle.mau_session.specs.Terms.{Pairs}
 use Rattle.mau_session.specs.Query.{QueryOf, asked_first, shown_more}
-use Rattle.mau_session.specs.State.{a_listing, GoingOf, StateOf, at_first, IsChosen, OutcomeOf, has_ended, left_by, refuses, state_after}
+use Rattle.mau_session.specs.State.{a_listing, a_listing_where, GoingOf, StateOf, at_first, IsChosen, OutcomeOf, is_refused, has_ended, goes_on, left_by, refuses, state_after}
 use Rattle.mau_session.specs.Bounds.{bound_of}
-use Rattle.mau_session.specs.Commands.{unbuilt}
+use Rattle.mau_session.specs.Commands.{has_condition, unbuilt}
 use Rattle.mau_parse.specs.declared.goals.Goal.TheVariants.{AnyKind}
 use Rattle.mau_statement.specs.Parts.{TermReads}
 use Rattle.mau_session.specs.Environment.{Environment, meanings_in}
 use Rattle.mau_session.specs.Next.{GainsShown}
-use Rattle.mau_session.specs.Transcript.{PatternReads, SubjectReads, TermsAnswer, too_deep, overflows, listed, MatchAnswer, listing_not_built, bound_refused, command_answered, ContinueAnswer, continued, term_answered, BodyAnswer, item_faulty, item_answered, ItemsAnswer, item_first}
-use Rattle.mau_session.specs.Gains.{GainsListing, GainsListed, gains_solutions, gains_too_deep, gains_overflow, GainsTerms, ChosenAnswer, chosen_not_built, chosen_refused, chosen_answered, GainsChosen, GainsMatch, GainsOn, GainsContinue, GainsAnswer, GainsTerm, GainsBody, GainsItem}
+use Rattle.mau_program.specs.declared.statements.Fragment.{Fragment}
+use Rattle.mau_conditional.specs.Where.{Ending, no_more, bound_reached, ends_by}
+use Rattle.mau_session.specs.Where.{left_where, where_lines, IsConditionOf, WhereAnswer, where_too_deep, where_overflows, where_listed}
+use Rattle.mau_session.specs.Transcript.{TermsRead, TermsAnswer, too_deep, overflows, listed, asks_where, MatchAnswer, listing_not_built, bound_refused, command_answered, ContinueAnswer, continued, continued_where, term_answered, BodyAnswer, item_faulty, item_answered, ItemsAnswer, item_first}
+use Rattle.mau_session.specs.Gains.{GainsListing, GainsListed, gains_solutions, gains_too_deep, gains_overflow, GainsWhere, GainsListedWhere, gains_solutions_where, gains_too_deep_where, gains_overflow_where, GainsTerms, ChosenAnswer, chosen_not_built, chosen_refused, chosen_answered, GainsChosen, GainsMatch, GainsOn, GainsOnWhere, GainsContinue, GainsAnswer, GainsTerm, GainsBody, GainsItem}
 use Rattle.mau_session.specs.Lines.{too_deep_line, overflow_line, answer_lines}
 use Rattle.mau_session.specs.Answers.{listing_lines, match_head, continue_head, reduce_head}
 
@@ -80,23 +83,51 @@ module _ (e : Environment) (ws : List Word) (st : StateOf) (k : ℕ) (item : Raw
 
 -- ---- listings
 
--- the answer of a match command whose pattern and subject are read
-pub gains_terms : (ws : List Word) (m : ModuleOf) (k : ℕ) (c : RawCommand) (most : Option ℕ) (p : Bare) (ns : Pairs) (t : Bare) (os : Pairs) → PatternReads ws m c p ns → SubjectReads ws m c p ns t os
-    → (o a n : List ℕ) (left : OutcomeOf) → a ≡ o ++ match_head k (has_context c.kind) m → GainsListed m os (has_context c.kind) (tree_of p) (tree_of t) most left a n → GainsTerms ws m k c most o n left
-gains_terms ws m k c most p ns t os pattern subject o _ _ _ head (gains_solutions left a n within listing) = record {
+-- the answer of a match command without a condition whose pattern and subject are read
+pub gains_terms : (e : Environment) (ws : List Word) (m : ModuleOf) (k : ℕ) (c : RawCommand) (most : Option ℕ) (p t : Bare) (os : Pairs) → TermsRead ws m c p t os → has_condition c ≡ false
+    → (o a n : List ℕ) (left : OutcomeOf) → a ≡ o ++ match_head k (has_context c.kind) m → GainsListed m os (has_context c.kind) (tree_of p) (tree_of t) most left a n → GainsTerms e ws m k c most o n left
+gains_terms e ws m k c most p t os read none o _ _ _ head (gains_solutions left a n within listing) = record {
   bytes = match_head k (has_context c.kind) m ++ listing_lines m os (has_context c.kind) (tree_of p) 0 listing.found listing.ended;
-  answer = subst (λ l. TermsAnswer ws m k c most l (match_head k (has_context c.kind) m ++ listing_lines m os (has_context c.kind) (tree_of p) 0 listing.found listing.ended)) (sym listing.leaves)
-      (listed p ns t os listing.found listing.ended pattern subject within listing.listing);
+  answer = subst (λ l. TermsAnswer e ws m k c most l (match_head k (has_context c.kind) m ++ listing_lines m os (has_context c.kind) (tree_of p) 0 listing.found listing.ended)) (sym listing.leaves)
+      (listed p t os listing.found listing.ended read none within listing.listing);
   gained = listing.gained ∙ ap (λ x. x ++ listing_lines m os (has_context c.kind) (tree_of p) 0 listing.found listing.ended) head ∙ append_assoc o (match_head k (has_context c.kind) m) (listing_lines m os (has_context c.kind) (tree_of p) 0 listing.found listing.ended);
 }
-gains_terms ws m k c most p ns t os pattern subject o _ _ _ head (gains_too_deep a n cause gained) = record {
+gains_terms e ws m k c most p t os read none o _ _ _ head (gains_too_deep a n cause gained) = record {
   bytes = match_head k (has_context c.kind) m ++ too_deep_line;
-  answer = too_deep p ns t os pattern subject cause;
+  answer = too_deep p t os read none cause;
   gained = gained ∙ ap (λ x. x ++ too_deep_line) head ∙ append_assoc o (match_head k (has_context c.kind) m) too_deep_line;
 }
-gains_terms ws m k c most p ns t os pattern subject o _ _ _ head (gains_overflow a n cause gained) = record {
+gains_terms e ws m k c most p t os read none o _ _ _ head (gains_overflow a n cause gained) = record {
   bytes = match_head k (has_context c.kind) m ++ overflow_line;
-  answer = overflows p ns t os pattern subject cause;
+  answer = overflows p t os read none cause;
+  gained = gained ∙ ap (λ x. x ++ overflow_line) head ∙ append_assoc o (match_head k (has_context c.kind) m) overflow_line;
+}
+
+-- that of one with a condition
+pub gains_asked : (e : Environment) (ws : List Word) (m : ModuleOf) (k : ℕ) (c : RawCommand) (most : Option ℕ) (p t : Bare) (os : Pairs) → TermsRead ws m c p t os → has_condition c ≡ true
+    → (o n : List ℕ) (left : OutcomeOf) → GainsWhere e ws m k c most (tree_of p) (tree_of t) os o n left → GainsTerms e ws m k c most o n left
+gains_asked e ws m k c most p t os read some o n left g = record { bytes = g.bytes; answer = asks_where p t os left g.bytes read some g.answer; gained = g.gained }
+
+-- the answer of a match command with a condition that is read
+pub gains_where : (e : Environment) (ws : List Word) (m : ModuleOf) (k : ℕ) (c : RawCommand) (most : Option ℕ) (p t : Tree) (ns os : Pairs) (cond : List Fragment) → IsConditionOf ws m c.cond p ns os cond
+    → (o a n : List ℕ) (left : OutcomeOf) → a ≡ o ++ match_head k (has_context c.kind) m
+    → GainsListedWhere m (meanings_in e m) cond (asked_first (has_context c.kind) p t os) most left a n → GainsWhere e ws m k c most p t ns o n left
+gains_where e ws m k c most p t ns os cond is o _ _ _ head (gains_solutions_where left a n within listing) =
+    let lines = where_lines m e.budget (asked_first (has_context c.kind) p t os) listing.found listing.ending in
+    record {
+      bytes = match_head k (has_context c.kind) m ++ lines;
+      answer = subst (λ l. WhereAnswer e ws m k c most p t ns l (match_head k (has_context c.kind) m ++ lines)) (sym listing.leaves)
+          (where_listed os cond listing.found listing.ending is within listing.listing);
+      gained = listing.gained ∙ ap (λ x. x ++ lines) head ∙ append_assoc o (match_head k (has_context c.kind) m) lines;
+    }
+gains_where e ws m k c most p t ns os cond is o _ _ _ head (gains_too_deep_where a n cause gained) = record {
+  bytes = match_head k (has_context c.kind) m ++ too_deep_line;
+  answer = where_too_deep os cond is cause;
+  gained = gained ∙ ap (λ x. x ++ too_deep_line) head ∙ append_assoc o (match_head k (has_context c.kind) m) too_deep_line;
+}
+gains_where e ws m k c most p t ns os cond is o _ _ _ head (gains_overflow_where a n cause gained) = record {
+  bytes = match_head k (has_context c.kind) m ++ overflow_line;
+  answer = where_overflows os cond is cause;
   gained = gained ∙ ap (λ x. x ++ overflow_line) head ∙ append_assoc o (match_head k (has_context c.kind) m) overflow_line;
 }
 
@@ -129,33 +160,62 @@ gains_on st k i q most m at_number next after o a n ended refused head shown is 
     never false = refl
 
 -- what goes on may be taken out of the state before
-same_after : (st : StateOf) (taken : Option GoingOf) (n : ℕ) (b : Bool) (q : QueryOf) → state_after (record st { going = taken }) n (left_by b q) ≡ state_after st n (left_by b q)
-same_after st taken n true q = refl
-same_after st taken n false q = refl
+pub after_taken : (st : StateOf) (taken : Option GoingOf) (n : ℕ) (left : OutcomeOf) → refuses left ≡ false → state_after (record st { going = taken }) n left ≡ state_after st n left
+after_taken st taken n is_refused e = absurd cc
+after_taken st taken n has_ended e = refl
+after_taken st taken n (goes_on what) e = refl
+
+query_goes : (b : Bool) (q : QueryOf) → refuses (left_by b q) ≡ false
+query_goes true q = refl
+query_goes false q = refl
+
+where_goes : (x : Ending) (q : QueryOf) (cond : List Fragment) → refuses (left_where x q cond) ≡ false
+where_goes no_more q cond = refl
+where_goes bound_reached q cond = refl
+where_goes (ends_by x) q cond = refl
 
 -- the answer of a command that continues a query
-pub continues : (ws : List Word) (st : StateOf) (taken : Option GoingOf) (k : ℕ) (c : RawCommand) (most : Option ℕ) (i : ℕ) (q : QueryOf) (next : StateOf) (o n : List ℕ) (refused : Bool)
-    → bound_of ws c.bound ≡ Ok most → st.going ≡ Some (record { number = i; what = a_listing q }) → GainsOn (record st { going = taken }) k i q most next o n refused → GainsContinue ws st k c next o n refused
-continues ws st taken k c most i q next o n refused bound going on =
+pub continues : (e : Environment) (ws : List Word) (st : StateOf) (taken : Option GoingOf) (k : ℕ) (c : RawCommand) (most : Option ℕ) (i : ℕ) (q : QueryOf) (next : StateOf) (o n : List ℕ) (refused : Bool)
+    → bound_of ws c.bound ≡ Ok most → st.going ≡ Some (record { number = i; what = a_listing q }) → GainsOn (record st { going = taken }) k i q most next o n refused → GainsContinue e ws st k c next o n refused
+continues e ws st taken k c most i q next o n refused bound going on =
     let bytes = continue_head k on.«module» ++ listing_lines on.«module» q.variables q.with_context q.pattern q.shown on.found on.ended in
     let p = shown_more q on.found in
     record {
       bytes = bytes;
-      answer = subst (λ s. ContinueAnswer ws st k c s bytes refused) (sym (on.after ∙ same_after st taken i on.ended p))
-          (subst (λ b. ContinueAnswer ws st k c (state_after st i (left_by on.ended p)) bytes b) (sym on.answered)
+      answer = subst (λ s. ContinueAnswer e ws st k c s bytes refused) (sym (on.after ∙ after_taken st taken i (left_by on.ended p) (query_goes on.ended p)))
+          (subst (λ b. ContinueAnswer e ws st k c (state_after st i (left_by on.ended p)) bytes b) (sym on.answered)
           (continued most i q on.«module» on.found on.ended bound going on.there on.shows));
       gained = on.gained;
     }
 
+-- of one that continues a query with a condition
+pub continues_where : (e : Environment) (ws : List Word) (st : StateOf) (taken : Option GoingOf) (k : ℕ) (c : RawCommand) (most : Option ℕ) (i : ℕ) (q : QueryOf) (cond : List Fragment) (next : StateOf) (o n : List ℕ) (refused : Bool)
+    → bound_of ws c.bound ≡ Ok most → st.going ≡ Some (record { number = i; what = a_listing_where q cond }) → GainsOnWhere e (record st { going = taken }) k i q cond most next o n refused
+    → GainsContinue e ws st k c next o n refused
+continues_where e ws st taken k c most i q cond next o n refused bound going on =
+    let bytes = continue_head k on.«module» ++ where_lines on.«module» e.budget q on.found on.ending in
+    let left = left_where on.ending (shown_more q on.found) cond in
+    record {
+      bytes = bytes;
+      answer = subst (λ s. ContinueAnswer e ws st k c s bytes refused) (sym (on.after ∙ after_taken st taken i left (where_goes on.ending (shown_more q on.found) cond)))
+          (subst (λ b. ContinueAnswer e ws st k c (state_after st i left) bytes b) (sym on.answered)
+          (continued_where most i q cond on.«module» on.found on.ending bound going on.there on.shows));
+      gained = on.gained;
+    }
+
+-- a state of which that was taken
+pub as_taken : (st before : StateOf) → before.modules ≡ st.modules → before.current ≡ st.current → st ≡ record before { going = st.going }
+as_taken st before e f = ap₂ (λ ms i. record st { modules = ms; current = i }) (sym e) (sym f)
+
 -- the answer of a match command over a module that was chosen
-pub gains_chosen : (ws : List Word) (st : StateOf) (k i : ℕ) (c : RawCommand) (n : ℕ) (next : StateOf) (old new : List ℕ) (refused : Bool) → unbuilt ws c ≡ None → IsChosen ws st c n
-    → GainsChosen ws st k i c n next old new refused → GainsMatch ws st k i c next old new refused
-gains_chosen ws st k i c n next old new refused built chosen g = record { bytes = g.bytes; answer = by g.answer; gained = g.gained }
+pub gains_chosen : (e : Environment) (ws : List Word) (st : StateOf) (k i : ℕ) (c : RawCommand) (n : ℕ) (next : StateOf) (old new : List ℕ) (refused : Bool) → unbuilt ws c ≡ None → IsChosen ws st c n
+    → GainsChosen e ws st k i c n next old new refused → GainsMatch e ws st k i c next old new refused
+gains_chosen e ws st k i c n next old new refused built chosen g = record { bytes = g.bytes; answer = by g.answer; gained = g.gained }
   where
-    by : {s : StateOf} {b : List ℕ} {r : Bool} → ChosenAnswer ws st k i c n s b r → MatchAnswer ws st k i c s b r
+    by : {s : StateOf} {b : List ℕ} {r : Bool} → ChosenAnswer e ws st k i c n s b r → MatchAnswer e ws st k i c s b r
     by (chosen_not_built m there uses) = listing_not_built n m built chosen there uses
-    by (chosen_refused m r there none e) = bound_refused n m r built chosen there none e
-    by (chosen_answered m most left bytes there none e a) = command_answered n m most left bytes built chosen there none e a
+    by (chosen_refused m r there none d) = bound_refused n m r built chosen there none d
+    by (chosen_answered m most left bytes there none d a) = command_answered n m most left bytes built chosen there none d a
 
 -- ---- evaluations
 

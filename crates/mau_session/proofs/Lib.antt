@@ -6,6 +6,9 @@ pub mod MatcherLines
 pub mod Fresh
 pub mod Showing
 pub mod Progress
+pub mod ListedWhere
+pub mod ProgressWhere
+pub mod Askable
 pub mod Extending
 pub mod Numbered
 pub mod OneFault
@@ -14,8 +17,14 @@ pub mod Values
 pub mod Lines
 pub mod Naming
 pub mod Answering
+pub mod Rewritten
 pub mod Evaluated
+pub mod AskedBy
+pub mod Runnable
+pub mod RunAnswered
 pub mod OneListing
+pub mod Shaped
+pub mod OneWhere
 pub mod OneTranscript
 pub mod Spanned
 pub mod Stored

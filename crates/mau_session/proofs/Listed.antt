@@ -35,7 +35,7 @@ use Rattle.mau_session.specs.KeptQuery.{asked_for, query_of, IsReady}
 use Rattle.mau_session.specs.Next.{IsNext, NoneIsBehind}
 use Rattle.mau_session.specs.declared.query.Query.{Query}
 
-abbrev question : Tree → Tree → Question
+abbrev pub question : Tree → Tree → Question
 question p u = record { pattern = p; bound = []; subject = u }
 
 module _ (m : ModuleOf) (lawful : IsLawful (terms_in m)) (p t : Tree) (bare : IsBare (terms_in m) t) where
@@ -76,10 +76,10 @@ module _ (m : ModuleOf) (lawful : IsLawful (terms_in m)) (p t : Tree) (bare : Is
     part = is.part;
   }
 
-  abbrev IsFound : Bool → Matcher → Type 0
+  abbrev pub IsFound : Bool → Matcher → Type 0
   IsFound w = Question.IsSolution w m.signature (BySort m.signature []) (question p (norm (terms_in m).theory t))
 
-  solution_in : (w : Bool) (x : Matcher) → IsSolution m w p t x → IsFound w x
+  pub solution_in : (w : Bool) (x : Matcher) → IsSolution m w p t x → IsFound w x
   solution_in false x is = record {
     bare = is.values;
     values = is.normal;
@@ -95,7 +95,7 @@ module _ (m : ModuleOf) (lawful : IsLawful (terms_in m)) (p t : Tree) (bare : Is
     agrees = λ b among. absurd (let low : among.0 < 0 = among.1 in omega arith);
   }
 
-  solution_from : (w : Bool) (x : Matcher) → IsFound w x → IsSolution m w p t x
+  pub solution_from : (w : Bool) (x : Matcher) → IsFound w x → IsSolution m w p t x
   solution_from false x is = record { values = is.bare; normal = is.values; solves = ((fits_from is.bare is.solves.0, is.solves.1), is.no_left, is.no_right) }
   solution_from true x is = record {
     values = is.bare;
@@ -116,7 +116,7 @@ module _ (m : ModuleOf) (q : Query) (ready : IsReady m.signature q) where
   Answers u o =
       Next.IsNext (Question.IsSolution q.with_context m.signature (BySort m.signature []) u) (matcher_cmp (terms_in m).theory (tree_of q.pattern)) (option_map (matcher_in q.store) q.last) o
 
-  same_question : question (tree_of q.pattern) (tree_at q.store q.number.0) ≡ question (tree_of q.pattern) (norm (terms_in m).theory (tree_of q.subject))
+  pub same_question : question (tree_of q.pattern) (tree_at q.store q.number.0) ≡ question (tree_of q.pattern) (norm (terms_in m).theory (tree_of q.subject))
   same_question = ap (question (tree_of q.pattern)) ready.stands
 
   pub nothing_next : (o : Option Matcher) → o ≡ None → Answers (question_in q.store (asked_for q)) o → NoneIsBehind m q.with_context (tree_of q.pattern) (tree_of q.subject) (query_of q).last

@@ -11,6 +11,7 @@ use Rattle.mau_module.specs.Faults.{without_trees as module_without, told}
 use Rattle.mau_module.specs.declared.fault.ModuleFault.{ModuleFault}
 use Rattle.mau_module.specs.declared.fault.ModuleFault.TheVariants.{UnknownModule, ImportTooDeep, TooLarge, UnknownSort, Signed, Statement, NoMemory as NoMemoryOfModule}
 use Rattle.mau_session.specs.Answers.{shown_parse_fault, shown_statement_fault, shown_module_fault}
+use Rattle.mau_session.specs.Where.{shown_condition_fault}
 
 shown_without : (f : ParseFault) → shown_parse_fault f ≡ shown_parse_fault (without_trees f)
 shown_without (NoParse at) = refl
@@ -31,6 +32,18 @@ statement_shown_without i LhsVariable = refl
 statement_shown_without i MembershipHead = refl
 statement_shown_without i UnboundVariable = refl
 statement_shown_without i NoMemoryOfStatement = refl
+
+condition_shown_without : (f : StatementFault) → shown_condition_fault f ≡ shown_condition_fault (statement_without f)
+condition_shown_without (LimitExceeded limit) = refl
+condition_shown_without (Parse f) = shown_without f
+condition_shown_without (UnknownSortOfStatement at) = refl
+condition_shown_without LhsVariable = refl
+condition_shown_without MembershipHead = refl
+condition_shown_without UnboundVariable = refl
+condition_shown_without NoMemoryOfStatement = refl
+
+pub condition_shown_once : (e f : StatementFault) → statement_without e ≡ statement_without f → shown_condition_fault e ≡ shown_condition_fault f
+condition_shown_once e f s = condition_shown_without e ∙ ap shown_condition_fault s ∙ sym (condition_shown_without f)
 
 module_shown_without : (f : ModuleFault) → shown_module_fault f ≡ shown_module_fault (module_without f)
 module_shown_without (UnknownModule name) = refl

@@ -26,19 +26,28 @@ use Rattle.mau_module.specs.Modules.{ModuleOf}
 use Rattle.mau_module.specs.Library.{last_named}
 use Rattle.mau_tokens.specs.declared.token.Token.{Token}
 use Rattle.mau_session.specs.declared.refusal.Refusal.{Refusal}
-use Rattle.mau_session.specs.declared.refusal.Refusal.TheVariants.{NotBuilt, UnknownModule}
+use Rattle.mau_session.specs.declared.refusal.Refusal.TheVariants.{NotBuilt, UnknownModule, RewritingCondition}
 use Rattle.mau_session.specs.Terms.{Pairs, terms_in, kind_of_term}
 use Rattle.mau_statement.specs.Parts.{part_tokens, part_texts, TermReads, IsUnread}
 use Rattle.mau_session.specs.Matching.{Shows}
 use Rattle.mau_session.specs.Commands.{unbuilt}
+use Rattle.mau_program.specs.declared.statements.Fragment.{Fragment}
+use Rattle.mau_conditional.specs.Where.{Ending}
+use Rattle.mau_evaluation.specs.RuleRuns.{Stand}
+use Rattle.mau_results.specs.Runs.{run_from, RunAnswerOf, MayRun}
+use Rattle.mau_results.proofs.RunAnswers.{run_answers_are_one}
 use Rattle.mau_session.specs.Built.{uses_memberships, has_context, fault_answer}
 use Rattle.mau_session.specs.Answers.{refusal_line, faulty_line, shown_parse_fault, fault_line, module_line, match_head, continue_head, reduce_head, listing_lines}
 use Rattle.mau_session.specs.Environment.{Environment, meanings_in}
 use Rattle.mau_session.specs.Laws.{TranscriptsAreOne}
 use Rattle.mau_session.specs.Query.{QueryOf, asked_first, shown_more}
-use Rattle.mau_session.specs.State.{a_listing, GoingOf, StateOf, at_first, accepted, selected, IsChosen, current_one, named_one, NamesNone, OutcomeOf, left_by, refuses, state_after}
+use Rattle.mau_session.specs.State.{ContinuedOf, a_listing, a_listing_where, a_rule_run, GoingOf, StateOf, at_first, accepted, selected, IsChosen, current_one, named_one, NamesNone, OutcomeOf, is_refused, has_ended, goes_on, left_by, refuses, state_after}
 use Rattle.mau_session.specs.Bounds.{bound_of}
-use Rattle.mau_session.specs.Transcript.{TermAnswer, term_refused, term_answered, ReduceAnswer, reduces_nothing, reduce_unknown, reduce_not_built, reduce_answered, reduce_is_answered, PatternReads, SubjectReads, TermsAnswer, pattern_refused, subject_refused, too_deep, overflows, listed, MatchAnswer, command_not_built, module_unknown, listing_not_built, bound_refused, command_answered, ContinueAnswer, number_refused, nothing_to_continue, continued, BodyAnswer, module_not_built, module_accepted, module_refused, match_answered, continue_answered, other_unknown, other_not_built, SettingAnswer, trace_not_built, trace_off, changes_nothing, module_selected, selects_none, setting_answered, ItemAnswer, item_faulty, item_answered, ItemsAnswer, items_end, item_quits, item_first, Transcript, text_refused, items_answered}
+use Rattle.mau_session.specs.Where.{ShowsWhere, left_where, where_lines, WhereAnswer}
+use Rattle.mau_session.specs.RuleRun.{RuleRunOf, rewriting_condition}
+use Rattle.mau_session.specs.RunLines.{rewrite_head, run_lines, left_by_run}
+use Rattle.mau_session.specs.RewriteAnswer.{RunTermAnswer, start_refused, start_answered, RewriteAnswer, rewrites_nothing, rewrite_unknown, rewrite_not_built, rewrite_unbounded, rewrite_conditional, rewrite_answered}
+use Rattle.mau_session.specs.Transcript.{TermAnswer, term_refused, term_answered, ReduceAnswer, reduces_nothing, reduce_unknown, reduce_not_built, reduce_answered, reduce_is_answered, rewrite_is_answered, PatternReads, SubjectReads, TermsRead, TermsAnswer, pattern_refused, subject_refused, too_deep, overflows, listed, asks_where, MatchAnswer, command_not_built, module_unknown, listing_not_built, bound_refused, command_answered, ContinueAnswer, number_refused, nothing_to_continue, continued, continued_where, run_continued, BodyAnswer, module_not_built, module_accepted, module_refused, match_answered, continue_answered, other_unknown, other_not_built, SettingAnswer, trace_not_built, trace_off, changes_nothing, module_selected, selects_none, setting_answered, ItemAnswer, item_faulty, item_answered, ItemsAnswer, items_end, item_quits, item_first, Transcript, text_refused, items_answered}
 use Rattle.mau_tokens.proofs.Answer.{answers_are_one as tokens_are_one}
 use Rattle.mau_api.proofs.LawfulMeanings.{meanings_are_lawful}
 use Rattle.mau_module.specs.Lawful.{program_of}
@@ -47,6 +56,8 @@ use Rattle.mau_session.specs.Lines.{answer_lines}
 use Rattle.mau_results.proofs.Allowed.{answers_are_one}
 use Rattle.mau_session.proofs.Evaluated.{evaluated_derives}
 use Rattle.mau_session.proofs.OneListing.{shows_once}
+use Rattle.mau_session.proofs.OneWhere.{shows_where_once, AreOneEnd, one_end, not_deep_and_overflow, not_deep_and_within, not_overflow_and_within, where_once}
+use Rattle.mau_session.proofs.Shaped.{IsShapedIn, AreShaped, one_more_shaped, flattened_shaped, prelude_shaped}
 use Rattle.mau_parse.proofs.OneReading.{AreOneTerm, term_once, term_no_fault, fault_once}
 use Rattle.mau_module.proofs.OneModule.{module_once}
 use Rattle.mau_session.proofs.OneFault.{shown_once, module_shown_once}
@@ -60,20 +71,6 @@ record AreOneAnswer (b c : List ℕ) (r s : Bool) : Type 0 where
 one_answer : {b : List ℕ} {r : Bool} → AreOneAnswer b b r r
 one_answer = record { bytes = refl; refused = refl }
 
--- the bytes, and what is left
-record AreOneEnd (b c : List ℕ) (l o : OutcomeOf) : Type 0 where
-  bytes : b ≡ c
-  left : l ≡ o
-
-one_end : {b : List ℕ} {l : OutcomeOf} → AreOneEnd b b l l
-one_end = record { bytes = refl; left = refl }
-
--- what the terms of a command read as: a pattern and a subject
-record ReadTerms (ws : List Word) (m : ModuleOf) (c : RawCommand) (p t : Bare) (os : Pairs) : Type 0 where
-  pairs : Pairs
-  pattern : PatternReads ws m c p pairs
-  subject : SubjectReads ws m c p pairs t os
-
 module _ (ws : List Word) (m : ModuleOf) (k : ℕ) (c : RawCommand) where
   pattern_once : (p q : Bare) (ns ns' : Pairs) → PatternReads ws m c p ns → PatternReads ws m c q ns' → AreOneTerm m.grammar (part_tokens ws c.first) (part_texts ws c.first) AnyKind [] ns ns' p q
   pattern_once p q ns ns' x y = term_once m.grammar (part_tokens ws c.first) (part_texts ws c.first) AnyKind [] ns ns' p q x y
@@ -86,7 +83,7 @@ module _ (ws : List Word) (m : ModuleOf) (k : ℕ) (c : RawCommand) where
   goal_of t = Kind (kind_of_term m t)
 
   no_subject_read : (p : Bare) (ns : Pairs) (f : ParseFault) → PatternReads ws m c p ns → IsUnread ws m.grammar c.second (goal_of (tree_of p)) ns f → f ≢ NoMemoryOfParse
-      → {q t : Bare} {os : Pairs} → ReadTerms ws m c q t os → ⊥
+      → {q t : Bare} {os : Pairs} → TermsRead ws m c q t os → ⊥
   no_subject_read p ns f x u n {q} {t} {os} y =
       let one = pattern_once p q ns y.pairs x y.pattern in
       let u' = subst (λ p. IsUnread ws m.grammar c.second (goal_of p) y.pairs f) one.tree (subst (λ ns. IsUnread ws m.grammar c.second (goal_of (tree_of p)) ns f) one.pairs u) in
@@ -105,53 +102,48 @@ module _ (ws : List Word) (m : ModuleOf) (k : ℕ) (c : RawCommand) where
     subject : tree_of t ≡ tree_of u
     pairs : os ≡ os'
 
-  pair_once : {p q t u : Bare} {os os' : Pairs} → ReadTerms ws m c p t os → ReadTerms ws m c q u os' → AreOnePair p q t u os os'
+  pair_once : {p q t u : Bare} {os os' : Pairs} → TermsRead ws m c p t os → TermsRead ws m c q u os' → AreOnePair p q t u os os'
   pair_once {p} {q} {t} {u} {os} {os'} x y =
       let one = pattern_once p q x.pairs y.pairs x.pattern y.pattern in
       let y' = subst (λ p. TermReads ws m.grammar c.second (goal_of p) x.pairs os' u) (sym one.tree) (subst (λ ns. TermReads ws m.grammar c.second (goal_of (tree_of q)) ns os' u) (sym one.pairs) y.subject) in
       let two = term_once m.grammar (part_tokens ws c.second) (part_texts ws c.second) (goal_of (tree_of p)) x.pairs os os' t u x.subject y' in
       record { pattern = one.tree; subject = two.tree; pairs = two.pairs }
 
-  -- a subject has one end at most, and none where it is within the limits
-  abbrev cause_of : Tree → BuildFault → Type 0
-  cause_of t f = IsCause (terms_in m).theory (norm (terms_in m).theory t) f
+module _ (env : Environment) (ws : List Word) (m : ModuleOf) (shaped : IsShapedIn m) (k : ℕ) (c : RawCommand) where
+  pair : {p q t u : Bare} {os os' : Pairs} → TermsRead ws m c p t os → TermsRead ws m c q u os' → AreOnePair ws m k c p q t u os os'
+  pair x y = pair_once ws m k c x y
 
-  not_deep_and_overflow : (t u : Tree) → t ≡ u → cause_of t TooDeep → cause_of u Overflow → ⊥
-  not_deep_and_overflow t u e deep overflow = let deep' = subst (λ x. cause_of x TooDeep) e deep in omega (arith, overflow.0)
-
-  not_deep_and_within : (t u : Tree) → t ≡ u → cause_of t TooDeep → IsWithin (terms_in m).theory (norm (terms_in m).theory u) → ⊥
-  not_deep_and_within t u e deep within = let deep' = subst (λ x. cause_of x TooDeep) e deep in omega (arith, within.shallow)
-
-  not_overflow_and_within : (t u : Tree) → t ≡ u → cause_of t Overflow → IsWithin (terms_in m).theory (norm (terms_in m).theory u) → ⊥
-  not_overflow_and_within t u e overflow within = let over' = subst (λ x. cause_of x Overflow) e overflow in let yes = over'.1 in let no = within.no_overflow in cc (yes, no)
-
-  terms_once : {most : Option ℕ} {b d : List ℕ} {r q : OutcomeOf} → TermsAnswer ws m k c most r b → TermsAnswer ws m k c most q d → AreOneEnd b d r q
-  terms_once (pattern_refused f u n) (pattern_refused f' u' n') = record { bytes = ap (faulty_line k) (shown_once f f' (fault_once m.grammar (part_tokens ws c.first) (part_texts ws c.first) AnyKind [] f f' u u' n n')); left = refl }
-  terms_once (pattern_refused f u n) (subject_refused p' ns' f' x' u' n') = absurd (no_pattern_read f u n p' ns' x')
-  terms_once (pattern_refused f u n) (too_deep p' ns' t' os' x' y' d') = absurd (no_pattern_read f u n p' ns' x')
-  terms_once (pattern_refused f u n) (overflows p' ns' t' os' x' y' d') = absurd (no_pattern_read f u n p' ns' x')
-  terms_once (pattern_refused f u n) (listed p' ns' t' os' found' e' x' y' w' l') = absurd (no_pattern_read f u n p' ns' x')
-  terms_once (subject_refused p ns f x u n) (pattern_refused f' u' n') = absurd (no_pattern_read f' u' n' p ns x)
-  terms_once (subject_refused p ns f x u n) (subject_refused p' ns' f' x' u' n') = record { bytes = ap (faulty_line k) (subject_fault_once p p' ns ns' f f' x x' u u' n n'); left = refl }
-  terms_once (subject_refused p ns f x u n) (too_deep p' ns' t' os' x' y' d') = absurd (no_subject_read p ns f x u n (record { pairs = ns'; pattern = x'; subject = y' }))
-  terms_once (subject_refused p ns f x u n) (overflows p' ns' t' os' x' y' d') = absurd (no_subject_read p ns f x u n (record { pairs = ns'; pattern = x'; subject = y' }))
-  terms_once (subject_refused p ns f x u n) (listed p' ns' t' os' found' e' x' y' w' l') = absurd (no_subject_read p ns f x u n (record { pairs = ns'; pattern = x'; subject = y' }))
-  terms_once (too_deep p ns t os x y d) (pattern_refused f' u' n') = absurd (no_pattern_read f' u' n' p ns x)
-  terms_once (too_deep p ns t os x y d) (subject_refused p' ns' f' x' u' n') = absurd (no_subject_read p' ns' f' x' u' n' (record { pairs = ns; pattern = x; subject = y }))
-  terms_once (too_deep p ns t os x y d) (too_deep p' ns' t' os' x' y' d') = one_end
-  terms_once (too_deep p ns t os x y d) (overflows p' ns' t' os' x' y' d') = let one = pair_once (record { pairs = ns; pattern = x; subject = y }) (record { pairs = ns'; pattern = x'; subject = y' }) in absurd (not_deep_and_overflow (tree_of t) (tree_of t') one.subject d d')
-  terms_once (too_deep p ns t os x y d) (listed p' ns' t' os' found' e' x' y' w' l') = let one = pair_once (record { pairs = ns; pattern = x; subject = y }) (record { pairs = ns'; pattern = x'; subject = y' }) in absurd (not_deep_and_within (tree_of t) (tree_of t') one.subject d w')
-  terms_once (overflows p ns t os x y d) (pattern_refused f' u' n') = absurd (no_pattern_read f' u' n' p ns x)
-  terms_once (overflows p ns t os x y d) (subject_refused p' ns' f' x' u' n') = absurd (no_subject_read p' ns' f' x' u' n' (record { pairs = ns; pattern = x; subject = y }))
-  terms_once (overflows p ns t os x y d) (too_deep p' ns' t' os' x' y' d') = let one = pair_once (record { pairs = ns'; pattern = x'; subject = y' }) (record { pairs = ns; pattern = x; subject = y }) in absurd (not_deep_and_overflow (tree_of t') (tree_of t) one.subject d' d)
-  terms_once (overflows p ns t os x y d) (overflows p' ns' t' os' x' y' d') = one_end
-  terms_once (overflows p ns t os x y d) (listed p' ns' t' os' found' e' x' y' w' l') = let one = pair_once (record { pairs = ns; pattern = x; subject = y }) (record { pairs = ns'; pattern = x'; subject = y' }) in absurd (not_overflow_and_within (tree_of t) (tree_of t') one.subject d w')
-  terms_once (listed p ns t os found e x y w l) (pattern_refused f' u' n') = absurd (no_pattern_read f' u' n' p ns x)
-  terms_once (listed p ns t os found e x y w l) (subject_refused p' ns' f' x' u' n') = absurd (no_subject_read p' ns' f' x' u' n' (record { pairs = ns; pattern = x; subject = y }))
-  terms_once (listed p ns t os found e x y w l) (too_deep p' ns' t' os' x' y' d') = let one = pair_once (record { pairs = ns'; pattern = x'; subject = y' }) (record { pairs = ns; pattern = x; subject = y }) in absurd (not_deep_and_within (tree_of t') (tree_of t) one.subject d' w)
-  terms_once (listed p ns t os found e x y w l) (overflows p' ns' t' os' x' y' d') = let one = pair_once (record { pairs = ns'; pattern = x'; subject = y' }) (record { pairs = ns; pattern = x; subject = y }) in absurd (not_overflow_and_within (tree_of t') (tree_of t) one.subject d' w)
-  terms_once {most} (listed p ns t os found e x y w l) (listed p' ns' t' os' found' e' x' y' w' l') =
-      let one = pair_once (record { pairs = ns; pattern = x; subject = y }) (record { pairs = ns'; pattern = x'; subject = y' }) in
+  terms_once : {most : Option ℕ} {b d : List ℕ} {r q : OutcomeOf} → TermsAnswer env ws m k c most r b → TermsAnswer env ws m k c most q d → AreOneEnd b d r q
+  terms_once {most} (pattern_refused f u n) (pattern_refused f' u' n') = record { bytes = ap (faulty_line k) (shown_once f f' (fault_once m.grammar (part_tokens ws c.first) (part_texts ws c.first) AnyKind [] f f' u u' n n')); left = refl }
+  terms_once {most} (pattern_refused f u n) (subject_refused p' ns' f' x' u' n') = absurd (no_pattern_read ws m k c f u n p' ns' x')
+  terms_once {most} (pattern_refused f u n) (too_deep p' t' os' r' bare' d') = absurd (no_pattern_read ws m k c f u n p' r'.pairs r'.pattern)
+  terms_once {most} (pattern_refused f u n) (overflows p' t' os' r' bare' d') = absurd (no_pattern_read ws m k c f u n p' r'.pairs r'.pattern)
+  terms_once {most} (pattern_refused f u n) (listed p' t' os' found' e' r' bare' w' l') = absurd (no_pattern_read ws m k c f u n p' r'.pairs r'.pattern)
+  terms_once {most} (pattern_refused f u n) (asks_where p' t' os' left' b' r' asked' a') = absurd (no_pattern_read ws m k c f u n p' r'.pairs r'.pattern)
+  terms_once {most} (subject_refused p ns f x u n) (pattern_refused f' u' n') = absurd (no_pattern_read ws m k c f' u' n' p ns x)
+  terms_once {most} (subject_refused p ns f x u n) (subject_refused p' ns' f' x' u' n') = record { bytes = ap (faulty_line k) (subject_fault_once ws m k c p p' ns ns' f f' x x' u u' n n'); left = refl }
+  terms_once {most} (subject_refused p ns f x u n) (too_deep p' t' os' r' bare' d') = absurd (no_subject_read ws m k c p ns f x u n r')
+  terms_once {most} (subject_refused p ns f x u n) (overflows p' t' os' r' bare' d') = absurd (no_subject_read ws m k c p ns f x u n r')
+  terms_once {most} (subject_refused p ns f x u n) (listed p' t' os' found' e' r' bare' w' l') = absurd (no_subject_read ws m k c p ns f x u n r')
+  terms_once {most} (subject_refused p ns f x u n) (asks_where p' t' os' left' b' r' asked' a') = absurd (no_subject_read ws m k c p ns f x u n r')
+  terms_once {most} (too_deep p t os r bare d) (pattern_refused f' u' n') = absurd (no_pattern_read ws m k c f' u' n' p r.pairs r.pattern)
+  terms_once {most} (too_deep p t os r bare d) (subject_refused p' ns' f' x' u' n') = absurd (no_subject_read ws m k c p' ns' f' x' u' n' r)
+  terms_once {most} (too_deep p t os r bare d) (too_deep p' t' os' r' bare' d') = one_end
+  terms_once {most} (too_deep p t os r bare d) (overflows p' t' os' r' bare' d') = absurd (not_deep_and_overflow m (tree_of t) (tree_of t') (pair r r').subject d d')
+  terms_once {most} (too_deep p t os r bare d) (listed p' t' os' found' e' r' bare' w' l') = absurd (not_deep_and_within m (tree_of t) (tree_of t') (pair r r').subject d w')
+  terms_once {most} (too_deep p t os r bare d) (asks_where p' t' os' left' b' r' asked' a') = absurd (yes_no _ asked' bare)
+  terms_once {most} (overflows p t os r bare d) (pattern_refused f' u' n') = absurd (no_pattern_read ws m k c f' u' n' p r.pairs r.pattern)
+  terms_once {most} (overflows p t os r bare d) (subject_refused p' ns' f' x' u' n') = absurd (no_subject_read ws m k c p' ns' f' x' u' n' r)
+  terms_once {most} (overflows p t os r bare d) (too_deep p' t' os' r' bare' d') = absurd (not_deep_and_overflow m (tree_of t') (tree_of t) (pair r' r).subject d' d)
+  terms_once {most} (overflows p t os r bare d) (overflows p' t' os' r' bare' d') = one_end
+  terms_once {most} (overflows p t os r bare d) (listed p' t' os' found' e' r' bare' w' l') = absurd (not_overflow_and_within m (tree_of t) (tree_of t') (pair r r').subject d w')
+  terms_once {most} (overflows p t os r bare d) (asks_where p' t' os' left' b' r' asked' a') = absurd (yes_no _ asked' bare)
+  terms_once {most} (listed p t os found e r bare w l) (pattern_refused f' u' n') = absurd (no_pattern_read ws m k c f' u' n' p r.pairs r.pattern)
+  terms_once {most} (listed p t os found e r bare w l) (subject_refused p' ns' f' x' u' n') = absurd (no_subject_read ws m k c p' ns' f' x' u' n' r)
+  terms_once {most} (listed p t os found e r bare w l) (too_deep p' t' os' r' bare' d') = absurd (not_deep_and_within m (tree_of t') (tree_of t) (pair r' r).subject d' w)
+  terms_once {most} (listed p t os found e r bare w l) (overflows p' t' os' r' bare' d') = absurd (not_overflow_and_within m (tree_of t') (tree_of t) (pair r' r).subject d' w)
+  terms_once {most} (listed p t os found e r bare w l) (listed p' t' os' found' e' r' bare' w' l') =
+      let one = pair r r' in
       let l'' = subst (λ p. Shows m (has_context c.kind) p (tree_of t) None most found' e') (sym one.pattern) (subst (λ t. Shows m (has_context c.kind) (tree_of p') t None most found' e') (sym one.subject) l') in
       let same = shows_once m (has_context c.kind) (tree_of p) (tree_of t) None most found found' e e' l l'' in
       record {
@@ -164,6 +156,16 @@ module _ (ws : List Word) (m : ModuleOf) (k : ℕ) (c : RawCommand) where
             ∙ ap₂ (λ os found. left_by e (shown_more (asked_first (has_context c.kind) (tree_of p') (tree_of t') os) found)) one.pairs same.found
             ∙ ap (λ e. left_by e (shown_more (asked_first (has_context c.kind) (tree_of p') (tree_of t') os') found')) same.ended;
       }
+  terms_once {most} (listed p t os found e r bare w l) (asks_where p' t' os' left' b' r' asked' a') = absurd (yes_no _ asked' bare)
+  terms_once {most} (asks_where p t os left b r asked a) (pattern_refused f' u' n') = absurd (no_pattern_read ws m k c f' u' n' p r.pairs r.pattern)
+  terms_once {most} (asks_where p t os left b r asked a) (subject_refused p' ns' f' x' u' n') = absurd (no_subject_read ws m k c p' ns' f' x' u' n' r)
+  terms_once {most} (asks_where p t os left b r asked a) (too_deep p' t' os' r' bare' d') = absurd (yes_no _ asked bare')
+  terms_once {most} (asks_where p t os left b r asked a) (overflows p' t' os' r' bare' d') = absurd (yes_no _ asked bare')
+  terms_once {most} (asks_where p t os left b r asked a) (listed p' t' os' found' e' r' bare' w' l') = absurd (yes_no _ asked bare')
+  terms_once {most} (asks_where p t os left b r asked a) (asks_where p' t' os' left' b' r' asked' a') =
+      let one = pair r r' in
+      let a'' = subst (λ p. WhereAnswer env ws m k c most p (tree_of t) os left' b') (sym one.pattern) (subst (λ t. WhereAnswer env ws m k c most (tree_of p') t os left' b') (sym one.subject) (subst (λ ns. WhereAnswer env ws m k c most (tree_of p') (tree_of t') ns left' b') (sym one.pairs) a')) in
+      where_once env ws m shaped k c (tree_of p) (tree_of t) os a a''
 
 record AreOneItem (st next : StateOf) (b c : List ℕ) (r s : Bool) : Type 0 where
   state : st ≡ next
@@ -215,71 +217,39 @@ module _ (ws : List Word) (st : StateOf) (k i : ℕ) (c : RawCommand) where
       → uses_memberships m ≡ true → uses_memberships l ≡ false → ⊥
   used_or_not {n} {o} {m} {l} x h y g uses none = yes_no (uses_memberships l) (ap uses_memberships (sym (module_at x h y g)) ∙ uses) none
 
-  match_once : {u v : StateOf} {b d : List ℕ} {r q : Bool} → MatchAnswer ws st k i c u b r → MatchAnswer ws st k i c v d q → AreOneItem u v b d r q
+module _ (env : Environment) (ws : List Word) (st : StateOf) (all : AreShaped st.modules) (k i : ℕ) (c : RawCommand) where
+  match_once : {u v : StateOf} {b d : List ℕ} {r q : Bool} → MatchAnswer env ws st k i c u b r → MatchAnswer env ws st k i c v d q → AreOneItem u v b d r q
   match_once (command_not_built l e) (command_not_built l' e') =
       let o = sym e ∙ e' in
       let h : l ≡ l' = cc in
       record { state = refl; bytes = ap (λ l. refusal_line k ws (NotBuilt l)) h; refused = refl }
-  match_once (command_not_built l e) (module_unknown t' e' x') = absurd (built_or_not e e')
-  match_once (command_not_built l e) (listing_not_built n' m' e' x' h' w') = absurd (built_or_not e e')
-  match_once (command_not_built l e) (bound_refused n' m' r' e' x' h' w' f') = absurd (built_or_not e e')
-  match_once (command_not_built l e) (command_answered n' m' most' left' b' e' x' h' w' f' y') = absurd (built_or_not e e')
-  match_once (module_unknown t e x) (command_not_built l' e') = absurd (built_or_not e' e)
-  match_once (module_unknown t e x) (module_unknown t' e' x') = record { state = refl; bytes = ap (λ t. refusal_line k ws (UnknownModule (token_index ws t))) (unknown_once x x'); refused = refl }
-  match_once (module_unknown t e x) (listing_not_built n' m' e' x' h' w') = absurd (never_chosen x x')
-  match_once (module_unknown t e x) (bound_refused n' m' r' e' x' h' w' f') = absurd (never_chosen x x')
-  match_once (module_unknown t e x) (command_answered n' m' most' left' b' e' x' h' w' f' y') = absurd (never_chosen x x')
-  match_once (listing_not_built n m e x h w) (command_not_built l' e') = absurd (built_or_not e' e)
-  match_once (listing_not_built n m e x h w) (module_unknown t' e' x') = absurd (never_chosen x' x)
+  match_once (command_not_built l e) (module_unknown t' e' x') = absurd (built_or_not ws st k i c e e')
+  match_once (command_not_built l e) (listing_not_built n' m' e' x' h' w') = absurd (built_or_not ws st k i c e e')
+  match_once (command_not_built l e) (bound_refused n' m' r' e' x' h' w' f') = absurd (built_or_not ws st k i c e e')
+  match_once (command_not_built l e) (command_answered n' m' most' left' b' e' x' h' w' f' y') = absurd (built_or_not ws st k i c e e')
+  match_once (module_unknown t e x) (command_not_built l' e') = absurd (built_or_not ws st k i c e' e)
+  match_once (module_unknown t e x) (module_unknown t' e' x') = record { state = refl; bytes = ap (λ t. refusal_line k ws (UnknownModule (token_index ws t))) (unknown_once ws st k i c x x'); refused = refl }
+  match_once (module_unknown t e x) (listing_not_built n' m' e' x' h' w') = absurd (never_chosen ws st k i c x x')
+  match_once (module_unknown t e x) (bound_refused n' m' r' e' x' h' w' f') = absurd (never_chosen ws st k i c x x')
+  match_once (module_unknown t e x) (command_answered n' m' most' left' b' e' x' h' w' f' y') = absurd (never_chosen ws st k i c x x')
+  match_once (listing_not_built n m e x h w) (command_not_built l' e') = absurd (built_or_not ws st k i c e' e)
+  match_once (listing_not_built n m e x h w) (module_unknown t' e' x') = absurd (never_chosen ws st k i c x' x)
   match_once (listing_not_built n m e x h w) (listing_not_built n' m' e' x' h' w') = one_item
-  match_once (listing_not_built n m e x h w) (bound_refused n' m' r' e' x' h' w' f') = absurd (used_or_not x h x' h' w w')
-  match_once (listing_not_built n m e x h w) (command_answered n' m' most' left' b' e' x' h' w' f' y') = absurd (used_or_not x h x' h' w w')
-  match_once (bound_refused n m r e x h w f) (command_not_built l' e') = absurd (built_or_not e' e)
-  match_once (bound_refused n m r e x h w f) (module_unknown t' e' x') = absurd (never_chosen x' x)
-  match_once (bound_refused n m r e x h w f) (listing_not_built n' m' e' x' h' w') = absurd (used_or_not x' h' x h w' w)
-  match_once (bound_refused n m r e x h w f) (bound_refused n' m' r' e' x' h' w' f') = record { state = refl; bytes = ap (refusal_line k ws) (refusal_once f f'); refused = refl }
-  match_once (bound_refused n m r e x h w f) (command_answered n' m' most' left' b' e' x' h' w' f' y') = absurd (bound_or_refused f' f)
-  match_once (command_answered n m most left b e x h w f y) (command_not_built l' e') = absurd (built_or_not e' e)
-  match_once (command_answered n m most left b e x h w f y) (module_unknown t' e' x') = absurd (never_chosen x' x)
-  match_once (command_answered n m most left b e x h w f y) (listing_not_built n' m' e' x' h' w') = absurd (used_or_not x' h' x h w' w)
-  match_once (command_answered n m most left b e x h w f y) (bound_refused n' m' r' e' x' h' w' f') = absurd (bound_or_refused f f')
+  match_once (listing_not_built n m e x h w) (bound_refused n' m' r' e' x' h' w' f') = absurd (used_or_not ws st k i c x h x' h' w w')
+  match_once (listing_not_built n m e x h w) (command_answered n' m' most' left' b' e' x' h' w' f' y') = absurd (used_or_not ws st k i c x h x' h' w w')
+  match_once (bound_refused n m r e x h w f) (command_not_built l' e') = absurd (built_or_not ws st k i c e' e)
+  match_once (bound_refused n m r e x h w f) (module_unknown t' e' x') = absurd (never_chosen ws st k i c x' x)
+  match_once (bound_refused n m r e x h w f) (listing_not_built n' m' e' x' h' w') = absurd (used_or_not ws st k i c x' h' x h w' w)
+  match_once (bound_refused n m r e x h w f) (bound_refused n' m' r' e' x' h' w' f') = record { state = refl; bytes = ap (refusal_line k ws) (refusal_once ws st k i c f f'); refused = refl }
+  match_once (bound_refused n m r e x h w f) (command_answered n' m' most' left' b' e' x' h' w' f' y') = absurd (bound_or_refused ws st k i c f' f)
+  match_once (command_answered n m most left b e x h w f y) (command_not_built l' e') = absurd (built_or_not ws st k i c e' e)
+  match_once (command_answered n m most left b e x h w f y) (module_unknown t' e' x') = absurd (never_chosen ws st k i c x' x)
+  match_once (command_answered n m most left b e x h w f y) (listing_not_built n' m' e' x' h' w') = absurd (used_or_not ws st k i c x' h' x h w' w)
+  match_once (command_answered n m most left b e x h w f y) (bound_refused n' m' r' e' x' h' w' f') = absurd (bound_or_refused ws st k i c f f')
   match_once (command_answered n m most left b e x h w f y) (command_answered n' m' most' left' b' e' x' h' w' f' y') =
-      let same = module_at x h x' h' in
-      let o = terms_once ws m k c y (subst (λ m. TermsAnswer ws m k c most left' b') (sym same) (subst (λ a. TermsAnswer ws m' k c a left' b') (sym (bound_once f f')) y')) in
-      record { state = ap₂ (state_after st) (chosen_once x x') o.left; bytes = o.bytes; refused = ap refuses o.left }
-
-  continue_once : {u v : StateOf} {b d : List ℕ} {r q : Bool} → ContinueAnswer ws st k c u b r → ContinueAnswer ws st k c v d q → AreOneItem u v b d r q
-  continue_once (number_refused r e) (number_refused r' e') = record { state = refl; bytes = ap (refusal_line k ws) (refusal_once e e'); refused = refl }
-  continue_once (number_refused r e) (nothing_to_continue most' e' n') = absurd (bound_or_refused e' e)
-  continue_once (number_refused r e) (continued most' n' q' m' found' b' e' g' h' l') = absurd (bound_or_refused e' e)
-  continue_once (nothing_to_continue most e n) (number_refused r' e') = absurd (bound_or_refused e e')
-  continue_once (nothing_to_continue most e n) (nothing_to_continue most' e' n') = one_item
-  continue_once (nothing_to_continue most e n) (continued most' n' q' m' found' b' e' g' h' l') = let o = sym n ∙ g' in absurd cc
-  continue_once (continued most n q m found b e g h l) (number_refused r' e') = absurd (bound_or_refused e e')
-  continue_once (continued most n q m found b e g h l) (nothing_to_continue most' e' n') = let o = sym n' ∙ g in absurd cc
-  continue_once (continued most n q m found b e g h l) (continued most' n' q' m' found' b' e' g' h' l') =
-      let x : GoingOf = record { number = n; what = a_listing q } in
-      let y : GoingOf = record { number = n'; what = a_listing q' } in
-      let o : Some x ≡ Some y = sym g ∙ g' in
-      let going : x ≡ y = cc in
-      let number : n ≡ n' = ap (λ (z : GoingOf). z.number) going in
-      let what : a_listing q ≡ a_listing q' = ap (λ (z : GoingOf). z.what) going in
-      let query : q ≡ q' = cc in
-      let at : Some m ≡ Some m' = sym h ∙ ap (slice_get st.modules) number ∙ h' in
-      let same : m ≡ m' = cc in
-      let l'' = subst (λ m. Shows m q.with_context q.pattern q.subject q.last most found' b') (sym same)
-      (subst (λ (x : QueryOf). Shows m' x.with_context x.pattern x.subject x.last most found' b') (sym query)
-      (subst (λ a. Shows m' q'.with_context q'.pattern q'.subject q'.last a found' b') (sym (bound_once e e')) l')) in
-      let one = shows_once m q.with_context q.pattern q.subject q.last most found found' b b' l l'' in
-      record {
-        state =
-            ap₂ (λ n (x : QueryOf). state_after st n (left_by b (shown_more x found))) number query
-            ∙ ap₂ (λ f b. state_after st n' (left_by b (shown_more q' f))) one.found one.ended;
-        bytes =
-            ap₂ (λ m (x : QueryOf). continue_head k m ++ listing_lines m x.variables x.with_context x.pattern x.shown found b) same query
-            ∙ ap₂ (λ f b. continue_head k m' ++ listing_lines m' q'.variables q'.with_context q'.pattern q'.shown f b) one.found one.ended;
-        refused = refl;
-      }
+      let same = module_at ws st k i c x h x' h' in
+      let o = terms_once env ws m (all n m h) k c y (subst (λ m. TermsAnswer env ws m k c most left' b') (sym same) (subst (λ a. TermsAnswer env ws m' k c a left' b') (sym (bound_once ws st k i c f f')) y')) in
+      record { state = ap₂ (state_after st) (chosen_once ws st k i c x x') o.left; bytes = o.bytes; refused = ap refuses o.left }
 
 module _ (env : Environment) (free : env.remembers ≡ false) (ws : List Word) (st : StateOf) (k i : ℕ) (c : RawCommand) where
   -- what may be answered for one term is one
@@ -318,7 +288,164 @@ module _ (env : Environment) (free : env.remembers ≡ false) (ws : List Word) (
       let o = term_once_answered w y (subst (λ m. TermAnswer env ws m k c left' b') (sym same) y') in
       record { state = ap₂ (state_after st) (chosen_once ws st k i c x x') o.left; bytes = o.bytes; refused = ap refuses o.left }
 
-module _ (env : Environment) (free : env.remembers ≡ false) (ws : List Word) (st : StateOf) (k i : ℕ) where
+  -- what may be answered for one run is one
+  one_run : (m : ModuleOf) → uses_memberships m ≡ false → (n : Option ℕ) (s u : Stand) (a b : RunAnswerOf) → s ≡ u → MayRun (meanings_in env m) env.remembers n s a → MayRun (meanings_in env m) env.remembers n u b → a ≡ b
+  one_run m unused n s u a b e x y =
+      run_answers_are_one (meanings_in env m) (meanings_are_lawful (program_of m) env.operators env.budget env.remembers) (evaluated_derives env m unused) n u a b
+      (subst (λ r. MayRun (meanings_in env m) r n u a) free (subst (λ v. MayRun (meanings_in env m) env.remembers n v a) e x))
+      (subst (λ r. MayRun (meanings_in env m) r n u b) free y)
+
+  -- what goes on is one
+  going_once : {n n' : ℕ} {x y : ContinuedOf} → st.going ≡ Some (record { number = n; what = x }) → st.going ≡ Some (record { number = n'; what = y }) → (n ≡ n') × (x ≡ y)
+  going_once {n} {n'} {x} {y} g h =
+      let a : GoingOf = record { number = n; what = x } in
+      let b : GoingOf = record { number = n'; what = y } in
+      let o : Some a ≡ Some b = sym g ∙ h in
+      let same : a ≡ b = cc in
+      (ap (λ (z : GoingOf). z.number) same, ap (λ (z : GoingOf). z.what) same)
+
+  going_at : {n n' : ℕ} {m m' : ModuleOf} → n ≡ n' → slice_get st.modules n ≡ Some m → slice_get st.modules n' ≡ Some m' → m ≡ m'
+  going_at e h h' = let at = sym h ∙ ap (slice_get st.modules) e ∙ h' in cc
+
+  continue_once : {u v : StateOf} {b d : List ℕ} {r q : Bool} → ContinueAnswer env ws st k c u b r → ContinueAnswer env ws st k c v d q → AreOneItem u v b d r q
+  continue_once (number_refused r e) (number_refused r' e') = record { state = refl; bytes = ap (refusal_line k ws) (refusal_once ws st k i c e e'); refused = refl }
+  continue_once (number_refused r e) (nothing_to_continue most' e' n') = absurd (bound_or_refused ws st k i c e' e)
+  continue_once (number_refused r e) (continued most' n' q' m' found' b' e' g' h' l') = absurd (bound_or_refused ws st k i c e' e)
+  continue_once (number_refused r e) (continued_where most' n' q' cond' m' found' b' e' g' h' l') = absurd (bound_or_refused ws st k i c e' e)
+  continue_once (number_refused r e) (run_continued most' n' r' m' a' e' g' h' plain' y') = absurd (bound_or_refused ws st k i c e' e)
+  continue_once (nothing_to_continue most e n) (number_refused r' e') = absurd (bound_or_refused ws st k i c e e')
+  continue_once (nothing_to_continue most e n) (nothing_to_continue most' e' n') = one_item
+  continue_once (nothing_to_continue most e n) (continued most' n' q' m' found' b' e' g' h' l') = let o = sym n ∙ g' in absurd cc
+  continue_once (nothing_to_continue most e n) (continued_where most' n' q' cond' m' found' b' e' g' h' l') = let o = sym n ∙ g' in absurd cc
+  continue_once (nothing_to_continue most e n) (run_continued most' n' r' m' a' e' g' h' plain' y') = let o = sym n ∙ g' in absurd cc
+  continue_once (continued most n q m found b e g h l) (number_refused r' e') = absurd (bound_or_refused ws st k i c e e')
+  continue_once (continued most n q m found b e g h l) (nothing_to_continue most' e' n') = let o = sym n' ∙ g in absurd cc
+  continue_once (continued most n q m found b e g h l) (continued most' n' q' m' found' b' e' g' h' l') =
+      let going = going_once g g' in
+      let what : a_listing q ≡ a_listing q' = going.1 in
+      let query : q ≡ q' = cc in
+      let same : m ≡ m' = going_at going.0 h h' in
+      let l'' = subst (λ m. Shows m q.with_context q.pattern q.subject q.last most found' b') (sym same)
+      (subst (λ (x : QueryOf). Shows m' x.with_context x.pattern x.subject x.last most found' b') (sym query)
+      (subst (λ a. Shows m' q'.with_context q'.pattern q'.subject q'.last a found' b') (sym (bound_once ws st k i c e e')) l')) in
+      let one = shows_once m q.with_context q.pattern q.subject q.last most found found' b b' l l'' in
+      record {
+        state =
+            ap₂ (λ n (x : QueryOf). state_after st n (left_by b (shown_more x found))) going.0 query
+            ∙ ap₂ (λ f b. state_after st n' (left_by b (shown_more q' f))) one.found one.ended;
+        bytes =
+            ap₂ (λ m (x : QueryOf). continue_head k m ++ listing_lines m x.variables x.with_context x.pattern x.shown found b) same query
+            ∙ ap₂ (λ f b. continue_head k m' ++ listing_lines m' q'.variables q'.with_context q'.pattern q'.shown f b) one.found one.ended;
+        refused = refl;
+      }
+  continue_once (continued most n q m found b e g h l) (continued_where most' n' q' cond' m' found' b' e' g' h' l') = let o : a_listing q ≡ a_listing_where q' cond' = (going_once g g').1 in absurd cc
+  continue_once (continued most n q m found b e g h l) (run_continued most' n' r' m' a' e' g' h' plain' y') = let o : a_listing q ≡ a_rule_run r' = (going_once g g').1 in absurd cc
+  continue_once (continued_where most n q cond m found b e g h l) (number_refused r' e') = absurd (bound_or_refused ws st k i c e e')
+  continue_once (continued_where most n q cond m found b e g h l) (nothing_to_continue most' e' n') = let o = sym n' ∙ g in absurd cc
+  continue_once (continued_where most n q cond m found b e g h l) (continued most' n' q' m' found' b' e' g' h' l') = let o : a_listing_where q cond ≡ a_listing q' = (going_once g g').1 in absurd cc
+  continue_once (continued_where most n q cond m found b e g h l) (continued_where most' n' q' cond' m' found' b' e' g' h' l') =
+      let going = going_once g g' in
+      let what : a_listing_where q cond ≡ a_listing_where q' cond' = going.1 in
+      let query : q ≡ q' = cc in
+      let conds : cond ≡ cond' = cc in
+      let same : m ≡ m' = going_at going.0 h h' in
+      let l'' = subst (λ m. ShowsWhere m (meanings_in env m) cond q most found' b') (sym same)
+      (subst (λ (x : QueryOf). ShowsWhere m' (meanings_in env m') cond x most found' b') (sym query)
+      (subst (λ z. ShowsWhere m' (meanings_in env m') z q' most found' b') (sym conds)
+      (subst (λ a. ShowsWhere m' (meanings_in env m') cond' q' a found' b') (sym (bound_once ws st k i c e e')) l'))) in
+      let one = shows_where_once m (meanings_in env m) cond q most found found' b b' l l'' in
+      record {
+        state =
+            ap₂ (λ n (x : QueryOf). state_after st n (left_where b (shown_more x found) cond)) going.0 query
+            ∙ ap₂ (λ f z. state_after st n' (left_where b (shown_more q' f) z)) one.0 conds
+            ∙ ap (λ b. state_after st n' (left_where b (shown_more q' found') cond')) one.1;
+        bytes =
+            ap₂ (λ m (x : QueryOf). continue_head k m ++ where_lines m env.budget x found b) same query
+            ∙ ap₂ (λ f b. continue_head k m' ++ where_lines m' env.budget q' f b) one.0 one.1;
+        refused = refl;
+      }
+  continue_once (continued_where most n q cond m found b e g h l) (run_continued most' n' r' m' a' e' g' h' plain' y') = let o : a_listing_where q cond ≡ a_rule_run r' = (going_once g g').1 in absurd cc
+  continue_once (run_continued most n r m a e g h plain y) (number_refused r' e') = absurd (bound_or_refused ws st k i c e e')
+  continue_once (run_continued most n r m a e g h plain y) (nothing_to_continue most' e' n') = let o = sym n' ∙ g in absurd cc
+  continue_once (run_continued most n r m a e g h plain y) (continued most' n' q' m' found' b' e' g' h' l') = let o : a_rule_run r ≡ a_listing q' = (going_once g g').1 in absurd cc
+  continue_once (run_continued most n r m a e g h plain y) (continued_where most' n' q' cond' m' found' b' e' g' h' l') = let o : a_rule_run r ≡ a_listing_where q' cond' = (going_once g g').1 in absurd cc
+  continue_once (run_continued most n r m a e g h plain y) (run_continued most' n' r' m' a' e' g' h' plain' y') =
+      let going = going_once g g' in
+      let what : a_rule_run r ≡ a_rule_run r' = going.1 in
+      let run : r ≡ r' = cc in
+      let same : m ≡ m' = going_at going.0 h h' in
+      let y'' = subst (λ m. MayRun (meanings_in env m) env.remembers most r.stand a') (sym same)
+      (subst (λ (x : RuleRunOf). MayRun (meanings_in env m') env.remembers most x.stand a') (sym run)
+      (subst (λ b. MayRun (meanings_in env m') env.remembers b r'.stand a') (sym (bound_once ws st k i c e e')) y')) in
+      let one : a ≡ a' = one_run m plain most r.stand r.stand a a' refl y y'' in
+      record {
+        state =
+            ap₂ (λ n (x : RuleRunOf). state_after st n (left_by_run x.variables a)) going.0 run
+            ∙ ap (λ b. state_after st n' (left_by_run r'.variables b)) one;
+        bytes =
+            ap₂ (λ m (x : RuleRunOf). continue_head k m ++ run_lines m x.variables env.budget a) same run
+            ∙ ap (λ b. continue_head k m' ++ run_lines m' r'.variables env.budget b) one;
+        refused = refl;
+      }
+
+  start_once : {m : ModuleOf} {most : Option ℕ} → uses_memberships m ≡ false → {b d : List ℕ} {r q : OutcomeOf} → RunTermAnswer env ws m k c most r b → RunTermAnswer env ws m k c most q d → AreOneEnd b d r q
+  start_once {m} unused (start_refused f u n) (start_refused f' u' n') = record { bytes = ap (faulty_line k) (shown_once f f' (fault_once m.grammar (part_tokens ws c.first) (part_texts ws c.first) AnyKind [] f f' u u' n n')); left = refl }
+  start_once {m} unused (start_refused f u n) (start_answered t' ns' a' x' y') = absurd (no_pattern_read ws m k c f u n t' ns' x')
+  start_once {m} unused (start_answered t ns a x y) (start_refused f' u' n') = absurd (no_pattern_read ws m k c f' u' n' t ns x)
+  start_once {m} {most} unused (start_answered t ns a x y) (start_answered t' ns' a' x' y') =
+      let one = pattern_once ws m k c t t' ns ns' x x' in
+      let same = one_run m unused most (run_from (tree_of t)) (run_from (tree_of t')) a a' (ap run_from one.tree) y y' in
+      record { bytes = ap₂ (λ os a. rewrite_head k m ++ run_lines m os env.budget a) one.pairs same; left = ap₂ left_by_run one.pairs same }
+
+  condition_or_none : {n o q : ℕ} {m l : ModuleOf} → IsChosen ws st c n → slice_get st.modules n ≡ Some m → IsChosen ws st c o → slice_get st.modules o ≡ Some l
+      → rewriting_condition m ≡ Some q → rewriting_condition l ≡ None → ⊥
+  condition_or_none x h y g some none = let o = sym some ∙ ap rewriting_condition (module_at ws st k i c x h y g) ∙ none in cc
+
+  rewrite_once : {u v : StateOf} {b d : List ℕ} {r q : Bool} → RewriteAnswer env ws st k i c u b r → RewriteAnswer env ws st k i c v d q → AreOneItem u v b d r q
+  rewrite_once (rewrites_nothing e) (rewrites_nothing e') = one_item
+  rewrite_once (rewrites_nothing e) (rewrite_unknown t' e' x') = absurd (yes_no _ e e')
+  rewrite_once (rewrites_nothing e) (rewrite_not_built n' m' e' x' h' w') = absurd (yes_no _ e e')
+  rewrite_once (rewrites_nothing e) (rewrite_unbounded n' m' r' e' x' h' w' f') = absurd (yes_no _ e e')
+  rewrite_once (rewrites_nothing e) (rewrite_conditional n' m' most' q' e' x' h' w' f' g') = absurd (yes_no _ e e')
+  rewrite_once (rewrites_nothing e) (rewrite_answered n' m' most' left' b' e' x' h' w' f' g' y') = absurd (yes_no _ e e')
+  rewrite_once (rewrite_unknown t e x) (rewrites_nothing e') = absurd (yes_no _ e' e)
+  rewrite_once (rewrite_unknown t e x) (rewrite_unknown t' e' x') = record { state = refl; bytes = ap (λ t. refusal_line k ws (UnknownModule (token_index ws t))) (unknown_once ws st k i c x x'); refused = refl }
+  rewrite_once (rewrite_unknown t e x) (rewrite_not_built n' m' e' x' h' w') = absurd (never_chosen ws st k i c x x')
+  rewrite_once (rewrite_unknown t e x) (rewrite_unbounded n' m' r' e' x' h' w' f') = absurd (never_chosen ws st k i c x x')
+  rewrite_once (rewrite_unknown t e x) (rewrite_conditional n' m' most' q' e' x' h' w' f' g') = absurd (never_chosen ws st k i c x x')
+  rewrite_once (rewrite_unknown t e x) (rewrite_answered n' m' most' left' b' e' x' h' w' f' g' y') = absurd (never_chosen ws st k i c x x')
+  rewrite_once (rewrite_not_built n m e x h w) (rewrites_nothing e') = absurd (yes_no _ e' e)
+  rewrite_once (rewrite_not_built n m e x h w) (rewrite_unknown t' e' x') = absurd (never_chosen ws st k i c x' x)
+  rewrite_once (rewrite_not_built n m e x h w) (rewrite_not_built n' m' e' x' h' w') = one_item
+  rewrite_once (rewrite_not_built n m e x h w) (rewrite_unbounded n' m' r' e' x' h' w' f') = absurd (used_or_not ws st k i c x h x' h' w w')
+  rewrite_once (rewrite_not_built n m e x h w) (rewrite_conditional n' m' most' q' e' x' h' w' f' g') = absurd (used_or_not ws st k i c x h x' h' w w')
+  rewrite_once (rewrite_not_built n m e x h w) (rewrite_answered n' m' most' left' b' e' x' h' w' f' g' y') = absurd (used_or_not ws st k i c x h x' h' w w')
+  rewrite_once (rewrite_unbounded n m r e x h w f) (rewrites_nothing e') = absurd (yes_no _ e' e)
+  rewrite_once (rewrite_unbounded n m r e x h w f) (rewrite_unknown t' e' x') = absurd (never_chosen ws st k i c x' x)
+  rewrite_once (rewrite_unbounded n m r e x h w f) (rewrite_not_built n' m' e' x' h' w') = absurd (used_or_not ws st k i c x' h' x h w' w)
+  rewrite_once (rewrite_unbounded n m r e x h w f) (rewrite_unbounded n' m' r' e' x' h' w' f') = record { state = refl; bytes = ap (refusal_line k ws) (refusal_once ws st k i c f f'); refused = refl }
+  rewrite_once (rewrite_unbounded n m r e x h w f) (rewrite_conditional n' m' most' q' e' x' h' w' f' g') = absurd (bound_or_refused ws st k i c f' f)
+  rewrite_once (rewrite_unbounded n m r e x h w f) (rewrite_answered n' m' most' left' b' e' x' h' w' f' g' y') = absurd (bound_or_refused ws st k i c f' f)
+  rewrite_once (rewrite_conditional n m most q e x h w f g) (rewrites_nothing e') = absurd (yes_no _ e' e)
+  rewrite_once (rewrite_conditional n m most q e x h w f g) (rewrite_unknown t' e' x') = absurd (never_chosen ws st k i c x' x)
+  rewrite_once (rewrite_conditional n m most q e x h w f g) (rewrite_not_built n' m' e' x' h' w') = absurd (used_or_not ws st k i c x' h' x h w' w)
+  rewrite_once (rewrite_conditional n m most q e x h w f g) (rewrite_unbounded n' m' r' e' x' h' w' f') = absurd (bound_or_refused ws st k i c f f')
+  rewrite_once (rewrite_conditional n m most q e x h w f g) (rewrite_conditional n' m' most' q' e' x' h' w' f' g') =
+      let o = sym g ∙ ap rewriting_condition (module_at ws st k i c x h x' h') ∙ g' in
+      let same : q ≡ q' = cc in
+      record { state = refl; bytes = ap (λ q. refusal_line k ws (RewritingCondition q)) same; refused = refl }
+  rewrite_once (rewrite_conditional n m most q e x h w f g) (rewrite_answered n' m' most' left' b' e' x' h' w' f' g' y') = absurd (condition_or_none x h x' h' g g')
+  rewrite_once (rewrite_answered n m most left b e x h w f g y) (rewrites_nothing e') = absurd (yes_no _ e' e)
+  rewrite_once (rewrite_answered n m most left b e x h w f g y) (rewrite_unknown t' e' x') = absurd (never_chosen ws st k i c x' x)
+  rewrite_once (rewrite_answered n m most left b e x h w f g y) (rewrite_not_built n' m' e' x' h' w') = absurd (used_or_not ws st k i c x' h' x h w' w)
+  rewrite_once (rewrite_answered n m most left b e x h w f g y) (rewrite_unbounded n' m' r' e' x' h' w' f') = absurd (bound_or_refused ws st k i c f f')
+  rewrite_once (rewrite_answered n m most left b e x h w f g y) (rewrite_conditional n' m' most' q' e' x' h' w' f' g') = absurd (condition_or_none x' h' x h g' g)
+  rewrite_once (rewrite_answered n m most left b e x h w f g y) (rewrite_answered n' m' most' left' b' e' x' h' w' f' g' y') =
+      let same = module_at ws st k i c x h x' h' in
+      let o = start_once w y (subst (λ m. RunTermAnswer env ws m k c most left' b') (sym same) (subst (λ a. RunTermAnswer env ws m' k c a left' b') (sym (bound_once ws st k i c f f')) y')) in
+      record { state = ap₂ (state_after st) (chosen_once ws st k i c x x') o.left; bytes = o.bytes; refused = ap refuses o.left }
+
+module _ (env : Environment) (free : env.remembers ≡ false) (ws : List Word) (st : StateOf) (all : AreShaped st.modules) (k i : ℕ) where
   setting_once : {x : Setting} {u v : StateOf} {b c : List ℕ} {r s : Bool} → SettingAnswer ws st k i x u b r → SettingAnswer ws st k i x v c s → AreOneItem u v b c r s
   setting_once trace_not_built trace_not_built = one_item
   setting_once trace_off trace_off = one_item
@@ -345,35 +472,46 @@ module _ (env : Environment) (free : env.remembers ≡ false) (ws : List Word) (
   body_once (module_refused raw w t x) (module_accepted raw' m' t' x') = let o = module_once st.modules ws raw x x' in absurd cc
   body_once (module_refused raw w t x) (module_refused raw' w' t' x') =
       record { state = refl; bytes = ap (faulty_line k) (module_shown_once w w' (module_once st.modules ws raw x x')); refused = refl }
-  body_once (match_answered c n b r t x) (match_answered c' n' b' r' t' x') = match_once ws st k i c x x'
+  body_once (match_answered c n b r t x) (match_answered c' n' b' r' t' x') = match_once env ws st all k i c x x'
   body_once (match_answered c n b r t x) (continue_answered c' n' b' r' f' t' x') = absurd (yes_no _ t f')
   body_once (match_answered c n b r t x) (reduce_is_answered c' n' b' r' f' g' t' x') = absurd (yes_no _ t f')
-  body_once (match_answered c n b r t x) (other_unknown c' u' f' g' j' h') = absurd (yes_no _ t f')
-  body_once (match_answered c n b r t x) (other_not_built c' o' f' g' j' h') = absurd (yes_no _ t f')
+  body_once (match_answered c n b r t x) (rewrite_is_answered c' n' b' r' f' g' j' t' x') = absurd (yes_no _ t f')
+  body_once (match_answered c n b r t x) (other_unknown c' u' f' g' j' l' h') = absurd (yes_no _ t f')
+  body_once (match_answered c n b r t x) (other_not_built c' o' f' g' j' l' h') = absurd (yes_no _ t f')
   body_once (continue_answered c n b r f t x) (match_answered c' n' b' r' t' x') = absurd (yes_no _ t' f)
-  body_once (continue_answered c n b r f t x) (continue_answered c' n' b' r' f' t' x') = continue_once ws st k i c x x'
+  body_once (continue_answered c n b r f t x) (continue_answered c' n' b' r' f' t' x') = continue_once env free ws st k i c x x'
   body_once (continue_answered c n b r f t x) (reduce_is_answered c' n' b' r' f' g' t' x') = absurd (yes_no _ t g')
-  body_once (continue_answered c n b r f t x) (other_unknown c' u' f' g' j' h') = absurd (yes_no _ t g')
-  body_once (continue_answered c n b r f t x) (other_not_built c' o' f' g' j' h') = absurd (yes_no _ t g')
+  body_once (continue_answered c n b r f t x) (rewrite_is_answered c' n' b' r' f' g' j' t' x') = absurd (yes_no _ t g')
+  body_once (continue_answered c n b r f t x) (other_unknown c' u' f' g' j' l' h') = absurd (yes_no _ t g')
+  body_once (continue_answered c n b r f t x) (other_not_built c' o' f' g' j' l' h') = absurd (yes_no _ t g')
   body_once (reduce_is_answered c n b r f g t x) (match_answered c' n' b' r' t' x') = absurd (yes_no _ t' f)
   body_once (reduce_is_answered c n b r f g t x) (continue_answered c' n' b' r' f' t' x') = absurd (yes_no _ t' g)
   body_once (reduce_is_answered c n b r f g t x) (reduce_is_answered c' n' b' r' f' g' t' x') = reduce_once env free ws st k i c x x'
-  body_once (reduce_is_answered c n b r f g t x) (other_unknown c' u' f' g' j' h') = absurd (yes_no _ t j')
-  body_once (reduce_is_answered c n b r f g t x) (other_not_built c' o' f' g' j' h') = absurd (yes_no _ t j')
-  body_once (other_unknown c u f g j h) (match_answered c' n' b' r' t' x') = absurd (yes_no _ t' f)
-  body_once (other_unknown c u f g j h) (continue_answered c' n' b' r' f' t' x') = absurd (yes_no _ t' g)
-  body_once (other_unknown c u f g j h) (reduce_is_answered c' n' b' r' f' g' t' x') = absurd (yes_no _ t' j)
-  body_once (other_unknown c u f g j h) (other_unknown c' u' f' g' j' h') =
+  body_once (reduce_is_answered c n b r f g t x) (rewrite_is_answered c' n' b' r' f' g' j' t' x') = absurd (yes_no _ t j')
+  body_once (reduce_is_answered c n b r f g t x) (other_unknown c' u' f' g' j' l' h') = absurd (yes_no _ t j')
+  body_once (reduce_is_answered c n b r f g t x) (other_not_built c' o' f' g' j' l' h') = absurd (yes_no _ t j')
+  body_once (rewrite_is_answered c n b r f g j t x) (match_answered c' n' b' r' t' x') = absurd (yes_no _ t' f)
+  body_once (rewrite_is_answered c n b r f g j t x) (continue_answered c' n' b' r' f' t' x') = absurd (yes_no _ t' g)
+  body_once (rewrite_is_answered c n b r f g j t x) (reduce_is_answered c' n' b' r' f' g' t' x') = absurd (yes_no _ t' j)
+  body_once (rewrite_is_answered c n b r f g j t x) (rewrite_is_answered c' n' b' r' f' g' j' t' x') = rewrite_once env free ws st k i c x x'
+  body_once (rewrite_is_answered c n b r f g j t x) (other_unknown c' u' f' g' j' l' h') = absurd (yes_no _ t l')
+  body_once (rewrite_is_answered c n b r f g j t x) (other_not_built c' o' f' g' j' l' h') = absurd (yes_no _ t l')
+  body_once (other_unknown c u f g j l h) (match_answered c' n' b' r' t' x') = absurd (yes_no _ t' f)
+  body_once (other_unknown c u f g j l h) (continue_answered c' n' b' r' f' t' x') = absurd (yes_no _ t' g)
+  body_once (other_unknown c u f g j l h) (reduce_is_answered c' n' b' r' f' g' t' x') = absurd (yes_no _ t' j)
+  body_once (other_unknown c u f g j l h) (rewrite_is_answered c' n' b' r' f' g' j' t' x') = absurd (yes_no _ t' l)
+  body_once (other_unknown c u f g j l h) (other_unknown c' u' f' g' j' l' h') =
       record { state = refl; bytes = ap (λ t. refusal_line k ws (UnknownModule (token_index ws t))) (unknown_once ws st k i c h h'); refused = refl }
-  body_once (other_unknown c u f g j h) (other_not_built c' o' f' g' j' h') = absurd (never_chosen ws st k i c h h')
-  body_once (other_not_built c o f g j h) (match_answered c' n' b' r' t' x') = absurd (yes_no _ t' f)
-  body_once (other_not_built c o f g j h) (continue_answered c' n' b' r' f' t' x') = absurd (yes_no _ t' g)
-  body_once (other_not_built c o f g j h) (reduce_is_answered c' n' b' r' f' g' t' x') = absurd (yes_no _ t' j)
-  body_once (other_not_built c o f g j h) (other_unknown c' u' f' g' j' h') = absurd (never_chosen ws st k i c h' h)
-  body_once (other_not_built c o f g j h) (other_not_built c' o' f' g' j' h') = one_item
+  body_once (other_unknown c u f g j l h) (other_not_built c' o' f' g' j' l' h') = absurd (never_chosen ws st k i c h h')
+  body_once (other_not_built c o f g j l h) (match_answered c' n' b' r' t' x') = absurd (yes_no _ t' f)
+  body_once (other_not_built c o f g j l h) (continue_answered c' n' b' r' f' t' x') = absurd (yes_no _ t' g)
+  body_once (other_not_built c o f g j l h) (reduce_is_answered c' n' b' r' f' g' t' x') = absurd (yes_no _ t' j)
+  body_once (other_not_built c o f g j l h) (rewrite_is_answered c' n' b' r' f' g' j' t' x') = absurd (yes_no _ t' l)
+  body_once (other_not_built c o f g j l h) (other_unknown c' u' f' g' j' l' h') = absurd (never_chosen ws st k i c h' h)
+  body_once (other_not_built c o f g j l h) (other_not_built c' o' f' g' j' l' h') = one_item
   body_once (setting_answered x n b r h) (setting_answered x' n' b' r' h') = setting_once h h'
 
-module _ (env : Environment) (free : env.remembers ≡ false) (ws : List Word) (st : StateOf) (k : ℕ) (item : RawItem) where
+module _ (env : Environment) (free : env.remembers ≡ false) (ws : List Word) (st : StateOf) (all : AreShaped st.modules) (k : ℕ) (item : RawItem) where
   item_once : {u v : StateOf} {b c : List ℕ} {r s : Bool} → ItemAnswer env ws st k item u b r → ItemAnswer env ws st k item v c s → AreOneItem u v b c r s
   item_once (item_faulty f e) (item_faulty f' e') =
       let o = sym e ∙ e' in
@@ -384,7 +522,7 @@ module _ (env : Environment) (free : env.remembers ≡ false) (ws : List Word) (
   item_once (item_answered b ns bs r e x) (item_answered b' ns' bs' r' e' x') =
       let o = sym e' ∙ e in
       let h : b' ≡ b = cc in
-      body_once env free ws st k (index_at ws item.at) x (subst (λ b. BodyAnswer env ws st k (index_at ws item.at) b ns' bs' r') h x')
+      body_once env free ws st all k (index_at ws item.at) x (subst (λ b. BodyAnswer env ws st k (index_at ws item.at) b ns' bs' r') h x')
 
   never_quits : {next : StateOf} {b : List ℕ} {r : Bool} → ItemAnswer env ws st k item next b r → item.body ≡ Ok Quit → ⊥
   never_quits (item_faulty f e) q = let o = sym e ∙ q in absurd cc
@@ -393,15 +531,79 @@ module _ (env : Environment) (free : env.remembers ≡ false) (ws : List Word) (
       none : {next : StateOf} {b : List ℕ} {r : Bool} → BodyAnswer env ws st k (index_at ws item.at) Quit next b r → ⊥
       none x = elim x [ ]
 
+-- ---- the modules after an item
+
+after_keeps : (st : StateOf) (n : ℕ) (left : OutcomeOf) → (state_after st n left).modules ≡ st.modules
+after_keeps st n is_refused = refl
+after_keeps st n has_ended = refl
+after_keeps st n (goes_on what) = refl
+
+module _ (env : Environment) (ws : List Word) (st : StateOf) (k i : ℕ) (c : RawCommand) where
+  match_keeps : {u : StateOf} {b : List ℕ} {r : Bool} → MatchAnswer env ws st k i c u b r → u.modules ≡ st.modules
+  match_keeps (command_not_built l e) = refl
+  match_keeps (module_unknown t e x) = refl
+  match_keeps (listing_not_built n m e x h w) = refl
+  match_keeps (bound_refused n m r e x h w f) = refl
+  match_keeps (command_answered n m most left b e x h w f y) = after_keeps st n left
+
+  continue_keeps : {u : StateOf} {b : List ℕ} {r : Bool} → ContinueAnswer env ws st k c u b r → u.modules ≡ st.modules
+  continue_keeps (number_refused r e) = refl
+  continue_keeps (nothing_to_continue most e n) = refl
+  continue_keeps (continued most n q m found b e g h l) = after_keeps st n (left_by b (shown_more q found))
+  continue_keeps (continued_where most n q cond m found b e g h l) = after_keeps st n (left_where b (shown_more q found) cond)
+  continue_keeps (run_continued most n r m a e g h plain y) = after_keeps st n (left_by_run r.variables a)
+
+  reduce_keeps : {u : StateOf} {b : List ℕ} {r : Bool} → ReduceAnswer env ws st k i c u b r → u.modules ≡ st.modules
+  reduce_keeps (reduces_nothing e) = refl
+  reduce_keeps (reduce_unknown t e x) = refl
+  reduce_keeps (reduce_not_built n m e x h w) = refl
+  reduce_keeps (reduce_answered n m left b e x h w y) = after_keeps st n left
+
+  rewrite_keeps : {u : StateOf} {b : List ℕ} {r : Bool} → RewriteAnswer env ws st k i c u b r → u.modules ≡ st.modules
+  rewrite_keeps (rewrites_nothing e) = refl
+  rewrite_keeps (rewrite_unknown t e x) = refl
+  rewrite_keeps (rewrite_not_built n m e x h w) = refl
+  rewrite_keeps (rewrite_unbounded n m r e x h w f) = refl
+  rewrite_keeps (rewrite_conditional n m most q e x h w f g) = refl
+  rewrite_keeps (rewrite_answered n m most left b e x h w f g y) = after_keeps st n left
+
+module _ (env : Environment) (ws : List Word) (st : StateOf) (all : AreShaped st.modules) (k i : ℕ) where
+  setting_keeps : {x : Setting} {u : StateOf} {b : List ℕ} {r : Bool} → SettingAnswer ws st k i x u b r → u.modules ≡ st.modules
+  setting_keeps trace_not_built = refl
+  setting_keeps trace_off = refl
+  setting_keeps changes_nothing = refl
+  setting_keeps (module_selected name n h) = refl
+  setting_keeps (selects_none name h) = refl
+
+  same_shaped : (u : StateOf) → u.modules ≡ st.modules → AreShaped u.modules
+  same_shaped u e = subst AreShaped (sym e) all
+
+  body_shaped : {x : RawBody} {u : StateOf} {b : List ℕ} {r : Bool} → BodyAnswer env ws st k i x u b r → AreShaped u.modules
+  body_shaped (module_not_built raw f) = all
+  body_shaped (module_accepted raw m t x) = one_more_shaped st.modules m all (flattened_shaped st.modules ws raw x)
+  body_shaped (module_refused raw w t x) = all
+  body_shaped (match_answered c n b r t x) = same_shaped n (match_keeps env ws st k i c x)
+  body_shaped (continue_answered c n b r f t x) = same_shaped n (continue_keeps env ws st k i c x)
+  body_shaped (reduce_is_answered c n b r f g t x) = same_shaped n (reduce_keeps env ws st k i c x)
+  body_shaped (rewrite_is_answered c n b r f g j t x) = same_shaped n (rewrite_keeps env ws st k i c x)
+  body_shaped (other_unknown c u f g j l h) = all
+  body_shaped (other_not_built c o f g j l h) = all
+  body_shaped (setting_answered x n b r h) = same_shaped n (setting_keeps h)
+
+module _ (env : Environment) (ws : List Word) (st : StateOf) (all : AreShaped st.modules) (k : ℕ) (item : RawItem) where
+  item_shaped : {u : StateOf} {b : List ℕ} {r : Bool} → ItemAnswer env ws st k item u b r → AreShaped u.modules
+  item_shaped (item_faulty f e) = all
+  item_shaped (item_answered x n b r e y) = body_shaped env ws st all k (index_at ws item.at) y
+
 module _ (env : Environment) (free : env.remembers ≡ false) (ws : List Word) where
-  items_once : {st : StateOf} {k : ℕ} {items : List RawItem} {b c : List ℕ} {r s : Bool} → ItemsAnswer env ws st k items b r → ItemsAnswer env ws st k items c s → AreOneAnswer b c r s
-  items_once (items_end ms k) (items_end ms' k') = one_answer
-  items_once (item_quits ms k item items q) (item_quits ms' k' item' items' q') = one_answer
-  items_once (item_quits ms k item items q) (item_first ms' ns' k' item' items' b' more' r' later' x' y') = absurd (never_quits env free ws ms k item x' q)
-  items_once (item_first ms ns k item items b more r later x y) (item_quits ms' k' item' items' q') = absurd (never_quits env free ws ms k item x q')
-  items_once (item_first ms ns k item items b more r later x y) (item_first ms' ns' k' item' items' b' more' r' later' x' y') =
-      let one = item_once env free ws ms k item x x' in
-      let rest = items_once y (subst (λ ns. ItemsAnswer env ws ns (k + 1) items more' later') (sym one.state) y') in
+  items_once : {st : StateOf} {k : ℕ} {items : List RawItem} {b c : List ℕ} {r s : Bool} → AreShaped st.modules → ItemsAnswer env ws st k items b r → ItemsAnswer env ws st k items c s → AreOneAnswer b c r s
+  items_once all (items_end ms k) (items_end ms' k') = one_answer
+  items_once all (item_quits ms k item items q) (item_quits ms' k' item' items' q') = one_answer
+  items_once all (item_quits ms k item items q) (item_first ms' ns' k' item' items' b' more' r' later' x' y') = absurd (never_quits env free ws ms all k item x' q)
+  items_once all (item_first ms ns k item items b more r later x y) (item_quits ms' k' item' items' q') = absurd (never_quits env free ws ms all k item x q')
+  items_once all (item_first ms ns k item items b more r later x y) (item_first ms' ns' k' item' items' b' more' r' later' x' y') =
+      let one = item_once env free ws ms all k item x x' in
+      let rest = items_once (item_shaped env ws ms all k item x) y (subst (λ ns. ItemsAnswer env ws ns (k + 1) items more' later') (sym one.state) y') in
       record { bytes = ap₂ (λ b more. b ++ more) one.bytes rest.bytes; refused = ap₂ (λ r later. r || later) one.refused rest.refused }
 
 pub transcript_once : TranscriptsAreOne
@@ -414,5 +616,5 @@ transcript_once env free text b c r s (items_answered tokens items b' r' x z y) 
     let d = sym z ∙ ap (λ tokens. parts item_part (words_of text tokens)) e ∙ z' in
     let i : items ≡ items' = cc d in
     let y'' = subst (λ tokens. ItemsAnswer env (words_of text tokens) at_first 1 items b'' r'') (sym e) (subst (λ items. ItemsAnswer env (words_of text tokens') at_first 1 items b'' r'') (sym i) y') in
-    let one = items_once env free (words_of text tokens) y y'' in
+    let one = items_once env free (words_of text tokens) prelude_shaped y y'' in
     (one.bytes, one.refused)

@@ -18,7 +18,7 @@ pub record IsProgress (m : ModuleOf) (q now : QueryOf) (n : ℕ) (old new : List
   pub count : length found ≡ n
   pub gained : new ≡ old ++ all_matchers m q.variables q.with_context q.pattern (q.shown + 1) found
 
-matchers-push : (m : ModuleOf) (ns : Pairs) (w : Bool) (p : Tree) (i : ℕ) (found : List Matcher) (xs : Matcher)
+pub matchers-push : (m : ModuleOf) (ns : Pairs) (w : Bool) (p : Tree) (i : ℕ) (found : List Matcher) (xs : Matcher)
     → all_matchers m ns w p i (found ++ xs ∷ []) ≡ all_matchers m ns w p i found ++ matcher_lines m ns w p (i + length found) xs
 matchers-push m ns w p i [] xs = append-nil (matcher_lines m ns w p i xs) ∙ ap (λ k. matcher_lines m ns w p k xs) (sym (add-zero i))
 matchers-push m ns w p i (ys ∷ found) xs =

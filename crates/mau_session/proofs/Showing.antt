@@ -31,7 +31,7 @@ All-last : {X : Type 0} (P : X → Type 0) (xs : List X) (x : X) → All P (xs +
 All-last P [] x all = All-head P x [] all
 All-last P (y ∷ xs) x all = All-last P xs x (All-tail P y (xs ++ x ∷ []) all)
 
-last_shown-push : (last : Option Matcher) (found : List Matcher) (xs : Matcher) → last_shown last (found ++ xs ∷ []) ≡ Some xs
+pub last_shown-push : (last : Option Matcher) (found : List Matcher) (xs : Matcher) → last_shown last (found ++ xs ∷ []) ≡ Some xs
 last_shown-push last [] xs = refl
 last_shown-push last (ys ∷ found) xs = last_shown-push (Some ys) found xs
 

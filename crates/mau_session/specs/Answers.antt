@@ -17,7 +17,7 @@ use Rattle.mau_module.specs.declared.fault.Limit.TheVariants.{Sorts, Declaration
 use Rattle.mau_module.specs.declared.fault.ModuleFault.{ModuleFault}
 use Rattle.mau_module.specs.declared.fault.ModuleFault.TheVariants.{UnknownModule as UnknownImport, ImportTooDeep, TooLarge, UnknownSort, Signed, Statement, NoMemory as NoMemoryOfModule}
 use Rattle.mau_session.specs.declared.refusal.Refusal.{Refusal}
-use Rattle.mau_session.specs.declared.refusal.Refusal.TheVariants.{NotBuilt, UnknownModule, BadBound, NothingToContinue}
+use Rattle.mau_session.specs.declared.refusal.Refusal.TheVariants.{NotBuilt, UnknownModule, BadBound, NothingToContinue, RewritingCondition}
 use Rattle.mau_modtext.specs.Word.{Word}
 use Rattle.mau_modtext.specs.declared.raw.TextFault.{TextFault}
 use Rattle.mau_modtext.specs.declared.raw.TextFault.TheVariants.{Unended, Unexpected, Unsupported}
@@ -39,6 +39,7 @@ shown_refusal ws (NotBuilt i) = codes "NotBuilt " ++ text_at ws i ++ codes " " +
 shown_refusal ws (UnknownModule i) = codes "UnknownModule " ++ text_at ws i
 shown_refusal ws BadBound = codes "BadBound"
 shown_refusal ws NothingToContinue = codes "NothingToContinue"
+shown_refusal ws (RewritingCondition i) = codes "RewritingCondition " ++ decimal (i + 1)
 
 abbrev pub refusal_line : ℕ → List Word → Refusal → List ℕ
 refusal_line k ws r = item_head k ++ codes "refused: " ++ shown_refusal ws r ++ codes "\n"

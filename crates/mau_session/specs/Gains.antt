@@ -10,10 +10,12 @@ use Rattle.mau_modtext.specs.declared.raw.RawItem.{RawItem}
 use Rattle.mau_modtext.specs.declared.raw.RawBody.{RawBody}
 use Rattle.mau_modtext.specs.declared.raw.RawCommand.{RawCommand}
 use Rattle.mau_modtext.specs.declared.raw.Setting.{Setting}
+use Rattle.mau_program.specs.declared.statements.Fragment.{Fragment}
+use Rattle.mau_conditional.specs.Where.{Ending}
 use Rattle.mau_module.specs.Modules.{ModuleOf}
 use Rattle.mau_session.specs.Terms.{Pairs, terms_in}
 use Rattle.mau_session.specs.Matching.{Shows}
-use Rattle.mau_session.specs.Environment.{Environment}
+use Rattle.mau_session.specs.Environment.{Environment, meanings_in}
 use Rattle.mau_session.specs.Query.{QueryOf, asked_first, shown_more}
 use Rattle.mau_session.specs.State.{StateOf, OutcomeOf, has_ended, left_by, refuses, state_after}
 use Rattle.mau_session.specs.Bounds.{bound_of}
@@ -23,6 +25,7 @@ use Rattle.mau_session.specs.Built.{uses_memberships}
 use Rattle.mau_api.specs.Meanings.{Meanings}
 use Rattle.mau_results.specs.Results.{AnswerOf, MayAnswer}
 use Rattle.mau_session.specs.Lines.{too_deep_line, overflow_line, answer_lines}
+use Rattle.mau_session.specs.Where.{ShowsWhere, left_where, where_lines, WhereAnswer}
 use Rattle.mau_session.specs.Answers.{refusal_line, continue_head, listing_lines}
 use Rattle.mau_session.specs.Transcript.{TermsAnswer, MatchAnswer, ContinueAnswer, TermAnswer, ReduceAnswer, SettingAnswer, BodyAnswer, ItemAnswer}
 
@@ -41,27 +44,49 @@ pub data GainsListed (m : ModuleOf) (ns : Pairs) (w : Bool) (p t : Tree) (most :
   gains_too_deep : (old new : List ℕ) → IsCause (terms_in m).theory (norm (terms_in m).theory t) TooDeep → new ≡ old ++ too_deep_line → GainsListed m ns w p t most has_ended old new
   gains_overflow : (old new : List ℕ) → IsCause (terms_in m).theory (norm (terms_in m).theory t) Overflow → new ≡ old ++ overflow_line → GainsListed m ns w p t most has_ended old new
 
-pub record GainsTerms (ws : List Word) (m : ModuleOf) (k : ℕ) (c : RawCommand) (most : Option ℕ) (old new : List ℕ) (left : OutcomeOf) : Type 0 where
+-- the bytes of a match command with a condition, whose pattern p and subject t were read
+pub record GainsWhere (e : Environment) (ws : List Word) (m : ModuleOf) (k : ℕ) (c : RawCommand) (most : Option ℕ) (p t : Tree) (ns : Pairs) (old new : List ℕ) (left : OutcomeOf) : Type 0 where
   pub bytes : List ℕ
-  pub answer : TermsAnswer ws m k c most left bytes
+  pub answer : WhereAnswer e ws m k c most p t ns left bytes
+  pub gained : new ≡ old ++ bytes
+
+-- the bytes gained behind its head, where its condition is cond
+pub record GainsListingWhere (m : ModuleOf) (e : Meanings) (cond : List Fragment) (q : QueryOf) (most : Option ℕ) (left : OutcomeOf) (old new : List ℕ) : Type 0 where
+  pub found : List Matcher
+  pub ending : Ending
+  pub listing : ShowsWhere m e cond q most found ending
+  pub leaves : left ≡ left_where ending (shown_more q found) cond
+  pub gained : new ≡ old ++ where_lines m e.limit q found ending
+
+pub data GainsListedWhere (m : ModuleOf) (e : Meanings) (cond : List Fragment) (q : QueryOf) (most : Option ℕ) : OutcomeOf → List ℕ → List ℕ → Type 0 where
+  gains_solutions_where : (left : OutcomeOf) (old new : List ℕ) → IsWithin (terms_in m).theory (norm (terms_in m).theory q.subject) → GainsListingWhere m e cond q most left old new
+      → GainsListedWhere m e cond q most left old new
+  gains_too_deep_where : (old new : List ℕ) → IsCause (terms_in m).theory (norm (terms_in m).theory q.subject) TooDeep → new ≡ old ++ too_deep_line
+      → GainsListedWhere m e cond q most has_ended old new
+  gains_overflow_where : (old new : List ℕ) → IsCause (terms_in m).theory (norm (terms_in m).theory q.subject) Overflow → new ≡ old ++ overflow_line
+      → GainsListedWhere m e cond q most has_ended old new
+
+pub record GainsTerms (e : Environment) (ws : List Word) (m : ModuleOf) (k : ℕ) (c : RawCommand) (most : Option ℕ) (old new : List ℕ) (left : OutcomeOf) : Type 0 where
+  pub bytes : List ℕ
+  pub answer : TermsAnswer e ws m k c most left bytes
   pub gained : new ≡ old ++ bytes
 
 -- the bytes of a match command over the module with the number n
-pub data ChosenAnswer (ws : List Word) (st : StateOf) (k i : ℕ) (c : RawCommand) (n : ℕ) : StateOf → List ℕ → Bool → Type 0 where
-  chosen_not_built : (m : ModuleOf) → slice_get st.modules n ≡ Some m → uses_memberships m ≡ true → ChosenAnswer ws st k i c n st (refusal_line k ws (NotBuilt i)) true
+pub data ChosenAnswer (e : Environment) (ws : List Word) (st : StateOf) (k i : ℕ) (c : RawCommand) (n : ℕ) : StateOf → List ℕ → Bool → Type 0 where
+  chosen_not_built : (m : ModuleOf) → slice_get st.modules n ≡ Some m → uses_memberships m ≡ true → ChosenAnswer e ws st k i c n st (refusal_line k ws (NotBuilt i)) true
   chosen_refused : (m : ModuleOf) (r : Refusal) → slice_get st.modules n ≡ Some m → uses_memberships m ≡ false → bound_of ws c.bound ≡ Err r
-      → ChosenAnswer ws st k i c n st (refusal_line k ws r) true
+      → ChosenAnswer e ws st k i c n st (refusal_line k ws r) true
   chosen_answered : (m : ModuleOf) (most : Option ℕ) (left : OutcomeOf) (bytes : List ℕ) → slice_get st.modules n ≡ Some m → uses_memberships m ≡ false → bound_of ws c.bound ≡ Ok most
-      → TermsAnswer ws m k c most left bytes → ChosenAnswer ws st k i c n (state_after st n left) bytes (refuses left)
+      → TermsAnswer e ws m k c most left bytes → ChosenAnswer e ws st k i c n (state_after st n left) bytes (refuses left)
 
-pub record GainsChosen (ws : List Word) (st : StateOf) (k i : ℕ) (c : RawCommand) (n : ℕ) (next : StateOf) (old new : List ℕ) (refused : Bool) : Type 0 where
+pub record GainsChosen (e : Environment) (ws : List Word) (st : StateOf) (k i : ℕ) (c : RawCommand) (n : ℕ) (next : StateOf) (old new : List ℕ) (refused : Bool) : Type 0 where
   pub bytes : List ℕ
-  pub answer : ChosenAnswer ws st k i c n next bytes refused
+  pub answer : ChosenAnswer e ws st k i c n next bytes refused
   pub gained : new ≡ old ++ bytes
 
-pub record GainsMatch (ws : List Word) (st : StateOf) (k i : ℕ) (c : RawCommand) (next : StateOf) (old new : List ℕ) (refused : Bool) : Type 0 where
+pub record GainsMatch (e : Environment) (ws : List Word) (st : StateOf) (k i : ℕ) (c : RawCommand) (next : StateOf) (old new : List ℕ) (refused : Bool) : Type 0 where
   pub bytes : List ℕ
-  pub answer : MatchAnswer ws st k i c next bytes refused
+  pub answer : MatchAnswer e ws st k i c next bytes refused
   pub gained : new ≡ old ++ bytes
 
 -- a query over the module with the number n has gone on
@@ -75,9 +100,20 @@ pub record GainsOn (st : StateOf) (k n : ℕ) (q : QueryOf) (most : Option ℕ) 
   pub gained : new ≡ old ++ (continue_head k «module» ++ listing_lines «module» q.variables q.with_context q.pattern q.shown found ended)
   pub answered : refused ≡ false
 
-pub record GainsContinue (ws : List Word) (st : StateOf) (k : ℕ) (c : RawCommand) (next : StateOf) (old new : List ℕ) (refused : Bool) : Type 0 where
+-- the same with a condition
+pub record GainsOnWhere (e : Environment) (st : StateOf) (k n : ℕ) (q : QueryOf) (cond : List Fragment) (most : Option ℕ) (next : StateOf) (old new : List ℕ) (refused : Bool) : Type 0 where
+  pub «module» : ModuleOf
+  pub there : slice_get st.modules n ≡ Some «module»
+  pub found : List Matcher
+  pub ending : Ending
+  pub shows : ShowsWhere «module» (meanings_in e «module») cond q most found ending
+  pub after : next ≡ state_after st n (left_where ending (shown_more q found) cond)
+  pub gained : new ≡ old ++ (continue_head k «module» ++ where_lines «module» e.budget q found ending)
+  pub answered : refused ≡ false
+
+pub record GainsContinue (e : Environment) (ws : List Word) (st : StateOf) (k : ℕ) (c : RawCommand) (next : StateOf) (old new : List ℕ) (refused : Bool) : Type 0 where
   pub bytes : List ℕ
-  pub answer : ContinueAnswer ws st k c next bytes refused
+  pub answer : ContinueAnswer e ws st k c next bytes refused
   pub gained : new ≡ old ++ bytes
 
 pub record GainsSetting (ws : List Word) (st : StateOf) (k i : ℕ) (s : Setting) (next : StateOf) (old new : List ℕ) (refused : Bool) : Type 0 where

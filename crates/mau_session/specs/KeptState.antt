@@ -4,14 +4,23 @@ use Rattle.std.specs.Option.{option_map}
 use Rattle.mau_module.specs.Modules.{ModuleOf}
 use Rattle.mau_module.specs.Library.{HasPrelude}
 use Rattle.mau_session.specs.KeptQuery.{query_of, IsReady}
+use Rattle.mau_session.specs.KeptWhere.{IsReadyWhere}
+use Rattle.mau_session.specs.KeptRun.{rule_run_of, IsReadyRun}
 use Rattle.mau_session.specs.declared.state.State.{State}
+use Rattle.mau_session.specs.declared.state.Continued.{Continued}
+use Rattle.mau_session.specs.declared.state.Continued.TheVariants.{Listing, ListingWhere, Rules}
 use Rattle.mau_session.specs.declared.state.Going.{Going}
 use Rattle.mau_session.specs.declared.state.Outcome.{Outcome}
 use Rattle.mau_session.specs.declared.state.Outcome.TheVariants.{Refused, Ended, GoesOn}
-use Rattle.mau_session.specs.State.{a_listing, GoingOf, StateOf, OutcomeOf, is_refused, has_ended, goes_on}
+use Rattle.mau_session.specs.State.{ContinuedOf, a_listing, a_listing_where, a_rule_run, GoingOf, StateOf, OutcomeOf, is_refused, has_ended, goes_on}
+
+abbrev pub continued_of : Continued → ContinuedOf
+continued_of (Listing q) = a_listing (query_of q)
+continued_of (ListingWhere k) = a_listing_where (query_of k.query) k.cond
+continued_of (Rules r) = a_rule_run (rule_run_of r)
 
 abbrev pub going_of : Going → GoingOf
-going_of g = record { number = g.number; what = a_listing (query_of g.query) }
+going_of g = record { number = g.number; what = continued_of g.what }
 
 abbrev pub state_of : State → StateOf
 state_of s = record { modules = s.library; current = s.current; going = option_map going_of s.going }
@@ -19,13 +28,19 @@ state_of s = record { modules = s.library; current = s.current; going = option_m
 abbrev pub outcome_of : Outcome → OutcomeOf
 outcome_of Refused = is_refused
 outcome_of Ended = has_ended
-outcome_of (GoesOn q) = goes_on (a_listing (query_of q))
+outcome_of (GoesOn w) = goes_on (continued_of w)
 
--- the query is ready over the module with a number
+-- it can go on over a module
+abbrev pub IsReadyOver : ModuleOf → Continued → Type 0
+IsReadyOver m (Listing q) = IsReady m.signature q
+IsReadyOver m (ListingWhere k) = IsReadyWhere m k
+IsReadyOver m (Rules r) = IsReadyRun m r
+
+-- it can go on over the module with a number
 pub record IsReadyAt (ms : List ModuleOf) (g : Going) : Type 0 where
   pub «module» : ModuleOf
   pub there : slice_get ms g.number ≡ Some «module»
-  pub ready : IsReady «module».signature g.query
+  pub ready : IsReadyOver «module» g.what
 
 -- the modules of the prelude are there, the current module is one, and so is that of what goes on
 pub record IsReadyState (s : State) : Type 0 where
@@ -33,8 +48,8 @@ pub record IsReadyState (s : State) : Type 0 where
   pub current : s.current < length s.library
   pub going : IfSome s.going (IsReadyAt s.library)
 
--- what goes on is ready over a module
+-- so can what a command leaves
 abbrev pub IsReadyOutcome : ModuleOf → Outcome → Type 0
 IsReadyOutcome m Refused = Unit {0}
 IsReadyOutcome m Ended = Unit {0}
-IsReadyOutcome m (GoesOn q) = IsReady m.signature q
+IsReadyOutcome m (GoesOn w) = IsReadyOver m w

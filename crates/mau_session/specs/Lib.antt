@@ -15,9 +15,13 @@ pub mod Answers
 pub mod Built
 -- what is kept between items
 pub mod Query
+pub mod RuleRun
 pub mod State
+pub mod RunLines
 pub mod Bounds
+pub mod Where
 -- the bytes of all answers, and the program
+pub mod RewriteAnswer
 pub mod Transcript
 pub mod Meanings
 pub mod Run
@@ -30,4 +34,8 @@ pub mod Parts
 pub mod Next
 pub mod Gains
 pub mod KeptQuery
+pub mod KeptTerms
+pub mod KeptWhere
+pub mod KeptRun
 pub mod KeptState
+pub mod RunGains

@@ -5,7 +5,8 @@ use Rattle.mau_bytes.specs.Faults.{Rose}
 use Rattle.mau_formula.specs.Operator.{Operator}
 use Rattle.mau_session.specs.Transcript.{Transcript}
 use Rattle.mau_session.specs.Environment.{environment_of}
-use Rattle.mau_session.specs.Meanings.{budget_of, has_meaning}
+use Rattle.mau_session.specs.declared.meaning.Meaning.TheVariants.{Run}
+use Rattle.mau_session.specs.Meanings.{meaning_of, is_session}
 use Rattle.mau_session.specs.declared.top.Status.{Status}
 use Rattle.mau_session.specs.declared.top.Status.TheVariants.{Done, Refused, Usage, ReadFault, WriteFault, NoMemory, InputTooLong}
 
@@ -18,7 +19,7 @@ pub record IsRead (left left' : Option (List ℕ)) (text : List ℕ) : Type 0 wh
 -- the text was read, and its transcript written, with these native operators and the budget that the words ask for
 pub record IsAnswered (operators : List Operator) (words : List (List ℕ)) (left left' written written' : Option (List ℕ)) (refused : Bool) : Type 0 where
   pub budget : ℕ
-  pub asked : budget_of words ≡ Some budget
+  pub asked : meaning_of words ≡ Some (Run budget)
   pub text : List ℕ
   pub bytes : List ℕ
   pub read : IsRead left left' text
@@ -28,7 +29,7 @@ pub record IsAnswered (operators : List Operator) (words : List (List ℕ)) (lef
 -- the text was read, and the first bytes of its transcript were written
 pub record IsCut (operators : List Operator) (words : List (List ℕ)) (left left' written written' : Option (List ℕ)) : Type 0 where
   pub budget : ℕ
-  pub asked : budget_of words ≡ Some budget
+  pub asked : meaning_of words ≡ Some (Run budget)
   pub text : List ℕ
   pub bytes : List ℕ
   pub refused : Bool
@@ -41,8 +42,8 @@ pub record IsCut (operators : List Operator) (words : List (List ℕ)) (left lef
 -- A run with native operators under the words of a command line, by its status: counts of faults of the source and of the sink before and after it, what is left in the
 -- source, and what the sink has.
 pub record IsRun (operators : List Operator) (words : List (List ℕ)) (reads reads' writes writes' : ℕ) (left left' written written' : Option (List ℕ)) (status : Status) : Type 0 where
-  -- the words have no meaning; then nothing is read
-  pub usage : (status ≡ Usage) ↔ (has_meaning words ≡ false)
+  -- the words have no meaning, or one that is not answered yet; then nothing is read
+  pub usage : (status ≡ Usage) ↔ (is_session (meaning_of words) ≡ false)
   pub unread : status ≡ Usage → left' ≡ left
   -- all of a text is read, and its transcript is out; a refusal in it is told by the status
   pub done : status ≡ Done → IsAnswered operators words left left' written written' false
@@ -56,6 +57,6 @@ pub record IsRun (operators : List Operator) (words : List (List ℕ)) (reads re
   pub write_fault : status ≡ WriteFault → Rose writes writes'
   -- what was read: one byte more than the limit exactly where the text is too long
   pub taken : (bytes : List ℕ) × (left ≡ prepend_known bytes left') × (length bytes ≤ 16777217) × ((status ≡ InputTooLong) ↔ (length bytes ≡ 16777217))
-  -- where the words have a meaning, no fault rises and the text isn't too long, the whole transcript is out, or memory was wanting
-  pub complete : has_meaning words ≡ true → (Rose reads reads' → ⊥) → (Rose writes writes' → ⊥) → ((bytes : List ℕ) → left ≡ prepend_known bytes left' → length bytes ≤ 16777216)
+  -- where a session is asked for, no fault rises and the text isn't too long, the whole transcript is out, or memory was wanting
+  pub complete : is_session (meaning_of words) ≡ true → (Rose reads reads' → ⊥) → (Rose writes writes' → ⊥) → ((bytes : List ℕ) → left ≡ prepend_known bytes left' → length bytes ≤ 16777216)
       → (status ≡ Done) ⊎ (status ≡ Refused) ⊎ (status ≡ NoMemory)

@@ -4,10 +4,12 @@ use Rattle.mau_tokens.specs.declared.token.Token.{Token}
 use Rattle.mau_modtext.specs.Word.{Word}
 use Rattle.mau_modtext.specs.declared.raw.RawCommand.{RawCommand}
 use Rattle.mau_declare.specs.Words.{token_text, token_index}
+use Rattle.mau_program.specs.declared.statements.Fragment.{Fragment}
 use Rattle.mau_module.specs.Modules.{ModuleOf}
 use Rattle.mau_module.specs.Library.{last_named, nat}
 use Rattle.mau_module.specs.Prelude.{prelude}
 use Rattle.mau_session.specs.Query.{QueryOf}
+use Rattle.mau_session.specs.RuleRun.{RuleRunOf}
 use Rattle.mau_session.specs.declared.refusal.Refusal.{Refusal}
 use Rattle.mau_session.specs.declared.refusal.Refusal.TheVariants.{UnknownModule}
 
@@ -15,6 +17,10 @@ use Rattle.mau_session.specs.declared.refusal.Refusal.TheVariants.{UnknownModule
 pub data ContinuedOf : Type 0 where
   -- a listing of solutions
   a_listing : QueryOf → ContinuedOf
+  -- a listing of those under which a condition holds
+  a_listing_where : QueryOf → List Fragment → ContinuedOf
+  -- a rule run
+  a_rule_run : RuleRunOf → ContinuedOf
 
 -- what `continue` goes on with, over the module with this number
 pub record GoingOf : Type 0 where

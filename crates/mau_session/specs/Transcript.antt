@@ -24,6 +24,8 @@ use Rattle.mau_parse.specs.declared.goals.Goal.TheVariants.{AnyKind, Kind}
 use Rattle.mau_parse.specs.declared.fault.ParseFault.{ParseFault}
 use Rattle.mau_parse.specs.declared.fault.ParseFault.TheVariants.{NoMemory as NoMemoryOfParse}
 use Rattle.mau_declare.specs.Words.{index_at, token_index, first_index}
+use Rattle.mau_program.specs.declared.statements.Fragment.{Fragment}
+use Rattle.mau_conditional.specs.Where.{Ending}
 use Rattle.mau_module.specs.Modules.{ModuleOf}
 use Rattle.mau_module.specs.Library.{last_named}
 use Rattle.mau_module.specs.declared.fault.ModuleFault.{ModuleFault}
@@ -34,13 +36,18 @@ use Rattle.mau_session.specs.Terms.{Pairs, terms_in, kind_of_term}
 use Rattle.mau_statement.specs.Parts.{TermReads, IsUnread, is_empty}
 use Rattle.mau_session.specs.Matching.{Shows}
 use Rattle.mau_results.specs.Results.{AnswerOf, MayAnswer}
+use Rattle.mau_results.specs.Runs.{RunAnswerOf, MayRun}
 use Rattle.mau_session.specs.Lines.{too_deep_line, overflow_line, answer_lines}
 use Rattle.mau_session.specs.Environment.{Environment, meanings_in}
 use Rattle.mau_session.specs.Query.{QueryOf, asked_first, shown_more}
-use Rattle.mau_session.specs.State.{a_listing, StateOf, at_first, accepted, selected, IsChosen, NamesNone, OutcomeOf, is_refused, has_ended, left_by, refuses, state_after}
+use Rattle.mau_session.specs.State.{a_listing, a_listing_where, a_rule_run, StateOf, at_first, accepted, selected, IsChosen, NamesNone, OutcomeOf, is_refused, has_ended, left_by, refuses, state_after}
+use Rattle.mau_session.specs.RuleRun.{RuleRunOf}
+use Rattle.mau_session.specs.RunLines.{run_lines, left_by_run}
+use Rattle.mau_session.specs.RewriteAnswer.{RewriteAnswer}
 use Rattle.mau_session.specs.Bounds.{bound_of}
-use Rattle.mau_session.specs.Commands.{unbuilt}
-use Rattle.mau_session.specs.Built.{is_built_module, uses_memberships, is_match, has_context, is_reduce, is_continue, fault_answer}
+use Rattle.mau_session.specs.Commands.{has_condition, unbuilt}
+use Rattle.mau_session.specs.Where.{ShowsWhere, left_where, where_lines, WhereAnswer}
+use Rattle.mau_session.specs.Built.{is_built_module, uses_memberships, is_match, has_context, is_reduce, is_rewrite, is_continue, fault_answer}
 use Rattle.mau_session.specs.Answers.{refusal_line, fault_line, parse_fault_line, module_fault_line, ok_line, unknown_module_line, module_line, match_head, continue_head, reduce_head, listing_lines}
 
 -- ---- the answer of a match command
@@ -53,45 +60,61 @@ PatternReads ws m c p ns = TermReads ws m.grammar c.first AnyKind [] ns p
 abbrev pub SubjectReads : List Word → ModuleOf → RawCommand → Bare → Pairs → Bare → Pairs → Type 0
 SubjectReads ws m c p ns t os = TermReads ws m.grammar c.second (Kind (kind_of_term m (tree_of p))) ns os t
 
--- The pattern is read in any kind, and the subject in the pattern's. A subject whose normal form is deeper than 1,000, or else holds
+-- both are read
+pub record TermsRead (ws : List Word) (m : ModuleOf) (c : RawCommand) (p t : Bare) (os : Pairs) : Type 0 where
+  pub pairs : Pairs
+  pub pattern : PatternReads ws m c p pairs
+  pub subject : SubjectReads ws m c p pairs t os
+
+-- The pattern is read in any kind, and the subject in the pattern's. Without a condition, a subject whose normal form is deeper than 1,000, or else holds
 -- the successor of the greatest numeral, has an end in place of solutions, which leaves nothing to continue. Otherwise the first
 -- solutions are listed, at most so many, or all; those of `xmatch` with their contexts.
-pub data TermsAnswer (ws : List Word) (m : ModuleOf) (k : ℕ) (c : RawCommand) (most : Option ℕ) : OutcomeOf → List ℕ → Type 0 where
-  pattern_refused : (f : ParseFault) → IsUnread ws m.grammar c.first AnyKind [] f → f ≢ NoMemoryOfParse → TermsAnswer ws m k c most is_refused (parse_fault_line k f)
+pub data TermsAnswer (e : Environment) (ws : List Word) (m : ModuleOf) (k : ℕ) (c : RawCommand) (most : Option ℕ) : OutcomeOf → List ℕ → Type 0 where
+  pattern_refused : (f : ParseFault) → IsUnread ws m.grammar c.first AnyKind [] f → f ≢ NoMemoryOfParse → TermsAnswer e ws m k c most is_refused (parse_fault_line k f)
   subject_refused : (p : Bare) (ns : Pairs) (f : ParseFault) → PatternReads ws m c p ns → IsUnread ws m.grammar c.second (Kind (kind_of_term m (tree_of p))) ns f
-      → f ≢ NoMemoryOfParse → TermsAnswer ws m k c most is_refused (parse_fault_line k f)
-  too_deep : (p : Bare) (ns : Pairs) (t : Bare) (os : Pairs) → PatternReads ws m c p ns → SubjectReads ws m c p ns t os
-      → IsCause (terms_in m).theory (norm (terms_in m).theory (tree_of t)) TooDeep → TermsAnswer ws m k c most has_ended (match_head k (has_context c.kind) m ++ too_deep_line)
-  overflows : (p : Bare) (ns : Pairs) (t : Bare) (os : Pairs) → PatternReads ws m c p ns → SubjectReads ws m c p ns t os
-      → IsCause (terms_in m).theory (norm (terms_in m).theory (tree_of t)) Overflow → TermsAnswer ws m k c most has_ended (match_head k (has_context c.kind) m ++ overflow_line)
-  listed : (p : Bare) (ns : Pairs) (t : Bare) (os : Pairs) (found : List Matcher) (ended : Bool) → PatternReads ws m c p ns → SubjectReads ws m c p ns t os
+      → f ≢ NoMemoryOfParse → TermsAnswer e ws m k c most is_refused (parse_fault_line k f)
+  too_deep : (p t : Bare) (os : Pairs) → TermsRead ws m c p t os → has_condition c ≡ false
+      → IsCause (terms_in m).theory (norm (terms_in m).theory (tree_of t)) TooDeep → TermsAnswer e ws m k c most has_ended (match_head k (has_context c.kind) m ++ too_deep_line)
+  overflows : (p t : Bare) (os : Pairs) → TermsRead ws m c p t os → has_condition c ≡ false
+      → IsCause (terms_in m).theory (norm (terms_in m).theory (tree_of t)) Overflow → TermsAnswer e ws m k c most has_ended (match_head k (has_context c.kind) m ++ overflow_line)
+  listed : (p t : Bare) (os : Pairs) (found : List Matcher) (ended : Bool) → TermsRead ws m c p t os → has_condition c ≡ false
       → IsWithin (terms_in m).theory (norm (terms_in m).theory (tree_of t)) → Shows m (has_context c.kind) (tree_of p) (tree_of t) None most found ended
-      → TermsAnswer ws m k c most (left_by ended (shown_more (asked_first (has_context c.kind) (tree_of p) (tree_of t) os) found))
+      → TermsAnswer e ws m k c most (left_by ended (shown_more (asked_first (has_context c.kind) (tree_of p) (tree_of t) os) found))
       (match_head k (has_context c.kind) m ++ listing_lines m os (has_context c.kind) (tree_of p) 0 found ended)
+  asks_where : (p t : Bare) (os : Pairs) (left : OutcomeOf) (bytes : List ℕ) → TermsRead ws m c p t os → has_condition c ≡ true
+      → WhereAnswer e ws m k c most (tree_of p) (tree_of t) os left bytes → TermsAnswer e ws m k c most left bytes
 
 -- The match command begins at the word i; the state after it is told. What isn't built in it comes before its module is looked for, a
 -- module that isn't built before its bound is judged, and all of these before its terms are read.
-pub data MatchAnswer (ws : List Word) (st : StateOf) (k i : ℕ) (c : RawCommand) : StateOf → List ℕ → Bool → Type 0 where
-  command_not_built : (l : ℕ) → unbuilt ws c ≡ Some l → MatchAnswer ws st k i c st (refusal_line k ws (NotBuilt l)) true
-  module_unknown : (t : Token) → unbuilt ws c ≡ None → NamesNone ws st c t → MatchAnswer ws st k i c st (refusal_line k ws (UnknownModule (token_index ws t))) true
+pub data MatchAnswer (e : Environment) (ws : List Word) (st : StateOf) (k i : ℕ) (c : RawCommand) : StateOf → List ℕ → Bool → Type 0 where
+  command_not_built : (l : ℕ) → unbuilt ws c ≡ Some l → MatchAnswer e ws st k i c st (refusal_line k ws (NotBuilt l)) true
+  module_unknown : (t : Token) → unbuilt ws c ≡ None → NamesNone ws st c t → MatchAnswer e ws st k i c st (refusal_line k ws (UnknownModule (token_index ws t))) true
   listing_not_built : (n : ℕ) (m : ModuleOf) → unbuilt ws c ≡ None → IsChosen ws st c n → slice_get st.modules n ≡ Some m → uses_memberships m ≡ true
-      → MatchAnswer ws st k i c st (refusal_line k ws (NotBuilt i)) true
+      → MatchAnswer e ws st k i c st (refusal_line k ws (NotBuilt i)) true
   bound_refused : (n : ℕ) (m : ModuleOf) (r : Refusal) → unbuilt ws c ≡ None → IsChosen ws st c n → slice_get st.modules n ≡ Some m → uses_memberships m ≡ false
-      → bound_of ws c.bound ≡ Err r → MatchAnswer ws st k i c st (refusal_line k ws r) true
+      → bound_of ws c.bound ≡ Err r → MatchAnswer e ws st k i c st (refusal_line k ws r) true
   command_answered : (n : ℕ) (m : ModuleOf) (most : Option ℕ) (left : OutcomeOf) (bytes : List ℕ) → unbuilt ws c ≡ None → IsChosen ws st c n
-      → slice_get st.modules n ≡ Some m → uses_memberships m ≡ false → bound_of ws c.bound ≡ Ok most → TermsAnswer ws m k c most left bytes
-      → MatchAnswer ws st k i c (state_after st n left) bytes (refuses left)
+      → slice_get st.modules n ≡ Some m → uses_memberships m ≡ false → bound_of ws c.bound ≡ Ok most → TermsAnswer e ws m k c most left bytes
+      → MatchAnswer e ws st k i c (state_after st n left) bytes (refuses left)
 
 -- ---- the answer of `continue`
 
--- It shows the solutions behind the last one shown, over the module of the command that is continued.
-pub data ContinueAnswer (ws : List Word) (st : StateOf) (k : ℕ) (c : RawCommand) : StateOf → List ℕ → Bool → Type 0 where
-  number_refused : (r : Refusal) → bound_of ws c.bound ≡ Err r → ContinueAnswer ws st k c st (refusal_line k ws r) true
-  nothing_to_continue : (most : Option ℕ) → bound_of ws c.bound ≡ Ok most → st.going ≡ None → ContinueAnswer ws st k c st (refusal_line k ws NothingToContinue) true
+-- It shows the solutions behind the last one shown, those of a listing with a condition with a new budget, or what may be answered for the rule run from where
+-- it stands, over the module of the command that is continued.
+pub data ContinueAnswer (e : Environment) (ws : List Word) (st : StateOf) (k : ℕ) (c : RawCommand) : StateOf → List ℕ → Bool → Type 0 where
+  number_refused : (r : Refusal) → bound_of ws c.bound ≡ Err r → ContinueAnswer e ws st k c st (refusal_line k ws r) true
+  nothing_to_continue : (most : Option ℕ) → bound_of ws c.bound ≡ Ok most → st.going ≡ None → ContinueAnswer e ws st k c st (refusal_line k ws NothingToContinue) true
   continued : (most : Option ℕ) (n : ℕ) (q : QueryOf) (m : ModuleOf) (found : List Matcher) (ended : Bool) → bound_of ws c.bound ≡ Ok most
       → st.going ≡ Some (record { number = n; what = a_listing q }) → slice_get st.modules n ≡ Some m → Shows m q.with_context q.pattern q.subject q.last most found ended
-      → ContinueAnswer ws st k c (state_after st n (left_by ended (shown_more q found)))
+      → ContinueAnswer e ws st k c (state_after st n (left_by ended (shown_more q found)))
       (continue_head k m ++ listing_lines m q.variables q.with_context q.pattern q.shown found ended) false
+  continued_where : (most : Option ℕ) (n : ℕ) (q : QueryOf) (cond : List Fragment) (m : ModuleOf) (found : List Matcher) (ending : Ending) → bound_of ws c.bound ≡ Ok most
+      → st.going ≡ Some (record { number = n; what = a_listing_where q cond }) → slice_get st.modules n ≡ Some m → ShowsWhere m (meanings_in e m) cond q most found ending
+      → ContinueAnswer e ws st k c (state_after st n (left_where ending (shown_more q found) cond)) (continue_head k m ++ where_lines m e.budget q found ending) false
+  run_continued : (most : Option ℕ) (n : ℕ) (r : RuleRunOf) (m : ModuleOf) (a : RunAnswerOf) → bound_of ws c.bound ≡ Ok most
+      → st.going ≡ Some (record { number = n; what = a_rule_run r }) → slice_get st.modules n ≡ Some m → uses_memberships m ≡ false
+      → MayRun (meanings_in e m) e.remembers most r.stand a
+      → ContinueAnswer e ws st k c (state_after st n (left_by_run r.variables a)) (continue_head k m ++ run_lines m r.variables e.budget a) false
 
 -- ---- the answer of a reduce command
 
@@ -130,15 +153,17 @@ pub data BodyAnswer (e : Environment) (ws : List Word) (st : StateOf) (k i : ℕ
       → BodyAnswer e ws st k i (Module raw) (accepted st m) (module_line k m) false
   module_refused : (raw : RawModule) (f : ModuleFault) → is_built_module raw.kind ≡ true → FlattenedAs st.modules ws raw (Err f)
       → BodyAnswer e ws st k i (Module raw) st (module_fault_line k f) true
-  match_answered : (c : RawCommand) (next : StateOf) (bytes : List ℕ) (refused : Bool) → is_match c.kind ≡ true → MatchAnswer ws st k i c next bytes refused
+  match_answered : (c : RawCommand) (next : StateOf) (bytes : List ℕ) (refused : Bool) → is_match c.kind ≡ true → MatchAnswer e ws st k i c next bytes refused
       → BodyAnswer e ws st k i (Command c) next bytes refused
   continue_answered : (c : RawCommand) (next : StateOf) (bytes : List ℕ) (refused : Bool) → is_match c.kind ≡ false → is_continue c.kind ≡ true
-      → ContinueAnswer ws st k c next bytes refused → BodyAnswer e ws st k i (Command c) next bytes refused
+      → ContinueAnswer e ws st k c next bytes refused → BodyAnswer e ws st k i (Command c) next bytes refused
   reduce_is_answered : (c : RawCommand) (next : StateOf) (bytes : List ℕ) (refused : Bool) → is_match c.kind ≡ false → is_continue c.kind ≡ false → is_reduce c.kind ≡ true
       → ReduceAnswer e ws st k i c next bytes refused → BodyAnswer e ws st k i (Command c) next bytes refused
-  other_unknown : (c : RawCommand) (t : Token) → is_match c.kind ≡ false → is_continue c.kind ≡ false → is_reduce c.kind ≡ false → NamesNone ws st c t
+  rewrite_is_answered : (c : RawCommand) (next : StateOf) (bytes : List ℕ) (refused : Bool) → is_match c.kind ≡ false → is_continue c.kind ≡ false → is_reduce c.kind ≡ false
+      → is_rewrite c.kind ≡ true → RewriteAnswer e ws st k i c next bytes refused → BodyAnswer e ws st k i (Command c) next bytes refused
+  other_unknown : (c : RawCommand) (t : Token) → is_match c.kind ≡ false → is_continue c.kind ≡ false → is_reduce c.kind ≡ false → is_rewrite c.kind ≡ false → NamesNone ws st c t
       → BodyAnswer e ws st k i (Command c) st (refusal_line k ws (UnknownModule (token_index ws t))) true
-  other_not_built : (c : RawCommand) (n : ℕ) → is_match c.kind ≡ false → is_continue c.kind ≡ false → is_reduce c.kind ≡ false → IsChosen ws st c n
+  other_not_built : (c : RawCommand) (n : ℕ) → is_match c.kind ≡ false → is_continue c.kind ≡ false → is_reduce c.kind ≡ false → is_rewrite c.kind ≡ false → IsChosen ws st c n
       → BodyAnswer e ws st k i (Command c) st (refusal_line k ws (NotBuilt i)) true
   setting_answered : (s : Setting) (next : StateOf) (bytes : List ℕ) (refused : Bool) → SettingAnswer ws st k i s next bytes refused
       → BodyAnswer e ws st k i (SettingBody s) next bytes refused

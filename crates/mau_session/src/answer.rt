@@ -1,5 +1,5 @@
 //! The answers of items.
-ghost use Rattle.std.specs.Prelude.{◌≡◌, ◌≢◌, ◌<◌, ◌≤◌, ◌++◌, ℕ, List, [], length, take, true, false, All, OnOk, Ok, IfOk};
+ghost use Rattle.std.specs.Prelude.{◌≡◌, ◌≢◌, ◌<◌, ◌≤◌, ◌++◌, ℕ, List, [], length, slice_get, take, true, false, All, Some, OnOk, Ok, IfOk};
 ghost use Rattle.mau_terms.specs.Bare.{IsBare};
 ghost use Rattle.mau_terms.specs.Subst.{variables};
 ghost use Rattle.mau_terms.specs.View.{tree_of};
@@ -8,27 +8,36 @@ ghost use Rattle.mau_session.specs.Matching.{numbered_from};
 ghost use Rattle.mau_modtext.specs.Word.{Word};
 ghost use Rattle.mau_modtext.specs.declared.raw.Setting.TheVariants as Setting;
 ghost use Rattle.mau_modtext.specs.declared.raw.RawBody.TheVariants as RawBody;
-ghost use Rattle.mau_session.specs.State.{at_first};
-ghost use Rattle.mau_session.specs.KeptState.{state_of, outcome_of, IsReadyState, IsReadyAt, IsReadyOutcome};
+ghost use Rattle.mau_session.specs.State.{StateOf, at_first};
+ghost use Rattle.mau_session.specs.KeptState.{state_of, outcome_of, going_of, IsReadyState, IsReadyAt, IsReadyOutcome};
 ghost use Rattle.mau_session.specs.declared.state.Outcome.TheVariants as Outcome;
 ghost use Rattle.mau_module.specs.Modules.{ModuleOf};
+ghost use Rattle.mau_session.specs.Bounds;
 ghost use Rattle.mau_session.specs.KeptQuery.{query_of, IsReady};
-ghost use Rattle.mau_session.specs.Answers.{module_line, match_name, match_head, continue_head, refusal_line, parse_fault_line, ok_line, unknown_module_line};
+ghost use Rattle.mau_session.specs.KeptRun.{rule_run_of, IsReadyRun};
+ghost use Rattle.mau_session.specs.RunGains.{GainsRunOn};
+ghost use Rattle.mau_session.specs.Answers.{module_line, refusal_line, parse_fault_line, ok_line, unknown_module_line};
 ghost use Rattle.mau_statement.specs.Parts.{is_empty};
 ghost use Rattle.mau_session.specs.Reading.{IsBareOf};
+ghost use Rattle.mau_session.specs.Built;
 ghost use Rattle.mau_session.specs.Built.{fault_answer};
+ghost use Rattle.mau_session.specs.Commands.{has_rewriting};
+ghost use Rattle.mau_session.specs.KeptTerms.{AreUsable};
+ghost use Rattle.mau_program.specs.LawfulPrograms.{IsLawfulProgram};
+ghost use Rattle.mau_module.specs.Lawful.{program_of};
 ghost use Rattle.mau_formula.specs.Operators.{operators};
 ghost use Rattle.mau_built_ins.specs.NativeNumerals.{GivesNumerals};
 ghost use Rattle.mau_session.specs.Environment.{Environment, environment_of};
-ghost use Rattle.mau_session.specs.Transcript.{ItemsAnswer, PatternReads};
+ghost use Rattle.mau_session.specs.Transcript.{ItemsAnswer, PatternReads, TermsRead};
 ghost use Rattle.mau_session.specs.Gains.{GainsListed, GainsTerms, GainsChosen, GainsMatch, GainsOn, GainsContinue, GainsSetting, GainsBody, GainsItem};
 
 use crate::bounds::bound_of;
 use crate::built::{
-    begins_unbuilt, has_context, is_built_module, is_continue, is_match, is_reduce, is_unended,
-    quits, uses_memberships,
+    begins_unbuilt, has_context, is_built_module, is_continue, is_match, is_reduce, is_rewrite,
+    is_unended, quits, uses_memberships,
 };
-use crate::command::unbuilt;
+use crate::command::{has_condition, unbuilt};
+use crate::heads::{write_continue_head, write_match_head};
 use crate::listings::show_query;
 use crate::query::Query;
 use crate::reading::{kind_of_term, read_term};
@@ -37,8 +46,12 @@ use crate::refusal::{
     Refusal, refuse, refuse_term, write_faulty, write_head, write_module_fault, write_refusal,
     write_text_fault,
 };
+use crate::rewrite::{answer_rewrite, run_on};
+use crate::running::Running;
 use crate::session::Session;
-use crate::state::{Going, Outcome, State};
+use crate::state::{Continued, Going, Outcome, State};
+use crate::such_that::{answer_where, list_where_on};
+use crate::terms::Terms;
 use mau_canon::BuildFault;
 use mau_declare::{Words, write_text};
 use mau_modtext::{RawBody, RawCommand, RawItem, RawModule, Setting, TextFault};
@@ -46,39 +59,6 @@ use mau_module::Module;
 use mau_parse::Goal;
 use mau_terms::{Bare, NoMemory, Vars};
 use std::alloc::Global;
-
-/// What a command is called, by whether its solutions have contexts.
-fn match_name_of(with_context: bool) -> &'static str
-    ensures { result.now ≡ match_name with_context }
-{
-    if with_context { "xmatch" } else { "match" }
-}
-
-/// Writes what a listing begins with.
-fn write_match_head(
-    out: &mut Vec<u8>,
-    number: usize,
-    with_context: bool,
-    module: &Module,
-) -> Result<(), NoMemory>
-    ensures { OnOk result (out.new.items ≡ out.old.items ++ match_head number with_context module.now) }
-{
-    write_head(out, number)?;
-    write_text(out, match_name_of(with_context))?;
-    write_text(out, " in ")?;
-    write_text(out, module.name())?;
-    write_text(out, "\n")
-}
-
-/// Writes what a listing begins with that goes on.
-fn write_continue_head(out: &mut Vec<u8>, number: usize, module: &Module) -> Result<(), NoMemory>
-    ensures { OnOk result (out.new.items ≡ out.old.items ++ continue_head number module.now) }
-{
-    write_head(out, number)?;
-    write_text(out, "continue in ")?;
-    write_text(out, module.name())?;
-    write_text(out, "\n")
-}
 
 /// Writes the answer of an accepted module.
 fn write_module(out: &mut Vec<u8>, number: usize, module: &Module) -> Result<(), NoMemory>
@@ -98,7 +78,7 @@ fn left_by(query: Query, has_ended: bool) -> Outcome
     if has_ended {
         Outcome::Ended
     } else {
-        Outcome::GoesOn(query)
+        Outcome::GoesOn(Continued::Listing(query))
     }
 }
 
@@ -147,11 +127,47 @@ fn answer_listing(
     }
 }
 
+/// Answers a match command over a module, whose terms were read. Gives what it leaves.
+fn answer_read(
+    out: &mut Vec<u8>,
+    session: &Session,
+    module: &Module,
+    number: usize,
+    command: &RawCommand,
+    most: Option<u64>,
+    terms: Terms,
+) -> Result<Outcome, NoMemory>
+    requires lawful { IsLawfulProgram (program_of module.now) }
+    requires plain { Built.uses_memberships module.now ≡ false }
+    requires numerals { All GivesNumerals (operators session.now.hooks.now) }
+    requires no_rewriting { has_rewriting command.now.cond ≡ false }
+    requires read { TermsRead session.now.words.now module.now command.now terms.pattern terms.subject terms.vars }
+    requires usable { AreUsable module.now terms }
+    ensures gained { IfOk result (λ left. GainsTerms (environment_of (operators session.now.hooks.now) session.now.limit) session.now.words.now
+        module.now number command.now most out.old.items out.new.items (outcome_of left)) }
+    ensures ready { IfOk result (IsReadyOutcome module.now) }
+{
+    if has_condition(command) {
+        return answer_where(out, session, module, number, command, most, terms);
+    }
+    let with_context = has_context(command.kind);
+    write_match_head(out, number, with_context, module)?;
+    answer_listing(
+        out,
+        session.alloc,
+        module,
+        with_context,
+        terms.vars,
+        terms.pattern,
+        terms.subject,
+        most,
+    )
+}
+
 /// Answers a match command over a module, whose pattern was read. Gives what it leaves.
 fn answer_subject(
     out: &mut Vec<u8>,
-    alloc: Global,
-    words: &Words,
+    session: &Session,
     module: &Module,
     number: usize,
     command: &RawCommand,
@@ -159,20 +175,24 @@ fn answer_subject(
     vars: Vars,
     pattern: Bare,
 ) -> Result<Outcome, NoMemory>
-    requires few { length words.now ≤ 16777216 }
+    requires few { length session.now.words.now ≤ 16777216 }
+    requires lawful { IsLawfulProgram (program_of module.now) }
+    requires plain { Built.uses_memberships module.now ≡ false }
+    requires numerals { All GivesNumerals (operators session.now.hooks.now) }
     requires room { length vars ≤ 16777216 }
-    requires subject { is_empty words.now command.now.second ≡ false }
-    requires pattern { PatternReads words.now module.now command.now pattern vars }
+    requires subject { is_empty session.now.words.now command.now.second ≡ false }
+    requires no_rewriting { has_rewriting command.now.cond ≡ false }
+    requires pattern { PatternReads session.now.words.now module.now command.now pattern vars }
     requires bare { IsBareOf module.now Goal.AnyKind pattern }
-    ensures gained { IfOk result (λ left. GainsTerms words.now
+    ensures gained { IfOk result (λ left. GainsTerms (environment_of (operators session.now.hooks.now) session.now.limit) session.now.words.now
         module.now number command.now most out.old.items out.new.items (outcome_of left)) }
     ensures ready { IfOk result (IsReadyOutcome module.now) }
 {
     let mut vars = vars;
     let goal = Goal::Kind(kind_of_term(module, &pattern));
     match read_term(
-        alloc,
-        words,
+        session.alloc,
+        session.words,
         module,
         &mut vars,
         goal,
@@ -180,18 +200,12 @@ fn answer_subject(
     ) {
         Err(fault) => refuse_term(out, number, &fault),
         Ok(subject) => {
-            let with_context = has_context(command.kind);
-            write_match_head(out, number, with_context, module)?;
-            answer_listing(
-                out,
-                alloc,
-                module,
-                with_context,
-                vars,
+            let terms = Terms {
                 pattern,
                 subject,
-                most,
-            )
+                vars,
+            };
+            answer_read(out, session, module, number, command, most, terms)
         }
     }
 }
@@ -199,56 +213,59 @@ fn answer_subject(
 /// Answers a match command over a module. Gives what it leaves.
 fn answer_terms(
     out: &mut Vec<u8>,
-    alloc: Global,
-    words: &Words,
+    session: &Session,
     module: &Module,
     number: usize,
     command: &RawCommand,
     most: Option<u64>,
 ) -> Result<Outcome, NoMemory>
-    requires few { length words.now ≤ 16777216 }
-    requires pattern { is_empty words.now command.now.first ≡ false }
-    requires subject { is_empty words.now command.now.second ≡ false }
-    ensures gained { IfOk result (λ left. GainsTerms words.now
+    requires few { length session.now.words.now ≤ 16777216 }
+    requires lawful { IsLawfulProgram (program_of module.now) }
+    requires plain { Built.uses_memberships module.now ≡ false }
+    requires numerals { All GivesNumerals (operators session.now.hooks.now) }
+    requires pattern { is_empty session.now.words.now command.now.first ≡ false }
+    requires subject { is_empty session.now.words.now command.now.second ≡ false }
+    requires no_rewriting { has_rewriting command.now.cond ≡ false }
+    ensures gained { IfOk result (λ left. GainsTerms (environment_of (operators session.now.hooks.now) session.now.limit) session.now.words.now
         module.now number command.now most out.old.items out.new.items (outcome_of left)) }
     ensures ready { IfOk result (IsReadyOutcome module.now) }
 {
-    let mut vars = Vars::new(alloc);
+    let mut vars = Vars::new(session.alloc);
     match read_term(
-        alloc,
-        words,
+        session.alloc,
+        session.words,
         module,
         &mut vars,
         Goal::AnyKind,
         command.first.items(),
     ) {
         Err(fault) => refuse_term(out, number, &fault),
-        Ok(pattern) => answer_subject(
-            out, alloc, words, module, number, command, most, vars, pattern,
-        ),
+        Ok(pattern) => answer_subject(out, session, module, number, command, most, vars, pattern),
     }
 }
 
 /// Answers a match command that begins at the word `item`, over the module with the number `chosen`. Says whether it was refused.
 fn answer_chosen(
     out: &mut Vec<u8>,
-    alloc: Global,
-    words: &Words,
+    session: &Session,
     state: &mut State,
     number: usize,
     item: usize,
     command: &RawCommand,
     chosen: usize,
 ) -> Result<bool, NoMemory>
-    requires few { length words.now ≤ 16777216 }
+    requires few { length session.now.words.now ≤ 16777216 }
+    requires numerals { All GivesNumerals (operators session.now.hooks.now) }
     requires ready { IsReadyState state.old }
     requires within { chosen < length state.old.library }
-    requires pattern { is_empty words.now command.now.first ≡ false }
-    requires subject { is_empty words.now command.now.second ≡ false }
-    ensures gained { IfOk result (GainsChosen words.now (state_of state.old) number item command.now chosen
+    requires pattern { is_empty session.now.words.now command.now.first ≡ false }
+    requires subject { is_empty session.now.words.now command.now.second ≡ false }
+    requires no_rewriting { has_rewriting command.now.cond ≡ false }
+    ensures gained { IfOk result (GainsChosen (environment_of (operators session.now.hooks.now) session.now.limit) session.now.words.now (state_of state.old) number item command.now chosen
         (state_of state.new) out.old.items out.new.items) }
     ensures ready { OnOk result (IsReadyState state.new) }
 {
+    let words = session.words;
     let module = state.library.module(chosen);
     if uses_memberships(module) {
         return refuse(out, words, number, Refusal::NotBuilt(item));
@@ -256,7 +273,7 @@ fn answer_chosen(
     match bound_of(words, command.bound) {
         Err(refusal) => refuse(out, words, number, refusal),
         Ok(most) => {
-            let left = answer_terms(out, alloc, words, module, number, command, most)?;
+            let left = answer_terms(out, session, module, number, command, most)?;
             Ok(state.conclude(chosen, left))
         }
     }
@@ -265,70 +282,130 @@ fn answer_chosen(
 /// Answers a match command that begins at the word `item`. Says whether it was refused.
 fn answer_match(
     out: &mut Vec<u8>,
-    alloc: Global,
-    words: &Words,
+    session: &Session,
     state: &mut State,
     number: usize,
     item: usize,
     command: &RawCommand,
 ) -> Result<bool, NoMemory>
-    requires few { length words.now ≤ 16777216 }
+    requires few { length session.now.words.now ≤ 16777216 }
+    requires numerals { All GivesNumerals (operators session.now.hooks.now) }
     requires ready { IsReadyState state.old }
-    ensures gained { IfOk result (GainsMatch words.now (state_of state.old) number item command.now
+    ensures gained { IfOk result (GainsMatch (environment_of (operators session.now.hooks.now) session.now.limit) session.now.words.now (state_of state.old) number item command.now
         (state_of state.new) out.old.items out.new.items) }
     ensures ready { OnOk result (IsReadyState state.new) }
 {
+    let words = session.words;
     match unbuilt(words, command) {
         Some(word) => refuse(out, words, number, Refusal::NotBuilt(word)),
         None => match state.choose(words, command) {
             Err(refusal) => refuse(out, words, number, refusal),
-            Ok(chosen) => { answer_chosen(out, alloc, words, state, number, item, command, chosen) }
+            Ok(chosen) => answer_chosen(out, session, state, number, item, command, chosen),
         },
     }
 }
 
-/// Shows the solutions of a query behind the last one shown, at most so many. Says that the item was not refused.
-fn go_on(
+/// Shows the solutions of a query over the module with the number `chosen` behind the last one shown, at most so many. Says that the
+/// item was not refused.
+fn list_on(
     out: &mut Vec<u8>,
     alloc: Global,
     state: &mut State,
     number: usize,
-    going: Going,
+    chosen: usize,
+    query: Query,
     most: Option<u64>,
 ) -> Result<bool, NoMemory>
     requires ready { IsReadyState state.old }
-    requires going { IsReadyAt state.old.library going }
-    ensures gained { IfOk result (GainsOn (state_of state.old) number going.number (query_of going.query) most
+    requires there { (m : ModuleOf) × (slice_get state.old.library chosen ≡ Some m) × IsReady m.signature query }
+    ensures gained { IfOk result (GainsOn (state_of state.old) number chosen (query_of query) most
         (state_of state.new) out.old.items out.new.items) }
     ensures ready { OnOk result (IsReadyState state.new) }
 {
-    let chosen = going.number;
-    let mut query = going.query;
+    let mut query = query;
     let module = state.library.module(chosen);
     write_continue_head(out, number, module)?;
     let has_ended = show_query(out, alloc, module, &mut query, most)?;
     Ok(state.conclude(chosen, left_by(query, has_ended)))
 }
 
+/// Rewrites on in a run over the module with the number `chosen`, by at most so many rules. Says that the item was not refused.
+fn rewrite_on(
+    out: &mut Vec<u8>,
+    session: &Session,
+    state: &mut State,
+    number: usize,
+    chosen: usize,
+    running: Running,
+    most: Option<u64>,
+) -> Result<bool, NoMemory>
+    requires numerals { All GivesNumerals (operators session.now.hooks.now) }
+    requires ready { IsReadyState state.old }
+    requires there { (m : ModuleOf) × (slice_get state.old.library chosen ≡ Some m) × IsReadyRun m running }
+    ensures gained { IfOk result (GainsRunOn (environment_of (operators session.now.hooks.now) session.now.limit) (state_of state.old) number chosen
+        (rule_run_of running) most (state_of state.new) out.old.items out.new.items) }
+    ensures ready { OnOk result (IsReadyState state.new) }
+{
+    let module = state.library.module(chosen);
+    write_continue_head(out, number, module)?;
+    let left = run_on(out, session, module, running, most)?;
+    Ok(state.conclude(chosen, left))
+}
+
+/// Goes on with what was kept, behind the head of whose answer at most so much is shown. Says that the item was not refused.
+fn go_on(
+    out: &mut Vec<u8>,
+    session: &Session,
+    state: &mut State,
+    number: usize,
+    command: &RawCommand,
+    going: Going,
+    most: Option<u64>,
+) -> Result<bool, NoMemory>
+    requires numerals { All GivesNumerals (operators session.now.hooks.now) }
+    requires ready { IsReadyState state.old }
+    requires going { IsReadyAt state.old.library going }
+    requires bound { Bounds.bound_of session.now.words.now command.now.bound ≡ Ok most }
+    ensures gained { (before : StateOf) → before.modules ≡ state.old.library → before.current ≡ state.old.current → before.going ≡ Some (going_of going) →
+        IfOk result (GainsContinue (environment_of (operators session.now.hooks.now) session.now.limit) session.now.words.now before number command.now
+        (state_of state.new) out.old.items out.new.items) }
+    ensures ready { OnOk result (IsReadyState state.new) }
+{
+    let chosen = going.number;
+    let what = going.what;
+    match what {
+        Continued::Listing(query) => {
+            list_on(out, session.alloc, state, number, chosen, query, most)
+        }
+        Continued::ListingWhere(kept) => {
+            list_where_on(out, session, state, number, chosen, kept, most)
+        }
+        Continued::Rules(running) => {
+            rewrite_on(out, session, state, number, chosen, running, most)
+        }
+    }
+}
+
 /// Answers `continue`. Says whether it was refused.
 fn answer_continue(
     out: &mut Vec<u8>,
-    alloc: Global,
-    words: &Words,
+    session: &Session,
     state: &mut State,
     number: usize,
     command: &RawCommand,
 ) -> Result<bool, NoMemory>
+    requires numerals { All GivesNumerals (operators session.now.hooks.now) }
     requires ready { IsReadyState state.old }
-    ensures gained { IfOk result (GainsContinue words.now (state_of state.old) number command.now
-        (state_of state.new) out.old.items out.new.items) }
+    ensures gained { IfOk result (GainsContinue (environment_of (operators session.now.hooks.now) session.now.limit) session.now.words.now
+        (state_of state.old) number command.now (state_of state.new) out.old.items out.new.items) }
     ensures ready { OnOk result (IsReadyState state.new) }
 {
+    let words = session.words;
     match bound_of(words, command.bound) {
         Err(refusal) => refuse(out, words, number, refusal),
         Ok(most) => match state.going.take() {
             None => refuse(out, words, number, Refusal::NothingToContinue),
-            Some(going) => go_on(out, alloc, state, number, going, most),
+            Some(going) => go_on(out, session, state, number, command, going, most),
         },
     }
 }
@@ -346,6 +423,7 @@ fn answer_unbuilt(
     requires no_match { Rattle.mau_session.specs.Built.is_match command.now.kind ≡ false }
     requires no_continue { Rattle.mau_session.specs.Built.is_continue command.now.kind ≡ false }
     requires no_reduce { Rattle.mau_session.specs.Built.is_reduce command.now.kind ≡ false }
+    requires no_rewrite { Rattle.mau_session.specs.Built.is_rewrite command.now.kind ≡ false }
     ensures gained { (e : Environment) → IfOk result (GainsBody e words.now (state_of state.now) number item (RawBody.Command command.now)
         (state_of state.now) out.old.items out.new.items) }
 {
@@ -371,14 +449,15 @@ fn answer_command(
         (state_of state.old) number item (RawBody.Command command.now) (state_of state.new) out.old.items out.new.items) }
     ensures ready { OnOk result (IsReadyState state.new) }
 {
-    let alloc = session.alloc;
     let words = session.words;
     if is_match(command.kind) {
-        answer_match(out, alloc, words, state, number, item, command)
+        answer_match(out, session, state, number, item, command)
     } else if is_continue(command.kind) {
-        answer_continue(out, alloc, words, state, number, command)
+        answer_continue(out, session, state, number, command)
     } else if is_reduce(command.kind) {
         answer_reduce(out, session, state, number, item, command)
+    } else if is_rewrite(command.kind) {
+        answer_rewrite(out, session, state, number, item, command)
     } else {
         answer_unbuilt(out, words, state, number, item, command)
     }

@@ -61,6 +61,16 @@ pub fn is_reduce(kind: CommandKind) -> bool
     }
 }
 
+/// Whether a command is a rewrite.
+pub fn is_rewrite(kind: CommandKind) -> bool
+    ensures { result ≡ Built.is_rewrite kind }
+{
+    match kind {
+        CommandKind::Rewrite => true,
+        _ => false,
+    }
+}
+
 /// Whether a command is `continue`.
 pub fn is_continue(kind: CommandKind) -> bool
     ensures { result ≡ Built.is_continue kind }
@@ -75,10 +85,7 @@ pub fn is_continue(kind: CommandKind) -> bool
 pub fn begins_unbuilt(word: &str) -> bool
     ensures { result ≡ Built.begins_unbuilt word.now }
 {
-    matches!(
-        word,
-        "smod" | "rewrite" | "rew" | "frewrite" | "frew" | "dsrewrite" | "dsrew"
-    )
+    matches!(word, "smod" | "frewrite" | "frew" | "dsrewrite" | "dsrew")
 }
 
 /// Whether an item has no end.

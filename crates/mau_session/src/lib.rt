@@ -2,11 +2,16 @@
 #![tactic(auto)]
 
 mod answer;
+mod asking;
 mod bounds;
 mod built;
 mod command;
+mod conditional;
+mod conditions;
+mod heads;
 pub mod laws;
 mod listing;
+mod listing_where;
 mod listings;
 mod meaning;
 mod part;
@@ -15,11 +20,17 @@ mod reading;
 mod reduce;
 mod refusal;
 mod results;
+mod rewrite;
+mod rewriting;
+mod running;
 mod session;
 mod settled;
 mod show;
 mod state;
+mod such_that;
+mod terms;
 mod top;
 mod transcript;
 
+pub use meaning::Meaning;
 pub use top::{Status, run};

@@ -104,7 +104,7 @@ fn write_matcher(out: &mut Vec<u8>, number: u64) -> Result<(), NoMemory>
 }
 
 /// Writes the solution that a query shows next, which is its last one then.
-fn show_solution(
+pub fn show_solution(
     out: &mut Vec<u8>,
     alloc: Global,
     module: &Module,
@@ -198,7 +198,7 @@ fn show_solutions<L: Lister>(
 }
 
 /// A listing of a query's solutions behind the last one that was shown.
-fn listing_of<L: Lister>(alloc: Global, module: &Module, query: &Query) -> Result<L, NoMemory>
+pub fn listing_of<L: Lister>(alloc: Global, module: &Module, query: &Query) -> Result<L, NoMemory>
     ensures signature { IfOk result (λ listing. L.is_for listing module.now.signature) }
     ensures asked { IfOk result (λ listing. L.asked listing ≡ asked_for query.now) }
     ensures given { IfOk result (λ listing. L.given listing ≡ query.now.last) }
@@ -211,7 +211,7 @@ fn listing_of<L: Lister>(alloc: Global, module: &Module, query: &Query) -> Resul
 }
 
 /// Writes the last line of a listing that has shown so many solutions in all.
-fn write_end(out: &mut Vec<u8>, has_ended: bool, shown: u64) -> Result<(), NoMemory>
+pub fn write_end(out: &mut Vec<u8>, has_ended: bool, shown: u64) -> Result<(), NoMemory>
     ensures { OnOk result (out.new.items ≡ out.old.items ++ last_line has_ended shown) }
 {
     if !has_ended {

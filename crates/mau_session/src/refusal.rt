@@ -1,16 +1,21 @@
 //! Why an item is refused.
-ghost use Rattle.std.specs.Prelude.{◌≡◌, ◌≢◌, ◌++◌, true, decimal, OnOk, IfOk};
+ghost use Rattle.std.specs.Prelude.{◌≡◌, ◌≢◌, ◌++◌, true, codes, decimal, OnOk, IfOk};
 ghost use Rattle.mau_declare.specs.Words.{place_at};
 ghost use Rattle.mau_session.specs.declared.state.Outcome.TheVariants as Outcome;
 ghost use Rattle.mau_session.specs.Answers.{item_head, refusal_line, faulty_line, shown_text_fault, text_fault_line, fault_line, shown_parse_fault, parse_fault_line, limit_name, statement_limit_name, shown_statement_fault, shown_module_fault, module_fault_line};
+ghost use Rattle.mau_session.specs.Shown.{shown_variable};
+ghost use Rattle.mau_session.specs.Where.{shown_condition_fault};
+ghost use Rattle.mau_session.specs.KeptWhere.{shown_unasked, IsNamed};
 
+use crate::conditions::ConditionFault;
+use crate::show::write_variable;
 use crate::state::Outcome;
 use mau_declare::{Words, write_number, write_text};
 use mau_modtext::TextFault;
-use mau_module::{Limit, ModuleFault};
+use mau_module::{Limit, Module, ModuleFault};
 use mau_parse::ParseFault;
 use mau_statement::StatementFault;
-use mau_terms::NoMemory;
+use mau_terms::{NoMemory, VarId, Vars};
 use mau_tokens::TokenFault;
 
 /// Why an item is refused, with the number of the word that it is about, where there is one.
@@ -24,6 +29,8 @@ pub enum Refusal {
     BadBound,
     /// There is nothing to continue.
     NothingToContinue,
+    /// The condition of the rule with this number, counted from 0, rewrites.
+    RewritingCondition(usize),
 }
 
 impl Refusal {
@@ -46,6 +53,10 @@ impl Refusal {
             }
             Refusal::BadBound => write_text(out, "BadBound"),
             Refusal::NothingToContinue => write_text(out, "NothingToContinue"),
+            Refusal::RewritingCondition(rule) => {
+                write_text(out, "RewritingCondition ")?;
+                write_number(out, rule as u128 + 1)
+            }
         }
     }
 }
@@ -287,5 +298,69 @@ pub fn refuse_term(
     ensures named { OnOk result (fault.now ≢ ParseFault.NoMemory) }
 {
     write_unread(out, number, fault)?;
+    Ok(Outcome::Refused)
+}
+
+/// Writes why the condition of a command can't be read.
+fn write_condition_fault(out: &mut Vec<u8>, fault: &StatementFault) -> Result<(), NoMemory>
+    ensures ok { OnOk result (out.new.items ≡ out.old.items ++ shown_condition_fault fault.now) }
+    ensures named { OnOk result (fault.now ≢ StatementFault.NoMemory) }
+{
+    match fault {
+        StatementFault::Parse(fault) => write_parse_fault(out, fault),
+        StatementFault::UnknownSort(at) => write_at(out, "UnknownSort ", *at),
+        StatementFault::NoMemory => Err(NoMemory),
+        StatementFault::LimitExceeded(_)
+        | StatementFault::LhsVariable
+        | StatementFault::MembershipHead
+        | StatementFault::UnboundVariable => write_text(out, ""),
+    }
+}
+
+/// Writes that a condition uses a variable that isn't bound by then.
+fn write_unbound(
+    out: &mut Vec<u8>,
+    module: &Module,
+    vars: &Vars,
+    variable: VarId,
+) -> Result<(), NoMemory>
+    ensures { OnOk result (out.new.items ≡ out.old.items ++ codes "UnboundVariable " ++ shown_variable module.now vars.now variable.index variable.sort) }
+{
+    write_text(out, "UnboundVariable ")?;
+    write_variable(out, module, vars, variable)
+}
+
+/// Writes why a condition isn't asked.
+fn write_unasked(
+    out: &mut Vec<u8>,
+    module: &Module,
+    vars: &Vars,
+    fault: &ConditionFault,
+) -> Result<(), NoMemory>
+    ensures ok { OnOk result (out.new.items ≡ out.old.items ++ shown_unasked module.now vars.now fault.now) }
+    ensures named { OnOk result (IsNamed fault.now) }
+{
+    match fault {
+        ConditionFault::Unread(fault) => write_condition_fault(out, fault),
+        ConditionFault::Unbound(variable) => write_unbound(out, module, vars, *variable),
+    }
+}
+
+/// Writes why a condition isn't asked, so that the item is refused.
+pub fn refuse_condition(
+    out: &mut Vec<u8>,
+    number: usize,
+    module: &Module,
+    vars: &Vars,
+    fault: &ConditionFault,
+) -> Result<Outcome, NoMemory>
+    ensures bytes { OnOk result (out.new.items ≡ out.old.items ++ faulty_line number (shown_unasked module.now vars.now fault.now)) }
+    ensures refused { IfOk result (λ left. left ≡ Outcome.Refused) }
+    ensures named { OnOk result (IsNamed fault.now) }
+{
+    write_head(out, number)?;
+    write_text(out, "refused: ")?;
+    write_unasked(out, module, vars, fault)?;
+    write_text(out, "\n")?;
     Ok(Outcome::Refused)
 }

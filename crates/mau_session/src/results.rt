@@ -22,7 +22,7 @@ use mau_terms::{Bare, NoMemory, TermId, Vars};
 use std::alloc::Global;
 
 /// Writes a count.
-fn write_count(out: &mut Vec<u8>, rewrites: u64) -> Result<(), NoMemory>
+pub fn write_count(out: &mut Vec<u8>, rewrites: u64) -> Result<(), NoMemory>
     ensures { OnOk result (out.new.items ≡ out.old.items ++ count_line rewrites) }
 {
     write_text(out, "rewrites: ")?;
@@ -31,7 +31,7 @@ fn write_count(out: &mut Vec<u8>, rewrites: u64) -> Result<(), NoMemory>
 }
 
 /// Writes a value with the sort that is shown for it.
-fn write_result(
+pub fn write_result(
     out: &mut Vec<u8>,
     alloc: Global,
     module: &Module,
@@ -52,7 +52,7 @@ fn write_result(
 }
 
 /// Writes that the budget of an item was used up.
-fn write_stopped(out: &mut Vec<u8>, limit: u64) -> Result<(), NoMemory>
+pub fn write_stopped(out: &mut Vec<u8>, limit: u64) -> Result<(), NoMemory>
     ensures { OnOk result (out.new.items ≡ out.old.items ++ stopped_line limit) }
 {
     write_text(out, "Stopped: ")?;

@@ -6,19 +6,32 @@ ghost use Rattle.mau_module.specs.Libraries.{IsNext};
 ghost use Rattle.mau_session.specs.State.{at_first, accepted, selected, IsChosen, IsUnknown, state_after, refuses};
 ghost use Rattle.mau_session.specs.KeptState.{state_of, outcome_of, IsReadyState, IsReadyOutcome};
 
+use crate::conditional::ConditionalQuery;
 use crate::query::Query;
 use crate::refusal::Refusal;
+use crate::running::Running;
 use mau_declare::Words;
 use mau_modtext::RawCommand;
 use mau_module::{Library, Module, NAT};
 use mau_terms::NoMemory;
 use std::alloc::Global;
 
-/// What `continue` goes on with: a query over the module with this number.
+/// What may be continued.
+#[derive(Drop)]
+pub enum Continued {
+    /// A listing of solutions.
+    Listing(Query),
+    /// A listing of those under which a condition holds.
+    ListingWhere(ConditionalQuery),
+    /// A rule run.
+    Rules(Running),
+}
+
+/// What `continue` goes on with, over the module with this number.
 #[derive(Drop)]
 pub struct Going {
     pub number: usize,
-    pub query: Query,
+    pub what: Continued,
 }
 
 /// All modules, those of the prelude first, the number of the current one, and what `continue` goes on with, if there is something.
@@ -29,12 +42,12 @@ pub struct State {
     pub going: Option<Going>,
 }
 
-/// What a command leaves: it is refused and changes nothing, or there is nothing to continue behind it, or this query.
+/// What a command leaves: it is refused and changes nothing, or there is nothing to continue behind it, or this.
 #[derive(Drop)]
 pub enum Outcome {
     Refused,
     Ended,
-    GoesOn(Query),
+    GoesOn(Continued),
 }
 
 impl State {
@@ -109,8 +122,8 @@ impl State {
                 self.going = None;
                 false
             }
-            Outcome::GoesOn(query) => {
-                self.going = Some(Going { number, query });
+            Outcome::GoesOn(what) => {
+                self.going = Some(Going { number, what });
                 false
             }
         }

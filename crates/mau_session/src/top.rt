@@ -6,7 +6,7 @@ ghost use Rattle.mau_formula.specs.Operators.{operators};
 ghost use Rattle.mau_built_ins.specs.NativeNumerals.{GivesNumerals};
 ghost use Rattle.mau_session.specs.Run.{IsRead, IsRun};
 
-use crate::meaning::budget_of;
+use crate::meaning::Meaning;
 use crate::transcript::transcript;
 use mau_bytes::{ReadEnd, Sink, Source, read_all, write_all};
 use mau_formula::HookTable;
@@ -20,7 +20,7 @@ pub enum Status {
     Done,
     /// The transcript is out, and something in it is a refusal.
     Refused,
-    /// The words of the command line have no meaning.
+    /// The words of the command line have no meaning, or one that is not answered yet.
     Usage,
     /// A read failed.
     ReadFault,
@@ -55,7 +55,7 @@ impl Status {
 /// Does all that the program does. `words` are those of the command line without the program's name. The text is
 /// read to its end, its transcript is made whole, and then it is written. `hooks` are the native operators.
 ///
-/// `Status::Usage` comes exactly where the words have no meaning, before anything is read or written;
+/// `Status::Usage` comes exactly where the words ask for no session, before anything is read or written;
 /// `ReadFault` and `WriteFault` only where a read or a write failed; `InputTooLong` exactly where more than
 /// 16,777,216 bytes were read; `NoMemory` where memory was wanting, and then nothing is written.
 pub fn run<S: Source, K: Sink>(
@@ -69,15 +69,15 @@ pub fn run<S: Source, K: Sink>(
     ensures run { IsRun (operators hooks.now) words.now (S.faults source.old) (S.faults source.new) (K.faults sink.old) (K.faults sink.new)
         (S.left source.old) (S.left source.new) (K.written sink.old) (K.written sink.new) result }
 {
-    match budget_of(words) {
-        None => Status::Usage,
-        Some(limit) => match read_text(alloc, source) {
+    match Meaning::of(words) {
+        Some(Meaning::Run(limit)) => match read_text(alloc, source) {
             Err(status) => status,
             Ok(text) => match transcript(alloc, hooks, limit, &text) {
                 Err(_) => Status::NoMemory,
                 Ok((bytes, is_refused)) => write_answers(sink, &bytes, is_refused),
             },
         },
+        _ => Status::Usage,
     }
 }
 

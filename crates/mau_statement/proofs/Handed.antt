@@ -1,5 +1,5 @@
 -- Faults that are handed on, and what is read part by part.
-use Rattle.std.proofs.Common.{◌≡◌, ◌≢◌, ℕ, List, length, Bool, true, false, nat_lt, if◌then◌else◌, ltb-true, ltb-false, Result, Ok, Err, refl, sym, subst}
+use Rattle.std.proofs.Common.{◌≡◌, ℕ, List, false, Result, Ok, Err, sym, subst}
 use Rattle.std.specs.Prelude.{IfErr, IsErrAnd}
 use Rattle.mau_tokens.specs.declared.token.Token.{Token}
 use Rattle.mau_modtext.specs.Word.{Word}
@@ -12,11 +12,7 @@ use Rattle.mau_parse.specs.declared.fault.ParseFault.{ParseFault}
 use Rattle.mau_parse.specs.declared.fault.ParseFault.TheVariants.{NoParse, Ambiguous, TooManyTokens, NumberTooLarge, SuccessorTooLarge, NoMemory as OutOfMemory}
 use Rattle.mau_statement.specs.declared.fault.StatementFault.{StatementFault}
 use Rattle.mau_statement.specs.declared.fault.StatementFault.TheVariants.{LimitExceeded, Parse, UnknownSort, LhsVariable, MembershipHead, UnboundVariable, NoMemory}
-use Rattle.mau_statement.specs.Faults.{IfFault, fault_of, unread_fault}
-use Rattle.mau_statement.specs.declared.TheConstants.{MAX_FRAGMENTS}
-use Rattle.mau_statement.specs.declared.fault.Limit.TheVariants.{Fragments}
-use Rattle.mau_modtext.specs.declared.raw.RawStatement.{RawStatement}
-use Rattle.mau_statement.specs.Statements.{PartsUnread, StatementRead, too_many_unread, part_unread}
+use Rattle.mau_statement.specs.Faults.{IfFault, fault_of}
 use Rattle.mau_statement.specs.Parts.{Pairs, is_empty, IsUnread, TermReads, PartUnread, PairReads, PairUnread, no_term}
 
 -- what holds of each fault that says something holds of it by way of what it says
@@ -79,25 +75,3 @@ pub pair_read_moved : {ws : List Word} {x : ContextOf} {ts us vs ws' : List Toke
     → PairReads ws x ts vs ns os a b → PairReads ws x us ws' ms os a b
 pair_read_moved {ws} {x} {ts} {us} {vs} {ws'} {ns} {ms} os a b e h m p =
     subst (λ zs. PairReads ws x us ws' zs os a b) m (subst (λ zs. PairReads ws x us zs ns os a b) h (subst (λ zs. PairReads ws x zs vs ns os a b) e p))
-
--- ---- where a part isn't read
-
-module _ (ws : List Word) (x : ContextOf) (raw : RawStatement) where
-  one_refused : (e : StatementFault) → PartsUnread ws x raw e → StatementRead ws x raw (Err (if nat_lt MAX_FRAGMENTS (length raw.cond) then LimitExceeded Fragments else e))
-  one_refused e u = by (nat_lt MAX_FRAGMENTS (length raw.cond)) refl
-    where
-      by : (b : Bool) → nat_lt MAX_FRAGMENTS (length raw.cond) ≡ b → StatementRead ws x raw (Err (if b then LimitExceeded Fragments else e))
-      by true h = too_many_unread e u (ltb-true MAX_FRAGMENTS (length raw.cond) h)
-      by false h = part_unread e u (ltb-false MAX_FRAGMENTS (length raw.cond) h)
-
-  said_refused : (e : StatementFault) → PartsUnread ws x raw e → IfFault (λ f. StatementRead ws x raw (Err f)) (if nat_lt MAX_FRAGMENTS (length raw.cond) then LimitExceeded Fragments else e)
-  said_refused e u = said (λ f. StatementRead ws x raw (Err f)) (if nat_lt MAX_FRAGMENTS (length raw.cond) then LimitExceeded Fragments else e) (one_refused e u)
-
-  pub refused : (e : StatementFault) → IfFault (PartsUnread ws x raw) e → IfFault (λ f. StatementRead ws x raw (Err f)) (unread_fault (length raw.cond) e)
-  refused (LimitExceeded l) u = said_refused (LimitExceeded l) u
-  refused (Parse f) u = said_refused (Parse f) u
-  refused (UnknownSort n) u = said_refused (UnknownSort n) u
-  refused LhsVariable u = said_refused LhsVariable u
-  refused MembershipHead u = said_refused MembershipHead u
-  refused UnboundVariable u = said_refused UnboundVariable u
-  refused NoMemory u = tt

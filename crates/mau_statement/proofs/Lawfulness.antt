@@ -1,9 +1,8 @@
 -- A statement without a fault is lawful as one of a program.
-use Rattle.std.proofs.Common.{◌≡◌, ℕ, ◌+◌, zero, suc, List, [], ◌∷◌, Bool, true, false, not, ◌&&◌, ◌||◌, if◌then◌else◌, All, get_or, slice_get, Option, Some, None, refl, sym, ◌∙◌, ap, ap₂, subst, arith}
+use Rattle.std.proofs.Common.{◌≡◌, ℕ, ◌+◌, zero, suc, List, [], ◌∷◌, Bool, true, false, not, ◌&&◌, ◌||◌, if◌then◌else◌, All, get_or, slice_get, Option, Some, None, refl, ap, ap₂, subst, arith}
 use Rattle.mau_terms.specs.Tree.{Tree, variable, numeral, apply, Trees, no_trees, tree}
 use Rattle.mau_terms.specs.Subst.{Variable, same_variable, has_variable, variables}
 use Rattle.mau_terms.specs.View.{tree_of}
-use Rattle.mau_terms.specs.declared.bare.Bare.{Bare}
 use Rattle.mau_terms.proofs.Variables.{same_itself}
 use Rattle.mau_parse.specs.Terms.{AreGiven, AllGiven}
 use Rattle.mau_signature.specs.Signature.{SignatureOf, theory_at}
@@ -11,7 +10,7 @@ use Rattle.mau_program.specs.declared.statements.Fragment.{Fragment}
 use Rattle.mau_program.specs.declared.statements.Fragment.TheVariants.{Equal, Match, Sort, Reach}
 use Rattle.mau_program.specs.Binding.{has_only, have_only, listed_from, listed, binds, are_bound}
 use Rattle.mau_program.specs.Tops.{is_left_side, is_head}
-use Rattle.mau_program.specs.LawfulStatements.{HasListed, HasListedIn}
+use Rattle.mau_program.specs.LawfulStatements.{HasListedIn}
 use Rattle.mau_statement.specs.Lawful.{HasVariablesOf, HasNoFault, IsLawfulStatement}
 use Rattle.mau_statement.specs.declared.fault.StatementFault.{StatementFault}
 use Rattle.mau_statement.specs.declared.fault.StatementFault.TheVariants.{LhsVariable, MembershipHead}

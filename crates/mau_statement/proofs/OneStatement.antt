@@ -1,11 +1,11 @@
 -- What is read of a statement is one thing.
-use Rattle.std.proofs.Common.{◌≡◌, ℕ, zero, suc, ◌-◌, ◌<◌, ◌⊎◌, inl, inr, List, [], ◌∷◌, ◌++◌, length, take, map, Bool, true, false, Option, Some, None, Result, Err, All, slice_get, refl, sym, ◌∙◌, ap, ap₂, subst, arith, eqb-true}
+use Rattle.std.proofs.Common.{◌≡◌, ℕ, zero, suc, ◌-◌, ◌<◌, ◌⊎◌, inl, inr, List, [], ◌∷◌, ◌++◌, length, take, map, Some, Result, Err, All, slice_get, refl, sym, ◌∙◌, ap, ap₂, subst, arith, eqb-true}
 use Rattle.std.proofs.Math.Seq.{take-append_seam}
 use Rattle.std.proofs.lemmas.Bool.{cases_order}
 use Rattle.std.proofs.lemmas.List.{take-append-le, length_push, nil_from_length}
 use Rattle.std.proofs.lemmas.Option.{slice_get_within}
-use Rattle.mau_terms.specs.Tree.{Tree}
-use Rattle.mau_terms.specs.Bare.{IsBareIn}
+use Rattle.mau_terms.specs.Tree.{Tree, variable, numeral, apply}
+use Rattle.mau_terms.specs.Bare.{TermSignature, IsBareIn}
 use Rattle.mau_terms.specs.View.{tree_of}
 use Rattle.mau_terms.specs.declared.theory.Theory.{Theory}
 use Rattle.mau_terms.specs.declared.bare.Bare.{Bare}
@@ -37,7 +37,7 @@ use Rattle.mau_program.specs.declared.statements.Equation.{Equation}
 use Rattle.mau_program.specs.declared.statements.Membership.{Membership}
 use Rattle.mau_program.specs.declared.statements.Rule.{Rule}
 use Rattle.mau_statement.specs.Context.{ContextOf, terms_in, constant}
-use Rattle.mau_statement.specs.Parts.{Pairs, part_words, part_tokens, part_texts, TermReads, PartUnread, nothing_there, no_term, PairReads, PairUnread, first_unread, second_unread}
+use Rattle.mau_statement.specs.Parts.{Pairs, part_words, part_tokens, part_texts, TermReads, PartUnread, nothing_there, no_term, LiesIn, PairReads, PairUnread, first_unread, second_unread}
 use Rattle.mau_statement.specs.Conditions.{FragmentReads, equal_reads, match_reads, reach_reads, sort_reads, truth_reads, FragmentUnread, equal_unread, match_unread, reach_unread, tested_unread, no_sort, truth_unread, no_truth, ConditionReads, none_read, one_more_reads, ConditionUnread}
 use Rattle.mau_statement.specs.Statements.{EquationReads, RuleReads, MembershipReads, PartsRead, equation_reads, membership_reads, rule_reads, SidesUnread, sides_unread, condition_unread, MembershipUnread, no_sort as sort_unknown, head_unread, condition_unread_behind, PartsUnread, equation_unread, membership_unread, rule_unread, Judged, too_many_variables, too_many_fragments, head_at_fault, variable_unbound, accepted, StatementRead, parts_read, too_many_unread, part_unread}
 use Rattle.mau_statement.specs.Faults.{without_trees, told}
@@ -85,9 +85,9 @@ record AreOneFragment (os os' : Pairs) (x x' : Fragment) : Type 0 where
   pairs : os ≡ os'
   fragment : x ≡ x'
 
-record AreOneCondition (os os' : Pairs) (fs fs' : List Fragment) : Type 0 where
-  pairs : os ≡ os'
-  fragments : fs ≡ fs'
+pub record AreOneCondition (os os' : Pairs) (fs fs' : List Fragment) : Type 0 where
+  pub pairs : os ≡ os'
+  pub fragments : fs ≡ fs'
 
 one_equation : (e f : Equation) → e.left ≡ f.left → e.right ≡ f.right → e.cond ≡ f.cond → e.owise ≡ f.owise → e.exec ≡ f.exec → e.vars ≡ f.vars → e ≡ f
 one_equation e f l r c o x v =
@@ -143,9 +143,17 @@ module _ (th : ℕ → Theory) (n : ℕ) (s : Statement) where
 pub shaped_of : (s : SignatureOf) (names : List (List ℕ)) (aliases : List Alias) → All IsShaped (grammar_of s names aliases).productions
 shaped_of s names aliases = all_shaped s (sort_names s.hierarchy 0 names)
 
+lies_in_one : (s : TermSignature) (t : Tree) (k j : ℕ) → LiesIn s t k → LiesIn s t j → k ≡ j
+lies_in_one s (variable i r) k j x y = sym x ∙ y
+lies_in_one s (numeral n) k j x y = some_once x y
+lies_in_one s (apply f ts) k j x y = sym x ∙ y
+
 module _ (ws : List Word) (c : ContextOf) (shaped : All IsShaped c.grammar.productions) where
   kind_once : (t u : Tree) (k j : ℕ) → t ≡ u → IsBareIn (terms_in c) t k → IsBareIn (terms_in c) u j → k ≡ j
   kind_once t u k j e x y = one_kind (terms_in c) u k j (subst (λ t. IsBareIn (terms_in c) t k) e x) y
+
+  lies_once : (t u : Tree) (k j : ℕ) → t ≡ u → LiesIn (terms_in c) t k → LiesIn (terms_in c) u j → k ≡ j
+  lies_once t u k j e x y = lies_in_one (terms_in c) u k j (subst (λ t. LiesIn (terms_in c) t k) e x) y
 
   -- ---- a term
 
@@ -171,7 +179,7 @@ module _ (ws : List Word) (c : ContextOf) (shaped : All IsShaped c.grammar.produ
     pair_once : {os os' : Pairs} {a a' b b' : Bare} → PairReads ws c left right ns os a b → PairReads ws c left right ns os' a' b' → AreOnePair os os' a a' b b'
     pair_once {os} {os'} {a} {a'} {b} {b'} x y =
         let one = part_once left AnyKind ns x.first_reads y.first_reads in
-        let k = kind_once (tree_of a') (tree_of a) y.kind x.kind (sym one.tree) y.lies x.lies in
+        let k = lies_once (tree_of a') (tree_of a) y.kind x.kind (sym one.tree) y.lies x.lies in
         let two = part_once right (Kind x.kind) x.middle x.second_reads (term_moved ws c.grammar os' b' refl k (sym one.pairs) y.second_reads) in
         record { pairs = two.pairs; first = one.term; second = two.term }
 
@@ -179,7 +187,7 @@ module _ (ws : List Word) (c : ContextOf) (shaped : All IsShaped c.grammar.produ
     pair_no_fault x (first_unread f u) = part_no_fault left AnyKind ns x.first_reads u
     pair_no_fault {os} {a} {b} x (second_unread f k m a' r l u) =
         let one = part_once left AnyKind ns r x.first_reads in
-        let h = kind_once (tree_of a') (tree_of a) k x.kind one.tree l x.lies in
+        let h = lies_once (tree_of a') (tree_of a) k x.kind one.tree l x.lies in
         part_no_fault right (Kind x.kind) x.middle x.second_reads (part_moved f refl h one.pairs u)
 
     pair_fault_once : {e f : StatementFault} → PairUnread ws c left right ns e → PairUnread ws c left right ns f → without_trees e ≡ without_trees f
@@ -188,7 +196,7 @@ module _ (ws : List Word) (c : ContextOf) (shaped : All IsShaped c.grammar.produ
     pair_fault_once (second_unread e k m a r l u) (first_unread f u') = absurd (part_no_fault left AnyKind ns r u')
     pair_fault_once (second_unread e k m a r l u) (second_unread f k' m' a' r' l' u') =
         let one = part_once left AnyKind ns r r' in
-        let h = kind_once (tree_of a) (tree_of a') k k' one.tree l l' in
+        let h = lies_once (tree_of a) (tree_of a') k k' one.tree l l' in
         part_fault_once right (Kind k') m' (part_moved e refl h one.pairs u) u'
 
   -- ---- a fragment
@@ -278,7 +286,7 @@ module _ (ws : List Word) (c : ContextOf) (shaped : All IsShaped c.grammar.produ
   -- ---- a condition
 
   -- the fragments are given twice, since what is read of them is told from the last one on
-  condition_once : (ns : Pairs) (raws raws' : List RawFragment) {os os' : Pairs} {fs fs' : List Fragment} → raws ≡ raws' → ConditionReads ws c ns raws os fs → ConditionReads ws c ns raws' os' fs'
+  pub condition_once : (ns : Pairs) (raws raws' : List RawFragment) {os os' : Pairs} {fs fs' : List Fragment} → raws ≡ raws' → ConditionReads ws c ns raws os fs → ConditionReads ws c ns raws' os' fs'
       → AreOneCondition os os' fs fs'
   condition_once ns raws raws' e none_read none_read = record { pairs = refl; fragments = refl }
   condition_once ns raws raws' e none_read (one_more_reads rs m xs r os x p q) = absurd (never_ends rs r e)
@@ -333,7 +341,7 @@ module _ (ws : List Word) (c : ContextOf) (shaped : All IsShaped c.grammar.produ
   read_at ns raws i raw none_read e = absurd (omega (arith, slice_get_within [] i raw e))
   read_at ns raws i raw (one_more_reads rs m xs r os x p q) e = read_more ns rs m xs r os x p q i raw e (λ h. read_at ns rs i raw p h)
 
-  condition_no_fault : (ns : Pairs) (raws : List RawFragment) {os : Pairs} {fs : List Fragment} {f : StatementFault} → ConditionReads ws c ns raws os fs → ConditionUnread ws c ns raws f → ⊥
+  pub condition_no_fault : (ns : Pairs) (raws : List RawFragment) {os : Pairs} {fs : List Fragment} {f : StatementFault} → ConditionReads ws c ns raws os fs → ConditionUnread ws c ns raws f → ⊥
   condition_no_fault ns raws {os} {fs} {f} x u =
       let y = read_at ns raws u.i u.raw x u.there in
       let one = condition_once ns (take u.i raws) (take u.i raws) refl u.reads y.reads in
@@ -353,7 +361,7 @@ module _ (ws : List Word) (c : ContextOf) (shaped : All IsShaped c.grammar.produ
         unread = x.unread;
       })
 
-  condition_fault_once : (ns : Pairs) (raws : List RawFragment) {e f : StatementFault} → ConditionUnread ws c ns raws e → ConditionUnread ws c ns raws f → without_trees e ≡ without_trees f
+  pub condition_fault_once : (ns : Pairs) (raws : List RawFragment) {e f : StatementFault} → ConditionUnread ws c ns raws e → ConditionUnread ws c ns raws f → without_trees e ≡ without_trees f
   condition_fault_once ns raws {e} {f} x y = by (cases_order x.i y.i)
     where
       by : (x.i ≡ y.i) ⊎ ((x.i < y.i) ⊎ (y.i < x.i)) → without_trees e ≡ without_trees f

@@ -30,7 +30,7 @@ use Rattle.mau_statement.specs.declared.statement.Statement.{Statement}
 
 -- ---- pairs that are there stay at their places
 
-abbrev Extends : Pairs → Pairs → Type 0
+abbrev pub Extends : Pairs → Pairs → Type 0
 Extends ns os = (k : ℕ) (y : List ℕ × ℕ) → slice_get ns k ≡ Some y → slice_get os k ≡ Some y
 
 extends_added : (ns ys : Pairs) → Extends ns (added ns ys)
@@ -126,11 +126,11 @@ module _ (ws : List Word) (c : ContextOf) where
   all_more : (ns os : Pairs) → Extends ns os → (fs : List Fragment) → All (HasVariablesOf ns) fs → All (HasVariablesOf os) fs
   all_more ns os x fs h = λ k d l. variables_more ns os x (get_or fs k d) (h k d l)
 
-  record IsConditionGiven (ns os : Pairs) (fs : List Fragment) : Type 0 where
-    extends : Extends ns os
-    given : All (HasVariablesOf os) fs
+  pub record IsConditionGiven (ns os : Pairs) (fs : List Fragment) : Type 0 where
+    pub extends : Extends ns os
+    pub given : All (HasVariablesOf os) fs
 
-  condition_given : (ns : Pairs) (raws : List RawFragment) (os : Pairs) (fs : List Fragment) → ConditionReads ws c ns raws os fs → IsConditionGiven ns os fs
+  pub condition_given : (ns : Pairs) (raws : List RawFragment) (os : Pairs) (fs : List Fragment) → ConditionReads ws c ns raws os fs → IsConditionGiven ns os fs
   condition_given ns raws os fs none_read = record { extends = λ k y e. e; given = All-nil (HasVariablesOf ns) }
   condition_given ns raws os fs (one_more_reads before middle read raw last x p q) =
       let y = condition_given ns before middle read p in

@@ -1,7 +1,7 @@
 -- The top of the normal form of a bare term, by the tops of its arguments' normal forms.
 use Rattle.std.proofs.Common.{◌≡◌, ℕ, ◌+◌, ◌<◌, ◌≤◌, map, get_or, List, [], ◌∷◌, ◌++◌, length, Bool, true, false, ◌&&◌, nat_lt, if◌then◌else◌, Option, Some, None, refl, sym, ◌∙◌, ap, ap₂, subst, arith, length-append}
 use Rattle.mau_terms.specs.Tree.{Tree, variable, numeral, apply, Trees, no_trees, tree, node, trees_of}
-use Rattle.mau_terms.specs.Norm.{greatest_numeral, unit_tree, is_unit, pieces, all_pieces, arrange, finish, over_one, made, build, norm, norms}
+use Rattle.mau_terms.specs.Norm.{greatest_numeral, unit_tree, is_unit, pieces, arrange, finish, over_one, made, build, norm, norms}
 use Rattle.mau_terms.specs.Axioms.{binary, left_identity, right_identity, left_to_right}
 use Rattle.mau_terms.specs.Reading.{nest, reading}
 use Rattle.mau_terms.specs.Bare.{TermSignature, IsBareIn, AreBareIn, IsBare, IsLawful}
@@ -9,7 +9,7 @@ use Rattle.mau_terms.specs.declared.theory.Identity.{Identity}
 use Rattle.mau_terms.specs.declared.theory.Identity.TheVariants.{Const, Num}
 use Rattle.mau_terms.specs.View.{tree_of}
 use Rattle.mau_terms.specs.declared.bare.Bare.{Bare}
-use Rattle.mau_terms.proofs.Pieces.{Split, unit, many, one, split, unit_is_unit, unit_found, alone_element}
+use Rattle.mau_terms.proofs.Pieces.{Split, unit, many, one, split, unit_is_unit, unit_found}
 use Rattle.mau_terms.proofs.Normal.{finish_long, unit_normal, normal_fixed}
 use Rattle.mau_terms.proofs.Steps.{step_norm}
 use Rattle.mau_terms.proofs.Chains.{last_bare}

@@ -1,12 +1,10 @@
 -- Faults that say something: all but want of memory.
-use Rattle.std.specs.Prelude.{ℕ, nat_lt, if◌then◌else◌, Result, Ok, Err}
+use Rattle.std.specs.Prelude.{Result, Ok, Err}
 use Rattle.mau_parse.specs.declared.fault.ParseFault.{ParseFault}
 use Rattle.mau_parse.specs.declared.fault.ParseFault.TheVariants.{NoMemory as OutOfMemory}
 use Rattle.mau_parse.specs.Parsed.{without_trees as without_trees_of}
 use Rattle.mau_statement.specs.declared.fault.StatementFault.{StatementFault}
-use Rattle.mau_statement.specs.declared.fault.StatementFault.TheVariants.{LimitExceeded, Parse, NoMemory}
-use Rattle.mau_statement.specs.declared.fault.Limit.TheVariants.{Fragments}
-use Rattle.mau_statement.specs.declared.TheConstants.{MAX_FRAGMENTS}
+use Rattle.mau_statement.specs.declared.fault.StatementFault.TheVariants.{Parse, NoMemory}
 
 -- P holds of a fault that is not want of memory
 abbrev pub IfFault : (StatementFault → Type 0) → StatementFault → Type 0
@@ -17,11 +15,6 @@ IfFault P f = P f
 abbrev pub fault_of : ParseFault → StatementFault
 fault_of OutOfMemory = NoMemory
 fault_of f = Parse f
-
--- the fault of a statement with n fragments of which a part has this fault: too many of them come before it, but not before want of memory
-abbrev pub unread_fault : ℕ → StatementFault → StatementFault
-unread_fault n NoMemory = NoMemory
-unread_fault n f = if nat_lt MAX_FRAGMENTS n then LimitExceeded Fragments else f
 
 -- ---- faults that are told in one way
 

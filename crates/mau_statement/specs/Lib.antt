@@ -10,11 +10,15 @@ pub mod Parts
 pub mod Conditions
 -- the top of a normal form: what may be a left side, and what the head of a membership
 pub mod Tops
--- variables that are bound
-pub mod Binding
 -- statements, and faults
 pub mod Statements
 pub mod Faults
 -- what holds of each statement that is read
 pub mod Lawful
 pub mod Laws
+-- ---- what only inner contracts and proofs cite
+
+-- the first variable of a condition that isn't bound
+pub mod Binding
+-- statements with too many fragments, while their parts are passed over
+pub mod Long

@@ -1,6 +1,7 @@
 -- The terms and sorts that some tokens of a text are.
-use Rattle.std.specs.Prelude.{◌≡◌, ◌≢◌, ℕ, List, [], ◌∷◌, map, take, drop, length, ◌==◌, ◌≤◌, ◌<◌, Bool, true, false, Option, None}
-use Rattle.mau_terms.specs.Bare.{IsBareIn}
+use Rattle.std.specs.Prelude.{◌≡◌, ◌≢◌, ℕ, List, [], ◌∷◌, map, take, drop, length, ◌==◌, ◌≤◌, ◌<◌, Bool, true, false, Option, Some, None}
+use Rattle.mau_terms.specs.Bare.{TermSignature, IsBareIn}
+use Rattle.mau_terms.specs.Tree.{Tree, variable, numeral, apply}
 use Rattle.mau_terms.specs.View.{tree_of}
 use Rattle.mau_terms.specs.declared.bare.Bare.{Bare}
 use Rattle.mau_tokens.specs.declared.token.Token.{Token}
@@ -65,19 +66,25 @@ pub data PartUnread (ws : List Word) (g : GrammarOf) (ts : List Token) (goal : G
 
 -- ---- two terms of one kind
 
+-- the kind in which a term lies, by its top: that of a variable's sort, that of the numerals, or that of an operator's result
+abbrev pub LiesIn : TermSignature → Tree → ℕ → Type 0
+LiesIn s (variable i r) k = s.kind_of r ≡ k
+LiesIn s (numeral n) k = s.numerals ≡ Some k
+LiesIn s (apply f ts) k = s.result f ≡ k
+
 -- the first tokens are the term a, in any kind, and the second the term b in the kind of a
 pub record PairReads (ws : List Word) (c : ContextOf) (first second : List Token) (ns os : Pairs) (a b : Bare) : Type 0 where
   pub kind : ℕ
   pub middle : Pairs
   pub first_reads : TermReads ws c.grammar first AnyKind ns middle a
-  pub lies : IsBareIn (terms_in c) (tree_of a) kind
+  pub lies : LiesIn (terms_in c) (tree_of a) kind
   pub second_reads : TermReads ws c.grammar second (Kind kind) middle os b
 
 -- why they are no such terms: the first are none, or else the second
 pub data PairUnread (ws : List Word) (c : ContextOf) (first second : List Token) (ns : Pairs) : StatementFault → Type 0 where
   first_unread : (f : StatementFault) → PartUnread ws c.grammar first AnyKind ns f → PairUnread ws c first second ns f
   second_unread : (f : StatementFault) (kind : ℕ) (middle : Pairs) (a : Bare) → TermReads ws c.grammar first AnyKind ns middle a
-      → IsBareIn (terms_in c) (tree_of a) kind → PartUnread ws c.grammar second (Kind kind) middle f → PairUnread ws c first second ns f
+      → LiesIn (terms_in c) (tree_of a) kind → PartUnread ws c.grammar second (Kind kind) middle f → PairUnread ws c first second ns f
 
 -- ---- sorts
 

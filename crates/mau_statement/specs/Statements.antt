@@ -2,6 +2,7 @@
 use Rattle.std.specs.Prelude.{◌≡◌, ℕ, ◌<◌, ◌≤◌, List, [], ◌∷◌, length, codes, bytes_eq, Bool, true, false, not, ◌&&◌, ◌||◌, if◌then◌else◌, Option, Some, None, Result, Ok, Err}
 use Rattle.std.specs.List.{list_any}
 use Rattle.std.specs.Option.{option_map}
+use Rattle.mau_terms.specs.Subst.{variables}
 use Rattle.mau_terms.specs.View.{tree_of}
 use Rattle.mau_terms.specs.declared.theory.Theory.{Theory}
 use Rattle.mau_terms.specs.declared.bare.Bare.{Bare}
@@ -20,8 +21,8 @@ use Rattle.mau_program.specs.declared.statements.Rule.{Rule}
 use Rattle.mau_statement.specs.Context.{ContextOf}
 use Rattle.mau_statement.specs.Parts.{Pairs, TermReads, PartUnread, PairReads, PairUnread, begin_of, sort_named}
 use Rattle.mau_statement.specs.Conditions.{ConditionReads, ConditionUnread}
+use Rattle.mau_program.specs.Binding.{are_bound, binds}
 use Rattle.mau_program.specs.Tops.{is_left_side, is_head}
-use Rattle.mau_statement.specs.Binding.{binds_variables}
 use Rattle.mau_statement.specs.declared.TheConstants.{MAX_VARIABLES, MAX_FRAGMENTS}
 use Rattle.mau_statement.specs.declared.statement.Statement.{Statement}
 use Rattle.mau_statement.specs.declared.fault.Limit.TheVariants.{Variables, Fragments}
@@ -111,7 +112,13 @@ is_executable (Statement.Equation e) = e.exec
 is_executable (Statement.Membership m) = m.exec
 is_executable (Statement.Rule r) = r.exec
 
--- it is, and has a variable that isn't bound
+-- it has no other variables than it may have
+abbrev pub binds_variables : Statement → Bool
+binds_variables (Statement.Equation e) = binds (tree_of e.left) e.cond (tree_of e.right)
+binds_variables (Statement.Membership m) = are_bound (variables (tree_of m.left)) m.cond
+binds_variables (Statement.Rule r) = binds (tree_of r.left) r.cond (tree_of r.right)
+
+-- it may be used, and has a variable that isn't bound
 abbrev pub has_unbound : Statement → Bool
 has_unbound s = is_executable s && not (binds_variables s)
 

@@ -1,10 +1,12 @@
 //! Which variables are bound.
 ghost use Rattle.std.specs.Prelude.{◌≡◌, map, fold, true, IfOk, OnOk};
+ghost use Rattle.std.specs.Option.{option_map};
 ghost use Rattle.mau_terms.specs.Tree.{variable, trees_of};
 ghost use Rattle.mau_terms.specs.Subst.{has_variable, add_variables, add_all_variables, variables};
 ghost use Rattle.mau_terms.specs.View.{tree_of, variable_of};
 ghost use Rattle.mau_program.specs.Binding;
-ghost use Rattle.mau_statement.specs.Binding.{binds_variables};
+ghost use Rattle.mau_statement.specs.Statements.{binds_variables};
+ghost use Rattle.mau_statement.specs.Binding as Own;
 
 use crate::statement::Statement;
 use mau_program::Fragment;
@@ -157,4 +159,83 @@ pub fn binds_variables(alloc: Global, statement: &Statement) -> Result<bool, NoM
         }
         Statement::Rule(rule) => binds(alloc, &rule.left, rule.cond.items(), &rule.right),
     }
+}
+
+/// The first variable of a term that is not among these.
+#[cycle(other)]
+fn first_other(variables: &[VarId], term: &Bare) -> Option<VarId>
+    ensures { option_map variable_of result ≡ Own.first_other (map variable_of variables.now) (tree_of term.now) }
+{
+    match term {
+        Bare::Var(variable) => {
+            if has_variable(variables, *variable) {
+                None
+            } else {
+                Some(*variable)
+            }
+        }
+        Bare::Num(_) => None,
+        Bare::App(_, args) => first_other_in(variables, args.items()),
+    }
+}
+
+/// The first variable of some terms that is not among these.
+#[cycle(other)]
+fn first_other_in(variables: &[VarId], terms: &[Bare]) -> Option<VarId>
+    ensures { option_map variable_of result ≡ Own.first_other_in (map variable_of variables.now) (trees_of (map tree_of terms.now)) }
+{
+    match terms {
+        [] => None,
+        [first, rest @ ..] => match first_other(variables, first) {
+            Some(variable) => Some(variable),
+            None => first_other_in(variables, rest),
+        },
+    }
+}
+
+/// The first variable of a fragment that isn't bound, where these are.
+fn other_in_fragment(variables: &[VarId], fragment: &Fragment) -> Option<VarId>
+    ensures { option_map variable_of result ≡ Own.other_in_fragment (map variable_of variables.now) fragment.now }
+{
+    match fragment {
+        Fragment::Equal(term, other) => match first_other(variables, term) {
+            Some(variable) => Some(variable),
+            None => first_other(variables, other),
+        },
+        Fragment::Match(_, subject) => first_other(variables, subject),
+        Fragment::Sort(term, _) => first_other(variables, term),
+        Fragment::Reach(start, _) => first_other(variables, start),
+    }
+}
+
+/// The first variable of fragments that isn't bound, where these are before them. Adds those that they bind.
+fn unbound_behind(
+    variables: &mut Vec<VarId>,
+    fragments: &[Fragment],
+) -> Result<Option<VarId>, NoMemory>
+    ensures { IfOk result (λ o. option_map variable_of o ≡ Own.first_unbound (map variable_of variables.old.items) fragments.now) }
+{
+    match fragments {
+        [] => Ok(None),
+        [first, rest @ ..] => match other_in_fragment(variables, first) {
+            Some(variable) => Ok(Some(variable)),
+            None => {
+                bind(variables, first)?;
+                unbound_behind(variables, rest)
+            }
+        },
+    }
+}
+
+/// The first variable of a condition that isn't bound, where the variables of a pattern are bound before it.
+pub fn first_unbound(
+    alloc: Global,
+    pattern: &Bare,
+    fragments: &[Fragment],
+) -> Result<Option<VarId>, NoMemory>
+    ensures { IfOk result (λ o. option_map variable_of o ≡ Own.first_unbound (variables (tree_of pattern.now)) fragments.now) }
+{
+    let mut variables = Vec::new(alloc);
+    add_variables(&mut variables, pattern)?;
+    unbound_behind(&mut variables, fragments)
 }

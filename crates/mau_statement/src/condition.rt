@@ -1,5 +1,5 @@
 //! Reading the fragments of a condition.
-ghost use Rattle.std.specs.Prelude.{◌≡◌, ◌<◌, ◌+◌, All, IfOk, IfErr};
+ghost use Rattle.std.specs.Prelude.{◌≡◌, ◌<◌, ◌≤◌, ◌+◌, ◌*◌, length, All, IfOk, IfErr, OnOk};
 ghost use Rattle.mau_terms.specs.Bare.{IsBare, IsBareIn};
 ghost use Rattle.mau_statement.specs.Context.{constant, terms_in};
 ghost use Rattle.mau_statement.specs.Conditions.{FragmentReads, FragmentUnread, ConditionReads, ConditionUnread};
@@ -34,9 +34,11 @@ fn read_sort_test(
     vars: &mut Vars,
     raw: &RawFragment,
 ) -> Result<Fragment, StatementFault>
-    requires { raw.now.kind ≡ Sign.Sort }
+    requires sign { raw.now.kind ≡ Sign.Sort }
+    requires room { length vars.old < 3999990000 }
     ensures fragment { IfOk result (FragmentReads words.now context.now raw.now vars.old vars.new) }
     ensures lawful { IfOk result (IsLawfulFragment context.now.signature) }
+    ensures small { OnOk result (length vars.new ≤ length vars.old + 2000) }
     ensures fault { IfErr result (IfFault (FragmentUnread words.now context.now raw.now vars.old)) }
 {
     let term = read_part(alloc, words, context, vars, Goal::AnyKind, raw.left.items())?;
@@ -54,9 +56,11 @@ fn read_truth(
     vars: &mut Vars,
     raw: &RawFragment,
 ) -> Result<Fragment, StatementFault>
-    requires { raw.now.kind ≡ Sign.Bool }
+    requires sign { raw.now.kind ≡ Sign.Bool }
+    requires room { length vars.old < 3999990000 }
     ensures fragment { IfOk result (FragmentReads words.now context.now raw.now vars.old vars.new) }
     ensures lawful { IfOk result (IsLawfulFragment context.now.signature) }
+    ensures small { OnOk result (length vars.new ≤ length vars.old + 2000) }
     ensures fault { IfErr result (IfFault (FragmentUnread words.now context.now raw.now vars.old)) }
 {
     match context.truth() {
@@ -71,15 +75,17 @@ fn read_truth(
 }
 
 /// What a fragment reads as. Its variables are added to the others.
-fn read_fragment(
+pub fn read_fragment(
     alloc: Global,
     words: &Words,
     context: &Context,
     vars: &mut Vars,
     raw: &RawFragment,
 ) -> Result<Fragment, StatementFault>
+    requires room { length vars.old < 3999990000 }
     ensures fragment { IfOk result (FragmentReads words.now context.now raw.now vars.old vars.new) }
     ensures lawful { IfOk result (IsLawfulFragment context.now.signature) }
+    ensures small { OnOk result (length vars.new ≤ length vars.old + 2000) }
     ensures fault { IfErr result (IfFault (FragmentUnread words.now context.now raw.now vars.old)) }
 {
     let left = raw.left.items();
@@ -102,7 +108,33 @@ fn read_fragment(
     }
 }
 
-/// What a condition reads as.
+/// What fragments read as, whose variables can all be numbered.
+pub fn read_fragments(
+    alloc: Global,
+    words: &Words,
+    context: &Context,
+    vars: &mut Vars,
+    raws: &[RawFragment],
+) -> Result<Seq<Fragment>, StatementFault>
+    requires room { length vars.old + 2000 * length raws.now < 3999990000 }
+    ensures condition { IfOk result (ConditionReads words.now context.now vars.old raws.now vars.new) }
+    ensures lawful { IfOk result (All (IsLawfulFragment context.now.signature)) }
+    ensures fault { IfErr result (IfFault (ConditionUnread words.now context.now vars.old raws.now)) }
+{
+    let mut fragments = Vec::new(alloc);
+    for raw in raws {
+        let fragment = read_fragment(alloc, words, context, vars, raw)?;
+        fragments.push(fragment)?;
+    }
+    Ok(Seq::new(fragments))
+}
+
+/// The greatest number of fragments of a condition by itself, and of variables before it. No text of the greatest length has so many.
+const MOST_FRAGMENTS: usize = 1_000_000;
+
+const MOST_VARIABLES: usize = 1_000_000_000;
+
+/// What a condition by itself reads as, however long it is. Where its variables might be more than can be numbered, that is want of memory.
 pub fn read_condition(
     alloc: Global,
     words: &Words,
@@ -114,10 +146,8 @@ pub fn read_condition(
     ensures lawful { IfOk result (All (IsLawfulFragment context.now.signature)) }
     ensures fault { IfErr result (IfFault (ConditionUnread words.now context.now vars.old raws.now)) }
 {
-    let mut fragments = Vec::new(alloc);
-    for raw in raws {
-        let fragment = read_fragment(alloc, words, context, vars, raw)?;
-        fragments.push(fragment)?;
+    if raws.len() > MOST_FRAGMENTS || vars.len() > MOST_VARIABLES {
+        return Err(StatementFault::NoMemory);
     }
-    Ok(Seq::new(fragments))
+    read_fragments(alloc, words, context, vars, raws)
 }

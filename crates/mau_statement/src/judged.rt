@@ -1,31 +1,20 @@
 //! What is judged of a statement whose parts are read.
-ghost use Rattle.std.specs.Prelude.{◌≡◌, Ok, Err, IfOk, OnOk, IfErr};
+ghost use Rattle.std.specs.Prelude.{◌≡◌, ◌≤◌, Ok, Err, IfOk, OnOk, IfErr};
 ghost use Rattle.mau_signature.specs.Signature.{theory_at};
-ghost use Rattle.mau_statement.specs.Faults;
+ghost use Rattle.mau_statement.specs.declared.TheConstants.{MAX_FRAGMENTS};
 ghost use Rattle.mau_statement.specs.Faults.{IfFault};
 ghost use Rattle.mau_statement.specs.Lawful.{HasLawfulParts, HasOwnVariables, HasNoFault};
 ghost use Rattle.mau_statement.specs.Statements;
 ghost use Rattle.mau_statement.specs.Statements.{Judged};
 
+use crate::MAX_VARIABLES;
 use crate::binding::binds_variables;
 use crate::fault::{Limit, StatementFault};
 use crate::statement::Statement;
 use crate::tops::{is_head, is_left_side};
-use crate::{MAX_FRAGMENTS, MAX_VARIABLES};
 use mau_signature::Signature;
 use mau_terms::NoMemory;
 use std::alloc::Global;
-
-/// The fault of a statement with so many fragments, of which a part has this fault.
-pub fn unread_fault(fragments: usize, fault: StatementFault) -> StatementFault
-    ensures { result ≡ Faults.unread_fault fragments fault }
-{
-    if fragments > MAX_FRAGMENTS && !matches!(fault, StatementFault::NoMemory) {
-        StatementFault::LimitExceeded(Limit::Fragments)
-    } else {
-        fault
-    }
-}
 
 /// An equation whose left side is none, and a membership whose head is none.
 fn head_fault(signature: &Signature, statement: &Statement) -> Option<StatementFault>
@@ -62,24 +51,22 @@ fn has_unbound(alloc: Global, statement: &Statement) -> Result<bool, NoMemory>
     }
 }
 
-/// The fault of a statement with so many fragments, if it has one.
+/// The fault of a statement with not too many fragments, if it has one.
 pub fn judge(
     alloc: Global,
     signature: &Signature,
-    fragments: usize,
+    _fragments: usize,
     statement: &Statement,
 ) -> Result<(), StatementFault>
+    requires few { _fragments ≤ MAX_FRAGMENTS }
     requires parts { HasLawfulParts signature.now statement.now }
     requires own { HasOwnVariables statement.now }
-    ensures accepted { OnOk result (Judged (theory_at signature.now) fragments statement.now (Ok statement.now)) }
+    ensures accepted { OnOk result (Judged (theory_at signature.now) _fragments statement.now (Ok statement.now)) }
     ensures faultless { OnOk result (HasNoFault signature.now statement.now) }
-    ensures fault { IfErr result (IfFault (λ f. Judged (theory_at signature.now) fragments statement.now (Err f))) }
+    ensures fault { IfErr result (IfFault (λ f. Judged (theory_at signature.now) _fragments statement.now (Err f))) }
 {
     if statement.variable_count() > MAX_VARIABLES {
         return Err(StatementFault::LimitExceeded(Limit::Variables));
-    }
-    if fragments > MAX_FRAGMENTS {
-        return Err(StatementFault::LimitExceeded(Limit::Fragments));
     }
     match head_fault(signature, statement) {
         Some(fault) => Err(fault),

@@ -1,7 +1,8 @@
 //! Statements of a module's text. [`read_statement`] reads an equation, a membership or a rule
 //! as typed terms and fragments, or says why it is none: a part is no term, a left side or a
-//! head may not be one, a variable is not bound, or there are too many parts. [`laws`] has what
-//! holds of this.
+//! head may not be one, a variable is not bound, or there are too many parts. [`read_condition`] reads
+//! a condition by itself, and [`first_unbound`] tells which of its variables isn't bound. [`laws`]
+//! has what holds of this.
 #![tactic(auto)]
 
 mod binding;
@@ -10,11 +11,14 @@ mod context;
 mod fault;
 mod judged;
 pub mod laws;
+mod long;
 mod part;
 mod reading;
 mod statement;
 mod tops;
 
+pub use binding::first_unbound;
+pub use condition::read_condition;
 pub use context::Context;
 pub use fault::{Limit, StatementFault};
 pub use part::{is_empty, read_term, sort_named};

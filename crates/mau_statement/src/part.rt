@@ -1,5 +1,5 @@
 //! The terms and sorts that the tokens of a part are.
-ghost use Rattle.std.specs.Prelude.{◌≡◌, ◌≤◌, ◌<◌, ◌+◌, map, length, false, IfOk, IfErr, OnErr, IfSome};
+ghost use Rattle.std.specs.Prelude.{◌≡◌, ◌≤◌, ◌<◌, ◌+◌, map, length, false, IfOk, IfErr, OnOk, OnErr, IfSome};
 ghost use Rattle.mau_tokens.specs.Laws.{text_of};
 ghost use Rattle.mau_tokens.specs.Spans.{AreSpans};
 ghost use Rattle.mau_parse.specs.Goal.{highest};
@@ -10,7 +10,7 @@ ghost use Rattle.mau_statement.specs.Context.{terms_in};
 ghost use Rattle.mau_statement.specs.Faults.{IfFault};
 ghost use Rattle.mau_program.specs.LawfulStatements.{AreOfOneKind};
 ghost use Rattle.mau_statement.specs.Parts;
-ghost use Rattle.mau_statement.specs.Parts.{part_tokens, part_texts, begin_of, TermReads, IsUnread, IsBareOf, PartUnread, PairReads, PairUnread};
+ghost use Rattle.mau_statement.specs.Parts.{part_tokens, part_texts, begin_of, TermReads, IsUnread, IsBareOf, PartUnread, LiesIn, PairReads, PairUnread};
 
 use crate::context::Context;
 use crate::fault::StatementFault;
@@ -19,9 +19,6 @@ use mau_parse::{Goal, ParseFault, parse};
 use mau_terms::{Bare, Vars};
 use mau_tokens::Token;
 use std::alloc::Global;
-
-/// Behind so many variables, which no text has, nothing more is read, as where memory is wanting.
-const MOST: usize = 2_000_000_000;
 
 /// The text of the words, and those of its tokens that these are.
 fn part<'a>(words: &Words<'a>, tokens: &[Token]) -> (&'a str, &'a [Token])
@@ -61,6 +58,7 @@ pub fn read_term(
     ensures term { IfOk result (TermReads words.now context.now.grammar tokens.now goal vars.old vars.new) }
     ensures bare { IfOk result (λ b. highest context.now.grammar goal ≤ context.now.grammar.last_kind → IsBareOf context.now goal b) }
     ensures few { length vars.new ≤ length vars.old + length words.now }
+    ensures small { OnOk result (length vars.new ≤ length vars.old + 1000) }
     ensures fault { IfErr result (IsUnread words.now context.now.grammar tokens.now goal vars.old) }
     ensures unchanged { OnErr result (vars.new ≡ vars.old) }
 {
@@ -77,15 +75,14 @@ pub fn read_part(
     goal: Goal,
     tokens: &[Token],
 ) -> Result<Bare, StatementFault>
+    requires room { length vars.old < 4000000000 }
     ensures term { IfOk result (TermReads words.now context.now.grammar tokens.now goal vars.old vars.new) }
     ensures bare { IfOk result (λ b. highest context.now.grammar goal ≤ context.now.grammar.last_kind → IsBareOf context.now goal b) }
+    ensures small { OnOk result (length vars.new ≤ length vars.old + 1000) }
     ensures fault { IfErr result (IfFault (PartUnread words.now context.now.grammar tokens.now goal vars.old)) }
 {
     if is_empty(words, tokens) {
         return Err(no_term(words, tokens));
-    }
-    if vars.len() > MOST {
-        return Err(StatementFault::NoMemory);
     }
     match read_term(alloc, words, context, vars, goal, tokens) {
         Ok(term) => Ok(term),
@@ -97,6 +94,7 @@ pub fn read_part(
 fn kind_of(context: &Context, goal: Goal, term: &Bare) -> u32
     requires { IsBareOf context.now goal term.now }
     ensures bare { IsBareIn (terms_in context.now) (tree_of term.now) result }
+    ensures lies { LiesIn (terms_in context.now) (tree_of term.now) result }
     ensures below { result < highest context.now.grammar goal }
 {
     context.signature().kind(term)
@@ -111,8 +109,10 @@ pub fn read_pair(
     first: &[Token],
     second: &[Token],
 ) -> Result<(Bare, Bare), StatementFault>
+    requires room { length vars.old < 3999990000 }
     ensures pair { IfOk result (λ p. PairReads words.now context.now first.now second.now vars.old vars.new p.0 p.1) }
     ensures alike { IfOk result (λ p. AreOfOneKind (terms_in context.now) p.0 p.1) }
+    ensures small { OnOk result (length vars.new ≤ length vars.old + 2000) }
     ensures fault { IfErr result (IfFault (PairUnread words.now context.now first.now second.now vars.old)) }
 {
     let one = read_part(alloc, words, context, vars, Goal::AnyKind, first)?;

@@ -1,5 +1,5 @@
 //! Reading a statement.
-ghost use Rattle.std.specs.Prelude.{◌≡◌, ◌≢◌, ◌<◌, Some, Ok, Err, IfOk, IfErr};
+ghost use Rattle.std.specs.Prelude.{◌≡◌, ◌≢◌, ◌<◌, ◌≤◌, length, Some, Ok, Err, IfOk, IfErr};
 ghost use Rattle.mau_modtext.specs.declared.raw.StatementKind.TheVariants as Kind;
 ghost use Rattle.mau_statement.specs.Faults.{IfFault};
 ghost use Rattle.mau_program.specs.LawfulStatements.{HasLawfulSides, HasLawfulHead};
@@ -8,10 +8,12 @@ ghost use Rattle.mau_statement.specs.Parts;
 ghost use Rattle.mau_statement.specs.Statements;
 ghost use Rattle.mau_statement.specs.Statements.{EquationReads, RuleReads, MembershipReads, PartsRead, SidesUnread, MembershipUnread, PartsUnread, StatementRead};
 
-use crate::condition::read_condition;
+use crate::MAX_FRAGMENTS;
+use crate::condition::read_fragments;
 use crate::context::Context;
 use crate::fault::StatementFault;
-use crate::judged::{judge, unread_fault};
+use crate::judged::judge;
+use crate::long::long_fault;
 use crate::part::{read_pair, read_part, sort_named, unknown_sort};
 use crate::statement::Statement;
 use mau_declare::Words;
@@ -75,6 +77,7 @@ fn read_equation(
     context: &Context,
     raw: &RawStatement,
 ) -> Result<Equation, StatementFault>
+    requires few { length raw.now.cond ≤ MAX_FRAGMENTS }
     ensures reads { IfOk result (EquationReads words.now context.now raw.now) }
     ensures lawful { IfOk result (λ e. HasLawfulSides context.now.signature e.left e.right e.cond) }
     ensures fault { IfErr result (IfFault (SidesUnread words.now context.now raw.now)) }
@@ -88,7 +91,7 @@ fn read_equation(
         raw.left.items(),
         raw.right.items(),
     )?;
-    let cond = read_condition(alloc, words, context, &mut vars, raw.cond.items())?;
+    let cond = read_fragments(alloc, words, context, &mut vars, raw.cond.items())?;
     Ok(Equation {
         left,
         right,
@@ -109,6 +112,7 @@ fn read_head(
 ) -> Result<Membership, StatementFault>
     requires named { Parts.sort_named words.now context.now.sorts raw.now.right ≡ Some sort }
     requires within { sort < context.now.signature.hierarchy.sorts }
+    requires few { length raw.now.cond ≤ MAX_FRAGMENTS }
     ensures reads { IfOk result (MembershipReads words.now context.now raw.now) }
     ensures lawful { IfOk result (HasLawfulHead context.now.signature) }
     ensures fault { IfErr result (IfFault (MembershipUnread words.now context.now raw.now)) }
@@ -116,7 +120,7 @@ fn read_head(
     let mut vars = Vars::new(alloc);
     let goal = Goal::Kind(context.signature().poset().kind_of(sort));
     let left = read_part(alloc, words, context, &mut vars, goal, raw.left.items())?;
-    let cond = read_condition(alloc, words, context, &mut vars, raw.cond.items())?;
+    let cond = read_fragments(alloc, words, context, &mut vars, raw.cond.items())?;
     Ok(Membership {
         left,
         sort,
@@ -133,6 +137,7 @@ fn read_membership(
     context: &Context,
     raw: &RawStatement,
 ) -> Result<Membership, StatementFault>
+    requires few { length raw.now.cond ≤ MAX_FRAGMENTS }
     ensures reads { IfOk result (MembershipReads words.now context.now raw.now) }
     ensures lawful { IfOk result (HasLawfulHead context.now.signature) }
     ensures fault { IfErr result (IfFault (MembershipUnread words.now context.now raw.now)) }
@@ -150,6 +155,7 @@ fn read_rule(
     context: &Context,
     raw: &RawStatement,
 ) -> Result<Rule, StatementFault>
+    requires few { length raw.now.cond ≤ MAX_FRAGMENTS }
     ensures reads { IfOk result (RuleReads words.now context.now raw.now) }
     ensures lawful { IfOk result (λ r. HasLawfulSides context.now.signature r.left r.right r.cond) }
     ensures fault { IfErr result (IfFault (SidesUnread words.now context.now raw.now)) }
@@ -163,7 +169,7 @@ fn read_rule(
         raw.left.items(),
         raw.right.items(),
     )?;
-    let cond = read_condition(alloc, words, context, &mut vars, raw.cond.items())?;
+    let cond = read_fragments(alloc, words, context, &mut vars, raw.cond.items())?;
     Ok(Rule {
         label: label_of(alloc, words, raw.label)?,
         left,
@@ -181,7 +187,8 @@ fn read_parts(
     context: &Context,
     raw: &RawStatement,
 ) -> Result<Statement, StatementFault>
-    requires { raw.now.kind ≢ Kind.Definition }
+    requires kind { raw.now.kind ≢ Kind.Definition }
+    requires few { length raw.now.cond ≤ MAX_FRAGMENTS }
     ensures reads { IfOk result (PartsRead words.now context.now raw.now) }
     ensures lawful { IfOk result (HasLawfulParts context.now.signature) }
     ensures own { IfOk result HasOwnVariables }
@@ -220,11 +227,14 @@ pub fn read_statement(
     ensures fault { IfErr result (IfFault (λ f. StatementRead words.now context.now raw.now (Err f))) }
 {
     let fragments = raw.cond.items().len();
+    if fragments > MAX_FRAGMENTS {
+        return Err(long_fault(alloc, words, context, raw));
+    }
     match read_parts(alloc, words, context, raw) {
         Ok(statement) => {
             judge(alloc, context.signature(), fragments, &statement)?;
             Ok(statement)
         }
-        Err(fault) => Err(unread_fault(fragments, fault)),
+        Err(fault) => Err(fault),
     }
 }

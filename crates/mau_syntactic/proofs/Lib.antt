@@ -14,6 +14,8 @@ pub mod Below
 pub mod Frees
 -- the laws
 pub mod Solving
+-- the solution of a pattern in a term
+pub mod OneSolution
 -- terms built by their parts
 pub mod Running
 -- terms on a stack

@@ -16,3 +16,5 @@ pub mod Laws
 pub mod Steps
 -- a term as a list of parts, and what a part adds
 pub mod Parts
+-- variables as places
+pub mod Sorted

@@ -7,6 +7,7 @@ mod free;
 pub mod laws;
 mod part;
 mod pattern;
+mod solution;
 mod step;
 mod template;
 

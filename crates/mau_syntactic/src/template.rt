@@ -64,6 +64,13 @@ impl Template {
         })
     }
 
+    /// The variables.
+    pub fn variables(&self) -> &[VarId]
+        ensures { map variable_of result.now ≡ self.now.1 }
+    {
+        &self.variables
+    }
+
     /// The normal form of the term with the values in the places of its variables. What `stack` holds beforehand is dropped; it keeps its
     /// memory for the next call.
     ///

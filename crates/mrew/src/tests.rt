@@ -1,5 +1,6 @@
 //! Whole texts and their transcripts, the items of a text, and the modules of the prelude.
 
+mod conditions;
 mod contexts;
 mod imports;
 mod items;
@@ -10,6 +11,7 @@ mod modules;
 mod prelude;
 mod reduce;
 mod refusals;
+mod rewrite;
 mod runs;
 mod settings;
 

@@ -54,9 +54,12 @@ fn refuses_by_name_and_place(rt: HostRuntime) -> Result<(), Fail> {
         ),
         ("reduce a .", "[1] refused: NoParse 7\n"),
         ("red .", "[1] refused: Unexpected 4\n"),
-        ("rewrite a .", "[1] refused: NotBuilt rewrite 0\n"),
-        ("rew .", "[1] refused: NotBuilt rew 0\n"),
-        ("rewrite in NAT : 1 .", "[1] refused: NotBuilt rewrite 0\n"),
+        ("frewrite a .", "[1] refused: NotBuilt frewrite 0\n"),
+        ("frew .", "[1] refused: NotBuilt frew 0\n"),
+        (
+            "frewrite in NAT : 1 .",
+            "[1] refused: NotBuilt frewrite 0\n",
+        ),
         ("reduce in NOPE : a .", "[1] refused: UnknownModule NOPE\n"),
         (
             "fmod A is sorts T S . subsort T < S . ops a b : -> S . mb a : T . endfm reduce a .",
@@ -95,8 +98,8 @@ fn refuses_by_name_and_place(rt: HostRuntime) -> Result<(), Fail> {
         ("match a .", "Unexpected 71"),
         ("match <=? a .", "Unexpected 69"),
         ("match a <=? .", "Unexpected 75"),
-        ("match a <=? a such that a = a .", "NotBuilt such 77"),
-        ("match a <=? a s.t. a = a .", "NotBuilt s.t. 77"),
+        ("match a <=? a such that foo = a .", "NoParse 87"),
+        ("match a <=? a s.t. X:S = a .", "UnboundVariable X:S"),
         ("match a <=? a", "Unended 63"),
     ];
     for (command, refusal) in rows {

@@ -1,5 +1,4 @@
 use Rattle.mau_check.proofs.Tells.{kept_over, said_end, ends_as_sort}
-use Rattle.mau_check.specs.declared.said.Said.TheVariants.{Leads}
 use Rattle.mau_check.specs.Said.{IsSaid}
 use Rattle.std.proofs.Common.{subst}
 use Rattle.mau_terms.proofs.Outcomes.{IfOk-then}

@@ -1,4 +1,4 @@
-use Rattle.std.proofs.Common.{◌≡◌, true, false, refl, get_or}
+use Rattle.std.proofs.Common.{◌≡◌, true, false, refl}
 use Rattle.mau_check.specs.declared.kept.Holes.TheVariants.{Absent}
 use Rattle.mau_check.specs.declared.said.Said.TheVariants.{Leads}
 use Rattle.mau_check.specs.Told.{EndsInSort}

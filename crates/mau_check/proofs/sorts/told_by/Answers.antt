@@ -1,6 +1,4 @@
-use Rattle.std.proofs.Common.{◌≡◌, false, sym, ◌∙◌}
-use Rattle.std.specs.List.{list_any}
-use Rattle.mau_check.specs.Told.{tells_sort}
+use Rattle.std.proofs.Common.{sym, ◌∙◌}
 use Rattle.mau_check.proofs.Tells.{none_known}
 use Rattle.mau_check.proofs.sorts.told_by.Goals as goal
 

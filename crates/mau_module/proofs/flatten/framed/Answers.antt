@@ -6,6 +6,7 @@ use Rattle.mau_module.specs.Framed.{Frame}
 use Rattle.mau_module.specs.Flattened.{FlattenedAs}
 use Rattle.mau_module.proofs.FaultLemmas.{if_fault_then}
 use Rattle.mau_module.proofs.Faulted.{not_known, deep, large}
+use Rattle.mau_module.proofs.TextMade.{text_closed}
 use Rattle.mau_module.proofs.flatten.framed.Goals as goal
 
 pub returns-in-Err-clause-fault : goal.returns-in-Err-clause-fault
@@ -22,3 +23,7 @@ pub returns-in-Some-clause-fault : goal.returns-in-Some-clause-fault
 returns-in-Some-clause-fault c =
     large c.args.library.now c.args.words.now c.args.raw.now c.in-Ok.frame c.in-Ok.ensures.ok c.in-Some.limit c.in-Ok.ensures.imported
     (omega (arith, c.if-frame-gt-MAX_DEPTH.false, ap (λ (f : Frame). f.depth) c.frame.view_is)) (sym c.limit_passed.ensures ∙ c.in-Some.is)
+
+pub returns-in-None-clause-closed : goal.returns-in-None-clause-closed
+returns-in-None-clause-closed c =
+    text_closed c.args.library.now c.args.words.now c.args.raw.now c.in-Ok.frame c.in-Ok.ensures.ok c.len-modules.ensures.library.made c.requires c.in-Ok.ensures.within c.in-Ok.ensures.known

@@ -3,8 +3,8 @@ use Rattle.std.specs.Option.{option_copied}
 use Rattle.mau_statement.specs.Statements.{StatementRead}
 use Rattle.mau_module.specs.Modules.{no_statements}
 use Rattle.mau_module.specs.Stated.{OwnRead, none_left}
-use Rattle.mau_module.specs.Lawful.{AreLawfulOver}
-use Rattle.mau_module.proofs.Adding.{one_added}
+use Rattle.mau_module.specs.Made.{AreLawfulOver}
+use Rattle.mau_module.proofs.Adding.{few_read, one_added}
 use Rattle.mau_module.proofs.LawfulCarried.{nothing_lawful}
 use Rattle.mau_module.proofs.Owns.{passed, read, refused, numbered}
 use Rattle.std.proofs.Math.ListN.{drop_of_length-le}
@@ -26,7 +26,8 @@ loop-element-preserved c =
         rest = λ r o. c.loop-element.invariant.rest r (read c.args.words.now c.args.context.now c.args.elements.now c.loop-element.own c.loop-element.before c.loop-element.element-index c.element-item.result
             (omega (arith, c.loop-element-test.true)) c.element-item.is r c.match-statement_in.own c.match-statement_in.before w.in-Some.raw.now w.in-Ok.statement (sym c.statement_in.ensures ∙ ap option_copied w.in-Some.is) w.in-Ok.ensures.read
             (w.own-is ∙ w.in_ok-add-in-Ok.ensures) w.before-is o);
-        lawful = one_added c.args.context.now.signature c.loop-element.own c.match-statement_in.own w.in-Ok.statement (w.own-is ∙ w.in_ok-add-in-Ok.ensures) c.loop-element.invariant.lawful w.in-Ok.ensures.lawful;
+        lawful = one_added c.args.context.now.signature c.loop-element.own c.match-statement_in.own w.in-Ok.statement (w.own-is ∙ w.in_ok-add-in-Ok.ensures) c.loop-element.invariant.lawful w.in-Ok.ensures.lawful
+            (few_read c.args.words.now c.args.context.now w.in-Some.raw.now w.in-Ok.statement w.in-Ok.ensures.read);
       }
       | in-None w ↦ record {
         few = omega (arith, w.before-is, c.loop-element.invariant.few);

@@ -3,7 +3,7 @@ use Rattle.std.specs.Prelude.{Result}
 use Rattle.mau_statement.specs.declared.fault.StatementFault.{StatementFault}
 use Rattle.mau_module.specs.Modules.{StatementsOf, no_statements}
 use Rattle.mau_module.specs.Stated.{OwnRead}
-use Rattle.mau_module.specs.Lawful.{AreLawfulOver}
+use Rattle.mau_module.specs.Made.{AreLawfulOver}
 use Rattle.mau_module.proofs.own.read_own.Given as goal
 
 abbrev pub invariant-loop-element : goal.invariant-loop-element

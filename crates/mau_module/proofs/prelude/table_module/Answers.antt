@@ -9,7 +9,7 @@ use Rattle.mau_module.specs.Included.{depth_over, parts_of, sorts_of}
 use Rattle.mau_module.specs.Framed.{Frame}
 use Rattle.mau_module.specs.Prelude.{table_frame, table_module}
 use Rattle.mau_module.proofs.Tabled.{if_ok_is}
-use Rattle.mau_module.proofs.ReadyMade.{table_next}
+use Rattle.mau_module.proofs.ReadyMade.{table_next, depth_so, signable_so, variables_so, tops_so, truth_so}
 use Rattle.mau_module.proofs.prelude.table_module.Goals as goal
 
 pub returns-clause-value : goal.returns-clause-value
@@ -37,3 +37,46 @@ returns-clause-next c =
     table_next c.args.library.now c.args.imports.now c.args.«module» c.len-modules.ensures.library c.requires.ready c.requires.imports
     c.make_module.result c.in_ok-frame.frame (c.in_ok-frame.ensures.frame ∙ ap over (c.deref.ensures.value ∙ c.in_ok-table.ensures.sorts)) c.in_ok-frame.ensures.within c.in_ok-frame.ensures.known
     (returns-clause-value c) c.make_module.ensures.right
+
+pub make_module-requires-clause-depth : goal.make_module-requires-clause-depth
+make_module-requires-clause-depth c =
+    let t = table_of c.args.«module» in
+    let over : List (List ℕ) → Frame = λ xs. record { depth = depth_over c.args.library.now c.args.imports.now; parts = parts_of c.args.library.now c.args.imports.now; names = fold with_name (sorts_of c.args.library.now (parts_of c.args.library.now c.args.imports.now)) xs } in
+    let frame : c.in_ok-frame.frame ≡ table_frame c.args.library.now c.args.imports.now t = c.in_ok-frame.ensures.frame ∙ ap over (c.deref.ensures.value ∙ c.in_ok-table.ensures.sorts) in
+    depth_so c.args.library.now c.args.imports.now c.args.«module» c.len-modules.ensures.library c.requires.ready c.requires.imports c.in_ok-frame.frame frame
+    c.in_ok-table.table.pairs.items c.in_ok-table.ensures.pairs c.in_ok-table.table.declarations.items c.in_ok-table.ensures.declarations
+
+pub make_module-requires-clause-signable : goal.make_module-requires-clause-signable
+make_module-requires-clause-signable c =
+    let t = table_of c.args.«module» in
+    let over : List (List ℕ) → Frame = λ xs. record { depth = depth_over c.args.library.now c.args.imports.now; parts = parts_of c.args.library.now c.args.imports.now; names = fold with_name (sorts_of c.args.library.now (parts_of c.args.library.now c.args.imports.now)) xs } in
+    let frame : c.in_ok-frame.frame ≡ table_frame c.args.library.now c.args.imports.now t = c.in_ok-frame.ensures.frame ∙ ap over (c.deref.ensures.value ∙ c.in_ok-table.ensures.sorts) in
+    signable_so c.args.library.now c.args.imports.now c.args.«module» c.len-modules.ensures.library c.requires.ready c.requires.imports c.in_ok-frame.frame frame
+    c.in_ok-table.table.pairs.items c.in_ok-table.ensures.pairs c.in_ok-table.table.declarations.items c.in_ok-table.ensures.declarations
+
+pub make_module-requires-clause-variables : goal.make_module-requires-clause-variables
+make_module-requires-clause-variables c =
+    let t = table_of c.args.«module» in
+    let over : List (List ℕ) → Frame = λ xs. record { depth = depth_over c.args.library.now c.args.imports.now; parts = parts_of c.args.library.now c.args.imports.now; names = fold with_name (sorts_of c.args.library.now (parts_of c.args.library.now c.args.imports.now)) xs } in
+    let frame : c.in_ok-frame.frame ≡ table_frame c.args.library.now c.args.imports.now t = c.in_ok-frame.ensures.frame ∙ ap over (c.deref.ensures.value ∙ c.in_ok-table.ensures.sorts) in
+    variables_so c.args.library.now c.args.imports.now c.args.«module» c.len-modules.ensures.library c.requires.ready c.requires.imports c.in_ok-frame.frame frame
+    c.in_ok-table.table.pairs.items c.in_ok-table.ensures.pairs c.in_ok-table.table.declarations.items c.in_ok-table.ensures.declarations
+    c.in_ok-table.table.variables.items c.in_ok-table.ensures.variables
+
+pub make_module-requires-clause-tops : goal.make_module-requires-clause-tops
+make_module-requires-clause-tops c =
+    let t = table_of c.args.«module» in
+    let over : List (List ℕ) → Frame = λ xs. record { depth = depth_over c.args.library.now c.args.imports.now; parts = parts_of c.args.library.now c.args.imports.now; names = fold with_name (sorts_of c.args.library.now (parts_of c.args.library.now c.args.imports.now)) xs } in
+    let frame : c.in_ok-frame.frame ≡ table_frame c.args.library.now c.args.imports.now t = c.in_ok-frame.ensures.frame ∙ ap over (c.deref.ensures.value ∙ c.in_ok-table.ensures.sorts) in
+    tops_so c.args.library.now c.args.imports.now c.args.«module» c.len-modules.ensures.library c.requires.ready c.requires.imports c.in_ok-frame.frame frame
+    c.in_ok-table.table.pairs.items c.in_ok-table.ensures.pairs c.in_ok-table.table.declarations.items c.in_ok-table.ensures.declarations
+    c.in_ok-frame.ensures.within c.in_ok-frame.ensures.known
+
+pub make_module-requires-clause-truth : goal.make_module-requires-clause-truth
+make_module-requires-clause-truth c =
+    let t = table_of c.args.«module» in
+    let over : List (List ℕ) → Frame = λ xs. record { depth = depth_over c.args.library.now c.args.imports.now; parts = parts_of c.args.library.now c.args.imports.now; names = fold with_name (sorts_of c.args.library.now (parts_of c.args.library.now c.args.imports.now)) xs } in
+    let frame : c.in_ok-frame.frame ≡ table_frame c.args.library.now c.args.imports.now t = c.in_ok-frame.ensures.frame ∙ ap over (c.deref.ensures.value ∙ c.in_ok-table.ensures.sorts) in
+    truth_so c.args.library.now c.args.imports.now c.args.«module» c.len-modules.ensures.library c.requires.ready c.requires.imports c.in_ok-frame.frame frame
+    c.in_ok-table.table.pairs.items c.in_ok-table.ensures.pairs c.in_ok-table.table.declarations.items c.in_ok-table.ensures.declarations
+    c.in_ok-frame.ensures.within c.in_ok-frame.ensures.known

@@ -1,7 +1,8 @@
 use Rattle.std.proofs.Common.{true, ◌≡◌, ◌++◌, ◌+◌, ◌*◌, ◌≤◌, ℕ, length, drop, nat_lt, string_bytes}
 use Rattle.mau_terms.specs.Depth.{depth, list_depth}
 use Rattle.mau_store.specs.Trees.{tree_at}
-use Rattle.mau_print.specs.Written.{spaced, pieces, nested, closing, times, rest_texts, IsSecondPlace}
+use Rattle.mau_print.specs.Written.{spaced, pieces, nested, rest_texts}
+use Rattle.mau_print.specs.LeftToRight.{closing, times, IsSecondPlace}
 use Rattle.mau_print.specs.PrintedIds.{printed_all, trees_of_ids}
 use Rattle.mau_print.proofs.printing.+write.Given as goal
 

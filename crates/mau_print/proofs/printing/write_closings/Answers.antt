@@ -1,5 +1,5 @@
 use Rattle.std.proofs.Common.{◌++◌, ◌+◌, ◌-◌, ap, ◌∙◌, sym, append_assoc, string_bytes}
-use Rattle.mau_print.specs.Written.{closing, times}
+use Rattle.mau_print.specs.LeftToRight.{closing, times}
 use Rattle.mau_print.proofs.Chains.{times-less}
 use Rattle.mau_print.proofs.printing.write_closings.Goals as goal
 

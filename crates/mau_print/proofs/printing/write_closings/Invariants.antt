@@ -1,5 +1,5 @@
 use Rattle.std.proofs.Common.{◌≡◌, ◌++◌, ◌-◌, string_bytes}
-use Rattle.mau_print.specs.Written.{closing, times}
+use Rattle.mau_print.specs.LeftToRight.{closing, times}
 use Rattle.mau_print.proofs.printing.write_closings.Given as goal
 
 abbrev pub invariant-loop-written : goal.invariant-loop-written

@@ -1,5 +1,5 @@
 use Rattle.std.proofs.Common.{take}
-use Rattle.mau_print.specs.Layouts.{AreFirstNames}
+use Rattle.mau_print.specs.FirstSorts.{AreFirstNames}
 use Rattle.mau_print.proofs.sorts.first_names.Given as goal
 
 abbrev pub invariant-loop-sort : goal.invariant-loop-sort

@@ -1,50 +1,29 @@
-use Rattle.std.proofs.Common.{[], IfSome, sym, ap, ◌∙◌, subst}
-use Rattle.std.specs.Option.{option_map}
-use Rattle.mau_terms.specs.View.{tree_of}
+use Rattle.std.proofs.Common.{◌≡◌, Some, None, arith}
 use Rattle.mau_store.specs.Trees.{tree_at}
-use Rattle.mau_listing.specs.Asked.{asks, CanGoOn}
-use Rattle.mau_api.specs.Programs.{program_over, equation_of}
-use Rattle.mau_api.proofs.Started.{can_start}
-use Rattle.mau_reduce.specs.Trying.{solution_in, left_of_number, IsCandidate}
-use Rattle.mau_reduce.proofs.Numbered.{at_index, exec_at, equation_there, in_equations, none_of_number, one_of_number}
+use Rattle.mau_evaluation.specs.Run.{or_go_on}
+use Rattle.mau_api.specs.Programs.{program_over}
+use Rattle.mau_reduce.specs.Trying.{solution_in, left_of_number, number_gives}
+use Rattle.mau_reduce.proofs.AttemptsLeft.{at_some}
+use Rattle.mau_reduce.proofs.CompiledAt.{compiled_there, pattern_at}
+use Rattle.mau_reduce.proofs.Numbered.{begun_with}
 use Rattle.mau_reduce.proofs.trying.first_candidate.Goals as goal
 
-pub next_candidate-requires-clause-left : goal.next_candidate-requires-clause-left
-next_candidate-requires-clause-left g c =
-    let sides = c.requires.reducible.sides (equation_of c.index-items-number.result) (in_equations c.args.program.now c.args.number c.index-items-number.result (at_index c.args.program.now.equations c.items.result.now c.args.number c.index-items-number.result c.items.ensures c.requires.number c.index-items-number.is)) in
-    (sides.kind, sides.left)
+pub index-requires : goal.index-requires
+index-requires g c =
+    let p = c.args.program.now in
+    omega (arith, c.args.compiled.now.equations.ok.0, compiled_there p.sig p.equations c.args.compiled.now.equations.items c.requires.compiled.equations c.args.number c.requires.number)
 
-pub next_candidate-requires-clause-ready : goal.next_candidate-requires-clause-ready
-next_candidate-requires-clause-ready g c =
-    let sides = c.requires.reducible.sides (equation_of c.index-items-number.result) (in_equations c.args.program.now c.args.number c.index-items-number.result (at_index c.args.program.now.equations c.items.result.now c.args.number c.index-items-number.result c.items.ensures c.requires.number c.index-items-number.is)) in
-    subst (λ a. CanGoOn g.L.Lister.with_context c.args.program.now.sig c.args.store.now c.args.table.now a (g.L.Lister.given c.in_ok-listing.listing)) (sym c.in_ok-listing.ensures.asked)
-    (subst (CanGoOn g.L.Lister.with_context c.args.program.now.sig c.args.store.now c.args.table.now (asks (tree_of c.index-items-number.result.left) [] c.args.term)) (sym c.in_ok-listing.ensures.given)
-    (can_start g.L.Lister.with_context c.args.program.now.sig c.args.store.now c.args.table.now (tree_of c.index-items-number.result.left) c.args.term (sides.kind, sides.left) c.requires.term c.requires.settled c.requires.plain.over))
+pub first_match-requires-clause-pattern : goal.first_match-requires-clause-pattern
+first_match-requires-clause-pattern g c =
+    let p = c.args.program.now in
+    pattern_at p.sig p.equations c.args.compiled.now.equations.items c.requires.compiled.equations c.args.number c.index.result.now c.index.ensures c.in-Some.pattern c.in-Some.is
 
-pub returns-in-Some-clause-some : goal.returns-in-Some-clause-some
-returns-in-Some-clause-some g c = λ hooks B k b.
-    ap (λ last. left_of_number (program_over c.args.program.now hooks) B k (tree_at c.args.store.now c.args.term.0) c.args.number last b) (sym (ap (option_map (solution_in c.args.store.now)) c.in_ok-listing.ensures.given))
-    ∙ one_of_number (program_over c.args.program.now hooks) B k (tree_at c.args.store.now c.args.term.0) c.args.number (equation_of c.index-items-number.result) (equation_there c.args.program.now hooks c.args.number c.index-items-number.result (at_index c.args.program.now.equations c.items.result.now c.args.number c.index-items-number.result c.items.ensures c.requires.number c.index-items-number.is)) c.next_candidate.new.store (option_map (solution_in c.args.store.now) (g.L.Lister.given c.in_ok-listing.listing)) c.in_ok-solution.field-0 b c.in-Some.solution c.in-Some.is (c.in_ok-solution.ensures.some hooks B k b)
-
-pub returns-in-Some-clause-tried : goal.returns-in-Some-clause-tried
-returns-in-Some-clause-tried g c = record {
-  equation = c.index-items-number.result;
-  at = (at_index c.args.program.now.equations c.items.result.now c.args.number c.index-items-number.result c.items.ensures c.requires.number c.index-items-number.is);
-  exec = exec_at c.args.program.now c.args.number c.requires.executable c.index-items-number.result (at_index c.args.program.now.equations c.items.result.now c.args.number c.index-items-number.result c.items.ensures c.requires.number c.index-items-number.is);
-  asked = c.in_ok-solution.ensures.asked ∙ c.in_ok-listing.ensures.asked;
-  signature = c.in_ok-solution.ensures.signature;
-  ready = c.in_ok-solution.ensures.ready;
-}
-
-pub returns-in-Some-clause-found : goal.returns-in-Some-clause-found
-returns-in-Some-clause-found g c = record {
-  equation = c.index-items-number.result;
-  at = (at_index c.args.program.now.equations c.items.result.now c.args.number c.index-items-number.result c.items.ensures c.requires.number c.index-items-number.is);
-  exec = exec_at c.args.program.now c.args.number c.requires.executable c.index-items-number.result (at_index c.args.program.now.equations c.items.result.now c.args.number c.index-items-number.result c.items.ensures c.requires.number c.index-items-number.is);
-  candidate = subst (λ o. IfSome o (IsCandidate c.args.program.now.sig c.next_candidate.new.store (tree_of c.index-items-number.result.left) (tree_at c.args.store.now c.args.term.0))) c.in-Some.is c.in_ok-solution.ensures.candidate;
-}
-
-pub returns-in-None-clause-none : goal.returns-in-None-clause-none
-returns-in-None-clause-none g c = λ hooks B k b.
-    ap (λ last. left_of_number (program_over c.args.program.now hooks) B k (tree_at c.args.store.now c.args.term.0) c.args.number last b) (sym (ap (option_map (solution_in c.args.store.now)) c.in_ok-listing.ensures.given))
-    ∙ none_of_number (program_over c.args.program.now hooks) B k (tree_at c.args.store.now c.args.term.0) c.args.number (equation_of c.index-items-number.result) (equation_there c.args.program.now hooks c.args.number c.index-items-number.result (at_index c.args.program.now.equations c.items.result.now c.args.number c.index-items-number.result c.items.ensures c.requires.number c.index-items-number.is)) c.next_candidate.new.store (option_map (solution_in c.args.store.now) (g.L.Lister.given c.in_ok-listing.listing)) c.in_ok-solution.field-0 b c.in-None.is (c.in_ok-solution.ensures.none hooks B k b)
+pub returns-in-Some-2-clause-some : goal.returns-in-Some-2-clause-some
+returns-in-Some-2-clause-some g c = λ hooks B k b rest.
+    let P = program_over c.args.program.now hooks in
+    let t = tree_at c.args.store.now c.args.term.0 in
+    begun_with P B k t rest b c.first_listed.new.store (λ y. y.number) (λ y. g.L.Lister.given y.listing) c.args.number c.in-Some-2.begun c.in-Some-2.solution
+    (at_some (λ x. x.0.number ≡ c.args.number) c.in_ok-begun-in-None.field-0 (c.in-Some-2.begun, c.in-Some-2.solution) c.in-Some-2.is c.in_ok-begun-in-None.ensures.number)
+    (at_some (λ x. g.L.Lister.given x.0.listing ≡ Some x.1) c.in_ok-begun-in-None.field-0 (c.in-Some-2.begun, c.in-Some-2.solution) c.in-Some-2.is c.in_ok-begun-in-None.ensures.given)
+    (at_some (λ x. left_of_number P B k t c.args.number None b ≡ or_go_on (left_of_number P B k t c.args.number (Some (solution_in c.first_listed.new.store x.1))) (number_gives P B k t c.args.number (solution_in c.first_listed.new.store x.1) b))
+    c.in_ok-begun-in-None.field-0 (c.in-Some-2.begun, c.in-Some-2.solution) c.in-Some-2.is (c.in_ok-begun-in-None.ensures.some hooks B k b))

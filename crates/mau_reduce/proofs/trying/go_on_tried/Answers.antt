@@ -1,9 +1,11 @@
-use Rattle.std.proofs.Common.{◌≡◌, None, IfNone, ◌∙◌, subst}
+use Rattle.std.proofs.Common.{◌≡◌, Some, None, IfNone, ◌∙◌, subst}
 use Rattle.std.specs.Option.{option_map}
 use Rattle.mau_store.specs.Trees.{tree_at}
 use Rattle.mau_evaluation.specs.Run.{done}
 use Rattle.mau_api.specs.Programs.{program_over}
-use Rattle.mau_reduce.specs.Trying.{solution_in, left_of_number}
+use Rattle.mau_reduce.specs.Trying.{solution_in, left_of_number, IsTried}
+use Rattle.mau_reduce.proofs.AttemptsLeft.{at_some}
+use Rattle.mau_reduce.proofs.Lately.{listed_by}
 use Rattle.mau_reduce.proofs.Numbered.{behind_is, none_behind, found_behind}
 use Rattle.mau_reduce.proofs.trying.go_on_tried.Goals as goal
 
@@ -17,3 +19,11 @@ returns-in-None-2-clause-none g c = λ hooks B k b rest.
     behind_is (program_over c.args.program.now hooks) B k (tree_at c.args.store.now c.args.term.0) rest b c.args.store.now (λ y. y.number) (λ y. g.L.Lister.given y.listing) c.args.tried.now c.in-Some.tried c.in-Some.is
     ∙ none_behind (program_over c.args.program.now hooks) B k (tree_at c.args.store.now c.args.term.0) rest b c.in-Some.tried.number (option_map (solution_in c.args.store.now) (g.L.Lister.given c.in-Some.tried.listing))
     (subst (λ w. IfNone w (left_of_number (program_over c.args.program.now hooks) B k (tree_at c.args.store.now c.args.term.0) c.in-Some.tried.number (option_map (solution_in c.args.store.now) (g.L.Lister.given c.in-Some.tried.listing)) b ≡ done None 0 b)) c.in-None-2.is (c.in_ok-solution-in-Some.ensures.none hooks B k b))
+
+pub returns-in-Some-2-clause-listed : goal.returns-in-Some-2-clause-listed
+returns-in-Some-2-clause-listed g c =
+    let y = c.go_on.new.tried in
+    listed_by g.L.Lister.with_context c.requires.contexts c.args.program.now c.go_on.new.store c.go_on.new.table c.args.term c.in-Some.tried.number (g.L.Lister.asked y.listing) (g.L.Lister.given y.listing) (g.L.Lister.is_for y.listing c.args.program.now.sig) c.in-Some-2.solution
+    (at_some (λ x. g.L.Lister.given y.listing ≡ Some x) c.in_ok-solution-in-Some.field-0 c.in-Some-2.solution c.in-Some-2.is c.in_ok-solution-in-Some.ensures.given)
+    (at_some (λ x. IsTried g.L.Lister.with_context c.args.program.now c.go_on.new.store c.go_on.new.table c.args.term c.in-Some.tried.number (g.L.Lister.asked y.listing) (g.L.Lister.given y.listing) (g.L.Lister.is_for y.listing c.args.program.now.sig))
+    c.in_ok-solution-in-Some.field-0 c.in-Some-2.solution c.in-Some-2.is c.in_ok-solution-in-Some.ensures.tried)

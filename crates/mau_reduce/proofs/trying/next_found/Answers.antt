@@ -7,6 +7,7 @@ use Rattle.mau_evaluation.specs.Run.{done, first_of, or_go_on}
 use Rattle.mau_api.specs.Programs.{program_over}
 use Rattle.mau_api.specs.Answers.{AreSettled}
 use Rattle.mau_reduce.specs.Trying.{solution_in, applied_number, left_by, number_gives, IsFound}
+use Rattle.mau_reduce.specs.ByTop.{order_for}
 use Rattle.mau_reduce.proofs.KindsKept.{tree_kept, is_term_kept}
 use Rattle.mau_reduce.proofs.PlainTables.{settled_grown}
 use Rattle.mau_reduce.proofs.Numbered.{none_through, some_through}
@@ -22,30 +23,30 @@ begin_next-requires-clause-settled g c =
 
 pub returns-in-Some-clause-some : goal.returns-in-Some-clause-some
 returns-in-Some-clause-some g c = λ hooks B k b.
-    subst (λ o. IfSome o (λ x. left_by (program_over c.args.program.now hooks) B k c.args.store.now (tree_at c.args.store.now c.args.term.0) (option_map (λ y. (y.number, g.L.Lister.given y.listing)) c.args.tried.now) (drop c.args.next.now c.args.order.now) b
-    ≡ or_go_on (left_by (program_over c.args.program.now hooks) B k c.go_on_tried.new.store (tree_at c.args.store.now c.args.term.0) (option_map (λ y. (y.number, g.L.Lister.given y.listing)) c.go_on_tried.new.tried) (drop c.args.next.now c.args.order.now))
-    (number_gives (program_over c.args.program.now hooks) B k (tree_at c.args.store.now c.args.term.0) x.number (solution_in c.go_on_tried.new.store x.solution) b))) c.in-Some.is (c.in_ok-found.ensures.some hooks B k b (drop c.args.next.now c.args.order.now))
+    subst (λ o. IfSome o (λ x. left_by (program_over c.args.program.now hooks) B k c.args.store.now (tree_at c.args.store.now c.args.term.0) (option_map (λ y. (y.number, g.L.Lister.given y.listing)) c.args.tried.now) (drop c.args.next.now (order_for c.args.program.now (tree_at c.args.store.now c.args.term.0))) b
+    ≡ or_go_on (left_by (program_over c.args.program.now hooks) B k c.go_on_tried.new.store (tree_at c.args.store.now c.args.term.0) (option_map (λ y. (y.number, g.L.Lister.given y.listing)) c.go_on_tried.new.tried) (drop c.args.next.now (order_for c.args.program.now (tree_at c.args.store.now c.args.term.0))))
+    (number_gives (program_over c.args.program.now hooks) B k (tree_at c.args.store.now c.args.term.0) x.number (solution_in c.go_on_tried.new.store x.solution) b))) c.in-Some.is (c.in_ok-found.ensures.some hooks B k b (drop c.args.next.now (order_for c.args.program.now (tree_at c.args.store.now c.args.term.0))))
 
 pub returns-in-None-clause-none : goal.returns-in-None-clause-none
 returns-in-None-clause-none g c = λ hooks B k b.
-    none_through c.begin_next.result (λ u. first_of (applied_number (program_over c.args.program.now hooks) B k u) (drop c.args.next.now c.args.order.now) b)
-    (left_by (program_over c.args.program.now hooks) B k c.args.store.now (tree_at c.args.store.now c.args.term.0) (option_map (λ y. (y.number, g.L.Lister.given y.listing)) c.args.tried.now) (drop c.args.next.now c.args.order.now) b) (done None 0 b)
+    none_through c.begin_next.result (λ u. first_of (applied_number (program_over c.args.program.now hooks) B k u) (drop c.args.next.now (order_for c.args.program.now u)) b)
+    (left_by (program_over c.args.program.now hooks) B k c.args.store.now (tree_at c.args.store.now c.args.term.0) (option_map (λ y. (y.number, g.L.Lister.given y.listing)) c.args.tried.now) (drop c.args.next.now (order_for c.args.program.now (tree_at c.args.store.now c.args.term.0))) b) (done None 0 b)
     (tree_at c.args.store.now c.args.term.0) (tree_at c.go_on_tried.new.store c.args.term.0)
     (tree_kept (theory_at c.args.program.now.sig) c.args.store.now c.go_on_tried.new.store c.args.term.0 c.go_on_tried.ensures.extends c.requires.term.within)
-    (subst (λ o. IfNone o (left_by (program_over c.args.program.now hooks) B k c.args.store.now (tree_at c.args.store.now c.args.term.0) (option_map (λ y. (y.number, g.L.Lister.given y.listing)) c.args.tried.now) (drop c.args.next.now c.args.order.now) b
-    ≡ first_of (applied_number (program_over c.args.program.now hooks) B k (tree_at c.args.store.now c.args.term.0)) (drop c.args.next.now c.args.order.now) b)) c.in-None.is (c.in_ok-found.ensures.none hooks B k b (drop c.args.next.now c.args.order.now)))
+    (subst (λ o. IfNone o (left_by (program_over c.args.program.now hooks) B k c.args.store.now (tree_at c.args.store.now c.args.term.0) (option_map (λ y. (y.number, g.L.Lister.given y.listing)) c.args.tried.now) (drop c.args.next.now (order_for c.args.program.now (tree_at c.args.store.now c.args.term.0))) b
+    ≡ first_of (applied_number (program_over c.args.program.now hooks) B k (tree_at c.args.store.now c.args.term.0)) (drop c.args.next.now (order_for c.args.program.now (tree_at c.args.store.now c.args.term.0))) b)) c.in-None.is (c.in_ok-found.ensures.none hooks B k b (drop c.args.next.now (order_for c.args.program.now (tree_at c.args.store.now c.args.term.0)))))
     (c.begin_next.ensures.none hooks B k b)
 
 pub returns-in-None-clause-some : goal.returns-in-None-clause-some
 returns-in-None-clause-some g c = λ hooks B k b.
-    some_through c.begin_next.result (λ u. first_of (applied_number (program_over c.args.program.now hooks) B k u) (drop c.args.next.now c.args.order.now) b)
-    (λ x u. or_go_on (left_by (program_over c.args.program.now hooks) B k c.begin_next.new.store u (option_map (λ y. (y.number, g.L.Lister.given y.listing)) c.begin_next.new.tried) (drop c.begin_next.new.next c.args.order.now))
+    some_through c.begin_next.result (λ u. first_of (applied_number (program_over c.args.program.now hooks) B k u) (drop c.args.next.now (order_for c.args.program.now u)) b)
+    (λ x u. or_go_on (left_by (program_over c.args.program.now hooks) B k c.begin_next.new.store u (option_map (λ y. (y.number, g.L.Lister.given y.listing)) c.begin_next.new.tried) (drop c.begin_next.new.next (order_for c.args.program.now u)))
     (number_gives (program_over c.args.program.now hooks) B k u x.number (solution_in c.begin_next.new.store x.solution) b))
-    (left_by (program_over c.args.program.now hooks) B k c.args.store.now (tree_at c.args.store.now c.args.term.0) (option_map (λ y. (y.number, g.L.Lister.given y.listing)) c.args.tried.now) (drop c.args.next.now c.args.order.now) b)
+    (left_by (program_over c.args.program.now hooks) B k c.args.store.now (tree_at c.args.store.now c.args.term.0) (option_map (λ y. (y.number, g.L.Lister.given y.listing)) c.args.tried.now) (drop c.args.next.now (order_for c.args.program.now (tree_at c.args.store.now c.args.term.0))) b)
     (tree_at c.args.store.now c.args.term.0) (tree_at c.go_on_tried.new.store c.args.term.0)
     (tree_kept (theory_at c.args.program.now.sig) c.args.store.now c.go_on_tried.new.store c.args.term.0 c.go_on_tried.ensures.extends c.requires.term.within)
-    (subst (λ o. IfNone o (left_by (program_over c.args.program.now hooks) B k c.args.store.now (tree_at c.args.store.now c.args.term.0) (option_map (λ y. (y.number, g.L.Lister.given y.listing)) c.args.tried.now) (drop c.args.next.now c.args.order.now) b
-    ≡ first_of (applied_number (program_over c.args.program.now hooks) B k (tree_at c.args.store.now c.args.term.0)) (drop c.args.next.now c.args.order.now) b)) c.in-None.is (c.in_ok-found.ensures.none hooks B k b (drop c.args.next.now c.args.order.now)))
+    (subst (λ o. IfNone o (left_by (program_over c.args.program.now hooks) B k c.args.store.now (tree_at c.args.store.now c.args.term.0) (option_map (λ y. (y.number, g.L.Lister.given y.listing)) c.args.tried.now) (drop c.args.next.now (order_for c.args.program.now (tree_at c.args.store.now c.args.term.0))) b
+    ≡ first_of (applied_number (program_over c.args.program.now hooks) B k (tree_at c.args.store.now c.args.term.0)) (drop c.args.next.now (order_for c.args.program.now (tree_at c.args.store.now c.args.term.0))) b)) c.in-None.is (c.in_ok-found.ensures.none hooks B k b (drop c.args.next.now (order_for c.args.program.now (tree_at c.args.store.now c.args.term.0)))))
     (c.begin_next.ensures.some hooks B k b)
 
 pub returns-in-None-clause-found : goal.returns-in-None-clause-found

@@ -1,13 +1,15 @@
-use Rattle.std.proofs.Common.{List, All, IfOk, IfSome, sym, ap, ◌∙◌, subst}
+use Rattle.std.proofs.Common.{List, map, All, IfOk, IfSome, sym, ap, ◌∙◌, subst}
+use Rattle.std.specs.List.{zip}
 use Rattle.std.specs.Option.{option_map}
+use Rattle.mau_terms.specs.View.{variable_of}
 use Rattle.mau_terms.specs.declared.ids.VarId.{VarId}
 use Rattle.mau_terms.specs.declared.ids.TermId.{TermId}
 use Rattle.mau_signature.specs.Signature.{SignatureOf}
 use Rattle.mau_program.specs.declared.program.Program.{Program}
 use Rattle.mau_program.specs.declared.statements.Fragment.{Fragment}
-use Rattle.mau_api.specs.Answers.{IsFragment, IsValueOf}
+use Rattle.mau_api.specs.Answers.{IsAskable, IsValueOf}
 use Rattle.mau_reduce.proofs.Numbered.{at_index}
-use Rattle.mau_rules.proofs.Shown.{lawful_rule, executable_here, fragments_here, shown_at}
+use Rattle.mau_rules.proofs.Shown.{lawful_rule, executable_here, fragments_here, askable_here, shown_at}
 use Rattle.mau_rules.proofs.attempt.shown_for.Goals as goal
 
 pub bound_by-requires : goal.bound_by-requires
@@ -23,8 +25,12 @@ solve-requires-clause-condition g c =
     let rule = c.index-items-number.result in
     let at = at_index p.rules c.items.result.now c.args.number rule c.items.ensures c.requires.number c.index-items-number.is in
     let exec = executable_here p c.requires.runnable c.args.number rule at c.requires.executable in
-    subst (λ (s : SignatureOf). All (IsFragment s) c.items-2.result.now) (sym (ap (λ (q : Program). q.sig) c.requires.goes_by.program))
-    (subst (λ (cs : List Fragment). All (IsFragment p.sig) cs) (sym c.items-2.ensures) (fragments_here p c.requires.runnable c.args.number rule at exec))
+    let b = c.in-Ok.ensures in
+    let lawful = lawful_rule p c.requires.runnable c.args.number rule at in
+    let asked = askable_here p.sig rule lawful exec (fragments_here p c.requires.runnable c.args.number rule at exec) b.0 c.args.solution.now.values b.1 (c.requires.values rule at).one_each in
+    subst (λ (s : SignatureOf). IsAskable s (map (λ (y : VarId × TermId). variable_of y.0) c.deref.result.now) c.items-2.result.now) (sym (ap (λ (q : Program). q.sig) c.requires.goes_by.program))
+    (subst (λ (bs : List (VarId × TermId)). IsAskable p.sig (map (λ (y : VarId × TermId). variable_of y.0) bs) c.items-2.result.now) (sym (c.deref.ensures.value ∙ b.2))
+    (subst (λ (cs : List Fragment). IsAskable p.sig (map (λ (y : VarId × TermId). variable_of y.0) (zip b.0 c.args.solution.now.values)) cs) (sym c.items-2.ensures) asked))
 
 pub solve-requires-clause-bound : goal.solve-requires-clause-bound
 solve-requires-clause-bound g c =

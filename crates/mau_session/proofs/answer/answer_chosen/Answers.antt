@@ -1,4 +1,6 @@
 use Rattle.std.proofs.Common.{sym, ◌∙◌, subst}
+use Rattle.mau_formula.specs.Operators.{operators}
+use Rattle.mau_session.specs.Environment.{environment_of}
 use Rattle.mau_session.specs.KeptState.{state_of, outcome_of}
 use Rattle.mau_session.specs.State.{state_after}
 use Rattle.mau_session.specs.Gains.{ChosenAnswer, chosen_not_built, chosen_refused, chosen_answered}
@@ -6,12 +8,12 @@ use Rattle.mau_session.proofs.Answering.{refused_with}
 use Rattle.mau_session.proofs.answer.answer_chosen.Goals as goal
 
 pub returns-then-uses_memberships-clause-gained : goal.returns-then-uses_memberships-clause-gained
-returns-then-uses_memberships-clause-gained c =
+returns-then-uses_memberships-clause-gained g c =
     refused_with _ c.refuse.result c.refuse.ensures.bytes c.refuse.ensures.refused
     (λ g. record { bytes = _; answer = chosen_not_built c.module-module.result.now c.module-module.ensures.there (sym c.uses_memberships.ensures ∙ c.if-uses_memberships.true); gained = g })
 
 pub returns-in-Err-clause-gained : goal.returns-in-Err-clause-gained
-returns-in-Err-clause-gained c =
+returns-in-Err-clause-gained g c =
     refused_with _ c.refuse-in-Err.result c.refuse-in-Err.ensures.bytes c.refuse-in-Err.ensures.refused
     (λ g. record {
       bytes = _;
@@ -20,15 +22,16 @@ returns-in-Err-clause-gained c =
     })
 
 pub returns-in_ok-left-in-Ok-clause-gained : goal.returns-in_ok-left-in-Ok-clause-gained
-returns-in_ok-left-in-Ok-clause-gained c =
-    let ws = c.args.words.now in
+returns-in_ok-left-in-Ok-clause-gained g c =
+    let e = environment_of (operators c.args.session.now.hooks.now) c.args.session.now.limit in
+    let ws = c.args.session.now.words.now in
     let st = state_of c.args.state.now in
     let left = outcome_of c.in_ok-left-in-Ok.left in
     let g = c.in_ok-left-in-Ok.ensures.gained in
     record {
       bytes = g.bytes;
-      answer = subst (λ s. ChosenAnswer ws st c.args.number c.args.item c.args.command.now c.args.chosen s g.bytes c.conclude.result) (sym c.conclude.ensures.state)
-          (subst (λ b. ChosenAnswer ws st c.args.number c.args.item c.args.command.now c.args.chosen (state_after st c.args.chosen left) g.bytes b) (sym c.conclude.ensures.refused)
+      answer = subst (λ s. ChosenAnswer e ws st c.args.number c.args.item c.args.command.now c.args.chosen s g.bytes c.conclude.result) (sym c.conclude.ensures.state)
+          (subst (λ b. ChosenAnswer e ws st c.args.number c.args.item c.args.command.now c.args.chosen (state_after st c.args.chosen left) g.bytes b) (sym c.conclude.ensures.refused)
           (chosen_answered c.module-module.result.now c.in-Ok.most left g.bytes c.module-module.ensures.there (sym c.uses_memberships.ensures ∙ c.if-uses_memberships.false) (sym c.bound_of.ensures ∙ c.in-Ok.is) g.answer));
       gained = g.gained;
     }

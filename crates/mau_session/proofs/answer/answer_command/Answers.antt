@@ -1,6 +1,6 @@
 use Rattle.std.proofs.Common.{sym, ◌∙◌}
 use Rattle.std.proofs.lemmas.Result.{IfOk-weaker}
-use Rattle.mau_session.specs.Transcript.{match_answered, continue_answered, reduce_is_answered}
+use Rattle.mau_session.specs.Transcript.{match_answered, continue_answered, reduce_is_answered, rewrite_is_answered}
 use Rattle.mau_session.proofs.answer.answer_command.Goals as goal
 
 pub returns-then-is_match-clause-gained : goal.returns-then-is_match-clause-gained
@@ -25,3 +25,13 @@ returns-then-is_reduce-clause-gained g c =
       answer = reduce_is_answered _ _ g.bytes b (sym c.is_match.ensures ∙ c.if-is_match.false) (sym c.is_continue.ensures ∙ c.if-is_continue.false) (sym c.is_reduce.ensures ∙ c.if-is_reduce.true) g.answer;
       gained = g.gained;
     }) c.answer_reduce.ensures.gained
+
+pub returns-then-is_rewrite-clause-gained : goal.returns-then-is_rewrite-clause-gained
+returns-then-is_rewrite-clause-gained g c =
+    IfOk-weaker c.answer_rewrite.result _ _
+    (λ b g. record {
+      bytes = g.bytes;
+      answer = rewrite_is_answered _ _ g.bytes b (sym c.is_match.ensures ∙ c.if-is_match.false) (sym c.is_continue.ensures ∙ c.if-is_continue.false) (sym c.is_reduce.ensures ∙ c.if-is_reduce.false)
+          (sym c.is_rewrite.ensures ∙ c.if-is_rewrite.true) g.answer;
+      gained = g.gained;
+    }) c.answer_rewrite.ensures.gained

@@ -1,6 +1,8 @@
 use Rattle.std.proofs.Common.{subst}
 use Rattle.mau_parse.specs.declared.goals.Goal.TheVariants.{AnyKind}
 use Rattle.mau_statement.specs.Parts.{IsUnread}
+use Rattle.mau_formula.specs.Operators.{operators}
+use Rattle.mau_session.specs.Environment.{environment_of}
 use Rattle.mau_session.specs.KeptState.{outcome_of, IsReadyOutcome}
 use Rattle.mau_session.specs.declared.state.Outcome.TheVariants.{Refused}
 use Rattle.mau_session.specs.Gains.{GainsTerms}
@@ -9,11 +11,12 @@ use Rattle.mau_session.proofs.Answering.{unread_with}
 use Rattle.mau_session.proofs.answer.answer_terms.Goals as goal
 
 pub returns-in-Err-clause-gained : goal.returns-in-Err-clause-gained
-returns-in-Err-clause-gained c =
-    let ws = c.args.words.now in
+returns-in-Err-clause-gained g c =
+    let e = environment_of (operators c.args.session.now.hooks.now) c.args.session.now.limit in
+    let ws = c.args.session.now.words.now in
     let m = c.args.module.now in
     let f = c.in-Err.fault in
-    unread_with Refused (λ l. GainsTerms ws m c.args.number c.args.command.now c.args.most c.args.out.now.items c.refuse_term.new.out.items (outcome_of l)) c.refuse_term.result
+    unread_with Refused (λ l. GainsTerms e ws m c.args.number c.args.command.now c.args.most c.args.out.now.items c.refuse_term.new.out.items (outcome_of l)) c.refuse_term.result
     c.refuse_term.ensures.bytes c.refuse_term.ensures.named c.refuse_term.ensures.refused
     (λ g n. record {
       bytes = _;
@@ -22,5 +25,5 @@ returns-in-Err-clause-gained c =
     })
 
 pub returns-in-Err-clause-ready : goal.returns-in-Err-clause-ready
-returns-in-Err-clause-ready c =
+returns-in-Err-clause-ready g c =
     unread_with Refused (IsReadyOutcome c.args.module.now) c.refuse_term.result c.refuse_term.ensures.bytes c.refuse_term.ensures.named c.refuse_term.ensures.refused (λ g n. tt)

@@ -16,7 +16,7 @@ returns-in-Err c =
           (λ g. record {
             bytes = _;
             answer = subst (λ r. BodyAnswer e ws st c.args.number c.args.item (Command c.args.command.now) st (refusal_line c.args.number ws r) true) (sym u.named)
-                (other_unknown c.args.command.now u.token c.requires.no_match c.requires.no_continue c.requires.no_reduce u.none);
+                (other_unknown c.args.command.now u.token c.requires.no_match c.requires.no_continue c.requires.no_reduce c.requires.no_rewrite u.none);
             gained = g;
           });
     }
@@ -25,5 +25,5 @@ pub returns-in-Ok : goal.returns-in-Ok
 returns-in-Ok c =
     record {
       gained = λ e. refused_with _ c.refuse-in-Ok.result c.refuse-in-Ok.ensures.bytes c.refuse-in-Ok.ensures.refused
-          (λ g. record { bytes = _; answer = other_not_built c.args.command.now _ c.requires.no_match c.requires.no_continue c.requires.no_reduce c.in-Ok.ensures.chosen; gained = g });
+          (λ g. record { bytes = _; answer = other_not_built c.args.command.now _ c.requires.no_match c.requires.no_continue c.requires.no_reduce c.requires.no_rewrite c.in-Ok.ensures.chosen; gained = g });
     }

@@ -20,7 +20,7 @@ returns-in_err-term-in-Some-clause-fault c =
     returned (PartUnread ws x.grammar raw.left (Kind k) c.args.vars.now) (FragmentUnread ws x raw c.args.vars.now)
     c.from_residual.result c.in_err-term-in-Some.field-0.0 c.from_residual.ensures.1
     (subst (λ ts. IfFault (PartUnread ws x.grammar ts (Kind k) c.args.vars.now) c.in_err-term-in-Some.field-0.0) c.items.ensures c.in_err-term-in-Some.ensures.fault)
-    (λ f u. truth_unread f c.in-Some.truth k c.requires (sym c.in-Some.ensures.value) c.kind_of_truth.ensures.bare u)
+    (λ f u. truth_unread f c.in-Some.truth k c.requires.sign (sym c.in-Some.ensures.value) c.kind_of_truth.ensures.bare u)
 
 pub returns-in_ok-term-in-Some-clause-fragment : goal.returns-in_ok-term-in-Some-clause-fragment
 returns-in_ok-term-in-Some-clause-fragment c =
@@ -33,7 +33,7 @@ returns-in_ok-term-in-Some-clause-fragment c =
     let reads = subst (λ ts. TermReads ws x.grammar ts (Kind k) c.args.vars.now c.read_part.new.vars term) c.items.ensures c.in_ok-term-in-Some.ensures.term in
     let none = c.new-in-Some.ensures ∙ ap (map tree_of) c.new.ensures.items in
     subst (λ ts. FragmentReads ws x raw c.args.vars.now c.read_part.new.vars (Equal term (App truth ts))) (sym none)
-    (truth_reads term truth k c.requires (sym c.in-Some.ensures.value) c.kind_of_truth.ensures.bare reads)
+    (truth_reads term truth k c.requires.sign (sym c.in-Some.ensures.value) c.kind_of_truth.ensures.bare reads)
 
 pub returns-in-None-clause-fault : goal.returns-in-None-clause-fault
 returns-in-None-clause-fault c =
@@ -41,4 +41,4 @@ returns-in-None-clause-fault c =
     let x = c.args.context.now in
     let raw = c.args.raw.now in
     subst (IfFault (FragmentUnread ws x raw c.args.vars.now)) (sym (c.no_term.ensures ∙ ap (λ ts. Parse (NoParse (begin_of ws ts))) c.items-in-None.ensures))
-    (no_truth c.requires (sym c.in-None.ensures.value))
+    (no_truth c.requires.sign (sym c.in-None.ensures.value))

@@ -17,4 +17,4 @@ returns-in_err-other-clause-fault c =
     let k = c.kind_of.result in
     returned (PartUnread ws x.grammar c.args.second.now (Kind k) c.read_part.new.vars) (PairUnread ws x c.args.first.now c.args.second.now c.args.vars.now)
     c.from_residual-in_err-other.result _ c.from_residual-in_err-other.ensures.1 c.in_err-other.ensures.fault
-    (λ f u. second_unread f k c.read_part.new.vars c.in_ok-one.one c.in_ok-one.ensures.term c.kind_of.ensures.bare u)
+    (λ f u. second_unread f k c.read_part.new.vars c.in_ok-one.one c.in_ok-one.ensures.term c.kind_of.ensures.lies u)

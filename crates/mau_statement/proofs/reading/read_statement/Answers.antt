@@ -1,9 +1,9 @@
-use Rattle.std.proofs.Common.{length, Ok, Err, sym, ◌∙◌, ap, subst}
+use Rattle.std.proofs.Common.{◌≤◌, length, Ok, Err, ap, subst, arith}
 use Rattle.mau_signature.specs.Signature.{theory_at}
-use Rattle.mau_statement.specs.Faults.{IfFault, unread_fault}
-use Rattle.mau_statement.specs.Statements.{Judged, StatementRead, parts_read}
+use Rattle.mau_statement.specs.Statements.{Judged, PartsUnread, StatementRead, parts_read, part_unread}
+use Rattle.mau_statement.specs.declared.TheConstants.{MAX_FRAGMENTS}
 use Rattle.mau_statement.specs.Lawful.{HasNoFault}
-use Rattle.mau_statement.proofs.Handed.{returned, refused}
+use Rattle.mau_statement.proofs.Handed.{returned, handed}
 use Rattle.mau_statement.proofs.Lawfulness.{lawful_statement}
 use Rattle.mau_statement.proofs.reading.read_statement.Goals as goal
 
@@ -33,8 +33,8 @@ returns-in-Err-clause-fault c =
     let ws = c.args.words.now in
     let x = c.args.context.now in
     let raw = c.args.raw.now in
-    subst (IfFault (λ f. StatementRead ws x raw (Err f))) (sym (c.unread_fault.ensures ∙ ap (λ gs. unread_fault (length gs) c.in-Err.fault) c.items-fragments.ensures))
-    (refused ws x raw c.in-Err.fault c.in-Err.ensures.fault)
+    let few : length raw.cond ≤ MAX_FRAGMENTS = omega (arith, c.if-fragments-gt-MAX_FRAGMENTS.false, ap length c.items-fragments.ensures) in
+    handed (PartsUnread ws x raw) (λ f. StatementRead ws x raw (Err f)) (λ f u. part_unread f u few) c.in-Err.fault c.in-Err.ensures.fault
 
 pub returns-in_ok-judge-in-Ok-clause-lawful : goal.returns-in_ok-judge-in-Ok-clause-lawful
 returns-in_ok-judge-in-Ok-clause-lawful c =

@@ -1,35 +1,26 @@
-use Rattle.std.proofs.Common.{◌<◌, All, Ok, Err, length, subst, sym, refl}
-use Rattle.mau_reduce.specs.Trying.{IsExecutable}
+use Rattle.std.proofs.Common.{Ok, Err, refl}
 use Rattle.mau_reducer.specs.Worlds.{basis_of}
-use Rattle.mau_reducer.proofs.Taking.{order_fits, order_exec}
 use Rattle.mau_reducer.proofs.Attempted.{none, some, ends, all_known}
 use Rattle.mau_reducer.proofs.world.ReducerWorld.attempt.Goals as goal
 
-pub next_attempt-requires-clause-order : goal.next_attempt-requires-clause-order
-next_attempt-requires-clause-order g c =
-    let b = basis_of g.N.Natives.operators c.args.self.now in
-    subst (All (λ i. i < length b.program.equations)) (sym c.deref.ensures.value) (order_fits b c.requires.ready.0.basis)
-
-pub next_attempt-requires-clause-executable : goal.next_attempt-requires-clause-executable
-next_attempt-requires-clause-executable g c =
-    let b = basis_of g.N.Natives.operators c.args.self.now in
-    subst (All (IsExecutable b.program)) (sym c.deref.ensures.value) (order_exec b c.requires.ready.0.basis)
+pub next_attempt-requires-clause-compiled : goal.next_attempt-requires-clause-compiled
+next_attempt-requires-clause-compiled g c = c.requires.ready.0.basis.compiled
 
 pub returns-in-Ok-clause-none : goal.returns-in-Ok-clause-none
 returns-in-Ok-clause-none g c = λ k n.
     let b = basis_of g.N.Natives.operators c.args.self.now in
     let e = c.next_attempt.ensures in
     none g.L.Lister.with_context g.L.Lister.asked g.L.Lister.given g.L.Lister.is_for g.M.Lister.asked g.M.Lister.given g.M.Lister.is_for b c.requires.ready.0.basis c.args.store.now c.next_attempt.new.store c.args.self.now.table c.next_attempt.new.table
-    (record { basis = refl; extends = e.extends; kept = e.kept; plain = e.plain }) c.args.term.0 c.requires.term.known.term c.deref.result.now c.deref.ensures.value c.args.attempts.now c.requires.attempts k n
-    (Ok c.in-Ok.next) (c.in-Ok.ensures.none b.hooks b.limit k n)
+    (record { basis = refl; extends = e.extends; kept = e.kept; plain = e.plain }) c.args.term.0 c.requires.term.known.term c.args.attempts.now c.requires.attempts k n
+    (Ok c.in-Ok.next) (rw (← c.deref_mut.ensures.value) (c.in-Ok.ensures.none b.hooks b.limit k n))
 
 pub returns-in-Ok-clause-some : goal.returns-in-Ok-clause-some
 returns-in-Ok-clause-some g c = λ k n.
     let b = basis_of g.N.Natives.operators c.args.self.now in
     let e = c.next_attempt.ensures in
     some g.L.Lister.with_context g.L.Lister.asked g.L.Lister.given g.L.Lister.is_for g.M.Lister.asked g.M.Lister.given g.M.Lister.is_for b c.requires.ready.0.basis c.args.store.now c.next_attempt.new.store c.args.self.now.table c.next_attempt.new.table
-    (record { basis = refl; extends = e.extends; kept = e.kept; plain = e.plain }) c.args.term.0 c.requires.term.known.term c.deref.result.now c.deref.ensures.value c.args.attempts.now c.requires.attempts
-    (record { term = c.args.attempts.now.term; attempts = c.next_attempt.new.attempts }) c.requires.attempts.own k n (Ok c.in-Ok.next) (c.in-Ok.ensures.some b.hooks b.limit k n)
+    (record { basis = refl; extends = e.extends; kept = e.kept; plain = e.plain }) c.args.term.0 c.requires.term.known.term c.args.attempts.now c.requires.attempts
+    (record { term = c.args.attempts.now.term; attempts = record c.args.attempts.now.attempts { value = c.next_attempt.new.attempts } }) c.requires.attempts.own k n (Ok c.in-Ok.next) c.in-Ok.ensures.last (rw (← c.deref_mut.ensures.value) (c.in-Ok.ensures.some b.hooks b.limit k n))
 
 pub returns-in-Ok-clause-known : goal.returns-in-Ok-clause-known
 returns-in-Ok-clause-known g c =
@@ -37,13 +28,13 @@ returns-in-Ok-clause-known g c =
     let e = c.next_attempt.ensures in
     let o = c.in-Ok.ensures in
     all_known g.L.Lister.with_context g.L.Lister.asked g.L.Lister.given g.L.Lister.is_for g.M.Lister.asked g.M.Lister.given g.M.Lister.is_for b c.requires.ready.0.basis c.args.store.now c.next_attempt.new.store c.args.self.now.table c.next_attempt.new.table
-    (record { basis = refl; extends = e.extends; kept = e.kept; plain = e.plain }) c.args.term.0 c.requires.term.known.term c.deref.result.now c.deref.ensures.value c.args.attempts.now c.requires.attempts
-    (record { term = c.args.attempts.now.term; attempts = c.next_attempt.new.attempts }) c.requires.attempts.own e.given (Ok c.in-Ok.next) o.values o.last o.listed o.variables o.sorts o.tried
+    (record { basis = refl; extends = e.extends; kept = e.kept; plain = e.plain }) c.args.term.0 c.requires.term.known.term c.args.attempts.now c.requires.attempts
+    (record { term = c.args.attempts.now.term; attempts = record c.args.attempts.now.attempts { value = c.next_attempt.new.attempts } }) c.requires.attempts.own (rw (← c.deref_mut.ensures.value) e.given) (Ok c.in-Ok.next) o.values o.last o.listed o.variables o.sorts o.tried
 
 pub returns-in-Err-clause-ends : goal.returns-in-Err-clause-ends
 returns-in-Err-clause-ends g c = λ k n.
     let b = basis_of g.N.Natives.operators c.args.self.now in
     let e = c.next_attempt.ensures in
     ends g.L.Lister.with_context g.L.Lister.asked g.L.Lister.given g.L.Lister.is_for g.M.Lister.asked g.M.Lister.given g.M.Lister.is_for b c.requires.ready.0.basis c.args.store.now c.next_attempt.new.store c.args.self.now.table c.next_attempt.new.table
-    (record { basis = refl; extends = e.extends; kept = e.kept; plain = e.plain }) c.args.term.0 c.requires.term.known.term c.deref.result.now c.deref.ensures.value c.args.attempts.now c.requires.attempts k n
-    (Err c.in-Err.end) (c.in-Err.ensures.ends b.hooks b.limit k n)
+    (record { basis = refl; extends = e.extends; kept = e.kept; plain = e.plain }) c.args.term.0 c.requires.term.known.term c.args.attempts.now c.requires.attempts k n
+    (Err c.in-Err.end) (rw (← c.deref_mut.ensures.value) (c.in-Err.ensures.ends b.hooks b.limit k n))

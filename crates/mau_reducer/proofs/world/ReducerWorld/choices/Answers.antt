@@ -2,8 +2,7 @@ use Rattle.std.proofs.Common.{◌≡◌, List, All, IfOk, map, sym, subst}
 use Rattle.mau_terms.specs.View.{tree_of, variable_of}
 use Rattle.mau_terms.specs.declared.ids.VarId.{VarId}
 use Rattle.mau_terms.specs.declared.ids.TermId.{TermId}
-use Rattle.mau_api.specs.Answers.{IsValueOf}
-use Rattle.mau_choices.specs.Choosing.{AreApart}
+use Rattle.mau_api.specs.Answers.{IsValueOf, AreApart}
 use Rattle.mau_reducer.specs.Worlds.{basis_of}
 use Rattle.mau_reducer.specs.LaterStates.{same_state}
 use Rattle.mau_reducer.proofs.Conditions.{has_pattern, pattern_at, pattern_is, pattern_bare}
@@ -20,7 +19,7 @@ pub begin_choices-requires-clause-pattern : goal.begin_choices-requires-clause-p
 begin_choices-requires-clause-pattern g c =
     let b = basis_of g.N.Natives.operators c.args.self.now in
     let u = pattern_at b c.args.condition c.args.at c.in-Some.pattern.now (sym c.in-Some.ensures) in
-    pattern_bare b c.args.condition c.args.at c.requires.ready.0.basis.lawful c.in-Some.pattern.now u.0 u.1
+    pattern_bare b c.args.condition c.args.at c.requires.ready.0.basis c.in-Some.pattern.now u.0 u.1
 
 pub begin_choices-requires-clause-values : goal.begin_choices-requires-clause-values
 begin_choices-requires-clause-values g c =
@@ -30,7 +29,7 @@ begin_choices-requires-clause-values g c =
 pub begin_choices-requires-clause-apart : goal.begin_choices-requires-clause-apart
 begin_choices-requires-clause-apart g c =
     subst (λ (bs : List (VarId × TermId)). AreApart (map (λ (y : VarId × TermId). variable_of y.0) bs)) (sym c.from_parts-bound.ensures)
-    (all_apart (basis_of g.N.Natives.operators c.args.self.now) c.args.store.now c.args.self.now.table c.args.condition c.args.at c.args.binding c.requires.binding)
+    (all_apart (basis_of g.N.Natives.operators c.args.self.now) c.requires.ready.0.basis.askable.apart c.args.store.now c.args.self.now.table c.args.condition c.args.at c.args.binding c.requires.binding)
 
 pub returns-clause-value : goal.returns-clause-value
 returns-clause-value g c =

@@ -12,7 +12,7 @@ unreachable-requires g c = has_pattern (basis_of g.N.Natives.operators c.args.se
 pub next_choice-requires-clause-pattern : goal.next_choice-requires-clause-pattern
 next_choice-requires-clause-pattern g c =
     let u = pattern_at (basis_of g.N.Natives.operators c.args.self.now) c.args.condition c.args.at c.in-Some.pattern.now (sym c.in-Some.ensures) in
-    pattern_bare (basis_of g.N.Natives.operators c.args.self.now) c.args.condition c.args.at c.requires.ready.0.basis.lawful c.in-Some.pattern.now u.0 u.1
+    pattern_bare (basis_of g.N.Natives.operators c.args.self.now) c.args.condition c.args.at c.requires.ready.0.basis c.in-Some.pattern.now u.0 u.1
 
 pub next_choice-requires-clause-choosing : goal.next_choice-requires-clause-choosing
 next_choice-requires-clause-choosing g c =

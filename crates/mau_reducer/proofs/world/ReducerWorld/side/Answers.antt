@@ -9,7 +9,7 @@ pub unreachable-requires : goal.unreachable-requires
 unreachable-requires g c = has_side (basis_of g.N.Natives.operators c.args.self.now) c.args.condition c.args.at c.args.right c.requires.side (sym c.in-None.ensures)
 
 pub instance-requires-clause-bare : goal.instance-requires-clause-bare
-instance-requires-clause-bare g c = side_bare (basis_of g.N.Natives.operators c.args.self.now) c.args.condition c.args.at c.requires.ready.0.basis.lawful c.args.right c.in-Some.side.now (sym c.in-Some.ensures)
+instance-requires-clause-bare g c = side_bare (basis_of g.N.Natives.operators c.args.self.now) c.args.condition c.args.at c.requires.ready.0.basis c.args.right c.in-Some.side.now (sym c.in-Some.ensures)
 
 pub returns-clause-value : goal.returns-clause-value
 returns-clause-value g c = λ k n.
@@ -32,7 +32,7 @@ returns-clause-is g c =
 pub returns-clause-known : goal.returns-clause-known
 returns-clause-known g c =
     let b = basis_of g.N.Natives.operators c.args.self.now in
-    let bare = side_bare b c.args.condition c.args.at c.requires.ready.0.basis.lawful c.args.right c.in-Some.side.now (sym c.in-Some.ensures) in
+    let bare = side_bare b c.args.condition c.args.at c.requires.ready.0.basis c.args.right c.in-Some.side.now (sym c.in-Some.ensures) in
     side_known b c.requires.ready.0.basis.reducible.lawful c.args.store.now c.instance.new.store c.instance.ensures.extends c.args.self.now.table c.args.condition c.args.at c.args.binding.now c.requires.binding
     c.args.right c.in-Some.side.now (side_is b c.args.condition c.args.at c.args.right c.in-Some.side.now (sym c.in-Some.ensures) c.requires.side) bare.0 c.instance.result
     (c.instance.ensures.kind bare.0 bare.1)

@@ -1,4 +1,4 @@
-use Rattle.std.proofs.Common.{sym, arith}
+use Rattle.std.proofs.Common.{sym}
 use Rattle.mau_reducer.specs.Worlds.{basis_of}
 use Rattle.mau_reducer.proofs.Conditions.{has_sort_there, sort_at, sort_is, sort_over}
 use Rattle.mau_reducer.proofs.Sides.{value_settled, sort_tested, sort_entered}
@@ -6,8 +6,7 @@ use Rattle.mau_reducer.proofs.world.ReducerWorld.sorted.Goals as goal
 
 pub has-requires-clause-sort : goal.has-requires-clause-sort
 has-requires-clause-sort g c =
-    let b = basis_of g.N.Natives.operators c.args.self.now in
-    let low = sort_over b c.args.condition c.args.at c.requires.ready.0.basis.lawful c.in-Some.sort (sym c.in-Some.ensures) in omega (arith, low)
+    sort_over (basis_of g.N.Natives.operators c.args.self.now) c.args.condition c.args.at c.requires.ready.0.basis c.in-Some.sort (sym c.in-Some.ensures)
 
 pub returns-clause-value : goal.returns-clause-value
 returns-clause-value g c =

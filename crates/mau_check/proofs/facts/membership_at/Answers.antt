@@ -1,0 +1,18 @@
+use Rattle.std.proofs.Common.{◌≡◌, Some, None, inl, inr, subst}
+use Rattle.mau_api.specs.Variables.{numbered}
+use Rattle.mau_check.proofs.Naming.{numbered_is, not_numbered}
+use Rattle.mau_check.proofs.facts.membership_at.Goals as goal
+use Rattle.mau_check.proofs.facts.membership_at.Goals.{then-number-eq0-via-then-number-eq0, then-number-eq0-via-else-number-eq0+then-number-memberships}
+
+pub returns-then-number-eq0-clause-none : goal.returns-then-number-eq0-clause-none
+returns-then-number-eq0-clause-none c =
+    subst (λ xs. numbered xs c.args.number ≡ None) c.items-memberships.ensures
+    (elim c.then-number-eq0.branch [
+      | then-number-eq0-via-then-number-eq0 w ↦ not_numbered c.items-memberships.result.now c.args.number (inl w.if-number-eq0.true)
+      | then-number-eq0-via-else-number-eq0+then-number-memberships w ↦ not_numbered c.items-memberships.result.now c.args.number (inr w.if-number-memberships.true)
+    ])
+
+pub returns-clause-some : goal.returns-clause-some
+returns-clause-some c =
+    subst (λ xs. numbered xs c.args.number ≡ Some c.index-memberships-number.result) c.items-memberships.ensures
+    (numbered_is c.items-memberships.result.now c.args.number c.index-memberships-number.result c.if-number-eq0.false c.if-number-memberships.false c.index-memberships-number.is)

@@ -1,0 +1,196 @@
+-- A condition that is asked: what is known of it, and what the loop computes of it.
+use Rattle.std.proofs.Common.{◌≡◌, ◌==◌, ◌+◌, ℕ, suc, List, [], All, Bool, true, if◌then◌else◌, Option, Some, None, IfSome, IfNone, Ok, Err, IfOk, IfErr, map, length, slice_get, eq-eqb, refl, sym, ap, ap₂, ◌∙◌, subst, arith}
+use Rattle.std.specs.List.{zip}
+use Rattle.std.proofs.lemmas.Option.{slice_get_past}
+use Rattle.mau_terms.specs.Subst.{Variable}
+use Rattle.mau_terms.specs.View.{variable_of}
+use Rattle.mau_terms.specs.declared.ids.VarId.{VarId}
+use Rattle.mau_terms.specs.declared.ids.TermId.{TermId}
+use Rattle.mau_store.specs.Node.{Node}
+use Rattle.mau_sorts.specs.Table.{Table, KeepsEntries}
+use Rattle.mau_sorts.proofs.Settling.{kept_on}
+use Rattle.mau_program.specs.declared.statements.Fragment.{Fragment}
+use Rattle.mau_program.specs.declared.statements.Equation.{Equation}
+use Rattle.mau_program.specs.Binding.{are_bound}
+use Rattle.mau_evaluation.specs.Run.{Outcome, done, Run}
+use Rattle.mau_evaluation.specs.Evaluation.{Binding, look_up, levels, solve}
+use Rattle.mau_api.specs.Programs.{program_over, fragment_of}
+use Rattle.mau_api.specs.Events.{Event}
+use Rattle.mau_api.specs.Told.{TellsCondition}
+use Rattle.mau_api.specs.Answers.{IsAskable, IsValueOf, binding_in}
+use Rattle.mau_reduce.specs.declared.binding.Binding.{Binding as Kept}
+use Rattle.mau_reduce.specs.Bindings.{bound_in}
+use Rattle.mau_machine.specs.Words.{capped, IsEnd, solve_on, Asks}
+use Rattle.mau_machine.specs.declared.goal.Goal.TheVariants.{Nothing}
+use Rattle.mau_reducer.specs.Basis.{Basis, asking}
+use Rattle.mau_reducer.specs.Handles.{written_in, written_at, first_in, first_at, rules_of, IsKnownBinding}
+use Rattle.mau_reducer.specs.States.{IsFit, IsReady, ComesOf}
+use Rattle.mau_reducer.specs.LaterStates.{binding_later}
+use Rattle.mau_reducer.specs.Meant.{meanings_of}
+use Rattle.mau_reducer.specs.MeantLaws.{solving_is}
+use Rattle.mau_reducer.specs.Solutions.{IsPaired}
+use Rattle.mau_reducer.proofs.Choosing.{one_value_each, all_values}
+use Rattle.mau_reducer.proofs.WhatIsSolved.{Answer, Paired, IsLoopAnswer, of_pairs}
+use Rattle.mau_reducer.proofs.Pairs.{pairs_bound, variables_paired, paired_within, paired_kinds, paired_sorts}
+
+-- all of the condition with this number is solved
+abbrev pub IsSolved : Basis → List Node → Table → ℕ → Kept → Type 0
+IsSolved d nodes table n σ = (i : ℕ) × IsKnownBinding d nodes table n i σ × Asks (rules_of d) n i Nothing
+
+abbrev pub variables_of : List (VarId × TermId) → List Variable
+variables_of bound = map (λ (y : VarId × TermId). variable_of y.0) bound
+
+-- a number behind those of all elements and one more
+pub number_counted : {A : Type 0} (xs ys : List A) → xs ≡ ys → length xs + 1 ≡ suc (length ys)
+number_counted xs ys e = let h : length xs ≡ length ys = ap length e in omega arith
+
+module _ (b : Basis) (fs : List Fragment) (xs : List Variable) where
+  abbrev number : ℕ
+  number = suc (length b.program.equations)
+
+  none_there : slice_get b.program.equations number ≡ None
+  none_there = slice_get_past b.program.equations number (omega arith)
+
+  itself : (number == number) ≡ true
+  itself = eq-eqb number number refl
+
+  -- it is the condition with the number behind all others
+  pub written_asked : written_at (asking b fs xs) number ≡ fs
+  written_asked = ap₂ (λ (w : Bool) (o : Option Equation). written_in (if w then fs else []) o) itself none_there
+
+  pub first_asked : first_at (asking b fs xs) number ≡ xs
+  first_asked = ap₂ (λ (w : Bool) (o : Option Equation). first_in (if w then xs else []) o) itself none_there
+
+  pub asking_ready : (nodes : List Node) (table : Table) → IsReady b nodes table → IsAskable b.program.sig xs fs → IsReady (asking b fs xs) nodes table
+  asking_ready nodes table r a = record {
+    basis = record { lawful = r.basis.lawful; reducible = r.basis.reducible; gives = r.basis.gives; compiled = r.basis.compiled; built_ins = r.basis.built_ins; askable = a };
+    plain = r.plain;
+    identities = r.identities;
+  }
+
+-- where nothing has changed
+pub fit_unchanged : (b d : Basis) (nodes : List Node) (table after : Table) (begun begun' : Bool) → d ≡ b → after ≡ table → begun' ≡ begun → IsFit b nodes table begun → IsFit d nodes after begun'
+fit_unchanged b d nodes table after begun begun' same p q h =
+    subst (λ (x : Basis). IsFit x nodes after begun') (sym same) (subst (λ (t : Table). IsFit b nodes t begun') (sym p) (subst (IsFit b nodes table) (sym q) h))
+
+-- ---- the values with which it is asked
+
+module _ (b : Basis) (fs : List Fragment) (bound : List (VarId × TermId)) (askable : IsAskable b.program.sig (variables_of bound) fs) (σ : Kept) (pairs : zip σ.variables.items σ.values.items ≡ bound)
+    (one_each : length σ.variables.items ≡ length σ.values.items) where
+  abbrev asked : Basis
+  asked = asking b fs (variables_of bound)
+
+  names : map variable_of σ.variables.items ≡ variables_of bound
+  names = sym (variables_paired σ.variables.items σ.values.items one_each) ∙ ap variables_of pairs
+
+  abbrev e : ℕ
+  e = suc (length b.program.equations)
+
+  known_first : (nodes : List Node) (table : Table) → All (IsValueOf b.program.sig nodes table) bound → IsKnownBinding asked nodes table e 0 σ
+  known_first nodes table values =
+      let all : All (IsValueOf b.program.sig nodes table) (zip σ.variables.items σ.values.items) = subst (All (IsValueOf b.program.sig nodes table)) (sym pairs) values in
+      record {
+        values = record {
+          one_each = sym one_each;
+          within = paired_within b.program.sig nodes table σ.variables.items σ.values.items one_each all;
+          kinds = paired_kinds b.program.sig nodes table σ.variables.items σ.values.items one_each all;
+        };
+        variables = names ∙ sym (first_asked b fs (variables_of bound));
+        sorts = paired_sorts b.program.sig nodes table σ.variables.items σ.values.items one_each all;
+        bound = ap₂ are_bound (first_asked b fs (variables_of bound)) (written_asked b fs (variables_of bound)) ∙ askable.bound;
+      }
+
+  -- in the state in which the identities are settled too
+  module _ (b' d : Basis) (old mid : List Node) (before after : Table) (comes : ComesOf b b' old mid before after) (asks : d ≡ asking b' fs (variables_of bound)) (values : All (IsValueOf b.program.sig old before) bound)
+      (table : Table) (same : table ≡ after) (n : ℕ) (is : n ≡ suc (length d.program.equations)) where
+    pub basis_is : d ≡ asked
+    basis_is = asks ∙ ap (λ (x : Basis). asking x fs (variables_of bound)) comes.basis
+
+    later : IsKnownBinding asked mid after e 0 σ × (bound_in mid σ ≡ bound_in old σ)
+    later = binding_later asked old mid before after (record { basis = refl; extends = comes.extends; kept = comes.kept; plain = comes.plain }) e 0 σ (known_first old before values)
+
+    number_is : n ≡ e
+    number_is = is ∙ ap (λ (x : Basis). suc (length x.program.equations)) basis_is
+
+    pub binding_known : IsKnownBinding d mid table n 0 σ
+    binding_known =
+        subst (λ (t : Table). IsKnownBinding d mid t n 0 σ) (sym same)
+        (subst (λ (x : Basis). IsKnownBinding x mid after n 0 σ) (sym basis_is) (subst (λ (i : ℕ). IsKnownBinding asked mid after i 0 σ) (sym number_is) later.0))
+
+    pub asked_ready : IsReady b' mid after → IsReady d mid table
+    asked_ready ready =
+        subst (λ (t : Table). IsReady d mid t) (sym same)
+        (subst (λ (x : Basis). IsReady x mid after) (sym basis_is)
+        (asking_ready b fs (variables_of bound) mid after (subst (λ (x : Basis). IsReady x mid after) comes.basis ready) askable))
+
+    pub meant_alike : meanings_of d ≡ meanings_of b
+    meant_alike = ap meanings_of basis_is
+
+    -- what was settled stays so
+    pub kept_before : (last : Table) → KeepsEntries table last → KeepsEntries before last
+    kept_before last k = kept_on before after last comes.kept (subst (λ (t : Table). KeepsEntries t last) same k)
+
+    pub written_is : written_at d n ≡ fs
+    written_is = ap₂ (λ (x : Basis) (i : ℕ). written_at x i) basis_is number_is ∙ written_asked b fs (variables_of bound)
+
+    -- what the loop computes is what is meant
+    pub outcome_is : (k B : ℕ) → solve_on (rules_of d) k n 0 (bound_in mid σ) B ≡ (meanings_of b).solving k b.limit (map fragment_of fs) (binding_in old bound) B
+    outcome_is k B =
+        ap (λ (x : Basis). solve_on (rules_of x) k n 0 (bound_in mid σ) B) basis_is
+        ∙ (ap (λ (i : ℕ). solve_on (rules_of asked) k i 0 (bound_in mid σ) B) number_is
+        ∙ (ap (λ (τ : Binding). solve_on (rules_of asked) k e 0 τ B) (later.1 ∙ (sym (pairs_bound old σ.variables.items σ.values.items) ∙ ap (binding_in old) pairs))
+        ∙ by_fragments))
+      where
+        by_fragments : solve_on (rules_of asked) k e 0 (binding_in old bound) B ≡ (meanings_of b).solving k b.limit (map fragment_of fs) (binding_in old bound) B
+        by_fragments =
+            ap (λ (cs : List Fragment). solve (program_over b.program b.hooks) (levels (program_over b.program b.hooks) b.limit k) (map fragment_of cs) (binding_in old bound) B) (written_asked b fs (variables_of bound))
+            ∙ sym (ap (λ (r : Run (Option Binding)). r B) (solving_is (program_over b.program b.hooks) k b.limit (map fragment_of fs) (binding_in old bound)))
+
+    -- ---- what is known behind the loop, in a state that comes of that one
+
+    module _ (d' : Basis) (new : List Node) (last : Table) (more : ComesOf d d' mid new table last) where
+      basis_stays : d' ≡ asked
+      basis_stays = more.basis ∙ basis_is
+
+      pub means_alike : meanings_of d' ≡ meanings_of b
+      means_alike = ap meanings_of basis_stays
+
+      pub one_each_of : (r : Answer) → IfOk r (λ a. IfSome a (λ x. IsSolved d' new last n x.0)) → IfOk r (λ a. IfSome a (λ x. length x.0.variables.items ≡ length x.0.values.items))
+      one_each_of (Ok (Some x)) h = one_value_each d' new last n h.0 x.0 h.1
+      one_each_of (Ok None) h = tt
+      one_each_of (Err e) h = tt
+
+      -- the values are those of their variables
+      values_of : (r : Answer) → IfOk r (λ a. IfSome a (λ x. IsSolved d' new last n x.0)) → IfOk r (λ a. IfSome a (λ x. All (IsValueOf b.program.sig new last) (zip x.0.variables.items x.0.values.items)))
+      values_of (Ok (Some x)) h =
+          subst (λ (y : Basis). All (IsValueOf y.program.sig new last) (zip x.0.variables.items x.0.values.items)) basis_stays (all_values d' new last n h.0 x.0 h.1)
+      values_of (Ok None) h = tt
+      values_of (Err e) h = tt
+
+      pub values_paired : (r : Answer) (s : Paired) → IsPaired r s → IfOk r (λ a. IfSome a (λ x. IsSolved d' new last n x.0)) → IfOk s (λ a. IfSome a (λ x. All (IsValueOf b.program.sig new last) x.0))
+      values_paired r s p h = of_pairs (λ bs k. All (IsValueOf b.program.sig new last) bs) r s p (values_of r h)
+
+      -- and what was told shows the condition
+      module _ (told told' : List Event) where
+        tells_of : (r : Answer) → IfOk r (λ a. IfSome a (λ x. TellsCondition d'.program d'.hooks new last told told' (look_up (bound_in new x.0)) (written_at d' n) x.1)) →
+            IfOk r (λ a. IfSome a (λ x. TellsCondition b.program b.hooks new last told told' (look_up (binding_in new (zip x.0.variables.items x.0.values.items))) fs x.1))
+        tells_of (Ok (Some x)) h =
+            let own : TellsCondition asked.program asked.hooks new last told told' (look_up (bound_in new x.0)) (written_at asked n) x.1 =
+            subst (λ (y : Basis). TellsCondition y.program y.hooks new last told told' (look_up (bound_in new x.0)) (written_at y n) x.1) basis_stays h in
+            subst (λ (σ : Binding). TellsCondition b.program b.hooks new last told told' (look_up σ) fs x.1) (sym (pairs_bound new x.0.variables.items x.0.values.items))
+            (subst (λ (cs : List Fragment). TellsCondition b.program b.hooks new last told told' (look_up (bound_in new x.0)) cs x.1)
+            (ap (written_at asked) number_is ∙ written_asked b fs (variables_of bound)) own)
+        tells_of (Ok None) h = tt
+        tells_of (Err e) h = tt
+
+        pub tells_paired : (r : Answer) (s : Paired) → IsPaired r s →
+            IfOk r (λ a. IfSome a (λ x. TellsCondition d'.program d'.hooks new last told told' (look_up (bound_in new x.0)) (written_at d' n) x.1)) →
+            IfOk s (λ a. IfSome a (λ x. TellsCondition b.program b.hooks new last told told' (look_up (binding_in new x.0)) fs x.1))
+        tells_paired r s p h = of_pairs (λ bs k. TellsCondition b.program b.hooks new last told told' (look_up (binding_in new bs)) fs k) r s p (tells_of r h)
+
+      -- what the loop answers, as it is meant
+      module _ (k B left : ℕ) where
+        pub loop_answer : (r : Answer) → IfOk r (λ a. IfSome a (λ x. capped (solve_on (rules_of d) k n 0 (bound_in mid σ) B) ≡ done (Some (bound_in new x.0)) x.1 left)) →
+            IfOk r (λ a. IfNone a ((q : ℕ) × (solve_on (rules_of d) k n 0 (bound_in mid σ) B ≡ done None q left))) → IfErr r (IsEnd (solve_on (rules_of d) k n 0 (bound_in mid σ) B)) →
+            IsLoopAnswer new ((meanings_of b).solving k b.limit (map fragment_of fs) (binding_in old bound) B) r left
+        loop_answer r some none ends = subst (λ (o : Outcome (Option Binding)). IsLoopAnswer new o r left) (outcome_is k B) (record { some = some; none = none; ends = ends })

@@ -1,6 +1,0 @@
-use Rattle.std.proofs.Common.{◌≡◌, ◌++◌, drop}
-use Rattle.std.specs.List.{zip}
-use Rattle.mau_rules.proofs.attempt.pairs.Given as goal
-
-abbrev pub invariant-loop-index : goal.invariant-loop-index
-invariant-loop-index l = l.found.items ++ zip (drop l.index l.variables) (drop l.index l.values) ≡ zip l.variables l.values

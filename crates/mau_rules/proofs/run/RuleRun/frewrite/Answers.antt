@@ -1,0 +1,136 @@
+use Rattle.std.proofs.Common.{◌≡◌, Option, Some, None, Ok, Err, refl, sym, ◌∙◌, subst}
+use Rattle.mau_store.proofs.Growth.{extension_is_preorder}
+use Rattle.mau_sorts.proofs.Settling.{kept_on, kept_same}
+use Rattle.mau_api.specs.Programs.{program_over}
+use Rattle.mau_api.specs.Meanings.{Meanings}
+use Rattle.mau_rules.specs.declared.run.RuleEnd.{RuleEnd}
+use Rattle.mau_rules.specs.Runnable.{GoesBy}
+use Rattle.mau_rules.specs.Counted.{IsCounted}
+use Rattle.mau_rules.specs.Found.{item_of}
+use Rattle.mau_rules.specs.Runs.{turns_of, stand_of, frewriting_by}
+use Rattle.mau_rules.specs.Passes.{passing_by}
+use Rattle.mau_rules.proofs.RunEnds.{value_exact, value_allowed, end_exact, end_allowed}
+use Rattle.mau_rules.proofs.PassEnds.{run_begins}
+use Rattle.mau_rules.proofs.PassWalk.{RestKnown, rest_from}
+use Rattle.mau_rules.proofs.run.RuleRun.frewrite.Goals as goal
+
+pub loop-init : goal.loop-init
+loop-init g c =
+    let p = c.args.program.now in
+    let m = g.E.Evaluator.meanings c.args.evaluator.now in
+    let w = g.W.StepWatcher.wanted c.args.watcher.now in
+    record {
+      meanings = refl;
+      fits = c.requires.fits;
+      extends = extension_is_preorder.reflexive c.args.store.now;
+      kept = kept_same (g.E.Evaluator.table c.args.evaluator.now);
+      wanted = refl;
+      gas = refl;
+      run = c.requires.run;
+      known = run_begins p m (item_of m w) c.args.gas c.args.bound (turns_of c.args.self.now.turns.items) c.args.store.now c.args.self.now.term.0 c.args.budget c.requires.run.term.within;
+    }
+
+pub returns-in-Ok-Some-clause-exact : goal.returns-in-Ok-Some-clause-exact
+returns-in-Ok-Some-clause-exact g c = λ none.
+    let p = c.args.program.now in
+    let m = g.E.Evaluator.meanings c.args.evaluator.now in
+    let w = g.W.StepWatcher.wanted c.args.watcher.now in
+    let n = g.E.Evaluator.meanings c.loop.evaluator in
+    let v = g.W.StepWatcher.wanted c.loop.watcher in
+    let i = c.loop.invariant in
+    let s0 = c.args.store.now in
+    let b0 = c.args.budget in
+    let f = frewriting_by p m c.args.gas c.args.bound (stand_of s0 c.args.self.now) in
+    let new = c.pass_on.new.store in
+    let y = c.loop.tally in
+    let s = stand_of c.loop.store c.loop.self in
+    let k = subst (λ (o : Option RuleEnd). RestKnown p n v y.rewrites y.gas y.left s c.loop.left new c.pass_on.new.run c.pass_on.new.tally (Ok o) c.pass_on.new.budget) c.in-Ok-Some.field-0-is c.in-Ok-Some.ensures.known in
+    let r = rest_from p m n v w i.meanings i.wanted f b0 y c.args.gas i.gas s c.loop.left i.known new c.pass_on.new.run c.pass_on.new.tally (Ok (Some c.in-Ok-Some.end)) c.pass_on.new.budget k in
+    value_exact m w f b0 new c.pass_on.new.run c.in-Ok-Some.end (record { term = c.pass_on.new.run.term; rewrites = c.pass_on.new.tally.rewrites }) r.0 c.pass_on.new.budget r.1 r.2 none
+
+pub returns-in-Ok-Some-clause-allowed : goal.returns-in-Ok-Some-clause-allowed
+returns-in-Ok-Some-clause-allowed g c =
+    let p = c.args.program.now in
+    let m = g.E.Evaluator.meanings c.args.evaluator.now in
+    let w = g.W.StepWatcher.wanted c.args.watcher.now in
+    let n = g.E.Evaluator.meanings c.loop.evaluator in
+    let v = g.W.StepWatcher.wanted c.loop.watcher in
+    let i = c.loop.invariant in
+    let s0 = c.args.store.now in
+    let b0 = c.args.budget in
+    let f = frewriting_by p m c.args.gas c.args.bound (stand_of s0 c.args.self.now) in
+    let new = c.pass_on.new.store in
+    let y = c.loop.tally in
+    let s = stand_of c.loop.store c.loop.self in
+    let k = subst (λ (o : Option RuleEnd). RestKnown p n v y.rewrites y.gas y.left s c.loop.left new c.pass_on.new.run c.pass_on.new.tally (Ok o) c.pass_on.new.budget) c.in-Ok-Some.field-0-is c.in-Ok-Some.ensures.known in
+    let r = rest_from p m n v w i.meanings i.wanted f b0 y c.args.gas i.gas s c.loop.left i.known new c.pass_on.new.run c.pass_on.new.tally (Ok (Some c.in-Ok-Some.end)) c.pass_on.new.budget k in
+    value_allowed m w f b0 new c.pass_on.new.run c.in-Ok-Some.end (record { term = c.pass_on.new.run.term; rewrites = c.pass_on.new.tally.rewrites }) r.0 c.pass_on.new.budget r.1 r.2
+
+pub returns-in-Ok-Some-clause-kept : goal.returns-in-Ok-Some-clause-kept
+returns-in-Ok-Some-clause-kept g c = kept_on (g.E.Evaluator.table c.args.evaluator.now) (g.E.Evaluator.table c.loop.evaluator) (g.E.Evaluator.table c.pass_on.new.evaluator) c.loop.invariant.kept c.pass_on.ensures.kept
+
+pub returns-in-Err-clause-exact : goal.returns-in-Err-clause-exact
+returns-in-Err-clause-exact g c = λ none.
+    let p = c.args.program.now in
+    let m = g.E.Evaluator.meanings c.args.evaluator.now in
+    let w = g.W.StepWatcher.wanted c.args.watcher.now in
+    let n = g.E.Evaluator.meanings c.loop.evaluator in
+    let v = g.W.StepWatcher.wanted c.loop.watcher in
+    let i = c.loop.invariant in
+    let b0 = c.args.budget in
+    let f = frewriting_by p m c.args.gas c.args.bound (stand_of c.args.store.now c.args.self.now) in
+    let new = c.pass_on.new.store in
+    let y = c.loop.tally in
+    let s = stand_of c.loop.store c.loop.self in
+    let r = rest_from p m n v w i.meanings i.wanted f b0 y c.args.gas i.gas s c.loop.left i.known new c.pass_on.new.run c.pass_on.new.tally (Err c.in-Err.end) c.pass_on.new.budget c.in-Err.ensures.known in
+    end_exact m w f b0 new c.pass_on.new.run c.in-Err.end r none
+
+pub returns-in-Err-clause-allowed : goal.returns-in-Err-clause-allowed
+returns-in-Err-clause-allowed g c =
+    let p = c.args.program.now in
+    let m = g.E.Evaluator.meanings c.args.evaluator.now in
+    let w = g.W.StepWatcher.wanted c.args.watcher.now in
+    let n = g.E.Evaluator.meanings c.loop.evaluator in
+    let v = g.W.StepWatcher.wanted c.loop.watcher in
+    let i = c.loop.invariant in
+    let b0 = c.args.budget in
+    let f = frewriting_by p m c.args.gas c.args.bound (stand_of c.args.store.now c.args.self.now) in
+    let new = c.pass_on.new.store in
+    let y = c.loop.tally in
+    let s = stand_of c.loop.store c.loop.self in
+    let r = rest_from p m n v w i.meanings i.wanted f b0 y c.args.gas i.gas s c.loop.left i.known new c.pass_on.new.run c.pass_on.new.tally (Err c.in-Err.end) c.pass_on.new.budget c.in-Err.ensures.known in
+    end_allowed m w f b0 new c.pass_on.new.run c.in-Err.end r
+
+pub returns-in-Err-clause-kept : goal.returns-in-Err-clause-kept
+returns-in-Err-clause-kept g c = kept_on (g.E.Evaluator.table c.args.evaluator.now) (g.E.Evaluator.table c.loop.evaluator) (g.E.Evaluator.table c.pass_on.new.evaluator) c.loop.invariant.kept c.pass_on.ensures.kept
+
+pub pass_on-requires-clause-goes_by : goal.pass_on-requires-clause-goes_by
+pass_on-requires-clause-goes_by g c = subst (λ (n : Meanings). GoesBy c.args.program.now n) (sym c.loop.invariant.meanings) c.requires.goes_by
+
+pub loop-preserved : goal.loop-preserved
+loop-preserved g c =
+    let p = c.args.program.now in
+    let m = g.E.Evaluator.meanings c.args.evaluator.now in
+    let w = g.W.StepWatcher.wanted c.args.watcher.now in
+    let n = g.E.Evaluator.meanings c.loop.evaluator in
+    let v = g.W.StepWatcher.wanted c.loop.watcher in
+    let i = c.loop.invariant in
+    let s0 = c.args.store.now in
+    let b0 = c.args.budget in
+    let f = frewriting_by p m c.args.gas c.args.bound (stand_of s0 c.args.self.now) in
+    let new = c.pass_on.new.store in
+    let y = c.loop.tally in
+    let s = stand_of c.loop.store c.loop.self in
+    let k = subst (λ (o : Option RuleEnd). RestKnown p n v y.rewrites y.gas y.left s c.loop.left new c.pass_on.new.run c.pass_on.new.tally (Ok o) c.pass_on.new.budget) c.in-Ok-None.field-0-is c.in-Ok-None.ensures.known in
+    let r = rest_from p m n v w i.meanings i.wanted f b0 y c.args.gas i.gas s c.loop.left i.known new c.pass_on.new.run c.pass_on.new.tally (Ok None) c.pass_on.new.budget k in
+    let gas : c.pass_on.new.tally.gas ≡ c.args.gas = c.pass_on.ensures.gas ∙ i.gas in
+    record {
+      meanings = c.pass_on.ensures.meanings ∙ i.meanings;
+      fits = c.pass_on.ensures.fits;
+      extends = extension_is_preorder.transitive s0 c.loop.store new i.extends c.pass_on.ensures.extends;
+      kept = kept_on (g.E.Evaluator.table c.args.evaluator.now) (g.E.Evaluator.table c.loop.evaluator) (g.E.Evaluator.table c.pass_on.new.evaluator) i.kept c.pass_on.ensures.kept;
+      wanted = c.pass_on.ensures.wanted ∙ i.wanted;
+      gas = gas;
+      run = c.pass_on.ensures.run;
+      known = subst (λ j. IsCounted (item_of m w) f b0 c.pass_on.new.tally.rewrites (passing_by (program_over p m.hooks) j c.pass_on.new.tally.left (stand_of new c.pass_on.new.run)) c.pass_on.new.budget) gas r;
+    }

@@ -1,0 +1,31 @@
+-- The bytes of the answers of rule runs, and what they leave.
+use Rattle.std.specs.Prelude.{ℕ, List, [], ◌++◌, codes}
+use Rattle.mau_evaluation.specs.RuleRuns.{Stand, RuleEnd, normal, bound}
+use Rattle.mau_results.specs.Runs.{RunAnswerOf, run_gives, run_ends}
+use Rattle.mau_module.specs.Modules.{ModuleOf}
+use Rattle.mau_session.specs.Terms.{Pairs}
+use Rattle.mau_session.specs.Answers.{item_head}
+use Rattle.mau_session.specs.Lines.{count_line, result_line, end_line}
+use Rattle.mau_session.specs.RuleRun.{RuleRunOf}
+use Rattle.mau_session.specs.State.{a_rule_run, OutcomeOf, has_ended, goes_on}
+
+abbrev pub rewrite_head : ℕ → ModuleOf → List ℕ
+rewrite_head k m = item_head k ++ codes "rewrite in " ++ m.name ++ codes "\n"
+
+-- a run that made as many rewrites as were asked for says so
+abbrev pub bound_line : RuleEnd → List ℕ
+bound_line normal = []
+bound_line bound = codes "Bound reached.\n"
+
+abbrev pub run_lines : ModuleOf → Pairs → ℕ → RunAnswerOf → List ℕ
+run_lines m ns budget (run_gives s e sort r) = count_line r ++ result_line m ns sort s.term ++ bound_line e
+run_lines m ns budget (run_ends e) = end_line budget e
+
+-- it may go on from where it stands, and one that has ended otherwise leaves nothing to continue
+abbrev pub left_by_end : Pairs → Stand → RuleEnd → OutcomeOf
+left_by_end ns s normal = has_ended
+left_by_end ns s bound = goes_on (a_rule_run (record { stand = s; variables = ns }))
+
+abbrev pub left_by_run : Pairs → RunAnswerOf → OutcomeOf
+left_by_run ns (run_gives s e sort r) = left_by_end ns s e
+left_by_run ns (run_ends e) = has_ended

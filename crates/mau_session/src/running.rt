@@ -1,0 +1,70 @@
+//! Rule runs, with all that they go on with.
+ghost use Rattle.std.specs.Prelude.{◌≡◌, true, IfOk};
+ghost use Rattle.mau_store.specs.Node.{Extends};
+ghost use Rattle.mau_api.specs.Answers.{uses_results};
+ghost use Rattle.mau_results.specs.Runs.{MayRun};
+ghost use Rattle.mau_rules.specs.Runnable.{IsRunnable, GoesBy};
+ghost use Rattle.mau_rules.specs.Runs.{stand_of, IsRunOf};
+ghost use Rattle.mau_session.specs.KeptRun.{run_answer_in};
+
+use mau_api::{EvalEnd, Evaluator, Lister, Program, StepWatcher};
+use mau_results::shown_sort;
+use mau_rules::{RuleEnd, RuleRun};
+use mau_store::Store;
+use mau_terms::{NoMemory, Vars};
+
+/// A rule run, with its term in a store of its own and the variables of the command that began it.
+#[derive(Drop)]
+pub struct Running {
+    pub store: Store,
+    pub run: RuleRun,
+    pub vars: Vars,
+}
+
+/// What a rule run with the budget of an item answers.
+#[derive(Clone, Copy, Debug, PartialEq, Eq)]
+pub enum RunAnswer {
+    /// How it ended, the sort that is shown for its term, and how many applications led to it, or 2^64 - 1 where there are more.
+    Value(RuleEnd, u32, u64),
+    /// An application is due, and the budget is used up.
+    Stopped,
+    /// A level over 2,000 or a normal form that is deeper than 1,000 is needed.
+    TooDeep,
+    /// The successor of the greatest numeral is needed, or a native operator overflows.
+    Overflow,
+}
+
+/// Rewrites the term of a run with the budget of an item, by as many rules as are asked for or by any number of them.
+pub fn rewrite_item<E: Evaluator, L: Lister + Drop, W: StepWatcher>(
+    run: &mut RuleRun,
+    program: &Program,
+    store: &mut Store,
+    evaluator: &mut E,
+    most: Option<u64>,
+    limit: u64,
+    watcher: &mut W,
+) -> Result<RunAnswer, NoMemory>
+    requires contexts { L.with_context ≡ true }
+    requires runnable { IsRunnable program.now }
+    requires goes_by { GoesBy program.now (E.meanings evaluator.old) }
+    requires fits { E.fits evaluator.old store.old }
+    requires run { IsRunOf program.now store.old run.old }
+    requires limit { limit ≡ (E.meanings evaluator.old).limit }
+    ensures allowed { IfOk result (λ a. MayRun (E.meanings evaluator.old) (uses_results (E.meanings evaluator.old) (W.wanted watcher.old)) most
+        (stand_of store.old run.old) (run_answer_in store.new run.new a)) }
+    ensures run { IsRunOf program.now store.new run.new }
+    ensures extends { Extends store.old store.new }
+    ensures fits { E.fits evaluator.new store.new }
+    ensures meanings { E.meanings evaluator.new ≡ E.meanings evaluator.old }
+{
+    match run.rewrite::<E, L, W>(program, store, evaluator, most, limit, watcher) {
+        Ok((end, value)) => {
+            let sort = shown_sort(&program.sig, store, evaluator.sorts(), value.term);
+            Ok(RunAnswer::Value(end, sort, value.rewrites))
+        }
+        Err(EvalEnd::Stopped) => Ok(RunAnswer::Stopped),
+        Err(EvalEnd::TooDeep) => Ok(RunAnswer::TooDeep),
+        Err(EvalEnd::Overflow) => Ok(RunAnswer::Overflow),
+        Err(EvalEnd::NoMemory) => Err(NoMemory),
+    }
+}

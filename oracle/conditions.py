@@ -1,0 +1,143 @@
+#!/usr/bin/env python3
+"""Compares `match` and `xmatch` with conditions on random modules with a brute-force reading of the definitions, written apart from the code and its proofs.
+
+usage: oracle/conditions.py PROGRAM FIRST LAST
+
+For each number from FIRST on and below LAST it makes a module with random equations, some with conditions, and listings with conditions over it, with
+and without bounds, and goes on with them, with a small budget. What is compared is which solutions are shown, and how each listing is left: also where an
+asking ends, and where a variable isn't bound.
+"""
+import random
+import sys
+
+sys.dont_write_bytecode = True
+import reduce
+from comparing import compare_texts, difference
+from evaluation import End, Evaluator, Statement, TooMuch
+from match import listed, random_question, size, solutions
+from modules import random_module, suits
+from prelude import bool_equations, signature_with_truth
+from reduce import random_fragments, random_statement, text_of, with_strategies
+from signature import module_text, numbered
+from statements_of import pairs_of
+
+LIMIT = 12
+TRUE = (("true", ()), ())
+reduce.HAS_CONDITIONS = True
+sys.setrecursionlimit(30_000)
+
+
+def variables_of(term):
+    """The numbers of the variables of a term, as they occur."""
+    if isinstance(term, int):
+        return []
+    return [term[1]] if term[0] == "v" else [v for it in term[1] for v in variables_of(it)]
+
+
+def first_unbound(pattern, fragments):
+    """The first variable of fragments that isn't bound by then, where those of the pattern are; or nothing."""
+    bound = set(variables_of(pattern))
+    for sign, one, other in fragments:
+        used = [other] if sign == ":=" else [one] if sign in (":", "Bool") else [one, other]
+        for v in (v for term in used for v in variables_of(term)):
+            if v not in bound:
+                return v
+        bound |= set(variables_of(one)) if sign == ":=" else set()
+    return None
+
+
+class Listing:
+    """The solutions of a question in order, of which those are shown under which a condition holds."""
+
+    def __init__(self, sig, evaluator, answer, variables, fragments, is_part):
+        self.sig, self.evaluator, self.answer, self.variables, self.is_part = sig, evaluator, answer, variables, is_part
+        self.fragments = [("=", one, TRUE) if sign == "Bool" else (sign, one, other) for sign, one, other in fragments]
+        self.at, self.kept = 0, []
+
+    def holds(self, values):
+        return self.evaluator.solve(self.variables, self.fragments, dict(zip(self.answer[0], values)), 2) is not None
+
+    def lines(self, bound):
+        """The lines behind those shown before, and whether one may go on. All conditions are asked with one budget."""
+        places, top, found = self.answer
+        self.evaluator.budget, self.evaluator.variables = LIMIT, self.variables
+        begin, last = len(self.kept), None
+        try:
+            while len(self.kept) - begin != bound and self.at < len(found):
+                self.at += 1
+                if self.holds(found[self.at - 1][4]):
+                    self.kept.append(found[self.at - 1])
+        except End as end:
+            last = str(end)
+        out, _, goes_on = listed(self.sig, (places, top, self.kept), self.variables, self.is_part, begin, bound)
+        return ([*out[:-1], last], False) if last else (out, goes_on)
+
+
+def source_of(sig, fragments, variables):
+    shown = lambda term: sig.source(term, variables)
+    return " /\\ ".join(shown(one) if sign == "Bool" else f"{shown(one)} {sign} {other if sign == ':' else shown(other)}" for sign, one, other in fragments)
+
+
+def compare(number, program):
+    r = random.Random(number)
+    own, pairs, declarations, with_nat = random_module(r)
+    module = own, pairs, with_strategies(r, declarations), with_nat
+    sig = signature_with_truth(module)
+    if not suits(sig) or sig.refusal():
+        return ["unsuited"], None
+    statements = [it for it in (random_statement(sig, r) for _ in range(r.choice([0, 2, 4]))) if it and not isinstance(it[1], str)]
+    text = module_text(*module)[: -len("endfm\n")] + "".join(text_of(sig, it) for it in statements) + "endfm\n"
+    made = [Statement(left, right, [("=", one, TRUE) if sign == "Bool" else (sign, one, other) for sign, one, other in fragments], owise, nonexec)
+            for left, right, fragments, owise, nonexec in statements]
+    evaluator = Evaluator(sig, bool_equations(sig) + made, [], LIMIT, 300_000)
+    wanted, item, had = ["[1] module M"], 1, {"modules": 1}
+    for _ in range(6):
+        question = random_question(sig, r)
+        if not question or size(question[0]) > 10 or size(question[1]) > 13:
+            continue
+        bound = pairs_of(question[0])
+        pool = bound | {(name, r.choice(sig.sorts)) for name in "UV"[: r.choice([0, 1, 2])]}
+        condition = random_fragments(sig, r, pool, pool if r.random() < 0.1 else bound)
+        if not condition or not condition[0]:
+            continue
+        variables, is_part = [], r.random() < 0.5
+        pattern, subject = (numbered(it, variables) for it in question)
+        # (of p := u the u is read first)
+        both = lambda one, other: tuple(reversed([numbered(it, variables) for it in (other, one)]))
+        one_or = lambda sign, one, other: both(one, other) if sign == ":=" else (numbered(one, variables), numbered(other, variables) if sign == "=" else other)
+        fragments = [(sign, *one_or(sign, one, other)) for sign, one, other in condition[0]]
+        answer = solutions(sig, pattern, subject, variables, is_part)
+        if answer is None:
+            continue
+        command, most = "xmatch" if is_part else "match", r.choice([None, None, 1, 2, 3])
+        text_line = f"{command}{f' [{most}]' if most else ''} {sig.source(pattern, variables)} <=? {sig.source(subject, variables)} "
+        text_line += f"{r.choice(['such that', 's.t.'])} {source_of(sig, fragments, variables)} .\n"
+        unbound = first_unbound(pattern, fragments)
+        if unbound is not None:
+            item += 1
+            text += text_line
+            wanted.append(f"[{item}] refused: UnboundVariable {sig.variable(variables[unbound])}")
+            had["unbound"] = had.get("unbound", 0) + 1
+            continue
+        listing, goes_on, line = Listing(sig, evaluator, answer, variables, fragments, is_part), True, text_line
+        while goes_on:
+            try:
+                lines, goes_on = listing.lines(most)
+            except TooMuch:
+                return had, difference(program, text, wanted, ["--limit", str(LIMIT)])
+            item += 1
+            text += line
+            wanted += [f"[{item}] {command} in M", *lines]
+            word = "bounded" if goes_on else "all" if lines[-1].startswith("No ") else "ends"
+            had[word] = had.get(word, 0) + 1
+            goes_on = goes_on and r.random() < 0.8
+            if goes_on:
+                command, most = "continue", r.choice([None, 1, 2, 5])
+                line = f"continue{f' {most}' if most else ''} .\n"
+        had["solutions"] = had.get("solutions", 0) + len(listing.kept)
+        had["passed"] = had.get("passed", 0) + listing.at - len(listing.kept)
+    return had, difference(program, text, wanted, ["--limit", str(LIMIT)])
+
+
+if __name__ == "__main__":
+    compare_texts(compare)
