@@ -20,7 +20,7 @@ use Rattle.mau_evaluation.proofs.RunLimits.{rule_runs_stay, levels_alone_in_runs
 use Rattle.mau_api.specs.Meanings.{Meanings, AreMeanings, StaysUnderLimits, program_of}
 use Rattle.mau_results.specs.declared.kind.RunKind.{RunKind}
 use Rattle.mau_results.specs.declared.kind.RunKind.TheVariants.{Rewriting, Fair}
-use Rattle.mau_results.specs.Results.{HasShownSort, condition_levels, shown_count, DerivesNothing}
+use Rattle.mau_results.specs.Results.{HasShownSort, condition_levels, shown_count}
 use Rattle.mau_results.specs.Runs.{run_from, run_by, RunAnswerOf, run_gives, run_ends, PlainRun, plain_run, plain_run_end, HasRunCause, IsRunCaused, MayRun}
 use Rattle.mau_results.specs.Laws.{RunAnswersAreOne}
 use Rattle.mau_results.proofs.ShownSorts.{shown_sort_once}
