@@ -43,7 +43,7 @@ use Rattle.mau_session.specs.Environment.{Environment, meanings_in}
 use Rattle.mau_session.specs.Laws.{TranscriptsAreOne}
 use Rattle.mau_session.specs.Query.{QueryOf, asked_first, shown_more}
 use Rattle.mau_session.specs.State.{ContinuedOf, a_listing, a_listing_where, a_rule_run, GoingOf, StateOf, at_first, accepted, selected, IsChosen, current_one, named_one, NamesNone, OutcomeOf, is_refused, has_ended, goes_on, left_by, refuses, state_after}
-use Rattle.mau_session.specs.declared.bounds.AskedRun.{AskedRun}
+use Rattle.mau_session.specs.declared.asked_run.AskedRun.{AskedRun}
 use Rattle.mau_session.specs.Bounds.{bound_of, asked_run}
 use Rattle.mau_session.specs.Where.{ShowsWhere, left_where, where_lines, WhereAnswer}
 use Rattle.mau_session.specs.RuleRun.{RuleRunOf, rewriting_condition}

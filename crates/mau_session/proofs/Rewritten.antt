@@ -19,7 +19,7 @@ use Rattle.mau_module.specs.Modules.{ModuleOf}
 use Rattle.mau_session.specs.Terms.{Pairs}
 use Rattle.mau_session.specs.Environment.{Environment, meanings_in}
 use Rattle.mau_session.specs.State.{a_rule_run, GoingOf, StateOf, OutcomeOf, refuses, state_after}
-use Rattle.mau_session.specs.declared.bounds.AskedRun.{AskedRun}
+use Rattle.mau_session.specs.declared.asked_run.AskedRun.{AskedRun}
 use Rattle.mau_session.specs.Bounds.{bound_of}
 use Rattle.mau_session.specs.Built.{uses_memberships}
 use Rattle.mau_session.specs.Answers.{continue_head}

@@ -9,7 +9,7 @@ use Rattle.mau_modtext.specs.declared.raw.RawCommand.{RawCommand}
 use Rattle.mau_declare.specs.Words.{token_text}
 use Rattle.mau_results.specs.declared.kind.RunKind.{RunKind}
 use Rattle.mau_results.specs.declared.kind.RunKind.TheVariants.{Rewriting, Fair}
-use Rattle.mau_session.specs.declared.bounds.AskedRun.{AskedRun}
+use Rattle.mau_session.specs.declared.asked_run.AskedRun.{AskedRun}
 use Rattle.mau_session.specs.declared.refusal.Refusal.{Refusal}
 use Rattle.mau_session.specs.declared.refusal.Refusal.TheVariants.{BadBound}
 use Rattle.mau_session.specs.Built.{is_fair}

@@ -17,7 +17,7 @@ use Rattle.mau_session.specs.declared.refusal.Refusal.TheVariants.{NotBuilt, Unk
 use Rattle.mau_session.specs.Terms.{Pairs}
 use Rattle.mau_session.specs.Environment.{Environment, meanings_in}
 use Rattle.mau_session.specs.State.{StateOf, IsChosen, NamesNone, OutcomeOf, is_refused, refuses, state_after}
-use Rattle.mau_session.specs.declared.bounds.AskedRun.{AskedRun}
+use Rattle.mau_session.specs.declared.asked_run.AskedRun.{AskedRun}
 use Rattle.mau_session.specs.Bounds.{asked_run}
 use Rattle.mau_session.specs.Built.{uses_memberships}
 use Rattle.mau_session.specs.Answers.{refusal_line, parse_fault_line}

@@ -9,7 +9,7 @@ use Rattle.mau_modtext.specs.declared.raw.RawCommand.{RawCommand}
 use Rattle.mau_module.specs.Modules.{ModuleOf}
 use Rattle.mau_session.specs.Terms.{Pairs}
 use Rattle.mau_session.specs.Environment.{Environment, meanings_in}
-use Rattle.mau_session.specs.declared.bounds.AskedRun.{AskedRun}
+use Rattle.mau_session.specs.declared.asked_run.AskedRun.{AskedRun}
 use Rattle.mau_session.specs.State.{StateOf, OutcomeOf, state_after}
 use Rattle.mau_session.specs.Built.{uses_memberships}
 use Rattle.mau_session.specs.Answers.{continue_head}

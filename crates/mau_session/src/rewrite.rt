@@ -21,7 +21,7 @@ ghost use Rattle.mau_session.specs.KeptState.{state_of, outcome_of, IsReadyState
 ghost use Rattle.mau_session.specs.State.{IsChosen};
 ghost use Rattle.mau_session.specs.RunGains.{begun, GainsRun, GainsRunTerm, GainsRewrite};
 
-use crate::bounds::{AskedRun, asked_run};
+use crate::asked_run::{AskedRun, asked_run};
 use crate::built::uses_memberships;
 use crate::reading::{is_empty, read_term};
 use crate::refusal::{Refusal, refuse, refuse_term, write_head};
