@@ -1,5 +1,5 @@
 //! Rule runs, with all that they go on with.
-ghost use Rattle.std.specs.Prelude.{◌≡◌, true, IfOk};
+ghost use Rattle.std.specs.Prelude.{◌≡◌, true, false, IfOk};
 ghost use Rattle.mau_store.specs.Node.{Extends};
 ghost use Rattle.mau_store.specs.Trees.{tree_at};
 ghost use Rattle.mau_api.specs.Answers.{AreSettled, uses_results, levels_of_condition};
