@@ -54,19 +54,15 @@ fn refuses_by_name_and_place(rt: HostRuntime) -> Result<(), Fail> {
         ),
         ("reduce a .", "[1] refused: NoParse 7\n"),
         ("red .", "[1] refused: Unexpected 4\n"),
-        ("frewrite a .", "[1] refused: NotBuilt frewrite 0\n"),
-        ("frew .", "[1] refused: NotBuilt frew 0\n"),
-        (
-            "frewrite in NAT : 1 .",
-            "[1] refused: NotBuilt frewrite 0\n",
-        ),
+        ("dsrew 1 using idle .", "[1] refused: NotBuilt dsrew 0\n"),
+        ("dsrewrite .", "[1] refused: NotBuilt dsrewrite 0\n"),
         ("reduce in NOPE : a .", "[1] refused: UnknownModule NOPE\n"),
         (
             "fmod A is sorts T S . subsort T < S . ops a b : -> S . mb a : T . endfm reduce a .",
             "[1] module A\n[2] refused: NotBuilt reduce 72\n",
         ),
         (
-            "frewrite in NOPE : a .",
+            "dsrewrite in NOPE : a using idle .",
             "[1] refused: UnknownModule NOPE\n",
         ),
         ("smod A is foo endsm", "[1] refused: NotBuilt smod 0\n"),

@@ -25,6 +25,16 @@ fn runs_with_bounds(rt: HostRuntime) -> Result<(), Fail> {
             "[2] rewrite in VENDING\nrewrites: 1\nresult Coin: $\nBound reached.\n",
         ),
         (
+            "frewrite [2] $ $ .",
+            "[2] frewrite in VENDING\nrewrites: 2\nresult Place: q a c\nBound reached.\n",
+        ),
+        (
+            "frew [1, 2] in VENDING : $ $ . continue 1 . continue .",
+            "[2] frewrite in VENDING\nrewrites: 1\nresult Place: $ c\nBound reached.\n\
+            [3] continue in VENDING\nrewrites: 1\nresult Place: q a c\nBound reached.\n\
+            [4] continue in VENDING\nrewrites: 0\nresult Place: q a c\n",
+        ),
+        (
             "rewrite [1] $ $ $ . mod VENDING is sort S . endm continue .",
             "[2] rewrite in VENDING\nrewrites: 1\nresult Place: $ $ c\nBound reached.\n[3] module VENDING\n\
             [4] continue in VENDING\nrewrites: 2\nresult Place: q a c c\n",
@@ -46,6 +56,16 @@ fn frozen_places_conditions_and_ends(rt: HostRuntime) -> Result<(), Fail> {
         (
             "mod Z is sort S . ops a b : -> S . op f : S S -> S [frozen (1)] . rl a => b . endm rewrite f(a, a) .",
             "[1] module Z\n[2] rewrite in Z\nrewrites: 1\nresult S: f(a, b)\n",
+        ),
+        (
+            "mod H is sort S . ops a b c : -> S . op k : S -> S . op h : S -> S [strat (0)] . eq k(b) = c . rl a => b . endm \
+            frewrite [1] h(k(a)) . frewrite h(k(a)) .",
+            "[1] module H\n[2] frewrite in H\nrewrites: 1\nresult S: h(k(b))\nBound reached.\n\
+            [3] frewrite in H\nrewrites: 2\nresult S: h(c)\n",
+        ),
+        (
+            "mod U is sort S . ops a b c : -> S . op f : S -> S . eq f(a) = c . rl a => b . endm frewrite f(a) .",
+            "[1] module U\n[2] frewrite in U\nrewrites: 1\nresult S: f(b)\n",
         ),
         (
             "mod C is protecting NAT . op f : Nat -> Nat . var N : Nat . crl f(N) => f(N + 1) if N < 2 . endm rewrite f(0) .",
@@ -84,6 +104,8 @@ fn refused_runs(rt: HostRuntime) -> Result<(), Fail> {
             "mod W is sort S . ops a b : -> S . crl b => a if a => b [nonexec] . rl a => b . endm rewrite [0] a .",
             "[1] module W\n[2] refused: BadBound\n",
         ),
+        ("frewrite [2, 0] 1 .", "[1] refused: BadBound\n"),
+        ("frew .", "[1] refused: Unexpected 5\n"),
         (
             "mod A is sorts T S . subsort T < S . ops a b : -> S . mb a : T . endm rewrite a .",
             "[1] module A\n[2] refused: NotBuilt rewrite 70\n",
