@@ -3,11 +3,13 @@ use Rattle.mau_terms.specs.Tree.{Tree}
 use Rattle.mau_store.specs.Node.{Extends}
 use Rattle.mau_store.specs.Trees.{tree_at}
 use Rattle.mau_sorts.specs.Table.{KeepsEntries}
-use Rattle.mau_evaluation.specs.RuleRuns.{Turns, numbered, cyclically}
+use Rattle.mau_evaluation.specs.RuleRuns.{Turns, cyclically}
 use Rattle.mau_api.specs.Programs.{program_over}
+use Rattle.mau_reduce.specs.ByTop.{top_number}
 use Rattle.mau_rules.specs.Found.{item_of, rules_in, turn_at}
+use Rattle.mau_rules.specs.ByTop.{rules_under}
 use Rattle.mau_rules.proofs.Placed.{LeftFrom, each_rule}
-use Rattle.mau_rules.proofs.search.at_place.Given as goal
+use Rattle.mau_rules.proofs.search.among.Given as goal
 
 abbrev pub invariant-loop-index : goal.invariant-loop-index
 invariant-loop-index g l =
@@ -22,5 +24,5 @@ invariant-loop-index g l =
       falls : l.budget ≤ l.fn.budget;
       wanted : g.W.StepWatcher.wanted l.watcher ≡ g.W.StepWatcher.wanted l.fn.watcher;
       goes_on : (h : Turns) (around : Tree → Tree) → turn_at h t ≡ l.fn.turn →
-          LeftFrom I (each_rule P I h (record { term = t; around = around })) (rules_in P h (record { term = t; around = around })) l.fn.budget (drop l.index (cyclically l.fn.turn (numbered 0 P.rules))) l.budget;
+          LeftFrom I (each_rule P I h (record { term = t; around = around })) (rules_in P h (record { term = t; around = around })) l.fn.budget (drop l.index (cyclically l.first (rules_under l.fn.program (top_number t)))) l.budget;
     }
