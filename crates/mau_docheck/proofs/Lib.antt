@@ -1,0 +1,5 @@
+-- Lemmas, lowest first.
+-- places of variables, and terms whose holes are named
+pub mod Ranges
+pub mod Places
+pub mod NamedTerms

@@ -1,0 +1,5 @@
+//! Stage 1.
+#![tactic(auto)]
+
+mod holes;
+mod naming;
