@@ -1,5 +1,13 @@
-//! Stage 1.
+//! Documents of derivations checked: the sections of a document, each judged in the module that the text of the document has before the
+//! section's item, and what is written of them.
 #![tactic(auto)]
 
+mod check;
+mod conclusion;
 mod holes;
+mod known;
+mod lines;
 mod naming;
+mod section;
+
+pub use check::check;

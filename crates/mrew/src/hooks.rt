@@ -6,7 +6,8 @@ ghost use Rattle.mau_session.specs.Run.{IsRun};
 
 use mau_bytes::{Sink, Source};
 use mau_formula::{Hook, HookAnswer, HookTable, Native};
-use mau_session::{Status, run};
+use crate::check::run_check;
+use mau_session::{Meaning, Status, run};
 use mau_terms::{NoMemory, Text};
 use std::alloc::Global;
 
@@ -34,5 +35,8 @@ pub fn run_with_hooks<S: Source, K: Sink>(
             return Err(NoMemory);
         }
     }
-    Ok(run(alloc, &hooks, words, source, sink))
+    match Meaning::of(words) {
+        Some(Meaning::Check) => Ok(run_check(alloc, &hooks, source, sink)),
+        _ => Ok(run(alloc, &hooks, words, source, sink)),
+    }
 }
