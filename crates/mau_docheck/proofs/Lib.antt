@@ -3,3 +3,7 @@
 pub mod Ranges
 pub mod Places
 pub mod NamedTerms
+-- the modules of a text
+pub mod Knowing
+-- answers of sections
+pub mod Saying

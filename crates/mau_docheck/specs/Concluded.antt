@@ -1,5 +1,5 @@
 -- What a section concludes, as text.
-use Rattle.std.specs.Prelude.{ℕ, List, [], ◌++◌, codes, Option, Some, None}
+use Rattle.std.specs.Prelude.{ℕ, List, [], ◌++◌, length, codes, Option, Some, None}
 use Rattle.mau_terms.specs.Tree.{Tree}
 use Rattle.mau_terms.specs.Norm.{norm}
 use Rattle.mau_signature.specs.Signature.{theory_at}
@@ -7,8 +7,9 @@ use Rattle.mau_declare.specs.Flattened.{kind_names}
 use Rattle.mau_print.specs.Printed.{Pairs, PrinterOf, shown}
 use Rattle.mau_print.specs.Layouts.{printer_of}
 use Rattle.mau_facts.specs.declared.document.Section.{Section}
-use Rattle.mau_logic.specs.Says.{Says, leads, of_sort, says_nothing}
-use Rattle.mau_check.specs.Judged.{section_variables, said_last}
+use Rattle.mau_api.specs.Variables.{numbered}
+use Rattle.mau_logic.specs.Lines.{lines_of, section_terms}
+use Rattle.mau_logic.specs.Says.{Says, leads, of_sort, says_nothing, all_said}
 use Rattle.mau_module.specs.Modules.{ModuleOf}
 use Rattle.mau_module.specs.Lawful.{program_of}
 use Rattle.mau_docheck.specs.Holes.{with_holes, named}
@@ -23,7 +24,7 @@ shown_with m ns t = shown (printer_in m) ns (named ns (norm (theory_at m.signatu
 
 -- the variables of a section, and those that are shown for holes
 abbrev pub all_variables : ModuleOf → Section → Pairs
-all_variables m x = with_holes m.signature.hierarchy (section_variables (program_of m) x)
+all_variables m x = with_holes m.signature.hierarchy (lines_of m.signature m.sorts x.terms).pairs
 
 -- one term leads to another
 abbrev pub leads_line : ModuleOf → Pairs → Tree → Tree → List ℕ
@@ -36,6 +37,10 @@ conclusion_by m ns (Some (of_sort t r)) = []
 conclusion_by m ns (Some says_nothing) = []
 conclusion_by m ns None = []
 
+-- the last of some, if there is one
+abbrev pub last_of : List Says → Option Says
+last_of xs = numbered xs (length xs)
+
 -- what the last fact of a section says
 abbrev pub conclusion_of : ModuleOf → Section → List ℕ
-conclusion_of m x = conclusion_by m (all_variables m x) (said_last (program_of m) x)
+conclusion_of m x = conclusion_by m (all_variables m x) (last_of (all_said (section_terms (program_of m) x) x.facts))

@@ -9,7 +9,7 @@ ghost use Rattle.mau_modtext.specs.Words.{words_of};
 ghost use Rattle.mau_module.specs.Library.{last_named, HasPrelude};
 ghost use Rattle.mau_program.specs.LawfulPrograms.{IsLawfulProgram};
 ghost use Rattle.mau_module.specs.Lawful.{program_of};
-ghost use Rattle.mau_docheck.specs.Known;
+ghost use Rattle.mau_docheck.specs.Known.{is_built as is_built_kind};
 ghost use Rattle.mau_docheck.specs.Known.{Leaves};
 ghost use Rattle.mau_docheck.specs.Kept.{IsLonger, AreCounts, count_before, AreModulesOf, IsModuleAt, HasNoModule};
 
@@ -29,7 +29,7 @@ pub struct Known {
 
 /// Whether modules of this kind are built.
 fn is_built(kind: ModuleKind) -> bool
-    ensures { result ≡ Known.is_built kind }
+    ensures { result ≡ is_built_kind kind }
 {
     match kind {
         ModuleKind::StrategyModule => false,

@@ -2,12 +2,12 @@
 //! section's item, and what is written of them.
 #![tactic(auto)]
 
-mod check;
 mod conclusion;
+mod document;
 mod holes;
 mod known;
 mod lines;
 mod naming;
 mod section;
 
-pub use check::check;
+pub use document::check;

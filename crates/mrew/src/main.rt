@@ -1,6 +1,7 @@
 //! The program: it makes the source and the sink, and runs.
 #![tactic(auto)]
 
+mod asked;
 mod check;
 mod hooks;
 #[cfg(test)]
