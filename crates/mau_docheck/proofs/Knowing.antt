@@ -1,5 +1,5 @@
 -- The modules of a text, as they are entered one after another.
-use Rattle.std.proofs.Common.{◌≡◌, ℕ, zero, suc, ◌+◌, ◌-◌, ◌<◌, ◌≤◌, min, List, [], ◌∷◌, ◌++◌, length, take, get_or, slice_get, Option, Some, None, Ok, Err, refl, sym, ap, ◌∙◌, subst, arith, below_more, length-append, append-nil}
+use Rattle.std.proofs.Common.{◌≡◌, ℕ, zero, suc, ◌+◌, ◌-◌, ◌<◌, ◌≤◌, min, List, [], ◌∷◌, ◌++◌, length, take, get_or, slice_get, Option, Some, None, Result, Ok, Err, IfOk, OnOk, true, refl, sym, ap, ◌∙◌, subst, arith, below_more, length-append, append-nil}
 use Rattle.std.proofs.lemmas.List.{take-append-le, take_all}
 use Rattle.std.proofs.lemmas.Option.{slice_get-get_or, slice_get_within, get_or_from_slice_get}
 use Rattle.std.proofs.Math.ListN.{get_or-append}
@@ -11,10 +11,50 @@ use Rattle.mau_modtext.specs.Word.{Word}
 use Rattle.mau_modtext.specs.Words.{words_of}
 use Rattle.mau_modtext.specs.Items.{AreItems}
 use Rattle.mau_modtext.specs.declared.raw.RawItem.{RawItem}
+use Rattle.mau_modtext.specs.declared.raw.RawBody.TheVariants.{Module}
+use Rattle.mau_modtext.specs.declared.raw.RawModule.{RawModule}
 use Rattle.mau_module.specs.Modules.{ModuleOf}
+use Rattle.mau_module.specs.Flattened.{FlattenedAs}
+use Rattle.mau_module.specs.Faults.{IfFault}
+use Rattle.mau_module.specs.declared.fault.ModuleFault.{ModuleFault}
+use Rattle.mau_module.specs.declared.fault.ModuleFault.TheVariants.{UnknownModule, ImportTooDeep, TooLarge, UnknownSort, Signed, Statement, NoMemory}
 use Rattle.mau_module.specs.Library.{last_named}
-use Rattle.mau_docheck.specs.Known.{KnownAfter, KnownBefore, known_before, none_known, items_before}
+use Rattle.mau_docheck.specs.Known.{is_built, Leaves, module_accepted, module_refused, KnownAfter, one_more, KnownBefore, known_before, none_known, items_before}
 use Rattle.mau_docheck.specs.Kept.{IsLonger, IsCountAt, AreCounts, count_before, AreModulesOf, IsModuleAt, HasNoModule}
+
+-- what holds of an answer by two facts of it
+pub both_ok : {A E : Type 0} (r : Result A E) (P Q R : A → Type 0) → ((x : A) → P x → Q x → R x) → IfOk r P → IfOk r Q → IfOk r R
+both_ok (Ok x) P Q R f p q = f x p q
+both_ok (Err e) P Q R f p q = tt
+
+pub named_ok : {A E : Type 0} (r : Result A E) (P R : A → Type 0) (Q : Type 0) → ((x : A) → P x → Q → R x) → IfOk r P → OnOk r Q → IfOk r R
+named_ok (Ok x) P R Q f p q = f x p q
+named_ok (Err e) P R Q f p q = tt
+
+-- a fault of a module that is not want of memory
+pub if_named : (P : ModuleFault → Type 0) (f : ModuleFault) → (f ≡ NoMemory → ⊥) → IfFault P f → P f
+if_named P (UnknownModule name) n p = p
+if_named P ImportTooDeep n p = p
+if_named P (TooLarge limit) n p = p
+if_named P (UnknownSort at) n p = p
+if_named P (Signed text) n p = p
+if_named P (Statement i f) n p = p
+if_named P NoMemory n p = absurd (n refl)
+
+-- a module that is at fault, and that no memory was wanting for, leaves the modules as they are
+pub refused_by : {E : Type 0} (ws : List Word) (ms : List ModuleOf) (item : RawItem) (raw : RawModule) (f : ModuleFault) (r : Result (Unit {0}) E) → item.body ≡ Ok (Module raw) → is_built raw.kind ≡ true
+    → IfFault (λ f. FlattenedAs ms ws raw (Err f)) f → OnOk r (f ≡ NoMemory → ⊥) → OnOk r (Leaves ws ms item ms)
+refused_by ws ms item raw f (Ok x) is built h named = module_refused raw f is built (if_named (λ f. FlattenedAs ms ws raw (Err f)) f named h)
+refused_by ws ms item raw f (Err e) is built h named = tt
+
+pub accepted_by : {E : Type 0} (ws : List Word) (ms new : List ModuleOf) (item : RawItem) (raw : RawModule) (m : ModuleOf) (r : Result (Unit {0}) E) → item.body ≡ Ok (Module raw) → is_built raw.kind ≡ true
+    → FlattenedAs ms ws raw (Ok m) → OnOk r (new ≡ ms ++ m ∷ []) → OnOk r (Leaves ws ms item new)
+accepted_by ws ms new item raw m (Ok x) is built h e = subst (Leaves ws ms item) (sym e) (module_accepted raw m is built h)
+accepted_by ws ms new item raw m (Err e) is built h same = tt
+
+-- modules that stay, and one more
+pub stays : (ms : List ModuleOf) → IsLonger ms ms
+stays ms = ([], sym (append-nil ms))
 
 -- what a list of one element has
 one_element : (n i m : ℕ) → slice_get (n ∷ []) i ≡ Some m → (i ≡ 0) × (m ≡ n)
@@ -66,7 +106,7 @@ modules_of text tokens items ms counts are reads h all = record {
       known_before tokens items (take (count_before counts k) ms) are reads (h i (count_before counts k) (slice_get-get_or counts i 0 b ∙ ap Some n)).after;
 }
 
-no_module : (j : ℕ) → get_or (0 ∷ []) j 0 ≡ 0
+no_module : (j : ℕ) → get_or {A = ℕ} (0 ∷ []) j 0 ≡ zero
 no_module zero = refl
 no_module (suc j) = refl
 

@@ -1,5 +1,5 @@
 //! The modules of a text.
-ghost use Rattle.std.specs.Prelude.{◌≡◌, ◌+◌, ◌<◌, ◌≤◌, ℕ, List, [], ◌∷◌, length, take, Ok, IfOk, IfSome, IfNone, OnOk};
+ghost use Rattle.std.specs.Prelude.{◌≡◌, ◌≢◌, ◌+◌, ◌<◌, ◌≤◌, ℕ, List, [], ◌∷◌, length, take, Ok, IfOk, IfSome, IfNone, OnOk};
 ghost use Rattle.std.specs.Str.{IsUtf8};
 ghost use Rattle.mau_tokens.specs.TokensOf.{TokensOf};
 ghost use Rattle.mau_modtext.specs.declared.raw.RawItem.{RawItem};
@@ -37,6 +37,16 @@ fn is_built(kind: ModuleKind) -> bool
     }
 }
 
+/// What a fault of a module stops: nothing, unless memory was wanting.
+fn passed_by(fault: &ModuleFault) -> Result<(), NoMemory>
+    ensures { OnOk result (fault.now ≢ ModuleFault.NoMemory) }
+{
+    match fault {
+        ModuleFault::NoMemory => Err(NoMemory),
+        _ => Ok(()),
+    }
+}
+
 /// Enters the module of a text, if it is accepted.
 fn enter_module(
     alloc: Global,
@@ -53,8 +63,7 @@ fn enter_module(
     }
     match library.flatten(alloc, words, raw) {
         Ok(module) => library.enter(module),
-        Err(ModuleFault::NoMemory) => Err(NoMemory),
-        Err(_) => Ok(()),
+        Err(fault) => passed_by(&fault),
     }
 }
 
@@ -103,6 +112,17 @@ fn no_modules(alloc: Global) -> Result<Known, NoMemory>
     Ok(Known { library, counts })
 }
 
+/// The modules of a text that has this fault in place of tokens: there are none, unless memory was wanting.
+fn without_tokens(alloc: Global, fault: TokenFault) -> Result<Known, NoMemory>
+    ensures counts { IfOk result (λ k. k.counts.items ≡ 0 ∷ []) }
+    ensures named { OnOk result (fault ≢ TokenFault.NoMemory) }
+{
+    match fault {
+        TokenFault::NoMemory => Err(NoMemory),
+        _ => no_modules(alloc),
+    }
+}
+
 /// The modules of a text that has these tokens.
 fn modules_of_tokens(alloc: Global, text: &[u8], found: &[Token]) -> Result<Known, NoMemory>
     requires tokens { TokensOf text.now (Ok found.now) }
@@ -143,8 +163,7 @@ impl Known {
     {
         match tokens(alloc, text) {
             Ok(found) => modules_of_tokens(alloc, text, &found),
-            Err(TokenFault::NoMemory) => Err(NoMemory),
-            Err(_) => no_modules(alloc),
+            Err(fault) => without_tokens(alloc, fault),
         }
     }
 
