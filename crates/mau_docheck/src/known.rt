@@ -67,6 +67,25 @@ fn enter_module(
     }
 }
 
+/// Enters the module that is said, if one is and it is accepted.
+fn enter_body(
+    alloc: Global,
+    words: &Words,
+    library: &mut Library,
+    body: &RawBody,
+) -> Result<(), NoMemory>
+    requires prelude { HasPrelude library.old }
+    ensures leaves { (item : RawItem) → item.body ≡ Ok body.now → OnOk result (Leaves words.now library.old item library.new) }
+    ensures longer { OnOk result (IsLonger library.old library.new) }
+{
+    match body {
+        RawBody::Module(raw) => enter_module(alloc, words, library, raw),
+        RawBody::Command(_) => Ok(()),
+        RawBody::Setting(_) => Ok(()),
+        RawBody::Quit => Ok(()),
+    }
+}
+
 /// Enters the module that an item is, if it is one that is accepted.
 fn enter_item(
     alloc: Global,
@@ -79,10 +98,7 @@ fn enter_item(
     ensures longer { OnOk result (IsLonger library.old library.new) }
 {
     match &item.body {
-        Ok(RawBody::Module(raw)) => enter_module(alloc, words, library, raw),
-        Ok(RawBody::Command(_)) => Ok(()),
-        Ok(RawBody::Setting(_)) => Ok(()),
-        Ok(RawBody::Quit) => Ok(()),
+        Ok(body) => enter_body(alloc, words, library, body),
         Err(_) => Ok(()),
     }
 }

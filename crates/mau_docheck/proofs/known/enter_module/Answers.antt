@@ -9,3 +9,7 @@ returns-then-not-is_built-clause-leaves c item is = module_not_built c.args.raw.
 pub returns-in-Ok-clause-leaves : goal.returns-in-Ok-clause-leaves
 returns-in-Ok-clause-leaves c item is =
     accepted_by c.args.words.now c.args.library.now c.enter.new.self item c.args.raw.now c.in-Ok.module c.enter.result is (sym c.is_built.ensures ∙ c.if-not-is_built.false) c.in-Ok.ensures.ok c.enter.ensures.ok
+
+pub returns-in-Err-clause-leaves : goal.returns-in-Err-clause-leaves
+returns-in-Err-clause-leaves c item is =
+    refused_by c.args.words.now c.args.library.now item c.args.raw.now c.in-Err.fault c.passed_by.result is (sym c.is_built.ensures ∙ c.if-not-is_built.false) c.in-Err.ensures.fault c.passed_by.ensures
