@@ -5,5 +5,7 @@ pub mod Places
 pub mod NamedTerms
 -- the modules of a text
 pub mod Knowing
--- answers of sections
+-- conclusions
+pub mod Concluding
+-- answers of sections, and documents
 pub mod Saying

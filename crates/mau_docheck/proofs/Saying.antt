@@ -1,7 +1,10 @@
 -- The answers of sections, from what their parts give.
-use Rattle.std.proofs.Common.{◌≡◌, ℕ, List, [], ◌∷◌, ◌++◌, Bool, true, false, ◌||◌, Option, Some, None, Result, Ok, Err, IfOk, OnOk, refl, sym, ◌∙◌, ap, ap₂, subst, append_assoc, append-nil}
+use Rattle.std.proofs.Common.{◌≡◌, ◌≤◌, arith, length, length-append, ℕ, List, [], ◌∷◌, ◌++◌, Bool, true, false, ◌||◌, Option, Some, None, Result, Ok, Err, IfOk, OnOk, refl, sym, ◌∙◌, ap, ap₂, subst, append_assoc, append-nil}
 use Rattle.mau_formula.specs.Operator.{Operator}
+use Rattle.std.specs.Prelude.{codes, decimal}
+use Rattle.mau_facts.specs.declared.document.Document.{Document}
 use Rattle.mau_facts.specs.declared.document.Section.{Section}
+use Rattle.mau_facts.specs.Documents.{IsDocument, head, joined}
 use Rattle.mau_docheck.specs.DocumentTranscript.{SectionsAnswer, no_sections, first_section}
 use Rattle.mau_docheck.specs.Gains.{GainsSection}
 
@@ -30,3 +33,17 @@ module _ (hooks : List Operator) (text : List ℕ) where
   pub all_sections : (rest all : List Section) (out : List ℕ) (r : Bool) → SectionsAnswer hooks text rest [] false
       → ((more : List ℕ) (later : Bool) → SectionsAnswer hooks text rest more later → SectionsAnswer hooks text all (out ++ more) (r || later)) → SectionsAnswer hooks text all out r
   all_sections rest all out r none f = subst (λ z. SectionsAnswer hooks text all z r) (append-nil out) (subst (SectionsAnswer hooks text all (out ++ [])) (or_nothing r) (f [] false none))
+
+-- ---- documents
+
+-- the text of a document is no longer than the document
+pub text_short : (bytes : List ℕ) (d : Document) → IsDocument bytes d → length d.text ≤ length bytes
+text_short bytes d h =
+    let text = d.text in
+    let rest = joined h.lines in
+    let a = ap length h.whole ∙ length-append (head text) rest in
+    let b = length-append (codes "mrew-facts 1") (10 ∷ (codes "text " ++ (decimal (length text) ++ 10 ∷ (text ++ 10 ∷ [])))) in
+    let c = length-append (codes "text ") (decimal (length text) ++ 10 ∷ (text ++ 10 ∷ [])) in
+    let e = length-append (decimal (length text)) (10 ∷ (text ++ 10 ∷ [])) in
+    let f = length-append text (10 ∷ []) in
+    omega (arith, a, b, c, e, f)

@@ -18,9 +18,13 @@ use Rattle.mau_docheck.specs.Holes.{with_holes, named}
 abbrev pub printer_in : ModuleOf → PrinterOf
 printer_in m = printer_of m.signature m.grammar (kind_names m.sorts m.signature.hierarchy)
 
--- the normal form of a term with these variables, with its holes
-abbrev pub shown_with : ModuleOf → Pairs → Tree → List ℕ
-shown_with m ns t = shown (printer_in m) ns (named ns (norm (theory_at m.signature) t))
+-- one normal form leads to another, with these variables
+abbrev pub ends_line : ModuleOf → Pairs → Tree → Tree → List ℕ
+ends_line m ns t u = codes "conclusion: " ++ shown (printer_in m) ns t ++ codes " ---> " ++ shown (printer_in m) ns u ++ codes "\n"
+
+-- the normal form of a term, with its holes named
+abbrev pub named_norm : ModuleOf → Pairs → Tree → Tree
+named_norm m ns t = named ns (norm (theory_at m.signature) t)
 
 -- the variables of a section, and those that are shown for holes
 abbrev pub all_variables : ModuleOf → Section → Pairs
@@ -28,7 +32,7 @@ all_variables m x = with_holes m.signature.hierarchy (lines_of m.signature m.sor
 
 -- one term leads to another
 abbrev pub leads_line : ModuleOf → Pairs → Tree → Tree → List ℕ
-leads_line m ns t u = codes "conclusion: " ++ shown_with m ns t ++ codes " ---> " ++ shown_with m ns u ++ codes "\n"
+leads_line m ns t u = ends_line m ns (named_norm m ns t) (named_norm m ns u)
 
 -- what a fact says with these variables; nothing is written of a sort
 abbrev pub conclusion_by : ModuleOf → Pairs → Option Says → List ℕ
