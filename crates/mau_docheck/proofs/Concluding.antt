@@ -16,6 +16,17 @@ use Rattle.mau_docheck.specs.Holes.{named}
 use Rattle.mau_docheck.specs.Naming.{IsNamed}
 use Rattle.mau_docheck.specs.Concluded.{named_norm, ends_line, leads_line, conclusion_by}
 
+-- what holds of an answer without a value
+pub on_ok_then : {A E : Type 0} (r : Result A E) (P Q : Type 0) → (P → Q) → OnOk r P → OnOk r Q
+on_ok_then (Ok x) P Q f h = f h
+on_ok_then (Err e) P Q f h = tt
+
+-- five texts, one after another
+pub five : (o a b c d e p q r s t : List ℕ) → p ≡ o ++ a → q ≡ p ++ b → r ≡ q ++ c → s ≡ r ++ d → t ≡ s ++ e → t ≡ o ++ ((((a ++ b) ++ c) ++ d) ++ e)
+five o a b c d e p q r s t h i j k l =
+    l ∙ ap (λ z. z ++ e) (k ∙ ap (λ z. z ++ d) (j ∙ ap (λ z. z ++ c) (i ∙ ap (λ z. z ++ b) h ∙ append_assoc o a b) ∙ append_assoc o (a ++ b) c) ∙ append_assoc o ((a ++ b) ++ c) d)
+    ∙ append_assoc o (((a ++ b) ++ c) ++ d) e
+
 -- two
 pub two : (o a b p q : List ℕ) → p ≡ o ++ a → q ≡ p ++ b → q ≡ o ++ (a ++ b)
 two o a b p q h i = i ∙ ap (λ z. z ++ b) h ∙ append_assoc o a b

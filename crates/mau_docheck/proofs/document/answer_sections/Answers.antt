@@ -1,4 +1,4 @@
-use Rattle.std.proofs.Common.{◌≡◌, ℕ, suc, ◌+◌, ◌<◌, List, [], ◌∷◌, false, ◌||◌, length, get_or, drop, arith, sym, ◌∙◌, ap, subst, add-one}
+use Rattle.std.proofs.Common.{◌≡◌, ℕ, suc, ◌+◌, ◌<◌, List, [], ◌∷◌, ◌++◌, false, ◌||◌, length, get_or, drop, arith, sym, ◌∙◌, ap, subst, add-one}
 use Rattle.std.proofs.lemmas.List.{drop_all}
 use Rattle.std.proofs.Math.Seq.{drop-cons}
 use Rattle.mau_formula.specs.Operators.{operators}
@@ -13,10 +13,10 @@ from_section : (xs : List Section) (i : ℕ) (x : Section) → i < length xs →
 from_section xs i x h e = drop-cons xs i x h ∙ ap (λ y. y ∷ drop (suc i) xs) (sym e) ∙ ap (λ n. x ∷ drop n xs) (sym (add-one i))
 
 pub loop-section-init : goal.loop-section-init
-loop-section-init c = λ text h more later a. ?
+loop-section-init g c = λ text known more later a. subst (λ z. SectionsAnswer (operators c.args.hooks.now) text c.args.sections.now (z ++ more) later) (sym c.new-out.ensures.items) a
 
 pub loop-section-preserved : goal.loop-section-preserved
-loop-section-preserved c = λ text known more later a.
+loop-section-preserved g c = λ text known more later a.
     let hooks = operators c.args.hooks.now in
     let all = c.args.sections.now in
     let x = c.section-item.result in
@@ -30,7 +30,7 @@ loop-section-preserved c = λ text known more later a.
     (λ more later b. c.loop-section.invariant text known more later (subst (λ xs. SectionsAnswer hooks text xs more later) (sym here) b)) more later a
 
 pub returns : goal.returns
-returns c = λ text known.
+returns g c = λ text known.
     let hooks = operators c.args.hooks.now in
     let all = c.args.sections.now in
     let i = c.loop-section.section-index in
