@@ -77,19 +77,19 @@ module _ (ws : List Word) (items : List RawItem) where
       let is : get_or all i n ≡ n = get_or_from_slice_get all i n n e in
       below_more (λ k. get_or all k n ≡ n → IsCountAt ws items new k n) (length counts)
       (λ k b is.
-          let there : slice_get counts k ≡ Some n = slice_get-get_or counts k n b ∙ ap Some (sym (get_or-append counts (length new ∷ []) n k b) ∙ is) in
-          let before = h k n there in
-          let w = before.within in
-          record {
-            within = omega (arith, w, ap length x.1, length-append old x.0);
-            after = subst (KnownAfter ws items k) (sym (ap (take n) x.1 ∙ take-append-le n old x.0 w)) before.after;
-          })
+      let there : slice_get counts k ≡ Some n = slice_get-get_or counts k n b ∙ ap Some (sym (get_or-append counts (length new ∷ []) n k b) ∙ is) in
+      let before = h k n there in
+      let w = before.within in
+      record {
+        within = omega (arith, w, ap length x.1, length-append old x.0);
+        after = subst (KnownAfter ws items k) (sym (ap (take n) x.1 ∙ take-append-le n old x.0 w)) before.after;
+      })
       (λ is.
-          let same : n ≡ length new = sym is ∙ get_or-append_seam counts (length new) [] n in
-          record {
-            within = omega (arith, same);
-            after = subst (KnownAfter ws items (length counts)) (sym (ap (λ k. take k new) same ∙ take_all (length new) new (omega arith))) known;
-          })
+      let same : n ≡ length new = sym is ∙ get_or-append_seam counts (length new) [] n in
+      record {
+        within = omega (arith, same);
+        after = subst (KnownAfter ws items (length counts)) (sym (ap (λ k. take k new) same ∙ take_all (length new) new (omega arith))) known;
+      })
       i (omega (arith, l, length-append counts (length new ∷ []))) is
 
 -- the counts of all items

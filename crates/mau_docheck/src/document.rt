@@ -60,11 +60,7 @@ fn refuse(alloc: Global, name: &str, line: u64) -> Result<(Vec<u8>, bool), NoMem
 
 /// Checks a document, with native operators: what is written of it, and whether it or one of its sections was refused or rejected. Each
 /// section is judged in the module that the document's text has before the section's item. Nothing is evaluated.
-pub fn check(
-    alloc: Global,
-    hooks: &HookTable,
-    bytes: &[u8],
-) -> Result<(Vec<u8>, bool), NoMemory>
+pub fn check(alloc: Global, hooks: &HookTable, bytes: &[u8]) -> Result<(Vec<u8>, bool), NoMemory>
     requires few { length bytes.now ≤ 16777216 }
     requires numerals { All GivesNumerals (operators hooks.now) }
     ensures { IfOk result (λ r. DocumentTranscript (operators hooks.now) bytes.now r.0.items r.1) }

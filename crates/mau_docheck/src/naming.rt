@@ -12,11 +12,7 @@ use mau_terms::{NoMemory, TermId, Vars};
 use std::alloc::Global;
 
 /// The numbers of arguments, by those of all older nodes.
-fn renumbered(
-    alloc: Global,
-    numbers: &[TermId],
-    args: &[TermId],
-) -> Result<Vec<TermId>, NoMemory>
+fn renumbered(alloc: Global, numbers: &[TermId], args: &[TermId]) -> Result<Vec<TermId>, NoMemory>
     requires { AreBelow (length numbers.now) (numbers_of args.now) }
     ensures { IfOk result (λ ids. numbers_of ids.items ≡ map (slice_index (numbers_of numbers.now)) (numbers_of args.now)) }
 {

@@ -17,6 +17,6 @@ returns c =
     let second = c.in_ok-write_term-2.ensures ∙ ap (λ p. c.write_text-2.new.out.items ++ shown p ns u) c.in_ok-printer.ensures in
     on_ok_then c.write_text-3.result (c.write_text-3.new.out.items ≡ c.write_term-2.new.out.items ++ codes "\n") (c.write_text-3.new.out.items ≡ out ++ ends_line m ns t u)
     (five out (codes "conclusion: ") (shown (printer_in m) ns t) (codes " ---> ") (shown (printer_in m) ns u) (codes "\n")
-        c.write_text.new.out.items c.write_term.new.out.items c.write_text-2.new.out.items c.write_term-2.new.out.items c.write_text-3.new.out.items
-        c.in_ok-write_text.ensures first c.in_ok-write_text-2.ensures second)
+    c.write_text.new.out.items c.write_term.new.out.items c.write_text-2.new.out.items c.write_term-2.new.out.items c.write_text-3.new.out.items
+    c.in_ok-write_text.ensures first c.in_ok-write_text-2.ensures second)
     c.write_text-3.ensures

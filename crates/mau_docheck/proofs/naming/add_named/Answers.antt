@@ -45,4 +45,4 @@ returns-in-Ok-clause-named c old h =
     (interned nodes (operator_node f (numbers_of c.deref.result.now)) (node f (map (tree_at c.args.store.now) (numbers_of c.deref.result.now)))
     (λ id. IsNamed ns nodes id (node f (map (tree_at old) args))) c.intern-in-App.result c.intern-in-App.ensures.ok c.intern-in-App.ensures.tree
     (λ id at is. is_named ns nodes id (operator_node f (numbers_of c.deref.result.now)) (node f (map (tree_at old) args)) at
-        (is ∙ ap (λ ks. node f (map (tree_at c.args.store.now) ks)) same ∙ node_named ns old c.args.store.now ids h f args below)))
+    (is ∙ ap (λ ks. node f (map (tree_at c.args.store.now) ks)) same ∙ node_named ns old c.args.store.now ids h f args below)))
