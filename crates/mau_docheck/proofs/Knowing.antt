@@ -1,5 +1,5 @@
 -- The modules of a text, as they are entered one after another.
-use Rattle.std.proofs.Common.{◌≡◌, ℕ, zero, suc, ◌+◌, ◌-◌, ◌<◌, ◌≤◌, min, List, [], ◌∷◌, ◌++◌, length, take, get_or, slice_get, Option, Some, None, Result, Ok, Err, IfOk, OnOk, true, refl, sym, ap, ◌∙◌, subst, arith, below_more, length-append, append-nil}
+use Rattle.std.proofs.Common.{◌≡◌, ℕ, zero, suc, ◌+◌, ◌-◌, ◌<◌, ◌≤◌, List, [], ◌∷◌, ◌++◌, length, take, get_or, slice_get, Some, None, Result, Ok, Err, IfOk, OnOk, true, refl, sym, ap, ◌∙◌, subst, arith, below_more, length-append, append-nil}
 use Rattle.std.proofs.lemmas.List.{take-append-le, take_all}
 use Rattle.std.proofs.lemmas.Option.{slice_get-get_or, slice_get_within, get_or_from_slice_get}
 use Rattle.std.proofs.Math.ListN.{get_or-append}
@@ -19,7 +19,7 @@ use Rattle.mau_module.specs.Faults.{IfFault}
 use Rattle.mau_module.specs.declared.fault.ModuleFault.{ModuleFault}
 use Rattle.mau_module.specs.declared.fault.ModuleFault.TheVariants.{UnknownModule, ImportTooDeep, TooLarge, UnknownSort, Signed, Statement, NoMemory}
 use Rattle.mau_module.specs.Library.{last_named}
-use Rattle.mau_docheck.specs.Known.{is_built, Leaves, module_accepted, module_refused, KnownAfter, one_more, KnownBefore, known_before, none_known, items_before}
+use Rattle.mau_docheck.specs.Known.{is_built, Leaves, module_accepted, module_refused, KnownAfter, KnownBefore, known_before, none_known, items_before}
 use Rattle.mau_docheck.specs.Kept.{IsLonger, IsCountAt, AreCounts, count_before, AreModulesOf, IsModuleAt, HasNoModule}
 
 -- what holds of an answer by two facts of it

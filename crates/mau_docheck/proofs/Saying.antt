@@ -1,11 +1,11 @@
 -- The answers of sections, from what their parts give.
-use Rattle.std.proofs.Common.{◌≡◌, ◌≤◌, arith, length, length-append, ℕ, List, [], ◌∷◌, ◌++◌, Bool, true, false, ◌||◌, Option, Some, None, Result, Ok, Err, IfOk, OnOk, refl, sym, ◌∙◌, ap, ap₂, subst, append_assoc, append-nil}
+use Rattle.std.proofs.Common.{◌≡◌, ◌≤◌, arith, length, length-append, ℕ, List, [], ◌∷◌, ◌++◌, Bool, true, false, ◌||◌, refl, sym, ◌∙◌, ap, subst, append_assoc, append-nil}
 use Rattle.mau_formula.specs.Operator.{Operator}
 use Rattle.std.specs.Prelude.{codes, decimal}
 use Rattle.mau_facts.specs.declared.document.Document.{Document}
 use Rattle.mau_facts.specs.declared.document.Section.{Section}
 use Rattle.mau_facts.specs.Documents.{IsDocument, head, joined}
-use Rattle.mau_docheck.specs.DocumentTranscript.{SectionsAnswer, no_sections, first_section}
+use Rattle.mau_docheck.specs.DocumentTranscript.{SectionsAnswer, first_section}
 use Rattle.mau_docheck.specs.Gains.{GainsSection}
 
 or_parts : (r i l : Bool) → (r || (i || l)) ≡ ((r || i) || l)

@@ -1,4 +1,4 @@
-use Rattle.std.proofs.Common.{◌≡◌, ◌<◌, ◌++◌, length, arith, sym, ap, ap₂, ◌∙◌, subst}
+use Rattle.std.proofs.Common.{◌≡◌, ◌++◌, arith, sym, ap, ap₂, ◌∙◌, subst}
 use Rattle.mau_store.specs.Trees.{tree_at}
 use Rattle.mau_docheck.specs.Holes.{with_holes}
 use Rattle.mau_docheck.specs.Naming.{IsNamed}

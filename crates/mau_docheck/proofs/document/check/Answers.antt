@@ -1,4 +1,4 @@
-use Rattle.std.proofs.Common.{length, arith, true, sym, subst}
+use Rattle.std.proofs.Common.{arith, true, sym, subst}
 use Rattle.std.proofs.lemmas.Result.{IfOk-weaker}
 use Rattle.mau_formula.specs.Operators.{operators}
 use Rattle.mau_facts.specs.Faults.{IsFault}

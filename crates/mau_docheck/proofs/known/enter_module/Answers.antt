@@ -1,4 +1,4 @@
-use Rattle.std.proofs.Common.{sym, ◌∙◌, ap}
+use Rattle.std.proofs.Common.{sym, ◌∙◌}
 use Rattle.mau_docheck.specs.Known.{module_not_built}
 use Rattle.mau_docheck.proofs.Knowing.{refused_by, accepted_by}
 use Rattle.mau_docheck.proofs.known.enter_module.Goals as goal

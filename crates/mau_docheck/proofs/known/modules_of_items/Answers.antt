@@ -1,6 +1,5 @@
-use Rattle.std.proofs.Common.{◌≡◌, ◌+◌, ◌<◌, ◌≤◌, [], ◌∷◌, ◌++◌, length, refl, sym, ap, ◌∙◌, subst, arith, add-one, length-append}
+use Rattle.std.proofs.Common.{◌+◌, [], ◌∷◌, ◌++◌, length, refl, sym, ap, ◌∙◌, subst, arith, add-one, length-append}
 use Rattle.std.proofs.lemmas.Option.{slice_get_read}
-use Rattle.mau_module.specs.Library.{HasPrelude}
 use Rattle.mau_docheck.specs.Known.{KnownAfter, no_items, one_more}
 use Rattle.mau_docheck.specs.Kept.{AreCounts}
 use Rattle.mau_docheck.proofs.Knowing.{no_counts, one_count}

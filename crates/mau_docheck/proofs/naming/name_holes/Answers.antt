@@ -1,4 +1,4 @@
-use Rattle.std.proofs.Common.{◌+◌, [], ◌∷◌, length, sym, ap, ◌∙◌, subst, arith, length-append}
+use Rattle.std.proofs.Common.{◌+◌, [], ◌∷◌, length, sym, ap, ◌∙◌, subst, length-append}
 use Rattle.mau_store.specs.Trees.{tree_at}
 use Rattle.mau_docheck.specs.Naming.{IsNamed, AreNamed}
 use Rattle.mau_docheck.proofs.NamedTerms.{one_named}
