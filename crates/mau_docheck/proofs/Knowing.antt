@@ -1,5 +1,5 @@
 -- The modules of a text, as they are entered one after another.
-use Rattle.std.proofs.Common.{◌≡◌, ℕ, zero, suc, ◌+◌, ◌-◌, ◌<◌, ◌≤◌, List, [], ◌∷◌, ◌++◌, length, take, get_or, slice_get, Some, None, Result, Ok, Err, IfOk, OnOk, true, refl, sym, ap, ◌∙◌, subst, arith, below_more, length-append, append-nil}
+use Rattle.std.proofs.Common.{◌≡◌, ℕ, zero, suc, ◌+◌, ◌-◌, ◌<◌, List, [], ◌∷◌, ◌++◌, length, take, get_or, slice_get, Some, Result, Ok, Err, IfOk, OnOk, true, refl, sym, ap, ◌∙◌, subst, arith, below_more, length-append}
 use Rattle.std.proofs.lemmas.List.{take-append-le, take_all}
 use Rattle.std.proofs.lemmas.Option.{slice_get-get_or, slice_get_within, get_or_from_slice_get}
 use Rattle.std.proofs.Math.ListN.{get_or-append}
@@ -18,9 +18,8 @@ use Rattle.mau_module.specs.Flattened.{FlattenedAs}
 use Rattle.mau_module.specs.Faults.{IfFault}
 use Rattle.mau_module.specs.declared.fault.ModuleFault.{ModuleFault}
 use Rattle.mau_module.specs.declared.fault.ModuleFault.TheVariants.{UnknownModule, ImportTooDeep, TooLarge, UnknownSort, Signed, Statement, NoMemory}
-use Rattle.mau_module.specs.Library.{last_named}
 use Rattle.mau_docheck.specs.Known.{is_built, Leaves, module_accepted, module_refused, KnownAfter, KnownBefore, known_before, none_known, items_before}
-use Rattle.mau_docheck.specs.Kept.{IsLonger, IsCountAt, AreCounts, count_before, AreModulesOf, IsModuleAt, HasNoModule}
+use Rattle.mau_docheck.specs.Kept.{IsLonger, IsCountAt, AreCounts, count_before, AreModulesOf}
 
 -- what holds of an answer by two facts of it
 pub both_ok : {A E : Type 0} (r : Result A E) (P Q R : A → Type 0) → ((x : A) → P x → Q x → R x) → IfOk r P → IfOk r Q → IfOk r R
@@ -51,10 +50,6 @@ pub accepted_by : {E : Type 0} (ws : List Word) (ms new : List ModuleOf) (item :
     → FlattenedAs ms ws raw (Ok m) → OnOk r (new ≡ ms ++ m ∷ []) → OnOk r (Leaves ws ms item new)
 accepted_by ws ms new item raw m (Ok x) is built h e = subst (Leaves ws ms item) (sym e) (module_accepted raw m is built h)
 accepted_by ws ms new item raw m (Err e) is built h same = tt
-
--- modules that stay, and one more
-pub stays : (ms : List ModuleOf) → IsLonger ms ms
-stays ms = ([], sym (append-nil ms))
 
 -- what a list of one element has
 one_element : (n i m : ℕ) → slice_get (n ∷ []) i ≡ Some m → (i ≡ 0) × (m ≡ n)
@@ -116,31 +111,3 @@ no_modules_of text f ms h = record {
   within = λ i n e. let at = one_element 0 i n e in omega (arith, at.1);
   before = λ k. subst (λ n. KnownBefore text k (take n ms)) (sym (no_module (items_before k 0))) (none_known f h);
 }
-
--- ---- the module of a name
-
-take_at : (ms : List ModuleOf) (n i : ℕ) (m : ModuleOf) → i < n → slice_get ms i ≡ Some m → slice_get (take n ms) i ≡ Some m
-take_at [] n i m l e = absurd cc
-take_at (x ∷ ms) zero i m l e = absurd (omega arith)
-take_at (x ∷ ms) (suc n) zero m l e = e
-take_at (x ∷ ms) (suc n) (suc i) m l e = take_at ms n i m (omega arith) e
-
-module _ (text : List ℕ) (ms : List ModuleOf) (counts : List ℕ) (h : AreModulesOf text ms counts) (k : ℕ) (name : List ℕ) where
-  pub counts_within : count_before counts k ≤ length ms
-  counts_within =
-      let some = h.some in
-      let i = items_before k (length counts - 1) in
-      let b : i < length counts = omega (arith, some) in
-      h.within i (get_or counts i 0) (slice_get-get_or counts i 0 b)
-
-  pub module_at : (i : ℕ) (m : ModuleOf) → last_named (take (count_before counts k) ms) name ≡ Some i → i < count_before counts k → slice_get ms i ≡ Some m → IsModuleAt text k name m
-  module_at i m last l there = record {
-    all = take (count_before counts k) ms;
-    known = h.before k;
-    number = i;
-    last = last;
-    there = take_at ms (count_before counts k) i m l there;
-  }
-
-  pub no_module_at : last_named (take (count_before counts k) ms) name ≡ None → HasNoModule text k name
-  no_module_at none = record { all = take (count_before counts k) ms; known = h.before k; none = none }
