@@ -15,6 +15,7 @@ ghost use Rattle.mau_rules.specs.Runnable.{IsRunnable, GoesBy};
 ghost use Rattle.mau_rules.specs.Runs.{turns_of, stand_of, IsRunOf};
 ghost use Rattle.mau_rules.specs.Found.{item_of};
 ghost use Rattle.mau_rules.specs.Counted.{IsCounted};
+ghost use Rattle.mau_rules.specs.ByTop.{AreRulesByTop};
 ghost use Rattle.mau_rules.specs.Passes.{frame_in, IsFrame, IsChain, IsNext, open_by, passing_by, behind_pass, pass_with, KnownWhole, KnownRest};
 
 use crate::frames::{Frame, close_all, next_argument, open_term, put_in};
@@ -68,6 +69,7 @@ fn pass<E: Evaluator, L: Lister + Drop, W: StepWatcher>(
     requires fits { E.fits evaluator.old store.old }
     requires run { IsRunOf program.now store.old run.old }
     requires more { is_out tally.old.left ≡ false }
+    requires by_top { AreRulesByTop program.now (map (λ list. list.items) tally.old.by_top.orders.items) }
     ensures known { (f : ℕ → ℕ → Run PassEnd) (b0 : ℕ) →
         IsCounted (item_of (E.meanings evaluator.old) (W.wanted watcher.old)) f b0 tally.old.rewrites
         (open_by (program_over program.now (E.meanings evaluator.old).hooks) tally.old.gas (tree_at store.old run.old.term.0, 0)
@@ -75,6 +77,7 @@ fn pass<E: Evaluator, L: Lister + Drop, W: StepWatcher>(
         KnownWhole (item_of (E.meanings evaluator.old) (W.wanted watcher.old)) f b0 (behind_pass (program_over program.now (E.meanings evaluator.old).hooks) tally.old.gas)
         program.now.sig store.new (turns_of run.new.turns.items) tally.new result budget.new }
     ensures gas { tally.new.gas ≡ tally.old.gas }
+    ensures by_top { tally.new.by_top ≡ tally.old.by_top }
     ensures run { IsRunOf program.now store.new run.new }
     ensures term { IfOk result (λ id. IsTerm program.now.sig store.new id.0) }
     ensures settled { is_out tally.new.left ≡ false → IfOk result (λ id. AreSettled program.now.sig store.new (E.table evaluator.new) (tree_at store.new id.0)) }
@@ -140,6 +143,7 @@ fn last_value<E: Evaluator, W: StepWatcher>(
         KnownRest (item_of (E.meanings evaluator.old) (W.wanted watcher.old)) f b0 (program_over program.now (E.meanings evaluator.old).hooks) store.new run.new tally.new result budget.new }
     ensures ends { IfOk result IsSome }
     ensures gas { tally.new.gas ≡ tally.old.gas }
+    ensures by_top { tally.new.by_top ≡ tally.old.by_top }
     ensures run { IsRunOf program.now store.new run.new }
     ensures settled { IfOk result (λ _. AreSettled program.now.sig store.new (E.table evaluator.new) (tree_at store.new run.new.term.0)) }
     ensures falls { budget.new ≤ budget.old }
@@ -173,11 +177,13 @@ pub(crate) fn pass_on<E: Evaluator, L: Lister + Drop, W: StepWatcher>(
     requires goes_by { GoesBy program.now (E.meanings evaluator.old) }
     requires fits { E.fits evaluator.old store.old }
     requires run { IsRunOf program.now store.old run.old }
+    requires by_top { AreRulesByTop program.now (map (λ list. list.items) tally.old.by_top.orders.items) }
     ensures known { (f : ℕ → ℕ → Run PassEnd) (b0 : ℕ) →
         IsCounted (item_of (E.meanings evaluator.old) (W.wanted watcher.old)) f b0 tally.old.rewrites
         (passing_by (program_over program.now (E.meanings evaluator.old).hooks) tally.old.gas tally.old.left (stand_of store.old run.old)) budget.old →
         KnownRest (item_of (E.meanings evaluator.old) (W.wanted watcher.old)) f b0 (program_over program.now (E.meanings evaluator.old).hooks) store.new run.new tally.new result budget.new }
     ensures gas { tally.new.gas ≡ tally.old.gas }
+    ensures by_top { tally.new.by_top ≡ tally.old.by_top }
     ensures run { IsRunOf program.now store.new run.new }
     ensures settled { IfOk result (λ _. AreSettled program.now.sig store.new (E.table evaluator.new) (tree_at store.new run.new.term.0)) }
     ensures falls { budget.new ≤ budget.old }

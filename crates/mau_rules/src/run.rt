@@ -182,12 +182,17 @@ impl RuleRun {
         ensures meanings { E.meanings evaluator.new ≡ E.meanings evaluator.old }
         ensures wanted { W.wanted watcher.new ≡ W.wanted watcher.old }
     {
+        let by_top = match RulesByTop::new(store.allocator(), program) {
+            Ok(by_top) => by_top,
+            Err(_) => return Err(EvalEnd::NoMemory),
+        };
         let mut left = budget;
         let mut tally = Tally {
             gas,
             left: bound,
             made: false,
             rewrites: 0,
+            by_top,
         };
         for _ in 0..u64::MAX {
             match pass_on::<E, L, W>(

@@ -1,5 +1,5 @@
 //! What a pass of frewrite makes of one term whose arguments were passed over.
-ghost use Rattle.std.specs.Prelude.{◌≡◌, ◌≤◌, ℕ, true, false, None, Ok, IfOk, IfSome};
+ghost use Rattle.std.specs.Prelude.{◌≡◌, ◌≤◌, ℕ, map, true, false, None, Ok, IfOk, IfSome};
 ghost use Rattle.mau_terms.specs.Bare.{IsLawful};
 ghost use Rattle.mau_signature.specs.Signature.{terms_over};
 ghost use Rattle.mau_store.specs.Node.{Extends};
@@ -13,16 +13,18 @@ ghost use Rattle.mau_api.specs.Answers.{AreSettled};
 ghost use Rattle.mau_rules.specs.Runnable.{IsRunnable, GoesBy};
 ghost use Rattle.mau_rules.specs.Runs.{turns_of, IsRunOf};
 ghost use Rattle.mau_rules.specs.Found.{item_of};
+ghost use Rattle.mau_rules.specs.ByTop.{AreRulesByTop};
 ghost use Rattle.mau_rules.specs.Walk.{MayReplace};
 ghost use Rattle.mau_rules.specs.Counted.{IsCounted};
 ghost use Rattle.mau_rules.specs.Passes.{frame_in, IsFrame, Onward, tops_by, top_by, pass_with, KnownOnce, KnownTerm};
 
 use crate::RuleRun;
+use crate::by_top::RulesByTop;
 use crate::frames::{Frame, rebuilt};
 use crate::one::turn_for;
 use crate::round::{next_turn, turn_on, value_behind};
 use crate::run::{is_out, one_less};
-use crate::search::at_place;
+use crate::search::among;
 use mau_api::{EvalEnd, Evaluator, Lister, Program, Reduced, StepWatcher};
 use mau_reduce::hole_for;
 use mau_signature::Signature;
@@ -30,13 +32,14 @@ use mau_store::Store;
 use mau_terms::TermId;
 
 /// What a run of frewrite goes by and has done: the rewrites at each top of a pass, those that may still be made, whether the pass made
-/// one, and all applications that count.
-#[derive(Clone, Copy, Debug)]
+/// one, all applications that count, and the rules by their tops.
+#[derive(Drop)]
 pub(crate) struct Tally {
     pub(crate) gas: u64,
     pub(crate) left: Option<u64>,
     pub(crate) made: bool,
     pub(crate) rewrites: u64,
+    pub(crate) by_top: RulesByTop,
 }
 
 /// Whether a term may stand in the place of another: they are of one kind.
@@ -55,6 +58,7 @@ fn once<E: Evaluator, L: Lister + Drop, W: StepWatcher>(
     program: &Program,
     store: &mut Store,
     evaluator: &mut E,
+    by_top: &RulesByTop,
     term: TermId,
     budget: &mut u64,
     watcher: &mut W,
@@ -66,6 +70,7 @@ fn once<E: Evaluator, L: Lister + Drop, W: StepWatcher>(
     requires run { IsRunOf program.now store.old run.old }
     requires term { IsTerm program.now.sig store.old term.0 }
     requires settled { AreSettled program.now.sig store.old (E.table evaluator.old) (tree_at store.old term.0) }
+    requires by_top { AreRulesByTop program.now (map (λ list. list.items) by_top.now.orders.items) }
     ensures known { KnownOnce (item_of (E.meanings evaluator.old) (W.wanted watcher.old)) (program_over program.now (E.meanings evaluator.old).hooks)
         (record { term = tree_at store.old term.0; turns = turns_of run.old.turns.items }) budget.old (turns_of run.new.turns.items) store.new result budget.new }
     ensures run { IsRunOf program.now store.new run.new }
@@ -81,7 +86,10 @@ fn once<E: Evaluator, L: Lister + Drop, W: StepWatcher>(
 {
     let _ = store.len();
     let turn = turn_for(store, &run.turns, term);
-    let found = match at_place::<E, L, W>(program, store, evaluator, turn, term, budget, watcher) {
+    let numbers = by_top.numbers_at(program, store, term);
+    let found = match among::<E, L, W>(
+        program, store, evaluator, numbers, turn, term, budget, watcher,
+    ) {
         Ok(Some(found)) => found,
         Ok(None) => return Ok(None),
         Err(end) => return Err(end),
@@ -116,11 +124,13 @@ fn tops<E: Evaluator, L: Lister + Drop, W: StepWatcher>(
     requires run { IsRunOf program.now store.old run.old }
     requires term { IsTerm program.now.sig store.old term.0 }
     requires settled { AreSettled program.now.sig store.old (E.table evaluator.old) (tree_at store.old term.0) }
+    requires by_top { AreRulesByTop program.now (map (λ list. list.items) tally.old.by_top.orders.items) }
     ensures known { (f : ℕ → ℕ → Run PassEnd) (b0 : ℕ) (K : Onward) →
         IsCounted (item_of (E.meanings evaluator.old) (W.wanted watcher.old)) f b0 tally.old.rewrites
         (tops_by (program_over program.now (E.meanings evaluator.old).hooks) tally.old.gas (pass_with (tree_at store.old term.0) (turns_of run.old.turns.items) tally.old) K) budget.old →
         KnownTerm (item_of (E.meanings evaluator.old) (W.wanted watcher.old)) f b0 K store.new (turns_of run.new.turns.items) tally.new result budget.new }
     ensures gas { tally.new.gas ≡ tally.old.gas }
+    ensures by_top { tally.new.by_top ≡ tally.old.by_top }
     ensures run { IsRunOf program.now store.new run.new }
     ensures term { IfOk result (λ id. IsTerm program.now.sig store.new id.0) }
     ensures settled { IfOk result (λ id. AreSettled program.now.sig store.new (E.table evaluator.new) (tree_at store.new id.0)) }
@@ -137,7 +147,16 @@ fn tops<E: Evaluator, L: Lister + Drop, W: StepWatcher>(
         if is_out(tally.left) {
             return Ok(reached);
         }
-        match once::<E, L, W>(run, program, store, evaluator, reached, budget, watcher) {
+        match once::<E, L, W>(
+            run,
+            program,
+            store,
+            evaluator,
+            &tally.by_top,
+            reached,
+            budget,
+            watcher,
+        ) {
             Ok(Some(value)) => {
                 reached = value.term;
                 tally.left = one_less(tally.left);
@@ -170,11 +189,13 @@ pub(crate) fn passed<E: Evaluator, L: Lister + Drop, W: StepWatcher>(
     requires run { IsRunOf program.now store.old run.old }
     requires frame { IsFrame program.now.sig store.old at.now }
     requires more { is_out tally.old.left ≡ false }
+    requires by_top { AreRulesByTop program.now (map (λ list. list.items) tally.old.by_top.orders.items) }
     ensures known { (f : ℕ → ℕ → Run PassEnd) (b0 : ℕ) (K : Onward) →
         IsCounted (item_of (E.meanings evaluator.old) (W.wanted watcher.old)) f b0 tally.old.rewrites
         (top_by (program_over program.now (E.meanings evaluator.old).hooks) tally.old.gas (pass_with (frame_in store.old at.now).0 (turns_of run.old.turns.items) tally.old) K) budget.old →
         KnownTerm (item_of (E.meanings evaluator.old) (W.wanted watcher.old)) f b0 K store.new (turns_of run.new.turns.items) tally.new result budget.new }
     ensures gas { tally.new.gas ≡ tally.old.gas }
+    ensures by_top { tally.new.by_top ≡ tally.old.by_top }
     ensures run { IsRunOf program.now store.new run.new }
     ensures kind { IfOk result (λ id. MayReplace program.now.sig store.new at.now.term.0 id.0) }
     ensures settled { IfOk result (λ id. AreSettled program.now.sig store.new (E.table evaluator.new) (tree_at store.new id.0)) }

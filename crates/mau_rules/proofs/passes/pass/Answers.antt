@@ -8,6 +8,8 @@ use Rattle.mau_api.specs.Programs.{program_over}
 use Rattle.mau_api.specs.Meanings.{Meanings}
 use Rattle.mau_reduce.proofs.KindsKept.{is_term_kept}
 use Rattle.mau_rules.specs.declared.frames.Frame.{Frame}
+use Rattle.mau_rules.specs.declared.by_top.RulesByTop.{RulesByTop}
+use Rattle.mau_rules.specs.ByTop.{AreRulesByTop}
 use Rattle.mau_rules.specs.Runnable.{GoesBy}
 use Rattle.mau_rules.specs.Counted.{IsCounted}
 use Rattle.mau_rules.specs.Found.{item_of}
@@ -47,6 +49,7 @@ loop-init g c =
       wanted = refl;
       falls = omega arith;
       gas = refl;
+      by_top = refl;
       run = c.requires.run;
       frame = c.in-Ok.ensures.frame;
       chain = (c.in-Ok.at.term.0, subst (λ (xs : List Frame). IsChain p.sig s0 c.in-Ok.at.term.0 xs c.in-Ok.at.term.0) (sym none) refl);
@@ -77,6 +80,7 @@ loop-preserved-in-Some g c =
       wanted = i.wanted;
       falls = i.falls;
       gas = i.gas;
+      by_top = i.by_top;
       run = i.run;
       frame = c.in-Ok-enter.ensures.frame;
       chain = c.in-Ok-enter.ensures.chain;
@@ -256,6 +260,7 @@ loop-preserved g c =
       wanted = c.passed.ensures.wanted ∙ i.wanted;
       falls = le_trans c.passed.ensures.falls i.falls;
       gas = c.passed.ensures.gas ∙ i.gas;
+      by_top = c.passed.ensures.by_top ∙ i.by_top;
       run = c.passed.ensures.run;
       frame = frame;
       chain = (root, subst (λ (q : TermId). IsChain s new root zs q.0) (sym c.put_in-at.ensures.term) (chain_before s new root zs x child chain));
@@ -267,3 +272,6 @@ loop-preserved g c =
           c.in-Ok-passed.ensures.known f b0 L (subst (λ j. IsCounted I f b0 y.rewrites (top_by P j (pass_with (frame_in now c.loop.at).0 turns y) L) c.loop.budget) (sym i.gas) top) in
           within_again p m.hooks I gas f b0 K after z c.passed.new.budget new os xs zs x r id.0 same items made c.put_in-at.ensures.next held;
     }
+
+pub passed-requires-clause-by_top : goal.passed-requires-clause-by_top
+passed-requires-clause-by_top g c = subst (λ (x : RulesByTop). AreRulesByTop c.args.program.now (map (λ list. list.items) x.orders.items)) (sym c.loop.invariant.by_top) c.requires.by_top

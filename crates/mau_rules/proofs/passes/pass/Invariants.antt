@@ -26,6 +26,7 @@ invariant-loop g l =
       wanted : g.W.StepWatcher.wanted l.watcher ≡ w;
       falls : l.budget ≤ l.fn.budget;
       gas : l.tally.gas ≡ l.fn.tally.gas;
+      by_top : l.tally.by_top ≡ l.fn.tally.by_top;
       run : IsRunOf p l.store l.run;
       frame : IsFrame p.sig l.store l.at;
       chain : (root : ℕ) × IsChain p.sig l.store root l.frames.items l.at.term.0;

@@ -25,7 +25,7 @@ returns-then-is_out-clause-known g c = λ f b0 h.
     let m = g.E.Evaluator.meanings c.args.evaluator.now in
     let w = g.W.StepWatcher.wanted c.args.watcher.now in
     let I = item_of m w in
-    let y : Tally = record { gas = c.args.tally.now.gas; left = c.args.tally.now.left; made = false; rewrites = c.args.tally.now.rewrites } in
+    let y : Tally = record { gas = c.args.tally.now.gas; left = c.args.tally.now.left; made = false; rewrites = c.args.tally.now.rewrites; by_top = c.args.tally.now.by_top } in
     let s = stand_of c.args.store.now c.args.run.now in
     let out : is_out y.left ≡ true = sym c.is_out.ensures ∙ c.if-is_out.true in
     c.last_value.ensures.known f b0 s.term (sym c.requires.run.term.within.normal) (pass_idle p m.hooks I y.gas f b0 y.rewrites s y refl c.args.budget.now h out)
@@ -39,7 +39,7 @@ returns-in-Err-clause-known g c = λ f b0 h.
     let m = g.E.Evaluator.meanings c.args.evaluator.now in
     let w = g.W.StepWatcher.wanted c.args.watcher.now in
     let I = item_of m w in
-    let y : Tally = record { gas = c.args.tally.now.gas; left = c.args.tally.now.left; made = false; rewrites = c.args.tally.now.rewrites } in
+    let y : Tally = record { gas = c.args.tally.now.gas; left = c.args.tally.now.left; made = false; rewrites = c.args.tally.now.rewrites; by_top = c.args.tally.now.by_top } in
     let s = stand_of c.args.store.now c.args.run.now in
     c.in-Err.ensures.known f b0 (pass_begins p m.hooks I y.gas f b0 y.rewrites s y refl c.args.budget.now h)
 
@@ -58,7 +58,7 @@ returns-then-is_out-2-clause-known g c = λ f b0 h.
     let v = g.W.StepWatcher.wanted c.pass.new.watcher in
     let I = item_of m w in
     let P = program_over p m.hooks in
-    let y : Tally = record { gas = c.args.tally.now.gas; left = c.args.tally.now.left; made = false; rewrites = c.args.tally.now.rewrites } in
+    let y : Tally = record { gas = c.args.tally.now.gas; left = c.args.tally.now.left; made = false; rewrites = c.args.tally.now.rewrites; by_top = c.args.tally.now.by_top } in
     let s = stand_of c.args.store.now c.args.run.now in
     let k = c.in-Ok.ensures.known f b0 (pass_begins p m.hooks I y.gas f b0 y.rewrites s y refl c.args.budget.now h) in
     let z = c.pass.new.tally in
@@ -74,7 +74,7 @@ returns-then-tally-clause-known g c = λ f b0 h.
     let w = g.W.StepWatcher.wanted c.args.watcher.now in
     let I = item_of m w in
     let P = program_over p m.hooks in
-    let y : Tally = record { gas = c.args.tally.now.gas; left = c.args.tally.now.left; made = false; rewrites = c.args.tally.now.rewrites } in
+    let y : Tally = record { gas = c.args.tally.now.gas; left = c.args.tally.now.left; made = false; rewrites = c.args.tally.now.rewrites; by_top = c.args.tally.now.by_top } in
     let s = stand_of c.args.store.now c.args.run.now in
     let k = c.in-Ok.ensures.known f b0 (pass_begins p m.hooks I y.gas f b0 y.rewrites s y refl c.args.budget.now h) in
     let z = c.pass.new.tally in
@@ -91,7 +91,7 @@ returns-clause-known g c = λ f b0 h.
     let w = g.W.StepWatcher.wanted c.args.watcher.now in
     let I = item_of m w in
     let P = program_over p m.hooks in
-    let y : Tally = record { gas = c.args.tally.now.gas; left = c.args.tally.now.left; made = false; rewrites = c.args.tally.now.rewrites } in
+    let y : Tally = record { gas = c.args.tally.now.gas; left = c.args.tally.now.left; made = false; rewrites = c.args.tally.now.rewrites; by_top = c.args.tally.now.by_top } in
     let s = stand_of c.args.store.now c.args.run.now in
     let k = c.in-Ok.ensures.known f b0 (pass_begins p m.hooks I y.gas f b0 y.rewrites s y refl c.args.budget.now h) in
     let z = c.pass.new.tally in

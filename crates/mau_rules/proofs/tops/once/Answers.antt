@@ -31,11 +31,11 @@ returns-in-Ok-None-clause-known g c =
     let P = program_over p m.hooks in
     let I = item_of m w in
     let s0 = c.args.store.now in
-    let s1 = c.at_place.new.store in
+    let s1 = c.among.new.store in
     let t = tree_at s0 c.args.term.0 in
     let turns = turns_of c.args.run.now.turns.items in
     let b = c.args.budget.now in
-    let mid = c.at_place.new.budget in
+    let mid = c.among.new.budget in
     let stand : Found → Option Stand = (λ z. found_stand p P turns (record { term = t; around = λ v. v }) s1 z) in
     let turn : turn_at turns t ≡ c.turn_for-turn.result = ap (λ (xs : List ℕ). turn_at (turns_of xs) t) (sym c.deref.ensures.value) ∙ c.turn_for-turn.ensures in
     let k = subst (λ (o : Option Found). KnownSearch I (rules_in P turns (record { term = t; around = λ v. v })) b stand (Ok o) mid) c.in-Ok-None.field-0-is (c.in-Ok-None.ensures.known turns (λ v. v) turn) in
@@ -43,7 +43,7 @@ returns-in-Ok-None-clause-known g c =
 
 pub returns-in-Ok-None-clause-run : goal.returns-in-Ok-None-clause-run
 returns-in-Ok-None-clause-run g c =
-    record { turns = c.requires.run.turns; term = is_term_kept c.args.program.now.sig c.args.store.now c.at_place.new.store c.args.run.now.term.0 c.at_place.ensures.extends c.requires.run.term }
+    record { turns = c.requires.run.turns; term = is_term_kept c.args.program.now.sig c.args.store.now c.among.new.store c.args.run.now.term.0 c.among.ensures.extends c.requires.run.term }
 
 pub returns-in-Ok-None-clause-unchanged : goal.returns-in-Ok-None-clause-unchanged
 returns-in-Ok-None-clause-unchanged g c = λ e. refl
@@ -56,19 +56,19 @@ returns-in-Err-clause-known g c =
     let P = program_over p m.hooks in
     let I = item_of m w in
     let s0 = c.args.store.now in
-    let s1 = c.at_place.new.store in
+    let s1 = c.among.new.store in
     let t = tree_at s0 c.args.term.0 in
     let turns = turns_of c.args.run.now.turns.items in
     let stand : Found → Option Stand = (λ z. found_stand p P turns (record { term = t; around = λ v. v }) s1 z) in
     let turn : turn_at turns t ≡ c.turn_for-turn.result = ap (λ (xs : List ℕ). turn_at (turns_of xs) t) (sym c.deref.ensures.value) ∙ c.turn_for-turn.ensures in
-    once_search_ends P I (stand_at t turns) c.args.budget.now stand turns s1 c.at_place.new.budget c.in-Err.end (c.in-Err.ensures.known turns (λ v. v) turn)
+    once_search_ends P I (stand_at t turns) c.args.budget.now stand turns s1 c.among.new.budget c.in-Err.end (c.in-Err.ensures.known turns (λ v. v) turn)
 
 pub returns-in-Err-clause-run : goal.returns-in-Err-clause-run
 returns-in-Err-clause-run g c =
-    record { turns = c.requires.run.turns; term = is_term_kept c.args.program.now.sig c.args.store.now c.at_place.new.store c.args.run.now.term.0 c.at_place.ensures.extends c.requires.run.term }
+    record { turns = c.requires.run.turns; term = is_term_kept c.args.program.now.sig c.args.store.now c.among.new.store c.args.run.now.term.0 c.among.ensures.extends c.requires.run.term }
 
 pub value_behind-requires-clause-goes_by : goal.value_behind-requires-clause-goes_by
-value_behind-requires-clause-goes_by g c = subst (λ (n : Meanings). GoesBy c.args.program.now n) (sym c.at_place.ensures.meanings) c.requires.goes_by
+value_behind-requires-clause-goes_by g c = subst (λ (n : Meanings). GoesBy c.args.program.now n) (sym c.among.ensures.meanings) c.requires.goes_by
 
 pub value_behind-requires-clause-walk : goal.value_behind-requires-clause-walk
 value_behind-requires-clause-walk g c =
@@ -76,7 +76,7 @@ value_behind-requires-clause-walk g c =
     let at = subst (λ (o : Option Found). IfSome o (λ z. z.term ≡ c.args.term)) c.in-Ok-Some.field-0-is c.in-Ok-Some.ensures.term in (
       x.term.0,
       record {
-        begins = subst (λ (i : TermId). IsTerm c.args.program.now.sig c.at_place.new.store i.0) (sym at) (is_term_kept c.args.program.now.sig c.args.store.now c.at_place.new.store c.args.term.0 c.at_place.ensures.extends c.requires.term);
+        begins = subst (λ (i : TermId). IsTerm c.args.program.now.sig c.among.new.store i.0) (sym at) (is_term_kept c.args.program.now.sig c.args.store.now c.among.new.store c.args.term.0 c.among.ensures.extends c.requires.term);
         path = refl;
       },
     )
@@ -84,12 +84,12 @@ value_behind-requires-clause-walk g c =
 pub value_behind-requires-clause-found : goal.value_behind-requires-clause-found
 value_behind-requires-clause-found g c =
     let p = c.args.program.now in
-    let s1 = c.at_place.new.store in
+    let s1 = c.among.new.store in
     let x = c.in-Ok-Some.found in
-    let table = g.E.Evaluator.table c.at_place.new.evaluator in
+    let table = g.E.Evaluator.table c.among.new.evaluator in
     let at = subst (λ (o : Option Found). IfSome o (λ z. z.term ≡ c.args.term)) c.in-Ok-Some.field-0-is c.in-Ok-Some.ensures.term in
     let is = subst (λ (o : Option Found). IfSome o (IsFound p s1 table (tree_at c.args.store.now c.args.term.0))) c.in-Ok-Some.field-0-is c.in-Ok-Some.ensures.found in
-    let same : tree_at s1 x.term.0 ≡ tree_at c.args.store.now c.args.term.0 = ap (λ (i : TermId). tree_at s1 i.0) at ∙ tree_kept (theory_at p.sig) c.args.store.now s1 c.args.term.0 c.at_place.ensures.extends c.requires.term.within in
+    let same : tree_at s1 x.term.0 ≡ tree_at c.args.store.now c.args.term.0 = ap (λ (i : TermId). tree_at s1 i.0) at ∙ tree_kept (theory_at p.sig) c.args.store.now s1 c.args.term.0 c.among.ensures.extends c.requires.term.within in
     (table, subst (λ (t : Tree). IsFound p s1 table t x) (sym same) is)
 
 pub returns-in-Err-value_behind-clause-known : goal.returns-in-Err-value_behind-clause-known
@@ -100,22 +100,22 @@ returns-in-Err-value_behind-clause-known g c =
     let P = program_over p m.hooks in
     let I = item_of m w in
     let s0 = c.args.store.now in
-    let s1 = c.at_place.new.store in
+    let s1 = c.among.new.store in
     let t = tree_at s0 c.args.term.0 in
     let turns = turns_of c.args.run.now.turns.items in
     let b = c.args.budget.now in
-    let mid = c.at_place.new.budget in
+    let mid = c.among.new.budget in
     let stand : Found → Option Stand = (λ z. found_stand p P turns (record { term = t; around = λ v. v }) s1 z) in
     let turn : turn_at turns t ≡ c.turn_for-turn.result = ap (λ (xs : List ℕ). turn_at (turns_of xs) t) (sym c.deref.ensures.value) ∙ c.turn_for-turn.ensures in
     let k = subst (λ (o : Option Found). KnownSearch I (rules_in P turns (record { term = t; around = λ v. v })) b stand (Ok o) mid) c.in-Ok-Some.field-0-is (c.in-Ok-Some.ensures.known turns (λ v. v) turn) in
     let x = c.in-Ok-Some.found in
     let at = subst (λ (o : Option Found). IfSome o (λ z. z.term ≡ c.args.term)) c.in-Ok-Some.field-0-is c.in-Ok-Some.ensures.term in
-    let is = subst (λ (o : Option Found). IfSome o (IsFound p s1 (g.E.Evaluator.table c.at_place.new.evaluator) t)) c.in-Ok-Some.field-0-is c.in-Ok-Some.ensures.found in
-    let same : tree_at s1 x.term.0 ≡ t = ap (λ (i : TermId). tree_at s1 i.0) at ∙ tree_kept (theory_at p.sig) s0 s1 c.args.term.0 c.at_place.ensures.extends c.requires.term.within in
+    let is = subst (λ (o : Option Found). IfSome o (IsFound p s1 (g.E.Evaluator.table c.among.new.evaluator) t)) c.in-Ok-Some.field-0-is c.in-Ok-Some.ensures.found in
+    let same : tree_at s1 x.term.0 ≡ t = ap (λ (i : TermId). tree_at s1 i.0) at ∙ tree_kept (theory_at p.sig) s0 s1 c.args.term.0 c.among.ensures.extends c.requires.term.within in
     let u = stand_at (found_tree p s1 x) (turn_to turns t (suc x.number)) in
     let leads : stand x ≡ Some u = subst (λ (r : Tree). found_stand p P turns (record { term = r; around = λ v. v }) s1 x ≡ Some (stand_at (found_tree p s1 x) (turn_to turns r (suc x.number)))) same
     (found_is p m.hooks turns (λ v. v) s1 x is.rule is.at) in
-    let h = use_so p m (g.E.Evaluator.meanings c.at_place.new.evaluator) (g.W.StepWatcher.wanted c.at_place.new.watcher) w c.at_place.ensures.meanings c.at_place.ensures.wanted u.term mid c.value_behind.new.store
+    let h = use_so p m (g.E.Evaluator.meanings c.among.new.evaluator) (g.W.StepWatcher.wanted c.among.new.watcher) w c.among.ensures.meanings c.among.ensures.wanted u.term mid c.value_behind.new.store
     (Err c.in-Err-value_behind.end) c.value_behind.new.budget c.in-Err-value_behind.ensures.known in
     once_value_ends P I (stand_at t turns) b stand x u leads mid k turns c.value_behind.new.store c.value_behind.new.budget c.in-Err-value_behind.end h
 
@@ -123,21 +123,21 @@ pub returns-in-Err-value_behind-clause-run : goal.returns-in-Err-value_behind-cl
 returns-in-Err-value_behind-clause-run g c = record {
   turns = c.requires.run.turns;
   term = is_term_kept c.args.program.now.sig c.args.store.now c.value_behind.new.store c.args.run.now.term.0
-      (extension_is_preorder.transitive c.args.store.now c.at_place.new.store c.value_behind.new.store c.at_place.ensures.extends c.value_behind.ensures.extends) c.requires.run.term;
+      (extension_is_preorder.transitive c.args.store.now c.among.new.store c.value_behind.new.store c.among.ensures.extends c.value_behind.ensures.extends) c.requires.run.term;
 }
 
 pub returns-in-Err-value_behind-clause-kept : goal.returns-in-Err-value_behind-clause-kept
-returns-in-Err-value_behind-clause-kept g c = kept_on (g.E.Evaluator.table c.args.evaluator.now) (g.E.Evaluator.table c.at_place.new.evaluator) (g.E.Evaluator.table c.value_behind.new.evaluator) c.at_place.ensures.kept c.value_behind.ensures.kept
+returns-in-Err-value_behind-clause-kept g c = kept_on (g.E.Evaluator.table c.args.evaluator.now) (g.E.Evaluator.table c.among.new.evaluator) (g.E.Evaluator.table c.value_behind.new.evaluator) c.among.ensures.kept c.value_behind.ensures.kept
 
 pub next_turn-next-requires : goal.next_turn-next-requires
 next_turn-next-requires g c =
-    let is = subst (λ (o : Option Found). IfSome o (IsFound c.args.program.now c.at_place.new.store (g.E.Evaluator.table c.at_place.new.evaluator) (tree_at c.args.store.now c.args.term.0))) c.in-Ok-Some.field-0-is c.in-Ok-Some.ensures.found in
+    let is = subst (λ (o : Option Found). IfSome o (IsFound c.args.program.now c.among.new.store (g.E.Evaluator.table c.among.new.evaluator) (tree_at c.args.store.now c.args.term.0))) c.in-Ok-Some.field-0-is c.in-Ok-Some.ensures.found in
     slice_get_within c.args.program.now.rules c.in-Ok-Some.found.number is.rule is.at
 
 pub turn_on-requires-clause-term : goal.turn_on-requires-clause-term
 turn_on-requires-clause-term g c =
     is_term_kept c.args.program.now.sig c.args.store.now c.value_behind.new.store c.args.term.0
-    (extension_is_preorder.transitive c.args.store.now c.at_place.new.store c.value_behind.new.store c.at_place.ensures.extends c.value_behind.ensures.extends) c.requires.term
+    (extension_is_preorder.transitive c.args.store.now c.among.new.store c.value_behind.new.store c.among.ensures.extends c.value_behind.ensures.extends) c.requires.term
 
 pub returns-clause-known : goal.returns-clause-known
 returns-clause-known g c =
@@ -147,26 +147,26 @@ returns-clause-known g c =
     let P = program_over p m.hooks in
     let I = item_of m w in
     let s0 = c.args.store.now in
-    let s1 = c.at_place.new.store in
+    let s1 = c.among.new.store in
     let t = tree_at s0 c.args.term.0 in
     let turns = turns_of c.args.run.now.turns.items in
     let b = c.args.budget.now in
-    let mid = c.at_place.new.budget in
+    let mid = c.among.new.budget in
     let stand : Found → Option Stand = (λ z. found_stand p P turns (record { term = t; around = λ v. v }) s1 z) in
     let turn : turn_at turns t ≡ c.turn_for-turn.result = ap (λ (xs : List ℕ). turn_at (turns_of xs) t) (sym c.deref.ensures.value) ∙ c.turn_for-turn.ensures in
     let k = subst (λ (o : Option Found). KnownSearch I (rules_in P turns (record { term = t; around = λ v. v })) b stand (Ok o) mid) c.in-Ok-Some.field-0-is (c.in-Ok-Some.ensures.known turns (λ v. v) turn) in
     let x = c.in-Ok-Some.found in
     let at = subst (λ (o : Option Found). IfSome o (λ z. z.term ≡ c.args.term)) c.in-Ok-Some.field-0-is c.in-Ok-Some.ensures.term in
-    let is = subst (λ (o : Option Found). IfSome o (IsFound p s1 (g.E.Evaluator.table c.at_place.new.evaluator) t)) c.in-Ok-Some.field-0-is c.in-Ok-Some.ensures.found in
-    let same : tree_at s1 x.term.0 ≡ t = ap (λ (i : TermId). tree_at s1 i.0) at ∙ tree_kept (theory_at p.sig) s0 s1 c.args.term.0 c.at_place.ensures.extends c.requires.term.within in
+    let is = subst (λ (o : Option Found). IfSome o (IsFound p s1 (g.E.Evaluator.table c.among.new.evaluator) t)) c.in-Ok-Some.field-0-is c.in-Ok-Some.ensures.found in
+    let same : tree_at s1 x.term.0 ≡ t = ap (λ (i : TermId). tree_at s1 i.0) at ∙ tree_kept (theory_at p.sig) s0 s1 c.args.term.0 c.among.ensures.extends c.requires.term.within in
     let u = stand_at (found_tree p s1 x) (turn_to turns t (suc x.number)) in
     let leads : stand x ≡ Some u = subst (λ (r : Tree). found_stand p P turns (record { term = r; around = λ v. v }) s1 x ≡ Some (stand_at (found_tree p s1 x) (turn_to turns r (suc x.number)))) same
     (found_is p m.hooks turns (λ v. v) s1 x is.rule is.at) in
     let s2 = c.value_behind.new.store in
     let y = c.in-Ok.value in
-    let h = use_so p m (g.E.Evaluator.meanings c.at_place.new.evaluator) (g.W.StepWatcher.wanted c.at_place.new.watcher) w c.at_place.ensures.meanings c.at_place.ensures.wanted u.term mid s2
+    let h = use_so p m (g.E.Evaluator.meanings c.among.new.evaluator) (g.W.StepWatcher.wanted c.among.new.watcher) w c.among.ensures.meanings c.among.ensures.wanted u.term mid s2
     (Ok y) c.value_behind.new.budget c.in-Ok.ensures.known in
-    let more = extension_is_preorder.transitive s0 s1 s2 c.at_place.ensures.extends c.value_behind.ensures.extends in
+    let more = extension_is_preorder.transitive s0 s1 s2 c.among.ensures.extends c.value_behind.ensures.extends in
     let now : turns_of c.turn_on.new.turns.items ≡ u.turns = c.turn_on.ensures.turns
     ∙ ap₂ (λ (r : Tree) (j : ℕ). turn_to turns r j) (tree_kept (theory_at p.sig) s0 s2 c.args.term.0 more c.requires.term.within) c.next_turn-next.ensures in
     once_value P I (stand_at t turns) b stand x u leads mid k s2 y (record { term = y.term; rewrites = c.saturating_add.result }) c.value_behind.new.budget refl c.saturating_add.ensures (turns_of c.turn_on.new.turns.items) now h
@@ -175,8 +175,8 @@ pub returns-clause-run : goal.returns-clause-run
 returns-clause-run g c = record {
   turns = c.turn_on.ensures.as_many;
   term = is_term_kept c.args.program.now.sig c.args.store.now c.value_behind.new.store c.args.run.now.term.0
-      (extension_is_preorder.transitive c.args.store.now c.at_place.new.store c.value_behind.new.store c.at_place.ensures.extends c.value_behind.ensures.extends) c.requires.run.term;
+      (extension_is_preorder.transitive c.args.store.now c.among.new.store c.value_behind.new.store c.among.ensures.extends c.value_behind.ensures.extends) c.requires.run.term;
 }
 
 pub returns-clause-kept : goal.returns-clause-kept
-returns-clause-kept g c = kept_on (g.E.Evaluator.table c.args.evaluator.now) (g.E.Evaluator.table c.at_place.new.evaluator) (g.E.Evaluator.table c.value_behind.new.evaluator) c.at_place.ensures.kept c.value_behind.ensures.kept
+returns-clause-kept g c = kept_on (g.E.Evaluator.table c.args.evaluator.now) (g.E.Evaluator.table c.among.new.evaluator) (g.E.Evaluator.table c.value_behind.new.evaluator) c.among.ensures.kept c.value_behind.ensures.kept

@@ -101,7 +101,7 @@ returns-in-Err-tops-clause-known g c = λ f b0 K h.
     let given = value_given p c.requires.runnable m c.requires.goes_by laws w t u c.in-Ok.ensures.value b s2 mid x
     (evaluation_known p c.requires.runnable m c.requires.goes_by laws w u b s2 (Ok x) mid (uses_results m w) c.in-Ok-evaluate.ensures.allowed c.in-Ok-evaluate.ensures.exact c.in-Ok-evaluate.ensures.left) in
     let sum = c.saturating_add-tally.result in
-    let z : Tally = record { gas = y.gas; left = y.left; made = y.made; rewrites = sum } in
+    let z : Tally = record { gas = y.gas; left = y.left; made = y.made; rewrites = sum; by_top = y.by_top } in
     let on = counted_on I f b0 y.rewrites (value_by P t) (λ k E v. tops_by P y.gas (pass_with v turns y) K k E) b held (tree_at s2 x.term.0) given.0 mid x.rewrites sum given.2 given.1 c.saturating_add-tally.ensures in
     tops_so p m (g.E.Evaluator.meanings c.evaluate.new.self) (g.W.StepWatcher.wanted c.evaluate.new.watcher) w c.evaluate.ensures.meanings c.evaluate.ensures.wanted sum y.gas (tree_at s2 x.term.0) turns z mid
     c.tops.new.store (turns_of c.tops.new.run.turns.items) c.tops.new.tally (Err c.in-Err-tops.end) c.tops.new.budget c.in-Err-tops.ensures.known f b0 K on
@@ -135,7 +135,7 @@ returns-then-may_replace-clause-known g c = λ f b0 K h.
     let given = value_given p c.requires.runnable m c.requires.goes_by laws w t u c.in-Ok.ensures.value b s2 mid x
     (evaluation_known p c.requires.runnable m c.requires.goes_by laws w u b s2 (Ok x) mid (uses_results m w) c.in-Ok-evaluate.ensures.allowed c.in-Ok-evaluate.ensures.exact c.in-Ok-evaluate.ensures.left) in
     let sum = c.saturating_add-tally.result in
-    let z : Tally = record { gas = y.gas; left = y.left; made = y.made; rewrites = sum } in
+    let z : Tally = record { gas = y.gas; left = y.left; made = y.made; rewrites = sum; by_top = y.by_top } in
     let on = counted_on I f b0 y.rewrites (value_by P t) (λ k E v. tops_by P y.gas (pass_with v turns y) K k E) b held (tree_at s2 x.term.0) given.0 mid x.rewrites sum given.2 given.1 c.saturating_add-tally.ensures in
     tops_so p m (g.E.Evaluator.meanings c.evaluate.new.self) (g.W.StepWatcher.wanted c.evaluate.new.watcher) w c.evaluate.ensures.meanings c.evaluate.ensures.wanted sum y.gas (tree_at s2 x.term.0) turns z mid
     c.tops.new.store (turns_of c.tops.new.run.turns.items) c.tops.new.tally (Ok c.in-Ok-tops.term) c.tops.new.budget c.in-Ok-tops.ensures.known f b0 K on

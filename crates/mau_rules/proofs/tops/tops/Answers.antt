@@ -1,4 +1,4 @@
-use Rattle.std.proofs.Common.{◌≡◌, ◌≤◌, ◌<◌, ◌+◌, ◌-◌, ℕ, suc, true, false, Option, Some, None, Ok, Err, IfSome, refl, sym, ap, ◌∙◌, subst, arith, le_trans}
+use Rattle.std.proofs.Common.{map, ◌≡◌, ◌≤◌, ◌<◌, ◌+◌, ◌-◌, ℕ, suc, true, false, Option, Some, None, Ok, Err, IfSome, refl, sym, ap, ◌∙◌, subst, arith, le_trans}
 use Rattle.mau_terms.specs.Tree.{Tree}
 use Rattle.mau_signature.specs.Signature.{theory_at}
 use Rattle.mau_store.specs.Trees.{tree_at}
@@ -13,6 +13,8 @@ use Rattle.mau_api.specs.declared.results.Reduced.{Reduced}
 use Rattle.mau_reduce.proofs.KindsKept.{is_term_kept, tree_kept}
 use Rattle.mau_reduce.proofs.PlainTables.{settled_grown}
 use Rattle.mau_rules.specs.declared.run.RuleRun.{RuleRun}
+use Rattle.mau_rules.specs.declared.by_top.RulesByTop.{RulesByTop}
+use Rattle.mau_rules.specs.ByTop.{AreRulesByTop}
 use Rattle.mau_rules.specs.Runnable.{GoesBy}
 use Rattle.mau_rules.specs.Counted.{IsCounted}
 use Rattle.mau_rules.specs.Found.{item_of}
@@ -41,6 +43,7 @@ loop-init g c = record {
   wanted = refl;
   falls = omega arith;
   gas = refl;
+  by_top = refl;
   run = c.requires.run;
   term = c.requires.term;
   settled = c.requires.settled;
@@ -150,12 +153,13 @@ loop-preserved g c =
       wanted = c.once.ensures.wanted ∙ i.wanted;
       falls = le_trans c.once.ensures.falls i.falls;
       gas = i.gas;
+      by_top = i.by_top;
       run = c.once.ensures.run;
       term = subst (λ (o : Option Reduced). IfSome o (λ z. IsTerm p.sig new z.term.0)) c.in-Ok-Some.field-0-is c.in-Ok-Some.ensures.term;
       settled = subst (λ (o : Option Reduced). IfSome o (λ z. AreSettled p.sig new (g.E.Evaluator.table c.once.new.evaluator) (tree_at new z.term.0))) c.in-Ok-Some.field-0-is c.in-Ok-Some.ensures.settled;
       known = λ f b0 K h.
           counted_once p m.hooks I gas f b0 y.rewrites turns y K c.loop.budget (gas - c.loop.counter) (gas - (c.loop.counter + 1)) (one_less_left gas c.loop.counter c.loop-test.true) t out (i.known f b0 K h)
-          (turns_of c.once.new.run.turns.items) new x mid c.saturating_add-tally.result (record { gas = y.gas; left = c.one_less-tally.result; made = true; rewrites = c.saturating_add-tally.result }) c.saturating_add-tally.ensures c.one_less-tally.ensures refl k;
+          (turns_of c.once.new.run.turns.items) new x mid c.saturating_add-tally.result (record { gas = y.gas; left = c.one_less-tally.result; made = true; rewrites = c.saturating_add-tally.result; by_top = y.by_top }) c.saturating_add-tally.ensures c.one_less-tally.ensures refl k;
     }
 
 pub returns-clause-known : goal.returns-clause-known
@@ -167,3 +171,6 @@ returns-clause-known g c = λ f b0 K h.
     let y = c.loop.tally in
     let gas = c.args.tally.now.gas in
     counted_done p m.hooks I gas f b0 y.rewrites (turns_of c.loop.run.turns.items) y K c.loop.budget (gas - c.loop.counter) (tree_at c.loop.store c.loop.reached.0) (none_left gas c.loop.counter c.loop-test.false) (c.loop.invariant.known f b0 K h)
+
+pub once-requires-clause-by_top : goal.once-requires-clause-by_top
+once-requires-clause-by_top g c = subst (λ (x : RulesByTop). AreRulesByTop c.args.program.now (map (λ list. list.items) x.orders.items)) (sym c.loop.invariant.by_top) c.requires.by_top

@@ -26,6 +26,7 @@ invariant-loop g l =
       wanted : g.W.StepWatcher.wanted l.watcher ≡ w;
       falls : l.budget ≤ l.fn.budget;
       gas : l.tally.gas ≡ l.fn.tally.gas;
+      by_top : l.tally.by_top ≡ l.fn.tally.by_top;
       run : IsRunOf p l.store l.run;
       term : IsTerm p.sig l.store l.reached.0;
       settled : AreSettled p.sig l.store (g.E.Evaluator.table l.evaluator) (tree_at l.store l.reached.0);

@@ -1,9 +1,11 @@
-use Rattle.std.proofs.Common.{◌≡◌, Option, Some, None, Ok, Err, refl, sym, ◌∙◌, subst}
+use Rattle.std.proofs.Common.{◌≡◌, map, Option, Some, None, Ok, Err, refl, sym, ◌∙◌, subst}
 use Rattle.mau_store.proofs.Growth.{extension_is_preorder}
 use Rattle.mau_sorts.proofs.Settling.{kept_on, kept_same}
 use Rattle.mau_api.specs.Programs.{program_over}
 use Rattle.mau_api.specs.Meanings.{Meanings}
 use Rattle.mau_rules.specs.declared.run.RuleEnd.{RuleEnd}
+use Rattle.mau_rules.specs.declared.by_top.RulesByTop.{RulesByTop}
+use Rattle.mau_rules.specs.ByTop.{AreRulesByTop}
 use Rattle.mau_rules.specs.Runnable.{GoesBy}
 use Rattle.mau_rules.specs.Counted.{IsCounted}
 use Rattle.mau_rules.specs.Found.{item_of}
@@ -26,6 +28,7 @@ loop-init g c =
       kept = kept_same (g.E.Evaluator.table c.args.evaluator.now);
       wanted = refl;
       gas = refl;
+      by_top = (c.in-Ok.ensures c.args.store.now).rules;
       run = c.requires.run;
       known = run_begins p m (item_of m w) c.args.gas c.args.bound (turns_of c.args.self.now.turns.items) c.args.store.now c.args.self.now.term.0 c.args.budget c.requires.run.term.within;
     }
@@ -69,8 +72,8 @@ returns-in-Ok-Some-clause-allowed g c =
 pub returns-in-Ok-Some-clause-kept : goal.returns-in-Ok-Some-clause-kept
 returns-in-Ok-Some-clause-kept g c = kept_on (g.E.Evaluator.table c.args.evaluator.now) (g.E.Evaluator.table c.loop.evaluator) (g.E.Evaluator.table c.pass_on.new.evaluator) c.loop.invariant.kept c.pass_on.ensures.kept
 
-pub returns-in-Err-clause-exact : goal.returns-in-Err-clause-exact
-returns-in-Err-clause-exact g c = λ none.
+pub returns-in-Err-pass_on-clause-exact : goal.returns-in-Err-pass_on-clause-exact
+returns-in-Err-pass_on-clause-exact g c = λ none.
     let p = c.args.program.now in
     let m = g.E.Evaluator.meanings c.args.evaluator.now in
     let w = g.W.StepWatcher.wanted c.args.watcher.now in
@@ -82,11 +85,11 @@ returns-in-Err-clause-exact g c = λ none.
     let new = c.pass_on.new.store in
     let y = c.loop.tally in
     let s = stand_of c.loop.store c.loop.self in
-    let r = rest_from p m n v w i.meanings i.wanted f b0 y c.args.gas i.gas s c.loop.left i.known new c.pass_on.new.run c.pass_on.new.tally (Err c.in-Err.end) c.pass_on.new.budget c.in-Err.ensures.known in
-    end_exact m w f b0 new c.pass_on.new.run c.in-Err.end r none
+    let r = rest_from p m n v w i.meanings i.wanted f b0 y c.args.gas i.gas s c.loop.left i.known new c.pass_on.new.run c.pass_on.new.tally (Err c.in-Err-pass_on.end) c.pass_on.new.budget c.in-Err-pass_on.ensures.known in
+    end_exact m w f b0 new c.pass_on.new.run c.in-Err-pass_on.end r none
 
-pub returns-in-Err-clause-allowed : goal.returns-in-Err-clause-allowed
-returns-in-Err-clause-allowed g c =
+pub returns-in-Err-pass_on-clause-allowed : goal.returns-in-Err-pass_on-clause-allowed
+returns-in-Err-pass_on-clause-allowed g c =
     let p = c.args.program.now in
     let m = g.E.Evaluator.meanings c.args.evaluator.now in
     let w = g.W.StepWatcher.wanted c.args.watcher.now in
@@ -98,11 +101,11 @@ returns-in-Err-clause-allowed g c =
     let new = c.pass_on.new.store in
     let y = c.loop.tally in
     let s = stand_of c.loop.store c.loop.self in
-    let r = rest_from p m n v w i.meanings i.wanted f b0 y c.args.gas i.gas s c.loop.left i.known new c.pass_on.new.run c.pass_on.new.tally (Err c.in-Err.end) c.pass_on.new.budget c.in-Err.ensures.known in
-    end_allowed m w f b0 new c.pass_on.new.run c.in-Err.end r
+    let r = rest_from p m n v w i.meanings i.wanted f b0 y c.args.gas i.gas s c.loop.left i.known new c.pass_on.new.run c.pass_on.new.tally (Err c.in-Err-pass_on.end) c.pass_on.new.budget c.in-Err-pass_on.ensures.known in
+    end_allowed m w f b0 new c.pass_on.new.run c.in-Err-pass_on.end r
 
-pub returns-in-Err-clause-kept : goal.returns-in-Err-clause-kept
-returns-in-Err-clause-kept g c = kept_on (g.E.Evaluator.table c.args.evaluator.now) (g.E.Evaluator.table c.loop.evaluator) (g.E.Evaluator.table c.pass_on.new.evaluator) c.loop.invariant.kept c.pass_on.ensures.kept
+pub returns-in-Err-pass_on-clause-kept : goal.returns-in-Err-pass_on-clause-kept
+returns-in-Err-pass_on-clause-kept g c = kept_on (g.E.Evaluator.table c.args.evaluator.now) (g.E.Evaluator.table c.loop.evaluator) (g.E.Evaluator.table c.pass_on.new.evaluator) c.loop.invariant.kept c.pass_on.ensures.kept
 
 pub pass_on-requires-clause-goes_by : goal.pass_on-requires-clause-goes_by
 pass_on-requires-clause-goes_by g c = subst (λ (n : Meanings). GoesBy c.args.program.now n) (sym c.loop.invariant.meanings) c.requires.goes_by
@@ -131,6 +134,7 @@ loop-preserved g c =
       kept = kept_on (g.E.Evaluator.table c.args.evaluator.now) (g.E.Evaluator.table c.loop.evaluator) (g.E.Evaluator.table c.pass_on.new.evaluator) i.kept c.pass_on.ensures.kept;
       wanted = c.pass_on.ensures.wanted ∙ i.wanted;
       gas = gas;
+      by_top = subst (λ (x : RulesByTop). AreRulesByTop p (map (λ list. list.items) x.orders.items)) (sym c.pass_on.ensures.by_top) i.by_top;
       run = c.pass_on.ensures.run;
       known = subst (λ j. IsCounted (item_of m w) f b0 c.pass_on.new.tally.rewrites (passing_by (program_over p m.hooks) j c.pass_on.new.tally.left (stand_of new c.pass_on.new.run)) c.pass_on.new.budget) gas r;
     }

@@ -1,9 +1,10 @@
-use Rattle.std.proofs.Common.{◌≡◌}
+use Rattle.std.proofs.Common.{◌≡◌, map}
 use Rattle.mau_store.specs.Node.{Extends}
 use Rattle.mau_sorts.specs.Table.{KeepsEntries}
 use Rattle.mau_api.specs.Programs.{program_over}
 use Rattle.mau_rules.specs.Runs.{stand_of, IsRunOf, frewriting_by}
 use Rattle.mau_rules.specs.Found.{item_of}
+use Rattle.mau_rules.specs.ByTop.{AreRulesByTop}
 use Rattle.mau_rules.specs.Counted.{IsCounted}
 use Rattle.mau_rules.specs.Passes.{passing_by}
 use Rattle.mau_rules.proofs.run.RuleRun.frewrite.Given as goal
@@ -18,6 +19,7 @@ invariant-loop g l =
       kept : KeepsEntries (g.E.Evaluator.table l.fn.evaluator) (g.E.Evaluator.table l.evaluator);
       wanted : g.W.StepWatcher.wanted l.watcher ≡ g.W.StepWatcher.wanted l.fn.watcher;
       gas : l.tally.gas ≡ l.fn.gas;
+      by_top : AreRulesByTop p (map (λ list. list.items) l.tally.by_top.orders.items);
       run : IsRunOf p l.store l.self;
       known : IsCounted (item_of m (g.W.StepWatcher.wanted l.fn.watcher)) (frewriting_by p m l.fn.gas l.fn.bound (stand_of l.fn.store l.fn.self)) l.fn.budget l.tally.rewrites
           (passing_by (program_over p m.hooks) l.fn.gas l.tally.left (stand_of l.store l.self)) l.left;
