@@ -18,5 +18,3 @@ pub use operators::{
 };
 pub use table::{HookFault, HookTable};
 
-#[cfg(test)]
-mod tests;

@@ -9,6 +9,8 @@ mod asking;
 #[cfg(test)]
 mod contexts;
 #[cfg(test)]
+mod copies;
+#[cfg(test)]
 mod faults;
 #[cfg(test)]
 mod laziness;

@@ -18,5 +18,3 @@ pub use text::Text;
 pub use theory::{Identity, Theory};
 pub use vars::Vars;
 
-#[cfg(test)]
-mod tests;

@@ -9,6 +9,8 @@ mod charts;
 #[cfg(test)]
 mod formulas;
 #[cfg(test)]
+mod hooks;
+#[cfg(test)]
 mod modules;
 #[cfg(test)]
 mod notation;

@@ -1,5 +1,5 @@
-//! Copies.
-use super::*;
+//! Copies of terms, names, numbers and substitutions.
+use mau_terms::{Args, Bare, Duplicate, NoMemory, OpId, Seq, Subst, TermId, Text, VarId};
 use std::alloc::Global;
 use std::process::Abort;
 use std::test::Fail;

@@ -3,7 +3,7 @@ ghost use Rattle.std.specs.Prelude.{◌≡◌, IfOk};
 ghost use Rattle.mau_formula.specs.Expr.{value};
 ghost use Rattle.mau_formula.specs.Native.{formula_of};
 
-use super::*;
+use mau_formula::{Hook, HookAnswer, HookFault, HookTable, Native};
 use mau_terms::{NoMemory, Text};
 use std::alloc::Global;
 use std::process::Abort;
