@@ -21,4 +21,3 @@ pub use readback::read;
 
 /// The greatest depth of a normal form; a leaf has the depth 1.
 pub const MAX_DEPTH: usize = 1_000;
-

@@ -17,4 +17,3 @@ pub use operators::{
     minimum, power, product, quotient, remainder, sum,
 };
 pub use table::{HookFault, HookTable};
-

@@ -17,4 +17,3 @@ pub use seq::{Duplicate, Seq};
 pub use text::Text;
 pub use theory::{Identity, Theory};
 pub use vars::Vars;
-
