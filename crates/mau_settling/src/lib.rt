@@ -1,0 +1,11 @@
+//! Settling the sorts of terms: identities, then what is below a term from left to right, then the term, with the memberships of each.
+#![tactic(auto)]
+
+mod beginning;
+pub mod laws;
+mod plain;
+mod settling;
+mod walk;
+
+pub use settling::Settling;
+pub use walk::{Place, first_unsettled};
