@@ -6,7 +6,7 @@ use Rattle.mau_settling.specs.declared.walk.Place.{Place}
 
 -- j is the number i itself, or below it; and of i all is settled that comes before j and isn't below it
 pub data IsDueIn (nodes : List Node) (table : Table) : ℕ → ℕ → Type 0 where
-  itself : (i : ℕ) → IsDueIn nodes table i i
+  itself : (i j : ℕ) → i ≡ j → IsDueIn nodes table i j
   in_argument : (i f : ℕ) (before : List ℕ) (a : ℕ) (after : List ℕ) (j : ℕ) → slice_get nodes i ≡ Some (operator_node f (before ++ a ∷ after)) →
       All (IsSettled table) before → IsDueIn nodes table a j → IsDueIn nodes table i j
 

@@ -1,5 +1,5 @@
 //! Terms to which memberships give no sorts, and how the derivation of a term begins.
-ghost use Rattle.std.specs.Prelude.{◌≡◌, ◌↔◌, ℕ, List, true, IfOk, IfSome, IfNone, OnOk, IsTrue};
+ghost use Rattle.std.specs.Prelude.{◌≡◌, ◌↔◌, ℕ, List, true, false, IfOk, IfSome, IfNone, OnOk, IsTrue};
 ghost use Rattle.mau_terms.specs.Bare.{IsLawful};
 ghost use Rattle.mau_signature.specs.Signature.{terms_over};
 ghost use Rattle.mau_formula.specs.Operator.{Operator};
@@ -70,8 +70,8 @@ pub(crate) fn begin_one<L: WholeLister + Drop>(
 {
     has_nodes(store);
     if is_applied(store, term) {
-        let deriving = begin_deriving::<L>(store, program, table, term)?;
-        return Ok(Some(deriving));
+        let derivation = begin_deriving::<L>(store, program, table, term)?;
+        return Ok(Some(derivation));
     }
     settle_leaf(store, program, table, term)?;
     Ok(None)

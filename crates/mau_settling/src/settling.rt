@@ -107,8 +107,8 @@ impl Settling {
             → IfSome result (λ q. EndsSettling p hooks limit nodes self.now.term.0 q.0 q.1.now) }
     {
         match &self.current {
-            Some(deriving) => match deriving.question() {
-                Some(binding) => Some((deriving.at, binding)),
+            Some(derivation) => match derivation.question() {
+                Some(binding) => Some((derivation.at, binding)),
                 None => None,
             },
             None => None,
@@ -124,8 +124,8 @@ impl Settling {
         ensures settling { (p : Typed.Program) (nodes : List Node) (table : Table) → IsSettling p nodes table self.old → IsSettling p nodes table self.new }
         ensures term { self.new.term ≡ self.old.term }
     {
-        if let Some(deriving) = &mut self.current {
-            deriving.told(holds);
+        if let Some(derivation) = &mut self.current {
+            derivation.told(holds);
         }
     }
 
@@ -181,7 +181,7 @@ impl Settling {
         ensures later { IsLater program.now store.old store.new table.old table.new }
     {
         match self.current.take() {
-            Some(deriving) => self.go_on::<L>(store, program, table, deriving),
+            Some(derivation) => self.go_on::<L>(store, program, table, derivation),
             None => self.begin_next::<L>(store, program, table),
         }
     }
@@ -192,32 +192,32 @@ impl Settling {
         store: &mut Store,
         program: &Program,
         table: &mut SortTable,
-        mut deriving: Deriving,
+        mut derivation: Deriving,
     ) -> Result<Stage, NoMemory>
         requires lawful { IsLawfulProgram program.now }
         requires signature { IsLawful (terms_over program.now.sig) }
         requires settling { IsSettling program.now store.old table.old self.old }
-        requires deriving_one { IsDerivingIn program.now store.old table.old (left_of self.old) deriving }
+        requires derivation { IsDerivingIn program.now store.old table.old (left_of self.old) derivation }
         ensures settling { OnOk result (IsSettling program.now store.new table.new self.new) }
         ensures derives { (hooks : List Operator) (limit : ℕ) → IsDerivedTable (meanings_by program.now hooks limit false) store.old table.old
-            → Derives program.now hooks limit store.old deriving → OnOk result (DerivesCurrent program.now hooks limit store.new self.new) }
-        ensures derived { (hooks : List Operator) (limit : ℕ) → Derives program.now hooks limit store.old deriving
+            → Derives program.now hooks limit store.old derivation → OnOk result (DerivesCurrent program.now hooks limit store.new self.new) }
+        ensures derived { (hooks : List Operator) (limit : ℕ) → Derives program.now hooks limit store.old derivation
             → IsDerivedTable (meanings_by program.now hooks limit false) store.old table.old
             → IsDerivedTable (meanings_by program.now hooks limit false) store.new table.new }
         ensures stage { IfOk result (StageOf program.now store.new table.new self.new) }
         ensures term { self.new.term ≡ self.old.term }
         ensures later { IsLater program.now store.old store.new table.old table.new }
     {
-        if deriving.asked < deriving.questions.len() {
-            self.current = Some(deriving);
+        if derivation.asked < derivation.questions.len() {
+            self.current = Some(derivation);
             return Ok(Stage::Asks);
         }
-        if deriving.at < program.memberships.len() {
-            deriving.advance::<L>(store, program, table)?;
-            self.current = Some(deriving);
+        if derivation.at < program.memberships.items().len() {
+            derivation.advance::<L>(store, program, table)?;
+            self.current = Some(derivation);
             return Ok(Stage::GoesOn);
         }
-        deriving.enter(store, program, table)?;
+        derivation.enter(store, program, table)?;
         self.current = None;
         Ok(Stage::GoesOn)
     }

@@ -1,0 +1,4 @@
+use Rattle.mau_settling.proofs.laws.entries_have_derivations.Goals as goal
+
+pub returns : goal.returns
+returns c = ?

@@ -1,0 +1,4 @@
+use Rattle.mau_settling.proofs.laws.settled_is_known.Goals as goal
+
+pub returns : goal.returns
+returns c = ?

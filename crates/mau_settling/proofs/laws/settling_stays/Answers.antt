@@ -1,0 +1,4 @@
+use Rattle.mau_settling.proofs.laws.settling_stays.Goals as goal
+
+pub returns : goal.returns
+returns c = ?
