@@ -2,3 +2,15 @@
 pub mod Due
 -- what is due in a term is a term
 pub mod Terms
+-- the identities
+pub mod Units
+-- what is left of the identities and the term
+pub mod Roots
+-- where a derivation may begin
+pub mod Begun
+-- the state of settling
+pub mod States
+-- where settling ends
+pub mod Ended
+-- variables and numerals
+pub mod Leaves

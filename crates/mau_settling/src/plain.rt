@@ -70,7 +70,9 @@ pub(crate) fn begin_one<L: WholeLister + Drop>(
 {
     has_nodes(store);
     if is_applied(store, term) {
-        let derivation = begin_deriving::<L>(store, program, table, term)?;
+        let begun = begin_deriving::<L>(store, program, table, term);
+        has_nodes(store);
+        let derivation = begun?;
         return Ok(Some(derivation));
     }
     settle_leaf(store, program, table, term)?;

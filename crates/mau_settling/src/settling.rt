@@ -213,7 +213,9 @@ impl Settling {
             return Ok(Stage::Asks);
         }
         if derivation.at < program.memberships.items().len() {
-            derivation.advance::<L>(store, program, table)?;
+            let gone = derivation.advance::<L>(store, program, table);
+            has_nodes(store);
+            gone?;
             self.current = Some(derivation);
             return Ok(Stage::GoesOn);
         }
@@ -232,6 +234,7 @@ impl Settling {
         requires lawful { IsLawfulProgram program.now }
         requires signature { IsLawful (terms_over program.now.sig) }
         requires settling { IsSettling program.now store.old table.old self.old }
+        requires none { self.old.current ≡ None }
         ensures settling { OnOk result (IsSettling program.now store.new table.new self.new) }
         ensures derives { (hooks : List Operator) (limit : ℕ) → IsDerivedTable (meanings_by program.now hooks limit false) store.old table.old
             → OnOk result (DerivesCurrent program.now hooks limit store.new self.new) }
