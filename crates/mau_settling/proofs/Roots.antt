@@ -11,6 +11,7 @@ use Rattle.mau_store.specs.Node.{Node, IsOf, Extends}
 use Rattle.mau_store.specs.Trees.{tree_at, trees_at}
 use Rattle.mau_store.specs.View.{numbers}
 use Rattle.mau_store.proofs.Standing.{tree_at-extends}
+use Rattle.mau_store.proofs.Growth.{extension_is_preorder}
 use Rattle.mau_canon.proofs.Standing.{stands_within_extended}
 use Rattle.mau_sorts.specs.Table.{Table, IsSettled, KeepsEntries}
 use Rattle.mau_listing.specs.Asked.{IsTreeSettled}
@@ -102,3 +103,30 @@ last_or_more (b ∷ before) x rest (u ∷ us) t e =
     by : u ≡ b → ((rest ≡ []) × (us ≡ before) × (t ≡ x)) ⊎ ((more : List Tree) × (us ≡ before ++ x ∷ more)) → ((rest ≡ []) × (u ∷ us ≡ b ∷ before) × (t ≡ x)) ⊎ ((more : List Tree) × (u ∷ us ≡ (b ∷ before) ++ x ∷ more))
     by a (inl h) = let m : us ≡ before = h.1 in inl (h.0, cc, h.2)
     by a (inr h) = let m : us ≡ before ++ x ∷ h.0 = h.1 in inr (h.0, cc)
+
+-- ---- where settling begins
+
+drop_none : (xs : List ℕ) → drop 0 xs ≡ xs
+drop_none [] = refl
+drop_none (x ∷ xs) = refl
+
+-- with the identities
+pub begun_left : (s : SignatureOf) (nodes : List Node) (table : Table) (ids more : List TermId) (id : TermId) → more ≡ ids ++ id ∷ [] → All (IsTerm s nodes) (numbers ids) → trees_at nodes (numbers ids) ≡ identities_of s →
+    AreLeft s nodes table id.0 (drop 0 (numbers more))
+begun_left s nodes table ids more id e all trees = record {
+  before = [];
+  are = ap (λ us. us ++ tree_at nodes id.0 ∷ []) (sym trees) ∙ (sym (roots_more s nodes nodes (extension_is_preorder.reflexive nodes) ids more id e all) ∙ ap (trees_at nodes) (sym (drop_none (numbers more))));
+  settled = All-nil (IsTreeSettled nodes table);
+}
+
+-- behind them
+pub only_left : (s : SignatureOf) (nodes : List Node) (table : Table) (ids more : List TermId) (id : TermId) → ids ≡ [] → more ≡ ids ++ id ∷ [] → All (IsTreeSettled nodes table) (identities_of s) → AreLeft s nodes table id.0 (drop 0 (numbers more))
+only_left s nodes table ids more id none e all = record {
+  before = identities_of s;
+  are = ap (λ us. identities_of s ++ us) (ap (λ zs. trees_at nodes (numbers zs)) (sym (e ∙ ap (λ zs. zs ++ id ∷ []) none)) ∙ ap (trees_at nodes) (sym (drop_none (numbers more))));
+  settled = all;
+}
+
+-- the term alone
+pub one_term : (s : SignatureOf) (nodes : List Node) (ids more : List TermId) (id : TermId) → ids ≡ [] → more ≡ ids ++ id ∷ [] → IsTerm s nodes id.0 → All (IsTerm s nodes) (numbers more)
+one_term s nodes ids more id none e term = subst (λ zs. All (IsTerm s nodes) (numbers zs)) (sym (e ∙ ap (λ zs. zs ++ id ∷ []) none)) (All-cons (IsTerm s nodes) id.0 [] term (All-nil (IsTerm s nodes)))

@@ -10,12 +10,12 @@ begin_deriving-begun-requires-clause-asked g c =
 
 pub returns-in_err-derivation-clause-derived : goal.returns-in_err-derivation-clause-derived
 returns-in_err-derivation-clause-derived g c = λ hooks limit d.
-    derived_grown c.args.program.now hooks limit (heads c.args.program.now c.requires.lawful c.requires.signature hooks) c.requires.lawful.accepted c.args.store.now c.begin_deriving-begun.new.store c.has_nodes-2.ensures
+    derived_grown c.args.program.now hooks limit (heads c.args.program.now c.requires.lawful c.requires.signature hooks) c.requires.lawful.accepted c.args.store.now c.begin_deriving-begun.new.store c.has_nodes-then-is_applied.ensures
     c.args.table.now c.begin_deriving-begun.new.table c.args.term.0 c.begin_deriving-begun.ensures.grown d
 
 pub returns-then-is_applied-clause-derived : goal.returns-then-is_applied-clause-derived
 returns-then-is_applied-clause-derived g c = λ hooks limit d.
-    derived_grown c.args.program.now hooks limit (heads c.args.program.now c.requires.lawful c.requires.signature hooks) c.requires.lawful.accepted c.args.store.now c.begin_deriving-begun.new.store c.has_nodes-2.ensures
+    derived_grown c.args.program.now hooks limit (heads c.args.program.now c.requires.lawful c.requires.signature hooks) c.requires.lawful.accepted c.args.store.now c.begin_deriving-begun.new.store c.has_nodes-then-is_applied.ensures
     c.args.table.now c.begin_deriving-begun.new.table c.args.term.0 c.begin_deriving-begun.ensures.grown d
 
 pub returns-in_err-derivation-clause-later : goal.returns-in_err-derivation-clause-later
