@@ -1,5 +1,5 @@
 -- The state of settling: in states that grow, at its steps and at its end.
-use Rattle.std.proofs.Common.{◌≡◌, ℕ, List, [], ◌∷◌, ◌++◌, All, Option, Some, None, IfSome, false, slice_get, sym, ap, ◌∙◌, subst, append-nil}
+use Rattle.std.proofs.Common.{◌≡◌, ◌<◌, ◌+◌, ℕ, List, [], ◌∷◌, ◌++◌, All, Option, Some, None, IfSome, IfNone, false, slice_get, length, drop, get_or, sym, ap, ◌∙◌, subst, append-nil}
 use Rattle.std.proofs.lemmas.List.Elements.{All-nil, All-head, All-tail, All-cons, All-drop}
 use Rattle.mau_terms.specs.Tree.{Tree}
 use Rattle.mau_terms.specs.declared.ids.VarId.{VarId}
@@ -27,14 +27,14 @@ use Rattle.mau_deriving.specs.Asking.{Stands, Derives}
 use Rattle.mau_deriving.specs.declared.derivation.Deriving.{Deriving}
 use Rattle.mau_deriving.proofs.Kept.{stands_grown}
 use Rattle.mau_deriving.proofs.Outlived.{derivations_outlive}
-use Rattle.mau_settling.specs.Due.{IsDueIn, IsDueInFirst, IsPlaceIn, IsPlaceInFirst}
+use Rattle.mau_settling.specs.Due.{IsDueIn, IsFirstUnsettled, IsDueInFirst, IsPlaceIn, IsPlaceInFirst}
 use Rattle.mau_settling.specs.Settlings.{AreLeft, left_of, IsDerivingIn, IsSettling, DerivesCurrent, Asks, IsAsking}
 use Rattle.mau_settling.specs.Beginning.{IsLater}
 use Rattle.mau_settling.specs.Laws.{SettlingStays, DerivingStays}
 use Rattle.mau_settling.specs.declared.walk.Place.{Place}
 use Rattle.mau_settling.specs.declared.settling.Settling.{Settling}
 use Rattle.mau_settling.proofs.Due.{due_stays, due_in_first, places_stay}
-use Rattle.mau_settling.proofs.Roots.{term_stays, terms_stay, left_stays}
+use Rattle.mau_settling.proofs.Roots.{term_stays, terms_stay, left_stays, first_left}
 use Rattle.mau_settling.proofs.Units.{identities_settled}
 
 -- ---- later states
@@ -104,6 +104,24 @@ module _ (nodes : List Node) (table : Table) (left : List ℕ) (i : ℕ) (is : L
 
   pub due_of : (j : ℕ) → IsDueIn nodes table i j → IsDueInFirst nodes table left j
   due_of j h = subst (λ zs. IsDueInFirst nodes table zs j) (sym e) h
+
+-- it is a root
+pub root_at : (roots : List TermId) (at : ℕ) (r : TermId) → at < length roots → r ≡ get_or roots at r → drop at (numbers roots) ≡ r.0 ∷ drop (at + 1) (numbers roots)
+root_at roots at r low e = subst (λ (z : TermId). drop at (numbers roots) ≡ z.0 ∷ drop (at + 1) (numbers roots)) (sym e) (first_left roots at r low)
+
+pub root_term : (s : SignatureOf) (nodes : List Node) (roots : List TermId) (at : ℕ) (r : TermId) → at < length roots → r ≡ get_or roots at r → All (IsTerm s nodes) (numbers roots) → IsTerm s nodes r.0
+root_term s nodes roots at r low e all =
+    All-head (IsTerm s nodes) r.0 (drop (at + 1) (numbers roots)) (subst (All (IsTerm s nodes)) (root_at roots at r low e) (All-drop (IsTerm s nodes) at (numbers roots) all))
+
+-- what the walk down found
+pub is_first : (nodes : List Node) (table : Table) (i : ℕ) (o : Option TermId) (id : TermId) → o ≡ Some id → IfSome o (λ z. IsFirstUnsettled nodes table i z.0) → IsFirstUnsettled nodes table i id.0
+is_first nodes table i o id e h = subst (λ z. IfSome z (λ w. IsFirstUnsettled nodes table i w.0)) e h
+
+pub is_end : (nodes : List Node) (table : Table) (i : ℕ) (o : Option TermId) (ps : List Place) → o ≡ None → IfNone o (IsSettled table i) → IfNone o (ps ≡ []) → IsSettled table i × (ps ≡ [])
+is_end nodes table i o ps e h k = (subst (λ z. IfNone z (IsSettled table i)) e h, subst (λ z. IfNone z (ps ≡ [])) e k)
+
+pub no_places : (nodes : List Node) (table : Table) (left : List ℕ) (ps : List Place) → ps ≡ [] → All (IsPlaceInFirst nodes table left) ps
+no_places nodes table left ps e = subst (All (IsPlaceInFirst nodes table left)) (sym e) (All-nil (IsPlaceInFirst nodes table left))
 
 -- ---- what is asked
 
