@@ -1,5 +1,5 @@
 -- Where a derivation may begin.
-use Rattle.std.proofs.Common.{◌≡◌, ◌<◌, ◌⊎◌, inl, inr, ⊎_elim, ℕ, List, [], ◌∷◌, ◌++◌, All, Some, map, length, slice_get, get_or, refl, sym, ap, ◌∙◌, subst, arith}
+use Rattle.std.proofs.Common.{◌≡◌, ◌<◌, ◌⊎◌, inl, inr, ⊎_elim, ℕ, List, [], ◌∷◌, ◌++◌, All, Some, map, slice_get, get_or, refl, sym, ap, ◌∙◌, subst, arith}
 use Rattle.mau_terms.specs.Tree.{Tree, numeral, apply, no_trees, tree, trees_of}
 use Rattle.mau_terms.specs.Norm.{unit_tree}
 use Rattle.mau_terms.specs.Bare.{IsBare, IsLawful}
@@ -11,7 +11,7 @@ use Rattle.mau_terms.proofs.Finite.{in_right}
 use Rattle.mau_signature.specs.Signature.{SignatureOf, theory_at, terms_over}
 use Rattle.mau_signature.specs.OverSignature.{IsTreeOver}
 use Rattle.mau_signature.proofs.OverSignature.{norm_over}
-use Rattle.mau_store.specs.Node.{Node, numeral_node, variable_node, operator_node, arguments, IsOf, AreNodes}
+use Rattle.mau_store.specs.Node.{Node, numeral_node, variable_node, operator_node, arguments, AreNodes}
 use Rattle.mau_store.specs.Trees.{tree_at, trees_at, tree_over}
 use Rattle.mau_store.proofs.Standing.{tree_of_node}
 use Rattle.mau_store.proofs.Numbers.{node_there}

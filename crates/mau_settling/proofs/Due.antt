@@ -1,12 +1,11 @@
 -- What is due: in states that grow, and from a term to its next argument.
-use Rattle.std.proofs.Common.{◌≡◌, ◌⊎◌, inl, inr, ◌<◌, ◌≤◌, ◌+◌, ℕ, zero, suc, List, [], ◌∷◌, ◌++◌, All, Some, length, slice_get, get_or, refl, sym, ap, ◌∙◌, subst, arith}
+use Rattle.std.proofs.Common.{◌≡◌, ◌⊎◌, inl, inr, ◌<◌, ◌+◌, ℕ, zero, suc, List, [], ◌∷◌, ◌++◌, All, Some, length, slice_get, get_or, refl, sym, ap, ◌∙◌, subst, arith}
 use Rattle.std.proofs.lemmas.List.Elements.{All-nil, All-cons, All-weaker, All-from_get_or}
 use Rattle.std.proofs.lemmas.Bool.{cases_eq, cases_lt}
 use Rattle.std.proofs.lemmas.Option.{slice_get_within}
-use Rattle.mau_store.specs.Node.{Node, operator_node, numeral_node, variable_node, arguments, IsOf, AreNodes, Extends}
+use Rattle.mau_store.specs.Node.{Node, operator_node, numeral_node, variable_node, arguments, IsOf, Extends}
 use Rattle.mau_store.proofs.Places.{slice_get-front}
 use Rattle.mau_store.proofs.Growth.{IsOf-extends}
-use Rattle.mau_store.proofs.Numbers.{node_there}
 use Rattle.mau_sorts.specs.Table.{Table, IsSettled, KeepsEntries}
 use Rattle.mau_listing.proofs.Growth.{settled_kept}
 use Rattle.mau_settling.specs.Due.{IsDueIn, itself, in_argument, IsFirstUnsettled, IsPlaceIn, IsArgumentAt, IsDueInFirst, IsPlaceInFirst}

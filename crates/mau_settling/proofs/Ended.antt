@@ -1,12 +1,11 @@
 -- Where settling ends, and what is known when all is settled.
-use Rattle.std.proofs.Common.{◌≡◌, ◌⊎◌, inl, inr, ℕ, suc, List, [], ◌∷◌, ◌++◌, Bool, false, All, Option, Some, map, slice_get, refl, sym, ap, ◌∙◌, subst}
+use Rattle.std.proofs.Common.{◌≡◌, ◌⊎◌, inl, inr, ℕ, suc, List, [], ◌∷◌, ◌++◌, Bool, false, All, Option, Some, map, slice_get, refl, sym, subst}
 use Rattle.std.proofs.lemmas.List.Elements.{All-head, All-tail, All-drop}
 use Rattle.std.proofs.lemmas.Option.{slice_get_within}
 use Rattle.mau_terms.specs.Tree.{Tree, trees_of}
 use Rattle.mau_terms.proofs.Pieces.{list_of-trees_of}
 use Rattle.mau_terms.specs.declared.ids.VarId.{VarId}
 use Rattle.mau_terms.specs.declared.ids.TermId.{TermId}
-use Rattle.mau_signature.specs.Signature.{theory_at}
 use Rattle.mau_formula.specs.Operator.{Operator}
 use Rattle.mau_store.specs.Node.{Node, operator_node, AreNodes, IsOf}
 use Rattle.mau_store.specs.Trees.{tree_at, trees_at}
@@ -31,11 +30,11 @@ use Rattle.mau_deriving.specs.Asking.{Derives}
 use Rattle.mau_deriving.proofs.Below.{arguments_end_sorts, settled_are_known, identities_end_settling, sorts_end_settling, settling_is_known}
 use Rattle.mau_deriving.proofs.Kept.{ends_in}
 use Rattle.mau_settling.specs.Due.{IsDueIn, itself, in_argument, IsDueInFirst}
-use Rattle.mau_settling.specs.Settlings.{AreLeft, left_of, IsDerivingIn, IsSettling, DerivesCurrent, Asks, EndsSettling, CanEnd}
+use Rattle.mau_settling.specs.Settlings.{AreLeft, left_of, IsDerivingIn, Asks, EndsSettling, CanEnd}
 use Rattle.mau_settling.specs.Laws.{DueEndSorts, SettledIsKnown, EntriesHaveDerivations}
 use Rattle.mau_settling.specs.declared.settling.Settling.{Settling}
 use Rattle.mau_settling.proofs.Terms.{argument_tree, arguments_are_bare, arguments_there}
-use Rattle.mau_settling.proofs.Units.{each_settled, identities_settled, identities_bare}
+use Rattle.mau_settling.proofs.Units.{each_settled, identities_bare}
 use Rattle.mau_settling.proofs.Roots.{last_or_more}
 use Rattle.mau_settling.proofs.States.{is_current, all_parts}
 

@@ -1,12 +1,11 @@
 -- The state of settling: in states that grow, at its steps and at its end.
 use Rattle.std.proofs.Common.{◌≡◌, ◌<◌, ◌+◌, ℕ, List, [], ◌∷◌, ◌++◌, All, Option, Some, None, IfSome, IfNone, false, slice_get, length, drop, get_or, sym, ap, ◌∙◌, subst, append-nil}
 use Rattle.std.proofs.lemmas.List.Elements.{All-nil, All-head, All-tail, All-cons, All-drop}
-use Rattle.mau_terms.specs.Tree.{Tree}
 use Rattle.mau_terms.specs.declared.ids.VarId.{VarId}
 use Rattle.mau_terms.specs.declared.ids.TermId.{TermId}
 use Rattle.mau_signature.specs.Signature.{SignatureOf}
 use Rattle.mau_formula.specs.Operator.{Operator}
-use Rattle.mau_store.specs.Node.{Node, AreNodes, Extends, IsOf}
+use Rattle.mau_store.specs.Node.{Node, AreNodes, Extends}
 use Rattle.mau_store.specs.Trees.{tree_at}
 use Rattle.mau_store.specs.View.{numbers}
 use Rattle.mau_store.proofs.Growth.{extension_is_preorder}
@@ -14,7 +13,7 @@ use Rattle.mau_sorts.specs.Table.{Table, IsSettled, AreOver, KeepsEntries}
 use Rattle.mau_sorts.proofs.Settling.{kept_same, kept_on}
 use Rattle.mau_sigcheck.specs.Built.{IsBuiltAndAccepted}
 use Rattle.mau_listing.specs.Asked.{IsTreeSettled, IsClosedTable, IsBelow}
-use Rattle.mau_listing.proofs.Closed.{closed_stay, closed_below}
+use Rattle.mau_listing.proofs.Closed.{closed_below}
 use Rattle.mau_program.specs.declared.program.Program as Typed
 use Rattle.mau_evaluation.specs.HasSort.{HasHeads}
 use Rattle.mau_api.specs.Programs.{program_over, identities_of}
@@ -28,12 +27,12 @@ use Rattle.mau_deriving.specs.declared.derivation.Deriving.{Deriving}
 use Rattle.mau_deriving.proofs.Kept.{stands_grown}
 use Rattle.mau_deriving.proofs.Outlived.{derivations_outlive}
 use Rattle.mau_settling.specs.Due.{IsDueIn, IsFirstUnsettled, IsDueInFirst, IsPlaceIn, IsPlaceInFirst}
-use Rattle.mau_settling.specs.Settlings.{AreLeft, left_of, IsDerivingIn, IsSettling, DerivesCurrent, Asks, IsAsking}
+use Rattle.mau_settling.specs.Settlings.{AreLeft, left_of, IsDerivingIn, Asks, IsAsking}
 use Rattle.mau_settling.specs.Beginning.{IsLater}
 use Rattle.mau_settling.specs.Laws.{SettlingStays, DerivingStays}
 use Rattle.mau_settling.specs.declared.walk.Place.{Place}
 use Rattle.mau_settling.specs.declared.settling.Settling.{Settling}
-use Rattle.mau_settling.proofs.Due.{due_stays, due_in_first, places_stay}
+use Rattle.mau_settling.proofs.Due.{due_in_first, places_stay}
 use Rattle.mau_settling.proofs.Roots.{term_stays, terms_stay, left_stays, first_left}
 use Rattle.mau_settling.proofs.Units.{identities_settled}
 

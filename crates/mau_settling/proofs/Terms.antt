@@ -1,11 +1,11 @@
 -- What is due in a term is a term.
-use Rattle.std.proofs.Common.{◌≡◌, ◌<◌, ◌≤◌, ℕ, List, [], ◌∷◌, ◌++◌, All, Some, false, ◌&&◌, length, map, slice_get, get_or, refl, sym, ap, ◌∙◌, subst, arith}
+use Rattle.std.proofs.Common.{◌≡◌, ◌<◌, ◌≤◌, ℕ, List, [], ◌∷◌, ◌++◌, All, Some, false, ◌&&◌, map, slice_get, ap, ◌∙◌, subst, arith}
 use Rattle.std.proofs.lemmas.Bool.{or_parts}
 use Rattle.std.proofs.lemmas.List.Elements.{All-nil, All-cons, All-head, All-tail}
 use Rattle.std.proofs.lemmas.List.{map-append}
-use Rattle.mau_terms.specs.Tree.{Tree, Trees, tree, apply, trees_of}
+use Rattle.mau_terms.specs.Tree.{Tree, apply, trees_of}
 use Rattle.mau_terms.specs.Norm.{holds_overflow, hold_overflow, is_greatest_numeral}
-use Rattle.mau_terms.specs.Depth.{depth, depths}
+use Rattle.mau_terms.specs.Depth.{depths}
 use Rattle.mau_terms.specs.Bare.{IsLawful}
 use Rattle.mau_terms.specs.declared.theory.Theory.{Theory}
 use Rattle.mau_signature.specs.Signature.{SignatureOf, theory_at, terms_over}
@@ -14,7 +14,7 @@ use Rattle.mau_store.specs.Trees.{tree_at}
 use Rattle.mau_store.proofs.Standing.{tree_of_node}
 use Rattle.mau_canon.specs.Within.{IsWithin}
 use Rattle.mau_canon.specs.declared.TheConstants.{MAX_DEPTH}
-use Rattle.mau_sorts.specs.Table.{Table, IsSettled}
+use Rattle.mau_sorts.specs.Table.{Table}
 use Rattle.mau_api.specs.Terms.{IsTerm, IsNormalBare}
 use Rattle.mau_api.proofs.KnownSorts.{EachNormalBare}
 use Rattle.mau_deriving.proofs.DerivedMore.{arguments_bare}

@@ -1,5 +1,5 @@
 -- The identities of a signature, as terms and in their order.
-use Rattle.std.proofs.Common.{◌≡◌, ◌<◌, ◌≤◌, ◌+◌, ◌-◌, ◌⊎◌, inl, inr, ℕ, zero, suc, List, [], ◌∷◌, ◌++◌, Bool, true, false, ◌&&◌, ◌||◌, Option, Some, None, All, length, refl, sym, ap, ◌∙◌, subst, arith, lit≤, append-nil}
+use Rattle.std.proofs.Common.{◌≡◌, ◌<◌, ◌+◌, ◌-◌, ◌⊎◌, inl, inr, ℕ, zero, suc, List, [], ◌∷◌, ◌++◌, Bool, true, false, ◌&&◌, ◌||◌, Option, Some, None, All, length, refl, sym, ap, ◌∙◌, subst, arith, lit≤, append-nil}
 use Rattle.std.proofs.lemmas.Grind.{flat_map-append}
 use Rattle.std.specs.List.{flat_map, range_with_len}
 use Rattle.std.proofs.lemmas.Bool.{cases_eq, cases_lt}
@@ -7,16 +7,15 @@ use Rattle.std.proofs.lemmas.List.{get_or_past}
 use Rattle.std.proofs.lemmas.List.Elements.{All-nil, All-cons, All-head, All-tail}
 use Rattle.mau_terms.specs.Tree.{Tree, apply, no_trees}
 use Rattle.mau_terms.specs.Norm.{unit_tree}
-use Rattle.mau_terms.specs.Bare.{IsLawful, IsBareIn, AreBareIn}
+use Rattle.mau_terms.specs.Bare.{IsLawful, IsBareIn}
 use Rattle.mau_terms.specs.Reading.{reading, nest}
 use Rattle.mau_terms.specs.Finite.{IsIn, units_of}
 use Rattle.mau_terms.specs.declared.ids.TermId.{TermId}
 use Rattle.mau_terms.specs.declared.theory.Identity.{Identity}
 use Rattle.mau_terms.specs.declared.theory.Identity.TheVariants.{Const, Num}
-use Rattle.mau_terms.specs.declared.theory.Theory.{Theory}
 use Rattle.mau_terms.proofs.Normal.{normal_fixed, unit_normal}
 use Rattle.mau_terms.proofs.Finite.{in_left, in_right}
-use Rattle.mau_signature.specs.Signature.{SignatureOf, IsOperator, theory_at, theory_of, terms_over}
+use Rattle.mau_signature.specs.Signature.{SignatureOf, theory_at, theory_of, terms_over}
 use Rattle.mau_store.specs.Node.{Node, IsOf}
 use Rattle.mau_store.specs.Trees.{tree_at}
 use Rattle.mau_canon.specs.Within.{IsWithin}

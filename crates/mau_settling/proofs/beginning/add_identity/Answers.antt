@@ -1,7 +1,6 @@
-use Rattle.std.proofs.Common.{◌≡◌, Some, [], ◌∷◌, ◌++◌, All, map, sym, ap, ◌∙◌, subst, append-nil}
+use Rattle.std.proofs.Common.{◌++◌, sym, ap, ◌∙◌, append-nil}
 use Rattle.mau_store.specs.Trees.{trees_at}
 use Rattle.mau_store.specs.View.{numbers}
-use Rattle.mau_api.specs.Terms.{IsTerm}
 use Rattle.mau_settling.proofs.Units.{some_is, none_is}
 use Rattle.mau_settling.proofs.Roots.{roots_more, terms_more, terms_stay, trees_stay}
 use Rattle.mau_settling.proofs.beginning.add_identity.Goals as goal

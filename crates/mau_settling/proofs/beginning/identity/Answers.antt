@@ -1,12 +1,10 @@
-use Rattle.std.proofs.Common.{◌≡◌, Some, [], ◌∷◌, sym, ap, ◌∙◌, subst, refl, rules}
+use Rattle.std.proofs.Common.{◌≡◌, Some, [], ◌∷◌, sym, ap, ◌∙◌, rules}
 use Rattle.std.proofs.lemmas.Option.{slice_get_within}
-use Rattle.mau_terms.specs.Norm.{unit_tree}
 use Rattle.mau_terms.specs.Finite.{units_of}
 use Rattle.mau_terms.specs.declared.theory.Identity.{Identity}
 use Rattle.mau_terms.specs.declared.theory.Identity.TheVariants.{Const, Num}
 use Rattle.mau_signature.specs.Signature.{theory_at}
 use Rattle.mau_store.specs.Node.{numeral_node, operator_node}
-use Rattle.mau_store.specs.Trees.{tree_at}
 use Rattle.mau_settling.proofs.Units.{unit_term}
 use Rattle.mau_settling.proofs.beginning.identity.Goals as goal
 

@@ -1,4 +1,3 @@
-use Rattle.std.proofs.Common.{true, false, sym, ◌∙◌}
 use Rattle.mau_deriving.proofs.Lawful.{heads}
 use Rattle.mau_settling.proofs.Begun.{begun_asked}
 use Rattle.mau_settling.proofs.States.{derived_grown, later_grown}

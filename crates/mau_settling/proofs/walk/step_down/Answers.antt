@@ -1,4 +1,4 @@
-use Rattle.std.proofs.Common.{◌≡◌, ◌++◌, ◌∷◌, [], All, sym, subst, ap, ◌∙◌}
+use Rattle.std.proofs.Common.{All, sym, subst}
 use Rattle.std.proofs.lemmas.List.Elements.{All-push}
 use Rattle.mau_settling.specs.Due.{IsPlaceIn}
 use Rattle.mau_settling.proofs.Due.{argument_due, argument_past}

@@ -1,7 +1,7 @@
-use Rattle.std.proofs.Common.{◌≡◌, ◌<◌, ◌≤◌, ℕ, Some, true, false, length, slice_get, get_or, sym, subst, ap, ◌∙◌, arith}
+use Rattle.std.proofs.Common.{◌≡◌, ◌<◌, ◌≤◌, true, false, length, get_or, sym, subst, ap, ◌∙◌, arith}
 use Rattle.std.proofs.Math.ListN.{get_or-map}
 use Rattle.mau_terms.specs.declared.ids.TermId.{TermId}
-use Rattle.mau_store.specs.Node.{Node, operator_node, numeral_node, variable_node, arguments}
+use Rattle.mau_store.specs.Node.{arguments}
 use Rattle.mau_store.specs.View.{node_of, numbers}
 use Rattle.mau_sorts.proofs.Entries.{numbers_length}
 use Rattle.mau_settling.proofs.Due.{term_first, argument_at}

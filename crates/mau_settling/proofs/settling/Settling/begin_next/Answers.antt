@@ -1,7 +1,6 @@
-use Rattle.std.proofs.Common.{◌≡◌, ◌<◌, ◌≤◌, ◌+◌, ◌∷◌, List, None, ℕ, length, drop, sym, subst, arith}
+use Rattle.std.proofs.Common.{◌<◌, ◌≤◌, ◌+◌, length, drop, subst, arith}
 use Rattle.std.proofs.lemmas.Grind.{common_steps}
 use Rattle.mau_store.specs.View.{numbers}
-use Rattle.mau_settling.specs.Due.{IsFirstUnsettled}
 use Rattle.mau_settling.specs.Settlings.{AreLeft, left_of}
 use Rattle.mau_settling.proofs.Due.{places_stay}
 use Rattle.mau_settling.proofs.Roots.{left_past, none_left}

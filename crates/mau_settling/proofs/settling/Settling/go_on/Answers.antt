@@ -47,5 +47,5 @@ returns-then-derivation-items-clause-settling g c =
 pub returns-clause-settling : goal.returns-clause-settling
 returns-clause-settling g c =
     let h = settling_stays c.args.program.now c.args.store.now c.args.store.now (extension_is_preorder.reflexive c.args.store.now) c.args.table.now c.enter.new.table c.enter.ensures.kept c.enter.ensures.over
-        (c.enter.ensures.closed c.requires.settling.closed) c.args.self.now c.requires.settling in
+    (c.enter.ensures.closed c.requires.settling.closed) c.args.self.now c.requires.settling in
     record { over = h.over; closed = h.closed; term = h.term; roots = h.roots; left = h.left; path = h.path; current = tt }
