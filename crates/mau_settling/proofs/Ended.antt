@@ -15,6 +15,7 @@ use Rattle.mau_sigcheck.specs.Built.{IsBuiltAndAccepted}
 use Rattle.mau_listing.specs.Asked.{IsTreeSettled}
 use Rattle.mau_program.specs.declared.program.Program as Typed
 use Rattle.mau_evaluation.specs.Run.{Outcome}
+use Rattle.mau_evaluation.specs.Program.{Membership}
 use Rattle.mau_evaluation.specs.Evaluation.{Binding, levels, settle}
 use Rattle.mau_evaluation.specs.HasSort.{HasHeads, HasSort}
 use Rattle.mau_evaluation.proofs.Derived.{known_sorts_are_derived}
@@ -114,10 +115,12 @@ entries_have_derivations p hooks limit remembers nodes table derived i e at bare
     subst (λ t. HasSort (program_over p hooks) t r) bare.0
     (known_sorts_are_derived (program_over p hooks) (tree_at nodes i) own.sorts 0 (record { level = own.levels; each = limit; budget = 0; left = 0; comes = own.known 0 }) r (number_in own.sorts r ((own.exact r).0 h)))
 
--- where a condition that is asked ends, settling ends so
-pub conditions_end : (p : Typed.Program) (hooks : List Operator) (limit : ℕ) (nodes : List Node) (table : Table) (s : Settling) → CanEnd p hooks limit nodes table s →
-    (at : ℕ) (b : List (VarId × TermId)) → Asks s at b → EndsSettling p hooks limit nodes s.term.0 at b
-conditions_end p hooks limit nodes table s can at b asks m there =
+-- where a condition that is asked ends, the sorts of the first that is left end so
+pub condition_ends_root : (p : Typed.Program) (hooks : List Operator) (limit : ℕ) (nodes : List Node) (table : Table) (s : Settling) → CanEnd p hooks limit nodes table s →
+    (at : ℕ) (b : List (VarId × TermId)) → Asks s at b → (m : Membership) → slice_get (program_over p hooks).memberships at ≡ Some m →
+    (i : ℕ) × (is : List ℕ) × IsTerm p.sig nodes i × AreLeft p.sig nodes table s.term.0 (i ∷ is) ×
+    EndsWith (λ j. sorts_on (program_over p hooks) limit j (tree_at nodes i)) (λ j. asks_by (program_over p hooks) limit j m.cond (binding_in nodes b) limit)
+condition_ends_root p hooks limit nodes table s can at b asks m there =
     let P = program_over p hooks in
     let d = asks.derivation in
     let current = is_current (IsDerivingIn p nodes table (left_of s)) s.current d asks.is can.settling.current in
@@ -127,11 +130,22 @@ conditions_end p hooks limit nodes table s can at b asks m there =
   where
     by : (left : List ℕ) → AreLeft p.sig nodes table s.term.0 left → All (IsTerm p.sig nodes) left → IsDueInFirst nodes table left asks.derivation.term.0 →
         EndsWith (λ j. sorts_on (program_over p hooks) limit j (tree_at nodes asks.derivation.term.0)) (λ j. asks_by (program_over p hooks) limit j m.cond (binding_in nodes b) limit) →
-        EndsWith (λ j. settle (program_over p hooks) (levels (program_over p hooks) limit j) (levels (program_over p hooks) limit (suc j)).sorts (tree_at nodes s.term.0))
-        (λ j. asks_by (program_over p hooks) limit j m.cond (binding_in nodes b) limit)
+        (i : ℕ) × (is : List ℕ) × IsTerm p.sig nodes i × AreLeft p.sig nodes table s.term.0 (i ∷ is) ×
+        EndsWith (λ j. sorts_on (program_over p hooks) limit j (tree_at nodes i)) (λ j. asks_by (program_over p hooks) limit j m.cond (binding_in nodes b) limit)
     by [] left terms due ends = absurd due
     by (i ∷ is) left terms due ends =
-        let term = All-head (IsTerm p.sig nodes) i is terms in
-        root_ends p hooks limit false can.heads can.accepted nodes table can.derived s.term.0 i is left (λ j. asks_by (program_over p hooks) limit j m.cond (binding_in nodes b) limit)
-        (due_ends p hooks limit false can.heads can.accepted nodes table can.derived can.are i asks.derivation.term.0 due term.within.there (term.within.normal, term.bare)
-        (λ j. asks_by (program_over p hooks) limit j m.cond (binding_in nodes b) limit) ends)
+        let term = All-head (IsTerm p.sig nodes) i is terms in (
+          i,
+          is,
+          term,
+          left,
+          due_ends p hooks limit false can.heads can.accepted nodes table can.derived can.are i asks.derivation.term.0 due term.within.there (term.within.normal, term.bare)
+              (λ j. asks_by (program_over p hooks) limit j m.cond (binding_in nodes b) limit) ends,
+        )
+
+-- settling ends so
+pub conditions_end : (p : Typed.Program) (hooks : List Operator) (limit : ℕ) (nodes : List Node) (table : Table) (s : Settling) → CanEnd p hooks limit nodes table s →
+    (at : ℕ) (b : List (VarId × TermId)) → Asks s at b → EndsSettling p hooks limit nodes s.term.0 at b
+conditions_end p hooks limit nodes table s can at b asks m there =
+    let z = condition_ends_root p hooks limit nodes table s can at b asks m there in
+    root_ends p hooks limit false can.heads can.accepted nodes table can.derived s.term.0 z.0 z.1 z.3 (λ j. asks_by (program_over p hooks) limit j m.cond (binding_in nodes b) limit) z.4

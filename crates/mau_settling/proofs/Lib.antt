@@ -14,3 +14,5 @@ pub mod States
 pub mod Ended
 -- variables and numerals
 pub mod Leaves
+-- the causes of ends
+pub mod Causes

@@ -6,6 +6,8 @@ pub mod Due
 pub mod Settlings
 -- what is proved of it
 pub mod Laws
+-- where settling ends, in the words of an evaluator
+pub mod Solving
 -- ---- what only inner contracts and proofs cite
 
 -- where a derivation may begin

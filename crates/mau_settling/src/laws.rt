@@ -1,5 +1,6 @@
 //! What is proved of settling. Each function does nothing and has a law for its contract.
 ghost use Rattle.mau_settling.specs.Laws.{DueStays, DueEndSorts, SettlingStays, DerivingStays, SettledIsKnown, EntriesHaveDerivations};
+ghost use Rattle.mau_settling.specs.Solving.{ConditionsMayEnd};
 
 /// What is due stays due in a store and a table that grow.
 pub fn due_stays()
@@ -29,4 +30,9 @@ pub fn settled_is_known()
 /// Each sort that an entry tells has a finite derivation.
 pub fn entries_have_derivations()
     ensures { EntriesHaveDerivations }
+{}
+
+/// Where the condition that is asked ends, settling may end so.
+pub fn conditions_may_end()
+    ensures { ConditionsMayEnd }
 {}

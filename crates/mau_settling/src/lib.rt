@@ -5,7 +5,9 @@ mod beginning;
 pub mod laws;
 mod plain;
 mod settling;
+mod solving;
 mod walk;
 
-pub use settling::Settling;
+pub use settling::{Settling, Stage, begin_settling, settle_term};
+pub use solving::{ConditionSolver, settle_by};
 pub use walk::{Place, first_unsettled};
