@@ -1,30 +1,23 @@
 -- The causes of ends.
-use Rattle.std.proofs.Common.{◌≡◌, ◌⊎◌, inl, inr, ◌<◌, ◌≤◌, ◌+◌, ℕ, suc, List, [], ◌∷◌, ◌++◌, Bool, Option, Some, slice_get, refl, sym, ap, ◌∙◌, subst, arith}
+use Rattle.std.proofs.Common.{◌≡◌, ◌⊎◌, inl, inr, ◌≤◌, ◌+◌, ℕ, suc, List, [], ◌∷◌, ◌++◌, refl, sym, ap, ◌∙◌, subst, arith}
 use Rattle.mau_terms.specs.Tree.{Tree}
 use Rattle.mau_terms.specs.Norm.{norm}
 use Rattle.mau_terms.specs.Finite.{IsIn}
-use Rattle.mau_terms.specs.declared.ids.VarId.{VarId}
-use Rattle.mau_terms.specs.declared.ids.TermId.{TermId}
 use Rattle.mau_terms.proofs.Finite.{in_right}
-use Rattle.mau_formula.specs.Operator.{Operator}
-use Rattle.mau_store.specs.Node.{Node}
 use Rattle.mau_store.specs.Trees.{tree_at, trees_at}
-use Rattle.mau_sorts.specs.Table.{Table}
-use Rattle.mau_program.specs.declared.program.Program as Typed
-use Rattle.mau_evaluation.specs.Run.{End, stopped, too_deep, overflowed, ended, Outcome}
-use Rattle.mau_evaluation.specs.Program.{Fragment, Membership, Program}
+use Rattle.mau_evaluation.specs.Run.{End, stopped, too_deep, overflowed, ended}
+use Rattle.mau_evaluation.specs.Program.{Fragment, Program}
 use Rattle.mau_evaluation.specs.Evaluation.{Binding, levels, sorts_at}
 use Rattle.mau_evaluation.proofs.Limits.{levels_alone}
 use Rattle.mau_api.specs.Programs.{program_over, identities_of}
 use Rattle.mau_api.specs.Meanings.{meanings_by}
-use Rattle.mau_api.specs.Answers.{levels_of_item, levels_of_condition, HasCause, MayEnd, IsOneToSettle, binding_in}
+use Rattle.mau_api.specs.Answers.{levels_of_item, levels_of_condition, HasCause, IsOneToSettle, binding_in}
 use Rattle.mau_api.specs.declared.results.EvalEnd.{EvalEnd}
 use Rattle.mau_api.specs.declared.results.EvalEnd.TheVariants.{Stopped, TooDeep, Overflow, NoMemory}
 use Rattle.mau_deriving.specs.Known.{EndsWith}
 use Rattle.mau_deriving.specs.Given.{asks_by, sorts_on}
-use Rattle.mau_settling.specs.Settlings.{AreLeft, Asks, CanEnd}
+use Rattle.mau_settling.specs.Settlings.{AreLeft}
 use Rattle.mau_settling.specs.Solving.{EndsAs, ConditionsMayEnd}
-use Rattle.mau_settling.specs.declared.settling.Settling.{Settling}
 use Rattle.mau_settling.proofs.Ended.{condition_ends_root}
 use Rattle.mau_settling.proofs.Roots.{last_or_more}
 

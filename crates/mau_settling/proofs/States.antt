@@ -1,6 +1,7 @@
 -- The state of settling: in states that grow, at its steps and at its end.
-use Rattle.std.proofs.Common.{◌≡◌, ◌<◌, ◌+◌, ℕ, List, [], ◌∷◌, ◌++◌, All, Option, Some, None, IfSome, IfNone, false, slice_get, length, drop, get_or, sym, ap, ◌∙◌, subst, append-nil}
+use Rattle.std.proofs.Common.{◌≡◌, ◌<◌, ◌+◌, ℕ, zero, suc, List, [], ◌∷◌, ◌++◌, All, Option, Some, None, IfSome, IfNone, false, slice_get, length, drop, get_or, sym, ap, ◌∙◌, subst, append-nil}
 use Rattle.std.proofs.lemmas.List.Elements.{All-nil, All-head, All-tail, All-cons, All-drop}
+use Rattle.mau_terms.specs.View.{tree_of}
 use Rattle.mau_terms.specs.declared.ids.VarId.{VarId}
 use Rattle.mau_terms.specs.declared.ids.TermId.{TermId}
 use Rattle.mau_signature.specs.Signature.{SignatureOf}
@@ -9,25 +10,27 @@ use Rattle.mau_store.specs.Node.{Node, AreNodes, Extends}
 use Rattle.mau_store.specs.Trees.{tree_at}
 use Rattle.mau_store.specs.View.{numbers}
 use Rattle.mau_store.proofs.Growth.{extension_is_preorder}
+use Rattle.mau_store.proofs.Standing.{tree_at-extends}
 use Rattle.mau_sorts.specs.Table.{Table, IsSettled, AreOver, KeepsEntries}
 use Rattle.mau_sorts.proofs.Settling.{kept_same, kept_on}
 use Rattle.mau_sigcheck.specs.Built.{IsBuiltAndAccepted}
 use Rattle.mau_listing.specs.Asked.{IsTreeSettled, IsClosedTable, IsBelow}
 use Rattle.mau_listing.proofs.Closed.{closed_below}
 use Rattle.mau_program.specs.declared.program.Program as Typed
+use Rattle.mau_program.specs.declared.statements.Membership as Written
 use Rattle.mau_evaluation.specs.HasSort.{HasHeads}
 use Rattle.mau_api.specs.Programs.{program_over, identities_of}
 use Rattle.mau_api.specs.Meanings.{meanings_by}
 use Rattle.mau_api.specs.Answers.{IsDerivedTable, AreSettled}
 use Rattle.mau_api.specs.Terms.{IsTerm}
 use Rattle.mau_api.proofs.KeepsDerived.{listings_keep_derived}
-use Rattle.mau_deriving.specs.Listing.{HasGrown}
+use Rattle.mau_deriving.specs.Listing.{HasGrown, IsSorted}
 use Rattle.mau_deriving.specs.Asking.{Stands, Derives}
 use Rattle.mau_deriving.specs.declared.derivation.Deriving.{Deriving}
-use Rattle.mau_deriving.proofs.Kept.{stands_grown}
+use Rattle.mau_deriving.proofs.Kept.{stands_grown, at_place}
 use Rattle.mau_deriving.proofs.Outlived.{derivations_outlive}
 use Rattle.mau_settling.specs.Due.{IsDueIn, IsFirstUnsettled, IsDueInFirst, IsPlaceIn, IsPlaceInFirst}
-use Rattle.mau_settling.specs.Settlings.{AreLeft, left_of, IsDerivingIn, Asks, IsAsking}
+use Rattle.mau_settling.specs.Settlings.{AreLeft, left_of, IsDerivingIn, IsSettling, Asks, IsAsking, IsAskingOf}
 use Rattle.mau_settling.specs.Beginning.{IsLater}
 use Rattle.mau_settling.specs.Laws.{SettlingStays, DerivingStays}
 use Rattle.mau_settling.specs.declared.walk.Place.{Place}
@@ -48,6 +51,10 @@ later_on p one two three first second third a b = record {
   over = b.over;
   closed = b.closed;
 }
+
+-- a term that is the same
+pub tree_stays : (s : SignatureOf) (old new : List Node) → Extends old new → (t u : TermId) → u ≡ t → IsTerm s old t.0 → tree_at new u.0 ≡ tree_at old t.0
+tree_stays s old new x t u e term = ap (λ (z : TermId). tree_at new z.0) e ∙ tree_at-extends old new t.0 x term.within.there
 
 -- what a listing did
 pub later_grown : (p : Typed.Program) (old new : List Node) (before after : Table) (t : ℕ) → IsClosedTable old before → HasGrown p.sig old new before after t → IsLater p old new before after
@@ -141,6 +148,27 @@ one_asked s d e at b a =
 
 pub nothing_asked : (s : Settling) (d : Deriving) → s.current ≡ Some d → slice_get d.questions.items d.asked ≡ None → ¬ IsAsking s
 nothing_asked s d e none a = let z = (one_asked s d e a.0 a.1 a.2).1 in let k : None ≡ Some a.1 = sym none ∙ z in absurd (cc)
+
+-- one condition is asked
+pub same_asked : (s : Settling) (at at' : ℕ) (b b' : List (VarId × TermId)) → Asks s at b → Asks s at' b' → at ≡ at'
+same_asked s at at' b b' a a' = sym a.at_place ∙ (one_asked s a.derivation a.is at' b' a').0
+
+-- its membership
+pub asked_membership : (p : Typed.Program) (s : Settling) → IsAskingOf p s → (at : ℕ) (b : List (VarId × TermId)) → Asks s at b → (m : Written.Membership) × (slice_get p.memberships at ≡ Some m)
+asked_membership p s asking at b a = at_place p.memberships at (subst (λ n. n < length p.memberships) (same_asked s asking.0 at asking.1 b asking.2 a) asking.3)
+
+-- what is bound has its sorts
+pub asked_sorted : (p : Typed.Program) (nodes : List Node) (table : Table) (s : Settling) → IsSettling p nodes table s → (at : ℕ) (b : List (VarId × TermId)) → Asks s at b →
+    (m : Written.Membership) → slice_get p.memberships at ≡ Some m → IsSorted p.sig nodes table (tree_of m.left) b
+asked_sorted p nodes table s h at b a m there =
+    let d = is_current (IsDerivingIn p nodes table (left_of s)) s.current a.derivation a.is h.current in
+    subst (λ t. IsSorted p.sig nodes table t b) (d.stands.sorted.is m (subst (λ n. slice_get p.memberships n ≡ Some m) (sym a.at_place) there))
+    (one_of (IsSorted p.sig nodes table d.stands.sorted.head) a.derivation.questions.items a.derivation.asked b a.question d.stands.sorted.sorted)
+  where
+    one_of : {A : Type 0} (P : A → Type 0) (xs : List A) (i : ℕ) (x : A) → slice_get xs i ≡ Some x → All P xs → P x
+    one_of P [] i x e all = absurd (cc)
+    one_of P (y ∷ xs) zero x e all = let same : y ≡ x = cc in subst P same (All-head P y xs all)
+    one_of P (y ∷ xs) (suc i) x e all = one_of P xs i x e (All-tail P y xs all)
 
 -- ---- at the end
 

@@ -1,5 +1,5 @@
 -- How far the settling of a term is, and what it asks.
-use Rattle.std.specs.Prelude.{◌≡◌, ℕ, suc, List, [], ◌∷◌, ◌++◌, All, Some, IfSome, drop, slice_get, false}
+use Rattle.std.specs.Prelude.{◌≡◌, ◌<◌, ℕ, suc, List, [], ◌∷◌, ◌++◌, All, Some, IfSome, drop, length, slice_get, false}
 use Rattle.mau_terms.specs.Tree.{Tree}
 use Rattle.mau_terms.specs.declared.ids.VarId.{VarId}
 use Rattle.mau_terms.specs.declared.ids.TermId.{TermId}
@@ -67,9 +67,13 @@ pub record Asks (s : Settling) (at : ℕ) (b : List (VarId × TermId)) : Type 0 
 abbrev pub IsAsking : Settling → Type 0
 IsAsking s = (at : ℕ) × (b : List (VarId × TermId)) × Asks s at b
 
+-- a condition of one of the program's memberships
+abbrev pub IsAskingOf : Typed.Program → Settling → Type 0
+IsAskingOf p s = (at : ℕ) × (b : List (VarId × TermId)) × Asks s at b × (at < length p.memberships)
+
 -- what is so behind a step
 abbrev pub StageOf : Typed.Program → List Node → Table → Settling → Stage → Type 0
-StageOf p nodes table s What.Asks = IsAsking s
+StageOf p nodes table s What.Asks = IsAskingOf p s
 StageOf p nodes table s What.GoesOn = Unit {0}
 StageOf p nodes table s What.Settled = AreSettled p.sig nodes table (tree_at nodes s.term.0)
 

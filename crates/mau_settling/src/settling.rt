@@ -19,7 +19,7 @@ ghost use Rattle.mau_api.specs.Answers.{IsDerivedTable, AreSettled, binding_in};
 ghost use Rattle.mau_deriving.specs.Answered.{WasAnswered};
 ghost use Rattle.mau_deriving.specs.Asking.{Derives};
 ghost use Rattle.mau_settling.specs.Beginning.{IsLater, AreIdentitiesSettled};
-ghost use Rattle.mau_settling.specs.Settlings.{IsSettling, IsDerivingIn, DerivesCurrent, Asks, IsAsking, EndsSettling, CanEnd, StageOf, left_of};
+ghost use Rattle.mau_settling.specs.Settlings.{IsSettling, IsDerivingIn, DerivesCurrent, Asks, IsAsking, IsAskingOf, EndsSettling, CanEnd, StageOf, left_of};
 
 use crate::beginning::identities;
 use crate::plain::begin_one;
@@ -145,7 +145,7 @@ impl Settling {
         ensures derived { (hooks : List Operator) (limit : ℕ) → DerivesCurrent program.now hooks limit store.old self.old
             → IsDerivedTable (meanings_by program.now hooks limit false) store.old table.old
             → IsDerivedTable (meanings_by program.now hooks limit false) store.new table.new }
-        ensures asks { IfOk result (λ asks. asks ≡ true → IsAsking self.new) }
+        ensures asks { IfOk result (λ asks. asks ≡ true → IsAskingOf program.now self.new) }
         ensures settled { IfOk result (λ asks. asks ≡ false → AreSettled program.now.sig store.new table.new (tree_at store.new self.new.term.0)) }
         ensures term { self.new.term ≡ self.old.term }
         ensures later { IsLater program.now store.old store.new table.old table.new }
@@ -208,11 +208,11 @@ impl Settling {
         ensures term { self.new.term ≡ self.old.term }
         ensures later { IsLater program.now store.old store.new table.old table.new }
     {
-        if derivation.asked < derivation.questions.len() {
-            self.current = Some(derivation);
-            return Ok(Stage::Asks);
-        }
         if derivation.at < program.memberships.items().len() {
+            if derivation.asked < derivation.questions.len() {
+                self.current = Some(derivation);
+                return Ok(Stage::Asks);
+            }
             let gone = derivation.advance::<L>(store, program, table);
             has_nodes(store);
             gone?;

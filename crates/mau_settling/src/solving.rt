@@ -15,7 +15,7 @@ ghost use Rattle.mau_api.specs.Meanings.{meanings_by};
 ghost use Rattle.mau_api.specs.Answers.{IsDerivedTable, AreSettled, MayEnd};
 ghost use Rattle.mau_deriving.specs.Listing.{IsSorted};
 ghost use Rattle.mau_settling.specs.Beginning.{IsLater};
-ghost use Rattle.mau_settling.specs.Settlings.{IsSettling, DerivesCurrent, IsAsking};
+ghost use Rattle.mau_settling.specs.Settlings.{IsSettling, DerivesCurrent, IsAskingOf};
 ghost use Rattle.mau_settling.specs.Solving.{IsAnsweredBy, IsEndedBy};
 
 use crate::settling::{Settling, begin_settling};
@@ -66,7 +66,7 @@ fn solve_next<S: ConditionSolver>(
     requires lawful { IsLawfulProgram program.now }
     requires signature { IsLawful (terms_over program.now.sig) }
     requires settling { IsSettling program.now store.old table.old settling.old }
-    requires asking { IsAsking settling.old }
+    requires asking { IsAskingOf program.now settling.old }
     ensures settling { OnOk result (IsSettling program.now store.new table.new settling.new) }
     ensures derives { (hooks : List Operator) (limit : ℕ) → S.right solver.old program.now hooks limit → IsDerivedTable (meanings_by program.now hooks limit false) store.old table.old
         → DerivesCurrent program.now hooks limit store.old settling.old → OnOk result (DerivesCurrent program.now hooks limit store.new settling.new) }

@@ -10,12 +10,6 @@ use Rattle.mau_settling.proofs.Due.{due_in_first}
 use Rattle.mau_settling.proofs.States.{derived_grown, settling_stays}
 use Rattle.mau_settling.proofs.settling.Settling.go_on.Goals as goal
 
-pub returns-then-derivation-len-clause-stage : goal.returns-then-derivation-len-clause-stage
-returns-then-derivation-len-clause-stage g c =
-    let low : c.args.derivation.asked < length c.args.derivation.questions.items = grind (arith, common_steps, c.len.ensures, c.if-derivation-len.true) in
-    let z = at_place c.args.derivation.questions.items c.args.derivation.asked low in
-    (c.args.derivation.at, z.0, record { derivation = c.args.derivation; is = refl; at_place = refl; question = z.1 })
-
 pub returns-in_err-gone-clause-derived : goal.returns-in_err-gone-clause-derived
 returns-in_err-gone-clause-derived g c = λ hooks limit k d.
     derived_grown c.args.program.now hooks limit (heads c.args.program.now c.requires.lawful c.requires.signature hooks) c.requires.lawful.accepted c.args.store.now c.advance-gone.new.store c.has_nodes.ensures
@@ -49,3 +43,10 @@ returns-clause-settling g c =
     let h = settling_stays c.args.program.now c.args.store.now c.args.store.now (extension_is_preorder.reflexive c.args.store.now) c.args.table.now c.enter.new.table c.enter.ensures.kept c.enter.ensures.over
     (c.enter.ensures.closed c.requires.settling.closed) c.args.self.now c.requires.settling in
     record { over = h.over; closed = h.closed; term = h.term; roots = h.roots; left = h.left; path = h.path; current = tt }
+
+pub returns-then-derivation-len-clause-stage : goal.returns-then-derivation-len-clause-stage
+returns-then-derivation-len-clause-stage g c =
+    let low : c.args.derivation.asked < length c.args.derivation.questions.items = grind (arith, common_steps, c.len.ensures, c.if-derivation-len.true) in
+    let z = at_place c.args.derivation.questions.items c.args.derivation.asked low in
+    let there : c.args.derivation.at < length c.args.program.now.memberships = grind (arith, common_steps, c.items.ensures, c.if-derivation-items.true) in
+    (c.args.derivation.at, z.0, record { derivation = c.args.derivation; is = refl; at_place = refl; question = z.1 }, there)
