@@ -44,7 +44,8 @@ fn add_identity(
     requires lawful { IsLawful (terms_over sig.now) }
     requires operator { IsOperator sig.now op.0 }
     requires terms { All (IsTerm sig.now store.old) (numbers ids.old.items) }
-    ensures trees { OnOk result (trees_at store.new (numbers ids.new.items) ≡ trees_at store.old (numbers ids.old.items) ++ units_of (theory_at sig.now op.0).id) }
+    ensures trees { OnOk result (trees_at store.new (numbers ids.new.items) ≡ trees_at store.old
+        (numbers ids.old.items) ++ units_of (theory_at sig.now op.0).id) }
     ensures terms { OnOk result (All (IsTerm sig.now store.new) (numbers ids.new.items)) }
     ensures extends { Extends store.old store.new }
 {

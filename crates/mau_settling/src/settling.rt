@@ -103,7 +103,8 @@ impl Settling {
     pub fn question(&self) -> Option<(usize, &Seq<(VarId, TermId)>)>
         ensures asks { IfSome result (λ q. Asks self.now q.0 q.1.now) }
         ensures none { IfNone result (¬ IsAsking self.now) }
-        ensures ends { (p : Typed.Program) (hooks : List Operator) (limit : ℕ) (nodes : List Node) (table : Table) → CanEnd p hooks limit nodes table self.now
+        ensures ends { (p : Typed.Program) (hooks : List Operator) (limit : ℕ) (nodes : List Node) (table : Table)
+            → CanEnd p hooks limit nodes table self.now
             → IfSome result (λ q. EndsSettling p hooks limit nodes self.now.term.0 q.0 q.1.now) }
     {
         match &self.current {
@@ -118,10 +119,13 @@ impl Settling {
     /// The answer to that condition.
     pub fn told(&mut self, holds: bool)
         requires asked { IsAsking self.old }
-        ensures derives { (p : Typed.Program) (hooks : List Operator) (limit : ℕ) (nodes : List Node) (m : Membership) (at : ℕ) (b : List (VarId × TermId))
-            → Asks self.old at b → slice_get (program_over p hooks).memberships at ≡ Some m → WasAnswered (program_over p hooks) limit m.cond (binding_in nodes b) holds
+        ensures derives { (p : Typed.Program) (hooks : List Operator) (limit : ℕ) (nodes : List Node) (m : Membership) (at : ℕ)
+            (b : List (VarId × TermId))
+            → Asks self.old at b → slice_get (program_over p hooks).memberships at ≡ Some m
+            → WasAnswered (program_over p hooks) limit m.cond (binding_in nodes b) holds
             → DerivesCurrent p hooks limit nodes self.old → DerivesCurrent p hooks limit nodes self.new }
-        ensures settling { (p : Typed.Program) (nodes : List Node) (table : Table) → IsSettling p nodes table self.old → IsSettling p nodes table self.new }
+        ensures settling { (p : Typed.Program) (nodes : List Node) (table : Table) → IsSettling p nodes table self.old
+            → IsSettling p nodes table self.new }
         ensures term { self.new.term ≡ self.old.term }
     {
         if let Some(derivation) = &mut self.current {
@@ -140,13 +144,16 @@ impl Settling {
         requires signature { IsLawful (terms_over program.now.sig) }
         requires settling { IsSettling program.now store.old table.old self.old }
         ensures settling { OnOk result (IsSettling program.now store.new table.new self.new) }
-        ensures derives { (hooks : List Operator) (limit : ℕ) → IsDerivedTable (meanings_by program.now hooks limit false) store.old table.old
-            → DerivesCurrent program.now hooks limit store.old self.old → OnOk result (DerivesCurrent program.now hooks limit store.new self.new) }
+        ensures derives { (hooks : List Operator) (limit : ℕ)
+            → IsDerivedTable (meanings_by program.now hooks limit false) store.old table.old
+            → DerivesCurrent program.now hooks limit store.old self.old
+            → OnOk result (DerivesCurrent program.now hooks limit store.new self.new) }
         ensures derived { (hooks : List Operator) (limit : ℕ) → DerivesCurrent program.now hooks limit store.old self.old
             → IsDerivedTable (meanings_by program.now hooks limit false) store.old table.old
             → IsDerivedTable (meanings_by program.now hooks limit false) store.new table.new }
         ensures asks { IfOk result (λ asks. asks ≡ true → IsAskingOf program.now self.new) }
-        ensures settled { IfOk result (λ asks. asks ≡ false → AreSettled program.now.sig store.new table.new (tree_at store.new self.new.term.0)) }
+        ensures settled { IfOk result (λ asks. asks ≡ false
+            → AreSettled program.now.sig store.new table.new (tree_at store.new self.new.term.0)) }
         ensures term { self.new.term ≡ self.old.term }
         ensures later { IsLater program.now store.old store.new table.old table.new }
     {
@@ -171,8 +178,10 @@ impl Settling {
         requires signature { IsLawful (terms_over program.now.sig) }
         requires settling { IsSettling program.now store.old table.old self.old }
         ensures settling { OnOk result (IsSettling program.now store.new table.new self.new) }
-        ensures derives { (hooks : List Operator) (limit : ℕ) → IsDerivedTable (meanings_by program.now hooks limit false) store.old table.old
-            → DerivesCurrent program.now hooks limit store.old self.old → OnOk result (DerivesCurrent program.now hooks limit store.new self.new) }
+        ensures derives { (hooks : List Operator) (limit : ℕ)
+            → IsDerivedTable (meanings_by program.now hooks limit false) store.old table.old
+            → DerivesCurrent program.now hooks limit store.old self.old
+            → OnOk result (DerivesCurrent program.now hooks limit store.new self.new) }
         ensures derived { (hooks : List Operator) (limit : ℕ) → DerivesCurrent program.now hooks limit store.old self.old
             → IsDerivedTable (meanings_by program.now hooks limit false) store.old table.old
             → IsDerivedTable (meanings_by program.now hooks limit false) store.new table.new }
@@ -199,8 +208,10 @@ impl Settling {
         requires settling { IsSettling program.now store.old table.old self.old }
         requires derivation { IsDerivingIn program.now store.old table.old (left_of self.old) derivation }
         ensures settling { OnOk result (IsSettling program.now store.new table.new self.new) }
-        ensures derives { (hooks : List Operator) (limit : ℕ) → IsDerivedTable (meanings_by program.now hooks limit false) store.old table.old
-            → Derives program.now hooks limit store.old derivation → OnOk result (DerivesCurrent program.now hooks limit store.new self.new) }
+        ensures derives { (hooks : List Operator) (limit : ℕ)
+            → IsDerivedTable (meanings_by program.now hooks limit false) store.old table.old
+            → Derives program.now hooks limit store.old derivation
+            → OnOk result (DerivesCurrent program.now hooks limit store.new self.new) }
         ensures derived { (hooks : List Operator) (limit : ℕ) → Derives program.now hooks limit store.old derivation
             → IsDerivedTable (meanings_by program.now hooks limit false) store.old table.old
             → IsDerivedTable (meanings_by program.now hooks limit false) store.new table.new }
@@ -236,9 +247,11 @@ impl Settling {
         requires settling { IsSettling program.now store.old table.old self.old }
         requires none { self.old.current ≡ None }
         ensures settling { OnOk result (IsSettling program.now store.new table.new self.new) }
-        ensures derives { (hooks : List Operator) (limit : ℕ) → IsDerivedTable (meanings_by program.now hooks limit false) store.old table.old
+        ensures derives { (hooks : List Operator) (limit : ℕ)
+            → IsDerivedTable (meanings_by program.now hooks limit false) store.old table.old
             → OnOk result (DerivesCurrent program.now hooks limit store.new self.new) }
-        ensures derived { (hooks : List Operator) (limit : ℕ) → IsDerivedTable (meanings_by program.now hooks limit false) store.old table.old
+        ensures derived { (hooks : List Operator) (limit : ℕ)
+            → IsDerivedTable (meanings_by program.now hooks limit false) store.old table.old
             → IsDerivedTable (meanings_by program.now hooks limit false) store.new table.new }
         ensures stage { IfOk result (StageOf program.now store.new table.new self.new) }
         ensures term { self.new.term ≡ self.old.term }

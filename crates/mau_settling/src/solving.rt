@@ -44,14 +44,19 @@ pub trait ConditionSolver {
         requires signature { IsLawful (terms_over program.now.sig) }
         requires over { AreOver program.now.sig.hierarchy table.old }
         requires closed { IsClosedTable store.old table.old }
-        requires bound { (m : Statement.Membership) → slice_get program.now.memberships membership ≡ Some m → IsSorted program.now.sig store.old table.old (tree_of m.left) bound.now }
-        ensures answered { (hooks : List Operator) (limit : ℕ) → right self.old program.now hooks limit → IsDerivedTable (meanings_by program.now hooks limit false) store.old table.old
+        requires bound { (m : Statement.Membership) → slice_get program.now.memberships membership ≡ Some m
+            → IsSorted program.now.sig store.old table.old (tree_of m.left) bound.now }
+        ensures answered { (hooks : List Operator) (limit : ℕ) → right self.old program.now hooks limit
+            → IsDerivedTable (meanings_by program.now hooks limit false) store.old table.old
             → IfOk result (IsAnsweredBy program.now hooks limit store.old membership bound.now) }
-        ensures ends { (hooks : List Operator) (limit : ℕ) → right self.old program.now hooks limit → IsDerivedTable (meanings_by program.now hooks limit false) store.old table.old
+        ensures ends { (hooks : List Operator) (limit : ℕ) → right self.old program.now hooks limit
+            → IsDerivedTable (meanings_by program.now hooks limit false) store.old table.old
             → IfErr result (IsEndedBy program.now hooks limit store.old membership bound.now) }
-        ensures derived { (hooks : List Operator) (limit : ℕ) → right self.old program.now hooks limit → IsDerivedTable (meanings_by program.now hooks limit false) store.old table.old
+        ensures derived { (hooks : List Operator) (limit : ℕ) → right self.old program.now hooks limit
+            → IsDerivedTable (meanings_by program.now hooks limit false) store.old table.old
             → IsDerivedTable (meanings_by program.now hooks limit false) store.new table.new }
-        ensures right { (p : Typed.Program) (hooks : List Operator) (limit : ℕ) → right self.old p hooks limit → right self.new p hooks limit }
+        ensures right { (p : Typed.Program) (hooks : List Operator) (limit : ℕ) → right self.old p hooks limit
+            → right self.new p hooks limit }
         ensures later { IsLater program.now store.old store.new table.old table.new };
 }
 
@@ -68,14 +73,19 @@ fn solve_next<S: ConditionSolver>(
     requires settling { IsSettling program.now store.old table.old settling.old }
     requires asking { IsAskingOf program.now settling.old }
     ensures settling { OnOk result (IsSettling program.now store.new table.new settling.new) }
-    ensures derives { (hooks : List Operator) (limit : ℕ) → S.right solver.old program.now hooks limit → IsDerivedTable (meanings_by program.now hooks limit false) store.old table.old
-        → DerivesCurrent program.now hooks limit store.old settling.old → OnOk result (DerivesCurrent program.now hooks limit store.new settling.new) }
-    ensures ends { (hooks : List Operator) (limit : ℕ) → S.right solver.old program.now hooks limit → IsDerivedTable (meanings_by program.now hooks limit false) store.old table.old
+    ensures derives { (hooks : List Operator) (limit : ℕ) → S.right solver.old program.now hooks limit
+        → IsDerivedTable (meanings_by program.now hooks limit false) store.old table.old
+        → DerivesCurrent program.now hooks limit store.old settling.old
+        → OnOk result (DerivesCurrent program.now hooks limit store.new settling.new) }
+    ensures ends { (hooks : List Operator) (limit : ℕ) → S.right solver.old program.now hooks limit
+        → IsDerivedTable (meanings_by program.now hooks limit false) store.old table.old
         → DerivesCurrent program.now hooks limit store.old settling.old
         → IfErr result (MayEnd (meanings_by program.now hooks limit false) (tree_at store.old settling.old.term.0)) }
-    ensures derived { (hooks : List Operator) (limit : ℕ) → S.right solver.old program.now hooks limit → IsDerivedTable (meanings_by program.now hooks limit false) store.old table.old
+    ensures derived { (hooks : List Operator) (limit : ℕ) → S.right solver.old program.now hooks limit
+        → IsDerivedTable (meanings_by program.now hooks limit false) store.old table.old
         → IsDerivedTable (meanings_by program.now hooks limit false) store.new table.new }
-    ensures right { (p : Typed.Program) (hooks : List Operator) (limit : ℕ) → S.right solver.old p hooks limit → S.right solver.new p hooks limit }
+    ensures right { (p : Typed.Program) (hooks : List Operator) (limit : ℕ) → S.right solver.old p hooks limit
+        → S.right solver.new p hooks limit }
     ensures term { settling.new.term ≡ settling.old.term }
     ensures later { IsLater program.now store.old store.new table.old table.new }
 {
@@ -109,11 +119,14 @@ pub fn settle_by<L: WholeLister + Drop, S: ConditionSolver>(
     requires over { AreOver program.now.sig.hierarchy table.old }
     requires closed { IsClosedTable store.old table.old }
     ensures settled { OnOk result (AreSettled program.now.sig store.new table.new (tree_at store.old term.0)) }
-    ensures derived { (hooks : List Operator) (limit : ℕ) → S.right solver.old program.now hooks limit → IsDerivedTable (meanings_by program.now hooks limit false) store.old table.old
+    ensures derived { (hooks : List Operator) (limit : ℕ) → S.right solver.old program.now hooks limit
+        → IsDerivedTable (meanings_by program.now hooks limit false) store.old table.old
         → IsDerivedTable (meanings_by program.now hooks limit false) store.new table.new }
-    ensures ends { (hooks : List Operator) (limit : ℕ) → S.right solver.old program.now hooks limit → IsDerivedTable (meanings_by program.now hooks limit false) store.old table.old
+    ensures ends { (hooks : List Operator) (limit : ℕ) → S.right solver.old program.now hooks limit
+        → IsDerivedTable (meanings_by program.now hooks limit false) store.old table.old
         → IfErr result (MayEnd (meanings_by program.now hooks limit false) (tree_at store.old term.0)) }
-    ensures right { (p : Typed.Program) (hooks : List Operator) (limit : ℕ) → S.right solver.old p hooks limit → S.right solver.new p hooks limit }
+    ensures right { (p : Typed.Program) (hooks : List Operator) (limit : ℕ) → S.right solver.old p hooks limit
+        → S.right solver.new p hooks limit }
     ensures later { IsLater program.now store.old store.new table.old table.new }
 {
     let begun = begin_settling(store, program, term);

@@ -34,7 +34,8 @@ fn step_down(
     argument: TermId,
 ) -> Result<(), NoMemory>
     requires next { place.next < 18446744073709551615 }
-    ensures path { (nodes : List Node) (root : ℕ) → All (IsPlaceIn nodes table.now root) path.old.items → IsPlaceIn nodes table.now root place
+    ensures path { (nodes : List Node) (root : ℕ) → All (IsPlaceIn nodes table.now root) path.old.items
+        → IsPlaceIn nodes table.now root place
         → IsArgumentAt nodes place argument.0 → OnOk result (All (IsPlaceIn nodes table.now root) path.new.items) }
 {
     if table.is_settled(argument) {
