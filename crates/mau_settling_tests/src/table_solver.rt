@@ -1,6 +1,4 @@
 //! Conditions that test sorts of variables, solved by a table of sorts.
-ghost use Rattle.std.specs.Prelude.{ℕ, List};
-
 use mau_api::EvalEnd;
 use mau_program::{Fragment, Program};
 use mau_settling::ConditionSolver;
@@ -47,9 +45,6 @@ fn condition_holds(table: &SortTable, bound: &[(VarId, TermId)], condition: &[Fr
 }
 
 impl ConditionSolver for TableSolver {
-    ghost use Rattle.mau_program.specs.declared.program.Program as Typed;
-    ghost use Rattle.mau_formula.specs.Operator.{Operator};
-
     ghost right = { λ _ _ _ _. ⊥ };
 
     fn holds(
