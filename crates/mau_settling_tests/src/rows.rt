@@ -1,15 +1,19 @@
 //! Rows: a module, a term, which conditions are asked for in which order, and the sorts of what is settled in that order.
-ghost use Rattle.std.specs.Prelude.{◌≤◌, length, IfOk};
+ghost use Rattle.std.specs.Prelude.{◌≤◌, length};
+ghost use Rattle.mau_api.specs.Terms.{IsTerm};
+ghost use Rattle.mau_module.specs.Lawful.{program_of};
 ghost use Rattle.mau_program.specs.LawfulPrograms.{IsLawfulProgram};
 
 use crate::reading::{module_of, term_of};
 use crate::table_solver::TableSolver;
 use mau_listing::is_lawful;
 use mau_match::Listing;
+use mau_module::Module;
 use mau_program::Program;
 use mau_settling::settle_by;
 use mau_sorts::SortTable;
 use mau_store::Store;
+use mau_terms::TermId;
 use std::alloc::Global;
 use std::process::Abort;
 use std::test::Fail;
@@ -42,34 +46,62 @@ fn show_sorts(program: &Program, table: &SortTable, shown: &mut String) -> Resul
     Ok(())
 }
 
-/// Settles the term of a text, and stops before one more condition than so many.
-fn settle_row(
-    rt: &impl Abort,
+/// Settles a term, and stops before one more condition than so many. Which conditions were asked for, `!` where it stopped, and the sorts.
+fn shown_of(
     alloc: Global,
-    module: &str,
-    term: &str,
+    program: &Program,
+    store: &mut Store,
+    id: TermId,
     left: u32,
-    expected: &str,
-) -> Result<(), Fail>
-    requires module { length module.now ≤ 16777216 }
-    requires term { length term.now ≤ 16777216 }
+) -> Result<String, Fail>
+    requires lawful { IsLawfulProgram program.now }
+    requires term { IsTerm program.now.sig store.old id.0 }
 {
-    let module = module_of(alloc, module)?;
-    let mut store = Store::new(alloc);
-    let id = term_of(rt, alloc, &module, &mut store, term)?;
     let mut table = SortTable::new(alloc);
     let mut solver = TableSolver {
         log: String::new(alloc),
         left,
     };
-    let program = module.program();
     is_lawful(&program.sig);
-    let ended = settle_by::<Listing, TableSolver>(&mut solver, &mut store, program, &mut table, id);
+    let ended = settle_by::<Listing, TableSolver>(&mut solver, store, program, &mut table, id);
     let mut shown = solver.log;
     if ended.is_err() {
         shown.push('!')?;
     }
     show_sorts(program, &table, &mut shown)?;
+    Ok(shown)
+}
+
+/// What is shown of the term of a text.
+fn shown_of_text(
+    rt: &impl Abort,
+    alloc: Global,
+    of: &Module,
+    term: &str,
+    left: u32,
+) -> Result<String, Fail>
+    requires lawful { IsLawfulProgram (program_of of.now) }
+    requires term { length term.now ≤ 16777216 }
+{
+    let mut store = Store::new(alloc);
+    let id = term_of(rt, alloc, of, &mut store, term)?;
+    shown_of(alloc, of.program(), &mut store, id, left)
+}
+
+/// Settles the term of a text over the module of another one.
+fn settle_row(
+    rt: &impl Abort,
+    alloc: Global,
+    text: &str,
+    term: &str,
+    left: u32,
+    expected: &str,
+) -> Result<(), Fail>
+    requires text { length text.now ≤ 16777216 }
+    requires term { length term.now ≤ 16777216 }
+{
+    let read = module_of(alloc, text)?;
+    let shown = shown_of_text(rt, alloc, &read, term, left)?;
     assert_eq!(rt; shown.as_str(), expected);
     Ok(())
 }
