@@ -31,6 +31,11 @@ const TWO: &str =
 const UNIT: &str =
     "fmod UNIT is sorts E L . subsort E < L . op e : -> L . op a : -> L . op _;_ : L L -> L [assoc id: e] . mb e : E . endfm ";
 
+/// Pairs of numerals, of which some are told to have a sort.
+const PAIR: &str =
+    "fmod PAIR is protecting NAT . sorts Up Pair . subsort Up < Pair . op pair : Nat Nat -> Pair . vars X Y : Nat .
+cmb pair(X, Y) : Up if X < Y . endfm ";
+
 /// Appends the name of the sort that is shown for each settled term, in the order in which they were settled.
 fn show_sorts(program: &Program, table: &SortTable, shown: &mut String) -> Result<(), Fail> {
     for id in table.settled() {
@@ -53,6 +58,7 @@ fn shown_of(
     store: &mut Store,
     id: TermId,
     left: u32,
+    equal: bool,
 ) -> Result<String, Fail>
     requires lawful { IsLawfulProgram program.now }
     requires term { IsTerm program.now.sig store.old id.0 }
@@ -61,6 +67,7 @@ fn shown_of(
     let mut solver = TableSolver {
         log: String::new(alloc),
         left,
+        equal,
     };
     is_lawful(&program.sig);
     let ended = settle_by::<Listing, TableSolver>(&mut solver, store, program, &mut table, id);
@@ -79,31 +86,30 @@ fn shown_of_text(
     of: &Module,
     term: &str,
     left: u32,
+    equal: bool,
 ) -> Result<String, Fail>
     requires lawful { IsLawfulProgram (program_of of.now) }
     requires term { length term.now ≤ 16777216 }
 {
     let mut store = Store::new(alloc);
     let id = term_of(rt, alloc, of, &mut store, term)?;
-    shown_of(alloc, of.program(), &mut store, id, left)
+    shown_of(alloc, of.program(), &mut store, id, left, equal)
 }
 
-/// Settles the term of a text over the module of another one.
-fn settle_row(
+/// What is shown of the term of a text over the module of another one.
+fn shown_row(
     rt: &impl Abort,
     alloc: Global,
     text: &str,
     term: &str,
     left: u32,
-    expected: &str,
-) -> Result<(), Fail>
+    equal: bool,
+) -> Result<String, Fail>
     requires text { length text.now ≤ 16777216 }
     requires term { length term.now ≤ 16777216 }
 {
     let read = module_of(alloc, text)?;
-    let shown = shown_of_text(rt, alloc, &read, term, left)?;
-    assert_eq!(rt; shown.as_str(), expected);
-    Ok(())
+    shown_of_text(rt, alloc, &read, term, left, equal)
 }
 
 /// Each row: the module, the term, and what is shown.
@@ -120,7 +126,17 @@ const ROWS: [(&str, &str, u32, &str); 7] = [
 #[test]
 fn sorts_of_memberships(rt: HostRuntime) -> Result<(), Fail> {
     for row in ROWS {
-        settle_row(&rt, rt.alloc(), row.0, row.1, row.2, row.3)?;
+        let shown = shown_row(&rt, rt.alloc(), row.0, row.1, row.2, false)?;
+        assert_eq!(rt; shown.as_str(), row.3);
     }
+    Ok(())
+}
+
+#[test]
+fn equal_conditions(rt: HostRuntime) -> Result<(), Fail> {
+    let up = shown_row(&rt, rt.alloc(), PAIR, "pair(1, 2)", 9, true)?;
+    assert!(rt; up.as_str().ends_with(" Up"));
+    let pair = shown_row(&rt, rt.alloc(), PAIR, "pair(2, 1)", 9, false)?;
+    assert!(rt; pair.as_str().ends_with(" Pair"));
     Ok(())
 }
