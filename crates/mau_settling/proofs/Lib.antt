@@ -16,3 +16,5 @@ pub mod Ended
 pub mod Leaves
 -- the causes of ends
 pub mod Causes
+-- entries, as an evaluator asks
+pub mod Entries

@@ -1,16 +1,18 @@
 -- What is proved of settling. Each is proved: a public function of the module `laws` has it for its contract.
-use Rattle.std.specs.Prelude.{◌≡◌, ℕ, suc, List, Bool, Option, Some}
+use Rattle.std.specs.Prelude.{◌≡◌, ◌↔◌, ℕ, suc, List, [], ◌∷◌, All, Bool, true, Option, Some}
 use Rattle.mau_terms.specs.Tree.{Tree}
+use Rattle.mau_terms.specs.Subst.{Variable}
+use Rattle.mau_signature.specs.Signature.{SignatureOf}
 use Rattle.mau_formula.specs.Operator.{Operator}
 use Rattle.mau_store.specs.Node.{Node, AreNodes, Extends}
-use Rattle.mau_store.specs.Trees.{tree_at}
+use Rattle.mau_store.specs.Trees.{tree_at, trees_at}
 use Rattle.mau_sorts.specs.SortSets.{SortsOf, IsIn}
-use Rattle.mau_sorts.specs.Table.{Table, entry_at, AreOver, KeepsEntries}
+use Rattle.mau_sorts.specs.Table.{Table, entry_at, IsSettled, AreOver, KeepsEntries}
 use Rattle.mau_listing.specs.Asked.{IsClosedTable}
 use Rattle.mau_sigcheck.specs.Built.{IsBuiltAndAccepted}
 use Rattle.mau_program.specs.declared.program.Program as Typed
 use Rattle.mau_evaluation.specs.Run.{Outcome}
-use Rattle.mau_evaluation.specs.Evaluation.{Binding, levels, settle}
+use Rattle.mau_evaluation.specs.Evaluation.{Binding, has_number, have_sorts, levels, settle}
 use Rattle.mau_evaluation.specs.HasSort.{HasHeads, HasSort}
 use Rattle.mau_api.specs.Programs.{program_over}
 use Rattle.mau_api.specs.Meanings.{meanings_by}
@@ -68,3 +70,29 @@ EntriesHaveDerivations =
     (p : Typed.Program) (hooks : List Operator) (limit : ℕ) (remembers : Bool) (nodes : List Node) (table : Table) →
     IsDerivedTable (meanings_by p hooks limit remembers) nodes table → (i : ℕ) (e : SortsOf) → entry_at table i ≡ Some e →
     IsNormalBare p.sig (tree_at nodes i) → (r : ℕ) → IsIn p.sig.hierarchy e r → HasSort (program_over p hooks) (tree_at nodes i) r
+
+-- ---- as an evaluator asks
+
+-- the entry of the number v has the sort r
+abbrev pub EntryHas : SignatureOf → Table → ℕ → ℕ → Type 0
+EntryHas s table v r = (e : SortsOf) × (entry_at table v ≡ Some e) × IsIn s.hierarchy e r
+
+-- the entries of values have the sorts of their variables
+abbrev pub HaveByEntries : SignatureOf → Table → List Variable → List ℕ → Type 0
+HaveByEntries s table [] vs = Unit {0}
+HaveByEntries s table (x ∷ xs) [] = ⊥
+HaveByEntries s table (x ∷ xs) (v ∷ vs) = EntryHas s table v x.1 × HaveByEntries s table xs vs
+
+-- the sorts of a term that has an entry are known from some number of levels on, and are those of the entry
+abbrev pub EntriesAreKnown : Type 0
+EntriesAreKnown =
+    (p : Typed.Program) (hooks : List Operator) (limit : ℕ) (remembers : Bool) (nodes : List Node) (table : Table) → IsDerivedTable (meanings_by p hooks limit remembers) nodes table →
+    (i : ℕ) (e : SortsOf) → entry_at table i ≡ Some e → IsNormalBare p.sig (tree_at nodes i) →
+    (ss : List ℕ) × IsKnownFrom (λ k. (levels (program_over p hooks) limit k).sorts (tree_at nodes i)) ss × ((r : ℕ) → IsIn p.sig.hierarchy e r ↔ (has_number ss r ≡ true))
+
+-- whether settled values have the sorts of variables is known, and is so where their entries have them
+abbrev pub ValuesAreTested : Type 0
+ValuesAreTested =
+    (p : Typed.Program) (hooks : List Operator) (limit : ℕ) (remembers : Bool) (nodes : List Node) (table : Table) → IsDerivedTable (meanings_by p hooks limit remembers) nodes table →
+    (xs : List Variable) (vs : List ℕ) → All (IsSettled table) vs → All (λ v. IsNormalBare p.sig (tree_at nodes v)) vs →
+    (ok : Bool) × IsKnownFrom (λ k. have_sorts (levels (program_over p hooks) limit k).sorts xs (trees_at nodes vs)) ok × ((ok ≡ true) ↔ HaveByEntries p.sig table xs vs)

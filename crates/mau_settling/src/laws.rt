@@ -1,5 +1,5 @@
 //! What is proved of settling. Each function does nothing and has a law for its contract.
-ghost use Rattle.mau_settling.specs.Laws.{DueStays, DueEndSorts, SettlingStays, DerivingStays, SettledIsKnown, EntriesHaveDerivations};
+ghost use Rattle.mau_settling.specs.Laws.{DueStays, DueEndSorts, SettlingStays, DerivingStays, SettledIsKnown, EntriesHaveDerivations, EntriesAreKnown, ValuesAreTested};
 ghost use Rattle.mau_settling.specs.Solving.{ConditionsMayEnd};
 
 /// What is due stays due in a store and a table that grow.
@@ -35,4 +35,14 @@ pub fn entries_have_derivations()
 /// Where the condition that is asked ends, settling may end so.
 pub fn conditions_may_end()
     ensures { ConditionsMayEnd }
+{}
+
+/// The sorts of a term that has an entry are known, and are those of the entry.
+pub fn entries_are_known()
+    ensures { EntriesAreKnown }
+{}
+
+/// Whether settled values have the sorts of variables is known.
+pub fn values_are_tested()
+    ensures { ValuesAreTested }
 {}
