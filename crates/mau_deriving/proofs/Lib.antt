@@ -22,3 +22,5 @@ pub mod DerivedMore
 pub mod Below
 -- a derivation as it is kept
 pub mod Kept
+-- what was derived outlives what others do
+pub mod Outlived

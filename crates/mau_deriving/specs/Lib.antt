@@ -12,6 +12,8 @@ pub mod Derivations
 pub mod Laws
 -- the derivation as it is kept
 pub mod Asking
+-- what was derived outlives what others do
+pub mod Outliving
 -- ---- what only inner contracts and proofs cite
 
 -- all solutions of a pattern, as they are bound

@@ -9,6 +9,7 @@ ghost use Rattle.mau_formula.specs.Operator.{Operator};
 ghost use Rattle.mau_store.specs.Node.{Node};
 ghost use Rattle.mau_store.specs.Trees.{tree_at};
 ghost use Rattle.mau_sorts.specs.Table.{Table, IsSettled, AreOver, KeepsEntries};
+ghost use Rattle.mau_listing.specs.Asked.{IsClosedTable};
 ghost use Rattle.mau_program.specs.declared.program.Program as Typed;
 ghost use Rattle.mau_program.specs.declared.statements.Membership as Statement;
 ghost use Rattle.mau_program.specs.LawfulPrograms.{IsLawfulProgram};
@@ -166,6 +167,7 @@ impl Deriving {
         ensures derived { (hooks : List Operator) (limit : ℕ) → Derives program.now hooks limit store.now self.now
             → IsDerivedTable (meanings_by program.now hooks limit false) store.now table.old
             → IsDerivedTable (meanings_by program.now hooks limit false) store.now table.new }
+        ensures closed { IsClosedTable store.now table.old → IsClosedTable store.now table.new }
         ensures kept { KeepsEntries table.old table.new }
         ensures over { AreOver program.now.sig.hierarchy table.new }
     {

@@ -1,5 +1,6 @@
 //! What is proved of derived sorts. Each function does nothing and has a law for its contract.
 ghost use Rattle.mau_deriving.specs.Laws.{DerivationsBegin, AnswersGoOn, MembershipsGoOn, DerivationsFinish, ConditionsEndSorts, ConstantsAskOnce, EntriesAreDerived, ArgumentsEndSorts, SettledAreKnown, IdentitiesEndSettling, SortsEndSettling, SettlingIsKnown};
+ghost use Rattle.mau_deriving.specs.Outliving.{StandingOutlives, DerivationsOutlive, AnswersOutlive, EntriesOutlive};
 
 /// A derivation begins with what the first membership asks.
 pub fn derivations_begin()
@@ -59,4 +60,24 @@ pub fn sorts_end_settling()
 /// And it is known where they are known.
 pub fn settling_is_known()
     ensures { SettlingIsKnown }
+{}
+
+/// A derivation stands where the store and the table have grown.
+pub fn standing_outlives()
+    ensures { StandingOutlives }
+{}
+
+/// And it derives what it derived.
+pub fn derivations_outlive()
+    ensures { DerivationsOutlive }
+{}
+
+/// What was answered is answered so with a larger budget of each condition.
+pub fn answers_outlive()
+    ensures { AnswersOutlive }
+{}
+
+/// An evaluator's table is one with a larger budget of each condition.
+pub fn entries_outlive()
+    ensures { EntriesOutlive }
 {}

@@ -1,6 +1,7 @@
 use Rattle.std.proofs.Common.{◌≡◌, true, false, sym, ◌∙◌, subst}
 use Rattle.mau_sorts.specs.SortSets.{AreSorts}
 use Rattle.mau_sorts.proofs.Settling.{kept_same}
+use Rattle.mau_listing.proofs.Closed.{closed_same, closed_more}
 use Rattle.mau_deriving.proofs.Kept.{ready_in, derived_same, entered_in}
 use Rattle.mau_deriving.proofs.derivation.Deriving.enter.Goals as goal
 
@@ -46,3 +47,15 @@ returns-clause-kept c = c.in_ok-settle_declared.ensures.kept
 
 pub returns-clause-over : goal.returns-clause-over
 returns-clause-over c = c.in_ok-settle_declared.ensures.over
+
+pub returns-then-is_settled-clause-closed : goal.returns-then-is_settled-clause-closed
+returns-then-is_settled-clause-closed c = λ h. h
+
+pub returns-in_err-settle_declared-clause-closed : goal.returns-in_err-settle_declared-clause-closed
+returns-in_err-settle_declared-clause-closed c = closed_same c.args.store.now c.args.table.now c.settle_declared.new.self c.in_err-settle_declared.ensures.unchanged
+
+pub returns-clause-closed : goal.returns-clause-closed
+returns-clause-closed c =
+    closed_more c.args.program.now.sig c.args.store.now c.args.table.now c.settle_declared.new.self c.args.self.now.term.0
+    (ready_in c.args.program.now.sig c.requires.signature c.args.store.now c.has_nodes.ensures c.args.table.now c.args.self.now.term.0 c.requires.stands.can_be_asked)
+    c.in_ok-settle_declared.ensures.kept c.in_ok-settle_declared.ensures.ok.others

@@ -1,0 +1,9 @@
+//! Tests of settling, over modules of texts.
+#![tactic(auto)]
+
+#[cfg(test)]
+mod reading;
+#[cfg(test)]
+mod rows;
+#[cfg(test)]
+mod table_solver;
