@@ -1,0 +1,11 @@
+-- steps in a row, and steps in the first part of what is left
+pub mod Steps
+-- engines that have no answer to some question
+pub mod Engines
+-- a condition that is asked on and on
+pub mod Askings
+pub mod Passing
+-- the solutions that come behind one
+pub mod Behind
+-- what is left of the uses of a rule, with one engine
+pub mod Moves

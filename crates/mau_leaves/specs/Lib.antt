@@ -1,0 +1,6 @@
+-- The results of leaves, one after another.
+
+-- what is left of answers, as steps are taken
+pub mod Steps
+-- the uses of rules at a term, and what is left of them
+pub mod Uses
