@@ -9,3 +9,7 @@ pub mod Passing
 pub mod Behind
 -- what is left of the uses of a rule, with one engine
 pub mod Moves
+-- what is said of a computation at some limits holds from some limits on
+pub mod Limits
+-- steps throughout, by what an evaluator answered
+pub mod Throughs

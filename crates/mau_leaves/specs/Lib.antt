@@ -4,3 +4,5 @@
 pub mod Steps
 -- the uses of rules at a term, and what is left of them
 pub mod Uses
+-- what the answers of an evaluator say of its engines
+pub mod Answers
