@@ -4,7 +4,6 @@ pub mod Steps
 pub mod Engines
 -- a condition that is asked on and on
 pub mod Askings
-pub mod Passing
 -- the solutions that come behind one
 pub mod Behind
 -- what is left of the uses of a rule, with one engine
@@ -13,3 +12,7 @@ pub mod Moves
 pub mod Limits
 -- steps throughout, by what an evaluator answered
 pub mod Throughs
+-- a search in a store that has grown
+pub mod Searching
+-- the next solution of a rule's left side, as a listing gives it
+pub mod Listings

@@ -12,7 +12,7 @@ use Rattle.mau_evaluation.specs.Answers.{Answers, no_more, ends_by, answers_of, 
 use Rattle.mau_evaluation.specs.OrderedLists.{asked}
 use Rattle.mau_leaves.specs.Steps.{Gives, IsOver, Passes, EndsNow}
 use Rattle.mau_leaves.specs.Uses.{Use, behind, at_one, solutions_behind, use_by, condition_from, uses_for, uses_at, uses_among, IsLeft}
-use Rattle.mau_leaves.proofs.Passing.{AllFail, no_more_fail, one_fails}
+use Rattle.mau_rules.proofs.Passing.{AllFail, no_more_fail, one_fails}
 use Rattle.mau_leaves.proofs.Engines.{AsksRightly}
 use Rattle.mau_leaves.proofs.Askings.{asked_gives, asked_over, asked_ends}
 

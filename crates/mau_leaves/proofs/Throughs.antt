@@ -18,7 +18,7 @@ use Rattle.mau_api.specs.declared.results.EvalEnd.TheVariants.{Stopped, TooDeep,
 use Rattle.mau_leaves.specs.Steps.{Gives, IsOver, Passes, EndsNow, Throughout, IsDue}
 use Rattle.mau_leaves.specs.Uses.{Use, behind, at_one, solutions_behind, question_from, condition_from, IsLeft}
 use Rattle.mau_leaves.specs.Answers.{ComesTo, QuestionEnds, IsDueBy}
-use Rattle.mau_leaves.proofs.Passing.{AllFail}
+use Rattle.mau_rules.proofs.Passing.{AllFail}
 use Rattle.mau_leaves.proofs.Engines.{AsksRightly, without_right, budget_same, eval_or, sorts_or, condition_or, condition_there, eval_there}
 use Rattle.mau_leaves.proofs.Steps.{both_so, so, always_so}
 use Rattle.mau_leaves.proofs.Moves.{use_given, use_passed, use_ends, have_or, next_one, no_other}

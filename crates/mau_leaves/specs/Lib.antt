@@ -6,3 +6,5 @@ pub mod Steps
 pub mod Uses
 -- what the answers of an evaluator say of its engines
 pub mod Answers
+-- searches for the uses of one rule by the numbers of a store
+pub mod Searches

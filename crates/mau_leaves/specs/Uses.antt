@@ -1,8 +1,8 @@
 -- The uses of rules at a term, one after another: what they are, and what is left of them.
 use Rattle.std.specs.Prelude.{◌≡◌, ℕ, List, [], ◌∷◌, Bool, true, false, not, Option, Some, None}
-use Rattle.std.specs.Ordering.{is_lt}
 use Rattle.mau_terms.specs.Tree.{Tree}
 use Rattle.mau_terms.specs.Subst.{variables}
+use Rattle.mau_listing.specs.Finite.{comes_behind}
 use Rattle.mau_evaluation.specs.Run.{Run}
 use Rattle.mau_evaluation.specs.Program.{Fragment, Rule, Program}
 use Rattle.mau_evaluation.specs.Listing.{Solution, keep, compare, solutions_within}
@@ -24,14 +24,9 @@ pub data Stand : Type 0 where
   behind : Option Solution → Stand
   at_one : Solution → Option Binding → Stand
 
--- those that come behind a solution, or all
-abbrev pub comes_behind : Program → Tree → Option Solution → Solution → Bool
-comes_behind P p None y = true
-comes_behind P p (Some x) y = is_lt (compare P.sign.theory p x y)
-
--- the solutions of a rule's left side in t behind one
+-- the solutions of a rule's left side in t behind one, or all
 abbrev pub solutions_behind : Program → Rule → Tree → Option Solution → List Solution
-solutions_behind P q t last = keep (comes_behind P q.left last) (solutions_within P.sign q.left t)
+solutions_behind P q t last = keep (comes_behind (compare P.sign.theory q.left) last) (solutions_within P.sign q.left t)
 
 abbrev pub use_by : Rule → Solution → Binding → Answers Use
 use_by q x σ' = answer (record { rule = q; solution = x; values = σ' }) no_more

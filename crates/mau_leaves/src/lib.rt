@@ -1,5 +1,7 @@
 //! The results of leaves of strategies, one after another, by any evaluator and any listing with contexts.
 #![tactic(auto)]
 
-/// A place holder.
-pub fn nothing() {}
+mod turn;
+mod uses;
+
+pub use uses::{RuleUses, Standing, next_use, start_uses};
