@@ -16,3 +16,5 @@ pub mod Throughs
 pub mod Searching
 -- the next solution of a rule's left side, as a listing gives it
 pub mod Listings
+-- the turns of a search
+pub mod Turns

@@ -26,7 +26,7 @@ use Rattle.mau_evaluation.specs.Answers.{Answers}
 use Rattle.mau_cond.proofs.Grown.{each, value_grown, bound_grown}
 use Rattle.mau_api.specs.Programs.{rule_of, program_over}
 use Rattle.mau_api.specs.Meanings.{Meanings}
-use Rattle.mau_api.specs.Answers.{binding_in, IsValueOf, IsSolutionOf}
+use Rattle.mau_api.specs.Answers.{binding_in, IsValueOf, IsSolutionOf, AreSettled}
 use Rattle.mau_reduce.specs.Trying.{solution_in}
 use Rattle.mau_reduce.proofs.KindsKept.{tree_kept}
 use Rattle.mau_reduce.proofs.LaterStores.{contexts_grown}
@@ -90,7 +90,7 @@ module _ (p : Typed.Program) (old new : List Node) (before after : Table) (exten
           let same = subject_same given is.ready in
           record {
             asked = is.asked;
-            settled = subst (λ (t : Tree). _) (sym same) (settled_grown p.sig old new before after (tree_at old a.subject.0) extends kept is.settled);
+            settled = subst (AreSettled p.sig new after) (sym same) (settled_grown p.sig old new before after (tree_at old a.subject.0) extends kept is.settled);
             ready = listings_go_on c p.sig old new before after extends kept over a given is.ready;
             at = by given same is.at;
             stands = stands_grown given (of_store given is.ready) s is.stands;
