@@ -16,5 +16,9 @@ pub mod Throughs
 pub mod Searching
 -- the next solution of a rule's left side, as a listing gives it
 pub mod Listings
+-- tables of an evaluator
+pub mod Tables
 -- the turns of a search
 pub mod Turns
+-- the condition of a rule, asked for the values of a solution
+pub mod Bound

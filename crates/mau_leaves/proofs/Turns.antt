@@ -37,12 +37,13 @@ use Rattle.mau_reduce.proofs.KindsKept.{tree_kept}
 use Rattle.mau_reduce.proofs.PlainTables.{settled_grown}
 use Rattle.mau_reduce.proofs.Candidates.{matchers_of}
 use Rattle.mau_rules.specs.Runnable.{IsRunnable, GoesBy}
+use Rattle.mau_rules.specs.Found.{IsValued}
 use Rattle.mau_rules.proofs.Answered.{derived_as, next_as}
 use Rattle.mau_rules.proofs.Valued.{listed_valued, listed_contexts, listed_of_kind}
 use Rattle.mau_leaves.specs.Steps.{Gives, IsOver, Passes, Throughout}
 use Rattle.mau_leaves.specs.Uses.{Use, Stand, behind, at_one, IsLeft}
 use Rattle.mau_leaves.specs.Answers.{IsNextShown, IsDueBy}
-use Rattle.mau_leaves.specs.Searches.{stand_of, left_in, use_in, last_in, IsUsable, IsAtSolution, IsShownFor, IsShownBehind, IsSearch}
+use Rattle.mau_leaves.specs.Searches.{stand_of, left_in, use_in, last_in, IsUsable, IsAtSolution, IsShownFor, IsShownBehind, StandsAt, IsSearch}
 use Rattle.mau_leaves.specs.declared.uses.Standing.{Standing}
 use Rattle.mau_leaves.specs.declared.uses.Standing.TheVariants.{Behind, Before, Within}
 use Rattle.mau_leaves.proofs.Steps.{through_always}
@@ -58,6 +59,15 @@ stand_at nodes x (Within found) h = refl
 stand_behind : (nodes : List Node) (given : Option Listed.Solution) → stand_of nodes given Behind ≡ behind (option_map (solution_in nodes) given)
 stand_behind nodes None = refl
 stand_behind nodes (Some x) = refl
+
+-- at a solution there is one
+pub never_none : (m : Meanings) (s : SignatureOf) (rule : Written.Rule) (nodes : List Node) (table : Table) (given : Option Listed.Solution) → given ≡ None → (k : Standing) → StandsAt m s rule nodes table given k → (k ≡ Behind → ⊥) → ⊥
+never_none m s rule nodes table given e k stands at = by k (subst (λ (o : Option Listed.Solution). StandsAt m s rule nodes table o k) e stands) at
+  where
+    by : (k : Standing) → StandsAt m s rule nodes table None k → (k ≡ Behind → ⊥) → ⊥
+    by Behind h at = at refl
+    by Before h at = h
+    by (Within found) h at = h
 
 module _ (p : Typed.Program) (run : IsRunnable p) (m : Meanings) (goes : GoesBy p m) (rule : Written.Rule) (old new : List Node) (before after : Table) (extends : Extends old new) (kept : KeepsEntries before after)
     (c : Bool) (a : Asked) where
@@ -138,6 +148,41 @@ module _ (p : Typed.Program) (run : IsRunnable p) (m : Meanings) (goes : GoesBy 
     passed_search over =
         let g = search_grown p old new before after extends kept m rule c a (Some x) s over is in
         record { asked = g.asked; settled = g.settled; ready = g.ready; at = g.at; stands = tt }
+
+  -- ---- the same where a listing gave x last
+
+  module _ (given : Option Listed.Solution) (x : Listed.Solution) (gave : given ≡ Some x) (s : Standing) (is : IsSearch c p m rule old before a given s) (at : s ≡ Behind → ⊥) where
+    here : IsSearch c p m rule old before a (Some x) s
+    here = subst (λ (o : Option Listed.Solution). IsSearch c p m rule old before a o s) gave is
+
+    pub found_at : (b : ℕ) (found : Vec (VarId × TermId) Global) → IsNextShown (program_over p m.hooks) b (last_in old s) (rule_of rule).cond (binding_of (tree_of rule.left) (solution_in old x)) new (Ok (Some found.items)) →
+        (u : Use) × (use_in rule new given (Within found) ≡ Some u) ×
+        Throughout (engine_of (program_over p m.hooks)) (left_in p m.hooks rule old a given s) (λ L. Gives (left_in p m.hooks rule old a given s L) u (left_in p m.hooks rule new a given (Within found) L))
+    found_at b found comes =
+        subst (λ (o : Option Listed.Solution). (u : Use) × (use_in rule new o (Within found) ≡ Some u) × Throughout (engine_of P) (Left old o s) (λ L. Gives (Left old o s L) u (Left new o (Within found) L))) (sym gave)
+        (found_turn x s here at b found comes)
+
+    pub passed_at : (b : ℕ) → IsNextShown (program_over p m.hooks) b (last_in old s) (rule_of rule).cond (binding_of (tree_of rule.left) (solution_in old x)) new (Ok None) →
+        Throughout (engine_of (program_over p m.hooks)) (left_in p m.hooks rule old a given s) (λ L. Passes (left_in p m.hooks rule old a given s L) (left_in p m.hooks rule new a given Behind L))
+    passed_at b comes =
+        subst (λ (o : Option Listed.Solution). Throughout (engine_of P) (Left old o s) (λ L. Passes (Left old o s L) (Left new o Behind L))) (sym gave) (passed_turn x s here at b comes)
+
+    pub due_at : (b : ℕ) (e : EvalEnd) → IsNextShown (program_over p m.hooks) b (last_in old s) (rule_of rule).cond (binding_of (tree_of rule.left) (solution_in old x)) new (Err e) →
+        IsDueBy (program_over p m.hooks) b (left_in p m.hooks rule old a given s) e
+    due_at b e h = subst (λ (o : Option Listed.Solution). IsDueBy P b (Left old o s) e) (sym gave) (due_turn x s here at b e h)
+
+    pub found_known : AreOver p.sig.hierarchy after → (found : Vec (VarId × TermId) Global) → All (IsValueOf p.sig new after) found.items →
+        IsSolutionOf m (rule_of rule).cond (binding_of (tree_of rule.left) (solution_in old x)) (binding_in new found.items) → IsSearch c p m rule new after a given (Within found)
+    found_known over found values solution = subst (λ (o : Option Listed.Solution). IsSearch c p m rule new after a o (Within found)) (sym gave) (found_search x s here at over found values solution)
+
+    pub passed_known : AreOver p.sig.hierarchy after → IsSearch c p m rule new after a given Behind
+    passed_known over = subst (λ (o : Option Listed.Solution). IsSearch c p m rule new after a o Behind) (sym gave) (passed_search x s here at over)
+
+    pub valued_at : IsValued p.sig old before (tree_of rule.left) x
+    valued_at = here.at.valued
+
+    pub shown_at : IsShownBehind m p.sig rule old before x s
+    shown_at = here.stands
 
   -- ---- a listing goes on
 

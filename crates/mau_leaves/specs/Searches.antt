@@ -1,5 +1,6 @@
 -- Searches for the uses of one rule by the numbers of a store: where they stand, and what is left.
 use Rattle.std.specs.Prelude.{◌≡◌, ℕ, List, [], map, All, Bool, true, false, Option, Some, None, IfSome, IsSome, Result, Ok, Err}
+use Rattle.std.specs.Option.{option_map}
 use Rattle.mau_terms.specs.Tree.{Tree}
 use Rattle.mau_terms.specs.Bare.{IsBareIn}
 use Rattle.mau_terms.specs.Reading.{reading}
@@ -55,11 +56,14 @@ abbrev pub use_in : Written.Rule → List Node → Option Listed.Solution → St
 use_in rule nodes (Some x) (Within found) = Some (record { rule = rule_of rule; solution = solution_in nodes x; values = binding_in nodes found.items })
 use_in rule nodes given s = None
 
--- the last solution of the condition
+-- the last solution of the condition, by numbers and as terms
+abbrev pub found_in : Standing → Option (List (VarId × TermId))
+found_in Behind = None
+found_in Before = None
+found_in (Within found) = Some found.items
+
 abbrev pub last_in : List Node → Standing → Option Binding
-last_in nodes Behind = None
-last_in nodes Before = None
-last_in nodes (Within found) = Some (binding_in nodes found.items)
+last_in nodes s = option_map (binding_in nodes) (found_in s)
 
 -- ---- what is known where it stands
 
@@ -80,9 +84,7 @@ pub record IsShownFor (m : Meanings) (s : SignatureOf) (rule : Written.Rule) (no
   pub solution : IsSolutionOf m (rule_of rule).cond (binding_of (tree_of rule.left) (solution_in nodes x)) (binding_in nodes found)
 
 abbrev pub IsShownBehind : Meanings → SignatureOf → Written.Rule → List Node → Table → Listed.Solution → Standing → Type 0
-IsShownBehind m s rule nodes table x Behind = Unit {0}
-IsShownBehind m s rule nodes table x Before = Unit {0}
-IsShownBehind m s rule nodes table x (Within found) = IsShownFor m s rule nodes table x found.items
+IsShownBehind m s rule nodes table x k = IfSome (found_in k) (IsShownFor m s rule nodes table x)
 
 -- at a solution there is one
 abbrev pub StandsAt : Meanings → SignatureOf → Written.Rule → List Node → Table → Option Listed.Solution → Standing → Type 0

@@ -13,7 +13,7 @@ ghost use Rattle.mau_reduce.specs.Trying.{solution_in};
 ghost use Rattle.mau_rules.specs.Runnable.{IsRunnable, GoesBy};
 ghost use Rattle.mau_rules.specs.Found.{IsValued};
 ghost use Rattle.mau_leaves.specs.Answers.{IsNextShown};
-ghost use Rattle.mau_leaves.specs.Searches.{IsUsable, IsShownFor, IsShownBehind, IsSearch, left_in, use_in, last_in, IsTurn, IsNextOne};
+ghost use Rattle.mau_leaves.specs.Searches.{IsUsable, IsShownFor, IsShownBehind, IsSearch, left_in, use_in, found_in, last_in, IsTurn, IsNextOne};
 ghost use Rattle.mau_leaves.specs.declared.uses.Standing.TheVariants as At;
 
 use crate::turn::Turn;
@@ -76,6 +76,17 @@ fn ask<E: Evaluator>(
     }
 }
 
+/// The solution of the condition behind which a search stands.
+fn last_of(standing: &Standing) -> Option<&[(VarId, TermId)]>
+    ensures { option_map (λ x. x.now) result ≡ found_in standing.now }
+{
+    match standing {
+        Standing::Within(found) => Some(found.as_slice()),
+        Standing::Before => None,
+        Standing::Behind => None,
+    }
+}
+
 /// The next solution of a rule's condition for a solution of its left side.
 fn next_shown<E: Evaluator>(
     program: &Program,
@@ -111,26 +122,16 @@ fn next_shown<E: Evaluator>(
         Ok(bound) => bound,
         Err(_) => return Err(EvalEnd::NoMemory),
     };
-    match standing {
-        Standing::Within(found) => ask(
-            program,
-            store,
-            evaluator,
-            rule.cond.items(),
-            &bound,
-            Some(found.as_slice()),
-            limit,
-        ),
-        Standing::Behind | Standing::Before => ask(
-            program,
-            store,
-            evaluator,
-            rule.cond.items(),
-            &bound,
-            None,
-            limit,
-        ),
-    }
+    let last = last_of(standing);
+    ask(
+        program,
+        store,
+        evaluator,
+        rule.cond.items(),
+        &bound,
+        last,
+        limit,
+    )
 }
 
 /// The next solution of a rule's condition, at the solution of its left side at which a search stands.
