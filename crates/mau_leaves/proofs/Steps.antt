@@ -1,12 +1,18 @@
 -- Steps in a row, and steps in the first part of what is left.
-use Rattle.std.proofs.Common.{◌≡◌, ◌⊎◌, inl, inr, ℕ, ◌+◌, ◌≤◌, refl, sym, ap, ◌∙◌, subst, arith}
-use Rattle.mau_evaluation.specs.Run.{End}
+use Rattle.std.proofs.Common.{◌≡◌, ◌⊎◌, inl, inr, ℕ, ◌+◌, ◌≤◌, Bool, true, false, Option, Some, Result, Ok, Err, refl, sym, ap, ◌∙◌, subst, arith}
+use Rattle.mau_evaluation.specs.Run.{End, stopped, too_deep, overflowed}
 use Rattle.mau_evaluation.specs.Program.{Program}
-use Rattle.mau_evaluation.specs.Engine.{Engine, Engines}
+use Rattle.mau_evaluation.specs.Engine.{Engine, Engines, engine_of}
 use Rattle.mau_evaluation.specs.Answers.{Answers, no_more, ends_by, answer, and_those}
 use Rattle.mau_evaluation.specs.Eventually.{Eventually}
 use Rattle.mau_evaluation.specs.Questions.{Question, without}
+use Rattle.mau_api.specs.declared.results.EvalEnd.{EvalEnd}
+use Rattle.mau_api.specs.declared.results.EvalEnd.TheVariants.{Stopped, TooDeep, Overflow, NoMemory}
+use Rattle.mau_api.specs.Answers.{levels_of_condition}
 use Rattle.mau_leaves.specs.Steps.{Gives, IsOver, Passes, EndsNow, Before, Throughout, IsDue}
+use Rattle.mau_leaves.specs.Answers.{IsDueBy}
+use Rattle.mau_leaves.specs.Searches.{IsTurn, IsNextOne}
+use Rattle.mau_leaves.specs.declared.turn.Turn.TheVariants.{Found, Passed, Over}
 
 left_of : (m n k : ℕ) → m + n ≤ k → m ≤ k
 left_of m n k h = omega arith
@@ -115,3 +121,28 @@ module _ {A : Type 0} (rest : Answers A) (now after : Answers A → Type 0) wher
 
   pub before_ends : (e : End) → EndsNow now e → EndsNow (Before rest now) e
   before_ends f g p (r, n, e) = e ∙ ap (λ z. and_those z rest) (g r n)
+
+-- ---- turns in a row
+
+module _ {A : Type 0} (P : Program) (b : ℕ) (old now new : Engine → Answers A → Type 0) (o : Option A) (passed : Throughout (engine_of P) old (λ L. Passes (old L) (now L))) where
+  pub due_then : (e : EvalEnd) → IsDueBy P b now e → IsDueBy P b old e
+  due_then Stopped h = then_due (engine_of P) old now passed P levels_of_condition b stopped h
+  due_then TooDeep h = then_due (engine_of P) old now passed P levels_of_condition b too_deep h
+  due_then Overflow h = then_due (engine_of P) old now passed P levels_of_condition b overflowed h
+  due_then NoMemory h = tt
+
+  pub found_then : IsTurn P b now new o (Ok Found) → IsNextOne P b old new o (Ok true)
+  found_then (x, e, t) = (x, e, then_gives (engine_of P) old now passed x new t)
+
+  pub passed_then : IsTurn P b now new o (Ok Passed) → Throughout (engine_of P) old (λ L. Passes (old L) (new L))
+  passed_then t = then_pass (engine_of P) old now passed new t
+
+  pub over_then : IsTurn P b now new o (Ok Over) → IsNextOne P b old new o (Ok false)
+  over_then t = then_over (engine_of P) old now passed t
+
+  pub ends_then : (e : EvalEnd) → IsTurn P b now new o (Err e) → IsNextOne P b old new o (Err e)
+  ends_then e (t, d) = (then_pass (engine_of P) old now passed new t, due_then e d)
+
+-- at the beginning nothing has passed
+pub none_passed : {A : Type 0} (P : Program) (now : Engine → Answers A → Type 0) → Throughout (engine_of P) now (λ L. Passes (now L) (now L))
+none_passed P now = through_always (engine_of P) now {H = λ L. Passes (now L) (now L)} (λ L p n. n)

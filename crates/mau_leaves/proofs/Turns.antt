@@ -43,7 +43,8 @@ use Rattle.mau_rules.proofs.Valued.{listed_valued, listed_contexts, listed_of_ki
 use Rattle.mau_leaves.specs.Steps.{Gives, IsOver, Passes, Throughout}
 use Rattle.mau_leaves.specs.Uses.{Use, Stand, behind, at_one, IsLeft}
 use Rattle.mau_leaves.specs.Answers.{IsNextShown, IsDueBy}
-use Rattle.mau_leaves.specs.Searches.{stand_of, left_in, use_in, last_in, IsUsable, IsAtSolution, IsShownFor, IsShownBehind, StandsAt, IsSearch}
+use Rattle.mau_leaves.specs.Searches.{stand_of, left_in, use_in, last_in, IsUsable, IsAtSolution, IsShownFor, IsShownBehind, StandsAt, IsSearch, IsTurn}
+use Rattle.mau_leaves.specs.declared.turn.Turn.{Turn}
 use Rattle.mau_leaves.specs.declared.uses.Standing.{Standing}
 use Rattle.mau_leaves.specs.declared.uses.Standing.TheVariants.{Behind, Before, Within}
 use Rattle.mau_leaves.proofs.Steps.{through_always}
@@ -247,3 +248,10 @@ module _ (p : Typed.Program) (run : IsRunnable p) (m : Meanings) (goes : GoesBy 
             });
             stands = tt;
           }
+
+-- the same with meanings that are the same
+pub turn_as : (p : Typed.Program) (rule : Written.Rule) (m n : Meanings) → n ≡ m → (b : ℕ) (old new : List Node) (a e : Asked) (given more : Option Listed.Solution) (s k : Standing) (r : Result Turn EvalEnd) →
+    IsTurn (program_over p n.hooks) b (left_in p n.hooks rule old a given s) (left_in p n.hooks rule new e more k) (use_in rule new more k) r →
+    IsTurn (program_over p m.hooks) b (left_in p m.hooks rule old a given s) (left_in p m.hooks rule new e more k) (use_in rule new more k) r
+turn_as p rule m n same b old new a e given more s k r h =
+    subst (λ (z : Meanings). IsTurn (program_over p z.hooks) b (left_in p z.hooks rule old a given s) (left_in p z.hooks rule new e more k) (use_in rule new more k) r) same h

@@ -1,5 +1,5 @@
 //! The uses of one rule at a term, one after another: the solutions of its left side in order, and for each those of its condition.
-ghost use Rattle.std.specs.Prelude.{◌≡◌, List, [], map, All, true, Ok, IfOk, IfSome};
+ghost use Rattle.std.specs.Prelude.{◌≡◌, ℕ, List, [], map, All, true, Ok, IfOk, IfSome};
 ghost use Rattle.std.specs.Option.{option_map};
 ghost use Rattle.mau_terms.specs.View.{tree_of, variable_of};
 ghost use Rattle.mau_store.specs.Node.{Extends};
@@ -202,7 +202,7 @@ fn listed_on<E: Evaluator, L: Lister + Drop>(
     requires signature { L.is_for uses.old.listing program.now.sig }
     requires search { IsSearch L.with_context program.now (E.meanings evaluator.old) rule.now store.old (E.table evaluator.old) (L.asked uses.old.listing) (L.given uses.old.listing) uses.old.standing }
     requires behind { uses.old.standing ≡ At.Behind }
-    ensures turn { IsTurn (program_over program.now (E.meanings evaluator.old).hooks) (E.meanings evaluator.old).limit
+    ensures turn { (b : ℕ) → IsTurn (program_over program.now (E.meanings evaluator.old).hooks) b
         (left_in program.now (E.meanings evaluator.old).hooks rule.now store.old (L.asked uses.old.listing) (L.given uses.old.listing) uses.old.standing)
         (left_in program.now (E.meanings evaluator.old).hooks rule.now store.new (L.asked uses.new.listing) (L.given uses.new.listing) uses.new.standing)
         (use_in rule.now store.new (L.given uses.new.listing) uses.new.standing) result }

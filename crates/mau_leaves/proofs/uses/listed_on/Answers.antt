@@ -31,7 +31,7 @@ pub list-requires-clause-signature : goal.list-requires-clause-signature
 list-requires-clause-signature g c = subst (λ (p : Program). g.L.Lister.is_for c.args.uses.now.listing p.sig) (sym c.requires.goes_by.program) c.requires.signature
 
 pub returns-in-Ok-Some-clause-turn : goal.returns-in-Ok-Some-clause-turn
-returns-in-Ok-Some-clause-turn g c =
+returns-in-Ok-Some-clause-turn g c = λ b.
     let m = g.E.Evaluator.meanings c.args.evaluator.now in
     let p = c.args.program.now in
     let rule = c.args.rule.now in
@@ -54,7 +54,7 @@ returns-in-Ok-Some-clause-turn g c =
     let left : List Node → Asked → Option Listed.Solution → Standing → Engine → Answers Use → Type 0 = left_in p m.hooks rule in
     subst (λ (k : Standing). Throughout (engine_of (program_over p m.hooks)) (left old a given k) (λ L. Passes (left old a given k L) (left new (g.L.Lister.asked c.list.new.listing) (g.L.Lister.given c.list.new.listing) Before L))) (sym c.requires.behind)
     (subst (λ (o : Option Listed.Solution). Throughout (engine_of (program_over p m.hooks)) (left old a given Behind) (λ L. Passes (left old a given Behind L) (left new (g.L.Lister.asked c.list.new.listing) o Before L))) (sym gave)
-    (subst (λ (b : Asked). Throughout (engine_of (program_over p m.hooks)) (left old a given Behind) (λ L. Passes (left old a given Behind L) (left new b (Some x) Before L))) (sym c.list.ensures.asked) turn))
+    (subst (λ (asked : Asked). Throughout (engine_of (program_over p m.hooks)) (left old a given Behind) (λ L. Passes (left old a given Behind L) (left new asked (Some x) Before L))) (sym c.list.ensures.asked) turn))
 
 pub returns-in-Ok-Some-clause-search : goal.returns-in-Ok-Some-clause-search
 returns-in-Ok-Some-clause-search g c =
@@ -80,10 +80,10 @@ returns-in-Ok-Some-clause-search g c =
     let over = over_of p m (g.E.Evaluator.meanings c.list.new.self) c.list.ensures.meanings c.requires.goes_by.program new after (g.met.E.Evaluator.derived c.list.new.self new c.list.ensures.fits) in
     let known = listed_search p c.requires.runnable m c.requires.goes_by rule old new before after c.list.ensures.extends c.list.ensures.kept wc a c.requires.contexts given search derived s same x next over solves in
     subst (λ (o : Option Listed.Solution). IsSearch wc p m rule new after (g.L.Lister.asked c.list.new.listing) o Before) (sym gave)
-    (subst (λ (b : Asked). IsSearch wc p m rule new after b (Some x) Before) (sym c.list.ensures.asked) known)
+    (subst (λ (asked : Asked). IsSearch wc p m rule new after asked (Some x) Before) (sym c.list.ensures.asked) known)
 
 pub returns-in-Ok-None-clause-turn : goal.returns-in-Ok-None-clause-turn
-returns-in-Ok-None-clause-turn g c =
+returns-in-Ok-None-clause-turn g c = λ b.
     let m = g.E.Evaluator.meanings c.args.evaluator.now in
     let p = c.args.program.now in
     let rule = c.args.rule.now in
@@ -119,11 +119,11 @@ returns-in-Ok-None-clause-search g c =
     let over = over_of p m (g.E.Evaluator.meanings c.list.new.self) c.list.ensures.meanings c.requires.goes_by.program new after (g.met.E.Evaluator.derived c.list.new.self new c.list.ensures.fits) in
     let m = g.E.Evaluator.meanings c.args.evaluator.now in
     subst (λ (o : Option Listed.Solution). IsSearch wc p m rule new after (g.L.Lister.asked c.list.new.listing) o k) (sym gave)
-    (subst (λ (b : Asked). IsSearch wc p m rule new after b given k) (sym c.list.ensures.asked)
+    (subst (λ (asked : Asked). IsSearch wc p m rule new after asked given k) (sym c.list.ensures.asked)
     (search_grown p c.args.store.now new before after c.list.ensures.extends c.list.ensures.kept m rule wc a given k over c.requires.search))
 
 pub returns-clause-turn : goal.returns-clause-turn
-returns-clause-turn g c =
+returns-clause-turn g c = λ b.
     let m = g.E.Evaluator.meanings c.args.evaluator.now in
     let p = c.args.program.now in
     let rule = c.args.rule.now in
@@ -136,7 +136,7 @@ returns-clause-turn g c =
     let gave : g.L.Lister.given c.list.new.listing ≡ given = c.in-Err.ensures.unchanged in
     let h = still p c.requires.runnable m c.requires.goes_by rule old new (g.E.Evaluator.table c.args.evaluator.now) (g.E.Evaluator.table c.list.new.self) c.list.ensures.extends c.list.ensures.kept g.L.Lister.with_context a given k c.requires.search in (
       subst (λ (o : Option Listed.Solution). Throughout (engine_of (program_over p m.hooks)) (left old a given k) (λ L. Passes (left old a given k L) (left new (g.L.Lister.asked c.list.new.listing) o k L))) (sym gave)
-          (subst (λ (b : Asked). Throughout (engine_of (program_over p m.hooks)) (left old a given k) (λ L. Passes (left old a given k L) (left new b given k L))) (sym c.list.ensures.asked) h),
+          (subst (λ (asked : Asked). Throughout (engine_of (program_over p m.hooks)) (left old a given k) (λ L. Passes (left old a given k L) (left new asked given k L))) (sym c.list.ensures.asked) h),
       tt,
     )
 
@@ -155,7 +155,7 @@ returns-clause-search g c =
     let gave : g.L.Lister.given c.list.new.listing ≡ given = c.in-Err.ensures.unchanged in
     let over = over_of p m (g.E.Evaluator.meanings c.list.new.self) c.list.ensures.meanings c.requires.goes_by.program new after (g.met.E.Evaluator.derived c.list.new.self new c.list.ensures.fits) in
     subst (λ (o : Option Listed.Solution). IsSearch wc p m rule new after (g.L.Lister.asked c.list.new.listing) o k) (sym gave)
-    (subst (λ (b : Asked). IsSearch wc p m rule new after b given k) (sym c.list.ensures.asked)
+    (subst (λ (asked : Asked). IsSearch wc p m rule new after asked given k) (sym c.list.ensures.asked)
     (search_grown p c.args.store.now new before after c.list.ensures.extends c.list.ensures.kept m rule wc a given k over c.requires.search))
 
 pub returns-in-Ok-Some-clause-signature : goal.returns-in-Ok-Some-clause-signature
