@@ -22,3 +22,5 @@ pub mod Tables
 pub mod Turns
 -- the condition of a rule, asked for the values of a solution
 pub mod Bound
+-- rules at a term, one after another
+pub mod Places

@@ -146,3 +146,28 @@ module _ {A : Type 0} (P : Program) (b : ℕ) (old now new : Engine → Answers 
 -- at the beginning nothing has passed
 pub none_passed : {A : Type 0} (P : Program) (now : Engine → Answers A → Type 0) → Throughout (engine_of P) now (λ L. Passes (now L) (now L))
 none_passed P now = through_always (engine_of P) now {H = λ L. Passes (now L) (now L)} (λ L p n. n)
+
+-- ---- steps in the first part, throughout
+
+module _ {A : Type 0} (E : Engines) (rest : Engine → Answers A) (now after : Engine → Answers A → Type 0) where
+  pub first_gives : (x : A) → Throughout E now (λ L. Gives (now L) x (after L)) → Throughout E (λ L. Before (rest L) (now L)) (λ L. Gives (Before (rest L) (now L)) x (Before (rest L) (after L)))
+  first_gives x =
+      through_as E now (λ L. Before (rest L) (now L)) {H = λ L. Gives (now L) x (after L)} {K = λ L. Gives (Before (rest L) (now L)) x (Before (rest L) (after L))}
+      (λ L h. before_gives (rest L) (now L) (after L) x h) (λ L e h. before_ends (rest L) (now L) (after L) e h)
+
+  pub first_passes : Throughout E now (λ L. Passes (now L) (after L)) → Throughout E (λ L. Before (rest L) (now L)) (λ L. Passes (Before (rest L) (now L)) (Before (rest L) (after L)))
+  first_passes =
+      through_as E now (λ L. Before (rest L) (now L)) {H = λ L. Passes (now L) (after L)} {K = λ L. Passes (Before (rest L) (now L)) (Before (rest L) (after L))}
+      (λ L h. before_passes (rest L) (now L) (after L) h) (λ L e h. before_ends (rest L) (now L) (after L) e h)
+
+  pub first_over : Throughout E now (λ L. IsOver (now L)) → Throughout E (λ L. Before (rest L) (now L)) (λ L. Passes (Before (rest L) (now L)) (λ p. p ≡ rest L))
+  first_over =
+      through_as E now (λ L. Before (rest L) (now L)) {H = λ L. IsOver (now L)} {K = λ L. Passes (Before (rest L) (now L)) (λ p. p ≡ rest L)}
+      (λ L h. before_over (rest L) (now L) (after L) h) (λ L e h. before_ends (rest L) (now L) (after L) e h)
+
+module _ {A : Type 0} (P : Program) (b : ℕ) (rest : Engine → Answers A) (now : Engine → Answers A → Type 0) where
+  pub first_due : (e : EvalEnd) → IsDueBy P b now e → IsDueBy P b (λ L. Before (rest L) (now L)) e
+  first_due Stopped h = due_as (engine_of P) now (λ L. Before (rest L) (now L)) (λ L e k. before_ends (rest L) (now L) (now L) e k) P levels_of_condition b stopped h
+  first_due TooDeep h = due_as (engine_of P) now (λ L. Before (rest L) (now L)) (λ L e k. before_ends (rest L) (now L) (now L) e k) P levels_of_condition b too_deep h
+  first_due Overflow h = due_as (engine_of P) now (λ L. Before (rest L) (now L)) (λ L e k. before_ends (rest L) (now L) (now L) e k) P levels_of_condition b overflowed h
+  first_due NoMemory h = tt

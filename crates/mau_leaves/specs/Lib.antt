@@ -8,3 +8,5 @@ pub mod Uses
 pub mod Answers
 -- searches for the uses of one rule by the numbers of a store
 pub mod Searches
+-- searches for the uses of all rules at a term
+pub mod AtPlace

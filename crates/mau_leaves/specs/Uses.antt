@@ -11,7 +11,7 @@ use Rattle.mau_evaluation.specs.Engine.{Engine}
 use Rattle.mau_evaluation.specs.Rules.{bound_by, has_reach}
 use Rattle.mau_evaluation.specs.Questions.{Question, asks, asks_after}
 use Rattle.mau_evaluation.specs.Answers.{Answers, no_more, answer, answers_of, before, and_those, for_each, asking, when}
-use Rattle.mau_evaluation.specs.OrderedLists.{shown, asked_from, asked, may_use}
+use Rattle.mau_evaluation.specs.OrderedLists.{shown, asked_from, asked, may_use, is_labelled}
 
 -- a rule, a solution of its left side, with its contexts, and a solution of its condition
 pub record Use : Type 0 where
@@ -77,3 +77,18 @@ module _ (P : Program) (L : Engine) where
   IsLeft q σ t (at_one x last) p =
       (rest : Answers Binding) × IsAskedFrom last q.cond (bound_by P L q σ x) rest ×
       (p ≡ and_those (for_each (use_by q x) rest) (uses_among q σ (solutions_behind P q t (Some x))))
+
+  -- ---- several rules
+
+  -- the uses of a rule, where it is chosen and may be used with nothing assigned
+  abbrev pub uses_if_chosen : (Rule → Bool) → Tree → Rule → Answers Use
+  uses_if_chosen chosen t q = when (chosen q) (when (not (has_reach q.cond)) (when (may_use q []) (uses_by q [] t)))
+
+  -- those of each of some rules, one after another
+  abbrev pub uses_of_all : (Rule → Bool) → Tree → List Rule → Answers Use
+  uses_of_all chosen t qs = for_each (uses_if_chosen chosen t) (answers_of qs)
+
+-- all rules, or those with a label
+abbrev pub is_chosen : Option (List ℕ) → Rule → Bool
+is_chosen None q = true
+is_chosen (Some n) q = is_labelled n q.label

@@ -1,7 +1,9 @@
 //! The results of leaves of strategies, one after another, by any evaluator and any listing with contexts.
 #![tactic(none)]
 
+mod place;
 mod turn;
 mod uses;
 
+pub use place::{PlaceUses, next_at, start_place};
 pub use uses::{RuleUses, Standing, next_use, start_uses};

@@ -57,12 +57,14 @@ fn ask<E: Evaluator>(
     requires condition { IsAskable program.now.sig (map (λ b. variable_of b.0) bound.now) cond.now }
     requires bound { All (IsValueOf program.now.sig store.old (E.table evaluator.old)) bound.now }
     requires last { IfSome last (λ x. All (IsValueOf program.now.sig store.old (E.table evaluator.old)) x.now) }
-    requires solution { IfSome last (λ x. IsSolutionOf (E.meanings evaluator.old) (map fragment_of cond.now) (binding_in store.old bound.now) (binding_in store.old x.now)) }
-    ensures shown { IsNextShown (program_over program.now (E.meanings evaluator.old).hooks) limit (option_map (λ x. binding_in store.old x.now) last.entry)
-        (map fragment_of cond.now) (binding_in store.old bound.now) store.new (mapped (option_map (λ x. x.items)) result) }
+    requires solution { IfSome last (λ x.
+        IsSolutionOf (E.meanings evaluator.old) (map fragment_of cond.now) (binding_in store.old bound.now) (binding_in store.old x.now)) }
+    ensures shown { IsNextShown (program_over program.now (E.meanings evaluator.old).hooks) limit
+        (option_map (λ x. binding_in store.old x.now) last.entry) (map fragment_of cond.now) (binding_in store.old bound.now)
+        store.new (mapped (option_map (λ x. x.items)) result) }
     ensures values { IfOk result (λ o. IfSome o (λ x. All (IsValueOf program.now.sig store.new (E.table evaluator.new)) x.items)) }
-    ensures solution { IfOk result (λ o. IfSome o (λ x.
-        IsSolutionOf (E.meanings evaluator.old) (map fragment_of cond.now) (binding_in store.old bound.now) (binding_in store.new x.items))) }
+    ensures solution { IfOk result (λ o. IfSome o (λ x. IsSolutionOf (E.meanings evaluator.old)
+        (map fragment_of cond.now) (binding_in store.old bound.now) (binding_in store.new x.items))) }
     ensures extends { Extends store.old store.new }
     ensures fits { E.fits evaluator.new store.new }
     ensures kept { KeepsEntries (E.table evaluator.old) (E.table evaluator.new) }
@@ -102,9 +104,11 @@ fn next_shown<E: Evaluator>(
     requires limit { limit ≡ (E.meanings evaluator.old).limit }
     requires usable { IsUsable program.now.sig rule.now }
     requires valued { IsValued program.now.sig store.old (E.table evaluator.old) (tree_of rule.now.left) solution.now }
-    requires stands { IsShownBehind (E.meanings evaluator.old) program.now.sig rule.now store.old (E.table evaluator.old) solution.now standing.now }
+    requires stands { IsShownBehind (E.meanings evaluator.old) program.now.sig rule.now store.old (E.table evaluator.old)
+        solution.now standing.now }
     ensures shown { IsNextShown (program_over program.now (E.meanings evaluator.old).hooks) limit (last_in store.old standing.now)
-        (rule_of rule.now).cond (binding_of (tree_of rule.now.left) (solution_in store.old solution.now)) store.new (mapped (option_map (λ x. x.items)) result) }
+        (rule_of rule.now).cond (binding_of (tree_of rule.now.left) (solution_in store.old solution.now))
+        store.new (mapped (option_map (λ x. x.items)) result) }
     ensures values { IfOk result (λ o. IfSome o (λ x. All (IsValueOf program.now.sig store.new (E.table evaluator.new)) x.items)) }
     ensures solution { IfOk result (λ o. IfSome o (λ x. IsSolutionOf (E.meanings evaluator.old) (rule_of rule.now).cond
         (binding_of (tree_of rule.now.left) (solution_in store.old solution.now)) (binding_in store.new x.items))) }
@@ -148,13 +152,17 @@ fn asked_on<E: Evaluator, L: Lister + Drop>(
     requires fits { E.fits evaluator.old store.old }
     requires limit { limit ≡ (E.meanings evaluator.old).limit }
     requires usable { IsUsable program.now.sig rule.now }
-    requires search { IsSearch L.with_context program.now (E.meanings evaluator.old) rule.now store.old (E.table evaluator.old) (L.asked uses.old.listing) (L.given uses.old.listing) uses.old.standing }
+    requires search { IsSearch L.with_context program.now (E.meanings evaluator.old) rule.now store.old (E.table evaluator.old)
+        (L.asked uses.old.listing) (L.given uses.old.listing) uses.old.standing }
     requires within { uses.old.standing ≡ At.Behind → ⊥ }
     ensures turn { IsTurn (program_over program.now (E.meanings evaluator.old).hooks) limit
-        (left_in program.now (E.meanings evaluator.old).hooks rule.now store.old (L.asked uses.old.listing) (L.given uses.old.listing) uses.old.standing)
-        (left_in program.now (E.meanings evaluator.old).hooks rule.now store.new (L.asked uses.new.listing) (L.given uses.new.listing) uses.new.standing)
+        (left_in program.now (E.meanings evaluator.old).hooks rule.now store.old
+            (L.asked uses.old.listing) (L.given uses.old.listing) uses.old.standing)
+        (left_in program.now (E.meanings evaluator.old).hooks rule.now store.new
+            (L.asked uses.new.listing) (L.given uses.new.listing) uses.new.standing)
         (use_in rule.now store.new (L.given uses.new.listing) uses.new.standing) result }
-    ensures search { IsSearch L.with_context program.now (E.meanings evaluator.old) rule.now store.new (E.table evaluator.new) (L.asked uses.new.listing) (L.given uses.new.listing) uses.new.standing }
+    ensures search { IsSearch L.with_context program.now (E.meanings evaluator.old) rule.now store.new (E.table evaluator.new)
+        (L.asked uses.new.listing) (L.given uses.new.listing) uses.new.standing }
     ensures listing { uses.new.listing ≡ uses.old.listing }
     ensures extends { Extends store.old store.new }
     ensures fits { E.fits evaluator.new store.new }
@@ -200,13 +208,17 @@ fn listed_on<E: Evaluator, L: Lister + Drop>(
     requires fits { E.fits evaluator.old store.old }
     requires usable { IsUsable program.now.sig rule.now }
     requires signature { L.is_for uses.old.listing program.now.sig }
-    requires search { IsSearch L.with_context program.now (E.meanings evaluator.old) rule.now store.old (E.table evaluator.old) (L.asked uses.old.listing) (L.given uses.old.listing) uses.old.standing }
+    requires search { IsSearch L.with_context program.now (E.meanings evaluator.old) rule.now store.old (E.table evaluator.old)
+        (L.asked uses.old.listing) (L.given uses.old.listing) uses.old.standing }
     requires behind { uses.old.standing ≡ At.Behind }
     ensures turn { (b : ℕ) → IsTurn (program_over program.now (E.meanings evaluator.old).hooks) b
-        (left_in program.now (E.meanings evaluator.old).hooks rule.now store.old (L.asked uses.old.listing) (L.given uses.old.listing) uses.old.standing)
-        (left_in program.now (E.meanings evaluator.old).hooks rule.now store.new (L.asked uses.new.listing) (L.given uses.new.listing) uses.new.standing)
+        (left_in program.now (E.meanings evaluator.old).hooks rule.now store.old
+            (L.asked uses.old.listing) (L.given uses.old.listing) uses.old.standing)
+        (left_in program.now (E.meanings evaluator.old).hooks rule.now store.new
+            (L.asked uses.new.listing) (L.given uses.new.listing) uses.new.standing)
         (use_in rule.now store.new (L.given uses.new.listing) uses.new.standing) result }
-    ensures search { IsSearch L.with_context program.now (E.meanings evaluator.old) rule.now store.new (E.table evaluator.new) (L.asked uses.new.listing) (L.given uses.new.listing) uses.new.standing }
+    ensures search { IsSearch L.with_context program.now (E.meanings evaluator.old) rule.now store.new (E.table evaluator.new)
+        (L.asked uses.new.listing) (L.given uses.new.listing) uses.new.standing }
     ensures asked { L.asked uses.new.listing ≡ L.asked uses.old.listing }
     ensures signature { L.is_for uses.new.listing program.now.sig }
     ensures extends { Extends store.old store.new }
@@ -240,12 +252,16 @@ fn turn<E: Evaluator, L: Lister + Drop>(
     requires limit { limit ≡ (E.meanings evaluator.old).limit }
     requires usable { IsUsable program.now.sig rule.now }
     requires signature { L.is_for uses.old.listing program.now.sig }
-    requires search { IsSearch L.with_context program.now (E.meanings evaluator.old) rule.now store.old (E.table evaluator.old) (L.asked uses.old.listing) (L.given uses.old.listing) uses.old.standing }
+    requires search { IsSearch L.with_context program.now (E.meanings evaluator.old) rule.now store.old (E.table evaluator.old)
+        (L.asked uses.old.listing) (L.given uses.old.listing) uses.old.standing }
     ensures turn { IsTurn (program_over program.now (E.meanings evaluator.old).hooks) limit
-        (left_in program.now (E.meanings evaluator.old).hooks rule.now store.old (L.asked uses.old.listing) (L.given uses.old.listing) uses.old.standing)
-        (left_in program.now (E.meanings evaluator.old).hooks rule.now store.new (L.asked uses.new.listing) (L.given uses.new.listing) uses.new.standing)
+        (left_in program.now (E.meanings evaluator.old).hooks rule.now store.old
+            (L.asked uses.old.listing) (L.given uses.old.listing) uses.old.standing)
+        (left_in program.now (E.meanings evaluator.old).hooks rule.now store.new
+            (L.asked uses.new.listing) (L.given uses.new.listing) uses.new.standing)
         (use_in rule.now store.new (L.given uses.new.listing) uses.new.standing) result }
-    ensures search { IsSearch L.with_context program.now (E.meanings evaluator.old) rule.now store.new (E.table evaluator.new) (L.asked uses.new.listing) (L.given uses.new.listing) uses.new.standing }
+    ensures search { IsSearch L.with_context program.now (E.meanings evaluator.old) rule.now store.new (E.table evaluator.new)
+        (L.asked uses.new.listing) (L.given uses.new.listing) uses.new.standing }
     ensures asked { L.asked uses.new.listing ≡ L.asked uses.old.listing }
     ensures signature { L.is_for uses.new.listing program.now.sig }
     ensures extends { Extends store.old store.new }
@@ -272,7 +288,8 @@ pub fn start_uses<E: Evaluator, L: Lister + Drop>(
     requires usable { IsUsable program.now.sig rule.now }
     requires term { IsTerm program.now.sig store.now term.0 }
     requires settled { AreSettled program.now.sig store.now (E.table evaluator.now) (tree_at store.now term.0) }
-    ensures search { IfOk result (λ uses. IsSearch L.with_context program.now (E.meanings evaluator.now) rule.now store.now (E.table evaluator.now) (L.asked uses.listing) (L.given uses.listing) uses.standing) }
+    ensures search { IfOk result (λ uses. IsSearch L.with_context program.now (E.meanings evaluator.now) rule.now
+        store.now (E.table evaluator.now) (L.asked uses.listing) (L.given uses.listing) uses.standing) }
     ensures stands { IfOk result (λ uses. (L.given uses.listing ≡ None) × (uses.standing ≡ At.Behind)) }
     ensures subject { IfOk result (λ uses. (L.asked uses.listing).subject ≡ term) }
     ensures signature { IfOk result (λ uses. L.is_for uses.listing program.now.sig) }
@@ -303,12 +320,16 @@ pub fn next_use<E: Evaluator, L: Lister + Drop>(
     requires limit { limit ≡ (E.meanings evaluator.old).limit }
     requires usable { IsUsable program.now.sig rule.now }
     requires signature { L.is_for uses.old.listing program.now.sig }
-    requires search { IsSearch L.with_context program.now (E.meanings evaluator.old) rule.now store.old (E.table evaluator.old) (L.asked uses.old.listing) (L.given uses.old.listing) uses.old.standing }
+    requires search { IsSearch L.with_context program.now (E.meanings evaluator.old) rule.now store.old (E.table evaluator.old)
+        (L.asked uses.old.listing) (L.given uses.old.listing) uses.old.standing }
     ensures next { IsNextOne (program_over program.now (E.meanings evaluator.old).hooks) limit
-        (left_in program.now (E.meanings evaluator.old).hooks rule.now store.old (L.asked uses.old.listing) (L.given uses.old.listing) uses.old.standing)
-        (left_in program.now (E.meanings evaluator.old).hooks rule.now store.new (L.asked uses.new.listing) (L.given uses.new.listing) uses.new.standing)
+        (left_in program.now (E.meanings evaluator.old).hooks rule.now store.old
+            (L.asked uses.old.listing) (L.given uses.old.listing) uses.old.standing)
+        (left_in program.now (E.meanings evaluator.old).hooks rule.now store.new
+            (L.asked uses.new.listing) (L.given uses.new.listing) uses.new.standing)
         (use_in rule.now store.new (L.given uses.new.listing) uses.new.standing) result }
-    ensures search { IsSearch L.with_context program.now (E.meanings evaluator.old) rule.now store.new (E.table evaluator.new) (L.asked uses.new.listing) (L.given uses.new.listing) uses.new.standing }
+    ensures search { IsSearch L.with_context program.now (E.meanings evaluator.old) rule.now store.new (E.table evaluator.new)
+        (L.asked uses.new.listing) (L.given uses.new.listing) uses.new.standing }
     ensures asked { L.asked uses.new.listing ≡ L.asked uses.old.listing }
     ensures signature { L.is_for uses.new.listing program.now.sig }
     ensures extends { Extends store.old store.new }
