@@ -24,3 +24,5 @@ pub mod Turns
 pub mod Bound
 -- rules at a term, one after another
 pub mod Places
+-- one turn of a search at a term
+pub mod PlaceTurns

@@ -37,7 +37,7 @@ use Rattle.mau_rules.proofs.Shown.{lawful_rule, fragments_here}
 use Rattle.mau_leaves.specs.Steps.{Gives, IsOver, Passes, Before, Throughout}
 use Rattle.mau_leaves.specs.Uses.{Use, behind, solutions_behind, uses_among, uses_by, IsLeft, uses_if_chosen, uses_of_all}
 use Rattle.mau_leaves.specs.Answers.{IsDueBy}
-use Rattle.mau_leaves.specs.Searches.{left_in, use_in, IsUsable, IsTurn, IsNextOne}
+use Rattle.mau_leaves.specs.Searches.{stand_of, left_in, use_in, IsUsable, IsTurn, IsNextOne}
 use Rattle.mau_leaves.specs.AtPlace.{left_of_one, left_behind, use_of_one, use_behind}
 use Rattle.mau_leaves.specs.declared.turn.Turn.TheVariants.{Found, Passed, Over}
 use Rattle.mau_leaves.specs.declared.uses.RuleUses.{RuleUses}
@@ -170,3 +170,20 @@ module _ {K : Type 0} (asked : K → Asked) (given : K → Option Listed.Solutio
         (first_passes (engine_of Q) rest (own old u) (own new w) h)),
     subst (λ (f : Engine → Answers Use → Type 0). IsDueBy Q b f e) was (first_due Q b rest (own old u) e d),
   )
+
+-- ---- as a rule that is begun has them
+
+pub as_begun : {K : Type 0} (asked : K → Asked) (given : K → Option Listed.Solution) (p : Typed.Program) (hooks : List Operator) (chosen : Rule → Bool) → IsRunnable p → (nodes : List Node) (term n : ℕ) (rule : Written.Rule) →
+    slice_get p.rules n ≡ Some rule → chosen (rule_of rule) ≡ true → rule.exec ≡ true → (u : RuleUses K) → given u.listing ≡ None → u.standing ≡ Behind → (asked u.listing).subject.0 ≡ term →
+    Throughout (engine_of (program_over p hooks)) (left_behind asked given p hooks chosen (tree_at nodes term) nodes n None) (λ L.
+    Passes (left_behind asked given p hooks chosen (tree_at nodes term) nodes n None L) (left_behind asked given p hooks chosen (tree_at nodes term) nodes n (Some u) L))
+as_begun asked given p hooks chosen run nodes term n rule at is_one exec u none at_start subject =
+    subst (λ (f : Engine → Answers Use → Type 0). Throughout (engine_of (program_over p hooks)) (left_behind asked given p hooks chosen (tree_at nodes term) nodes n None) (λ L.
+    Passes (left_behind asked given p hooks chosen (tree_at nodes term) nodes n None L) (Before (uses_of_all (program_over p hooks) L chosen (tree_at nodes term) (map rule_of (drop (suc n) p.rules))) (f L)))) same
+    (begins p hooks chosen (tree_at nodes term) run n rule at is_one exec)
+  where
+    same : (λ (L : Engine). IsLeft (program_over p hooks) L (rule_of rule) [] (tree_at nodes term) (behind None)) ≡ left_of_one asked given p hooks (slice_get p.rules n) nodes u
+    same =
+        (λ i L. IsLeft (program_over p hooks) L (rule_of rule) [] (tree_at nodes (sym subject i)) (behind None))
+        ∙ ((λ i L. IsLeft (program_over p hooks) L (rule_of rule) [] (tree_at nodes (asked u.listing).subject.0) (stand_of nodes (sym none i) u.standing))
+        ∙ sym (ap (λ o. left_of_one asked given p hooks o nodes u) at))

@@ -85,7 +85,8 @@ fn go_through<E: Evaluator, L: Lister + Drop>(
         Some(uses) => uses,
         None => unreachable!(),
     };
-    match next_use(program, &rules[number], store, evaluator, uses, limit) {
+    let rule = &rules[number];
+    match next_use(program, rule, store, evaluator, uses, limit) {
         Ok(true) => Ok(Turn::Found),
         Ok(false) => {
             place.uses = None;
@@ -124,14 +125,15 @@ fn begin_rule<E: Evaluator, L: Lister + Drop>(
     if number >= rules.len() {
         return Ok(Turn::Over);
     }
-    if !is_asked(label, &rules[number]) {
+    let rule = &rules[number];
+    if !is_asked(label, rule) {
         place.number = number + 1;
         return Ok(Turn::Passed);
     }
-    if !rules[number].exec {
+    if !rule.exec {
         return Err(EvalEnd::NoMemory);
     }
-    match start_uses(program, &rules[number], store, evaluator, place.term) {
+    match start_uses(program, rule, store, evaluator, place.term) {
         Ok(uses) => {
             place.uses = Some(uses);
             Ok(Turn::Passed)
