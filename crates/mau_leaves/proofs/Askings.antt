@@ -1,13 +1,13 @@
 -- A condition that is asked on and on.
-use Rattle.std.proofs.Common.{◌≡◌, ℕ, List, [], ◌∷◌, ◌++◌, Option, Some, None, refl, sym, ap, ◌∙◌, subst}
+use Rattle.std.proofs.Common.{◌≡◌, ℕ, List, [], ◌∷◌, ◌++◌, Option, Some, None, refl, ap, ◌∙◌, subst}
 use Rattle.mau_evaluation.specs.Run.{End, Outcome, done, ended}
 use Rattle.mau_evaluation.specs.Program.{Fragment, Program}
 use Rattle.mau_evaluation.specs.Evaluation.{Binding}
 use Rattle.mau_evaluation.specs.Engine.{Engine}
-use Rattle.mau_evaluation.specs.Answers.{Answers, no_more, ends_by, answer, before, FirstBy}
-use Rattle.mau_evaluation.specs.OrderedLists.{shown, asked_from, asked}
+use Rattle.mau_evaluation.specs.Answers.{Answers, no_more, answer, before, FirstBy}
+use Rattle.mau_evaluation.specs.OrderedLists.{shown, asked_from}
 use Rattle.mau_leaves.specs.Steps.{Gives, IsOver, EndsNow}
-use Rattle.mau_leaves.specs.Uses.{condition_from, IsAskedBehind, IsAskedFrom}
+use Rattle.mau_leaves.specs.Uses.{condition_from, IsAskedFrom}
 use Rattle.mau_leaves.proofs.Engines.{AsksRightly}
 
 pub before_more : {A : Type 0} (xs : List A) (y : A) (p : Answers A) → before xs (answer y p) ≡ before (xs ++ y ∷ []) p

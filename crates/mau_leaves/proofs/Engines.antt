@@ -3,14 +3,14 @@ use Rattle.std.proofs.Common.{◌≡◌, ◌⊎◌, inl, inr, ℕ, List, [], ◌
 use Rattle.mau_terms.specs.Tree.{Tree}
 use Rattle.mau_terms.specs.Subst.{Variable, same_variable, variables, instance}
 use Rattle.mau_terms.proofs.Variables.{same_itself}
-use Rattle.mau_evaluation.specs.Run.{End, Outcome, done, ended, Run}
+use Rattle.mau_evaluation.specs.Run.{End, ended, Run}
 use Rattle.mau_evaluation.specs.Program.{Fragment, equals, matches, has_sort, reaches, Program}
 use Rattle.mau_evaluation.specs.Listing.{same_tree, keep, solutions}
 use Rattle.mau_evaluation.specs.Evaluation.{Binding, Level, look_up, extend, agree, has_number, have_sorts}
-use Rattle.mau_evaluation.specs.Engine.{Engine, Engines}
+use Rattle.mau_evaluation.specs.Engine.{Engine}
 use Rattle.mau_evaluation.specs.Answers.{Answers, answers_of, for_each, asking, when, FirstBy, answer, before}
 use Rattle.mau_evaluation.specs.OrderedLists.{shown, AsksFirst, AsksNext}
-use Rattle.mau_evaluation.specs.Questions.{Question, evaluates, takes_sorts, asks, asks_after, same_list, same_fragment, same_binding, same_condition, but_ends, without, EndsBy}
+use Rattle.mau_evaluation.specs.Questions.{Question, evaluates, takes_sorts, asks, asks_after, same_list, same_fragment, same_binding, same_condition, but_ends, without}
 use Rattle.mau_evaluation.proofs.Still.{same_tree_itself}
 use Rattle.mau_evaluation.proofs.BareTerms.{and_so}
 use Rattle.mau_leaves.specs.Uses.{condition_from, question_from}
@@ -30,7 +30,7 @@ but_there t n e m h = ap (λ c. if c then ended e else m n) (and_so t (n == n) h
 module _ (L : Engine) (q : Question) (e : End) where
   pub eval_or : (t : Tree) → ((without L q e).level.eval t (without L q e).budget ≡ L.level.eval t L.budget) ⊎ ((without L q e).level.eval t (without L q e).budget ≡ ended e)
   eval_or t = elim q as (λ q. ((without L q e).level.eval t (without L q e).budget ≡ L.level.eval t L.budget) ⊎ ((without L q e).level.eval t (without L q e).budget ≡ ended e)) [
-    evaluates u ↦ but_by (same_tree t u) L.budget e (L.level.eval t) L.budget
+    | evaluates u ↦ but_by (same_tree t u) L.budget e (L.level.eval t) L.budget
     | takes_sorts u ↦ inl refl
     | asks c σ ↦ inl refl
     | asks_after last c σ ↦ inl refl
@@ -39,7 +39,7 @@ module _ (L : Engine) (q : Question) (e : End) where
   -- sorts, which leave the budget as it is
   pub sorts_or : (v : Tree) → ((without L q e).level.sorts v (without L q e).budget ≡ L.level.sorts v L.budget) ⊎ ((without L q e).level.sorts v (without L q e).budget ≡ ended e)
   sorts_or v = elim q as (λ q. ((without L q e).level.sorts v (without L q e).budget ≡ L.level.sorts v L.budget) ⊎ ((without L q e).level.sorts v (without L q e).budget ≡ ended e)) [
-    evaluates u ↦ inl refl
+    | evaluates u ↦ inl refl
     | takes_sorts u ↦ but_by (same_tree v u) L.budget e (L.level.sorts v) L.budget
     | asks c σ ↦ inl refl
     | asks_after last c σ ↦ inl refl
@@ -47,7 +47,7 @@ module _ (L : Engine) (q : Question) (e : End) where
 
   ask_or : (c : List Fragment) (σ : Binding) → ((without L q e).ask c σ (without L q e).budget ≡ L.ask c σ L.budget) ⊎ ((without L q e).ask c σ (without L q e).budget ≡ ended e)
   ask_or c σ = elim q as (λ q. ((without L q e).ask c σ (without L q e).budget ≡ L.ask c σ L.budget) ⊎ ((without L q e).ask c σ (without L q e).budget ≡ ended e)) [
-    evaluates u ↦ inl refl
+    | evaluates u ↦ inl refl
     | takes_sorts u ↦ inl refl
     | asks d τ ↦ but_by (same_condition c σ d τ) L.budget e (L.ask c σ) L.budget
     | asks_after last d τ ↦ inl refl
@@ -55,7 +55,7 @@ module _ (L : Engine) (q : Question) (e : End) where
 
   ask_after_or : (m : Binding) (c : List Fragment) (σ : Binding) → ((without L q e).ask_after m c σ (without L q e).budget ≡ L.ask_after m c σ L.budget) ⊎ ((without L q e).ask_after m c σ (without L q e).budget ≡ ended e)
   ask_after_or m c σ = elim q as (λ q. ((without L q e).ask_after m c σ (without L q e).budget ≡ L.ask_after m c σ L.budget) ⊎ ((without L q e).ask_after m c σ (without L q e).budget ≡ ended e)) [
-    evaluates u ↦ inl refl
+    | evaluates u ↦ inl refl
     | takes_sorts u ↦ inl refl
     | asks d τ ↦ inl refl
     | asks_after last d τ ↦ but_by (same_binding m last && same_condition c σ d τ) L.budget e (L.ask_after m c σ) L.budget
@@ -63,7 +63,7 @@ module _ (L : Engine) (q : Question) (e : End) where
 
   pub budget_same : (without L q e).budget ≡ L.budget
   budget_same = elim q as (λ q. (without L q e).budget ≡ L.budget) [
-    evaluates u ↦ refl
+    | evaluates u ↦ refl
     | takes_sorts u ↦ refl
     | asks d τ ↦ refl
     | asks_after last d τ ↦ refl
@@ -122,7 +122,7 @@ module _ (P : Program) (L : Engine) (l : Level) (a : List Fragment → Binding �
 
 pub shown_without : (P : Program) (L : Engine) (q : Question) (e : End) (c : List Fragment) (σ : Binding) → shown P (without L q e) c σ ≡ shown P L c σ
 shown_without P L q e c σ = elim q as (λ q. shown P (without L q e) c σ ≡ shown P L c σ) [
-  evaluates u ↦ shown_same P L (without L (evaluates u) e).level L.ask L.ask_after c σ
+  | evaluates u ↦ shown_same P L (without L (evaluates u) e).level L.ask L.ask_after c σ
   | takes_sorts u ↦ shown_same P L (without L (takes_sorts u) e).level L.ask L.ask_after c σ
   | asks d τ ↦ shown_same P L L.level (without L (asks d τ) e).ask L.ask_after c σ
   | asks_after last d τ ↦ shown_same P L L.level L.ask (without L (asks_after last d τ) e).ask_after c σ

@@ -1,5 +1,5 @@
 -- What is said of a computation at some limits holds from some limits on; and ends are those of the limits of an item.
-use Rattle.std.proofs.Common.{◌≡◌, ◌⊎◌, inl, inr, ◌≤◌, ◌+◌, ◌-◌, ℕ, suc, Bool, List, [], Option, None, Some, Result, Ok, Err, refl, sym, ap, ◌∙◌, subst, arith}
+use Rattle.std.proofs.Common.{◌≡◌, ◌⊎◌, inl, inr, ◌≤◌, ◌+◌, ◌-◌, ℕ, suc, Bool, List, Option, None, Some, Result, Ok, Err, sym, ap, ◌∙◌, arith}
 use Rattle.std.specs.Option.{option_map}
 use Rattle.mau_terms.specs.Tree.{Tree}
 use Rattle.mau_terms.specs.declared.ids.TermId.{TermId}
@@ -9,15 +9,13 @@ use Rattle.mau_store.specs.Trees.{tree_at}
 use Rattle.mau_program.specs.declared.program.Program as Typed
 use Rattle.mau_evaluation.specs.Run.{End, stopped, too_deep, overflowed, Outcome, done, ended, Run}
 use Rattle.mau_evaluation.specs.Program.{Fragment, Program}
-use Rattle.mau_evaluation.specs.Evaluation.{Binding, eval, levels, solve, solve_after}
+use Rattle.mau_evaluation.specs.Evaluation.{Binding}
 use Rattle.mau_evaluation.specs.Engine.{Engine, engine_of}
-use Rattle.mau_evaluation.specs.Laws.{StaysTheSame}
-use Rattle.mau_evaluation.specs.Higher.{IsHigher, IsRicher, with_more}
-use Rattle.mau_evaluation.specs.Eventually.{Eventually}
+use Rattle.mau_evaluation.specs.Higher.{with_more}
 use Rattle.mau_evaluation.specs.Questions.{Question, evaluates, EndsBy}
 use Rattle.mau_api.specs.Programs.{program_over}
 use Rattle.mau_api.specs.Meanings.{Meanings, StaysUnderLimits, AreMeanings, meanings_by}
-use Rattle.mau_api.specs.Answers.{levels_of_item, levels_of_condition, HasCause, GivesUnder, binding_in, solving_from, MaySolve, IsAllowed, mapped}
+use Rattle.mau_api.specs.Answers.{levels_of_item, levels_of_condition, HasCause, binding_in, solving_from, MaySolve, IsAllowed, mapped}
 use Rattle.mau_api.specs.declared.results.EvalEnd.{EvalEnd}
 use Rattle.mau_api.specs.declared.results.EvalEnd.TheVariants.{Stopped, TooDeep, Overflow, NoMemory}
 use Rattle.mau_api.specs.declared.results.Reduced.{Reduced}

@@ -13,14 +13,13 @@ use Rattle.mau_store.specs.Node.{Node}
 use Rattle.mau_sorts.specs.Table.{Table}
 use Rattle.mau_listing.specs.Asked.{BySort}
 use Rattle.mau_listing.specs.Finite.{comes_behind}
-use Rattle.mau_listing.specs.Matcher.{Matcher}
 use Rattle.mau_listing.specs.Next.{matcher_cmp, IsNext}
-use Rattle.mau_listing.specs.Question.{Question, IsSolution}
+use Rattle.mau_listing.specs.Question.{IsSolution}
 use Rattle.mau_program.specs.declared.program.Program as Typed
 use Rattle.mau_evaluation.specs.Run.{done}
 use Rattle.mau_evaluation.specs.Program.{Membership, Rule, Program}
 use Rattle.mau_evaluation.specs.Listing.{Solution, keep, compare, solutions_within, IsAscending}
-use Rattle.mau_evaluation.specs.Evaluation.{Binding, agree, has_number}
+use Rattle.mau_evaluation.specs.Evaluation.{agree, has_number}
 use Rattle.mau_evaluation.specs.Engine.{Engine, engine_of}
 use Rattle.mau_evaluation.specs.Answers.{Answers}
 use Rattle.mau_evaluation.proofs.BareTerms.{norm-reading-is}
@@ -36,7 +35,7 @@ use Rattle.mau_reduce.proofs.Leftover.{left_behind}
 use Rattle.mau_reduce.proofs.PlainSorts.{plain_sorts, sorts_known}
 use Rattle.mau_rules.specs.Runnable.{IsRunnable}
 use Rattle.mau_rules.proofs.Passing.{AllFail, no_more_fail, one_fails, HasFirst, first_kept, none_kept}
-use Rattle.mau_rules.proofs.Trying.{head, having, all, test, question, left_of_all}
+use Rattle.mau_rules.proofs.Trying.{head, having, test, question, left_of_all}
 use Rattle.mau_leaves.specs.Steps.{IsOver, Passes, Throughout}
 use Rattle.mau_leaves.specs.Uses.{Use, behind, at_one, solutions_behind, IsLeft}
 use Rattle.mau_leaves.proofs.Behind.{behind_one}

@@ -1,5 +1,5 @@
 -- What is left of the uses of a rule, with one engine, as its solutions are gone through and their conditions are asked.
-use Rattle.std.proofs.Common.{◌≡◌, ◌⊎◌, inl, inr, ℕ, List, [], ◌∷◌, ◌++◌, Bool, true, false, ◌&&◌, if◌then◌else◌, Option, Some, None, refl, sym, ap, ◌∙◌, subst}
+use Rattle.std.proofs.Common.{◌≡◌, ◌⊎◌, inl, inr, ℕ, List, [], ◌∷◌, ◌++◌, Bool, true, false, ◌&&◌, if◌then◌else◌, Option, Some, None, refl, sym, ap, ◌∙◌}
 use Rattle.mau_terms.specs.Tree.{Tree}
 use Rattle.mau_terms.specs.Subst.{Variable, variables}
 use Rattle.mau_evaluation.specs.Run.{End, done, ended, Run, gives, counted, go_on, choose}
@@ -8,7 +8,7 @@ use Rattle.mau_evaluation.specs.Listing.{Solution}
 use Rattle.mau_evaluation.specs.Evaluation.{Binding, agree, has_number, have_sorts}
 use Rattle.mau_evaluation.specs.Engine.{Engine}
 use Rattle.mau_evaluation.specs.Rules.{bound_by}
-use Rattle.mau_evaluation.specs.Answers.{Answers, no_more, ends_by, answers_of, and_those, for_each, asking, from_outcome, when}
+use Rattle.mau_evaluation.specs.Answers.{Answers, no_more, ends_by, and_those, for_each, asking, from_outcome, when}
 use Rattle.mau_evaluation.specs.OrderedLists.{asked}
 use Rattle.mau_leaves.specs.Steps.{Gives, IsOver, Passes, EndsNow}
 use Rattle.mau_leaves.specs.Uses.{Use, behind, at_one, solutions_behind, use_by, condition_from, uses_for, uses_at, uses_among, IsLeft}

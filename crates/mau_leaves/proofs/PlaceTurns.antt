@@ -1,32 +1,26 @@
 -- One turn of a search at a term, from what the search for the uses of a rule did.
-use Rattle.std.proofs.Common.{◌≡◌, ℕ, suc, ◌+◌, ◌<◌, ◌≤◌, List, map, length, drop, Bool, true, false, Option, Some, None, IfSome, IsSome, Result, Ok, Err, slice_get, refl, sym, ap, ◌∙◌, subst, arith, add-one}
+use Rattle.std.proofs.Common.{◌≡◌, ℕ, suc, ◌<◌, List, length, Bool, true, false, Option, Some, None, IfSome, Ok, Err, slice_get, sym, ap, ◌∙◌, subst}
 use Rattle.std.proofs.lemmas.Option.{slice_get_within}
-use Rattle.std.specs.Option.{option_map}
 use Rattle.mau_store.specs.Node.{Node, Extends}
 use Rattle.mau_store.specs.Trees.{tree_at}
-use Rattle.mau_sorts.specs.Table.{Table, KeepsEntries, AreOver}
+use Rattle.mau_sorts.specs.Table.{Table, KeepsEntries}
 use Rattle.mau_program.specs.declared.program.Program as Typed
 use Rattle.mau_program.specs.declared.statements.Rule as Written
 use Rattle.mau_evaluation.specs.Program.{Rule}
-use Rattle.mau_evaluation.specs.Engine.{Engine, engine_of}
-use Rattle.mau_evaluation.specs.Answers.{Answers}
-use Rattle.mau_api.specs.Programs.{rule_of, program_over}
+use Rattle.mau_evaluation.specs.Engine.{engine_of}
+use Rattle.mau_api.specs.Programs.{program_over}
 use Rattle.mau_api.specs.Meanings.{Meanings}
-use Rattle.mau_leaves.specs.Steps.{Passes, IsOver, Throughout}
-use Rattle.mau_leaves.specs.Uses.{Use, is_chosen}
+use Rattle.mau_leaves.specs.Steps.{Passes, Throughout}
 use Rattle.mau_leaves.specs.Searches.{left_in, use_in, IsUsable, IsSearch, IsTurn, IsNextOne}
-use Rattle.mau_leaves.specs.AtPlace.{left_behind, use_behind, left_at, use_at, IsOpenAt, IsAtPlace}
-use Rattle.mau_leaves.specs.declared.turn.Turn.TheVariants.{Found, Passed, Over}
+use Rattle.mau_leaves.specs.AtPlace.{left_behind, use_behind, left_at, IsOpenAt, IsAtPlace}
+use Rattle.mau_leaves.specs.declared.turn.Turn.TheVariants.{Found}
 use Rattle.mau_leaves.specs.declared.uses.RuleUses.{RuleUses}
-use Rattle.mau_leaves.specs.declared.uses.Standing.{Standing}
-use Rattle.mau_leaves.specs.declared.uses.Standing.TheVariants.{Behind}
 use Rattle.mau_terms.specs.Tree.{Tree}
 use Rattle.mau_terms.specs.Bare.{IsBare}
 use Rattle.mau_terms.specs.Reading.{reading}
 use Rattle.mau_signature.specs.Signature.{SignatureOf, theory_at, terms_over}
 use Rattle.mau_listing.specs.Asked.{Asked}
 use Rattle.mau_listing.specs.declared.solution.Solution as Listed
-use Rattle.mau_terms.specs.declared.ids.TermId.{TermId}
 use Rattle.mau_canon.proofs.Standing.{stands_within_extended}
 use Rattle.mau_api.specs.declared.results.EvalEnd.{EvalEnd}
 use Rattle.mau_api.specs.Terms.{IsTerm}

@@ -1,22 +1,17 @@
 -- Rules at a term, one after another.
-use Rattle.std.proofs.Common.{◌≡◌, ℕ, suc, ◌+◌, ◌<◌, ◌≤◌, List, [], ◌∷◌, length, map, drop, get_or, All, Bool, true, false, ◌&&◌, ◌||◌, not, Option, Some, None, IfSome, IsSome, Result, Ok, Err, slice_get, inl, inr, refl, sym, ap, ◌∙◌, subst, arith, length-drop}
+use Rattle.std.proofs.Common.{◌≡◌, ℕ, suc, ◌≤◌, List, [], ◌∷◌, length, map, drop, Bool, true, false, ◌||◌, not, Option, Some, None, Ok, Err, slice_get, inl, inr, refl, sym, ap, ◌∙◌, subst, arith, length-drop}
 use Rattle.std.proofs.Math.Seq.{drop-cons}
 use Rattle.std.proofs.lemmas.Option.{slice_get_within, get_or_from_slice_get}
 use Rattle.std.proofs.lemmas.Bool.{and_parts}
-use Rattle.std.specs.Option.{option_map}
 use Rattle.mau_terms.specs.Tree.{Tree}
 use Rattle.mau_terms.specs.Finite.{IsIn}
 use Rattle.mau_terms.specs.Subst.{variables}
 use Rattle.mau_terms.specs.View.{tree_of}
-use Rattle.mau_terms.specs.declared.ids.TermId.{TermId}
 use Rattle.mau_terms.proofs.Variables.{distinct}
 use Rattle.mau_formula.specs.Operator.{Operator}
-use Rattle.mau_signature.specs.Signature.{SignatureOf}
 use Rattle.mau_store.specs.Node.{Node}
 use Rattle.mau_store.specs.Trees.{tree_at}
-use Rattle.mau_sorts.specs.Table.{Table}
 use Rattle.mau_listing.specs.Asked.{Asked}
-use Rattle.mau_listing.specs.Finite.{comes_behind}
 use Rattle.mau_listing.specs.declared.solution.Solution as Listed
 use Rattle.mau_program.specs.Binding.{are_bound}
 use Rattle.mau_program.specs.declared.program.Program as Typed
@@ -25,21 +20,20 @@ use Rattle.mau_evaluation.specs.Program.{Rule, Program}
 use Rattle.mau_evaluation.specs.Listing.{compare, solutions_within}
 use Rattle.mau_evaluation.specs.Engine.{Engine, engine_of}
 use Rattle.mau_evaluation.specs.Rules.{has_reach}
-use Rattle.mau_evaluation.specs.Answers.{Answers, no_more, answers_of, and_those, when}
+use Rattle.mau_evaluation.specs.Answers.{Answers, and_those, when}
 use Rattle.mau_evaluation.specs.Satisfies.{binds_all, determined}
 use Rattle.mau_evaluation.specs.OrderedLists.{may_use}
 use Rattle.mau_api.specs.Programs.{rule_of, program_over}
-use Rattle.mau_api.specs.Meanings.{Meanings}
 use Rattle.mau_api.specs.declared.results.EvalEnd.{EvalEnd}
 use Rattle.mau_reduce.proofs.Numbered.{is_among}
 use Rattle.mau_rules.specs.Runnable.{IsRunnable}
 use Rattle.mau_rules.proofs.Shown.{lawful_rule, fragments_here}
 use Rattle.mau_leaves.specs.Steps.{Gives, IsOver, Passes, Before, Throughout}
-use Rattle.mau_leaves.specs.Uses.{Use, behind, solutions_behind, uses_among, uses_by, IsLeft, uses_if_chosen, uses_of_all}
+use Rattle.mau_leaves.specs.Uses.{Use, behind, uses_among, uses_by, IsLeft, uses_if_chosen, uses_of_all}
 use Rattle.mau_leaves.specs.Answers.{IsDueBy}
 use Rattle.mau_leaves.specs.Searches.{stand_of, left_in, use_in, IsUsable, IsTurn, IsNextOne}
 use Rattle.mau_leaves.specs.AtPlace.{left_of_one, left_behind, use_of_one, use_behind}
-use Rattle.mau_leaves.specs.declared.turn.Turn.TheVariants.{Found, Passed, Over}
+use Rattle.mau_leaves.specs.declared.turn.Turn.TheVariants.{Found}
 use Rattle.mau_leaves.specs.declared.uses.RuleUses.{RuleUses}
 use Rattle.mau_leaves.specs.declared.uses.Standing.TheVariants.{Behind}
 use Rattle.mau_leaves.proofs.Behind.{all_of_them}

@@ -1,28 +1,23 @@
 -- A search in a store that has grown.
-use Rattle.std.proofs.Common.{◌≡◌, ℕ, List, [], ◌∷◌, map, All, Bool, true, false, Option, Some, None, IfSome, refl, sym, ap, ◌∙◌, subst}
+use Rattle.std.proofs.Common.{◌≡◌, List, [], Bool, Option, Some, None, IfSome, refl, sym, ap, ◌∙◌, subst}
 use Rattle.std.specs.List.{zip}
 use Rattle.mau_terms.specs.Tree.{Tree}
-use Rattle.mau_terms.specs.Bare.{IsBareIn}
-use Rattle.mau_terms.specs.Subst.{variables}
 use Rattle.mau_terms.specs.View.{tree_of}
 use Rattle.mau_terms.specs.declared.ids.TermId.{TermId}
 use Rattle.mau_terms.specs.declared.ids.VarId.{VarId}
-use Rattle.mau_signature.specs.Signature.{SignatureOf, theory_at}
-use Rattle.mau_formula.specs.Operator.{Operator}
+use Rattle.mau_signature.specs.Signature.{theory_at}
 use Rattle.mau_store.specs.Node.{Node, Extends}
 use Rattle.mau_store.specs.Trees.{tree_at, trees_at}
 use Rattle.mau_store.specs.View.{numbers}
 use Rattle.mau_store.proofs.Growth.{trees_at-extends}
 use Rattle.mau_sorts.specs.Table.{Table, KeepsEntries, AreOver}
-use Rattle.mau_listing.specs.Asked.{Asked, asks, CanGoOn}
+use Rattle.mau_listing.specs.Asked.{Asked, CanGoOn}
 use Rattle.mau_listing.specs.declared.solution.Solution as Listed
 use Rattle.mau_listing.proofs.Growth.{listings_go_on, last_of_store, AreOfStore}
 use Rattle.mau_program.specs.declared.program.Program as Typed
 use Rattle.mau_program.specs.declared.statements.Rule as Written
 use Rattle.mau_evaluation.specs.Listing.{Solution}
-use Rattle.mau_evaluation.specs.Evaluation.{Binding, binding_of}
-use Rattle.mau_evaluation.specs.Engine.{Engine}
-use Rattle.mau_evaluation.specs.Answers.{Answers}
+use Rattle.mau_evaluation.specs.Evaluation.{binding_of}
 use Rattle.mau_cond.proofs.Grown.{each, value_grown, bound_grown}
 use Rattle.mau_api.specs.Programs.{rule_of, program_over}
 use Rattle.mau_api.specs.Meanings.{Meanings}
@@ -32,7 +27,7 @@ use Rattle.mau_reduce.proofs.KindsKept.{tree_kept}
 use Rattle.mau_reduce.proofs.LaterStores.{contexts_grown}
 use Rattle.mau_reduce.proofs.PlainTables.{settled_grown}
 use Rattle.mau_rules.specs.Found.{IsValued}
-use Rattle.mau_leaves.specs.Uses.{Use, Stand, behind, at_one, IsLeft}
+use Rattle.mau_leaves.specs.Uses.{behind, at_one, IsLeft}
 use Rattle.mau_leaves.specs.Searches.{stand_of, left_in, IsAtSolution, IsShownFor, IsShownBehind, StandsAt, IsSearch}
 use Rattle.mau_leaves.specs.declared.uses.Standing.{Standing}
 use Rattle.mau_leaves.specs.declared.uses.Standing.TheVariants.{Behind, Before, Within}

@@ -1,11 +1,11 @@
 -- Steps in a row, and steps in the first part of what is left.
-use Rattle.std.proofs.Common.{◌≡◌, ◌⊎◌, inl, inr, ℕ, ◌+◌, ◌≤◌, Bool, true, false, Option, Some, Result, Ok, Err, refl, sym, ap, ◌∙◌, subst, arith}
+use Rattle.std.proofs.Common.{◌≡◌, ◌⊎◌, inl, inr, ℕ, ◌+◌, ◌≤◌, true, false, Option, Ok, Err, refl, ap, ◌∙◌, arith}
 use Rattle.mau_evaluation.specs.Run.{End, stopped, too_deep, overflowed}
 use Rattle.mau_evaluation.specs.Program.{Program}
 use Rattle.mau_evaluation.specs.Engine.{Engine, Engines, engine_of}
-use Rattle.mau_evaluation.specs.Answers.{Answers, no_more, ends_by, answer, and_those}
+use Rattle.mau_evaluation.specs.Answers.{Answers, and_those}
 use Rattle.mau_evaluation.specs.Eventually.{Eventually}
-use Rattle.mau_evaluation.specs.Questions.{Question, without}
+use Rattle.mau_evaluation.specs.Questions.{without}
 use Rattle.mau_api.specs.declared.results.EvalEnd.{EvalEnd}
 use Rattle.mau_api.specs.declared.results.EvalEnd.TheVariants.{Stopped, TooDeep, Overflow, NoMemory}
 use Rattle.mau_api.specs.Answers.{levels_of_condition}

@@ -1,5 +1,5 @@
 -- Tables of an evaluator, over the sorts of its program.
-use Rattle.std.proofs.Common.{◌≡◌, List, sym, ap, ◌∙◌, subst}
+use Rattle.std.proofs.Common.{◌≡◌, List, subst}
 use Rattle.mau_store.specs.Node.{Node}
 use Rattle.mau_sorts.specs.Table.{Table, AreOver}
 use Rattle.mau_program.specs.declared.program.Program.{Program}

@@ -1,5 +1,5 @@
 -- Steps throughout, by what an evaluator answered.
-use Rattle.std.proofs.Common.{◌≡◌, ◌⊎◌, inl, inr, ℕ, List, [], ◌∷◌, ◌++◌, Bool, true, false, ◌&&◌, if◌then◌else◌, Option, Some, None, refl, sym, ap, ◌∙◌, subst}
+use Rattle.std.proofs.Common.{◌≡◌, ◌⊎◌, inl, inr, ℕ, List, [], ◌∷◌, ◌++◌, Bool, true, false, ◌&&◌, if◌then◌else◌, Option, Some, None, sym, ap, ◌∙◌}
 use Rattle.mau_terms.specs.Tree.{Tree}
 use Rattle.mau_terms.specs.Bare.{IsLawful}
 use Rattle.mau_terms.specs.Subst.{Variable, variables}
@@ -12,10 +12,9 @@ use Rattle.mau_evaluation.specs.Answers.{Answers}
 use Rattle.mau_evaluation.specs.Eventually.{Eventually}
 use Rattle.mau_evaluation.specs.Questions.{Question, evaluates, without}
 use Rattle.mau_evaluation.proofs.After.{askings_are_right}
-use Rattle.mau_api.specs.Answers.{levels_of_condition}
 use Rattle.mau_api.specs.declared.results.EvalEnd.{EvalEnd}
 use Rattle.mau_api.specs.declared.results.EvalEnd.TheVariants.{Stopped, TooDeep, Overflow, NoMemory}
-use Rattle.mau_leaves.specs.Steps.{Gives, IsOver, Passes, EndsNow, Throughout, IsDue}
+use Rattle.mau_leaves.specs.Steps.{Gives, IsOver, Passes, EndsNow, Throughout}
 use Rattle.mau_leaves.specs.Uses.{Use, behind, at_one, solutions_behind, question_from, condition_from, IsLeft}
 use Rattle.mau_leaves.specs.Answers.{ComesTo, QuestionEnds, IsDueBy}
 use Rattle.mau_rules.proofs.Passing.{AllFail}

@@ -1,49 +1,45 @@
 -- The turns of a search, from what an evaluator and a listing answered.
-use Rattle.std.proofs.Common.{◌≡◌, ℕ, List, [], ◌∷◌, map, All, Vec, Global, Bool, true, false, Option, Some, None, IfSome, Result, Ok, Err, refl, sym, ap, ◌∙◌, subst}
+use Rattle.std.proofs.Common.{◌≡◌, ℕ, List, [], All, Vec, Global, Bool, true, Option, Some, None, Result, Ok, Err, refl, sym, subst}
 use Rattle.std.specs.Option.{option_map}
 use Rattle.mau_terms.specs.Tree.{Tree}
 use Rattle.mau_terms.specs.Norm.{norm}
-use Rattle.mau_terms.specs.Bare.{IsBare}
-use Rattle.mau_terms.specs.Reading.{reading}
 use Rattle.mau_terms.specs.View.{tree_of}
 use Rattle.mau_terms.specs.declared.ids.TermId.{TermId}
 use Rattle.mau_terms.specs.declared.ids.VarId.{VarId}
-use Rattle.mau_signature.specs.Signature.{SignatureOf, theory_at, terms_over}
+use Rattle.mau_signature.specs.Signature.{SignatureOf, theory_at}
 use Rattle.mau_store.specs.Node.{Node, Extends}
 use Rattle.mau_store.specs.Trees.{tree_at}
 use Rattle.mau_sorts.specs.HasSort.{Known}
 use Rattle.mau_sorts.specs.Table.{Table, KeepsEntries, AreOver}
-use Rattle.mau_listing.specs.Asked.{Asked, asks, question_in, matcher_in, BySort, IsTableOf, IsGiven, CanGoOn}
+use Rattle.mau_listing.specs.Asked.{Asked, asks, question_in, matcher_in, BySort, IsTableOf, IsGiven}
 use Rattle.mau_listing.specs.Matcher.{Matcher}
 use Rattle.mau_listing.specs.Next.{matcher_cmp, IsNext}
 use Rattle.mau_listing.specs.Question.{IsSolution}
 use Rattle.mau_listing.specs.declared.solution.Solution as Listed
-use Rattle.mau_listing.proofs.Growth.{listings_go_on, given_is_last, AreOfStore}
+use Rattle.mau_listing.proofs.Growth.{given_is_last}
 use Rattle.mau_program.specs.declared.program.Program as Typed
 use Rattle.mau_program.specs.declared.statements.Rule as Written
 use Rattle.mau_evaluation.specs.Program.{Program}
 use Rattle.mau_evaluation.specs.Listing.{Solution}
-use Rattle.mau_evaluation.specs.Evaluation.{Binding, binding_of}
+use Rattle.mau_evaluation.specs.Evaluation.{binding_of}
 use Rattle.mau_evaluation.specs.Engine.{Engine, engine_of}
 use Rattle.mau_evaluation.specs.Answers.{Answers}
 use Rattle.mau_api.specs.Programs.{rule_of, program_over}
 use Rattle.mau_api.specs.Remaining.{as_matcher}
 use Rattle.mau_api.specs.Meanings.{Meanings, meanings_by}
-use Rattle.mau_api.specs.Answers.{binding_in, IsValueOf, IsSolutionOf, IsDerivedTable, AreSettled}
+use Rattle.mau_api.specs.Answers.{binding_in, IsValueOf, IsSolutionOf, IsDerivedTable}
 use Rattle.mau_api.specs.declared.results.EvalEnd.{EvalEnd}
-use Rattle.mau_api.specs.declared.results.EvalEnd.TheVariants.{NoMemory}
 use Rattle.mau_reduce.specs.Trying.{solution_in}
 use Rattle.mau_reduce.proofs.KindsKept.{tree_kept}
-use Rattle.mau_reduce.proofs.PlainTables.{settled_grown}
 use Rattle.mau_reduce.proofs.Candidates.{matchers_of}
 use Rattle.mau_rules.specs.Runnable.{IsRunnable, GoesBy}
 use Rattle.mau_rules.specs.Found.{IsValued}
 use Rattle.mau_rules.proofs.Answered.{derived_as, next_as}
 use Rattle.mau_rules.proofs.Valued.{listed_valued, listed_contexts, listed_of_kind}
 use Rattle.mau_leaves.specs.Steps.{Gives, IsOver, Passes, Throughout}
-use Rattle.mau_leaves.specs.Uses.{Use, Stand, behind, at_one, IsLeft}
+use Rattle.mau_leaves.specs.Uses.{Use, behind, at_one, IsLeft}
 use Rattle.mau_leaves.specs.Answers.{IsNextShown, IsDueBy}
-use Rattle.mau_leaves.specs.Searches.{stand_of, left_in, use_in, last_in, IsUsable, IsAtSolution, IsShownFor, IsShownBehind, StandsAt, IsSearch, IsTurn}
+use Rattle.mau_leaves.specs.Searches.{stand_of, left_in, use_in, last_in, IsAtSolution, IsShownBehind, StandsAt, IsSearch, IsTurn}
 use Rattle.mau_leaves.specs.declared.turn.Turn.{Turn}
 use Rattle.mau_leaves.specs.declared.uses.Standing.{Standing}
 use Rattle.mau_leaves.specs.declared.uses.Standing.TheVariants.{Behind, Before, Within}

@@ -1,6 +1,5 @@
 -- Searches for the uses of all rules at a term, by the numbers of a store.
 use Rattle.std.specs.Prelude.{◌≡◌, ℕ, suc, List, map, drop, Bool, Option, Some, None, IfSome, slice_get}
-use Rattle.std.specs.Option.{option_map}
 use Rattle.mau_terms.specs.Tree.{Tree}
 use Rattle.mau_signature.specs.Signature.{SignatureOf}
 use Rattle.mau_formula.specs.Operator.{Operator}

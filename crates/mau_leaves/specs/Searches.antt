@@ -1,5 +1,5 @@
 -- Searches for the uses of one rule by the numbers of a store: where they stand, and what is left.
-use Rattle.std.specs.Prelude.{◌≡◌, ℕ, List, [], map, All, Bool, true, false, Option, Some, None, IfSome, IsSome, Result, Ok, Err}
+use Rattle.std.specs.Prelude.{◌≡◌, ℕ, List, [], All, Bool, true, false, Option, Some, None, IfSome, Result, Ok, Err}
 use Rattle.std.specs.Option.{option_map}
 use Rattle.mau_terms.specs.Tree.{Tree}
 use Rattle.mau_terms.specs.Bare.{IsBareIn}

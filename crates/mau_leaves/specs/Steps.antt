@@ -1,5 +1,5 @@
 -- What is left of answers that come one after another, as steps are taken: with engines from some limits on, and with engines that have no answer to some question.
-use Rattle.std.specs.Prelude.{◌≡◌, ℕ, List, [], ◌⊎◌}
+use Rattle.std.specs.Prelude.{◌≡◌, ℕ, [], ◌⊎◌}
 use Rattle.mau_evaluation.specs.Run.{End}
 use Rattle.mau_evaluation.specs.Program.{Program}
 use Rattle.mau_evaluation.specs.Engine.{Engine, Engines}

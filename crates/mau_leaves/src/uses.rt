@@ -157,9 +157,9 @@ fn asked_on<E: Evaluator, L: Lister + Drop>(
     requires within { uses.old.standing ≡ At.Behind → ⊥ }
     ensures turn { IsTurn (program_over program.now (E.meanings evaluator.old).hooks) limit
         (left_in program.now (E.meanings evaluator.old).hooks rule.now store.old
-            (L.asked uses.old.listing) (L.given uses.old.listing) uses.old.standing)
+        (L.asked uses.old.listing) (L.given uses.old.listing) uses.old.standing)
         (left_in program.now (E.meanings evaluator.old).hooks rule.now store.new
-            (L.asked uses.new.listing) (L.given uses.new.listing) uses.new.standing)
+        (L.asked uses.new.listing) (L.given uses.new.listing) uses.new.standing)
         (use_in rule.now store.new (L.given uses.new.listing) uses.new.standing) result }
     ensures search { IsSearch L.with_context program.now (E.meanings evaluator.old) rule.now store.new (E.table evaluator.new)
         (L.asked uses.new.listing) (L.given uses.new.listing) uses.new.standing }
@@ -213,9 +213,9 @@ fn listed_on<E: Evaluator, L: Lister + Drop>(
     requires behind { uses.old.standing ≡ At.Behind }
     ensures turn { (b : ℕ) → IsTurn (program_over program.now (E.meanings evaluator.old).hooks) b
         (left_in program.now (E.meanings evaluator.old).hooks rule.now store.old
-            (L.asked uses.old.listing) (L.given uses.old.listing) uses.old.standing)
+        (L.asked uses.old.listing) (L.given uses.old.listing) uses.old.standing)
         (left_in program.now (E.meanings evaluator.old).hooks rule.now store.new
-            (L.asked uses.new.listing) (L.given uses.new.listing) uses.new.standing)
+        (L.asked uses.new.listing) (L.given uses.new.listing) uses.new.standing)
         (use_in rule.now store.new (L.given uses.new.listing) uses.new.standing) result }
     ensures search { IsSearch L.with_context program.now (E.meanings evaluator.old) rule.now store.new (E.table evaluator.new)
         (L.asked uses.new.listing) (L.given uses.new.listing) uses.new.standing }
@@ -256,9 +256,9 @@ fn turn<E: Evaluator, L: Lister + Drop>(
         (L.asked uses.old.listing) (L.given uses.old.listing) uses.old.standing }
     ensures turn { IsTurn (program_over program.now (E.meanings evaluator.old).hooks) limit
         (left_in program.now (E.meanings evaluator.old).hooks rule.now store.old
-            (L.asked uses.old.listing) (L.given uses.old.listing) uses.old.standing)
+        (L.asked uses.old.listing) (L.given uses.old.listing) uses.old.standing)
         (left_in program.now (E.meanings evaluator.old).hooks rule.now store.new
-            (L.asked uses.new.listing) (L.given uses.new.listing) uses.new.standing)
+        (L.asked uses.new.listing) (L.given uses.new.listing) uses.new.standing)
         (use_in rule.now store.new (L.given uses.new.listing) uses.new.standing) result }
     ensures search { IsSearch L.with_context program.now (E.meanings evaluator.old) rule.now store.new (E.table evaluator.new)
         (L.asked uses.new.listing) (L.given uses.new.listing) uses.new.standing }
@@ -271,7 +271,9 @@ fn turn<E: Evaluator, L: Lister + Drop>(
 {
     match &uses.standing {
         Standing::Behind => listed_on(program, rule, store, evaluator, uses),
-        Standing::Before | Standing::Within(_) => asked_on(program, rule, store, evaluator, uses, limit),
+        Standing::Before | Standing::Within(_) => asked_on(
+            program, rule, store, evaluator, uses, limit,
+        ),
     }
 }
 
@@ -324,9 +326,9 @@ pub fn next_use<E: Evaluator, L: Lister + Drop>(
         (L.asked uses.old.listing) (L.given uses.old.listing) uses.old.standing }
     ensures next { IsNextOne (program_over program.now (E.meanings evaluator.old).hooks) limit
         (left_in program.now (E.meanings evaluator.old).hooks rule.now store.old
-            (L.asked uses.old.listing) (L.given uses.old.listing) uses.old.standing)
+        (L.asked uses.old.listing) (L.given uses.old.listing) uses.old.standing)
         (left_in program.now (E.meanings evaluator.old).hooks rule.now store.new
-            (L.asked uses.new.listing) (L.given uses.new.listing) uses.new.standing)
+        (L.asked uses.new.listing) (L.given uses.new.listing) uses.new.standing)
         (use_in rule.now store.new (L.given uses.new.listing) uses.new.standing) result }
     ensures search { IsSearch L.with_context program.now (E.meanings evaluator.old) rule.now store.new (E.table evaluator.new)
         (L.asked uses.new.listing) (L.given uses.new.listing) uses.new.standing }

@@ -1,28 +1,15 @@
-use Rattle.std.proofs.Common.{◌≡◌, ℕ, suc, ◌+◌, ◌<◌, ◌≤◌, List, map, length, drop, Bool, true, false, Option, Some, None, IfSome, IsSome, Result, Ok, Err, slice_get, refl, sym, ap, ◌∙◌, subst, arith, add-one}
-use Rattle.std.proofs.lemmas.Option.{slice_get_within}
+use Rattle.std.proofs.Common.{◌≡◌, ◌+◌, ◌<◌, ◌≤◌, List, length, true, false, Option, Some, None, IfSome, sym, ap, ◌∙◌, subst, add-one}
 use Rattle.std.specs.Option.{option_map}
-use Rattle.mau_store.specs.Node.{Node}
 use Rattle.mau_store.specs.Trees.{tree_at}
-use Rattle.mau_sorts.specs.Table.{AreOver}
-use Rattle.mau_program.specs.declared.program.Program as Typed
 use Rattle.mau_program.specs.declared.statements.Rule as Written
-use Rattle.mau_evaluation.specs.Program.{Rule}
-use Rattle.mau_evaluation.specs.Engine.{Engine, engine_of}
-use Rattle.mau_evaluation.specs.Answers.{Answers}
+use Rattle.mau_evaluation.specs.Engine.{engine_of}
 use Rattle.mau_api.specs.Programs.{rule_of, program_over}
-use Rattle.mau_api.specs.Meanings.{Meanings}
 use Rattle.mau_leaves.specs.Steps.{Passes, IsOver, Throughout}
-use Rattle.mau_leaves.specs.Uses.{Use, is_chosen}
-use Rattle.mau_leaves.specs.Searches.{left_in, use_in, IsUsable, IsSearch, IsTurn, IsNextOne}
-use Rattle.mau_leaves.specs.AtPlace.{left_behind, use_behind, left_at, use_at, IsOpenAt, IsAtPlace}
-use Rattle.mau_leaves.specs.declared.turn.Turn.TheVariants.{Found, Passed, Over}
+use Rattle.mau_leaves.specs.Uses.{is_chosen}
+use Rattle.mau_leaves.specs.AtPlace.{left_behind, left_at, IsOpenAt}
 use Rattle.mau_leaves.specs.declared.uses.RuleUses.{RuleUses}
-use Rattle.mau_leaves.specs.declared.uses.Standing.{Standing}
-use Rattle.mau_leaves.specs.declared.uses.Standing.TheVariants.{Behind}
 use Rattle.mau_reduce.proofs.Numbered.{at_index}
-use Rattle.mau_leaves.specs.Steps.{Before}
-use Rattle.mau_leaves.specs.Uses.{behind, IsLeft, uses_of_all}
-use Rattle.mau_leaves.proofs.Places.{exec_usable, passes_over, over_behind, begins, as_begun}
+use Rattle.mau_leaves.proofs.Places.{exec_usable, passes_over, over_behind, as_begun}
 use Rattle.mau_leaves.proofs.Steps.{none_passed}
 use Rattle.mau_leaves.proofs.place.begin_rule.Goals as goal
 
@@ -143,5 +130,8 @@ returns-then-not-is_asked-clause-place g c =
     let n = s.number in
     let label = option_map (λ x. x.now) c.args.label in
     let t = tree_at nodes s.term.0 in
-    record { term = c.requires.place.term; settled = c.requires.place.settled;
-        uses = subst (λ (o : Option (RuleUses _)). IfSome o (IsOpenAt g.L.Lister.asked g.L.Lister.given g.L.Lister.is_for g.L.Lister.with_context p m nodes (g.E.Evaluator.table c.args.evaluator.now) s.term.0 (n + 1))) (sym c.requires.idle) tt }
+    record {
+      term = c.requires.place.term;
+      settled = c.requires.place.settled;
+      uses = subst (λ (o : Option (RuleUses _)). IfSome o (IsOpenAt g.L.Lister.asked g.L.Lister.given g.L.Lister.is_for g.L.Lister.with_context p m nodes (g.E.Evaluator.table c.args.evaluator.now) s.term.0 (n + 1))) (sym c.requires.idle) tt;
+    }

@@ -1,24 +1,8 @@
-use Rattle.std.proofs.Common.{◌≡◌, ℕ, suc, ◌+◌, ◌<◌, ◌≤◌, List, map, length, drop, Bool, true, false, Option, Some, None, IfSome, IsSome, Result, Ok, Err, slice_get, refl, sym, ap, ◌∙◌, subst, arith, add-one}
-use Rattle.std.proofs.lemmas.Option.{slice_get_within}
-use Rattle.std.specs.Option.{option_map}
-use Rattle.mau_store.specs.Node.{Node}
-use Rattle.mau_store.specs.Trees.{tree_at}
-use Rattle.mau_sorts.specs.Table.{AreOver}
-use Rattle.mau_program.specs.declared.program.Program as Typed
+use Rattle.std.proofs.Common.{◌≡◌, ◌+◌, ◌<◌, List, length, Bool, true, false, Option, IsSome, Ok, sym, subst, arith, add-one}
 use Rattle.mau_program.specs.declared.statements.Rule as Written
-use Rattle.mau_evaluation.specs.Program.{Rule}
-use Rattle.mau_evaluation.specs.Engine.{Engine, engine_of}
-use Rattle.mau_evaluation.specs.Answers.{Answers}
-use Rattle.mau_api.specs.Programs.{rule_of, program_over}
-use Rattle.mau_api.specs.Meanings.{Meanings}
-use Rattle.mau_leaves.specs.Steps.{Passes, IsOver, Throughout}
-use Rattle.mau_leaves.specs.Uses.{Use, is_chosen}
-use Rattle.mau_leaves.specs.Searches.{left_in, use_in, IsUsable, IsSearch, IsTurn, IsNextOne}
-use Rattle.mau_leaves.specs.AtPlace.{left_behind, use_behind, left_at, use_at, IsOpenAt, IsAtPlace}
-use Rattle.mau_leaves.specs.declared.turn.Turn.TheVariants.{Found, Passed, Over}
+use Rattle.mau_api.specs.Programs.{program_over}
+use Rattle.mau_leaves.specs.Searches.{left_in, use_in, IsNextOne}
 use Rattle.mau_leaves.specs.declared.uses.RuleUses.{RuleUses}
-use Rattle.mau_leaves.specs.declared.uses.Standing.{Standing}
-use Rattle.mau_leaves.specs.declared.uses.Standing.TheVariants.{Behind}
 use Rattle.mau_reduce.proofs.Numbered.{at_index}
 use Rattle.mau_leaves.proofs.PlaceTurns.{within, opened, usable_here, search_here, term_then, settled_then, open_then, found_now, over_now, ends_now}
 use Rattle.mau_leaves.proofs.place.go_through.Goals as goal

@@ -1,4 +1,4 @@
-use Rattle.std.proofs.Common.{◌≡◌, Option, Some, None, IsSome, refl, sym, ap, ◌∙◌, subst}
+use Rattle.std.proofs.Common.{Option, IsSome, refl, sym, subst}
 use Rattle.std.specs.Option.{option_map}
 use Rattle.mau_leaves.specs.Uses.{is_chosen}
 use Rattle.mau_leaves.specs.declared.uses.RuleUses.{RuleUses}

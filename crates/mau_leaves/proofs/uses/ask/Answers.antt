@@ -1,9 +1,8 @@
-use Rattle.std.proofs.Common.{◌≡◌, ℕ, List, map, All, Vec, Global, Bor, Option, Some, None, IfSome, IfOk, Result, Ok, Err, refl, sym, ap, ◌∙◌, subst}
+use Rattle.std.proofs.Common.{ℕ, List, map, All, Vec, Global, Bor, Option, Some, None, IfSome, IfOk, Result, Ok, Err, sym, subst}
 use Rattle.std.specs.Option.{option_map}
 use Rattle.mau_terms.specs.View.{variable_of}
 use Rattle.mau_terms.specs.declared.ids.TermId.{TermId}
 use Rattle.mau_terms.specs.declared.ids.VarId.{VarId}
-use Rattle.mau_signature.specs.Signature.{SignatureOf}
 use Rattle.mau_program.specs.declared.program.Program.{Program}
 use Rattle.mau_evaluation.specs.Evaluation.{Binding}
 use Rattle.mau_api.specs.Programs.{fragment_of, program_over}
@@ -11,7 +10,7 @@ use Rattle.mau_api.specs.Answers.{IsAskable, IsValueOf, IsSolutionOf, binding_in
 use Rattle.mau_api.specs.declared.results.EvalEnd.{EvalEnd}
 use Rattle.mau_leaves.specs.Answers.{IsNextShown}
 use Rattle.mau_leaves.proofs.Limits.{next_shown}
-use Rattle.mau_leaves.proofs.Bound.{if_some, behind_references, all_solved}
+use Rattle.mau_leaves.proofs.Bound.{all_solved}
 use Rattle.mau_leaves.proofs.uses.ask.Goals as goal
 
 abbrev result_of : Option (Vec (VarId × TermId) Global × ℕ) → Result (Option (Vec (VarId × TermId) Global × ℕ)) EvalEnd

@@ -1,23 +1,16 @@
-use Rattle.std.proofs.Common.{◌≡◌, ℕ, List, [], map, All, Vec, Global, Option, Some, None, IfOk, IfSome, Result, Ok, Err, refl, sym, ap, ◌∙◌, subst}
+use Rattle.std.proofs.Common.{◌≡◌, All, Vec, Global, Option, Some, None, IfSome, Ok, sym, ap, ◌∙◌, subst}
 use Rattle.std.specs.Option.{option_map, option_copied}
 use Rattle.mau_terms.specs.View.{tree_of}
 use Rattle.mau_terms.specs.declared.ids.TermId.{TermId}
 use Rattle.mau_terms.specs.declared.ids.VarId.{VarId}
-use Rattle.mau_store.specs.Node.{Node}
 use Rattle.mau_store.proofs.Growth.{extension_is_preorder}
 use Rattle.mau_sorts.proofs.Settling.{kept_same}
-use Rattle.mau_listing.specs.declared.solution.Solution as Listed
-use Rattle.mau_program.specs.declared.program.Program.{Program}
 use Rattle.mau_evaluation.specs.Evaluation.{binding_of}
 use Rattle.mau_api.specs.Programs.{rule_of, program_over}
-use Rattle.mau_api.specs.Meanings.{Meanings}
-use Rattle.mau_api.specs.Answers.{IsValueOf, IsSolutionOf, binding_in, mapped}
-use Rattle.mau_api.specs.declared.results.EvalEnd.{EvalEnd}
+use Rattle.mau_api.specs.Answers.{IsValueOf, IsSolutionOf, binding_in}
 use Rattle.mau_reduce.specs.Trying.{solution_in}
 use Rattle.mau_leaves.specs.Answers.{IsNextShown}
-use Rattle.mau_leaves.specs.Searches.{last_in, StandsAt}
-use Rattle.mau_leaves.specs.declared.uses.Standing.{Standing}
-use Rattle.mau_leaves.specs.declared.uses.Standing.TheVariants.{Behind, Before, Within}
+use Rattle.mau_leaves.specs.Searches.{last_in}
 use Rattle.mau_leaves.proofs.Tables.{over_of}
 use Rattle.mau_leaves.proofs.Searching.{search_grown}
 use Rattle.mau_leaves.proofs.Turns.{still, found_at, passed_at, due_at, found_known, passed_known, valued_at, shown_at, never_none}

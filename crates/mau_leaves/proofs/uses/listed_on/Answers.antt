@@ -1,6 +1,6 @@
-use Rattle.std.proofs.Common.{◌≡◌, ℕ, List, [], Bool, true, Option, Some, None, IfSome, IfOk, Result, Ok, Err, refl, sym, ap, ◌∙◌, subst}
+use Rattle.std.proofs.Common.{◌≡◌, List, Option, Some, IfSome, sym, ap, ◌∙◌, subst}
 use Rattle.std.specs.Option.{option_map}
-use Rattle.mau_signature.specs.Signature.{SignatureOf, theory_at}
+use Rattle.mau_signature.specs.Signature.{theory_at}
 use Rattle.mau_store.specs.Node.{Node}
 use Rattle.mau_sorts.specs.HasSort.{Known}
 use Rattle.mau_listing.specs.Asked.{Asked, question_in, matcher_in, last_after, IsTableOf, BySort, IsGiven, CanGoOn}
@@ -11,7 +11,6 @@ use Rattle.mau_program.specs.declared.program.Program.{Program}
 use Rattle.mau_evaluation.specs.Engine.{Engine, engine_of}
 use Rattle.mau_evaluation.specs.Answers.{Answers}
 use Rattle.mau_api.specs.Programs.{program_over}
-use Rattle.mau_api.specs.Meanings.{Meanings}
 use Rattle.mau_leaves.specs.Steps.{Passes, IsOver, Throughout}
 use Rattle.mau_leaves.specs.Uses.{Use}
 use Rattle.mau_leaves.specs.Searches.{left_in, IsSearch}

@@ -1,5 +1,4 @@
-use Rattle.std.proofs.Common.{◌≡◌, List, map, All, Option, IfSome, refl, sym, ap, ◌∙◌, subst}
-use Rattle.std.specs.List.{zip}
+use Rattle.std.proofs.Common.{List, map, All, refl, sym, ap, ◌∙◌, subst}
 use Rattle.mau_terms.specs.View.{tree_of}
 use Rattle.mau_terms.specs.declared.ids.TermId.{TermId}
 use Rattle.mau_terms.specs.declared.ids.VarId.{VarId}
