@@ -26,3 +26,5 @@ pub mod Bound
 pub mod Places
 -- one turn of a search at a term
 pub mod PlaceTurns
+-- the uses of rules are what the results of leaves are made of
+pub mod Rewrites

@@ -10,3 +10,5 @@ pub mod Answers
 pub mod Searches
 -- searches for the uses of all rules at a term
 pub mod AtPlace
+-- the uses of rules are what the results of leaves are made of
+pub mod Laws

@@ -8,10 +8,10 @@ use Rattle.mau_evaluation.specs.Program.{Fragment, Rule, Program}
 use Rattle.mau_evaluation.specs.Listing.{Solution, keep, compare, solutions_within}
 use Rattle.mau_evaluation.specs.Evaluation.{Binding, agree, have_sorts}
 use Rattle.mau_evaluation.specs.Engine.{Engine}
-use Rattle.mau_evaluation.specs.Rules.{bound_by, has_reach}
+use Rattle.mau_evaluation.specs.Rules.{Place, bound_by, has_reach}
 use Rattle.mau_evaluation.specs.Questions.{Question, asks, asks_after}
 use Rattle.mau_evaluation.specs.Answers.{Answers, no_more, answer, answers_of, before, and_those, for_each, asking, when}
-use Rattle.mau_evaluation.specs.OrderedLists.{shown, asked_from, asked, may_use, is_labelled}
+use Rattle.mau_evaluation.specs.OrderedLists.{shown, asked_from, asked, rewritten_by, may_use, is_labelled}
 
 -- a rule, a solution of its left side, with its contexts, and a solution of its condition
 pub record Use : Type 0 where
@@ -87,6 +87,10 @@ module _ (P : Program) (L : Engine) where
   -- those of each of some rules, one after another
   abbrev pub uses_of_all : (Rule → Bool) → Tree → List Rule → Answers Use
   uses_of_all chosen t qs = for_each (uses_if_chosen chosen t) (answers_of qs)
+
+  -- the new whole term of a use at a place, evaluated
+  abbrev pub value_at : Place → Use → Answers Tree
+  value_at s u = rewritten_by P L u.rule s u.solution u.values
 
 -- all rules, or those with a label
 abbrev pub is_chosen : Option (List ℕ) → Rule → Bool
