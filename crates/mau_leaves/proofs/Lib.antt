@@ -28,3 +28,7 @@ pub mod Places
 pub mod PlaceTurns
 -- the uses of rules are what the results of leaves are made of
 pub mod Rewrites
+-- values by those of normal forms, and terms that can't be built
+pub mod Valued
+-- terms of some kind
+pub mod MadeTerms

@@ -20,7 +20,7 @@ use Rattle.mau_api.specs.declared.results.EvalEnd.{EvalEnd}
 use Rattle.mau_api.specs.declared.results.EvalEnd.TheVariants.{Stopped, TooDeep, Overflow, NoMemory}
 use Rattle.mau_api.specs.declared.results.Reduced.{Reduced}
 use Rattle.mau_leaves.specs.Uses.{question_from, condition_from}
-use Rattle.mau_leaves.specs.Answers.{ComesTo, QuestionEnds, IsNextShown, IsValued}
+use Rattle.mau_leaves.specs.Answers.{ComesTo, QuestionEnds, IsNextShown, GivesValue}
 
 -- ---- any computation that stays
 
@@ -152,7 +152,7 @@ module _ (p : Typed.Program) (m : Meanings) (program : m.program ≡ p) (defined
     cause_below b Overflow h = (h.0 - 1, h.1, h.2, enough_below h.0 h.3, h.4, h.5, ap (λ j. m.evaluation j h.1 t h.2) (level_below h.0 h.3) ∙ h.6)
     cause_below b NoMemory h = tt
 
-    pub value_known : (nodes : List Node) (r : Result Reduced EvalEnd) (remembered : Bool) → IsAllowed m remembered t m.limit nodes r → IsValued P m.limit t nodes (mapped (λ x. x.term) r)
+    pub value_known : (nodes : List Node) (r : Result Reduced EvalEnd) (remembered : Bool) → IsAllowed m remembered t m.limit nodes r → GivesValue P m.limit t nodes (mapped (λ x. x.term) r)
     value_known nodes (Ok x) remembered h =
         let w = h.1 in
         comes_so P G own (λ L. L.level.eval t) value_is (w.0 - 1) w.1 w.2 (tree_at nodes x.term.0) h.0 w.3 (ap (λ j. m.evaluation j w.1 t w.2) (level_below w.0 w.4) ∙ w.7)

@@ -37,9 +37,9 @@ module _ (P : Program) where
   IsNextShown b last c σ nodes (Err e) = QuestionEnds b (question_from last c σ) e
 
   -- the value of a term, or an end
-  abbrev pub IsValued : ℕ → Tree → List Node → Result TermId EvalEnd → Type 0
-  IsValued b t nodes (Ok id) = ComesTo {A = Tree} (λ L. L.level.eval t) (tree_at nodes id.0)
-  IsValued b t nodes (Err e) = QuestionEnds b (evaluates t) e
+  abbrev pub GivesValue : ℕ → Tree → List Node → Result TermId EvalEnd → Type 0
+  GivesValue b t nodes (Ok id) = ComesTo {A = Tree} (λ L. L.level.eval t) (tree_at nodes id.0)
+  GivesValue b t nodes (Err e) = QuestionEnds b (evaluates t) e
 
 -- ---- ends that are due
 

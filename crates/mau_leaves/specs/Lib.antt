@@ -12,3 +12,5 @@ pub mod Searches
 pub mod AtPlace
 -- the uses of rules are what the results of leaves are made of
 pub mod Laws
+-- the term that a use of a rule leads to
+pub mod Values

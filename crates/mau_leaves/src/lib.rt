@@ -5,6 +5,7 @@ pub mod laws;
 mod place;
 mod turn;
 mod uses;
+mod value;
 
 pub use place::{PlaceUses, next_at, start_place};
 pub use uses::{RuleUses, Standing, next_use, start_uses};
