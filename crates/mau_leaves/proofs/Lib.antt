@@ -32,3 +32,5 @@ pub mod Rewrites
 pub mod Valued
 -- terms of some kind
 pub mod MadeTerms
+-- the values that uses lead to
+pub mod Results

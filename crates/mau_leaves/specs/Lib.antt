@@ -14,3 +14,5 @@ pub mod AtPlace
 pub mod Laws
 -- the term that a use of a rule leads to
 pub mod Values
+-- searches for the results of rules at the root of a term
+pub mod Top

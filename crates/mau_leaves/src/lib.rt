@@ -1,11 +1,13 @@
 //! The results of leaves of strategies, one after another, by any evaluator and any listing with contexts.
-#![tactic(auto)]
+#![tactic(none)]
 
 pub mod laws;
 mod place;
+mod top;
 mod turn;
 mod uses;
 mod value;
 
 pub use place::{PlaceUses, next_at, start_place};
+pub use top::{TopResults, next_result, start_top};
 pub use uses::{RuleUses, Standing, next_use, start_uses};
