@@ -34,3 +34,7 @@ pub mod Valued
 pub mod MadeTerms
 -- the values that uses lead to
 pub mod Results
+-- the last use of a search at a term, and such a search in a store that has grown
+pub mod TopTurns
+-- one result at the root of a term
+pub mod TopSteps
