@@ -1,5 +1,5 @@
 //! The results of leaves of strategies, one after another, by any evaluator and any listing with contexts.
-#![tactic(none)]
+#![tactic(auto)]
 
 pub mod laws;
 mod place;
