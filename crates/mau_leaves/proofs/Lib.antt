@@ -38,3 +38,5 @@ pub mod Results
 pub mod TopTurns
 -- one result at the root of a term
 pub mod TopSteps
+-- what was given of the results of a leaf, step by step
+pub mod Follows

@@ -1,5 +1,5 @@
 -- The values that uses lead to, one after another.
-use Rattle.std.proofs.Common.{◌≡◌, ℕ, List, Bool, true, false, Option, Some, None, Result, Ok, Err, refl, sym, ap, ◌∙◌, subst}
+use Rattle.std.proofs.Common.{◌≡◌, ℕ, true, false, Option, Some, refl, ap, ◌∙◌}
 use Rattle.mau_terms.specs.Tree.{Tree}
 use Rattle.mau_terms.specs.Bare.{IsLawful}
 use Rattle.mau_evaluation.specs.Run.{End, stopped, too_deep, overflowed, done, ended}
@@ -7,7 +7,7 @@ use Rattle.mau_evaluation.specs.Program.{Program}
 use Rattle.mau_evaluation.specs.Engine.{Engine, Engines, engine_of}
 use Rattle.mau_evaluation.specs.Rules.{Place, rewritten}
 use Rattle.mau_evaluation.specs.Questions.{evaluates}
-use Rattle.mau_evaluation.specs.Answers.{Answers, no_more, ends_by, answer, and_those, for_each, from_outcome}
+use Rattle.mau_evaluation.specs.Answers.{Answers, and_those, for_each, from_outcome}
 use Rattle.mau_evaluation.specs.OrderedLists.{only}
 use Rattle.mau_api.specs.Answers.{levels_of_condition}
 use Rattle.mau_api.specs.declared.results.EvalEnd.{EvalEnd}

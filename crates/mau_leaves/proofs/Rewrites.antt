@@ -1,5 +1,5 @@
 -- The uses of rules are what the results of leaves are made of.
-use Rattle.std.proofs.Common.{◌≡◌, ℕ, List, [], ◌∷◌, Bool, true, false, not, Option, Some, None, refl, sym, ap, ap₂, ◌∙◌}
+use Rattle.std.proofs.Common.{◌≡◌, ℕ, [], Bool, true, false, not, Some, None, refl, sym, ap, ◌∙◌}
 use Rattle.mau_terms.specs.Tree.{Tree}
 use Rattle.mau_terms.specs.Subst.{variables}
 use Rattle.mau_evaluation.specs.Run.{Outcome, done, ended, Run}
@@ -9,8 +9,8 @@ use Rattle.mau_evaluation.specs.Evaluation.{Binding, agree, have_sorts}
 use Rattle.mau_evaluation.specs.Engine.{Engine}
 use Rattle.mau_evaluation.specs.Rules.{Place, bound_by, has_reach}
 use Rattle.mau_evaluation.specs.Answers.{Answers, no_more, ends_by, answer, answers_of, and_those, for_each, asking, from_outcome, when}
-use Rattle.mau_evaluation.specs.OrderedLists.{asked, rewritten_by, rewrites_for, rewrites_at, rewrites_by, may_use, if_used, is_labelled, labelled_rule, labelled_place, any_rule, any_place}
-use Rattle.mau_leaves.specs.Uses.{Use, use_by, uses_for, uses_at, uses_among, uses_by, uses_if_chosen, uses_of_all, is_chosen, value_at}
+use Rattle.mau_evaluation.specs.OrderedLists.{asked, rewritten_by, rewrites_for, rewrites_at, rewrites_by, may_use, if_used, is_labelled, labelled_rule, any_rule}
+use Rattle.mau_leaves.specs.Uses.{Use, use_by, uses_for, uses_at, uses_by, uses_if_chosen, uses_of_all, is_chosen, value_at}
 use Rattle.mau_leaves.specs.Laws.{UsesLeadToResults}
 
 -- ---- answers of answers

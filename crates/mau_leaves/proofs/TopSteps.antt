@@ -1,5 +1,5 @@
 -- One result at the root of a term.
-use Rattle.std.proofs.Common.{◌≡◌, ℕ, List, Bool, true, false, Option, Some, None, IsSome, Result, Ok, Err, refl, sym, ap, ◌∙◌, subst}
+use Rattle.std.proofs.Common.{◌≡◌, ℕ, List, Bool, true, false, Option, Some, IsSome, Ok, Err, refl, sym, subst}
 use Rattle.mau_terms.specs.Tree.{Tree}
 use Rattle.mau_terms.specs.declared.ids.TermId.{TermId}
 use Rattle.mau_signature.specs.Signature.{SignatureOf}
@@ -12,7 +12,6 @@ use Rattle.mau_program.specs.declared.program.Program as Typed
 use Rattle.mau_evaluation.specs.Program.{Rule, Program}
 use Rattle.mau_evaluation.specs.Engine.{Engine, engine_of}
 use Rattle.mau_evaluation.specs.Rules.{rewritten}
-use Rattle.mau_evaluation.specs.Questions.{evaluates}
 use Rattle.mau_evaluation.specs.Answers.{Answers}
 use Rattle.mau_api.specs.Programs.{program_over}
 use Rattle.mau_api.specs.Meanings.{Meanings}

@@ -1,8 +1,6 @@
 -- The last use of a search at a term, and such a search in a store that has grown.
-use Rattle.std.proofs.Common.{◌≡◌, ℕ, suc, List, [], map, drop, All, Vec, Global, Bool, true, false, Option, Some, None, IfSome, IsSome, Result, Ok, Err, slice_get, refl, sym, ap, ◌∙◌, subst}
-use Rattle.std.specs.Option.{option_map}
+use Rattle.std.proofs.Common.{◌≡◌, ℕ, suc, List, map, drop, Vec, Global, Bool, true, false, Option, Some, None, IfSome, IsSome, Result, Ok, Err, slice_get, refl, sym, ap, ◌∙◌, subst}
 use Rattle.mau_terms.specs.Tree.{Tree}
-use Rattle.mau_terms.specs.View.{tree_of}
 use Rattle.mau_terms.specs.declared.ids.TermId.{TermId}
 use Rattle.mau_terms.specs.declared.ids.VarId.{VarId}
 use Rattle.mau_terms.specs.Bare.{IsBare}
@@ -29,13 +27,13 @@ use Rattle.mau_api.specs.Meanings.{Meanings}
 use Rattle.mau_api.specs.Answers.{binding_in, AreSettled}
 use Rattle.mau_api.specs.declared.results.EvalEnd.{EvalEnd}
 use Rattle.mau_reduce.specs.Trying.{solution_in}
-use Rattle.mau_leaves.specs.Steps.{Gives, IsOver, Passes, Before as InFront, Throughout}
+use Rattle.mau_leaves.specs.Steps.{Passes, Before as InFront, Throughout}
 use Rattle.mau_leaves.specs.Uses.{Use, uses_of_all}
-use Rattle.mau_leaves.specs.Answers.{GivesValue, IsDueBy}
-use Rattle.mau_leaves.specs.Searches.{left_in, use_in, IsAtSolution, IsShownFor, IsShownBehind, StandsAt, IsSearch}
+use Rattle.mau_leaves.specs.Answers.{GivesValue}
+use Rattle.mau_leaves.specs.Searches.{use_in, IsAtSolution, IsShownFor, StandsAt, IsSearch}
 use Rattle.mau_leaves.specs.AtPlace.{left_of_one, left_behind, left_at, use_of_one, use_behind, use_at, IsOpenAt, IsAtPlace}
 use Rattle.mau_leaves.specs.Values.{made_by}
-use Rattle.mau_leaves.specs.Top.{root_at, left_of_top, IsTop, IsNextResult}
+use Rattle.mau_leaves.specs.Top.{root_at, IsNextResult}
 use Rattle.mau_leaves.specs.declared.uses.RuleUses.{RuleUses}
 use Rattle.mau_leaves.specs.declared.uses.Standing.{Standing}
 use Rattle.mau_leaves.specs.declared.uses.Standing.TheVariants.{Behind, Before, Within}

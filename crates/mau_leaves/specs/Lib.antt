@@ -16,3 +16,5 @@ pub mod Laws
 pub mod Values
 -- searches for the results of rules at the root of a term
 pub mod Top
+-- what was given of the results of a leaf, and what is left
+pub mod Follows

@@ -61,7 +61,8 @@ fn use_value<E: Evaluator, L: Lister + Drop>(
     requires found { IsSome (use_at L.asked L.given program.now store.old place.now) }
     ensures valued { (u : Use) (M : Engine) → use_at L.asked L.given program.now store.old place.now ≡ Some u →
         GivesValue (program_over program.now (E.meanings evaluator.old).hooks) limit
-        (rewritten (program_over program.now (E.meanings evaluator.old).hooks) M u.rule (root_at (tree_at store.old place.now.term.0)) u.solution u.values)
+        (rewritten (program_over program.now (E.meanings evaluator.old).hooks) M u.rule
+            (root_at (tree_at store.old place.now.term.0)) u.solution u.values)
         store.new result }
     ensures term { IfOk result (λ id. IsTerm program.now.sig store.new id.0) }
     ensures settled { IfOk result (λ id. AreSettled program.now.sig store.new (E.table evaluator.new) (tree_at store.new id.0)) }
@@ -87,14 +88,7 @@ fn use_value<E: Evaluator, L: Lister + Drop>(
     };
     let rule = &rules[number];
     value_of(
-        program,
-        rule,
-        store,
-        evaluator,
-        place.term,
-        solution,
-        found,
-        limit,
+        program, rule, store, evaluator, place.term, solution, found, limit,
     )
 }
 
@@ -119,7 +113,8 @@ fn give<E: Evaluator, L: Lister + Drop>(
     ensures top { IsTop L.asked L.given L.is_for L.with_context program.now (E.meanings evaluator.old)
         store.new (E.table evaluator.new) top.new }
     ensures term { IfOk result (λ o. IfSome o (λ id. IsTerm program.now.sig store.new id.0)) }
-    ensures settled { IfOk result (λ o. IfSome o (λ id. AreSettled program.now.sig store.new (E.table evaluator.new) (tree_at store.new id.0))) }
+    ensures settled { IfOk result (λ o. IfSome o (λ id.
+        AreSettled program.now.sig store.new (E.table evaluator.new) (tree_at store.new id.0))) }
     ensures root { top.new.place.term ≡ top.old.place.term }
     ensures extends { Extends store.old store.new }
     ensures fits { E.fits evaluator.new store.new }
@@ -152,13 +147,16 @@ pub fn next_result<E: Evaluator, L: Lister + Drop>(
     requires top { IsTop L.asked L.given L.is_for L.with_context program.now (E.meanings evaluator.old)
         store.old (E.table evaluator.old) top.old }
     ensures next { IsNextResult (program_over program.now (E.meanings evaluator.old).hooks) limit
-        (left_of_top L.asked L.given program.now (E.meanings evaluator.old).hooks (is_chosen (option_map (λ x. x.now) label.entry)) store.old top.old)
-        (left_of_top L.asked L.given program.now (E.meanings evaluator.old).hooks (is_chosen (option_map (λ x. x.now) label.entry)) store.new top.new)
+        (left_of_top L.asked L.given program.now (E.meanings evaluator.old).hooks
+            (is_chosen (option_map (λ x. x.now) label.entry)) store.old top.old)
+        (left_of_top L.asked L.given program.now (E.meanings evaluator.old).hooks
+            (is_chosen (option_map (λ x. x.now) label.entry)) store.new top.new)
         store.new result }
     ensures top { IsTop L.asked L.given L.is_for L.with_context program.now (E.meanings evaluator.old)
         store.new (E.table evaluator.new) top.new }
     ensures term { IfOk result (λ o. IfSome o (λ id. IsTerm program.now.sig store.new id.0)) }
-    ensures settled { IfOk result (λ o. IfSome o (λ id. AreSettled program.now.sig store.new (E.table evaluator.new) (tree_at store.new id.0))) }
+    ensures settled { IfOk result (λ o. IfSome o (λ id.
+        AreSettled program.now.sig store.new (E.table evaluator.new) (tree_at store.new id.0))) }
     ensures root { top.new.place.term ≡ top.old.place.term }
     ensures extends { Extends store.old store.new }
     ensures fits { E.fits evaluator.new store.new }

@@ -13,7 +13,8 @@ ghost use Rattle.mau_reduce.specs.Trying.{solution_in};
 ghost use Rattle.mau_rules.specs.Runnable.{IsRunnable, GoesBy};
 ghost use Rattle.mau_rules.specs.Found.{IsValued};
 ghost use Rattle.mau_leaves.specs.Answers.{IsNextShown};
-ghost use Rattle.mau_leaves.specs.Searches.{IsUsable, IsShownFor, IsShownBehind, IsSearch, left_in, use_in, found_in, last_in, IsTurn, IsNextOne};
+ghost use Rattle.mau_leaves.specs.Searches.{IsUsable, IsShownBehind, IsSearch, left_in, use_in, found_in, last_in};
+ghost use Rattle.mau_leaves.specs.Searches.{IsTurn, IsNextOne};
 ghost use Rattle.mau_leaves.specs.declared.uses.Standing.TheVariants as At;
 
 use crate::turn::Turn;

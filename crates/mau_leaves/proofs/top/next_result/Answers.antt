@@ -1,28 +1,19 @@
-use Rattle.std.proofs.Common.{◌≡◌, ℕ, ◌<◌, List, length, All, Bool, true, false, Option, Some, None, IfOk, IfSome, IsSome, Result, Ok, Err, refl, sym, ap, ◌∙◌, subst, arith}
-use Rattle.std.specs.Option.{option_map, option_copied}
+use Rattle.std.proofs.Common.{◌≡◌, Bool, true, false, Ok, sym, ap, ◌∙◌, subst}
+use Rattle.std.specs.Option.{option_map}
 use Rattle.mau_terms.specs.declared.ids.TermId.{TermId}
-use Rattle.mau_terms.specs.declared.ids.VarId.{VarId}
 use Rattle.mau_store.specs.Trees.{tree_at}
 use Rattle.mau_store.proofs.Growth.{extension_is_preorder}
-use Rattle.mau_sorts.proofs.Settling.{kept_on, kept_same}
+use Rattle.mau_sorts.proofs.Settling.{kept_on}
 use Rattle.mau_signature.specs.Signature.{theory_at}
-use Rattle.mau_listing.specs.declared.solution.Solution as Listed
-use Rattle.mau_program.specs.declared.statements.Rule as Written
-use Rattle.mau_evaluation.specs.Engine.{Engine, engine_of}
 use Rattle.mau_api.specs.Programs.{program_over}
 use Rattle.mau_api.specs.Meanings.{Meanings}
-use Rattle.mau_api.specs.Answers.{IsValueOf}
 use Rattle.mau_reduce.proofs.KindsKept.{tree_kept}
-use Rattle.mau_reduce.proofs.Numbered.{at_index}
-use Rattle.mau_leaves.specs.Uses.{Use, is_chosen}
-use Rattle.mau_leaves.specs.Answers.{GivesValue}
+use Rattle.mau_leaves.specs.Uses.{is_chosen}
 use Rattle.mau_leaves.specs.Searches.{IsNextOne}
 use Rattle.mau_leaves.specs.AtPlace.{left_at, use_at}
 use Rattle.mau_leaves.specs.Top.{left_of_top, IsTop, IsNextResult}
-use Rattle.mau_leaves.proofs.Tables.{over_of}
-use Rattle.mau_leaves.proofs.PlaceTurns.{within, usable_here}
-use Rattle.mau_leaves.proofs.TopTurns.{some_use, not_begun, not_given, not_before, not_behind, at_there, shown_there, valued_there, then_result}
-use Rattle.mau_leaves.proofs.TopSteps.{top_with, top_grown, given_top, still_top, value_given, value_ends, use_found, use_there, none_found, search_ends}
+use Rattle.mau_leaves.proofs.TopTurns.{then_result}
+use Rattle.mau_leaves.proofs.TopSteps.{top_with, use_found, use_there, none_found, search_ends}
 use Rattle.mau_rules.specs.Runnable.{GoesBy}
 use Rattle.mau_leaves.proofs.top.next_result.Goals as goal
 

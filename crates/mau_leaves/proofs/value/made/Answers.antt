@@ -1,15 +1,12 @@
-use Rattle.std.proofs.Common.{◌≡◌, List, IfOk, IfErr, Result, Ok, Err, sym, ap, ◌∙◌, subst}
-use Rattle.mau_terms.specs.Tree.{Tree}
+use Rattle.std.proofs.Common.{◌≡◌, IfOk, IfErr, subst}
 use Rattle.mau_terms.specs.Norm.{norm}
 use Rattle.mau_terms.specs.Subst.{instance}
 use Rattle.mau_terms.specs.View.{tree_of}
 use Rattle.mau_terms.specs.declared.ids.TermId.{TermId}
 use Rattle.mau_signature.specs.Signature.{theory_at}
-use Rattle.mau_store.specs.Node.{Node}
 use Rattle.mau_store.specs.Trees.{tree_at, trees_at}
 use Rattle.mau_store.specs.View.{numbers}
 use Rattle.mau_evaluation.specs.Evaluation.{Binding, look_up, in_context, admit}
-use Rattle.mau_api.specs.Terms.{IsTerm}
 use Rattle.mau_reduce.specs.Ends.{IsEnd}
 use Rattle.mau_reduce.specs.Kinds.{IsTermIn}
 use Rattle.mau_leaves.proofs.MadeTerms.{term_of_kind}
