@@ -1,19 +1,34 @@
 -- What was given of the results of a leaf, step by step.
-use Rattle.std.proofs.Common.{◌≡◌, ◌⊎◌, inl, inr, ℕ, List, [], ◌∷◌, ◌++◌, refl, sym, ap, ◌∙◌, subst}
+use Rattle.std.proofs.Common.{◌≡◌, ◌⊎◌, inl, inr, ℕ, List, [], ◌∷◌, ◌++◌, map, drop, false, Option, Some, None, Result, Ok, Err, refl, sym, ap, ◌∙◌, subst}
 use Rattle.mau_terms.specs.Tree.{Tree}
+use Rattle.mau_terms.specs.declared.ids.TermId.{TermId}
+use Rattle.mau_formula.specs.Operator.{Operator}
+use Rattle.mau_store.specs.Node.{Node}
+use Rattle.mau_store.specs.Trees.{tree_at}
+use Rattle.mau_listing.specs.Asked.{Asked}
+use Rattle.mau_listing.specs.declared.solution.Solution as Listed
+use Rattle.mau_program.specs.declared.program.Program as Typed
 use Rattle.mau_evaluation.specs.Run.{End, stopped, too_deep, overflowed}
 use Rattle.mau_evaluation.specs.Program.{Program}
-use Rattle.mau_evaluation.specs.Engine.{Engine, Engines}
-use Rattle.mau_evaluation.specs.Strategy.{StratDef}
+use Rattle.mau_evaluation.specs.Engine.{Engine, Engines, engine_of}
+use Rattle.mau_evaluation.specs.Strategy.{Strategy, StratDef}
 use Rattle.mau_evaluation.specs.Configs.{Todo}
-use Rattle.mau_evaluation.specs.Answers.{Answers, no_more, ends_by, answer, answers_of, before}
-use Rattle.mau_evaluation.specs.OrderedLists.{results, IsLeaf, LeafList}
+use Rattle.mau_evaluation.specs.Answers.{Answers, no_more, answer, answers_of, before, and_those, for_each}
+use Rattle.mau_evaluation.specs.OrderedLists.{results_of, results, any_place, labelled_place, IsLeaf, LeafList}
 use Rattle.mau_evaluation.specs.Entries.{IsFront, LeafFront}
 use Rattle.mau_evaluation.specs.Eventually.{Eventually}
 use Rattle.mau_evaluation.specs.Questions.{Question, without, EndsWithin, EndsUnder, NeedsLeaf}
+use Rattle.mau_api.specs.Programs.{rule_of, program_over}
+use Rattle.mau_api.specs.Answers.{levels_of_condition}
+use Rattle.mau_api.specs.declared.results.EvalEnd.{EvalEnd}
+use Rattle.mau_api.specs.declared.results.EvalEnd.TheVariants.{Stopped, TooDeep, Overflow, NoMemory}
 use Rattle.mau_leaves.specs.Steps.{Gives, IsOver, Passes, EndsNow, Throughout, IsDue}
-use Rattle.mau_leaves.specs.Follows.{HasGiven, SearchesFollow}
-use Rattle.mau_leaves.proofs.Steps.{both_so, so}
+use Rattle.mau_leaves.specs.Uses.{uses_of_all, value_at, is_chosen}
+use Rattle.mau_leaves.specs.Answers.{IsDueBy}
+use Rattle.mau_leaves.specs.Top.{root_at, left_of_top, IsNextResult}
+use Rattle.mau_leaves.specs.Follows.{HasGiven, IsLeafDue, IsNextGiven, IsTopOf}
+use Rattle.mau_leaves.proofs.Rewrites.{those_none, uses_lead_to_results}
+use Rattle.mau_leaves.proofs.Steps.{both_so, so, through_always}
 use Rattle.mau_leaves.proofs.Askings.{before_more}
 
 before_none : {A : Type 0} (xs : List A) → before xs no_more ≡ answers_of xs
@@ -97,5 +112,45 @@ module _ (P : Program) (E : Engines) (d : Todo) (t : Tree) where
       by M f (inl k) h = ended_so M us now f k h
       by M f (inr k) h = k
 
-pub searches_follow : SearchesFollow
-searches_follow P E defs d t = (begins P E d t, passes P E d t, gives P E d t, front P E d t defs, whole P E d t, needs P E d t defs)
+-- ---- the next result
+
+module _ (P : Program) (b : ℕ) (defs : List StratDef) (d : Todo) (leaf : IsLeaf d.form) (t : Tree) (us : List Tree) (old new : Engine → Answers Tree → Type 0) (h : HasGiven P (engine_of P) d t us old) (nodes : List Node) where
+  ends_so : (e : EvalEnd) → IsDueBy P b old e → IsLeafDue P b defs d t us e
+  ends_so Stopped due = needs P (engine_of P) d t defs us old h levels_of_condition b stopped due
+  ends_so TooDeep due = needs P (engine_of P) d t defs us old h levels_of_condition b too_deep due
+  ends_so Overflow due = needs P (engine_of P) d t defs us old h levels_of_condition b overflowed due
+  ends_so NoMemory due = tt
+
+  pub follow : (r : Result (Option TermId) EvalEnd) → IsNextResult P b old new nodes r → IsNextGiven P b defs d t us new nodes r
+  follow (Ok (Some id)) n = let g = gives P (engine_of P) d t us old new h (tree_at nodes id.0) n in (g, front P (engine_of P) d t defs (us ++ tree_at nodes id.0 ∷ []) new g leaf)
+  follow (Ok None) n = whole P (engine_of P) d t us old h leaf n
+  follow (Err e) n = (passes P (engine_of P) d t us old new h n.0, ends_so e n.1)
+
+-- ---- the root
+
+pub top_leaf : (o : Option (List ℕ)) (e : Strategy) → IsTopOf o e → IsLeaf e
+top_leaf None e h = subst IsLeaf (sym h) tt
+top_leaf (Some n) e h = subst IsLeaf (sym h) tt
+
+module _ (P : Program) (L : Engine) (d : Todo) (t : Tree) where
+  -- the results are the values that the uses of the rules lead to
+  pub root_results : (o : Option (List ℕ)) → IsTopOf o d.form → results P L d t ≡ for_each (value_at P L (root_at t)) (uses_of_all P L (is_chosen o) t P.rules)
+  root_results None h = ap (λ e. results_of P L d.values e t) h ∙ (those_none (any_place P L (root_at t)) ∙ sym (uses_lead_to_results P L (root_at t)).1)
+  root_results (Some n) h =
+      ap (λ e. results_of P L d.values e t) h
+      ∙ (those_none (and_those (labelled_place P L n [] [] (root_at t)) no_more) ∙ (those_none (labelled_place P L n [] [] (root_at t)) ∙ sym ((uses_lead_to_results P L (root_at t)).2 n)))
+
+drop_zero : {A : Type 0} (xs : List A) → drop 0 xs ≡ xs
+drop_zero [] = refl
+drop_zero (x ∷ xs) = refl
+
+pub begins_at_root : {K : Type 0} (asked : K → Asked) (given : K → Option Listed.Solution) (p : Typed.Program) (hooks : List Operator) (nodes : List Node) (term : TermId) (o : Option (List ℕ)) (d : Todo) → IsTopOf o d.form →
+    HasGiven (program_over p hooks) (engine_of (program_over p hooks)) d (tree_at nodes term.0) []
+    (left_of_top asked given p hooks (is_chosen o) nodes (record { place = record { term = term; number = 0; uses = None }; due = false }))
+begins_at_root asked given p hooks nodes term o d top =
+    let P : Program = program_over p hooks in
+    let t : Tree = tree_at nodes term.0 in
+    begins P (engine_of P) d t (left_of_top asked given p hooks (is_chosen o) nodes (record { place = record { term = term; number = 0; uses = None }; due = false }))
+    (through_always (engine_of P) (λ L q. q ≡ results P L d t)
+    {H = λ L. Passes (λ q. q ≡ results P L d t) (left_of_top asked given p hooks (is_chosen o) nodes (record { place = record { term = term; number = 0; uses = None }; due = false }) L)}
+    (λ L q e. (uses_of_all P L (is_chosen o) t P.rules, sym (ap (λ rs. uses_of_all P L (is_chosen o) t (map rule_of rs)) (drop_zero p.rules)), e ∙ root_results P L d t o top)))

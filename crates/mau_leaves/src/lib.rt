@@ -9,5 +9,5 @@ mod uses;
 mod value;
 
 pub use place::{PlaceUses, next_at, start_place};
-pub use top::{TopResults, next_result, start_top};
+pub use top::{TopResults, next_top, start_top};
 pub use uses::{RuleUses, Standing, next_use, start_uses};

@@ -114,9 +114,9 @@ fn begin_rule<E: Evaluator, L: Lister + Drop>(
     requires idle { place.old.uses ≡ None }
     ensures turn { (b : ℕ) → IsTurn (program_over program.now (E.meanings evaluator.now).hooks) b
         (left_at L.asked L.given program.now (E.meanings evaluator.now).hooks
-            (is_chosen (option_map (λ x. x.now) label.entry)) store.now place.old)
+        (is_chosen (option_map (λ x. x.now) label.entry)) store.now place.old)
         (left_at L.asked L.given program.now (E.meanings evaluator.now).hooks
-            (is_chosen (option_map (λ x. x.now) label.entry)) store.now place.new)
+        (is_chosen (option_map (λ x. x.now) label.entry)) store.now place.new)
         (use_at L.asked L.given program.now store.now place.new) result }
     ensures place { IsAtPlace L.asked L.given L.is_for L.with_context program.now (E.meanings evaluator.now)
         store.now (E.table evaluator.now) place.new }
@@ -162,9 +162,9 @@ fn turn_at<E: Evaluator, L: Lister + Drop>(
         store.old (E.table evaluator.old) place.old }
     ensures turn { IsTurn (program_over program.now (E.meanings evaluator.old).hooks) limit
         (left_at L.asked L.given program.now (E.meanings evaluator.old).hooks
-            (is_chosen (option_map (λ x. x.now) label.entry)) store.old place.old)
+        (is_chosen (option_map (λ x. x.now) label.entry)) store.old place.old)
         (left_at L.asked L.given program.now (E.meanings evaluator.old).hooks
-            (is_chosen (option_map (λ x. x.now) label.entry)) store.new place.new)
+        (is_chosen (option_map (λ x. x.now) label.entry)) store.new place.new)
         (use_at L.asked L.given program.now store.new place.new) result }
     ensures place { IsAtPlace L.asked L.given L.is_for L.with_context program.now (E.meanings evaluator.old)
         store.new (E.table evaluator.new) place.new }
@@ -198,9 +198,9 @@ pub fn next_at<E: Evaluator, L: Lister + Drop>(
         store.old (E.table evaluator.old) place.old }
     ensures next { IsNextOne (program_over program.now (E.meanings evaluator.old).hooks) limit
         (left_at L.asked L.given program.now (E.meanings evaluator.old).hooks
-            (is_chosen (option_map (λ x. x.now) label.entry)) store.old place.old)
+        (is_chosen (option_map (λ x. x.now) label.entry)) store.old place.old)
         (left_at L.asked L.given program.now (E.meanings evaluator.old).hooks
-            (is_chosen (option_map (λ x. x.now) label.entry)) store.new place.new)
+        (is_chosen (option_map (λ x. x.now) label.entry)) store.new place.new)
         (use_at L.asked L.given program.now store.new place.new) result }
     ensures place { IsAtPlace L.asked L.given L.is_for L.with_context program.now (E.meanings evaluator.old)
         store.new (E.table evaluator.new) place.new }

@@ -1,22 +1,30 @@
 //! The results of rules at the root of a term, one after another.
-ghost use Rattle.std.specs.Prelude.{ℕ, ◌≡◌, Bool, true, false, None, Some, IsSome, IfOk, IfSome};
+ghost use Rattle.std.specs.Prelude.{ℕ, ◌≡◌, List, [], Bool, true, false, Option, None, Some, IsSome, IfOk, IfSome};
 ghost use Rattle.std.specs.Option.{option_map};
-ghost use Rattle.mau_store.specs.Node.{Extends};
+ghost use Rattle.mau_terms.specs.Tree.{Tree};
+ghost use Rattle.mau_formula.specs.Operator.{Operator};
+ghost use Rattle.mau_store.specs.Node.{Node, Extends};
 ghost use Rattle.mau_store.specs.Trees.{tree_at};
-ghost use Rattle.mau_sorts.specs.Table.{KeepsEntries};
+ghost use Rattle.mau_sorts.specs.Table.{Table, KeepsEntries};
+ghost use Rattle.mau_program.specs.declared.program.Program as Typed;
 ghost use Rattle.mau_evaluation.specs.Program as Defined;
+ghost use Rattle.mau_evaluation.specs.Strategy.{StratDef};
+ghost use Rattle.mau_evaluation.specs.Configs.{Todo};
+ghost use Rattle.mau_evaluation.specs.OrderedLists.{IsLeaf};
 ghost use Rattle.mau_evaluation.specs.Rules.{rewritten};
-ghost use Rattle.mau_evaluation.specs.Engine.{Engine};
+ghost use Rattle.mau_evaluation.specs.Engine.{Engine, engine_of};
 ghost use Rattle.mau_api.specs.Programs.{program_over};
+ghost use Rattle.mau_api.specs.Meanings.{Meanings};
 ghost use Rattle.mau_api.specs.Terms.{IsTerm};
 ghost use Rattle.mau_api.specs.Answers.{AreSettled};
 ghost use Rattle.mau_rules.specs.Runnable.{IsRunnable, GoesBy};
 ghost use Rattle.mau_leaves.specs.Uses.{Use, is_chosen};
 ghost use Rattle.mau_leaves.specs.Answers.{GivesValue};
 ghost use Rattle.mau_leaves.specs.AtPlace.{use_at, IsAtPlace};
+ghost use Rattle.mau_leaves.specs.Follows.{HasGiven, IsNextGiven, IsTopOf};
 ghost use Rattle.mau_leaves.specs.Top.{root_at, left_of_top, IsTop, IsNextResult};
 
-use crate::place::{PlaceUses, next_at, start_place};
+use crate::place::{PlaceUses, next_at};
 use crate::uses::Standing;
 use crate::value::value_of;
 use mau_api::{EvalEnd, Evaluator, Lister, Program};
@@ -34,12 +42,20 @@ pub struct TopResults<L> {
 /// The search for the results of rules at the root of a term, which stands before all.
 pub fn start_top<L: Lister + Drop>(term: TermId) -> TopResults<L>
     ensures term { result.place.term ≡ term }
-    ensures number { result.place.number ≡ 0 }
-    ensures uses { result.place.uses ≡ None }
-    ensures due { result.due ≡ false }
+    ensures stands { (result.place.uses ≡ None) × (result.due ≡ false) }
+    ensures top { (c : Bool) (p : Typed.Program) (m : Meanings) (nodes : List Node) (table : Table) → IsTerm p.sig nodes term.0 →
+        AreSettled p.sig nodes table (tree_at nodes term.0) → IsTop L.asked L.given L.is_for c p m nodes table result }
+    ensures begins { (p : Typed.Program) (hooks : List Operator) (nodes : List Node) (chosen : Option (List ℕ)) (d : Todo) →
+        IsTopOf chosen d.form →
+        HasGiven (program_over p hooks) (engine_of (program_over p hooks)) d (tree_at nodes term.0) []
+        (left_of_top L.asked L.given p hooks (is_chosen chosen) nodes result) }
 {
     TopResults {
-        place: start_place(term),
+        place: PlaceUses {
+            term,
+            number: 0,
+            uses: None,
+        },
         due: false,
     }
 }
@@ -62,7 +78,7 @@ fn use_value<E: Evaluator, L: Lister + Drop>(
     ensures valued { (u : Use) (M : Engine) → use_at L.asked L.given program.now store.old place.now ≡ Some u →
         GivesValue (program_over program.now (E.meanings evaluator.old).hooks) limit
         (rewritten (program_over program.now (E.meanings evaluator.old).hooks) M u.rule
-            (root_at (tree_at store.old place.now.term.0)) u.solution u.values)
+        (root_at (tree_at store.old place.now.term.0)) u.solution u.values)
         store.new result }
     ensures term { IfOk result (λ id. IsTerm program.now.sig store.new id.0) }
     ensures settled { IfOk result (λ id. AreSettled program.now.sig store.new (E.table evaluator.new) (tree_at store.new id.0)) }
@@ -131,7 +147,7 @@ fn give<E: Evaluator, L: Lister + Drop>(
 }
 
 /// The next result of the rules at the root of a term, of all or of those with a label.
-pub fn next_result<E: Evaluator, L: Lister + Drop>(
+fn next_result<E: Evaluator, L: Lister + Drop>(
     program: &Program,
     label: Option<&str>,
     store: &mut Store,
@@ -148,9 +164,9 @@ pub fn next_result<E: Evaluator, L: Lister + Drop>(
         store.old (E.table evaluator.old) top.old }
     ensures next { IsNextResult (program_over program.now (E.meanings evaluator.old).hooks) limit
         (left_of_top L.asked L.given program.now (E.meanings evaluator.old).hooks
-            (is_chosen (option_map (λ x. x.now) label.entry)) store.old top.old)
+        (is_chosen (option_map (λ x. x.now) label.entry)) store.old top.old)
         (left_of_top L.asked L.given program.now (E.meanings evaluator.old).hooks
-            (is_chosen (option_map (λ x. x.now) label.entry)) store.new top.new)
+        (is_chosen (option_map (λ x. x.now) label.entry)) store.new top.new)
         store.new result }
     ensures top { IsTop L.asked L.given L.is_for L.with_context program.now (E.meanings evaluator.old)
         store.new (E.table evaluator.new) top.new }
@@ -173,4 +189,42 @@ pub fn next_result<E: Evaluator, L: Lister + Drop>(
     }
     top.due = true;
     give(program, store, evaluator, top, limit)
+}
+
+/// The next result of `top(all)`, or of `top(l)` where a label is given, from the root of a term.
+pub fn next_top<E: Evaluator, L: Lister + Drop>(
+    program: &Program,
+    label: Option<&str>,
+    store: &mut Store,
+    evaluator: &mut E,
+    top: &mut TopResults<L>,
+    limit: u64,
+) -> Result<Option<TermId>, EvalEnd>
+    requires contexts { L.with_context ≡ true }
+    requires runnable { IsRunnable program.now }
+    requires goes_by { GoesBy program.now (E.meanings evaluator.old) }
+    requires fits { E.fits evaluator.old store.old }
+    requires limit { limit ≡ (E.meanings evaluator.old).limit }
+    requires top { IsTop L.asked L.given L.is_for L.with_context program.now (E.meanings evaluator.old)
+        store.old (E.table evaluator.old) top.old }
+    ensures next { (defs : List StratDef) (d : Todo) (t : Tree) (us : List Tree) → IsLeaf d.form →
+        HasGiven (program_over program.now (E.meanings evaluator.old).hooks)
+        (engine_of (program_over program.now (E.meanings evaluator.old).hooks)) d t us
+        (left_of_top L.asked L.given program.now (E.meanings evaluator.old).hooks
+        (is_chosen (option_map (λ x. x.now) label.entry)) store.old top.old) →
+        IsNextGiven (program_over program.now (E.meanings evaluator.old).hooks) limit defs d t us
+        (left_of_top L.asked L.given program.now (E.meanings evaluator.old).hooks
+        (is_chosen (option_map (λ x. x.now) label.entry)) store.new top.new) store.new result }
+    ensures top { IsTop L.asked L.given L.is_for L.with_context program.now (E.meanings evaluator.old)
+        store.new (E.table evaluator.new) top.new }
+    ensures term { IfOk result (λ o. IfSome o (λ id. IsTerm program.now.sig store.new id.0)) }
+    ensures settled { IfOk result (λ o. IfSome o (λ id.
+        AreSettled program.now.sig store.new (E.table evaluator.new) (tree_at store.new id.0))) }
+    ensures root { top.new.place.term ≡ top.old.place.term }
+    ensures extends { Extends store.old store.new }
+    ensures fits { E.fits evaluator.new store.new }
+    ensures kept { KeepsEntries (E.table evaluator.old) (E.table evaluator.new) }
+    ensures meanings { E.meanings evaluator.new ≡ E.meanings evaluator.old }
+{
+    next_result(program, label, store, evaluator, top, limit)
 }
