@@ -40,3 +40,5 @@ pub mod TopTurns
 pub mod TopSteps
 -- what was given of the results of a leaf, step by step
 pub mod Follows
+-- a variable that no pattern of a rule has is not determined
+pub mod NotDetermined

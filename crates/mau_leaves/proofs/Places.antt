@@ -20,7 +20,7 @@ use Rattle.mau_evaluation.specs.Program.{Rule, Program}
 use Rattle.mau_evaluation.specs.Listing.{compare, solutions_within}
 use Rattle.mau_evaluation.specs.Engine.{Engine, engine_of}
 use Rattle.mau_evaluation.specs.Rules.{has_reach}
-use Rattle.mau_evaluation.specs.Answers.{Answers, and_those, when}
+use Rattle.mau_evaluation.specs.Answers.{Answers, no_more, and_those, when}
 use Rattle.mau_evaluation.specs.Satisfies.{binds_all, determined}
 use Rattle.mau_evaluation.specs.OrderedLists.{may_use}
 use Rattle.mau_api.specs.Programs.{rule_of, program_over}
@@ -86,6 +86,20 @@ module _ (p : Typed.Program) (hooks : List Operator) (chosen : Rule → Bool) (t
   passes_over n rule at unchosen =
       through_always (engine_of P) (λ L q. q ≡ All_from L n) {H = λ L. Passes (λ q. q ≡ All_from L n) (λ q. q ≡ All_from L (suc n))}
       (λ L q e. e ∙ (from_one L n rule at ∙ ap (λ b. and_those (when b (when (not (has_reach (rule_of rule).cond)) (when (may_use (rule_of rule) []) (uses_by P L (rule_of rule) [] t)))) (All_from L (suc n))) unchosen))
+
+  pub passes_unusable : (n : ℕ) (rule : Written.Rule) → slice_get p.rules n ≡ Some rule → may_use (rule_of rule) [] ≡ false →
+      Throughout (engine_of (program_over p hooks)) (λ L q. q ≡ uses_of_all (program_over p hooks) L chosen t (map rule_of (drop n p.rules)))
+      (λ L. Passes (λ q. q ≡ uses_of_all (program_over p hooks) L chosen t (map rule_of (drop n p.rules))) (λ q. q ≡ uses_of_all (program_over p hooks) L chosen t (map rule_of (drop (suc n) p.rules))))
+  passes_unusable n rule at unusable =
+      through_always (engine_of P) (λ L q. q ≡ All_from L n) {H = λ L. Passes (λ q. q ≡ All_from L n) (λ q. q ≡ All_from L (suc n))}
+      (λ L q e. e ∙ (from_one L n rule at
+      ∙ (ap (λ b. and_those (when (chosen (rule_of rule)) (when (not (has_reach (rule_of rule).cond)) (when b (uses_by P L (rule_of rule) [] t)))) (All_from L (suc n))) unusable
+      ∙ ap (λ z. and_those z (All_from L (suc n))) (none_when (chosen (rule_of rule)) (not (has_reach (rule_of rule).cond))))))
+    where
+      none_when : (b c : Bool) → when {A = Use} b (when c no_more) ≡ no_more
+      none_when true true = refl
+      none_when true false = refl
+      none_when false c = refl
 
   pub over_behind : (n : ℕ) → length p.rules ≤ n → Throughout (engine_of (program_over p hooks)) (λ L q. q ≡ uses_of_all (program_over p hooks) L chosen t (map rule_of (drop n p.rules)))
       (λ L. IsOver (λ q. q ≡ uses_of_all (program_over p hooks) L chosen t (map rule_of (drop n p.rules))))

@@ -18,3 +18,5 @@ pub mod Values
 pub mod Top
 -- what was given of the results of a leaf, and what is left
 pub mod Follows
+-- the variables that a fragment of a condition matches
+pub mod Matched

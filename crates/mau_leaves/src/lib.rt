@@ -1,6 +1,7 @@
 //! The results of leaves of strategies, one after another, by any evaluator and any listing with contexts.
 #![tactic(auto)]
 
+mod determined;
 pub mod laws;
 mod place;
 mod top;

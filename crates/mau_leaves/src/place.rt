@@ -10,6 +10,7 @@ ghost use Rattle.mau_leaves.specs.Uses.{is_chosen};
 ghost use Rattle.mau_leaves.specs.Searches.{IsTurn, IsNextOne};
 ghost use Rattle.mau_leaves.specs.AtPlace.{left_at, use_at, IsAtPlace};
 
+use crate::determined::may_be_used;
 use crate::turn::Turn;
 use crate::uses::{RuleUses, next_use, start_uses};
 use mau_api::{EvalEnd, Evaluator, Lister, Program};
@@ -97,8 +98,8 @@ fn go_through<E: Evaluator, L: Lister + Drop>(
     }
 }
 
-/// Begins the search for the uses of the next rule, where it is one of those that are asked for; else it is passed over. One that is not
-/// executable is not used yet: the search gives up.
+/// Begins the search for the uses of the next rule, where it is one of those that are asked for and may be used; else it is passed over.
+/// One that is not executable, and whose variables are all determined, is not used yet: the search gives up.
 fn begin_rule<E: Evaluator, L: Lister + Drop>(
     program: &Program,
     label: Option<&str>,
@@ -133,7 +134,14 @@ fn begin_rule<E: Evaluator, L: Lister + Drop>(
         return Ok(Turn::Passed);
     }
     if !rule.exec {
-        return Err(EvalEnd::NoMemory);
+        return match may_be_used(store.allocator(), &program.sig, rule) {
+            Ok(false) => {
+                place.number = number + 1;
+                Ok(Turn::Passed)
+            }
+            Ok(true) => Err(EvalEnd::NoMemory),
+            Err(_) => Err(EvalEnd::NoMemory),
+        };
     }
     match start_uses(program, rule, store, evaluator, place.term) {
         Ok(uses) => {

@@ -1,15 +1,16 @@
-use Rattle.std.proofs.Common.{◌≡◌, ◌+◌, ◌<◌, ◌≤◌, List, length, true, false, Option, Some, None, IfSome, sym, ap, ◌∙◌, subst, add-one}
+use Rattle.std.proofs.Common.{◌≡◌, ◌+◌, ◌<◌, ◌≤◌, List, [], length, true, false, Option, Some, None, IfSome, sym, ap, ◌∙◌, subst, add-one}
 use Rattle.std.specs.Option.{option_map}
 use Rattle.mau_store.specs.Trees.{tree_at}
 use Rattle.mau_program.specs.declared.statements.Rule as Written
 use Rattle.mau_evaluation.specs.Engine.{engine_of}
+use Rattle.mau_evaluation.specs.OrderedLists.{may_use}
 use Rattle.mau_api.specs.Programs.{rule_of, program_over}
 use Rattle.mau_leaves.specs.Steps.{Passes, IsOver, Throughout}
 use Rattle.mau_leaves.specs.Uses.{is_chosen}
 use Rattle.mau_leaves.specs.AtPlace.{left_behind, left_at, IsOpenAt}
 use Rattle.mau_leaves.specs.declared.uses.RuleUses.{RuleUses}
 use Rattle.mau_reduce.proofs.Numbered.{at_index}
-use Rattle.mau_leaves.proofs.Places.{exec_usable, passes_over, over_behind, as_begun}
+use Rattle.mau_leaves.proofs.Places.{exec_usable, passes_over, passes_unusable, over_behind, as_begun}
 use Rattle.mau_leaves.proofs.Steps.{none_passed}
 use Rattle.mau_leaves.proofs.place.begin_rule.Goals as goal
 
@@ -57,8 +58,25 @@ returns-then-not-is_asked-clause-turn g c = λ b.
     (subst (λ j. Throughout (engine_of (program_over p m.hooks)) (left_behind g.L.Lister.asked g.L.Lister.given p m.hooks (is_chosen label) t nodes n None) (λ L. Passes (left_behind g.L.Lister.asked g.L.Lister.given p m.hooks (is_chosen label) t nodes n None L) (left_behind g.L.Lister.asked g.L.Lister.given p m.hooks (is_chosen label) t nodes j None L))) (sym (add-one n))
     (passes_over p m.hooks (is_chosen label) t n rule at unchosen))
 
-pub returns-then-not-rule-clause-turn : goal.returns-then-not-rule-clause-turn
-returns-then-not-rule-clause-turn g c = λ b.
+pub returns-in-Ok-false-clause-turn : goal.returns-in-Ok-false-clause-turn
+returns-in-Ok-false-clause-turn g c = λ b.
+    let m = g.E.Evaluator.meanings c.args.evaluator.now in
+    let p = c.args.program.now in
+    let nodes = c.args.store.now in
+    let s = c.args.place.now in
+    let n = s.number in
+    let label = option_map (λ x. x.now) c.args.label in
+    let t = tree_at nodes s.term.0 in
+    let rule = c.index-rules-number.result in
+    let within : n < length p.rules = subst (λ (rs : List Written.Rule). n < length rs) c.items-rules.ensures c.if-number-rules.false in
+    let at = at_index p.rules c.items-rules.result.now n rule c.items-rules.ensures within c.index-rules-number.is in
+    let unusable : may_use (rule_of rule) [] ≡ false = c.in-Ok-false.ensures c.in-Ok-false.field-0-test in
+    subst (λ (o : Option (RuleUses _)). Throughout (engine_of (program_over p m.hooks)) (left_behind g.L.Lister.asked g.L.Lister.given p m.hooks (is_chosen label) t nodes n o) (λ L. Passes (left_behind g.L.Lister.asked g.L.Lister.given p m.hooks (is_chosen label) t nodes n o L) (left_behind g.L.Lister.asked g.L.Lister.given p m.hooks (is_chosen label) t nodes (n + 1) o L))) (sym c.requires.idle)
+    (subst (λ j. Throughout (engine_of (program_over p m.hooks)) (left_behind g.L.Lister.asked g.L.Lister.given p m.hooks (is_chosen label) t nodes n None) (λ L. Passes (left_behind g.L.Lister.asked g.L.Lister.given p m.hooks (is_chosen label) t nodes n None L) (left_behind g.L.Lister.asked g.L.Lister.given p m.hooks (is_chosen label) t nodes j None L))) (sym (add-one n))
+    (passes_unusable p m.hooks (is_chosen label) t n rule at unusable))
+
+pub returns-in-Ok-true-clause-turn : goal.returns-in-Ok-true-clause-turn
+returns-in-Ok-true-clause-turn g c = λ b.
     let m = g.E.Evaluator.meanings c.args.evaluator.now in
     let p = c.args.program.now in
     let nodes = c.args.store.now in
@@ -123,6 +141,21 @@ returns-in-Err-clause-turn g c = λ b.
 
 pub returns-then-not-is_asked-clause-place : goal.returns-then-not-is_asked-clause-place
 returns-then-not-is_asked-clause-place g c =
+    let m = g.E.Evaluator.meanings c.args.evaluator.now in
+    let p = c.args.program.now in
+    let nodes = c.args.store.now in
+    let s = c.args.place.now in
+    let n = s.number in
+    let label = option_map (λ x. x.now) c.args.label in
+    let t = tree_at nodes s.term.0 in
+    record {
+      term = c.requires.place.term;
+      settled = c.requires.place.settled;
+      uses = subst (λ (o : Option (RuleUses _)). IfSome o (IsOpenAt g.L.Lister.asked g.L.Lister.given g.L.Lister.is_for g.L.Lister.with_context p m nodes (g.E.Evaluator.table c.args.evaluator.now) s.term.0 (n + 1))) (sym c.requires.idle) tt;
+    }
+
+pub returns-in-Ok-false-clause-place : goal.returns-in-Ok-false-clause-place
+returns-in-Ok-false-clause-place g c =
     let m = g.E.Evaluator.meanings c.args.evaluator.now in
     let p = c.args.program.now in
     let nodes = c.args.store.now in
