@@ -1,9 +1,9 @@
 #!/usr/bin/env python3
-"""Prints what the examples of evaluation have to answer, by the plain evaluator: the expected transcripts were made from this.
+"""Prints what the examples of evaluation and of fair rule runs have to answer, by the plain evaluator: the expected transcripts were made from this.
 
 usage: oracle/examples.py [NAME]
 
-A module is given by its sorts, pairs, declarations and equations, with terms in prefix form; examples/NAME.maude has the same module as a user writes it.
+A module is given by its sorts, pairs, declarations, equations and rules, with terms in prefix form; examples/NAME.maude has the same module as a user writes it.
 """
 import re
 import sys
@@ -11,6 +11,7 @@ import sys
 sys.dont_write_bytecode = True
 from evaluation import Evaluator, Statement
 from prelude import NAT, bool_equations, over, signature_with_truth
+from runs import Runner
 from signature import numbered
 
 sys.setrecursionlimit(30_000)
@@ -59,6 +60,16 @@ class Module:
         term = numbered(term_of(self.sig, text), variables)
         return Evaluator(self.sig, self.equations, [], limit, 10**12).answer(term, variables)
 
+    def runs(self, rules, commands, limit=1_000_000):
+        """The answers of rewrite commands: of the word and term, the bound, and the number of rewrites at each top, or of `continue` and its number."""
+        runner = Runner(self.sig, self.equations, [], [self.equation(*it.split(" => ")) for it in rules], limit, 10**12)
+        for word, text, most, gas in commands:
+            if word != "continue":
+                variables = []
+                term = numbered(term_of(self.sig, text), variables)
+            lines, term = runner.run(term, variables, most, gas, word == "continue")
+            yield [f"{word} in {self.name}", *lines]
+
 
 def op(form, args, result, **attrs):
     return form, tuple(args.split()), result, attrs
@@ -68,6 +79,12 @@ def show(module, texts, first=2):
     print(f"[{first - 1}] module {module.name}")
     for number, text in enumerate(texts, first):
         print(f"[{number}] reduce in {module.name}", *module.answer(text), sep="\n")
+
+
+def show_runs(module, rules, commands, first=2):
+    print(f"[{first - 1}] module {module.name}")
+    for number, lines in enumerate(module.runs(rules, commands), first):
+        print(f"[{number}] {lines[0]}", *lines[1:], sep="\n")
 
 
 def numbers():
@@ -153,7 +170,27 @@ def interpreter():
          f"run({then(put('x', 0), put('y', 0), 'while_do_od(_less_(x, 4), ' + then(put('x', plus('x', 1)), put('y', plus('y', 'x'))) + ')')}, empty)"])
 
 
-EXAMPLES = {it.__name__: it for it in (numbers, sequences, sets, sorting, interpreter)}
+def readers():
+    state = lambda r, w: f"readers_writers_({r}, {w})"
+    show_runs(Module("READERS-AND-WRITERS", "State Stores", "", [op("readers_writers_", "Nat Nat", "State"), op("<_;_>", "State State", "Stores")], []), [
+        f"{state(0, 0)} => {state(0, 1)}", f"{state('R:Nat', 's_(W:Nat)')} => {state('R:Nat', 'W:Nat')}",
+        f"{state('R:Nat', 0)} => {state('s_(R:Nat)', 0)}", f"{state('s_(R:Nat)', 'W:Nat')} => {state('R:Nat', 'W:Nat')}",
+    ], [("frewrite", state(0, 0), 1, 1), ("continue", None, 2, 1), ("continue", None, 3, 1), ("rewrite", f"<_;_>({state(0, 0)}, {state(0, 0)})", 4, 0),
+        ("frewrite", f"<_;_>({state(0, 0)}, {state(0, 0)})", 4, 1), ("continue", None, 4, 1), ("frewrite", f"<_;_>({state(0, 0)}, {state(3, 0)})", 100, 1)])
+
+
+def ring():
+    ring = lambda *xs: xs[0] if len(xs) == 1 else f"__({xs[0]}, {ring(*xs[1:])})"
+    start = ring("token(0)", "waits(0, 0)", "waits(1, 0)", "waits(2, 0)")
+    show_runs(Module("TOKEN-RING", "Ring", "", [
+        op("token", "Nat", "Ring"), op("waits", "Nat Nat", "Ring"), op("ready", "Nat Nat", "Ring"), op("__", "Ring Ring", "Ring", assoc=1, comm=1), op("next", "Nat", "Nat"),
+    ], ["next(0) = 1", "next(1) = 2", "next(2) = 0"]), [
+        "waits(I:Nat, N:Nat) => ready(I:Nat, N:Nat)", "__(token(I:Nat), ready(I:Nat, N:Nat)) => __(token(next(I:Nat)), waits(I:Nat, s_(N:Nat)))",
+    ], [("frewrite", start, 4, 1), ("continue", None, 2, 1), ("continue", None, 2, 1), ("frewrite", start, 6, 3), ("continue", None, 6, 3), ("rewrite", start, 4, 0),
+        ("frewrite", start, 60, 1)])
+
+
+EXAMPLES = {it.__name__: it for it in (readers, ring, numbers, sequences, sets, sorting, interpreter)}
 
 if __name__ == "__main__":
     for name in sys.argv[1:] or EXAMPLES:

@@ -1,12 +1,11 @@
 #!/usr/bin/env python3
 """Compares `rewrite`, `frewrite` and `continue` on random system modules with a plain reading of the specification, written apart from the code.
 
-usage: oracle/runs.py PROGRAM FIRST LAST [rewrite] [conditions [plain]]
+usage: oracle/runs.py PROGRAM FIRST LAST [conditions [plain]]
 
 For each number from FIRST on and below LAST it makes a module with random equations and rules, some arguments frozen, and runs rules on random terms in
-it with small bounds and a small budget, with the word `rewrite` by this command and `continue` alone; with the word `conditions` statements have
-conditions, and there are memberships, but not with the word `plain` too. What is compared is the count, the term with its shown sort, whether the bound was
-reached, and each end, of a run and of what goes on with it.
+it with small bounds and a small budget; with the word `conditions` statements have conditions, and there are memberships, but not with the word `plain` too.
+What is compared is the count, the term with its shown sort, whether the bound was reached, and each end, of a run and of what goes on with it.
 """
 import random
 import sys
@@ -18,9 +17,6 @@ from modules import random_module, random_term, suits
 from prelude import bool_equations, signature_with_truth
 from reduce import LIMIT, associative, random_statement, text_of, with_strategies
 from signature import module_text, numbered
-
-
-REWRITES_ALONE = "rewrite" in sys.argv[4:]
 
 
 class Runner(Evaluator):
@@ -161,7 +157,7 @@ def compare(number, program):
             continue
         variables, goes_on = [], False
         term, most = numbered(term, variables), r.choice([None, 1, 2, 3])
-        gas = 0 if REWRITES_ALONE else r.choice([0, 0, 1, 2])
+        gas = r.choice([0, 0, 1, 2])
         bound = f" [{most}{f', {gas}' if gas > 1 or gas and r.random() < 0.3 else ''}]" if most else ""
         gas = 1 if gas > 1 and not most else gas
         command = f"{'frewrite' if gas else 'rewrite'}{bound} {sig.source(term, variables)} .\n"

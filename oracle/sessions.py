@@ -116,9 +116,9 @@ class Session:
     def other(self, r):
         at = len(self.text.encode())
         text, line = r.choice([("set show stats off", "ok"), ("set print mixfix on", "ok"), ("set trace off", "ok"), ("foo", f"refused: Unexpected {at}"),
-                               ("show modules", f"refused: Unsupported show {at}"), ("frewrite in D : a", None)])
+                               ("show modules", f"refused: Unsupported show {at}"), ("dsrewrite in D : a using idle", None)])
         if line is None:
-            line = f"refused: NotBuilt frewrite {at}" if "D" in self.modules else "refused: UnknownModule D"
+            line = f"refused: NotBuilt dsrewrite {at}" if "D" in self.modules else "refused: UnknownModule D"
         self.answer(text + " .\n", [line])
 
 

@@ -1,11 +1,12 @@
 -- Laws of allowed answers.
-use Rattle.std.specs.Prelude.{◌≡◌, ◌<◌, ℕ, List, Option, true, false}
+use Rattle.std.specs.Prelude.{◌≡◌, ◌<◌, ℕ, List, true, false}
 use Rattle.mau_terms.specs.Tree.{Tree}
 use Rattle.mau_poset.specs.Order.{Hierarchy, IsPoset}
 use Rattle.mau_sorts.specs.SortSets.{IsLeast}
 use Rattle.mau_api.specs.Meanings.{Meanings, AreMeanings}
 use Rattle.mau_evaluation.specs.Evaluation.{has_number}
-use Rattle.mau_evaluation.specs.RuleRuns.{Stand}
+use Rattle.mau_evaluation.specs.Run.{Run}
+use Rattle.mau_evaluation.specs.RuleRuns.{PassEnd}
 use Rattle.mau_results.specs.Results.{IsShownSort, DerivesNothing, AnswerOf, MayAnswer}
 use Rattle.mau_results.specs.Runs.{RunAnswerOf, MayRun}
 
@@ -19,7 +20,7 @@ LeastSortsAreShown =
 abbrev pub AnswersAreOne : Type 0
 AnswersAreOne = (m : Meanings) → AreMeanings m → DerivesNothing m → (t : Tree) (a b : AnswerOf) → MayAnswer m false t a → MayAnswer m false t b → a ≡ b
 
--- and so has a run from where it stands
+-- and so has a run
 abbrev pub RunAnswersAreOne : Type 0
 RunAnswersAreOne =
-    (m : Meanings) → AreMeanings m → DerivesNothing m → (n : Option ℕ) (s : Stand) (a b : RunAnswerOf) → MayRun m false n s a → MayRun m false n s b → a ≡ b
+    (m : Meanings) → AreMeanings m → DerivesNothing m → (f : ℕ → ℕ → Run PassEnd) (a b : RunAnswerOf) → MayRun m false f a → MayRun m false f b → a ≡ b

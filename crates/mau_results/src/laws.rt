@@ -11,7 +11,7 @@ pub fn answers_are_one()
     ensures { AnswersAreOne }
 {}
 
-/// So has a run from where it stands.
+/// So has a rule run.
 pub fn run_answers_are_one()
     ensures { RunAnswersAreOne }
 {}

@@ -2,6 +2,8 @@
 #![tactic(auto)]
 
 mod answer;
+mod kind;
 pub mod laws;
 
 pub use answer::{Answer, Evaluated, evaluate_bare, evaluate_item, shown_sort};
+pub use kind::RunKind;

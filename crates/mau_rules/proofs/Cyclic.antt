@@ -1,10 +1,11 @@
--- Rules in their cyclic order.
-use Rattle.std.proofs.Common.{◌≡◌, ◌≤◌, ◌<◌, ◌+◌, ◌-◌, ◌∷◌, [], List, ℕ, zero, suc, length, take, drop, get_or, refl, ap, ap₂, ◌∙◌, arith, append-nil, length-append, length-drop, length-take, min}
+-- Lists of numbered rules in cyclic order, from one behind the first n on.
+use Rattle.std.proofs.Common.{◌≡◌, ◌≤◌, ◌<◌, ◌+◌, ◌-◌, ◌∷◌, ◌++◌, [], List, ℕ, zero, suc, length, take, drop, get_or, refl, ap, ap₂, ◌∙◌, arith, length-append, length-drop, length-take, min}
+use Rattle.std.proofs.Math.Seq.{take-append_seam, drop-append_seam}
 use Rattle.std.proofs.lemmas.List.{get_or-take, get_or-drop, get_or_append_left, get_or-append_right}
 use Rattle.mau_evaluation.specs.Program.{Rule}
 use Rattle.mau_evaluation.specs.RuleRuns.{numbered, cyclically}
 
-numbered_length : (n : ℕ) (qs : List Rule) → length (numbered n qs) ≡ length qs
+pub numbered_length : (n : ℕ) (qs : List Rule) → length (numbered n qs) ≡ length qs
 numbered_length n [] = refl
 numbered_length n (q ∷ qs) = ap suc (numbered_length (suc n) qs)
 
@@ -13,35 +14,30 @@ numbered_at n [] i d e h = absurd (omega arith)
 numbered_at n (q ∷ qs) zero d e h = ap (λ k. (k, q)) (omega arith)
 numbered_at n (q ∷ qs) (suc i) d e h = numbered_at (suc n) qs i d e (omega arith) ∙ ap (λ k. (k, get_or qs i d)) (omega arith)
 
-module _ (qs : List Rule) where
-  abbrev all : List (ℕ × Rule)
-  all = numbered 0 qs
-
-  pub cyclic_length : (n : ℕ) → length (cyclically n (numbered 0 qs)) ≡ length qs
-  cyclic_length n = length-append (drop n all) (take n all) ∙ (ap₂ (λ a b. a + b) (length-drop n all) (length-take n all) ∙ (both n (length all) ∙ numbered_length 0 qs))
+module _ (qs : List (ℕ × Rule)) (n : ℕ) where
+  pub cyclic_length : length (cyclically n qs) ≡ length qs
+  cyclic_length = length-append (drop n qs) (take n qs) ∙ (ap₂ (λ a b. a + b) (length-drop n qs) (length-take n qs) ∙ both n (length qs))
     where
       both : (n l : ℕ) → (l - n) + min n l ≡ l
       both n l = omega arith
 
   -- behind the first n
-  pub cyclic_behind : (n i : ℕ) (d : Rule) (e : ℕ × Rule) → n + i < length qs → get_or (cyclically n (numbered 0 qs)) i e ≡ (n + i, get_or qs (n + i) d)
-  cyclic_behind n i d e h =
-      get_or_append_left (drop n all) (take n all) e i (omega (arith, length-drop n all, numbered_length 0 qs))
-      ∙ (get_or-drop n all i e ∙ (numbered_at 0 qs (n + i) d e h ∙ ap (λ k. (k, get_or qs (n + i) d)) (omega arith)))
+  pub cyclic_behind : (i : ℕ) (e : ℕ × Rule) → n + i < length qs → get_or (cyclically n qs) i e ≡ get_or qs (n + i) e
+  cyclic_behind i e h = get_or_append_left (drop n qs) (take n qs) e i (omega (arith, length-drop n qs)) ∙ get_or-drop n qs i e
 
   -- and then those
-  pub cyclic_before : (n i : ℕ) (d : Rule) (e : ℕ × Rule) → n ≤ length qs → length qs ≤ n + i → i < length qs → get_or (cyclically n (numbered 0 qs)) i e ≡ (n + i - length qs, get_or qs (n + i - length qs) d)
-  cyclic_before n i d e h low high =
-      get_or-append_right (drop n all) (take n all) (length qs - n) i e (length-drop n all ∙ ap (λ l. l - n) (numbered_length 0 qs)) (omega arith)
-      ∙ (get_or-take n all (i - (length qs - n)) e (omega arith)
-      ∙ (numbered_at 0 qs (i - (length qs - n)) d e (omega arith) ∙ ap₂ (λ k j. (k, get_or qs j d)) (omega arith) (omega arith)))
+  pub cyclic_before : (i : ℕ) (e : ℕ × Rule) → n ≤ length qs → length qs ≤ n + i → i < length qs → get_or (cyclically n qs) i e ≡ get_or qs (i - (length qs - n)) e
+  cyclic_before i e h low high =
+      get_or-append_right (drop n qs) (take n qs) (length qs - n) i e (length-drop n qs) (omega arith)
+      ∙ get_or-take n qs (i - (length qs - n)) e (omega arith)
 
   -- where n is past the end the first is the first
-  pub cyclic_past : (n i : ℕ) (d : Rule) (e : ℕ × Rule) → length qs ≤ n → i < length qs → get_or (cyclically n (numbered 0 qs)) i e ≡ (i, get_or qs i d)
-  cyclic_past n i d e h low =
-      get_or-append_right (drop n all) (take n all) 0 i e (length-drop n all ∙ omega (arith, numbered_length 0 qs)) (omega arith)
-      ∙ (get_or-take n all (i - 0) e (omega arith) ∙ (numbered_at 0 qs (i - 0) d e (omega arith) ∙ ap₂ (λ k j. (k, get_or qs j d)) (omega arith) (omega arith)))
+  pub cyclic_past : (i : ℕ) (e : ℕ × Rule) → length qs ≤ n → i < length qs → get_or (cyclically n qs) i e ≡ get_or qs i e
+  cyclic_past i e h low =
+      get_or-append_right (drop n qs) (take n qs) 0 i e (length-drop n qs ∙ omega arith) (omega arith)
+      ∙ (get_or-take n qs (i - 0) e (omega arith) ∙ ap (λ j. get_or qs j e) (omega arith))
 
-  -- from the first on
-  pub cyclic_none : cyclically 0 (numbered 0 qs) ≡ numbered 0 qs
-  cyclic_none = append-nil (numbered 0 qs)
+-- two parts, the second first
+pub cyclic_seam : (xs before behind : List (ℕ × Rule)) → xs ≡ before ++ behind → cyclically (length before) xs ≡ behind ++ before
+cyclic_seam xs before behind e =
+    ap (λ zs. cyclically (length before) zs) e ∙ ap₂ (λ ys zs. ys ++ zs) (drop-append_seam before behind) (take-append_seam before behind)

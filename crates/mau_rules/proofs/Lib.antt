@@ -13,8 +13,9 @@ pub mod Valued
 pub mod Shown
 pub mod Answered
 pub mod Turned
--- all rules at a place
+-- all rules at a place; those that may not apply under its top
 pub mod Placed
+pub mod ByTop
 -- all places of a term, one after another: the walk, and paths through open terms
 pub mod Walking
 pub mod Paths
@@ -23,6 +24,8 @@ pub mod Parted
 pub mod Putting
 pub mod PuttingBack
 pub mod Walked
+-- terms in which no rule may apply
+pub mod Idle
 -- runs
 pub mod Running
 pub mod Uses

@@ -62,7 +62,7 @@ module _ (P : Program) (I : Item) (h : Turns) (s : Place) where
   abbrev pub each_rule : ℕ → ℕ → ℕ × Rule → Run (Option Stand)
   each_rule k E q = rule_at P h s q k E
 
-  rules_cyclic : (t : Tree) → rules_at (numbered 0 P.rules) h t ≡ cyclically (turn_at h t) (numbered 0 P.rules)
+  pub rules_cyclic : (t : Tree) → rules_at (numbered 0 P.rules) h t ≡ cyclically (turn_at h t) (numbered 0 P.rules)
   rules_cyclic (variable i r) = sym (append-nil (numbered 0 P.rules))
   rules_cyclic (numeral n) = sym (append-nil (numbered 0 P.rules))
   rules_cyclic (apply f ts) = refl

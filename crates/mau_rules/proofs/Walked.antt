@@ -17,7 +17,7 @@ use Rattle.mau_rules.specs.declared.attempt.Found.{Found}
 use Rattle.mau_rules.specs.declared.walk.Open.{Open}
 use Rattle.mau_rules.specs.Known.{Item, Gives}
 use Rattle.mau_rules.specs.Found.{IsFound, item_of, one_by, rules_in, found_stand, KnownSearch}
-use Rattle.mau_rules.specs.Walk.{Opened, is_frozen_at, opened, around_all, places_behind, places_left, IsPath}
+use Rattle.mau_rules.specs.Walk.{Opened, is_frozen_at, opened, around_all, places_behind, below_unless, places_left, IsPath}
 use Rattle.mau_rules.proofs.Placed.{LeftFrom, each_place, past_all, place_past, place_found, place_ends}
 use Rattle.mau_rules.proofs.Walking.{place_first}
 use Rattle.mau_rules.proofs.Paths.{opened_kept}
@@ -36,6 +36,10 @@ places_from p nodes os due = places (is_frozen_at p.sig) (around_all (λ v. v) (
 
 abbrev pub places_after : Typed.Program → List Node → List Open → ℕ → List Place
 places_after p nodes os due = places_behind (is_frozen_at p.sig) (around_all (λ v. v) (map (opened nodes) os)) (tree_at nodes due) 0 ++ places_left (is_frozen_at p.sig) (λ v. v) (map (opened nodes) os)
+
+-- from behind it on, what is below it left out where this is meant
+abbrev pub places_on : Bool → Typed.Program → List Node → List Open → ℕ → List Place
+places_on skip p nodes os due = below_unless skip (is_frozen_at p.sig) (around_all (λ v. v) (map (opened nodes) os)) (tree_at nodes due) ++ places_left (is_frozen_at p.sig) (λ v. v) (map (opened nodes) os)
 
 abbrev pub place_at : List Node → List Open → ℕ → Place
 place_at nodes os due = record { term = tree_at nodes due; around = around_all (λ v. v) (map (opened nodes) os) }

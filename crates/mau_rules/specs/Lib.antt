@@ -8,6 +8,8 @@ pub mod Runs
 pub mod Known
 -- uses of rules that were found, and what is known of the search for them
 pub mod Found
+-- rules by the operators under which they may apply, and terms in which none may
+pub mod ByTop
 -- the places of a term, one after another
 pub mod Walk
 -- one round of a run

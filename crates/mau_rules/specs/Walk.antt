@@ -1,5 +1,5 @@
 -- The places of a term, one after another: the subterms that are open on the way to a place, from the root on.
-use Rattle.std.specs.Prelude.{ℕ, suc, ◌-◌, ◌≡◌, List, [], ◌∷◌, ◌++◌, take, drop, Bool, Some, slice_get}
+use Rattle.std.specs.Prelude.{ℕ, suc, ◌-◌, ◌≡◌, List, [], ◌∷◌, ◌++◌, take, drop, Bool, if◌then◌else◌, Some, slice_get}
 use Rattle.mau_terms.specs.Tree.{Tree, apply, node, list_of, trees_of}
 use Rattle.mau_signature.specs.Signature.{SignatureOf, theory_at, declarations_at, attributes_of}
 use Rattle.mau_store.specs.Node.{Node, operator_node}
@@ -32,6 +32,10 @@ around_last around t n v = around v
 abbrev pub places_behind : (ℕ → ℕ → Bool) → (Tree → Tree) → Tree → ℕ → List Place
 places_behind z around (apply f ts) n = places_in z around f (take n (list_of ts)) n (trees_of (drop n (list_of ts)))
 places_behind z around t n = []
+
+-- the places below a term, or none where these are left out
+abbrev pub below_unless : Bool → (ℕ → ℕ → Bool) → (Tree → Tree) → Tree → List Place
+below_unless skip z around t = if skip then [] else places_behind z around t 0
 
 -- around the last one of some open terms, each of which is the argument entered last of the one before it
 abbrev pub around_all : (Tree → Tree) → List Opened → Tree → Tree

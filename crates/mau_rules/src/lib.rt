@@ -2,6 +2,7 @@
 #![tactic(auto)]
 
 mod attempt;
+mod by_top;
 mod frames;
 mod one;
 mod passes;

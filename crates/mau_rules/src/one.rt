@@ -8,11 +8,13 @@ ghost use Rattle.mau_api.specs.Answers.{AreSettled};
 ghost use Rattle.mau_rules.specs.Runnable.{IsRunnable, GoesBy};
 ghost use Rattle.mau_rules.specs.Runs.{turns_of, stand_of, IsRunOf};
 ghost use Rattle.mau_rules.specs.Found.{IsFound, found_stand, item_of, KnownSearch, one_by, turn_at};
+ghost use Rattle.mau_rules.specs.ByTop.{IsByTop};
 ghost use Rattle.mau_rules.specs.Walk.{opened, around_all, IsPath};
 
 use crate::RuleRun;
 use crate::attempt::Found;
-use crate::search::at_place;
+use crate::by_top::RulesByTop;
+use crate::search::among;
 use crate::walk::{Open, next_place};
 use mau_api::{EvalEnd, Evaluator, Lister, Program, StepWatcher};
 use mau_store::{NodeView, Store};
@@ -39,6 +41,7 @@ pub(crate) fn one_rewrite<E: Evaluator, L: Lister + Drop, W: StepWatcher>(
     store: &mut Store,
     evaluator: &mut E,
     run: &RuleRun,
+    by_top: &RulesByTop,
     way: &mut Vec<Open>,
     budget: &mut u64,
     watcher: &mut W,
@@ -49,6 +52,7 @@ pub(crate) fn one_rewrite<E: Evaluator, L: Lister + Drop, W: StepWatcher>(
     requires fits { E.fits evaluator.old store.old }
     requires run { IsRunOf program.now store.old run.now }
     requires settled { AreSettled program.now.sig store.old (E.table evaluator.old) (tree_at store.old run.now.term.0) }
+    requires by_top { IsByTop program.now store.old by_top.now }
     requires way { way.old.items ≡ [] }
     ensures known { KnownSearch (item_of (E.meanings evaluator.old) (W.wanted watcher.old))
         (one_by (program_over program.now (E.meanings evaluator.old).hooks) (stand_of store.old run.now))
@@ -68,12 +72,16 @@ pub(crate) fn one_rewrite<E: Evaluator, L: Lister + Drop, W: StepWatcher>(
     for _ in 0..u64::MAX {
         let _ = store.len();
         let turn = turn_for(store, &run.turns, due);
-        match at_place::<E, L, W>(program, store, evaluator, turn, due, budget, watcher) {
+        let numbers = by_top.numbers_at(program, store, due);
+        match among::<E, L, W>(
+            program, store, evaluator, numbers, turn, due, budget, watcher,
+        ) {
             Ok(Some(found)) => return Ok(Some(found)),
             Ok(None) => (),
             Err(end) => return Err(end),
         }
-        match next_place(store, &program.sig, way, due) {
+        let skip = by_top.skips(due);
+        match next_place(store, &program.sig, way, due, skip) {
             Ok(Some(next)) => due = next,
             Ok(None) => return Ok(None),
             Err(_) => return Err(EvalEnd::NoMemory),

@@ -13,10 +13,12 @@ ghost use Rattle.mau_rules.specs.Runnable.{IsRunnable, GoesBy};
 ghost use Rattle.mau_rules.specs.Runs.{turns_of, stand_of, IsRunOf};
 ghost use Rattle.mau_rules.specs.Rounds.{KnownUse, KnownRound};
 ghost use Rattle.mau_rules.specs.Found.{IsFound, item_of, found_tree};
+ghost use Rattle.mau_rules.specs.ByTop.{IsByTop};
 ghost use Rattle.mau_rules.specs.Walk.{opened, around_all, IsWalk};
 
 use crate::RuleRun;
 use crate::attempt::Found;
+use crate::by_top::RulesByTop;
 use crate::one::one_rewrite;
 use crate::walk::Open;
 use crate::whole::rewritten;
@@ -104,6 +106,7 @@ pub(crate) fn round<E: Evaluator, L: Lister + Drop, W: StepWatcher>(
     program: &Program,
     store: &mut Store,
     evaluator: &mut E,
+    by_top: &mut RulesByTop,
     budget: &mut u64,
     watcher: &mut W,
 ) -> Result<Option<u64>, EvalEnd>
@@ -113,10 +116,12 @@ pub(crate) fn round<E: Evaluator, L: Lister + Drop, W: StepWatcher>(
     requires fits { E.fits evaluator.old store.old }
     requires run { IsRunOf program.now store.old run.old }
     requires settled { AreSettled program.now.sig store.old (E.table evaluator.old) (tree_at store.old run.old.term.0) }
+    requires by_top { IsByTop program.now store.old by_top.old }
     ensures known { KnownRound (item_of (E.meanings evaluator.old) (W.wanted watcher.old)) (program_over program.now (E.meanings evaluator.old).hooks)
         (stand_of store.old run.old) budget.old (stand_of store.new run.new) result budget.new }
     ensures run { IsRunOf program.now store.new run.new }
     ensures settled { IfOk result (λ _. AreSettled program.now.sig store.new (E.table evaluator.new) (tree_at store.new run.new.term.0)) }
+    ensures by_top { IsByTop program.now store.new by_top.new }
     ensures unchanged { result ≡ Ok None → run.new ≡ run.old }
     ensures falls { budget.new ≤ budget.old }
     ensures extends { Extends store.old store.new }
@@ -125,9 +130,10 @@ pub(crate) fn round<E: Evaluator, L: Lister + Drop, W: StepWatcher>(
     ensures meanings { E.meanings evaluator.new ≡ E.meanings evaluator.old }
     ensures wanted { W.wanted watcher.new ≡ W.wanted watcher.old }
 {
+    by_top.note(store);
     let mut way = Vec::new(store.allocator());
     let found = match one_rewrite::<E, L, W>(
-        program, store, evaluator, run, &mut way, budget, watcher,
+        program, store, evaluator, run, by_top, &mut way, budget, watcher,
     ) {
         Ok(Some(found)) => found,
         Ok(None) => return Ok(None),

@@ -9,6 +9,7 @@ ghost use Rattle.mau_api.specs.Answers.{AreSettled, uses_results, levels_of_cond
 ghost use Rattle.mau_rules.specs.Runnable.{IsRunnable, GoesBy};
 ghost use Rattle.mau_rules.specs.Runs.{stand_of, begins_with, IsRunOf, IsRunAnswered, MayRun, rewriting_by, frewriting_by};
 
+use crate::by_top::RulesByTop;
 use crate::passes::pass_on;
 use crate::round::round;
 use crate::tops::Tally;
@@ -119,6 +120,10 @@ impl RuleRun {
             Ok(value) => value,
             Err(end) => return Err(end),
         };
+        let mut by_top = match RulesByTop::new(store.allocator(), program) {
+            Ok(by_top) => by_top,
+            Err(_) => return Err(EvalEnd::NoMemory),
+        };
         self.term = value.term;
         let mut rewrites = value.rewrites;
         let mut more = bound;
@@ -127,7 +132,15 @@ impl RuleRun {
             if is_out(more) {
                 return Ok((RuleEnd::Bound, Reduced { term, rewrites }));
             }
-            match round::<E, L, W>(self, program, store, evaluator, &mut left, watcher) {
+            match round::<E, L, W>(
+                self,
+                program,
+                store,
+                evaluator,
+                &mut by_top,
+                &mut left,
+                watcher,
+            ) {
                 Ok(Some(count)) => rewrites = rewrites.saturating_add(count),
                 Ok(None) => return Ok((RuleEnd::Normal, Reduced { term, rewrites })),
                 Err(end) => return Err(end),

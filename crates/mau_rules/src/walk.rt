@@ -7,7 +7,7 @@ ghost use Rattle.mau_signature.specs.Signature.{IsOperator, terms_over};
 ghost use Rattle.mau_store.specs.Trees.{tree_at};
 ghost use Rattle.mau_evaluation.specs.Rules.{places};
 ghost use Rattle.mau_api.specs.Terms.{IsTerm};
-ghost use Rattle.mau_rules.specs.Walk.{is_frozen_at, opened, around_last, around_all, places_behind, places_left, IsStep, IsWalk, IsPath};
+ghost use Rattle.mau_rules.specs.Walk.{is_frozen_at, opened, around_last, around_all, places_behind, below_unless, places_left, IsStep, IsWalk, IsPath};
 
 use mau_signature::Signature;
 use mau_store::{NodeView, Store};
@@ -72,28 +72,28 @@ fn entered(store: &Store, sig: &Signature, at: Open) -> Option<(usize, TermId)>
     }
 }
 
-/// The place behind a term that is reached through some open ones: below it, or else beside it or beside one of these. None where the
-/// walk is at its end.
-pub(crate) fn next_place(
+/// The next place from an open term on, of which so many arguments are behind the walk: below it, or else beside it or beside one of
+/// those through which it is reached. None where the walk is at its end.
+fn next_from(
     store: &Store,
     sig: &Signature,
     way: &mut Vec<Open>,
-    term: TermId,
+    from: Open,
 ) -> Result<Option<TermId>, NoMemory>
     requires lawful { IsLawful (terms_over sig.now) }
-    requires walk { (root : ℕ) × IsWalk sig.now store.now root way.old.items term.0 }
+    requires walk { (root : ℕ) × IsWalk sig.now store.now root way.old.items from.term.0 }
     ensures some { (around : Tree → Tree) → IfOk result (λ o. IfSome o (λ next.
-        places_behind (is_frozen_at sig.now) (around_all around (map (opened store.now) way.old.items)) (tree_at store.now term.0) 0
+        places_behind (is_frozen_at sig.now) (around_all around (map (opened store.now) way.old.items)) (tree_at store.now from.term.0) from.next
         ++ places_left (is_frozen_at sig.now) around (map (opened store.now) way.old.items)
         ≡ places (is_frozen_at sig.now) (around_all around (map (opened store.now) way.new.items)) (tree_at store.now next.0)
         ++ places_left (is_frozen_at sig.now) around (map (opened store.now) way.new.items))) }
     ensures none { (around : Tree → Tree) → IfOk result (λ o. IfNone o (
-        places_behind (is_frozen_at sig.now) (around_all around (map (opened store.now) way.old.items)) (tree_at store.now term.0) 0
+        places_behind (is_frozen_at sig.now) (around_all around (map (opened store.now) way.old.items)) (tree_at store.now from.term.0) from.next
         ++ places_left (is_frozen_at sig.now) around (map (opened store.now) way.old.items) ≡ [])) }
-    ensures path { (root : ℕ) → IsPath store.now root way.old.items term.0 → IfOk result (λ o. IfSome o (λ next. IsPath store.now root way.new.items next.0)) }
+    ensures path { (root : ℕ) → IsPath store.now root way.old.items from.term.0 → IfOk result (λ o. IfSome o (λ next. IsPath store.now root way.new.items next.0)) }
 {
     let _ = store.len();
-    let mut top = Open { term, next: 0 };
+    let mut top = from;
     loop {
         if let Some((next, child)) = entered(store, sig, top) {
             way.push(Open {
@@ -106,5 +106,35 @@ pub(crate) fn next_place(
             Some(before) => top = before,
             None => return Ok(None),
         }
+    }
+}
+
+/// The place behind a term that is reached through some open ones: below it, if what is below is not left out, or else beside it or
+/// beside one of these. None where the walk is at its end.
+pub(crate) fn next_place(
+    store: &Store,
+    sig: &Signature,
+    way: &mut Vec<Open>,
+    term: TermId,
+    skip: bool,
+) -> Result<Option<TermId>, NoMemory>
+    requires lawful { IsLawful (terms_over sig.now) }
+    requires walk { (root : ℕ) × IsWalk sig.now store.now root way.old.items term.0 }
+    ensures some { (around : Tree → Tree) → IfOk result (λ o. IfSome o (λ next.
+        below_unless skip (is_frozen_at sig.now) (around_all around (map (opened store.now) way.old.items)) (tree_at store.now term.0)
+        ++ places_left (is_frozen_at sig.now) around (map (opened store.now) way.old.items)
+        ≡ places (is_frozen_at sig.now) (around_all around (map (opened store.now) way.new.items)) (tree_at store.now next.0)
+        ++ places_left (is_frozen_at sig.now) around (map (opened store.now) way.new.items))) }
+    ensures none { (around : Tree → Tree) → IfOk result (λ o. IfNone o (
+        below_unless skip (is_frozen_at sig.now) (around_all around (map (opened store.now) way.old.items)) (tree_at store.now term.0)
+        ++ places_left (is_frozen_at sig.now) around (map (opened store.now) way.old.items) ≡ [])) }
+    ensures path { (root : ℕ) → IsPath store.now root way.old.items term.0 → IfOk result (λ o. IfSome o (λ next. IsPath store.now root way.new.items next.0)) }
+{
+    if !skip {
+        return next_from(store, sig, way, Open { term, next: 0 });
+    }
+    match way.pop() {
+        Some(before) => next_from(store, sig, way, before),
+        None => Ok(None),
     }
 }

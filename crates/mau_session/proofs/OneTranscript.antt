@@ -33,8 +33,9 @@ use Rattle.mau_session.specs.Matching.{Shows}
 use Rattle.mau_session.specs.Commands.{unbuilt}
 use Rattle.mau_program.specs.declared.statements.Fragment.{Fragment}
 use Rattle.mau_conditional.specs.Where.{Ending}
-use Rattle.mau_evaluation.specs.RuleRuns.{Stand}
-use Rattle.mau_results.specs.Runs.{run_from, RunAnswerOf, MayRun}
+use Rattle.mau_evaluation.specs.Run.{Run}
+use Rattle.mau_evaluation.specs.RuleRuns.{PassEnd}
+use Rattle.mau_results.specs.Runs.{run_from, run_by, RunAnswerOf, MayRun}
 use Rattle.mau_results.proofs.RunAnswers.{run_answers_are_one}
 use Rattle.mau_session.specs.Built.{uses_memberships, has_context, fault_answer}
 use Rattle.mau_session.specs.Answers.{refusal_line, faulty_line, shown_parse_fault, fault_line, module_line, match_head, continue_head, reduce_head, listing_lines}
@@ -42,10 +43,11 @@ use Rattle.mau_session.specs.Environment.{Environment, meanings_in}
 use Rattle.mau_session.specs.Laws.{TranscriptsAreOne}
 use Rattle.mau_session.specs.Query.{QueryOf, asked_first, shown_more}
 use Rattle.mau_session.specs.State.{ContinuedOf, a_listing, a_listing_where, a_rule_run, GoingOf, StateOf, at_first, accepted, selected, IsChosen, current_one, named_one, NamesNone, OutcomeOf, is_refused, has_ended, goes_on, left_by, refuses, state_after}
-use Rattle.mau_session.specs.Bounds.{bound_of}
+use Rattle.mau_session.specs.declared.asked_run.AskedRun.{AskedRun}
+use Rattle.mau_session.specs.Bounds.{bound_of, asked_run}
 use Rattle.mau_session.specs.Where.{ShowsWhere, left_where, where_lines, WhereAnswer}
 use Rattle.mau_session.specs.RuleRun.{RuleRunOf, rewriting_condition}
-use Rattle.mau_session.specs.RunLines.{rewrite_head, run_lines, left_by_run}
+use Rattle.mau_session.specs.RunLines.{run_head, run_lines, left_by_run}
 use Rattle.mau_session.specs.RewriteAnswer.{RunTermAnswer, start_refused, start_answered, RewriteAnswer, rewrites_nothing, rewrite_unknown, rewrite_not_built, rewrite_unbounded, rewrite_conditional, rewrite_answered}
 use Rattle.mau_session.specs.Transcript.{TermAnswer, term_refused, term_answered, ReduceAnswer, reduces_nothing, reduce_unknown, reduce_not_built, reduce_answered, reduce_is_answered, rewrite_is_answered, PatternReads, SubjectReads, TermsRead, TermsAnswer, pattern_refused, subject_refused, too_deep, overflows, listed, asks_where, MatchAnswer, command_not_built, module_unknown, listing_not_built, bound_refused, command_answered, ContinueAnswer, number_refused, nothing_to_continue, continued, continued_where, run_continued, BodyAnswer, module_not_built, module_accepted, module_refused, match_answered, continue_answered, other_unknown, other_not_built, SettingAnswer, trace_not_built, trace_off, changes_nothing, module_selected, selects_none, setting_answered, ItemAnswer, item_faulty, item_answered, ItemsAnswer, items_end, item_quits, item_first, Transcript, text_refused, items_answered}
 use Rattle.mau_tokens.proofs.Answer.{answers_are_one as tokens_are_one}
@@ -251,6 +253,17 @@ module _ (env : Environment) (ws : List Word) (st : StateOf) (all : AreShaped st
       let o = terms_once env ws m (all n m h) k c y (subst (λ m. TermsAnswer env ws m k c most left' b') (sym same) (subst (λ a. TermsAnswer env ws m' k c a left' b') (sym (bound_once ws st k i c f f')) y')) in
       record { state = ap₂ (state_after st) (chosen_once ws st k i c x x') o.left; bytes = o.bytes; refused = ap refuses o.left }
 
+-- what a rewrite command asks for is one
+module _ (ws : List Word) (c : RawCommand) where
+  asked_or_refused : {a : AskedRun} {r : Refusal} → asked_run ws c ≡ Ok a → asked_run ws c ≡ Err r → ⊥
+  asked_or_refused e n = let o = sym e ∙ n in absurd cc
+
+  asked_once : {a b : AskedRun} → asked_run ws c ≡ Ok a → asked_run ws c ≡ Ok b → a ≡ b
+  asked_once e n = let o = sym e ∙ n in cc
+
+  unasked_once : {r s : Refusal} → asked_run ws c ≡ Err r → asked_run ws c ≡ Err s → r ≡ s
+  unasked_once e n = let o = sym e ∙ n in cc
+
 module _ (env : Environment) (free : env.remembers ≡ false) (ws : List Word) (st : StateOf) (k i : ℕ) (c : RawCommand) where
   -- what may be answered for one term is one
   one_term : (m : ModuleOf) → uses_memberships m ≡ false → (t u : Tree) (a b : AnswerOf) → t ≡ u → MayAnswer (meanings_in env m) env.remembers t a → MayAnswer (meanings_in env m) env.remembers u b → a ≡ b
@@ -289,11 +302,10 @@ module _ (env : Environment) (free : env.remembers ≡ false) (ws : List Word) (
       record { state = ap₂ (state_after st) (chosen_once ws st k i c x x') o.left; bytes = o.bytes; refused = ap refuses o.left }
 
   -- what may be answered for one run is one
-  one_run : (m : ModuleOf) → uses_memberships m ≡ false → (n : Option ℕ) (s u : Stand) (a b : RunAnswerOf) → s ≡ u → MayRun (meanings_in env m) env.remembers n s a → MayRun (meanings_in env m) env.remembers n u b → a ≡ b
-  one_run m unused n s u a b e x y =
-      run_answers_are_one (meanings_in env m) (meanings_are_lawful (program_of m) env.operators env.budget env.remembers) (evaluated_derives env m unused) n u a b
-      (subst (λ r. MayRun (meanings_in env m) r n u a) free (subst (λ v. MayRun (meanings_in env m) env.remembers n v a) e x))
-      (subst (λ r. MayRun (meanings_in env m) r n u b) free y)
+  one_run : (m : ModuleOf) → uses_memberships m ≡ false → (f : ℕ → ℕ → Run PassEnd) (a b : RunAnswerOf) → MayRun (meanings_in env m) env.remembers f a → MayRun (meanings_in env m) env.remembers f b → a ≡ b
+  one_run m unused f a b x y =
+      run_answers_are_one (meanings_in env m) (meanings_are_lawful (program_of m) env.operators env.budget env.remembers) (evaluated_derives env m unused) f a b
+      (subst (λ r. MayRun (meanings_in env m) r f a) free x) (subst (λ r. MayRun (meanings_in env m) r f b) free y)
 
   -- what goes on is one
   going_once : {n n' : ℕ} {x y : ContinuedOf} → st.going ≡ Some (record { number = n; what = x }) → st.going ≡ Some (record { number = n'; what = y }) → (n ≡ n') × (x ≡ y)
@@ -374,28 +386,29 @@ module _ (env : Environment) (free : env.remembers ≡ false) (ws : List Word) (
       let what : a_rule_run r ≡ a_rule_run r' = going.1 in
       let run : r ≡ r' = cc in
       let same : m ≡ m' = going_at going.0 h h' in
-      let y'' = subst (λ m. MayRun (meanings_in env m) env.remembers most r.stand a') (sym same)
-      (subst (λ (x : RuleRunOf). MayRun (meanings_in env m') env.remembers most x.stand a') (sym run)
-      (subst (λ b. MayRun (meanings_in env m') env.remembers b r'.stand a') (sym (bound_once ws st k i c e e')) y')) in
-      let one : a ≡ a' = one_run m plain most r.stand r.stand a a' refl y y'' in
+      let y'' = subst (λ m. MayRun (meanings_in env m) env.remembers (run_by (meanings_in env m) r.kind most r.stand) a') (sym same)
+      (subst (λ (x : RuleRunOf). MayRun (meanings_in env m') env.remembers (run_by (meanings_in env m') x.kind most x.stand) a') (sym run)
+      (subst (λ b. MayRun (meanings_in env m') env.remembers (run_by (meanings_in env m') r'.kind b r'.stand) a') (sym (bound_once ws st k i c e e')) y')) in
+      let one : a ≡ a' = one_run m plain (run_by (meanings_in env m) r.kind most r.stand) a a' y y'' in
       record {
         state =
-            ap₂ (λ n (x : RuleRunOf). state_after st n (left_by_run x.variables a)) going.0 run
-            ∙ ap (λ b. state_after st n' (left_by_run r'.variables b)) one;
+            ap₂ (λ n (x : RuleRunOf). state_after st n (left_by_run x.kind x.variables a)) going.0 run
+            ∙ ap (λ b. state_after st n' (left_by_run r'.kind r'.variables b)) one;
         bytes =
             ap₂ (λ m (x : RuleRunOf). continue_head k m ++ run_lines m x.variables env.budget a) same run
             ∙ ap (λ b. continue_head k m' ++ run_lines m' r'.variables env.budget b) one;
         refused = refl;
       }
 
-  start_once : {m : ModuleOf} {most : Option ℕ} → uses_memberships m ≡ false → {b d : List ℕ} {r q : OutcomeOf} → RunTermAnswer env ws m k c most r b → RunTermAnswer env ws m k c most q d → AreOneEnd b d r q
+  start_once : {m : ModuleOf} {asked : AskedRun} → uses_memberships m ≡ false → {b d : List ℕ} {r q : OutcomeOf} → RunTermAnswer env ws m k c asked r b → RunTermAnswer env ws m k c asked q d → AreOneEnd b d r q
   start_once {m} unused (start_refused f u n) (start_refused f' u' n') = record { bytes = ap (faulty_line k) (shown_once f f' (fault_once m.grammar (part_tokens ws c.first) (part_texts ws c.first) AnyKind [] f f' u u' n n')); left = refl }
   start_once {m} unused (start_refused f u n) (start_answered t' ns' a' x' y') = absurd (no_pattern_read ws m k c f u n t' ns' x')
   start_once {m} unused (start_answered t ns a x y) (start_refused f' u' n') = absurd (no_pattern_read ws m k c f' u' n' t ns x)
-  start_once {m} {most} unused (start_answered t ns a x y) (start_answered t' ns' a' x' y') =
+  start_once {m} {asked} unused (start_answered t ns a x y) (start_answered t' ns' a' x' y') =
       let one = pattern_once ws m k c t t' ns ns' x x' in
-      let same = one_run m unused most (run_from (tree_of t)) (run_from (tree_of t')) a a' (ap run_from one.tree) y y' in
-      record { bytes = ap₂ (λ os a. rewrite_head k m ++ run_lines m os env.budget a) one.pairs same; left = ap₂ left_by_run one.pairs same }
+      let y'' = subst (λ t. MayRun (meanings_in env m) env.remembers (run_by (meanings_in env m) asked.kind asked.most (run_from t)) a') (sym one.tree) y' in
+      let same = one_run m unused (run_by (meanings_in env m) asked.kind asked.most (run_from (tree_of t))) a a' y y'' in
+      record { bytes = ap₂ (λ os a. run_head k asked.kind m ++ run_lines m os env.budget a) one.pairs same; left = ap₂ (left_by_run asked.kind) one.pairs same }
 
   condition_or_none : {n o q : ℕ} {m l : ModuleOf} → IsChosen ws st c n → slice_get st.modules n ≡ Some m → IsChosen ws st c o → slice_get st.modules o ≡ Some l
       → rewriting_condition m ≡ Some q → rewriting_condition l ≡ None → ⊥
@@ -406,43 +419,43 @@ module _ (env : Environment) (free : env.remembers ≡ false) (ws : List Word) (
   rewrite_once (rewrites_nothing e) (rewrite_unknown t' e' x') = absurd (yes_no _ e e')
   rewrite_once (rewrites_nothing e) (rewrite_not_built n' m' e' x' h' w') = absurd (yes_no _ e e')
   rewrite_once (rewrites_nothing e) (rewrite_unbounded n' m' r' e' x' h' w' f') = absurd (yes_no _ e e')
-  rewrite_once (rewrites_nothing e) (rewrite_conditional n' m' most' q' e' x' h' w' f' g') = absurd (yes_no _ e e')
-  rewrite_once (rewrites_nothing e) (rewrite_answered n' m' most' left' b' e' x' h' w' f' g' y') = absurd (yes_no _ e e')
+  rewrite_once (rewrites_nothing e) (rewrite_conditional n' m' asked' q' e' x' h' w' f' g') = absurd (yes_no _ e e')
+  rewrite_once (rewrites_nothing e) (rewrite_answered n' m' asked' left' b' e' x' h' w' f' g' y') = absurd (yes_no _ e e')
   rewrite_once (rewrite_unknown t e x) (rewrites_nothing e') = absurd (yes_no _ e' e)
   rewrite_once (rewrite_unknown t e x) (rewrite_unknown t' e' x') = record { state = refl; bytes = ap (λ t. refusal_line k ws (UnknownModule (token_index ws t))) (unknown_once ws st k i c x x'); refused = refl }
   rewrite_once (rewrite_unknown t e x) (rewrite_not_built n' m' e' x' h' w') = absurd (never_chosen ws st k i c x x')
   rewrite_once (rewrite_unknown t e x) (rewrite_unbounded n' m' r' e' x' h' w' f') = absurd (never_chosen ws st k i c x x')
-  rewrite_once (rewrite_unknown t e x) (rewrite_conditional n' m' most' q' e' x' h' w' f' g') = absurd (never_chosen ws st k i c x x')
-  rewrite_once (rewrite_unknown t e x) (rewrite_answered n' m' most' left' b' e' x' h' w' f' g' y') = absurd (never_chosen ws st k i c x x')
+  rewrite_once (rewrite_unknown t e x) (rewrite_conditional n' m' asked' q' e' x' h' w' f' g') = absurd (never_chosen ws st k i c x x')
+  rewrite_once (rewrite_unknown t e x) (rewrite_answered n' m' asked' left' b' e' x' h' w' f' g' y') = absurd (never_chosen ws st k i c x x')
   rewrite_once (rewrite_not_built n m e x h w) (rewrites_nothing e') = absurd (yes_no _ e' e)
   rewrite_once (rewrite_not_built n m e x h w) (rewrite_unknown t' e' x') = absurd (never_chosen ws st k i c x' x)
   rewrite_once (rewrite_not_built n m e x h w) (rewrite_not_built n' m' e' x' h' w') = one_item
   rewrite_once (rewrite_not_built n m e x h w) (rewrite_unbounded n' m' r' e' x' h' w' f') = absurd (used_or_not ws st k i c x h x' h' w w')
-  rewrite_once (rewrite_not_built n m e x h w) (rewrite_conditional n' m' most' q' e' x' h' w' f' g') = absurd (used_or_not ws st k i c x h x' h' w w')
-  rewrite_once (rewrite_not_built n m e x h w) (rewrite_answered n' m' most' left' b' e' x' h' w' f' g' y') = absurd (used_or_not ws st k i c x h x' h' w w')
+  rewrite_once (rewrite_not_built n m e x h w) (rewrite_conditional n' m' asked' q' e' x' h' w' f' g') = absurd (used_or_not ws st k i c x h x' h' w w')
+  rewrite_once (rewrite_not_built n m e x h w) (rewrite_answered n' m' asked' left' b' e' x' h' w' f' g' y') = absurd (used_or_not ws st k i c x h x' h' w w')
   rewrite_once (rewrite_unbounded n m r e x h w f) (rewrites_nothing e') = absurd (yes_no _ e' e)
   rewrite_once (rewrite_unbounded n m r e x h w f) (rewrite_unknown t' e' x') = absurd (never_chosen ws st k i c x' x)
   rewrite_once (rewrite_unbounded n m r e x h w f) (rewrite_not_built n' m' e' x' h' w') = absurd (used_or_not ws st k i c x' h' x h w' w)
-  rewrite_once (rewrite_unbounded n m r e x h w f) (rewrite_unbounded n' m' r' e' x' h' w' f') = record { state = refl; bytes = ap (refusal_line k ws) (refusal_once ws st k i c f f'); refused = refl }
-  rewrite_once (rewrite_unbounded n m r e x h w f) (rewrite_conditional n' m' most' q' e' x' h' w' f' g') = absurd (bound_or_refused ws st k i c f' f)
-  rewrite_once (rewrite_unbounded n m r e x h w f) (rewrite_answered n' m' most' left' b' e' x' h' w' f' g' y') = absurd (bound_or_refused ws st k i c f' f)
-  rewrite_once (rewrite_conditional n m most q e x h w f g) (rewrites_nothing e') = absurd (yes_no _ e' e)
-  rewrite_once (rewrite_conditional n m most q e x h w f g) (rewrite_unknown t' e' x') = absurd (never_chosen ws st k i c x' x)
-  rewrite_once (rewrite_conditional n m most q e x h w f g) (rewrite_not_built n' m' e' x' h' w') = absurd (used_or_not ws st k i c x' h' x h w' w)
-  rewrite_once (rewrite_conditional n m most q e x h w f g) (rewrite_unbounded n' m' r' e' x' h' w' f') = absurd (bound_or_refused ws st k i c f f')
-  rewrite_once (rewrite_conditional n m most q e x h w f g) (rewrite_conditional n' m' most' q' e' x' h' w' f' g') =
+  rewrite_once (rewrite_unbounded n m r e x h w f) (rewrite_unbounded n' m' r' e' x' h' w' f') = record { state = refl; bytes = ap (refusal_line k ws) (unasked_once ws c f f'); refused = refl }
+  rewrite_once (rewrite_unbounded n m r e x h w f) (rewrite_conditional n' m' asked' q' e' x' h' w' f' g') = absurd (asked_or_refused ws c f' f)
+  rewrite_once (rewrite_unbounded n m r e x h w f) (rewrite_answered n' m' asked' left' b' e' x' h' w' f' g' y') = absurd (asked_or_refused ws c f' f)
+  rewrite_once (rewrite_conditional n m asked q e x h w f g) (rewrites_nothing e') = absurd (yes_no _ e' e)
+  rewrite_once (rewrite_conditional n m asked q e x h w f g) (rewrite_unknown t' e' x') = absurd (never_chosen ws st k i c x' x)
+  rewrite_once (rewrite_conditional n m asked q e x h w f g) (rewrite_not_built n' m' e' x' h' w') = absurd (used_or_not ws st k i c x' h' x h w' w)
+  rewrite_once (rewrite_conditional n m asked q e x h w f g) (rewrite_unbounded n' m' r' e' x' h' w' f') = absurd (asked_or_refused ws c f f')
+  rewrite_once (rewrite_conditional n m asked q e x h w f g) (rewrite_conditional n' m' asked' q' e' x' h' w' f' g') =
       let o = sym g ∙ ap rewriting_condition (module_at ws st k i c x h x' h') ∙ g' in
       let same : q ≡ q' = cc in
       record { state = refl; bytes = ap (λ q. refusal_line k ws (RewritingCondition q)) same; refused = refl }
-  rewrite_once (rewrite_conditional n m most q e x h w f g) (rewrite_answered n' m' most' left' b' e' x' h' w' f' g' y') = absurd (condition_or_none x h x' h' g g')
-  rewrite_once (rewrite_answered n m most left b e x h w f g y) (rewrites_nothing e') = absurd (yes_no _ e' e)
-  rewrite_once (rewrite_answered n m most left b e x h w f g y) (rewrite_unknown t' e' x') = absurd (never_chosen ws st k i c x' x)
-  rewrite_once (rewrite_answered n m most left b e x h w f g y) (rewrite_not_built n' m' e' x' h' w') = absurd (used_or_not ws st k i c x' h' x h w' w)
-  rewrite_once (rewrite_answered n m most left b e x h w f g y) (rewrite_unbounded n' m' r' e' x' h' w' f') = absurd (bound_or_refused ws st k i c f f')
-  rewrite_once (rewrite_answered n m most left b e x h w f g y) (rewrite_conditional n' m' most' q' e' x' h' w' f' g') = absurd (condition_or_none x' h' x h g' g)
-  rewrite_once (rewrite_answered n m most left b e x h w f g y) (rewrite_answered n' m' most' left' b' e' x' h' w' f' g' y') =
+  rewrite_once (rewrite_conditional n m asked q e x h w f g) (rewrite_answered n' m' asked' left' b' e' x' h' w' f' g' y') = absurd (condition_or_none x h x' h' g g')
+  rewrite_once (rewrite_answered n m asked left b e x h w f g y) (rewrites_nothing e') = absurd (yes_no _ e' e)
+  rewrite_once (rewrite_answered n m asked left b e x h w f g y) (rewrite_unknown t' e' x') = absurd (never_chosen ws st k i c x' x)
+  rewrite_once (rewrite_answered n m asked left b e x h w f g y) (rewrite_not_built n' m' e' x' h' w') = absurd (used_or_not ws st k i c x' h' x h w' w)
+  rewrite_once (rewrite_answered n m asked left b e x h w f g y) (rewrite_unbounded n' m' r' e' x' h' w' f') = absurd (asked_or_refused ws c f f')
+  rewrite_once (rewrite_answered n m asked left b e x h w f g y) (rewrite_conditional n' m' asked' q' e' x' h' w' f' g') = absurd (condition_or_none x' h' x h g' g)
+  rewrite_once (rewrite_answered n m asked left b e x h w f g y) (rewrite_answered n' m' asked' left' b' e' x' h' w' f' g' y') =
       let same = module_at ws st k i c x h x' h' in
-      let o = start_once w y (subst (λ m. RunTermAnswer env ws m k c most left' b') (sym same) (subst (λ a. RunTermAnswer env ws m' k c a left' b') (sym (bound_once ws st k i c f f')) y')) in
+      let o = start_once w y (subst (λ m. RunTermAnswer env ws m k c asked left' b') (sym same) (subst (λ a. RunTermAnswer env ws m' k c a left' b') (sym (asked_once ws c f f')) y')) in
       record { state = ap₂ (state_after st) (chosen_once ws st k i c x x') o.left; bytes = o.bytes; refused = ap refuses o.left }
 
 module _ (env : Environment) (free : env.remembers ≡ false) (ws : List Word) (st : StateOf) (all : AreShaped st.modules) (k i : ℕ) where
@@ -551,7 +564,7 @@ module _ (env : Environment) (ws : List Word) (st : StateOf) (k i : ℕ) (c : Ra
   continue_keeps (nothing_to_continue most e n) = refl
   continue_keeps (continued most n q m found b e g h l) = after_keeps st n (left_by b (shown_more q found))
   continue_keeps (continued_where most n q cond m found b e g h l) = after_keeps st n (left_where b (shown_more q found) cond)
-  continue_keeps (run_continued most n r m a e g h plain y) = after_keeps st n (left_by_run r.variables a)
+  continue_keeps (run_continued most n r m a e g h plain y) = after_keeps st n (left_by_run r.kind r.variables a)
 
   reduce_keeps : {u : StateOf} {b : List ℕ} {r : Bool} → ReduceAnswer env ws st k i c u b r → u.modules ≡ st.modules
   reduce_keeps (reduces_nothing e) = refl
@@ -564,8 +577,8 @@ module _ (env : Environment) (ws : List Word) (st : StateOf) (k i : ℕ) (c : Ra
   rewrite_keeps (rewrite_unknown t e x) = refl
   rewrite_keeps (rewrite_not_built n m e x h w) = refl
   rewrite_keeps (rewrite_unbounded n m r e x h w f) = refl
-  rewrite_keeps (rewrite_conditional n m most q e x h w f g) = refl
-  rewrite_keeps (rewrite_answered n m most left b e x h w f g y) = after_keeps st n left
+  rewrite_keeps (rewrite_conditional n m asked q e x h w f g) = refl
+  rewrite_keeps (rewrite_answered n m asked left b e x h w f g y) = after_keeps st n left
 
 module _ (env : Environment) (ws : List Word) (st : StateOf) (all : AreShaped st.modules) (k i : ℕ) where
   setting_keeps : {x : Setting} {u : StateOf} {b : List ℕ} {r : Bool} → SettingAnswer ws st k i x u b r → u.modules ≡ st.modules

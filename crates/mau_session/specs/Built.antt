@@ -6,7 +6,7 @@ use Rattle.mau_modtext.specs.Word.{Word}
 use Rattle.mau_modtext.specs.declared.raw.ModuleKind.{ModuleKind}
 use Rattle.mau_modtext.specs.declared.raw.ModuleKind.TheVariants.{StrategyModule}
 use Rattle.mau_modtext.specs.declared.raw.CommandKind.{CommandKind}
-use Rattle.mau_modtext.specs.declared.raw.CommandKind.TheVariants.{Match, Xmatch, Reduce, Rewrite, Continue}
+use Rattle.mau_modtext.specs.declared.raw.CommandKind.TheVariants.{Match, Xmatch, Reduce, Rewrite, Frewrite, Continue}
 use Rattle.mau_modtext.specs.declared.raw.TextFault.{TextFault}
 use Rattle.mau_modtext.specs.declared.raw.TextFault.TheVariants.{Unended}
 use Rattle.mau_program.specs.declared.statements.Membership.{Membership}
@@ -39,9 +39,16 @@ abbrev pub is_reduce : CommandKind → Bool
 is_reduce Reduce = true
 is_reduce _ = false
 
+-- by rules, in either way
 abbrev pub is_rewrite : CommandKind → Bool
 is_rewrite Rewrite = true
+is_rewrite Frewrite = true
 is_rewrite _ = false
+
+-- whether rules are applied fairly
+abbrev pub is_fair : CommandKind → Bool
+is_fair Frewrite = true
+is_fair _ = false
 
 abbrev pub is_continue : CommandKind → Bool
 is_continue Continue = true
@@ -50,7 +57,7 @@ is_continue _ = false
 -- the words with which items begin that aren't built yet
 abbrev pub begins_unbuilt : List ℕ → Bool
 begins_unbuilt w =
-    bytes_eq w (codes "smod") || bytes_eq w (codes "frewrite") || bytes_eq w (codes "frew") || bytes_eq w (codes "dsrewrite") || bytes_eq w (codes "dsrew")
+    bytes_eq w (codes "smod") || bytes_eq w (codes "dsrewrite") || bytes_eq w (codes "dsrew")
 
 abbrev pub is_unended : TextFault → Bool
 is_unended (Unended at) = true

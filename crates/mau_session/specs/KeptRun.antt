@@ -16,7 +16,7 @@ use Rattle.mau_session.specs.Built.{uses_memberships}
 use Rattle.mau_session.specs.RuleRun.{RuleRunOf, rewriting_condition}
 
 abbrev pub rule_run_of : Running → RuleRunOf
-rule_run_of r = record { stand = stand_of r.store r.run; variables = r.vars }
+rule_run_of r = record { kind = r.kind; stand = stand_of r.store r.run; variables = r.vars }
 
 -- terms of the module are rewritten, and it is a run of the module's program
 pub record IsReadyRun (m : ModuleOf) (r : Running) : Type 0 where

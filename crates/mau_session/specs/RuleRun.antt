@@ -5,6 +5,7 @@ use Rattle.mau_program.specs.declared.statements.Fragment.{Fragment}
 use Rattle.mau_program.specs.declared.statements.Fragment.TheVariants.{Reach}
 use Rattle.mau_program.specs.declared.statements.Rule.{Rule}
 use Rattle.mau_evaluation.specs.RuleRuns.{Stand}
+use Rattle.mau_results.specs.declared.kind.RunKind.{RunKind}
 use Rattle.mau_module.specs.Modules.{ModuleOf}
 use Rattle.mau_session.specs.Terms.{Pairs}
 
@@ -21,7 +22,8 @@ asks_to_rewrite q = q.exec && list_any is_rewriting q.cond
 abbrev pub rewriting_condition : ModuleOf → Option ℕ
 rewriting_condition m = position asks_to_rewrite m.statements.rules
 
--- a rule run that may go on: where it stands, and the variables of the command that began it
+-- a rule run that may go on: its kind, where it stands, and the variables of the command that began it
 pub record RuleRunOf : Type 0 where
+  pub kind : RunKind
   pub stand : Stand
   pub variables : Pairs

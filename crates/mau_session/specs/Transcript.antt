@@ -36,7 +36,7 @@ use Rattle.mau_session.specs.Terms.{Pairs, terms_in, kind_of_term}
 use Rattle.mau_statement.specs.Parts.{TermReads, IsUnread, is_empty}
 use Rattle.mau_session.specs.Matching.{Shows}
 use Rattle.mau_results.specs.Results.{AnswerOf, MayAnswer}
-use Rattle.mau_results.specs.Runs.{RunAnswerOf, MayRun}
+use Rattle.mau_results.specs.Runs.{run_by, RunAnswerOf, MayRun}
 use Rattle.mau_session.specs.Lines.{too_deep_line, overflow_line, answer_lines}
 use Rattle.mau_session.specs.Environment.{Environment, meanings_in}
 use Rattle.mau_session.specs.Query.{QueryOf, asked_first, shown_more}
@@ -113,8 +113,8 @@ pub data ContinueAnswer (e : Environment) (ws : List Word) (st : StateOf) (k : �
       → ContinueAnswer e ws st k c (state_after st n (left_where ending (shown_more q found) cond)) (continue_head k m ++ where_lines m e.budget q found ending) false
   run_continued : (most : Option ℕ) (n : ℕ) (r : RuleRunOf) (m : ModuleOf) (a : RunAnswerOf) → bound_of ws c.bound ≡ Ok most
       → st.going ≡ Some (record { number = n; what = a_rule_run r }) → slice_get st.modules n ≡ Some m → uses_memberships m ≡ false
-      → MayRun (meanings_in e m) e.remembers most r.stand a
-      → ContinueAnswer e ws st k c (state_after st n (left_by_run r.variables a)) (continue_head k m ++ run_lines m r.variables e.budget a) false
+      → MayRun (meanings_in e m) e.remembers (run_by (meanings_in e m) r.kind most r.stand) a
+      → ContinueAnswer e ws st k c (state_after st n (left_by_run r.kind r.variables a)) (continue_head k m ++ run_lines m r.variables e.budget a) false
 
 -- ---- the answer of a reduce command
 

@@ -61,12 +61,22 @@ pub fn is_reduce(kind: CommandKind) -> bool
     }
 }
 
-/// Whether a command is a rewrite.
+/// Whether a command rewrites by rules, in either way.
 pub fn is_rewrite(kind: CommandKind) -> bool
     ensures { result ≡ Built.is_rewrite kind }
 {
     match kind {
-        CommandKind::Rewrite => true,
+        CommandKind::Rewrite | CommandKind::Frewrite => true,
+        _ => false,
+    }
+}
+
+/// Whether a command applies rules fairly.
+pub fn is_fair(kind: CommandKind) -> bool
+    ensures { result ≡ Built.is_fair kind }
+{
+    match kind {
+        CommandKind::Frewrite => true,
         _ => false,
     }
 }
@@ -85,7 +95,7 @@ pub fn is_continue(kind: CommandKind) -> bool
 pub fn begins_unbuilt(word: &str) -> bool
     ensures { result ≡ Built.begins_unbuilt word.now }
 {
-    matches!(word, "smod" | "frewrite" | "frew" | "dsrewrite" | "dsrew")
+    matches!(word, "smod" | "dsrewrite" | "dsrew")
 }
 
 /// Whether an item has no end.

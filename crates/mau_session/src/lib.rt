@@ -2,6 +2,7 @@
 #![tactic(auto)]
 
 mod answer;
+mod asked_run;
 mod asking;
 mod bounds;
 mod built;

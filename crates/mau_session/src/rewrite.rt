@@ -7,8 +7,7 @@ ghost use Rattle.mau_formula.specs.Operators.{operators};
 ghost use Rattle.mau_built_ins.specs.NativeNumerals.{GivesNumerals};
 ghost use Rattle.mau_program.specs.LawfulPrograms.{IsLawfulProgram};
 ghost use Rattle.mau_statement.specs.Parts;
-ghost use Rattle.mau_results.specs.Runs.{run_from};
-ghost use Rattle.mau_rules.specs.Runs.{stand_of, end_of, IsRunOf};
+ghost use Rattle.mau_rules.specs.Runs.{end_of, IsRunOf};
 ghost use Rattle.mau_module.specs.Lawful.{program_of};
 ghost use Rattle.mau_module.specs.Modules.{ModuleOf};
 ghost use Rattle.mau_session.specs.Terms.{terms_in};
@@ -16,19 +15,19 @@ ghost use Rattle.mau_session.specs.Environment.{environment_of, meanings_in};
 ghost use Rattle.mau_session.specs.Built;
 ghost use Rattle.mau_session.specs.RuleRun as Conditions;
 ghost use Rattle.mau_session.specs.RunLines;
-ghost use Rattle.mau_session.specs.RunLines.{rewrite_head, bound_line, run_lines};
+ghost use Rattle.mau_session.specs.RunLines.{run_name, run_head, bound_line, run_lines};
 ghost use Rattle.mau_session.specs.KeptRun.{rule_run_of, run_answer_in, IsReadyRun};
 ghost use Rattle.mau_session.specs.KeptState.{state_of, outcome_of, IsReadyState, IsReadyOutcome};
 ghost use Rattle.mau_session.specs.State.{IsChosen};
-ghost use Rattle.mau_session.specs.RunGains.{GainsRun, GainsRunTerm, GainsRewrite};
+ghost use Rattle.mau_session.specs.RunGains.{begun, GainsRun, GainsRunTerm, GainsRewrite};
 
-use crate::bounds::bound_of;
+use crate::asked_run::{AskedRun, asked_run};
 use crate::built::uses_memberships;
 use crate::reading::{is_empty, read_term};
 use crate::refusal::{Refusal, refuse, refuse_term, write_head};
 use crate::results::{write_count, write_result, write_stopped};
 use crate::rewriting::rewriting_condition;
-use crate::running::{RunAnswer, Running, rewrite_item};
+use crate::running::{RunAnswer, Running, run_item};
 use crate::session::Session;
 use crate::state::{Continued, Outcome, State};
 use mau_api::Unwatched;
@@ -41,16 +40,33 @@ use mau_module::Module;
 use mau_parse::Goal;
 use mau_reduce::Hooks;
 use mau_reducer::Flagged;
+use mau_results::RunKind;
 use mau_rules::{RuleEnd, RuleRun};
 use mau_store::Store;
 use mau_terms::{Bare, NoMemory, Vars};
 
+/// The long name of a run's command.
+fn run_name_of(kind: RunKind) -> &'static str
+    ensures { result.now ≡ run_name kind }
+{
+    match kind {
+        RunKind::Rewriting => "rewrite",
+        RunKind::Fair(_) => "frewrite",
+    }
+}
+
 /// Writes what the answer of a rewrite command begins with.
-fn write_rewrite_head(out: &mut Vec<u8>, number: usize, module: &Module) -> Result<(), NoMemory>
-    ensures { OnOk result (out.new.items ≡ out.old.items ++ rewrite_head number module.now) }
+fn write_run_head(
+    out: &mut Vec<u8>,
+    number: usize,
+    kind: RunKind,
+    module: &Module,
+) -> Result<(), NoMemory>
+    ensures { OnOk result (out.new.items ≡ out.old.items ++ run_head number kind module.now) }
 {
     write_head(out, number)?;
-    write_text(out, "rewrite in ")?;
+    write_text(out, run_name_of(kind))?;
+    write_text(out, " in ")?;
     write_text(out, module.name())?;
     write_text(out, "\n")
 }
@@ -101,7 +117,7 @@ fn write_run(
 
 /// What a run leaves behind its answer.
 fn left_by_run(running: Running, answer: RunAnswer) -> Outcome
-    ensures left { outcome_of result ≡ RunLines.left_by_run running.vars (run_answer_in running.store running.run answer) }
+    ensures left { outcome_of result ≡ RunLines.left_by_run running.kind running.vars (run_answer_in running.store running.run answer) }
     ensures ready { (m : ModuleOf) → IsReadyRun m running → IsReadyOutcome m result }
 {
     match answer {
@@ -110,7 +126,7 @@ fn left_by_run(running: Running, answer: RunAnswer) -> Outcome
     }
 }
 
-/// Rewrites the term of a run, by at most so many rules, and writes the lines of the answer. Gives what it leaves.
+/// Runs rules on the term of a run, at most so many, and writes the lines of the answer. Gives what it leaves.
 pub fn run_on(
     out: &mut Vec<u8>,
     session: &Session,
@@ -123,7 +139,7 @@ pub fn run_on(
     requires ready { IsReadyRun module.now running }
     ensures gained { IfOk result (λ left. GainsRun module.now
         (meanings_in (environment_of (operators session.now.hooks.now) session.now.limit) module.now) false most
-        (stand_of running.store running.run) running.vars out.old.items out.new.items (outcome_of left)) }
+        (rule_run_of running) out.old.items out.new.items (outcome_of left)) }
     ensures ready { IfOk result (IsReadyOutcome module.now) }
 {
     let _ = module.signature().operators();
@@ -137,12 +153,13 @@ pub fn run_on(
         false,
     )?;
     let mut running = running;
-    let answer = rewrite_item::<
+    let answer = run_item::<
         Flagged<ExtListing<Listing>, Listing, Hooks>,
         ExtListing<Listing>,
         Unwatched,
     >(
         &mut running.run,
+        running.kind,
         program,
         &mut running.store,
         &mut evaluator,
@@ -154,14 +171,14 @@ pub fn run_on(
     Ok(left_by_run(running, answer))
 }
 
-/// Begins a run from a term on, rewrites it, by at most so many rules, and writes the lines of the answer. Gives what it leaves.
+/// Begins the run that is asked for from a term on, runs rules, and writes the lines of the answer. Gives what it leaves.
 fn begin(
     out: &mut Vec<u8>,
     session: &Session,
     module: &Module,
     vars: Vars,
     term: &Bare,
-    most: Option<u64>,
+    asked: AskedRun,
 ) -> Result<Outcome, NoMemory>
     requires numerals { All GivesNumerals (operators session.now.hooks.now) }
     requires lawful { IsLawfulProgram (program_of module.now) }
@@ -169,8 +186,8 @@ fn begin(
     requires conditions { Conditions.rewriting_condition module.now ≡ None }
     requires bare { IsBare (terms_in module.now) (tree_of term.now) }
     ensures gained { IfOk result (λ left. GainsRun module.now
-        (meanings_in (environment_of (operators session.now.hooks.now) session.now.limit) module.now) false most
-        (run_from (tree_of term.now)) vars out.old.items out.new.items (outcome_of left)) }
+        (meanings_in (environment_of (operators session.now.hooks.now) session.now.limit) module.now) false asked.most
+        (begun asked.kind (tree_of term.now) vars) out.old.items out.new.items (outcome_of left)) }
     ensures ready { IfOk result (IsReadyOutcome module.now) }
 {
     let alloc = session.alloc;
@@ -180,8 +197,13 @@ fn begin(
     match build_bare(&mut store, sig, term) {
         Ok(number) => {
             let run = RuleRun::start(alloc, module.program(), number)?;
-            let running = Running { store, run, vars };
-            run_on(out, session, module, running, most)
+            let running = Running {
+                kind: asked.kind,
+                store,
+                run,
+                vars,
+            };
+            run_on(out, session, module, running, asked.most)
         }
         Err(BuildFault::TooDeep) => {
             write_text(out, "Too deep.\n")?;
@@ -195,14 +217,14 @@ fn begin(
     }
 }
 
-/// Answers a rewrite command over a module, by at most so many rules. Gives what it leaves.
+/// Answers a rewrite command over a module, which asks for this run. Gives what it leaves.
 fn answer_start(
     out: &mut Vec<u8>,
     session: &Session,
     module: &Module,
     number: usize,
     command: &RawCommand,
-    most: Option<u64>,
+    asked: AskedRun,
 ) -> Result<Outcome, NoMemory>
     requires few { length session.now.words.now ≤ 16777216 }
     requires numerals { All GivesNumerals (operators session.now.hooks.now) }
@@ -211,7 +233,7 @@ fn answer_start(
     requires plain { Built.uses_memberships module.now ≡ false }
     requires conditions { Conditions.rewriting_condition module.now ≡ None }
     ensures gained { IfOk result (λ left. GainsRunTerm (environment_of (operators session.now.hooks.now) session.now.limit)
-        session.now.words.now module.now number command.now most out.old.items out.new.items (outcome_of left)) }
+        session.now.words.now module.now number command.now asked out.old.items out.new.items (outcome_of left)) }
     ensures ready { IfOk result (IsReadyOutcome module.now) }
 {
     let mut vars = Vars::new(session.alloc);
@@ -225,8 +247,8 @@ fn answer_start(
     ) {
         Err(fault) => refuse_term(out, number, &fault),
         Ok(term) => {
-            write_rewrite_head(out, number, module)?;
-            begin(out, session, module, vars, &term, most)
+            write_run_head(out, number, asked.kind, module)?;
+            begin(out, session, module, vars, &term, asked)
         }
     }
 }
@@ -256,12 +278,12 @@ fn rewrite_chosen(
     if uses_memberships(module) {
         return refuse(out, words, number, Refusal::NotBuilt(item));
     }
-    match bound_of(words, command.bound) {
+    match asked_run(words, command) {
         Err(refusal) => refuse(out, words, number, refusal),
-        Ok(most) => match rewriting_condition(module) {
+        Ok(asked) => match rewriting_condition(module) {
             Some(rule) => refuse(out, words, number, Refusal::RewritingCondition(rule)),
             None => {
-                let left = answer_start(out, session, module, number, command, most)?;
+                let left = answer_start(out, session, module, number, command, asked)?;
                 Ok(state.conclude(chosen, left))
             }
         },

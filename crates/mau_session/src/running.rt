@@ -1,21 +1,24 @@
 //! Rule runs, with all that they go on with.
-ghost use Rattle.std.specs.Prelude.{◌≡◌, true, IfOk};
+ghost use Rattle.std.specs.Prelude.{◌≡◌, true, false, IfOk};
 ghost use Rattle.mau_store.specs.Node.{Extends};
-ghost use Rattle.mau_api.specs.Answers.{uses_results};
-ghost use Rattle.mau_results.specs.Runs.{MayRun};
+ghost use Rattle.mau_store.specs.Trees.{tree_at};
+ghost use Rattle.mau_api.specs.Answers.{AreSettled, uses_results, levels_of_condition};
+ghost use Rattle.mau_results.specs.Runs.{run_by, MayRun};
 ghost use Rattle.mau_rules.specs.Runnable.{IsRunnable, GoesBy};
-ghost use Rattle.mau_rules.specs.Runs.{stand_of, IsRunOf};
+ghost use Rattle.mau_rules.specs.Runs.{stand_of, IsRunOf, IsRunAnswered};
+ghost use Rattle.mau_rules.specs.Runs;
 ghost use Rattle.mau_session.specs.KeptRun.{run_answer_in};
 
-use mau_api::{EvalEnd, Evaluator, Lister, Program, StepWatcher};
-use mau_results::shown_sort;
+use mau_api::{EvalEnd, Evaluator, Lister, Program, Reduced, StepWatcher};
+use mau_results::{RunKind, shown_sort};
 use mau_rules::{RuleEnd, RuleRun};
 use mau_store::Store;
 use mau_terms::{NoMemory, Vars};
 
-/// A rule run, with its term in a store of its own and the variables of the command that began it.
+/// A rule run of this kind, with its term in a store of its own and the variables of the command that began it.
 #[derive(Drop)]
 pub struct Running {
+    pub kind: RunKind,
     pub store: Store,
     pub run: RuleRun,
     pub vars: Vars,
@@ -34,9 +37,47 @@ pub enum RunAnswer {
     Overflow,
 }
 
-/// Rewrites the term of a run with the budget of an item, by as many rules as are asked for or by any number of them.
-pub fn rewrite_item<E: Evaluator, L: Lister + Drop, W: StepWatcher>(
+/// Runs rules, in this way, by as many as are asked for or by any number of them.
+fn run_rules<E: Evaluator, L: Lister + Drop, W: StepWatcher>(
     run: &mut RuleRun,
+    kind: RunKind,
+    program: &Program,
+    store: &mut Store,
+    evaluator: &mut E,
+    most: Option<u64>,
+    budget: u64,
+    watcher: &mut W,
+) -> Result<(RuleEnd, Reduced), EvalEnd>
+    requires contexts { L.with_context ≡ true }
+    requires runnable { IsRunnable program.now }
+    requires goes_by { GoesBy program.now (E.meanings evaluator.old) }
+    requires fits { E.fits evaluator.old store.old }
+    requires run { IsRunOf program.now store.old run.old }
+    ensures exact { uses_results (E.meanings evaluator.old) (W.wanted watcher.old) ≡ false →
+        IsRunAnswered (run_by (E.meanings evaluator.old) kind most (stand_of store.old run.old) levels_of_condition (E.meanings evaluator.old).limit budget)
+        store.new run.new result }
+    ensures allowed { Runs.MayRun (E.meanings evaluator.old) (run_by (E.meanings evaluator.old) kind most (stand_of store.old run.old)) budget store.new run.new result }
+    ensures term { IfOk result (λ x. x.1.term ≡ run.new.term) }
+    ensures settled { IfOk result (λ x. AreSettled program.now.sig store.new (E.table evaluator.new) (tree_at store.new x.1.term.0)) }
+    ensures run { IsRunOf program.now store.new run.new }
+    ensures extends { Extends store.old store.new }
+    ensures fits { E.fits evaluator.new store.new }
+    ensures meanings { E.meanings evaluator.new ≡ E.meanings evaluator.old }
+{
+    match kind {
+        RunKind::Rewriting => {
+            run.rewrite::<E, L, W>(program, store, evaluator, most, budget, watcher)
+        }
+        RunKind::Fair(gas) => {
+            run.frewrite::<E, L, W>(program, store, evaluator, most, gas, budget, watcher)
+        }
+    }
+}
+
+/// Runs rules on the term of a run with the budget of an item, in this way, by as many as are asked for or by any number of them.
+pub fn run_item<E: Evaluator, L: Lister + Drop, W: StepWatcher>(
+    run: &mut RuleRun,
+    kind: RunKind,
     program: &Program,
     store: &mut Store,
     evaluator: &mut E,
@@ -50,14 +91,14 @@ pub fn rewrite_item<E: Evaluator, L: Lister + Drop, W: StepWatcher>(
     requires fits { E.fits evaluator.old store.old }
     requires run { IsRunOf program.now store.old run.old }
     requires limit { limit ≡ (E.meanings evaluator.old).limit }
-    ensures allowed { IfOk result (λ a. MayRun (E.meanings evaluator.old) (uses_results (E.meanings evaluator.old) (W.wanted watcher.old)) most
-        (stand_of store.old run.old) (run_answer_in store.new run.new a)) }
+    ensures allowed { IfOk result (λ a. MayRun (E.meanings evaluator.old) (uses_results (E.meanings evaluator.old) (W.wanted watcher.old))
+        (run_by (E.meanings evaluator.old) kind most (stand_of store.old run.old)) (run_answer_in store.new run.new a)) }
     ensures run { IsRunOf program.now store.new run.new }
     ensures extends { Extends store.old store.new }
     ensures fits { E.fits evaluator.new store.new }
     ensures meanings { E.meanings evaluator.new ≡ E.meanings evaluator.old }
 {
-    match run.rewrite::<E, L, W>(program, store, evaluator, most, limit, watcher) {
+    match run_rules::<E, L, W>(run, kind, program, store, evaluator, most, limit, watcher) {
         Ok((end, value)) => {
             let sort = shown_sort(&program.sig, store, evaluator.sorts(), value.term);
             Ok(RunAnswer::Value(end, sort, value.rewrites))

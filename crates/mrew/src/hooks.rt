@@ -2,15 +2,16 @@
 ghost use Rattle.std.specs.Prelude.{◌≡◌, map, IfOk, OnErr};
 ghost use Rattle.mau_formula.specs.Expr.{value};
 ghost use Rattle.mau_formula.specs.Native.{formula_of, native_operator, natives};
-ghost use Rattle.mau_session.specs.Run.{IsRun};
+ghost use Rattle.mrew.specs.Ran.{IsRan};
 
+use crate::asked::answer;
 use mau_bytes::{Sink, Source};
 use mau_formula::{Hook, HookAnswer, HookTable, Native};
-use mau_session::{Status, run};
+use mau_session::Status;
 use mau_terms::{NoMemory, Text};
 use std::alloc::Global;
 
-/// Runs with all native operators on numbers, each a closure beside the formula that it computes. The status tells all that that of `run`
+/// Does what the words ask for, with all native operators on numbers, each a closure beside the formula that it computes. The status tells all that that of `run`
 /// does. Where memory is wanting for the operators, the source and the sink stay as they are.
 pub fn run_with_hooks<S: Source, K: Sink>(
     alloc: Global,
@@ -18,7 +19,7 @@ pub fn run_with_hooks<S: Source, K: Sink>(
     source: &mut S,
     sink: &mut K,
 ) -> Result<Status, NoMemory>
-    ensures run { IfOk result (IsRun (map native_operator natives) words.now (S.faults source.old) (S.faults source.new) (K.faults sink.old) (K.faults sink.new)
+    ensures run { IfOk result (IsRan (map native_operator natives) words.now (S.faults source.old) (S.faults source.new) (K.faults sink.old) (K.faults sink.new)
         (S.left source.old) (S.left source.new) (K.written sink.old) (K.written sink.new)) }
     ensures untouched { OnErr result ((source.new ≡ source.old) × (sink.new ≡ sink.old)) }
 {
@@ -34,5 +35,5 @@ pub fn run_with_hooks<S: Source, K: Sink>(
             return Err(NoMemory);
         }
     }
-    Ok(run(alloc, &hooks, words, source, sink))
+    Ok(answer(alloc, &hooks, words, source, sink))
 }

@@ -1,6 +1,8 @@
 //! The program: it makes the source and the sink, and runs.
 #![tactic(auto)]
 
+mod asked;
+mod check;
 mod hooks;
 #[cfg(test)]
 mod tests;

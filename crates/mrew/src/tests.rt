@@ -1,23 +1,10 @@
-//! Whole texts and their transcripts, the items of a text, and the modules of the prelude.
+//! The items of a text, the modules of the prelude, and what a run does with its words, its source and its sink. Whole texts with their transcripts are
+//! rows of the folder tests/ at the top, which the built program runs.
 
-mod conditions;
-mod contexts;
-mod imports;
 mod items;
-mod listings;
-mod long_lists;
-mod mixfix;
-mod modules;
 mod prelude;
-mod reduce;
-mod refusals;
-mod rewrite;
 mod runs;
-mod settings;
 
-use crate::hooks::run_with_hooks;
-use mau_bytes::{MemorySink, MemorySource};
-use mau_session::Status;
 use mau_terms::Text;
 use std::alloc::Global;
 use std::test::Fail;
@@ -31,13 +18,4 @@ fn texts(alloc: Global, words: &[&str]) -> Result<Vec<Text>, Fail> {
         texts.push(Text::new(alloc, word)?)?;
     }
     Ok(texts)
-}
-
-/// Runs the program's words over a text. Gives what is out, and the status.
-fn answer(alloc: Global, words: &[&str], text: &str) -> Result<(Vec<u8>, Status), Fail> {
-    let given = texts(alloc, words)?;
-    let mut source = MemorySource::new(text.as_bytes().to_vec(alloc)?, Vec::new(alloc));
-    let mut sink = MemorySink::new(alloc, 100_000, Vec::new(alloc))?;
-    let status = run_with_hooks(alloc, &given, &mut source, &mut sink)?;
-    Ok((sink.bytes().to_vec(alloc)?, status))
 }

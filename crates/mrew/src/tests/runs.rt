@@ -1,6 +1,6 @@
-//! Whole runs: states, ends and statuses.
+//! Runs whose source or sink fails, and texts of the greatest length.
 
-use super::{F, answer, texts};
+use super::{F, texts};
 use crate::hooks::run_with_hooks;
 use mau_bytes::{MemorySink, MemorySource};
 use mau_session::Status;
@@ -22,94 +22,7 @@ fn status_of(
 }
 
 #[test]
-fn keeps_the_accepted_modules(rt: HostRuntime) -> Result<(), Fail> {
-    let (bytes, status) = answer(rt.alloc(), &["run"], "")?;
-    assert!(rt; bytes.is_empty(), "no items have no answers");
-    assert_eq!(rt; status, Status::Done);
-
-    let (bytes, status) = answer(
-        rt.alloc(),
-        &["run"],
-        "fmod A is sort S . op a : -> S . endfm fmod B is sort S . op b : -> T . endfm match X:S <=? a . \
-         fmod C is sort S . op c : -> S . endfm match X:S <=? c . fmod A is sort S . op d : -> S . endfm match X:S <=? d .",
-    )?;
-    assert_eq!(rt;
-        bytes.as_slice(),
-        b"[1] module A\n[2] refused: UnknownSort 68\n[3] match in A\nMatcher 1\nX:S --> a\nNo more matches.\n\
-          [4] module C\n[5] match in C\nMatcher 1\nX:S --> c\nNo more matches.\n\
-          [6] module A\n[7] match in A\nMatcher 1\nX:S --> d\nNo more matches.\n"
-            .as_slice()
-    );
-    assert_eq!(rt; status, Status::Refused);
-    Ok(())
-}
-
-#[test]
-fn reads_nothing_behind_an_item_that_quits(rt: HostRuntime) -> Result<(), Fail> {
-    for (text, wanted) in [
-        ("quit fmod", b"".as_slice()),
-        (
-            "fmod A is sort S . endfm q fmod B is sort S . endfm",
-            b"[1] module A\n".as_slice(),
-        ),
-        (
-            "fmod A is sort S . endfm eof match",
-            b"[1] module A\n".as_slice(),
-        ),
-    ] {
-        let (bytes, status) = answer(rt.alloc(), &["run"], text)?;
-        assert_eq!(rt; bytes.as_slice(), wanted);
-        assert_eq!(rt; status, Status::Done);
-    }
-    Ok(())
-}
-
-#[test]
-fn takes_a_budget(rt: HostRuntime) -> Result<(), Fail> {
-    for budget in ["1", "1000000", "1000000000000"] {
-        let (bytes, status) = answer(rt.alloc(), &["run", "--limit", budget], "fmod A is endfm")?;
-        assert_eq!(rt; bytes.as_slice(), b"[1] module A\n".as_slice());
-        assert_eq!(rt; status, Status::Done);
-    }
-    for budget in [
-        "",
-        "0",
-        "01",
-        "+1",
-        "1 ",
-        "1000000000001",
-        "18446744073709551617",
-        "x",
-    ] {
-        let (bytes, status) = answer(rt.alloc(), &["run", "--limit", budget], "fmod A is endfm")?;
-        assert!(rt; bytes.is_empty(), "nothing is written");
-        assert_eq!(rt; status, Status::Usage);
-    }
-    for words in [
-        ["run", "--limit=1"].as_slice(),
-        ["run", "--limit"].as_slice(),
-        ["--limit", "1", "run"].as_slice(),
-        ["run", "--limit", "1", "1"].as_slice(),
-    ] {
-        let (bytes, status) = answer(rt.alloc(), words, "fmod A is endfm")?;
-        assert!(rt; bytes.is_empty(), "nothing is written");
-        assert_eq!(rt; status, Status::Usage);
-    }
-    Ok(())
-}
-
-#[test]
-fn has_a_cause_for_each_status(rt: HostRuntime) -> Result<(), Fail> {
-    let (bytes, status) = answer(rt.alloc(), &["run", "x"], F)?;
-    assert!(rt; bytes.is_empty(), "nothing is written");
-    assert_eq!(rt; status, Status::Usage);
-    let (bytes, status) = answer(rt.alloc(), &[], F)?;
-    assert!(rt; bytes.is_empty(), "nothing is written");
-    assert_eq!(rt; status, Status::Usage);
-    let (bytes, status) = answer(rt.alloc(), &["RUN"], F)?;
-    assert!(rt; bytes.is_empty(), "nothing is written");
-    assert_eq!(rt; status, Status::Usage);
-
+fn tells_of_faults_of_source_and_sink(rt: HostRuntime) -> Result<(), Fail> {
     let words = texts(rt.alloc(), &["run"])?;
     let text = format!(in rt.alloc(); "{F}match f(X:S, b) <=? f(a, b) .")?;
     let wanted = b"[1] module F\n[2] match in F\nMatcher 1\nX:S --> a\nNo more matches.\n";

@@ -1,10 +1,11 @@
-use Rattle.std.proofs.Common.{◌≡◌, ◌++◌, [], List, map, ℕ, Option, Some, None, Ok, Err, IfSome, IfNone, refl, sym, ap, ◌∙◌, subst, append-nil, arith, le_trans}
+use Rattle.std.proofs.Common.{◌≡◌, ◌++◌, [], List, map, ℕ, Option, Some, None, Ok, Err, true, IfSome, IfNone, refl, sym, ap, ◌∙◌, subst, append-nil, arith, le_trans}
 use Rattle.mau_terms.specs.Tree.{Tree}
 use Rattle.mau_signature.specs.Signature.{theory_at}
 use Rattle.mau_store.specs.Trees.{tree_at}
 use Rattle.mau_store.proofs.Growth.{extension_is_preorder}
 use Rattle.mau_sorts.proofs.Settling.{kept_on, kept_same}
 use Rattle.mau_evaluation.specs.Rules.{Place, places}
+use Rattle.mau_api.specs.Terms.{IsNormalBare}
 use Rattle.mau_api.specs.Programs.{program_over}
 use Rattle.mau_api.specs.Meanings.{Meanings}
 use Rattle.mau_api.specs.Answers.{AreSettled}
@@ -16,9 +17,11 @@ use Rattle.mau_rules.specs.Runnable.{GoesBy}
 use Rattle.mau_rules.specs.Runs.{stand_of, turns_of}
 use Rattle.mau_terms.specs.declared.ids.TermId.{TermId}
 use Rattle.mau_rules.specs.Found.{IsFound, item_of, one_by, rules_in, found_stand, KnownSearch, turn_at}
+use Rattle.mau_rules.specs.ByTop.{is_idle}
 use Rattle.mau_rules.specs.Walk.{is_frozen_at, opened, around_all, places_left, IsPath}
 use Rattle.mau_rules.proofs.Placed.{LeftFrom, each_place, places_begin}
-use Rattle.mau_rules.proofs.Walked.{place_so, places_from, places_after, place_at, IsLeft, walked_past, walked_ends, walked_found, found_in, walked_all}
+use Rattle.mau_rules.proofs.Walked.{place_so, places_from, places_on, place_at, IsLeft, walked_past, walked_ends, walked_found, found_in, walked_all}
+use Rattle.mau_rules.proofs.Idle.{idle_grown, passed_below}
 use Rattle.mau_rules.proofs.Paths.{path_term, path_settled, path_kept}
 use Rattle.mau_rules.proofs.one.one_rewrite.Goals as goal
 
@@ -42,21 +45,26 @@ loop-init g c =
           (subst (λ ps. LeftFrom I (each_place P I s) (one_by P s) c.args.budget.now ps c.args.budget.now) (sym (append-nil (places z (λ v. v) s.term))) (places_begin P I s c.args.budget.now));
     }
 
-pub at_place-requires-clause-goes_by : goal.at_place-requires-clause-goes_by
-at_place-requires-clause-goes_by g c = subst (λ (n : Meanings). GoesBy c.args.program.now n) (sym c.loop.invariant.meanings) c.requires.goes_by
+pub among-requires-clause-goes_by : goal.among-requires-clause-goes_by
+among-requires-clause-goes_by g c = subst (λ (n : Meanings). GoesBy c.args.program.now n) (sym c.loop.invariant.meanings) c.requires.goes_by
 
 pub turn_for-turn-requires : goal.turn_for-turn-requires
 turn_for-turn-requires g c =
     (path_term c.args.program.now.sig c.requires.runnable.reducible.lawful c.loop.store c.len.ensures.nodes c.args.run.now.term.0 c.loop.way.items c.loop.due.0
     (is_term_kept c.args.program.now.sig c.args.store.now c.loop.store c.args.run.now.term.0 c.loop.invariant.extends c.requires.run.term) c.loop.invariant.path).within.there
 
-pub at_place-requires-clause-term : goal.at_place-requires-clause-term
-at_place-requires-clause-term g c =
+pub numbers_at-numbers-requires-clause-term : goal.numbers_at-numbers-requires-clause-term
+numbers_at-numbers-requires-clause-term g c =
     path_term c.args.program.now.sig c.requires.runnable.reducible.lawful c.loop.store c.len.ensures.nodes c.args.run.now.term.0 c.loop.way.items c.loop.due.0
     (is_term_kept c.args.program.now.sig c.args.store.now c.loop.store c.args.run.now.term.0 c.loop.invariant.extends c.requires.run.term) c.loop.invariant.path
 
-pub at_place-requires-clause-settled : goal.at_place-requires-clause-settled
-at_place-requires-clause-settled g c =
+pub among-requires-clause-term : goal.among-requires-clause-term
+among-requires-clause-term g c =
+    path_term c.args.program.now.sig c.requires.runnable.reducible.lawful c.loop.store c.len.ensures.nodes c.args.run.now.term.0 c.loop.way.items c.loop.due.0
+    (is_term_kept c.args.program.now.sig c.args.store.now c.loop.store c.args.run.now.term.0 c.loop.invariant.extends c.requires.run.term) c.loop.invariant.path
+
+pub among-requires-clause-settled : goal.among-requires-clause-settled
+among-requires-clause-settled g c =
     let s = c.args.program.now.sig in
     let i = c.loop.invariant in
     let table = g.E.Evaluator.table c.loop.evaluator in
@@ -71,9 +79,9 @@ next_place-requires-clause-lawful g c = c.requires.runnable.reducible.lawful
 pub next_place-requires-clause-walk : goal.next_place-requires-clause-walk
 next_place-requires-clause-walk g c =
     let s = c.args.program.now.sig in
-    let new = c.at_place.new.store in
-    let e = extension_is_preorder.transitive c.args.store.now c.loop.store new c.loop.invariant.extends c.at_place.ensures.extends in
-    (c.args.run.now.term.0, record { begins = is_term_kept s c.args.store.now new c.args.run.now.term.0 e c.requires.run.term; path = path_kept c.loop.store new c.at_place.ensures.extends c.args.run.now.term.0 c.loop.way.items c.loop.due.0 c.loop.invariant.path })
+    let new = c.among.new.store in
+    let e = extension_is_preorder.transitive c.args.store.now c.loop.store new c.loop.invariant.extends c.among.ensures.extends in
+    (c.args.run.now.term.0, record { begins = is_term_kept s c.args.store.now new c.args.run.now.term.0 e c.requires.run.term; path = path_kept c.loop.store new c.among.ensures.extends c.args.run.now.term.0 c.loop.way.items c.loop.due.0 c.loop.invariant.path })
 
 pub returns-in-Ok-Some-clause-known : goal.returns-in-Ok-Some-clause-known
 returns-in-Ok-Some-clause-known g c =
@@ -86,21 +94,21 @@ returns-in-Ok-Some-clause-known g c =
     let s = stand_of c.args.store.now c.args.run.now in
     let i = c.loop.invariant in
     let now = c.loop.store in
-    let new = c.at_place.new.store in
+    let new = c.among.new.store in
     let due = c.loop.due.0 in
     let os = c.loop.way.items in
     let root = c.args.run.now.term.0 in
     let q = place_at now os due in
     let there = (path_term p.sig c.requires.runnable.reducible.lawful now c.len.ensures.nodes root os due (is_term_kept p.sig c.args.store.now now root i.extends c.requires.run.term) i.path).within.there in
     let turn : turn_at s.turns (tree_at now due) ≡ c.turn_for-turn.result = ap (λ (xs : List ℕ). turn_at (turns_of xs) (tree_at now due)) (sym c.deref.ensures.value) ∙ c.turn_for-turn.ensures in
-    let known = place_so p m n v w i.meanings i.wanted s.turns q c.loop.budget new (Ok (Some c.in-Ok-Some.found)) c.at_place.new.budget
-    (subst (λ (o : Option Found). KnownSearch (item_of n v) (rules_in (program_over p n.hooks) s.turns q) c.loop.budget (found_stand p (program_over p n.hooks) s.turns q new) (Ok o) c.at_place.new.budget) c.in-Ok-Some.field-0-is
+    let known = place_so p m n v w i.meanings i.wanted s.turns q c.loop.budget new (Ok (Some c.in-Ok-Some.found)) c.among.new.budget
+    (subst (λ (o : Option Found). KnownSearch (item_of n v) (rules_in (program_over p n.hooks) s.turns q) c.loop.budget (found_stand p (program_over p n.hooks) s.turns q new) (Ok o) c.among.new.budget) c.in-Ok-Some.field-0-is
     (c.in-Ok-Some.ensures.known s.turns q.around turn)) in
     let x = c.in-Ok-Some.found in
-    let table = g.E.Evaluator.table c.at_place.new.evaluator in
+    let table = g.E.Evaluator.table c.among.new.evaluator in
     let at = ap (λ (k : TermId). k.0) (subst (λ (o : Option Found). IfSome o (λ z. z.term ≡ c.loop.due)) c.in-Ok-Some.field-0-is c.in-Ok-Some.ensures.term) in
     let is = subst (λ (o : Option Found). IfSome o (IsFound p new table (tree_at now due))) c.in-Ok-Some.field-0-is c.in-Ok-Some.ensures.found in
-    walked_found p m.hooks I s c.args.budget.now now new c.at_place.ensures.extends root due os i.path there c.loop.budget i.goes_on c.at_place.new.budget x table at is known
+    walked_found p m.hooks I s c.args.budget.now now new c.among.ensures.extends root due os i.path there c.loop.budget i.goes_on c.among.new.budget x table at is known
 
 pub returns-in-Ok-Some-clause-found : goal.returns-in-Ok-Some-clause-found
 returns-in-Ok-Some-clause-found g c =
@@ -113,7 +121,7 @@ returns-in-Ok-Some-clause-found g c =
     let s = stand_of c.args.store.now c.args.run.now in
     let i = c.loop.invariant in
     let now = c.loop.store in
-    let new = c.at_place.new.store in
+    let new = c.among.new.store in
     let due = c.loop.due.0 in
     let os = c.loop.way.items in
     let root = c.args.run.now.term.0 in
@@ -121,19 +129,19 @@ returns-in-Ok-Some-clause-found g c =
     let there = (path_term p.sig c.requires.runnable.reducible.lawful now c.len.ensures.nodes root os due (is_term_kept p.sig c.args.store.now now root i.extends c.requires.run.term) i.path).within.there in
     let turn : turn_at s.turns (tree_at now due) ≡ c.turn_for-turn.result = ap (λ (xs : List ℕ). turn_at (turns_of xs) (tree_at now due)) (sym c.deref.ensures.value) ∙ c.turn_for-turn.ensures in
     let x = c.in-Ok-Some.found in
-    let table = g.E.Evaluator.table c.at_place.new.evaluator in
+    let table = g.E.Evaluator.table c.among.new.evaluator in
     let at = ap (λ (k : TermId). k.0) (subst (λ (o : Option Found). IfSome o (λ z. z.term ≡ c.loop.due)) c.in-Ok-Some.field-0-is c.in-Ok-Some.ensures.term) in
     let is = subst (λ (o : Option Found). IfSome o (IsFound p new table (tree_at now due))) c.in-Ok-Some.field-0-is c.in-Ok-Some.ensures.found in
-    found_in p m.hooks I s c.args.budget.now now new c.at_place.ensures.extends root due os i.path there c.loop.budget i.goes_on x table at is
+    found_in p m.hooks I s c.args.budget.now now new c.among.ensures.extends root due os i.path there c.loop.budget i.goes_on x table at is
 
 pub returns-in-Ok-Some-clause-path : goal.returns-in-Ok-Some-clause-path
 returns-in-Ok-Some-clause-path g c =
     let root = c.args.run.now.term.0 in
     let at = ap (λ (k : TermId). k.0) (subst (λ (o : Option Found). IfSome o (λ z. z.term ≡ c.loop.due)) c.in-Ok-Some.field-0-is c.in-Ok-Some.ensures.term) in
-    subst (λ (k : ℕ). IsPath c.at_place.new.store root c.loop.way.items k) (sym at) (path_kept c.loop.store c.at_place.new.store c.at_place.ensures.extends root c.loop.way.items c.loop.due.0 c.loop.invariant.path)
+    subst (λ (k : ℕ). IsPath c.among.new.store root c.loop.way.items k) (sym at) (path_kept c.loop.store c.among.new.store c.among.ensures.extends root c.loop.way.items c.loop.due.0 c.loop.invariant.path)
 
 pub returns-in-Ok-Some-clause-kept : goal.returns-in-Ok-Some-clause-kept
-returns-in-Ok-Some-clause-kept g c = kept_on (g.E.Evaluator.table c.args.evaluator.now) (g.E.Evaluator.table c.loop.evaluator) (g.E.Evaluator.table c.at_place.new.evaluator) c.loop.invariant.kept c.at_place.ensures.kept
+returns-in-Ok-Some-clause-kept g c = kept_on (g.E.Evaluator.table c.args.evaluator.now) (g.E.Evaluator.table c.loop.evaluator) (g.E.Evaluator.table c.among.new.evaluator) c.loop.invariant.kept c.among.ensures.kept
 
 pub returns-in-Err-clause-known : goal.returns-in-Err-clause-known
 returns-in-Err-clause-known g c =
@@ -146,7 +154,7 @@ returns-in-Err-clause-known g c =
     let s = stand_of c.args.store.now c.args.run.now in
     let i = c.loop.invariant in
     let now = c.loop.store in
-    let new = c.at_place.new.store in
+    let new = c.among.new.store in
     let due = c.loop.due.0 in
     let os = c.loop.way.items in
     let root = c.args.run.now.term.0 in
@@ -154,11 +162,11 @@ returns-in-Err-clause-known g c =
     let there = (path_term p.sig c.requires.runnable.reducible.lawful now c.len.ensures.nodes root os due (is_term_kept p.sig c.args.store.now now root i.extends c.requires.run.term) i.path).within.there in
     let turn : turn_at s.turns (tree_at now due) ≡ c.turn_for-turn.result = ap (λ (xs : List ℕ). turn_at (turns_of xs) (tree_at now due)) (sym c.deref.ensures.value) ∙ c.turn_for-turn.ensures in
     let e = c.in-Err.end in
-    let known = place_so p m n v w i.meanings i.wanted s.turns q c.loop.budget new (Err e) c.at_place.new.budget (c.in-Err.ensures.known s.turns q.around turn) in
-    walked_ends p m.hooks I s c.args.budget.now now new c.at_place.ensures.extends root due os i.path there c.loop.budget i.goes_on new c.at_place.new.budget e (λ z. found_stand p (program_over p m.hooks) s.turns (place_at new os z.term.0) new z) known
+    let known = place_so p m n v w i.meanings i.wanted s.turns q c.loop.budget new (Err e) c.among.new.budget (c.in-Err.ensures.known s.turns q.around turn) in
+    walked_ends p m.hooks I s c.args.budget.now now new c.among.ensures.extends root due os i.path there c.loop.budget i.goes_on new c.among.new.budget e (λ z. found_stand p (program_over p m.hooks) s.turns (place_at new os z.term.0) new z) known
 
 pub returns-in-Err-clause-kept : goal.returns-in-Err-clause-kept
-returns-in-Err-clause-kept g c = kept_on (g.E.Evaluator.table c.args.evaluator.now) (g.E.Evaluator.table c.loop.evaluator) (g.E.Evaluator.table c.at_place.new.evaluator) c.loop.invariant.kept c.at_place.ensures.kept
+returns-in-Err-clause-kept g c = kept_on (g.E.Evaluator.table c.args.evaluator.now) (g.E.Evaluator.table c.loop.evaluator) (g.E.Evaluator.table c.among.new.evaluator) c.loop.invariant.kept c.among.ensures.kept
 
 pub returns-in-Ok-None-next_place-clause-known : goal.returns-in-Ok-None-next_place-clause-known
 returns-in-Ok-None-next_place-clause-known g c =
@@ -171,25 +179,31 @@ returns-in-Ok-None-next_place-clause-known g c =
     let s = stand_of c.args.store.now c.args.run.now in
     let i = c.loop.invariant in
     let now = c.loop.store in
-    let new = c.at_place.new.store in
+    let new = c.among.new.store in
     let due = c.loop.due.0 in
     let os = c.loop.way.items in
     let root = c.args.run.now.term.0 in
     let q = place_at now os due in
     let there = (path_term p.sig c.requires.runnable.reducible.lawful now c.len.ensures.nodes root os due (is_term_kept p.sig c.args.store.now now root i.extends c.requires.run.term) i.path).within.there in
     let turn : turn_at s.turns (tree_at now due) ≡ c.turn_for-turn.result = ap (λ (xs : List ℕ). turn_at (turns_of xs) (tree_at now due)) (sym c.deref.ensures.value) ∙ c.turn_for-turn.ensures in
-    let known = place_so p m n v w i.meanings i.wanted s.turns q c.loop.budget new (Ok None) c.at_place.new.budget
-    (subst (λ (o : Option Found). KnownSearch (item_of n v) (rules_in (program_over p n.hooks) s.turns q) c.loop.budget (found_stand p (program_over p n.hooks) s.turns q new) (Ok o) c.at_place.new.budget) c.in-Ok-None.field-0-is
+    let known = place_so p m n v w i.meanings i.wanted s.turns q c.loop.budget new (Ok None) c.among.new.budget
+    (subst (λ (o : Option Found). KnownSearch (item_of n v) (rules_in (program_over p n.hooks) s.turns q) c.loop.budget (found_stand p (program_over p n.hooks) s.turns q new) (Ok o) c.among.new.budget) c.in-Ok-None.field-0-is
     (c.in-Ok-None.ensures.known s.turns q.around turn)) in
-    let left = walked_past p m.hooks I s c.args.budget.now now new c.at_place.ensures.extends root due os i.path there c.loop.budget i.goes_on new c.at_place.new.budget known in
-    let end = subst (λ (o : Option TermId). IfNone o (places_after p new os due ≡ [])) c.in-Ok-None-next_place.field-0-is (c.in-Ok-None-next_place.ensures.none (λ u. u)) in
-    walked_all p m.hooks I s c.args.budget.now c.at_place.new.budget (subst (λ (ps : List Place). IsLeft p m.hooks I s c.args.budget.now ps c.at_place.new.budget) end left)
+    let left = walked_past p m.hooks I s c.args.budget.now now new c.among.ensures.extends root due os i.path there c.loop.budget i.goes_on new c.among.new.budget known in
+    let reached = extension_is_preorder.transitive c.args.store.now now new i.extends c.among.ensures.extends in
+    let is = is_term_kept p.sig now new due c.among.ensures.extends
+    (path_term p.sig c.requires.runnable.reducible.lawful now c.len.ensures.nodes root os due (is_term_kept p.sig c.args.store.now now root i.extends c.requires.run.term) i.path) in
+    let normal : IsNormalBare p.sig (tree_at new due) = (is.within.normal, is.bare) in
+    let idle : c.skips-skip.result ≡ true → is_idle (map (λ list. list.items) c.args.by_top.now.orders.items) (tree_at new due) ≡ true = (λ e. c.skips-skip.ensures (map (λ list. list.items) c.args.by_top.now.orders.items) new e (idle_grown (map (λ list. list.items) c.args.by_top.now.orders.items) c.args.store.now new reached c.args.by_top.now.idle.items c.requires.by_top.idle)) in
+    let below = passed_below p c.requires.runnable m.hooks I s c.args.budget.now (map (λ list. list.items) c.args.by_top.now.orders.items) c.requires.by_top.rules c.skips-skip.result new os due c.among.new.budget normal idle left in
+    let end = subst (λ (o : Option TermId). IfNone o (places_on c.skips-skip.result p new os due ≡ [])) c.in-Ok-None-next_place.field-0-is (c.in-Ok-None-next_place.ensures.none (λ u. u)) in
+    walked_all p m.hooks I s c.args.budget.now c.among.new.budget (subst (λ (ps : List Place). IsLeft p m.hooks I s c.args.budget.now ps c.among.new.budget) end below)
 
 pub returns-in-Ok-None-next_place-clause-kept : goal.returns-in-Ok-None-next_place-clause-kept
-returns-in-Ok-None-next_place-clause-kept g c = kept_on (g.E.Evaluator.table c.args.evaluator.now) (g.E.Evaluator.table c.loop.evaluator) (g.E.Evaluator.table c.at_place.new.evaluator) c.loop.invariant.kept c.at_place.ensures.kept
+returns-in-Ok-None-next_place-clause-kept g c = kept_on (g.E.Evaluator.table c.args.evaluator.now) (g.E.Evaluator.table c.loop.evaluator) (g.E.Evaluator.table c.among.new.evaluator) c.loop.invariant.kept c.among.ensures.kept
 
 pub returns-in-Err-next_place-clause-kept : goal.returns-in-Err-next_place-clause-kept
-returns-in-Err-next_place-clause-kept g c = kept_on (g.E.Evaluator.table c.args.evaluator.now) (g.E.Evaluator.table c.loop.evaluator) (g.E.Evaluator.table c.at_place.new.evaluator) c.loop.invariant.kept c.at_place.ensures.kept
+returns-in-Err-next_place-clause-kept g c = kept_on (g.E.Evaluator.table c.args.evaluator.now) (g.E.Evaluator.table c.loop.evaluator) (g.E.Evaluator.table c.among.new.evaluator) c.loop.invariant.kept c.among.ensures.kept
 
 pub loop-preserved : goal.loop-preserved
 loop-preserved g c =
@@ -202,28 +216,34 @@ loop-preserved g c =
     let s = stand_of c.args.store.now c.args.run.now in
     let i = c.loop.invariant in
     let now = c.loop.store in
-    let new = c.at_place.new.store in
+    let new = c.among.new.store in
     let due = c.loop.due.0 in
     let os = c.loop.way.items in
     let root = c.args.run.now.term.0 in
     let q = place_at now os due in
     let there = (path_term p.sig c.requires.runnable.reducible.lawful now c.len.ensures.nodes root os due (is_term_kept p.sig c.args.store.now now root i.extends c.requires.run.term) i.path).within.there in
     let turn : turn_at s.turns (tree_at now due) ≡ c.turn_for-turn.result = ap (λ (xs : List ℕ). turn_at (turns_of xs) (tree_at now due)) (sym c.deref.ensures.value) ∙ c.turn_for-turn.ensures in
-    let known = place_so p m n v w i.meanings i.wanted s.turns q c.loop.budget new (Ok None) c.at_place.new.budget
-    (subst (λ (o : Option Found). KnownSearch (item_of n v) (rules_in (program_over p n.hooks) s.turns q) c.loop.budget (found_stand p (program_over p n.hooks) s.turns q new) (Ok o) c.at_place.new.budget) c.in-Ok-None.field-0-is
+    let known = place_so p m n v w i.meanings i.wanted s.turns q c.loop.budget new (Ok None) c.among.new.budget
+    (subst (λ (o : Option Found). KnownSearch (item_of n v) (rules_in (program_over p n.hooks) s.turns q) c.loop.budget (found_stand p (program_over p n.hooks) s.turns q new) (Ok o) c.among.new.budget) c.in-Ok-None.field-0-is
     (c.in-Ok-None.ensures.known s.turns q.around turn)) in
-    let left = walked_past p m.hooks I s c.args.budget.now now new c.at_place.ensures.extends root due os i.path there c.loop.budget i.goes_on new c.at_place.new.budget known in
+    let left = walked_past p m.hooks I s c.args.budget.now now new c.among.ensures.extends root due os i.path there c.loop.budget i.goes_on new c.among.new.budget known in
+    let reached = extension_is_preorder.transitive c.args.store.now now new i.extends c.among.ensures.extends in
+    let is = is_term_kept p.sig now new due c.among.ensures.extends
+    (path_term p.sig c.requires.runnable.reducible.lawful now c.len.ensures.nodes root os due (is_term_kept p.sig c.args.store.now now root i.extends c.requires.run.term) i.path) in
+    let normal : IsNormalBare p.sig (tree_at new due) = (is.within.normal, is.bare) in
+    let idle : c.skips-skip.result ≡ true → is_idle (map (λ list. list.items) c.args.by_top.now.orders.items) (tree_at new due) ≡ true = (λ e. c.skips-skip.ensures (map (λ list. list.items) c.args.by_top.now.orders.items) new e (idle_grown (map (λ list. list.items) c.args.by_top.now.orders.items) c.args.store.now new reached c.args.by_top.now.idle.items c.requires.by_top.idle)) in
     let on = c.next_place.new.way.items in
     let next = c.in-Ok-Some-next_place.next.0 in
-    let more = subst (λ (o : Option TermId). IfSome o (λ k. places_after p new os due ≡ places_from p new on k.0)) c.in-Ok-Some-next_place.field-0-is (c.in-Ok-Some-next_place.ensures.some (λ u. u)) in
-    let path = subst (λ (o : Option TermId). IfSome o (λ k. IsPath new root on k.0)) c.in-Ok-Some-next_place.field-0-is (c.in-Ok-Some-next_place.ensures.path root (path_kept now new c.at_place.ensures.extends root os due i.path)) in
+    let below = passed_below p c.requires.runnable m.hooks I s c.args.budget.now (map (λ list. list.items) c.args.by_top.now.orders.items) c.requires.by_top.rules c.skips-skip.result new os due c.among.new.budget normal idle left in
+    let more = subst (λ (o : Option TermId). IfSome o (λ k. places_on c.skips-skip.result p new os due ≡ places_from p new on k.0)) c.in-Ok-Some-next_place.field-0-is (c.in-Ok-Some-next_place.ensures.some (λ u. u)) in
+    let path = subst (λ (o : Option TermId). IfSome o (λ k. IsPath new root on k.0)) c.in-Ok-Some-next_place.field-0-is (c.in-Ok-Some-next_place.ensures.path root (path_kept now new c.among.ensures.extends root os due i.path)) in
     record {
-      meanings = c.at_place.ensures.meanings ∙ i.meanings;
-      fits = c.at_place.ensures.fits;
-      extends = extension_is_preorder.transitive c.args.store.now now new i.extends c.at_place.ensures.extends;
-      kept = kept_on (g.E.Evaluator.table c.args.evaluator.now) (g.E.Evaluator.table c.loop.evaluator) (g.E.Evaluator.table c.at_place.new.evaluator) i.kept c.at_place.ensures.kept;
-      falls = le_trans c.at_place.ensures.falls i.falls;
-      wanted = c.at_place.ensures.wanted ∙ i.wanted;
+      meanings = c.among.ensures.meanings ∙ i.meanings;
+      fits = c.among.ensures.fits;
+      extends = extension_is_preorder.transitive c.args.store.now now new i.extends c.among.ensures.extends;
+      kept = kept_on (g.E.Evaluator.table c.args.evaluator.now) (g.E.Evaluator.table c.loop.evaluator) (g.E.Evaluator.table c.among.new.evaluator) i.kept c.among.ensures.kept;
+      falls = le_trans c.among.ensures.falls i.falls;
+      wanted = c.among.ensures.wanted ∙ i.wanted;
       path = path;
-      goes_on = subst (λ (ps : List Place). IsLeft p m.hooks I s c.args.budget.now ps c.at_place.new.budget) more left;
+      goes_on = subst (λ (ps : List Place). IsLeft p m.hooks I s c.args.budget.now ps c.among.new.budget) more below;
     }

@@ -17,6 +17,7 @@ use Rattle.mau_rules.specs.Runs.{turns_of, stand_of}
 use Rattle.mau_rules.specs.Found.{IsFound, item_of, found_stand, found_tree, KnownSearch, one_by}
 use Rattle.mau_rules.specs.Rounds.{KnownUse}
 use Rattle.mau_rules.specs.Walk.{opened, around_all, IsPath}
+use Rattle.mau_rules.proofs.Idle.{by_top_grown, by_top_noted}
 use Rattle.mau_rules.proofs.Running.{stand_at}
 use Rattle.mau_rules.proofs.Paths.{path_term}
 use Rattle.mau_rules.proofs.Uses.{found_is, use_so, round_none, round_search_ends, round_value, round_value_ends}
@@ -181,3 +182,32 @@ returns-clause-known g c =
 
 pub returns-clause-kept : goal.returns-clause-kept
 returns-clause-kept g c = kept_on (g.E.Evaluator.table c.args.evaluator.now) (g.E.Evaluator.table c.one_rewrite.new.evaluator) (g.E.Evaluator.table c.value_behind.new.evaluator) c.one_rewrite.ensures.kept c.value_behind.ensures.kept
+
+pub note-requires : goal.note-requires
+note-requires g c = c.requires.by_top.idle
+
+pub one_rewrite-requires-clause-by_top : goal.one_rewrite-requires-clause-by_top
+one_rewrite-requires-clause-by_top g c =
+    by_top_noted c.args.program.now c.args.store.now c.args.by_top.now c.note.new.self c.note.ensures.orders c.note.ensures.table c.requires.by_top
+
+pub returns-in-Ok-None-clause-by_top : goal.returns-in-Ok-None-clause-by_top
+returns-in-Ok-None-clause-by_top g c =
+    by_top_grown c.args.program.now c.args.store.now c.one_rewrite.new.store c.note.new.self c.one_rewrite.ensures.extends
+    (by_top_noted c.args.program.now c.args.store.now c.args.by_top.now c.note.new.self c.note.ensures.orders c.note.ensures.table c.requires.by_top)
+
+pub returns-in-Err-clause-by_top : goal.returns-in-Err-clause-by_top
+returns-in-Err-clause-by_top g c =
+    by_top_grown c.args.program.now c.args.store.now c.one_rewrite.new.store c.note.new.self c.one_rewrite.ensures.extends
+    (by_top_noted c.args.program.now c.args.store.now c.args.by_top.now c.note.new.self c.note.ensures.orders c.note.ensures.table c.requires.by_top)
+
+pub returns-in-Err-value_behind-clause-by_top : goal.returns-in-Err-value_behind-clause-by_top
+returns-in-Err-value_behind-clause-by_top g c =
+    by_top_grown c.args.program.now c.args.store.now c.value_behind.new.store c.note.new.self
+    (extension_is_preorder.transitive c.args.store.now c.one_rewrite.new.store c.value_behind.new.store c.one_rewrite.ensures.extends c.value_behind.ensures.extends)
+    (by_top_noted c.args.program.now c.args.store.now c.args.by_top.now c.note.new.self c.note.ensures.orders c.note.ensures.table c.requires.by_top)
+
+pub returns-clause-by_top : goal.returns-clause-by_top
+returns-clause-by_top g c =
+    by_top_grown c.args.program.now c.args.store.now c.value_behind.new.store c.note.new.self
+    (extension_is_preorder.transitive c.args.store.now c.one_rewrite.new.store c.value_behind.new.store c.one_rewrite.ensures.extends c.value_behind.ensures.extends)
+    (by_top_noted c.args.program.now c.args.store.now c.args.by_top.now c.note.new.self c.note.ensures.orders c.note.ensures.table c.requires.by_top)

@@ -19,7 +19,7 @@ returns-in-Err-clause-gained g c =
     let ws = c.args.session.now.words.now in
     let m = c.args.module.now in
     let f = c.in-Err.fault in
-    unread_with Refused (λ l. GainsRunTerm e ws m c.args.number c.args.command.now c.args.most c.args.out.now.items c.refuse_term.new.out.items (outcome_of l)) c.refuse_term.result
+    unread_with Refused (λ l. GainsRunTerm e ws m c.args.number c.args.command.now c.args.asked c.args.out.now.items c.refuse_term.new.out.items (outcome_of l)) c.refuse_term.result
     c.refuse_term.ensures.bytes c.refuse_term.ensures.named c.refuse_term.ensures.refused
     (λ g n. record {
       bytes = _;
@@ -31,15 +31,15 @@ pub returns-in-Err-clause-ready : goal.returns-in-Err-clause-ready
 returns-in-Err-clause-ready g c =
     unread_with Refused (IsReadyOutcome c.args.module.now) c.refuse_term.result c.refuse_term.ensures.bytes c.refuse_term.ensures.named c.refuse_term.ensures.refused (λ g n. tt)
 
-pub returns-in_ok-write_rewrite_head-in-Ok-clause-gained : goal.returns-in_ok-write_rewrite_head-in-Ok-clause-gained
-returns-in_ok-write_rewrite_head-in-Ok-clause-gained g c =
+pub returns-in_ok-write_run_head-in-Ok-clause-gained : goal.returns-in_ok-write_run_head-in-Ok-clause-gained
+returns-in_ok-write_run_head-in-Ok-clause-gained g c =
     let e = environment_of (operators c.args.session.now.hooks.now) c.args.session.now.limit in
     let ws = c.args.session.now.words.now in
     let m = c.args.module.now in
     let t = c.in-Ok.term in
     let ns = c.read_term.new.vars in
     IfOk-weaker c.begin.result _ _
-    (λ left h. gains_run_term e ws m c.args.number c.args.command.now c.args.most t ns
+    (λ left h. gains_run_term e ws m c.args.number c.args.command.now c.args.asked t ns
     (subst (λ os. TermReads ws m.grammar c.args.command.now.first AnyKind os ns t) c.new-vars.ensures (subst (λ ts. TermReads ws m.grammar ts AnyKind c.new-vars.result ns t) c.items.ensures c.in-Ok.ensures.term))
-    c.args.out.now.items c.write_rewrite_head.new.out.items c.begin.new.out.items (outcome_of left) c.in_ok-write_rewrite_head-in-Ok.ensures h)
+    c.args.out.now.items c.write_run_head.new.out.items c.begin.new.out.items (outcome_of left) c.in_ok-write_run_head-in-Ok.ensures h)
     c.begin.ensures.gained

@@ -13,7 +13,7 @@ use Rattle.mau_program.specs.declared.program.Program.{Program}
 use Rattle.mau_evaluation.specs.Run.{too_deep, overflowed}
 use Rattle.mau_evaluation.specs.RuleRuns.{Stand}
 use Rattle.mau_api.specs.Terms.{IsTerm}
-use Rattle.mau_results.specs.Runs.{run_from, run_ends, MayRun}
+use Rattle.mau_results.specs.Runs.{run_from, run_by, run_ends, MayRun}
 use Rattle.mau_results.proofs.Normals.{read_term}
 use Rattle.mau_results.proofs.RunAnswers.{may_run_read, may_run_be_deep, may_run_overflow}
 use Rattle.mau_rules.specs.Runs.{stand_of, IsRunOf}
@@ -54,8 +54,9 @@ returns-in-Ok-clause-gained g c =
     let s = stand_of nodes c.in_ok-run-in-Ok.run' in
     let at : s ≡ run_from (tree_at nodes i) = c.in_ok-run-in-Ok.ensures.stand nodes in
     IfOk-weaker c.run_on.result _ _
-    (λ left h. gains_run_as m means false c.args.most s (run_from t) c.args.vars c.args.out.now.items c.run_on.new.out.items _
-    (λ a x. may_run_read means c.args.most t false lawful nodes i stands a (subst (λ (s : Stand). MayRun means false c.args.most s a) at x)) h)
+    (λ left h. gains_run_as m means false c.args.asked.most c.args.asked.kind s (run_from t) c.args.vars c.args.out.now.items c.run_on.new.out.items _
+    (λ a x. may_run_read means c.args.asked.kind c.args.asked.most t false lawful nodes i stands a
+    (subst (λ (s : Stand). MayRun means false (run_by means c.args.asked.kind c.args.asked.most s) a) at x)) h)
     c.run_on.ensures.gained
 
 pub returns-in-Err-TooDeep-clause-gained : goal.returns-in-Err-TooDeep-clause-gained
@@ -66,7 +67,7 @@ returns-in-Err-TooDeep-clause-gained g c =
     let e = environment_of (operators c.args.session.now.hooks.now) c.args.session.now.limit in
     record {
       answer = run_ends too_deep;
-      allowed = may_run_be_deep (meanings_in e m) c.args.most t false
+      allowed = may_run_be_deep (meanings_in e m) c.args.asked.kind c.args.asked.most t false
           (subst (λ (s : SignatureOf). IsCause (theory_at s) (norm (theory_at s) t) TooDeep) c.signature-sig.ensures.value (subst (IsCause (theory_at s) (norm (theory_at s) t)) c.in-Err-TooDeep.field-0-is c.in-Err-TooDeep.ensures.refused));
       leaves = refl;
       gained = c.in_ok-write_text-in-Err-TooDeep.ensures;
@@ -80,7 +81,7 @@ returns-in-Err-Overflow-clause-gained g c =
     let e = environment_of (operators c.args.session.now.hooks.now) c.args.session.now.limit in
     record {
       answer = run_ends overflowed;
-      allowed = may_run_overflow (meanings_in e m) c.args.most t false
+      allowed = may_run_overflow (meanings_in e m) c.args.asked.kind c.args.asked.most t false
           (subst (λ (s : SignatureOf). IsCause (theory_at s) (norm (theory_at s) t) Overflow) c.signature-sig.ensures.value (subst (IsCause (theory_at s) (norm (theory_at s) t)) c.in-Err-Overflow.field-0-is c.in-Err-Overflow.ensures.refused));
       leaves = refl;
       gained = c.in_ok-write_text-in-Err-Overflow.ensures;

@@ -23,7 +23,7 @@ returns-in-Err-clause-gained g c =
     (λ g. record {
       bytes = _;
       answer = rewrite_unbounded c.args.chosen c.module-module.result.now c.in-Err.refusal c.requires.term c.requires.chosen c.module-module.ensures.there
-          (sym c.uses_memberships.ensures ∙ c.if-uses_memberships.false) (sym c.bound_of.ensures ∙ c.in-Err.is);
+          (sym c.uses_memberships.ensures ∙ c.if-uses_memberships.false) (sym c.asked_run.ensures ∙ c.in-Err.is);
       gained = g;
     })
 
@@ -32,8 +32,8 @@ returns-in-Some-clause-gained g c =
     refused_with _ c.refuse-in-Some.result c.refuse-in-Some.ensures.bytes c.refuse-in-Some.ensures.refused
     (λ g. record {
       bytes = _;
-      answer = rewrite_conditional c.args.chosen c.module-module.result.now c.in-Ok.most c.in-Some.rule c.requires.term c.requires.chosen c.module-module.ensures.there
-          (sym c.uses_memberships.ensures ∙ c.if-uses_memberships.false) (sym c.bound_of.ensures ∙ c.in-Ok.is) (sym c.rewriting_condition.ensures ∙ c.in-Some.is);
+      answer = rewrite_conditional c.args.chosen c.module-module.result.now c.in-Ok.asked c.in-Some.rule c.requires.term c.requires.chosen c.module-module.ensures.there
+          (sym c.uses_memberships.ensures ∙ c.if-uses_memberships.false) (sym c.asked_run.ensures ∙ c.in-Ok.is) (sym c.rewriting_condition.ensures ∙ c.in-Some.is);
       gained = g;
     })
 
@@ -48,7 +48,7 @@ returns-in_ok-left-in-None-clause-gained g c =
       bytes = g.bytes;
       answer = subst (λ s. RewriteAnswer e ws st c.args.number c.args.item c.args.command.now s g.bytes c.conclude.result) (sym c.conclude.ensures.state)
           (subst (λ b. RewriteAnswer e ws st c.args.number c.args.item c.args.command.now (state_after st c.args.chosen left) g.bytes b) (sym c.conclude.ensures.refused)
-          (rewrite_answered c.args.chosen c.module-module.result.now c.in-Ok.most left g.bytes c.requires.term c.requires.chosen c.module-module.ensures.there (sym c.uses_memberships.ensures ∙ c.if-uses_memberships.false)
-          (sym c.bound_of.ensures ∙ c.in-Ok.is) (sym c.rewriting_condition.ensures ∙ c.in-None.is) g.answer));
+          (rewrite_answered c.args.chosen c.module-module.result.now c.in-Ok.asked left g.bytes c.requires.term c.requires.chosen c.module-module.ensures.there (sym c.uses_memberships.ensures ∙ c.if-uses_memberships.false)
+          (sym c.asked_run.ensures ∙ c.in-Ok.is) (sym c.rewriting_condition.ensures ∙ c.in-None.is) g.answer));
       gained = g.gained;
     }

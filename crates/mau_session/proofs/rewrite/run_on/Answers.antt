@@ -25,25 +25,25 @@ new-requires-clause-derives_nothing g c = subst DerivesNothing (sym c.program-pr
 pub new-requires-clause-numerals : goal.new-requires-clause-numerals
 new-requires-clause-numerals g c = subst (All GivesNumerals) (sym c.new-natives.ensures) c.requires.numerals
 
-pub rewrite_item-requires-clause-runnable : goal.rewrite_item-requires-clause-runnable
-rewrite_item-requires-clause-runnable g c =
+pub run_item-requires-clause-runnable : goal.run_item-requires-clause-runnable
+run_item-requires-clause-runnable g c =
     subst IsRunnable (sym c.program-program.ensures)
     (runnable c.args.module.now c.requires.lawful (subst (λ (s : SignatureOf). IsLawful (terms_over s)) c.signature.ensures.value c.operators.ensures.lawful) c.requires.ready.plain c.requires.ready.conditions)
 
-pub rewrite_item-requires-clause-goes_by : goal.rewrite_item-requires-clause-goes_by
-rewrite_item-requires-clause-goes_by g c = goes_by _ _ _ _ _ c.in_ok-evaluator.ensures.meanings
+pub run_item-requires-clause-goes_by : goal.run_item-requires-clause-goes_by
+run_item-requires-clause-goes_by g c = goes_by _ _ _ _ _ c.in_ok-evaluator.ensures.meanings
 
-pub rewrite_item-requires-clause-fits : goal.rewrite_item-requires-clause-fits
-rewrite_item-requires-clause-fits g c = c.in_ok-evaluator.ensures.fits c.args.running.store
+pub run_item-requires-clause-fits : goal.run_item-requires-clause-fits
+run_item-requires-clause-fits g c = c.in_ok-evaluator.ensures.fits c.args.running.store
 
-pub rewrite_item-requires-clause-run : goal.rewrite_item-requires-clause-run
-rewrite_item-requires-clause-run g c = subst (λ (p : Program). IsRunOf p c.args.running.store c.args.running.run) (sym c.program-program.ensures) c.requires.ready.run
+pub run_item-requires-clause-run : goal.run_item-requires-clause-run
+run_item-requires-clause-run g c = subst (λ (p : Program). IsRunOf p c.args.running.store c.args.running.run) (sym c.program-program.ensures) c.requires.ready.run
 
-pub rewrite_item-requires-clause-limit : goal.rewrite_item-requires-clause-limit
-rewrite_item-requires-clause-limit g c = sym (ap (λ (m : Meanings). m.limit) c.in_ok-evaluator.ensures.meanings)
+pub run_item-requires-clause-limit : goal.run_item-requires-clause-limit
+run_item-requires-clause-limit g c = sym (ap (λ (m : Meanings). m.limit) c.in_ok-evaluator.ensures.meanings)
 
 pub write_run-requires : goal.write_run-requires
-write_run-requires g c = record { run = subst (λ (p : Program). IsRunOf p c.rewrite_item.new.store c.rewrite_item.new.run) c.program-program.ensures c.rewrite_item.ensures.run }
+write_run-requires g c = record { run = subst (λ (p : Program). IsRunOf p c.run_item.new.store c.run_item.new.run) c.program-program.ensures c.run_item.ensures.run }
 
 pub returns-clause-gained : goal.returns-clause-gained
 returns-clause-gained g c =
@@ -51,9 +51,9 @@ returns-clause-gained g c =
     let limit = c.args.session.now.limit in
     let s = stand_of c.args.running.store c.args.running.run in
     record {
-      answer = run_answer_in c.rewrite_item.new.store c.rewrite_item.new.run c.in_ok-answer.answer;
+      answer = run_answer_in c.run_item.new.store c.run_item.new.run c.in_ok-answer.answer;
       allowed = may_run_plainly p (program_of c.args.module.now) (operators c.args.session.now.hooks.now) limit _ c.program-program.ensures
-          (c.in_ok-evaluator.ensures.meanings ∙ ap (λ h. meanings_by p h limit false) c.new-natives.ensures) false c.args.most s _ c.in_ok-answer.ensures.allowed;
+          (c.in_ok-evaluator.ensures.meanings ∙ ap (λ h. meanings_by p h limit false) c.new-natives.ensures) false c.args.running.kind c.args.most s _ c.in_ok-answer.ensures.allowed;
       leaves = c.left_by_run.ensures.left;
       gained = c.in_ok-write_run.ensures;
     }
@@ -64,5 +64,5 @@ returns-clause-ready g c =
     (record {
       plain = c.requires.ready.plain;
       conditions = c.requires.ready.conditions;
-      run = subst (λ (p : Program). IsRunOf p c.rewrite_item.new.store c.rewrite_item.new.run) c.program-program.ensures c.rewrite_item.ensures.run;
+      run = subst (λ (p : Program). IsRunOf p c.run_item.new.store c.run_item.new.run) c.program-program.ensures c.run_item.ensures.run;
     })

@@ -18,12 +18,12 @@ loop-native-preserved g c =
     let added : operators c.add.new.self ≡ operators c.loop-native.hooks ++ native_operator (get_or natives i Sum) ∷ [] = search rules in
     added ∙ ap (λ os. os ++ native_operator (get_or natives i Sum) ∷ []) c.loop-native.invariant ∙ sym (map_more native_operator natives i Sum c.loop-native-test.true)
 
-pub run-requires : goal.run-requires
-run-requires g c =
+pub answer-requires : goal.answer-requires
+answer-requires g c =
     let same = c.loop-native.invariant ∙ ap (map native_operator) (take_all c.loop-native.native-index natives c.loop-native-test.false) in
     subst (All GivesNumerals) (sym same) (All-map GivesNumerals native_operator natives (λ k d below. natives_give_numerals (slice_index_or natives k d)))
 
 pub returns-clause-run : goal.returns-clause-run
 returns-clause-run g c =
     let same = c.loop-native.invariant ∙ ap (map native_operator) (take_all c.loop-native.native-index natives c.loop-native-test.false) in
-    rw same at c.run.ensures.run
+    rw same at c.answer.ensures

@@ -87,6 +87,7 @@ loop-init g c =
       wanted = c.evaluate.ensures.wanted;
       run = record { turns = c.requires.run.turns; term = subst (λ (z : SignatureOf). IsTerm z s1 c.in-Ok.value.term.0) same c.in-Ok.ensures.term };
       settled = subst (λ (z : SignatureOf). AreSettled z s1 (g.E.Evaluator.table c.evaluate.new.self) (tree_at s1 c.in-Ok.value.term.0)) same c.in-Ok.ensures.settled;
+      by_top = c.in-Ok-new.ensures s1;
       under = under_begun P I c.args.bound (stand_of s0 c.args.self.now) b0 s1 c.in-Ok.value left (stand_at (tree_at s1 c.in-Ok.value.term.0) (stand_of s0 c.args.self.now).turns) refl k;
     }
 
@@ -278,6 +279,20 @@ loop-preserved g c =
       wanted = c.round.ensures.wanted ∙ i.wanted;
       run = c.round.ensures.run;
       settled = c.in-Ok-Some.ensures.settled;
+      by_top = c.round.ensures.by_top;
       under = subst (λ (z : Option ℕ). IsUnder I P f b0 c.saturating_add-rewrites.result z (stand_of new c.round.new.run) after) (sym c.one_less-more.ensures)
           (under_more I P f b0 c.loop.rewrites c.loop.more s c.loop.left i.under (stand_of new c.round.new.run) c.in-Ok-Some.count after c.saturating_add-rewrites.result out k c.saturating_add-rewrites.ensures);
     }
+
+pub returns-in-Err-new-clause-run : goal.returns-in-Err-new-clause-run
+returns-in-Err-new-clause-run g c =
+    record { turns = c.requires.run.turns; term = is_term_kept c.args.program.now.sig c.args.store.now c.evaluate.new.store c.args.self.now.term.0 c.evaluate.ensures.extends c.requires.run.term }
+
+pub round-requires-clause-by_top : goal.round-requires-clause-by_top
+round-requires-clause-by_top g c = c.loop.invariant.by_top
+
+pub returns-in-Ok-None-clause-extends : goal.returns-in-Ok-None-clause-extends
+returns-in-Ok-None-clause-extends g c = extension_is_preorder.transitive c.args.store.now c.loop.store c.round.new.store c.loop.invariant.extends c.round.ensures.extends
+
+pub returns-in-Err-round-clause-extends : goal.returns-in-Err-round-clause-extends
+returns-in-Err-round-clause-extends g c = extension_is_preorder.transitive c.args.store.now c.loop.store c.round.new.store c.loop.invariant.extends c.round.ensures.extends

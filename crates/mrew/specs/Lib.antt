@@ -1,0 +1,6 @@
+-- What the program reads and writes.
+
+-- a check of a document
+pub mod Checked
+-- a run under the words of a command line
+pub mod Ran
