@@ -1,0 +1,44 @@
+-- steps in a row, and steps in the first part of what is left
+pub mod Steps
+-- engines that have no answer to some question
+pub mod Engines
+-- a condition that is asked on and on
+pub mod Askings
+-- the solutions that come behind one
+pub mod Behind
+-- what is left of the uses of a rule, with one engine
+pub mod Moves
+-- what is said of a computation at some limits holds from some limits on
+pub mod Limits
+-- steps throughout, by what an evaluator answered
+pub mod Throughs
+-- a search in a store that has grown
+pub mod Searching
+-- the next solution of a rule's left side, as a listing gives it
+pub mod Listings
+-- tables of an evaluator
+pub mod Tables
+-- the turns of a search
+pub mod Turns
+-- the condition of a rule, asked for the values of a solution
+pub mod Bound
+-- rules at a term, one after another
+pub mod Places
+-- one turn of a search at a term
+pub mod PlaceTurns
+-- the uses of rules are what the results of leaves are made of
+pub mod Rewrites
+-- values by those of normal forms, and terms that can't be built
+pub mod Valued
+-- terms of some kind
+pub mod MadeTerms
+-- the values that uses lead to
+pub mod Results
+-- the last use of a search at a term, and such a search in a store that has grown
+pub mod TopTurns
+-- one result at the root of a term
+pub mod TopSteps
+-- what was given of the results of a leaf, step by step
+pub mod Follows
+-- a variable that no pattern of a rule has is not determined
+pub mod NotDetermined

@@ -1,0 +1,22 @@
+-- The results of leaves, one after another.
+
+-- what is left of answers, as steps are taken
+pub mod Steps
+-- the uses of rules at a term, and what is left of them
+pub mod Uses
+-- what the answers of an evaluator say of its engines
+pub mod Answers
+-- searches for the uses of one rule by the numbers of a store
+pub mod Searches
+-- searches for the uses of all rules at a term
+pub mod AtPlace
+-- the uses of rules are what the results of leaves are made of
+pub mod Laws
+-- the term that a use of a rule leads to
+pub mod Values
+-- searches for the results of rules at the root of a term
+pub mod Top
+-- what was given of the results of a leaf, and what is left
+pub mod Follows
+-- the variables that a fragment of a condition matches
+pub mod Matched

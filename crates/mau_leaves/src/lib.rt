@@ -1,0 +1,14 @@
+//! The results of leaves of strategies, one after another, by any evaluator and any listing with contexts.
+#![tactic(auto)]
+
+mod determined;
+pub mod laws;
+mod place;
+mod top;
+mod turn;
+mod uses;
+mod value;
+
+pub use place::{PlaceUses, next_at, start_place};
+pub use top::{TopResults, next_top, start_top};
+pub use uses::{RuleUses, Standing, next_use, start_uses};
