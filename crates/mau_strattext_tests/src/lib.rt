@@ -3,3 +3,5 @@
 
 #[cfg(test)]
 mod shapes;
+#[cfg(test)]
+mod strategies;
