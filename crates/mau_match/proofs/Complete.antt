@@ -183,8 +183,9 @@ module _ (s : SignatureOf) (lawful : IsLawful (terms_over s)) (P : ℕ → Tree 
       own false = refl
 
   -- no test may say that the values of the answer are impossible
-  pub not_impossible : ((gg' : Variable → Tree) → Agrees (theory_at s) (given_variables q xs) (given_at q xs vs) gg' → IsFair (theory_at s) gg' q.pattern → norm (theory_at s) (instance gg' q.pattern) ≡ q.subject → ⊥) → ⊥
-  not_impossible h = h gg agree fair (ap (norm (theory_at s)) (sym (instance_along F gg q.pattern same)) ∙ a.whole)
+  pub not_impossible : ((gg' : Variable → Tree) → Agrees (theory_at s) (given_variables q xs) (given_at q xs vs) gg' → IsFair (theory_at s) gg' q.pattern → norm (theory_at s) (instance gg' q.pattern) ≡ q.subject
+      → ((y : Variable) → has_variable (variables q.pattern) y ≡ true → gg' y ≡ value_at (variables q.pattern) (vs ++ u ∷ us) y) → ⊥) → ⊥
+  not_impossible h = h gg agree fair (ap (norm (theory_at s)) (sym (instance_along F gg q.pattern same)) ∙ a.whole) (λ y e. ap (λ b. gg_at b y) e)
 
 pub parts_hold_answers : PartsHoldAnswers
 parts_hold_answers s lawful known q xs x zs ev vs l u us a = value_is_of_part s lawful (BySort s known) q xs x zs ev vs l u us a

@@ -57,15 +57,15 @@ module _ (th : ℕ → Theory) (bound : List Variable) (g gg : Variable → Tree
       ∙ past h.left ks (fs ++ h.right))
       ∙ h.all
 
-  -- what is not known is among the other items
-  pub free_among : (r : Reach) (ts us : List Tree) → without_all (known_in th bound g x f ps) ts ≡ Some us → Reaches true r (all_pieces (th f).assoc (th f).id f (norms th (instances gg ps))) ts → Reaches true inside (frees th bound gg f ps) us
-  free_among r ts us e h =
+  -- what is not known is such a part of the other items
+  pub free_part : (r : Reach) (ts us : List Tree) → without_all (known_in th bound g x f ps) ts ≡ Some us → Reaches true r (all_pieces (th f).assoc (th f).id f (norms th (instances gg ps))) ts → Reaches true r (frees th bound gg f ps) us
+  free_part r ts us e h =
       let ks = known_in th bound g x f ps in
       let left : sort_trees (ks ++ us) ≡ sort_trees ts = subst (LessAll ks ts) e (is_without_all ks ts) in
       record {
         left = h.left;
         right = h.right;
-        leaves = tt;
+        leaves = h.leaves;
         all = cancel_left ks (h.left ++ (frees th bound gg f ps ++ h.right)) us (mixed r ts h ∙ sym left);
       }
 

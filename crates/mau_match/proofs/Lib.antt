@@ -21,6 +21,7 @@ pub mod OneStep
 pub mod Stepping
 pub mod Good
 pub mod Answering
+pub mod Limited
 pub mod PartsOver
 pub mod GivenFor
 pub mod NextVariable

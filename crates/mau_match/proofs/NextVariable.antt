@@ -15,6 +15,8 @@ use Rattle.mau_listing.specs.Answers.{IsAnswer}
 use Rattle.mau_listing.proofs.Growth.{question_same}
 use Rattle.mau_terms.specs.Solution.{HaveSorts}
 use Rattle.mau_match.specs.Possible.{Agrees, IsNever}
+use Rattle.mau_match.specs.Limited.{IsLimitOf}
+use Rattle.mau_match.proofs.Limited.{limits_hold}
 use Rattle.mau_match.proofs.Complete.{not_impossible, value_is_of_hidden}
 use Rattle.mau_match.specs.Hidden.{IsHidden}
 use Rattle.mau_match.specs.Parts.{AnyOf}
@@ -100,13 +102,17 @@ module _ (s : SignatureOf) (lawful : IsLawful (terms_over s)) (old : List Node) 
         ∙ ap (λ y. parts_of (theory_at s) (given_variables q xs) (given_at q xs vs) (variable_of y) (tree_of t.pattern) (just (tree_at old t.subject.0))) et
 
     -- an answer that begins with the chosen values is not impossible
-    pub not_refused : (known : Known) (u : Tree) (us : List Tree) → AnswerIn s known old t (trees_at old (numbers chosen) ++ u ∷ us) → IsNever s old g (tree_of t.pattern) (just (tree_at old t.subject.0)) → ⊥
-    not_refused known u us a never =
+    pub not_refused : (known : Known) → All (IsLimitOf s known (variables_in ps)) g.limits → (u : Tree) (us : List Tree) → AnswerIn s known old t (trees_at old (numbers chosen) ++ u ∷ us) → IsNever s old g (tree_of t.pattern) (just (tree_at old t.subject.0)) → ⊥
+    not_refused known limits u us a never =
         not_impossible s lawful (BySort s known) q xs (variable_of x) zs names_are vs as_many u us a
-        (λ gg ag fair whole.
+        (λ gg ag fair whole same.
         never gg
-        (subst (λ b. Agrees (theory_at s) b (values_of old g) gg) (sym (given_names s old t (take (length chosen) ps) chosen g ev el))
-        (subst (λ v. Agrees (theory_at s) (given_variables q xs) v gg) (sym (given_is s old t (take (length chosen) ps) chosen g ev el)) ag))
+        (record {
+          agrees =
+              subst (λ b. Agrees (theory_at s) b (values_of old g) gg) (sym (given_names s old t (take (length chosen) ps) chosen g ev el))
+              (subst (λ v. Agrees (theory_at s) (given_variables q xs) v gg) (sym (given_is s old t (take (length chosen) ps) chosen g ev el)) ag);
+          limited = limits_hold s lawful known q ask.pattern (vs ++ u ∷ us) a gg same (variables_in ps) are.variables g.limits limits;
+        })
         fair whole)
 
     module _ (new : List Node) (parts : List PartOfCode) (adds : AddsParts s old new [] parts (walked s old g (tree_of t.pattern) (just (tree_at old t.subject.0)))) where

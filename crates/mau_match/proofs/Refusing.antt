@@ -1,9 +1,9 @@
 -- What is refused step by step, while the store grows, is never so.
-use Rattle.std.proofs.Common.{◌≡◌, ◌⊎◌, ℕ, ◌+◌, ◌-◌, ◌==◌, ◌<◌, ◌≤◌, List, [], ◌∷◌, ◌++◌, map, length, take, drop, get_or, Bool, true, false, Some, None, inl, inr, if◌then◌else◌, refl, sym, ◌∙◌, ap, ap₂, subst, arith, eq-eqb}
+use Rattle.std.proofs.Common.{◌≡◌, ◌⊎◌, ℕ, ◌+◌, ◌-◌, ◌==◌, ◌<◌, ◌≤◌, List, [], ◌∷◌, ◌++◌, map, length, take, drop, get_or, Bool, true, false, Some, None, inl, inr, if◌then◌else◌, refl, sym, ◌∙◌, ap, ap₂, subst, arith, eq-eqb, length-append}
 use Rattle.std.specs.Ordering.{is_gt}
 use Rattle.std.proofs.lemmas.List.{take_more, take_rest, map-append}
 use Rattle.mau_terms.specs.Tree.{Tree, apply, node, Trees, no_trees, tree, trees_of}
-use Rattle.mau_terms.specs.Order.{tree_cmp}
+use Rattle.mau_terms.specs.Order.{tree_cmp, sort_trees}
 use Rattle.mau_terms.specs.Norm.{unit_tree, all_pieces, arrange, build, norm, norms}
 use Rattle.mau_terms.specs.Lawful.{AreLawful}
 use Rattle.mau_terms.specs.Subst.{Variable, instance, instances}
@@ -25,23 +25,27 @@ use Rattle.mau_store.specs.View.{numbers}
 use Rattle.mau_store.proofs.Growth.{trees_at-extends}
 use Rattle.mau_canon.proofs.Standing.{stand_there}
 use Rattle.mau_canon.proofs.Values.{values_in-extends}
-use Rattle.mau_domains.specs.Parts.{Reach, inside, Part, just, IsOf, Reaches}
+use Rattle.mau_domains.specs.Parts.{Reach, whole, inside, Part, just, IsOf, Reaches}
 use Rattle.mau_domains.specs.Stored.{reach_of}
-use Rattle.mau_match.specs.Parts.{headed, is_bound, are_bound, alone_in, lists_in, apart_from, known_in, without_all, least_lengths, too_few_for, IsFair}
-use Rattle.mau_match.specs.Possible.{Agrees, AgreesIn, IsNever, AreNever, AreNeverSorted, AreNeverJoined, IsNeverAmong, AreNeverAmong, free, frees}
+use Rattle.mau_match.specs.Parts.{headed, is_bound, are_bound, alone_in, lists_in, apart_from, known_in, without_all, least_lengths, too_few_for, IsFair, AreFair}
+use Rattle.mau_match.specs.Possible.{Agrees, AgreesIn, IsNever, AreNever, AreNeverSorted, AreNeverJoined, IsNeverAmong, AreNeverAmong, AreNeverLeft, free, frees}
+use Rattle.mau_match.specs.Limited.{AreLimited}
 use Rattle.mau_match.specs.Walked.{bound_of, values_of, target_of, span_in, AreGivenWithin, IsSpanWithin}
 use Rattle.mau_match.specs.declared.part.Given.{Given}
 use Rattle.mau_match.specs.declared.part.Span.{Span}
 use Rattle.mau_match.proofs.KnownElements.{bound_norm}
 use Rattle.mau_match.proofs.Lengths.{not_too_few}
 use Rattle.mau_match.proofs.NothingMissed.{Way, ways, alone_value, only_placed, head_op}
-use Rattle.mau_match.proofs.Impossible.{any_order, reaches_left, reaches_right, free_among, known_there}
+use Rattle.mau_match.proofs.Impossible.{any_order, reaches_left, reaches_right, free_part, known_there}
 
 -- ---- the store grows
 
 module _ (s : SignatureOf) (old new : List Node) (e : Extends old new) (g : Given) (w : AreGivenWithin s old g) where
   pub agrees_stay : (gg : Variable → Tree) → AgreesIn s old g gg → AgreesIn s new g gg
-  agrees_stay gg h = subst (λ v. Agrees (theory_at s) (bound_of g) v gg) (sym (values_in-extends (theory_at s) old new g.variables g.values e w)) h
+  agrees_stay gg h = record {
+    agrees = subst (λ v. Agrees (theory_at s) (bound_of g) v gg) (sym (values_in-extends (theory_at s) old new g.variables g.values e w)) h.agrees;
+    limited = h.limited;
+  }
 
   pub never_before : (p : Tree) (q' q : Part) → q' ≡ q → IsNever s new g p q' → IsNever s old g p q
   never_before p q' q k h gg ag fair o = h gg (agrees_stay gg ag) fair (subst (λ r. IsOf (theory_at s) r (norm (theory_at s) (instance gg p))) (sym k) o)
@@ -70,13 +74,13 @@ in_more (x ∷ xs) y v (inr h) = later (in_more xs y v h)
 -- a pattern of which all is known has one value
 pub never_known : (s : SignatureOf) (nodes : List Node) (g : Given) (p : Tree) (q : Part) → is_bound (bound_of g) p ≡ true → (v : Tree) → v ≡ norm (theory_at s) (instance (values_of nodes g) p) → (IsOf (theory_at s) q v → ⊥) → IsNever s nodes g p q
 never_known s nodes g p q b v k h gg ag fair o =
-    h (subst (IsOf (theory_at s) q) (sym (k ∙ bound_norm (theory_at s) (bound_of g) (values_of nodes g) gg (target_of g) ag p b)) o)
+    h (subst (IsOf (theory_at s) q) (sym (k ∙ bound_norm (theory_at s) (bound_of g) (values_of nodes g) gg (target_of g) ag.agrees p b)) o)
 
 -- ---- operators that are not associative
 
 module _ (s : SignatureOf) (lawful : AreLawful (theory_at s)) (nodes : List Node) (g : Given) (f : ℕ) (ps : Trees) (plain : (theory_at s f).assoc ≡ false) (not_succ : (theory_at s f).succ ≡ false) (no_id : (theory_at s f).id ≡ None) where
   built : (gg : Variable → Tree) → AgreesIn s nodes g gg → IsFair (theory_at s) gg (apply f ps) → build (theory_at s f) f (norms (theory_at s) (instances gg ps)) ≡ node f (arrange (theory_at s f).comm (norms (theory_at s) (instances gg ps)))
-  built gg ag fair = only_placed (theory_at s) lawful (bound_of g) (values_of nodes g) gg (target_of g) ag f plain not_succ no_id (norms (theory_at s) (instances gg ps)) fair.0
+  built gg ag fair = only_placed (theory_at s) lawful (bound_of g) (values_of nodes g) gg (target_of g) ag.agrees f plain not_succ no_id (norms (theory_at s) (instances gg ps)) fair.0
 
   pub never_at_pair : (v : Tree) (es : List Tree) → (theory_at s f).comm ≡ true → v ≡ node f es → AreNeverSorted s nodes g ps es → IsNever s nodes g (apply f ps) (just v)
   never_at_pair v es m e h gg ag fair o =
@@ -100,7 +104,7 @@ module _ (s : SignatureOf) (lawful : AreLawful (theory_at s)) (nodes : List Node
   pub never_alone : (q : Part) → ((v : Tree) → IsIn v (alone_in (theory_at s) q) → IsNever s nodes g (apply f ps) (just v)) → IsNever s nodes g (apply f ps) q
   never_alone q h gg ag fair o =
       let v = build (theory_at s f) f (norms (theory_at s) (instances gg ps)) in
-      h v (alone_value (theory_at s) lawful (bound_of g) (values_of nodes g) gg (target_of g) ag f plain no_id (norms (theory_at s) (instances gg ps)) fair.0 q o) gg ag fair refl
+      h v (alone_value (theory_at s) lawful (bound_of g) (values_of nodes g) gg (target_of g) ag.agrees f plain no_id (norms (theory_at s) (instances gg ps)) fair.0 q o) gg ag fair refl
 
 -- two terms in one order or the other
 abbrev IsPaired : Tree → Tree → List Tree → Type 0
@@ -153,6 +157,9 @@ are_before s old new e g w ps es' es k h gg ag fair o = h gg (agrees_stay s old 
 pub among_before : (s : SignatureOf) (old new : List Node) → Extends old new → (g : Given) → AreGivenWithin s old g → (f : ℕ) (ps : Trees) (us' us : List Tree) → us' ≡ us → AreNeverAmong s new g f ps us' → AreNeverAmong s old g f ps us
 among_before s old new e g w f ps us' us k h gg ag fair o = h gg (agrees_stay s old new e g w gg ag) fair (subst (Reaches true inside (frees (theory_at s) (bound_of g) gg f ps)) (sym k) o)
 
+pub left_before : (s : SignatureOf) (old new : List Node) → Extends old new → (g : Given) → AreGivenWithin s old g → (f : ℕ) (ps : Trees) (r : Reach) (us' us : List Tree) → us' ≡ us → AreNeverLeft s new g f ps r us' → AreNeverLeft s old g f ps r us
+left_before s old new e g w f ps r us' us k h gg ag fair o = h gg (agrees_stay s old new e g w gg ag) fair (subst (Reaches true r (frees (theory_at s) (bound_of g) gg f ps)) (sym k) o)
+
 pub ids_split : (nodes : List Node) (ids : List TermId) (d : TermId) → 1 ≤ length ids → trees_at nodes (numbers ids) ≡ tree_at nodes (get_or ids 0 d).0 ∷ trees_at nodes (numbers (take (length ids - 1) (drop 1 ids)))
 ids_split nodes [] d l = absurd (omega arith)
 ids_split nodes (i ∷ is) d l = ap (λ w. tree_at nodes i.0 ∷ trees_at nodes (numbers w)) (sym (take_rest (i ∷ is) 1))
@@ -169,12 +176,12 @@ module _ (s : SignatureOf) (lawful : AreLawful (theory_at s)) (nodes : List Node
   -- if its lists are none of a part's, it is not of the part
   pub never_listed : (q : Part) (ls : List (Reach × List Tree)) → ls ≡ lists_in (theory_at s) f q → ((l : Reach × List Tree) → IsIn l ls → AreNeverJoined s nodes g f ps l)
       → ((i : Identity) → IsIn q (apart_from (theory_at s) f q) → (theory_at s f).id ≡ Some i → ⊥) → IsNever s nodes g (apply f ps) q
-  never_listed q ls e h none gg ag fair o = by (ways (theory_at s) lawful (bound_of g) (values_of nodes g) gg (target_of g) ag f a zs (norms_normal (theory_at s) lawful (instances gg ps)) fair.0 q o)
+  never_listed q ls e h none gg ag fair o = by (ways (theory_at s) lawful (bound_of g) (values_of nodes g) gg (target_of g) ag.agrees f a zs (norms_normal (theory_at s) lawful (instances gg ps)) fair.0 q o)
     where
       zs : List Tree
       zs = norms (theory_at s) (instances gg ps)
 
-      by : Way (theory_at s) lawful (bound_of g) (values_of nodes g) gg (target_of g) ag f zs q → ⊥
+      by : Way (theory_at s) lawful (bound_of g) (values_of nodes g) gg (target_of g) ag.agrees f zs q → ⊥
       by (inl w) = h w.0 (subst (IsIn w.0) (sym e) w.1) gg ag fair w.2
       by (inr w) = none w.1.0 w.0 w.1.1
 
@@ -185,16 +192,31 @@ module _ (s : SignatureOf) (lawful : AreLawful (theory_at s)) (nodes : List Node
       absurd (cc)
 
   module _ (r : Reach) (ts : List Tree) where
-    pub never_joined : (us : List Tree) → without_all (known_in (theory_at s) (bound_of g) (values_of nodes g) (target_of g) f ps) ts ≡ Some us → AreNeverAmong s nodes g f ps us → AreNeverJoined s nodes g f ps (r, ts)
+    pub never_joined : (us : List Tree) → without_all (known_in (theory_at s) (bound_of g) (values_of nodes g) (target_of g) f ps) ts ≡ Some us → AreNeverLeft s nodes g f ps r us → AreNeverJoined s nodes g f ps (r, ts)
     never_joined us e h gg ag fair o =
         h gg ag fair.1
-        (free_among (theory_at s) (bound_of g) (values_of nodes g) gg (target_of g) ag lawful f a ps r ts us e
+        (free_part (theory_at s) (bound_of g) (values_of nodes g) gg (target_of g) ag.agrees lawful f a ps r ts us e
         (any_order (theory_at s f).comm r (all_pieces (theory_at s f).assoc (theory_at s f).id f (norms (theory_at s) (instances gg ps))) ts o))
 
     pub never_there : without_all (known_in (theory_at s) (bound_of g) (values_of nodes g) (target_of g) f ps) ts ≡ None → AreNeverJoined s nodes g f ps (r, ts)
     never_there e gg ag fair o =
-        known_there (theory_at s) (bound_of g) (values_of nodes g) gg (target_of g) ag lawful f a ps r ts e
+        known_there (theory_at s) (bound_of g) (values_of nodes g) gg (target_of g) ag.agrees lawful f a ps r ts e
         (any_order (theory_at s f).comm r (all_pieces (theory_at s f).assoc (theory_at s f).id f (norms (theory_at s) (instances gg ps))) ts o)
+
+-- what is not among some items is no part of them
+pub never_left : (s : SignatureOf) (nodes : List Node) (g : Given) (f : ℕ) (ps : Trees) (r : Reach) (us : List Tree) → AreNeverAmong s nodes g f ps us → AreNeverLeft s nodes g f ps r us
+never_left s nodes g f ps r us h gg ag fair o = h gg ag fair (record { left = o.left; right = o.right; leaves = tt; all = o.all })
+
+-- what is less than all items is not all of them
+pub never_all : (s : SignatureOf) (nodes : List Node) (g : Given) (f : ℕ) (ps : Trees) (r : Reach) (us : List Tree) → r ≡ whole
+    → ((gg : Variable → Tree) → AreLimited (theory_at s) g.limits gg → AreFair (theory_at s) gg ps → length (frees (theory_at s) (bound_of g) gg f ps) < length us) → AreNeverLeft s nodes g f ps r us
+never_all s nodes g f ps r us e h gg ag fair o =
+    let fs = frees (theory_at s) (bound_of g) gg f ps in
+    let k : Reaches true whole fs us = subst (λ q. Reaches true q fs us) e o in
+    omega (arith, h gg ag.limited fair, ap length k.leaves.0, ap length k.leaves.1, ap length k.all, length-sort (k.left ++ (fs ++ k.right)), length-sort us, length-append k.left (fs ++ k.right), length-append fs k.right)
+  where
+    length-sort : (ts : List Tree) → length (sort_trees ts) ≡ length ts
+    length-sort ts = length-arrange true ts
 
 -- an operator that is not known, over arguments
 module _ (th : ℕ → Theory) (bound : List Variable) (gg : Variable → Tree) (f h : ℕ) (ps : Trees) (nb : are_bound bound ps ≡ false) where
@@ -210,10 +232,10 @@ module _ (th : ℕ → Theory) (bound : List Variable) (gg : Variable → Tree) 
 
 -- what is not known of a pattern with a plain top is one element
 pub plain_alone : (th : ℕ → Theory) (lawful : AreLawful th) (bound : List Variable) (gg : Variable → Tree) (f h : ℕ) (ps : Trees) → (h == f) ≡ false → (th h).assoc ≡ false → (th h).succ ≡ false → (th h).id ≡ None → are_bound bound ps ≡ false → IsFair th gg (apply h ps)
-    → 1 ≤ length (free th bound gg f (apply h ps))
+    → length (free th bound gg f (apply h ps)) ≡ 1
 plain_alone th lawful bound gg f h no_trees e a n u nb fair = cc
 plain_alone th lawful bound gg f h (tree p ps) e a n u nb fair =
-    subst (λ l. 1 ≤ length l) (sym (free_other th bound gg f h (tree p ps) nb e)) (by (split (th f).assoc (th f).id f v))
+    subst (λ l. length l ≡ 1) (sym (free_other th bound gg f h (tree p ps) nb e)) (by (split (th f).assoc (th f).id f v))
   where
     zs : List Tree
     zs = norms th (instances gg (tree p ps))
@@ -235,15 +257,15 @@ plain_alone th lawful bound gg f h (tree p ps) e a n u nb fair =
         at (Const d) (t ∷ ts) l q = cc
         at (Num m) ts l q = cc
 
-    by : Split (th f).assoc (th f).id f v → 1 ≤ length (list_under (th f) f v)
+    by : Split (th f).assoc (th f).id f v → length (list_under (th f) f v) ≡ 1
     by (unit i k q l) = absurd (not_unit i q)
-    by (one q) = omega (arith, ap length q)
+    by (one q) = ap length q
     by (many ts b k q) =
         let m : h ≡ f = head_op h f (trees_of (arrange (th h).comm zs)) ts (sym is ∙ k) in
         let d : true ≡ false = sym (eq-eqb h f m) ∙ e in
         absurd (cc)
 
 pub plain_there : (th : ℕ → Theory) (lawful : AreLawful th) (bound : List Variable) (gg : Variable → Tree) (f h : ℕ) (ps : Trees) (p : Tree) → p ≡ apply h ps → (h == f) ≡ false → (th h).assoc ≡ false → (th h).succ ≡ false → (th h).id ≡ None → is_bound bound p ≡ false → IsFair th gg p
-    → 1 ≤ length (free th bound gg f p)
+    → length (free th bound gg f p) ≡ 1
 plain_there th lawful bound gg f h ps p k e a n u nb fair =
-    subst (λ w. 1 ≤ length (free th bound gg f w)) (sym k) (plain_alone th lawful bound gg f h ps e a n u (sym (ap (is_bound bound) k) ∙ nb) (subst (IsFair th gg) k fair))
+    subst (λ w. length (free th bound gg f w) ≡ 1) (sym k) (plain_alone th lawful bound gg f h ps e a n u (sym (ap (is_bound bound) k) ∙ nb) (subst (IsFair th gg) k fair))

@@ -24,5 +24,7 @@ pub mod Values
 pub mod Hidden
 -- operators whose lists have a sort in no case
 pub mod Single
+-- how long the values of variables are
+pub mod Limited
 -- the search over a store that grows
 pub mod Searched

@@ -10,15 +10,17 @@ use Rattle.mau_store.specs.Node.{Node}
 use Rattle.mau_domains.specs.Parts.{Reach, inside, Part, IsOf, Reaches}
 use Rattle.mau_match.specs.Parts.{are_bound, IsFair, AreFair}
 use Rattle.mau_match.specs.Walked.{bound_of, values_of}
+use Rattle.mau_match.specs.Limited.{AreLimited}
 use Rattle.mau_match.specs.declared.part.Given.{Given}
 
 -- the variables in `bound` have the same values by g and by gg
 abbrev pub Agrees : (ℕ → Theory) → List Variable → (Variable → Tree) → (Variable → Tree) → Type 0
 Agrees th bound g gg = (y : Variable) → has_variable bound y ≡ true → norm th (g y) ≡ norm th (gg y)
 
--- values of all variables that agree with those that are given
-abbrev pub AgreesIn : SignatureOf → List Node → Given → (Variable → Tree) → Type 0
-AgreesIn s nodes g gg = Agrees (theory_at s) (bound_of g) (values_of nodes g) gg
+-- values of all variables that agree with those that are given, and are as long as is given
+pub record AgreesIn (s : SignatureOf) (nodes : List Node) (g : Given) (gg : Variable → Tree) : Type 0 where
+  pub agrees : Agrees (theory_at s) (bound_of g) (values_of nodes g) gg
+  pub limited : AreLimited (theory_at s) g.limits gg
 
 -- no such values make the pattern p be of the part q
 abbrev pub IsNever : SignatureOf → List Node → Given → Tree → Part → Type 0
@@ -58,3 +60,8 @@ IsNeverAmong s nodes g f p us =
 abbrev pub AreNeverAmong : SignatureOf → List Node → Given → ℕ → Trees → List Tree → Type 0
 AreNeverAmong s nodes g f ps us =
     (gg : Variable → Tree) → AgreesIn s nodes g gg → AreFair (theory_at s) gg ps → Reaches true inside (frees (theory_at s) (bound_of g) gg f ps) us → ⊥
+
+-- none make the elements that are not known be such a part of these items
+abbrev pub AreNeverLeft : SignatureOf → List Node → Given → ℕ → Trees → Reach → List Tree → Type 0
+AreNeverLeft s nodes g f ps r us =
+    (gg : Variable → Tree) → AgreesIn s nodes g gg → AreFair (theory_at s) gg ps → Reaches true r (frees (theory_at s) (bound_of g) gg f ps) us → ⊥

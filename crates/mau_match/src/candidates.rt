@@ -21,13 +21,14 @@ ghost use Rattle.mau_match.specs.Values.{IsValueOfAny};
 ghost use Rattle.mau_domains.specs.Stored.{tree_in, IsListOperator, IsPartOver};
 ghost use Rattle.mau_match.specs.Searched.{AnswerIn};
 
-use crate::Given;
 use crate::choices::push;
 use crate::hide::{fresh, hide};
+use crate::limits::limits_of;
 use crate::may_match::may_match;
 use crate::single::by_sort;
 use crate::variables::occurs;
 use crate::walk::parts_for;
+use crate::{Given, Limit};
 use mau_canon::BuildFault;
 use mau_domains::{Part, Reach, next_value};
 use mau_listing::{Place, compare_lists, is_lawful, value_key_of};
@@ -100,10 +101,12 @@ fn given_for(
     places: &[Place],
     chosen: &[TermId],
     target: VarId,
+    limits: Vec<Limit>,
 ) -> Result<Given, NoMemory>
     ensures variables { IfOk result (λ g. g.variables ≡ map {B = VarId} (λ b. b.0) bound.now ++ variables_in places.now) }
     ensures values { IfOk result (λ g. g.values ≡ map {B = Id} (λ b. b.1) bound.now ++ chosen.now) }
     ensures target { IfOk result (λ g. g.target ≡ target) }
+    ensures limits { IfOk result (λ g. g.limits ≡ limits.items) }
 {
     let variables = given_variables(alloc, bound, places)?;
     let values = given_values(alloc, bound, chosen)?;
@@ -111,6 +114,7 @@ fn given_for(
         variables: Seq::new(variables),
         values: Seq::new(values),
         target,
+        limits: Seq::new(limits),
     })
 }
 
@@ -142,7 +146,8 @@ fn walked_candidates(
         return Ok(Some(parts));
     }
     let front = &places[..chosen.len()];
-    let given = given_for(store.allocator(), &trial.bound, front, chosen, target)?;
+    let none = Vec::new(store.allocator());
+    let given = given_for(store.allocator(), &trial.bound, front, chosen, target, none)?;
     match parts_for(store, sig, &given, &trial.pattern, trial.subject) {
         Ok(parts) => Ok(Some(parts)),
         Err(BuildFault::NoMemory) => Err(NoMemory),
@@ -157,20 +162,31 @@ fn may_answer(
     places: &[Place],
     store: &mut Store,
     sig: &Signature,
+    sorts: &SortTable,
     chosen: &[TermId],
 ) -> Result<bool, NoMemory>
     requires askable { IsAskable sig.now store.old (asked_in trial.now) }
     requires places { ArePlacesOf sig.now (tree_of trial.now.pattern) places.now }
+    requires over { AreOver sig.now.hierarchy sorts.now }
     requires chosen { StandWithin (theory_at sig.now) store.old (numbers chosen.now) }
     requires room { length chosen.now < length places.now }
-    ensures refused { (known : Known) (u : Tree) (us : List Tree) → AnswerIn sig.now known store.old trial.now (trees_at store.old (numbers chosen.now) ++ u ∷ us) →
+    ensures refused { (known : Known) (u : Tree) (us : List Tree) → IsTableOf sig.now known store.old sorts.now →
+        AnswerIn sig.now known store.old trial.now (trees_at store.old (numbers chosen.now) ++ u ∷ us) →
         IfOk result (λ b. b ≡ true) }
     ensures extends { Extends store.old store.new }
 {
     is_lawful(sig);
     let target = places[chosen.len()].variable;
     let front = &places[..chosen.len()];
-    let given = given_for(store.allocator(), &trial.bound, front, chosen, target)?;
+    let limits = limits_of(store, sig, sorts, &trial.pattern, places)?;
+    let given = given_for(
+        store.allocator(),
+        &trial.bound,
+        front,
+        chosen,
+        target,
+        limits,
+    )?;
     may_match(
         store,
         sig,
@@ -224,7 +240,8 @@ fn later_candidates(
     is_lawful(sig);
     let target = places[chosen.len()].variable;
     let front = &places[..chosen.len()];
-    let given = given_for(store.allocator(), &trial.bound, front, chosen, target)?;
+    let none = Vec::new(store.allocator());
+    let given = given_for(store.allocator(), &trial.bound, front, chosen, target, none)?;
     let Some(other) = fresh(&trial.pattern, given.variables.items(), target.sort) else {
         return Ok(None);
     };
@@ -340,12 +357,12 @@ pub fn candidates(
     ensures some { (known : Known) (u : Tree) (us : List Tree) → IsTableOf sig.now known store.old sorts.now →
         AnswerIn sig.now known store.old trial.now (trees_at store.old (numbers chosen.now) ++ u ∷ us) →
         IfOk result (λ o. IfSome o (λ parts. IsValueOfAny (theory_at sig.now) (parts_in store.new parts.items) u)) }
-    ensures none { (known : Known) (u : Tree) (us : List Tree) → AnswerIn sig.now known store.old trial.now (trees_at store.old (numbers chosen.now) ++ u ∷ us) →
+    ensures none { (known : Known) (u : Tree) (us : List Tree) → IsTableOf sig.now known store.old sorts.now → AnswerIn sig.now known store.old trial.now (trees_at store.old (numbers chosen.now) ++ u ∷ us) →
         IfOk result (λ o. IfNone o ⊥) }
     ensures extends { Extends store.old store.new }
 {
     is_lawful(sig);
-    if !may_answer(trial, places, store, sig, chosen)? {
+    if !may_answer(trial, places, store, sig, sorts, chosen)? {
         return Ok(None);
     }
     match walked_candidates(trial, places, store, sig, chosen)? {

@@ -11,15 +11,17 @@ ghost use Rattle.mau_store.specs.Node.{Node, Extends};
 ghost use Rattle.mau_store.specs.Trees.{tree_at, trees_at};
 ghost use Rattle.mau_store.specs.View.{numbers};
 ghost use Rattle.mau_canon.specs.Standing.{StandsWithin, StandWithin};
-ghost use Rattle.mau_domains.specs.Parts.{Part as PartOf, just, IsOf};
-ghost use Rattle.mau_domains.specs.Stored.{part_in};
+ghost use Rattle.mau_domains.specs.Parts.{Part as PartOf, whole, just, IsOf};
+ghost use Rattle.mau_domains.specs.Stored.{part_in, reach_of};
 ghost use Rattle.mau_match.specs.Parts.{headed, apart_from, is_bound, IsFair, AreFair};
-ghost use Rattle.mau_match.specs.Possible.{free, frees, IsNever, AreNever, AreNeverSorted, AreNeverJoined, IsNeverAmong, AreNeverAmong};
+ghost use Rattle.mau_match.specs.Limited.{AreLimited};
+ghost use Rattle.mau_match.specs.Possible.{free, frees, IsNever, AreNever, AreNeverSorted, AreNeverJoined, IsNeverAmong, AreNeverAmong, AreNeverLeft};
 ghost use Rattle.mau_match.specs.Walked.{IsPartWithin, IsSpanWithin, AreGivenWithin, bound_of, values_of, target_of, span_in};
 
 use crate::arguments::spans_in;
 use crate::choices::push_alone;
 use crate::known::build_known;
+use crate::limits::{least_of, most_of};
 use crate::lists::copy_of;
 use crate::steps::{are_too_few, without_known};
 use crate::variables::is_bound;
@@ -369,7 +371,7 @@ fn may_be_within(
         return Ok(false);
     }
     match without_known(store, sig, given, op, patterns, &span.items) {
-        Ok(Some(items)) => may_fill(store, sig, given, op, patterns, &items),
+        Ok(Some(items)) => may_cover(store, sig, given, op, patterns, span.reach, &items),
         Ok(None) => Ok(false),
         Err(BuildFault::NoMemory) => Err(NoMemory),
         Err(BuildFault::TooDeep) => Ok(true),
@@ -399,8 +401,8 @@ fn left_beside(
     count: usize,
 ) -> Option<usize>
     requires bare { IsBare (terms_over sig.now) (tree_of pattern.now) }
-    ensures some { IfSome result (λ left. (gg : Variable → Tree) → IsFair (theory_at sig.now) gg (tree_of pattern.now) → count ≤ left + length (free (theory_at sig.now) (bound_of given.now) gg op.0 (tree_of pattern.now))) }
-    ensures none { IfNone result ((gg : Variable → Tree) → IsFair (theory_at sig.now) gg (tree_of pattern.now) → count < length (free (theory_at sig.now) (bound_of given.now) gg op.0 (tree_of pattern.now))) }
+    ensures some { IfSome result (λ left. (gg : Variable → Tree) → AreLimited (theory_at sig.now) given.now.limits gg → IsFair (theory_at sig.now) gg (tree_of pattern.now) → count ≤ left + length (free (theory_at sig.now) (bound_of given.now) gg op.0 (tree_of pattern.now))) }
+    ensures none { IfNone result ((gg : Variable → Tree) → AreLimited (theory_at sig.now) given.now.limits gg → IsFair (theory_at sig.now) gg (tree_of pattern.now) → count < length (free (theory_at sig.now) (bound_of given.now) gg op.0 (tree_of pattern.now))) }
 {
     if is_bound(given.variables.items(), pattern) {
         return Some(count);
@@ -419,7 +421,8 @@ fn left_beside(
             }
             Some(count - 1)
         }
-        _ => Some(count),
+        Bare::Var(variable) => count.checked_sub(least_of(given.limits.items(), op, *variable)),
+        Bare::Num(_) => Some(count),
     }
 }
 
@@ -433,8 +436,8 @@ fn left_beside_all(
     count: usize,
 ) -> Option<usize>
     requires bare { All (λ p. IsBare (terms_over sig.now) (tree_of p)) patterns.now }
-    ensures some { IfSome result (λ left. (gg : Variable → Tree) → AreFair (theory_at sig.now) gg (trees_of (map tree_of patterns.now)) → count ≤ left + length (frees (theory_at sig.now) (bound_of given.now) gg op.0 (trees_of (map tree_of patterns.now)))) }
-    ensures none { IfNone result ((gg : Variable → Tree) → AreFair (theory_at sig.now) gg (trees_of (map tree_of patterns.now)) → count < length (frees (theory_at sig.now) (bound_of given.now) gg op.0 (trees_of (map tree_of patterns.now)))) }
+    ensures some { IfSome result (λ left. (gg : Variable → Tree) → AreLimited (theory_at sig.now) given.now.limits gg → AreFair (theory_at sig.now) gg (trees_of (map tree_of patterns.now)) → count ≤ left + length (frees (theory_at sig.now) (bound_of given.now) gg op.0 (trees_of (map tree_of patterns.now)))) }
+    ensures none { IfNone result ((gg : Variable → Tree) → AreLimited (theory_at sig.now) given.now.limits gg → AreFair (theory_at sig.now) gg (trees_of (map tree_of patterns.now)) → count < length (frees (theory_at sig.now) (bound_of given.now) gg op.0 (trees_of (map tree_of patterns.now)))) }
 {
     match patterns {
         [] => Some(count),
@@ -443,6 +446,112 @@ fn left_beside_all(
             left_beside_all(sig, given, op, rest, left)
         }
     }
+}
+
+/// So many elements, and as many as what is not known of a pattern's list has at most, if there is a limit.
+#[cycle(most)]
+fn most_beside(
+    sig: &Signature,
+    given: &Given,
+    op: OpId,
+    pattern: &Bare,
+    count: usize,
+) -> Option<usize>
+    requires bare { IsBare (terms_over sig.now) (tree_of pattern.now) }
+    ensures { IfSome result (λ most. (gg : Variable → Tree) → AreLimited (theory_at sig.now) given.now.limits gg → IsFair (theory_at sig.now) gg (tree_of pattern.now) →
+        count + length (free (theory_at sig.now) (bound_of given.now) gg op.0 (tree_of pattern.now)) ≤ most) }
+{
+    if is_bound(given.variables.items(), pattern) {
+        return Some(count);
+    }
+    match pattern {
+        Bare::App(top, args) => {
+            if *top == op {
+                return most_beside_all(sig, given, op, args.items(), count);
+            }
+            is_lawful(sig);
+            if !is_plain(sig.theory(*top)) {
+                return None;
+            }
+            count.checked_add(1)
+        }
+        Bare::Var(variable) => {
+            let most = most_of(given.limits.items(), op, *variable)?;
+            count.checked_add(most)
+        }
+        Bare::Num(_) => Some(count),
+    }
+}
+
+/// The same of several patterns.
+#[cycle(most)]
+fn most_beside_all(
+    sig: &Signature,
+    given: &Given,
+    op: OpId,
+    patterns: &[Bare],
+    count: usize,
+) -> Option<usize>
+    requires bare { All (λ p. IsBare (terms_over sig.now) (tree_of p)) patterns.now }
+    ensures { IfSome result (λ most. (gg : Variable → Tree) → AreLimited (theory_at sig.now) given.now.limits gg → AreFair (theory_at sig.now) gg (trees_of (map tree_of patterns.now)) →
+        count + length (frees (theory_at sig.now) (bound_of given.now) gg op.0 (trees_of (map tree_of patterns.now))) ≤ most) }
+{
+    match patterns {
+        [] => Some(count),
+        [first, rest @ ..] => {
+            let more = most_beside(sig, given, op, first, count)?;
+            most_beside_all(sig, given, op, rest, more)
+        }
+    }
+}
+
+/// Whether so much of so many elements is more than what is not known of the lists of some patterns has at most.
+fn are_too_many(
+    sig: &Signature,
+    given: &Given,
+    op: OpId,
+    patterns: &[Bare],
+    reach: Reach,
+    count: usize,
+) -> bool
+    requires bare { All (λ p. IsBare (terms_over sig.now) (tree_of p)) patterns.now }
+    ensures whole { result ≡ true → reach_of reach ≡ whole }
+    ensures many { result ≡ true → (gg : Variable → Tree) → AreLimited (theory_at sig.now) given.now.limits gg → AreFair (theory_at sig.now) gg (trees_of (map tree_of patterns.now)) →
+        length (frees (theory_at sig.now) (bound_of given.now) gg op.0 (trees_of (map tree_of patterns.now))) < count }
+{
+    match reach {
+        Reach::Whole => match most_beside_all(sig, given, op, patterns, 0) {
+            Some(most) => most < count,
+            None => false,
+        },
+        Reach::Front => false,
+        Reach::Inside => false,
+    }
+}
+
+/// Whether what is not known of the lists of some patterns, all together, may be so much of some items.
+#[cycle(may)]
+fn may_cover(
+    store: &mut Store,
+    sig: &Signature,
+    given: &Given,
+    op: OpId,
+    patterns: &[Bare],
+    reach: Reach,
+    items: &[TermId],
+) -> Result<bool, NoMemory>
+    requires operator { IsOperator sig.now op.0 }
+    requires assoc { (theory_at sig.now op.0).assoc ≡ true }
+    requires bare { All (λ p. IsBare (terms_over sig.now) (tree_of p)) patterns.now }
+    requires values { AreGivenWithin sig.now store.old given.now }
+    requires items { StandWithin (theory_at sig.now) store.old (numbers items.now) }
+    ensures refused { IfOk result (λ b. b ≡ false → AreNeverLeft sig.now store.old given.now op.0 (trees_of (map tree_of patterns.now)) (reach_of reach) (trees_at store.old (numbers items.now))) }
+    ensures extends { Extends store.old store.new }
+{
+    if are_too_many(sig, given, op, patterns, reach, items.len()) {
+        return Ok(false);
+    }
+    may_fill(store, sig, given, op, patterns, items)
 }
 
 /// Whether what is not known of the lists of some patterns, all together, may be among some items.

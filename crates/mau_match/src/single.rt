@@ -90,7 +90,7 @@ fn is_never_settled(store: &Store, sig: &Signature, sorts: &SortTable, op: OpId,
 }
 
 /// Whether no list of an associative operator has a sort, whatever more is known of the sorts of settled terms.
-fn is_single(store: &Store, sig: &Signature, sorts: &SortTable, op: OpId, sort: u32) -> bool
+pub fn is_single(store: &Store, sig: &Signature, sorts: &SortTable, op: OpId, sort: u32) -> bool
     requires operator { IsListOperator sig.now op.0 }
     requires sort { IsSort sig.now.hierarchy sort }
     requires over { AreOver sig.now.hierarchy sorts.now }

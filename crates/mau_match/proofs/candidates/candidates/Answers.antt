@@ -54,6 +54,6 @@ returns-in_ok-best-in-Some-clause-some c = λ known u us table a.
     (answer_grown s known t old last f c.requires.askable c.args.chosen.now c.requires.chosen u us a) here
 
 pub returns-in-None-clause-none : goal.returns-in-None-clause-none
-returns-in-None-clause-none c = λ known u us a.
+returns-in-None-clause-none c = λ known u us table a.
     rw c.in-None.is at
     (c.in_ok-parts.ensures.none known u us (answer_grown c.args.sig.now known c.args.trial.now c.args.store.now c.may_answer.new.store c.may_answer.ensures.extends c.requires.askable c.args.chosen.now c.requires.chosen u us a))

@@ -20,7 +20,7 @@ left_beside_all-left_beside_all-requires t c =
     (omega (arith, size_of_rest c.args.patterns.now c.in-len1-up.len_at_least), bare_rest (terms_over c.args.sig.now) c.args.patterns.now c.requires.bare)
 
 pub left_beside-returns-then-count-eq0-clause-none : goal.left_beside-returns-then-count-eq0-clause-none
-left_beside-returns-then-count-eq0-clause-none t c gg fair =
+left_beside-returns-then-count-eq0-clause-none t c gg limited fair =
     let bound = bound_of c.args.given.now in
     let p = tree_of c.args.pattern.now in
     let nb : is_bound bound p ≡ false = ap (λ vs. is_bound (map variable_of vs) p) (sym c.items.ensures) ∙ sym c.is_bound.ensures ∙ c.if-is_bound.false in
@@ -31,7 +31,7 @@ left_beside-returns-then-count-eq0-clause-none t c gg fair =
     omega (arith, some, c.if-count-eq0.true)
 
 pub left_beside-returns-else-count-eq0-clause-some : goal.left_beside-returns-else-count-eq0-clause-some
-left_beside-returns-else-count-eq0-clause-some t c gg fair =
+left_beside-returns-else-count-eq0-clause-some t c gg limited fair =
     let bound = bound_of c.args.given.now in
     let p = tree_of c.args.pattern.now in
     let nb : is_bound bound p ≡ false = ap (λ vs. is_bound (map variable_of vs) p) (sym c.items.ensures) ∙ sym c.is_bound.ensures ∙ c.if-is_bound.false in

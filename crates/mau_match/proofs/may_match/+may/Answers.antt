@@ -29,7 +29,7 @@ use Rattle.mau_match.specs.Walked.{bound_of, values_of, target_of, span_in, IsSp
 use Rattle.mau_match.proofs.Lengths.{reach_length}
 use Rattle.mau_match.proofs.Adding.{bare_arguments, bare_first, bare_rest, first_and_rest, trees_more}
 use Rattle.mau_match.proofs.Taking.{stand_cut, only_these}
-use Rattle.mau_match.proofs.Refusing.{never_before, joined_before, span_stays, spans_more, in_more, never_at_pair, never_at_stand, never_alone, never_sorted, never_rest, never_rest_among, are_before, among_before, ids_split, two_ids, never_listed, never_few, never_joined, never_there, free_other}
+use Rattle.mau_match.proofs.Refusing.{never_before, joined_before, span_stays, spans_more, in_more, never_at_pair, never_at_stand, never_alone, never_sorted, never_rest, never_rest_among, are_before, among_before, ids_split, two_ids, never_listed, never_few, never_joined, never_there, never_left, never_all, left_before, free_other}
 use Rattle.mau_match.proofs.may_match.+may.Goals as goal
 
 abbrev no_term : TermId
@@ -380,8 +380,8 @@ may_be_within-returns-then-are_too_few-clause-refused t c = λ e.
     ap₂ (λ u k. too_few_for u k (least_lengths f ps)) (ap (λ w. w.id) (sym c.theory-theory.ensures.value)) (sym n) ∙ sym c.are_too_few.ensures ∙ c.if-are_too_few.true in
     never_few s c.theory-theory.ensures.lawful.theories old c.args.given.now f ps c.requires.assoc (span_in old c.args.span.now) few
 
-pub may_be_within-may_fill-requires : goal.may_be_within-may_fill-requires
-may_be_within-may_fill-requires t c =
+pub may_be_within-may_cover-requires : goal.may_be_within-may_cover-requires
+may_be_within-may_cover-requires t c =
     let s = c.args.sig.now in
     let th = theory_at s in
     let old = c.args.store.now in
@@ -412,12 +412,12 @@ may_be_within-returns-in-Ok-Some-clause-refused t c =
     let f = c.args.op.0 in
     let ps = trees_of (map tree_of c.args.patterns.now) in
     let us = trees_at mid (numbers c.in-Ok-Some.items.items) in
-    IfOk-weaker c.may_fill.result _ _
+    IfOk-weaker c.may_cover.result _ _
     (λ b h e.
     never_joined s c.theory-theory.ensures.lawful.theories old g f ps c.requires.assoc (reach_of c.args.span.now.reach) (trees_at old (numbers c.args.span.now.items.items)) us
     (subst (λ (l : List TermId). without_all (known_in th (bound_of g) (values_of old g) (target_of g) f ps) (trees_at old (numbers l)) ≡ Some us) c.deref.ensures.value (rw c.in-Ok-Some.field-0-is at c.in-Ok-Some.ensures.some))
-    (among_before s old mid c.without_known.ensures.extends g c.requires.values f ps (trees_at mid (numbers c.deref-in-Ok-Some.result.now)) us (ap (λ l. trees_at mid (numbers l)) c.deref-in-Ok-Some.ensures.value) (h e)))
-    c.may_fill.ensures.refused
+    (left_before s old mid c.without_known.ensures.extends g c.requires.values f ps (reach_of c.args.span.now.reach) (trees_at mid (numbers c.deref-in-Ok-Some.result.now)) us (ap (λ l. trees_at mid (numbers l)) c.deref-in-Ok-Some.ensures.value) (h e)))
+    c.may_cover.ensures.refused
 
 pub may_be_within-returns-in-Ok-None-clause-refused : goal.may_be_within-returns-in-Ok-None-clause-refused
 may_be_within-returns-in-Ok-None-clause-refused t c = λ e.
@@ -443,9 +443,26 @@ may_fill-returns-then-is_none-clause-refused t c = λ b gg ag fair o.
     let old = c.args.store.now in
     let items = numbers c.args.items.now in
     let l = frees (theory_at s) (bound_of c.args.given.now) gg f (trees_of (map tree_of c.args.patterns.now)) in
-    let few : length c.args.items.now < length l = (when_none c.left_beside_all.result c.if-is_none.ensures c.left_beside_all.ensures.none) gg fair in
+    let few : length c.args.items.now < length l = (when_none c.left_beside_all.result c.if-is_none.ensures c.left_beside_all.ensures.none) gg ag.limited fair in
     let long : length l ≤ length (trees_at old items) = reach_length true inside l (trees_at old items) o in
     omega (arith, few, long, trees_long old c.args.items.now)
+
+pub may_cover-returns-then-are_too_many-clause-refused : goal.may_cover-returns-then-are_too_many-clause-refused
+may_cover-returns-then-are_too_many-clause-refused t c = λ b.
+    let s = c.args.sig.now in
+    let old = c.args.store.now in
+    let ps = trees_of (map tree_of c.args.patterns.now) in
+    let us = trees_at old (numbers c.args.items.now) in
+    never_all s old c.args.given.now c.args.op.0 ps (reach_of c.args.reach) us (c.are_too_many.ensures.whole c.if-are_too_many.true)
+    (λ gg limited fair. omega (arith, c.are_too_many.ensures.many c.if-are_too_many.true gg limited fair, trees_long old c.args.items.now))
+
+pub may_cover-returns-clause-refused : goal.may_cover-returns-clause-refused
+may_cover-returns-clause-refused t c =
+    let s = c.args.sig.now in
+    let old = c.args.store.now in
+    let ps = trees_of (map tree_of c.args.patterns.now) in
+    let us = trees_at old (numbers c.args.items.now) in
+    IfOk-weaker c.may_fill.result _ _ (λ b h e. never_left s old c.args.given.now c.args.op.0 ps (reach_of c.args.reach) us (h e)) c.may_fill.ensures.refused
 
 pub may_each-may_each-requires : goal.may_each-may_each-requires
 may_each-may_each-requires t c =

@@ -1,0 +1,312 @@
+//! How long the values of the variables of a pattern are as lists of its associative operators, by their sorts.
+ghost use Rattle.std.specs.Prelude.{◌≡◌, ◌⊎◌, ℕ, ◌≤◌, List, Some, All, Contains, true, IfOk, IfSome, OnOk};
+ghost use Rattle.mau_terms.specs.Tree.{Tree, trees_of};
+ghost use Rattle.mau_terms.specs.Norm.{unit_tree};
+ghost use Rattle.mau_terms.specs.Subst.{Variable};
+ghost use Rattle.mau_terms.specs.Bare.{IsBare};
+ghost use Rattle.mau_terms.specs.View.{tree_of, variable_of};
+ghost use Rattle.mau_terms.specs.declared.theory.Identity.{Identity as IdentityOf};
+ghost use Rattle.mau_terms.specs.declared.theory.Theory.{Theory};
+ghost use Rattle.mau_terms.specs.declared.ids.VarId.{VarId as VarIdOf};
+ghost use Rattle.mau_signature.specs.Faults.{IsSort};
+ghost use Rattle.mau_signature.specs.Signature.{IsOperator, theory_at, terms_over};
+ghost use Rattle.mau_store.specs.Node.{IsOf};
+ghost use Rattle.mau_store.specs.Trees.{tree_at};
+ghost use Rattle.mau_sorts.specs.HasSort.{Known, HasSort};
+ghost use Rattle.mau_sorts.specs.SortSets.{SortsOf, IsIn};
+ghost use Rattle.mau_sorts.specs.Table.{AreOver, entry_at};
+ghost use Rattle.mau_listing.specs.Asked.{IsTableOf};
+ghost use Rattle.mau_listing.specs.Places.{variables_in};
+ghost use Rattle.mau_domains.specs.Stored.{IsListOperator};
+ghost use Rattle.mau_match.specs.Single.{IsSingle};
+ghost use Rattle.mau_match.specs.Limited.{AreLimited, long_at, IsNoUnit, IsLimitOf, IsLike};
+
+use crate::Limit;
+use crate::single::is_single;
+use mau_listing::Place;
+use mau_signature::Signature;
+use mau_sorts::SortTable;
+use mau_store::{NodeView, Store};
+use mau_terms::{Bare, Identity, NoMemory, OpId, TermId, VarId};
+use std::alloc::Global;
+
+// ---- what limits say
+
+/// How many elements the value of a variable has at least as a list of an operator.
+pub fn least_of(limits: &[Limit], op: OpId, variable: VarId) -> usize
+    ensures { (th : ℕ → Theory) (gg : Variable → Tree) → AreLimited th limits.now gg → result ≤ long_at th gg op.0 (variable_of variable) }
+{
+    for limit in limits {
+        if limit.op == op && limit.variable == variable && limit.least > 0 {
+            return limit.least;
+        }
+    }
+    0
+}
+
+/// How many elements it has at most, if there is a limit.
+pub fn most_of(limits: &[Limit], op: OpId, variable: VarId) -> Option<usize>
+    ensures { IfSome result (λ n. (th : ℕ → Theory) (gg : Variable → Tree) → AreLimited th limits.now gg → long_at th gg op.0 (variable_of variable) ≤ n) }
+{
+    for limit in limits {
+        if limit.op == op && limit.variable == variable && limit.most.is_some() {
+            return limit.most;
+        }
+    }
+    None
+}
+
+// ---- limits by sorts
+
+/// Whether a term is an identity.
+fn is_unit(store: &Store, id: TermId, identity: &Identity) -> bool
+    requires { IsOf store.now id.0 }
+    ensures { result ≡ true → tree_at store.now id.0 ≡ unit_tree identity.now }
+{
+    match store.view(id) {
+        NodeView::App(top, args) => match identity {
+            Identity::Const(constant) => top == *constant && args.is_empty(),
+            Identity::Num(_) => false,
+        },
+        NodeView::Num(n) => match identity {
+            Identity::Const(_) => false,
+            Identity::Num(value) => n == *value,
+        },
+        NodeView::Var(_) => false,
+    }
+}
+
+/// Whether a term is an identity that is settled without a sort.
+fn is_settled_unit(
+    store: &Store,
+    sig: &Signature,
+    sorts: &SortTable,
+    identity: &Identity,
+    sort: u32,
+    id: TermId,
+) -> bool
+    requires sort { IsSort sig.now.hierarchy sort }
+    requires over { AreOver sig.now.hierarchy sorts.now }
+    ensures { result ≡ true → (known : Known) → IsTableOf sig.now known store.now sorts.now → HasSort sig.now known (unit_tree identity.now) sort → ⊥ }
+{
+    if id.0 >= store.len() {
+        return false;
+    }
+    if !is_unit(store, id, identity) {
+        return false;
+    }
+    match sorts.has(sig, id, sort) {
+        Some(has) => !has,
+        None => false,
+    }
+}
+
+/// Whether it is known that an identity has not a sort.
+fn is_other_sort(
+    store: &Store,
+    sig: &Signature,
+    sorts: &SortTable,
+    identity: &Identity,
+    sort: u32,
+) -> bool
+    requires sort { IsSort sig.now.hierarchy sort }
+    requires over { AreOver sig.now.hierarchy sorts.now }
+    ensures { result ≡ true → (known : Known) → IsTableOf sig.now known store.now sorts.now → HasSort sig.now known (unit_tree identity.now) sort → ⊥ }
+{
+    let settled = sorts.settled();
+    for id in settled {
+        if is_settled_unit(store, sig, sorts, identity, sort, *id) {
+            return true;
+        }
+    }
+    false
+}
+
+/// How many elements the values of a sort have at least: one, where the identity of the operator has not the sort.
+fn least_by_sort(store: &Store, sig: &Signature, sorts: &SortTable, op: OpId, sort: u32) -> usize
+    requires operator { IsListOperator sig.now op.0 }
+    requires sort { IsSort sig.now.hierarchy sort }
+    requires over { AreOver sig.now.hierarchy sorts.now }
+    ensures { (known : Known) → IsTableOf sig.now known store.now sorts.now → (result ≡ 0) ⊎ ((result ≡ 1) × IsNoUnit sig.now known op.0 sort) }
+{
+    match &sig.theory(op).id {
+        Some(identity) => {
+            if is_other_sort(store, sig, sorts, identity, sort) {
+                return 1;
+            }
+            0
+        }
+        None => 1,
+    }
+}
+
+/// How many they have at most: one, where no list of the operator has the sort.
+fn most_by_sort(
+    store: &Store,
+    sig: &Signature,
+    sorts: &SortTable,
+    op: OpId,
+    sort: u32,
+) -> Option<usize>
+    requires operator { IsListOperator sig.now op.0 }
+    requires sort { IsSort sig.now.hierarchy sort }
+    requires over { AreOver sig.now.hierarchy sorts.now }
+    ensures { (known : Known) → IsTableOf sig.now known store.now sorts.now → IfSome result (λ n. (n ≡ 1) × IsSingle sig.now known op.0 sort) }
+{
+    if is_single(store, sig, sorts, op, sort) {
+        return Some(1);
+    }
+    None
+}
+
+/// The limit of another variable of the same sort, for a variable.
+fn like(limits: &[Limit], op: OpId, variable: VarId) -> Option<Limit>
+    ensures { IfSome result (λ l. (l.op ≡ op) × (l.variable ≡ variable) × IsLike limits.now l) }
+{
+    for limit in limits {
+        if limit.op == op && limit.variable.sort == variable.sort {
+            return Some(Limit {
+                op,
+                variable,
+                least: limit.least,
+                most: limit.most,
+            });
+        }
+    }
+    None
+}
+
+/// The limit of a variable; there may be one for another variable of its sort.
+fn limit_for(
+    store: &Store,
+    sig: &Signature,
+    sorts: &SortTable,
+    limits: &[Limit],
+    op: OpId,
+    variable: VarId,
+) -> Limit
+    requires operator { IsListOperator sig.now op.0 }
+    requires sort { IsSort sig.now.hierarchy variable.sort }
+    requires over { AreOver sig.now.hierarchy sorts.now }
+    ensures { (known : Known) (xs : List VarIdOf) → IsTableOf sig.now known store.now sorts.now → All (IsLimitOf sig.now known xs) limits.now → Contains xs variable → IsLimitOf sig.now known xs result }
+{
+    if let Some(limit) = like(limits, op, variable) {
+        return limit;
+    }
+    let least = least_by_sort(store, sig, sorts, op, variable.sort);
+    let most = most_by_sort(store, sig, sorts, op, variable.sort);
+    Limit {
+        op,
+        variable,
+        least,
+        most,
+    }
+}
+
+/// Adds the limits of the variables at some places.
+fn push_limits(
+    store: &Store,
+    sig: &Signature,
+    sorts: &SortTable,
+    op: OpId,
+    places: &[Place],
+    out: &mut Vec<Limit>,
+) -> Result<(), NoMemory>
+    requires operator { IsListOperator sig.now op.0 }
+    requires sorts { All (λ p. IsSort sig.now.hierarchy p.variable.sort) places.now }
+    requires over { AreOver sig.now.hierarchy sorts.now }
+    ensures { (known : Known) → IsTableOf sig.now known store.now sorts.now → All (IsLimitOf sig.now known (variables_in places.now)) out.old.items →
+        OnOk result (All (IsLimitOf sig.now known (variables_in places.now)) out.new.items) }
+{
+    for place in places {
+        let limit = limit_for(store, sig, sorts, out, op, place.variable);
+        out.push(limit)?;
+    }
+    Ok(())
+}
+
+// ---- the operators of a pattern
+
+/// Whether an operator is among these.
+fn is_among(operators: &[OpId], op: OpId) -> bool {
+    for other in operators {
+        if *other == op {
+            return true;
+        }
+    }
+    false
+}
+
+/// Adds an operator, if it is associative and not there.
+fn push_operator(sig: &Signature, op: OpId, out: &mut Vec<OpId>) -> Result<(), NoMemory>
+    requires operator { IsOperator sig.now op.0 }
+    requires out { All (λ op. IsListOperator sig.now op.0) out.old.items }
+    ensures { OnOk result (All (λ op. IsListOperator sig.now op.0) out.new.items) }
+{
+    if !sig.theory(op).assoc {
+        return Ok(());
+    }
+    if is_among(out, op) {
+        return Ok(());
+    }
+    out.push(op)?;
+    Ok(())
+}
+
+/// Adds the associative operators of a pattern that are not there.
+#[cycle(operators)]
+fn push_operators(sig: &Signature, pattern: &Bare, out: &mut Vec<OpId>) -> Result<(), NoMemory>
+    requires bare { IsBare (terms_over sig.now) (tree_of pattern.now) }
+    requires out { All (λ op. IsListOperator sig.now op.0) out.old.items }
+    ensures { OnOk result (All (λ op. IsListOperator sig.now op.0) out.new.items) }
+{
+    match pattern {
+        Bare::App(op, args) => {
+            push_operator(sig, *op, out)?;
+            push_all_operators(sig, args.items(), out)
+        }
+        _ => Ok(()),
+    }
+}
+
+/// The same of some patterns.
+#[cycle(operators)]
+fn push_all_operators(
+    sig: &Signature,
+    patterns: &[Bare],
+    out: &mut Vec<OpId>,
+) -> Result<(), NoMemory>
+    requires bare { All (λ p. IsBare (terms_over sig.now) (tree_of p)) patterns.now }
+    requires out { All (λ op. IsListOperator sig.now op.0) out.old.items }
+    ensures { OnOk result (All (λ op. IsListOperator sig.now op.0) out.new.items) }
+{
+    match patterns {
+        [] => Ok(()),
+        [first, rest @ ..] => {
+            push_operators(sig, first, out)?;
+            push_all_operators(sig, rest, out)
+        }
+    }
+}
+
+/// The limits of the variables at some places of a pattern under each of its associative operators.
+pub fn limits_of(
+    store: &Store,
+    sig: &Signature,
+    sorts: &SortTable,
+    pattern: &Bare,
+    places: &[Place],
+) -> Result<Vec<Limit>, NoMemory>
+    requires bare { IsBare (terms_over sig.now) (tree_of pattern.now) }
+    requires sorts { All (λ p. IsSort sig.now.hierarchy p.variable.sort) places.now }
+    requires over { AreOver sig.now.hierarchy sorts.now }
+    ensures { (known : Known) → IsTableOf sig.now known store.now sorts.now → IfOk result (λ ls. All (IsLimitOf sig.now known (variables_in places.now)) ls.items) }
+{
+    let mut operators = Vec::new(store.allocator());
+    push_operators(sig, pattern, &mut operators)?;
+    let mut limits = Vec::new(store.allocator());
+    for op in &operators {
+        push_limits(store, sig, sorts, *op, places, &mut limits)?;
+    }
+    Ok(limits)
+}
