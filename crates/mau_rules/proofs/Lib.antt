@@ -11,6 +11,8 @@ pub mod Trying
 pub mod Rounds
 pub mod Valued
 pub mod Shown
+-- what solves a condition has all variables
+pub mod Named
 pub mod Answered
 pub mod Turned
 -- all rules at a place; those that may not apply under its top
@@ -30,7 +32,11 @@ pub mod Idle
 pub mod Running
 pub mod Uses
 pub mod RunEnds
+-- what is told of runs
+pub mod Told
+pub mod Stepped
 -- passes
+pub mod Parts
 pub mod Counting
 pub mod PassLaws
 pub mod Skipping

@@ -23,7 +23,11 @@ firsts bound = map (λ (b : VarId × TermId). b.0) bound
 abbrev pub seconds : List (VarId × TermId) → List TermId
 seconds bound = map (λ (b : VarId × TermId). b.1) bound
 
-binding_parted : (nodes : List Node) (bound : List (VarId × TermId)) → paired (map variable_of (firsts bound)) (trees_at nodes (numbers (seconds bound))) ≡ binding_in nodes bound
+pub first_names : (bound : List (VarId × TermId)) → map variable_of (firsts bound) ≡ map (λ (b : VarId × TermId). variable_of b.0) bound
+first_names [] = refl
+first_names (b ∷ bs) = ap (λ xs. variable_of b.0 ∷ xs) (first_names bs)
+
+pub binding_parted : (nodes : List Node) (bound : List (VarId × TermId)) → paired (map variable_of (firsts bound)) (trees_at nodes (numbers (seconds bound))) ≡ binding_in nodes bound
 binding_parted nodes [] = refl
 binding_parted nodes (b ∷ bs) = ap (λ xs. (variable_of b.0, tree_at nodes b.1.0) ∷ xs) (binding_parted nodes bs)
 

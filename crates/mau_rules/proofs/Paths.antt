@@ -37,6 +37,11 @@ pub last_step : (nodes : List Node) (root : ℕ) (os : List Open) (o : Open) (ch
 last_step nodes root [] o child h = subst (IsStep nodes o) h.3 h.2
 last_step nodes root (p ∷ ps) o child h = last_step nodes h.1 ps o child h.3
 
+-- it has one root
+pub same_root : (nodes : List Node) (i j : ℕ) (os : List Open) (term : ℕ) → IsPath nodes i os term → IsPath nodes j os term → i ≡ j
+same_root nodes i j [] term e h = e ∙ sym h
+same_root nodes i j (o ∷ os) term e h = sym e.0 ∙ h.0
+
 -- ---- in a store that grows
 
 pub node_kept : (old new : List Node) (i : ℕ) (n : Node) → Extends old new → slice_get old i ≡ Some n → slice_get new i ≡ Some n

@@ -80,7 +80,7 @@ module _ (p : Typed.Program) (run : IsRunnable p) (i : ℕ) (rule : Written.Rule
 
 -- ---- values
 
-zip_variables : (xs : List VarId) (ids : List TermId) → length ids ≡ length xs → map (λ (b : VarId × TermId). variable_of b.0) (zip xs ids) ≡ map variable_of xs
+pub zip_variables : (xs : List VarId) (ids : List TermId) → length ids ≡ length xs → map (λ (b : VarId × TermId). variable_of b.0) (zip xs ids) ≡ map variable_of xs
 zip_variables [] ids e = refl
 zip_variables (x ∷ xs) [] e = absurd (omega (arith, e))
 zip_variables (x ∷ xs) (i ∷ ids) e = ap (λ ys. variable_of x ∷ ys) (zip_variables xs ids (omega (arith, e)))

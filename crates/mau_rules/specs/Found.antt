@@ -23,6 +23,7 @@ use Rattle.mau_evaluation.specs.Rules.{Place}
 use Rattle.mau_evaluation.specs.RuleRuns.{Turns, Stand, turn_to, by_rule, at_place, one_rewrite}
 use Rattle.mau_api.specs.Told.{shown_count}
 use Rattle.mau_api.specs.Programs.{rule_of}
+use Rattle.mau_api.specs.Variables.{statement_variables}
 use Rattle.mau_api.specs.Meanings.{Meanings}
 use Rattle.mau_api.specs.Answers.{binding_in, IsValueOf, uses_results, levels_of_condition}
 use Rattle.mau_api.specs.declared.results.Reduced.{Reduced}
@@ -54,6 +55,8 @@ pub record IsFound (p : Typed.Program) (nodes : List Node) (table : Table) (t : 
   pub exec : rule.exec ≡ true
   pub contexts : AreContexts p.sig nodes t (numbers x.solution.left) (numbers x.solution.right)
   pub bound : All (IsValueOf p.sig nodes table) x.bound.items
+  -- all variables of the rule have values, in the order in which these are told
+  pub named : map (λ b. variable_of b.0) x.bound.items ≡ statement_variables (tree_of rule.left) rule.cond (tree_of rule.right)
   pub kind : (k : ℕ) → IsBareIn (terms_over p.sig) (tree_of rule.left) k → IsBareIn (terms_over p.sig) (reading (theory_at p.sig) t) k
 
 -- the stand that a rule leads to at a place, by contexts and values of its variables; the next turn is behind it

@@ -8,6 +8,8 @@ pub mod Runs
 pub mod Known
 -- uses of rules that were found, and what is known of the search for them
 pub mod Found
+-- what is told of uses of rules and of runs of them
+pub mod Telling
 -- rules by the operators under which they may apply, and terms in which none may
 pub mod ByTop
 -- the places of a term, one after another

@@ -1,22 +1,25 @@
 //! One rule at one place: the solutions of its left side, one after another, until its condition holds.
-ghost use Rattle.std.specs.Prelude.{◌≡◌, ◌≤◌, ◌<◌, length, true, All, slice_get, Some, IfOk, IfSome};
+ghost use Rattle.std.specs.Prelude.{◌≡◌, ◌≤◌, ◌<◌, length, map, true, All, slice_get, Some, IfOk, IfSome, IfNone};
 ghost use Rattle.std.specs.Option.{option_map};
 ghost use Rattle.mau_terms.specs.Tree.{Tree};
 ghost use Rattle.mau_terms.specs.Subst.{variables};
-ghost use Rattle.mau_terms.specs.View.{tree_of};
+ghost use Rattle.mau_terms.specs.View.{tree_of, variable_of};
 ghost use Rattle.mau_terms.specs.declared.ids.VarId.{VarId};
 ghost use Rattle.mau_store.specs.Node.{Extends};
 ghost use Rattle.mau_store.specs.Trees.{tree_at};
 ghost use Rattle.mau_sorts.specs.Table.{KeepsEntries};
 ghost use Rattle.mau_program.specs.declared.statements.Rule.{Rule};
-ghost use Rattle.mau_evaluation.specs.Evaluation.{binding_of};
+ghost use Rattle.mau_evaluation.specs.Evaluation.{look_up, binding_of};
 ghost use Rattle.mau_evaluation.specs.RuleRuns.{Turns};
 ghost use Rattle.mau_api.specs.Terms.{IsTerm};
 ghost use Rattle.mau_api.specs.Programs.{rule_of, program_over};
-ghost use Rattle.mau_api.specs.Answers.{AreSettled, IsValueOf, mapped};
+ghost use Rattle.mau_api.specs.Variables.{statement_variables};
+ghost use Rattle.mau_api.specs.Told.{TellsCondition};
+ghost use Rattle.mau_api.specs.Answers.{AreSettled, IsValueOf, binding_in, mapped};
 ghost use Rattle.mau_reduce.specs.Trying.{solution_in};
 ghost use Rattle.mau_rules.specs.Runnable.{IsRunnable, GoesBy};
 ghost use Rattle.mau_rules.specs.Found.{IsFound, IsExecutable, IsValued, KnownSolving, solving_by, found_stand, item_of, KnownSearch, rule_at};
+ghost use Rattle.mau_rules.specs.Telling.{TellsBehind, TellsFound};
 
 use mau_api::{EvalEnd, Evaluator, Lister, Program, Solution, StepWatcher};
 use mau_holding::bound_by;
@@ -59,6 +62,13 @@ fn shown_for<E: Evaluator, W: StepWatcher>(
     ensures fits { E.fits evaluator.new store.new }
     ensures kept { KeepsEntries (E.table evaluator.old) (E.table evaluator.new) }
     ensures meanings { E.meanings evaluator.new ≡ E.meanings evaluator.old }
+    ensures named { (rule : Rule) → slice_get program.now.rules number ≡ Some rule →
+        IfOk result (λ o. IfSome o (λ x. map (λ b. variable_of b.0) x.0.items ≡ statement_variables (tree_of rule.left) rule.cond (tree_of rule.right))) }
+    ensures told { W.wanted watcher.old ≡ true → (rule : Rule) → slice_get program.now.rules number ≡ Some rule → IfOk result (λ o. IfSome o (λ x.
+        TellsCondition program.now (E.meanings evaluator.old).hooks store.new (E.table evaluator.new) (W.told watcher.old) (W.told watcher.new)
+        (look_up (binding_in store.new x.0.items)) rule.cond x.1)) }
+    ensures untold { IfOk result (λ o. IfNone o (W.told watcher.new ≡ W.told watcher.old)) }
+    ensures behind { TellsBehind (W.wanted watcher.old) (W.told watcher.old) (W.told watcher.new) }
     ensures wanted { W.wanted watcher.new ≡ W.wanted watcher.old }
 {
     let rule = &program.rules.items()[number];
@@ -103,6 +113,10 @@ pub fn by_rule<E: Evaluator, L: Lister + Drop, W: StepWatcher>(
     ensures fits { E.fits evaluator.new store.new }
     ensures kept { KeepsEntries (E.table evaluator.old) (E.table evaluator.new) }
     ensures meanings { E.meanings evaluator.new ≡ E.meanings evaluator.old }
+    ensures told { W.wanted watcher.old ≡ true → IfOk result (λ o. IfSome o
+        (TellsFound program.now (E.meanings evaluator.old).hooks store.new (E.table evaluator.new) (W.told watcher.old) (W.told watcher.new))) }
+    ensures untold { IfOk result (λ o. IfNone o (W.told watcher.new ≡ W.told watcher.old)) }
+    ensures behind { TellsBehind (W.wanted watcher.old) (W.told watcher.old) (W.told watcher.new) }
     ensures wanted { W.wanted watcher.new ≡ W.wanted watcher.old }
 {
     let rule = &program.rules.items()[number];

@@ -9,6 +9,7 @@ mod passes;
 mod round;
 mod run;
 mod search;
+mod telling;
 mod tops;
 mod walk;
 mod whole;

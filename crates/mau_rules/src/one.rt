@@ -1,5 +1,5 @@
 //! One rewrite: the first place at which a rule applies.
-ghost use Rattle.std.specs.Prelude.{◌≡◌, ◌≤◌, [], map, true, IfOk, IfSome};
+ghost use Rattle.std.specs.Prelude.{◌≡◌, ◌≤◌, [], map, true, IfOk, IfSome, IfNone};
 ghost use Rattle.mau_store.specs.Node.{Extends, IsOf};
 ghost use Rattle.mau_store.specs.Trees.{tree_at};
 ghost use Rattle.mau_sorts.specs.Table.{KeepsEntries};
@@ -8,6 +8,7 @@ ghost use Rattle.mau_api.specs.Answers.{AreSettled};
 ghost use Rattle.mau_rules.specs.Runnable.{IsRunnable, GoesBy};
 ghost use Rattle.mau_rules.specs.Runs.{turns_of, stand_of, IsRunOf};
 ghost use Rattle.mau_rules.specs.Found.{IsFound, found_stand, item_of, KnownSearch, one_by, turn_at};
+ghost use Rattle.mau_rules.specs.Telling.{TellsBehind, TellsFound};
 ghost use Rattle.mau_rules.specs.ByTop.{IsByTop};
 ghost use Rattle.mau_rules.specs.Walk.{opened, around_all, IsPath};
 
@@ -66,6 +67,10 @@ pub(crate) fn one_rewrite<E: Evaluator, L: Lister + Drop, W: StepWatcher>(
     ensures fits { E.fits evaluator.new store.new }
     ensures kept { KeepsEntries (E.table evaluator.old) (E.table evaluator.new) }
     ensures meanings { E.meanings evaluator.new ≡ E.meanings evaluator.old }
+    ensures told { W.wanted watcher.old ≡ true → IfOk result (λ o. IfSome o
+        (TellsFound program.now (E.meanings evaluator.old).hooks store.new (E.table evaluator.new) (W.told watcher.old) (W.told watcher.new))) }
+    ensures untold { IfOk result (λ o. IfNone o (W.told watcher.new ≡ W.told watcher.old)) }
+    ensures behind { TellsBehind (W.wanted watcher.old) (W.told watcher.old) (W.told watcher.new) }
     ensures wanted { W.wanted watcher.new ≡ W.wanted watcher.old }
 {
     let mut due = run.term;

@@ -1,25 +1,29 @@
 //! One round of a run: a rewrite at the first place at which a rule applies, and the value of the whole term behind it.
-ghost use Rattle.std.specs.Prelude.{◌≡◌, ◌≤◌, ◌<◌, ℕ, map, length, suc, true, None, Ok, IfOk};
+ghost use Rattle.std.specs.Prelude.{◌≡◌, ◌≤◌, ◌<◌, ◌+◌, ℕ, List, map, length, suc, true, None, Ok, IfOk, IfSome, IfNone};
 ghost use Rattle.mau_terms.specs.Bare.{IsLawful};
 ghost use Rattle.mau_signature.specs.Signature.{terms_over};
 ghost use Rattle.mau_store.specs.Node.{Extends};
 ghost use Rattle.mau_store.specs.Trees.{tree_at};
-ghost use Rattle.mau_sorts.specs.Table.{Table, KeepsEntries};
+ghost use Rattle.mau_sorts.specs.Table.{KeepsEntries};
 ghost use Rattle.mau_evaluation.specs.RuleRuns.{turn_to};
 ghost use Rattle.mau_api.specs.Terms.{IsTerm};
 ghost use Rattle.mau_api.specs.Programs.{program_over};
+ghost use Rattle.mau_api.specs.Events.{Event};
+ghost use Rattle.mau_api.specs.Told.{shown_count};
 ghost use Rattle.mau_api.specs.Answers.{AreSettled};
 ghost use Rattle.mau_rules.specs.Runnable.{IsRunnable, GoesBy};
 ghost use Rattle.mau_rules.specs.Runs.{turns_of, stand_of, IsRunOf};
 ghost use Rattle.mau_rules.specs.Rounds.{KnownUse, KnownRound};
 ghost use Rattle.mau_rules.specs.Found.{IsFound, item_of, found_tree};
 ghost use Rattle.mau_rules.specs.ByTop.{IsByTop};
-ghost use Rattle.mau_rules.specs.Walk.{opened, around_all, IsWalk};
+ghost use Rattle.mau_rules.specs.Walk.{opened, around_all, IsPath, IsWalk};
+ghost use Rattle.mau_rules.specs.Telling.{TellsBehind, TellsFound, TellsRules};
 
 use crate::RuleRun;
 use crate::attempt::Found;
 use crate::by_top::RulesByTop;
 use crate::one::one_rewrite;
+use crate::telling::tell_use;
 use crate::walk::Open;
 use crate::whole::rewritten;
 use mau_api::{EvalEnd, Evaluator, Lister, Program, Reduced, StepWatcher};
@@ -41,7 +45,7 @@ pub(crate) fn value_behind<E: Evaluator, W: StepWatcher>(
     requires goes_by { GoesBy program.now (E.meanings evaluator.old) }
     requires fits { E.fits evaluator.old store.old }
     requires walk { (root : ℕ) × IsWalk program.now.sig store.old root way.now found.now.term.0 }
-    requires found { (table : Table) × IsFound program.now store.old table (tree_at store.old found.now.term.0) found.now }
+    requires found { IsFound program.now store.old (E.table evaluator.old) (tree_at store.old found.now.term.0) found.now }
     ensures known { KnownUse (item_of (E.meanings evaluator.old) (W.wanted watcher.old)) (program_over program.now (E.meanings evaluator.old).hooks)
         (around_all (λ v. v) (map (opened store.old) way.now) (found_tree program.now store.old found.now)) budget.old store.new result budget.new }
     ensures term { IfOk result (λ x. IsTerm program.now.sig store.new x.term.0) }
@@ -51,16 +55,26 @@ pub(crate) fn value_behind<E: Evaluator, W: StepWatcher>(
     ensures fits { E.fits evaluator.new store.new }
     ensures kept { KeepsEntries (E.table evaluator.old) (E.table evaluator.new) }
     ensures meanings { E.meanings evaluator.new ≡ E.meanings evaluator.old }
+    ensures told { W.wanted watcher.old ≡ true → IfOk result (λ x. (front : List Event) (root : ℕ) → IsPath store.old root way.now found.now.term.0 →
+        TellsFound program.now (E.meanings evaluator.old).hooks store.old (E.table evaluator.old) front (W.told watcher.old) found.now →
+        TellsRules program.now (E.meanings evaluator.old).hooks store.new (E.table evaluator.new) front (W.told watcher.new)
+        (tree_at store.old root) (tree_at store.new x.term.0) (shown_count (found.now.rewrites + x.rewrites))) }
+    ensures behind { TellsBehind (W.wanted watcher.old) (W.told watcher.old) (W.told watcher.new) }
     ensures wanted { W.wanted watcher.new ≡ W.wanted watcher.old }
 {
     if *budget == 0 {
         return Err(EvalEnd::Stopped);
     }
     *budget -= 1;
+    let _ = store.len();
     let whole = match rewritten(store, program, way, found) {
         Ok(whole) => whole,
         Err(end) => return Err(end),
     };
+    match tell_use(store, program, way, found, whole, watcher) {
+        Ok(()) => (),
+        Err(_) => return Err(EvalEnd::NoMemory),
+    }
     match evaluator.evaluate(store, whole, budget, watcher) {
         Ok(value) => Ok(Reduced {
             term: value.term,
@@ -128,6 +142,11 @@ pub(crate) fn round<E: Evaluator, L: Lister + Drop, W: StepWatcher>(
     ensures fits { E.fits evaluator.new store.new }
     ensures kept { KeepsEntries (E.table evaluator.old) (E.table evaluator.new) }
     ensures meanings { E.meanings evaluator.new ≡ E.meanings evaluator.old }
+    ensures told { W.wanted watcher.old ≡ true → IfOk result (λ o. IfSome o
+        (TellsRules program.now (E.meanings evaluator.old).hooks store.new (E.table evaluator.new) (W.told watcher.old) (W.told watcher.new)
+        (tree_at store.old run.old.term.0) (tree_at store.new run.new.term.0))) }
+    ensures untold { IfOk result (λ o. IfNone o (W.told watcher.new ≡ W.told watcher.old)) }
+    ensures behind { TellsBehind (W.wanted watcher.old) (W.told watcher.old) (W.told watcher.new) }
     ensures wanted { W.wanted watcher.new ≡ W.wanted watcher.old }
 {
     by_top.note(store);

@@ -5,9 +5,11 @@ ghost use Rattle.mau_store.specs.Trees.{tree_at};
 ghost use Rattle.mau_sorts.specs.Table.{KeepsEntries};
 ghost use Rattle.mau_evaluation.specs.RuleRuns.{is_out, one_less};
 ghost use Rattle.mau_api.specs.Terms.{IsTerm};
+ghost use Rattle.mau_api.specs.Told.{TellsMore};
 ghost use Rattle.mau_api.specs.Answers.{AreSettled, uses_results, levels_of_condition};
 ghost use Rattle.mau_rules.specs.Runnable.{IsRunnable, GoesBy};
 ghost use Rattle.mau_rules.specs.Runs.{stand_of, begins_with, IsRunOf, IsRunAnswered, MayRun, rewriting_by, frewriting_by};
+ghost use Rattle.mau_rules.specs.Telling.{TellsRules};
 
 use crate::by_top::RulesByTop;
 use crate::passes::pass_on;
@@ -113,6 +115,11 @@ impl RuleRun {
         ensures fits { E.fits evaluator.new store.new }
         ensures kept { KeepsEntries (E.table evaluator.old) (E.table evaluator.new) }
         ensures meanings { E.meanings evaluator.new ≡ E.meanings evaluator.old }
+        ensures told { W.wanted watcher.old ≡ true → IfOk result (λ x.
+            TellsRules program.now (E.meanings evaluator.old).hooks store.new (E.table evaluator.new) (W.told watcher.old) (W.told watcher.new)
+            (tree_at store.old self.old.term.0) (tree_at store.new self.new.term.0) x.1.rewrites) }
+        ensures before { W.wanted watcher.old ≡ true → TellsMore (W.told watcher.old) (W.told watcher.new) }
+        ensures silent { W.wanted watcher.old ≡ false → W.told watcher.new ≡ W.told watcher.old }
         ensures wanted { W.wanted watcher.new ≡ W.wanted watcher.old }
     {
         let mut left = budget;

@@ -1,5 +1,5 @@
 //! All rules at one place, cyclically from a turn on.
-ghost use Rattle.std.specs.Prelude.{◌≡◌, ◌≤◌, ◌<◌, ℕ, List, length, true, nat_lt, slice_index_or, IfOk, IfSome};
+ghost use Rattle.std.specs.Prelude.{◌≡◌, ◌≤◌, ◌<◌, ℕ, List, length, true, nat_lt, slice_index_or, IfOk, IfSome, IfNone};
 ghost use Rattle.std.specs.List.{count_by};
 ghost use Rattle.mau_terms.specs.Tree.{Tree};
 ghost use Rattle.mau_store.specs.Node.{Extends};
@@ -13,6 +13,7 @@ ghost use Rattle.mau_api.specs.Answers.{AreSettled};
 ghost use Rattle.mau_reduce.specs.ByTop.{top_number};
 ghost use Rattle.mau_rules.specs.Runnable.{IsRunnable, GoesBy};
 ghost use Rattle.mau_rules.specs.Found.{IsFound, found_stand, item_of, KnownSearch, rules_in, turn_at};
+ghost use Rattle.mau_rules.specs.Telling.{TellsBehind, TellsFound};
 ghost use Rattle.mau_rules.specs.ByTop.{numbers_under};
 
 use crate::attempt::{Found, by_rule};
@@ -76,6 +77,10 @@ pub(crate) fn among<E: Evaluator, L: Lister + Drop, W: StepWatcher>(
     ensures fits { E.fits evaluator.new store.new }
     ensures kept { KeepsEntries (E.table evaluator.old) (E.table evaluator.new) }
     ensures meanings { E.meanings evaluator.new ≡ E.meanings evaluator.old }
+    ensures told { W.wanted watcher.old ≡ true → IfOk result (λ o. IfSome o
+        (TellsFound program.now (E.meanings evaluator.old).hooks store.new (E.table evaluator.new) (W.told watcher.old) (W.told watcher.new))) }
+    ensures untold { IfOk result (λ o. IfNone o (W.told watcher.new ≡ W.told watcher.old)) }
+    ensures behind { TellsBehind (W.wanted watcher.old) (W.told watcher.old) (W.told watcher.new) }
     ensures wanted { W.wanted watcher.new ≡ W.wanted watcher.old }
 {
     let count = numbers.len();
@@ -119,6 +124,10 @@ pub fn at_place<E: Evaluator, L: Lister + Drop, W: StepWatcher>(
     ensures fits { E.fits evaluator.new store.new }
     ensures kept { KeepsEntries (E.table evaluator.old) (E.table evaluator.new) }
     ensures meanings { E.meanings evaluator.new ≡ E.meanings evaluator.old }
+    ensures told { W.wanted watcher.old ≡ true → IfOk result (λ o. IfSome o
+        (TellsFound program.now (E.meanings evaluator.old).hooks store.new (E.table evaluator.new) (W.told watcher.old) (W.told watcher.new))) }
+    ensures untold { IfOk result (λ o. IfNone o (W.told watcher.new ≡ W.told watcher.old)) }
+    ensures behind { TellsBehind (W.wanted watcher.old) (W.told watcher.old) (W.told watcher.new) }
     ensures wanted { W.wanted watcher.new ≡ W.wanted watcher.old }
 {
     let top = top_number(store, &program.sig, term);

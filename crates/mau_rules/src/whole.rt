@@ -3,7 +3,7 @@ ghost use Rattle.std.specs.Prelude.{◌≡◌, ◌⊎◌, ℕ, List, map, true, 
 ghost use Rattle.mau_terms.specs.Tree.{Tree};
 ghost use Rattle.mau_terms.specs.Bare.{IsBareIn, IsLawful};
 ghost use Rattle.mau_terms.specs.Subst.{instance};
-ghost use Rattle.mau_terms.specs.View.{tree_of};
+ghost use Rattle.mau_terms.specs.View.{tree_of, variable_of};
 ghost use Rattle.mau_signature.specs.Signature.{SignatureOf, theory_at, terms_over};
 ghost use Rattle.mau_store.specs.Node.{Node, Extends};
 ghost use Rattle.mau_store.specs.Trees.{tree_at, StandsFor};
@@ -100,9 +100,11 @@ fn put_back(
 }
 
 /// Variables with their values, in two lists.
-fn parted(alloc: Global, bound: &[(VarId, TermId)]) -> Result<Binding, NoMemory>
+pub(crate) fn parted(alloc: Global, bound: &[(VarId, TermId)]) -> Result<Binding, NoMemory>
     ensures bound { (nodes : List Node) → IfOk result (λ kept. bound_in nodes kept ≡ binding_in nodes bound.now) }
     ensures values { (s : SignatureOf) (nodes : List Node) (table : Table) → All (IsValueOf s nodes table) bound.now → IfOk result (AreValues s nodes) }
+    ensures named { IfOk result (λ kept. map variable_of kept.variables.items ≡ map (λ b. variable_of b.0) bound.now) }
+    ensures items { IfOk result (λ kept. kept.values.items ≡ map (λ b. b.1) bound.now) }
 {
     let mut variables = Vec::new(alloc);
     let mut values = Vec::new(alloc);

@@ -1,6 +1,7 @@
-use Rattle.std.proofs.Common.{◌≡◌, [], ℕ, Vec, Global, Result, Ok, Err, All, List, Bool, true, false, Option, Some, None, IfSome, refl, sym, ap, ◌∙◌, subst, arith, le_trans}
+use Rattle.std.proofs.Common.{◌≡◌, [], ℕ, Vec, Global, Result, Ok, Err, All, List, Bool, true, false, Option, Some, None, IfSome, map, refl, sym, ap, ◌∙◌, subst, arith, le_trans}
+use Rattle.std.specs.Prelude.{IfNone}
 use Rattle.std.specs.Option.{option_map}
-use Rattle.mau_terms.specs.View.{tree_of}
+use Rattle.mau_terms.specs.View.{tree_of, variable_of}
 use Rattle.mau_signature.specs.Signature.{SignatureOf, theory_at}
 use Rattle.mau_terms.specs.declared.ids.VarId.{VarId}
 use Rattle.mau_terms.specs.declared.ids.TermId.{TermId}
@@ -23,8 +24,10 @@ use Rattle.mau_program.specs.declared.statements.Rule.{Rule}
 use Rattle.mau_api.specs.Programs.{rule_of, program_over}
 use Rattle.mau_api.specs.Meanings.{Meanings}
 use Rattle.mau_evaluation.specs.Run.{Run}
-use Rattle.mau_evaluation.specs.Evaluation.{Binding, binding_of}
-use Rattle.mau_api.specs.Answers.{IsDerivedTable, IsValueOf}
+use Rattle.mau_evaluation.specs.Evaluation.{Binding, look_up, binding_of}
+use Rattle.mau_api.specs.Variables.{statement_variables}
+use Rattle.mau_api.specs.Told.{TellsCondition}
+use Rattle.mau_api.specs.Answers.{IsDerivedTable, IsValueOf, binding_in}
 use Rattle.mau_api.specs.declared.results.EvalEnd.{EvalEnd}
 use Rattle.mau_api.proofs.Started.{can_start}
 use Rattle.mau_reduce.specs.Trying.{solution_in}
@@ -32,7 +35,9 @@ use Rattle.mau_reduce.proofs.KindsKept.{tree_kept, trees_kept}
 use Rattle.mau_reduce.proofs.LaterStores.{contexts_grown}
 use Rattle.mau_reduce.proofs.Numbered.{at_index, one_at}
 use Rattle.mau_reduce.proofs.PlainTables.{settled_grown}
+use Rattle.mau_rules.specs.declared.attempt.Found.{Found}
 use Rattle.mau_rules.specs.Runnable.{GoesBy}
+use Rattle.mau_rules.specs.Telling.{TellsFound}
 use Rattle.mau_rules.specs.Known.{Gives}
 use Rattle.mau_rules.specs.Found.{item_of, rule_at, solving_by, stand_with, found_stand, KnownSolving}
 use Rattle.mau_rules.proofs.Shown.{lawful_rule}
@@ -40,6 +45,7 @@ use Rattle.mau_rules.proofs.Trying.{at_none}
 use Rattle.mau_rules.proofs.Rounds.{Left, begins, goes_past}
 use Rattle.mau_rules.proofs.Answered.{answer_ends, answer_holds}
 use Rattle.mau_rules.proofs.Turned.{none_turn, some_turn, valued_turn, contexts_turn, kind_turn}
+use Rattle.mau_rules.proofs.Told.{behind_same, behind_equal, behind_on, found_as}
 use Rattle.mau_rules.proofs.attempt.by_rule.Goals as goal
 
 pub returns-then-not-rule-clause-known : goal.returns-then-not-rule-clause-known
@@ -75,6 +81,7 @@ loop-init g c =
       extends = extension_is_preorder.reflexive store;
       kept = kept_same table;
       falls = omega arith;
+      told = refl;
       wanted = refl;
       left = λ rule there run normal bare.
           subst (λ (o : Option Listed.Solution). Left p run m.hooks (rule_of rule) (tree_at store c.args.term.0) normal bare (item_of m (g.W.StepWatcher.wanted c.args.watcher.now)) c.args.number c.args.budget.now c.args.budget.now (option_map (matcher_in store) o)) (sym c.in-Ok.ensures.given)
@@ -251,6 +258,8 @@ returns-in-Ok-Some-shown_for-clause-found g c =
       exec = c.if-not-rule.false;
       contexts = contexts_grown p new c.shown_for.new.store c.shown_for.ensures.extends t (numbers x.left) (numbers x.right) (contexts_turn p run m c.requires.goes_by rule c.args.number t normal bare I c.args.budget.now c.loop.budget now new before after wc c.requires.contexts a c.args.term (i.asked rule there) subject later given s same derived settled (i.left rule there run normal bare) x next solves);
       bound = subst (λ (o : Option (Vec (VarId × TermId) Global × ℕ)). IfSome o (λ z. All (IsValueOf p.sig c.shown_for.new.store (g.E.Evaluator.table c.shown_for.new.evaluator)) z.0.items)) c.in-Ok-Some-shown_for.field-0-is c.in-Ok-Some-shown_for.ensures.bound;
+      named = subst (λ (o : Option (Vec (VarId × TermId) Global × ℕ)). IfSome o (λ z. map (λ b. variable_of b.0) z.0.items ≡ statement_variables (tree_of rule.left) rule.cond (tree_of rule.right)))
+          c.in-Ok-Some-shown_for.field-0-is (c.in-Ok-Some-shown_for.ensures.named rule there);
       kind = kind_turn p run m c.requires.goes_by rule c.args.number t normal bare I c.args.budget.now c.loop.budget now new before after wc c.requires.contexts a c.args.term (i.asked rule there) subject later given s same derived settled (i.left rule there run normal bare) x next solves;
     }
 
@@ -341,6 +350,7 @@ loop-preserved g c =
       extends = extension_is_preorder.transitive began new final reached c.shown_for.ensures.extends;
       kept = kept_on (g.E.Evaluator.table c.args.evaluator.now) before last i.kept (kept_on before after last c.list.ensures.kept c.shown_for.ensures.kept);
       falls = le_trans c.shown_for.ensures.falls i.falls;
+      told = subst (λ (o : Option (Vec (VarId × TermId) Global × ℕ)). IfNone o (g.W.StepWatcher.told c.shown_for.new.watcher ≡ g.W.StepWatcher.told c.loop.watcher)) c.in-Ok-None-shown_for.field-0-is c.in-Ok-None-shown_for.ensures.untold ∙ i.told;
       wanted = c.shown_for.ensures.wanted ∙ i.wanted;
       left = λ r k run' normal' bare'.
           let turn = some_turn p run' m c.requires.goes_by r c.args.number t normal' bare' I c.args.budget.now c.loop.budget now new before after wc c.requires.contexts a c.args.term (i.asked r k) subject later given s same derived settled (i.left r k run' normal' bare') x
@@ -374,3 +384,51 @@ pub returns-in-Err-shown_for-clause-kept : goal.returns-in-Err-shown_for-clause-
 returns-in-Err-shown_for-clause-kept g c =
     kept_on (g.E.Evaluator.table c.args.evaluator.now) (g.E.Evaluator.table c.loop.evaluator) (g.E.Evaluator.table c.shown_for.new.evaluator) c.loop.invariant.kept
     (kept_on (g.E.Evaluator.table c.loop.evaluator) (g.E.Evaluator.table c.list.new.self) (g.E.Evaluator.table c.shown_for.new.evaluator) c.list.ensures.kept c.shown_for.ensures.kept)
+
+-- ---- what is told
+
+pub returns-in-Ok-Some-shown_for-clause-told : goal.returns-in-Ok-Some-shown_for-clause-told
+returns-in-Ok-Some-shown_for-clause-told g c = λ w.
+    let p = c.args.program.now in
+    let m = g.E.Evaluator.meanings c.args.evaluator.now in
+    let n = g.E.Evaluator.meanings c.list.new.self in
+    let i = c.loop.invariant in
+    let new = c.shown_for.new.store in
+    let table = g.E.Evaluator.table c.shown_for.new.evaluator in
+    let a = g.W.StepWatcher.told c.args.watcher.now in
+    let b = g.W.StepWatcher.told c.loop.watcher in
+    let d = g.W.StepWatcher.told c.shown_for.new.watcher in
+    let x : Found = record { term = c.args.term; number = c.args.number; solution = c.in-Ok-Some.solution; bound = c.in-Ok-Some-shown_for.bound; rewrites = c.in-Ok-Some-shown_for.rewrites } in
+    let h : TellsFound p n.hooks new table b d x = (λ rule there.
+    subst (λ (o : Option (Vec (VarId × TermId) Global × ℕ)). IfSome o (λ z. TellsCondition p n.hooks new table b d (look_up (binding_in new z.0.items)) rule.cond z.1)) c.in-Ok-Some-shown_for.field-0-is
+    (c.in-Ok-Some-shown_for.ensures.told (i.wanted ∙ w) rule there)) in
+    found_as p m n (c.list.ensures.meanings ∙ i.meanings) new table a b d i.told x h
+
+pub returns-in-Ok-Some-shown_for-clause-behind : goal.returns-in-Ok-Some-shown_for-clause-behind
+returns-in-Ok-Some-shown_for-clause-behind g c =
+    let w = g.W.StepWatcher.wanted c.args.watcher.now in
+    let a = g.W.StepWatcher.told c.args.watcher.now in
+    let b = g.W.StepWatcher.told c.loop.watcher in
+    behind_on (g.W.StepWatcher.wanted c.loop.watcher) w a b (g.W.StepWatcher.told c.shown_for.new.watcher) c.loop.invariant.wanted (behind_equal w a b c.loop.invariant.told) c.shown_for.ensures.behind
+
+pub returns-in-Err-shown_for-clause-behind : goal.returns-in-Err-shown_for-clause-behind
+returns-in-Err-shown_for-clause-behind g c =
+    let w = g.W.StepWatcher.wanted c.args.watcher.now in
+    let a = g.W.StepWatcher.told c.args.watcher.now in
+    let b = g.W.StepWatcher.told c.loop.watcher in
+    behind_on (g.W.StepWatcher.wanted c.loop.watcher) w a b (g.W.StepWatcher.told c.shown_for.new.watcher) c.loop.invariant.wanted (behind_equal w a b c.loop.invariant.told) c.shown_for.ensures.behind
+
+pub returns-in-Ok-None-clause-behind : goal.returns-in-Ok-None-clause-behind
+returns-in-Ok-None-clause-behind g c = behind_equal (g.W.StepWatcher.wanted c.args.watcher.now) (g.W.StepWatcher.told c.args.watcher.now) (g.W.StepWatcher.told c.loop.watcher) c.loop.invariant.told
+
+pub returns-in-Err-list-clause-behind : goal.returns-in-Err-list-clause-behind
+returns-in-Err-list-clause-behind g c = behind_equal (g.W.StepWatcher.wanted c.args.watcher.now) (g.W.StepWatcher.told c.args.watcher.now) (g.W.StepWatcher.told c.loop.watcher) c.loop.invariant.told
+
+pub returns-clause-behind : goal.returns-clause-behind
+returns-clause-behind g c = behind_equal (g.W.StepWatcher.wanted c.args.watcher.now) (g.W.StepWatcher.told c.args.watcher.now) (g.W.StepWatcher.told c.loop.watcher) c.loop.invariant.told
+
+pub returns-in-Err-clause-behind : goal.returns-in-Err-clause-behind
+returns-in-Err-clause-behind g c = behind_same (g.W.StepWatcher.wanted c.args.watcher.now) (g.W.StepWatcher.told c.args.watcher.now)
+
+pub returns-then-not-rule-clause-behind : goal.returns-then-not-rule-clause-behind
+returns-then-not-rule-clause-behind g c = behind_same (g.W.StepWatcher.wanted c.args.watcher.now) (g.W.StepWatcher.told c.args.watcher.now)

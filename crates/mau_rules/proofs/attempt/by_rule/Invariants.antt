@@ -29,6 +29,7 @@ invariant-loop g l =
       ready : CanGoOn g.L.Lister.with_context p.sig l.store now (g.L.Lister.asked l.listing) (g.L.Lister.given l.listing);
       extends : Extends l.fn.store l.store;
       kept : KeepsEntries (g.E.Evaluator.table l.fn.evaluator) now;
+      told : g.W.StepWatcher.told l.watcher ≡ g.W.StepWatcher.told l.fn.watcher;
       falls : l.budget ≤ l.fn.budget;
       wanted : g.W.StepWatcher.wanted l.watcher ≡ g.W.StepWatcher.wanted l.fn.watcher;
       left : (rule : Rule) → slice_get p.rules l.fn.number ≡ Some rule → (run : IsRunnable p) (normal : norm (theory_at p.sig) t ≡ t) (bare : IsBare (terms_over p.sig) (reading (theory_at p.sig) t)) →

@@ -17,12 +17,14 @@ use Rattle.mau_rules.specs.Runnable.{GoesBy}
 use Rattle.mau_rules.specs.Runs.{stand_of, turns_of}
 use Rattle.mau_terms.specs.declared.ids.TermId.{TermId}
 use Rattle.mau_rules.specs.Found.{IsFound, item_of, one_by, rules_in, found_stand, KnownSearch, turn_at}
+use Rattle.mau_rules.specs.Telling.{TellsFound}
 use Rattle.mau_rules.specs.ByTop.{is_idle}
 use Rattle.mau_rules.specs.Walk.{is_frozen_at, opened, around_all, places_left, IsPath}
 use Rattle.mau_rules.proofs.Placed.{LeftFrom, each_place, places_begin}
 use Rattle.mau_rules.proofs.Walked.{place_so, places_from, places_on, place_at, IsLeft, walked_past, walked_ends, walked_found, found_in, walked_all}
 use Rattle.mau_rules.proofs.Idle.{idle_grown, passed_below}
 use Rattle.mau_rules.proofs.Paths.{path_term, path_settled, path_kept}
+use Rattle.mau_rules.proofs.Told.{behind_equal, behind_on, found_as}
 use Rattle.mau_rules.proofs.one.one_rewrite.Goals as goal
 
 pub loop-init : goal.loop-init
@@ -39,6 +41,7 @@ loop-init g c =
       extends = extension_is_preorder.reflexive c.args.store.now;
       kept = kept_same (g.E.Evaluator.table c.args.evaluator.now);
       falls = omega arith;
+      told = refl;
       wanted = refl;
       path = subst (λ (os : List Open). IsPath c.args.store.now c.args.run.now.term.0 os c.args.run.now.term.0) (sym c.requires.way) refl;
       goes_on = subst (λ os. LeftFrom I (each_place P I s) (one_by P s) c.args.budget.now (places z (around_all (λ v. v) os) s.term ++ places_left z (λ v. v) os) c.args.budget.now) (sym none)
@@ -243,7 +246,59 @@ loop-preserved g c =
       extends = extension_is_preorder.transitive c.args.store.now now new i.extends c.among.ensures.extends;
       kept = kept_on (g.E.Evaluator.table c.args.evaluator.now) (g.E.Evaluator.table c.loop.evaluator) (g.E.Evaluator.table c.among.new.evaluator) i.kept c.among.ensures.kept;
       falls = le_trans c.among.ensures.falls i.falls;
+      told = subst (λ (o : Option Found). IfNone o (g.W.StepWatcher.told c.among.new.watcher ≡ g.W.StepWatcher.told c.loop.watcher)) c.in-Ok-None.field-0-is c.in-Ok-None.ensures.untold ∙ i.told;
       wanted = c.among.ensures.wanted ∙ i.wanted;
       path = path;
       goes_on = subst (λ (ps : List Place). IsLeft p m.hooks I s c.args.budget.now ps c.among.new.budget) more below;
     }
+
+-- ---- what is told
+
+pub returns-in-Ok-Some-clause-told : goal.returns-in-Ok-Some-clause-told
+returns-in-Ok-Some-clause-told g c = λ w.
+    let p = c.args.program.now in
+    let m = g.E.Evaluator.meanings c.args.evaluator.now in
+    let n = g.E.Evaluator.meanings c.loop.evaluator in
+    let i = c.loop.invariant in
+    let new = c.among.new.store in
+    let table = g.E.Evaluator.table c.among.new.evaluator in
+    let a = g.W.StepWatcher.told c.args.watcher.now in
+    let b = g.W.StepWatcher.told c.loop.watcher in
+    let d = g.W.StepWatcher.told c.among.new.watcher in
+    found_as p m n i.meanings new table a b d i.told c.in-Ok-Some.found
+    (subst (λ (o : Option Found). IfSome o (TellsFound p n.hooks new table b d)) c.in-Ok-Some.field-0-is (c.in-Ok-Some.ensures.told (i.wanted ∙ w)))
+
+pub returns-in-Ok-Some-clause-behind : goal.returns-in-Ok-Some-clause-behind
+returns-in-Ok-Some-clause-behind g c =
+    let w = g.W.StepWatcher.wanted c.args.watcher.now in
+    let a = g.W.StepWatcher.told c.args.watcher.now in
+    let b = g.W.StepWatcher.told c.loop.watcher in
+    behind_on (g.W.StepWatcher.wanted c.loop.watcher) w a b (g.W.StepWatcher.told c.among.new.watcher) c.loop.invariant.wanted (behind_equal w a b c.loop.invariant.told) c.among.ensures.behind
+
+pub returns-in-Err-clause-behind : goal.returns-in-Err-clause-behind
+returns-in-Err-clause-behind g c =
+    let w = g.W.StepWatcher.wanted c.args.watcher.now in
+    let a = g.W.StepWatcher.told c.args.watcher.now in
+    let b = g.W.StepWatcher.told c.loop.watcher in
+    behind_on (g.W.StepWatcher.wanted c.loop.watcher) w a b (g.W.StepWatcher.told c.among.new.watcher) c.loop.invariant.wanted (behind_equal w a b c.loop.invariant.told) c.among.ensures.behind
+
+pub returns-clause-behind : goal.returns-clause-behind
+returns-clause-behind g c = behind_equal (g.W.StepWatcher.wanted c.args.watcher.now) (g.W.StepWatcher.told c.args.watcher.now) (g.W.StepWatcher.told c.loop.watcher) c.loop.invariant.told
+
+pub returns-in-Ok-None-next_place-clause-behind : goal.returns-in-Ok-None-next_place-clause-behind
+returns-in-Ok-None-next_place-clause-behind g c =
+    let w = g.W.StepWatcher.wanted c.args.watcher.now in
+    let a = g.W.StepWatcher.told c.args.watcher.now in
+    let b = g.W.StepWatcher.told c.loop.watcher in
+    behind_on (g.W.StepWatcher.wanted c.loop.watcher) w a b (g.W.StepWatcher.told c.among.new.watcher) c.loop.invariant.wanted (behind_equal w a b c.loop.invariant.told) c.among.ensures.behind
+
+pub returns-in-Ok-None-next_place-clause-untold : goal.returns-in-Ok-None-next_place-clause-untold
+returns-in-Ok-None-next_place-clause-untold g c =
+    subst (λ (o : Option Found). IfNone o (g.W.StepWatcher.told c.among.new.watcher ≡ g.W.StepWatcher.told c.loop.watcher)) c.in-Ok-None.field-0-is c.in-Ok-None.ensures.untold ∙ c.loop.invariant.told
+
+pub returns-in-Err-next_place-clause-behind : goal.returns-in-Err-next_place-clause-behind
+returns-in-Err-next_place-clause-behind g c =
+    let w = g.W.StepWatcher.wanted c.args.watcher.now in
+    let a = g.W.StepWatcher.told c.args.watcher.now in
+    let b = g.W.StepWatcher.told c.loop.watcher in
+    behind_on (g.W.StepWatcher.wanted c.loop.watcher) w a b (g.W.StepWatcher.told c.among.new.watcher) c.loop.invariant.wanted (behind_equal w a b c.loop.invariant.told) c.among.ensures.behind

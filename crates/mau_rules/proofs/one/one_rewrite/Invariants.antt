@@ -19,6 +19,7 @@ invariant-loop g l =
       fits : g.E.Evaluator.fits l.evaluator l.store;
       extends : Extends l.fn.store l.store;
       kept : KeepsEntries (g.E.Evaluator.table l.fn.evaluator) (g.E.Evaluator.table l.evaluator);
+      told : g.W.StepWatcher.told l.watcher ≡ g.W.StepWatcher.told l.fn.watcher;
       falls : l.budget ≤ l.fn.budget;
       wanted : g.W.StepWatcher.wanted l.watcher ≡ g.W.StepWatcher.wanted l.fn.watcher;
       path : IsPath l.store l.fn.run.term.0 l.way.items l.due.0;

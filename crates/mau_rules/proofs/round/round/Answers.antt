@@ -1,4 +1,4 @@
-use Rattle.std.proofs.Common.{◌≡◌, ℕ, suc, List, map, Option, Ok, Err, IfSome, refl, sym, ap, ap₂, ◌∙◌, subst}
+use Rattle.std.proofs.Common.{◌≡◌, ◌+◌, ℕ, suc, List, map, Option, Ok, Err, IfSome, IfNone, refl, sym, ap, ap₂, ◌∙◌, subst}
 use Rattle.std.proofs.lemmas.Option.{slice_get_within}
 use Rattle.mau_terms.specs.Tree.{Tree}
 use Rattle.mau_signature.specs.Signature.{theory_at}
@@ -21,6 +21,9 @@ use Rattle.mau_rules.proofs.Idle.{by_top_grown, by_top_noted}
 use Rattle.mau_rules.proofs.Running.{stand_at}
 use Rattle.mau_rules.proofs.Paths.{path_term}
 use Rattle.mau_rules.proofs.Uses.{found_is, use_so, round_none, round_search_ends, round_value, round_value_ends}
+use Rattle.mau_api.specs.Told.{shown_count}
+use Rattle.mau_rules.specs.Telling.{TellsFound, TellsRules}
+use Rattle.mau_rules.proofs.Told.{behind_on, found_as, rules_as}
 use Rattle.mau_rules.proofs.round.round.Goals as goal
 
 pub returns-in-Ok-None-clause-known : goal.returns-in-Ok-None-clause-known
@@ -211,3 +214,43 @@ returns-clause-by_top g c =
     by_top_grown c.args.program.now c.args.store.now c.value_behind.new.store c.note.new.self
     (extension_is_preorder.transitive c.args.store.now c.one_rewrite.new.store c.value_behind.new.store c.one_rewrite.ensures.extends c.value_behind.ensures.extends)
     (by_top_noted c.args.program.now c.args.store.now c.args.by_top.now c.note.new.self c.note.ensures.orders c.note.ensures.table c.requires.by_top)
+
+-- ---- what is told
+
+pub returns-in-Ok-None-clause-untold : goal.returns-in-Ok-None-clause-untold
+returns-in-Ok-None-clause-untold g c =
+    subst (λ (o : Option Found). IfNone o (g.W.StepWatcher.told c.one_rewrite.new.watcher ≡ g.W.StepWatcher.told c.args.watcher.now)) c.in-Ok-None.field-0-is c.in-Ok-None.ensures.untold
+
+pub returns-in-Err-value_behind-clause-behind : goal.returns-in-Err-value_behind-clause-behind
+returns-in-Err-value_behind-clause-behind g c =
+    behind_on (g.W.StepWatcher.wanted c.one_rewrite.new.watcher) (g.W.StepWatcher.wanted c.args.watcher.now) (g.W.StepWatcher.told c.args.watcher.now) (g.W.StepWatcher.told c.one_rewrite.new.watcher) (g.W.StepWatcher.told c.value_behind.new.watcher)
+    c.one_rewrite.ensures.wanted c.one_rewrite.ensures.behind c.value_behind.ensures.behind
+
+pub returns-clause-behind : goal.returns-clause-behind
+returns-clause-behind g c =
+    behind_on (g.W.StepWatcher.wanted c.one_rewrite.new.watcher) (g.W.StepWatcher.wanted c.args.watcher.now) (g.W.StepWatcher.told c.args.watcher.now) (g.W.StepWatcher.told c.one_rewrite.new.watcher) (g.W.StepWatcher.told c.value_behind.new.watcher)
+    c.one_rewrite.ensures.wanted c.one_rewrite.ensures.behind c.value_behind.ensures.behind
+
+pub returns-clause-told : goal.returns-clause-told
+returns-clause-told g c = λ w.
+    let p = c.args.program.now in
+    let m = g.E.Evaluator.meanings c.args.evaluator.now in
+    let n = g.E.Evaluator.meanings c.one_rewrite.new.evaluator in
+    let s0 = c.args.store.now in
+    let s1 = c.one_rewrite.new.store in
+    let s2 = c.value_behind.new.store in
+    let table = g.E.Evaluator.table c.one_rewrite.new.evaluator in
+    let after = g.E.Evaluator.table c.value_behind.new.evaluator in
+    let a = g.W.StepWatcher.told c.args.watcher.now in
+    let b = g.W.StepWatcher.told c.one_rewrite.new.watcher in
+    let d = g.W.StepWatcher.told c.value_behind.new.watcher in
+    let root = c.args.run.now.term.0 in
+    let x = c.in-Ok-Some.found in
+    let y = c.in-Ok.value in
+    let way = c.one_rewrite.new.way.items in
+    let path = subst (λ (os : List Open). IsPath s1 root os x.term.0) (sym c.deref.ensures.value) (subst (λ (o : Option Found). IfSome o (λ z. IsPath s1 root way z.term.0)) c.in-Ok-Some.field-0-is c.in-Ok-Some.ensures.path) in
+    let found = found_as p n m (sym c.one_rewrite.ensures.meanings) s1 table a a b refl x (subst (λ (o : Option Found). IfSome o (TellsFound p m.hooks s1 table a b)) c.in-Ok-Some.field-0-is (c.in-Ok-Some.ensures.told w)) in
+    let told = c.in-Ok.ensures.told (c.one_rewrite.ensures.wanted ∙ w) a root path found in
+    subst (λ r. TellsRules p m.hooks s2 after a d (tree_at s0 root) (tree_at s2 y.term.0) r) (sym c.saturating_add.ensures)
+    (subst (λ t. TellsRules p m.hooks s2 after a d t (tree_at s2 y.term.0) (shown_count (x.rewrites + y.rewrites))) (tree_kept (theory_at p.sig) s0 s1 root c.one_rewrite.ensures.extends c.requires.run.term.within)
+    (rules_as p m n c.one_rewrite.ensures.meanings s2 after a a d refl (tree_at s1 root) (tree_at s2 y.term.0) (shown_count (x.rewrites + y.rewrites)) told))

@@ -1,4 +1,4 @@
-use Rattle.std.proofs.Common.{◌≡◌, ◌<◌, ℕ, List, Option, Some, None, Ok, Err, IfSome, length, get_or, refl, sym, ap, ◌∙◌, subst, arith, le_trans}
+use Rattle.std.proofs.Common.{◌≡◌, ◌<◌, ℕ, List, Option, Some, None, Ok, Err, IfSome, IfNone, length, get_or, refl, sym, ap, ◌∙◌, subst, arith, le_trans}
 use Rattle.std.specs.Prelude.{nat_lt}
 use Rattle.std.specs.List.{count_by}
 use Rattle.std.proofs.lemmas.List.{length-map}
@@ -20,10 +20,12 @@ use Rattle.mau_reduce.proofs.PlainTables.{settled_grown}
 use Rattle.mau_rules.specs.declared.attempt.Found.{Found}
 use Rattle.mau_rules.specs.Runnable.{GoesBy}
 use Rattle.mau_rules.specs.Found.{IsFound, item_of, rule_at, rules_in, found_stand, KnownSearch}
+use Rattle.mau_rules.specs.Telling.{TellsFound}
 use Rattle.mau_rules.proofs.Cyclic.{cyclic_length}
 use Rattle.mau_rules.specs.ByTop.{rules_under}
 use Rattle.mau_rules.proofs.ByTop.{begins_under, stands_under}
 use Rattle.mau_rules.proofs.Placed.{each_rule, none_at, search_so, search_found, search_ends, search_past}
+use Rattle.mau_rules.proofs.Told.{behind_equal, behind_on, found_as}
 use Rattle.mau_rules.proofs.search.among.Goals as goal
 
 pub loop-index-init : goal.loop-index-init
@@ -33,6 +35,7 @@ loop-index-init g c = record {
   extends = extension_is_preorder.reflexive c.args.store.now;
   kept = kept_same (g.E.Evaluator.table c.args.evaluator.now);
   falls = omega arith;
+  told = refl;
   wanted = refl;
   goes_on = λ h around e.
       let t = tree_at c.args.store.now c.args.term.0 in
@@ -162,6 +165,7 @@ loop-index-preserved g c =
       extends = extension_is_preorder.transitive c.args.store.now now new i.extends c.by_rule.ensures.extends;
       kept = kept_on (g.E.Evaluator.table c.args.evaluator.now) (g.E.Evaluator.table c.loop-index.evaluator) (g.E.Evaluator.table c.by_rule.new.evaluator) i.kept c.by_rule.ensures.kept;
       falls = le_trans c.by_rule.ensures.falls i.falls;
+      told = subst (λ (o : Option Found). IfNone o (g.W.StepWatcher.told c.by_rule.new.watcher ≡ g.W.StepWatcher.told c.loop-index.watcher)) c.in-Ok-None.field-0-is c.in-Ok-None.ensures.untold ∙ i.told;
       wanted = c.by_rule.ensures.wanted ∙ i.wanted;
       goes_on = λ h around e.
           let known = subst (λ (o : Option Found). KnownSearch (item_of n (g.W.StepWatcher.wanted c.loop-index.watcher)) (rule_at (program_over p n.hooks) h (record { term = tree_at now c.args.term.0; around = around }) q) c.loop-index.budget
@@ -175,3 +179,36 @@ returns-in-Ok-Some-clause-kept g c = kept_on (g.E.Evaluator.table c.args.evaluat
 
 pub returns-in-Err-clause-kept : goal.returns-in-Err-clause-kept
 returns-in-Err-clause-kept g c = kept_on (g.E.Evaluator.table c.args.evaluator.now) (g.E.Evaluator.table c.loop-index.evaluator) (g.E.Evaluator.table c.by_rule.new.evaluator) c.loop-index.invariant.kept c.by_rule.ensures.kept
+
+-- ---- what is told
+
+pub returns-in-Ok-Some-clause-told : goal.returns-in-Ok-Some-clause-told
+returns-in-Ok-Some-clause-told g c = λ w.
+    let p = c.args.program.now in
+    let m = g.E.Evaluator.meanings c.args.evaluator.now in
+    let n = g.E.Evaluator.meanings c.loop-index.evaluator in
+    let i = c.loop-index.invariant in
+    let new = c.by_rule.new.store in
+    let table = g.E.Evaluator.table c.by_rule.new.evaluator in
+    let a = g.W.StepWatcher.told c.args.watcher.now in
+    let b = g.W.StepWatcher.told c.loop-index.watcher in
+    let d = g.W.StepWatcher.told c.by_rule.new.watcher in
+    found_as p m n i.meanings new table a b d i.told c.in-Ok-Some.found
+    (subst (λ (o : Option Found). IfSome o (TellsFound p n.hooks new table b d)) c.in-Ok-Some.field-0-is (c.in-Ok-Some.ensures.told (i.wanted ∙ w)))
+
+pub returns-in-Ok-Some-clause-behind : goal.returns-in-Ok-Some-clause-behind
+returns-in-Ok-Some-clause-behind g c =
+    let w = g.W.StepWatcher.wanted c.args.watcher.now in
+    let a = g.W.StepWatcher.told c.args.watcher.now in
+    let b = g.W.StepWatcher.told c.loop-index.watcher in
+    behind_on (g.W.StepWatcher.wanted c.loop-index.watcher) w a b (g.W.StepWatcher.told c.by_rule.new.watcher) c.loop-index.invariant.wanted (behind_equal w a b c.loop-index.invariant.told) c.by_rule.ensures.behind
+
+pub returns-in-Err-clause-behind : goal.returns-in-Err-clause-behind
+returns-in-Err-clause-behind g c =
+    let w = g.W.StepWatcher.wanted c.args.watcher.now in
+    let a = g.W.StepWatcher.told c.args.watcher.now in
+    let b = g.W.StepWatcher.told c.loop-index.watcher in
+    behind_on (g.W.StepWatcher.wanted c.loop-index.watcher) w a b (g.W.StepWatcher.told c.by_rule.new.watcher) c.loop-index.invariant.wanted (behind_equal w a b c.loop-index.invariant.told) c.by_rule.ensures.behind
+
+pub returns-clause-behind : goal.returns-clause-behind
+returns-clause-behind g c = behind_equal (g.W.StepWatcher.wanted c.args.watcher.now) (g.W.StepWatcher.told c.args.watcher.now) (g.W.StepWatcher.told c.loop-index.watcher) c.loop-index.invariant.told

@@ -21,6 +21,7 @@ invariant-loop-index g l =
       fits : g.E.Evaluator.fits l.evaluator l.store;
       extends : Extends l.fn.store l.store;
       kept : KeepsEntries (g.E.Evaluator.table l.fn.evaluator) (g.E.Evaluator.table l.evaluator);
+      told : g.W.StepWatcher.told l.watcher ≡ g.W.StepWatcher.told l.fn.watcher;
       falls : l.budget ≤ l.fn.budget;
       wanted : g.W.StepWatcher.wanted l.watcher ≡ g.W.StepWatcher.wanted l.fn.watcher;
       goes_on : (h : Turns) (around : Tree → Tree) → turn_at h t ≡ l.fn.turn →

@@ -90,7 +90,7 @@ value_behind-requires-clause-found g c =
     let at = subst (λ (o : Option Found). IfSome o (λ z. z.term ≡ c.args.term)) c.in-Ok-Some.field-0-is c.in-Ok-Some.ensures.term in
     let is = subst (λ (o : Option Found). IfSome o (IsFound p s1 table (tree_at c.args.store.now c.args.term.0))) c.in-Ok-Some.field-0-is c.in-Ok-Some.ensures.found in
     let same : tree_at s1 x.term.0 ≡ tree_at c.args.store.now c.args.term.0 = ap (λ (i : TermId). tree_at s1 i.0) at ∙ tree_kept (theory_at p.sig) c.args.store.now s1 c.args.term.0 c.among.ensures.extends c.requires.term.within in
-    (table, subst (λ (t : Tree). IsFound p s1 table t x) (sym same) is)
+    subst (λ (t : Tree). IsFound p s1 table t x) (sym same) is
 
 pub returns-in-Err-value_behind-clause-known : goal.returns-in-Err-value_behind-clause-known
 returns-in-Err-value_behind-clause-known g c =

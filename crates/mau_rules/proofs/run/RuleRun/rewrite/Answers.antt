@@ -1,4 +1,4 @@
-use Rattle.std.proofs.Common.{◌≡◌, ℕ, Option, Some, None, Ok, Err, false, refl, sym, ap, ◌∙◌, subst}
+use Rattle.std.proofs.Common.{◌≡◌, ℕ, Option, Some, None, Ok, Err, IfSome, IfNone, false, refl, sym, ap, ◌∙◌, subst}
 use Rattle.mau_terms.specs.Tree.{Tree}
 use Rattle.mau_signature.specs.Signature.{SignatureOf, theory_at}
 use Rattle.mau_store.specs.Trees.{tree_at}
@@ -21,6 +21,9 @@ use Rattle.mau_rules.specs.Rounds.{KnownRound}
 use Rattle.mau_rules.proofs.Running.{stand_at}
 use Rattle.mau_rules.proofs.Uses.{round_so}
 use Rattle.mau_rules.proofs.RunEnds.{IsUnder, begun_known, under_begun, under_more, under_bound, under_normal, run_not_begun, under_ends, value_exact, value_allowed, end_exact, end_allowed}
+use Rattle.mau_api.specs.Told.{TellsEvaluation}
+use Rattle.mau_rules.specs.Telling.{TellsRules}
+use Rattle.mau_rules.proofs.Told.{behind_told, behind_on, evaluation_rules, told_on, told_still}
 use Rattle.mau_rules.proofs.run.RuleRun.rewrite.Goals as goal
 
 pub returns-in-Err-clause-exact : goal.returns-in-Err-clause-exact
@@ -88,6 +91,19 @@ loop-init g c =
       run = record { turns = c.requires.run.turns; term = subst (λ (z : SignatureOf). IsTerm z s1 c.in-Ok.value.term.0) same c.in-Ok.ensures.term };
       settled = subst (λ (z : SignatureOf). AreSettled z s1 (g.E.Evaluator.table c.evaluate.new.self) (tree_at s1 c.in-Ok.value.term.0)) same c.in-Ok.ensures.settled;
       by_top = c.in-Ok-new.ensures s1;
+      told =
+          let a = g.W.StepWatcher.told c.args.watcher.now in
+          let b = g.W.StepWatcher.told c.evaluate.new.watcher in
+          let table = g.E.Evaluator.table c.evaluate.new.self in
+          let self = c.args.self.now.term in
+          let value = c.in-Ok.value in
+          record {
+            behind = behind_told w a b c.evaluate.ensures.before c.evaluate.ensures.silent;
+            rules = λ i. subst (λ u. TellsRules p m.hooks s1 table a b u (tree_at s1 value.term.0) value.rewrites) (tree_kept (theory_at p.sig) s0 s1 self.0 c.evaluate.ensures.extends c.requires.run.term.within)
+                (evaluation_rules p m.hooks s1 table a b self value.term value.rewrites (is_term_kept p.sig s0 s1 self.0 c.evaluate.ensures.extends c.requires.run.term).within.there
+                (subst (λ (z : SignatureOf). IsTerm z s1 value.term.0) same c.in-Ok.ensures.term).within.there
+                (subst (λ (q : Program). TellsEvaluation q m.hooks s1 table a b self value.term value.rewrites) c.requires.goes_by.program (c.in-Ok.ensures.told i)));
+          };
       under = under_begun P I c.args.bound (stand_of s0 c.args.self.now) b0 s1 c.in-Ok.value left (stand_at (tree_at s1 c.in-Ok.value.term.0) (stand_of s0 c.args.self.now).turns) refl k;
     }
 
@@ -280,6 +296,11 @@ loop-preserved g c =
       run = c.round.ensures.run;
       settled = c.in-Ok-Some.ensures.settled;
       by_top = c.round.ensures.by_top;
+      told = told_on p m n i.meanings v w i.wanted now new (g.E.Evaluator.table c.loop.evaluator) (g.E.Evaluator.table c.round.new.evaluator) c.round.ensures.extends c.round.ensures.kept
+          (g.W.StepWatcher.told c.args.watcher.now) (g.W.StepWatcher.told c.loop.watcher) (g.W.StepWatcher.told c.round.new.watcher) (tree_at s0 c.args.self.now.term.0) (tree_at now run.term.0) (tree_at new c.round.new.run.term.0)
+          c.loop.rewrites c.in-Ok-Some.count c.saturating_add-rewrites.result c.saturating_add-rewrites.ensures i.told c.round.ensures.behind
+          (λ e. subst (λ (o : Option ℕ). IfSome o (TellsRules p n.hooks new (g.E.Evaluator.table c.round.new.evaluator) (g.W.StepWatcher.told c.loop.watcher) (g.W.StepWatcher.told c.round.new.watcher) (tree_at now run.term.0) (tree_at new c.round.new.run.term.0)))
+          c.in-Ok-Some.field-0-is (c.in-Ok-Some.ensures.told e));
       under = subst (λ (z : Option ℕ). IsUnder I P f b0 c.saturating_add-rewrites.result z (stand_of new c.round.new.run) after) (sym c.one_less-more.ensures)
           (under_more I P f b0 c.loop.rewrites c.loop.more s c.loop.left i.under (stand_of new c.round.new.run) c.in-Ok-Some.count after c.saturating_add-rewrites.result out k c.saturating_add-rewrites.ensures);
     }
@@ -296,3 +317,60 @@ returns-in-Ok-None-clause-extends g c = extension_is_preorder.transitive c.args.
 
 pub returns-in-Err-round-clause-extends : goal.returns-in-Err-round-clause-extends
 returns-in-Err-round-clause-extends g c = extension_is_preorder.transitive c.args.store.now c.loop.store c.round.new.store c.loop.invariant.extends c.round.ensures.extends
+
+-- ---- what is told
+
+pub returns-in-Err-clause-before : goal.returns-in-Err-clause-before
+returns-in-Err-clause-before g c = c.evaluate.ensures.before
+
+pub returns-in-Err-clause-silent : goal.returns-in-Err-clause-silent
+returns-in-Err-clause-silent g c = c.evaluate.ensures.silent
+
+pub returns-in-Err-new-clause-before : goal.returns-in-Err-new-clause-before
+returns-in-Err-new-clause-before g c = c.evaluate.ensures.before
+
+pub returns-in-Err-new-clause-silent : goal.returns-in-Err-new-clause-silent
+returns-in-Err-new-clause-silent g c = c.evaluate.ensures.silent
+
+pub returns-then-is_out-clause-told : goal.returns-then-is_out-clause-told
+returns-then-is_out-clause-told g c = c.loop.invariant.told.rules
+
+pub returns-then-is_out-clause-before : goal.returns-then-is_out-clause-before
+returns-then-is_out-clause-before g c = λ w. c.loop.invariant.told.behind.more
+
+pub returns-then-is_out-clause-silent : goal.returns-then-is_out-clause-silent
+returns-then-is_out-clause-silent g c = c.loop.invariant.told.behind.silent
+
+pub returns-clause-before : goal.returns-clause-before
+returns-clause-before g c = λ w. c.loop.invariant.told.behind.more
+
+pub returns-clause-silent : goal.returns-clause-silent
+returns-clause-silent g c = c.loop.invariant.told.behind.silent
+
+pub returns-in-Ok-None-clause-told : goal.returns-in-Ok-None-clause-told
+returns-in-Ok-None-clause-told g c =
+    let p = c.args.program.now in
+    let m = g.E.Evaluator.meanings c.args.evaluator.now in
+    let i = c.loop.invariant in
+    let now = c.loop.store in
+    let new = c.round.new.store in
+    let run = c.loop.self in
+    let same : c.round.new.run ≡ run = c.in-Ok-None.ensures.unchanged (ap (λ (o : Option ℕ). Ok o) c.in-Ok-None.field-0-is) in
+    let b = g.W.StepWatcher.told c.loop.watcher in
+    let d = g.W.StepWatcher.told c.round.new.watcher in
+    let at = ap (λ (r : RuleRun). tree_at new r.term.0) same ∙ tree_kept (theory_at p.sig) now new run.term.0 c.round.ensures.extends i.run.term.within in
+    let untold = subst (λ (o : Option ℕ). IfNone o (d ≡ b)) c.in-Ok-None.field-0-is c.in-Ok-None.ensures.untold in
+    (told_still p m.hooks (g.W.StepWatcher.wanted c.args.watcher.now) now new (g.E.Evaluator.table c.loop.evaluator) (g.E.Evaluator.table c.round.new.evaluator) c.round.ensures.extends c.round.ensures.kept
+    (g.W.StepWatcher.told c.args.watcher.now) b d untold (tree_at c.args.store.now c.args.self.now.term.0) (tree_at now run.term.0) (tree_at new c.round.new.run.term.0) at c.loop.rewrites i.told).rules
+
+pub returns-in-Ok-None-clause-before : goal.returns-in-Ok-None-clause-before
+returns-in-Ok-None-clause-before g c = λ w. (behind_on (g.W.StepWatcher.wanted c.loop.watcher) (g.W.StepWatcher.wanted c.args.watcher.now) (g.W.StepWatcher.told c.args.watcher.now) (g.W.StepWatcher.told c.loop.watcher) (g.W.StepWatcher.told c.round.new.watcher) c.loop.invariant.wanted c.loop.invariant.told.behind c.round.ensures.behind).more
+
+pub returns-in-Ok-None-clause-silent : goal.returns-in-Ok-None-clause-silent
+returns-in-Ok-None-clause-silent g c = (behind_on (g.W.StepWatcher.wanted c.loop.watcher) (g.W.StepWatcher.wanted c.args.watcher.now) (g.W.StepWatcher.told c.args.watcher.now) (g.W.StepWatcher.told c.loop.watcher) (g.W.StepWatcher.told c.round.new.watcher) c.loop.invariant.wanted c.loop.invariant.told.behind c.round.ensures.behind).silent
+
+pub returns-in-Err-round-clause-before : goal.returns-in-Err-round-clause-before
+returns-in-Err-round-clause-before g c = λ w. (behind_on (g.W.StepWatcher.wanted c.loop.watcher) (g.W.StepWatcher.wanted c.args.watcher.now) (g.W.StepWatcher.told c.args.watcher.now) (g.W.StepWatcher.told c.loop.watcher) (g.W.StepWatcher.told c.round.new.watcher) c.loop.invariant.wanted c.loop.invariant.told.behind c.round.ensures.behind).more
+
+pub returns-in-Err-round-clause-silent : goal.returns-in-Err-round-clause-silent
+returns-in-Err-round-clause-silent g c = (behind_on (g.W.StepWatcher.wanted c.loop.watcher) (g.W.StepWatcher.wanted c.args.watcher.now) (g.W.StepWatcher.told c.args.watcher.now) (g.W.StepWatcher.told c.loop.watcher) (g.W.StepWatcher.told c.round.new.watcher) c.loop.invariant.wanted c.loop.invariant.told.behind c.round.ensures.behind).silent
