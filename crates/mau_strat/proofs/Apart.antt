@@ -52,7 +52,7 @@ module _ (i : Interned) (are : IsInterned i) (terms strategies : ℕ) (within : 
       let v = bindings_apart x.values.0 y.values.0 p.1 q.1 (ap (λ (d : Todo). d.values) e) in
       λ k. record { form = record { 0 = f k }; calls = (e k).calls; values = record { 0 = v k } }
 
-  todos_apart : (m n : ℕ) → m < length i.todos → n < length i.todos → todos_at tree strategy i m ≡ todos_at tree strategy i n → m ≡ n
+  pub todos_apart : (m n : ℕ) → m < length i.todos → n < length i.todos → todos_at tree strategy i m ≡ todos_at tree strategy i n → m ≡ n
   todos_apart = number_apart i.todos are.todos_once (todo_of tree strategy i) IsTodo (both (λ d. d.form.0 < strategies) (λ d. d.values.0 < length i.bindings) i.todos within.todos are.todos) todo_apart
 
   abbrev IsNamed : StoredFrame → Type 0
@@ -73,7 +73,7 @@ module _ (i : Interned) (are : IsInterned i) (terms strategies : ℕ) (within : 
       let l' = todos_apart x.behind.0 y.behind.0 p.1.2 q.1.2 l in
       λ k. record { test = a' k; after = b' k; begun = record { 0 = t' k }; behind = record { 0 = l' k } }
 
-  frames_apart : (m n : ℕ) → m < length i.frames → n < length i.frames → frames_at tree strategy i m ≡ frames_at tree strategy i n → m ≡ n
+  pub frames_apart : (m n : ℕ) → m < length i.frames → n < length i.frames → frames_at tree strategy i m ≡ frames_at tree strategy i n → m ≡ n
   frames_apart = number_apart i.frames are.frames_once (frame_of tree strategy i) (λ f. IsNamed f × IsPlaced f) (both IsNamed IsPlaced i.frames within.frames are.frames) frame_apart
 
   config_apart : (x y : StoredConfig) → (x.term.0 < terms) × ((x.todo.0 < length i.todos) × (x.frames.0 < length i.frames)) → (y.term.0 < terms) × ((y.todo.0 < length i.todos) × (y.frames.0 < length i.frames)) →

@@ -33,7 +33,7 @@ others_of_three n e f g h = All-tail (λ i. i < n) e (f ∷ g ∷ []) h
 
 module _ (leaf : ℕ → Strategy) where
   -- only the strategies of its parts matter
-  over_same : (g h : ℕ → Strategy) (n : ℕ) (f : Form) → AreBelow n (parts f) → ((i : ℕ) → i < n → g i ≡ h i) → strategy_over leaf g f ≡ strategy_over leaf h f
+  pub over_same : (g h : ℕ → Strategy) (n : ℕ) (f : Form) → AreBelow n (parts f) → ((i : ℕ) → i < n → g i ≡ h i) → strategy_over leaf g f ≡ strategy_over leaf h f
   over_same g h n (Leaf l) b same = refl
   over_same g h n Idle b same = refl
   over_same g h n Fail b same = refl

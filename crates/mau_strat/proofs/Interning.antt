@@ -6,7 +6,7 @@ use Rattle.mau_strat.specs.declared.configs.Todo.{Todo}
 use Rattle.mau_strat.specs.declared.configs.Frame.{Frame}
 use Rattle.mau_strat.specs.declared.configs.Config.{Config}
 use Rattle.mau_strat.specs.Sharing.{EachOnce, Extends, list_at}
-use Rattle.mau_strat.specs.Interned.{Interned, nothing, IsInterned, Grows, IsWithin}
+use Rattle.mau_strat.specs.Interned.{Interned, nothing, IsInterned, Grows, AddsBinding, AddsTodos, AddsFrames, AddsConfig, IsWithin}
 
 -- x was added, or is there
 abbrev pub IsAdded : {A : Type 0} → List A → A → List A → Type 0
@@ -170,3 +170,15 @@ module _ (i old : Interned) (same : i ≡ old) where
 
   pub config_grows : (new : List Config) (first : Config) → IsAdded i.configs first new → Grows old (record { bindings = i.bindings; todos = i.todos; frames = i.frames; configs = new })
   config_grows new first a = subst (λ o. Grows o (record { bindings = i.bindings; todos = i.todos; frames = i.frames; configs = new })) same (record { bindings = extends_itself i.bindings; todos = extends_itself i.todos; frames = extends_itself i.frames; configs = extends_added i.configs new first a })
+
+  pub bound_adds : (new : List (List Bound)) (first : Bound) (rest : ℕ) → IsAdded i.bindings (first ∷ list_at i.bindings rest) new → AddsBinding old (first ∷ list_at old.bindings rest) (record { bindings = new; todos = i.todos; frames = i.frames; configs = i.configs })
+  bound_adds new first rest a = subst (λ o. AddsBinding o (first ∷ list_at o.bindings rest) (record { bindings = new; todos = i.todos; frames = i.frames; configs = i.configs })) same (a, refl, refl, refl)
+
+  pub todo_adds : (new : List (List Todo)) (first : Todo) (rest : ℕ) → IsAdded i.todos (first ∷ list_at i.todos rest) new → AddsTodos old (first ∷ list_at old.todos rest) (record { bindings = i.bindings; todos = new; frames = i.frames; configs = i.configs })
+  todo_adds new first rest a = subst (λ o. AddsTodos o (first ∷ list_at o.todos rest) (record { bindings = i.bindings; todos = new; frames = i.frames; configs = i.configs })) same (a, refl, refl, refl)
+
+  pub frame_adds : (new : List (List Frame)) (first : Frame) (rest : ℕ) → IsAdded i.frames (first ∷ list_at i.frames rest) new → AddsFrames old (first ∷ list_at old.frames rest) (record { bindings = i.bindings; todos = i.todos; frames = new; configs = i.configs })
+  frame_adds new first rest a = subst (λ o. AddsFrames o (first ∷ list_at o.frames rest) (record { bindings = i.bindings; todos = i.todos; frames = new; configs = i.configs })) same (a, refl, refl, refl)
+
+  pub config_adds : (new : List Config) (x : Config) → IsAdded i.configs x new → AddsConfig old x (record { bindings = i.bindings; todos = i.todos; frames = i.frames; configs = new })
+  config_adds new x a = subst (λ o. AddsConfig o x (record { bindings = i.bindings; todos = i.todos; frames = i.frames; configs = new })) same (a, refl, refl, refl)

@@ -13,7 +13,7 @@ use Rattle.mau_strat.specs.Sharing.{Extends, list_at}
 use Rattle.mau_strat.specs.Interned.{Interned, IsInterned, Grows, IsWithin}
 use Rattle.mau_strat.specs.Configurations.{bound_of, binding_at, todo_of, todos_at, frame_of, frames_at, config_of, config_at, AgreeBelow, NumbersKeepConfigs}
 
-get_kept : {A : Type 0} (old new : List A) → Extends old new → (n : ℕ) (d : A) → n < length old → get_or new n d ≡ get_or old n d
+pub get_kept : {A : Type 0} (old new : List A) → Extends old new → (n : ℕ) (d : A) → n < length old → get_or new n d ≡ get_or old n d
 get_kept old new x n d h = ap (λ xs. get_or xs n d) x.1 ∙ get_or_append_left old x.0 d n h
 
 map_kept : {A B : Type 0} (f g : A → B) (P : A → Type 0) → ((x : A) → P x → g x ≡ f x) → (xs : List A) → All P xs → map g xs ≡ map f xs
@@ -26,17 +26,17 @@ list_kept old new x f g P all same n h = ap (map g) (get_kept old new x n [] h) 
 
 module _ (old new : Interned) (are : IsInterned old) (x : Grows old new) (terms strategies : ℕ) (within : IsWithin terms strategies old) (tree tree' : ℕ → Tree) (trees : AgreeBelow tree tree' terms) (strategy strategy' : ℕ → Strategy)
     (forms : AgreeBelow strategy strategy' strategies) where
-  binding_kept : (n : ℕ) → n < length old.bindings → binding_at tree' strategy' new n ≡ binding_at tree strategy old n
+  pub binding_kept : (n : ℕ) → n < length old.bindings → binding_at tree' strategy' new n ≡ binding_at tree strategy old n
   binding_kept = list_kept old.bindings new.bindings x.bindings (bound_of tree strategy) (bound_of tree' strategy') (λ b. b.value.0 < terms) within.bindings
       (λ b p. ap (λ t. ((b.variable.index, b.variable.sort), t)) (trees b.value.0 p))
 
-  todo_kept : (d : StoredTodo) → d.form.0 < strategies → d.values.0 < length old.bindings → todo_of tree' strategy' new d ≡ todo_of tree strategy old d
+  pub todo_kept : (d : StoredTodo) → d.form.0 < strategies → d.values.0 < length old.bindings → todo_of tree' strategy' new d ≡ todo_of tree strategy old d
   todo_kept d p q =
       let f = forms d.form.0 p in
       let v = binding_kept d.values.0 q in
       λ k. record { form = f k; calls = d.calls; values = v k }
 
-  todos_kept : (n : ℕ) → n < length old.todos → todos_at tree' strategy' new n ≡ todos_at tree strategy old n
+  pub todos_kept : (n : ℕ) → n < length old.todos → todos_at tree' strategy' new n ≡ todos_at tree strategy old n
   todos_kept = list_kept old.todos new.todos x.todos (todo_of tree strategy old) (todo_of tree' strategy' new) (λ d. (d.form.0 < strategies) × (d.values.0 < length old.bindings))
       (λ m e h k l b. (within.todos m e h k l b, are.todos m e h k l b)) (λ d p. todo_kept d p.0 p.1)
 
@@ -46,7 +46,7 @@ module _ (old new : Interned) (are : IsInterned old) (x : Grows old new) (terms 
   abbrev IsPlaced : StoredFrame → Type 0
   IsPlaced f = (f.test.values.0 < length old.bindings) × (f.after.values.0 < length old.bindings) × (f.behind.0 < length old.todos)
 
-  frame_kept : (f : StoredFrame) → IsNamed f × IsPlaced f → frame_of tree' strategy' new f ≡ frame_of tree strategy old f
+  pub frame_kept : (f : StoredFrame) → IsNamed f × IsPlaced f → frame_of tree' strategy' new f ≡ frame_of tree strategy old f
   frame_kept f p =
       let a = todo_kept f.test p.0.0 p.1.0 in
       let b = todo_kept f.after p.0.1 p.1.1 in
@@ -54,7 +54,7 @@ module _ (old new : Interned) (are : IsInterned old) (x : Grows old new) (terms 
       let l = todos_kept f.behind.0 p.1.2 in
       λ k. test_frame (a k) (b k) (t k) (l k)
 
-  frames_kept : (n : ℕ) → n < length old.frames → frames_at tree' strategy' new n ≡ frames_at tree strategy old n
+  pub frames_kept : (n : ℕ) → n < length old.frames → frames_at tree' strategy' new n ≡ frames_at tree strategy old n
   frames_kept = list_kept old.frames new.frames x.frames (frame_of tree strategy old) (frame_of tree' strategy' new) (λ f. IsNamed f × IsPlaced f)
       (λ m e h k l b. (within.frames m e h k l b, are.frames m e h k l b)) frame_kept
 

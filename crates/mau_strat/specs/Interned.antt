@@ -1,6 +1,6 @@
 -- Configurations by numbers, and the lists that they are made of: variables with their values, what is left to do, and chains of frames. Each of these
 -- has a number too, which is its place; the empty list has 0. Terms are numbers of a store, and strategies have numbers.
-use Rattle.std.specs.Prelude.{◌≡◌, ℕ, ◌<◌, List, [], ◌∷◌, All, length}
+use Rattle.std.specs.Prelude.{◌≡◌, ◌⊎◌, ℕ, ◌<◌, List, [], ◌∷◌, ◌++◌, All, length}
 use Rattle.mau_strat.specs.declared.configs.Bound.{Bound}
 use Rattle.mau_strat.specs.declared.configs.Todo.{Todo}
 use Rattle.mau_strat.specs.declared.configs.Frame.{Frame}
@@ -33,6 +33,19 @@ pub record Grows (old new : Interned) : Type 0 where
   pub todos : Extends old.todos new.todos
   pub frames : Extends old.frames new.frames
   pub configs : Extends old.configs new.configs
+
+-- just this one is added, if it is not there
+abbrev pub AddsBinding : Interned → List Bound → Interned → Type 0
+AddsBinding old x new = ((new.bindings ≡ old.bindings) ⊎ (new.bindings ≡ old.bindings ++ x ∷ [])) × (new.todos ≡ old.todos) × (new.frames ≡ old.frames) × (new.configs ≡ old.configs)
+
+abbrev pub AddsTodos : Interned → List Todo → Interned → Type 0
+AddsTodos old x new = ((new.todos ≡ old.todos) ⊎ (new.todos ≡ old.todos ++ x ∷ [])) × (new.bindings ≡ old.bindings) × (new.frames ≡ old.frames) × (new.configs ≡ old.configs)
+
+abbrev pub AddsFrames : Interned → List Frame → Interned → Type 0
+AddsFrames old x new = ((new.frames ≡ old.frames) ⊎ (new.frames ≡ old.frames ++ x ∷ [])) × (new.bindings ≡ old.bindings) × (new.todos ≡ old.todos) × (new.configs ≡ old.configs)
+
+abbrev pub AddsConfig : Interned → Config → Interned → Type 0
+AddsConfig old x new = ((new.configs ≡ old.configs) ⊎ (new.configs ≡ old.configs ++ x ∷ [])) × (new.bindings ≡ old.bindings) × (new.todos ≡ old.todos) × (new.frames ≡ old.frames)
 
 -- the numbers of terms and of strategies are below these
 pub record IsWithin (terms strategies : ℕ) (i : Interned) : Type 0 where

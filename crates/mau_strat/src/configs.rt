@@ -1,7 +1,7 @@
 //! Configurations as numbers.
 ghost use Rattle.std.specs.Prelude.{◌≡◌, ◌↔◌, ℕ, ◌∷◌, ◌<◌, [], length, slice_get, Some, IsTrue, IfOk, OnErr, MatchOption};
 ghost use Rattle.mau_strat.specs.Sharing.{list_at};
-ghost use Rattle.mau_strat.specs.Interned.{nothing, IsInterned, Grows, IsWithin};
+ghost use Rattle.mau_strat.specs.Interned.{nothing, IsInterned, Grows, AddsBinding, AddsTodos, AddsFrames, AddsConfig, IsWithin};
 
 use crate::lists::Lists;
 use crate::numbered::Numbered;
@@ -94,6 +94,7 @@ impl Interner {
     pub fn add_bound(&mut self, first: Bound, rest: BindingId) -> Result<BindingId, NoMemory>
         requires rest { rest.0 < length self.old.bindings }
         ensures ok { IfOk result (λ id. slice_get self.new.bindings id.0 ≡ Some (first ∷ list_at self.old.bindings rest.0)) }
+        ensures adds { AddsBinding self.old (first ∷ list_at self.old.bindings rest.0) self.new }
         ensures grows { Grows self.old self.new }
         ensures unchanged { OnErr result (self.new ≡ self.old) }
         ensures interned { IsInterned self.new }
@@ -108,6 +109,7 @@ impl Interner {
         requires values { first.values.0 < length self.old.bindings }
         requires rest { rest.0 < length self.old.todos }
         ensures ok { IfOk result (λ id. slice_get self.new.todos id.0 ≡ Some (first ∷ list_at self.old.todos rest.0)) }
+        ensures adds { AddsTodos self.old (first ∷ list_at self.old.todos rest.0) self.new }
         ensures grows { Grows self.old self.new }
         ensures unchanged { OnErr result (self.new ≡ self.old) }
         ensures interned { IsInterned self.new }
@@ -124,6 +126,7 @@ impl Interner {
         requires behind { first.behind.0 < length self.old.todos }
         requires rest { rest.0 < length self.old.frames }
         ensures ok { IfOk result (λ id. slice_get self.new.frames id.0 ≡ Some (first ∷ list_at self.old.frames rest.0)) }
+        ensures adds { AddsFrames self.old (first ∷ list_at self.old.frames rest.0) self.new }
         ensures grows { Grows self.old self.new }
         ensures unchanged { OnErr result (self.new ≡ self.old) }
         ensures interned { IsInterned self.new }
@@ -138,6 +141,7 @@ impl Interner {
         requires todo { config.todo.0 < length self.old.todos }
         requires frames { config.frames.0 < length self.old.frames }
         ensures ok { IfOk result (λ number. slice_get self.new.configs number ≡ Some config) }
+        ensures adds { AddsConfig self.old config self.new }
         ensures grows { Grows self.old self.new }
         ensures unchanged { OnErr result (self.new ≡ self.old) }
         ensures interned { IsInterned self.new }

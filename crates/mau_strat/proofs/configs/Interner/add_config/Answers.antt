@@ -1,7 +1,7 @@
 use Rattle.std.proofs.Common.{◌∷◌}
 use Rattle.mau_strat.specs.Interned.{Interned}
 use Rattle.mau_strat.specs.Sharing.{list_at}
-use Rattle.mau_strat.proofs.Interning.{config_grows, config_in, config_within}
+use Rattle.mau_strat.proofs.Interning.{config_adds, config_grows, config_in, config_within}
 use Rattle.mau_strat.proofs.configs.Interner.add_config.Goals as goal
 
 pub returns-clause-grows : goal.returns-clause-grows
@@ -15,3 +15,6 @@ returns-clause-interned c =
 pub returns-clause-within : goal.returns-clause-within
 returns-clause-within c terms strategies within term =
     config_within (record { bindings = c.self.inside.bindings; todos = c.self.inside.todos; frames = c.self.inside.frames; configs = c.self.inside.configs }) c.args.self.now c.self.view_is terms strategies within c.add.new.self c.args.config c.add.ensures.added term
+
+pub returns-clause-adds : goal.returns-clause-adds
+returns-clause-adds c = config_adds (record { bindings = c.self.inside.bindings; todos = c.self.inside.todos; frames = c.self.inside.frames; configs = c.self.inside.configs }) c.args.self.now c.self.view_is c.add.new.self c.args.config c.add.ensures.added

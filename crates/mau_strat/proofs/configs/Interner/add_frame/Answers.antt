@@ -1,9 +1,12 @@
 use Rattle.std.proofs.Common.{◌∷◌}
 use Rattle.mau_strat.specs.Interned.{Interned}
 use Rattle.mau_strat.specs.Sharing.{list_at}
-use Rattle.mau_strat.proofs.Interning.{frame_grows, frame_in, frame_within}
+use Rattle.mau_strat.proofs.Interning.{frame_adds, frame_grows, frame_in, frame_within}
 use Rattle.mau_strat.proofs.configs.Interner.add_frame.Goals as goal
 
 pub returns-clause-within : goal.returns-clause-within
 returns-clause-within c terms strategies within test after begun =
     frame_within (record { bindings = c.self.inside.bindings; todos = c.self.inside.todos; frames = c.self.inside.frames; configs = c.self.inside.configs }) c.args.self.now c.self.view_is terms strategies within c.add.new.self c.args.first c.args.rest.0 c.add.ensures.added c.requires.rest test after begun
+
+pub returns-clause-adds : goal.returns-clause-adds
+returns-clause-adds c = frame_adds (record { bindings = c.self.inside.bindings; todos = c.self.inside.todos; frames = c.self.inside.frames; configs = c.self.inside.configs }) c.args.self.now c.self.view_is c.add.new.self c.args.first c.args.rest.0 c.add.ensures.added

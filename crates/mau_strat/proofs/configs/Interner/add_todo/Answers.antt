@@ -1,9 +1,12 @@
 use Rattle.std.proofs.Common.{◌∷◌}
 use Rattle.mau_strat.specs.Interned.{Interned}
 use Rattle.mau_strat.specs.Sharing.{list_at}
-use Rattle.mau_strat.proofs.Interning.{todo_grows, todo_in, todo_within}
+use Rattle.mau_strat.proofs.Interning.{todo_adds, todo_grows, todo_in, todo_within}
 use Rattle.mau_strat.proofs.configs.Interner.add_todo.Goals as goal
 
 pub returns-clause-within : goal.returns-clause-within
 returns-clause-within c terms strategies within form =
     todo_within (record { bindings = c.self.inside.bindings; todos = c.self.inside.todos; frames = c.self.inside.frames; configs = c.self.inside.configs }) c.args.self.now c.self.view_is terms strategies within c.add.new.self c.args.first c.args.rest.0 c.add.ensures.added c.requires.rest form
+
+pub returns-clause-adds : goal.returns-clause-adds
+returns-clause-adds c = todo_adds (record { bindings = c.self.inside.bindings; todos = c.self.inside.todos; frames = c.self.inside.frames; configs = c.self.inside.configs }) c.args.self.now c.self.view_is c.add.new.self c.args.first c.args.rest.0 c.add.ensures.added
