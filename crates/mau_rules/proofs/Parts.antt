@@ -1,5 +1,5 @@
 -- Parts of a run of rules that are told, and what was told of the terms that are open in a pass.
-use Rattle.std.proofs.Common.{◌≡◌, ℕ, zero, suc, ◌+◌, ◌-◌, ◌^◌, min, List, [], ◌∷◌, ◌++◌, map, Bool, true, Some, slice_get, refl, sym, ap, ap₂, ◌∙◌, subst, arith, append_assoc, append-nil, add-zero}
+use Rattle.std.proofs.Common.{◌≡◌, ℕ, zero, suc, ◌+◌, ◌-◌, ◌^◌, min, List, [], ◌∷◌, ◌++◌, map, Bool, true, Some, Result, Ok, Err, IfOk, slice_get, refl, sym, ap, ap₂, ◌∙◌, subst, arith, append_assoc, append-nil, add-zero}
 use Rattle.std.proofs.Math.ListN.{set}
 use Rattle.std.proofs.lemmas.List.{map-append, map-set}
 use Rattle.std.proofs.lemmas.List.Elements.{All-append, All-cons, All-nil}
@@ -10,14 +10,15 @@ use Rattle.mau_terms.specs.Laws.{AreNorms}
 use Rattle.mau_terms.specs.declared.ids.TermId.{TermId}
 use Rattle.mau_terms.specs.declared.theory.Theory.{Theory}
 use Rattle.mau_terms.proofs.Induction.{norm-node}
-use Rattle.mau_terms.proofs.Pieces.{trees_of-list_of}
-use Rattle.mau_signature.specs.Signature.{theory_at, terms_over}
+use Rattle.mau_terms.proofs.Pieces.{trees_of-list_of, list_of-trees_of}
+use Rattle.mau_signature.specs.Signature.{SignatureOf, theory_at, terms_over}
 use Rattle.mau_formula.specs.Operator.{Operator}
 use Rattle.mau_store.specs.Node.{Node, numeral_node, variable_node, operator_node, IsOf, AreNodes, Extends}
 use Rattle.mau_store.specs.Trees.{tree_at, trees_at}
 use Rattle.mau_store.specs.View.{numbers}
 use Rattle.mau_store.proofs.Standing.{tree_of_node, tree_at-extends}
 use Rattle.mau_sorts.specs.Table.{Table, KeepsEntries}
+use Rattle.mau_sorts.proofs.Settling.{kept_same}
 use Rattle.mau_listing.specs.Asked.{HasEntry}
 use Rattle.mau_listing.proofs.Growth.{entry_kept}
 use Rattle.mau_program.specs.declared.program.Program as Typed
@@ -29,12 +30,21 @@ use Rattle.mau_api.specs.declared.step.Place.TheVariants.{Whole, Argument}
 use Rattle.mau_api.specs.Told.{Told, enters, leaves, told_in, BeginsNoRound, Leads, stands, on_whole, on_arguments, LeadsIn, all_stand, in_one, StandsIn, IsToldRun, steps_in, shown_count}
 use Rattle.mau_api.proofs.ToldRuns.{events_same, events_stand, leads_more, round_goes_on, runs_go_on, runs_stay, steps-append}
 use Rattle.mau_reduce.proofs.KindsKept.{norms_of, tree_kept, trees_kept}
+use Rattle.mau_reduce.proofs.Stepped.{term_told}
 use Rattle.mau_rules.specs.declared.frames.Frame.{Frame}
+use Rattle.mau_rules.specs.Walk.{Opened, MayReplace}
 use Rattle.mau_rules.specs.Passes.{over, frame_in, IsFrame, IsEntered, IsChain}
 use Rattle.mau_rules.specs.Telling.{TellsBehind, TellsRules, Adds, TellsPart, first_term, RoundFrom, TellsRound, TellsReached, TellsOpen, TellsWithin, TellsPass}
 use Rattle.mau_rules.proofs.Placed.{get_there}
-use Rattle.mau_rules.proofs.Told.{behind_on, begins_on}
+use Rattle.mau_rules.proofs.Told.{behind_same, behind_on, begins_on}
+use Rattle.mau_rules.proofs.OpenTerms.{frame_kept, frame_same, chain_kept, chain_before, chain_step}
 use Rattle.mau_rules.proofs.Uses.{shown_sum}
+
+-- ---- results
+
+pub both_ok : {X E : Type 0} (r : Result X E) (P Q R : X → Type 0) → ((x : X) → P x → Q x → R x) → IfOk r P → IfOk r Q → IfOk r R
+both_ok (Ok x) P Q R f h k = f x h k
+both_ok (Err e) P Q R f h k = tt
 
 -- ---- counts
 
@@ -95,6 +105,18 @@ pub record IsPartSo (p : Typed.Program) (hooks : List Operator) (wanted : Bool) 
   pub behind : TellsBehind wanted old new
   pub part : wanted ≡ true → TellsPart p hooks nodes table old new t u before now
 
+pub parts_none : (p : Typed.Program) (hooks : List Operator) (w : Bool) (nodes : List Node) (table : Table) (a : List Event) (t : Tree) (b : ℕ) → IsPartSo p hooks w nodes table a a t t b b
+parts_none p hooks w nodes table a t b = record { behind = behind_same w a; part = λ i. part_none p hooks nodes table a t b }
+
+-- nothing more is told
+pub parts_still : (p : Typed.Program) (hooks : List Operator) (w : Bool) (now new : List Node) (before after : Table) → Extends now new → KeepsEntries before after → (a b c : List Event) → c ≡ b → (t u x : Tree) → x ≡ u → (q r : ℕ) →
+    IsPartSo p hooks w now before a b t u q r → IsPartSo p hooks w new after a c t x q r
+parts_still p hooks w now new before after grows kept a b c d t u x e q r h =
+    subst (λ es. IsPartSo p hooks w new after a es t x q r) (sym d) (subst (λ y. IsPartSo p hooks w new after a b t y q r) (sym e) (record {
+      behind = h.behind;
+      part = λ i. part_stays p hooks now new before after grows kept a b t u q r (h.part i);
+    }))
+
 -- a further part, for an evaluator that goes by the same meanings and a watcher that wants the same
 pub parts_on : (p : Typed.Program) (m n : Meanings) → n ≡ m → (v w : Bool) → v ≡ w → (now new : List Node) (before after : Table) → Extends now new → KeepsEntries before after → (a b c : List Event) (t u x : Tree) (q r s : ℕ) →
     IsPartSo p m.hooks w now before a b t u q r → TellsBehind v b c → (v ≡ true → TellsPart p n.hooks new after b c u x r s) → IsPartSo p m.hooks w new after a c t x q s
@@ -151,7 +173,7 @@ module _ (p : Typed.Program) (hooks : List Operator) (nodes : List Node) (table 
     open_more Q R t ys f xs inner o,
   )
 
-  first_push : (xs : List Frame) (y : Frame) (t : TermId) → first_term (xs ++ y ∷ []) t ≡ first_term xs y.term
+  pub first_push : (xs : List Frame) (y : Frame) (t : TermId) → first_term (xs ++ y ∷ []) t ≡ first_term xs y.term
   first_push [] y t = refl
   first_push (x ∷ xs) y t = refl
 
@@ -356,3 +378,114 @@ module _ (p : Typed.Program) (hooks : List Operator) (old new : List Node) (grow
 
   pub pass_stays : (t v : TermId) → IsOf old t.0 → IsOf old v.0 → (a b : List Event) (n : ℕ) → TellsPass p hooks old before t v a b n → TellsPass p hooks new after t v a b n
   pass_stays t v there value a b n h = record { events = h.events; told = h.told; reached = reached_stays t v there value h.events h.reached; count = h.count }
+
+-- ---- a pass goes on
+
+chain_first : (s : SignatureOf) (nodes : List Node) (root : ℕ) (xs : List Frame) (t : TermId) → IsChain s nodes root xs t.0 → root ≡ (first_term xs t).0
+chain_first s nodes root [] t c = c
+chain_first s nodes root (x ∷ xs) t c = sym c.0
+
+pub chain_from : (s : SignatureOf) (nodes : List Node) (root : ℕ) (xs : List Frame) (t r : TermId) → first_term xs t ≡ r → IsChain s nodes root xs t.0 → IsChain s nodes r.0 xs t.0
+chain_from s nodes root xs t r e c = subst (λ i. IsChain s nodes i xs t.0) (chain_first s nodes root xs t c ∙ ap (λ (i : TermId). i.0) e) c
+
+-- a term that was opened
+pub round_fresh : (p : Typed.Program) (hooks : List Operator) (nodes : List Node) (table : Table) (x : Frame) → (frame_in nodes x).0 ≡ tree_at nodes x.term.0 → TellsRound p hooks nodes table x []
+round_fresh p hooks nodes table x e = record { stand = All-nil (StandsIn nodes); round = by (tree_at nodes x.term.0) e }
+  where
+    us : List Tree
+    us = trees_at nodes (numbers x.args.items)
+
+    by : (t : Tree) → over t us ≡ t → RoundFrom p hooks nodes table t [] us
+    by (apply f ts) d =
+        let same : trees_of us ≡ ts = cc in
+        subst (λ vs. LeadsIn p hooks (HasEntry p.sig nodes table) true vs [] us) (sym (list_of-trees_of us) ∙ ap list_of same) all_stand
+    by (variable i r) d = refl
+    by (numeral n) d = refl
+
+module _ (p : Typed.Program) (hooks : List Operator) (lawful : IsLawful (terms_over p.sig)) (now new : List Node) (grows : Extends now new) (before after : Table) (kept : KeepsEntries before after) (are : AreNodes now) where
+  abbrev norms : ℕ → Theory
+  norms = theory_at p.sig
+
+  -- the innermost open term was passed over
+  pub within_passed : AreNodes new → (x : Frame) → IsFrame p.sig now x → (xs : List Frame) (root : ℕ) → IsChain p.sig now root xs x.term.0 → (id : TermId) (a b d : List Event) (n y z : ℕ) → IsNormalTerm p.sig (norm norms (frame_in now x).0) →
+      TellsWithin p hooks now before (TellsRound p hooks now before x) x.term xs a b n → (h : TellsPart p hooks new after b d (norm norms (frame_in now x).0) (tree_at new id.0) y z) →
+      TellsWithin p hooks new after (TellsReached p hooks new after x.term id) x.term xs a d (n + steps_in h.events)
+  within_passed are_new x is xs root chain id a b d n y z normal told h =
+      let same = ap (λ (o : Opened). norm norms o.0) (frame_same p.sig now new grows are x is) in
+      let held = within_stays p hooks now new grows before after kept are (TellsRound p hooks now before x) (TellsRound p hooks new after x) (round_stays p hooks now new grows before after kept are x is) x.term xs root x.term.0 chain a b n told in
+      within_more p hooks new after (TellsRound p hooks new after x) (TellsReached p hooks new after x.term id) x.term xs a b d h.events n (steps_in h.events)
+      (λ es r.
+      round_done p hooks new after lawful are_new x (frame_kept p.sig now new grows x is) es h.events (tree_at new id.0) (subst (IsNormalTerm p.sig) (sym same) normal) r h.begins
+      (subst (λ t. IsToldRun p hooks new after true t h.events (tree_at new id.0)) (sym same) h.run)) h.told refl held
+
+-- the whole term is closed: its open terms, and what was told of the innermost one, which reached v
+pub record IsClosing (p : Typed.Program) (hooks : List Operator) (nodes : List Node) (table : Table) (root : TermId) (xs : List Frame) (v : TermId) (a b : List Event) (n : ℕ) : Type 0 where
+  pub inner : TermId
+  pub first : first_term xs inner ≡ root
+  pub chain : IsChain p.sig nodes root.0 xs inner.0
+  pub may : MayReplace p.sig nodes inner.0 v.0
+  pub within : TellsWithin p hooks nodes table (TellsReached p hooks nodes table inner v) inner xs a b n
+
+module _ (p : Typed.Program) (hooks : List Operator) (lawful : IsLawful (terms_over p.sig)) (now new : List Node) (grows : Extends now new) (table : Table) (are : AreNodes now) where
+  abbrev th' : ℕ → Theory
+  th' = theory_at p.sig
+
+  -- one open term is left and built again
+  pub closing_on : (root : TermId) (zs : List Frame) (x : Frame) (v : TermId) (a b c : List Event) (n : ℕ) → (h : IsClosing p hooks now table root (zs ++ x ∷ []) v a b n) → c ≡ b ++ left v ∷ [] →
+      (y : Frame) → y.term ≡ x.term → ((e : IsEntered now x h.inner.0) → numbers y.args.items ≡ set (numbers x.args.items) e.place v.0) → IsFrame p.sig now y →
+      (id : TermId) → tree_at new id.0 ≡ norm th' (frame_in now y).0 → MayReplace p.sig new y.term.0 id.0 → IsClosing p hooks new table root zs id a c n
+  closing_on root zs x v a b c n h e y t put frame id value may = record {
+    inner = y.term;
+    first = ap (first_term zs) t ∙ (sym (first_push p hooks now table zs x h.inner) ∙ h.first);
+    chain = chain_kept p.sig now new grows root.0 zs y.term.0 here;
+    may = may;
+    within = within_stays p hooks now new grows table table (kept_same table) are
+        (λ es. IsToldRun p hooks now table true (tree_at now y.term.0) es (norm th' (frame_in now y).0)) (TellsReached p hooks new table y.term id) reached y.term zs root.0 y.term.0 here a c n rebuilt;
+  }
+    where
+      entered_last : IsEntered now x h.inner.0
+      entered_last = chain_step p.sig now root.0 zs x h.inner.0 h.chain
+
+      here : IsChain p.sig now root.0 zs y.term.0
+      here = subst (λ (i : TermId). IsChain p.sig now root.0 zs i.0) (sym t) (chain_before p.sig now root.0 zs x h.inner.0 h.chain)
+
+      normal : IsNormalTerm p.sig (norm th' (frame_in now y).0)
+      normal = subst (IsNormalTerm p.sig) value (term_told p.sig lawful new id.0 (record { within = may.2.within; bare = (may.0, may.2.bare) }))
+
+      popped : TellsWithin p hooks now table (TellsRound p hooks now table y) y.term zs a c n
+      popped = within_pop p hooks now table are x h.inner v entered_last h.may.1.within.there h.may.2.within.there y t (put entered_last) zs a b c n e h.within
+
+      rebuilt : TellsWithin p hooks now table (λ es. IsToldRun p hooks now table true (tree_at now y.term.0) es (norm th' (frame_in now y).0)) y.term zs a c n
+      rebuilt = subst (TellsWithin p hooks now table (λ es. IsToldRun p hooks now table true (tree_at now y.term.0) es (norm th' (frame_in now y).0)) y.term zs a c) (add-zero n)
+          (within_more p hooks now table (TellsRound p hooks now table y) (λ es. IsToldRun p hooks now table true (tree_at now y.term.0) es (norm th' (frame_in now y).0)) y.term zs a c c [] n 0
+          (λ es r. round_done p hooks now table lawful are y frame es [] (norm th' (frame_in now y).0) normal r tt (record { stand = All-nil (StandsIn now); leads = stands })) (sym (append-nil c)) refl popped)
+
+      reached : (es : List Event) → IsToldRun p hooks now table true (tree_at now y.term.0) es (norm th' (frame_in now y).0) → TellsReached p hooks new table y.term id es
+      reached es r =
+          subst (λ u. IsToldRun p hooks new table true (tree_at new y.term.0) es u) (sym value)
+          (subst (λ u. IsToldRun p hooks new table true u es (norm th' (frame_in now y).0)) (sym (tree_at-extends now new y.term.0 grows frame.term.within.there))
+          (runs_stay p hooks now new table table grows (kept_same table) true (tree_at now y.term.0) es (norm th' (frame_in now y).0) r))
+
+-- within a pass
+pub record IsPassing (p : Typed.Program) (hooks : List Operator) (nodes : List Node) (table : Table) (root : TermId) (x : Frame) (xs : List Frame) (a b : List Event) (before now : ℕ) : Type 0 where
+  pub count : ℕ
+  pub first : first_term xs x.term ≡ root
+  pub within : TellsWithin p hooks nodes table (TellsRound p hooks nodes table x) x.term xs a b count
+  pub adds : Adds before now count
+
+-- the innermost open term reached a term, and has not been left
+pub record HasReached (p : Typed.Program) (hooks : List Operator) (nodes : List Node) (table : Table) (t v : TermId) (xs : List Frame) (a b : List Event) (before now : ℕ) : Type 0 where
+  pub count : ℕ
+  pub within : TellsWithin p hooks nodes table (TellsReached p hooks nodes table t v) t xs a b count
+  pub adds : Adds before now count
+
+pub passing_reached : (p : Typed.Program) (m n : Meanings) → n ≡ m → IsLawful (terms_over p.sig) → (now new : List Node) → Extends now new → (before after : Table) → KeepsEntries before after → AreNodes now → AreNodes new → (root : TermId) (x : Frame) → IsFrame p.sig now x →
+    (xs : List Frame) (start : ℕ) → IsChain p.sig now start xs x.term.0 → (id : TermId) (a b d : List Event) (k y z : ℕ) → IsNormalTerm p.sig (norm (theory_at p.sig) (frame_in now x).0) → IsPassing p m.hooks now before root x xs a b k y →
+    TellsPart p n.hooks new after b d (norm (theory_at p.sig) (frame_in now x).0) (tree_at new id.0) y z → HasReached p m.hooks new after x.term id xs a d k z
+passing_reached p m n e lawful now new grows before after kept are are_new root x is xs start chain id a b d k y z normal h told =
+    let part = part_as p m n e new after b d (norm (theory_at p.sig) (frame_in now x).0) (tree_at new id.0) y z told in
+    record {
+      count = h.count + steps_in part.events;
+      within = within_passed p m.hooks lawful now new grows before after kept are are_new x is xs start chain id a b d h.count y z normal h.within part;
+      adds = adds_on k y z h.count (steps_in part.events) h.adds part.adds;
+    }

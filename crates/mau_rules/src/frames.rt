@@ -1,19 +1,24 @@
 //! The terms that are open in a pass of frewrite, on the heap.
-ghost use Rattle.std.specs.Prelude.{◌≡◌, ◌≤◌, ◌<◌, ◌-◌, ℕ, map, length, slice_set, IfOk, IfErr, IfSome, IfNone};
+ghost use Rattle.std.specs.Prelude.{◌≡◌, ◌≤◌, ◌<◌, ◌-◌, ℕ, List, map, length, slice_set, true, IfOk, IfErr, IfSome, IfNone};
 ghost use Rattle.mau_terms.specs.Tree.{Tree};
 ghost use Rattle.mau_terms.specs.Bare.{IsLawful};
 ghost use Rattle.mau_signature.specs.Signature.{SignatureOf, theory_at, terms_over};
+ghost use Rattle.mau_formula.specs.Operator.{Operator};
 ghost use Rattle.mau_store.specs.Node.{Extends};
 ghost use Rattle.mau_store.specs.Trees.{tree_at, StandsFor};
+ghost use Rattle.mau_sorts.specs.Table.{Table};
 ghost use Rattle.mau_evaluation.specs.Evaluation.{admit};
 ghost use Rattle.mau_api.specs.Terms.{IsTerm};
+ghost use Rattle.mau_api.specs.Events.{Event};
 ghost use Rattle.mau_reduce.specs.Ends.{IsEnd};
 ghost use Rattle.mau_rules.specs.Walk.{around_all, MayReplace};
 ghost use Rattle.mau_rules.specs.Passes.{frame_in, IsFrame, IsChain, IsNext, HasNoNext};
+ghost use Rattle.mau_rules.specs.Telling.{TellsBehind, first_term, TellsReached, TellsWithin, TellsPass};
 
+use crate::telling::tell_exit;
 use crate::walk::is_frozen;
 use crate::whole::end_around;
-use mau_api::EvalEnd;
+use mau_api::{EvalEnd, Program, StepWatcher};
 use mau_canon::build;
 use mau_signature::Signature;
 use mau_store::{NodeView, Store};
@@ -105,28 +110,42 @@ pub(crate) fn put_in(outer: Frame, term: TermId) -> Frame
     outer
 }
 
-/// The whole term through whose open terms a term was reached, all arguments as they stand now.
-pub(crate) fn close_all(
+/// The whole term through whose open terms a term was reached, all arguments as they stand now. Each of these terms is left as it stands.
+pub(crate) fn close_all<W: StepWatcher>(
     store: &mut Store,
-    sig: &Signature,
+    program: &Program,
     frames: &mut Vec<Frame>,
     term: TermId,
+    watcher: &mut W,
 ) -> Result<TermId, EvalEnd>
-    requires lawful { IsLawful (terms_over sig.now) }
-    requires stands { (root child : ℕ) × IsChain sig.now store.old root frames.old.items child × MayReplace sig.now store.old child term.0 }
-    ensures value { IfOk result (λ id. StandsFor (theory_at sig.now) store.new id.0 (around_all (λ v. v) (map (frame_in store.old) frames.old.items) (tree_at store.old term.0))) }
-    ensures term { IfOk result (λ id. IsTerm sig.now store.new id.0) }
-    ensures ends { (b : ℕ) → IfErr result (IsEnd (admit (theory_at sig.now) (around_all (λ v. v) (map (frame_in store.old) frames.old.items) (tree_at store.old term.0)) b)) }
+    requires lawful { IsLawful (terms_over program.now.sig) }
+    requires stands { (root child : ℕ) × IsChain program.now.sig store.old root frames.old.items child × MayReplace program.now.sig store.old child term.0 }
+    ensures value { IfOk result (λ id. StandsFor (theory_at program.now.sig) store.new id.0 (around_all (λ v. v) (map (frame_in store.old) frames.old.items) (tree_at store.old term.0))) }
+    ensures term { IfOk result (λ id. IsTerm program.now.sig store.new id.0) }
+    ensures ends { (b : ℕ) → IfErr result (IsEnd (admit (theory_at program.now.sig) (around_all (λ v. v) (map (frame_in store.old) frames.old.items) (tree_at store.old term.0)) b)) }
+    ensures told { W.wanted watcher.old ≡ true → IfOk result (λ id. (hooks : List Operator) (table : Table) (front : List Event) (root inner : TermId) (n : ℕ) →
+        first_term frames.old.items inner ≡ root → IsChain program.now.sig store.old root.0 frames.old.items inner.0 → MayReplace program.now.sig store.old inner.0 term.0 →
+        TellsWithin program.now hooks store.old table (TellsReached program.now hooks store.old table inner term) inner frames.old.items front (W.told watcher.old) n →
+        TellsPass program.now hooks store.new table root id front (W.told watcher.new) n) }
+    ensures behind { TellsBehind (W.wanted watcher.old) (W.told watcher.old) (W.told watcher.new) }
     ensures extends { Extends store.old store.new }
+    ensures wanted { W.wanted watcher.new ≡ W.wanted watcher.old }
 {
     let mut whole = term;
     while let Some(outer) = frames.pop() {
         let _ = store.len();
+        match tell_exit(watcher, whole) {
+            Ok(()) => (),
+            Err(_) => return Err(EvalEnd::NoMemory),
+        }
         let at = put_in(outer, whole);
-        match rebuilt(store, sig, &at) {
+        match rebuilt(store, &program.sig, &at) {
             Ok(id) => whole = id,
             Err(end) => return Err(end_around(frames.is_empty(), end)),
         }
     }
-    Ok(whole)
+    match tell_exit(watcher, whole) {
+        Ok(()) => Ok(whole),
+        Err(_) => Err(EvalEnd::NoMemory),
+    }
 }

@@ -187,6 +187,11 @@ impl RuleRun {
         ensures fits { E.fits evaluator.new store.new }
         ensures kept { KeepsEntries (E.table evaluator.old) (E.table evaluator.new) }
         ensures meanings { E.meanings evaluator.new ≡ E.meanings evaluator.old }
+        ensures told { W.wanted watcher.old ≡ true → IfOk result (λ x.
+            TellsRules program.now (E.meanings evaluator.old).hooks store.new (E.table evaluator.new) (W.told watcher.old) (W.told watcher.new)
+            (tree_at store.old self.old.term.0) (tree_at store.new self.new.term.0) x.1.rewrites) }
+        ensures before { W.wanted watcher.old ≡ true → TellsMore (W.told watcher.old) (W.told watcher.new) }
+        ensures silent { W.wanted watcher.old ≡ false → W.told watcher.new ≡ W.told watcher.old }
         ensures wanted { W.wanted watcher.new ≡ W.wanted watcher.old }
     {
         let by_top = match RulesByTop::new(store.allocator(), program) {

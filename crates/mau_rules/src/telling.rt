@@ -1,5 +1,5 @@
-//! The step that is told of a use of a rule, with the whole term around it for its context.
-ghost use Rattle.std.specs.Prelude.{◌≡◌, ◌∷◌, ◌+◌, [], ℕ, List, map, true, false, All, IfOk, OnOk};
+//! What is told: of a use of a rule the step, with the whole term around it for its context; and where passes begin and end.
+ghost use Rattle.std.specs.Prelude.{◌≡◌, ◌<◌, ◌-◌, ◌++◌, ◌∷◌, ◌+◌, [], ℕ, List, map, true, false, All, IfOk, OnOk};
 ghost use Rattle.mau_terms.specs.Tree.{variable};
 ghost use Rattle.mau_terms.specs.Norm.{norm};
 ghost use Rattle.mau_terms.specs.Bare.{IsBare, IsBareIn, IsLawful};
@@ -14,7 +14,7 @@ ghost use Rattle.mau_canon.specs.Standing.{StandsWithin};
 ghost use Rattle.mau_sorts.specs.Table.{Table};
 ghost use Rattle.mau_listing.specs.Asked.{HasEntry};
 ghost use Rattle.mau_api.specs.Terms.{IsTerm, IsBareWithin, fill, holes};
-ghost use Rattle.mau_api.specs.Events.{Event, made};
+ghost use Rattle.mau_api.specs.Events.{Event, entered, left, made};
 ghost use Rattle.mau_api.specs.Told.{step_in, StandsIn, shown_count};
 ghost use Rattle.mau_api.specs.Answers.{IsValueOf};
 ghost use Rattle.mau_reduce.specs.Kinds.{IsTermIn};
@@ -28,7 +28,7 @@ ghost use Rattle.mau_rules.specs.Telling.{TellsBehind, TellsFound, IsRuleStep, T
 use crate::attempt::Found;
 use crate::walk::Open;
 use crate::whole::{parted, placed};
-use mau_api::{Program, Statement, Step, StepWatcher};
+use mau_api::{Place, Program, Statement, Step, StepWatcher};
 use mau_canon::{build_instance, read};
 use mau_reduce::{Binding, fills, has_one_hole, hole_for, shown_number};
 use mau_signature::Signature;
@@ -194,4 +194,50 @@ pub(crate) fn tell_use<W: StepWatcher>(
     }
     let step = rule_step(store, program, way, found, after)?;
     watcher.step(step)
+}
+
+/// A pass begins with a term, if steps are wanted.
+pub(crate) fn tell_entry<W: StepWatcher>(watcher: &mut W, term: TermId) -> Result<(), NoMemory>
+    ensures told { OnOk result (W.wanted watcher.old ≡ true → W.told watcher.new ≡ W.told watcher.old ++ entered term Place.Whole ∷ []) }
+    ensures behind { TellsBehind (W.wanted watcher.old) (W.told watcher.old) (W.told watcher.new) }
+    ensures wanted { W.wanted watcher.new ≡ W.wanted watcher.old }
+{
+    if !watcher.wants() {
+        return Ok(());
+    }
+    watcher.enter(term, Place::Whole)
+}
+
+/// A pass over an argument begins, if steps are wanted; so many arguments are behind the pass once it is entered. One that has no place
+/// in 32 bits doesn't fit into memory.
+pub(crate) fn tell_argument<W: StepWatcher>(
+    watcher: &mut W,
+    term: TermId,
+    next: usize,
+) -> Result<(), NoMemory>
+    requires { 0 < next }
+    ensures told { OnOk result (W.wanted watcher.old ≡ true → W.told watcher.new ≡ W.told watcher.old ++ entered term (Place.Argument (next - 1)) ∷ []) }
+    ensures behind { TellsBehind (W.wanted watcher.old) (W.told watcher.old) (W.told watcher.new) }
+    ensures wanted { W.wanted watcher.new ≡ W.wanted watcher.old }
+{
+    if !watcher.wants() {
+        return Ok(());
+    }
+    let place = next - 1;
+    if place > 4294967295 {
+        return Err(NoMemory);
+    }
+    watcher.enter(term, Place::Argument(place as u32))
+}
+
+/// The pass that began last ends with a value, if steps are wanted.
+pub(crate) fn tell_exit<W: StepWatcher>(watcher: &mut W, value: TermId) -> Result<(), NoMemory>
+    ensures told { OnOk result (W.wanted watcher.old ≡ true → W.told watcher.new ≡ W.told watcher.old ++ left value ∷ []) }
+    ensures behind { TellsBehind (W.wanted watcher.old) (W.told watcher.old) (W.told watcher.new) }
+    ensures wanted { W.wanted watcher.new ≡ W.wanted watcher.old }
+{
+    if !watcher.wants() {
+        return Ok(());
+    }
+    watcher.leave(value)
 }

@@ -1,18 +1,20 @@
 //! What a pass of frewrite makes of one term whose arguments were passed over.
-ghost use Rattle.std.specs.Prelude.{◌≡◌, ◌≤◌, ℕ, map, true, false, None, Ok, IfOk, IfSome};
+ghost use Rattle.std.specs.Prelude.{◌≡◌, ◌≤◌, ℕ, map, true, false, None, Ok, IfOk, IfSome, IfNone};
+ghost use Rattle.mau_terms.specs.Norm.{norm};
 ghost use Rattle.mau_terms.specs.Bare.{IsLawful};
-ghost use Rattle.mau_signature.specs.Signature.{terms_over};
+ghost use Rattle.mau_signature.specs.Signature.{theory_at, terms_over};
 ghost use Rattle.mau_store.specs.Node.{Extends};
 ghost use Rattle.mau_store.specs.Trees.{tree_at};
 ghost use Rattle.mau_sorts.specs.Table.{KeepsEntries};
 ghost use Rattle.mau_evaluation.specs.Run.{Run};
 ghost use Rattle.mau_evaluation.specs.RuleRuns.{PassEnd, is_out};
-ghost use Rattle.mau_api.specs.Terms.{IsTerm};
+ghost use Rattle.mau_api.specs.Terms.{IsTerm, IsNormalTerm};
 ghost use Rattle.mau_api.specs.Programs.{program_over};
 ghost use Rattle.mau_api.specs.Answers.{AreSettled};
 ghost use Rattle.mau_rules.specs.Runnable.{IsRunnable, GoesBy};
 ghost use Rattle.mau_rules.specs.Runs.{turns_of, IsRunOf};
 ghost use Rattle.mau_rules.specs.Found.{item_of};
+ghost use Rattle.mau_rules.specs.Telling.{TellsBehind, TellsRules, TellsPart};
 ghost use Rattle.mau_rules.specs.ByTop.{AreRulesByTop};
 ghost use Rattle.mau_rules.specs.Walk.{MayReplace};
 ghost use Rattle.mau_rules.specs.Counted.{IsCounted};
@@ -82,6 +84,11 @@ fn once<E: Evaluator, L: Lister + Drop, W: StepWatcher>(
     ensures fits { E.fits evaluator.new store.new }
     ensures kept { KeepsEntries (E.table evaluator.old) (E.table evaluator.new) }
     ensures meanings { E.meanings evaluator.new ≡ E.meanings evaluator.old }
+    ensures told { W.wanted watcher.old ≡ true → IfOk result (λ o. IfSome o (λ x.
+        TellsRules program.now (E.meanings evaluator.old).hooks store.new (E.table evaluator.new) (W.told watcher.old) (W.told watcher.new)
+        (tree_at store.old term.0) (tree_at store.new x.term.0) x.rewrites)) }
+    ensures untold { IfOk result (λ o. IfNone o (W.told watcher.new ≡ W.told watcher.old)) }
+    ensures behind { TellsBehind (W.wanted watcher.old) (W.told watcher.old) (W.told watcher.new) }
     ensures wanted { W.wanted watcher.new ≡ W.wanted watcher.old }
 {
     let _ = store.len();
@@ -139,6 +146,10 @@ fn tops<E: Evaluator, L: Lister + Drop, W: StepWatcher>(
     ensures fits { E.fits evaluator.new store.new }
     ensures kept { KeepsEntries (E.table evaluator.old) (E.table evaluator.new) }
     ensures meanings { E.meanings evaluator.new ≡ E.meanings evaluator.old }
+    ensures told { W.wanted watcher.old ≡ true → IfOk result (λ id.
+        TellsPart program.now (E.meanings evaluator.old).hooks store.new (E.table evaluator.new) (W.told watcher.old) (W.told watcher.new)
+        (tree_at store.old term.0) (tree_at store.new id.0) tally.old.rewrites tally.new.rewrites) }
+    ensures behind { TellsBehind (W.wanted watcher.old) (W.told watcher.old) (W.told watcher.new) }
     ensures wanted { W.wanted watcher.new ≡ W.wanted watcher.old }
 {
     let mut reached = term;
@@ -204,6 +215,11 @@ pub(crate) fn passed<E: Evaluator, L: Lister + Drop, W: StepWatcher>(
     ensures fits { E.fits evaluator.new store.new }
     ensures kept { KeepsEntries (E.table evaluator.old) (E.table evaluator.new) }
     ensures meanings { E.meanings evaluator.new ≡ E.meanings evaluator.old }
+    ensures told { W.wanted watcher.old ≡ true → IfOk result (λ id.
+        TellsPart program.now (E.meanings evaluator.old).hooks store.new (E.table evaluator.new) (W.told watcher.old) (W.told watcher.new)
+        (norm (theory_at program.now.sig) (frame_in store.old at.now).0) (tree_at store.new id.0) tally.old.rewrites tally.new.rewrites) }
+    ensures normal { IfOk result (λ _. IsNormalTerm program.now.sig (norm (theory_at program.now.sig) (frame_in store.old at.now).0)) }
+    ensures behind { TellsBehind (W.wanted watcher.old) (W.told watcher.old) (W.told watcher.new) }
     ensures wanted { W.wanted watcher.new ≡ W.wanted watcher.old }
 {
     let whole = match rebuilt(store, &program.sig, at) {

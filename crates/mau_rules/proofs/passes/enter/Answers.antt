@@ -1,16 +1,17 @@
-use Rattle.std.proofs.Common.{◌++◌, ◌∷◌, [], List, map, refl, sym, ap, ◌∙◌, subst}
+use Rattle.std.proofs.Common.{◌++◌, ◌∷◌, [], List, map, arith, refl, sym, ap, ◌∙◌, subst}
 use Rattle.std.proofs.lemmas.List.{map-append}
 use Rattle.mau_terms.specs.declared.ids.TermId.{TermId}
 use Rattle.mau_rules.specs.declared.frames.Frame.{Frame}
 use Rattle.mau_rules.specs.Passes.{frame_in, IsChain}
 use Rattle.mau_rules.proofs.OpenTerms.{next_term, chain_on, frame_again, entered_next}
+use Rattle.mau_rules.proofs.Told.{behind_same}
 use Rattle.mau_rules.proofs.passes.enter.Goals as goal
 
 pub open_term-requires-clause-term : goal.open_term-requires-clause-term
-open_term-requires-clause-term c = next_term c.args.sig.now c.args.store.now c.len.ensures.nodes c.args.at c.requires.frame c.args.next c.args.child.0 c.requires.next
+open_term-requires-clause-term g c = next_term c.args.sig.now c.args.store.now c.len.ensures.nodes c.args.at c.requires.frame c.args.next c.args.child.0 c.requires.next
 
 pub returns-clause-chain : goal.returns-clause-chain
-returns-clause-chain c =
+returns-clause-chain g c =
     let s = c.args.sig.now in
     let nodes = c.args.store.now in
     let x = c.args.at in
@@ -23,7 +24,18 @@ returns-clause-chain c =
     )
 
 pub returns-clause-frames : goal.returns-clause-frames
-returns-clause-frames c =
+returns-clause-frames g c =
     let nodes = c.args.store.now in
     let y : Frame = record { term = c.args.at.term; args = c.args.at.args; next = c.args.next } in
     ap (map (frame_in nodes)) c.in_ok-push.ensures.items ∙ map-append (frame_in nodes) c.args.frames.now.items (y ∷ [])
+
+pub tell_argument-requires : goal.tell_argument-requires
+tell_argument-requires g c = omega (arith, c.requires.next.next)
+
+pub returns-clause-pushed : goal.returns-clause-pushed
+returns-clause-pushed g c =
+    let y : Frame = record { term = c.args.at.term; args = c.args.at.args; next = c.args.next } in
+    (y, refl, refl, refl, c.in_ok-push.ensures.items)
+
+pub returns-in_err-inner-clause-behind : goal.returns-in_err-inner-clause-behind
+returns-in_err-inner-clause-behind g c = behind_same (g.W.StepWatcher.wanted c.args.watcher.now) (g.W.StepWatcher.told c.args.watcher.now)

@@ -1,15 +1,19 @@
 use Rattle.std.proofs.Common.{◌≡◌, Ok, Err, ap, subst}
-use Rattle.mau_signature.specs.Signature.{SignatureOf}
+use Rattle.mau_signature.specs.Signature.{SignatureOf, theory_at}
 use Rattle.mau_store.specs.Trees.{tree_at}
 use Rattle.mau_program.specs.declared.program.Program.{Program}
 use Rattle.mau_api.specs.Terms.{IsTerm}
 use Rattle.mau_api.specs.Answers.{AreSettled, uses_results}
-use Rattle.mau_reduce.proofs.KindsKept.{is_term_kept}
+use Rattle.mau_reduce.proofs.KindsKept.{is_term_kept, tree_kept}
+use Rattle.mau_api.specs.Told.{TellsEvaluation}
 use Rattle.mau_rules.specs.Found.{item_of}
 use Rattle.mau_rules.specs.Runs.{turns_of}
 use Rattle.mau_rules.proofs.Solving.{evaluation_known}
 use Rattle.mau_rules.proofs.PassSteps.{value_given, value_not_given}
 use Rattle.mau_rules.proofs.PassEnds.{last_given, last_ends}
+use Rattle.mau_rules.specs.Telling.{TellsPart}
+use Rattle.mau_rules.proofs.Told.{behind_told, evaluation_rules}
+use Rattle.mau_rules.proofs.Parts.{part_of}
 use Rattle.mau_rules.proofs.passes.last_value.Goals as goal
 
 pub returns-in-Err-clause-known : goal.returns-in-Err-clause-known
@@ -55,3 +59,29 @@ pub returns-clause-settled : goal.returns-clause-settled
 returns-clause-settled g c =
     let same : (g.E.Evaluator.meanings c.args.evaluator.now).program.sig ≡ c.args.program.now.sig = ap (λ (q : Program). q.sig) c.requires.goes_by.program in
     subst (λ (z : SignatureOf). AreSettled z c.evaluate.new.store (g.E.Evaluator.table c.evaluate.new.self) (tree_at c.evaluate.new.store c.in-Ok.value.term.0)) same c.in-Ok.ensures.settled
+
+-- ---- what is told
+
+pub returns-in-Err-clause-behind : goal.returns-in-Err-clause-behind
+returns-in-Err-clause-behind g c = behind_told (g.W.StepWatcher.wanted c.args.watcher.now) (g.W.StepWatcher.told c.args.watcher.now) (g.W.StepWatcher.told c.evaluate.new.watcher) c.evaluate.ensures.before c.evaluate.ensures.silent
+
+pub returns-clause-behind : goal.returns-clause-behind
+returns-clause-behind g c = behind_told (g.W.StepWatcher.wanted c.args.watcher.now) (g.W.StepWatcher.told c.args.watcher.now) (g.W.StepWatcher.told c.evaluate.new.watcher) c.evaluate.ensures.before c.evaluate.ensures.silent
+
+pub returns-clause-told : goal.returns-clause-told
+returns-clause-told g c = λ w.
+    let p = c.args.program.now in
+    let m = g.E.Evaluator.meanings c.args.evaluator.now in
+    let s0 = c.args.store.now in
+    let s1 = c.evaluate.new.store in
+    let table = g.E.Evaluator.table c.evaluate.new.self in
+    let a = g.W.StepWatcher.told c.args.watcher.now in
+    let b = g.W.StepWatcher.told c.evaluate.new.watcher in
+    let t = c.args.term in
+    let x = c.in-Ok.value in
+    let same : m.program.sig ≡ p.sig = ap (λ (q : Program). q.sig) c.requires.goes_by.program in
+    let reached = subst (λ (z : SignatureOf). IsTerm z s1 x.term.0) same c.in-Ok.ensures.term in
+    let told = subst (λ (q : Program). TellsEvaluation q m.hooks s1 table a b t x.term x.rewrites) c.requires.goes_by.program (c.in-Ok.ensures.told w) in
+    let part = part_of p m.hooks s1 table a b (tree_at s1 t.0) (tree_at s1 x.term.0) c.args.tally.now.rewrites x.rewrites c.saturating_add-tally.result c.saturating_add-tally.ensures
+    (evaluation_rules p m.hooks s1 table a b t x.term x.rewrites (is_term_kept p.sig s0 s1 t.0 c.evaluate.ensures.extends c.requires.term).within.there reached.within.there told) in
+    subst (λ u. TellsPart p m.hooks s1 table a b u (tree_at s1 x.term.0) c.args.tally.now.rewrites c.saturating_add-tally.result) (tree_kept (theory_at p.sig) s0 s1 t.0 c.evaluate.ensures.extends c.requires.term.within) part

@@ -1,4 +1,4 @@
-use Rattle.std.proofs.Common.{◌≡◌, ◌≤◌, ℕ, false}
+use Rattle.std.proofs.Common.{◌≡◌, ◌≤◌, ℕ, true, false}
 use Rattle.mau_store.specs.Node.{Extends}
 use Rattle.mau_store.specs.Trees.{tree_at}
 use Rattle.mau_sorts.specs.Table.{KeepsEntries}
@@ -10,6 +10,8 @@ use Rattle.mau_rules.specs.Found.{item_of}
 use Rattle.mau_rules.specs.Counted.{IsCounted}
 use Rattle.mau_rules.specs.Passes.{IsFrame, IsChain, open_by, behind_pass, pass_with}
 use Rattle.mau_rules.proofs.PassWalk.{IsWithin}
+use Rattle.mau_rules.specs.Telling.{TellsBehind}
+use Rattle.mau_rules.proofs.Parts.{IsPassing}
 use Rattle.mau_rules.proofs.passes.pass.Given as goal
 
 abbrev pub invariant-loop : goal.invariant-loop
@@ -31,6 +33,8 @@ invariant-loop g l =
       frame : IsFrame p.sig l.store l.at;
       chain : (root : ℕ) × IsChain p.sig l.store root l.frames.items l.at.term.0;
       more : is_out l.tally.left ≡ false;
+      behind : TellsBehind w (g.W.StepWatcher.told l.fn.watcher) (g.W.StepWatcher.told l.watcher);
+      told : w ≡ true → IsPassing p m.hooks l.store (g.E.Evaluator.table l.evaluator) l.fn.run.term l.at l.frames.items (g.W.StepWatcher.told l.fn.watcher) (g.W.StepWatcher.told l.watcher) l.fn.tally.rewrites l.tally.rewrites;
       known : (f : ℕ → ℕ → Run PassEnd) (b0 : ℕ) →
           IsCounted (item_of m w) f b0 l.fn.tally.rewrites (open_by P l.fn.tally.gas (t, 0) (pass_with t (turns_of l.fn.run.turns.items) l.fn.tally) (behind_pass P l.fn.tally.gas)) l.fn.budget →
           IsWithin (item_of m w) f b0 P l.fn.tally.gas l.store l.frames.items l.at (turns_of l.run.turns.items) l.tally (behind_pass P l.fn.tally.gas) l.budget;

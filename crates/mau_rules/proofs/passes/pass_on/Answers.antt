@@ -14,6 +14,11 @@ use Rattle.mau_rules.specs.Passes.{passing_by, behind_pass, pass_with}
 use Rattle.mau_rules.proofs.Running.{stand_at}
 use Rattle.mau_rules.proofs.PassEnds.{pass_begins, pass_idle, next_pass, no_pass}
 use Rattle.mau_rules.proofs.PassWalk.{last_so}
+use Rattle.mau_rules.proofs.Told.{behind_on}
+use Rattle.mau_rules.proofs.Parts.{part_on, part_stays, part_as}
+use Rattle.std.proofs.lemmas.Result.{IfOk-weaker}
+use Rattle.mau_store.specs.Trees.{tree_at}
+use Rattle.mau_rules.specs.Telling.{TellsPart}
 use Rattle.mau_rules.proofs.passes.pass_on.Goals as goal
 
 pub last_value-requires-clause-none : goal.last_value-requires-clause-none
@@ -103,3 +108,32 @@ returns-clause-known g c = λ f b0 h.
 
 pub returns-then-is_out-2-clause-kept : goal.returns-then-is_out-2-clause-kept
 returns-then-is_out-2-clause-kept g c = kept_on (g.E.Evaluator.table c.args.evaluator.now) (g.E.Evaluator.table c.pass.new.evaluator) (g.E.Evaluator.table c.last_value-then-is_out-2.new.evaluator) c.pass.ensures.kept c.last_value-then-is_out-2.ensures.kept
+
+-- ---- what is told
+
+pub returns-then-is_out-2-clause-behind : goal.returns-then-is_out-2-clause-behind
+returns-then-is_out-2-clause-behind g c =
+    behind_on (g.W.StepWatcher.wanted c.pass.new.watcher) (g.W.StepWatcher.wanted c.args.watcher.now) (g.W.StepWatcher.told c.args.watcher.now) (g.W.StepWatcher.told c.pass.new.watcher) (g.W.StepWatcher.told c.last_value-then-is_out-2.new.watcher)
+    c.pass.ensures.wanted c.pass.ensures.behind c.last_value-then-is_out-2.ensures.behind
+
+pub returns-then-is_out-2-clause-told : goal.returns-then-is_out-2-clause-told
+returns-then-is_out-2-clause-told g c = λ w.
+    let p = c.args.program.now in
+    let m = g.E.Evaluator.meanings c.args.evaluator.now in
+    let n = g.E.Evaluator.meanings c.pass.new.evaluator in
+    let s1 = c.pass.new.store in
+    let s2 = c.last_value-then-is_out-2.new.store in
+    let t1 = g.E.Evaluator.table c.pass.new.evaluator in
+    let t2 = g.E.Evaluator.table c.last_value-then-is_out-2.new.evaluator in
+    let a = g.W.StepWatcher.told c.args.watcher.now in
+    let b = g.W.StepWatcher.told c.pass.new.watcher in
+    let d = g.W.StepWatcher.told c.last_value-then-is_out-2.new.watcher in
+    let t = tree_at c.args.store.now c.args.run.now.term.0 in
+    let u = tree_at s1 c.in-Ok.term.0 in
+    let v = tree_at s2 c.last_value-then-is_out-2.new.run.term.0 in
+    let x = c.args.tally.now.rewrites in
+    let y = c.pass.new.tally.rewrites in
+    let z = c.last_value-then-is_out-2.new.tally.rewrites in
+    let first = part_stays p m.hooks s1 s2 t1 t2 c.last_value-then-is_out-2.ensures.extends c.last_value-then-is_out-2.ensures.kept a b t u x y (c.in-Ok.ensures.told w) in
+    IfOk-weaker c.last_value-then-is_out-2.result (λ _. TellsPart p n.hooks s2 t2 b d u v y z) (λ _. TellsPart p m.hooks s2 t2 a d t v x z)
+    (λ _ h. part_on p m.hooks s2 t2 a b d t u v x y z first (part_as p m n c.pass.ensures.meanings s2 t2 b d u v y z h)) (c.last_value-then-is_out-2.ensures.told (c.pass.ensures.wanted ∙ w))

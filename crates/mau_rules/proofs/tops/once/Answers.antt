@@ -1,4 +1,4 @@
-use Rattle.std.proofs.Common.{◌≡◌, ℕ, suc, List, Option, Some, Ok, Err, IfSome, refl, sym, ap, ap₂, ◌∙◌, subst}
+use Rattle.std.proofs.Common.{◌≡◌, ◌+◌, ℕ, suc, List, Option, Some, Ok, Err, IfSome, IfNone, refl, sym, ap, ap₂, ◌∙◌, subst}
 use Rattle.std.proofs.lemmas.Option.{slice_get_within}
 use Rattle.mau_terms.specs.Tree.{Tree}
 use Rattle.mau_terms.specs.declared.ids.TermId.{TermId}
@@ -18,6 +18,9 @@ use Rattle.mau_rules.specs.Found.{IsFound, item_of, rules_in, found_stand, found
 use Rattle.mau_rules.proofs.Running.{stand_at}
 use Rattle.mau_rules.proofs.Uses.{found_is, use_so}
 use Rattle.mau_rules.proofs.Onces.{once_none, once_search_ends, once_value, once_value_ends}
+use Rattle.mau_api.specs.Told.{shown_count}
+use Rattle.mau_rules.specs.Telling.{TellsFound, TellsRules}
+use Rattle.mau_rules.proofs.Told.{behind_on, found_as, rules_as}
 use Rattle.mau_rules.proofs.tops.once.Goals as goal
 
 pub turn_for-turn-requires : goal.turn_for-turn-requires
@@ -180,3 +183,41 @@ returns-clause-run g c = record {
 
 pub returns-clause-kept : goal.returns-clause-kept
 returns-clause-kept g c = kept_on (g.E.Evaluator.table c.args.evaluator.now) (g.E.Evaluator.table c.among.new.evaluator) (g.E.Evaluator.table c.value_behind.new.evaluator) c.among.ensures.kept c.value_behind.ensures.kept
+
+-- ---- what is told
+
+pub returns-in-Ok-None-clause-untold : goal.returns-in-Ok-None-clause-untold
+returns-in-Ok-None-clause-untold g c =
+    subst (λ (o : Option Found). IfNone o (g.W.StepWatcher.told c.among.new.watcher ≡ g.W.StepWatcher.told c.args.watcher.now)) c.in-Ok-None.field-0-is c.in-Ok-None.ensures.untold
+
+pub returns-in-Err-value_behind-clause-behind : goal.returns-in-Err-value_behind-clause-behind
+returns-in-Err-value_behind-clause-behind g c =
+    behind_on (g.W.StepWatcher.wanted c.among.new.watcher) (g.W.StepWatcher.wanted c.args.watcher.now) (g.W.StepWatcher.told c.args.watcher.now) (g.W.StepWatcher.told c.among.new.watcher) (g.W.StepWatcher.told c.value_behind.new.watcher)
+    c.among.ensures.wanted c.among.ensures.behind c.value_behind.ensures.behind
+
+pub returns-clause-behind : goal.returns-clause-behind
+returns-clause-behind g c =
+    behind_on (g.W.StepWatcher.wanted c.among.new.watcher) (g.W.StepWatcher.wanted c.args.watcher.now) (g.W.StepWatcher.told c.args.watcher.now) (g.W.StepWatcher.told c.among.new.watcher) (g.W.StepWatcher.told c.value_behind.new.watcher)
+    c.among.ensures.wanted c.among.ensures.behind c.value_behind.ensures.behind
+
+pub returns-clause-told : goal.returns-clause-told
+returns-clause-told g c = λ w.
+    let p = c.args.program.now in
+    let m = g.E.Evaluator.meanings c.args.evaluator.now in
+    let n = g.E.Evaluator.meanings c.among.new.evaluator in
+    let s0 = c.args.store.now in
+    let s1 = c.among.new.store in
+    let s2 = c.value_behind.new.store in
+    let table = g.E.Evaluator.table c.among.new.evaluator in
+    let after = g.E.Evaluator.table c.value_behind.new.evaluator in
+    let a = g.W.StepWatcher.told c.args.watcher.now in
+    let b = g.W.StepWatcher.told c.among.new.watcher in
+    let d = g.W.StepWatcher.told c.value_behind.new.watcher in
+    let x = c.in-Ok-Some.found in
+    let y = c.in-Ok.value in
+    let at = subst (λ (o : Option Found). IfSome o (λ z. z.term ≡ c.args.term)) c.in-Ok-Some.field-0-is c.in-Ok-Some.ensures.term in
+    let found = found_as p n m (sym c.among.ensures.meanings) s1 table a a b refl x (subst (λ (o : Option Found). IfSome o (TellsFound p m.hooks s1 table a b)) c.in-Ok-Some.field-0-is (c.in-Ok-Some.ensures.told w)) in
+    let told = c.in-Ok.ensures.told (c.among.ensures.wanted ∙ w) a c.args.term.0 (sym (ap (λ (i : TermId). i.0) at)) found in
+    subst (λ r. TellsRules p m.hooks s2 after a d (tree_at s0 c.args.term.0) (tree_at s2 y.term.0) r) (sym c.saturating_add.ensures)
+    (subst (λ t. TellsRules p m.hooks s2 after a d t (tree_at s2 y.term.0) (shown_count (x.rewrites + y.rewrites))) (tree_kept (theory_at p.sig) s0 s1 c.args.term.0 c.among.ensures.extends c.requires.term.within)
+    (rules_as p m n c.among.ensures.meanings s2 after a a d refl (tree_at s1 c.args.term.0) (tree_at s2 y.term.0) (shown_count (x.rewrites + y.rewrites)) told))

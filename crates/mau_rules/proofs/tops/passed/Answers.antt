@@ -1,14 +1,16 @@
-use Rattle.std.proofs.Common.{◌≡◌, Ok, Err, refl, sym, ap, subst}
-use Rattle.mau_signature.specs.Signature.{SignatureOf}
+use Rattle.std.proofs.Common.{◌≡◌, Ok, Err, refl, sym, ap, ◌∙◌, subst}
+use Rattle.mau_signature.specs.Signature.{SignatureOf, theory_at}
 use Rattle.mau_store.specs.Trees.{tree_at}
 use Rattle.mau_store.proofs.Growth.{extension_is_preorder}
 use Rattle.mau_sorts.proofs.Settling.{kept_on}
 use Rattle.mau_program.specs.declared.program.Program.{Program}
-use Rattle.mau_api.specs.Terms.{IsTerm}
+use Rattle.mau_api.specs.Terms.{IsTerm, IsNormalTerm}
+use Rattle.mau_api.specs.Told.{TellsEvaluation}
 use Rattle.mau_api.specs.Programs.{program_over}
 use Rattle.mau_api.specs.Meanings.{Meanings}
 use Rattle.mau_api.specs.Answers.{AreSettled, uses_results}
-use Rattle.mau_reduce.proofs.KindsKept.{is_term_kept}
+use Rattle.mau_reduce.proofs.KindsKept.{is_term_kept, tree_kept}
+use Rattle.mau_reduce.proofs.Stepped.{term_told}
 use Rattle.mau_rules.specs.declared.tops.Tally.{Tally}
 use Rattle.mau_rules.specs.Runnable.{GoesBy}
 use Rattle.mau_rules.specs.Found.{item_of}
@@ -19,6 +21,9 @@ use Rattle.mau_rules.proofs.Solving.{evaluation_known}
 use Rattle.mau_rules.proofs.Counting.{counted_on}
 use Rattle.mau_rules.proofs.PassSteps.{end_of_part, counted_value_of, value_given, value_not_given, value_beyond}
 use Rattle.mau_rules.proofs.PassWalk.{tops_so}
+use Rattle.mau_rules.specs.Telling.{TellsPart}
+use Rattle.mau_rules.proofs.Told.{behind_same, behind_told, behind_on, evaluation_rules}
+use Rattle.mau_rules.proofs.Parts.{part_of, part_on, part_stays, part_as}
 use Rattle.mau_rules.proofs.tops.passed.Goals as goal
 
 pub returns-in-Err-clause-known : goal.returns-in-Err-clause-known
@@ -148,3 +153,70 @@ returns-else-may_replace-clause-known g c = λ f b0 K h. tt
 
 pub returns-else-may_replace-clause-kept : goal.returns-else-may_replace-clause-kept
 returns-else-may_replace-clause-kept g c = kept_on (g.E.Evaluator.table c.args.evaluator.now) (g.E.Evaluator.table c.evaluate.new.self) (g.E.Evaluator.table c.tops.new.evaluator) c.evaluate.ensures.kept c.tops.ensures.kept
+
+-- ---- what is told
+
+pub returns-in-Err-clause-behind : goal.returns-in-Err-clause-behind
+returns-in-Err-clause-behind g c = behind_same (g.W.StepWatcher.wanted c.args.watcher.now) (g.W.StepWatcher.told c.args.watcher.now)
+
+pub returns-in-Err-evaluate-clause-behind : goal.returns-in-Err-evaluate-clause-behind
+returns-in-Err-evaluate-clause-behind g c = behind_told (g.W.StepWatcher.wanted c.args.watcher.now) (g.W.StepWatcher.told c.args.watcher.now) (g.W.StepWatcher.told c.evaluate.new.watcher) c.evaluate.ensures.before c.evaluate.ensures.silent
+
+pub returns-in-Err-tops-clause-behind : goal.returns-in-Err-tops-clause-behind
+returns-in-Err-tops-clause-behind g c =
+    let w = g.W.StepWatcher.wanted c.args.watcher.now in
+    let a = g.W.StepWatcher.told c.args.watcher.now in
+    let b = g.W.StepWatcher.told c.evaluate.new.watcher in
+    behind_on (g.W.StepWatcher.wanted c.evaluate.new.watcher) w a b (g.W.StepWatcher.told c.tops.new.watcher) c.evaluate.ensures.wanted (behind_told w a b c.evaluate.ensures.before c.evaluate.ensures.silent) c.tops.ensures.behind
+
+pub returns-then-may_replace-clause-behind : goal.returns-then-may_replace-clause-behind
+returns-then-may_replace-clause-behind g c =
+    let w = g.W.StepWatcher.wanted c.args.watcher.now in
+    let a = g.W.StepWatcher.told c.args.watcher.now in
+    let b = g.W.StepWatcher.told c.evaluate.new.watcher in
+    behind_on (g.W.StepWatcher.wanted c.evaluate.new.watcher) w a b (g.W.StepWatcher.told c.tops.new.watcher) c.evaluate.ensures.wanted (behind_told w a b c.evaluate.ensures.before c.evaluate.ensures.silent) c.tops.ensures.behind
+
+pub returns-else-may_replace-clause-behind : goal.returns-else-may_replace-clause-behind
+returns-else-may_replace-clause-behind g c =
+    let w = g.W.StepWatcher.wanted c.args.watcher.now in
+    let a = g.W.StepWatcher.told c.args.watcher.now in
+    let b = g.W.StepWatcher.told c.evaluate.new.watcher in
+    behind_on (g.W.StepWatcher.wanted c.evaluate.new.watcher) w a b (g.W.StepWatcher.told c.tops.new.watcher) c.evaluate.ensures.wanted (behind_told w a b c.evaluate.ensures.before c.evaluate.ensures.silent) c.tops.ensures.behind
+
+pub returns-then-may_replace-clause-normal : goal.returns-then-may_replace-clause-normal
+returns-then-may_replace-clause-normal g c =
+    let p = c.args.program.now in
+    let is = c.in-Ok.ensures.kind.2 in
+    subst (IsNormalTerm p.sig) c.in-Ok.ensures.value (term_told p.sig c.requires.runnable.reducible.lawful c.rebuilt.new.store c.in-Ok.whole.0 (record { within = is.within; bare = (c.in-Ok.ensures.kind.0, is.bare) }))
+
+pub returns-then-may_replace-clause-told : goal.returns-then-may_replace-clause-told
+returns-then-may_replace-clause-told g c = λ w.
+    let p = c.args.program.now in
+    let m = g.E.Evaluator.meanings c.args.evaluator.now in
+    let n = g.E.Evaluator.meanings c.evaluate.new.self in
+    let s1 = c.rebuilt.new.store in
+    let s2 = c.evaluate.new.store in
+    let s3 = c.tops.new.store in
+    let t2 = g.E.Evaluator.table c.evaluate.new.self in
+    let t3 = g.E.Evaluator.table c.tops.new.evaluator in
+    let a = g.W.StepWatcher.told c.args.watcher.now in
+    let b = g.W.StepWatcher.told c.evaluate.new.watcher in
+    let d = g.W.StepWatcher.told c.tops.new.watcher in
+    let whole = c.in-Ok.whole in
+    let value = c.in-Ok-evaluate.value in
+    let y = c.args.tally.now.rewrites in
+    let sum = c.saturating_add-tally.result in
+    let z = c.tops.new.tally.rewrites in
+    let id = c.in-Ok-tops.term in
+    let is = c.in-Ok.ensures.kind.2 in
+    let there : IsTerm p.sig s1 whole.0 = record { within = is.within; bare = (c.in-Ok.ensures.kind.0, is.bare) } in
+    let here = is_term_kept p.sig s1 s2 whole.0 c.evaluate.ensures.extends there in
+    let same : m.program.sig ≡ p.sig = ap (λ (q : Program). q.sig) c.requires.goes_by.program in
+    let reached = subst (λ (q : SignatureOf). IsTerm q s2 value.term.0) same c.in-Ok-evaluate.ensures.term in
+    let evaluated = part_of p m.hooks s2 t2 a b (tree_at s2 whole.0) (tree_at s2 value.term.0) y value.rewrites sum c.saturating_add-tally.ensures
+    (evaluation_rules p m.hooks s2 t2 a b whole value.term value.rewrites here.within.there reached.within.there
+    (subst (λ (q : Program). TellsEvaluation q m.hooks s2 t2 a b whole value.term value.rewrites) c.requires.goes_by.program (c.in-Ok-evaluate.ensures.told w))) in
+    let on = part_on p m.hooks s3 t3 a b d (tree_at s2 whole.0) (tree_at s2 value.term.0) (tree_at s3 id.0) y sum z
+    (part_stays p m.hooks s2 s3 t2 t3 c.tops.ensures.extends c.tops.ensures.kept a b (tree_at s2 whole.0) (tree_at s2 value.term.0) y sum evaluated)
+    (part_as p m n c.evaluate.ensures.meanings s3 t3 b d (tree_at s2 value.term.0) (tree_at s3 id.0) sum z (c.in-Ok-tops.ensures.told (c.evaluate.ensures.wanted ∙ w))) in
+    subst (λ t. TellsPart p m.hooks s3 t3 a d t (tree_at s3 id.0) y z) (tree_kept (theory_at p.sig) s1 s2 whole.0 c.evaluate.ensures.extends there.within ∙ c.in-Ok.ensures.value) on

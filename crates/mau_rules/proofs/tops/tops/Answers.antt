@@ -1,4 +1,4 @@
-use Rattle.std.proofs.Common.{map, ◌≡◌, ◌≤◌, ◌<◌, ◌+◌, ◌-◌, ℕ, suc, true, false, Option, Some, None, Ok, Err, IfSome, refl, sym, ap, ◌∙◌, subst, arith, le_trans}
+use Rattle.std.proofs.Common.{map, ◌≡◌, ◌≤◌, ◌<◌, ◌+◌, ◌-◌, ℕ, suc, true, false, Option, Some, None, Ok, Err, IfSome, IfNone, refl, sym, ap, ◌∙◌, subst, arith, le_trans}
 use Rattle.mau_terms.specs.Tree.{Tree}
 use Rattle.mau_signature.specs.Signature.{theory_at}
 use Rattle.mau_store.specs.Trees.{tree_at}
@@ -23,6 +23,9 @@ use Rattle.mau_rules.specs.Passes.{tops_by, pass_with, KnownOnce}
 use Rattle.mau_rules.proofs.Running.{stand_at}
 use Rattle.mau_rules.proofs.PassSteps.{counted_done, counted_out, counted_once, counted_never, counted_once_ends}
 use Rattle.mau_rules.proofs.PassWalk.{once_so}
+use Rattle.mau_rules.specs.Telling.{TellsRules}
+use Rattle.mau_rules.proofs.Told.{behind_on}
+use Rattle.mau_rules.proofs.Parts.{part_of, parts_none, parts_on, parts_still}
 use Rattle.mau_rules.proofs.tops.tops.Goals as goal
 
 one_less_left : (g i : ℕ) → i < g → g - i ≡ suc (g - (i + 1))
@@ -47,6 +50,7 @@ loop-init g c = record {
   run = c.requires.run;
   term = c.requires.term;
   settled = c.requires.settled;
+  told = parts_none c.args.program.now (g.E.Evaluator.meanings c.args.evaluator.now).hooks (g.W.StepWatcher.wanted c.args.watcher.now) c.args.store.now (g.E.Evaluator.table c.args.evaluator.now) (g.W.StepWatcher.told c.args.watcher.now) (tree_at c.args.store.now c.args.term.0) c.args.tally.now.rewrites;
   known = λ f b0 K h. subst (λ j. IsCounted (item_of (g.E.Evaluator.meanings c.args.evaluator.now) (g.W.StepWatcher.wanted c.args.watcher.now)) f b0 c.args.tally.now.rewrites
       (tops_by (program_over c.args.program.now (g.E.Evaluator.meanings c.args.evaluator.now).hooks) j (pass_with (tree_at c.args.store.now c.args.term.0) (turns_of c.args.run.now.turns.items) c.args.tally.now) K) c.args.budget.now) (all_left c.args.tally.now.gas) h;
 }
@@ -157,6 +161,12 @@ loop-preserved g c =
       run = c.once.ensures.run;
       term = subst (λ (o : Option Reduced). IfSome o (λ z. IsTerm p.sig new z.term.0)) c.in-Ok-Some.field-0-is c.in-Ok-Some.ensures.term;
       settled = subst (λ (o : Option Reduced). IfSome o (λ z. AreSettled p.sig new (g.E.Evaluator.table c.once.new.evaluator) (tree_at new z.term.0))) c.in-Ok-Some.field-0-is c.in-Ok-Some.ensures.settled;
+      told = parts_on p m n i.meanings v w i.wanted now new (g.E.Evaluator.table c.loop.evaluator) (g.E.Evaluator.table c.once.new.evaluator) c.once.ensures.extends c.once.ensures.kept
+          (g.W.StepWatcher.told c.args.watcher.now) (g.W.StepWatcher.told c.loop.watcher) (g.W.StepWatcher.told c.once.new.watcher) (tree_at c.args.store.now c.args.term.0) t (tree_at new x.term.0)
+          c.args.tally.now.rewrites y.rewrites c.saturating_add-tally.result i.told c.once.ensures.behind
+          (λ e. part_of p n.hooks new (g.E.Evaluator.table c.once.new.evaluator) (g.W.StepWatcher.told c.loop.watcher) (g.W.StepWatcher.told c.once.new.watcher) t (tree_at new x.term.0) y.rewrites x.rewrites c.saturating_add-tally.result c.saturating_add-tally.ensures
+          (subst (λ (o : Option Reduced). IfSome o (λ z. TellsRules p n.hooks new (g.E.Evaluator.table c.once.new.evaluator) (g.W.StepWatcher.told c.loop.watcher) (g.W.StepWatcher.told c.once.new.watcher) t (tree_at new z.term.0) z.rewrites))
+          c.in-Ok-Some.field-0-is (c.in-Ok-Some.ensures.told e)));
       known = λ f b0 K h.
           counted_once p m.hooks I gas f b0 y.rewrites turns y K c.loop.budget (gas - c.loop.counter) (gas - (c.loop.counter + 1)) (one_less_left gas c.loop.counter c.loop-test.true) t out (i.known f b0 K h)
           (turns_of c.once.new.run.turns.items) new x mid c.saturating_add-tally.result (record { gas = y.gas; left = c.one_less-tally.result; made = true; rewrites = c.saturating_add-tally.result; by_top = y.by_top }) c.saturating_add-tally.ensures c.one_less-tally.ensures refl k;
@@ -174,3 +184,37 @@ returns-clause-known g c = λ f b0 K h.
 
 pub once-requires-clause-by_top : goal.once-requires-clause-by_top
 once-requires-clause-by_top g c = subst (λ (x : RulesByTop). AreRulesByTop c.args.program.now (map (λ list. list.items) x.orders.items)) (sym c.loop.invariant.by_top) c.requires.by_top
+
+-- ---- what is told
+
+pub returns-then-is_out-clause-told : goal.returns-then-is_out-clause-told
+returns-then-is_out-clause-told g c = c.loop.invariant.told.part
+
+pub returns-then-is_out-clause-behind : goal.returns-then-is_out-clause-behind
+returns-then-is_out-clause-behind g c = c.loop.invariant.told.behind
+
+pub returns-clause-told : goal.returns-clause-told
+returns-clause-told g c = c.loop.invariant.told.part
+
+pub returns-clause-behind : goal.returns-clause-behind
+returns-clause-behind g c = c.loop.invariant.told.behind
+
+pub returns-in-Ok-None-clause-told : goal.returns-in-Ok-None-clause-told
+returns-in-Ok-None-clause-told g c =
+    let p = c.args.program.now in
+    let m = g.E.Evaluator.meanings c.args.evaluator.now in
+    let i = c.loop.invariant in
+    let now = c.loop.store in
+    let new = c.once.new.store in
+    let b = g.W.StepWatcher.told c.loop.watcher in
+    let d = g.W.StepWatcher.told c.once.new.watcher in
+    let untold = subst (λ (o : Option Reduced). IfNone o (d ≡ b)) c.in-Ok-None.field-0-is c.in-Ok-None.ensures.untold in
+    (parts_still p m.hooks (g.W.StepWatcher.wanted c.args.watcher.now) now new (g.E.Evaluator.table c.loop.evaluator) (g.E.Evaluator.table c.once.new.evaluator) c.once.ensures.extends c.once.ensures.kept
+    (g.W.StepWatcher.told c.args.watcher.now) b d untold (tree_at c.args.store.now c.args.term.0) (tree_at now c.loop.reached.0) (tree_at new c.loop.reached.0)
+    (tree_kept (theory_at p.sig) now new c.loop.reached.0 c.once.ensures.extends i.term.within) c.args.tally.now.rewrites c.loop.tally.rewrites i.told).part
+
+pub returns-in-Ok-None-clause-behind : goal.returns-in-Ok-None-clause-behind
+returns-in-Ok-None-clause-behind g c = behind_on (g.W.StepWatcher.wanted c.loop.watcher) (g.W.StepWatcher.wanted c.args.watcher.now) (g.W.StepWatcher.told c.args.watcher.now) (g.W.StepWatcher.told c.loop.watcher) (g.W.StepWatcher.told c.once.new.watcher) c.loop.invariant.wanted c.loop.invariant.told.behind c.once.ensures.behind
+
+pub returns-in-Err-clause-behind : goal.returns-in-Err-clause-behind
+returns-in-Err-clause-behind g c = behind_on (g.W.StepWatcher.wanted c.loop.watcher) (g.W.StepWatcher.wanted c.args.watcher.now) (g.W.StepWatcher.told c.args.watcher.now) (g.W.StepWatcher.told c.loop.watcher) (g.W.StepWatcher.told c.once.new.watcher) c.loop.invariant.wanted c.loop.invariant.told.behind c.once.ensures.behind

@@ -11,6 +11,7 @@ use Rattle.mau_rules.specs.Runs.{turns_of, IsRunOf}
 use Rattle.mau_rules.specs.Found.{item_of}
 use Rattle.mau_rules.specs.Counted.{IsCounted}
 use Rattle.mau_rules.specs.Passes.{Onward, tops_by, pass_with}
+use Rattle.mau_rules.proofs.Parts.{IsPartSo}
 use Rattle.mau_rules.proofs.tops.tops.Given as goal
 
 abbrev pub invariant-loop : goal.invariant-loop
@@ -30,6 +31,7 @@ invariant-loop g l =
       run : IsRunOf p l.store l.run;
       term : IsTerm p.sig l.store l.reached.0;
       settled : AreSettled p.sig l.store (g.E.Evaluator.table l.evaluator) (tree_at l.store l.reached.0);
+      told : IsPartSo p m.hooks w l.store (g.E.Evaluator.table l.evaluator) (g.W.StepWatcher.told l.fn.watcher) (g.W.StepWatcher.told l.watcher) (tree_at l.fn.store l.fn.term.0) (tree_at l.store l.reached.0) l.fn.tally.rewrites l.tally.rewrites;
       known : (f : ℕ → ℕ → Run PassEnd) (b0 : ℕ) (K : Onward) →
           IsCounted (item_of m w) f b0 l.fn.tally.rewrites (tops_by P l.fn.tally.gas (pass_with (tree_at l.fn.store l.fn.term.0) (turns_of l.fn.run.turns.items) l.fn.tally) K) l.fn.budget →
           IsCounted (item_of m w) f b0 l.tally.rewrites (tops_by P (l.fn.tally.gas - l.counter) (pass_with (tree_at l.store l.reached.0) (turns_of l.run.turns.items) l.tally) K) l.budget;

@@ -14,6 +14,9 @@ use Rattle.mau_rules.specs.Passes.{passing_by}
 use Rattle.mau_rules.proofs.RunEnds.{value_exact, value_allowed, end_exact, end_allowed}
 use Rattle.mau_rules.proofs.PassEnds.{run_begins}
 use Rattle.mau_rules.proofs.PassWalk.{RestKnown, rest_from}
+use Rattle.mau_store.specs.Trees.{tree_at}
+use Rattle.mau_rules.proofs.Told.{behind_same, behind_on}
+use Rattle.mau_rules.proofs.Parts.{part_whole, parts_none, parts_on}
 use Rattle.mau_rules.proofs.run.RuleRun.frewrite.Goals as goal
 
 pub loop-init : goal.loop-init
@@ -30,6 +33,7 @@ loop-init g c =
       gas = refl;
       by_top = (c.in-Ok.ensures c.args.store.now).rules;
       run = c.requires.run;
+      told = parts_none p m.hooks w c.args.store.now (g.E.Evaluator.table c.args.evaluator.now) (g.W.StepWatcher.told c.args.watcher.now) (tree_at c.args.store.now c.args.self.now.term.0) 0;
       known = run_begins p m (item_of m w) c.args.gas c.args.bound (turns_of c.args.self.now.turns.items) c.args.store.now c.args.self.now.term.0 c.args.budget c.requires.run.term.within;
     }
 
@@ -136,5 +140,50 @@ loop-preserved g c =
       gas = gas;
       by_top = subst (λ (x : RulesByTop). AreRulesByTop p (map (λ list. list.items) x.orders.items)) (sym c.pass_on.ensures.by_top) i.by_top;
       run = c.pass_on.ensures.run;
+      told = parts_on p m n i.meanings v w i.wanted c.loop.store new (g.E.Evaluator.table c.loop.evaluator) (g.E.Evaluator.table c.pass_on.new.evaluator) c.pass_on.ensures.extends c.pass_on.ensures.kept
+          (g.W.StepWatcher.told c.args.watcher.now) (g.W.StepWatcher.told c.loop.watcher) (g.W.StepWatcher.told c.pass_on.new.watcher) (tree_at s0 c.args.self.now.term.0) (tree_at c.loop.store c.loop.self.term.0) (tree_at new c.pass_on.new.run.term.0)
+          0 y.rewrites c.pass_on.new.tally.rewrites i.told c.pass_on.ensures.behind c.in-Ok-None.ensures.told;
       known = subst (λ j. IsCounted (item_of m w) f b0 c.pass_on.new.tally.rewrites (passing_by (program_over p m.hooks) j c.pass_on.new.tally.left (stand_of new c.pass_on.new.run)) c.pass_on.new.budget) gas r;
     }
+
+-- ---- what is told
+
+pub returns-in-Ok-Some-clause-told : goal.returns-in-Ok-Some-clause-told
+returns-in-Ok-Some-clause-told g c = λ e.
+    let p = c.args.program.now in
+    let m = g.E.Evaluator.meanings c.args.evaluator.now in
+    let n = g.E.Evaluator.meanings c.loop.evaluator in
+    let i = c.loop.invariant in
+    let new = c.pass_on.new.store in
+    let table = g.E.Evaluator.table c.pass_on.new.evaluator in
+    let a = g.W.StepWatcher.told c.args.watcher.now in
+    let b = g.W.StepWatcher.told c.loop.watcher in
+    let d = g.W.StepWatcher.told c.pass_on.new.watcher in
+    let t = tree_at c.args.store.now c.args.self.now.term.0 in
+    let u = tree_at c.loop.store c.loop.self.term.0 in
+    let x = tree_at new c.pass_on.new.run.term.0 in
+    let z = c.pass_on.new.tally.rewrites in
+    part_whole p m.hooks new table a d t x z
+    ((parts_on p m n i.meanings (g.W.StepWatcher.wanted c.loop.watcher) (g.W.StepWatcher.wanted c.args.watcher.now) i.wanted c.loop.store new (g.E.Evaluator.table c.loop.evaluator) table c.pass_on.ensures.extends c.pass_on.ensures.kept a b d t u x
+    0 c.loop.tally.rewrites z i.told c.pass_on.ensures.behind c.in-Ok-Some.ensures.told).part e)
+
+pub returns-in-Ok-Some-clause-before : goal.returns-in-Ok-Some-clause-before
+returns-in-Ok-Some-clause-before g c = λ e. (behind_on (g.W.StepWatcher.wanted c.loop.watcher) (g.W.StepWatcher.wanted c.args.watcher.now) (g.W.StepWatcher.told c.args.watcher.now) (g.W.StepWatcher.told c.loop.watcher) (g.W.StepWatcher.told c.pass_on.new.watcher) c.loop.invariant.wanted c.loop.invariant.told.behind c.pass_on.ensures.behind).more
+
+pub returns-in-Ok-Some-clause-silent : goal.returns-in-Ok-Some-clause-silent
+returns-in-Ok-Some-clause-silent g c = (behind_on (g.W.StepWatcher.wanted c.loop.watcher) (g.W.StepWatcher.wanted c.args.watcher.now) (g.W.StepWatcher.told c.args.watcher.now) (g.W.StepWatcher.told c.loop.watcher) (g.W.StepWatcher.told c.pass_on.new.watcher) c.loop.invariant.wanted c.loop.invariant.told.behind c.pass_on.ensures.behind).silent
+
+pub returns-in-Err-pass_on-clause-before : goal.returns-in-Err-pass_on-clause-before
+returns-in-Err-pass_on-clause-before g c = λ e. (behind_on (g.W.StepWatcher.wanted c.loop.watcher) (g.W.StepWatcher.wanted c.args.watcher.now) (g.W.StepWatcher.told c.args.watcher.now) (g.W.StepWatcher.told c.loop.watcher) (g.W.StepWatcher.told c.pass_on.new.watcher) c.loop.invariant.wanted c.loop.invariant.told.behind c.pass_on.ensures.behind).more
+
+pub returns-in-Err-pass_on-clause-silent : goal.returns-in-Err-pass_on-clause-silent
+returns-in-Err-pass_on-clause-silent g c = (behind_on (g.W.StepWatcher.wanted c.loop.watcher) (g.W.StepWatcher.wanted c.args.watcher.now) (g.W.StepWatcher.told c.args.watcher.now) (g.W.StepWatcher.told c.loop.watcher) (g.W.StepWatcher.told c.pass_on.new.watcher) c.loop.invariant.wanted c.loop.invariant.told.behind c.pass_on.ensures.behind).silent
+
+pub returns-clause-before : goal.returns-clause-before
+returns-clause-before g c = λ e. c.loop.invariant.told.behind.more
+
+pub returns-clause-silent : goal.returns-clause-silent
+returns-clause-silent g c = c.loop.invariant.told.behind.silent
+
+pub returns-in-Err-clause-before : goal.returns-in-Err-clause-before
+returns-in-Err-clause-before g c = λ e. (behind_same (g.W.StepWatcher.wanted c.args.watcher.now) (g.W.StepWatcher.told c.args.watcher.now)).more

@@ -7,6 +7,8 @@ use Rattle.mau_rules.specs.Found.{item_of}
 use Rattle.mau_rules.specs.ByTop.{AreRulesByTop}
 use Rattle.mau_rules.specs.Counted.{IsCounted}
 use Rattle.mau_rules.specs.Passes.{passing_by}
+use Rattle.mau_store.specs.Trees.{tree_at}
+use Rattle.mau_rules.proofs.Parts.{IsPartSo}
 use Rattle.mau_rules.proofs.run.RuleRun.frewrite.Given as goal
 
 abbrev pub invariant-loop : goal.invariant-loop
@@ -21,6 +23,8 @@ invariant-loop g l =
       gas : l.tally.gas ≡ l.fn.gas;
       by_top : AreRulesByTop p (map (λ list. list.items) l.tally.by_top.orders.items);
       run : IsRunOf p l.store l.self;
+      told : IsPartSo p m.hooks (g.W.StepWatcher.wanted l.fn.watcher) l.store (g.E.Evaluator.table l.evaluator) (g.W.StepWatcher.told l.fn.watcher) (g.W.StepWatcher.told l.watcher)
+          (tree_at l.fn.store l.fn.self.term.0) (tree_at l.store l.self.term.0) 0 l.tally.rewrites;
       known : IsCounted (item_of m (g.W.StepWatcher.wanted l.fn.watcher)) (frewriting_by p m l.fn.gas l.fn.bound (stand_of l.fn.store l.fn.self)) l.fn.budget l.tally.rewrites
           (passing_by (program_over p m.hooks) l.fn.gas l.tally.left (stand_of l.store l.self)) l.left;
     }
