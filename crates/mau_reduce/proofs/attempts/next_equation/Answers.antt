@@ -4,8 +4,9 @@ use Rattle.std.proofs.lemmas.Option.{slice_get_within}
 use Rattle.mau_terms.specs.Subst.{variables}
 use Rattle.mau_terms.specs.View.{tree_of, variable_of}
 use Rattle.mau_store.specs.Trees.{tree_at}
-use Rattle.mau_evaluation.specs.Run.{or_go_on}
+use Rattle.mau_evaluation.specs.Run.{or_else}
 use Rattle.mau_api.specs.Programs.{program_over}
+use Rattle.mau_reduce.specs.Comes.{ComesTo}
 use Rattle.mau_reduce.specs.ByTop.{order_for}
 use Rattle.mau_reduce.specs.Trying.{solution_in, left_by, number_gives, IsFound}
 use Rattle.mau_reduce.specs.Lasts.{left_variables_of, IsListed}
@@ -14,10 +15,10 @@ use Rattle.mau_reduce.proofs.CompiledAt.{compiled_there, compiled_at}
 use Rattle.mau_reduce.proofs.attempts.next_equation.Goals as goal
 
 pub returns-in_ok-binding-in-Some-clause-some : goal.returns-in_ok-binding-in-Some-clause-some
-returns-in_ok-binding-in-Some-clause-some g c = λ hooks B k b.
-    subst (λ o. IfSome o (λ x. left_by (program_over c.args.program.now hooks) B k c.args.store.now (tree_at c.args.store.now c.args.term.0) (option_map (λ y. (y.number, g.L.Lister.given y.listing)) c.args.attempts.now.tried) (drop c.args.attempts.now.next (order_for c.args.program.now (tree_at c.args.store.now c.args.term.0))) b
-    ≡ or_go_on (left_by (program_over c.args.program.now hooks) B k c.next_found.new.store (tree_at c.args.store.now c.args.term.0) (option_map (λ y. (y.number, g.L.Lister.given y.listing)) c.next_found.new.tried) (drop c.next_found.new.next (order_for c.args.program.now (tree_at c.args.store.now c.args.term.0))))
-    (number_gives (program_over c.args.program.now hooks) B k (tree_at c.args.store.now c.args.term.0) x.number (solution_in c.next_found.new.store x.solution) b))) c.in-Some.is (c.in_ok-found.ensures.some hooks B k b)
+returns-in_ok-binding-in-Some-clause-some g c = λ hooks B derived.
+    subst (λ o. IfSome o (λ x. ComesTo (program_over c.args.program.now hooks) (λ k. left_by (program_over c.args.program.now hooks) B k c.args.store.now (tree_at c.args.store.now c.args.term.0) (option_map (λ y. (y.number, g.L.Lister.given y.listing)) c.args.attempts.now.tried) (drop c.args.attempts.now.next (order_for c.args.program.now (tree_at c.args.store.now c.args.term.0))))
+    (λ k. or_else (number_gives (program_over c.args.program.now hooks) B k (tree_at c.args.store.now c.args.term.0) x.number (solution_in c.next_found.new.store x.solution))
+    (left_by (program_over c.args.program.now hooks) B k c.next_found.new.store (tree_at c.args.store.now c.args.term.0) (option_map (λ y. (y.number, g.L.Lister.given y.listing)) c.next_found.new.tried) (drop c.next_found.new.next (order_for c.args.program.now (tree_at c.args.store.now c.args.term.0))))))) c.in-Some.is (c.in_ok-found.ensures.some hooks B derived)
 
 pub index-requires : goal.index-requires
 index-requires g c =
