@@ -13,10 +13,14 @@ pub mod Conditions
 pub mod SortsGrow
 -- heads of memberships, and values
 pub mod Heads
+-- what leads to what
+pub mod Leading
 -- what the world's calls give
 pub mod Taking
 -- the next candidate
 pub mod Attempted
+-- what is reached by some number of levels
+pub mod Reached
 -- the answers of an evaluation
 pub mod WhatIsMeant
 -- bindings in two lists, and as pairs

@@ -6,8 +6,6 @@ use Rattle.mau_sorts.specs.Table.{Table, KeepsEntries}
 use Rattle.mau_sorts.proofs.Settling.{kept_same}
 use Rattle.mau_listing.specs.Asked.{Asked}
 use Rattle.mau_listing.specs.declared.solution.Solution.{Solution}
-use Rattle.mau_reduce.specs.Tables.{IsPlainTable}
-use Rattle.mau_reduce.proofs.PlainTables.{plain_grown}
 use Rattle.mau_resting.specs.Rests.{AreResting}
 use Rattle.mau_resting.specs.Later.{resting_kept}
 use Rattle.mau_store.specs.Trees.{tree_at}

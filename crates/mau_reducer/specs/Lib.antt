@@ -21,4 +21,3 @@ pub mod Fragments
 pub mod LaterStates
 pub mod Flags
 pub mod MeantLaws
-pub mod DerivedTables
