@@ -27,6 +27,10 @@ pub mod WhatIsMeant
 pub mod Pairs
 -- the solutions of matching fragments
 pub mod Choosing
+-- the settling of a term, as the loop goes on with it
+pub mod Settlings
+-- where it ends
+pub mod SettlingEnds
 -- sides and tests of fragments
 pub mod Sides
 -- conditions that are asked, and their answers

@@ -19,5 +19,5 @@ pub mod Solutions
 pub mod KnownHandles
 pub mod Fragments
 pub mod LaterStates
-pub mod Flags
 pub mod MeantLaws
+pub mod Flags
