@@ -124,9 +124,9 @@ pub fn next_choice<L: WholeLister>(
     ensures kept { KeepsEntries table.old table.new }
     ensures extends { Extends store.old store.new }
 {
-    let next = choices.listing.next(store, &program.sig, table);
+    let found = choices.listing.next(store, &program.sig, table);
     has_nodes(store);
-    match next? {
+    match found? {
         Some(solution) => {
             let alloc = store.allocator();
             let told = told(alloc, &program.sig, pattern, solution.values.items())?;

@@ -1,5 +1,5 @@
 //! All that may be applied at the top of a term, one candidate after another.
-ghost use Rattle.std.specs.Prelude.{◌≡◌, ℕ, suc, List, [], true, Option, Some, None, IfOk, IfErr, IfSome, IfNone, IsSome, drop, length, map, slice_get};
+ghost use Rattle.std.specs.Prelude.{◌≡◌, ℕ, suc, List, [], true, false, Option, Some, None, IfOk, IfErr, IfSome, IfNone, IsSome, drop, length, map, slice_get};
 ghost use Rattle.std.specs.Option.{option_map};
 ghost use Rattle.mau_terms.specs.Subst.{variables};
 ghost use Rattle.mau_terms.specs.Solution.{HaveSorts};

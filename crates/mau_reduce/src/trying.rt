@@ -1,5 +1,5 @@
 //! The candidates of one equation, one after another.
-ghost use Rattle.std.specs.Prelude.{◌≡◌, ℕ, List, [], true, Option, Some, None, IfOk, IfSome, IfNone, OnOk, All, drop, length, slice_get, ◌<◌};
+ghost use Rattle.std.specs.Prelude.{◌≡◌, ℕ, List, [], true, false, Option, Some, None, IfOk, IfSome, IfNone, OnOk, All, drop, length, slice_get, ◌<◌};
 ghost use Rattle.std.specs.Option.{option_map};
 ghost use Rattle.mau_terms.specs.Bare.{IsBare};
 ghost use Rattle.mau_terms.specs.View.{tree_of};
