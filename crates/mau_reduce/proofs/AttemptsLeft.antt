@@ -25,10 +25,11 @@ use Rattle.mau_reduce.specs.declared.trying.Found.{Found}
 use Rattle.mau_reduce.specs.declared.binding.Binding.{Binding as Kept}
 use Rattle.mau_reduce.specs.BuiltOperators.{answer_of, built_gives}
 use Rattle.mau_reduce.specs.Bindings.{paired, bound_in, HaveKinds, AreValues}
-use Rattle.mau_reduce.specs.Trying.{solution_in, applied_number, number_gives, order_of_all, IsFound}
-use Rattle.mau_reduce.specs.Attempting.{untried_by, cond_in, cond_at, made_by_one, made_by, made_of}
+use Rattle.mau_reduce.specs.Trying.{solution_in, left_by, applied_number, number_gives, order_of_all, IsFound}
+use Rattle.mau_reduce.specs.Attempting.{untried_by, cond_in, cond_at, made_by_one, made_by, made_of, makes_of}
+use Rattle.mau_reduce.specs.Lasts.{left_variables_of, left_variables}
 use Rattle.mau_reduce.specs.Comes.{ComesTo}
-use Rattle.mau_reduce.proofs.Comes.{comes_as}
+use Rattle.mau_reduce.proofs.Comes.{comes_same, comes_as}
 use Rattle.mau_reduce.proofs.Numbered.{by_order, gives_at, equation_there}
 
 pub native_over : (p : Typed.Program) (hooks : List Operator) (t : Tree) → native (program_over p hooks) t ≡ built_gives p.sig hooks t
@@ -131,6 +132,20 @@ module _ (P : Program) (B k : ℕ) (nodes : List Node) (t : Tree) (b : ℕ) wher
   pub value_tried : (v : Tree) (last : Option Found) (m n : Run (Option Tree)) (σ : Binding) (i : ℕ) → i ≡ length P.equations →
       by_answer P (levels P B k) (levels P B (suc k)).sorts (value v) m b ≡ or_go_on n (try_on (λ o. gives (option_map (made_of P nodes t (value v) last) o)) (solve P (levels P B k) (cond_at P i) σ b))
   value_tried v last m n σ i is = ap (λ c. or_go_on n (try_on (λ o. gives (option_map (made_of P nodes t (value v) last) o)) (solve P (levels P B k) c σ b))) (sym (ap (cond_at P) is ∙ cond_past))
+
+-- what a built-in gives is tried
+pub given_tried : (P : Program) (B : ℕ) (nodes : List Node) (t : Tree) (given : BuiltIn) (v : Tree) → answer_of nodes P.sign.theory t given ≡ value v →
+    (last : Option Found) (tried : Option (ℕ × Option Given.Solution)) (is : List ℕ) (n : ℕ → Run (Option Tree)) (σ : Binding) (i : ℕ) → i ≡ length P.equations →
+    ComesTo P (λ k. untried_by P B k nodes t given tried is) (λ k. or_else (λ b. try_on (λ o. gives (option_map (makes_of P nodes t given last) o)) (solve P (levels P B k) (cond_at P i) σ b)) (n k))
+given_tried P B nodes t given v e last tried is n σ i h =
+    comes_same (λ k b.
+    subst (λ (a : Answer). by_answer P (levels P B k) (levels P B (suc k)).sorts a (left_by P B k nodes t tried is) b
+        ≡ or_go_on (n k) (try_on (λ o. gives (option_map (made_of P nodes t a last) o)) (solve P (levels P B k) (cond_at P i) σ b)))
+    (sym e) (value_tried P B k nodes t b v last (left_by P B k nodes t tried is) (n k) σ i h))
+
+-- it has no variables
+pub none_left : (p : Typed.Program) (i : ℕ) → i ≡ length p.equations → left_variables p i ≡ []
+none_left p i h = ap left_variables_of (ap (slice_get p.equations) h ∙ slice_get_past p.equations (length p.equations) (omega arith))
 
 pub bound_as : (nodes : List Node) (s : Kept) (p : Tree) (x : Given.Solution) → map variable_of s.variables.items ≡ variables p → s.values.items ≡ x.values → bound_in nodes s ≡ binding_of p (solution_in nodes x)
 bound_as nodes s p x e h =

@@ -59,11 +59,13 @@ module _ (s : SignatureOf) (accepted : IsBuiltAndAccepted s) (lawful : IsLawful 
   -- what declarations give is of the kind of their result
   any_kind : (args : List (List ℕ)) (r k : ℕ) (ds : List Decl) → ((d : Decl) → Contains ds d → kind_of h d.result ≡ k) → list_any (λ d. suits args d && is_at_or_below h d.result r) ds ≡ true → kind_of h r ≡ k
   any_kind args r k [] each e = cc
-  any_kind args r k (d ∷ ds) each e = by (one_is (suits args d && is_at_or_below h d.result r) (list_any (λ x. suits args x && is_at_or_below h x.result r) ds) e)
+  any_kind args r k (d ∷ ds) each e =
+      by (one_is (suits args d && is_at_or_below h d.result r) (list_any (λ x. suits args x && is_at_or_below h x.result r) ds) e) (λ a. any_kind args r k ds (λ x c. each x (suc c.0, omega (arith, c.1), c.2)) a)
     where
-      by : ((suits args d && is_at_or_below h d.result r) ≡ true) ⊎ (list_any (λ x. suits args x && is_at_or_below h x.result r) ds ≡ true) → kind_of h r ≡ k
-      by (inl a) = kind_above s accepted lawful d.result r ((at_or_below h d.result r).0 (and_parts (suits args d) (is_at_or_below h d.result r) a).1) ∙ each d (0, omega arith, refl)
-      by (inr a) = any_kind args r k ds (λ x c. each x (suc c.0, omega (arith, c.1), c.2)) a
+      by : ((suits args d && is_at_or_below h d.result r) ≡ true) ⊎ (list_any (λ x. suits args x && is_at_or_below h x.result r) ds ≡ true) →
+          (list_any (λ x. suits args x && is_at_or_below h x.result r) ds ≡ true → kind_of h r ≡ k) → kind_of h r ≡ k
+      by (inl a) rest = kind_above s accepted lawful d.result r ((at_or_below h d.result r).0 (and_parts (suits args d) (is_at_or_below h d.result r) a).1) ∙ each d (0, omega arith, refl)
+      by (inr a) rest = rest a
 
   given_kind : (f : ℕ) → IsOperator s f → (args : List (List ℕ)) (r : ℕ) → IsIn r (sorts_given h (declarations_at s f) args) → kind_of h r ≡ kind_of h (result_of (declarations_at s f))
   given_kind f is args r i =
@@ -135,7 +137,7 @@ module _ (p : Typed.Program) (red : IsReducible p) (hooks : List Operator) where
   derived_kind t r (by_declaration f ts sorts z have up) n over j b =
       over_kind p.sig red.accepted red.lawful f over.0 (theory_at p.sig f).assoc sorts (λ a. let two = over.1 a in let long = as_long P (list_of ts) sorts have in omega (arith, two, long)) z up
       ∙ (reading_top (terms_over p.sig) f ts j (normal_is (theory_at p.sig) red.lawful.theories (apply f ts) n) b).1
-  derived_kind t r (by_membership m u x z among exec sol have yes up) n over j b = member_kind m u x z among sol up n j b
+  derived_kind t r (by_membership m u x z among exec sol have solved up) n over j b = member_kind m u x z among sol up n j b
 
 -- what is known besides is a sort of a term
 known_has : (s : SignatureOf) (known : Known) (t : Tree) (r : ℕ) → IsKnown s.hierarchy known t r → HasDeclared s known t r

@@ -223,12 +223,12 @@ begun_with P B t rest new num last i y x number given z =
 -- what is left first, in a later store in which the term is the same
 pub none_through : {P : Program} {A : Type 0} {X E : Type 0} (r : Result (Option X) E) (F : Tree → ℕ → Run A) (l d : ℕ → Run A) (t t' : Tree) → t' ≡ t → ComesTo P l (F t) → IfOk r (λ o. IfNone o (ComesTo P (F t') d)) →
     IfOk r (λ o. IfNone o (ComesTo P l d))
-none_through (Ok None) F l d t t' same e h = comes_through e (subst (λ u. ComesTo _ (F u) d) same h)
+none_through {P = P} (Ok None) F l d t t' same e h = comes_through e (subst (λ u. ComesTo P (F u) d) same h)
 none_through (Ok (Some x)) F l d t t' same e h = tt
 none_through (Err x) F l d t t' same e h = tt
 
 pub some_through : {P : Program} {A : Type 0} {X E : Type 0} (r : Result (Option X) E) (F : Tree → ℕ → Run A) (G : X → Tree → ℕ → Run A) (l : ℕ → Run A) (t t' : Tree) → t' ≡ t → ComesTo P l (F t) →
     IfOk r (λ o. IfSome o (λ x. ComesTo P (F t') (G x t'))) → IfOk r (λ o. IfSome o (λ x. ComesTo P l (G x t)))
 some_through (Ok None) F G l t t' same e h = tt
-some_through (Ok (Some x)) F G l t t' same e h = comes_through e (subst (λ u. ComesTo _ (F u) (G x u)) same h)
+some_through {P = P} (Ok (Some x)) F G l t t' same e h = comes_through e (subst (λ u. ComesTo P (F u) (G x u)) same h)
 some_through (Err x) F G l t t' same e h = tt

@@ -35,13 +35,26 @@ condition_in None = refl
 condition_of : (p : Typed.Program) (hooks : List Operator) (e : ℕ) → cond_at (program_over p hooks) e ≡ map fragment_of (written_in [] (slice_get p.equations e))
 condition_of p hooks e = ap cond_in (slice_get-map equation_of p.equations e) ∙ condition_in (slice_get p.equations e)
 
+not_equal : (a b : ℕ) → (a ≡ b → ⊥) → (a == b) ≡ false
+not_equal a b no = by (a == b) refl
+  where
+    by : (w : Bool) → (a == b) ≡ w → w ≡ false
+    by false q = refl
+    by true q = absurd (no (eqb-true a b q))
+
 -- it is none that is asked
 pub not_asked : (n e : ℕ) → e ≤ n → (e == suc n) ≡ false
-not_asked n e h = by (e == suc n) refl
-  where
-    by : (w : Bool) → (e == suc n) ≡ w → w ≡ false
-    by false q = refl
-    by true q = let k : e ≡ suc n = eqb-true e (suc n) q in absurd (omega (arith, k, h))
+not_asked n e h = not_equal e (suc n) (λ k. omega (arith, k, h))
+
+-- the one that is asked
+pub asked_other : (p : Typed.Program) (asked : List Written.Fragment) (e : ℕ) → e ≡ suc (length p.equations) → other_by p asked e ≡ asked
+asked_other p asked e h = ap (λ w. if w then asked else cond_of (membership_numbered p e)) (eq-eqb e (suc (length p.equations)) h)
+
+-- those of memberships
+pub member_other : (p : Typed.Program) (asked : List Written.Fragment) (e : ℕ) → suc (length p.equations) < e → other_by p asked e ≡ cond_of (slice_get p.memberships (e - suc (suc (length p.equations))))
+member_other p asked e h =
+    ap (λ w. if w then asked else cond_of (membership_numbered p e)) (not_equal e (suc (length p.equations)) (λ k. omega (arith, k, h)))
+    ∙ ap (λ w. cond_of (if w then slice_get p.memberships (e - suc (suc (length p.equations))) else None)) (lt-ltb (suc (length p.equations)) e h)
 
 -- nor that of a membership
 pub none_numbered : (p : Typed.Program) (e : ℕ) → e ≤ suc (length p.equations) → membership_numbered p e ≡ None
@@ -60,14 +73,7 @@ no_first b e h =
 -- that of the membership at a place
 module _ (p : Typed.Program) (at : ℕ) (m : Membership) (there : slice_get p.memberships at ≡ Some m) (e : ℕ) (is : e ≡ suc (suc (length p.equations)) + at) where
   not_the_asked : (e == suc (length p.equations)) ≡ false
-  not_the_asked = eqb-false-of (λ k. omega (arith, k, is))
-    where
-      eqb-false-of : (e ≡ suc (length p.equations) → ⊥) → (e == suc (length p.equations)) ≡ false
-      eqb-false-of no = by (e == suc (length p.equations)) refl
-        where
-          by : (w : Bool) → (e == suc (length p.equations)) ≡ w → w ≡ false
-          by false q = refl
-          by true q = absurd (no (eqb-true e (suc (length p.equations)) q))
+  not_the_asked = not_equal e (suc (length p.equations)) (λ k. omega (arith, k, is))
 
   pub is_numbered : membership_numbered p e ≡ Some m
   is_numbered =

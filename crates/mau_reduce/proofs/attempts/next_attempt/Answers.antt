@@ -2,10 +2,13 @@ use Rattle.std.proofs.Common.{◌≡◌, None, IfSome, IfNone, IsSome, slice_get
 use Rattle.std.specs.Option.{option_map}
 use Rattle.mau_terms.specs.Subst.{variables}
 use Rattle.mau_terms.specs.View.{tree_of, variable_of}
+use Rattle.std.proofs.lemmas.List.{length-map}
+use Rattle.mau_signature.specs.Signature.{theory_at}
 use Rattle.mau_store.specs.Trees.{tree_at}
 use Rattle.mau_evaluation.specs.Run.{gives, try_on, or_go_on, or_else}
 use Rattle.mau_evaluation.specs.Evaluation.{levels, solve}
-use Rattle.mau_api.specs.Programs.{program_over}
+use Rattle.mau_api.specs.Programs.{program_over, equation_of}
+use Rattle.mau_reduce.specs.BuiltOperators.{answer_of, leaf_tree, before_others}
 use Rattle.mau_reduce.specs.Bindings.{bound_in}
 use Rattle.mau_reduce.specs.Comes.{ComesTo}
 use Rattle.mau_reduce.specs.ByTop.{order_for}
@@ -14,7 +17,7 @@ use Rattle.mau_reduce.specs.declared.given.Given.TheVariants.{Nothing}
 use Rattle.mau_reduce.specs.Attempting.{untried_by, cond_at, makes_of}
 use Rattle.mau_reduce.specs.Lasts.{left_variables, first_values, IsLast, IsLastListed}
 use Rattle.mau_reduce.proofs.Comes.{comes_from, comes_as}
-use Rattle.mau_reduce.proofs.AttemptsLeft.{equation_tried, at_some}
+use Rattle.mau_reduce.proofs.AttemptsLeft.{given_tried, none_left, equation_tried, at_some}
 use Rattle.mau_reduce.proofs.Lately.{begun_of, sorts_of_last}
 use Rattle.mau_reduce.proofs.attempts.next_attempt.Goals as goal
 
@@ -61,3 +64,36 @@ returns-in-Ok-Some-clause-sorts g c =
     c.next_equation.new.attempts.last (at_some (λ x. IsSome c.next_equation.new.attempts.last) c.in-Ok-Some.field-0 (c.in-Ok-Some.number, c.in-Ok-Some.binding) c.in-Ok-Some.field-0-is c.in-Ok-Some.ensures.last)
     (at_some (λ x. IsLastListed c.args.program.now c.next_equation.new.store c.next_equation.new.table c.args.term x.0 Nothing c.next_equation.new.attempts.last) c.in-Ok-Some.field-0 (c.in-Ok-Some.number, c.in-Ok-Some.binding) c.in-Ok-Some.field-0-is c.in-Ok-Some.ensures.listed)
     (at_some (λ x. IfSome c.next_equation.new.attempts.last (λ y. x.1.values.items ≡ y.solution.values)) c.in-Ok-Some.field-0 (c.in-Ok-Some.number, c.in-Ok-Some.binding) c.in-Ok-Some.field-0-is c.in-Ok-Some.ensures.binding)
+
+pub returns-in-Argument-clause-some : goal.returns-in-Argument-clause-some
+returns-in-Argument-clause-some g c = λ hooks B derived.
+    given_tried (program_over c.args.program.now hooks) B c.args.store.now (tree_at c.args.store.now c.args.term.0) c.args.attempts.now.given
+    (tree_at c.args.store.now c.in-Argument.field-0.0) (ap (answer_of c.args.store.now (theory_at c.args.program.now.sig) (tree_at c.args.store.now c.args.term.0)) c.in-Argument.is) c.args.attempts.now.last
+    (option_map (λ z. (z.number, g.L.Lister.given z.listing)) c.args.attempts.now.tried) (drop c.args.attempts.now.next (order_for c.args.program.now (tree_at c.args.store.now c.args.term.0)))
+    (λ k. untried_by (program_over c.args.program.now hooks) B k c.args.store.now (tree_at c.args.store.now c.args.term.0) c.args.attempts.now.given (option_map (λ z. (z.number, g.L.Lister.given z.listing)) c.args.attempts.now.tried) (drop c.args.attempts.now.next (order_for c.args.program.now (tree_at c.args.store.now c.args.term.0))))
+    (bound_in c.args.store.now c.without_condition.result.1) c.without_condition.result.0 (c.without_condition.ensures.number ∙ sym (length-map c.args.program.now.equations equation_of))
+
+pub returns-in-Argument-clause-variables : goal.returns-in-Argument-clause-variables
+returns-in-Argument-clause-variables g c = ap (map variable_of) c.without_condition.ensures.variables ∙ sym (none_left c.args.program.now c.without_condition.result.0 c.without_condition.ensures.number)
+
+pub returns-in-Whole-clause-some : goal.returns-in-Whole-clause-some
+returns-in-Whole-clause-some g c = λ hooks B derived.
+    given_tried (program_over c.args.program.now hooks) B c.args.store.now (tree_at c.args.store.now c.args.term.0) c.args.attempts.now.given
+    (leaf_tree c.in-Whole.field-0) (ap (answer_of c.args.store.now (theory_at c.args.program.now.sig) (tree_at c.args.store.now c.args.term.0)) c.in-Whole.is) c.args.attempts.now.last
+    (option_map (λ z. (z.number, g.L.Lister.given z.listing)) c.args.attempts.now.tried) (drop c.args.attempts.now.next (order_for c.args.program.now (tree_at c.args.store.now c.args.term.0)))
+    (λ k. untried_by (program_over c.args.program.now hooks) B k c.args.store.now (tree_at c.args.store.now c.args.term.0) c.args.attempts.now.given (option_map (λ z. (z.number, g.L.Lister.given z.listing)) c.args.attempts.now.tried) (drop c.args.attempts.now.next (order_for c.args.program.now (tree_at c.args.store.now c.args.term.0))))
+    (bound_in c.args.store.now c.without_condition-in-Whole.result.1) c.without_condition-in-Whole.result.0 (c.without_condition-in-Whole.ensures.number ∙ sym (length-map c.args.program.now.equations equation_of))
+
+pub returns-in-Whole-clause-variables : goal.returns-in-Whole-clause-variables
+returns-in-Whole-clause-variables g c = ap (map variable_of) c.without_condition-in-Whole.ensures.variables ∙ sym (none_left c.args.program.now c.without_condition-in-Whole.result.0 c.without_condition-in-Whole.ensures.number)
+
+pub returns-in-Before-clause-some : goal.returns-in-Before-clause-some
+returns-in-Before-clause-some g c = λ hooks B derived.
+    given_tried (program_over c.args.program.now hooks) B c.args.store.now (tree_at c.args.store.now c.args.term.0) c.args.attempts.now.given
+    (before_others (theory_at c.args.program.now.sig) (tree_at c.args.store.now c.args.term.0) (leaf_tree c.in-Before.field-0)) (ap (answer_of c.args.store.now (theory_at c.args.program.now.sig) (tree_at c.args.store.now c.args.term.0)) c.in-Before.is) c.args.attempts.now.last
+    (option_map (λ z. (z.number, g.L.Lister.given z.listing)) c.args.attempts.now.tried) (drop c.args.attempts.now.next (order_for c.args.program.now (tree_at c.args.store.now c.args.term.0)))
+    (λ k. untried_by (program_over c.args.program.now hooks) B k c.args.store.now (tree_at c.args.store.now c.args.term.0) c.args.attempts.now.given (option_map (λ z. (z.number, g.L.Lister.given z.listing)) c.args.attempts.now.tried) (drop c.args.attempts.now.next (order_for c.args.program.now (tree_at c.args.store.now c.args.term.0))))
+    (bound_in c.args.store.now c.without_condition-in-Before.result.1) c.without_condition-in-Before.result.0 (c.without_condition-in-Before.ensures.number ∙ sym (length-map c.args.program.now.equations equation_of))
+
+pub returns-in-Before-clause-variables : goal.returns-in-Before-clause-variables
+returns-in-Before-clause-variables g c = ap (map variable_of) c.without_condition-in-Before.ensures.variables ∙ sym (none_left c.args.program.now c.without_condition-in-Before.result.0 c.without_condition-in-Before.ensures.number)

@@ -1,4 +1,4 @@
-use Rattle.std.proofs.Common.{◌-◌, ℕ, List, drop, length}
+use Rattle.std.proofs.Common.{◌-◌, ℕ, List, false, drop, length}
 use Rattle.mau_formula.specs.Operator.{Operator}
 use Rattle.mau_store.specs.Node.{Extends}
 use Rattle.mau_store.specs.Trees.{tree_at}

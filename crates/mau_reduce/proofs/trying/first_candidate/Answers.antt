@@ -1,6 +1,6 @@
-use Rattle.std.proofs.Common.{◌≡◌, Some, None, arith}
+use Rattle.std.proofs.Common.{◌≡◌, Some, None, IfNone, subst, arith}
 use Rattle.mau_store.specs.Trees.{tree_at}
-use Rattle.mau_evaluation.specs.Run.{or_else}
+use Rattle.mau_evaluation.specs.Run.{gives, or_else}
 use Rattle.mau_api.specs.Programs.{program_over}
 use Rattle.mau_reduce.specs.Trying.{solution_in, left_of_number, number_gives}
 use Rattle.mau_reduce.specs.Comes.{ComesTo}
@@ -28,3 +28,9 @@ returns-in-Some-2-clause-some g c = λ hooks B derived rest.
     (at_some (λ x. g.L.Lister.given x.0.listing ≡ Some x.1) c.in_ok-begun-in-None.field-0 (c.in-Some-2.begun, c.in-Some-2.solution) c.in-Some-2.is c.in_ok-begun-in-None.ensures.given)
     (at_some (λ x. ComesTo P (λ k. left_of_number P B k t c.args.number None) (λ k. or_else (number_gives P B k t c.args.number (solution_in c.first_listed.new.store x.1)) (left_of_number P B k t c.args.number (Some (solution_in c.first_listed.new.store x.1)))))
     c.in_ok-begun-in-None.field-0 (c.in-Some-2.begun, c.in-Some-2.solution) c.in-Some-2.is (c.in_ok-begun-in-None.ensures.some hooks B derived))
+
+pub returns-in-None-2-clause-none : goal.returns-in-None-2-clause-none
+returns-in-None-2-clause-none g c = λ hooks B derived.
+    let P = program_over c.args.program.now hooks in
+    let t = tree_at c.args.store.now c.args.term.0 in
+    subst (λ o. IfNone o (ComesTo P (λ k. left_of_number P B k t c.args.number None) (λ k. gives None))) c.in-None-2.is (c.in_ok-begun-in-None.ensures.none hooks B derived)

@@ -1,4 +1,4 @@
-use Rattle.std.proofs.Common.{[], IfSome, sym, ap, subst}
+use Rattle.std.proofs.Common.{[], IfSome, sym, ap, ◌∙◌, subst}
 use Rattle.std.specs.Option.{option_map}
 use Rattle.mau_terms.specs.View.{tree_of}
 use Rattle.mau_store.specs.Trees.{tree_at}

@@ -1,15 +1,27 @@
-use Rattle.std.proofs.Common.{◌≡◌, Some, None, IfSome, ap, ◌∙◌, subst}
+use Rattle.std.proofs.Common.{◌≡◌, [], Some, None, IfSome, ap, ◌∙◌, subst}
 use Rattle.std.specs.Option.{option_map}
 use Rattle.std.proofs.lemmas.Option.{slice_get_within}
 use Rattle.mau_terms.specs.View.{tree_of}
 use Rattle.mau_store.specs.Trees.{tree_at}
-use Rattle.mau_listing.specs.Asked.{last_after}
+use Rattle.mau_listing.specs.Asked.{asks, last_after}
+use Rattle.mau_program.specs.declared.statements.Equation.{Equation}
 use Rattle.mau_evaluation.specs.Run.{gives, or_else}
 use Rattle.mau_api.specs.Programs.{program_over, equation_of}
 use Rattle.mau_reduce.specs.Trying.{solution_in, left_of_number, number_gives, IsCandidate, IsTried, IsFound}
 use Rattle.mau_reduce.specs.Comes.{ComesTo}
-use Rattle.mau_reduce.proofs.Numbered.{at_index, exec_at, executable_of, equation_there, none_if, some_if, none_of_number, one_of_number}
+use Rattle.mau_reduce.proofs.Numbered.{at_index, one_at, in_equations, exec_at, executable_of, equation_there, none_if, some_if, none_of_number, one_of_number}
 use Rattle.mau_reduce.proofs.trying.go_on.Goals as goal
+
+pub next_candidate-requires-clause-left : goal.next_candidate-requires-clause-left
+next_candidate-requires-clause-left g c =
+    let sides = c.requires.reducible.sides (equation_of c.index-items-tried.result) (in_equations c.args.program.now c.args.tried.now.number c.index-items-tried.result (at_index c.args.program.now.equations c.items.result.now c.args.tried.now.number c.index-items-tried.result c.items.ensures (slice_get_within c.args.program.now.equations c.args.tried.now.number c.requires.tried.equation c.requires.tried.at) c.index-items-tried.is)) in
+    (sides.kind, sides.left)
+
+pub next_candidate-requires-clause-asked : goal.next_candidate-requires-clause-asked
+next_candidate-requires-clause-asked g c =
+    c.requires.tried.asked
+    ∙ ap (λ (e : Equation). asks (tree_of e.left) [] c.args.term) (one_at c.args.program.now.equations c.args.tried.now.number c.requires.tried.equation c.index-items-tried.result c.requires.tried.at
+    (at_index c.args.program.now.equations c.items.result.now c.args.tried.now.number c.index-items-tried.result c.items.ensures (slice_get_within c.args.program.now.equations c.args.tried.now.number c.requires.tried.equation c.requires.tried.at) c.index-items-tried.is))
 
 pub returns-clause-none : goal.returns-clause-none
 returns-clause-none g c = λ hooks B derived.
