@@ -46,7 +46,7 @@ drop_next [] (suc n) y ys h = cc
 drop_next (x ∷ xs) zero y ys h = cc
 drop_next (x ∷ xs) (suc n) y ys h = drop_next xs n y ys h
 
-module _ {A C S : Type 0} (w : Words A C S) where
+module _ {A C S D : Type 0} (w : Words A C S D) where
   pub at_trees : (ids : List TermId) (i : ℕ) (x : TermId) → i < length ids → x ≡ get_or ids i x → at (trees w ids) i ≡ Some (w.tree x.0)
   at_trees [] i x h e = absurd (omega (arith, h))
   at_trees (y ∷ ids) zero x h e = ap (λ z. Some (w.tree z.0)) (sym e)
@@ -443,7 +443,7 @@ module _ (R : Rules) where
 
 -- ---- from the slices that `build` was given
 
-module _ {A C S : Type 0} (w : Words A C S) where
+module _ {A C S D : Type 0} (w : Words A C S D) where
   pub built_from : (k f : ℕ) (order order' : List ℕ) (ids ids' : List TermId) (n : ℕ) (t : Tree) (changed flag : Bool) (b : ℕ) → length order ≤ n → order' ≡ order → ids' ≡ ids → flag ≡ changed →
       within_limits w.rules.program.sign.theory (build (w.rules.program.sign.theory f) f (trees w ids')) b ≡ done t 0 b → flag ≡ top_changed (w.rules.program.sign.theory f) order' f (trees w ids') t →
       on_arguments w.rules k f order (drop n order) (trees w ids) b ≡ from_built w.rules k changed t b

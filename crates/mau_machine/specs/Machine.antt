@@ -38,8 +38,8 @@ pub data Task : Type 0 where
   holds : (σ : Binding) → Task
   fails : Task
 
-module _ {A C S : Type 0} (w : Words A C S) where
-  abbrev pub waits_in : Frame A C S → Waits
+module _ {A C S D : Type 0} (w : Words A C S D) where
+  abbrev pub waits_in : Frame A C S D → Waits
   waits_in (Waiting.Argument a i) = argument a.level a.op.0 (trees w a.args.items) a.order.items a.next i
   waits_in (Waiting.Again t) = again
   waits_in (Waiting.Left c) = left_side c.level c.condition c.at (w.bound c.binding)
@@ -49,7 +49,7 @@ module _ {A C S : Type 0} (w : Words A C S) where
   waits_in (Waiting.Choice c mark) = choice (w.unchosen c.choices c.level c.condition c.at) c.before
   waits_in (Waiting.Trying x before mark) = trying x.level (w.tree x.term.0) (w.untried x.attempts x.level) (w.makes x.attempts) before
 
-  abbrev pub task_in : Control A C S → Task
+  abbrev pub task_in : Control A C S D → Task
   task_in (Next.Eval k t) = evaluates k (w.tree t.0)
   task_in (Next.Evaluating a) = arguments a.level a.op.0 (trees w a.args.items) a.order.items a.next
   task_in (Next.Top k t) = looks_at_top k (w.tree t.0)
@@ -127,12 +127,12 @@ module _ (R : Rules) where
   comes (holds σ) r = λ b. done (held σ) r b
   comes fails r = λ b. done failed 0 b
 
-module _ {A C S : Type 0} (w : Words A C S) where
+module _ {A C S D : Type 0} (w : Words A C S D) where
   -- what comes of an outcome through frames, of which the first one waits longest
-  abbrev pub through : List (Frame A C S) → Outcome Reply → Outcome Reply
+  abbrev pub through : List (Frame A C S D) → Outcome Reply → Outcome Reply
   through [] o = o
   through (f ∷ fs) o = goes_on w.rules (waits_in w f) (through fs o)
 
   -- what comes of all: of what is done next, through the frames
-  abbrev pub whole : List (Frame A C S) → Control A C S → ℕ → Run Reply
+  abbrev pub whole : List (Frame A C S D) → Control A C S D → ℕ → Run Reply
   whole fs c r = λ b. through fs (comes w.rules (task_in w c) r b)

@@ -9,7 +9,7 @@ mod steps;
 mod telling;
 mod world;
 
-pub use frame::{Arguments, Choosing, Condition, Control, Frame, Trial};
+pub use frame::{Arguments, Choosing, Condition, Control, Frame, Settled, Trial};
 pub use goal::Goal;
-pub use machine::{evaluate, solve};
+pub use machine::{evaluate, settle, solve};
 pub use world::World;

@@ -18,14 +18,14 @@ use std::alloc::Global;
 
 /// What waits, and how many applications were counted since the last frame began that counts apart.
 #[derive(Drop)]
-pub struct Machine<A, C, S> {
-    pub frames: Vec<Frame<A, C, S>>,
+pub struct Machine<A, C, S, D> {
+    pub frames: Vec<Frame<A, C, S, D>>,
     pub rewrites: u64,
 }
 
-impl<A: Drop, C: Drop, S: Drop> Machine<A, C, S> {
+impl<A: Drop, C: Drop, S: Drop, D: Drop> Machine<A, C, S, D> {
     /// A machine in which nothing waits.
-    pub fn new(alloc: Global) -> Machine<A, C, S>
+    pub fn new(alloc: Global) -> Machine<A, C, S, D>
         ensures frames { result.frames.items ≡ [] }
         ensures rewrites { result.rewrites ≡ 0 }
     {
@@ -36,7 +36,7 @@ impl<A: Drop, C: Drop, S: Drop> Machine<A, C, S> {
     }
 
     /// A frame begins to wait.
-    pub fn wait(&mut self, frame: Frame<A, C, S>) -> Result<(), NoMemory>
+    pub fn wait(&mut self, frame: Frame<A, C, S, D>) -> Result<(), NoMemory>
         ensures frames { OnOk result (self.new.frames.items ≡ self.old.frames.items ++ frame ∷ []) }
         ensures rewrites { self.new.rewrites ≡ self.old.rewrites }
     {
@@ -155,11 +155,11 @@ pub fn solve<W: World, T: StepWatcher>(
 fn run<W: World, T: StepWatcher>(
     world: &mut W,
     store: &mut Store,
-    machine: &mut Machine<W::Attempts, W::Choices, W::Binding>,
-    task: Control<W::Attempts, W::Choices, W::Binding>,
+    machine: &mut Machine<W::Attempts, W::Choices, W::Binding, W::Settling>,
+    task: Control<W::Attempts, W::Choices, W::Binding, W::Settling>,
     budget: &mut u64,
     watcher: &mut T,
-) -> Result<Control<W::Attempts, W::Choices, W::Binding>, EvalEnd>
+) -> Result<Control<W::Attempts, W::Choices, W::Binding, W::Settling>, EvalEnd>
     requires ready { W.ready world.old store.old }
     requires held { AreHeld (W.words world.old store.old) machine.old.frames.items task }
     requires told { T.wanted watcher.old ≡ true → AreTold (W.words world.old store.old) store.old
@@ -197,7 +197,7 @@ fn run<W: World, T: StepWatcher>(
 }
 
 /// Whether it is a value, or what became of a condition.
-fn is_last<A, C, S>(task: &Control<A, C, S>) -> bool {
+fn is_last<A, C, S, D>(task: &Control<A, C, S, D>) -> bool {
     matches!(
         task,
         Control::Value(_) | Control::Held(_, _) | Control::Failed(_)

@@ -22,10 +22,10 @@ use mau_terms::TermId;
 pub fn give<W: World, T: StepWatcher>(
     world: &mut W,
     store: &mut Store,
-    machine: &mut Machine<W::Attempts, W::Choices, W::Binding>,
+    machine: &mut Machine<W::Attempts, W::Choices, W::Binding, W::Settling>,
     value: TermId,
     watcher: &mut T,
-) -> Result<Control<W::Attempts, W::Choices, W::Binding>, EvalEnd>
+) -> Result<Control<W::Attempts, W::Choices, W::Binding, W::Settling>, EvalEnd>
     requires ready { W.ready world.old store.old }
     requires held { AreHeld (W.words world.old store.old) machine.old.frames.items (Control.Value value) }
     ensures goes { (b : ℕ) → IfOk result (λ next. IsAlike (whole (W.words world.new store.new) machine.old.frames.items
@@ -111,7 +111,7 @@ fn proceed<W: World>(
     store: &Store,
     condition: Condition<W::Binding>,
     holds: bool,
-) -> Result<Control<W::Attempts, W::Choices, W::Binding>, EvalEnd>
+) -> Result<Control<W::Attempts, W::Choices, W::Binding, W::Settling>, EvalEnd>
     requires binding { (W.words world.now store.now).knows_binding condition.condition condition.at condition.binding }
     requires passes { PassesOn (W.words world.now store.now).rules condition.condition condition.at }
     ensures goes { (r b : ℕ) → IfOk result (λ next. as_answer (counted_if r (where_true holds
@@ -145,12 +145,12 @@ fn proceed<W: World>(
 pub fn hold<W: World, T: StepWatcher>(
     world: &mut W,
     store: &mut Store,
-    machine: &mut Machine<W::Attempts, W::Choices, W::Binding>,
+    machine: &mut Machine<W::Attempts, W::Choices, W::Binding, W::Settling>,
     condition: usize,
     binding: W::Binding,
     budget: &mut u64,
     watcher: &mut T,
-) -> Result<Control<W::Attempts, W::Choices, W::Binding>, EvalEnd>
+) -> Result<Control<W::Attempts, W::Choices, W::Binding, W::Settling>, EvalEnd>
     requires ready { W.ready world.old store.old }
     requires held { AreHeld (W.words world.old store.old) machine.old.frames.items (Control.Held condition binding) }
     ensures goes { IfOk result (λ next. IsAlike (whole (W.words world.new store.new) machine.old.frames.items
@@ -201,10 +201,10 @@ pub fn hold<W: World, T: StepWatcher>(
 pub fn fail<W: World, T: StepWatcher>(
     world: &W,
     store: &Store,
-    machine: &mut Machine<W::Attempts, W::Choices, W::Binding>,
+    machine: &mut Machine<W::Attempts, W::Choices, W::Binding, W::Settling>,
     condition: usize,
     watcher: &mut T,
-) -> Result<Control<W::Attempts, W::Choices, W::Binding>, EvalEnd>
+) -> Result<Control<W::Attempts, W::Choices, W::Binding, W::Settling>, EvalEnd>
     requires ready { W.ready world.now store.now }
     requires held { AreHeld (W.words world.now store.now) machine.old.frames.items (Control.Failed condition) }
     requires told { T.wanted watcher.old ≡ true → AreTold (W.words world.now store.now) store.now

@@ -20,11 +20,11 @@ use mau_terms::TermId;
 pub fn step<W: World, T: StepWatcher>(
     world: &mut W,
     store: &mut Store,
-    machine: &mut Machine<W::Attempts, W::Choices, W::Binding>,
-    task: Control<W::Attempts, W::Choices, W::Binding>,
+    machine: &mut Machine<W::Attempts, W::Choices, W::Binding, W::Settling>,
+    task: Control<W::Attempts, W::Choices, W::Binding, W::Settling>,
     budget: &mut u64,
     watcher: &mut T,
-) -> Result<Control<W::Attempts, W::Choices, W::Binding>, EvalEnd>
+) -> Result<Control<W::Attempts, W::Choices, W::Binding, W::Settling>, EvalEnd>
     requires ready { W.ready world.old store.old }
     requires held { AreHeld (W.words world.old store.old) machine.old.frames.items task }
     requires told { T.wanted watcher.old ≡ true → AreTold (W.words world.old store.old) store.old
@@ -67,7 +67,7 @@ fn open<W: World>(
     store: &Store,
     level: u32,
     term: TermId,
-) -> Result<Control<W::Attempts, W::Choices, W::Binding>, EvalEnd>
+) -> Result<Control<W::Attempts, W::Choices, W::Binding, W::Settling>, EvalEnd>
     requires ready { W.ready world.now store.now }
     requires term { (W.words world.now store.now).knows_term term.0 }
     ensures goes { (r b : ℕ) → IfOk result (λ next. IsAlike (comes (W.words world.now store.now).rules
@@ -102,10 +102,10 @@ fn open<W: World>(
 fn go_on<W: World, T: StepWatcher>(
     world: &mut W,
     store: &mut Store,
-    machine: &mut Machine<W::Attempts, W::Choices, W::Binding>,
+    machine: &mut Machine<W::Attempts, W::Choices, W::Binding, W::Settling>,
     arguments: Arguments,
     watcher: &mut T,
-) -> Result<Control<W::Attempts, W::Choices, W::Binding>, EvalEnd>
+) -> Result<Control<W::Attempts, W::Choices, W::Binding, W::Settling>, EvalEnd>
     requires ready { W.ready world.old store.old }
     requires operands { (W.words world.old store.old).knows_operands arguments.op.0 arguments.args.items }
     ensures goes { (b : ℕ) → IfOk result (λ next. IsAlike (whole (W.words world.new store.new) machine.old.frames.items
@@ -149,10 +149,10 @@ fn go_on<W: World, T: StepWatcher>(
 fn rebuild<W: World, T: StepWatcher>(
     world: &mut W,
     store: &mut Store,
-    machine: &mut Machine<W::Attempts, W::Choices, W::Binding>,
+    machine: &mut Machine<W::Attempts, W::Choices, W::Binding, W::Settling>,
     arguments: Arguments,
     watcher: &mut T,
-) -> Result<Control<W::Attempts, W::Choices, W::Binding>, EvalEnd>
+) -> Result<Control<W::Attempts, W::Choices, W::Binding, W::Settling>, EvalEnd>
     requires ready { W.ready world.old store.old }
     requires operands { (W.words world.old store.old).knows_operands arguments.op.0 arguments.args.items }
     requires last { length arguments.order.items ≤ arguments.next }
@@ -187,7 +187,7 @@ fn look<W: World>(
     store: &mut Store,
     level: u32,
     term: TermId,
-) -> Result<Control<W::Attempts, W::Choices, W::Binding>, EvalEnd>
+) -> Result<Control<W::Attempts, W::Choices, W::Binding, W::Settling>, EvalEnd>
     requires ready { W.ready world.old store.old }
     requires term { (W.words world.old store.old).knows_term term.0 }
     ensures goes { (r b : ℕ) → IfOk result (λ next. IsAlike (comes (W.words world.new store.new).rules
@@ -214,10 +214,10 @@ fn look<W: World>(
 fn attempt<W: World, T: StepWatcher>(
     world: &mut W,
     store: &mut Store,
-    machine: &mut Machine<W::Attempts, W::Choices, W::Binding>,
+    machine: &mut Machine<W::Attempts, W::Choices, W::Binding, W::Settling>,
     trial: Trial<W::Attempts>,
     watcher: &mut T,
-) -> Result<Control<W::Attempts, W::Choices, W::Binding>, EvalEnd>
+) -> Result<Control<W::Attempts, W::Choices, W::Binding, W::Settling>, EvalEnd>
     requires ready { W.ready world.old store.old }
     requires value { (W.words world.old store.old).knows_value trial.term.0 }
     requires attempts { (W.words world.old store.old).knows_attempts trial.term.0 trial.attempts }
@@ -261,10 +261,10 @@ fn attempt<W: World, T: StepWatcher>(
 fn solve<W: World, T: StepWatcher>(
     world: &mut W,
     store: &mut Store,
-    machine: &mut Machine<W::Attempts, W::Choices, W::Binding>,
+    machine: &mut Machine<W::Attempts, W::Choices, W::Binding, W::Settling>,
     condition: Condition<W::Binding>,
     watcher: &mut T,
-) -> Result<Control<W::Attempts, W::Choices, W::Binding>, EvalEnd>
+) -> Result<Control<W::Attempts, W::Choices, W::Binding, W::Settling>, EvalEnd>
     requires ready { W.ready world.old store.old }
     requires binding { (W.words world.old store.old).knows_binding condition.condition condition.at condition.binding }
     ensures goes { (b : ℕ) → IfOk result (λ next. IsAlike (whole (W.words world.new store.new) machine.old.frames.items
@@ -352,10 +352,10 @@ pub fn side<W: World>(
 fn choose<W: World, T: StepWatcher>(
     world: &mut W,
     store: &mut Store,
-    machine: &mut Machine<W::Attempts, W::Choices, W::Binding>,
+    machine: &mut Machine<W::Attempts, W::Choices, W::Binding, W::Settling>,
     choosing: Choosing<W::Choices>,
     watcher: &mut T,
-) -> Result<Control<W::Attempts, W::Choices, W::Binding>, EvalEnd>
+) -> Result<Control<W::Attempts, W::Choices, W::Binding, W::Settling>, EvalEnd>
     requires ready { W.ready world.old store.old }
     requires choices { (W.words world.old store.old).knows_choices choosing.condition choosing.at choosing.choices }
     ensures goes { (b : ℕ) → IfOk result (λ next. IsAlike (whole (W.words world.new store.new) machine.old.frames.items
