@@ -1,10 +1,10 @@
 -- Frames and tasks of which all is known, in states that come of one another.
-use Rattle.std.proofs.Common.{◌≡◌, ℕ, zero, suc, ◌<◌, List, [], ◌∷◌, ◌++◌, length, Some, refl, sym, ◌∙◌, ap, subst, arith, get_or, Result, Ok, Err, IfOk}
+use Rattle.std.proofs.Common.{◌≡◌, ℕ, zero, suc, ◌+◌, ◌<◌, List, [], ◌∷◌, ◌++◌, length, Some, refl, sym, ◌∙◌, ap, subst, arith, get_or, Result, Ok, Err, IfOk}
 use Rattle.mau_terms.specs.declared.ids.TermId.{TermId}
 use Rattle.mau_evaluation.specs.Run.{Outcome}
 use Rattle.mau_evaluation.specs.Listing.{kind_at}
 use Rattle.mau_machine.specs.Words.{Words, Keeps, kind_of, trees, Asks, IsSolution}
-use Rattle.mau_machine.specs.Machine.{argument, left_side, right_side, sorting, matching, choice, trying, evaluates, arguments, looks_at_top, attempts, solves, chooses, has_value, holds, Reply, goes_on, comes, waits_in, task_in, through, whole}
+use Rattle.mau_machine.specs.Machine.{argument, left_side, right_side, sorting, matching, choice, settling, trying, evaluates, arguments, looks_at_top, attempts, solves, chooses, has_value, holds, Reply, goes_on, comes, waits_in, task_in, through, whole}
 use Rattle.mau_machine.specs.Known.{Due, value_of, Suits, kind_under, kind_in, asks, yields, comes_to, AreChained, IsKnown, IsKnownNext, AreKnown, HoldsIn}
 use Rattle.mau_api.specs.declared.results.EvalEnd.{EvalEnd}
 use Rattle.mau_machine.specs.Steps.{StayKnown}
@@ -89,12 +89,15 @@ module _ {A C S D : Type 0} (w w' : Words A C S D) (k : Keeps w w') where
   known_on (Waiting.Sorting c) h = ((k.bindings c.condition c.at c.binding h.0).0, asks_on c.condition c.at _ h.1)
   known_on (Waiting.Matching c) h = ((k.bindings c.condition c.at c.binding h.0).0, asks_on c.condition c.at _ h.1)
   known_on (Waiting.Choice c mark) h = (k.choices c.condition c.at c.choices h).0
+  known_on (Waiting.Deriving x mark) h = (k.terms x.term.0 h).0
   known_on (Waiting.Trying x n mark) h = ((k.values x.term.0 h.0).0, (k.attempts x.term.0 x.attempts h.1).0, (k.candidates x.term.0 x.condition x.attempts h.2).0)
 
   next_on : (c : Control A C S D) → IsKnownNext w c → IsKnownNext w' c
   next_on (Next.Eval n t) h = (k.terms t.0 h).0
   next_on (Next.Evaluating a) h = (k.operands a.op.0 a.args.items h).0
   next_on (Next.Top n t) h = (k.terms t.0 h).0
+  next_on (Next.Settle n t d) h = ((k.terms t.0 h.0).0, k.settlings t.0 d h.1)
+  next_on (Next.Ready n t) h = (k.values t.0 h).0
   next_on (Next.Attempt x) h = ((k.values x.term.0 h.0).0, (k.attempts x.term.0 x.attempts h.1).0)
   next_on (Next.Solve c) h = (k.bindings c.condition c.at c.binding h).0
   next_on (Next.Choose c) h = (k.choices c.condition c.at c.choices h).0
@@ -116,6 +119,7 @@ module _ {A C S D : Type 0} (w w' : Words A C S D) (k : Keeps w w') where
   same_asks (Waiting.Matching c) h = refl
   same_asks (Waiting.Choice c mark) h = refl
   same_asks (Waiting.Trying x n mark) h = refl
+  same_asks (Waiting.Deriving x mark) h = refl
 
   same_yields : (f : Frame A C S D) → IsKnown w f → yields w' f ≡ yields w f
   same_yields (Waiting.Argument a i) h = ap value_of (same_under a.op.0)
@@ -126,11 +130,14 @@ module _ {A C S D : Type 0} (w w' : Words A C S D) (k : Keeps w w') where
   same_yields (Waiting.Matching c) h = refl
   same_yields (Waiting.Choice c mark) h = refl
   same_yields (Waiting.Trying x n mark) h = ap value_of (same_value_kind x.term.0 h.0)
+  same_yields (Waiting.Deriving x mark) h = ap value_of (same_kind x.term.0 h)
 
   same_comes : (c : Control A C S D) → IsKnownNext w c → comes_to w' c ≡ comes_to w c
   same_comes (Next.Eval n t) h = ap value_of (same_kind t.0 h)
   same_comes (Next.Evaluating a) h = ap value_of (same_under a.op.0)
   same_comes (Next.Top n t) h = ap value_of (same_kind t.0 h)
+  same_comes (Next.Settle n t d) h = ap value_of (same_kind t.0 h.0)
+  same_comes (Next.Ready n t) h = ap value_of (same_value_kind t.0 h)
   same_comes (Next.Attempt x) h = ap value_of (same_value_kind x.term.0 h.0)
   same_comes (Next.Solve c) h = refl
   same_comes (Next.Choose c) h = refl
@@ -152,44 +159,47 @@ module _ {A C S D : Type 0} (w w' : Words A C S D) (k : Keeps w w') where
   }
 
   -- and means the same
-  same_waits : (f : Frame A C S D) → IsKnown w f → waits_in w' f ≡ waits_in w f
-  same_waits (Waiting.Argument a i) h = ap (λ ts. argument a.level a.op.0 ts a.order.items a.next i) (k.operands a.op.0 a.args.items h).1
-  same_waits (Waiting.Again t) h = refl
-  same_waits (Waiting.Left c) h = ap (left_side c.level c.condition c.at) (k.bindings c.condition c.at c.binding h.0).1
-  same_waits (Waiting.Right c t) h =
-      ap (λ σ. right_side c.level c.condition c.at σ (w'.tree t.0)) (k.bindings c.condition c.at c.binding h.0).1 ∙ ap (right_side c.level c.condition c.at (w.bound c.binding)) (k.values t.0 h.2).1
-  same_waits (Waiting.Sorting c) h = ap (sorting c.level c.condition c.at) (k.bindings c.condition c.at c.binding h.0).1
-  same_waits (Waiting.Matching c) h = ap (matching c.level c.condition c.at) (k.bindings c.condition c.at c.binding h.0).1
-  same_waits (Waiting.Choice c mark) h = ap (λ u. choice u c.before) (λ i b. (k.choices c.condition c.at c.choices h).1 c.level b i)
-  same_waits (Waiting.Trying x n mark) h =
-      ap (λ t. trying x.level t (w'.untried x.attempts x.level) (w'.makes x.attempts) n) (k.values x.term.0 h.0).1
-      ∙ (ap (λ u. trying x.level (w.tree x.term.0) u (w'.makes x.attempts) n) (λ i b. (k.attempts x.term.0 x.attempts h.1).1 x.level b i)
-      ∙ ap (λ m. trying x.level (w.tree x.term.0) (w.untried x.attempts x.level) m n) (λ i σ. (k.candidates x.term.0 x.condition x.attempts h.2).1 σ i))
+  same_waits : (m : ℕ) (f : Frame A C S D) → IsKnown w f → waits_in w' m f ≡ waits_in w m f
+  same_waits m (Waiting.Argument a i) h = ap (λ ts. argument (a.level + m) a.op.0 ts a.order.items a.next i) (k.operands a.op.0 a.args.items h).1
+  same_waits m (Waiting.Again t) h = refl
+  same_waits m (Waiting.Left c) h = ap (left_side (c.level + m) c.condition c.at) (k.bindings c.condition c.at c.binding h.0).1
+  same_waits m (Waiting.Right c t) h =
+      ap (λ σ. right_side (c.level + m) c.condition c.at σ (w'.tree t.0)) (k.bindings c.condition c.at c.binding h.0).1 ∙ ap (right_side (c.level + m) c.condition c.at (w.bound c.binding)) (k.values t.0 h.2).1
+  same_waits m (Waiting.Sorting c) h = ap (sorting (c.level + m) c.condition c.at) (k.bindings c.condition c.at c.binding h.0).1
+  same_waits m (Waiting.Matching c) h = ap (matching (c.level + m) c.condition c.at) (k.bindings c.condition c.at c.binding h.0).1
+  same_waits m (Waiting.Choice c mark) h = ap (λ u. choice u c.before) (λ i b. (k.choices c.condition c.at c.choices h).1 (c.level + m) b i)
+  same_waits m (Waiting.Trying x n mark) h =
+      ap (λ t. trying (x.level + m) t (w'.untried x.attempts (x.level + m)) (w'.makes x.attempts) n) (k.values x.term.0 h.0).1
+      ∙ (ap (λ u. trying (x.level + m) (w.tree x.term.0) u (w'.makes x.attempts) n) (λ i b. (k.attempts x.term.0 x.attempts h.1).1 (x.level + m) b i)
+      ∙ ap (λ z. trying (x.level + m) (w.tree x.term.0) (w.untried x.attempts (x.level + m)) z n) (λ i σ. (k.candidates x.term.0 x.condition x.attempts h.2).1 σ i))
+  same_waits m (Waiting.Deriving x mark) h = ap (λ t. settling (x.level + m) t x.budget x.before) (k.terms x.term.0 h).1
 
-  same_task : (c : Control A C S D) → IsKnownNext w c → task_in w' c ≡ task_in w c
-  same_task (Next.Eval n t) h = ap (evaluates n) (k.terms t.0 h).1
-  same_task (Next.Evaluating a) h = ap (λ ts. arguments a.level a.op.0 ts a.order.items a.next) (k.operands a.op.0 a.args.items h).1
-  same_task (Next.Top n t) h = ap (looks_at_top n) (k.terms t.0 h).1
-  same_task (Next.Attempt x) h =
-      ap (λ t. attempts x.level t (w'.untried x.attempts x.level)) (k.values x.term.0 h.0).1
-      ∙ ap (attempts x.level (w.tree x.term.0)) (λ i b. (k.attempts x.term.0 x.attempts h.1).1 x.level b i)
-  same_task (Next.Solve c) h = ap (solves c.level c.condition c.at) (k.bindings c.condition c.at c.binding h).1
-  same_task (Next.Choose c) h = ap (λ u. chooses u c.before) (λ i b. (k.choices c.condition c.at c.choices h).1 c.level b i)
-  same_task (Next.Value t) h = ap has_value (k.values t.0 h).1
-  same_task (Next.Held e σ) h = ap holds (k.bindings e h.0 σ h.1).1
-  same_task (Next.Failed e) h = refl
+  same_task : (m : ℕ) (c : Control A C S D) → IsKnownNext w c → task_in w' m c ≡ task_in w m c
+  same_task m (Next.Eval n t) h = ap (evaluates (n + m)) (k.terms t.0 h).1
+  same_task m (Next.Evaluating a) h = ap (λ ts. arguments (a.level + m) a.op.0 ts a.order.items a.next) (k.operands a.op.0 a.args.items h).1
+  same_task m (Next.Top n t) h = ap (looks_at_top (n + m)) (k.terms t.0 h).1
+  same_task m (Next.Settle n t d) h = ap (looks_at_top (n + m)) (k.terms t.0 h.0).1
+  same_task m (Next.Ready n t) h = ap (looks_at_top (n + m)) (k.values t.0 h).1
+  same_task m (Next.Attempt x) h =
+      ap (λ t. attempts (x.level + m) t (w'.untried x.attempts (x.level + m))) (k.values x.term.0 h.0).1
+      ∙ ap (attempts (x.level + m) (w.tree x.term.0)) (λ i b. (k.attempts x.term.0 x.attempts h.1).1 (x.level + m) b i)
+  same_task m (Next.Solve c) h = ap (solves (c.level + m) c.condition c.at) (k.bindings c.condition c.at c.binding h).1
+  same_task m (Next.Choose c) h = ap (λ u. chooses u c.before) (λ i b. (k.choices c.condition c.at c.choices h).1 (c.level + m) b i)
+  same_task m (Next.Value t) h = ap has_value (k.values t.0 h).1
+  same_task m (Next.Held e σ) h = ap holds (k.bindings e h.0 σ h.1).1
+  same_task m (Next.Failed e) h = refl
 
-  same_through : (fs : List (Frame A C S D)) (o : Outcome Reply) → AreKnown w fs → through w' fs o ≡ through w fs o
-  same_through [] o h = refl
-  same_through (f ∷ fs) o h =
-      ap (λ R. goes_on R (waits_in w' f) (through w' fs o)) k.rules
-      ∙ (ap (λ x. goes_on w.rules x (through w' fs o)) (same_waits f h.0)
-      ∙ ap (goes_on w.rules (waits_in w f)) (same_through fs o h.1))
+  same_through : (m : ℕ) (fs : List (Frame A C S D)) (o : Outcome Reply) → AreKnown w fs → through w' m fs o ≡ through w m fs o
+  same_through m [] o h = refl
+  same_through m (f ∷ fs) o h =
+      ap (λ R. goes_on R (waits_in w' m f) (through w' m fs o)) k.rules
+      ∙ (ap (λ x. goes_on w.rules x (through w' m fs o)) (same_waits m f h.0)
+      ∙ ap (goes_on w.rules (waits_in w m f)) (same_through m fs o h.1))
 
-  pub same_whole : (asked : Due) (fs : List (Frame A C S D)) (c : Control A C S D) → HoldsIn w asked fs c → (r b : ℕ) → whole w' fs c r b ≡ whole w fs c r b
-  same_whole asked fs c h r b =
-      same_through fs (comes w'.rules (task_in w' c) r b) h.frames
-      ∙ ap (through w fs) (ap (λ R. comes R (task_in w' c) r b) k.rules ∙ ap (λ x. comes w.rules x r b) (same_task c h.next))
+  pub same_whole_of : (fs : List (Frame A C S D)) (c : Control A C S D) → AreKnown w fs → IsKnownNext w c → (m r b : ℕ) → whole w' m fs c r b ≡ whole w m fs c r b
+  same_whole_of fs c h q m r b =
+      same_through m fs (comes w'.rules (task_in w' m c) r b) h
+      ∙ ap (through w m fs) (ap (λ R. comes R (task_in w' m c) r b) k.rules ∙ ap (λ x. comes w.rules x r b) (same_task m c q))
 
   -- ---- results of the parts of the loop
 
@@ -210,6 +220,8 @@ same_state w = record {
   values = λ t h. (h, refl);
   operands = λ f ts h. (h, refl);
   bindings = λ e i σ h. (h, refl);
+  settlings = λ t d h. h;
+  askings = λ t e σ d h. h;
   attempts = λ t a h. (h, λ k b. refl);
   candidates = λ t e a h. (h, λ σ. refl);
   choices = λ e i c h. (h, λ k b. refl);
@@ -241,8 +253,8 @@ module _ {A C S D : Type 0} (w : Words A C S D) where
   kind_at_get (y ∷ ids) (suc i) d h = kind_at_get ids i d (omega (arith, h))
 
   -- a machine in which nothing waits
-  pub start_is : (fs : List (Frame A C S D)) (c : Control A C S D) (n b : ℕ) → fs ≡ [] → n ≡ 0 → whole w [] c 0 b ≡ whole w fs c n b
-  start_is fs c n b e z = ap (λ m. whole w [] c m b) (sym z) ∙ ap (λ gs. whole w gs c n b) (sym e)
+  pub start_is : (fs : List (Frame A C S D)) (c : Control A C S D) (r b : ℕ) → fs ≡ [] → r ≡ 0 → (n : ℕ) → whole w n [] c 0 b ≡ whole w n fs c r b
+  start_is fs c r b e z n = ap (λ m. whole w n [] c m b) (sym z) ∙ ap (λ gs. whole w n gs c r b) (sym e)
 
   pub held_first : (asked : Due) (fs : List (Frame A C S D)) (c : Control A C S D) → fs ≡ [] → IsKnownNext w c → Suits asked (comes_to w c) → HoldsIn w asked fs c
   held_first asked fs c e k s = subst (λ gs. HoldsIn w asked gs c) (sym e) (record { frames = tt; next = k; chained = s })

@@ -121,6 +121,10 @@ module _ {A C S D : Type 0} (w w' : Words A C S D) (k : Keeps w w') (old new : L
       (subst (λ ts. IsInRound w.rules new after t0 a.op.0 ts es) (sym (k.operands a.op.0 a.args.items q).1) (in_round_later w.rules old new x before after kept t0 a.op.0 (trees w a.args.items) es h))
   task_on (evaluating t0) (Next.Top n t) es q h =
       subst (λ R. Runs R new after t0 es (w'.tree t.0)) (sym k.rules) (subst (Runs w.rules new after t0 es) (sym (k.terms t.0 q).1) (runs_later w.rules old new x before after kept t0 es (w.tree t.0) h))
+  task_on (evaluating t0) (Next.Settle n t d) es q h =
+      subst (λ R. Runs R new after t0 es (w'.tree t.0)) (sym k.rules) (subst (Runs w.rules new after t0 es) (sym (k.terms t.0 q.0).1) (runs_later w.rules old new x before after kept t0 es (w.tree t.0) h))
+  task_on (evaluating t0) (Next.Ready n t) es q h =
+      subst (λ R. Runs R new after t0 es (w'.tree t.0)) (sym k.rules) (subst (Runs w.rules new after t0 es) (sym (k.values t.0 q).1) (runs_later w.rules old new x before after kept t0 es (w.tree t.0) h))
   task_on (evaluating t0) (Next.Attempt y) es q h =
       subst (λ R. Runs R new after t0 es (w'.tree y.term.0)) (sym k.rules) (subst (Runs w.rules new after t0 es) (sym (k.values y.term.0 q.0).1) (runs_later w.rules old new x before after kept t0 es (w.tree y.term.0) h))
   task_on (evaluating t0) (Next.Value t) es q h =
@@ -227,6 +231,8 @@ module _ {A C S D : Type 0} (w w' : Words A C S D) (k : Keeps w w') (old new : L
       )
   frame_on n m (evaluating t0) (Waiting.Trying y b mark) xs (solving e i σ) q h =
       (h.0, h.1, subst (λ R. Runs R new after t0 xs (w'.tree y.term.0)) (sym k.rules) (subst (Runs w.rules new after t0 xs) (sym (k.values y.term.0 q.0).1) (runs_later w.rules old new x before after kept t0 xs (w.tree y.term.0) h.2)), h.3, h.4)
+  frame_on n m (evaluating t0) (Waiting.Deriving y mark) xs (solving e i σ) q h =
+      (h.0, h.1, subst (λ R. Runs R new after t0 xs (w'.tree y.term.0)) (sym k.rules) (subst (Runs w.rules new after t0 xs) (sym (k.terms y.term.0 q).1) (runs_later w.rules old new x before after kept t0 xs (w.tree y.term.0) h.2)), h.3, h.4)
   frame_on n m J f xs K q h = absurd h
 
   tells_on : (n m : ℕ) (J : Job) (fs : List (Frame A C S D)) (c : Control A C S D) (r : ℕ) (es : List Event) → AreKnown w fs → IsKnownNext w c → Tells w old before n m J fs c r es → Tells w' new after n m J fs c r es

@@ -1,7 +1,8 @@
 pub mod Counts
 pub mod Through
-pub mod Branches
 pub mod Held
+pub mod Following
+pub mod Branches
 pub mod Pieces
 pub mod Later
 pub mod Tellings

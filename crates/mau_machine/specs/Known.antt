@@ -51,6 +51,7 @@ module _ {A C S D : Type 0} (w : Words A C S D) where
   asks (Waiting.Matching c) = any_value
   asks (Waiting.Choice c mark) = answer_to c.condition
   asks (Waiting.Trying x before mark) = answer_to x.condition
+  asks (Waiting.Deriving x mark) = answer_to x.condition
 
   -- what comes of it for the frame below
   abbrev pub yields : Frame A C S D → Due
@@ -62,12 +63,15 @@ module _ {A C S D : Type 0} (w : Words A C S D) where
   yields (Waiting.Matching c) = answer_to c.condition
   yields (Waiting.Choice c mark) = answer_to c.condition
   yields (Waiting.Trying x before mark) = value_of (kind_of w x.term.0)
+  yields (Waiting.Deriving x mark) = value_of (kind_of w x.term.0)
 
   -- what comes of what is done next
   abbrev pub comes_to : Control A C S D → Due
   comes_to (Next.Eval k t) = value_of (kind_of w t.0)
   comes_to (Next.Evaluating a) = value_of (kind_under a.op.0)
   comes_to (Next.Top k t) = value_of (kind_of w t.0)
+  comes_to (Next.Settle k t d) = value_of (kind_of w t.0)
+  comes_to (Next.Ready k t) = value_of (kind_of w t.0)
   comes_to (Next.Attempt x) = value_of (kind_of w x.term.0)
   comes_to (Next.Solve c) = answer_to c.condition
   comes_to (Next.Choose c) = answer_to c.condition
@@ -90,12 +94,15 @@ module _ {A C S D : Type 0} (w : Words A C S D) where
   IsKnown (Waiting.Matching c) = w.knows_binding c.condition c.at c.binding × Asks w.rules c.condition c.at Goals.Matching
   IsKnown (Waiting.Choice c mark) = w.knows_choices c.condition c.at c.choices
   IsKnown (Waiting.Trying x before mark) = w.knows_value x.term.0 × w.knows_attempts x.term.0 x.attempts × w.knows_candidate x.term.0 x.condition x.attempts
+  IsKnown (Waiting.Deriving x mark) = w.knows_term x.term.0
 
   -- what is done next is known
   abbrev pub IsKnownNext : Control A C S D → Type 0
   IsKnownNext (Next.Eval k t) = w.knows_term t.0
   IsKnownNext (Next.Evaluating a) = w.knows_operands a.op.0 a.args.items
   IsKnownNext (Next.Top k t) = w.knows_term t.0
+  IsKnownNext (Next.Settle k t d) = w.knows_term t.0 × w.knows_settling t.0 d
+  IsKnownNext (Next.Ready k t) = w.knows_value t.0
   IsKnownNext (Next.Attempt x) = w.knows_value x.term.0 × w.knows_attempts x.term.0 x.attempts
   IsKnownNext (Next.Solve c) = w.knows_binding c.condition c.at c.binding
   IsKnownNext (Next.Choose c) = w.knows_choices c.condition c.at c.choices

@@ -1,5 +1,5 @@
 -- What a step of the loop does.
-use Rattle.std.specs.Prelude.{◌≡◌, ◌++◌, ◌∷◌, [], ℕ, List, Bool, false}
+use Rattle.std.specs.Prelude.{◌≡◌, ◌⊎◌, ◌+◌, ◌<◌, ◌++◌, ◌∷◌, [], ℕ, List, Bool, false}
 use Rattle.mau_terms.specs.declared.ids.TermId.{TermId}
 use Rattle.mau_store.specs.Node.{Node}
 use Rattle.mau_sorts.specs.Table.{Table}
@@ -9,15 +9,51 @@ use Rattle.mau_api.specs.Events.{Event, made}
 use Rattle.mau_api.specs.Told.{step_in, StandsIn, TellsMore}
 use Rattle.mau_machine.specs.Uses.{IsUse}
 use Rattle.mau_machine.specs.Telling.{Job, Has, TellsTask, Counts, IsTelling}
-use Rattle.mau_evaluation.specs.Run.{Outcome}
-use Rattle.mau_machine.specs.Words.{Words, capped}
+use Rattle.mau_evaluation.specs.Run.{Outcome, ended, too_deep, counted_if}
+use Rattle.mau_evaluation.specs.Program.{Program}
+use Rattle.mau_machine.specs.Words.{Words, DerivesNone, capped, solve_on}
+use Rattle.mau_machine.specs.Machine.{as_answer, through, whole}
 use Rattle.mau_machine.specs.Known.{Due, HoldsIn}
 use Rattle.mau_machine.specs.declared.frame.Frame.{Frame}
+use Rattle.mau_machine.specs.declared.frame.Frame.TheVariants as Waiting
+use Rattle.mau_machine.specs.declared.frame.Settled.{Settled}
 use Rattle.mau_machine.specs.declared.frame.Control.{Control}
+use Rattle.mau_machine.specs.declared.frame.Control.TheVariants as Next
 
 -- the two outcomes are answered alike
 abbrev pub IsAlike : {A : Type 0} → Outcome A → Outcome A → Type 0
 IsAlike o o' = capped o ≡ capped o'
+
+-- f and g are what comes of a number of levels more than those at hand. The two are answered alike; or, by fewer than some number, f is too deep
+pub record Follows {A : Type 0} (P : Program) (f g : ℕ → Outcome A) : Type 0 where
+  pub enough : ℕ
+  pub just : DerivesNone P → enough ≡ 0
+  pub follows : (n : ℕ) → IsAlike (f n) (g n) ⊎ ((n < enough) × (f n ≡ ended too_deep))
+
+-- For each frame that waits for the condition of a membership: what the frames above it and the task come to is what becomes of the condition that is asked,
+-- by its own budget. So what is told of it at the end is an answer by some number of levels.
+module _ {A C S D : Type 0} (w : Words A C S D) where
+  abbrev pub AreAnswered : List (Frame A C S D) → Control A C S D → (r b : ℕ) → Type 0
+  AreAnswered [] c r b = Unit {0}
+  AreAnswered (Waiting.Deriving x mark ∷ fs) c r b =
+      ((σ : Binding) × w.knows_asking x.term.0 x.condition σ x.settling
+      × Follows w.rules.program (λ n. as_answer (counted_if 0 (solve_on w.rules (x.level + n) x.condition 0 σ w.rules.limit))) (λ n. whole w n fs c r b))
+      × AreAnswered fs c r b
+  AreAnswered (f ∷ fs) c r b = AreAnswered fs c r b
+
+  -- one step: some frames wait on as they did; what comes of those above them and the task is what comes of those that stand there then and the next task
+  pub record Goes (fs : List (Frame A C S D)) (c : Control A C S D) (r b : ℕ) (fs' : List (Frame A C S D)) (c' : Control A C S D) (r' b' : ℕ) : Type 0 where
+    pub below : List (Frame A C S D)
+    pub taken : List (Frame A C S D)
+    pub put : List (Frame A C S D)
+    pub was : fs ≡ below ++ taken
+    pub is : fs' ≡ below ++ put
+    pub follows : Follows w.rules.program (λ n. whole w n taken c r b) (λ n. whole w n put c' r' b')
+    pub answered : AreAnswered put c' r' b'
+
+  -- the settling of the term goes on
+  abbrev pub IsSettledOn : Settled D → Control A C S D → Type 0
+  IsSettledOn x c = (d : D) × (c ≡ Next.Settle x.level x.term d) × w.knows_settling x.term.0 d
 
 module _ {A C S D : Type 0} where
   -- frames and a next task are known in the state after, where they were known in the state before

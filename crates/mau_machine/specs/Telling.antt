@@ -116,6 +116,7 @@ module _ {A C S D : Type 0} where
   abbrev pub counted_on : Frame A C S D → ℕ → List Event → ℕ
   counted_on (Waiting.Choice c mark) m xs = 0
   counted_on (Waiting.Trying x before mark) m xs = 0
+  counted_on (Waiting.Deriving x mark) m xs = 0
   counted_on f m xs = m + steps_in xs
 
 module _ {A C S D : Type 0} (w : Words A C S D) (nodes : List Node) (table : Table) where
@@ -124,6 +125,8 @@ module _ {A C S D : Type 0} (w : Words A C S D) (nodes : List Node) (table : Tab
   TellsTask (evaluating t0) (Next.Eval k t) es = MayBegin w.rules nodes table t0 es (w.tree t.0)
   TellsTask (evaluating t0) (Next.Evaluating a) es = IsInRound w.rules nodes table t0 a.op.0 (trees w a.args.items) es
   TellsTask (evaluating t0) (Next.Top k t) es = Runs w.rules nodes table t0 es (w.tree t.0)
+  TellsTask (evaluating t0) (Next.Settle k t d) es = Runs w.rules nodes table t0 es (w.tree t.0)
+  TellsTask (evaluating t0) (Next.Ready k t) es = Runs w.rules nodes table t0 es (w.tree t.0)
   TellsTask (evaluating t0) (Next.Attempt x) es = Runs w.rules nodes table t0 es (w.tree x.term.0)
   TellsTask (evaluating t0) (Next.Value t) es = Runs w.rules nodes table t0 es (w.tree t.0)
   TellsTask (solving e i σ) (Next.Solve c) es = (c.condition ≡ e) × IsExtension σ (w.bound c.binding) × IsShown w.rules nodes table e i c.at (w.bound c.binding) es
@@ -191,6 +194,9 @@ module _ {A C S D : Type 0} (w : Words A C S D) (nodes : List Node) (table : Tab
       × (mark ≡ n + length xs) × (c.before ≡ shown_count (m + steps_in xs))
   TellsFrame n m (evaluating t0) (Waiting.Trying x before mark) xs (solving e i σ) =
       (e ≡ x.condition) × (i ≡ 0) × Runs w.rules nodes table t0 xs (w.tree x.term.0) × (mark ≡ n + length xs) × (before ≡ shown_count (m + steps_in xs))
+  -- nothing is told of the condition of a membership in the end; while it is solved something is
+  TellsFrame n m (evaluating t0) (Waiting.Deriving x mark) xs (solving e i σ) =
+      (e ≡ x.condition) × (i ≡ 0) × Runs w.rules nodes table t0 xs (w.tree x.term.0) × (mark ≡ n + length xs) × (x.before ≡ shown_count (m + steps_in xs))
   -- never
   TellsFrame n m J f xs K = ⊥
 

@@ -11,5 +11,5 @@ mod world;
 
 pub use frame::{Arguments, Choosing, Condition, Control, Frame, Settled, Trial};
 pub use goal::Goal;
-pub use machine::{evaluate, settle, solve};
+pub use machine::{evaluate, solve};
 pub use world::World;
