@@ -23,11 +23,12 @@ use Rattle.mau_api.specs.Told.{step_in, StandsIn, steps_in, shown_count, TellsMo
 use Rattle.mau_api.proofs.ToldRuns.{steps-append}
 use Rattle.mau_machine.specs.Uses.{IsUse}
 use Rattle.mau_machine.specs.Words.{Words, Keeps, eval_on, IsExtension, trees, sort_in, rest_of, pattern_in, Asks, IsChoiceOf}
-use Rattle.mau_machine.specs.Steps.{StayTold, TaskStays}
+use Rattle.mau_machine.specs.Steps.{StayTold, TaskStays, IsSettledOn}
 use Rattle.mau_machine.specs.Telling.{Job, evaluating, solving, Has, Runs, Shows, MayBegin, IsInRound, IsShown, IsMatched, StandsAs, IsSide, Counts, counted_on, TellsTask, HasEntered, TellsFrame, Tells, IsTelling}
 use Rattle.mau_machine.specs.declared.goal.Goal.TheVariants as Goals
 use Rattle.mau_machine.specs.declared.frame.Arguments.{Arguments}
 use Rattle.mau_machine.specs.declared.frame.Trial.{Trial}
+use Rattle.mau_machine.specs.declared.frame.Settled.{Settled}
 use Rattle.mau_machine.specs.declared.frame.Condition.{Condition}
 use Rattle.mau_machine.specs.declared.frame.Choosing.{Choosing}
 use Rattle.mau_machine.specs.declared.frame.Frame.{Frame}
@@ -233,6 +234,37 @@ module _ {A C S D : Type 0} (w : Words A C S D) (nodes : List Node) (table : Tab
   again_entered n m (evaluating t0) a level r q t ys e i s z h c =
       (evaluating (w.tree t.0), record { before = ys; is = refl; stands = s; runs = round_built w.rules nodes table t0 a.op.0 (trees w a.args.items) ys (w.tree t.0) h e i }, inl (refl, refl), at_frame q r m ys (entered t Whole ∷ []) z c refl)
   again_entered n m (solving d i' σ) a level r q t ys e i s z h c = absurd h
+
+  -- sorts are settled
+  pub looked_told : (J : Job) (n j : ℕ) (t : TermId) (d : D) (es : List Event) → TellsTask w nodes table J (Next.Top n t) es → TellsTask w nodes table J (Next.Settle j t d) es
+  looked_told (evaluating t0) n j t d es h = h
+  looked_told (solving e i σ) n j t d es h = absurd h
+
+  pub readied_told : (J : Job) (n j : ℕ) (t : TermId) (d : D) (es : List Event) → TellsTask w nodes table J (Next.Settle n t d) es → TellsTask w nodes table J (Next.Ready j t) es
+  readied_told (evaluating t0) n j t d es h = h
+  readied_told (solving e i σ) n j t d es h = absurd h
+
+  pub applied_told : (J : Job) (n : ℕ) (x : Trial A) (es : List Event) → TellsTask w nodes table J (Next.Ready n x.term) es → TellsTask w nodes table J (Next.Attempt x) es
+  applied_told (evaluating t0) n x es h = h
+  applied_told (solving e i σ) n x es h = absurd h
+
+  pub deriving_told : (n m mark level r : ℕ) (J : Job) (y : Settled D) (d : D) (s : Condition S) (ys : List Event) → s.condition ≡ y.condition → s.at ≡ 0 → y.before ≡ r → mark ≡ n + length ys → TellsTask w nodes table J (Next.Settle level y.term d) ys → r ≡ shown_count (m + steps_in ys) →
+      (K : Job) × TellsFrame w nodes table n m J (Waiting.Deriving y mark) ys K × TellsTask w nodes table K (Next.Solve s) [] × (0 ≡ shown_count (0 + 0))
+  deriving_told n m mark level r (evaluating t0) y d s ys f g b l h c = (
+    solving s.condition s.at (w.bound s.binding),
+    (f, g, h, l, b ∙ c),
+    (refl, same_extends (w.bound s.binding), none_shown w.rules nodes table s.condition s.at (w.bound s.binding)),
+    refl,
+  )
+  deriving_told n m mark level r (solving e i σ) y d s ys f g b l h c = absurd h
+
+  -- nothing is told of the condition of a membership
+  pub deriving_answered : (n m mark level : ℕ) (J K : Job) (y : Settled D) (d : D) (xs : List Event) → TellsFrame w nodes table n m J (Waiting.Deriving y mark) xs K →
+      (mark ≡ n + length xs) × TellsTask w nodes table J (Next.Settle level y.term d) xs × (y.before ≡ shown_count (m + steps_in xs))
+  deriving_answered n m mark level (evaluating t0) (solving e i σ) y d xs f = (f.3, f.2, f.4)
+  deriving_answered n m mark level (evaluating t0) (evaluating x) y d xs f = absurd f
+  deriving_answered n m mark level (solving e' j υ) (solving e i σ) y d xs f = absurd f
+  deriving_answered n m mark level (solving e' j υ) (evaluating x) y d xs f = absurd f
 
   pub valued_told : (J : Job) (x : Trial A) (es : List Event) → TellsTask w nodes table J (Next.Attempt x) es → TellsTask w nodes table J (Next.Value x.term) es
   valued_told (evaluating t0) x es h = h
@@ -472,6 +504,17 @@ module _ {A C S D : Type 0} (w : Words A C S D) (nodes : List Node) (table : Tab
   pub fails_told : (J : Job) (d : ℕ) (es : List Event) → TellsTask w nodes table J (Next.Failed d) es
   fails_told (evaluating t0) d es = tt
   fails_told (solving e i σ) d es = tt
+
+  -- the settling of a term goes on
+  pub settled_told : (fs gs gs' : List (Frame A C S D)) (x : Settled D) (mark : ℕ) (c d : Control A C S D) (r q : ℕ) (told told' front : List Event) (J : Job) → fs ≡ gs ++ Waiting.Deriving x mark ∷ [] → gs' ≡ gs → q ≡ x.before → IsSettledOn w x d →
+      told' ≡ take mark told → IsTelling w nodes table front J fs c r told → IsTelling w nodes table front J gs' d q told'
+  settled_told fs gs gs' x mark c d r q told told' front J p g i s e t =
+      subst (λ z. IsTelling w nodes table front J z d q told') (sym g) (subst (λ z. IsTelling w nodes table front J gs z q told') (sym s.1) (subst (λ z. IsTelling w nodes table front J gs (Next.Settle x.level x.term s.0) z told') (sym i)
+      ((taken_back fs gs (Waiting.Deriving x mark) c (Next.Settle x.level x.term s.0) r x.before mark told front J p (λ n m J K xs h. deriving_answered n m mark x.level J K x s.0 xs h) t).1 told' e)))
+
+  pub mark_fits : (fs gs : List (Frame A C S D)) (x : Settled D) (mark : ℕ) (c : Control A C S D) (r : ℕ) (told front : List Event) (J : Job) → fs ≡ gs ++ Waiting.Deriving x mark ∷ [] → IsTelling w nodes table front J fs c r told → mark ≤ length told
+  mark_fits fs gs x mark c r told front J p t =
+      (taken_back fs gs (Waiting.Deriving x mark) c (Next.Settle x.level x.term x.settling) r x.before mark told front J p (λ n m J K xs h. deriving_answered n m mark x.level J K x x.settling xs h) t).0
 
   pub tree_at_place : (ids : List TermId) (i : ℕ) (t : TermId) → slice_get ids i ≡ Some t → slice_get (trees w ids) i ≡ Some (w.tree t.0)
   tree_at_place [] i t h = cc

@@ -30,6 +30,9 @@ still_some : (k n : ℕ) → (k ≡ 0 → ⊥) → k + n ≡ 0 → ⊥
 still_some zero n h e = h refl
 still_some (suc k) n h e = absurd (omega (arith, e))
 
+pub one_more : (j k n : ℕ) → j ≡ k + 1 → j + n ≡ k + n + 1
+one_more j k n h = omega (arith, h)
+
 one_less : (k n : ℕ) → (k ≡ 0 → ⊥) → k + n - 1 ≡ k - 1 + n
 one_less zero n h = absurd (h refl)
 one_less (suc k) n h = omega arith
@@ -285,6 +288,28 @@ module _ (R : Rules) where
   choose_by k σ p cs v =
       first_of (λ x. and_try (have_sorts (sorts_on R k) (variables p) x.values) λ ok. where_true ok (solve P (l k) cs (extend σ (variables p) x.values)))
       (keep (λ x. agree P.sign.theory σ (variables p) x.values) (solutions P.sign p v))
+
+  -- nothing is left to solve
+  pub nothing_left : (k e i : ℕ) (σ : Binding) → Asks R e i Goals.Nothing → (r b : ℕ) → as_answer (counted_if r (solve_on R k e i σ b)) ≡ done (held σ) r b
+  nothing_left k e i σ g r b = by (rest_of R e i) refl g
+    where
+      by : (F : List Fragment) → rest_of R e i ≡ F → Goals.Nothing ≡ goal_of F → as_answer (counted_if r (solve_on R k e i σ b)) ≡ done (held σ) r b
+      by [] d g = ap (λ F. as_answer (counted_if r (solve P (l k) F σ b))) d ∙ ap (λ n. done (held σ) n b) (zero_more r)
+      by (equals t u ∷ cs) d g = cc
+      by (has_sort t s ∷ cs) d g = cc
+      by (matches t u ∷ cs) d g = cc
+      by (reaches t u ∷ cs) d g = cc
+
+  -- or what is solved by rules alone
+  pub reaching_fails : (k e i : ℕ) (σ : Binding) → Asks R e i Goals.Reaching → (r b : ℕ) → as_answer (counted_if r (solve_on R k e i σ b)) ≡ done failed 0 b
+  reaching_fails k e i σ g r b = by (rest_of R e i) refl g
+    where
+      by : (F : List Fragment) → rest_of R e i ≡ F → Goals.Reaching ≡ goal_of F → as_answer (counted_if r (solve_on R k e i σ b)) ≡ done failed 0 b
+      by [] d g = cc
+      by (equals t u ∷ cs) d g = cc
+      by (has_sort t s ∷ cs) d g = cc
+      by (matches t u ∷ cs) d g = cc
+      by (reaches t u ∷ cs) d g = ap (λ F. as_answer (counted_if r (solve P (l k) F σ b))) d
 
   -- the left side of an equality is evaluated
   pub equality : (k e i : ℕ) (σ : Binding) → Asks R e i Goals.Equality → (x : Tree) (b : ℕ) → eval_on R k (side_of R e i false σ) b ≡ eval_on R k x b → (r : ℕ) →

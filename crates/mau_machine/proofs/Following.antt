@@ -8,12 +8,14 @@ use Rattle.mau_evaluation.proofs.Falls.{budgets_fall}
 use Rattle.mau_api.specs.declared.results.EvalEnd.{EvalEnd}
 use Rattle.mau_api.specs.declared.results.EvalEnd.TheVariants.{Stopped, TooDeep, Overflow, NoMemory}
 use Rattle.mau_machine.specs.Words.{greatest_count, capped, IsEnd, DerivesNone, LeadsTo, EndsBy, Comes, ComesToEnd, IsAnswered, Rules, Words, Keeps, rest_of, eval_on, solve_on}
-use Rattle.mau_machine.specs.Machine.{Reply, gave, held, failed, as_value, as_answer, goes_on, comes, waits_in, task_in, through, whole}
+use Rattle.mau_machine.specs.Machine.{Reply, gave, held, failed, as_value, as_answer, from_built, goes_on, comes, waits_in, task_in, through, whole}
 use Rattle.mau_machine.specs.Known.{IsKnownNext, AreKnown}
-use Rattle.mau_machine.specs.Steps.{IsAlike, Follows, AreAnswered, Goes}
+use Rattle.mau_machine.specs.Steps.{IsAlike, Follows, AreAnswered, Goes, IsSettledOn}
+use Rattle.mau_machine.specs.declared.frame.Settled.{Settled}
 use Rattle.mau_machine.specs.declared.frame.Frame.{Frame}
 use Rattle.mau_machine.specs.declared.frame.Frame.TheVariants as Waiting
 use Rattle.mau_machine.specs.declared.frame.Control.{Control}
+use Rattle.mau_machine.specs.declared.frame.Control.TheVariants as Next
 use Rattle.mau_machine.proofs.Counts.{counted_zero, answer_zero, value_is, solution_is, none_is, value_end, answer_end, counted_if_end, end_is, shown_end}
 use Rattle.mau_machine.proofs.Through.{alike, through_ended, appended}
 use Rattle.mau_machine.proofs.Held.{same_whole_of}
@@ -114,6 +116,10 @@ ends_exactly P f Stopped h = record { enough = 0; just = λ z. refl; comes = λ 
 ends_exactly P f TooDeep h = h 0
 ends_exactly P f Overflow h = record { enough = 0; just = λ z. refl; comes = λ n. inl (ap capped (h n)) }
 ends_exactly P f NoMemory h = tt
+
+pub any_end : {A N : Type 0} (P : Program) (f : ℕ → Outcome A) (r : Result N EvalEnd) → ((o : Outcome A) → IfErr r (IsEnd o)) → IfErr r (ComesToEnd P f)
+any_end P f (Ok x) h = tt
+any_end P f (Err e) h = ends_exactly P f e (λ n. h (f n))
 
 -- an end that goes through something
 comes_on : {A B : Type 0} (P : Program) (f : ℕ → Outcome A) (F : ℕ → Outcome B) (d : End) → ((n : ℕ) (d : End) → f n ≡ ended d → F n ≡ ended d) → Comes P f (ended d) → Comes P F (ended d)
@@ -283,6 +289,14 @@ module _ {A C S D : Type 0} (w : Words A C S D) where
   pub went_swapped : (fs gs hs : List (Frame A C S D)) (f h : Frame A C S D) (c d : Control A C S D) (r q b a : ℕ) → fs ≡ gs ++ f ∷ [] → hs ≡ gs ++ h ∷ [] → AreAnswered w (h ∷ []) d q a →
       Follows P (λ n. goes_on w.rules (waits_in w n f) (comes w.rules (task_in w n c) r b)) (λ n. goes_on w.rules (waits_in w n h) (comes w.rules (task_in w n d) q a)) → Goes w fs c r b hs d q a
   went_swapped fs gs hs f h c d r q b a g i j k = record { below = gs; taken = f ∷ []; put = h ∷ []; was = g; is = i; follows = k; answered = j }
+
+  -- the settling of a term goes on
+  pub went_settled : (fs gs gs' : List (Frame A C S D)) (x : Settled D) (mark : ℕ) (c d : Control A C S D) (r q b a : ℕ) → fs ≡ gs ++ Waiting.Deriving x mark ∷ [] → gs' ≡ gs → q ≡ x.before → a ≡ x.budget → IsSettledOn w x d →
+      ((n : ℕ) → goes_on w.rules (waits_in w n (Waiting.Deriving x mark)) (comes w.rules (task_in w n c) r b) ≡ as_value (counted x.before (from_built w.rules (x.level + n) false (w.tree x.term.0) x.budget))) →
+      Goes w fs c r b gs' d q a
+  went_settled fs gs gs' x mark c d r q b a p g i j s h =
+      subst (λ z. Goes w fs c r b z d q a) (sym g) (subst (λ z. Goes w fs c r b gs z q a) (sym s.1) (subst (λ z. Goes w fs c r b gs (Next.Settle x.level x.term s.0) z a) (sym i) (subst (λ z. Goes w fs c r b gs (Next.Settle x.level x.term s.0) x.before z) (sym j)
+      (went_popped fs gs (Waiting.Deriving x mark) c (Next.Settle x.level x.term s.0) r x.before b x.budget p (exactly P _ _ (λ n. ap capped (h n)))))))
 
   pub went_result : (fs : List (Frame A C S D)) (c : Control A C S D) (r b : ℕ) (x : Result (Control A C S D) EvalEnd) →
       IfOk x (λ d. Follows P (λ n. comes w.rules (task_in w n c) r b) (λ n. comes w.rules (task_in w n d) r b)) → IfOk x (λ d. Goes w fs c r b fs d r b)

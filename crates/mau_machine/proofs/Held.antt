@@ -7,7 +7,8 @@ use Rattle.mau_machine.specs.Words.{Words, Keeps, kind_of, trees, Asks, IsSoluti
 use Rattle.mau_machine.specs.Machine.{argument, left_side, right_side, sorting, matching, choice, settling, trying, evaluates, arguments, looks_at_top, attempts, solves, chooses, has_value, holds, Reply, goes_on, comes, waits_in, task_in, through, whole}
 use Rattle.mau_machine.specs.Known.{Due, value_of, Suits, kind_under, kind_in, asks, yields, comes_to, AreChained, IsKnown, IsKnownNext, AreKnown, HoldsIn}
 use Rattle.mau_api.specs.declared.results.EvalEnd.{EvalEnd}
-use Rattle.mau_machine.specs.Steps.{StayKnown}
+use Rattle.mau_machine.specs.Steps.{StayKnown, IsSettledOn}
+use Rattle.mau_machine.specs.declared.frame.Settled.{Settled}
 use Rattle.mau_machine.specs.declared.goal.Goal.{Goal}
 use Rattle.mau_machine.specs.declared.goal.Goal.TheVariants as Goals
 use Rattle.mau_machine.specs.declared.frame.Frame.{Frame}
@@ -56,6 +57,12 @@ module _ {A C S D : Type 0} (w : Words A C S D) where
         next = n;
         chained = subst (λ z. AreChained w asked gs z) (sym y) (chained_popped asked gs f (comes_to w c) H.chained).0;
       }
+
+  -- the settling of a term goes on
+  pub held_settled : (asked : Due) (fs gs gs' : List (Frame A C S D)) (c d : Control A C S D) (x : Settled D) (mark : ℕ) → fs ≡ gs ++ Waiting.Deriving x mark ∷ [] → gs' ≡ gs → IsSettledOn w x d → HoldsIn w asked fs c → HoldsIn w asked gs' d
+  held_settled asked fs gs gs' c d x mark p g s h =
+      let H : HoldsIn w asked (gs ++ Waiting.Deriving x mark ∷ []) c = subst (λ z. HoldsIn w asked z c) p h in
+      subst (λ z. HoldsIn w asked z d) (sym g) (subst (λ z. HoldsIn w asked gs z) (sym s.1) (held_popped asked fs gs c (Next.Settle x.level x.term s.0) (Waiting.Deriving x mark) p h ((known_popped gs (Waiting.Deriving x mark) H.frames).1, s.2) refl))
 
   -- what is known of the last frame, and that it is given what it asks
   pub last_known : (asked : Due) (fs gs : List (Frame A C S D)) (c : Control A C S D) (f : Frame A C S D) → fs ≡ gs ++ f ∷ [] → HoldsIn w asked fs c → IsKnown w f × Suits (asks w f) (comes_to w c)
