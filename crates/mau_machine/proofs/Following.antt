@@ -7,7 +7,7 @@ use Rattle.mau_evaluation.specs.Evaluation.{Binding}
 use Rattle.mau_evaluation.proofs.Falls.{budgets_fall}
 use Rattle.mau_api.specs.declared.results.EvalEnd.{EvalEnd}
 use Rattle.mau_api.specs.declared.results.EvalEnd.TheVariants.{Stopped, TooDeep, Overflow, NoMemory}
-use Rattle.mau_machine.specs.Words.{greatest_count, capped, IsEnd, DerivesNone, LeadsTo, EndsBy, Comes, ComesToEnd, IsAnswered, Rules, Words, Keeps, rest_of, eval_on, solve_on}
+use Rattle.mau_machine.specs.Words.{greatest_count, capped, IsEnd, DerivesNone, LeadsTo, EndsBy, EndsWhere, Comes, ComesToEnd, IsAnswered, Rules, Words, Keeps, rest_of, eval_on, solve_on}
 use Rattle.mau_machine.specs.Machine.{Reply, gave, held, failed, as_value, as_answer, from_built, goes_on, comes, waits_in, task_in, through, whole}
 use Rattle.mau_machine.specs.Known.{IsKnownNext, AreKnown}
 use Rattle.mau_machine.specs.Steps.{IsAlike, Follows, AreAnswered, Goes, IsSettledOn}
@@ -441,3 +441,72 @@ module _ (R : Rules) (k e : ℕ) (σ : Binding) where
           IsAnswered R e σ false
       on (inl i) = by (solve_on R (k + h.enough) e 0 σ R.limit) refl i
       on (inr q) = absurd (not_less h.enough q.0)
+
+  -- the same of what comes
+  pub comes_held : (τ : Binding) (r b : ℕ) → Comes R.program (λ n. solve_on R (k + n) e 0 σ R.limit) (done (Some τ) r b) → IsAnswered R e σ true
+  comes_held τ r b h = on (h.comes h.enough)
+    where
+      by : (o : Outcome (Option Binding)) → solve_on R (k + h.enough) e 0 σ R.limit ≡ o → capped o ≡ done (Some τ) r b → IsAnswered R e σ true
+      by (done (Some υ) q c) s i = record { levels = k + h.enough; solution = Some υ; count = q; left = c; was = s; is = refl }
+      by (done None q c) s i = absurd (no i)
+        where
+          no : done None (min q greatest_count) c ≡ done (Some τ) r b → ⊥
+          no i = cc
+      by (ended d) s i = absurd (no i)
+        where
+          no : ended d ≡ done (Some τ) r b → ⊥
+          no i = cc
+
+      on : ((capped (solve_on R (k + h.enough) e 0 σ R.limit) ≡ done (Some τ) r b) ⊎ ((h.enough < h.enough) × (solve_on R (k + h.enough) e 0 σ R.limit ≡ ended too_deep))) → IsAnswered R e σ true
+      on (inl i) = by (solve_on R (k + h.enough) e 0 σ R.limit) refl i
+      on (inr q) = absurd (not_less h.enough q.0)
+
+  pub comes_failed : (b : ℕ) → Comes R.program (λ n. counted_if 0 (solve_on R (k + n) e 0 σ R.limit)) (done None 0 b) → IsAnswered R e σ false
+  comes_failed b h = on (h.comes h.enough)
+    where
+      by : (o : Outcome (Option Binding)) → solve_on R (k + h.enough) e 0 σ R.limit ≡ o → capped (counted_if 0 o) ≡ done None 0 b → IsAnswered R e σ false
+      by (done (Some υ) q c) s i = absurd (no i)
+        where
+          no : done (Some υ) (min (0 + q) greatest_count) c ≡ done None 0 b → ⊥
+          no i = cc
+      by (done None q c) s i = record { levels = k + h.enough; solution = None; count = q; left = c; was = s; is = refl }
+      by (ended d) s i = absurd (no (ended d) refl i)
+        where
+          no : (x : Outcome (Option Binding)) → x ≡ ended d → x ≡ done None 0 b → ⊥
+          no x p q = cc
+
+      on : ((capped (counted_if 0 (solve_on R (k + h.enough) e 0 σ R.limit)) ≡ done None 0 b) ⊎ ((h.enough < h.enough) × (counted_if 0 (solve_on R (k + h.enough) e 0 σ R.limit) ≡ ended too_deep))) → IsAnswered R e σ false
+      on (inl i) = by (solve_on R (k + h.enough) e 0 σ R.limit) refl i
+      on (inr q) = absurd (not_less h.enough q.0)
+
+-- ---- settling ends where a condition ends that it asks
+
+module _ {A B : Type 0} (P : Program) (f : ℕ → Run A) (g : ℕ → Outcome B) (h : EndsWhere P f g) (k b : ℕ) where
+  comes_where : (d : End) → Comes P (λ n. g (k + n)) (ended d) → Comes P (λ n. f (k + n) b) (ended d)
+  comes_where d c = record {
+    enough = c.enough + h.enough;
+    just = λ z. no_sum c.enough h.enough (c.just z) (h.just z);
+    comes = λ n. by n (c.comes n);
+  }
+    where
+      on : (n : ℕ) → ((f (k + n) b ≡ ended d) ⊎ ((k + n < h.enough) × (f (k + n) b ≡ ended too_deep))) → (capped (f (k + n) b) ≡ ended d) ⊎ ((n < c.enough + h.enough) × (f (k + n) b ≡ ended too_deep))
+      on n (inl e) = inl (ap capped e)
+      on n (inr q) = inr (less_right n c.enough h.enough (more_levels k n h.enough q.0), q.1)
+
+      deep : (n : ℕ) → ((f (k + n) b ≡ ended too_deep) ⊎ ((k + n < h.enough) × (f (k + n) b ≡ ended too_deep))) → f (k + n) b ≡ ended too_deep
+      deep n (inl e) = e
+      deep n (inr q) = q.1
+
+      by : (n : ℕ) → ((capped (g (k + n)) ≡ ended d) ⊎ ((n < c.enough) × (g (k + n) ≡ ended too_deep))) → (capped (f (k + n) b) ≡ ended d) ⊎ ((n < c.enough + h.enough) × (f (k + n) b ≡ ended too_deep))
+      by n (inl e) = on n (h.ends (k + n) b d (end_is (g (k + n)) d e))
+      by n (inr q) = inr (less_left n c.enough h.enough q.0, deep n (h.ends (k + n) b too_deep q.1))
+
+  pub ends_where : (e : EvalEnd) → ComesToEnd P (λ n. g (k + n)) e → ComesToEnd P (λ n. f (k + n) b) e
+  ends_where Stopped c = comes_where stopped c
+  ends_where TooDeep c = by (h.ends (k + 0) b too_deep c)
+    where
+      by : ((f (k + 0) b ≡ ended too_deep) ⊎ ((k + 0 < h.enough) × (f (k + 0) b ≡ ended too_deep))) → f (k + 0) b ≡ ended too_deep
+      by (inl e) = e
+      by (inr q) = q.1
+  ends_where Overflow c = comes_where overflowed c
+  ends_where NoMemory c = tt

@@ -2,6 +2,7 @@ pub mod Counts
 pub mod Through
 pub mod Held
 pub mod Following
+pub mod Derived
 pub mod Branches
 pub mod Pieces
 pub mod Later

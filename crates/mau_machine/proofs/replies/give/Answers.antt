@@ -303,6 +303,11 @@ returns-in_err-begin-in-Ok-clause-more g c =
     on_err c.from_residual-in_err-begin-in-Ok.result (TellsMore (g.T.StepWatcher.told c.args.watcher.now) (g.T.StepWatcher.told c.begin.new.watcher))
     (more_on (g.T.StepWatcher.told c.args.watcher.now) (g.T.StepWatcher.told c.leave.new.watcher) (g.T.StepWatcher.told c.begin.new.watcher) (more_by (g.T.StepWatcher.wanted c.args.watcher.now) (g.T.StepWatcher.told c.args.watcher.now) (g.T.StepWatcher.told c.leave.new.watcher) (left c.args.value) c.in_ok-leave.ensures.told c.in_ok-leave.ensures.watched.1) c.in_err-begin-in-Ok.ensures.more)
 
+pub returns-in-Ok-sorted-clause-more : goal.returns-in-Ok-sorted-clause-more
+returns-in-Ok-sorted-clause-more g c =
+    on_err c.proceed-in-Ok-sorted.result (TellsMore (g.T.StepWatcher.told c.args.watcher.now) (g.T.StepWatcher.told c.leave.new.watcher))
+    (more_by (g.T.StepWatcher.wanted c.args.watcher.now) (g.T.StepWatcher.told c.args.watcher.now) (g.T.StepWatcher.told c.leave.new.watcher) (left c.args.value) c.in_ok-leave.ensures.told c.in_ok-leave.ensures.watched.1)
+
 pub returns-in-Ok-clause-told : goal.returns-in-Ok-clause-told
 returns-in-Ok-clause-told g c =
     let w = (g.W.World.words c.args.world.now c.args.store.now) in
