@@ -4,7 +4,7 @@ use Rattle.mau_terms.specs.Tree.{Tree}
 use Rattle.mau_evaluation.specs.Run.{End, Outcome, done, ended, Run, counted, counted_if, go_on}
 use Rattle.mau_evaluation.specs.Evaluation.{Binding}
 use Rattle.mau_machine.specs.Words.{greatest_count, capped}
-use Rattle.mau_machine.specs.Machine.{Reply, gave, held, failed, as_value, as_answer}
+use Rattle.mau_machine.specs.Machine.{gave, held, failed, as_value, as_answer}
 
 -- ---- sums
 

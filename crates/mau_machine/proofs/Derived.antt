@@ -1,5 +1,5 @@
 -- For who has a world: what is known from some number of levels on, where programs that derive nothing need none.
-use Rattle.std.proofs.Common.{◌≡◌, ◌⊎◌, inl, inr, ℕ, ◌<◌, List, [], ◌∷◌, Bool, true, false, refl, sym, ap, ◌∙◌, subst, arith}
+use Rattle.std.proofs.Common.{◌≡◌, ◌⊎◌, inl, inr, ℕ, ◌<◌, List, [], ◌∷◌, Bool, true, false, refl, sym, ap, ◌∙◌, arith}
 use Rattle.mau_terms.specs.Finite.{IsIn}
 use Rattle.mau_evaluation.specs.Run.{End, Outcome, done, ended, Run, too_deep}
 use Rattle.mau_evaluation.specs.Program.{Membership, Program}

@@ -1,5 +1,5 @@
 -- What comes of more levels: outcomes that follow one another, through frames and from step to step.
-use Rattle.std.proofs.Common.{◌≡◌, ◌⊎◌, inl, inr, ℕ, zero, suc, ◌+◌, ◌<◌, ◌≤◌, min, List, [], ◌∷◌, ◌++◌, Bool, true, false, Option, Some, None, refl, sym, ◌∙◌, ap, subst, arith, append-nil, Result, Ok, Err, IfOk, IfErr, OnErr}
+use Rattle.std.proofs.Common.{◌≡◌, ◌⊎◌, inl, inr, ℕ, ◌+◌, ◌<◌, ◌≤◌, min, List, [], ◌∷◌, ◌++◌, true, false, Option, Some, None, refl, sym, ◌∙◌, ap, subst, arith, append-nil, Result, Ok, Err, IfOk, IfErr}
 use Rattle.mau_terms.specs.Tree.{Tree}
 use Rattle.mau_evaluation.specs.Run.{End, Outcome, done, ended, Run, stopped, too_deep, overflowed, counted, counted_if, IsLeft}
 use Rattle.mau_evaluation.specs.Program.{Program}
@@ -7,7 +7,7 @@ use Rattle.mau_evaluation.specs.Evaluation.{Binding}
 use Rattle.mau_evaluation.proofs.Falls.{budgets_fall}
 use Rattle.mau_api.specs.declared.results.EvalEnd.{EvalEnd}
 use Rattle.mau_api.specs.declared.results.EvalEnd.TheVariants.{Stopped, TooDeep, Overflow, NoMemory}
-use Rattle.mau_machine.specs.Words.{greatest_count, capped, IsEnd, DerivesNone, LeadsTo, EndsBy, EndsWhere, Comes, ComesToEnd, IsAnswered, Rules, Words, Keeps, rest_of, eval_on, solve_on}
+use Rattle.mau_machine.specs.Words.{greatest_count, capped, IsEnd, LeadsTo, EndsBy, EndsWhere, Comes, ComesToEnd, IsAnswered, Rules, Words, Keeps, rest_of, eval_on, solve_on}
 use Rattle.mau_machine.specs.Machine.{Reply, gave, held, failed, as_value, as_answer, from_built, goes_on, comes, waits_in, task_in, through, whole}
 use Rattle.mau_machine.specs.Known.{IsKnownNext, AreKnown}
 use Rattle.mau_machine.specs.Steps.{IsAlike, Follows, AreAnswered, Goes, IsSettledOn}
@@ -16,7 +16,7 @@ use Rattle.mau_machine.specs.declared.frame.Frame.{Frame}
 use Rattle.mau_machine.specs.declared.frame.Frame.TheVariants as Waiting
 use Rattle.mau_machine.specs.declared.frame.Control.{Control}
 use Rattle.mau_machine.specs.declared.frame.Control.TheVariants as Next
-use Rattle.mau_machine.proofs.Counts.{counted_zero, answer_zero, value_is, solution_is, none_is, value_end, answer_end, counted_if_end, end_is, shown_end}
+use Rattle.mau_machine.proofs.Counts.{counted_zero, answer_zero, value_is, solution_is, none_is, value_end, answer_end, end_is, shown_end}
 use Rattle.mau_machine.proofs.Through.{alike, through_ended, appended}
 use Rattle.mau_machine.proofs.Held.{same_whole_of}
 

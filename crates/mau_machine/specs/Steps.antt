@@ -12,7 +12,7 @@ use Rattle.mau_machine.specs.Telling.{Job, Has, TellsTask, Counts, IsTelling}
 use Rattle.mau_evaluation.specs.Run.{Outcome, ended, too_deep, counted_if}
 use Rattle.mau_evaluation.specs.Program.{Program}
 use Rattle.mau_machine.specs.Words.{Words, DerivesNone, capped, solve_on}
-use Rattle.mau_machine.specs.Machine.{as_answer, through, whole}
+use Rattle.mau_machine.specs.Machine.{as_answer, whole}
 use Rattle.mau_machine.specs.Known.{Due, HoldsIn}
 use Rattle.mau_machine.specs.declared.frame.Frame.{Frame}
 use Rattle.mau_machine.specs.declared.frame.Frame.TheVariants as Waiting

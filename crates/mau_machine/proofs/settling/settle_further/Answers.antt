@@ -25,9 +25,12 @@ told-requires-clause-answered g c =
     let asking = subst (λ o. IfSome o (λ y. w1.knows_asking c.args.term.0 y.0 (w1.bound y.1) c.settle.new.settling)) c.in-Ok-Some.field-0-is c.in-Ok-Some.ensures.asking in
     let x = c.in-Ok-Some-solve.field-0-0 in
     let b = c.solve.new.budget in
-    let h = subst (λ o. IfSome o (λ z. Comes R.program (λ n. solve_on R (c.args.level + n) e 0 σ c.limit-budget.result) (done (Some (w2.bound z.0)) z.1 b))) c.in-Ok-Some-solve.field-0-is c.in-Ok-Some-solve.ensures.some in
-    (σ, k2.askings c.args.term.0 e σ c.settle.new.settling asking, subst (λ (Q : Rules). IsAnswered Q e σ true) (sym k2.rules) (comes_held R c.args.level e σ (w2.bound x.0) x.1 b
-    (subst (λ l. Comes R.program (λ n. solve_on R (c.args.level + n) e 0 σ l) (done (Some (w2.bound x.0)) x.1 b)) (c.limit-budget.ensures c.settle.new.store) h)))
+    let h = subst (λ o. IfSome o (λ z. Comes R.program (λ n. solve_on R (c.args.level + n) e 0 σ c.limit-budget.result) (done (Some (w2.bound z.0)) z.1 b))) c.in-Ok-Some-solve.field-0-is c.in-Ok-Some-solve.ensures.some in (
+      σ,
+      k2.askings c.args.term.0 e σ c.settle.new.settling asking,
+      subst (λ (Q : Rules). IsAnswered Q e σ true) (sym k2.rules) (comes_held R c.args.level e σ (w2.bound x.0) x.1 b
+          (subst (λ l. Comes R.program (λ n. solve_on R (c.args.level + n) e 0 σ l) (done (Some (w2.bound x.0)) x.1 b)) (c.limit-budget.ensures c.settle.new.store) h)),
+    )
 
 pub told-requires-in-Ok-None-solve-clause-answered : goal.told-requires-in-Ok-None-solve-clause-answered
 told-requires-in-Ok-None-solve-clause-answered g c =
@@ -39,9 +42,12 @@ told-requires-in-Ok-None-solve-clause-answered g c =
     let k2 = g.met.W.World.keeps c.settle.new.self c.solve.new.world c.settle.new.store c.solve.new.store c.solve.ensures.grows in
     let asking = subst (λ o. IfSome o (λ y. w1.knows_asking c.args.term.0 y.0 (w1.bound y.1) c.settle.new.settling)) c.in-Ok-Some.field-0-is c.in-Ok-Some.ensures.asking in
     let b = c.solve.new.budget in
-    let h = subst (λ o. IfNone o (Comes R.program (λ n. counted_if 0 (solve_on R (c.args.level + n) e 0 σ c.limit-budget.result)) (done None 0 b))) c.in-Ok-None-solve.field-0-is c.in-Ok-None-solve.ensures.none in
-    (σ, k2.askings c.args.term.0 e σ c.settle.new.settling asking, subst (λ (Q : Rules). IsAnswered Q e σ false) (sym k2.rules) (comes_failed R c.args.level e σ b
-    (subst (λ l. Comes R.program (λ n. counted_if 0 (solve_on R (c.args.level + n) e 0 σ l)) (done None 0 b)) (c.limit-budget.ensures c.settle.new.store) h)))
+    let h = subst (λ o. IfNone o (Comes R.program (λ n. counted_if 0 (solve_on R (c.args.level + n) e 0 σ c.limit-budget.result)) (done None 0 b))) c.in-Ok-None-solve.field-0-is c.in-Ok-None-solve.ensures.none in (
+      σ,
+      k2.askings c.args.term.0 e σ c.settle.new.settling asking,
+      subst (λ (Q : Rules). IsAnswered Q e σ false) (sym k2.rules) (comes_failed R c.args.level e σ b
+          (subst (λ l. Comes R.program (λ n. counted_if 0 (solve_on R (c.args.level + n) e 0 σ l)) (done None 0 b)) (c.limit-budget.ensures c.settle.new.store) h)),
+    )
 
 pub returns-in-Ok-Some-clause-ends : goal.returns-in-Ok-Some-clause-ends
 returns-in-Ok-Some-clause-ends g c =

@@ -4,8 +4,8 @@ use Rattle.mau_api.specs.declared.step.Place.TheVariants.{Fragment as OfFragment
 use Rattle.mau_api.specs.Events.{entered}
 use Rattle.mau_machine.specs.Telling.{IsSide}
 use Rattle.mau_evaluation.specs.Run.{counted}
-use Rattle.mau_machine.specs.Words.{capped, eval_on, solve_on, side_of, Asks, HasSideBy}
-use Rattle.mau_machine.specs.Machine.{as_value, as_answer, goes_on, waits_in}
+use Rattle.mau_machine.specs.Words.{capped, eval_on, side_of, Asks, HasSideBy}
+use Rattle.mau_machine.specs.Machine.{as_value, goes_on, waits_in}
 use Rattle.mau_machine.specs.declared.goal.Goal.TheVariants as Goals
 use Rattle.mau_machine.specs.declared.frame.Frame.TheVariants as Waiting
 use Rattle.mau_machine.specs.declared.frame.Control.TheVariants as Next
