@@ -140,7 +140,7 @@ pub given_tried : (P : Program) (B : ℕ) (nodes : List Node) (t : Tree) (given 
 given_tried P B nodes t given v e last tried is n σ i h =
     comes_same (λ k b.
     subst (λ (a : Answer). by_answer P (levels P B k) (levels P B (suc k)).sorts a (left_by P B k nodes t tried is) b
-        ≡ or_go_on (n k) (try_on (λ o. gives (option_map (made_of P nodes t a last) o)) (solve P (levels P B k) (cond_at P i) σ b)))
+    ≡ or_go_on (n k) (try_on (λ o. gives (option_map (made_of P nodes t a last) o)) (solve P (levels P B k) (cond_at P i) σ b)))
     (sym e) (value_tried P B k nodes t b v last (left_by P B k nodes t tried is) (n k) σ i h))
 
 -- it has no variables

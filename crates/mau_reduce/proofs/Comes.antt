@@ -1,10 +1,10 @@
 -- Computations that are another one by enough levels, through the words of computations.
-use Rattle.std.proofs.Common.{◌≡◌, ◌⊎◌, inl, inr, ℕ, suc, ◌+◌, ◌<◌, List, [], ◌∷◌, Bool, true, false, Option, Some, None, refl, sym, ap, ◌∙◌, arith}
+use Rattle.std.proofs.Common.{◌≡◌, ◌⊎◌, inl, inr, ℕ, suc, ◌+◌, ◌<◌, List, [], ◌∷◌, Bool, true, false, Option, None, refl, sym, ap, ◌∙◌, arith}
 use Rattle.mau_terms.specs.Finite.{IsIn}
-use Rattle.mau_evaluation.specs.Run.{Outcome, done, ended, too_deep, Run, gives, try_on, or_go_on, or_else, and_try}
+use Rattle.mau_evaluation.specs.Run.{done, ended, too_deep, Run, gives, try_on, or_go_on, or_else, and_try}
 use Rattle.mau_evaluation.specs.Program.{Membership, Program}
 use Rattle.mau_deriving.specs.Known.{IsKnownFrom}
-use Rattle.mau_reduce.specs.Comes.{DerivesNone, ComesTo}
+use Rattle.mau_reduce.specs.Comes.{ComesTo}
 
 -- ---- one after another
 

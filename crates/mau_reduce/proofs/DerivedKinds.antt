@@ -1,13 +1,13 @@
 -- Sorts that are derived are of the kinds of their terms, so an evaluator's table is one of sorts.
-use Rattle.std.proofs.Common.{◌≡◌, ◌⊎◌, inl, inr, ℕ, suc, ◌≤◌, ◌==◌, List, [], ◌∷◌, ◌||◌, ◌&&◌, Bool, true, false, if◌then◌else◌, All, Contains, Option, Some, None, is_some, map, length, refl, sym, ap, ◌∙◌, subst, eqb-true, arith}
+use Rattle.std.proofs.Common.{◌≡◌, ◌⊎◌, inl, inr, ℕ, suc, ◌≤◌, ◌==◌, List, [], ◌∷◌, ◌||◌, ◌&&◌, Bool, true, false, if◌then◌else◌, Contains, Option, Some, None, is_some, map, length, refl, sym, ap, ◌∙◌, subst, eqb-true, arith}
 use Rattle.std.specs.List.{list_any}
 use Rattle.std.proofs.lemmas.Bool.{and_parts}
 use Rattle.std.proofs.lemmas.List.Elements.{All-contains}
-use Rattle.mau_terms.specs.Tree.{Tree, variable, numeral, apply, Trees, no_trees, tree, list_of}
+use Rattle.mau_terms.specs.Tree.{Tree, variable, numeral, apply, list_of}
 use Rattle.mau_terms.specs.Norm.{norm}
 use Rattle.mau_terms.specs.Bare.{IsBareIn, IsBare, IsLawful}
 use Rattle.mau_terms.specs.Reading.{reading}
-use Rattle.mau_terms.specs.Subst.{variables, value_at, with_values, instance}
+use Rattle.mau_terms.specs.Subst.{with_values}
 use Rattle.mau_terms.specs.Solution.{Fits}
 use Rattle.mau_terms.specs.Finite.{IsIn}
 use Rattle.mau_terms.specs.declared.theory.Theory.{Theory}
@@ -16,7 +16,7 @@ use Rattle.mau_terms.proofs.Law.{equal_norm}
 use Rattle.mau_terms.proofs.Taken.{equal_kind}
 use Rattle.mau_terms.proofs.Wholes.{reading_top}
 use Rattle.mau_sigcheck.specs.Built.{IsBuiltAndAccepted}
-use Rattle.mau_poset.specs.Order.{Hierarchy, IsAtOrBelow, kind_of}
+use Rattle.mau_poset.specs.Order.{Hierarchy, kind_of}
 use Rattle.mau_poset.proofs.Orders.{reflexive, kind_of-kind, kind_of-above}
 use Rattle.mau_signature.specs.declared.decl.Decl.{Decl}
 use Rattle.mau_signature.specs.Signature.{SignatureOf, IsOperator, declarations_at, result_of, theory_at, terms_over, IsAlike}
@@ -31,7 +31,7 @@ use Rattle.mau_sorts.specs.Table.{Table, entry_at}
 use Rattle.mau_listing.proofs.Answered.{normal_is}
 use Rattle.mau_program.specs.declared.program.Program as Typed
 use Rattle.mau_evaluation.specs.Program.{Membership, Program}
-use Rattle.mau_evaluation.specs.Listing.{Solution, keep, solutions}
+use Rattle.mau_evaluation.specs.Listing.{Solution, solutions}
 use Rattle.mau_evaluation.specs.HasSort.{HasSort, HaveThese, of_variable, of_numeral, by_declaration, by_membership, none_left, next_term, next_sort, IsHead}
 use Rattle.mau_evaluation.proofs.BareTerms.{norm-reading-is}
 use Rattle.mau_evaluation.proofs.Listed.{from_keep}

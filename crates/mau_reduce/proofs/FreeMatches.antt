@@ -1,16 +1,14 @@
 -- An equation whose left side has no axioms, by the one solution that it has in a term.
-use Rattle.std.proofs.Common.{◌≡◌, ℕ, zero, suc, List, [], ◌∷◌, ◌++◌, ◌↔◌, take, length, slice_get, get_or, ◌<◌, Bool, true, false, if◌then◌else◌, Option, Some, None, IfSome, IfNone, Result, Ok, Err, IfOk, map, refl, sym, ap, ap₂, ◌∙◌, subst}
-use Rattle.std.specs.Prelude.{IsSome}
+use Rattle.std.proofs.Common.{◌≡◌, ℕ, List, [], ◌∷◌, slice_get, true, false, if◌then◌else◌, Option, Some, None, IfSome, IfNone, Result, Ok, Err, IfOk, refl, sym, ap, ap₂, ◌∙◌, subst}
 use Rattle.std.specs.Option.{option_map}
 use Rattle.mau_terms.specs.Tree.{Tree}
 use Rattle.mau_terms.specs.Bare.{IsBare}
 use Rattle.mau_terms.specs.View.{tree_of}
 use Rattle.mau_terms.specs.declared.ids.TermId.{TermId}
-use Rattle.mau_signature.specs.Signature.{SignatureOf, theory_at, terms_over}
+use Rattle.mau_signature.specs.Signature.{theory_at, terms_over}
 use Rattle.mau_formula.specs.Operator.{Operator}
 use Rattle.mau_store.specs.Node.{Node}
-use Rattle.mau_store.specs.Trees.{tree_at, trees_at}
-use Rattle.mau_store.specs.View.{numbers}
+use Rattle.mau_store.specs.Trees.{tree_at}
 use Rattle.mau_sorts.specs.HasSort.{Known}
 use Rattle.mau_sorts.specs.Table.{Table}
 use Rattle.mau_listing.specs.Asked.{asks, question_in, matcher_in, BySort, IsGiven}
@@ -21,14 +19,12 @@ use Rattle.mau_listing.specs.declared.solution.Solution as Given
 use Rattle.mau_program.specs.declared.program.Program as Typed
 use Rattle.mau_program.specs.declared.statements.Equation as Written
 use Rattle.mau_evaluation.specs.Run.{Outcome, done, ended, Run, gives, or_go_on, or_else, first_of}
-use Rattle.mau_evaluation.specs.Program.{Program}
-use Rattle.mau_evaluation.specs.Listing.{Solution, plain, keep, compare, solutions_within}
+use Rattle.mau_evaluation.specs.Listing.{keep, compare, solutions_within}
 use Rattle.mau_evaluation.proofs.Listed.{compare_total}
 use Rattle.mau_api.specs.Terms.{IsTerm}
 use Rattle.mau_api.specs.Meanings.{meanings_by}
 use Rattle.mau_api.specs.Answers.{IsDerivedTable, AreSettled}
 use Rattle.mau_api.specs.Programs.{program_over, equation_of}
-use Rattle.mau_trial.specs.Tried.{HoldsAtEach}
 use Rattle.mau_syntactic.specs.Free.{has_free_operators}
 use Rattle.mau_syntactic.specs.Match.{IsMatch}
 use Rattle.mau_syntactic.proofs.Solving.{matches_are_solutions, matches_are_listed}

@@ -1,15 +1,13 @@
 -- Where no membership is executable, the sorts of a term are known on each level, and they are those that declarations give.
-use Rattle.std.proofs.Common.{◌≡◌, ◌↔◌, ℕ, zero, suc, ◌≤◌, List, [], ◌∷◌, ◌++◌, ◌⊎◌, map, Bool, true, false, Option, if◌then◌else◌, inl, inr, refl, sym, ap, ◌∙◌, arith, append-nil}
+use Rattle.std.proofs.Common.{◌≡◌, ◌↔◌, ℕ, zero, suc, ◌≤◌, List, [], ◌∷◌, ◌++◌, ◌⊎◌, map, Bool, true, false, Option, if◌then◌else◌, inl, inr, refl, ap, ◌∙◌, arith, append-nil}
 use Rattle.mau_terms.specs.Tree.{Tree, variable, numeral, apply, Trees, no_trees, tree, list_of}
 use Rattle.mau_terms.specs.Finite.{IsIn}
 use Rattle.mau_terms.specs.Subst.{Variable}
-use Rattle.mau_terms.specs.Solution.{HaveSorts}
 use Rattle.mau_signature.specs.Signature.{SignatureOf}
 use Rattle.mau_signature.specs.OverSignature.{IsTreeOver, AreTreesOver}
 use Rattle.mau_formula.specs.Operator.{Operator}
 use Rattle.mau_sorts.specs.HasSort.{HasSort, IsKnown}
 use Rattle.mau_sigcheck.specs.Built.{IsBuiltAndAccepted}
-use Rattle.mau_listing.specs.Asked.{BySort}
 use Rattle.mau_program.specs.declared.program.Program as Typed
 use Rattle.mau_evaluation.specs.Run.{done, Run, gives, and_then, each_in_turn, choose, counted, go_on}
 use Rattle.mau_evaluation.specs.Program.{Fragment, Membership, Program}

@@ -10,7 +10,6 @@ use Rattle.mau_terms.specs.Reading.{reading}
 use Rattle.mau_terms.specs.Subst.{Variable}
 use Rattle.mau_terms.specs.Solution.{HaveSorts}
 use Rattle.mau_terms.specs.Finite.{IsIn}
-use Rattle.mau_terms.proofs.Normal.{IsNormal}
 use Rattle.mau_terms.proofs.Wholes.{reading_top}
 use Rattle.mau_poset.specs.Order.{Hierarchy, IsAtOrBelow, kind_of}
 use Rattle.mau_poset.proofs.Orders.{kind_of-chain, kind_of-kind, kind_of-above}

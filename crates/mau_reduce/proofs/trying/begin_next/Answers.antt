@@ -1,4 +1,4 @@
-use Rattle.std.proofs.Common.{◌≡◌, ◌<◌, All, IfOk, IfSome, IfNone, None, drop, length, sym, subst}
+use Rattle.std.proofs.Common.{◌<◌, All, IfOk, IfSome, IfNone, None, drop, length, sym, subst}
 use Rattle.std.specs.Option.{option_map}
 use Rattle.mau_store.specs.Trees.{tree_at}
 use Rattle.mau_evaluation.specs.Run.{gives, first_of, or_else}

@@ -1,4 +1,4 @@
-use Rattle.std.proofs.Common.{◌≡◌, ◌+◌, None, get_or, drop, refl, sym, subst}
+use Rattle.std.proofs.Common.{◌+◌, None, get_or, drop, refl, sym, subst}
 use Rattle.std.specs.Option.{option_map}
 use Rattle.mau_signature.specs.Signature.{theory_at}
 use Rattle.mau_store.specs.Trees.{tree_at}
@@ -77,3 +77,9 @@ loop-next-init g c = record {
   derived = λ hooks limit d. d;
   rest = λ hooks B derived. comes_same (λ k b. refl);
 }
+
+pub returns-in_err-solution-clause-derived : goal.returns-in_err-solution-clause-derived
+returns-in_err-solution-clause-derived g c = λ hooks limit d. c.first_candidate.ensures.derived hooks limit (c.loop-next.invariant.derived hooks limit d)
+
+pub returns-in-Some-clause-derived : goal.returns-in-Some-clause-derived
+returns-in-Some-clause-derived g c = λ hooks limit d. c.first_candidate.ensures.derived hooks limit (c.loop-next.invariant.derived hooks limit d)

@@ -1,4 +1,4 @@
-use Rattle.std.proofs.Common.{◌≡◌, None, IfOk, IfSome, IfNone, drop, sym, subst}
+use Rattle.std.proofs.Common.{None, IfOk, IfSome, IfNone, drop, sym, subst}
 use Rattle.std.specs.Option.{option_map}
 use Rattle.mau_signature.specs.Signature.{theory_at}
 use Rattle.mau_store.specs.Trees.{tree_at}
