@@ -1,5 +1,5 @@
 -- A condition that is asked: what is known of it, and what the loop computes of it.
-use Rattle.std.proofs.Common.{◌≡◌, ◌==◌, ◌+◌, ℕ, suc, List, [], All, Bool, true, if◌then◌else◌, Option, Some, None, IfSome, IfNone, Ok, Err, IfOk, IfErr, map, length, slice_get, eq-eqb, refl, sym, ap, ap₂, ◌∙◌, subst, arith}
+use Rattle.std.proofs.Common.{◌≡◌, ◌==◌, ◌+◌, ℕ, suc, List, All, Bool, true, if◌then◌else◌, Option, Some, None, IfSome, IfNone, Ok, Err, IfOk, IfErr, map, length, slice_get, eq-eqb, refl, sym, ap, ap₂, ◌∙◌, subst, arith}
 use Rattle.std.specs.List.{zip}
 use Rattle.std.proofs.lemmas.Option.{slice_get_past}
 use Rattle.mau_terms.specs.Subst.{Variable}
@@ -13,6 +13,7 @@ use Rattle.mau_program.specs.declared.statements.Fragment.{Fragment}
 use Rattle.mau_program.specs.declared.statements.Equation.{Equation}
 use Rattle.mau_program.specs.Binding.{are_bound}
 use Rattle.mau_evaluation.specs.Run.{Outcome, done, Run, counted_if}
+use Rattle.mau_evaluation.specs.Program.{Program}
 use Rattle.mau_evaluation.specs.Evaluation.{Binding, look_up, levels, solve}
 use Rattle.mau_api.specs.Programs.{program_over, fragment_of}
 use Rattle.mau_api.specs.Events.{Event}
@@ -194,10 +195,28 @@ module _ (b : Basis) (fs : List Fragment) (bound : List (VarId × TermId)) (aska
         abbrev asks_by : ℕ → Outcome (Option Binding)
         asks_by j = (meanings_of b).solving j b.limit (map fragment_of fs) (binding_in old bound) B
 
-        pub loop_answer : (r : Answer) → IfOk r (λ a. IfSome a (λ x. Comes (program_over b.program b.hooks) (λ j. solve_on (rules_of d) (k + j) n 0 (bound_in mid σ) B) (done (Some (bound_in new x.0)) x.1 left))) →
-            IfOk r (λ a. IfNone a (Comes (program_over b.program b.hooks) (λ j. counted_if 0 (solve_on (rules_of d) (k + j) n 0 (bound_in mid σ) B)) (done None 0 left))) →
-            IfErr r (ComesToEnd (program_over b.program b.hooks) (λ j. solve_on (rules_of d) (k + j) n 0 (bound_in mid σ) B)) →
+        same_program : program_over d.program d.hooks ≡ program_over b.program b.hooks
+        same_program = ap (λ (x : Basis). program_over x.program x.hooks) basis_is
+
+        abbrev solves : ℕ → Outcome (Option Binding)
+        solves j = solve_on (rules_of d) (k + j) n 0 (bound_in mid σ) B
+
+        pub loop_answer : (r : Answer) → IfOk r (λ a. IfSome a (λ x. Comes (program_over d.program d.hooks) solves (done (Some (bound_in new x.0)) x.1 left))) →
+            IfOk r (λ a. IfNone a (Comes (program_over d.program d.hooks) (λ j. counted_if 0 (solves j)) (done None 0 left))) →
+            IfErr r (ComesToEnd (program_over d.program d.hooks) solves) →
             IsLoopAnswer (program_over b.program b.hooks) new (λ j. (meanings_of b).solving j b.limit (map fragment_of fs) (binding_in old bound) B) k r left
-        loop_answer (Ok (Some x)) some none ends = record { some = comes_along (λ j. outcome_is (k + j) B) some; none = tt; ends = tt }
-        loop_answer (Ok None) some none ends = record { some = tt; none = comes_along (λ j. ap (counted_if 0) (outcome_is (k + j) B)) none; ends = tt }
-        loop_answer (Err e') some none ends = record { some = tt; none = tt; ends = end_along (λ j. outcome_is (k + j) B) e' ends }
+        loop_answer (Ok (Some x)) some none ends = record {
+            some = comes_along (λ j. outcome_is (k + j) B) (subst (λ (P : Program). Comes P solves (done (Some (bound_in new x.0)) x.1 left)) same_program some);
+            none = tt;
+            ends = tt;
+          }
+        loop_answer (Ok None) some none ends = record {
+            some = tt;
+            none = comes_along (λ j. ap (counted_if 0) (outcome_is (k + j) B)) (subst (λ (P : Program). Comes P (λ j. counted_if 0 (solves j)) (done None 0 left)) same_program none);
+            ends = tt;
+          }
+        loop_answer (Err e') some none ends = record {
+            some = tt;
+            none = tt;
+            ends = end_along (program_over b.program b.hooks) (λ j. outcome_is (k + j) B) e' (subst (λ (P : Program). ComesToEnd P solves e') same_program ends);
+          }

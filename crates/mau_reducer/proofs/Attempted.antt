@@ -1,5 +1,5 @@
 -- The next candidate: what it leaves, and what is known of it in the later state.
-use Rattle.std.proofs.Common.{◌≡◌, ◌==◌, ◌≤◌, ℕ, suc, List, [], Bool, if◌then◌else◌, Option, Some, None, IfSome, IfNone, Result, Ok, Err, IfOk, IfErr, map, drop, length, slice_get, sym, ap, ap₂, ◌∙◌, subst, arith}
+use Rattle.std.proofs.Common.{◌≡◌, ◌≤◌, ℕ, List, Bool, Option, Some, None, IfSome, IfNone, Result, Ok, Err, IfOk, IfErr, map, drop, length, slice_get, sym, ap, ap₂, ◌∙◌, subst, arith}
 use Rattle.std.specs.Option.{option_map}
 use Rattle.std.proofs.lemmas.Option.{slice_get_past, slice_get_within}
 use Rattle.std.proofs.lemmas.Bool.{and_parts}
@@ -19,7 +19,7 @@ use Rattle.mau_program.specs.declared.statements.Equation.{Equation}
 use Rattle.mau_program.specs.declared.statements.Fragment.{Fragment as Written}
 use Rattle.mau_program.specs.LawfulStatements.{IsLawfulEquation}
 use Rattle.mau_program.specs.Binding.{has_only, bound_behind, are_bound}
-use Rattle.mau_evaluation.specs.Run.{Run, Outcome, done, or_go_on, try_on, gives}
+use Rattle.mau_evaluation.specs.Run.{Run, Outcome, or_go_on, try_on, gives}
 use Rattle.mau_evaluation.specs.Program.{Program, Fragment}
 use Rattle.mau_evaluation.specs.Evaluation.{levels, solve}
 use Rattle.mau_api.specs.Terms.{IsTerm}
@@ -39,7 +39,7 @@ use Rattle.mau_reduce.specs.Attempting.{untried_by, cond_at, makes_of}
 use Rattle.mau_reduce.specs.Lasts.{left_variables_of, left_variables, IsLast, IsLastListed}
 use Rattle.mau_reduce.proofs.KindsKept.{is_term_kept, tree_kept}
 use Rattle.mau_reduce.proofs.LaterStores.{given_grown}
-use Rattle.mau_machine.specs.Words.{Words, LeadsTo, IsKnownBy, EndsBy, solve_on}
+use Rattle.mau_machine.specs.Words.{LeadsTo, IsKnownBy, EndsBy, solve_on}
 use Rattle.mau_reducer.specs.declared.reducer.Candidates.{Candidates}
 use Rattle.mau_reducer.specs.Basis.{Basis, IsBasis}
 use Rattle.mau_reducer.specs.Handles.{as_id, written_in, other_by, written_at, first_in, first_other, first_at, AreBoundFrom, AreKnownCandidates, IsKnownCandidate, IsKnownBinding, words_of}

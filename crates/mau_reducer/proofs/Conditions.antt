@@ -36,11 +36,11 @@ condition_of : (p : Typed.Program) (hooks : List Operator) (e : ℕ) → cond_at
 condition_of p hooks e = ap cond_in (slice_get-map equation_of p.equations e) ∙ condition_in (slice_get p.equations e)
 
 not_equal : (a b : ℕ) → (a ≡ b → ⊥) → (a == b) ≡ false
-not_equal a b no = by (a == b) refl
+not_equal a b apart = by (a == b) refl
   where
     by : (w : Bool) → (a == b) ≡ w → w ≡ false
     by false q = refl
-    by true q = absurd (no (eqb-true a b q))
+    by true q = absurd (apart (eqb-true a b q))
 
 -- it is none that is asked
 pub not_asked : (n e : ℕ) → e ≤ n → (e == suc n) ≡ false

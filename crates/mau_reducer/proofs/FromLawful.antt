@@ -1,5 +1,5 @@
 -- What lawful programs have.
-use Rattle.std.proofs.Common.{◌≡◌, inl, inr, List, [], ◌∷◌, map, false, All, sym, subst}
+use Rattle.std.proofs.Common.{inl, inr, List, [], ◌∷◌, map, All, sym, subst}
 use Rattle.std.proofs.lemmas.List.Elements.{All-head, All-tail}
 use Rattle.mau_terms.specs.Bare.{IsBareIn, IsLawful}
 use Rattle.mau_poset.specs.Order.{kind_of}

@@ -1,5 +1,5 @@
 -- What the loop reaches by some number of levels.
-use Rattle.std.proofs.Common.{◌≡◌, ◌⊎◌, inl, inr, ◌^◌, ◌-◌, ◌+◌, ◌<◌, ◌≤◌, ℕ, Option, Some, None, min, sym, ap, ◌∙◌, subst, arith}
+use Rattle.std.proofs.Common.{◌≡◌, ◌⊎◌, inl, inr, ◌^◌, ◌-◌, ◌+◌, ◌<◌, ◌≤◌, ℕ, Option, Some, None, min, refl, sym, ap, ◌∙◌, subst, arith}
 use Rattle.mau_evaluation.specs.Run.{End, Outcome, done, ended, stopped, too_deep, overflowed, counted_if}
 use Rattle.mau_evaluation.specs.Program.{Program}
 use Rattle.mau_api.specs.Told.{shown_count}
@@ -74,16 +74,15 @@ module _ {A : Type 0} (P : Program) (g : ℕ → Outcome A) (n : ℕ) where
       by (inr h) = let no : ended too_deep ≡ done v q left = sym h.1 ∙ e in absurd (cc)
 
 -- the same computations
-module _ {P : Program} {A : Type 0} {g h : ℕ → Outcome A} (same : (j : ℕ) → g j ≡ h j) where
-  pub comes_along : {o : Outcome A} → Comes P g o → Comes P h o
-  comes_along {o = o} c = record { enough = c.enough; just = c.just; comes = λ j. by j (c.comes j) }
-    where
-      by : (j : ℕ) → (capped (g j) ≡ o) ⊎ ((j < c.enough) × (g j ≡ ended too_deep)) → (capped (h j) ≡ o) ⊎ ((j < c.enough) × (h j ≡ ended too_deep))
-      by j (inl e) = inl (ap capped (sym (same j)) ∙ e)
-      by j (inr e) = inr (e.0, sym (same j) ∙ e.1)
+pub comes_along : {P : Program} {A : Type 0} {g h : ℕ → Outcome A} → ((j : ℕ) → g j ≡ h j) → {o : Outcome A} → Comes P g o → Comes P h o
+comes_along {g = g} {h = h} same {o = o} c = record { enough = c.enough; just = c.just; comes = λ j. by j (c.comes j) }
+  where
+    by : (j : ℕ) → (capped (g j) ≡ o) ⊎ ((j < c.enough) × (g j ≡ ended too_deep)) → (capped (h j) ≡ o) ⊎ ((j < c.enough) × (h j ≡ ended too_deep))
+    by j (inl e) = inl (ap capped (sym (same j)) ∙ e)
+    by j (inr e) = inr (e.0, sym (same j) ∙ e.1)
 
-  pub end_along : (e : EvalEnd) → ComesToEnd P g e → ComesToEnd P h e
-  end_along Stopped c = comes_along c
-  end_along TooDeep c = sym (same 0) ∙ c
-  end_along Overflow c = comes_along c
-  end_along NoMemory c = tt
+pub end_along : (P : Program) {A : Type 0} {g h : ℕ → Outcome A} → ((j : ℕ) → g j ≡ h j) → (e : EvalEnd) → ComesToEnd P g e → ComesToEnd P h e
+end_along P same Stopped c = comes_along same c
+end_along P same TooDeep c = sym (same 0) ∙ c
+end_along P same Overflow c = comes_along same c
+end_along P same NoMemory c = tt

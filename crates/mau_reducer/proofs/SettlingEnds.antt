@@ -11,7 +11,7 @@ use Rattle.mau_evaluation.specs.Evaluation.{levels, settle}
 use Rattle.mau_evaluation.proofs.Falls.{each_falls, levels_fall}
 use Rattle.mau_api.specs.Programs.{program_over, identities_of}
 use Rattle.mau_api.specs.Terms.{IsNormalBare}
-use Rattle.mau_api.specs.Answers.{levels_of_item, levels_of_condition, IsOneToSettle, MayEnd}
+use Rattle.mau_api.specs.Answers.{levels_of_condition, IsOneToSettle, MayEnd}
 use Rattle.mau_api.specs.declared.results.EvalEnd.{EvalEnd}
 use Rattle.mau_api.specs.declared.results.EvalEnd.TheVariants.{Stopped, TooDeep, Overflow, NoMemory}
 use Rattle.mau_settling.proofs.Units.{identities_bare}
@@ -29,35 +29,34 @@ from_counted r (ended d) e h = h
 -- one of them ends so, with no more budget than there was
 each_ends : {A B : Type 0} (f : A → Run B) → ((x : A) → NeverRises (f x)) → (xs : List A) (b : ℕ) (e : End) → each_in_turn f xs b ≡ ended e → (x : A) × (c : ℕ) × IsIn x xs × (c ≤ b) × (f x c ≡ ended e)
 each_ends f falls [] b e h = absurd (cc h)
-each_ends {A = A} {B = B} f falls (x ∷ xs) b e h = by (f x b) refl (falls x b) h
+each_ends {A = A} {B = B} f falls (x ∷ xs) b e h = by (f x b) refl (falls x b) h (λ c k. each_ends f falls xs c e k)
   where
     inner : (y : B) (c r : ℕ) (o : Outcome (List B)) → each_in_turn f xs c ≡ o → counted r (go_on (λ ys. gives (y ∷ ys)) o) ≡ ended e → each_in_turn f xs c ≡ ended e
     inner y c r (ended d) q k = let same : d ≡ e = cc in q ∙ ap (λ z. ended z) same
     inner y c r (done ys n a) q k = absurd (cc k)
 
-    by : (o : Outcome B) → f x b ≡ o → IsLeft b o → go_on (λ y. and_then (each_in_turn f xs) (λ ys. gives (y ∷ ys))) o ≡ ended e → (z : A) × (c : ℕ) × IsIn z (x ∷ xs) × (c ≤ b) × (f z c ≡ ended e)
-    by (ended d) q left k = let same : d ≡ e = cc in (x, b, inl refl, omega arith, q ∙ ap (λ z. ended z) same)
-    by (done y r c) q left k =
-        let z = each_ends f falls xs c e (inner y c r (each_in_turn f xs c) refl k) in
+    by : (o : Outcome B) → f x b ≡ o → IsLeft b o → go_on (λ y. and_then (each_in_turn f xs) (λ ys. gives (y ∷ ys))) o ≡ ended e →
+        ((c : ℕ) → each_in_turn f xs c ≡ ended e → (z : A) × (a : ℕ) × IsIn z xs × (a ≤ c) × (f z a ≡ ended e)) → (z : A) × (c : ℕ) × IsIn z (x ∷ xs) × (c ≤ b) × (f z c ≡ ended e)
+    by (ended d) q left k rest = let same : d ≡ e = cc in (x, b, inl refl, omega arith, q ∙ ap (λ z. ended z) same)
+    by (done y r c) q left k rest =
+        let z = rest c (inner y c r (each_in_turn f xs c) refl k) in
         (z.0, z.1, inr z.2, omega (arith, z.3, left), z.4)
 
 -- settling by k levels
 settle_ends : (P : Program) (B k : ℕ) (t : Tree) (b : ℕ) (e : End) → settle P (levels P B k) (levels P B (suc k)).sorts t b ≡ ended e →
     (u : Tree) × (c : ℕ) × ((u ≡ t) ⊎ IsIn u P.units) × (c ≤ b) × ((levels P B (suc k)).sorts u c ≡ ended e)
-settle_ends P B k t b e h = by (each_in_turn f P.units b) refl (each_falls f falls P.units b) h
+settle_ends P B k t b e h = one_ends P.units (levels P B (suc k)).sorts (levels_fall P B (suc k)).sorts_fall t b e h
   where
-    abbrev f : Tree → Run (List ℕ)
-    f = (levels P B (suc k)).sorts
-
-    falls : (u : Tree) → NeverRises (f u)
-    falls u = (levels_fall P B (suc k)).sorts_fall u
-
-    by : (o : Outcome (List (List ℕ))) → each_in_turn f P.units b ≡ o → IsLeft b o → go_on (λ us. f t) o ≡ ended e → (u : Tree) × (c : ℕ) × ((u ≡ t) ⊎ IsIn u P.units) × (c ≤ b) × (f u c ≡ ended e)
-    by (ended d) q left k =
-        let same : d ≡ e = cc in
-        let z = each_ends f falls P.units b e (q ∙ ap (λ y. ended y) same) in
-        (z.0, z.1, inr z.2, z.3, z.4)
-    by (done us r c) q left k = (t, c, inl refl, omega (arith, left), from_counted r (f t c) e k)
+    one_ends : (us : List Tree) (f : Tree → Run (List ℕ)) → ((u : Tree) → NeverRises (f u)) → (t : Tree) (b : ℕ) (e : End) → and_then (each_in_turn f us) (λ ss. f t) b ≡ ended e →
+        (u : Tree) × (c : ℕ) × ((u ≡ t) ⊎ IsIn u us) × (c ≤ b) × (f u c ≡ ended e)
+    one_ends us f falls t b e h = by (each_in_turn f us b) refl (each_falls f falls us b) h
+      where
+        by : (o : Outcome (List (List ℕ))) → each_in_turn f us b ≡ o → IsLeft b o → go_on (λ ss. f t) o ≡ ended e → (u : Tree) × (c : ℕ) × ((u ≡ t) ⊎ IsIn u us) × (c ≤ b) × (f u c ≡ ended e)
+        by (ended d) q left k =
+            let same : d ≡ e = cc in
+            let z = each_ends f falls us b e (q ∙ ap (λ y. ended y) same) in
+            (z.0, z.1, inr z.2, z.3, z.4)
+        by (done ss r c) q left k = (t, c, inl refl, omega (arith, left), from_counted r (f t c) e k)
 
 -- ---- as an evaluator says it
 

@@ -1,9 +1,9 @@
 -- The settling of a term in the loop: with what it begins, the condition that it asks, and where it ends.
-use Rattle.std.proofs.Common.{◌≡◌, ◌⊎◌, inl, inr, ◌+◌, ◌<◌, ℕ, zero, suc, List, [], ◌∷◌, All, Bool, true, false, Option, Some, None, Result, Ok, Err, IfOk, OnOk, length, map, slice_get, refl, sym, ap, ap₂, ◌∙◌, subst, arith}
+use Rattle.std.proofs.Common.{◌≡◌, ◌⊎◌, inl, inr, ◌+◌, ◌<◌, ℕ, zero, suc, List, [], ◌∷◌, All, Bool, true, false, Some, None, Result, Ok, Err, IfOk, OnOk, length, map, slice_get, refl, sym, ap, ap₂, ◌∙◌, subst, arith}
 use Rattle.std.specs.List.{zip}
 use Rattle.std.proofs.lemmas.List.{length-map}
 use Rattle.std.proofs.lemmas.List.Elements.{All-head, All-tail, All-nil, All-cons}
-use Rattle.mau_terms.specs.Tree.{Tree, Trees, variable, numeral, apply}
+use Rattle.mau_terms.specs.Tree.{Tree, variable, numeral, apply}
 use Rattle.mau_terms.specs.Norm.{norm}
 use Rattle.mau_terms.specs.Bare.{TermSignature, IsBare, IsBareIn}
 use Rattle.mau_terms.specs.Reading.{reading}
@@ -29,7 +29,7 @@ use Rattle.mau_listing.proofs.Growth.{trees_long}
 use Rattle.mau_program.specs.declared.program.Program as Typed
 use Rattle.mau_program.specs.declared.statements.Membership.{Membership as Written}
 use Rattle.mau_program.specs.Binding.{are_bound}
-use Rattle.mau_evaluation.specs.Run.{done, ended, too_deep}
+use Rattle.mau_evaluation.specs.Run.{ended, too_deep}
 use Rattle.mau_evaluation.specs.Program.{Program}
 use Rattle.mau_evaluation.specs.Listing.{Solution, keep, solutions}
 use Rattle.mau_evaluation.specs.Evaluation.{Binding, levels, solve}
@@ -48,18 +48,18 @@ use Rattle.mau_deriving.specs.Asking.{Stands, Derives}
 use Rattle.mau_deriving.specs.Derivations.{head_binding, AreQuestions, AreOpen}
 use Rattle.mau_deriving.specs.declared.derivation.Deriving.{Deriving}
 use Rattle.mau_deriving.proofs.Lawful.{heads, lawful_one, mapped_at, at_in}
-use Rattle.mau_settling.specs.Settlings.{IsSettling, IsDerivingIn, Asks, IsAskingOf, left_of}
+use Rattle.mau_settling.specs.Settlings.{IsSettling, IsDerivingIn, Asks, IsAskingOf, CanEnd, left_of}
 use Rattle.mau_settling.specs.declared.settling.Settling.{Settling}
 use Rattle.mau_settling.proofs.Ended.{conditions_end, settled_is_known}
 use Rattle.mau_settling.proofs.States.{is_current, current_is, asked_sorted}
 use Rattle.mau_reduce.specs.declared.binding.Binding.{Binding as Kept}
-use Rattle.mau_reduce.specs.Bindings.{paired, bound_in, HaveKinds, AreValues}
+use Rattle.mau_reduce.specs.Bindings.{paired, bound_in, HaveKinds}
 use Rattle.mau_reduce.proofs.AttemptsLeft.{binding_paired}
 use Rattle.mau_reduce.proofs.Comes.{known_comes}
 use Rattle.mau_reduce.proofs.PlainSorts.{plain_sorts, settle_known}
 use Rattle.mau_machine.specs.Words.{EndsWhere, IsSettled, IsAnswered, settle_on, solve_on}
 use Rattle.mau_reducer.specs.Basis.{Basis, IsBasis}
-use Rattle.mau_reducer.specs.Handles.{first_at, AreBoundFrom, rules_of, IsKnownTerm, IsKnownValue, IsKnownBinding, IsKnownSettling, IsKnownAsking}
+use Rattle.mau_reducer.specs.Handles.{first_at, AreBoundFrom, rules_of, IsKnownValue, IsKnownBinding, IsKnownSettling, IsKnownAsking}
 use Rattle.mau_reducer.specs.States.{IsOwnTable, ComesOf}
 use Rattle.mau_reducer.proofs.Conditions.{written_of_member, first_of_member}
 use Rattle.mau_reducer.proofs.Choosing.{pairs_of, bound_pairs}
@@ -121,6 +121,14 @@ module _ (b : Basis) (basis : IsBasis b) (m : Written) (at : ℕ) (there : slice
 
 -- ---- what is bound
 
+abbrev first_value : Binding → Tree
+first_value [] = numeral 0
+first_value (y ∷ ys) = y.1
+
+abbrev values_behind : Binding → Binding
+values_behind [] = []
+values_behind (y ∷ ys) = ys
+
 same_values : (xs : List Variable) (us vs : List Tree) → length us ≡ length xs → length vs ≡ length xs → paired xs us ≡ paired xs vs → us ≡ vs
 same_values [] [] [] n m e = refl
 same_values [] (u ∷ us) vs n m e = absurd (omega (arith, n))
@@ -128,9 +136,7 @@ same_values [] [] (v ∷ vs) n m e = absurd (omega (arith, m))
 same_values (x ∷ xs) [] vs n m e = absurd (omega (arith, n))
 same_values (x ∷ xs) (u ∷ us) [] n m e = absurd (omega (arith, m))
 same_values (x ∷ xs) (u ∷ us) (v ∷ vs) n m e =
-    let one : u ≡ v = cc in
-    let more : paired xs us ≡ paired xs vs = cc in
-    ap₂ (λ (z : Tree) zs. z ∷ zs) one (same_values xs us vs (omega (arith, n)) (omega (arith, m)) more)
+    ap₂ (λ (z : Tree) zs. z ∷ zs) (ap first_value e) (same_values xs us vs (omega (arith, n)) (omega (arith, m)) (ap values_behind e))
 
 module _ (s : SignatureOf) (nodes : List Node) (table : Table) where
   within_paired : (xs : List VarId) (vs : List TermId) → length xs ≡ length vs → All (λ (y : VarId × TermId). StandsWithin (theory_at s) nodes y.1.0) (zip xs vs) → StandWithin (theory_at s) nodes (numbers vs)
@@ -270,7 +276,7 @@ module _ (b : Basis) (basis : IsBasis b) (nodes : List Node) (table : Table) (t 
   -- where it ends, settling ends so
   pub ends : IsOwnTable b nodes table → AreNodes nodes → EndsWhere P (λ k. settle_on (rules_of b) k (tree_at nodes t)) (λ k. solve_on (rules_of b) k e 0 (bound_in nodes σ) b.limit)
   ends own are =
-      let can = record {
+      let can : CanEnd b.program b.hooks b.limit nodes table d = record {
         heads = heads b.program basis.lawful basis.reducible.lawful b.hooks;
         accepted = basis.reducible.accepted;
         are = are;
@@ -327,5 +333,5 @@ module _ (b : Basis) (basis : IsBasis b) (nodes : List Node) (table : Table) (ow
 -- a term of a state before
 pub value_settled : (b d : Basis) (old new : List Node) (before after : Table) (begun : Bool) → ComesOf b d old new before after begun → (t : ℕ) → IsTerm b.program.sig old t → {A : Type 0} (r : Result A EvalEnd) →
     OnOk r (IsKnownValue d.program.sig new after t) → OnOk r (AreSettled b.program.sig new after (tree_at old t))
-value_settled b d old new before after begun h t term (Ok x) v = settled_is b d old new before after begun h t term after v.settled
-value_settled b d old new before after begun h t term (Err e) v = tt
+value_settled b d old new before after begun h t is (Ok x) v = settled_is b d old new before after begun h t is after v.settled
+value_settled b d old new before after begun h t is (Err e) v = tt

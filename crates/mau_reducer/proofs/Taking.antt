@@ -1,5 +1,5 @@
 -- What the world's calls give, from what the calls of mau_reduce do.
-use Rattle.std.proofs.Common.{◌≡◌, ◌==◌, ◌<◌, ◌-◌, ℕ, zero, suc, inl, inr, fold, get_or, slice_get, arith, nat_eq, eqb-true, length, List, [], ◌∷◌, Bool, true, false, if◌then◌else◌, Option, Some, None, Result, Ok, Err, IfOk, IfErr, map, drop, refl, sym, ap, ap₂, ◌∙◌, subst}
+use Rattle.std.proofs.Common.{◌≡◌, ◌<◌, ◌-◌, ℕ, zero, suc, inl, inr, fold, get_or, slice_get, arith, nat_eq, eqb-true, length, List, [], ◌∷◌, Bool, true, false, if◌then◌else◌, Option, Some, None, Result, Ok, Err, IfOk, IfErr, map, drop, refl, sym, ap, ap₂, ◌∙◌, subst}
 use Rattle.mau_terms.specs.Tree.{Tree, variable, numeral, apply, Trees, no_trees, tree}
 use Rattle.mau_terms.specs.Bare.{IsLawful}
 use Rattle.mau_terms.specs.declared.ids.TermId.{TermId}
@@ -18,10 +18,9 @@ use Rattle.mau_api.specs.declared.results.EvalEnd.TheVariants.{Stopped, TooDeep,
 use Rattle.mau_store.specs.Trees.{tree_at, trees_at}
 use Rattle.mau_store.specs.View.{numbers}
 use Rattle.mau_sorts.specs.Table.{Table}
-use Rattle.mau_program.specs.declared.program.Program as Typed
-use Rattle.mau_evaluation.specs.Run.{Outcome, done}
+use Rattle.mau_evaluation.specs.Run.{Outcome}
 use Rattle.mau_evaluation.specs.Program.{Program}
-use Rattle.mau_api.specs.Programs.{program_over, fragment_of}
+use Rattle.mau_api.specs.Programs.{fragment_of}
 use Rattle.mau_reduce.specs.Kinds.{IsTermIn, AreUnder}
 use Rattle.mau_reduce.proofs.KindsKept.{trees_kept, term_kept}
 use Rattle.mau_evaluation.specs.Listing.{kind_at}

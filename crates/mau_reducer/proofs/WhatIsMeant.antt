@@ -24,18 +24,18 @@ use Rattle.mau_reducer.specs.States.{ComesOf}
 
 -- ---- the answer of an evaluation, where n are the levels of an item
 
+-- what the loop gives, and how it ends
+abbrev pub Gives : Meanings → ℕ → Tree → ℕ → List Node → Result Reduced EvalEnd → ℕ → Type 0
+Gives m n t b nodes result after = IfOk result (λ x. Comes (program_of m) (λ j. m.evaluation (n + j) m.limit t b) (done (tree_at nodes x.term.0) x.rewrites after))
+
+abbrev pub Ends : Meanings → ℕ → Tree → ℕ → Result Reduced EvalEnd → Type 0
+Ends m n t b result = IfErr result (ComesToEnd (program_of m) (λ j. m.evaluation (n + j) m.limit t b))
+
 module _ (m : Meanings) (same : m.remembers ≡ false) (n : ℕ) (levels : n ≡ levels_of_item) (t : Tree) (b : ℕ) (nodes : List Node) where
   abbrev f : ℕ → Outcome Tree
   f k = m.evaluation k m.limit t b
 
-  -- what the loop gives
-  abbrev pub Gives : Result Reduced EvalEnd → ℕ → Type 0
-  Gives result after = IfOk result (λ x. Comes (program_of m) (λ j. m.evaluation (n + j) m.limit t b) (done (tree_at nodes x.term.0) x.rewrites after))
-
-  abbrev pub Ends : Result Reduced EvalEnd → Type 0
-  Ends result = IfErr result (ComesToEnd (program_of m) (λ j. m.evaluation (n + j) m.limit t b))
-
-  answered : (result : Result Reduced EvalEnd) (after : ℕ) → Gives result after → Ends result → IsReached (program_of m) f n (λ o. IsAnswered o nodes result after)
+  answered : (result : Result Reduced EvalEnd) (after : ℕ) → Gives m n t b nodes result after → Ends m n t b result → IsReached (program_of m) f n (λ o. IsAnswered o nodes result after)
   answered (Ok x) after ok err = value_reached (program_of m) f n (tree_at nodes x.term.0) x.rewrites after ok
   answered (Err Stopped) after ok err = end_reached (program_of m) f n Stopped err
   answered (Err TooDeep) after ok err = end_reached (program_of m) f n TooDeep err
@@ -43,13 +43,13 @@ module _ (m : Meanings) (same : m.remembers ≡ false) (n : ℕ) (levels : n ≡
   answered (Err NoMemory) after ok err = end_reached (program_of m) f n NoMemory err
 
   -- it is that for just the budget given
-  pub exact : (result : Result Reduced EvalEnd) (after : ℕ) → Gives result after → Ends result → IsExact m t b nodes result after
+  pub exact : (result : Result Reduced EvalEnd) (after : ℕ) → Gives m n t b nodes result after → Ends m n t b result → IsExact m t b nodes result after
   exact result after ok err =
       let k = answered result after ok err in
       record { levels = k.levels; enough = omega (arith, k.enough, levels); just = λ none. k.just none ∙ levels; is = k.is }
 
   -- so it is allowed
-  allowed : (result : Result Reduced EvalEnd) (after : ℕ) → Gives result after → Ends result → IsAllowed m false t b nodes result
+  allowed : (result : Result Reduced EvalEnd) (after : ℕ) → Gives m n t b nodes result after → Ends m n t b result → IsAllowed m false t b nodes result
   allowed (Ok x) after ok err =
       let k = value_reached (program_of m) f n (tree_at nodes x.term.0) x.rewrites after ok in
       (k.is.0, (k.levels, m.limit, b, after, omega (arith, k.enough, levels), omega arith, omega arith, k.is.1), k.is.2)
@@ -58,11 +58,11 @@ module _ (m : Meanings) (same : m.remembers ≡ false) (n : ℕ) (levels : n ≡
   allowed (Err Overflow) after ok err = let k = end_reached (program_of m) f n Overflow err in (k.levels, m.limit, b, omega (arith, k.enough, levels), omega arith, omega arith, k.is)
   allowed (Err NoMemory) after ok err = tt
 
-  pub is_allowed : (wanted : Bool) (result : Result Reduced EvalEnd) (after : ℕ) → Gives result after → Ends result → IsAllowed m false t b nodes result
+  pub is_allowed : (wanted : Bool) (result : Result Reduced EvalEnd) (after : ℕ) → Gives m n t b nodes result after → Ends m n t b result → IsAllowed m false t b nodes result
   is_allowed wanted result after ok err = allowed result after ok err
 
   -- what is left is enough
-  pub left_enough : (result : Result Reduced EvalEnd) (after : ℕ) → Gives result after → OnOk result (LeavesEnough (m.evaluation n m.limit t b) after)
+  pub left_enough : (result : Result Reduced EvalEnd) (after : ℕ) → Gives m n t b nodes result after → OnOk result (LeavesEnough (m.evaluation n m.limit t b) after)
   left_enough (Ok x) after ok = λ v r left e. let same_left = left_by (program_of m) f n (tree_at nodes x.term.0) x.rewrites after ok v r left e in omega (arith, same_left)
   left_enough (Err d) after ok = tt
 
@@ -90,7 +90,7 @@ module _ (b d : Basis) (old mid : List Node) (before after : Table) (begun : Boo
   value_is n B nodes (Ok x) left h = comes_along (λ j. outcome_is (n + j) B) h
   value_is n B nodes (Err e) left h = tt
 
-  pub end_is : (n B : ℕ) (nodes : List Node) (result : Result Reduced EvalEnd) →
-      IfErr result (ComesToEnd (program_of (meanings_of b)) (λ j. eval_on (rules_of d) (n + j) (tree_at mid i) B)) → Ends (meanings_of b) n (tree_at old i) B nodes result
-  end_is n B nodes (Ok x) h = tt
-  end_is n B nodes (Err e) h = end_along (λ j. outcome_is (n + j) B) e h
+  pub end_is : (n B : ℕ) (result : Result Reduced EvalEnd) →
+      IfErr result (ComesToEnd (program_of (meanings_of b)) (λ j. eval_on (rules_of d) (n + j) (tree_at mid i) B)) → Ends (meanings_of b) n (tree_at old i) B result
+  end_is n B (Ok x) h = tt
+  end_is n B (Err e) h = end_along (program_of (meanings_of b)) (λ j. outcome_is (n + j) B) e h

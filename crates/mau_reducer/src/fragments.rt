@@ -11,6 +11,8 @@ pub(crate) fn number_of_member(program: &Program, at: usize) -> usize
     requires { at < length program.now.memberships }
     ensures { result ≡ suc (suc (length program.now.equations)) + at }
 {
+    // What holds of a list is told with its length.
+    let _members = program.memberships.items().len();
     program.equations.items().len() + 2 + at
 }
 

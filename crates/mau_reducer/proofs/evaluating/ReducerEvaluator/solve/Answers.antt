@@ -86,7 +86,7 @@ returns-in-Ok-clause-untold g c =
 pub returns-in-Ok-clause-fits : goal.returns-in-Ok-clause-fits
 returns-in-Ok-clause-fits g c = (
   fit_later (basis_of g.N.Natives.operators c.ask.new.self) (basis_of g.N.Natives.operators c.solve-solved.new.world) c.args.store.now c.solve-solved.new.store c.ask.new.self.table c.solve-solved.new.world.table c.ask.new.self.begun c.solve-solved.new.world.begun (asked_ready (basis_of g.N.Natives.operators c.args.self.now) c.args.cond.now c.args.bound.now c.requires.condition c.in-Ok.binding c.in-Ok.ensures.pairs c.in-Ok.ensures.one_each
-      (basis_of g.N.Natives.operators c.args.self.now) (basis_of g.N.Natives.operators c.ask.new.self) c.args.store.now c.args.store.now c.args.self.now.table c.args.self.now.table c.args.self.now.begun (same_state (basis_of g.N.Natives.operators c.args.self.now) c.args.store.now c.args.self.now.table c.args.self.now.begun c.requires.fits.0) c.in-Ok.ensures.asks c.requires.bound c.ask.new.self.table c.ask.ensures.table (length c.items.result.now + 1) (number_counted c.items.result.now c.ask.new.self.program.now.equations c.items.ensures) c.ask.new.self.begun c.ask.ensures.begun c.requires.fits.0) c.solve-solved.ensures.grows),
+      (basis_of g.N.Natives.operators c.args.self.now) (basis_of g.N.Natives.operators c.ask.new.self) c.args.store.now c.args.store.now c.args.self.now.table c.args.self.now.table c.args.self.now.begun (same_state (basis_of g.N.Natives.operators c.args.self.now) c.args.store.now c.args.self.now.table c.args.self.now.begun c.requires.fits.0) c.in-Ok.ensures.asks c.requires.bound c.ask.new.self.table c.ask.ensures.table (length c.items.result.now + 1) (number_counted c.items.result.now c.ask.new.self.program.now.equations c.items.ensures) c.ask.new.self.begun c.ask.ensures.begun c.requires.fits.0) c.solve-solved.ensures.grows,
   c.requires.fits.1,
 )
 

@@ -1,4 +1,4 @@
-use Rattle.std.proofs.Common.{◌≡◌, suc, drop, IfOk, sym, subst}
+use Rattle.std.proofs.Common.{◌≡◌, suc, drop, sym, subst}
 use Rattle.std.specs.Option.{option_map}
 use Rattle.mau_store.specs.Trees.{tree_at}
 use Rattle.mau_evaluation.specs.Evaluation.{levels, applied}
