@@ -1,6 +1,5 @@
 -- What is built of the arguments of a term, in a state that comes of another.
-use Rattle.std.proofs.Common.{◌≡◌, ℕ, List, Bool, false, sym, ap, ◌∙◌, subst, map}
-use Rattle.mau_terms.specs.Tree.{Tree}
+use Rattle.std.proofs.Common.{◌≡◌, ℕ, List, false, ap, ◌∙◌, subst}
 use Rattle.mau_terms.specs.Norm.{build}
 use Rattle.mau_terms.specs.declared.ids.TermId.{TermId}
 use Rattle.mau_evaluation.specs.Run.{done}

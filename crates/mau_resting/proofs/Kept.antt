@@ -1,8 +1,7 @@
 -- Lists of levels: what is kept for terms.
-use Rattle.std.proofs.Common.{◌≡◌, ◌⊎◌, inl, inr, ℕ, zero, suc, ◌<◌, ◌≤◌, List, [], ◌∷◌, ◌++◌, set, get_or, take, length, Bool, true, ltb, Option, None, Some, IfSome, slice_get, refl, sym, subst, ap, arith}
+use Rattle.std.proofs.Common.{◌≡◌, ◌⊎◌, inl, inr, ℕ, zero, suc, ◌<◌, ◌≤◌, List, [], ◌∷◌, ◌++◌, set, get_or, take, length, true, ltb, Option, None, Some, IfSome, slice_get, refl, sym, subst, ap, arith}
 use Rattle.std.specs.Prelude.{SomeIff}
 use Rattle.std.proofs.lemmas.Bool.{ltb-true}
-use Rattle.mau_terms.specs.Tree.{Tree}
 use Rattle.mau_terms.specs.declared.ids.TermId.{TermId}
 use Rattle.mau_machine.specs.Words.{Words, Keeps}
 use Rattle.mau_resting.specs.Rests.{RestsBy, AreResting, AreKnownBy}

@@ -1,7 +1,7 @@
 -- A term over terms that are their own values, at whose top nothing applies, is its own value.
-use Rattle.std.proofs.Common.{◌≡◌, ◌⊎◌, inl, inr, ℕ, zero, suc, ◌<◌, ◌≤◌, ◌+◌, Bool, true, false, ◌==◌, ◌||◌, List, [], ◌∷◌, Option, Some, None, eq-eqb, refl, sym, ap, ◌∙◌, subst, arith, slice_get}
+use Rattle.std.proofs.Common.{◌≡◌, ◌⊎◌, inl, inr, ℕ, zero, suc, ◌<◌, ◌≤◌, ◌+◌, ◌-◌, Bool, true, false, ◌==◌, ◌||◌, List, [], ◌∷◌, Option, Some, None, eq-eqb, refl, sym, ap, ◌∙◌, subst, arith}
 use Rattle.std.proofs.lemmas.Bool.{le-ltb}
-use Rattle.mau_terms.specs.Tree.{Tree, variable, numeral, apply, node, list_of, trees_of}
+use Rattle.mau_terms.specs.Tree.{Tree, variable, numeral, apply, node}
 use Rattle.mau_terms.specs.Norm.{build, norm, holds_overflow}
 use Rattle.mau_terms.specs.Depth.{depth}
 use Rattle.mau_terms.specs.declared.ids.TermId.{TermId}
@@ -10,7 +10,7 @@ use Rattle.mau_canon.specs.Within.{IsWithin}
 use Rattle.mau_evaluation.specs.Run.{Outcome, done, ended, too_deep, Run, gives, ends, stopped, counted, go_on, and_then, choose}
 use Rattle.mau_evaluation.specs.Program.{Program}
 use Rattle.mau_evaluation.specs.Evaluation.{has_number, Level, levels, settle, applied, go_from, at_top, on_normal, admit, admitted, within_limits, in_places, put_value, order_of, top_changed, rounds, at, put}
-use Rattle.mau_machine.specs.Words.{Words, Rules, DerivesNone, IsKnownBy, IsSettled, IsLeaf, trees, eval_on, settle_on, applied_on}
+use Rattle.mau_machine.specs.Words.{Words, DerivesNone, IsKnownBy, IsSettled, IsLeaf, trees, eval_on, settle_on, applied_on}
 use Rattle.mau_resting.specs.Rests.{RestsBy, AreResting, AreKnownBy}
 
 -- an outcome is x, with nothing counted and nothing spent; or, where few levels are there, it is too deep
@@ -101,6 +101,10 @@ module _ (Few : Type 0) (P : Program) (B k : ℕ) where
             (placed next)
 
 -- ---- as a world has it
+
+-- what is known of f is known of g, where the two are one
+pub known_as : {A : Type 0} (P : Program) (f g : ℕ → Run A) (x : A) → ((k b : ℕ) → f k b ≡ g k b) → IsKnownBy P f x → IsKnownBy P g x
+known_as P f g x same h = record { enough = h.enough; just = h.just; leads = λ k b. subst (λ o. Is (k < h.enough) o x b) (same k b) (h.leads k b) }
 
 -- fewer levels than these
 is_fewer : {A : Type 0} (k m n : ℕ) (o : Outcome A) (x : A) (b : ℕ) → m ≤ n → (o ≡ done x 0 b) ⊎ ((k < m) × (o ≡ ended too_deep)) → Is (k < n) o x b

@@ -1,8 +1,6 @@
 -- What is known of terms stays known in later states.
-use Rattle.std.proofs.Common.{◌≡◌, ◌+◌, ℕ, suc, List, Some, true, slice_get, sym, ap, ◌∙◌, subst}
-use Rattle.mau_terms.specs.Tree.{Tree}
+use Rattle.std.proofs.Common.{◌≡◌, ◌+◌, ℕ, suc, List, sym, ap, ◌∙◌, subst}
 use Rattle.mau_machine.specs.Words.{Words, Rules, Keeps, IsKnownBy, IsSettled, eval_on, applied_on, IsUntried}
-use Rattle.mau_resting.specs.declared.resting.Trying.{Trying}
 use Rattle.mau_resting.specs.Rests.{RestsBy, AreResting, words_over}
 
 module _ {A C S D : Type 0} (w w' : Words A C S D) (keeps : Keeps w w') where
