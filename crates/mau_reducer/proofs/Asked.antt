@@ -206,17 +206,17 @@ module _ (b : Basis) (fs : List Fragment) (bound : List (VarId × TermId)) (aska
             IfErr r (ComesToEnd (program_over d.program d.hooks) solves) →
             IsLoopAnswer (program_over b.program b.hooks) new (λ j. (meanings_of b).solving j b.limit (map fragment_of fs) (binding_in old bound) B) k r left
         loop_answer (Ok (Some x)) some none ends = record {
-            some = comes_along (λ j. outcome_is (k + j) B) (subst (λ (P : Program). Comes P solves (done (Some (bound_in new x.0)) x.1 left)) same_program some);
-            none = tt;
-            ends = tt;
-          }
+          some = comes_along (λ j. outcome_is (k + j) B) (subst (λ (P : Program). Comes P solves (done (Some (bound_in new x.0)) x.1 left)) same_program some);
+          none = tt;
+          ends = tt;
+        }
         loop_answer (Ok None) some none ends = record {
-            some = tt;
-            none = comes_along (λ j. ap (counted_if 0) (outcome_is (k + j) B)) (subst (λ (P : Program). Comes P (λ j. counted_if 0 (solves j)) (done None 0 left)) same_program none);
-            ends = tt;
-          }
+          some = tt;
+          none = comes_along (λ j. ap (counted_if 0) (outcome_is (k + j) B)) (subst (λ (P : Program). Comes P (λ j. counted_if 0 (solves j)) (done None 0 left)) same_program none);
+          ends = tt;
+        }
         loop_answer (Err e') some none ends = record {
-            some = tt;
-            none = tt;
-            ends = end_along (program_over b.program b.hooks) (λ j. outcome_is (k + j) B) e' (subst (λ (P : Program). ComesToEnd P solves e') same_program ends);
-          }
+          some = tt;
+          none = tt;
+          ends = end_along (program_over b.program b.hooks) (λ j. outcome_is (k + j) B) e' (subst (λ (P : Program). ComesToEnd P solves e') same_program ends);
+        }

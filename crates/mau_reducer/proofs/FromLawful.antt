@@ -24,7 +24,7 @@ reducible p is lawful = record {
   lawful = lawful;
   sides = λ e i. in_mapped equation_of (HasBareSides (terms_over p.sig)) p.equations (λ k d h. let one = is.equations k d h in record { kind = one.parts.sides.kind; left = one.parts.sides.first; right = one.parts.sides.second }) e i;
   heads = λ m i. record {
-      bare = in_mapped membership_of (λ x. IsBareIn (terms_over p.sig) x.left (kind_of p.sig.hierarchy x.sort)) p.memberships (λ k d h. (is.memberships k d h).parts.head) m i;
-      head = (heads p is lawful []).head m i;
-    };
+    bare = in_mapped membership_of (λ x. IsBareIn (terms_over p.sig) x.left (kind_of p.sig.hierarchy x.sort)) p.memberships (λ k d h. (is.memberships k d h).parts.head) m i;
+    head = (heads p is lawful []).head m i;
+  };
 }

@@ -1,5 +1,5 @@
 -- Terms that are flagged stay so in later states.
-use Rattle.std.proofs.Common.{◌≡◌, ◌+◌, ℕ, suc, List, Bool, true, false, Some, slice_get, refl, sym, ap, ◌∙◌, subst}
+use Rattle.std.proofs.Common.{◌≡◌, ◌+◌, ℕ, suc, List, Bool, true, false, Option, Some, slice_get, refl, sym, ◌∙◌, subst}
 use Rattle.mau_store.specs.Node.{Node, Extends}
 use Rattle.mau_store.specs.Trees.{tree_at}
 use Rattle.mau_signature.specs.Signature.{SignatureOf}

@@ -123,7 +123,8 @@ impl<'a, L: Lister + Drop, M: WholeLister + Drop, N: Natives + Drop> Evaluator
     }
 
     fn settle(&mut self, store: &mut Store, term: TermId) -> Result<(), EvalEnd> {
-        self.world.world.settle(store, term)
+        let levels = levels_of_condition();
+        mau_resting::settle(&mut self.world, store, term, levels)
     }
 
     fn list<K: Lister>(

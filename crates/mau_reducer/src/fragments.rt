@@ -30,11 +30,7 @@ fn other_at<'p>(
         return asked.as_slice().get(at);
     }
     if condition > equations + 1 {
-        return match program
-            .memberships
-            .items()
-            .get(condition - (equations + 2))
-        {
+        return match program.memberships.items().get(condition - (equations + 2)) {
             Some(membership) => membership.cond.items().get(at),
             None => None,
         };

@@ -1,4 +1,4 @@
-use Rattle.std.proofs.Common.{◌≡◌, ◌+◌, List, All, Vec, Global, Option, OnOk, map, length, refl, sym, ap, ◌∙◌, subst, arith}
+use Rattle.std.proofs.Common.{◌≡◌, ◌+◌, List, All, Vec, Global, Option, OnOk, map, length, refl, sym, ap, subst, arith}
 use Rattle.std.specs.Borrow.{Bor}
 use Rattle.mau_terms.specs.declared.ids.VarId.{VarId}
 use Rattle.mau_terms.specs.declared.ids.TermId.{TermId}
@@ -12,7 +12,7 @@ use Rattle.mau_api.specs.Answers.{levels_of_condition, LeavesEnough, binding_in,
 use Rattle.mau_reducer.specs.Worlds.{basis_of}
 use Rattle.mau_reducer.specs.Meant.{meanings_of}
 use Rattle.mau_reducer.specs.LaterStates.{same_state, fit_later}
-use Rattle.mau_reducer.specs.Flags.{flags_later, flags_by}
+use Rattle.mau_reducer.specs.Flags.{flags_by}
 use Rattle.mau_reducer.proofs.Asked.{fit_unchanged, meant_alike}
 use Rattle.mau_reducer.proofs.WhatIsSolved.{may_solve, solves_exactly, left_enough, none_of, pairs_in, from_pairs, none_in, ok_in}
 use Rattle.mau_reducer.proofs.Asked.{number_counted, binding_known, asked_ready, kept_before, means_alike, one_each_of, values_paired, tells_paired, loop_answer}
