@@ -1,5 +1,5 @@
 -- What is known of solutions stays in a later store and table, and what is left of them is the same.
-use Rattle.std.proofs.Common.{◌≡◌, List, [], Bool, false, Option, None, Some, IfSome, sym, ap, ◌∙◌, subst}
+use Rattle.std.proofs.Common.{◌≡◌, List, Bool, false, Option, None, Some, IfSome, sym, ap, ◌∙◌, subst}
 use Rattle.std.specs.Option.{option_map}
 use Rattle.mau_terms.specs.Tree.{Tree}
 use Rattle.mau_terms.specs.declared.ids.VarId.{VarId}
@@ -7,24 +7,22 @@ use Rattle.mau_terms.specs.declared.ids.TermId.{TermId}
 use Rattle.mau_signature.specs.Signature.{SignatureOf, theory_at}
 use Rattle.mau_store.specs.Node.{Node, Extends}
 use Rattle.mau_store.specs.Trees.{tree_at}
-use Rattle.mau_sorts.specs.HasSort.{Known}
 use Rattle.mau_sorts.specs.Table.{Table, KeepsEntries, AreOver}
-use Rattle.mau_listing.specs.Asked.{Asked, last_after, IsTableOf, IsClosedTable, IsGiven, CanGoOn}
+use Rattle.mau_listing.specs.Asked.{Asked, last_after, IsGiven, CanGoOn}
 use Rattle.mau_listing.specs.declared.solution.Solution as Given
 use Rattle.mau_listing.proofs.Growth.{listings_go_on, last_found_same, given_is_last}
 use Rattle.mau_evaluation.specs.Program.{Fragment, Program}
 use Rattle.mau_evaluation.specs.Evaluation.{Level}
 use Rattle.mau_api.specs.Answers.{AreSettled, IsValueOf, binding_in}
 use Rattle.mau_cond.proofs.Grown.{each, value_grown, bound_grown}
-use Rattle.mau_reduce.specs.Tables.{IsPlainTable}
 use Rattle.mau_reduce.specs.Trying.{solution_in}
 use Rattle.mau_reduce.proofs.KindsKept.{tree_kept, is_term_kept}
-use Rattle.mau_reduce.proofs.PlainTables.{settled_grown, plain_is_table}
+use Rattle.mau_reduce.proofs.PlainTables.{settled_grown}
 use Rattle.mau_reduce.proofs.Candidates.{same_option, matchers_of}
 use Rattle.mau_choices.specs.Choosing.{left_of_choices, IsChoosing}
 
 module _ (s : SignatureOf) (old new : List Node) (before after : Table) (p : Tree) (bound : List (VarId × TermId)) (v : TermId) (a : Asked) (last : Option Given.Solution) (is_for : Type 0)
-    (extends : Extends old new) (kept : KeepsEntries before after) (plain : IsPlainTable s new after) (is : IsChoosing s old before p bound v a last is_for) where
+    (extends : Extends old new) (kept : KeepsEntries before after) (over : AreOver s.hierarchy after) (is : IsChoosing s old before p bound v a last is_for) where
   pub value_same : tree_at new v.0 ≡ tree_at old v.0
   value_same = tree_kept (theory_at s) old new v.0 extends is.value.within
 
@@ -40,7 +38,7 @@ module _ (s : SignatureOf) (old new : List Node) (before after : Table) (p : Tre
   choosing_grown = record {
     asked = is.asked;
     signature = is.signature;
-    ready = listings_go_on false s old new before after extends kept plain.over a last is.ready;
+    ready = listings_go_on false s old new before after extends kept over a last is.ready;
     values = each (IsValueOf s old before) (IsValueOf s new after) (value_grown s old new before after extends kept) bound is.values;
     apart = is.apart;
     value = is_term_kept s old new v.0 extends is.value;
@@ -76,12 +74,3 @@ module _ (s : SignatureOf) (old new : List Node) (before after : Table) (p : Tre
         over = choosing_grown.ready.over;
         given = given_is_last false s new after a x (subst (λ z. IsGiven z s new after a x) w h);
       }
-
--- a table that a listing has grown
-pub plain_after : (s : SignatureOf) (old new : List Node) (before after : Table) → IsPlainTable s old before → AreOver s.hierarchy after →
-    ((known : Known) → IsTableOf s known old before → IsTableOf s known new after) → (IsClosedTable old before → IsClosedTable new after) → IsPlainTable s new after
-plain_after s old new before after plain over table closed = record {
-  over = over;
-  entries = (table [] (plain_is_table s old before plain)).entries;
-  closed = closed plain.closed;
-}

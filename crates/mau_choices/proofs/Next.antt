@@ -19,15 +19,16 @@ use Rattle.mau_signature.specs.OverSignature.{IsTreeOver}
 use Rattle.mau_signature.proofs.OverSignature.{norm_over}
 use Rattle.mau_formula.specs.Operator.{Operator}
 use Rattle.mau_store.specs.Node.{Node}
+use Rattle.mau_sorts.specs.HasSort.{Known}
 use Rattle.mau_sorts.specs.Table.{Table}
 use Rattle.mau_listing.specs.Question.{Question, IsSolution, AgreesWith}
 use Rattle.mau_listing.specs.Matcher.{Matcher}
 use Rattle.mau_listing.specs.Next.{matcher_cmp, IsNext}
 use Rattle.mau_listing.specs.Asked.{BySort}
 use Rattle.mau_program.specs.declared.program.Program as Typed
-use Rattle.mau_evaluation.specs.Run.{Outcome, done, ended, Run, try_on, counted_if, or_go_on, where_true}
-use Rattle.mau_evaluation.specs.Program.{Fragment, Membership, Program}
-use Rattle.mau_evaluation.specs.Listing.{Solution, keep, compare, solutions, solutions_within, IsAscending}
+use Rattle.mau_evaluation.specs.Run.{Outcome, done, ended, Run, gives, counted_if, or_go_on, or_else, where_true}
+use Rattle.mau_evaluation.specs.Program.{Fragment, Program}
+use Rattle.mau_evaluation.specs.Listing.{Solution, plain, keep, compare, solutions, solutions_within, IsAscending}
 use Rattle.mau_evaluation.specs.Evaluation.{Binding, levels, look_up, extend, agree, solve}
 use Rattle.mau_evaluation.proofs.BareTerms.{norm-reading-is}
 use Rattle.mau_evaluation.proofs.Inside.{in_list, from_list}
@@ -35,7 +36,8 @@ use Rattle.mau_evaluation.proofs.Listed.{compare_total, from_keep}
 use Rattle.mau_evaluation.proofs.Solved.{kept_ascend, solutions_are_listed}
 use Rattle.mau_api.specs.Programs.{program_over}
 use Rattle.mau_api.specs.Remaining.{as_matcher, IsAccepted, AreLeftOf, first_left, is_whole}
-use Rattle.mau_api.specs.Answers.{AreSettled, AreApart}
+use Rattle.mau_api.specs.Meanings.{meanings_by}
+use Rattle.mau_api.specs.Answers.{IsDerivedTable, AreSettled, AreApart}
 use Rattle.mau_api.proofs.Remaining.{next_is}
 use Rattle.mau_api.proofs.Bridge.{listed_are_left}
 use Rattle.mau_api.proofs.Wholes.{wholes_are_kept}
@@ -43,10 +45,13 @@ use Rattle.mau_api.proofs.ValuesFit.{IsSettledValue, values_settled}
 use Rattle.mau_reduce.specs.Reducible.{IsReducible}
 use Rattle.mau_reduce.specs.Bindings.{HaveKinds}
 use Rattle.mau_reduce.proofs.Bound.{instance_read}
-use Rattle.mau_reduce.proofs.PlainSorts.{having, having_known, having_exact}
-use Rattle.mau_reduce.proofs.SortKinds.{have_kinds}
+use Rattle.mau_reduce.specs.Comes.{ComesTo}
+use Rattle.mau_reduce.specs.Tables.{IsSortTable}
+use Rattle.mau_reduce.proofs.Comes.{comes_as, comes_through, comes_or, comes_try}
+use Rattle.mau_reduce.proofs.SortKinds.{have_kinds_by}
+use Rattle.mau_reduce.proofs.Valued.{value_test, test_tells, test_comes}
 use Rattle.mau_reduce.proofs.Leftover.{head, first_passed, none_passes, one_passes, left_behind}
-use Rattle.mau_reduce.proofs.Candidates.{none_executable, same_option}
+use Rattle.mau_reduce.proofs.Candidates.{same_option, sorts_of_bare}
 use Rattle.mau_choices.specs.Choosing.{solution_gives, agreeing, left_of_choices}
 use Rattle.mau_choices.proofs.Agreeing.{bound_variables, HaveNorms, agrees, agreed, entry_of}
 use Rattle.mau_choices.proofs.Extending.{Suit}
@@ -81,9 +86,6 @@ module _ (p : Typed.Program) (red : IsReducible p) (hooks : List Operator) (pat 
   abbrev th : ℕ → Theory
   th = theory_at p.sig
 
-  abbrev none : (m : Membership) → IsIn m (program_over p hooks).memberships → m.exec ≡ false
-  none = none_executable p red hooks
-
   abbrev all : List Solution
   all = solutions (terms_over p.sig) pat t
 
@@ -92,12 +94,6 @@ module _ (p : Typed.Program) (red : IsReducible p) (hooks : List Operator) (pat 
 
   abbrev agreeable : Solution → Bool
   agreeable x = agree (theory_at p.sig) σ (variables pat) x.values
-
-  abbrev test : Solution → Bool
-  test x = having P none (variables pat) x.values
-
-  abbrev both : Solution → Bool
-  both x = agreeable x && test x
 
   abbrev q : Question
   q = record { pattern = pat; bound = σ; subject = t }
@@ -135,71 +131,83 @@ module _ (p : Typed.Program) (red : IsReducible p) (hooks : List Operator) (pat 
   agreed_with : (x : Solution) → IsIn x all → AgreesWith pat σ x.values → agreeable x ≡ true
   agreed_with x i h = agreed th σ apart norms (variables pat) x.values (distinct pat [] tt) (one_each x i) (λ b j e. h b (in_list b σ j) e)
 
-  tells : (x : Solution) → IsIn x all → (both x ≡ true) ↔ IsAccepted s [] q x
-  tells x i =
-      let h = having_exact p hooks red.accepted none (variables pat) x.values (value_over x i) in (
-        (λ e. let k = and_parts (agreeable x) (test x) e in (h.0 k.1, agrees_with x k.0)),
-        (λ a. both_true (agreeable x) (test x) (agreed_with x i a.1) (h.1 a.0)),
-      )
-
   ascends : IsAscending (compare th pat) ys
   ascends = kept_ascend th pat agreeable all (subst (λ u. IsAscending (compare th pat) (solutions (terms_over s) pat u)) read (solutions_are_listed (terms_over s) red.lawful pat (reading th t) bare).2)
 
-  abbrev pub Is : Matcher → Type 0
-  Is = IsSolution false p.sig (BySort p.sig []) (record { pattern = pat; bound = σ; subject = t })
+  first_of_matchers : (c : Solution → Solution → _) (total : _) (zs : List Solution) → first_left (map as_matcher zs) ≡ option_map as_matcher (head c total zs)
+  first_of_matchers c total [] = refl
+  first_of_matchers c total (z ∷ zs) = refl
 
-  first_of_matchers : (c : Solution → Solution → _) (total : _) (f : Solution → Run (Option Binding)) (g : Solution → Bool) (zs : List Solution) → first_left (map as_matcher zs) ≡ option_map as_matcher (head c total f g zs)
-  first_of_matchers c total f g [] = refl
-  first_of_matchers c total f g (z ∷ zs) = refl
+  module _ (B : ℕ) (derived : IsDerivedTable (meanings_by p hooks B false) nodes table) where
+    abbrev test : Solution → Bool
+    test = value_test p red hooks B nodes table derived t normal bare settled pat
 
-  module _ (B k : ℕ) (c : List Fragment) where
-    abbrev f : Solution → Run (Option Binding)
-    f = solution_gives (program_over p hooks) (levels (program_over p hooks) B k) pat c σ
+    abbrev both : Solution → Bool
+    both x = agreeable x && test x
+
+    tells : (x : Solution) → IsIn x all → (both x ≡ true) ↔ IsAccepted s derived.known q x
+    tells x i =
+        let h = test_tells p red hooks B nodes table derived t normal bare settled pat x (within x i) in (
+          (λ e. let k = and_parts (agreeable x) (test x) e in (h.0 k.1, agrees_with x k.0)),
+          (λ a. both_true (agreeable x) (test x) (agreed_with x i a.1) (h.1 a.0)),
+        )
+
+    abbrev Is : Matcher → Type 0
+    Is = IsSolution false p.sig (BySort p.sig derived.known) (record { pattern = pat; bound = σ; subject = t })
 
     -- the next answer is the first solution behind the last one that passes the test
-    next_first : (last o : Option Solution) → IsNext Is (matcher_cmp th pat) (option_map as_matcher last) (option_map as_matcher o) →
-        first_passed (compare th pat) (compare_total th pat) f test last ys ≡ o
+    next_first : (last o : Option Solution) → IsNext Is (matcher_cmp th pat) (option_map as_matcher last) (option_map as_matcher o) → first_passed (compare th pat) (compare_total th pat) test last ys ≡ o
     next_first last o is =
-        let begun = subst (λ zs. AreLeftOf false p.sig [] q None (map as_matcher zs)) (sym (kept_twice agreeable test all)) (listed_are_left false s red.lawful [] q normal bare both tells) in
+        let begun = subst (λ zs. AreLeftOf false p.sig derived.known q None (map as_matcher zs)) (sym (kept_twice agreeable test all)) (listed_are_left false s red.lawful derived.known q normal bare both tells) in
         let left = left_behind Is th pat test ys ascends begun last in
-        let first = next_is false s [] q (option_map as_matcher last) _ left (option_map as_matcher o) is in
-        sym (same_option o _ (first ∙ first_of_matchers (compare th pat) (compare_total th pat) f test _))
+        let first = next_is false s derived.known q (option_map as_matcher last) _ left (option_map as_matcher o) is in
+        sym (same_option o _ (first ∙ first_of_matchers (compare th pat) (compare_total th pat) _))
 
-    after_sorts : Solution → Bool → Run (Option Binding)
-    after_sorts x ok = where_true ok (solve (program_over p hooks) (levels (program_over p hooks) B k) c (extend σ (variables pat) x.values))
+    module _ (c : List Fragment) where
+      abbrev f : ℕ → Solution → Run (Option Binding)
+      f k = solution_gives (program_over p hooks) (levels (program_over p hooks) B k) pat c σ
 
-    by_test : (x : Solution) (w : Bool) → test x ≡ w → (b : ℕ) → f x b ≡ counted_if 0 (after_sorts x w b)
-    unfolding after_sorts
-    by_test x w h b = ap (try_on (λ ok. where_true ok (solve P (levels P B k) c (extend σ (variables pat) x.values)))) (having_known P none B k (variables pat) x.values b ∙ ap (λ z. done z 0 b) h)
+      abbrev asks_for : ℕ → Solution → Run (Option Binding)
+      asks_for k x = solve (program_over p hooks) (levels (program_over p hooks) B k) c (extend σ (variables pat) x.values)
 
-    fails : (x : Solution) → IsIn x ys → test x ≡ false → (b : ℕ) → f x b ≡ done None 0 b
-    unfolding after_sorts
-    fails x i h b = by_test x false h b
+      after_sorts : ℕ → Solution → Bool → Run (Option Binding)
+      after_sorts k x ok = where_true ok (asks_for k x)
 
-    pub none_left : (last : Option Solution) → IsNext Is (matcher_cmp th pat) (option_map as_matcher last) None → (b : ℕ) →
-        left_of_choices P (levels P B k) pat c σ t last b ≡ done None 0 b
-    none_left last is b = none_passes (compare th pat) (compare_total th pat) f test last ys fails (next_first last None is) b
+      by_test : (x : Solution) → IsIn x all → ComesTo P (λ k. f k x) (λ k b. counted_if 0 (after_sorts k x (test x) b))
+      unfolding after_sorts
+      by_test x i = comes_try (λ k ok. where_true ok (asks_for k x)) (test_comes p red hooks B nodes table derived t normal bare settled pat x (within x i))
 
-    pub one_left : (last : Option Solution) (x : Solution) → IsNext Is (matcher_cmp th pat) (option_map as_matcher last) (Some (as_matcher x)) → (b : ℕ) →
-        left_of_choices P (levels P B k) pat c σ t last b
-        ≡ or_go_on (left_of_choices P (levels P B k) pat c σ t (Some x)) (solve P (levels P B k) c (extend σ (variables pat) x.values) b)
-    unfolding after_sorts
-    one_left last x is b =
-        let one = one_passes (compare th pat) (compare_total th pat) f test last ys x ascends fails (next_first last (Some x) is) in
-        let m = left_of_choices P (levels P B k) pat c σ t (Some x) in
-        one.rest b ∙ (ap (or_go_on m) (by_test x true one.tested b) ∙ zero_tried m (solve P (levels P B k) c (extend σ (variables pat) x.values) b))
+      fails : (x : Solution) → IsIn x ys → test x ≡ false → ComesTo P (λ k. f k x) (λ k. gives None)
+      unfolding after_sorts
+      fails x i h = comes_as (by_test x (from_keep agreeable x all i).0) (λ k b. ap (λ w. counted_if 0 (where_true w (asks_for k x) b)) h)
 
-  -- and it is one of the solutions, which agrees, and whose values have their sorts
-  pub is_listed : (last : Option Solution) (x : Solution) → IsNext Is (matcher_cmp th pat) (option_map as_matcher last) (Some (as_matcher x)) →
-      IsIn x all × (agreeable x ≡ true) × HaveSorts (BySort s []) (variables pat) x.values
-  is_listed last x is =
-      let one = one_passes (compare th pat) (compare_total th pat) (f 0 0 []) test last ys x ascends (fails 0 0 []) (next_first 0 0 [] last (Some x) is) in
-      let k = from_keep agreeable x all one.there in
-      (k.0, k.1, (having_exact p hooks red.accepted none (variables pat) x.values (value_over x k.0)).0 one.tested)
+      passes : (x : Solution) → IsIn x ys → test x ≡ true → ComesTo P (λ k. f k x) (λ k b. counted_if 0 (asks_for k x b))
+      unfolding after_sorts
+      passes x i h = comes_as (by_test x (from_keep agreeable x all i).0) (λ k b. ap (λ w. counted_if 0 (where_true w (asks_for k x) b)) h)
 
-  pub values_of_kinds : (x : Solution) → IsIn x all → HaveSorts (BySort s []) (variables pat) x.values → HaveKinds s (variables pat) x.values
-  values_of_kinds x i h =
-      have_kinds s red.accepted red.lawful (variables pat) x.values
+      pub none_left : (last : Option Solution) → IsNext Is (matcher_cmp th pat) (option_map as_matcher last) None → ComesTo P (λ k. left_of_choices P (levels P B k) pat c σ t last) (λ k. gives None)
+      none_left last is = none_passes (compare th pat) (compare_total th pat) test P f last ys fails (next_first last None is)
+
+      pub one_left : (last : Option Solution) (x : Solution) → IsNext Is (matcher_cmp th pat) (option_map as_matcher last) (Some (as_matcher x)) →
+          ComesTo P (λ k. left_of_choices P (levels P B k) pat c σ t last)
+          (λ k. or_else (solve P (levels P B k) c (extend σ (variables pat) x.values)) (left_of_choices P (levels P B k) pat c σ t (Some x)))
+      one_left last x is =
+          let one = one_passes (compare th pat) (compare_total th pat) test P f last ys x ascends fails (next_first last (Some x) is) in
+          comes_as (comes_through one.rest (comes_or (λ k. left_of_choices P (levels P B k) pat c σ t (Some x)) (passes x one.there one.tested)))
+          (λ k b. zero_tried (left_of_choices P (levels P B k) pat c σ t (Some x)) (asks_for k x b))
+
+  -- what a listing gives is one of the solutions, which agrees, and whose values have their sorts
+  pub is_listed : (known : Known) (x : Solution) → IsSolution false p.sig (BySort p.sig known) (record { pattern = pat; bound = σ; subject = t }) (as_matcher x) →
+      IsIn x all × (agreeable x ≡ true) × HaveSorts (BySort s known) (variables pat) x.values
+  is_listed known x is =
+      let plain_is : plain (map (norm th) is.bare) ≡ x = λ i. record { left = sym is.no_left i; right = sym is.no_right i; values = is.values i } in
+      let i : IsIn (plain (map (norm th) is.bare)) (solutions (terms_over s) pat (norm th (reading th t))) = (solutions_are_listed (terms_over s) red.lawful pat (reading th t) bare).1 is.bare is.solves.0 in
+      let there : IsIn x all = subst (λ z. IsIn z all) plain_is (subst (λ u. IsIn (plain (map (norm th) is.bare)) (solutions (terms_over s) pat u)) read i) in
+      (there, agreed_with x there is.agrees, subst (HaveSorts (BySort s known) (variables pat)) is.values (sorts_of_bare s (BySort s known) (variables pat) is.bare is.solves.1))
+
+  pub values_of_kinds : (sorts : IsSortTable p.sig nodes table) (x : Solution) → IsIn x all → HaveSorts (BySort s sorts.known) (variables pat) x.values → HaveKinds s (variables pat) x.values
+  values_of_kinds sorts x i h =
+      have_kinds_by s red.accepted red.lawful sorts.known sorts.kinds (variables pat) x.values
       (λ v j. let z = value_settled x i v j in (z.normal, value_over x i v j, z.bare)) h
 
   -- the values that are bound are those of the solution

@@ -20,21 +20,23 @@ use Rattle.mau_store.specs.Node.{Node, Extends}
 use Rattle.mau_store.specs.Trees.{tree_at, trees_at}
 use Rattle.mau_store.specs.View.{numbers}
 use Rattle.mau_canon.specs.Standing.{StandsWithin, StandWithin}
+use Rattle.mau_sorts.specs.HasSort.{Known}
 use Rattle.mau_sorts.specs.Table.{Table, KeepsEntries}
 use Rattle.mau_listing.specs.Question.{OfNorm, IsWhole, IsSolution}
 use Rattle.mau_listing.specs.Next.{matcher_cmp, IsNext}
-use Rattle.mau_listing.specs.Asked.{Asked, asks, question_in, matcher_in, last_after, BySort, HasEntry, IsGiven}
+use Rattle.mau_listing.specs.Asked.{Asked, asks, question_in, matcher_in, last_after, BySort, HasEntry, IsTableOf, IsGiven}
 use Rattle.mau_listing.specs.declared.solution.Solution as Given
 use Rattle.mau_listing.proofs.Growth.{trees_long}
 use Rattle.mau_program.specs.declared.program.Program as Typed
-use Rattle.mau_evaluation.specs.Run.{done, or_go_on}
+use Rattle.mau_evaluation.specs.Run.{gives, or_go_on, or_else}
 use Rattle.mau_evaluation.specs.Program.{Fragment}
 use Rattle.mau_evaluation.specs.Listing.{Solution, solutions}
 use Rattle.mau_evaluation.specs.Evaluation.{Binding, levels, look_up, binds, extend, agree, solve}
 use Rattle.mau_api.specs.Terms.{IsTerm}
 use Rattle.mau_api.specs.Programs.{program_over}
 use Rattle.mau_api.specs.Remaining.{as_matcher}
-use Rattle.mau_api.specs.Answers.{AreSettled, IsValueOf, binding_in, AreApart}
+use Rattle.mau_api.specs.Meanings.{meanings_by}
+use Rattle.mau_api.specs.Answers.{IsDerivedTable, AreSettled, IsValueOf, binding_in, AreApart}
 use Rattle.mau_machine.specs.Words.{IsExtension}
 use Rattle.mau_cond.specs.Bound.{extended}
 use Rattle.mau_cond.proofs.Pairs.{all_extended}
@@ -43,7 +45,10 @@ use Rattle.mau_cond.proofs.Tellings.{extended_is}
 use Rattle.mau_reduce.specs.Reducible.{IsReducible}
 use Rattle.mau_reduce.specs.Bindings.{HaveKinds}
 use Rattle.mau_reduce.specs.Trying.{solution_in}
-use Rattle.mau_reduce.proofs.Candidates.{matchers_of}
+use Rattle.mau_reduce.specs.Comes.{ComesTo}
+use Rattle.mau_reduce.specs.Tables.{IsSortTable}
+use Rattle.mau_reduce.proofs.Comes.{comes_as}
+use Rattle.mau_reduce.proofs.Candidates.{matchers_of, sorts_of_bare}
 use Rattle.mau_choices.specs.Choosing.{left_of_choices}
 use Rattle.mau_choices.proofs.Agreeing.{bound_variables, HaveNorms}
 use Rattle.mau_choices.proofs.Added.{variables_extended}
@@ -79,11 +84,6 @@ values_told s nodes table (b ∷ told) stand bare kinds sorts =
     })
     (values_told s nodes table told (All-tail (StandsWithin (theory_at s) nodes) b.1.0 (numbers (map (λ b. b.1) told)) stand) (λ v i. bare v (inr i)) kinds.1 sorts.1)
 
-sorts_of_bare : (s : SignatureOf) (P : ℕ → Tree → Type 0) (xs : List Variable) (vs : List Tree) → HaveSorts (OfNorm P s) xs vs → HaveSorts P xs (map (norm (theory_at s)) vs)
-sorts_of_bare s P [] vs h = tt
-sorts_of_bare s P (x ∷ xs) [] h = h
-sorts_of_bare s P (x ∷ xs) (v ∷ vs) h = (h.0, sorts_of_bare s P xs vs h.1)
-
 -- what an instance is depends on the values of the variables that occur
 mutual
   instance_along : (g h : Variable → Tree) (p : Tree) → ((x : Variable) → Occurs x p → g x ≡ h x) → instance g p ≡ instance h p
@@ -98,11 +98,11 @@ mutual
 -- ---- the next solution
 
 -- τ is the binding by the next solution in v, behind the last one: what it says of what is left, where `more` is the last one afterwards, and of τ
-pub record IsChoice (p : Typed.Program) (pat : Tree) (old new : List Node) (after : Table) (bound : List (VarId × TermId)) (v : TermId) (last more : Option Given.Solution) (τ : List (VarId × TermId)) : Type 0 where
-  pub some : (hooks : List Operator) (B k b : ℕ) (f : List Fragment) →
-      left_of_choices (program_over p hooks) (levels (program_over p hooks) B k) pat f (binding_in old bound) (tree_at old v.0) (option_map (solution_in old) last) b
-      ≡ or_go_on (left_of_choices (program_over p hooks) (levels (program_over p hooks) B k) pat f (binding_in old bound) (tree_at old v.0) (option_map (solution_in new) more))
-      (solve (program_over p hooks) (levels (program_over p hooks) B k) f (binding_in new τ) b)
+pub record IsChoice (p : Typed.Program) (pat : Tree) (old new : List Node) (before after : Table) (bound : List (VarId × TermId)) (v : TermId) (last more : Option Given.Solution) (τ : List (VarId × TermId)) : Type 0 where
+  pub some : (hooks : List Operator) (B : ℕ) → IsDerivedTable (meanings_by p hooks B false) old before → (f : List Fragment) →
+      ComesTo (program_over p hooks) (λ k. left_of_choices (program_over p hooks) (levels (program_over p hooks) B k) pat f (binding_in old bound) (tree_at old v.0) (option_map (solution_in old) last))
+      (λ k. or_else (solve (program_over p hooks) (levels (program_over p hooks) B k) f (binding_in new τ))
+      (left_of_choices (program_over p hooks) (levels (program_over p hooks) B k) pat f (binding_in old bound) (tree_at old v.0) (option_map (solution_in new) more)))
   pub values : All (IsValueOf p.sig new after) τ
   pub apart : AreApart (map (λ b. variable_of b.0) τ)
   pub named : map (λ b. variable_of b.0) τ ≡ add_variables (map (λ b. variable_of b.0) bound) pat
@@ -113,8 +113,8 @@ pub record IsChoice (p : Typed.Program) (pat : Tree) (old new : List Node) (afte
 module _ (p : Typed.Program) (red : IsReducible p) (pat : Tree) (bare_pat : IsBare (terms_over p.sig) pat) (old new : List Node) (before after : Table) (extends : Extends old new) (kept : KeepsEntries before after)
     (bound : List (VarId × TermId)) (values : All (IsValueOf p.sig old before) bound) (apart : AreApart (map (λ b. variable_of b.0) bound)) (v : TermId) (term : IsTerm p.sig old v.0)
     (settled : AreSettled p.sig old before (tree_at old v.0)) (a : Asked) (g : a ≡ asks pat bound v) (c : Bool) (w : c ≡ false) (last : Option Given.Solution) where
-  abbrev pub Next : Option Given.Solution → Type 0
-  Next o = IsNext (IsSolution c p.sig (BySort p.sig []) (question_in old a)) (matcher_cmp (theory_at p.sig) a.pattern) (option_map (matcher_in old) last) (option_map (matcher_in new) o)
+  abbrev pub Next : Known → Option Given.Solution → Type 0
+  Next known o = IsNext (IsSolution c p.sig (BySort p.sig known) (question_in old a)) (matcher_cmp (theory_at p.sig) a.pattern) (option_map (matcher_in old) last) (option_map (matcher_in new) o)
 
   abbrev t : Tree
   t = tree_at old v.0
@@ -128,26 +128,26 @@ module _ (p : Typed.Program) (red : IsReducible p) (pat : Tree) (bare_pat : IsBa
   apart_so : AreApart (bound_variables σ)
   apart_so = subst AreApart (sym (variables_bound old bound)) apart
 
-  next_so : (o : Option Given.Solution) → Next o →
-      IsNext (IsSolution false p.sig (BySort p.sig []) (record { pattern = pat; bound = binding_in old bound; subject = tree_at old v.0 })) (matcher_cmp (theory_at p.sig) pat)
+  next_so : (known : Known) (o : Option Given.Solution) → Next known o →
+      IsNext (IsSolution false p.sig (BySort p.sig known) (record { pattern = pat; bound = binding_in old bound; subject = tree_at old v.0 })) (matcher_cmp (theory_at p.sig) pat)
       (option_map as_matcher (option_map (solution_in old) last)) (option_map as_matcher (option_map (solution_in new) o))
-  next_so o is =
-      let one = subst (λ z. IsNext (IsSolution z p.sig (BySort p.sig []) (question_in old a)) (matcher_cmp (theory_at p.sig) a.pattern) (option_map (matcher_in old) last) (option_map (matcher_in new) o)) w is in
-      let two = subst (λ z. IsNext (IsSolution false p.sig (BySort p.sig []) (question_in old z)) (matcher_cmp (theory_at p.sig) z.pattern) (option_map (matcher_in old) last) (option_map (matcher_in new) o)) g one in
-      let three = subst (λ z. IsNext (IsSolution false p.sig (BySort p.sig []) (question_in old (asks pat bound v))) (matcher_cmp (theory_at p.sig) pat) z (option_map (matcher_in new) o)) (matchers_of old last) two in
-      subst (λ z. IsNext (IsSolution false p.sig (BySort p.sig []) (question_in old (asks pat bound v))) (matcher_cmp (theory_at p.sig) pat) (option_map as_matcher (option_map (solution_in old) last)) z) (matchers_of new o) three
+  next_so known o is =
+      let one = subst (λ z. IsNext (IsSolution z p.sig (BySort p.sig known) (question_in old a)) (matcher_cmp (theory_at p.sig) a.pattern) (option_map (matcher_in old) last) (option_map (matcher_in new) o)) w is in
+      let two = subst (λ z. IsNext (IsSolution false p.sig (BySort p.sig known) (question_in old z)) (matcher_cmp (theory_at p.sig) z.pattern) (option_map (matcher_in old) last) (option_map (matcher_in new) o)) g one in
+      let three = subst (λ z. IsNext (IsSolution false p.sig (BySort p.sig known) (question_in old (asks pat bound v))) (matcher_cmp (theory_at p.sig) pat) z (option_map (matcher_in new) o)) (matchers_of old last) two in
+      subst (λ z. IsNext (IsSolution false p.sig (BySort p.sig known) (question_in old (asks pat bound v))) (matcher_cmp (theory_at p.sig) pat) (option_map as_matcher (option_map (solution_in old) last)) z) (matchers_of new o) three
 
-  pub none_is : Next None → (hooks : List Operator) (B k b : ℕ) (f : List Fragment) →
-      left_of_choices (program_over p hooks) (levels (program_over p hooks) B k) pat f σ t (option_map (solution_in old) last) b ≡ done None 0 b
-  none_is is hooks B k b f = none_left p red hooks pat bare_pat t term.within.normal term.bare old before settled σ norms apart_so B k f (option_map (solution_in old) last) (next_so None is) b
+  pub none_is : (hooks : List Operator) (B : ℕ) (derived : IsDerivedTable (meanings_by p hooks B false) old before) → Next derived.known None → (f : List Fragment) →
+      ComesTo (program_over p hooks) (λ k. left_of_choices (program_over p hooks) (levels (program_over p hooks) B k) pat f σ t (option_map (solution_in old) last)) (λ k. gives None)
+  none_is hooks B derived is f = none_left p red hooks pat bare_pat t term.within.normal term.bare old before settled σ norms apart_so B derived f (option_map (solution_in old) last) (next_so derived.known None is)
 
   -- what is known of the next one
-  module _ (x : Given.Solution) (is : Next (Some x)) where
+  module _ (sorts : IsSortTable p.sig old before) (x : Given.Solution) (every : (k : Known) → IsTableOf p.sig k old before → Next k (Some x)) where
     abbrev y : Solution
     y = solution_in new x
 
-    abbrev known : IsIn y (solutions (terms_over p.sig) pat t) × (agree (theory_at p.sig) σ (variables pat) y.values ≡ true) × HaveSorts (BySort p.sig []) (variables pat) y.values
-    known = is_listed p red [] pat bare_pat t term.within.normal term.bare old before settled σ norms apart_so (option_map (solution_in old) last) y (next_so (Some x) is)
+    abbrev known : IsIn y (solutions (terms_over p.sig) pat t) × (agree (theory_at p.sig) σ (variables pat) y.values ≡ true) × HaveSorts (BySort p.sig sorts.known) (variables pat) y.values
+    known = is_listed p red [] pat bare_pat t term.within.normal term.bare old before settled σ norms apart_so sorts.known y (next_so sorts.known (Some x) (every sorts.known sorts.declared)).is_one
 
     pub as_many : length (trees_at new (numbers x.values)) ≡ length (variables pat)
     as_many = one_each p red [] pat bare_pat t term.within.normal term.bare old before settled σ norms apart_so y known.0
@@ -161,14 +161,14 @@ module _ (p : Typed.Program) (red : IsReducible p) (pat : Tree) (bare_pat : IsBa
           ∙ (ap (extend (binding_in new bound) (variables pat)) (trees_told new told ∙ ap (λ ids. trees_at new (numbers ids)) numbered)
           ∙ ap (λ z. extend z (variables pat) y.values) (bound_grown p.sig old new before after extends kept bound values))))
 
-      pub some_is : (hooks : List Operator) (B k b : ℕ) (f : List Fragment) →
-          left_of_choices (program_over p hooks) (levels (program_over p hooks) B k) pat f σ t (option_map (solution_in old) last) b
-          ≡ or_go_on (left_of_choices (program_over p hooks) (levels (program_over p hooks) B k) pat f σ t (Some (solution_in new x)))
-          (solve (program_over p hooks) (levels (program_over p hooks) B k) f (binding_in new τ) b)
-      some_is hooks B k b f =
+      pub some_is : (hooks : List Operator) (B : ℕ) → IsDerivedTable (meanings_by p hooks B false) old before → (f : List Fragment) →
+          ComesTo (program_over p hooks) (λ k. left_of_choices (program_over p hooks) (levels (program_over p hooks) B k) pat f σ t (option_map (solution_in old) last))
+          (λ k. or_else (solve (program_over p hooks) (levels (program_over p hooks) B k) f (binding_in new τ))
+          (left_of_choices (program_over p hooks) (levels (program_over p hooks) B k) pat f σ t (Some (solution_in new x))))
+      some_is hooks B derived f =
           let P = program_over p hooks in
-          one_left p red hooks pat bare_pat t term.within.normal term.bare old before settled σ norms apart_so B k f (option_map (solution_in old) last) y (next_so (Some x) is) b
-          ∙ ap (λ z. or_go_on (left_of_choices P (levels P B k) pat f σ t (Some (solution_in new x))) (solve P (levels P B k) f z b)) (sym binding_is)
+          comes_as (one_left p red hooks pat bare_pat t term.within.normal term.bare old before settled σ norms apart_so B derived f (option_map (solution_in old) last) y (next_so derived.known (Some x) (every derived.known derived.declared)))
+          (λ k b. ap (λ z. or_go_on (left_of_choices P (levels P B k) pat f σ t (Some (solution_in new x))) (solve P (levels P B k) f z b)) (sym binding_is))
 
       moved : (H : List Variable → List Tree → Type 0) → H (variables pat) y.values → H (map (λ b. variable_of b.0) told) (trees_at new (numbers (map (λ b. b.1) told)))
       moved H h =
@@ -191,7 +191,7 @@ module _ (p : Typed.Program) (red : IsReducible p) (pat : Tree) (bare_pat : IsBa
           subst (All (IsValueOf p.sig new after)) (sym e)
           (all_extended (IsValueOf p.sig new after) told bound (each (IsValueOf p.sig old before) (IsValueOf p.sig new after) (value_grown p.sig old new before after extends kept) bound values)
           (values_told p.sig new after told (subst (λ ids. StandWithin (theory_at p.sig) new (numbers ids)) (sym numbered) given.values) bare_of
-          (moved (HaveKinds p.sig) (values_of_kinds p red [] pat bare_pat t term.within.normal term.bare old before settled σ norms apart_so y known.0 known.2))
+          (moved (HaveKinds p.sig) (values_of_kinds p red [] pat bare_pat t term.within.normal term.bare old before settled σ norms apart_so sorts y known.0 known.2))
           (moved (HaveSorts (HasEntry p.sig new after)) (entries_of given))))
 
       pub apart_still : AreApart (map (λ b. variable_of b.0) τ)
@@ -223,12 +223,12 @@ module _ (p : Typed.Program) (red : IsReducible p) (pat : Tree) (bare_pat : IsBa
           (λ z o. let h = has_each z (has_occurring z pat o) in let m = more z h.0 in m.1 ∙ h.1))
           ∙ instance_is p red [] pat bare_pat t term.within.normal term.bare old before settled σ norms apart_so y known.0
 
-      pub choice_is : IsGiven c p.sig new after a x → (more : Option Given.Solution) → more ≡ Some x → IsChoice p pat old new after bound v last more τ
+      pub choice_is : IsGiven c p.sig new after a x → (more : Option Given.Solution) → more ≡ Some x → IsChoice p pat old new before after bound v last more τ
       choice_is given more m = record {
-        some = λ hooks B k b f.
+        some = λ hooks B derived f.
             let P = program_over p hooks in
-            some_is hooks B k b f
-            ∙ ap (λ o. or_go_on (left_of_choices P (levels P B k) pat f σ t (option_map (solution_in new) o)) (solve P (levels P B k) f (binding_in new τ) b)) (sym m);
+            comes_as (some_is hooks B derived f)
+            (λ k b. ap (λ o. or_go_on (left_of_choices P (levels P B k) pat f σ t (option_map (solution_in new) o)) (solve P (levels P B k) f (binding_in new τ) b)) (sym m));
         values = values_are given;
         apart = apart_still;
         named = variables_are;
@@ -239,16 +239,20 @@ module _ (p : Typed.Program) (red : IsReducible p) (pat : Tree) (bare_pat : IsBa
 
   -- ---- as the code has it
 
-  module _ (answer : Option Given.Solution) (is : Next answer) where
-    pub none_of : answer ≡ None → (hooks : List Operator) (B k b : ℕ) (f : List Fragment) →
-        left_of_choices (program_over p hooks) (levels (program_over p hooks) B k) pat f (binding_in old bound) (tree_at old v.0) (option_map (solution_in old) last) b ≡ done None 0 b
-    none_of e = none_is (subst Next e is)
+  module _ (answer : Option Given.Solution) (is : (k : Known) → IsTableOf p.sig k old before → Next k answer) where
+    pub none_of : answer ≡ None → (hooks : List Operator) (B : ℕ) → IsDerivedTable (meanings_by p hooks B false) old before → (f : List Fragment) →
+        ComesTo (program_over p hooks) (λ k. left_of_choices (program_over p hooks) (levels (program_over p hooks) B k) pat f (binding_in old bound) (tree_at old v.0) (option_map (solution_in old) last)) (λ k. gives None)
+    none_of e hooks B derived f = none_is hooks B derived (subst (Next derived.known) e (is derived.known derived.declared)) f
 
-    pub values_long : (x : Given.Solution) → answer ≡ Some x → length x.values ≡ length (variables pat)
-    values_long x e = sym (trees_long new x.values) ∙ as_many x (subst Next e is)
+    module _ (sorts : IsSortTable p.sig old before) (x : Given.Solution) (e : answer ≡ Some x) where
+      every : (k : Known) → IsTableOf p.sig k old before → Next k (Some x)
+      every k table = subst (Next k) e (is k table)
 
-    pub choice_of : (x : Given.Solution) → answer ≡ Some x → IfSome answer (IsGiven c p.sig new after a) → (more : Option Given.Solution) → more ≡ last_after last answer →
-        (told τ : List (VarId × TermId)) → map (λ b. variable_of b.0) told ≡ variables pat → map (λ b. b.1) told ≡ x.values → τ ≡ extended bound told →
-        IsChoice p pat old new after bound v last more τ
-    choice_of x e given more m told τ names numbered more_bound =
-        choice_is x (subst Next e is) told τ names numbered more_bound (subst (λ o. IfSome o (IsGiven c p.sig new after a)) e given) more (m ∙ ap (last_after last) e)
+      pub values_long : length x.values ≡ length (variables pat)
+      values_long = sym (trees_long new x.values) ∙ as_many sorts x every
+
+      pub choice_of : IfSome answer (IsGiven c p.sig new after a) → (more : Option Given.Solution) → more ≡ last_after last answer →
+          (told τ : List (VarId × TermId)) → map (λ b. variable_of b.0) told ≡ variables pat → map (λ b. b.1) told ≡ x.values → τ ≡ extended bound told →
+          IsChoice p pat old new before after bound v last more τ
+      choice_of given more m told τ names numbered more_bound =
+          choice_is sorts x every told τ names numbered more_bound (subst (λ o. IfSome o (IsGiven c p.sig new after a)) e given) more (m ∙ ap (last_after last) e)

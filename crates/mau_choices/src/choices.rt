@@ -10,23 +10,25 @@ ghost use Rattle.mau_signature.specs.Signature.{theory_at, terms_over};
 ghost use Rattle.mau_formula.specs.Operator.{Operator};
 ghost use Rattle.mau_store.specs.Node.{Extends};
 ghost use Rattle.mau_store.specs.Trees.{tree_at};
-ghost use Rattle.mau_sorts.specs.Table.{KeepsEntries};
-ghost use Rattle.mau_evaluation.specs.Run.{done, or_go_on};
+ghost use Rattle.mau_sorts.specs.Table.{AreOver, KeepsEntries};
+ghost use Rattle.mau_evaluation.specs.Run.{gives, or_else};
 ghost use Rattle.mau_evaluation.specs.Program.{Fragment};
 ghost use Rattle.mau_evaluation.specs.Evaluation.{Binding, binds, levels, look_up, solve};
 ghost use Rattle.mau_api.specs.Terms.{IsTerm};
 ghost use Rattle.mau_api.specs.Programs.{program_over};
-ghost use Rattle.mau_api.specs.Answers.{AreSettled, IsValueOf, binding_in, AreApart};
+ghost use Rattle.mau_api.specs.Meanings.{meanings_by};
+ghost use Rattle.mau_api.specs.Answers.{IsDerivedTable, AreSettled, IsValueOf, binding_in, AreApart};
 ghost use Rattle.mau_machine.specs.Words.{IsExtension};
 ghost use Rattle.mau_reduce.specs.Reducible.{IsReducible};
-ghost use Rattle.mau_reduce.specs.Tables.{IsPlainTable};
+ghost use Rattle.mau_reduce.specs.Tables.{IsSortTable};
+ghost use Rattle.mau_reduce.specs.Comes.{ComesTo};
 ghost use Rattle.mau_reduce.specs.Trying.{solution_in};
 ghost use Rattle.mau_choices.specs.Choosing.{left_of_choices, IsChoosing};
 
 use crate::told::told;
 use mau_api::{Lister, Program};
 use mau_cond::Bound;
-use mau_listing::WholeLister;
+use mau_listing::{WholeLister, has_nodes};
 use mau_signature::Signature;
 use mau_sorts::SortTable;
 use mau_store::Store;
@@ -56,7 +58,7 @@ pub fn begin_choices<L: WholeLister>(
     requires apart { AreApart (map (λ b. variable_of b.0) binding) }
     requires value { IsTerm sig.now store.now value.0 }
     requires settled { AreSettled sig.now store.now table.now (tree_at store.now value.0) }
-    requires plain { IsPlainTable sig.now store.now table.now }
+    requires over { AreOver sig.now.hierarchy table.now }
     ensures choosing { IfOk result (λ c. IsChoosing sig.now store.now table.now (tree_of pattern.now) c.binding c.value
         (L.asked c.listing) (L.given c.listing) (L.is_for c.listing sig.now)) }
     ensures given { IfOk result (λ c. L.given c.listing ≡ None) }
@@ -83,22 +85,24 @@ pub fn next_choice<L: WholeLister>(
 ) -> Result<Option<Bound>, NoMemory>
     requires reducible { IsReducible program.now }
     requires pattern { IsBare (terms_over program.now.sig) (tree_of pattern.now) }
-    requires plain { IsPlainTable program.now.sig store.old table.old }
+    requires sort_table { IsSortTable program.now.sig store.old table.old }
     requires choosing { IsChoosing program.now.sig store.old table.old (tree_of pattern.now)
         choices.old.binding choices.old.value
         (L.asked choices.old.listing) (L.given choices.old.listing) (L.is_for choices.old.listing program.now.sig) }
-    ensures none { (hooks : List Operator) (B k b : ℕ) (c : List Fragment) → IfOk result (λ o. IfNone o
+    ensures none { (hooks : List Operator) (B : ℕ) → IsDerivedTable (meanings_by program.now hooks B false) store.old table.old → (c : List Fragment)
+        → IfOk result (λ o. IfNone o (ComesTo (program_over program.now hooks)
+        (λ k. left_of_choices (program_over program.now hooks) (levels (program_over program.now hooks) B k) (tree_of pattern.now) c
+        (binding_in store.old choices.old.binding) (tree_at store.old choices.old.value.0)
+        (option_map (solution_in store.old) (L.given choices.old.listing))) (λ k. gives None))) }
+    ensures some { (hooks : List Operator) (B : ℕ) → IsDerivedTable (meanings_by program.now hooks B false) store.old table.old → (c : List Fragment)
+        → IfOk result (λ o. IfSome o (λ τ. ComesTo (program_over program.now hooks)
+        (λ k. left_of_choices (program_over program.now hooks) (levels (program_over program.now hooks) B k) (tree_of pattern.now) c
+        (binding_in store.old choices.old.binding) (tree_at store.old choices.old.value.0)
+        (option_map (solution_in store.old) (L.given choices.old.listing)))
+        (λ k. or_else (solve (program_over program.now hooks) (levels (program_over program.now hooks) B k) c (binding_in store.new τ))
         (left_of_choices (program_over program.now hooks) (levels (program_over program.now hooks) B k) (tree_of pattern.now) c
         (binding_in store.old choices.old.binding) (tree_at store.old choices.old.value.0)
-        (option_map (solution_in store.old) (L.given choices.old.listing)) b ≡ done None 0 b)) }
-    ensures some { (hooks : List Operator) (B k b : ℕ) (c : List Fragment) → IfOk result (λ o. IfSome o (λ τ.
-        left_of_choices (program_over program.now hooks) (levels (program_over program.now hooks) B k) (tree_of pattern.now) c
-        (binding_in store.old choices.old.binding) (tree_at store.old choices.old.value.0)
-        (option_map (solution_in store.old) (L.given choices.old.listing)) b
-        ≡ or_go_on (left_of_choices (program_over program.now hooks) (levels (program_over program.now hooks) B k) (tree_of pattern.now) c
-        (binding_in store.old choices.old.binding) (tree_at store.old choices.old.value.0)
-        (option_map (solution_in store.new) (L.given choices.new.listing)))
-        (solve (program_over program.now hooks) (levels (program_over program.now hooks) B k) c (binding_in store.new τ) b))) }
+        (option_map (solution_in store.new) (L.given choices.new.listing)))))) }
     ensures values { IfOk result (λ o. IfSome o (All (IsValueOf program.now.sig store.new table.new))) }
     ensures apart { IfOk result (λ o. IfSome o (λ τ. AreApart (map (λ b. variable_of b.0) τ))) }
     ensures variables { IfOk result (λ o. IfSome o (λ τ. map (λ b. variable_of b.0) τ
@@ -114,11 +118,15 @@ pub fn next_choice<L: WholeLister>(
         (L.asked choices.new.listing) (L.given choices.new.listing) (L.is_for choices.new.listing program.now.sig)) }
     ensures binding { choices.new.binding ≡ choices.old.binding }
     ensures value { choices.new.value ≡ choices.old.value }
-    ensures plain { IsPlainTable program.now.sig store.new table.new }
+    ensures sort_table { IsSortTable program.now.sig store.new table.new }
+    ensures derived { (hooks : List Operator) (limit : ℕ) → IsDerivedTable (meanings_by program.now hooks limit false) store.old table.old
+        → IsDerivedTable (meanings_by program.now hooks limit false) store.new table.new }
     ensures kept { KeepsEntries table.old table.new }
     ensures extends { Extends store.old store.new }
 {
-    match choices.listing.next(store, &program.sig, table)? {
+    let found = choices.listing.next(store, &program.sig, table);
+    has_nodes(store);
+    match found? {
         Some(solution) => {
             let alloc = store.allocator();
             let told = told(alloc, &program.sig, pattern, solution.values.items())?;

@@ -30,7 +30,7 @@ use Rattle.mau_api.specs.Remaining.{as_matcher, first_left}
 use Rattle.mau_api.specs.Meanings.{meanings_by}
 use Rattle.mau_api.specs.Answers.{IsDerivedTable, AreSettled}
 use Rattle.mau_api.proofs.Remaining.{next_is}
-use Rattle.mau_reduce.proofs.Candidates.{none_executable, same_option}
+use Rattle.mau_reduce.proofs.Candidates.{same_option}
 use Rattle.mau_reduce.proofs.Leftover.{left_behind}
 use Rattle.mau_reduce.proofs.PlainSorts.{plain_sorts, sorts_known}
 use Rattle.mau_rules.specs.Runnable.{IsRunnable}
@@ -72,7 +72,7 @@ module _ (p : Typed.Program) (run : IsRunnable p) (hooks : List Operator) (q : R
   P = program_over p hooks
 
   abbrev none : (m : Membership) → IsIn m (program_over p hooks).memberships → m.exec ≡ false
-  none = none_executable p run.reducible hooks
+  none = run.none_derives
 
   abbrev All : List Solution
   All = solutions_within (terms_over p.sig) q.left t

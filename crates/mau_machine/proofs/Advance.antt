@@ -23,11 +23,12 @@ use Rattle.mau_api.specs.Told.{step_in, StandsIn, steps_in, shown_count, TellsMo
 use Rattle.mau_api.proofs.ToldRuns.{steps-append}
 use Rattle.mau_machine.specs.Uses.{IsUse}
 use Rattle.mau_machine.specs.Words.{Words, Keeps, eval_on, IsExtension, trees, sort_in, rest_of, pattern_in, Asks, IsChoiceOf}
-use Rattle.mau_machine.specs.Steps.{StayTold, TaskStays}
+use Rattle.mau_machine.specs.Steps.{StayTold, TaskStays, IsSettledOn}
 use Rattle.mau_machine.specs.Telling.{Job, evaluating, solving, Has, Runs, Shows, MayBegin, IsInRound, IsShown, IsMatched, StandsAs, IsSide, Counts, counted_on, TellsTask, HasEntered, TellsFrame, Tells, IsTelling}
 use Rattle.mau_machine.specs.declared.goal.Goal.TheVariants as Goals
 use Rattle.mau_machine.specs.declared.frame.Arguments.{Arguments}
 use Rattle.mau_machine.specs.declared.frame.Trial.{Trial}
+use Rattle.mau_machine.specs.declared.frame.Settled.{Settled}
 use Rattle.mau_machine.specs.declared.frame.Condition.{Condition}
 use Rattle.mau_machine.specs.declared.frame.Choosing.{Choosing}
 use Rattle.mau_machine.specs.declared.frame.Frame.{Frame}
@@ -96,9 +97,9 @@ step_count s q p r m xs ys x e e' f g =
 
 -- ---- states
 
-module _ {A C S : Type 0} (w w' : Words A C S) (k : Keeps w w') (old new : List Node) (x : Extends old new) (before after : Table) (kept : KeepsEntries before after) where
+module _ {A C S D : Type 0} (w w' : Words A C S D) (k : Keeps w w') (old new : List Node) (x : Extends old new) (before after : Table) (kept : KeepsEntries before after) where
   -- the next task tells more
-  pub stays_on : (fs : List (Frame A C S)) (c d : Control A C S) (r q : ℕ) (told told' more : List Event) → told' ≡ told ++ more →
+  pub stays_on : (fs : List (Frame A C S D)) (c d : Control A C S D) (r q : ℕ) (told told' more : List Event) → told' ≡ told ++ more →
       ((J : Job) (m : ℕ) (ys : List Event) → TellsTask w' new after J c ys → Counts c r (m + steps_in ys) → TellsTask w' new after J d (ys ++ more) × Counts d q (m + steps_in (ys ++ more))) →
       StayTold w w' old new before after fs c r told fs d q told'
   stays_on fs c d r q told told' more e h front J asked H t =
@@ -110,13 +111,13 @@ module _ {A C S : Type 0} (w w' : Words A C S) (k : Keeps w w') (old new : List 
       }
 
   -- it tells nothing more
-  pub stays_same : (fs : List (Frame A C S)) (c d : Control A C S) (r q : ℕ) (told : List Event) →
+  pub stays_same : (fs : List (Frame A C S D)) (c d : Control A C S D) (r q : ℕ) (told : List Event) →
       ((J : Job) (m : ℕ) (ys : List Event) → TellsTask w' new after J c ys → Counts c r (m + steps_in ys) → TellsTask w' new after J d ys × Counts d q (m + steps_in ys)) →
       StayTold w w' old new before after fs c r told fs d q told
   stays_same fs c d r q told h = stays_on fs c d r q told told [] (sym (append-nil told)) (λ J m ys t n. subst (λ z. TellsTask w' new after J d z × Counts d q (m + steps_in z)) (sym (append-nil ys)) (h J m ys t n))
 
   -- a frame begins to wait
-  pub stays_pushed : (fs gs : List (Frame A C S)) (f : Frame A C S) (c d : Control A C S) (r q mark : ℕ) (told told' more : List Event) → gs ≡ fs ++ f ∷ [] → mark ≡ length told → told' ≡ told ++ more →
+  pub stays_pushed : (fs gs : List (Frame A C S D)) (f : Frame A C S D) (c d : Control A C S D) (r q mark : ℕ) (told told' more : List Event) → gs ≡ fs ++ f ∷ [] → mark ≡ length told → told' ≡ told ++ more →
       ((n m : ℕ) (J : Job) (ys : List Event) → mark ≡ n + length ys → TellsTask w' new after J c ys → Counts c r (m + steps_in ys) →
       (K : Job) × TellsFrame w' new after n m J f (ys ++ more) K × TellsTask w' new after K d [] × Counts d q (counted_on f m (ys ++ more) + 0)) →
       StayTold w w' old new before after fs c r told gs d q told'
@@ -130,7 +131,7 @@ module _ {A C S : Type 0} (w w' : Words A C S) (k : Keeps w w') (old new : List 
       }
 
   -- without a word
-  pub stays_marked : (fs gs : List (Frame A C S)) (f : Frame A C S) (c d : Control A C S) (r q mark : ℕ) (told : List Event) → gs ≡ fs ++ f ∷ [] → mark ≡ length told →
+  pub stays_marked : (fs gs : List (Frame A C S D)) (f : Frame A C S D) (c d : Control A C S D) (r q mark : ℕ) (told : List Event) → gs ≡ fs ++ f ∷ [] → mark ≡ length told →
       ((n m : ℕ) (J : Job) (ys : List Event) → mark ≡ n + length ys → TellsTask w' new after J c ys → Counts c r (m + steps_in ys) →
       (K : Job) × TellsFrame w' new after n m J f ys K × TellsTask w' new after K d [] × Counts d q (counted_on f m ys + 0)) →
       StayTold w w' old new before after fs c r told gs d q told
@@ -139,7 +140,7 @@ module _ {A C S : Type 0} (w w' : Words A C S) (k : Keeps w w') (old new : List 
       subst (λ z. (K : Job) × TellsFrame w' new after n m J f z K × TellsTask w' new after K d [] × Counts d q (counted_on f m z + 0)) (sym (append-nil ys)) (h n m J ys e t i))
 
   -- the last frame goes on
-  pub stays_popped : (fs gs : List (Frame A C S)) (f : Frame A C S) (c d : Control A C S) (r q : ℕ) (told told' more : List Event) → fs ≡ gs ++ f ∷ [] → told' ≡ told ++ more →
+  pub stays_popped : (fs gs : List (Frame A C S D)) (f : Frame A C S D) (c d : Control A C S D) (r q : ℕ) (told told' more : List Event) → fs ≡ gs ++ f ∷ [] → told' ≡ told ++ more →
       ((n m : ℕ) (J K : Job) (xs ys : List Event) → TellsFrame w' new after n m J f xs K → TellsTask w' new after K c ys → Counts c r (counted_on f m xs + steps_in ys) →
       TellsTask w' new after J d ((xs ++ ys) ++ more) × Counts d q (m + steps_in ((xs ++ ys) ++ more))) →
       StayTold w w' old new before after fs c r told gs d q told'
@@ -151,7 +152,7 @@ module _ {A C S : Type 0} (w w' : Words A C S) (k : Keeps w w') (old new : List 
         tells = told_popped w' new after (length front) 0 J gs f c d r q T.events more h (subst (λ z. Tells w' new after (length front) 0 J z c r T.events) p T.tells);
       }
 
-  pub stays_popped_same : (fs gs : List (Frame A C S)) (f : Frame A C S) (c d : Control A C S) (r q : ℕ) (told : List Event) → fs ≡ gs ++ f ∷ [] →
+  pub stays_popped_same : (fs gs : List (Frame A C S D)) (f : Frame A C S D) (c d : Control A C S D) (r q : ℕ) (told : List Event) → fs ≡ gs ++ f ∷ [] →
       ((n m : ℕ) (J K : Job) (xs ys : List Event) → TellsFrame w' new after n m J f xs K → TellsTask w' new after K c ys → Counts c r (counted_on f m xs + steps_in ys) →
       TellsTask w' new after J d (xs ++ ys) × Counts d q (m + steps_in (xs ++ ys))) →
       StayTold w w' old new before after fs c r told gs d q told
@@ -160,7 +161,7 @@ module _ {A C S : Type 0} (w w' : Words A C S) (k : Keeps w w') (old new : List 
       subst (λ z. TellsTask w' new after J d z × Counts d q (m + steps_in z)) (sym (append-nil (xs ++ ys))) (h n m J K xs ys a b i))
 
   -- the last frame waits on as another one
-  pub stays_swapped : (fs gs hs : List (Frame A C S)) (f g : Frame A C S) (c d : Control A C S) (r q : ℕ) (told told' more : List Event) → fs ≡ hs ++ f ∷ [] → gs ≡ hs ++ g ∷ [] → told' ≡ told ++ more →
+  pub stays_swapped : (fs gs hs : List (Frame A C S D)) (f g : Frame A C S D) (c d : Control A C S D) (r q : ℕ) (told told' more : List Event) → fs ≡ hs ++ f ∷ [] → gs ≡ hs ++ g ∷ [] → told' ≡ told ++ more →
       ((n m : ℕ) (J K : Job) (xs ys : List Event) → TellsFrame w' new after n m J f xs K → TellsTask w' new after K c ys → Counts c r (counted_on f m xs + steps_in ys) →
       (L : Job) × TellsFrame w' new after n m J g ((xs ++ ys) ++ more) L × TellsTask w' new after L d [] × Counts d q (counted_on g m ((xs ++ ys) ++ more) + 0)) →
       StayTold w w' old new before after fs c r told gs d q told'
@@ -175,7 +176,7 @@ module _ {A C S : Type 0} (w w' : Words A C S) (k : Keeps w w') (old new : List 
 
 -- ---- what is taken back
 
-module _ {A C S : Type 0} (w : Words A C S) (nodes : List Node) (table : Table) where
+module _ {A C S D : Type 0} (w : Words A C S D) (nodes : List Node) (table : Table) where
   marked : (front es kept more : List Event) (mark : ℕ) → es ≡ kept ++ more → mark ≡ length front + length kept → (take mark (front ++ es) ≡ front ++ kept) × (mark ≤ length (front ++ es))
   marked front es kept more mark e h =
       let s = ap (λ z. front ++ z) e ∙ sym (append_assoc front kept more) in (
@@ -186,7 +187,7 @@ module _ {A C S : Type 0} (w : Words A C S) (nodes : List Node) (table : Table) 
       fits : (a b c z : ℕ) → mark ≡ a + b → z ≡ a + b + c → mark ≤ z
       fits a b c z p q = omega (arith, p, q)
 
-  pub taken_back : (fs gs : List (Frame A C S)) (f : Frame A C S) (c d : Control A C S) (r q mark : ℕ) (told : List Event) (front : List Event) (J : Job) → fs ≡ gs ++ f ∷ [] →
+  pub taken_back : (fs gs : List (Frame A C S D)) (f : Frame A C S D) (c d : Control A C S D) (r q mark : ℕ) (told : List Event) (front : List Event) (J : Job) → fs ≡ gs ++ f ∷ [] →
       ((n m : ℕ) (J K : Job) (xs : List Event) → TellsFrame w nodes table n m J f xs K → (mark ≡ n + length xs) × TellsTask w nodes table J d xs × Counts d q (m + steps_in xs)) →
       IsTelling w nodes table front J fs c r told → (mark ≤ length told) × ((told' : List Event) → told' ≡ take mark told → IsTelling w nodes table front J gs d q told')
   taken_back fs gs f c d r q mark told front J p h t =
@@ -233,6 +234,37 @@ module _ {A C S : Type 0} (w : Words A C S) (nodes : List Node) (table : Table) 
   again_entered n m (evaluating t0) a level r q t ys e i s z h c =
       (evaluating (w.tree t.0), record { before = ys; is = refl; stands = s; runs = round_built w.rules nodes table t0 a.op.0 (trees w a.args.items) ys (w.tree t.0) h e i }, inl (refl, refl), at_frame q r m ys (entered t Whole ∷ []) z c refl)
   again_entered n m (solving d i' σ) a level r q t ys e i s z h c = absurd h
+
+  -- sorts are settled
+  pub looked_told : (J : Job) (n j : ℕ) (t : TermId) (d : D) (es : List Event) → TellsTask w nodes table J (Next.Top n t) es → TellsTask w nodes table J (Next.Settle j t d) es
+  looked_told (evaluating t0) n j t d es h = h
+  looked_told (solving e i σ) n j t d es h = absurd h
+
+  pub readied_told : (J : Job) (n j : ℕ) (t : TermId) (d : D) (es : List Event) → TellsTask w nodes table J (Next.Settle n t d) es → TellsTask w nodes table J (Next.Ready j t) es
+  readied_told (evaluating t0) n j t d es h = h
+  readied_told (solving e i σ) n j t d es h = absurd h
+
+  pub applied_told : (J : Job) (n : ℕ) (x : Trial A) (es : List Event) → TellsTask w nodes table J (Next.Ready n x.term) es → TellsTask w nodes table J (Next.Attempt x) es
+  applied_told (evaluating t0) n x es h = h
+  applied_told (solving e i σ) n x es h = absurd h
+
+  pub deriving_told : (n m mark level r : ℕ) (J : Job) (y : Settled D) (d : D) (s : Condition S) (ys : List Event) → s.condition ≡ y.condition → s.at ≡ 0 → y.before ≡ r → mark ≡ n + length ys → TellsTask w nodes table J (Next.Settle level y.term d) ys → r ≡ shown_count (m + steps_in ys) →
+      (K : Job) × TellsFrame w nodes table n m J (Waiting.Deriving y mark) ys K × TellsTask w nodes table K (Next.Solve s) [] × (0 ≡ shown_count (0 + 0))
+  deriving_told n m mark level r (evaluating t0) y d s ys f g b l h c = (
+    solving s.condition s.at (w.bound s.binding),
+    (f, g, h, l, b ∙ c),
+    (refl, same_extends (w.bound s.binding), none_shown w.rules nodes table s.condition s.at (w.bound s.binding)),
+    refl,
+  )
+  deriving_told n m mark level r (solving e i σ) y d s ys f g b l h c = absurd h
+
+  -- nothing is told of the condition of a membership
+  pub deriving_answered : (n m mark level : ℕ) (J K : Job) (y : Settled D) (d : D) (xs : List Event) → TellsFrame w nodes table n m J (Waiting.Deriving y mark) xs K →
+      (mark ≡ n + length xs) × TellsTask w nodes table J (Next.Settle level y.term d) xs × (y.before ≡ shown_count (m + steps_in xs))
+  deriving_answered n m mark level (evaluating t0) (solving e i σ) y d xs f = (f.3, f.2, f.4)
+  deriving_answered n m mark level (evaluating t0) (evaluating x) y d xs f = absurd f
+  deriving_answered n m mark level (solving e' j υ) (solving e i σ) y d xs f = absurd f
+  deriving_answered n m mark level (solving e' j υ) (evaluating x) y d xs f = absurd f
 
   pub valued_told : (J : Job) (x : Trial A) (es : List Event) → TellsTask w nodes table J (Next.Attempt x) es → TellsTask w nodes table J (Next.Value x.term) es
   valued_told (evaluating t0) x es h = h
@@ -376,11 +408,11 @@ module _ {A C S : Type 0} (w : Words A C S) (nodes : List Node) (table : Table) 
   at_condition d e j right σ t x q h = subst (λ z. IsSide w.rules nodes table z j right σ t x) q h
 
   -- what a condition goes on with, by the clause of `proceed`
-  abbrev pub Proceeds : Condition S → Bool → Control A C S → Type 0
+  abbrev pub Proceeds : Condition S → Bool → Control A C S D → Type 0
   Proceeds c holds d = (r n e i : ℕ) (σ : Binding) (es : List Event) → r ≡ shown_count n → (holds ≡ true → IsShown w.rules nodes table e i (c.at + 1) (w.bound c.binding) es) → c.condition ≡ e → IsExtension σ (w.bound c.binding) →
       TellsTask w nodes table (solving e i σ) d es × Counts d r n
 
-  pub right_given : (n m r : ℕ) (J K : Job) (c : Condition S) (p v : TermId) (holds : Bool) (d : Control A C S) (xs ys : List Event) → Proceeds c holds d → Asks w.rules c.condition c.at Goals.Equality → (holds ≡ true → w.tree v.0 ≡ w.tree p.0) →
+  pub right_given : (n m r : ℕ) (J K : Job) (c : Condition S) (p v : TermId) (holds : Bool) (d : Control A C S D) (xs ys : List Event) → Proceeds c holds d → Asks w.rules c.condition c.at Goals.Equality → (holds ≡ true → w.tree v.0 ≡ w.tree p.0) →
       StandsAs w.rules nodes table v (w.tree v.0) → TellsFrame w nodes table n m J (Waiting.Right c p) xs K → TellsTask w nodes table K (Next.Value v) ys → r ≡ shown_count (m + steps_in xs + steps_in ys) →
       TellsTask w nodes table J d ((xs ++ ys) ++ left v ∷ []) × Counts d r (m + steps_in ((xs ++ ys) ++ left v ∷ []))
   right_given n m r (solving e i σ) (evaluating x) c p v holds d xs ys P g eq s f h k =
@@ -393,7 +425,7 @@ module _ {A C S : Type 0} (w : Words A C S) (nodes : List Node) (table : Table) 
   right_given n m r (evaluating t0) (evaluating x) c p v holds d xs ys P g eq s f h k = absurd f
   right_given n m r (evaluating t0) (solving e' j τ) c p v holds d xs ys P g eq s f h k = absurd f
 
-  pub sorting_given : (n m r : ℕ) (J K : Job) (c : Condition S) (v : TermId) (holds : Bool) (d : Control A C S) (xs ys : List Event) → Proceeds c holds d → Asks w.rules c.condition c.at Goals.Sort →
+  pub sorting_given : (n m r : ℕ) (J K : Job) (c : Condition S) (v : TermId) (holds : Bool) (d : Control A C S D) (xs ys : List Event) → Proceeds c holds d → Asks w.rules c.condition c.at Goals.Sort →
       (holds ≡ true → Has w.rules nodes table (sort_in (rest_of w.rules c.condition c.at)) (w.tree v.0)) → StandsAs w.rules nodes table v (w.tree v.0) → TellsFrame w nodes table n m J (Waiting.Sorting c) xs K → TellsTask w nodes table K (Next.Value v) ys →
       r ≡ shown_count (m + steps_in xs + steps_in ys) → TellsTask w nodes table J d ((xs ++ ys) ++ left v ∷ []) × Counts d r (m + steps_in ((xs ++ ys) ++ left v ∷ []))
   sorting_given n m r (solving e i σ) (evaluating x) c v holds d xs ys P g has s f h k =
@@ -473,26 +505,37 @@ module _ {A C S : Type 0} (w : Words A C S) (nodes : List Node) (table : Table) 
   fails_told (evaluating t0) d es = tt
   fails_told (solving e i σ) d es = tt
 
+  -- the settling of a term goes on
+  pub settled_told : (fs gs gs' : List (Frame A C S D)) (x : Settled D) (mark : ℕ) (c d : Control A C S D) (r q : ℕ) (told told' front : List Event) (J : Job) → fs ≡ gs ++ Waiting.Deriving x mark ∷ [] → gs' ≡ gs → q ≡ x.before → IsSettledOn w x d →
+      told' ≡ take mark told → IsTelling w nodes table front J fs c r told → IsTelling w nodes table front J gs' d q told'
+  settled_told fs gs gs' x mark c d r q told told' front J p g i s e t =
+      subst (λ z. IsTelling w nodes table front J z d q told') (sym g) (subst (λ z. IsTelling w nodes table front J gs z q told') (sym s.1) (subst (λ z. IsTelling w nodes table front J gs (Next.Settle x.level x.term s.0) z told') (sym i)
+      ((taken_back fs gs (Waiting.Deriving x mark) c (Next.Settle x.level x.term s.0) r x.before mark told front J p (λ n m J K xs h. deriving_answered n m mark x.level J K x s.0 xs h) t).1 told' e)))
+
+  pub mark_fits : (fs gs : List (Frame A C S D)) (x : Settled D) (mark : ℕ) (c : Control A C S D) (r : ℕ) (told front : List Event) (J : Job) → fs ≡ gs ++ Waiting.Deriving x mark ∷ [] → IsTelling w nodes table front J fs c r told → mark ≤ length told
+  mark_fits fs gs x mark c r told front J p t =
+      (taken_back fs gs (Waiting.Deriving x mark) c (Next.Settle x.level x.term x.settling) r x.before mark told front J p (λ n m J K xs h. deriving_answered n m mark x.level J K x x.settling xs h) t).0
+
   pub tree_at_place : (ids : List TermId) (i : ℕ) (t : TermId) → slice_get ids i ≡ Some t → slice_get (trees w ids) i ≡ Some (w.tree t.0)
   tree_at_place [] i t h = cc
   tree_at_place (y ∷ ids) zero t h = ap (option_map (λ z. w.tree z.0)) h
   tree_at_place (y ∷ ids) (suc i) t h = tree_at_place ids i t h
   -- ---- results of the parts of the loop
 
-module _ {A C S : Type 0} (w w' : Words A C S) (k : Keeps w w') (old new : List Node) (x : Extends old new) (before after : Table) (kept : KeepsEntries before after) where
-  pub same_result : (fs : List (Frame A C S)) (c : Control A C S) (r : ℕ) (told : List Event) (result : Result (Control A C S) EvalEnd) → IfOk result (TaskStays w' new after c) →
+module _ {A C S D : Type 0} (w w' : Words A C S D) (k : Keeps w w') (old new : List Node) (x : Extends old new) (before after : Table) (kept : KeepsEntries before after) where
+  pub same_result : (fs : List (Frame A C S D)) (c : Control A C S D) (r : ℕ) (told : List Event) (result : Result (Control A C S D) EvalEnd) → IfOk result (TaskStays w' new after c) →
       IfOk result (λ d. StayTold w w' old new before after fs c r told fs d r told)
   same_result fs c r told (Ok d) h = stays_same w w' k old new x before after kept fs c d r r told (λ J m ys t n. h J r (m + steps_in ys) ys (t, n))
   same_result fs c r told (Err e) h = tt
 
-  pub popped_proceeds : (fs gs : List (Frame A C S)) (f : Frame A C S) (c : Control A C S) (r : ℕ) (told told' more : List Event) (result : Result (Control A C S) EvalEnd) → fs ≡ gs ++ f ∷ [] → told' ≡ told ++ more → (P : Control A C S → Type 0) →
-      ((d : Control A C S) → P d → (n m : ℕ) (J K : Job) (xs ys : List Event) → TellsFrame w' new after n m J f xs K → TellsTask w' new after K c ys → Counts c r (counted_on f m xs + steps_in ys) →
+  pub popped_proceeds : (fs gs : List (Frame A C S D)) (f : Frame A C S D) (c : Control A C S D) (r : ℕ) (told told' more : List Event) (result : Result (Control A C S D) EvalEnd) → fs ≡ gs ++ f ∷ [] → told' ≡ told ++ more → (P : Control A C S D → Type 0) →
+      ((d : Control A C S D) → P d → (n m : ℕ) (J K : Job) (xs ys : List Event) → TellsFrame w' new after n m J f xs K → TellsTask w' new after K c ys → Counts c r (counted_on f m xs + steps_in ys) →
       TellsTask w' new after J d ((xs ++ ys) ++ more) × Counts d r (m + steps_in ((xs ++ ys) ++ more))) →
       IfOk result P → IfOk result (λ d. StayTold w w' old new before after fs c r told gs d r told')
   popped_proceeds fs gs f c r told told' more (Ok d) p e P h i = stays_popped w w' k old new x before after kept fs gs f c d r r told told' more p e (h d i)
   popped_proceeds fs gs f c r told told' more (Err z) p e P h i = tt
 
-module _ {A C S : Type 0} (w : Words A C S) where
+module _ {A C S D : Type 0} (w : Words A C S D) where
   built_tree : (th : ℕ → Theory) (u t : Tree) (a b : Bool) (n : ℕ) → admitted a b u n ≡ done t 0 n → u ≡ t
   built_tree th u t true b n h = absurd (no h)
     where
@@ -511,7 +554,7 @@ module _ {A C S : Type 0} (w : Words A C S) where
       ∙ built_tree w.rules.program.sign.theory (build (w.rules.program.sign.theory f) f (trees w ids')) t _ _ 0 h)
 
 -- what a candidate makes stays what it is
-pub made_later : {A C S : Type 0} (w w' : Words A C S) (k : Keeps w w') (t e : ℕ) (a : A) (σ : S) (u : TermId) → w.knows_candidate t e a → (i : ℕ) → w.knows_binding e i σ → w.knows_term u.0 →
+pub made_later : {A C S D : Type 0} (w w' : Words A C S D) (k : Keeps w w') (t e : ℕ) (a : A) (σ : S) (u : TermId) → w.knows_candidate t e a → (i : ℕ) → w.knows_binding e i σ → w.knows_term u.0 →
     ((j b : ℕ) → eval_on w.rules (suc j) (w.makes a (w.bound σ)) b ≡ eval_on w.rules (suc j) (w.tree u.0) b) → (j b : ℕ) → eval_on w'.rules (suc j) (w'.makes a (w'.bound σ)) b ≡ eval_on w'.rules (suc j) (w'.tree u.0) b
 made_later w w' k t e a σ u ca i bi kt h j b =
     ap (λ R. eval_on R (suc j) (w'.makes a (w'.bound σ)) b) k.rules
@@ -533,8 +576,8 @@ from_zero r es h = h ∙ ap shown_count (by (steps_in es))
     by : (n : ℕ) → 0 + n ≡ n
     by n = omega arith
 
-module _ {A C S : Type 0} (w : Words A C S) (nodes : List Node) (table : Table) where
-  pub telling_starts : (J : Job) (fs : List (Frame A C S)) (c : Control A C S) (r : ℕ) (told : List Event) → fs ≡ [] → r ≡ 0 → TellsTask w nodes table J c [] → Counts c 0 (0 + 0) → IsTelling w nodes table told J fs c r told
+module _ {A C S D : Type 0} (w : Words A C S D) (nodes : List Node) (table : Table) where
+  pub telling_starts : (J : Job) (fs : List (Frame A C S D)) (c : Control A C S D) (r : ℕ) (told : List Event) → fs ≡ [] → r ≡ 0 → TellsTask w nodes table J c [] → Counts c 0 (0 + 0) → IsTelling w nodes table told J fs c r told
   telling_starts J fs c r told e z t n = record {
     events = [];
     is = sym (append-nil told);

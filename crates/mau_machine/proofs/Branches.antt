@@ -1,5 +1,5 @@
 -- The lemmas of the loop's branches, over plain variables.
-use Rattle.std.proofs.Common.{◌≡◌, ℕ, zero, suc, ◌+◌, ◌-◌, ◌<◌, ◌≤◌, min, List, [], ◌∷◌, drop, set, get_or, length, Bool, true, false, Option, Some, None, refl, sym, ◌∙◌, ap, subst, rules, arith, le-ltb, drop-cons, Result, Ok, Err, IfOk, IfErr}
+use Rattle.std.proofs.Common.{◌≡◌, ℕ, zero, suc, ◌+◌, ◌-◌, ◌<◌, ◌≤◌, min, List, [], ◌∷◌, drop, set, get_or, length, Bool, true, false, Option, Some, None, ◌⊎◌, inl, inr, refl, sym, ◌∙◌, ap, subst, rules, arith, le-ltb, drop-cons, Result, Ok, Err, IfOk, IfErr}
 use Rattle.std.specs.Prelude.{◌==◌}
 use Rattle.std.specs.Option.{option_map}
 use Rattle.mau_terms.specs.Tree.{Tree, variable, numeral, apply, node, trees_of, list_of}
@@ -8,19 +8,34 @@ use Rattle.mau_terms.specs.Depth.{depth}
 use Rattle.mau_terms.specs.Subst.{variables, instance}
 use Rattle.mau_terms.specs.declared.ids.TermId.{TermId}
 use Rattle.mau_canon.specs.Within.{IsWithin}
-use Rattle.mau_evaluation.specs.Run.{Outcome, done, ended, Run, stopped, too_deep, counted, counted_if, go_on, and_then, and_try, try_on, or_go_on, gives, spend, where_true, first_of}
+use Rattle.mau_evaluation.specs.Run.{End, Outcome, done, ended, Run, stopped, too_deep, counted, counted_if, go_on, and_then, and_try, try_on, or_go_on, gives, spend, where_true, first_of}
 use Rattle.mau_evaluation.specs.Program.{Fragment, equals, matches, has_sort, reaches, Program}
 use Rattle.mau_evaluation.specs.Listing.{same_tree, keep, solutions}
 use Rattle.mau_evaluation.specs.Evaluation.{Binding, Level, levels, solve, go_from, at_top, on_normal, admit, admitted, within_limits, in_places, put_value, order_of, top_changed, at, put, has_number, look_up, extend, agree, have_sorts}
 use Rattle.mau_evaluation.proofs.Falls.{evaluation_goes_on}
 use Rattle.mau_api.specs.declared.results.EvalEnd.{EvalEnd}
-use Rattle.mau_machine.specs.Words.{greatest_count, capped, IsEnd, Rules, Words, trees, IsLeaf, IsSorted, rest_of, eval_on, sorts_on, solve_on, settle_on, applied_on, choose_from, side_of, side_by, sort_in, pattern_in, goal_of, Asks}
-use Rattle.mau_machine.specs.Machine.{argument, again, left_side, right_side, sorting, matching, choice, trying, Reply, gave, held, failed, as_value, as_answer, from_built, on_arguments, on_attempts, after, goes_on}
+use Rattle.mau_api.specs.declared.results.EvalEnd.TheVariants.{Stopped, TooDeep, Overflow, NoMemory}
+use Rattle.mau_machine.specs.Words.{greatest_count, capped, IsEnd, IsKnownBy, EndsWhere, ComesToEnd, Rules, Words, trees, IsLeaf, rest_of, eval_on, sorts_on, solve_on, settle_on, applied_on, choose_from, side_of, side_by, sort_in, pattern_in, goal_of, Asks}
+use Rattle.mau_machine.specs.Machine.{argument, again, left_side, right_side, sorting, matching, choice, settling, trying, Reply, gave, held, failed, as_value, as_answer, from_built, on_arguments, on_attempts, after, goes_on}
 use Rattle.mau_machine.specs.declared.goal.Goal.TheVariants as Goals
-use Rattle.mau_machine.proofs.Counts.{zero_more, counted_zero, counted_twice, go_on_counted, answer_zero, answer_twice, value_ends, answer_ends, first_ends, try_ends, same_ends, counted_ends, min_twice}
+use Rattle.mau_machine.specs.Steps.{IsAlike, Follows}
+use Rattle.mau_machine.proofs.Counts.{zero_more, counted_zero, counted_twice, go_on_counted, answer_zero, answer_twice, min_twice}
+use Rattle.mau_machine.proofs.Following.{more_levels, ends_exactly}
 
 pred : (j : ℕ) → j ≡ suc j - 1
 pred j = omega arith
+
+-- levels, and n more
+still_some : (k n : ℕ) → (k ≡ 0 → ⊥) → k + n ≡ 0 → ⊥
+still_some zero n h e = h refl
+still_some (suc k) n h e = absurd (omega (arith, e))
+
+pub one_more : (j k n : ℕ) → j ≡ k + 1 → j + n ≡ k + n + 1
+one_more j k n h = omega (arith, h)
+
+one_less : (k n : ℕ) → (k ≡ 0 → ⊥) → k + n - 1 ≡ k - 1 + n
+one_less zero n h = absurd (h refl)
+one_less (suc k) n h = omega arith
 
 listed : (ts : List Tree) → list_of (trees_of ts) ≡ ts
 listed [] = refl
@@ -46,7 +61,7 @@ drop_next [] (suc n) y ys h = cc
 drop_next (x ∷ xs) zero y ys h = cc
 drop_next (x ∷ xs) (suc n) y ys h = drop_next xs n y ys h
 
-module _ {A C S : Type 0} (w : Words A C S) where
+module _ {A C S D : Type 0} (w : Words A C S D) where
   pub at_trees : (ids : List TermId) (i : ℕ) (x : TermId) → i < length ids → x ≡ get_or ids i x → at (trees w ids) i ≡ Some (w.tree x.0)
   at_trees [] i x h e = absurd (omega (arith, h))
   at_trees (y ∷ ids) zero x h e = ap (λ z. Some (w.tree z.0)) (sym e)
@@ -95,11 +110,16 @@ module _ (R : Rules) where
   leaf next k (apply f ts) h b = absurd h
 
   -- a term that is its own value
-  pub rested : (k : ℕ) (t : Tree) → ((b : ℕ) → eval_on R k t b ≡ done t 0 b) → (r b : ℕ) → capped (as_value (counted r (eval_on R k t b))) ≡ capped (done (gave t) r b)
-  rested k t e r b = ap (λ o. capped (as_value (counted r o))) (e b) ∙ ap (λ n. capped (done (gave t) n b)) (zero_more r)
+  pub rested : (k : ℕ) (t : Tree) → IsKnownBy P (λ n. eval_on R (k + n) t) t → (r b : ℕ) → Follows P (λ n. as_value (counted r (eval_on R (k + n) t b))) (λ n. done (gave t) r b)
+  rested k t h r b = record { enough = h.enough; just = h.just; follows = λ n. by n (h.leads n b) }
+    where
+      by : (n : ℕ) → ((eval_on R (k + n) t b ≡ done t 0 b) ⊎ ((n < h.enough) × (eval_on R (k + n) t b ≡ ended too_deep))) →
+          IsAlike (as_value (counted r (eval_on R (k + n) t b))) (done (gave t) r b) ⊎ ((n < h.enough) × (as_value (counted r (eval_on R (k + n) t b)) ≡ ended too_deep))
+      by n (inl e) = inl (ap (λ o. capped (as_value (counted r o))) e ∙ ap (λ m. capped (done (gave t) m b)) (zero_more r))
+      by n (inr q) = inr (q.0, ap (λ o. as_value (counted r o)) q.1)
 
   -- a numeral or a variable
-  pub opened_leaf : (k : ℕ) → (k ≡ 0 → ⊥) → (t : Tree) → norm P.sign.theory t ≡ t → IsWithin P.sign.theory t → IsLeaf t → (r b : ℕ) →
+  opened_leaf : (k : ℕ) → (k ≡ 0 → ⊥) → (t : Tree) → norm P.sign.theory t ≡ t → IsWithin P.sign.theory t → IsLeaf t → (r b : ℕ) →
       capped (as_value (counted r (eval_on R k t b))) ≡ capped (as_value (counted r (from_built R (k - 1) false t b)))
   opened_leaf zero h t n i q r b = absurd (h refl)
   opened_leaf (suc j) h t n i q r b =
@@ -107,7 +127,7 @@ module _ (R : Rules) where
       ∙ ap (λ m. capped (as_value (counted r (from_built R m false t b)))) (pred j)
 
   -- a term with arguments
-  pub opened : (k : ℕ) → (k ≡ 0 → ⊥) → (t : Tree) → norm P.sign.theory t ≡ t → IsWithin P.sign.theory t → (f : ℕ) (ts : List Tree) (order : List ℕ) → t ≡ node f ts → order ≡ order_of P f ts → (r b : ℕ) →
+  opened : (k : ℕ) → (k ≡ 0 → ⊥) → (t : Tree) → norm P.sign.theory t ≡ t → IsWithin P.sign.theory t → (f : ℕ) (ts : List Tree) (order : List ℕ) → t ≡ node f ts → order ≡ order_of P f ts → (r b : ℕ) →
       capped (as_value (counted r (eval_on R k t b))) ≡ capped (as_value (counted r (on_arguments R (k - 1) f order order ts b)))
   opened zero h t n i f ts order e o r b = absurd (h refl)
   opened (suc j) h t n i f ts order e o r b =
@@ -117,6 +137,16 @@ module _ (R : Rules) where
       ∙ (ap (λ xs. on_arguments R j f (order_of P f xs) (order_of P f xs) xs b) (listed ts)
       ∙ ap (λ is. on_arguments R j f is is ts b) (sym o))))
       ∙ ap (λ m. capped (as_value (counted r (on_arguments R m f order order ts b)))) (pred j)
+
+  -- the same by n levels more
+  pub opened_leaf_by : (k n : ℕ) → (k ≡ 0 → ⊥) → (t : Tree) → norm P.sign.theory t ≡ t → IsWithin P.sign.theory t → IsLeaf t → (r b : ℕ) →
+      capped (as_value (counted r (eval_on R (k + n) t b))) ≡ capped (as_value (counted r (from_built R (k - 1 + n) false t b)))
+  opened_leaf_by k n h t m i q r b = opened_leaf (k + n) (still_some k n h) t m i q r b ∙ ap (λ j. capped (as_value (counted r (from_built R j false t b)))) (one_less k n h)
+
+  pub opened_by : (k n : ℕ) → (k ≡ 0 → ⊥) → (t : Tree) → norm P.sign.theory t ≡ t → IsWithin P.sign.theory t → (f : ℕ) (ts : List Tree) (order : List ℕ) → t ≡ node f ts → order ≡ order_of P f ts → (r b : ℕ) →
+      capped (as_value (counted r (eval_on R (k + n) t b))) ≡ capped (as_value (counted r (on_arguments R (k - 1 + n) f order order ts b)))
+  opened_by k n h t m i f ts order e o r b =
+      opened (k + n) (still_some k n h) t m i f ts order e o r b ∙ ap (λ j. capped (as_value (counted r (on_arguments R j f order order ts b)))) (one_less k n h)
 
   -- ---- arguments
 
@@ -162,12 +192,12 @@ module _ (R : Rules) where
       ∙ (counted_zero (from_built R k (top_changed (P.sign.theory f) order f ts t) t b)
       ∙ ap (λ z. from_built R k z t b) (sym c))))
 
-  pub built_ends : (k f : ℕ) (ts : List Tree) (order : List ℕ) (n b : ℕ) (e : EvalEnd) → length order ≤ n → IsEnd (within_limits P.sign.theory (build (P.sign.theory f) f ts) b) e →
-      IsEnd (on_arguments R k f order (drop n order) ts b) e
-  built_ends k f ts order n b e h i =
-      same_ends (on_arguments R k f order (drop n order) ts b) (rest k f order ts b) e
-      (ap (λ is. on_arguments R k f order is ts b) (none_left order n h) ∙ counted_zero (rest k f order ts b))
-      (first_ends (λ t. from_built R k (top_changed (P.sign.theory f) order f ts t) t) (within_limits P.sign.theory (build (P.sign.theory f) f ts) b) e i)
+  pub built_ends : (k f : ℕ) (ts : List Tree) (order : List ℕ) (n b : ℕ) (d : End) → length order ≤ n → within_limits P.sign.theory (build (P.sign.theory f) f ts) b ≡ ended d →
+      on_arguments R k f order (drop n order) ts b ≡ ended d
+  built_ends k f ts order n b d h i =
+      ap (λ is. on_arguments R k f order is ts b) (none_left order n h)
+      ∙ (counted_zero (rest k f order ts b)
+      ∙ ap (go_on (λ t. from_built R k (top_changed (P.sign.theory f) order f ts t) t)) i)
 
   -- ---- candidates
 
@@ -195,8 +225,8 @@ module _ (R : Rules) where
   pub none_tried : (k : ℕ) (t : Tree) (untried : Run (Option Tree)) (r b : ℕ) → untried b ≡ done None 0 b → as_value (counted r (on_attempts R k t untried b)) ≡ done (gave t) r b
   none_tried k t untried r b h = ap (λ o. as_value (counted r (go_on (from k t) o))) h ∙ ap (λ n. done (gave t) n b) (zero_more r)
 
-  pub tried_ends : (k : ℕ) (t : Tree) (untried : Run (Option Tree)) (r b : ℕ) (e : EvalEnd) → IsEnd (untried b) e → IsEnd (as_value (counted r (on_attempts R k t untried b))) e
-  tried_ends k t untried r b e h = value_ends r (on_attempts R k t untried b) e (first_ends (from k t) (untried b) e h)
+  pub tried_ends : (k : ℕ) (t : Tree) (untried : Run (Option Tree)) (r b : ℕ) (d : End) → untried b ≡ ended d → as_value (counted r (on_attempts R k t untried b)) ≡ ended d
+  tried_ends k t untried r b d h = ap (λ o. as_value (counted r (go_on (from k t) o))) h
 
   -- ---- choices
 
@@ -259,6 +289,28 @@ module _ (R : Rules) where
       first_of (λ x. and_try (have_sorts (sorts_on R k) (variables p) x.values) λ ok. where_true ok (solve P (l k) cs (extend σ (variables p) x.values)))
       (keep (λ x. agree P.sign.theory σ (variables p) x.values) (solutions P.sign p v))
 
+  -- nothing is left to solve
+  pub nothing_left : (k e i : ℕ) (σ : Binding) → Asks R e i Goals.Nothing → (r b : ℕ) → as_answer (counted_if r (solve_on R k e i σ b)) ≡ done (held σ) r b
+  nothing_left k e i σ g r b = by (rest_of R e i) refl g
+    where
+      by : (F : List Fragment) → rest_of R e i ≡ F → Goals.Nothing ≡ goal_of F → as_answer (counted_if r (solve_on R k e i σ b)) ≡ done (held σ) r b
+      by [] d g = ap (λ F. as_answer (counted_if r (solve P (l k) F σ b))) d ∙ ap (λ n. done (held σ) n b) (zero_more r)
+      by (equals t u ∷ cs) d g = cc
+      by (has_sort t s ∷ cs) d g = cc
+      by (matches t u ∷ cs) d g = cc
+      by (reaches t u ∷ cs) d g = cc
+
+  -- or what is solved by rules alone
+  pub reaching_fails : (k e i : ℕ) (σ : Binding) → Asks R e i Goals.Reaching → (r b : ℕ) → as_answer (counted_if r (solve_on R k e i σ b)) ≡ done failed 0 b
+  reaching_fails k e i σ g r b = by (rest_of R e i) refl g
+    where
+      by : (F : List Fragment) → rest_of R e i ≡ F → Goals.Reaching ≡ goal_of F → as_answer (counted_if r (solve_on R k e i σ b)) ≡ done failed 0 b
+      by [] d g = cc
+      by (equals t u ∷ cs) d g = cc
+      by (has_sort t s ∷ cs) d g = cc
+      by (matches t u ∷ cs) d g = cc
+      by (reaches t u ∷ cs) d g = ap (λ F. as_answer (counted_if r (solve P (l k) F σ b))) d
+
   -- the left side of an equality is evaluated
   pub equality : (k e i : ℕ) (σ : Binding) → Asks R e i Goals.Equality → (x : Tree) (b : ℕ) → eval_on R k (side_of R e i false σ) b ≡ eval_on R k x b → (r : ℕ) →
       as_answer (counted_if r (solve_on R k e i σ b)) ≡ goes_on R (left_side k e i σ) (as_value (counted r (eval_on R k x b)))
@@ -320,43 +372,43 @@ module _ (R : Rules) where
 
   -- ---- ends of conditions: that of the side is that of the condition
 
-  pub equality_ends : (k e i : ℕ) (σ : Binding) → Asks R e i Goals.Equality → (r b : ℕ) (d : EvalEnd) → IsEnd (eval_on R k (side_of R e i false σ) b) d → IsEnd (as_answer (counted_if r (solve_on R k e i σ b))) d
+  pub equality_ends : (k e i : ℕ) (σ : Binding) → Asks R e i Goals.Equality → (r b : ℕ) (d : End) → eval_on R k (side_of R e i false σ) b ≡ ended d → as_answer (counted_if r (solve_on R k e i σ b)) ≡ ended d
   equality_ends k e i σ g r b d h = by (rest_of R e i) refl g
     where
-      by : (F : List Fragment) → rest_of R e i ≡ F → Goals.Equality ≡ goal_of F → IsEnd (as_answer (counted_if r (solve_on R k e i σ b))) d
+      by : (F : List Fragment) → rest_of R e i ≡ F → Goals.Equality ≡ goal_of F → as_answer (counted_if r (solve_on R k e i σ b)) ≡ ended d
       by [] q g = cc
       by (equals t u ∷ cs) q g =
           let K : Tree → Run (Option Binding) = λ v. and_try (eval_on R k (instance (look_up σ) u)) (λ z. where_true (same_tree v z) (solve P (l k) cs σ)) in
-          subst (λ F. IsEnd (as_answer (counted_if r (solve P (l k) F σ b))) d) (sym q)
-          (answer_ends r (try_on K (eval_on R k (instance (look_up σ) t) b)) d (try_ends K (eval_on R k (instance (look_up σ) t) b) d (subst (λ F. IsEnd (eval_on R k (instance (look_up σ) (side_by false F)) b) d) q h)))
+          ap (λ F. as_answer (counted_if r (solve P (l k) F σ b))) q
+          ∙ ap (λ o. as_answer (counted_if r (try_on K o))) (ap (λ F. eval_on R k (instance (look_up σ) (side_by false F)) b) (sym q) ∙ h)
       by (has_sort t s ∷ cs) q g = cc
       by (matches t u ∷ cs) q g = cc
       by (reaches t u ∷ cs) q g = cc
 
-  pub sort_test_ends : (k e i : ℕ) (σ : Binding) → Asks R e i Goals.Sort → (r b : ℕ) (d : EvalEnd) → IsEnd (eval_on R k (side_of R e i false σ) b) d → IsEnd (as_answer (counted_if r (solve_on R k e i σ b))) d
+  pub sort_test_ends : (k e i : ℕ) (σ : Binding) → Asks R e i Goals.Sort → (r b : ℕ) (d : End) → eval_on R k (side_of R e i false σ) b ≡ ended d → as_answer (counted_if r (solve_on R k e i σ b)) ≡ ended d
   sort_test_ends k e i σ g r b d h = by (rest_of R e i) refl g
     where
-      by : (F : List Fragment) → rest_of R e i ≡ F → Goals.Sort ≡ goal_of F → IsEnd (as_answer (counted_if r (solve_on R k e i σ b))) d
+      by : (F : List Fragment) → rest_of R e i ≡ F → Goals.Sort ≡ goal_of F → as_answer (counted_if r (solve_on R k e i σ b)) ≡ ended d
       by [] q g = cc
       by (equals t u ∷ cs) q g = cc
       by (has_sort t s ∷ cs) q g =
           let K : Tree → Run (Option Binding) = λ v. and_try (sorts_on R k v) (λ ss. where_true (has_number ss s) (solve P (l k) cs σ)) in
-          subst (λ F. IsEnd (as_answer (counted_if r (solve P (l k) F σ b))) d) (sym q)
-          (answer_ends r (try_on K (eval_on R k (instance (look_up σ) t) b)) d (try_ends K (eval_on R k (instance (look_up σ) t) b) d (subst (λ F. IsEnd (eval_on R k (instance (look_up σ) (side_by false F)) b) d) q h)))
+          ap (λ F. as_answer (counted_if r (solve P (l k) F σ b))) q
+          ∙ ap (λ o. as_answer (counted_if r (try_on K o))) (ap (λ F. eval_on R k (instance (look_up σ) (side_by false F)) b) (sym q) ∙ h)
       by (matches t u ∷ cs) q g = cc
       by (reaches t u ∷ cs) q g = cc
 
-  pub match_ends : (k e i : ℕ) (σ : Binding) → Asks R e i Goals.Matching → (r b : ℕ) (d : EvalEnd) → IsEnd (eval_on R k (side_of R e i true σ) b) d → IsEnd (as_answer (counted_if r (solve_on R k e i σ b))) d
+  pub match_ends : (k e i : ℕ) (σ : Binding) → Asks R e i Goals.Matching → (r b : ℕ) (d : End) → eval_on R k (side_of R e i true σ) b ≡ ended d → as_answer (counted_if r (solve_on R k e i σ b)) ≡ ended d
   match_ends k e i σ g r b d h = by (rest_of R e i) refl g
     where
-      by : (F : List Fragment) → rest_of R e i ≡ F → Goals.Matching ≡ goal_of F → IsEnd (as_answer (counted_if r (solve_on R k e i σ b))) d
+      by : (F : List Fragment) → rest_of R e i ≡ F → Goals.Matching ≡ goal_of F → as_answer (counted_if r (solve_on R k e i σ b)) ≡ ended d
       by [] q g = cc
       by (equals t u ∷ cs) q g = cc
       by (has_sort t s ∷ cs) q g = cc
       by (matches t u ∷ cs) q g =
           let K : Tree → Run (Option Binding) = λ v. choose_by k σ t cs v in
-          subst (λ F. IsEnd (as_answer (counted_if r (solve P (l k) F σ b))) d) (sym q)
-          (answer_ends r (try_on K (eval_on R k (instance (look_up σ) u) b)) d (try_ends K (eval_on R k (instance (look_up σ) u) b) d (subst (λ F. IsEnd (eval_on R k (instance (look_up σ) (side_by true F)) b) d) q h)))
+          ap (λ F. as_answer (counted_if r (solve P (l k) F σ b))) q
+          ∙ ap (λ o. as_answer (counted_if r (try_on K o))) (ap (λ F. eval_on R k (instance (look_up σ) (side_by true F)) b) (sym q) ∙ h)
       by (reaches t u ∷ cs) q g = cc
 
   -- the right side of an equality is evaluated
@@ -366,32 +418,34 @@ module _ (R : Rules) where
       ap (λ o. as_answer (counted_if r (try_on (right_of k e i σ v) o))) h
       ∙ (asked_by (right_of k e i σ v) (right_of k e i σ v) (λ u c. refl) r (eval_on R k x b) ∙ right_waits k e i σ v (as_value (counted r (eval_on R k x b))))
 
-  pub second_side_ends : (k e i : ℕ) (σ : Binding) (v : Tree) (r b : ℕ) (d : EvalEnd) → IsEnd (eval_on R k (side_of R e i true σ) b) d → IsEnd (after R (left_side k e i σ) (gave v) r b) d
-  second_side_ends k e i σ v r b d h =
-      answer_ends r (try_on (right_of k e i σ v) (eval_on R k (side_of R e i true σ) b)) d (try_ends (right_of k e i σ v) (eval_on R k (side_of R e i true σ) b) d h)
+  pub second_side_ends : (k e i : ℕ) (σ : Binding) (v : Tree) (r b : ℕ) (d : End) → eval_on R k (side_of R e i true σ) b ≡ ended d → after R (left_side k e i σ) (gave v) r b ≡ ended d
+  second_side_ends k e i σ v r b d h = ap (λ o. as_answer (counted_if r (try_on (right_of k e i σ v) o))) h
 
-  -- a test of sorts is decided
-  pub sorts_tested : (k e i : ℕ) (σ : Binding) (v : Tree) (holds : Bool) (r b : ℕ) → IsSorted R e i v holds →
+  -- a test of sorts is decided, where the sorts are known
+  pub sorts_tested : (k e i : ℕ) (σ : Binding) (v : Tree) (ss : List ℕ) (holds : Bool) (r b : ℕ) → has_number ss (sort_in (rest_of R e i)) ≡ holds → sorts_on R k v b ≡ done ss 0 b →
       after R (sorting k e i σ) (gave v) r b ≡ as_answer (counted_if r (where_true holds (solve_on R k e (suc i) σ) b))
-  sorts_tested k e i σ v holds r b h =
+  sorts_tested k e i σ v ss holds r b h known =
       let K : List ℕ → Run (Option Binding) = λ ss. where_true (has_number ss (sort_in (rest_of R e i))) (solve_on R k e (suc i) σ) in
-      ap (λ o. as_answer (counted_if r (try_on K o))) (h k b).1
-      ∙ (answer_twice r 0 (K (h k b).0 b)
-      ∙ (ap (λ n. as_answer (counted_if n (K (h k b).0 b))) (zero_more r)
-      ∙ ap (λ y. as_answer (counted_if r (where_true y (solve_on R k e (suc i) σ) b))) (h k b).2))
+      ap (λ o. as_answer (counted_if r (try_on K o))) known
+      ∙ (answer_twice r 0 (K ss b)
+      ∙ (ap (λ n. as_answer (counted_if n (K ss b))) (zero_more r)
+      ∙ ap (λ y. as_answer (counted_if r (where_true y (solve_on R k e (suc i) σ) b))) h))
+
+  pub sorts_end : (k e i : ℕ) (σ : Binding) (v : Tree) (r b : ℕ) (d : End) → sorts_on R k v b ≡ ended d → after R (sorting k e i σ) (gave v) r b ≡ ended d
+  sorts_end k e i σ v r b d h = ap (λ o. as_answer (counted_if r (try_on (λ ss. where_true (has_number ss (sort_in (rest_of R e i))) (solve_on R k e (suc i) σ)) o))) h
 
   -- ---- levels
 
-  pub side_at : (k : ℕ) → (k ≡ 0 → ⊥) → (t u : Tree) (b : ℕ) → ((j b : ℕ) → eval_on R (suc j) t b ≡ eval_on R (suc j) u b) → eval_on R k t b ≡ eval_on R k u b
+  side_at : (k : ℕ) → (k ≡ 0 → ⊥) → (t u : Tree) (b : ℕ) → ((j b : ℕ) → eval_on R (suc j) t b ≡ eval_on R (suc j) u b) → eval_on R k t b ≡ eval_on R k u b
   side_at zero h t u b e = absurd (h refl)
   side_at (suc j) h t u b e = e j b
 
-  pub ends_at : (k : ℕ) → (k ≡ 0 → ⊥) → (t : Tree) (b : ℕ) (e : EvalEnd) → ((j b : ℕ) → IsEnd (eval_on R (suc j) t b) e) → IsEnd (eval_on R k t b) e
+  ends_at : (k : ℕ) → (k ≡ 0 → ⊥) → (t : Tree) (b : ℕ) (e : EvalEnd) → ((j b : ℕ) → IsEnd (eval_on R (suc j) t b) e) → IsEnd (eval_on R k t b) e
   ends_at zero h t b e i = absurd (h refl)
   ends_at (suc j) h t b e i = i j b
 
-  pub no_levels : (k : ℕ) (t : Tree) (b : ℕ) → k ≡ 0 → eval_on R k t b ≡ ended too_deep
-  no_levels k t b h = ap (λ m. eval_on R m t b) h
+  pub no_levels : (k : ℕ) (t : Tree) (b : ℕ) → k ≡ 0 → eval_on R (k + 0) t b ≡ ended too_deep
+  no_levels k t b h = ap (λ m. eval_on R (m + 0) t b) h
 
   -- ---- an application is spent
 
@@ -422,7 +476,13 @@ module _ (R : Rules) where
   pub spend_ends : (k : ℕ) (t : Tree) (untried : Run (Option Tree)) (makes : Binding → Tree) (n r b : ℕ) (σ : Binding) (e : EvalEnd) → (b ≡ 0 → ⊥) → ((j b : ℕ) → IsEnd (eval_on R (suc j) (makes σ) b) e) →
       IsEnd (after R (trying k t untried makes n) (held σ) r b) e
   spend_ends k t untried makes n r zero σ e h i = absurd (h refl)
-  spend_ends k t untried makes n r (suc b) σ e h i = value_ends (n + r) (counted 1 (eval_on R (suc k) (makes σ) b)) e (counted_ends 1 (eval_on R (suc k) (makes σ) b) e (i k b))
+  spend_ends k t untried makes n r (suc b) σ e h i = spent_end k (makes σ) (n + r) b e (i k b)
+    where
+      spent_end : (k : ℕ) (u : Tree) (m b : ℕ) (e : EvalEnd) → IsEnd (eval_on R (suc k) u b) e → IsEnd (as_value (counted m (counted 1 (eval_on R (suc k) u b)))) e
+      spent_end k u m b Stopped h = ap (λ o. as_value (counted m (counted 1 o))) h
+      spent_end k u m b TooDeep h = ap (λ o. as_value (counted m (counted 1 o))) h
+      spent_end k u m b Overflow h = ap (λ o. as_value (counted m (counted 1 o))) h
+      spent_end k u m b NoMemory h = tt
 
   pub choice_held : (unchosen : Run (Option Binding)) (n r b s : ℕ) (σ : Binding) → s ≡ min (n + r) greatest_count → capped (after R (choice unchosen n) (held σ) r b) ≡ capped (done (held σ) s b)
   choice_held unchosen n r b s σ e = ap (λ m. done (held σ) m b) (min_twice (n + r) greatest_count ∙ ap (λ m. min m greatest_count) (sym e))
@@ -433,17 +493,39 @@ module _ (R : Rules) where
   again_waits (done v r b) = refl
   again_waits (ended e) = refl
 
-  pub begun : (k : ℕ) (t : Tree) (untried : Run (Option Tree)) → ((b : ℕ) → ((ss : List ℕ) × (settle_on R k t b ≡ done ss 0 b)) × (untried b ≡ applied_on R k t b)) → (r b : ℕ) →
+  -- ---- sorts
+
+  -- they are known, and nothing is tried yet
+  pub begun : (k : ℕ) (t : Tree) (untried : Run (Option Tree)) (ss : List ℕ) (r b : ℕ) → untried b ≡ applied_on R k t b → settle_on R k t b ≡ done ss 0 b →
       as_value (counted r (from_built R k false t b)) ≡ as_value (counted r (on_attempts R k t untried b))
-  begun k t untried h r b =
+  begun k t untried ss r b u h =
       ap (λ o. as_value (counted r o))
-      (ap (go_on (λ ss. and_then (applied_on R k t) (from k t))) (h b).0.1
+      (ap (go_on (λ ss. and_then (applied_on R k t) (from k t))) h
       ∙ (counted_zero (and_then (applied_on R k t) (from k t) b)
-      ∙ ap (go_on (from k t)) (sym (h b).1)))
+      ∙ ap (go_on (from k t)) (sym u)))
+
+  pub settles_to_end : (k : ℕ) (t : Tree) (r b : ℕ) (d : End) → settle_on R k t b ≡ ended d → as_value (counted r (from_built R k false t b)) ≡ ended d
+  settles_to_end k t r b d h = ap (λ o. as_value (counted r (go_on (λ ss. and_then (applied_on R k t) (from k t)) o))) h
+
+  -- the condition of a membership is solved by a budget of its own
+  pub settling_asks : (t : Tree) (k r b e : ℕ) (σ : Binding) → EndsWhere P (λ j. settle_on R j t) (λ j. solve_on R j e 0 σ R.limit) →
+      Follows P (λ n. as_value (counted r (from_built R (k + n) false t b))) (λ n. goes_on R (settling (k + n) t b r) (as_answer (counted_if 0 (solve_on R (k + n) e 0 σ R.limit))))
+  settling_asks t k r b e σ h = record { enough = h.enough; just = h.just; follows = λ n. by n (solve_on R (k + n) e 0 σ R.limit) refl }
+    where
+      on : (n : ℕ) (d : End) → ((settle_on R (k + n) t b ≡ ended d) ⊎ ((k + n < h.enough) × (settle_on R (k + n) t b ≡ ended too_deep))) →
+          IsAlike (as_value (counted r (from_built R (k + n) false t b))) (ended d) ⊎ ((n < h.enough) × (as_value (counted r (from_built R (k + n) false t b)) ≡ ended too_deep))
+      on n d (inl q) = inl (ap capped (settles_to_end (k + n) t r b d q))
+      on n d (inr q) = inr (more_levels k n h.enough q.0, settles_to_end (k + n) t r b too_deep q.1)
+
+      by : (n : ℕ) (o : Outcome (Option Binding)) → solve_on R (k + n) e 0 σ R.limit ≡ o →
+          IsAlike (as_value (counted r (from_built R (k + n) false t b))) (goes_on R (settling (k + n) t b r) (as_answer (counted_if 0 o))) ⊎ ((n < h.enough) × (as_value (counted r (from_built R (k + n) false t b)) ≡ ended too_deep))
+      by n (done (Some τ) q c) i = inl refl
+      by n (done None q c) i = inl refl
+      by n (ended d) i = on n d (h.ends (k + n) b d i)
 
 -- ---- from the slices that `build` was given
 
-module _ {A C S : Type 0} (w : Words A C S) where
+module _ {A C S D : Type 0} (w : Words A C S D) where
   pub built_from : (k f : ℕ) (order order' : List ℕ) (ids ids' : List TermId) (n : ℕ) (t : Tree) (changed flag : Bool) (b : ℕ) → length order ≤ n → order' ≡ order → ids' ≡ ids → flag ≡ changed →
       within_limits w.rules.program.sign.theory (build (w.rules.program.sign.theory f) f (trees w ids')) b ≡ done t 0 b → flag ≡ top_changed (w.rules.program.sign.theory f) order' f (trees w ids') t →
       on_arguments w.rules k f order (drop n order) (trees w ids) b ≡ from_built w.rules k changed t b
@@ -451,22 +533,22 @@ module _ {A C S : Type 0} (w : Words A C S) where
       built w.rules k f (trees w ids) order n t changed b h (subst (λ z. within_limits w.rules.program.sign.theory (build (w.rules.program.sign.theory f) f (trees w z)) b ≡ done t 0 b) i e)
       (sym g ∙ (c ∙ (ap (λ z. top_changed (w.rules.program.sign.theory f) z f (trees w ids') t) o ∙ ap (λ z. top_changed (w.rules.program.sign.theory f) order f (trees w z) t) i)))
 
-  pub built_ends_from : (k f : ℕ) (order : List ℕ) (ids ids' : List TermId) (n b : ℕ) (e : EvalEnd) → length order ≤ n → ids' ≡ ids →
-      IsEnd (within_limits w.rules.program.sign.theory (build (w.rules.program.sign.theory f) f (trees w ids')) b) e → IsEnd (on_arguments w.rules k f order (drop n order) (trees w ids) b) e
-  built_ends_from k f order ids ids' n b e h i d =
-      built_ends w.rules k f (trees w ids) order n b e h (subst (λ z. IsEnd (within_limits w.rules.program.sign.theory (build (w.rules.program.sign.theory f) f (trees w z)) b) e) i d)
+  pub built_ends_from : (k f : ℕ) (order : List ℕ) (ids ids' : List TermId) (n b : ℕ) (d : End) → length order ≤ n → ids' ≡ ids →
+      within_limits w.rules.program.sign.theory (build (w.rules.program.sign.theory f) f (trees w ids')) b ≡ ended d → on_arguments w.rules k f order (drop n order) (trees w ids) b ≡ ended d
+  built_ends_from k f order ids ids' n b d h i q =
+      built_ends w.rules k f (trees w ids) order n b d h (subst (λ z. within_limits w.rules.program.sign.theory (build (w.rules.program.sign.theory f) f (trees w z)) b ≡ ended d) i q)
 
 -- ---- sides, as results
 
 module _ (R : Rules) where
-  pub sides : (k : ℕ) → (k ≡ 0 → ⊥) → (t : Tree) (b : ℕ) (tree : TermId → Tree) (r : Result TermId EvalEnd) → ((j b : ℕ) → IfOk r (λ u. eval_on R (suc j) t b ≡ eval_on R (suc j) (tree u) b)) →
-      IfOk r (λ u. eval_on R k t b ≡ eval_on R k (tree u) b)
-  sides k h t b tree (Ok u) e = side_at R k h t (tree u) b e
-  sides k h t b tree (Err d) e = tt
+  pub sides : (k n : ℕ) → (k ≡ 0 → ⊥) → (t : Tree) (b : ℕ) (tree : TermId → Tree) (r : Result TermId EvalEnd) → ((j b : ℕ) → IfOk r (λ u. eval_on R (suc j) t b ≡ eval_on R (suc j) (tree u) b)) →
+      IfOk r (λ u. eval_on R (k + n) t b ≡ eval_on R (k + n) (tree u) b)
+  sides k n h t b tree (Ok u) e = side_at R (k + n) (still_some k n h) t (tree u) b e
+  sides k n h t b tree (Err d) e = tt
 
-  pub sides_end : (k : ℕ) → (k ≡ 0 → ⊥) → (t : Tree) (b : ℕ) (r : Result TermId EvalEnd) → ((j b : ℕ) → IfErr r (IsEnd (eval_on R (suc j) t b))) → IfErr r (IsEnd (eval_on R k t b))
+  pub sides_end : (k : ℕ) → (k ≡ 0 → ⊥) → (t : Tree) (b : ℕ) (r : Result TermId EvalEnd) → ((j b : ℕ) → IfErr r (IsEnd (eval_on R (suc j) t b))) → IfErr r (ComesToEnd R.program (λ n. eval_on R (k + n) t b))
   sides_end k h t b (Ok u) e = tt
-  sides_end k h t b (Err d) e = ends_at R k h t b d e
+  sides_end k h t b (Err d) e = ends_exactly R.program (λ n. eval_on R (k + n) t b) d (λ n. ends_at R (k + n) (still_some k n h) t b d e)
 
 pub one : (n : ℕ) → suc n ≡ n + 1
 one n = omega arith

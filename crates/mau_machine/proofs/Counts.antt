@@ -1,12 +1,10 @@
 -- Counts and ends of outcomes.
-use Rattle.std.proofs.Common.{◌≡◌, ℕ, ◌+◌, ◌≤◌, min, Option, Some, None, refl, sym, ◌∙◌, ap, subst, arith, Result, IfErr}
+use Rattle.std.proofs.Common.{◌≡◌, ℕ, ◌+◌, ◌≤◌, min, Option, Some, None, refl, sym, ◌∙◌, ap, arith}
 use Rattle.mau_terms.specs.Tree.{Tree}
-use Rattle.mau_evaluation.specs.Run.{End, Outcome, done, ended, Run, stopped, too_deep, overflowed, counted, counted_if, go_on, try_on}
+use Rattle.mau_evaluation.specs.Run.{End, Outcome, done, ended, Run, counted, counted_if, go_on}
 use Rattle.mau_evaluation.specs.Evaluation.{Binding}
-use Rattle.mau_api.specs.declared.results.EvalEnd.{EvalEnd}
-use Rattle.mau_api.specs.declared.results.EvalEnd.TheVariants.{Stopped, TooDeep, Overflow, NoMemory}
-use Rattle.mau_machine.specs.Words.{greatest_count, capped, IsEnd}
-use Rattle.mau_machine.specs.Machine.{Reply, gave, held, failed, as_value, as_answer}
+use Rattle.mau_machine.specs.Words.{greatest_count, capped}
+use Rattle.mau_machine.specs.Machine.{gave, held, failed, as_value, as_answer}
 
 -- ---- sums
 
@@ -65,44 +63,6 @@ answer_twice r q (done (Some x) p b) = ap (λ n. done (held x) n b) (sum_twice r
 answer_twice r q (done None p b) = refl
 answer_twice r q (ended e) = refl
 
--- ---- ends
-
-pub value_ends : (r : ℕ) (o : Outcome Tree) (e : EvalEnd) → IsEnd o e → IsEnd (as_value (counted r o)) e
-value_ends r o Stopped h = ap (λ z. as_value (counted r z)) h
-value_ends r o TooDeep h = ap (λ z. as_value (counted r z)) h
-value_ends r o Overflow h = ap (λ z. as_value (counted r z)) h
-value_ends r o NoMemory h = tt
-
-pub answer_ends : (r : ℕ) (o : Outcome (Option Binding)) (e : EvalEnd) → IsEnd o e → IsEnd (as_answer (counted_if r o)) e
-answer_ends r o Stopped h = ap (λ z. as_answer (counted_if r z)) h
-answer_ends r o TooDeep h = ap (λ z. as_answer (counted_if r z)) h
-answer_ends r o Overflow h = ap (λ z. as_answer (counted_if r z)) h
-answer_ends r o NoMemory h = tt
-
-pub first_ends : {A B : Type 0} (k : A → Run B) (o : Outcome A) (e : EvalEnd) → IsEnd o e → IsEnd (go_on k o) e
-first_ends k o Stopped h = ap (go_on k) h
-first_ends k o TooDeep h = ap (go_on k) h
-first_ends k o Overflow h = ap (go_on k) h
-first_ends k o NoMemory h = tt
-
-pub try_ends : {A B : Type 0} (k : A → Run (Option B)) (o : Outcome A) (e : EvalEnd) → IsEnd o e → IsEnd (try_on k o) e
-try_ends k o Stopped h = ap (try_on k) h
-try_ends k o TooDeep h = ap (try_on k) h
-try_ends k o Overflow h = ap (try_on k) h
-try_ends k o NoMemory h = tt
-
-pub counted_ends : {A : Type 0} (r : ℕ) (o : Outcome A) (e : EvalEnd) → IsEnd o e → IsEnd (counted r o) e
-counted_ends r o Stopped h = ap (counted r) h
-counted_ends r o TooDeep h = ap (counted r) h
-counted_ends r o Overflow h = ap (counted r) h
-counted_ends r o NoMemory h = tt
-
-pub same_ends : {A : Type 0} (o o' : Outcome A) (e : EvalEnd) → o ≡ o' → IsEnd o' e → IsEnd o e
-same_ends o o' e s h = subst (λ z. IsEnd z e) (sym s) h
-
-pub any_end : {N : Type 0} (o : Outcome Reply) (r : Result N EvalEnd) → ((o : Outcome Reply) → IfErr r (IsEnd o)) → IfErr r (IsEnd o)
-any_end o r h = h o
-
 -- ---- what is shown at the end
 
 pub value_is : (o : Outcome Tree) (t : Tree) (r b : ℕ) → r ≤ greatest_count → capped (as_value o) ≡ capped (done (gave t) r b) → capped o ≡ done t r b
@@ -120,51 +80,40 @@ solution_is o σ r b h e = by o (e ∙ ap (λ n. done (held σ) n b) (min_small 
     by (done None q c) e = cc
     by (ended d) e = cc
 
-pub none_is : (o : Outcome (Option Binding)) (r b : ℕ) → capped (as_answer o) ≡ capped (done failed r b) → (q : ℕ) × (o ≡ done None q b)
-none_is (done (Some τ) q c) r b e = absurd (no e)
+-- a failure, which counts nothing
+pub none_is : (o : Outcome (Option Binding)) (b : ℕ) → capped (as_answer (counted_if 0 o)) ≡ capped (done failed 0 b) → capped (counted_if 0 o) ≡ done None 0 b
+none_is (done (Some τ) q c) b e = absurd (no e)
   where
-    no : done (held τ) (min q greatest_count) c ≡ done failed (min r greatest_count) b → ⊥
+    no : done (held τ) (min (0 + q) greatest_count) c ≡ done failed (min 0 greatest_count) b → ⊥
     no e = cc
-none_is (done None q c) r b e = (q, ap (done None q) (left e))
+none_is (done None q c) b e = ap (λ n. done None n c) (min_small 0 greatest_count (omega arith)) ∙ ap (done None 0) (left e)
   where
-    left : done failed (min 0 greatest_count) c ≡ done failed (min r greatest_count) b → c ≡ b
+    left : done failed (min 0 greatest_count) c ≡ done failed (min 0 greatest_count) b → c ≡ b
     left e = cc
-none_is (ended d) r b e = absurd (no e)
+none_is (ended d) b e = absurd (no e)
   where
-    no : ended d ≡ done failed (min r greatest_count) b → ⊥
+    no : ended d ≡ done failed (min 0 greatest_count) b → ⊥
     no e = cc
 
-value_end : (o : Outcome Tree) (d : End) → capped (as_value o) ≡ ended d → o ≡ ended d
+pub value_end : (o : Outcome Tree) (d : End) → as_value o ≡ ended d → o ≡ ended d
 value_end (done u q c) d e = cc
 value_end (ended d') d e = cc
 
-pub value_ends_as : (o : Outcome Tree) (x : Outcome Reply) (e : EvalEnd) → capped (as_value o) ≡ capped x → IsEnd x e → IsEnd o e
-value_ends_as o x Stopped s h = value_end o stopped (s ∙ ap capped h)
-value_ends_as o x TooDeep s h = value_end o too_deep (s ∙ ap capped h)
-value_ends_as o x Overflow s h = value_end o overflowed (s ∙ ap capped h)
-value_ends_as o x NoMemory s h = tt
-
-answer_end : (o : Outcome (Option Binding)) (d : End) → capped (as_answer o) ≡ ended d → o ≡ ended d
+pub answer_end : (o : Outcome (Option Binding)) (d : End) → as_answer o ≡ ended d → o ≡ ended d
 answer_end (done (Some σ) q c) d e = cc
 answer_end (done None q c) d e = cc
 answer_end (ended d') d e = cc
 
-pub answer_ends_as : (o : Outcome (Option Binding)) (x : Outcome Reply) (e : EvalEnd) → capped (as_answer o) ≡ capped x → IsEnd x e → IsEnd o e
-answer_ends_as o x Stopped s h = answer_end o stopped (s ∙ ap capped h)
-answer_ends_as o x TooDeep s h = answer_end o too_deep (s ∙ ap capped h)
-answer_ends_as o x Overflow s h = answer_end o overflowed (s ∙ ap capped h)
-answer_ends_as o x NoMemory s h = tt
+pub counted_if_end : (r : ℕ) (o : Outcome (Option Binding)) (d : End) → counted_if r o ≡ ended d → o ≡ ended d
+counted_if_end r (done (Some σ) q c) d e = cc
+counted_if_end r (done None q c) d e = cc
+counted_if_end r (ended d') d e = cc
 
-shown_end : (x y : Outcome Reply) (d : End) → capped x ≡ capped y → y ≡ ended d → x ≡ ended d
-shown_end (done u q c) y d s h = absurd (no (s ∙ ap capped h))
-  where
-    no : done u (min q greatest_count) c ≡ ended d → ⊥
-    no e = cc
-shown_end (ended d') y d s h = s ∙ ap capped h
+-- an end is shown as it is
+pub end_is : {A : Type 0} (o : Outcome A) (d : End) → capped o ≡ ended d → o ≡ ended d
+end_is (done u q c) d e = cc
+end_is (ended d') d e = e
 
--- outcomes that are shown alike end alike
-pub ends_alike : (x y : Outcome Reply) (e : EvalEnd) → capped x ≡ capped y → IsEnd y e → IsEnd x e
-ends_alike x y Stopped s h = shown_end x y stopped s h
-ends_alike x y TooDeep s h = shown_end x y too_deep s h
-ends_alike x y Overflow s h = shown_end x y overflowed s h
-ends_alike x y NoMemory s h = tt
+-- what is shown like an end is that end
+pub shown_end : {A : Type 0} (x y : Outcome A) (d : End) → capped x ≡ capped y → y ≡ ended d → x ≡ ended d
+shown_end x y d s h = end_is x d (s ∙ ap capped h)

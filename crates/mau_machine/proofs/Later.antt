@@ -112,8 +112,8 @@ module _ (R : Rules) (old new : List Node) (x : Extends old new) (before after :
   side_later : (e j : ℕ) (right : Bool) (σ : Binding) (t : TermId) (y : Tree) → IsSide R old before e j right σ t y → IsSide R new after e j right σ t y
   side_later e j right σ t y h = record { stands = stands_later t y h.stands; normal = h.normal; side = h.side }
 
-module _ {A C S : Type 0} (w w' : Words A C S) (k : Keeps w w') (old new : List Node) (x : Extends old new) (before after : Table) (kept : KeepsEntries before after) where
-  task_on : (J : Job) (c : Control A C S) (es : List Event) → IsKnownNext w c → TellsTask w old before J c es → TellsTask w' new after J c es
+module _ {A C S D : Type 0} (w w' : Words A C S D) (k : Keeps w w') (old new : List Node) (x : Extends old new) (before after : Table) (kept : KeepsEntries before after) where
+  task_on : (J : Job) (c : Control A C S D) (es : List Event) → IsKnownNext w c → TellsTask w old before J c es → TellsTask w' new after J c es
   task_on (evaluating t0) (Next.Eval n t) es q h =
       subst (λ R. MayBegin R new after t0 es (w'.tree t.0)) (sym k.rules) (subst (MayBegin w.rules new after t0 es) (sym (k.terms t.0 q).1) (may_begin_later w.rules old new x before after kept t0 es (w.tree t.0) h))
   task_on (evaluating t0) (Next.Evaluating a) es q h =
@@ -121,6 +121,10 @@ module _ {A C S : Type 0} (w w' : Words A C S) (k : Keeps w w') (old new : List 
       (subst (λ ts. IsInRound w.rules new after t0 a.op.0 ts es) (sym (k.operands a.op.0 a.args.items q).1) (in_round_later w.rules old new x before after kept t0 a.op.0 (trees w a.args.items) es h))
   task_on (evaluating t0) (Next.Top n t) es q h =
       subst (λ R. Runs R new after t0 es (w'.tree t.0)) (sym k.rules) (subst (Runs w.rules new after t0 es) (sym (k.terms t.0 q).1) (runs_later w.rules old new x before after kept t0 es (w.tree t.0) h))
+  task_on (evaluating t0) (Next.Settle n t d) es q h =
+      subst (λ R. Runs R new after t0 es (w'.tree t.0)) (sym k.rules) (subst (Runs w.rules new after t0 es) (sym (k.terms t.0 q.0).1) (runs_later w.rules old new x before after kept t0 es (w.tree t.0) h))
+  task_on (evaluating t0) (Next.Ready n t) es q h =
+      subst (λ R. Runs R new after t0 es (w'.tree t.0)) (sym k.rules) (subst (Runs w.rules new after t0 es) (sym (k.values t.0 q).1) (runs_later w.rules old new x before after kept t0 es (w.tree t.0) h))
   task_on (evaluating t0) (Next.Attempt y) es q h =
       subst (λ R. Runs R new after t0 es (w'.tree y.term.0)) (sym k.rules) (subst (Runs w.rules new after t0 es) (sym (k.values y.term.0 q.0).1) (runs_later w.rules old new x before after kept t0 es (w.tree y.term.0) h))
   task_on (evaluating t0) (Next.Value t) es q h =
@@ -188,7 +192,7 @@ module _ {A C S : Type 0} (w w' : Words A C S) (k : Keeps w w') (old new : List 
     shown = shown_on e i j τ τ' h.before b h.shown;
   }
 
-  frame_on : (n m : ℕ) (J : Job) (f : Frame A C S) (xs : List Event) (K : Job) → IsKnown w f → TellsFrame w old before n m J f xs K → TellsFrame w' new after n m J f xs K
+  frame_on : (n m : ℕ) (J : Job) (f : Frame A C S D) (xs : List Event) (K : Job) → IsKnown w f → TellsFrame w old before n m J f xs K → TellsFrame w' new after n m J f xs K
   frame_on n m (evaluating t0) (Waiting.Argument a i) xs (evaluating y) q h =
       let e = sym (k.operands a.op.0 a.args.items q).1 in
       let s = stands_later w.rules old new x before after kept h.term y h.stands in
@@ -227,14 +231,16 @@ module _ {A C S : Type 0} (w w' : Words A C S) (k : Keeps w w') (old new : List 
       )
   frame_on n m (evaluating t0) (Waiting.Trying y b mark) xs (solving e i σ) q h =
       (h.0, h.1, subst (λ R. Runs R new after t0 xs (w'.tree y.term.0)) (sym k.rules) (subst (Runs w.rules new after t0 xs) (sym (k.values y.term.0 q.0).1) (runs_later w.rules old new x before after kept t0 xs (w.tree y.term.0) h.2)), h.3, h.4)
+  frame_on n m (evaluating t0) (Waiting.Deriving y mark) xs (solving e i σ) q h =
+      (h.0, h.1, subst (λ R. Runs R new after t0 xs (w'.tree y.term.0)) (sym k.rules) (subst (Runs w.rules new after t0 xs) (sym (k.terms y.term.0 q).1) (runs_later w.rules old new x before after kept t0 xs (w.tree y.term.0) h.2)), h.3, h.4)
   frame_on n m J f xs K q h = absurd h
 
-  tells_on : (n m : ℕ) (J : Job) (fs : List (Frame A C S)) (c : Control A C S) (r : ℕ) (es : List Event) → AreKnown w fs → IsKnownNext w c → Tells w old before n m J fs c r es → Tells w' new after n m J fs c r es
+  tells_on : (n m : ℕ) (J : Job) (fs : List (Frame A C S D)) (c : Control A C S D) (r : ℕ) (es : List Event) → AreKnown w fs → IsKnownNext w c → Tells w old before n m J fs c r es → Tells w' new after n m J fs c r es
   tells_on n m J [] c r es q g h = (task_on J c es g h.0, h.1)
   tells_on n m J (f ∷ fs) c r es q g h =
       (h.0, h.1, h.2, h.3, frame_on n m J f h.0 h.2 q.0 h.4, tells_on (n + length h.0) (counted_on f m h.0) h.2 fs c r h.1 q.1 g h.5)
 
   -- what was told of frames and a task stays told of them
-  pub telling_later : (front : List Event) (J : Job) (fs : List (Frame A C S)) (c : Control A C S) (r : ℕ) (told : List Event) → AreKnown w fs → IsKnownNext w c →
+  pub telling_later : (front : List Event) (J : Job) (fs : List (Frame A C S D)) (c : Control A C S D) (r : ℕ) (told : List Event) → AreKnown w fs → IsKnownNext w c →
       IsTelling w old before front J fs c r told → IsTelling w' new after front J fs c r told
   telling_later front J fs c r told q g h = record { events = h.events; is = h.is; tells = tells_on (length front) 0 J fs c r h.events q g h.tells }

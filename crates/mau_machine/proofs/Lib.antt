@@ -1,7 +1,9 @@
 pub mod Counts
 pub mod Through
-pub mod Branches
 pub mod Held
+pub mod Following
+pub mod Derived
+pub mod Branches
 pub mod Pieces
 pub mod Later
 pub mod Tellings

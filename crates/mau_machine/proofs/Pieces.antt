@@ -16,9 +16,9 @@ longer k n a b h = omega (arith, h)
 behind : (k n : ℕ) (es xs ys : List Event) → k ≡ n + length es → es ≡ xs ++ ys → k ≡ n + length xs + length ys
 behind k n es xs ys h e = longer k n (length xs) (length ys) (h ∙ ap (λ m. n + m) (ap length e ∙ length-append xs ys))
 
-module _ {A C S : Type 0} (w : Words A C S) (nodes : List Node) (table : Table) where
+module _ {A C S D : Type 0} (w : Words A C S D) (nodes : List Node) (table : Table) where
   -- the task goes on to another one
-  pub told_on : (n m : ℕ) (J : Job) (fs : List (Frame A C S)) (c d : Control A C S) (r q : ℕ) (es new : List Event) →
+  pub told_on : (n m : ℕ) (J : Job) (fs : List (Frame A C S D)) (c d : Control A C S D) (r q : ℕ) (es new : List Event) →
       ((J : Job) (m : ℕ) (ys : List Event) → TellsTask w nodes table J c ys → Counts c r (m + steps_in ys) → TellsTask w nodes table J d (ys ++ new) × Counts d q (m + steps_in (ys ++ new))) →
       Tells w nodes table n m J fs c r es → Tells w nodes table n m J fs d q (es ++ new)
   told_on n m J [] c d r q es new h t = h J m es t.0 t.1
@@ -26,7 +26,7 @@ module _ {A C S : Type 0} (w : Words A C S) (nodes : List Node) (table : Table) 
       (t.0, t.1 ++ new, t.2, ap (λ z. z ++ new) t.3 ∙ append_assoc t.0 t.1 new, t.4, told_on (n + length t.0) (counted_on f m t.0) t.2 fs c d r q t.1 new h t.5)
 
   -- a frame begins to wait
-  pub told_pushed : (n m : ℕ) (J : Job) (fs : List (Frame A C S)) (f : Frame A C S) (c d : Control A C S) (r q k : ℕ) (es new : List Event) →
+  pub told_pushed : (n m : ℕ) (J : Job) (fs : List (Frame A C S D)) (f : Frame A C S D) (c d : Control A C S D) (r q k : ℕ) (es new : List Event) →
       ((n m : ℕ) (J : Job) (ys : List Event) → k ≡ n + length ys → TellsTask w nodes table J c ys → Counts c r (m + steps_in ys) →
       (K : Job) × TellsFrame w nodes table n m J f (ys ++ new) K × TellsTask w nodes table K d [] × Counts d q (counted_on f m (ys ++ new) + 0)) →
       k ≡ n + length es → Tells w nodes table n m J fs c r es → Tells w nodes table n m J (fs ++ f ∷ []) d q (es ++ new)
@@ -41,7 +41,7 @@ module _ {A C S : Type 0} (w : Words A C S) (nodes : List Node) (table : Table) 
   )
 
   -- the last frame goes on
-  pub told_popped : (n m : ℕ) (J : Job) (fs : List (Frame A C S)) (f : Frame A C S) (c d : Control A C S) (r q : ℕ) (es new : List Event) →
+  pub told_popped : (n m : ℕ) (J : Job) (fs : List (Frame A C S D)) (f : Frame A C S D) (c d : Control A C S D) (r q : ℕ) (es new : List Event) →
       ((n m : ℕ) (J K : Job) (xs ys : List Event) → TellsFrame w nodes table n m J f xs K → TellsTask w nodes table K c ys → Counts c r (counted_on f m xs + steps_in ys) →
       TellsTask w nodes table J d ((xs ++ ys) ++ new) × Counts d q (m + steps_in ((xs ++ ys) ++ new))) →
       Tells w nodes table n m J (fs ++ f ∷ []) c r es → Tells w nodes table n m J fs d q (es ++ new)
@@ -51,7 +51,7 @@ module _ {A C S : Type 0} (w : Words A C S) (nodes : List Node) (table : Table) 
       (t.0, t.1 ++ new, t.2, ap (λ z. z ++ new) t.3 ∙ append_assoc t.0 t.1 new, t.4, told_popped (n + length t.0) (counted_on g m t.0) t.2 fs f c d r q t.1 new h t.5)
 
   -- the last frame waits on as another one
-  pub told_swapped : (n m : ℕ) (J : Job) (fs : List (Frame A C S)) (f g : Frame A C S) (c d : Control A C S) (r q : ℕ) (es new : List Event) →
+  pub told_swapped : (n m : ℕ) (J : Job) (fs : List (Frame A C S D)) (f g : Frame A C S D) (c d : Control A C S D) (r q : ℕ) (es new : List Event) →
       ((n m : ℕ) (J K : Job) (xs ys : List Event) → TellsFrame w nodes table n m J f xs K → TellsTask w nodes table K c ys → Counts c r (counted_on f m xs + steps_in ys) →
       (L : Job) × TellsFrame w nodes table n m J g ((xs ++ ys) ++ new) L × TellsTask w nodes table L d [] × Counts d q (counted_on g m ((xs ++ ys) ++ new) + 0)) →
       Tells w nodes table n m J (fs ++ f ∷ []) c r es → Tells w nodes table n m J (fs ++ g ∷ []) d q (es ++ new)
@@ -62,7 +62,7 @@ module _ {A C S : Type 0} (w : Words A C S) (nodes : List Node) (table : Table) 
       (t.0, t.1 ++ new, t.2, ap (λ z. z ++ new) t.3 ∙ append_assoc t.0 t.1 new, t.4, told_swapped (n + length t.0) (counted_on h m t.0) t.2 fs f g c d r q t.1 new k t.5)
 
   -- what was told since a mark of the last frame is taken back
-  pub told_back : (n m : ℕ) (J : Job) (fs : List (Frame A C S)) (f : Frame A C S) (c d : Control A C S) (r q k : ℕ) (es : List Event) →
+  pub told_back : (n m : ℕ) (J : Job) (fs : List (Frame A C S D)) (f : Frame A C S D) (c d : Control A C S D) (r q k : ℕ) (es : List Event) →
       ((n m : ℕ) (J K : Job) (xs : List Event) → TellsFrame w nodes table n m J f xs K → (k ≡ n + length xs) × TellsTask w nodes table J d xs × Counts d q (m + steps_in xs)) →
       Tells w nodes table n m J (fs ++ f ∷ []) c r es →
       (kept : List Event) × (more : List Event) × (es ≡ kept ++ more) × (k ≡ n + length kept) × Tells w nodes table n m J fs d q kept

@@ -36,13 +36,13 @@ kind_in s [] i = None
 kind_in s (t ∷ ts) zero = kind_at s t
 kind_in s (t ∷ ts) (suc i) = kind_in s ts i
 
-module _ {A C S : Type 0} (w : Words A C S) where
+module _ {A C S D : Type 0} (w : Words A C S D) where
   -- the kind of the operator f over its arguments
   abbrev pub kind_under : ℕ → Option ℕ
   kind_under f = Some (w.rules.program.sign.result f)
 
   -- what a frame waits for
-  abbrev pub asks : Frame A C S → Due
+  abbrev pub asks : Frame A C S D → Due
   asks (Waiting.Argument a i) = value_of (kind_in w.rules.program.sign (trees w a.args.items) i)
   asks (Waiting.Again t) = value_of (kind_of w t.0)
   asks (Waiting.Left c) = any_value
@@ -51,9 +51,10 @@ module _ {A C S : Type 0} (w : Words A C S) where
   asks (Waiting.Matching c) = any_value
   asks (Waiting.Choice c mark) = answer_to c.condition
   asks (Waiting.Trying x before mark) = answer_to x.condition
+  asks (Waiting.Deriving x mark) = answer_to x.condition
 
   -- what comes of it for the frame below
-  abbrev pub yields : Frame A C S → Due
+  abbrev pub yields : Frame A C S D → Due
   yields (Waiting.Argument a i) = value_of (kind_under a.op.0)
   yields (Waiting.Again t) = value_of (kind_of w t.0)
   yields (Waiting.Left c) = answer_to c.condition
@@ -62,12 +63,15 @@ module _ {A C S : Type 0} (w : Words A C S) where
   yields (Waiting.Matching c) = answer_to c.condition
   yields (Waiting.Choice c mark) = answer_to c.condition
   yields (Waiting.Trying x before mark) = value_of (kind_of w x.term.0)
+  yields (Waiting.Deriving x mark) = value_of (kind_of w x.term.0)
 
   -- what comes of what is done next
-  abbrev pub comes_to : Control A C S → Due
+  abbrev pub comes_to : Control A C S D → Due
   comes_to (Next.Eval k t) = value_of (kind_of w t.0)
   comes_to (Next.Evaluating a) = value_of (kind_under a.op.0)
   comes_to (Next.Top k t) = value_of (kind_of w t.0)
+  comes_to (Next.Settle k t d) = value_of (kind_of w t.0)
+  comes_to (Next.Ready k t) = value_of (kind_of w t.0)
   comes_to (Next.Attempt x) = value_of (kind_of w x.term.0)
   comes_to (Next.Solve c) = answer_to c.condition
   comes_to (Next.Choose c) = answer_to c.condition
@@ -76,12 +80,12 @@ module _ {A C S : Type 0} (w : Words A C S) where
   comes_to (Next.Failed e) = answer_to e
 
   -- from what all is to give, down to what is done next, each gives what is asked
-  abbrev pub AreChained : Due → List (Frame A C S) → Due → Type 0
+  abbrev pub AreChained : Due → List (Frame A C S D) → Due → Type 0
   AreChained asked [] due = Suits asked due
   AreChained asked (f ∷ fs) due = Suits asked (yields f) × AreChained (asks f) fs due
 
   -- what a frame holds is known
-  abbrev pub IsKnown : Frame A C S → Type 0
+  abbrev pub IsKnown : Frame A C S D → Type 0
   IsKnown (Waiting.Argument a i) = w.knows_operands a.op.0 a.args.items
   IsKnown (Waiting.Again t) = w.knows_term t.0
   IsKnown (Waiting.Left c) = w.knows_binding c.condition c.at c.binding × Asks w.rules c.condition c.at Goals.Equality
@@ -90,12 +94,15 @@ module _ {A C S : Type 0} (w : Words A C S) where
   IsKnown (Waiting.Matching c) = w.knows_binding c.condition c.at c.binding × Asks w.rules c.condition c.at Goals.Matching
   IsKnown (Waiting.Choice c mark) = w.knows_choices c.condition c.at c.choices
   IsKnown (Waiting.Trying x before mark) = w.knows_value x.term.0 × w.knows_attempts x.term.0 x.attempts × w.knows_candidate x.term.0 x.condition x.attempts
+  IsKnown (Waiting.Deriving x mark) = w.knows_term x.term.0
 
   -- what is done next is known
-  abbrev pub IsKnownNext : Control A C S → Type 0
+  abbrev pub IsKnownNext : Control A C S D → Type 0
   IsKnownNext (Next.Eval k t) = w.knows_term t.0
   IsKnownNext (Next.Evaluating a) = w.knows_operands a.op.0 a.args.items
   IsKnownNext (Next.Top k t) = w.knows_term t.0
+  IsKnownNext (Next.Settle k t d) = w.knows_term t.0 × w.knows_settling t.0 d
+  IsKnownNext (Next.Ready k t) = w.knows_value t.0
   IsKnownNext (Next.Attempt x) = w.knows_value x.term.0 × w.knows_attempts x.term.0 x.attempts
   IsKnownNext (Next.Solve c) = w.knows_binding c.condition c.at c.binding
   IsKnownNext (Next.Choose c) = w.knows_choices c.condition c.at c.choices
@@ -103,12 +110,12 @@ module _ {A C S : Type 0} (w : Words A C S) where
   IsKnownNext (Next.Held e σ) = IsSolution w e σ
   IsKnownNext (Next.Failed e) = Unit {0}
 
-  abbrev pub AreKnown : List (Frame A C S) → Type 0
+  abbrev pub AreKnown : List (Frame A C S D) → Type 0
   AreKnown [] = Unit {0}
   AreKnown (f ∷ fs) = IsKnown f × AreKnown fs
 
   -- all handles are known, and each is given what it asks
-  pub record HoldsIn (asked : Due) (fs : List (Frame A C S)) (c : Control A C S) : Type 0 where
+  pub record HoldsIn (asked : Due) (fs : List (Frame A C S D)) (c : Control A C S D) : Type 0 where
     pub frames : AreKnown fs
     pub next : IsKnownNext c
     pub chained : AreChained asked fs (comes_to c)

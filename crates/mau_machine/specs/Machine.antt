@@ -24,6 +24,8 @@ pub data Waits : Type 0 where
   matching : (k e i : ℕ) (σ : Binding) → Waits
   -- what the solutions give that are left, and what was counted before
   choice : (unchosen : Run (Option Binding)) (before : ℕ) → Waits
+  -- the condition of a membership that may give a sort to the term t; what is left of the budget outside it, and what was counted before
+  settling : (k : ℕ) (t : Tree) (budget before : ℕ) → Waits
   -- what the candidates give that are left, what the one that is tried makes of the term t, and what was counted before
   trying : (k : ℕ) (t : Tree) (untried : Run (Option Tree)) (makes : Binding → Tree) (before : ℕ) → Waits
 
@@ -38,24 +40,28 @@ pub data Task : Type 0 where
   holds : (σ : Binding) → Task
   fails : Task
 
-module _ {A C S : Type 0} (w : Words A C S) where
-  abbrev pub waits_in : Frame A C S → Waits
-  waits_in (Waiting.Argument a i) = argument a.level a.op.0 (trees w a.args.items) a.order.items a.next i
+-- by n levels more than stand in them
+module _ {A C S D : Type 0} (w : Words A C S D) (n : ℕ) where
+  abbrev pub waits_in : Frame A C S D → Waits
+  waits_in (Waiting.Argument a i) = argument (a.level + n) a.op.0 (trees w a.args.items) a.order.items a.next i
   waits_in (Waiting.Again t) = again
-  waits_in (Waiting.Left c) = left_side c.level c.condition c.at (w.bound c.binding)
-  waits_in (Waiting.Right c t) = right_side c.level c.condition c.at (w.bound c.binding) (w.tree t.0)
-  waits_in (Waiting.Sorting c) = sorting c.level c.condition c.at (w.bound c.binding)
-  waits_in (Waiting.Matching c) = matching c.level c.condition c.at (w.bound c.binding)
-  waits_in (Waiting.Choice c mark) = choice (w.unchosen c.choices c.level c.condition c.at) c.before
-  waits_in (Waiting.Trying x before mark) = trying x.level (w.tree x.term.0) (w.untried x.attempts x.level) (w.makes x.attempts) before
+  waits_in (Waiting.Left c) = left_side (c.level + n) c.condition c.at (w.bound c.binding)
+  waits_in (Waiting.Right c t) = right_side (c.level + n) c.condition c.at (w.bound c.binding) (w.tree t.0)
+  waits_in (Waiting.Sorting c) = sorting (c.level + n) c.condition c.at (w.bound c.binding)
+  waits_in (Waiting.Matching c) = matching (c.level + n) c.condition c.at (w.bound c.binding)
+  waits_in (Waiting.Choice c mark) = choice (w.unchosen c.choices (c.level + n) c.condition c.at) c.before
+  waits_in (Waiting.Trying x before mark) = trying (x.level + n) (w.tree x.term.0) (w.untried x.attempts (x.level + n)) (w.makes x.attempts) before
+  waits_in (Waiting.Deriving x mark) = settling (x.level + n) (w.tree x.term.0) x.budget x.before
 
-  abbrev pub task_in : Control A C S → Task
-  task_in (Next.Eval k t) = evaluates k (w.tree t.0)
-  task_in (Next.Evaluating a) = arguments a.level a.op.0 (trees w a.args.items) a.order.items a.next
-  task_in (Next.Top k t) = looks_at_top k (w.tree t.0)
-  task_in (Next.Attempt x) = attempts x.level (w.tree x.term.0) (w.untried x.attempts x.level)
-  task_in (Next.Solve c) = solves c.level c.condition c.at (w.bound c.binding)
-  task_in (Next.Choose c) = chooses (w.unchosen c.choices c.level c.condition c.at) c.before
+  abbrev pub task_in : Control A C S D → Task
+  task_in (Next.Eval k t) = evaluates (k + n) (w.tree t.0)
+  task_in (Next.Evaluating a) = arguments (a.level + n) a.op.0 (trees w a.args.items) a.order.items a.next
+  task_in (Next.Top k t) = looks_at_top (k + n) (w.tree t.0)
+  task_in (Next.Settle k t d) = looks_at_top (k + n) (w.tree t.0)
+  task_in (Next.Ready k t) = looks_at_top (k + n) (w.tree t.0)
+  task_in (Next.Attempt x) = attempts (x.level + n) (w.tree x.term.0) (w.untried x.attempts (x.level + n))
+  task_in (Next.Solve c) = solves (c.level + n) c.condition c.at (w.bound c.binding)
+  task_in (Next.Choose c) = chooses (w.unchosen c.choices (c.level + n) c.condition c.at) c.before
   task_in (Next.Value t) = has_value (w.tree t.0)
   task_in (Next.Held e σ) = holds (w.bound σ)
   task_in (Next.Failed e) = fails
@@ -108,6 +114,9 @@ module _ (R : Rules) where
   after (choice unchosen before) failed r = λ b. as_answer (counted_if before (unchosen b))
   after (trying k t untried makes before) (held σ) r = λ b. as_value (counted (before + r) (spend (eval_on R (suc k) (makes σ)) b))
   after (trying k t untried makes before) failed r = λ b. as_value (counted before (on_attempts k t untried b))
+  -- whether the condition holds, settling goes on; its budget was its own, and it counts nothing
+  after (settling k t budget before) (held σ) r = λ b. as_value (counted before (from_built k false t budget))
+  after (settling k t budget before) failed r = λ b. as_value (counted before (from_built k false t budget))
   -- never
   after f reply r = λ b. ended stopped
 
@@ -127,12 +136,12 @@ module _ (R : Rules) where
   comes (holds σ) r = λ b. done (held σ) r b
   comes fails r = λ b. done failed 0 b
 
-module _ {A C S : Type 0} (w : Words A C S) where
+module _ {A C S D : Type 0} (w : Words A C S D) (n : ℕ) where
   -- what comes of an outcome through frames, of which the first one waits longest
-  abbrev pub through : List (Frame A C S) → Outcome Reply → Outcome Reply
+  abbrev pub through : List (Frame A C S D) → Outcome Reply → Outcome Reply
   through [] o = o
-  through (f ∷ fs) o = goes_on w.rules (waits_in w f) (through fs o)
+  through (f ∷ fs) o = goes_on w.rules (waits_in w n f) (through fs o)
 
   -- what comes of all: of what is done next, through the frames
-  abbrev pub whole : List (Frame A C S) → Control A C S → ℕ → Run Reply
-  whole fs c r = λ b. through fs (comes w.rules (task_in w c) r b)
+  abbrev pub whole : List (Frame A C S D) → Control A C S D → ℕ → Run Reply
+  whole fs c r = λ b. through fs (comes w.rules (task_in w n c) r b)

@@ -105,25 +105,28 @@ module _ (R : Rules) (nodes : List Node) (table : Table) where
     pub normal : IsNormalTerm R.written.sig x
     pub side : (τ : Binding) → IsExtension σ τ → norm R.program.sign.theory (side_of R e j right τ) ≡ x
 
-module _ {A C S : Type 0} where
+module _ {A C S D : Type 0} where
   -- as many steps were told as are counted
-  abbrev pub Counts : Control A C S → (r steps : ℕ) → Type 0
+  abbrev pub Counts : Control A C S D → (r steps : ℕ) → Type 0
   Counts (Next.Failed d) r n = Unit {0}
   Counts (Next.Choose c) r n = c.before ≡ shown_count n
   Counts c r n = r ≡ shown_count n
 
   -- a frame that counts apart begins to count anew
-  abbrev pub counted_on : Frame A C S → ℕ → List Event → ℕ
+  abbrev pub counted_on : Frame A C S D → ℕ → List Event → ℕ
   counted_on (Waiting.Choice c mark) m xs = 0
   counted_on (Waiting.Trying x before mark) m xs = 0
+  counted_on (Waiting.Deriving x mark) m xs = 0
   counted_on f m xs = m + steps_in xs
 
-module _ {A C S : Type 0} (w : Words A C S) (nodes : List Node) (table : Table) where
+module _ {A C S D : Type 0} (w : Words A C S D) (nodes : List Node) (table : Table) where
   -- what the task at hand has told of the job
-  abbrev pub TellsTask : Job → Control A C S → List Event → Type 0
+  abbrev pub TellsTask : Job → Control A C S D → List Event → Type 0
   TellsTask (evaluating t0) (Next.Eval k t) es = MayBegin w.rules nodes table t0 es (w.tree t.0)
   TellsTask (evaluating t0) (Next.Evaluating a) es = IsInRound w.rules nodes table t0 a.op.0 (trees w a.args.items) es
   TellsTask (evaluating t0) (Next.Top k t) es = Runs w.rules nodes table t0 es (w.tree t.0)
+  TellsTask (evaluating t0) (Next.Settle k t d) es = Runs w.rules nodes table t0 es (w.tree t.0)
+  TellsTask (evaluating t0) (Next.Ready k t) es = Runs w.rules nodes table t0 es (w.tree t.0)
   TellsTask (evaluating t0) (Next.Attempt x) es = Runs w.rules nodes table t0 es (w.tree x.term.0)
   TellsTask (evaluating t0) (Next.Value t) es = Runs w.rules nodes table t0 es (w.tree t.0)
   TellsTask (solving e i σ) (Next.Solve c) es = (c.condition ≡ e) × IsExtension σ (w.bound c.binding) × IsShown w.rules nodes table e i c.at (w.bound c.binding) es
@@ -177,7 +180,7 @@ module _ {A C S : Type 0} (w : Words A C S) (nodes : List Node) (table : Table) 
 
   -- what a frame has told of the job, up to the beginning of the one that it waits for. `behind` events stand before them, and `counted` steps were told
   -- before them since the last frame that counts apart
-  abbrev pub TellsFrame : (behind counted : ℕ) → Job → Frame A C S → List Event → Job → Type 0
+  abbrev pub TellsFrame : (behind counted : ℕ) → Job → Frame A C S D → List Event → Job → Type 0
   TellsFrame n m (evaluating t0) (Waiting.Argument a i) xs (evaluating x) = HasEnteredArgument t0 a.op.0 (trees w a.args.items) i xs x
   TellsFrame n m (evaluating t0) (Waiting.Again t) xs (evaluating x) = HasEnteredAgain t0 t xs x
   TellsFrame n m (solving e i σ) (Waiting.Left c) xs (evaluating x) = HasEntered e i σ c.condition c.at false 0 (w.bound c.binding) xs x
@@ -191,17 +194,20 @@ module _ {A C S : Type 0} (w : Words A C S) (nodes : List Node) (table : Table) 
       × (mark ≡ n + length xs) × (c.before ≡ shown_count (m + steps_in xs))
   TellsFrame n m (evaluating t0) (Waiting.Trying x before mark) xs (solving e i σ) =
       (e ≡ x.condition) × (i ≡ 0) × Runs w.rules nodes table t0 xs (w.tree x.term.0) × (mark ≡ n + length xs) × (before ≡ shown_count (m + steps_in xs))
+  -- nothing is told of the condition of a membership in the end; while it is solved something is
+  TellsFrame n m (evaluating t0) (Waiting.Deriving x mark) xs (solving e i σ) =
+      (e ≡ x.condition) × (i ≡ 0) × Runs w.rules nodes table t0 xs (w.tree x.term.0) × (mark ≡ n + length xs) × (x.before ≡ shown_count (m + steps_in xs))
   -- never
   TellsFrame n m J f xs K = ⊥
 
   -- what frames and the task at hand have told of the job, where r is counted
-  abbrev pub Tells : (behind counted : ℕ) → Job → List (Frame A C S) → Control A C S → (r : ℕ) → List Event → Type 0
+  abbrev pub Tells : (behind counted : ℕ) → Job → List (Frame A C S D) → Control A C S D → (r : ℕ) → List Event → Type 0
   Tells n m J [] c r es = TellsTask J c es × Counts c r (m + steps_in es)
   Tells n m J (f ∷ fs) c r es =
       (xs : List Event) × (ys : List Event) × (K : Job) × (es ≡ xs ++ ys) × TellsFrame n m J f xs K × Tells (n + length xs) (counted_on f m xs) K fs c r ys
 
   -- the watcher was told that behind the events before
-  pub record IsTelling (before : List Event) (J : Job) (fs : List (Frame A C S)) (c : Control A C S) (r : ℕ) (told : List Event) : Type 0 where
+  pub record IsTelling (before : List Event) (J : Job) (fs : List (Frame A C S D)) (c : Control A C S D) (r : ℕ) (told : List Event) : Type 0 where
     pub events : List Event
     pub is : told ≡ before ++ events
     pub tells : Tells (length before) 0 J fs c r events

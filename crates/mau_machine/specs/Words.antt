@@ -1,11 +1,12 @@
 -- What a world's handles stand for, and what its calls say of them.
-use Rattle.std.specs.Prelude.{◌≡◌, ℕ, suc, ◌^◌, ◌-◌, ◌⊎◌, min, List, [], ◌∷◌, map, drop, Bool, true, false, Option, if◌then◌else◌}
+use Rattle.std.specs.Prelude.{◌≡◌, ℕ, suc, ◌^◌, ◌-◌, ◌⊎◌, ◌<◌, min, List, [], ◌∷◌, map, drop, Bool, true, false, Option, is_some, if◌then◌else◌}
 use Rattle.mau_terms.specs.Tree.{Tree, variable, numeral, apply}
 use Rattle.mau_terms.specs.Norm.{norm}
 use Rattle.mau_terms.specs.Subst.{Variable, variables, instance}
+use Rattle.mau_terms.specs.Finite.{IsIn}
 use Rattle.mau_terms.specs.declared.ids.TermId.{TermId}
-use Rattle.mau_evaluation.specs.Run.{Outcome, done, ended, Run, stopped, too_deep, overflowed, and_try, first_of, where_true}
-use Rattle.mau_evaluation.specs.Program.{Fragment, equals, matches, has_sort, reaches, Program}
+use Rattle.mau_evaluation.specs.Run.{End, Outcome, done, ended, Run, stopped, too_deep, overflowed, gives, ends, and_try, first_of, where_true}
+use Rattle.mau_evaluation.specs.Program.{Fragment, equals, matches, has_sort, reaches, Membership, Program}
 use Rattle.mau_evaluation.specs.Listing.{keep, solutions, kind_at}
 use Rattle.mau_evaluation.specs.Evaluation.{Binding, look_up, binds, extend, agree, has_number, have_sorts, levels, eval, solve, settle, applied}
 use Rattle.mau_signature.specs.Signature.{theory_at}
@@ -35,6 +36,51 @@ IsEnd o TooDeep = o ≡ ended too_deep
 IsEnd o Overflow = o ≡ ended overflowed
 IsEnd o NoMemory = Unit {0}
 
+-- ---- what comes of more levels
+
+-- A sort that is kept was derived by some number of levels, and by fewer it may be too deep. So a computation that goes by kept sorts is right from some
+-- number of levels on. Where nothing is derived it is right by each number.
+
+-- no membership of the program is executable
+abbrev pub DerivesNone : Program → Type 0
+DerivesNone P = (x : Membership) → IsIn x P.memberships → x.exec ≡ true → ⊥
+
+-- f and g are computed by a number of levels. By each number f gives what g gives; or, by fewer than some number, it is too deep
+pub record LeadsTo {A : Type 0} (P : Program) (f g : ℕ → Run A) : Type 0 where
+  pub enough : ℕ
+  pub just : DerivesNone P → enough ≡ 0
+  pub leads : (k b : ℕ) → (f k b ≡ g k b) ⊎ ((k < enough) × (f k b ≡ ended too_deep))
+
+-- f gives x, counts nothing and leaves the budget
+abbrev pub IsKnownBy : {A : Type 0} → Program → (ℕ → Run A) → A → Type 0
+IsKnownBy P f x = LeadsTo P f (λ k. gives x)
+
+-- f ends so, by each number of levels, or by fewer than some number it is too deep; want of memory says nothing
+abbrev pub EndsBy : {A : Type 0} → Program → (ℕ → Run A) → EvalEnd → Type 0
+EndsBy P f Stopped = LeadsTo P f (λ k. ends stopped)
+EndsBy P f TooDeep = LeadsTo P f (λ k. ends too_deep)
+EndsBy P f Overflow = LeadsTo P f (λ k. ends overflowed)
+EndsBy P f NoMemory = Unit {0}
+
+-- where g ends, f ends so too; or, by fewer levels than some number, it is too deep
+pub record EndsWhere {A B : Type 0} (P : Program) (f : ℕ → Run A) (g : ℕ → Outcome B) : Type 0 where
+  pub enough : ℕ
+  pub just : DerivesNone P → enough ≡ 0
+  pub ends : (k b : ℕ) (e : End) → g k ≡ ended e → (f k b ≡ ended e) ⊎ ((k < enough) × (f k b ≡ ended too_deep))
+
+-- f is what comes of a number of levels more than those at hand: the outcome o, with the count as it is shown; or, by fewer than some number, it is too deep
+pub record Comes {A : Type 0} (P : Program) (f : ℕ → Outcome A) (o : Outcome A) : Type 0 where
+  pub enough : ℕ
+  pub just : DerivesNone P → enough ≡ 0
+  pub comes : (n : ℕ) → (capped (f n) ≡ o) ⊎ ((n < enough) × (f n ≡ ended too_deep))
+
+-- f ends so: too deep it is by the levels at hand
+abbrev pub ComesToEnd : {A : Type 0} → Program → (ℕ → Outcome A) → EvalEnd → Type 0
+ComesToEnd P f Stopped = Comes P f (ended stopped)
+ComesToEnd P f TooDeep = f 0 ≡ ended too_deep
+ComesToEnd P f Overflow = Comes P f (ended overflowed)
+ComesToEnd P f NoMemory = Unit {0}
+
 -- ---- what a world goes by
 
 -- no call changes it
@@ -42,7 +88,7 @@ pub record Rules : Type 0 where
   pub program : Program
   -- the budget of each condition of a membership
   pub limit : ℕ
-  -- the condition that has a number: that of a candidate, or one that is asked
+  -- the condition that has a number: that of a candidate or of a membership, or one that is asked
   pub cond : ℕ → List Fragment
   -- the same as they are written, by which steps are told
   pub written : Written.Program
@@ -51,9 +97,9 @@ pub record Rules : Type 0 where
   pub is_cond : (e : ℕ) → cond e ≡ map fragment_of (fragments e)
   pub is_theory : program.sign.theory ≡ theory_at written.sig
 
--- What handles stand for in a state, and which of them are known there. A, C and S are the types of handles of candidates, of solutions of fragments,
--- and of bindings.
-pub record Words (A C S : Type 0) : Type 1 where
+-- What handles stand for in a state, and which of them are known there. A, C, S and D are the types of handles of candidates, of solutions of fragments,
+-- of bindings, and of settlings.
+pub record Words (A C S D : Type 0) : Type 1 where
   pub rules : Rules
   -- terms
   pub tree : ℕ → Tree
@@ -66,6 +112,10 @@ pub record Words (A C S : Type 0) : Type 1 where
   pub bound : S → Binding
   -- σ is a binding for the condition e, from its fragment i on
   pub knows_binding : (e i : ℕ) → S → Type 0
+  -- the sorts of the term t are being settled
+  pub knows_settling : (t : ℕ) → D → Type 0
+  -- and the condition e has to be solved next, where σ has the values of its variables
+  pub knows_asking : (t e : ℕ) (σ : Binding) → D → Type 0
   -- what the candidates give that are left, by k levels
   pub untried : A → (k : ℕ) → Run (Option Tree)
   -- they are candidates for an application at the top of the term t
@@ -82,12 +132,14 @@ pub record Words (A C S : Type 0) : Type 1 where
   pub chosen_value : C → Tree
 
 -- what is known in a state is known in a later one, and stands for the same
-pub record Keeps {A C S : Type 0} (w w' : Words A C S) : Type 0 where
+pub record Keeps {A C S D : Type 0} (w w' : Words A C S D) : Type 0 where
   pub rules : w'.rules ≡ w.rules
   pub terms : (t : ℕ) → w.knows_term t → w'.knows_term t × (w'.tree t ≡ w.tree t)
   pub values : (t : ℕ) → w.knows_value t → w'.knows_value t × (w'.tree t ≡ w.tree t)
   pub operands : (f : ℕ) (ts : List TermId) → w.knows_operands f ts → w'.knows_operands f ts × (map (λ t. w'.tree t.0) ts ≡ map (λ t. w.tree t.0) ts)
   pub bindings : (e i : ℕ) (σ : S) → w.knows_binding e i σ → w'.knows_binding e i σ × (w'.bound σ ≡ w.bound σ)
+  pub settlings : (t : ℕ) (d : D) → w.knows_settling t d → w'.knows_settling t d
+  pub askings : (t e : ℕ) (σ : Binding) (d : D) → w.knows_asking t e σ d → w'.knows_asking t e σ d
   pub attempts : (t : ℕ) (a : A) → w.knows_attempts t a → w'.knows_attempts t a × ((k b : ℕ) → w'.untried a k b ≡ w.untried a k b)
   pub candidates : (t e : ℕ) (a : A) → w.knows_candidate t e a → w'.knows_candidate t e a × ((σ : Binding) → w'.makes a σ ≡ w.makes a σ)
   pub choices : (e i : ℕ) (c : C) → w.knows_choices e i c → w'.knows_choices e i c × ((k b : ℕ) → w'.unchosen c k e i b ≡ w.unchosen c k e i b)
@@ -186,7 +238,20 @@ module _ (R : Rules) where
 
   -- v's sorts are known, and the answer says whether the fragment's is among them
   abbrev pub IsSorted : ℕ → ℕ → Tree → Bool → Type 0
-  IsSorted e i v has = (k b : ℕ) → (ss : List ℕ) × (sorts_on k v b ≡ done ss 0 b) × (has_number ss (sort_in (rest_of e i)) ≡ has)
+  IsSorted e i v has = (ss : List ℕ) × IsKnownBy R.program (λ k. sorts_on k v) ss × (has_number ss (sort_in (rest_of e i)) ≡ has)
+
+  -- t's sorts and those of the identities are known
+  abbrev pub IsSettled : Tree → Type 0
+  IsSettled t = (ss : List ℕ) × IsKnownBy R.program (λ k. settle_on k t) ss
+
+  -- by some number of levels, with a budget of its own, the condition e has a solution, or has none
+  pub record IsAnswered (e : ℕ) (σ : Binding) (holds : Bool) : Type 0 where
+    pub levels : ℕ
+    pub solution : Option Binding
+    pub count : ℕ
+    pub left : ℕ
+    pub was : solve_on levels e 0 σ R.limit ≡ done solution count left
+    pub is : is_some solution ≡ holds
 
 -- a numeral or a variable
 abbrev pub IsLeaf : Tree → Type 0
@@ -194,7 +259,7 @@ IsLeaf (variable i s) = Unit {0}
 IsLeaf (numeral n) = Unit {0}
 IsLeaf (apply f ts) = ⊥
 
-module _ {A C S : Type 0} (w : Words A C S) where
+module _ {A C S D : Type 0} (w : Words A C S D) where
   abbrev pub trees : List TermId → List Tree
   trees ids = map (λ t. w.tree t.0) ids
 
@@ -204,7 +269,7 @@ module _ {A C S : Type 0} (w : Words A C S) where
 
   -- nothing is tried yet at the top of t, whose sorts are known
   abbrev pub IsUntried : Tree → A → Type 0
-  IsUntried t a = (k b : ℕ) → ((ss : List ℕ) × (settle_on w.rules k t b ≡ done ss 0 b)) × (w.untried a k b ≡ applied_on w.rules k t b)
+  IsUntried t a = IsSettled w.rules t × ((k b : ℕ) → w.untried a k b ≡ applied_on w.rules k t b)
 
   -- nothing is chosen yet at the fragment p := u, where u has the value v
   abbrev pub IsUnchosen : ℕ → ℕ → Binding → Tree → C → Type 0

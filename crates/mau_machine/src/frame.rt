@@ -22,6 +22,18 @@ pub struct Trial<A> {
     pub attempts: A,
 }
 
+/// The settling of the sorts of a term, and the condition that it asks for. The condition has a budget of its own and counts nothing: what
+/// is left of the budget, and what was counted, stand here.
+#[derive(Drop)]
+pub struct Settled<D> {
+    pub level: u32,
+    pub term: TermId,
+    pub condition: usize,
+    pub settling: D,
+    pub budget: u64,
+    pub before: u64,
+}
+
 /// A condition, from its fragment `at` on, under a binding.
 #[derive(Drop)]
 pub struct Condition<S> {
@@ -43,7 +55,7 @@ pub struct Choosing<C> {
 
 /// What waits for a value, or for what becomes of a condition.
 #[derive(Drop)]
-pub enum Frame<A, C, S> {
+pub enum Frame<A, C, S, D> {
     /// The arguments wait for the value of the one at a place.
     Argument(Arguments, usize),
     /// A term whose top has changed waits for its value.
@@ -60,17 +72,23 @@ pub enum Frame<A, C, S> {
     Choice(Choosing<C>, usize),
     /// The condition of a candidate is solved; so much was counted, and so much told before.
     Trying(Trial<A>, u64, usize),
+    /// The condition of a membership is solved for a term whose sorts are settled; so much was told before.
+    Deriving(Settled<D>, usize),
 }
 
 /// What is done next.
 #[derive(Drop)]
-pub enum Control<A, C, S> {
+pub enum Control<A, C, S, D> {
     /// A term is evaluated by so many levels.
     Eval(u32, TermId),
     /// The next argument is evaluated, or the term is built.
     Evaluating(Arguments),
-    /// An application at the top of a term is looked for; its conditions have so many levels.
+    /// The sorts of a term are settled, and then an application at its top is looked for; conditions have so many levels.
     Top(u32, TermId),
+    /// Its sorts are settled further.
+    Settle(u32, TermId, D),
+    /// They are settled.
+    Ready(u32, TermId),
     /// The next candidate is tried.
     Attempt(Trial<A>),
     /// The next fragment is solved.

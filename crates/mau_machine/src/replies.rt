@@ -1,19 +1,19 @@
 //! What the last frame does with a value, or with what became of a condition.
-ghost use Rattle.std.specs.Prelude.{◌≡◌, ◌≤◌, ◌+◌, ℕ, suc, List, Bool, true, IfOk, IfErr, OnErr};
+ghost use Rattle.std.specs.Prelude.{◌≡◌, ◌≤◌, ◌+◌, ℕ, suc, List, length, take, Bool, true, IfOk, IfErr, OnErr};
 ghost use Rattle.mau_evaluation.specs.Run.{Outcome, counted_if, where_true};
-ghost use Rattle.mau_machine.specs.Words.{IsEnd, solve_on, PassesOn, IsExtension};
+ghost use Rattle.mau_machine.specs.Words.{IsEnd, ComesToEnd, solve_on, PassesOn, IsExtension, IsAnswered};
 ghost use Rattle.mau_machine.specs.Machine.{Reply, as_answer, comes, task_in, whole};
 ghost use Rattle.mau_machine.specs.Known.{Due, answer_to, IsKnownNext, comes_to};
 ghost use Rattle.mau_evaluation.specs.Evaluation.{Binding};
 ghost use Rattle.mau_api.specs.Events.{Event};
 ghost use Rattle.mau_api.specs.Told.{TellsMore, shown_count};
 ghost use Rattle.mau_machine.specs.Telling.{solving, IsShown, TellsTask, Counts};
-ghost use Rattle.mau_machine.specs.Steps.{IsAlike, StayKnown, AreHeld, StayTold, AreTold, IsWatched};
+ghost use Rattle.mau_machine.specs.Steps.{AreAnswered, Goes, IsSettledOn, StayKnown, AreHeld, StayTold, AreTold, IsWatched};
 
 use crate::machine::Machine;
 use crate::steps::side;
 use crate::telling::{back, begin, fragment_at, leave, make};
-use crate::{Arguments, Choosing, Condition, Control, Frame, World};
+use crate::{Arguments, Choosing, Condition, Control, Frame, Settled, World};
 use mau_api::{EvalEnd, StepWatcher};
 use mau_store::Store;
 use mau_terms::TermId;
@@ -22,17 +22,16 @@ use mau_terms::TermId;
 pub fn give<W: World, T: StepWatcher>(
     world: &mut W,
     store: &mut Store,
-    machine: &mut Machine<W::Attempts, W::Choices, W::Binding>,
+    machine: &mut Machine<W::Attempts, W::Choices, W::Binding, W::Settling>,
     value: TermId,
     watcher: &mut T,
-) -> Result<Control<W::Attempts, W::Choices, W::Binding>, EvalEnd>
+) -> Result<Control<W::Attempts, W::Choices, W::Binding, W::Settling>, EvalEnd>
     requires ready { W.ready world.old store.old }
     requires held { AreHeld (W.words world.old store.old) machine.old.frames.items (Control.Value value) }
-    ensures goes { (b : ℕ) → IfOk result (λ next. IsAlike (whole (W.words world.new store.new) machine.old.frames.items
-        (Control.Value value) machine.old.rewrites b)
-        (whole (W.words world.new store.new) machine.new.frames.items next machine.new.rewrites b)) }
-    ensures ends { (b : ℕ) → IfErr result (IsEnd (whole (W.words world.new store.new) machine.old.frames.items
-        (Control.Value value) machine.old.rewrites b)) }
+    ensures goes { (b : ℕ) → IfOk result (λ next. Goes (W.words world.new store.new) machine.old.frames.items
+        (Control.Value value) machine.old.rewrites b machine.new.frames.items next machine.new.rewrites b) }
+    ensures ends { (b : ℕ) → IfErr result (ComesToEnd (W.words world.new store.new).rules.program
+        (λ n. whole (W.words world.new store.new) n machine.old.frames.items (Control.Value value) machine.old.rewrites b)) }
     ensures known { IfOk result (StayKnown (W.words world.old store.old) (W.words world.new store.new) machine.old.frames.items
         (Control.Value value) machine.new.frames.items) }
     ensures grows { W.grows world.old store.old world.new store.new }
@@ -111,13 +110,13 @@ fn proceed<W: World>(
     store: &Store,
     condition: Condition<W::Binding>,
     holds: bool,
-) -> Result<Control<W::Attempts, W::Choices, W::Binding>, EvalEnd>
+) -> Result<Control<W::Attempts, W::Choices, W::Binding, W::Settling>, EvalEnd>
     requires binding { (W.words world.now store.now).knows_binding condition.condition condition.at condition.binding }
     requires passes { PassesOn (W.words world.now store.now).rules condition.condition condition.at }
-    ensures goes { (r b : ℕ) → IfOk result (λ next. as_answer (counted_if r (where_true holds
-        (solve_on (W.words world.now store.now).rules condition.level condition.condition (suc condition.at)
+    ensures goes { (r b n : ℕ) → IfOk result (λ next. as_answer (counted_if r (where_true holds
+        (solve_on (W.words world.now store.now).rules (condition.level + n) condition.condition (suc condition.at)
         ((W.words world.now store.now).bound condition.binding)) b))
-        ≡ comes (W.words world.now store.now).rules (task_in (W.words world.now store.now) next) r b) }
+        ≡ comes (W.words world.now store.now).rules (task_in (W.words world.now store.now) n next) r b) }
     ensures ends { (o : Outcome Reply) → IfErr result (IsEnd o) }
     ensures known { IfOk result (λ next. IsKnownNext (W.words world.now store.now) next
         × (comes_to (W.words world.now store.now) next ≡ answer_to condition.condition)) }
@@ -145,22 +144,25 @@ fn proceed<W: World>(
 pub fn hold<W: World, T: StepWatcher>(
     world: &mut W,
     store: &mut Store,
-    machine: &mut Machine<W::Attempts, W::Choices, W::Binding>,
+    machine: &mut Machine<W::Attempts, W::Choices, W::Binding, W::Settling>,
     condition: usize,
     binding: W::Binding,
     budget: &mut u64,
     watcher: &mut T,
-) -> Result<Control<W::Attempts, W::Choices, W::Binding>, EvalEnd>
+) -> Result<Control<W::Attempts, W::Choices, W::Binding, W::Settling>, EvalEnd>
     requires ready { W.ready world.old store.old }
     requires held { AreHeld (W.words world.old store.old) machine.old.frames.items (Control.Held condition binding) }
-    ensures goes { IfOk result (λ next. IsAlike (whole (W.words world.new store.new) machine.old.frames.items
-        (Control.Held condition binding) machine.old.rewrites budget.old)
-        (whole (W.words world.new store.new) machine.new.frames.items next machine.new.rewrites budget.new)) }
-    ensures ends { IfErr result (IsEnd (whole (W.words world.new store.new) machine.old.frames.items
-        (Control.Held condition binding) machine.old.rewrites budget.old)) }
+    requires answered { AreAnswered (W.words world.old store.old) machine.old.frames.items (Control.Held condition binding)
+        machine.old.rewrites budget.old }
+    requires told { T.wanted watcher.old ≡ true → AreTold (W.words world.old store.old) store.old
+        (W.table world.old) machine.old.frames.items (Control.Held condition binding) machine.old.rewrites (T.told watcher.old) }
+    ensures goes { IfOk result (λ next. Goes (W.words world.new store.new) machine.old.frames.items
+        (Control.Held condition binding) machine.old.rewrites budget.old machine.new.frames.items next machine.new.rewrites budget.new) }
+    ensures ends { IfErr result (ComesToEnd (W.words world.new store.new).rules.program
+        (λ n. whole (W.words world.new store.new) n machine.old.frames.items (Control.Held condition binding) machine.old.rewrites
+        budget.old)) }
     ensures known { IfOk result (StayKnown (W.words world.old store.old) (W.words world.new store.new) machine.old.frames.items
         (Control.Held condition binding) machine.new.frames.items) }
-    ensures falls { budget.new ≤ budget.old }
     ensures grows { W.grows world.old store.old world.new store.new }
     ensures told { T.wanted watcher.old ≡ true → IfOk result (λ next. StayTold (W.words world.old store.old)
         (W.words world.new store.new) store.old store.new (W.table world.old) (W.table world.new)
@@ -192,26 +194,67 @@ pub fn hold<W: World, T: StepWatcher>(
                 None => Err(EvalEnd::NoMemory),
             }
         }
+        Some(Frame::Deriving(settled, mark)) => Ok(settle_on::<W, T>(
+            world, store, machine, settled, true, mark, budget, watcher,
+        )),
         // Never: the last frame is given what it waits for.
         _ => Err(EvalEnd::NoMemory),
     }
+}
+
+/// The settling of a term goes on, whether the condition that it asked for holds. Nothing is told of that condition.
+fn settle_on<W: World, T: StepWatcher>(
+    world: &W,
+    store: &Store,
+    machine: &mut Machine<W::Attempts, W::Choices, W::Binding, W::Settling>,
+    settled: Settled<W::Settling>,
+    holds: bool,
+    mark: usize,
+    budget: &mut u64,
+    watcher: &mut T,
+) -> Control<W::Attempts, W::Choices, W::Binding, W::Settling>
+    requires ready { W.ready world.now store.now }
+    requires answered { (σ : Binding) × (W.words world.now store.now).knows_asking settled.term.0 settled.condition σ settled.settling
+        × IsAnswered (W.words world.now store.now).rules settled.condition σ holds }
+    requires mark { T.wanted watcher.old ≡ true → mark ≤ length (T.told watcher.old) }
+    ensures settles { IsSettledOn (W.words world.now store.now) settled result }
+    ensures frames { machine.new.frames.items ≡ machine.old.frames.items }
+    ensures rewrites { machine.new.rewrites ≡ settled.before }
+    ensures budget { budget.new ≡ settled.budget }
+    ensures told { T.wanted watcher.old ≡ true → T.told watcher.new ≡ take mark (T.told watcher.old) }
+    ensures watched { IsWatched (T.wanted watcher.old) (T.wanted watcher.new) (T.told watcher.old) (T.told watcher.new) }
+{
+    let mut settled = settled;
+    world.told(
+        store,
+        settled.term,
+        settled.condition,
+        holds,
+        &mut settled.settling,
+    );
+    back(watcher, mark);
+    machine.rewrites = settled.before;
+    *budget = settled.budget;
+    Control::Settle(settled.level, settled.term, settled.settling)
 }
 
 /// The last frame is told that a condition has no solution, or no further one.
 pub fn fail<W: World, T: StepWatcher>(
     world: &W,
     store: &Store,
-    machine: &mut Machine<W::Attempts, W::Choices, W::Binding>,
+    machine: &mut Machine<W::Attempts, W::Choices, W::Binding, W::Settling>,
     condition: usize,
+    budget: &mut u64,
     watcher: &mut T,
-) -> Result<Control<W::Attempts, W::Choices, W::Binding>, EvalEnd>
+) -> Result<Control<W::Attempts, W::Choices, W::Binding, W::Settling>, EvalEnd>
     requires ready { W.ready world.now store.now }
     requires held { AreHeld (W.words world.now store.now) machine.old.frames.items (Control.Failed condition) }
+    requires answered { AreAnswered (W.words world.now store.now) machine.old.frames.items (Control.Failed condition)
+        machine.old.rewrites budget.old }
     requires told { T.wanted watcher.old ≡ true → AreTold (W.words world.now store.now) store.now
         (W.table world.now) machine.old.frames.items (Control.Failed condition) machine.old.rewrites (T.told watcher.old) }
-    ensures goes { (b : ℕ) → IfOk result (λ next. IsAlike (whole (W.words world.now store.now) machine.old.frames.items
-        (Control.Failed condition) machine.old.rewrites b)
-        (whole (W.words world.now store.now) machine.new.frames.items next machine.new.rewrites b)) }
+    ensures goes { IfOk result (λ next. Goes (W.words world.now store.now) machine.old.frames.items (Control.Failed condition)
+        machine.old.rewrites budget.old machine.new.frames.items next machine.new.rewrites budget.new) }
     ensures ends { (o : Outcome Reply) → IfErr result (IsEnd o) }
     ensures known { IfOk result (StayKnown (W.words world.now store.now) (W.words world.now store.now) machine.old.frames.items
         (Control.Failed condition) machine.new.frames.items) }
@@ -232,6 +275,9 @@ pub fn fail<W: World, T: StepWatcher>(
             machine.rewrites = before;
             Ok(Control::Attempt(trial))
         }
+        Some(Frame::Deriving(settled, mark)) => Ok(settle_on::<W, T>(
+            world, store, machine, settled, false, mark, budget, watcher,
+        )),
         // Never: the last frame is given what it waits for.
         _ => Err(EvalEnd::NoMemory),
     }

@@ -1,17 +1,27 @@
 //! The steps of the loop: each does one thing.
-ghost use Rattle.std.specs.Prelude.{◌≡◌, ◌≤◌, ℕ, true, length, IfOk, IfErr, OnErr};
+ghost use Rattle.std.specs.Prelude.{◌≡◌, ◌≤◌, ◌+◌, ℕ, true, length, IfOk, IfErr, OnErr};
 ghost use Rattle.mau_evaluation.specs.Run.{Outcome};
 ghost use Rattle.mau_terms.specs.Norm.{norm};
-ghost use Rattle.mau_machine.specs.Words.{IsEnd, eval_on, kind_of, side_of, HasSide};
+ghost use Rattle.mau_machine.specs.Words.{IsEnd, ComesToEnd, eval_on, kind_of, side_of, HasSide};
 ghost use Rattle.mau_machine.specs.Machine.{Reply, comes, task_in, whole};
 ghost use Rattle.mau_machine.specs.Known.{value_of, IsKnownNext, comes_to};
 ghost use Rattle.mau_api.specs.Told.{TellsMore};
-ghost use Rattle.mau_machine.specs.Steps.{IsAlike, StayKnown, AreHeld, StayTold, AreTold, TaskStays, IsWatched};
+ghost use Rattle.mau_machine.specs.Steps.{
+  Follows,
+  AreAnswered,
+  Goes,
+  StayKnown,
+  AreHeld,
+  StayTold,
+  AreTold,
+  TaskStays,
+  IsWatched,
+};
 
 use crate::machine::Machine;
 use crate::replies::{fail, give, hold};
 use crate::telling::{argument_at, begin, fragment_at, mark};
-use crate::{Arguments, Choosing, Condition, Control, Frame, Goal, Trial, World};
+use crate::{Arguments, Choosing, Condition, Control, Frame, Goal, Settled, Trial, World};
 use mau_api::{EvalEnd, Place, StepWatcher};
 use mau_store::Store;
 use mau_terms::TermId;
@@ -20,23 +30,22 @@ use mau_terms::TermId;
 pub fn step<W: World, T: StepWatcher>(
     world: &mut W,
     store: &mut Store,
-    machine: &mut Machine<W::Attempts, W::Choices, W::Binding>,
-    task: Control<W::Attempts, W::Choices, W::Binding>,
+    machine: &mut Machine<W::Attempts, W::Choices, W::Binding, W::Settling>,
+    task: Control<W::Attempts, W::Choices, W::Binding, W::Settling>,
     budget: &mut u64,
     watcher: &mut T,
-) -> Result<Control<W::Attempts, W::Choices, W::Binding>, EvalEnd>
+) -> Result<Control<W::Attempts, W::Choices, W::Binding, W::Settling>, EvalEnd>
     requires ready { W.ready world.old store.old }
     requires held { AreHeld (W.words world.old store.old) machine.old.frames.items task }
+    requires answered { AreAnswered (W.words world.old store.old) machine.old.frames.items task machine.old.rewrites budget.old }
     requires told { T.wanted watcher.old ≡ true → AreTold (W.words world.old store.old) store.old
         (W.table world.old) machine.old.frames.items task machine.old.rewrites (T.told watcher.old) }
-    ensures goes { IfOk result (λ next. IsAlike (whole (W.words world.new store.new) machine.old.frames.items task machine.old.rewrites
-        budget.old)
-        (whole (W.words world.new store.new) machine.new.frames.items next machine.new.rewrites budget.new)) }
-    ensures ends { IfErr result (IsEnd (whole (W.words world.new store.new) machine.old.frames.items task machine.old.rewrites
-        budget.old)) }
+    ensures goes { IfOk result (λ next. Goes (W.words world.new store.new) machine.old.frames.items task machine.old.rewrites
+        budget.old machine.new.frames.items next machine.new.rewrites budget.new) }
+    ensures ends { IfErr result (ComesToEnd (W.words world.new store.new).rules.program
+        (λ n. whole (W.words world.new store.new) n machine.old.frames.items task machine.old.rewrites budget.old)) }
     ensures known { IfOk result (StayKnown (W.words world.old store.old)
         (W.words world.new store.new) machine.old.frames.items task machine.new.frames.items) }
-    ensures falls { budget.new ≤ budget.old }
     ensures grows { W.grows world.old store.old world.new store.new }
     ensures told { T.wanted watcher.old ≡ true → IfOk result (λ next. StayTold (W.words world.old store.old)
         (W.words world.new store.new) store.old store.new (W.table world.old) (W.table world.new)
@@ -50,6 +59,10 @@ pub fn step<W: World, T: StepWatcher>(
         Control::Eval(level, term) => open::<W>(world, store, level, term),
         Control::Evaluating(arguments) => go_on::<W, T>(world, store, machine, arguments, watcher),
         Control::Top(level, term) => look::<W>(world, store, level, term),
+        Control::Settle(level, term, settling) => derive::<W, T>(
+            world, store, machine, level, term, settling, budget, watcher,
+        ),
+        Control::Ready(level, term) => apply::<W>(world, store, level, term),
         Control::Attempt(trial) => attempt::<W, T>(world, store, machine, trial, watcher),
         Control::Solve(condition) => solve::<W, T>(world, store, machine, condition, watcher),
         Control::Choose(choosing) => choose::<W, T>(world, store, machine, choosing, watcher),
@@ -57,7 +70,9 @@ pub fn step<W: World, T: StepWatcher>(
         Control::Held(condition, binding) => hold::<W, T>(
             world, store, machine, condition, binding, budget, watcher,
         ),
-        Control::Failed(condition) => fail::<W, T>(world, store, machine, condition, watcher),
+        Control::Failed(condition) => {
+            fail::<W, T>(world, store, machine, condition, budget, watcher)
+        }
     }
 }
 
@@ -67,14 +82,14 @@ fn open<W: World>(
     store: &Store,
     level: u32,
     term: TermId,
-) -> Result<Control<W::Attempts, W::Choices, W::Binding>, EvalEnd>
+) -> Result<Control<W::Attempts, W::Choices, W::Binding, W::Settling>, EvalEnd>
     requires ready { W.ready world.now store.now }
     requires term { (W.words world.now store.now).knows_term term.0 }
-    ensures goes { (r b : ℕ) → IfOk result (λ next. IsAlike (comes (W.words world.now store.now).rules
-        (task_in (W.words world.now store.now) (Control.Eval level term)) r b)
-        (comes (W.words world.now store.now).rules (task_in (W.words world.now store.now) next) r b)) }
-    ensures ends { (r b : ℕ) → IfErr result (IsEnd (comes (W.words world.now store.now).rules
-        (task_in (W.words world.now store.now) (Control.Eval level term)) r b)) }
+    ensures goes { (r b : ℕ) → IfOk result (λ next. Follows (W.words world.now store.now).rules.program
+        (λ n. comes (W.words world.now store.now).rules (task_in (W.words world.now store.now) n (Control.Eval level term)) r b)
+        (λ n. comes (W.words world.now store.now).rules (task_in (W.words world.now store.now) n next) r b)) }
+    ensures ends { (r b : ℕ) → IfErr result (ComesToEnd (W.words world.now store.now).rules.program
+        (λ n. comes (W.words world.now store.now).rules (task_in (W.words world.now store.now) n (Control.Eval level term)) r b)) }
     ensures known { IfOk result (λ next. IsKnownNext (W.words world.now store.now) next
         × (comes_to (W.words world.now store.now) next ≡ value_of (kind_of (W.words world.now store.now) term.0))) }
     ensures told { IfOk result (TaskStays (W.words world.now store.now) store.now (W.table world.now) (Control.Eval level term)) }
@@ -102,17 +117,16 @@ fn open<W: World>(
 fn go_on<W: World, T: StepWatcher>(
     world: &mut W,
     store: &mut Store,
-    machine: &mut Machine<W::Attempts, W::Choices, W::Binding>,
+    machine: &mut Machine<W::Attempts, W::Choices, W::Binding, W::Settling>,
     arguments: Arguments,
     watcher: &mut T,
-) -> Result<Control<W::Attempts, W::Choices, W::Binding>, EvalEnd>
+) -> Result<Control<W::Attempts, W::Choices, W::Binding, W::Settling>, EvalEnd>
     requires ready { W.ready world.old store.old }
     requires operands { (W.words world.old store.old).knows_operands arguments.op.0 arguments.args.items }
-    ensures goes { (b : ℕ) → IfOk result (λ next. IsAlike (whole (W.words world.new store.new) machine.old.frames.items
-        (Control.Evaluating arguments) machine.old.rewrites b)
-        (whole (W.words world.new store.new) machine.new.frames.items next machine.new.rewrites b)) }
-    ensures ends { (b : ℕ) → IfErr result (IsEnd (whole (W.words world.new store.new) machine.old.frames.items
-        (Control.Evaluating arguments) machine.old.rewrites b)) }
+    ensures goes { (b : ℕ) → IfOk result (λ next. Goes (W.words world.new store.new) machine.old.frames.items
+        (Control.Evaluating arguments) machine.old.rewrites b machine.new.frames.items next machine.new.rewrites b) }
+    ensures ends { (b : ℕ) → IfErr result (ComesToEnd (W.words world.new store.new).rules.program
+        (λ n. whole (W.words world.new store.new) n machine.old.frames.items (Control.Evaluating arguments) machine.old.rewrites b)) }
     ensures known { IfOk result (StayKnown (W.words world.old store.old) (W.words world.new store.new) machine.old.frames.items
         (Control.Evaluating arguments) machine.new.frames.items) }
     ensures grows { W.grows world.old store.old world.new store.new }
@@ -149,18 +163,17 @@ fn go_on<W: World, T: StepWatcher>(
 fn rebuild<W: World, T: StepWatcher>(
     world: &mut W,
     store: &mut Store,
-    machine: &mut Machine<W::Attempts, W::Choices, W::Binding>,
+    machine: &mut Machine<W::Attempts, W::Choices, W::Binding, W::Settling>,
     arguments: Arguments,
     watcher: &mut T,
-) -> Result<Control<W::Attempts, W::Choices, W::Binding>, EvalEnd>
+) -> Result<Control<W::Attempts, W::Choices, W::Binding, W::Settling>, EvalEnd>
     requires ready { W.ready world.old store.old }
     requires operands { (W.words world.old store.old).knows_operands arguments.op.0 arguments.args.items }
     requires last { length arguments.order.items ≤ arguments.next }
-    ensures goes { (b : ℕ) → IfOk result (λ next. IsAlike (whole (W.words world.new store.new) machine.old.frames.items
-        (Control.Evaluating arguments) machine.old.rewrites b)
-        (whole (W.words world.new store.new) machine.new.frames.items next machine.new.rewrites b)) }
-    ensures ends { (b : ℕ) → IfErr result (IsEnd (whole (W.words world.new store.new) machine.old.frames.items
-        (Control.Evaluating arguments) machine.old.rewrites b)) }
+    ensures goes { (b : ℕ) → IfOk result (λ next. Goes (W.words world.new store.new) machine.old.frames.items
+        (Control.Evaluating arguments) machine.old.rewrites b machine.new.frames.items next machine.new.rewrites b) }
+    ensures ends { (b : ℕ) → IfErr result (ComesToEnd (W.words world.new store.new).rules.program
+        (λ n. whole (W.words world.new store.new) n machine.old.frames.items (Control.Evaluating arguments) machine.old.rewrites b)) }
     ensures known { IfOk result (StayKnown (W.words world.old store.old) (W.words world.new store.new) machine.old.frames.items
         (Control.Evaluating arguments) machine.new.frames.items) }
     ensures grows { W.grows world.old store.old world.new store.new }
@@ -181,22 +194,100 @@ fn rebuild<W: World, T: StepWatcher>(
     }
 }
 
-/// An application at the top of a term is looked for.
+/// The sorts of a term begin to be settled.
 fn look<W: World>(
     world: &mut W,
     store: &mut Store,
     level: u32,
     term: TermId,
-) -> Result<Control<W::Attempts, W::Choices, W::Binding>, EvalEnd>
+) -> Result<Control<W::Attempts, W::Choices, W::Binding, W::Settling>, EvalEnd>
     requires ready { W.ready world.old store.old }
     requires term { (W.words world.old store.old).knows_term term.0 }
-    ensures goes { (r b : ℕ) → IfOk result (λ next. IsAlike (comes (W.words world.new store.new).rules
-        (task_in (W.words world.new store.new) (Control.Top level term)) r b)
-        (comes (W.words world.new store.new).rules (task_in (W.words world.new store.new) next) r b)) }
+    ensures goes { (r b : ℕ) → IfOk result (λ next. Follows (W.words world.new store.new).rules.program
+        (λ n. comes (W.words world.new store.new).rules (task_in (W.words world.new store.new) n (Control.Top level term)) r b)
+        (λ n. comes (W.words world.new store.new).rules (task_in (W.words world.new store.new) n next) r b)) }
     ensures ends { (o : Outcome Reply) → IfErr result (IsEnd o) }
     ensures known { IfOk result (λ next. IsKnownNext (W.words world.new store.new) next
         × (comes_to (W.words world.new store.new) next ≡ value_of (kind_of (W.words world.new store.new) term.0))) }
     ensures told { IfOk result (TaskStays (W.words world.new store.new) store.new (W.table world.new) (Control.Top level term)) }
+    ensures grows { W.grows world.old store.old world.new store.new }
+{
+    match world.settling(store, term) {
+        Ok(settling) => Ok(Control::Settle(level, term, settling)),
+        Err(_) => Err(EvalEnd::NoMemory),
+    }
+}
+
+/// The sorts of a term are settled further: the next condition is solved, by a budget of its own, or there is none.
+fn derive<W: World, T: StepWatcher>(
+    world: &mut W,
+    store: &mut Store,
+    machine: &mut Machine<W::Attempts, W::Choices, W::Binding, W::Settling>,
+    level: u32,
+    term: TermId,
+    settling: W::Settling,
+    budget: &mut u64,
+    watcher: &mut T,
+) -> Result<Control<W::Attempts, W::Choices, W::Binding, W::Settling>, EvalEnd>
+    requires ready { W.ready world.old store.old }
+    requires term { (W.words world.old store.old).knows_term term.0 }
+    requires settling { (W.words world.old store.old).knows_settling term.0 settling }
+    ensures goes { IfOk result (λ next. Goes (W.words world.new store.new) machine.old.frames.items
+        (Control.Settle level term settling) machine.old.rewrites budget.old machine.new.frames.items next machine.new.rewrites budget.new) }
+    ensures ends { (o : Outcome Reply) → IfErr result (IsEnd o) }
+    ensures known { IfOk result (StayKnown (W.words world.old store.old) (W.words world.new store.new) machine.old.frames.items
+        (Control.Settle level term settling) machine.new.frames.items) }
+    ensures grows { W.grows world.old store.old world.new store.new }
+    ensures told { T.wanted watcher.old ≡ true → IfOk result (λ next. StayTold (W.words world.old store.old)
+        (W.words world.new store.new) store.old store.new (W.table world.old) (W.table world.new)
+        machine.old.frames.items (Control.Settle level term settling) machine.old.rewrites
+        (T.told watcher.old) machine.new.frames.items next machine.new.rewrites (T.told watcher.new)) }
+    ensures more { OnErr result (TellsMore (T.told watcher.old) (T.told watcher.new)) }
+    ensures watched { IsWatched (T.wanted watcher.old) (T.wanted watcher.new) (T.told watcher.old) (T.told watcher.new) }
+{
+    let mut settling = settling;
+    match world.settle(store, term, &mut settling) {
+        Ok(None) => Ok(Control::Ready(level, term)),
+        Ok(Some((condition, binding))) => {
+            let settled = Settled {
+                level,
+                term,
+                condition,
+                settling,
+                budget: *budget,
+                before: machine.rewrites,
+            };
+            let mark = mark(watcher);
+            machine.wait(Frame::Deriving(settled, mark))?;
+            machine.rewrites = 0;
+            *budget = world.limit();
+            Ok(Control::Solve(Condition {
+                level,
+                condition,
+                at: 0,
+                binding,
+            }))
+        }
+        Err(_) => Err(EvalEnd::NoMemory),
+    }
+}
+
+/// An application at the top of a term whose sorts are settled is looked for.
+fn apply<W: World>(
+    world: &mut W,
+    store: &mut Store,
+    level: u32,
+    term: TermId,
+) -> Result<Control<W::Attempts, W::Choices, W::Binding, W::Settling>, EvalEnd>
+    requires ready { W.ready world.old store.old }
+    requires value { (W.words world.old store.old).knows_value term.0 }
+    ensures goes { (r b : ℕ) → IfOk result (λ next. Follows (W.words world.new store.new).rules.program
+        (λ n. comes (W.words world.new store.new).rules (task_in (W.words world.new store.new) n (Control.Ready level term)) r b)
+        (λ n. comes (W.words world.new store.new).rules (task_in (W.words world.new store.new) n next) r b)) }
+    ensures ends { (o : Outcome Reply) → IfErr result (IsEnd o) }
+    ensures known { IfOk result (λ next. IsKnownNext (W.words world.new store.new) next
+        × (comes_to (W.words world.new store.new) next ≡ value_of (kind_of (W.words world.new store.new) term.0))) }
+    ensures told { IfOk result (TaskStays (W.words world.new store.new) store.new (W.table world.new) (Control.Ready level term)) }
     ensures grows { W.grows world.old store.old world.new store.new }
 {
     match world.attempts(store, term) {
@@ -214,18 +305,17 @@ fn look<W: World>(
 fn attempt<W: World, T: StepWatcher>(
     world: &mut W,
     store: &mut Store,
-    machine: &mut Machine<W::Attempts, W::Choices, W::Binding>,
+    machine: &mut Machine<W::Attempts, W::Choices, W::Binding, W::Settling>,
     trial: Trial<W::Attempts>,
     watcher: &mut T,
-) -> Result<Control<W::Attempts, W::Choices, W::Binding>, EvalEnd>
+) -> Result<Control<W::Attempts, W::Choices, W::Binding, W::Settling>, EvalEnd>
     requires ready { W.ready world.old store.old }
     requires value { (W.words world.old store.old).knows_value trial.term.0 }
     requires attempts { (W.words world.old store.old).knows_attempts trial.term.0 trial.attempts }
-    ensures goes { (b : ℕ) → IfOk result (λ next. IsAlike (whole (W.words world.new store.new) machine.old.frames.items
-        (Control.Attempt trial) machine.old.rewrites b)
-        (whole (W.words world.new store.new) machine.new.frames.items next machine.new.rewrites b)) }
-    ensures ends { (b : ℕ) → IfErr result (IsEnd (whole (W.words world.new store.new) machine.old.frames.items
-        (Control.Attempt trial) machine.old.rewrites b)) }
+    ensures goes { (b : ℕ) → IfOk result (λ next. Goes (W.words world.new store.new) machine.old.frames.items
+        (Control.Attempt trial) machine.old.rewrites b machine.new.frames.items next machine.new.rewrites b) }
+    ensures ends { (b : ℕ) → IfErr result (ComesToEnd (W.words world.new store.new).rules.program
+        (λ n. whole (W.words world.new store.new) n machine.old.frames.items (Control.Attempt trial) machine.old.rewrites b)) }
     ensures known { IfOk result (StayKnown (W.words world.old store.old) (W.words world.new store.new) machine.old.frames.items
         (Control.Attempt trial) machine.new.frames.items) }
     ensures grows { W.grows world.old store.old world.new store.new }
@@ -261,17 +351,16 @@ fn attempt<W: World, T: StepWatcher>(
 fn solve<W: World, T: StepWatcher>(
     world: &mut W,
     store: &mut Store,
-    machine: &mut Machine<W::Attempts, W::Choices, W::Binding>,
+    machine: &mut Machine<W::Attempts, W::Choices, W::Binding, W::Settling>,
     condition: Condition<W::Binding>,
     watcher: &mut T,
-) -> Result<Control<W::Attempts, W::Choices, W::Binding>, EvalEnd>
+) -> Result<Control<W::Attempts, W::Choices, W::Binding, W::Settling>, EvalEnd>
     requires ready { W.ready world.old store.old }
     requires binding { (W.words world.old store.old).knows_binding condition.condition condition.at condition.binding }
-    ensures goes { (b : ℕ) → IfOk result (λ next. IsAlike (whole (W.words world.new store.new) machine.old.frames.items
-        (Control.Solve condition) machine.old.rewrites b)
-        (whole (W.words world.new store.new) machine.new.frames.items next machine.new.rewrites b)) }
-    ensures ends { (b : ℕ) → IfErr result (IsEnd (whole (W.words world.new store.new) machine.old.frames.items
-        (Control.Solve condition) machine.old.rewrites b)) }
+    ensures goes { (b : ℕ) → IfOk result (λ next. Goes (W.words world.new store.new) machine.old.frames.items
+        (Control.Solve condition) machine.old.rewrites b machine.new.frames.items next machine.new.rewrites b) }
+    ensures ends { (b : ℕ) → IfErr result (ComesToEnd (W.words world.new store.new).rules.program
+        (λ n. whole (W.words world.new store.new) n machine.old.frames.items (Control.Solve condition) machine.old.rewrites b)) }
     ensures known { IfOk result (StayKnown (W.words world.old store.old) (W.words world.new store.new) machine.old.frames.items
         (Control.Solve condition) machine.new.frames.items) }
     ensures grows { W.grows world.old store.old world.new store.new }
@@ -323,11 +412,12 @@ pub fn side<W: World>(
     requires ready { W.ready world.old store.old }
     requires side { HasSide (W.words world.old store.old).rules condition.now.condition condition.now.at right }
     requires binding { (W.words world.old store.old).knows_binding condition.now.condition condition.now.at condition.now.binding }
-    ensures value { (b : ℕ) → IfOk result (λ t. eval_on (W.words world.new store.new).rules condition.now.level
+    ensures value { (n b : ℕ) → IfOk result (λ t. eval_on (W.words world.new store.new).rules (condition.now.level + n)
         (side_of (W.words world.new store.new).rules condition.now.condition condition.now.at right
         ((W.words world.new store.new).bound condition.now.binding)) b
-        ≡ eval_on (W.words world.new store.new).rules condition.now.level ((W.words world.new store.new).tree t.0) b) }
-    ensures ends { (b : ℕ) → IfErr result (IsEnd (eval_on (W.words world.new store.new).rules condition.now.level
+        ≡ eval_on (W.words world.new store.new).rules (condition.now.level + n) ((W.words world.new store.new).tree t.0) b) }
+    ensures ends { (b : ℕ) → IfErr result (ComesToEnd (W.words world.new store.new).rules.program
+        (λ n. eval_on (W.words world.new store.new).rules (condition.now.level + n)
         (side_of (W.words world.new store.new).rules condition.now.condition condition.now.at right
         ((W.words world.new store.new).bound condition.now.binding)) b)) }
     ensures is { IfOk result (λ t. (W.words world.new store.new).tree t.0 ≡ norm (W.words world.new store.new).rules.program.sign.theory
@@ -352,17 +442,16 @@ pub fn side<W: World>(
 fn choose<W: World, T: StepWatcher>(
     world: &mut W,
     store: &mut Store,
-    machine: &mut Machine<W::Attempts, W::Choices, W::Binding>,
+    machine: &mut Machine<W::Attempts, W::Choices, W::Binding, W::Settling>,
     choosing: Choosing<W::Choices>,
     watcher: &mut T,
-) -> Result<Control<W::Attempts, W::Choices, W::Binding>, EvalEnd>
+) -> Result<Control<W::Attempts, W::Choices, W::Binding, W::Settling>, EvalEnd>
     requires ready { W.ready world.old store.old }
     requires choices { (W.words world.old store.old).knows_choices choosing.condition choosing.at choosing.choices }
-    ensures goes { (b : ℕ) → IfOk result (λ next. IsAlike (whole (W.words world.new store.new) machine.old.frames.items
-        (Control.Choose choosing) machine.old.rewrites b)
-        (whole (W.words world.new store.new) machine.new.frames.items next machine.new.rewrites b)) }
-    ensures ends { (b : ℕ) → IfErr result (IsEnd (whole (W.words world.new store.new) machine.old.frames.items
-        (Control.Choose choosing) machine.old.rewrites b)) }
+    ensures goes { (b : ℕ) → IfOk result (λ next. Goes (W.words world.new store.new) machine.old.frames.items
+        (Control.Choose choosing) machine.old.rewrites b machine.new.frames.items next machine.new.rewrites b) }
+    ensures ends { (b : ℕ) → IfErr result (ComesToEnd (W.words world.new store.new).rules.program
+        (λ n. whole (W.words world.new store.new) n machine.old.frames.items (Control.Choose choosing) machine.old.rewrites b)) }
     ensures known { IfOk result (StayKnown (W.words world.old store.old) (W.words world.new store.new) machine.old.frames.items
         (Control.Choose choosing) machine.new.frames.items) }
     ensures grows { W.grows world.old store.old world.new store.new }

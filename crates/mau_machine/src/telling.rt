@@ -14,10 +14,10 @@ use mau_store::Store;
 use mau_terms::{NoMemory, TermId};
 
 /// A frame waits for the value of a term, which is entered at a place.
-pub fn begin<A: Drop, C: Drop, S: Drop, T: StepWatcher>(
-    machine: &mut Machine<A, C, S>,
+pub fn begin<A: Drop, C: Drop, S: Drop, D: Drop, T: StepWatcher>(
+    machine: &mut Machine<A, C, S, D>,
     watcher: &mut T,
-    frame: Frame<A, C, S>,
+    frame: Frame<A, C, S, D>,
     term: TermId,
     place: Place,
 ) -> Result<(), NoMemory>

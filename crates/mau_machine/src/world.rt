@@ -1,6 +1,7 @@
 //! What the loop knows of terms and programs.
 ghost use Rattle.std.specs.Prelude.{
   ◌≡◌,
+  ◌+◌,
   ℕ,
   suc,
   List,
@@ -43,13 +44,19 @@ ghost use Rattle.mau_machine.specs.Words.{
   IsEnd,
   trees,
   kind_of,
+  IsKnownBy,
+  LeadsTo,
+  EndsBy,
+  EndsWhere,
   eval_on,
   solve_on,
+  settle_on,
   Asks,
   HasSide,
   PassesOn,
   side_of,
   IsLeaf,
+  IsAnswered,
   IsUntried,
   IsSolution,
   IsSorted,
@@ -78,9 +85,11 @@ pub trait World {
     type Choices: Drop;
     /// The values of the variables of a candidate.
     type Binding: Drop;
+    /// The settling of the sorts of a term, as it goes on from one condition of a membership to the next.
+    type Settling: Drop;
 
     /// What the handles stand for in a state.
-    ghost words: { Self → List Node → Words Self.Attempts Self.Choices Self.Binding };
+    ghost words: { Self → List Node → Words Self.Attempts Self.Choices Self.Binding Self.Settling };
 
     /// The sorts that are settled.
     ghost table: { Self → Table };
@@ -96,8 +105,9 @@ pub trait World {
     fn rests(&self, store: &Store, term: TermId, level: u32) -> bool
         requires ready { ready self.now store.now }
         requires term { (words self.now store.now).knows_term term.0 }
-        ensures value { result ≡ true → (b : ℕ) → eval_on (words self.now store.now).rules level ((words self.now store.now).tree term.0) b
-            ≡ done ((words self.now store.now).tree term.0) 0 b }
+        ensures value { result ≡ true → IsKnownBy (words self.now store.now).rules.program
+            (λ n. eval_on (words self.now store.now).rules (level + n) ((words self.now store.now).tree term.0))
+            ((words self.now store.now).tree term.0) }
         ensures known { result ≡ true → (words self.now store.now).knows_value term.0 };
 
     /// The operator, the arguments, and the places of those that are evaluated; `None` for a numeral or a variable.
@@ -137,12 +147,57 @@ pub trait World {
             ((words self.new store.new).rules.program.sign.result op.0)) }
         ensures grows { grows self.old store.old self.new store.new };
 
-    /// Settles the sorts of a term, and begins with all that may be applied at its top.
-    fn attempts(&mut self, store: &mut Store, term: TermId) -> Result<Self::Attempts, NoMemory>
+    /// The budget of each condition of a membership.
+    fn limit(&self) -> u64
+        ensures { (nodes : List Node) → result ≡ (words self.now nodes).rules.limit };
+
+    /// Begins to settle the sorts of a term.
+    fn settling(&mut self, store: &mut Store, term: TermId) -> Result<Self::Settling, NoMemory>
         requires ready { ready self.old store.old }
         requires term { (words self.old store.old).knows_term term.0 }
+        ensures known { IfOk result ((words self.new store.new).knows_settling term.0) }
+        ensures grows { grows self.old store.old self.new store.new };
+
+    /// Settles further, up to the next condition that has to be solved: its number, and the values of its variables. `None` where all is
+    /// settled. Where the condition ends by its own budget, settling ends so.
+    fn settle(
+        &mut self,
+        store: &mut Store,
+        term: TermId,
+        settling: &mut Self::Settling,
+    ) -> Result<Option<(usize, Self::Binding)>, NoMemory>
+        requires ready { ready self.old store.old }
+        requires term { (words self.old store.old).knows_term term.0 }
+        requires settling { (words self.old store.old).knows_settling term.0 settling.old }
+        ensures none { IfOk result (λ o. IfNone o ((words self.new store.new).knows_value term.0)) }
+        ensures binding { IfOk result (λ o. IfSome o (λ x. (words self.new store.new).knows_binding x.0 0 x.1)) }
+        ensures asking { IfOk result (λ o. IfSome o (λ x. (words self.new store.new).knows_asking term.0 x.0
+            ((words self.new store.new).bound x.1) settling.new)) }
+        ensures ends { IfOk result (λ o. IfSome o (λ x. EndsWhere (words self.new store.new).rules.program
+            (λ k. settle_on (words self.new store.new).rules k ((words self.new store.new).tree term.0))
+            (λ k. solve_on (words self.new store.new).rules k x.0 0 ((words self.new store.new).bound x.1)
+            (words self.new store.new).rules.limit))) }
+        ensures grows { grows self.old store.old self.new store.new };
+
+    /// Whether that condition holds.
+    fn told(
+        &self,
+        store: &Store,
+        term: TermId,
+        condition: usize,
+        holds: bool,
+        settling: &mut Self::Settling,
+    )
+        requires ready { ready self.now store.now }
+        requires answered { (σ : Binding) × (words self.now store.now).knows_asking term.0 condition σ settling.old
+            × IsAnswered (words self.now store.now).rules condition σ holds }
+        ensures known { (words self.now store.now).knows_settling term.0 settling.new };
+
+    /// Begins with all that may be applied at the top of a term whose sorts are settled.
+    fn attempts(&mut self, store: &mut Store, term: TermId) -> Result<Self::Attempts, NoMemory>
+        requires ready { ready self.old store.old }
+        requires term { (words self.old store.old).knows_value term.0 }
         ensures value { IfOk result (IsUntried (words self.new store.new) ((words self.new store.new).tree term.0)) }
-        ensures settled { OnOk result ((words self.new store.new).knows_value term.0) }
         ensures known { IfOk result ((words self.new store.new).knows_attempts term.0) }
         ensures grows { grows self.old store.old self.new store.new };
 
@@ -156,12 +211,14 @@ pub trait World {
         requires ready { ready self.old store.old }
         requires term { (words self.old store.old).knows_value term.0 }
         requires attempts { (words self.old store.old).knows_attempts term.0 attempts.old }
-        ensures none { (k b : ℕ) → IfOk result (λ o. IfNone o ((words self.new store.new).untried attempts.old k b ≡ done None 0 b)) }
-        ensures some { (k b : ℕ) → IfOk result (λ o. IfSome o (λ x. (words self.new store.new).untried attempts.old k b
-            ≡ or_go_on ((words self.new store.new).untried attempts.new k)
+        ensures none { IfOk result (λ o. IfNone o (IsKnownBy (words self.new store.new).rules.program
+            ((words self.new store.new).untried attempts.old) None)) }
+        ensures some { IfOk result (λ o. IfSome o (λ x. LeadsTo (words self.new store.new).rules.program
+            ((words self.new store.new).untried attempts.old)
+            (λ k b. or_go_on ((words self.new store.new).untried attempts.new k)
             (try_on (λ σ. gives (option_map ((words self.new store.new).makes attempts.new) σ))
-            (solve_on (words self.new store.new).rules k x.0 0 ((words self.new store.new).bound x.1) b)))) }
-        ensures ends { (k b : ℕ) → IfErr result (IsEnd ((words self.new store.new).untried attempts.old k b)) }
+            (solve_on (words self.new store.new).rules k x.0 0 ((words self.new store.new).bound x.1) b))))) }
+        ensures ends { IfErr result (EndsBy (words self.new store.new).rules.program ((words self.new store.new).untried attempts.old)) }
         ensures known { IfOk result (λ o. IfSome o (λ x. (words self.new store.new).knows_attempts term.0 attempts.new
             × (words self.new store.new).knows_candidate term.0 x.0 attempts.new × (words self.new store.new).knows_binding x.0 0 x.1)) }
         ensures grows { grows self.old store.old self.new store.new };
@@ -298,11 +355,12 @@ pub trait World {
     ) -> Result<Option<Self::Binding>, NoMemory>
         requires ready { ready self.old store.old }
         requires choices { (words self.old store.old).knows_choices condition at choices.old }
-        ensures none { (k b : ℕ) → IfOk result (λ o. IfNone o ((words self.new store.new).unchosen choices.old k condition at b
-            ≡ done None 0 b)) }
-        ensures some { (k b : ℕ) → IfOk result (λ o. IfSome o (λ σ. (words self.new store.new).unchosen choices.old k condition at b
-            ≡ or_go_on ((words self.new store.new).unchosen choices.new k condition at)
-            (solve_on (words self.new store.new).rules k condition (suc at) ((words self.new store.new).bound σ) b))) }
+        ensures none { IfOk result (λ o. IfNone o (IsKnownBy (words self.new store.new).rules.program
+            (λ k. (words self.new store.new).unchosen choices.old k condition at) None)) }
+        ensures some { IfOk result (λ o. IfSome o (λ σ. LeadsTo (words self.new store.new).rules.program
+            (λ k. (words self.new store.new).unchosen choices.old k condition at)
+            (λ k b. or_go_on ((words self.new store.new).unchosen choices.new k condition at)
+            (solve_on (words self.new store.new).rules k condition (suc at) ((words self.new store.new).bound σ) b)))) }
         ensures known { IfOk result (λ o. IfSome o (λ σ. (words self.new store.new).knows_choices condition at choices.new
             × (words self.new store.new).knows_binding condition (suc at) σ)) }
         ensures begun { IfOk result (λ o. IfSome o (λ σ. ((words self.new store.new).chosen_from choices.new

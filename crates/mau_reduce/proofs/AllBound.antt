@@ -1,5 +1,5 @@
 -- The variables of a statement whose variables are bound in order: those of the left side, and then those that are matched.
-use Rattle.std.proofs.Common.{◌≡◌, List, [], ◌∷◌, ◌++◌, Bool, true, false, ◌&&◌, ◌||◌, if◌then◌else◌, refl, sym, ap, ◌∙◌}
+use Rattle.std.proofs.Common.{◌≡◌, List, [], ◌∷◌, ◌++◌, Bool, true, false, ◌&&◌, ◌||◌, if◌then◌else◌, refl, ap, ◌∙◌}
 use Rattle.std.specs.Prelude.{fold}
 use Rattle.std.proofs.lemmas.Bool.{and_parts}
 use Rattle.mau_terms.specs.Tree.{Tree, variable, numeral, apply, Trees, no_trees, tree}

@@ -17,7 +17,7 @@ use Rattle.mau_canon.specs.Standing.{StandWithin}
 use Rattle.mau_listing.specs.declared.solution.Solution as Given
 use Rattle.mau_program.specs.declared.program.Program as Typed
 use Rattle.mau_evaluation.specs.Program.{Equation, Program, Answer, no_value, value, too_large}
-use Rattle.mau_evaluation.specs.Run.{Outcome, done, ended, Run, gives, counted_if, try_on, or_go_on, first_of}
+use Rattle.mau_evaluation.specs.Run.{Outcome, done, ended, Run, gives, counted_if, try_on, or_go_on, or_else, first_of}
 use Rattle.mau_evaluation.specs.Evaluation.{Binding, binds, extend, native, levels, solve, applied, by_answer, by_equations, binding_of, replaced}
 use Rattle.mau_api.specs.Programs.{program_over, equation_of}
 use Rattle.mau_reduce.specs.declared.given.Given.{Given as BuiltIn}
@@ -25,8 +25,11 @@ use Rattle.mau_reduce.specs.declared.trying.Found.{Found}
 use Rattle.mau_reduce.specs.declared.binding.Binding.{Binding as Kept}
 use Rattle.mau_reduce.specs.BuiltOperators.{answer_of, built_gives}
 use Rattle.mau_reduce.specs.Bindings.{paired, bound_in, HaveKinds, AreValues}
-use Rattle.mau_reduce.specs.Trying.{solution_in, applied_number, number_gives, order_of_all, IsFound}
-use Rattle.mau_reduce.specs.Attempting.{untried_by, cond_in, cond_at, made_by_one, made_by, made_of}
+use Rattle.mau_reduce.specs.Trying.{solution_in, left_by, applied_number, number_gives, order_of_all, IsFound}
+use Rattle.mau_reduce.specs.Attempting.{untried_by, cond_in, cond_at, made_by_one, made_by, made_of, makes_of}
+use Rattle.mau_reduce.specs.Lasts.{left_variables_of, left_variables}
+use Rattle.mau_reduce.specs.Comes.{ComesTo}
+use Rattle.mau_reduce.proofs.Comes.{comes_same, comes_as}
 use Rattle.mau_reduce.proofs.Numbered.{by_order, gives_at, equation_there}
 
 pub native_over : (p : Typed.Program) (hooks : List Operator) (t : Tree) → native (program_over p hooks) t ≡ built_gives p.sig hooks t
@@ -130,32 +133,51 @@ module _ (P : Program) (B k : ℕ) (nodes : List Node) (t : Tree) (b : ℕ) wher
       by_answer P (levels P B k) (levels P B (suc k)).sorts (value v) m b ≡ or_go_on n (try_on (λ o. gives (option_map (made_of P nodes t (value v) last) o)) (solve P (levels P B k) (cond_at P i) σ b))
   value_tried v last m n σ i is = ap (λ c. or_go_on n (try_on (λ o. gives (option_map (made_of P nodes t (value v) last) o)) (solve P (levels P B k) c σ b))) (sym (ap (cond_at P) is ∙ cond_past))
 
+-- what a built-in gives is tried
+pub given_tried : (P : Program) (B : ℕ) (nodes : List Node) (t : Tree) (given : BuiltIn) (v : Tree) → answer_of nodes P.sign.theory t given ≡ value v →
+    (last : Option Found) (tried : Option (ℕ × Option Given.Solution)) (is : List ℕ) (n : ℕ → Run (Option Tree)) (σ : Binding) (i : ℕ) → i ≡ length P.equations →
+    ComesTo P (λ k. untried_by P B k nodes t given tried is) (λ k. or_else (λ b. try_on (λ o. gives (option_map (makes_of P nodes t given last) o)) (solve P (levels P B k) (cond_at P i) σ b)) (n k))
+given_tried P B nodes t given v e last tried is n σ i h =
+    comes_same (λ k b.
+    subst (λ (a : Answer). by_answer P (levels P B k) (levels P B (suc k)).sorts a (left_by P B k nodes t tried is) b
+    ≡ or_go_on (n k) (try_on (λ o. gives (option_map (made_of P nodes t a last) o)) (solve P (levels P B k) (cond_at P i) σ b)))
+    (sym e) (value_tried P B k nodes t b v last (left_by P B k nodes t tried is) (n k) σ i h))
+
+-- it has no variables
+pub none_left : (p : Typed.Program) (i : ℕ) → i ≡ length p.equations → left_variables p i ≡ []
+none_left p i h = ap left_variables_of (ap (slice_get p.equations) h ∙ slice_get_past p.equations (length p.equations) (omega arith))
+
 pub bound_as : (nodes : List Node) (s : Kept) (p : Tree) (x : Given.Solution) → map variable_of s.variables.items ≡ variables p → s.values.items ≡ x.values → bound_in nodes s ≡ binding_of p (solution_in nodes x)
 bound_as nodes s p x e h =
     ap₂ (λ xs ids. paired xs (trees_at nodes (numbers ids))) e h ∙ sym (binding_paired p (trees_at nodes (numbers x.values)))
 
 -- the next candidate of the equations
-module _ (p : Typed.Program) (hooks : List Operator) (B k : ℕ) (old new : List Node) (t : Tree) (b : ℕ) (last : Option Found) (i : ℕ) (s : Kept) where
-  pub equation_tried : (l : Run (Option Tree)) (n : Run (Option Tree)) →
-      IfSome last (λ y. l b ≡ or_go_on n (number_gives (program_over p hooks) B k t y.number (solution_in new y.solution) b)) →
+module _ (p : Typed.Program) (hooks : List Operator) (B : ℕ) (old new : List Node) (t : Tree) (last : Option Found) (i : ℕ) (s : Kept) where
+  abbrev Asked : ℕ → Option Found → ℕ → Run (Option Tree)
+  Asked j w k b = try_on (λ q. gives (option_map (made_by (program_over p hooks) new t w) q)) (solve (program_over p hooks) (levels (program_over p hooks) B k) (cond_at (program_over p hooks) j) (bound_in new s) b)
+
+  pub equation_tried : (l n : ℕ → Run (Option Tree)) →
+      IfSome last (λ y. ComesTo (program_over p hooks) l (λ k. or_else (number_gives (program_over p hooks) B k t y.number (solution_in new y.solution)) (n k))) →
       IsSome last → IfSome last (λ y. i ≡ y.number) → IfSome last (λ y. s.values.items ≡ y.solution.values) →
       IfSome last (λ y. IsFound p new t y.number y.solution) → IfSome (slice_get p.equations i) (λ e. map variable_of s.variables.items ≡ variables (tree_of e.left)) →
-      l b ≡ or_go_on n (try_on (λ o. gives (option_map (made_by (program_over p hooks) new t last) o)) (solve (program_over p hooks) (levels (program_over p hooks) B k) (cond_at (program_over p hooks) i) (bound_in new s) b))
+      ComesTo (program_over p hooks) l
+      (λ k. or_else (λ b. try_on (λ o. gives (option_map (made_by (program_over p hooks) new t last) o)) (solve (program_over p hooks) (levels (program_over p hooks) B k) (cond_at (program_over p hooks) i) (bound_in new s) b)) (n k))
   equation_tried l n h some number values found vars = by last refl h some number values found
     where
       by : (o : Option Found) → last ≡ o →
-          IfSome o (λ y. l b ≡ or_go_on n (number_gives (program_over p hooks) B k t y.number (solution_in new y.solution) b)) →
+          IfSome o (λ y. ComesTo (program_over p hooks) l (λ k. or_else (number_gives (program_over p hooks) B k t y.number (solution_in new y.solution)) (n k))) →
           IsSome o → IfSome o (λ y. i ≡ y.number) → IfSome o (λ y. s.values.items ≡ y.solution.values) →
           IfSome o (λ y. IsFound p new t y.number y.solution) →
-          l b ≡ or_go_on n (try_on (λ q. gives (option_map (made_by (program_over p hooks) new t last) q)) (solve (program_over p hooks) (levels (program_over p hooks) B k) (cond_at (program_over p hooks) i) (bound_in new s) b))
+          ComesTo (program_over p hooks) l
+          (λ k. or_else (λ b. try_on (λ q. gives (option_map (made_by (program_over p hooks) new t last) q)) (solve (program_over p hooks) (levels (program_over p hooks) B k) (cond_at (program_over p hooks) i) (bound_in new s) b)) (n k))
       by None e h some number values found = cc
       by (Some y) e h some number values found =
           let own = subst (λ j. IfSome (slice_get p.equations j) (λ d. map variable_of s.variables.items ≡ variables (tree_of d.left))) number vars in
           let mine : map variable_of s.variables.items ≡ variables (tree_of found.equation.left) = subst (λ o. IfSome o (λ d. map variable_of s.variables.items ≡ variables (tree_of d.left))) found.at own in
-          h
-          ∙ (ap (or_go_on n) (gives_made (program_over p hooks) B k new t b y (equation_of found.equation) (equation_there p hooks y.number found.equation found.at) (bound_in new s) (bound_as new s (tree_of found.equation.left) y.solution mine values))
-          ∙ (ap (λ w. or_go_on n (try_on (λ q. gives (option_map (made_by (program_over p hooks) new t w) q)) (solve (program_over p hooks) (levels (program_over p hooks) B k) (cond_at (program_over p hooks) y.number) (bound_in new s) b))) (sym e)
-          ∙ ap (λ j. or_go_on n (try_on (λ q. gives (option_map (made_by (program_over p hooks) new t last) q)) (solve (program_over p hooks) (levels (program_over p hooks) B k) (cond_at (program_over p hooks) j) (bound_in new s) b))) (sym number)))
+          comes_as h (λ k b.
+          ap (or_go_on (n k)) (gives_made (program_over p hooks) B k new t b y (equation_of found.equation) (equation_there p hooks y.number found.equation found.at) (bound_in new s) (bound_as new s (tree_of found.equation.left) y.solution mine values))
+          ∙ (ap (λ w. or_go_on (n k) (Asked y.number w k b)) (sym e)
+          ∙ ap (λ j. or_go_on (n k) (Asked j last k b)) (sym number)))
 
   -- the values are those of the variables
   pub values_given : IsSome last → IfSome last (λ y. i ≡ y.number) → IfSome last (λ y. s.values.items ≡ y.solution.values) →

@@ -1,19 +1,19 @@
 -- An operator that has no identity and is not the successor stays on top of a normal form, so the left side of an equation with such an operator on top
 -- matches nothing that has another one there.
-use Rattle.std.proofs.Common.{◌≡◌, ℕ, ◌+◌, ◌≤◌, ◌==◌, List, [], ◌∷◌, ◌++◌, length, map, All, Bool, true, false, ◌&&◌, if◌then◌else◌, Option, Some, None, inl, inr, ◌⊎◌, refl, sym, ap, ◌∙◌, subst, arith, eq-eqb, eqb-true}
+use Rattle.std.proofs.Common.{◌≡◌, ℕ, ◌≤◌, ◌==◌, List, [], ◌∷◌, ◌++◌, length, map, All, Bool, true, false, if◌then◌else◌, Option, Some, None, refl, sym, ap, ◌∙◌, subst, arith, eq-eqb, eqb-true}
 use Rattle.std.specs.Bool.{MatchBool}
 use Rattle.std.proofs.lemmas.List.{length-append}
 use Rattle.mau_terms.specs.Tree.{Tree, variable, numeral, apply, Trees, no_trees, tree, node, list_of, trees_of}
-use Rattle.mau_terms.specs.Norm.{norm, norms, build, finish, arrange, pieces, all_pieces, elements, is_unit}
+use Rattle.mau_terms.specs.Norm.{norm, norms, finish, arrange, pieces, all_pieces, elements, is_unit}
 use Rattle.mau_terms.specs.Bare.{IsBare, IsBareIn, AreBareIn, IsLawful}
 use Rattle.mau_terms.specs.Reading.{reading}
-use Rattle.mau_terms.specs.Subst.{variables, with_values, value_at, instances}
-use Rattle.mau_terms.specs.Solution.{Fits, FitsAt, FitsUnder, FitsWithin, assoc_top, list_under, over_list}
+use Rattle.mau_terms.specs.Subst.{variables, value_at, instances}
+use Rattle.mau_terms.specs.Solution.{FitsAt, FitsUnder, FitsWithin, assoc_top, list_under, over_list}
 use Rattle.mau_terms.specs.declared.theory.Theory.{Theory}
 use Rattle.mau_terms.proofs.Chains.{first_bare}
 use Rattle.mau_terms.proofs.Finite.{length-arrange}
 use Rattle.mau_terms.proofs.Law.{equal_norm}
-use Rattle.mau_terms.proofs.Normal.{IsNormal, finish_long, norm_normal, normal_fixed}
+use Rattle.mau_terms.proofs.Normal.{finish_long, norm_normal, normal_fixed}
 use Rattle.mau_terms.proofs.Pieces.{list_of-trees_of, trees_of-list_of}
 use Rattle.mau_signature.specs.Signature.{SignatureOf, theory_at, terms_over}
 use Rattle.mau_trial.proofs.OfKind.{bare_arguments}

@@ -1,6 +1,5 @@
 -- An equation that may not apply under the top of a term gives nothing there, so the others alone are tried.
-use Rattle.std.proofs.Common.{◌≡◌, ℕ, suc, ◌==◌, List, [], ◌∷◌, Bool, true, false, ◌||◌, not, if◌then◌else◌, Option, Some, None, slice_get, is_some, map, inl, inr, refl, sym, ap, ◌∙◌, subst, eq-eqb}
-use Rattle.std.proofs.lemmas.Bool.{or_parts}
+use Rattle.std.proofs.Common.{◌≡◌, ℕ, suc, List, [], ◌∷◌, Bool, true, false, ◌||◌, not, if◌then◌else◌, Option, Some, None, slice_get, is_some, map, inl, refl, sym, ap, ◌∙◌, subst, eq-eqb}
 use Rattle.mau_terms.specs.Tree.{Tree, variable, numeral, apply}
 use Rattle.mau_terms.specs.Norm.{norm}
 use Rattle.mau_terms.specs.Bare.{IsBare, IsLawful}
@@ -16,8 +15,8 @@ use Rattle.mau_formula.specs.Operator.{Operator}
 use Rattle.mau_store.specs.Node.{Node}
 use Rattle.mau_program.specs.declared.program.Program as Typed
 use Rattle.mau_program.specs.declared.statements.Equation as Written
-use Rattle.mau_evaluation.specs.Run.{Outcome, done, Run, gives, or_go_on, first_of}
-use Rattle.mau_evaluation.specs.Program.{Answer, Program}
+use Rattle.mau_evaluation.specs.Run.{done, or_go_on, first_of}
+use Rattle.mau_evaluation.specs.Program.{Program}
 use Rattle.mau_evaluation.specs.Listing.{Solution, keep, solutions_within}
 use Rattle.mau_evaluation.specs.Evaluation.{levels, applied, by_answer}
 use Rattle.mau_evaluation.proofs.BareTerms.{norm-reading-is}
@@ -27,7 +26,7 @@ use Rattle.mau_reduce.specs.declared.given.Given.{Given as BuiltIn}
 use Rattle.mau_reduce.specs.Reducible.{IsReducible}
 use Rattle.mau_reduce.specs.BuiltOperators.{answer_of, built_gives}
 use Rattle.mau_reduce.specs.Trying.{applied_by, applied_one, applied_number, order_of_all}
-use Rattle.mau_reduce.specs.ByTop.{top_number, stays_on_top, firm_top, may_apply, firm_of, may_apply_at, order_under, order_for}
+use Rattle.mau_reduce.specs.ByTop.{top_number, stays_on_top, firm_top, may_apply, firm_of, may_apply_at, order_for}
 use Rattle.mau_reduce.specs.Attempting.{untried_by}
 use Rattle.mau_reduce.proofs.FirmTops.{at_top}
 use Rattle.mau_reduce.proofs.FreeMatches.{left_bare}

@@ -13,7 +13,7 @@ use Rattle.mau_store.specs.Node.{Node}
 use Rattle.mau_store.specs.Trees.{trees_at}
 use Rattle.mau_store.specs.View.{numbers}
 use Rattle.mau_sorts.specs.Table.{Table}
-use Rattle.mau_listing.specs.Asked.{Asked, asks, HasEntry, IsGiven, CanBeLast}
+use Rattle.mau_listing.specs.Asked.{Asked, HasEntry, IsGiven, CanBeLast}
 use Rattle.mau_listing.specs.declared.solution.Solution as Listed
 use Rattle.mau_program.specs.declared.program.Program as Typed
 use Rattle.mau_reduce.specs.declared.given.Given.{Given}

@@ -11,10 +11,13 @@ use Rattle.mau_terms.specs.declared.theory.Theory.{Theory}
 use Rattle.mau_listing.specs.Finite.{comes_behind}
 use Rattle.mau_listing.specs.Matcher.{Matcher}
 use Rattle.mau_listing.specs.Next.{matcher_cmp, IsBehind}
-use Rattle.mau_evaluation.specs.Run.{done, Run, or_go_on, first_of}
+use Rattle.mau_evaluation.specs.Run.{Run, gives, or_go_on, or_else, first_of}
+use Rattle.mau_evaluation.specs.Program.{Program}
 use Rattle.mau_evaluation.specs.Listing.{Solution, keep, compare, IsAscending, AllAfter}
 use Rattle.mau_evaluation.proofs.Listed.{in_map, from_map, in_keep, from_keep}
 use Rattle.mau_api.specs.Remaining.{as_matcher, AllBehind, Ascend, AreLeft}
+use Rattle.mau_reduce.specs.Comes.{ComesTo}
+use Rattle.mau_reduce.proofs.Comes.{comes_same, comes_from, comes_as, comes_passed}
 
 -- ---- what comes behind another one
 
@@ -67,80 +70,81 @@ module _ (c : Solution → Solution → Ordering) (total : IsTotalOrder c) where
 
   -- ---- one solution after another, where each is tested
 
-  module _ {A : Type 0} (f : Solution → Run (Option A)) (test : Solution → Bool) where
-    abbrev pub Fails : List Solution → Type 0
-    Fails xs = (x : Solution) → IsIn x xs → test x ≡ false → (b : ℕ) → f x b ≡ done None 0 b
+  abbrev pub head : List Solution → Option Solution
+  head [] = None
+  head (x ∷ xs) = Some x
 
-    abbrev pub head : List Solution → Option Solution
-    head [] = None
-    head (x ∷ xs) = Some x
-
+  module _ (test : Solution → Bool) where
     -- the first one that passes both
     abbrev pub first_passed : Option Solution → List Solution → Option Solution
     first_passed last xs = head (keep test (keep (behind last) xs))
 
-    pub none_passes : (last : Option Solution) (xs : List Solution) → Fails xs → first_passed last xs ≡ None → (b : ℕ) → first_of f (keep (behind last) xs) b ≡ done None 0 b
-    none_passes last [] fails e b = refl
-    none_passes last (x ∷ xs) fails e b = by (none_passes last xs (λ y i. fails y (inr i))) (behind last x) (test x) refl e
-      where
-        at : (t : Bool) → test x ≡ t → head (if t then x ∷ keep test (keep (behind last) xs) else keep test (keep (behind last) xs)) ≡ None → (first_passed last xs ≡ None) × (test x ≡ false)
-        at true h k = cc
-        at false h k = (k, h)
+    module _ (P : Program) {A : Type 0} (f : ℕ → Solution → Run (Option A)) where
+      abbrev pub Fails : List Solution → Type 0
+      Fails xs = (x : Solution) → IsIn x xs → test x ≡ false → ComesTo P (λ k. f k x) (λ k. gives None)
 
-        by : (first_passed last xs ≡ None → (c : ℕ) → first_of f (keep (behind last) xs) c ≡ done None 0 c) → (w t : Bool) → test x ≡ t →
-            head (keep test (if w then x ∷ keep (behind last) xs else keep (behind last) xs)) ≡ None →
-            first_of f (if w then x ∷ keep (behind last) xs else keep (behind last) xs) b ≡ done None 0 b
-        by rest false t h k = rest k b
-        by rest true t h k =
-            let p = at (test x) refl k in
-            ap (or_go_on (first_of f (keep (behind last) xs))) (fails x (inl refl) p.1 b) ∙ rest p.0 b
+      pub none_passes : (last : Option Solution) (xs : List Solution) → Fails xs → first_passed last xs ≡ None → ComesTo P (λ k. first_of (f k) (keep (behind last) xs)) (λ k. gives None)
+      none_passes last [] fails e = comes_same (λ k b. refl)
+      none_passes last (x ∷ xs) fails e = by (none_passes last xs (λ y i. fails y (inr i))) (behind last x) (test x) refl e
+        where
+          at : (t : Bool) → test x ≡ t → head (if t then x ∷ keep test (keep (behind last) xs) else keep test (keep (behind last) xs)) ≡ None → (first_passed last xs ≡ None) × (test x ≡ false)
+          at true h k = cc
+          at false h k = (k, h)
 
-    pub record Passes (last : Option Solution) (xs : List Solution) (x : Solution) : Type 0 where
-      pub there : IsIn x xs
-      pub tested : test x ≡ true
-      pub rest : (b : ℕ) → first_of f (keep (behind last) xs) b ≡ or_go_on (first_of f (keep (behind (Some x)) xs)) (f x b)
+          by : (first_passed last xs ≡ None → ComesTo P (λ k. first_of (f k) (keep (behind last) xs)) (λ k. gives None)) → (w t : Bool) → test x ≡ t →
+              head (keep test (if w then x ∷ keep (behind last) xs else keep (behind last) xs)) ≡ None →
+              ComesTo P (λ k. first_of (f k) (if w then x ∷ keep (behind last) xs else keep (behind last) xs)) (λ k. gives None)
+          by rest false t h k = rest k
+          by rest true t h k =
+              let p = at (test x) refl k in
+              comes_passed (fails x (inl refl) p.1) (rest p.0)
 
-    pub one_passes : (last : Option Solution) (xs : List Solution) (x : Solution) → IsAscending c xs → Fails xs → first_passed last xs ≡ Some x → Passes last xs x
-    one_passes last [] x ascends fails e = cc
-    one_passes last (y ∷ ys) x ascends fails e = by (one_passes last ys x ascends.1 (λ z i. fails z (inr i))) (behind last y) refl (test y) refl
-      where
-        -- a head that is passed over
-        past : Passes last ys x → keep (behind (Some x)) (y ∷ ys) ≡ keep (behind (Some x)) ys
-        past p = ap (λ b. if b then y ∷ keep (behind (Some x)) ys else keep (behind (Some x)) ys) (not_back y x (among_after y ys ascends.0 x p.there))
+      pub record Passes (last : Option Solution) (xs : List Solution) (x : Solution) : Type 0 where
+        pub there : IsIn x xs
+        pub tested : test x ≡ true
+        pub rest : ComesTo P (λ k. first_of (f k) (keep (behind last) xs)) (λ k. or_else (f k x) (first_of (f k) (keep (behind (Some x)) xs)))
 
-        by : (first_passed last ys ≡ Some x → Passes last ys x) → (w : Bool) → behind last y ≡ w → (t : Bool) → test y ≡ t → Passes last (y ∷ ys) x
-        by below false k t h =
-            let p = below (sym (ap (λ b. head (keep test (if b then y ∷ keep (behind last) ys else keep (behind last) ys))) k) ∙ e) in
-            record {
-              there = inr p.there;
-              tested = p.tested;
-              rest = λ b. ap (λ d. first_of f (if d then y ∷ keep (behind last) ys else keep (behind last) ys) b) k ∙ (p.rest b ∙ ap (λ zs. or_go_on (first_of f zs) (f x b)) (sym (past p)));
-            }
-        by below true k false h =
-            let at : head (if false then y ∷ keep test (keep (behind last) ys) else keep test (keep (behind last) ys)) ≡ Some x =
-            sym (ap (λ d. head (keep test (if d then y ∷ keep (behind last) ys else keep (behind last) ys))) k ∙ ap (λ d. head (if d then y ∷ keep test (keep (behind last) ys) else keep test (keep (behind last) ys))) h) ∙ e in
-            let p = below at in
-            record {
-              there = inr p.there;
-              tested = p.tested;
-              rest = λ b.
-                  ap (λ d. first_of f (if d then y ∷ keep (behind last) ys else keep (behind last) ys) b) k
-                  ∙ (ap (or_go_on (first_of f (keep (behind last) ys))) (fails y (inl refl) h b)
-                  ∙ (p.rest b ∙ ap (λ zs. or_go_on (first_of f zs) (f x b)) (sym (past p))));
-            }
-        by below true k true h =
-            let at : Some y ≡ Some x =
-            sym (ap (λ d. head (keep test (if d then y ∷ keep (behind last) ys else keep (behind last) ys))) k ∙ ap (λ d. head (if d then y ∷ keep test (keep (behind last) ys) else keep test (keep (behind last) ys))) h) ∙ e in
-            let same : y ≡ x = cc in
-            let own : keep (behind (Some y)) (y ∷ ys) ≡ ys = ap (λ d. if d then y ∷ keep (behind (Some y)) ys else keep (behind (Some y)) ys) (not_itself y) ∙ all_after y ys ascends.0 in
-            let others : keep (behind last) ys ≡ ys = all_behind last y ys k ascends.0 in
-            subst (Passes last (y ∷ ys)) same (record {
-              there = inl refl;
-              tested = h;
-              rest = λ b.
-                  ap (λ d. first_of f (if d then y ∷ keep (behind last) ys else keep (behind last) ys) b) k
-                  ∙ ap (λ zs. or_go_on (first_of f zs) (f y b)) (others ∙ sym own);
-            })
+      pub one_passes : (last : Option Solution) (xs : List Solution) (x : Solution) → IsAscending c xs → Fails xs → first_passed last xs ≡ Some x → Passes last xs x
+      one_passes last [] x ascends fails e = cc
+      one_passes last (y ∷ ys) x ascends fails e = by (one_passes last ys x ascends.1 (λ z i. fails z (inr i))) (behind last y) refl (test y) refl
+        where
+          -- a head that is passed over
+          past : Passes last ys x → keep (behind (Some x)) (y ∷ ys) ≡ keep (behind (Some x)) ys
+          past p = ap (λ b. if b then y ∷ keep (behind (Some x)) ys else keep (behind (Some x)) ys) (not_back y x (among_after y ys ascends.0 x p.there))
+
+          behind_it : Passes last ys x → (k b : ℕ) → or_go_on (first_of (f k) (keep (behind (Some x)) ys)) (f k x b) ≡ or_go_on (first_of (f k) (keep (behind (Some x)) (y ∷ ys))) (f k x b)
+          behind_it p k b = ap (λ zs. or_go_on (first_of (f k) zs) (f k x b)) (sym (past p))
+
+          by : (first_passed last ys ≡ Some x → Passes last ys x) → (w : Bool) → behind last y ≡ w → (t : Bool) → test y ≡ t → Passes last (y ∷ ys) x
+          by below false k t h =
+              let p = below (sym (ap (λ b. head (keep test (if b then y ∷ keep (behind last) ys else keep (behind last) ys))) k) ∙ e) in
+              record {
+                there = inr p.there;
+                tested = p.tested;
+                rest = comes_from (λ n b. ap (λ d. first_of (f n) (if d then y ∷ keep (behind last) ys else keep (behind last) ys) b) k) (comes_as p.rest (behind_it p));
+              }
+          by below true k false h =
+              let at : head (if false then y ∷ keep test (keep (behind last) ys) else keep test (keep (behind last) ys)) ≡ Some x =
+              sym (ap (λ d. head (keep test (if d then y ∷ keep (behind last) ys else keep (behind last) ys))) k ∙ ap (λ d. head (if d then y ∷ keep test (keep (behind last) ys) else keep test (keep (behind last) ys))) h) ∙ e in
+              let p = below at in
+              record {
+                there = inr p.there;
+                tested = p.tested;
+                rest = comes_from (λ n b. ap (λ d. first_of (f n) (if d then y ∷ keep (behind last) ys else keep (behind last) ys) b) k) (comes_as (comes_passed (fails y (inl refl) h) p.rest) (behind_it p));
+              }
+          by below true k true h =
+              let at : Some y ≡ Some x =
+              sym (ap (λ d. head (keep test (if d then y ∷ keep (behind last) ys else keep (behind last) ys))) k ∙ ap (λ d. head (if d then y ∷ keep test (keep (behind last) ys) else keep test (keep (behind last) ys))) h) ∙ e in
+              let same : y ≡ x = cc in
+              let own : keep (behind (Some y)) (y ∷ ys) ≡ ys = ap (λ d. if d then y ∷ keep (behind (Some y)) ys else keep (behind (Some y)) ys) (not_itself y) ∙ all_after y ys ascends.0 in
+              let others : keep (behind last) ys ≡ ys = all_behind last y ys k ascends.0 in
+              subst (Passes last (y ∷ ys)) same (record {
+                there = inl refl;
+                tested = h;
+                rest = comes_same (λ n b.
+                    ap (λ d. first_of (f n) (if d then y ∷ keep (behind last) ys else keep (behind last) ys) b) k
+                    ∙ ap (λ zs. or_go_on (first_of (f n) zs) (f n y b)) (others ∙ sym own));
+              })
 
 -- ---- as a listing gives them
 

@@ -16,11 +16,16 @@ pub mod Around
 pub mod PlainTables
 -- sorts without memberships
 pub mod PlainSorts
+-- what comes by enough levels
+pub mod Comes
 -- solutions that are left
 pub mod Leftover
 -- kinds and contexts of solutions
 pub mod SortKinds
+pub mod DerivedKinds
 pub mod Fitting
+-- values of solutions
+pub mod Valued
 -- candidates
 pub mod Candidates
 -- equations by their numbers

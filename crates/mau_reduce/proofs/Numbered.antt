@@ -2,7 +2,6 @@
 use Rattle.std.proofs.Common.{◌≡◌, ℕ, zero, suc, ◌+◌, ◌<◌, ◌≤◌, List, [], ◌∷◌, ◌++◌, map, drop, length, get_or, slice_get, Bool, true, false, ◌&&◌, not, if◌then◌else◌, Option, Some, None, IfOk, IfSome, IfNone, Result, Ok, Err, inl, inr, refl, sym, ap, ◌∙◌, subst, arith, zero-add}
 use Rattle.std.specs.Option.{option_map}
 use Rattle.std.proofs.Math.Seq.{drop-cons}
-use Rattle.std.proofs.lemmas.List.{get_or_default}
 use Rattle.std.proofs.lemmas.Option.{slice_get-map, slice_get-get_or}
 use Rattle.mau_terms.specs.Tree.{Tree}
 use Rattle.mau_terms.specs.Finite.{IsIn}
@@ -20,6 +19,8 @@ use Rattle.mau_store.specs.Node.{Node}
 use Rattle.mau_sorts.specs.Table.{Table}
 use Rattle.mau_listing.specs.Asked.{Asked}
 use Rattle.mau_listing.specs.declared.solution.Solution as Given
+use Rattle.mau_reduce.specs.Comes.{ComesTo}
+use Rattle.mau_reduce.proofs.Comes.{comes_same, comes_from, comes_as, comes_through, comes_or, comes_passed}
 use Rattle.mau_reduce.specs.Trying.{solution_in, solutions_behind, applied_by, candidate_gives, applied_one, applied_number, left_of_one, one_gives, left_of_number, left_of_all, left_by, number_gives, numbers_of, order_of_all, IsExecutable, IsTried, IsFound}
 
 -- ---- at a place
@@ -83,17 +84,6 @@ module _ (P : Program) (B k : ℕ) (t : Tree) where
     pub gives_at : (x : Solution) → number_gives P B k t i x ≡ candidate_gives P B k e t x
     gives_at x = ap (one_gives P B k t x) at
 
-  -- the first of the numbers has no candidate
-  pub passed_over : (is : List ℕ) (n : ℕ) (i : ℕ) (b : ℕ) → n < length is → i ≡ get_or is n i → left_of_number P B k t i None b ≡ done None 0 b →
-      first_of (applied_number P B k t) (drop n is) b ≡ first_of (applied_number P B k t) (drop (n + 1) is) b
-  passed_over is n i b h e z =
-      ap (λ xs. first_of (applied_number P B k t) xs b) (drop-cons is n i h ∙ ap (λ j. j ∷ drop (suc n) is) (sym e))
-      ∙ (ap (λ o. or_go_on (first_of (applied_number P B k t) (drop (suc n) is)) o) (ap (λ r. r b) (sym (number_begins i)) ∙ z)
-      ∙ ap (λ m. first_of (applied_number P B k t) (drop m is) b) (more n))
-    where
-      more : (n : ℕ) → suc n ≡ n + 1
-      more n = omega arith
-
   -- the first of the numbers is begun
   pub among_begun : (is : List ℕ) (n b : ℕ) → n < length is → first_of (applied_number P B k t) (drop n is) b ≡ left_of_all P B k t (get_or is n 0) None (drop (n + 1) is) b
   among_begun is n b h =
@@ -125,29 +115,29 @@ some_if P None f = tt
 some_if P (Some x) f = f x refl
 
 -- what a listing says of one equation, by its number
-module _ (P : Program) (B k : ℕ) (t : Tree) (i : ℕ) (e : Equation) (at : slice_get P.equations i ≡ Some e) (new : List Node) (last : Option Solution) (o : Option Given.Solution) (b : ℕ) where
-  pub none_of_number : o ≡ None → IfNone o (applied_by P B k e t (solutions_behind P e t last) b ≡ done None 0 b) → left_of_number P B k t i last b ≡ done None 0 b
-  none_of_number is h = ap (λ r. r b) (left_at P B k t i e at last) ∙ subst (λ z. IfNone z (applied_by P B k e t (solutions_behind P e t last) b ≡ done None 0 b)) is h
+module _ (P : Program) (B : ℕ) (t : Tree) (i : ℕ) (e : Equation) (at : slice_get P.equations i ≡ Some e) (new : List Node) (last : Option Solution) (o : Option Given.Solution) where
+  pub none_of_number : o ≡ None → IfNone o (ComesTo P (λ k. applied_by P B k e t (solutions_behind P e t last)) (λ k. gives None)) → ComesTo P (λ k. left_of_number P B k t i last) (λ k. gives None)
+  none_of_number is h =
+      comes_from (λ k b. ap (λ r. r b) (left_at P B k t i e at last)) (subst (λ z. IfNone z (ComesTo P (λ k. applied_by P B k e t (solutions_behind P e t last)) (λ k. gives None))) is h)
 
   pub one_of_number : (x : Given.Solution) → o ≡ Some x →
-      IfSome o (λ y. applied_by P B k e t (solutions_behind P e t last) b ≡ or_go_on (applied_by P B k e t (solutions_behind P e t (Some (solution_in new y)))) (candidate_gives P B k e t (solution_in new y) b)) →
-      left_of_number P B k t i last b ≡ or_go_on (left_of_number P B k t i (Some (solution_in new x))) (number_gives P B k t i (solution_in new x) b)
+      IfSome o (λ y. ComesTo P (λ k. applied_by P B k e t (solutions_behind P e t last)) (λ k. or_else (candidate_gives P B k e t (solution_in new y)) (applied_by P B k e t (solutions_behind P e t (Some (solution_in new y)))))) →
+      ComesTo P (λ k. left_of_number P B k t i last) (λ k. or_else (number_gives P B k t i (solution_in new x)) (left_of_number P B k t i (Some (solution_in new x))))
   one_of_number x is h =
-      ap (λ r. r b) (left_at P B k t i e at last)
-      ∙ (subst (λ z. IfSome z (λ y. applied_by P B k e t (solutions_behind P e t last) b ≡ or_go_on (applied_by P B k e t (solutions_behind P e t (Some (solution_in new y)))) (candidate_gives P B k e t (solution_in new y) b))) is h
-      ∙ (ap (λ r. or_go_on r (candidate_gives P B k e t (solution_in new x) b)) (sym (left_at P B k t i e at (Some (solution_in new x))))
+      comes_from (λ k b. ap (λ r. r b) (left_at P B k t i e at last))
+      (comes_as (subst (λ z. IfSome z (λ y. ComesTo P (λ k. applied_by P B k e t (solutions_behind P e t last)) (λ k. or_else (candidate_gives P B k e t (solution_in new y)) (applied_by P B k e t (solutions_behind P e t (Some (solution_in new y))))))) is h)
+      (λ k b. ap (λ r. or_go_on r (candidate_gives P B k e t (solution_in new x) b)) (sym (left_at P B k t i e at (Some (solution_in new x))))
       ∙ ap (λ r. or_go_on (left_of_number P B k t i (Some (solution_in new x))) (r b)) (sym (gives_at P B k t i e at (solution_in new x)))))
 
 -- the number at a place is tried, in a store in which the term is the same
-module _ (P : Program) (B k : ℕ) (t t' : Tree) (same : t' ≡ t) (is : List ℕ) (n b : ℕ) (h : n < length is) {X : Type 0} (o : Option X) where
-  abbrev i : ℕ
-  i = get_or is n 0
-
-  pub among_none : o ≡ None → IfNone o (left_of_number P B k t' (get_or is n 0) None b ≡ done None 0 b) →
-      first_of (applied_number P B k t) (drop n is) b ≡ first_of (applied_number P B k t) (drop (n + 1) is) b
+module _ (P : Program) (B : ℕ) (t t' : Tree) (same : t' ≡ t) (is : List ℕ) (n : ℕ) (h : n < length is) {X : Type 0} (o : Option X) where
+  pub among_none : o ≡ None → IfNone o (ComesTo P (λ k. left_of_number P B k t' (get_or is n 0) None) (λ k. gives None)) →
+      ComesTo P (λ k. first_of (applied_number P B k t) (drop n is)) (λ k. first_of (applied_number P B k t) (drop (n + 1) is))
   among_none e z =
-      let y : left_of_number P B k t i None b ≡ done None 0 b = subst (λ u. left_of_number P B k u i None b ≡ done None 0 b) same (subst (λ w. IfNone w (left_of_number P B k t' i None b ≡ done None 0 b)) e z) in
-      passed_over P B k t is n i b h (get_or_default is n 0 i h) y
+      let y : ComesTo P (λ k. left_of_number P B k t (get_or is n 0) None) (λ k. gives None) =
+      subst (λ u. ComesTo P (λ k. left_of_number P B k u (get_or is n 0) None) (λ k. gives None)) same
+      (subst (λ w. IfNone w (ComesTo P (λ k. left_of_number P B k t' (get_or is n 0) None) (λ k. gives None))) e z) in
+      comes_from (λ k b. among_begun P B k t is n b h) (comes_passed y (comes_same (λ k b. refl)))
 
 -- ---- the order of all equations
 
@@ -197,43 +187,47 @@ module _ (P : Program) (B k : ℕ) (t : Tree) (rest : List ℕ) (b : ℕ) where
       left_by P B k nodes t (option_map (λ z. (num z, last z)) o) rest b ≡ left_of_all P B k t (num y) (option_map (solution_in nodes) (last y)) rest b
   behind_is nodes num last o y e = ap (λ w. left_by P B k nodes t (option_map (λ z. (num z, last z)) w) rest b) e
 
-  pub none_behind : (i : ℕ) (last : Option Solution) → left_of_number P B k t i last b ≡ done None 0 b → left_of_all P B k t i last rest b ≡ first_of (applied_number P B k t) rest b
-  none_behind i last z = ap (or_go_on (first_of (applied_number P B k t) rest)) z
+module _ (P : Program) (B : ℕ) (t : Tree) (rest : List ℕ) where
+  pub none_behind : (i : ℕ) (last : Option Solution) → ComesTo P (λ k. left_of_number P B k t i last) (λ k. gives None) → ComesTo P (λ k. left_of_all P B k t i last rest) (λ k. first_of (applied_number P B k t) rest)
+  none_behind i last z = comes_passed z (comes_same (λ k b. refl))
 
   pub one_behind : (i : ℕ) (last : Option Solution) (x : Solution) →
-      left_of_number P B k t i last b ≡ or_go_on (left_of_number P B k t i (Some x)) (number_gives P B k t i x b) →
-      left_of_all P B k t i last rest b ≡ or_go_on (left_of_all P B k t i (Some x) rest) (number_gives P B k t i x b)
+      ComesTo P (λ k. left_of_number P B k t i last) (λ k. or_else (number_gives P B k t i x) (left_of_number P B k t i (Some x))) →
+      ComesTo P (λ k. left_of_all P B k t i last rest) (λ k. or_else (number_gives P B k t i x) (left_of_all P B k t i (Some x) rest))
   one_behind i last x z =
-      ap (or_go_on (first_of (applied_number P B k t) rest)) z
-      ∙ or_again (first_of (applied_number P B k t) rest) (left_of_number P B k t i (Some x)) (number_gives P B k t i x b)
+      comes_as (comes_or (λ k. first_of (applied_number P B k t) rest) z)
+      (λ k b. or_again (first_of (applied_number P B k t) rest) (left_of_number P B k t i (Some x)) (number_gives P B k t i x b))
 
   pub found_behind : (nodes new : List Node) {Y : Type 0} (num : Y → ℕ) (last : Y → Option Given.Solution) (o : Option Y) (y : Y) → o ≡ Some y →
       (f : Option Given.Solution) (x : Given.Solution) → f ≡ Some x →
-      IfSome f (λ z. left_of_number P B k t (num y) (option_map (solution_in nodes) (last y)) b ≡ or_go_on (left_of_number P B k t (num y) (Some (solution_in new z))) (number_gives P B k t (num y) (solution_in new z) b)) →
+      IfSome f (λ z. ComesTo P (λ k. left_of_number P B k t (num y) (option_map (solution_in nodes) (last y))) (λ k. or_else (number_gives P B k t (num y) (solution_in new z)) (left_of_number P B k t (num y) (Some (solution_in new z))))) →
       (j : ℕ) → j ≡ num y → (after : Option Given.Solution) → IfSome f (λ z. after ≡ Some z) →
-      left_by P B k nodes t (option_map (λ z. (num z, last z)) o) rest b ≡ or_go_on (left_of_all P B k t j (option_map (solution_in new) after) rest) (number_gives P B k t (num y) (solution_in new x) b)
+      ComesTo P (λ k. left_by P B k nodes t (option_map (λ z. (num z, last z)) o) rest) (λ k. or_else (number_gives P B k t (num y) (solution_in new x)) (left_of_all P B k t j (option_map (solution_in new) after) rest))
   found_behind nodes new num last o y e f x is z j own after given =
-      behind_is nodes num last o y e
-      ∙ (one_behind (num y) (option_map (solution_in nodes) (last y)) (solution_in new x) (subst (λ w. IfSome w (λ v. left_of_number P B k t (num y) (option_map (solution_in nodes) (last y)) b ≡ or_go_on (left_of_number P B k t (num y) (Some (solution_in new v))) (number_gives P B k t (num y) (solution_in new v) b))) is z)
-      ∙ (ap (λ m. or_go_on (left_of_all P B k t m (Some (solution_in new x)) rest) (number_gives P B k t (num y) (solution_in new x) b)) (sym own)
+      comes_from (λ k b. behind_is P B k t rest b nodes num last o y e)
+      (comes_as (one_behind (num y) (option_map (solution_in nodes) (last y)) (solution_in new x)
+      (subst (λ w. IfSome w (λ v. ComesTo P (λ k. left_of_number P B k t (num y) (option_map (solution_in nodes) (last y))) (λ k. or_else (number_gives P B k t (num y) (solution_in new v)) (left_of_number P B k t (num y) (Some (solution_in new v)))))) is z))
+      (λ k b. ap (λ m. or_go_on (left_of_all P B k t m (Some (solution_in new x)) rest) (number_gives P B k t (num y) (solution_in new x) b)) (sym own)
       ∙ ap (λ w. or_go_on (left_of_all P B k t j (option_map (solution_in new) w) rest) (number_gives P B k t (num y) (solution_in new x) b)) (sym (subst (λ w. IfSome w (λ v. after ≡ Some v)) is given))))
 
 -- one candidate of an equation, with the listing that goes on behind it
-pub begun_with : (P : Program) (B k : ℕ) (t : Tree) (rest : List ℕ) (b : ℕ) (new : List Node) {Y : Type 0} (num : Y → ℕ) (last : Y → Option Given.Solution) (i : ℕ) (y : Y) (x : Given.Solution) → num y ≡ i → last y ≡ Some x →
-    left_of_number P B k t i None b ≡ or_go_on (left_of_number P B k t i (Some (solution_in new x))) (number_gives P B k t i (solution_in new x) b) →
-    left_of_all P B k t i None rest b ≡ or_go_on (left_of_all P B k t (num y) (option_map (solution_in new) (last y)) rest) (number_gives P B k t i (solution_in new x) b)
-begun_with P B k t rest b new num last i y x number given z =
-    one_behind P B k t rest b i None (solution_in new x) z
-    ∙ (ap (λ m. or_go_on (left_of_all P B k t m (Some (solution_in new x)) rest) (number_gives P B k t i (solution_in new x) b)) (sym number)
+pub begun_with : (P : Program) (B : ℕ) (t : Tree) (rest : List ℕ) (new : List Node) {Y : Type 0} (num : Y → ℕ) (last : Y → Option Given.Solution) (i : ℕ) (y : Y) (x : Given.Solution) → num y ≡ i → last y ≡ Some x →
+    ComesTo P (λ k. left_of_number P B k t i None) (λ k. or_else (number_gives P B k t i (solution_in new x)) (left_of_number P B k t i (Some (solution_in new x)))) →
+    ComesTo P (λ k. left_of_all P B k t i None rest) (λ k. or_else (number_gives P B k t i (solution_in new x)) (left_of_all P B k t (num y) (option_map (solution_in new) (last y)) rest))
+begun_with P B t rest new num last i y x number given z =
+    comes_as (one_behind P B t rest i None (solution_in new x) z)
+    (λ k b. ap (λ m. or_go_on (left_of_all P B k t m (Some (solution_in new x)) rest) (number_gives P B k t i (solution_in new x) b)) (sym number)
     ∙ ap (λ w. or_go_on (left_of_all P B k t (num y) (option_map (solution_in new) w) rest) (number_gives P B k t i (solution_in new x) b)) (sym given))
 
 -- what is left first, in a later store in which the term is the same
-pub none_through : {A : Type 0} {X E : Type 0} (r : Result (Option X) E) (F : Tree → A) (l d : A) (t t' : Tree) → t' ≡ t → l ≡ F t → IfOk r (λ o. IfNone o (F t' ≡ d)) → IfOk r (λ o. IfNone o (l ≡ d))
-none_through (Ok None) F l d t t' same e h = e ∙ (ap F (sym same) ∙ h)
+pub none_through : {P : Program} {A : Type 0} {X E : Type 0} (r : Result (Option X) E) (F : Tree → ℕ → Run A) (l d : ℕ → Run A) (t t' : Tree) → t' ≡ t → ComesTo P l (F t) → IfOk r (λ o. IfNone o (ComesTo P (F t') d)) →
+    IfOk r (λ o. IfNone o (ComesTo P l d))
+none_through {P = P} (Ok None) F l d t t' same e h = comes_through e (subst (λ u. ComesTo P (F u) d) same h)
 none_through (Ok (Some x)) F l d t t' same e h = tt
 none_through (Err x) F l d t t' same e h = tt
 
-pub some_through : {A : Type 0} {X E : Type 0} (r : Result (Option X) E) (F : Tree → A) (G : X → Tree → A) (l : A) (t t' : Tree) → t' ≡ t → l ≡ F t → IfOk r (λ o. IfSome o (λ x. F t' ≡ G x t')) → IfOk r (λ o. IfSome o (λ x. l ≡ G x t))
+pub some_through : {P : Program} {A : Type 0} {X E : Type 0} (r : Result (Option X) E) (F : Tree → ℕ → Run A) (G : X → Tree → ℕ → Run A) (l : ℕ → Run A) (t t' : Tree) → t' ≡ t → ComesTo P l (F t) →
+    IfOk r (λ o. IfSome o (λ x. ComesTo P (F t') (G x t'))) → IfOk r (λ o. IfSome o (λ x. ComesTo P l (G x t)))
 some_through (Ok None) F G l t t' same e h = tt
-some_through (Ok (Some x)) F G l t t' same e h = e ∙ (ap F (sym same) ∙ (h ∙ ap (G x) same))
+some_through {P = P} (Ok (Some x)) F G l t t' same e h = comes_through e (subst (λ u. ComesTo P (F u) (G x u)) same h)
 some_through (Err x) F G l t t' same e h = tt

@@ -1,5 +1,5 @@
 -- Orders by tops, one number after another.
-use Rattle.std.proofs.Common.{◌≡◌, ◌≢◌, ℕ, zero, suc, ◌+◌, ◌<◌, ◌≤◌, ◌==◌, List, [], ◌∷◌, ◌++◌, map, length, get_or, slice_get, take, drop, Bool, true, false, if◌then◌else◌, Option, Some, None, IfSome, All, refl, sym, ap, ◌∙◌, subst, arith, append-nil, eqb-true, below_more, length-append}
+use Rattle.std.proofs.Common.{◌≡◌, ◌≢◌, ℕ, zero, suc, ◌+◌, ◌<◌, ◌≤◌, ◌==◌, List, [], ◌∷◌, ◌++◌, map, length, get_or, slice_get, take, Bool, true, false, if◌then◌else◌, Option, Some, None, IfSome, refl, sym, ap, ◌∙◌, subst, arith, append-nil, eqb-true, below_more, length-append}
 use Rattle.std.proofs.Math.ListN.{set, length-set}
 use Rattle.std.proofs.lemmas.Bool.{eqb-false}
 use Rattle.std.proofs.lemmas.List.{get_or-set_same, get_or-set_other, take_more, length-map, map-set}
@@ -8,7 +8,6 @@ use Rattle.mau_terms.specs.Bare.{IsBare}
 use Rattle.mau_signature.specs.Signature.{SignatureOf, theory_at, terms_over}
 use Rattle.mau_signature.proofs.Operators.{is_operator}
 use Rattle.mau_program.specs.declared.program.Program as Typed
-use Rattle.mau_program.specs.declared.statements.Equation as Written
 use Rattle.mau_evaluation.specs.Listing.{keep}
 use Rattle.mau_api.specs.Programs.{equation_of}
 use Rattle.mau_reduce.specs.Trying.{order_of_all}

@@ -1,15 +1,13 @@
 -- Where no membership is executable, the sorts of a term are known on each level, and they are those that declarations give.
-use Rattle.std.proofs.Common.{◌≡◌, ◌↔◌, ℕ, zero, suc, ◌≤◌, List, [], ◌∷◌, ◌++◌, ◌⊎◌, map, Bool, true, false, Option, if◌then◌else◌, inl, inr, refl, sym, ap, ◌∙◌, arith, append-nil}
+use Rattle.std.proofs.Common.{◌≡◌, ◌↔◌, ℕ, zero, suc, ◌≤◌, List, [], ◌∷◌, ◌++◌, ◌⊎◌, map, Bool, true, false, Option, if◌then◌else◌, inl, inr, refl, ap, ◌∙◌, arith, append-nil}
 use Rattle.mau_terms.specs.Tree.{Tree, variable, numeral, apply, Trees, no_trees, tree, list_of}
 use Rattle.mau_terms.specs.Finite.{IsIn}
 use Rattle.mau_terms.specs.Subst.{Variable}
-use Rattle.mau_terms.specs.Solution.{HaveSorts}
 use Rattle.mau_signature.specs.Signature.{SignatureOf}
 use Rattle.mau_signature.specs.OverSignature.{IsTreeOver, AreTreesOver}
 use Rattle.mau_formula.specs.Operator.{Operator}
 use Rattle.mau_sorts.specs.HasSort.{HasSort, IsKnown}
 use Rattle.mau_sigcheck.specs.Built.{IsBuiltAndAccepted}
-use Rattle.mau_listing.specs.Asked.{BySort}
 use Rattle.mau_program.specs.declared.program.Program as Typed
 use Rattle.mau_evaluation.specs.Run.{done, Run, gives, and_then, each_in_turn, choose, counted, go_on}
 use Rattle.mau_evaluation.specs.Program.{Fragment, Membership, Program}
@@ -154,18 +152,3 @@ module _ (p : Typed.Program) (hooks : List Operator) (accepted : IsBuiltAndAccep
   pub plain_exact : (t : Tree) → IsTreeOver s t → (r : ℕ) → (has_number (plain_sorts P none t) r ≡ true) ↔ HasSort s [] t r
   unfolding plain_sorts
   plain_exact t over r = exact_in (size t) t (omega arith) over r
-
-  -- values that are over the signature have the sorts of variables just where declarations give them
-  pub having_exact : (xs : List Variable) (vs : List Tree) → ((v : Tree) → IsIn v vs → IsTreeOver s v) → (having P none xs vs ≡ true) ↔ HaveSorts (BySort s []) xs vs
-  unfolding having
-  having_exact [] vs over = ((λ e. tt), (λ h. refl))
-  having_exact (x ∷ xs) [] over = ((λ e. cc), (λ h. absurd h))
-  having_exact (x ∷ xs) (v ∷ vs) over = by (having_exact xs vs (λ w i. over w (inr i))) (has_number (plain_sorts P none v) x.1) refl
-    where
-      one : (has_number (plain_sorts P none v) x.1 ≡ true) ↔ HasSort s [] v x.1
-      one = plain_exact v (over v (inl refl)) x.1
-
-      by : (having P none xs vs ≡ true) ↔ HaveSorts (BySort s []) xs vs → (b : Bool) → has_number (plain_sorts P none v) x.1 ≡ b →
-          ((if b then having P none xs vs else false) ≡ true) ↔ (HasSort s [] v x.1 × HaveSorts (BySort s []) xs vs)
-      by rest true e = ((λ h. (one.0 e, rest.0 h)), (λ h. rest.1 h.1))
-      by rest false e = ((λ h. cc), (λ h. let k : true ≡ false = sym (one.1 h.0) ∙ e in cc))

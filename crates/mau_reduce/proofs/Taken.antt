@@ -1,8 +1,7 @@
 -- Values of built-ins as terms.
-use Rattle.std.proofs.Common.{◌≡◌, ℕ, ◌≤◌, List, [], ◌∷◌, Bool, true, false, ◌&&◌, ◌||◌, drop, length, Result, Ok, Err, IfOk, Option, Some, None, refl, sym, ap, ◌∙◌, subst, arith}
-use Rattle.std.specs.Prelude.{IfSome}
+use Rattle.std.proofs.Common.{◌≡◌, ℕ, ◌≤◌, List, [], ◌∷◌, Bool, true, false, ◌&&◌, ◌||◌, drop, Result, Ok, Err, IfOk, Option, Some, None, refl, sym, ap, ◌∙◌, subst, arith}
 use Rattle.std.proofs.lemmas.List.Elements.{All-nil, All-cons, All-tail}
-use Rattle.mau_terms.specs.Tree.{Tree, variable, numeral, apply, Trees, no_trees, node, trees_of, list_of}
+use Rattle.mau_terms.specs.Tree.{Tree, variable, numeral, apply, Trees, node, list_of}
 use Rattle.mau_terms.specs.Depth.{depth}
 use Rattle.mau_terms.specs.Norm.{norm, build, holds_overflow, greatest_numeral}
 use Rattle.mau_terms.specs.Bare.{IsBareIn, IsLawful}
@@ -20,7 +19,7 @@ use Rattle.mau_store.specs.View.{numbers}
 use Rattle.mau_canon.specs.declared.TheConstants.{MAX_DEPTH}
 use Rattle.mau_canon.specs.Within.{IsWithin}
 use Rattle.mau_canon.specs.Standing.{StandsWithin, StandWithin}
-use Rattle.mau_evaluation.specs.Program.{Program, no_value, value, BuiltIn, on_numerals, choice, equality}
+use Rattle.mau_evaluation.specs.Program.{Program, value, BuiltIn, on_numerals, choice, equality}
 use Rattle.mau_evaluation.specs.Evaluation.{Binding}
 use Rattle.mau_evaluation.proofs.BareTerms.{norm-reading-is}
 use Rattle.mau_api.specs.BuiltIns.{built_in_at}
@@ -33,7 +32,7 @@ use Rattle.mau_reduce.specs.declared.trying.Found.{Found}
 use Rattle.mau_reduce.specs.Kinds.{IsTermIn}
 use Rattle.mau_reduce.specs.Orders.{IsLeaf}
 use Rattle.mau_reduce.specs.BuiltOperators.{number_answer, leaf_tree, before_others, answer_of, built_gives, HasNoArgument}
-use Rattle.mau_reduce.specs.Giving.{GivesNormal, GivesNormalIfAny, GivesInKind, GivesValue, given_value, CanBeTaken, IsGivenAt}
+use Rattle.mau_reduce.specs.Giving.{GivesNormalIfAny, GivesInKind, GivesValue, given_value, CanBeTaken, IsGivenAt}
 use Rattle.mau_reduce.specs.Attempting.{makes_of}
 
 -- ---- leaves

@@ -1,5 +1,5 @@
 -- Equations that were compiled.
-use Rattle.std.specs.Prelude.{◌≡◌, List, true, map, Option, Some, None, IfSome}
+use Rattle.std.specs.Prelude.{◌≡◌, true, map, IfSome}
 use Rattle.mau_terms.specs.Tree.{Tree}
 use Rattle.mau_terms.specs.Subst.{variables}
 use Rattle.mau_terms.specs.View.{tree_of, variable_of}

@@ -1,5 +1,5 @@
 -- What a built-in gives as a term: a normal form of the kind of the term at whose top it is.
-use Rattle.std.specs.Prelude.{◌≡◌, ℕ, ◌≤◌, List, Option, Some, None, IfSome}
+use Rattle.std.specs.Prelude.{◌≡◌, ℕ, ◌≤◌, List, Option, Some, IfSome}
 use Rattle.mau_terms.specs.Tree.{Tree, apply, trees_of}
 use Rattle.mau_terms.specs.Norm.{norm, greatest_numeral}
 use Rattle.mau_terms.specs.Bare.{IsBareIn}

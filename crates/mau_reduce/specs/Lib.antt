@@ -14,6 +14,8 @@ pub mod Bindings
 pub mod Contexts
 -- tables of sorts
 pub mod Tables
+-- computations that are another one by enough levels
+pub mod Comes
 -- equations that are tried
 pub mod Trying
 -- which of them may apply under a top

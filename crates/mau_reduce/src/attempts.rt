@@ -1,5 +1,5 @@
 //! All that may be applied at the top of a term, one candidate after another.
-ghost use Rattle.std.specs.Prelude.{◌≡◌, ℕ, suc, List, [], true, Option, Some, None, IfOk, IfErr, IfSome, IfNone, IsSome, drop, length, map, slice_get};
+ghost use Rattle.std.specs.Prelude.{◌≡◌, ℕ, suc, List, [], true, false, Option, Some, None, IfOk, IfErr, IfSome, IfNone, IsSome, drop, length, map, slice_get};
 ghost use Rattle.std.specs.Option.{option_map};
 ghost use Rattle.mau_terms.specs.Subst.{variables};
 ghost use Rattle.mau_terms.specs.Solution.{HaveSorts};
@@ -10,15 +10,17 @@ ghost use Rattle.mau_store.specs.Trees.{tree_at, trees_at};
 ghost use Rattle.mau_store.specs.View.{numbers};
 ghost use Rattle.mau_sorts.specs.Table.{KeepsEntries};
 ghost use Rattle.mau_listing.specs.Asked.{HasEntry};
-ghost use Rattle.mau_evaluation.specs.Run.{done, or_go_on, try_on, gives};
+ghost use Rattle.mau_evaluation.specs.Run.{or_else, try_on, gives};
 ghost use Rattle.mau_evaluation.specs.Evaluation.{levels, applied, solve};
 ghost use Rattle.mau_api.specs.Terms.{IsTerm};
 ghost use Rattle.mau_api.specs.Programs.{program_over};
-ghost use Rattle.mau_api.specs.Answers.{AreSettled};
+ghost use Rattle.mau_api.specs.Meanings.{meanings_by};
+ghost use Rattle.mau_api.specs.Answers.{IsDerivedTable, AreSettled};
 ghost use Rattle.mau_reduce.specs.Reducible.{IsReducible};
 ghost use Rattle.mau_reduce.specs.Bindings.{bound_in, AreValues};
 ghost use Rattle.mau_reduce.specs.Ends.{IsEnd};
-ghost use Rattle.mau_reduce.specs.Tables.{IsPlainTable};
+ghost use Rattle.mau_reduce.specs.Tables.{IsSortTable};
+ghost use Rattle.mau_reduce.specs.Comes.{ComesTo};
 ghost use Rattle.mau_reduce.specs.Trying.{solution_in, number_gives, left_by, IsTried, IsFound};
 ghost use Rattle.mau_reduce.specs.ByTop.{order_for};
 ghost use Rattle.mau_reduce.specs.Compiled.{IsCompiled};
@@ -88,14 +90,16 @@ fn next_equation<L: Lister + Drop>(
     requires compiled { IsCompiled program.now compiled.now }
     requires term { IsTerm program.now.sig store.old term.0 }
     requires settled { AreSettled program.now.sig store.old table.old (tree_at store.old term.0) }
-    requires plain { IsPlainTable program.now.sig store.old table.old }
+    requires sort_table { IsSortTable program.now.sig store.old table.old }
     requires tried { IfSome attempts.old.tried (λ x. IsTried L.with_context program.now store.old table.old term x.number (L.asked x.listing) (L.given x.listing) (L.is_for x.listing program.now.sig)) }
-    ensures none { (hooks : List Operator) (B k b : ℕ) → IfOk result (λ o. IfNone o (left_by (program_over program.now hooks) B k store.old (tree_at store.old term.0)
-        (option_map (λ x. (x.number, L.given x.listing)) attempts.old.tried) (drop attempts.old.next (order_for program.now (tree_at store.old term.0))) b ≡ done None 0 b)) }
-    ensures some { (hooks : List Operator) (B k b : ℕ) → IfOk result (λ o. IfSome o (λ x. IfSome attempts.new.last (λ y. left_by (program_over program.now hooks) B k store.old (tree_at store.old term.0)
-        (option_map (λ z. (z.number, L.given z.listing)) attempts.old.tried) (drop attempts.old.next (order_for program.now (tree_at store.old term.0))) b
-        ≡ or_go_on (left_by (program_over program.now hooks) B k store.new (tree_at store.old term.0) (option_map (λ z. (z.number, L.given z.listing)) attempts.new.tried) (drop attempts.new.next (order_for program.now (tree_at store.old term.0))))
-        (number_gives (program_over program.now hooks) B k (tree_at store.old term.0) y.number (solution_in store.new y.solution) b)))) }
+    ensures none { (hooks : List Operator) (B : ℕ) → IsDerivedTable (meanings_by program.now hooks B false) store.old table.old
+        → IfOk result (λ o. IfNone o (ComesTo (program_over program.now hooks) (λ k. left_by (program_over program.now hooks) B k store.old (tree_at store.old term.0)
+        (option_map (λ x. (x.number, L.given x.listing)) attempts.old.tried) (drop attempts.old.next (order_for program.now (tree_at store.old term.0)))) (λ k. gives None))) }
+    ensures some { (hooks : List Operator) (B : ℕ) → IsDerivedTable (meanings_by program.now hooks B false) store.old table.old
+        → IfOk result (λ o. IfSome o (λ x. IfSome attempts.new.last (λ y. ComesTo (program_over program.now hooks) (λ k. left_by (program_over program.now hooks) B k store.old (tree_at store.old term.0)
+        (option_map (λ z. (z.number, L.given z.listing)) attempts.old.tried) (drop attempts.old.next (order_for program.now (tree_at store.old term.0))))
+        (λ k. or_else (number_gives (program_over program.now hooks) B k (tree_at store.old term.0) y.number (solution_in store.new y.solution))
+        (left_by (program_over program.now hooks) B k store.new (tree_at store.old term.0) (option_map (λ z. (z.number, L.given z.listing)) attempts.new.tried) (drop attempts.new.next (order_for program.now (tree_at store.old term.0)))))))) }
     ensures last { IfOk result (λ o. IfSome o (λ x. IsSome attempts.new.last)) }
     ensures number { IfOk result (λ o. IfSome o (λ x. IfSome attempts.new.last (λ y. x.0 ≡ y.number))) }
     ensures binding { IfOk result (λ o. IfSome o (λ x. IfSome attempts.new.last (λ y. x.1.values.items ≡ y.solution.values))) }
@@ -106,7 +110,9 @@ fn next_equation<L: Lister + Drop>(
     ensures tried { IfOk result (λ o. IfSome o (λ x. IfSome attempts.new.tried (λ y. IsTried L.with_context program.now store.new table.new term y.number (L.asked y.listing) (L.given y.listing) (L.is_for y.listing program.now.sig)))) }
     ensures found { IfOk result (λ o. IfSome o (λ x. IfSome attempts.new.last (λ y. IsFound program.now store.new (tree_at store.old term.0) y.number y.solution))) }
     ensures given { attempts.new.given ≡ attempts.old.given }
-    ensures plain { IsPlainTable program.now.sig store.new table.new }
+    ensures sort_table { IsSortTable program.now.sig store.new table.new }
+    ensures derived { (hooks : List Operator) (limit : ℕ) → IsDerivedTable (meanings_by program.now hooks limit false) store.old table.old
+        → IsDerivedTable (meanings_by program.now hooks limit false) store.new table.new }
     ensures kept { KeepsEntries table.old table.new }
     ensures extends { Extends store.old store.new }
 {
@@ -161,15 +167,17 @@ pub fn next_attempt<L: Lister + Drop>(
     requires compiled { IsCompiled program.now compiled.now }
     requires term { IsTerm program.now.sig store.old term.0 }
     requires settled { AreSettled program.now.sig store.old table.old (tree_at store.old term.0) }
-    requires plain { IsPlainTable program.now.sig store.old table.old }
+    requires sort_table { IsSortTable program.now.sig store.old table.old }
     requires tried { IfSome attempts.old.tried (λ x. IsTried L.with_context program.now store.old table.old term x.number (L.asked x.listing) (L.given x.listing) (L.is_for x.listing program.now.sig)) }
-    ensures none { (hooks : List Operator) (B k b : ℕ) → IfOk result (λ o. IfNone o (untried_by (program_over program.now hooks) B k store.old (tree_at store.old term.0) attempts.old.given
-        (option_map (λ x. (x.number, L.given x.listing)) attempts.old.tried) (drop attempts.old.next (order_for program.now (tree_at store.old term.0))) b ≡ done None 0 b)) }
-    ensures some { (hooks : List Operator) (B k b : ℕ) → IfOk result (λ o. IfSome o (λ x. untried_by (program_over program.now hooks) B k store.old (tree_at store.old term.0) attempts.old.given
-        (option_map (λ z. (z.number, L.given z.listing)) attempts.old.tried) (drop attempts.old.next (order_for program.now (tree_at store.old term.0))) b
-        ≡ or_go_on (untried_by (program_over program.now hooks) B k store.new (tree_at store.old term.0) attempts.new.given (option_map (λ z. (z.number, L.given z.listing)) attempts.new.tried) (drop attempts.new.next (order_for program.now (tree_at store.old term.0))))
-        (try_on (λ σ. gives (option_map (makes_of (program_over program.now hooks) store.new (tree_at store.old term.0) attempts.new.given attempts.new.last) σ))
-        (solve (program_over program.now hooks) (levels (program_over program.now hooks) B k) (cond_at (program_over program.now hooks) x.0) (bound_in store.new x.1) b)))) }
+    ensures none { (hooks : List Operator) (B : ℕ) → IsDerivedTable (meanings_by program.now hooks B false) store.old table.old
+        → IfOk result (λ o. IfNone o (ComesTo (program_over program.now hooks) (λ k. untried_by (program_over program.now hooks) B k store.old (tree_at store.old term.0) attempts.old.given
+        (option_map (λ x. (x.number, L.given x.listing)) attempts.old.tried) (drop attempts.old.next (order_for program.now (tree_at store.old term.0)))) (λ k. gives None))) }
+    ensures some { (hooks : List Operator) (B : ℕ) → IsDerivedTable (meanings_by program.now hooks B false) store.old table.old
+        → IfOk result (λ o. IfSome o (λ x. ComesTo (program_over program.now hooks) (λ k. untried_by (program_over program.now hooks) B k store.old (tree_at store.old term.0) attempts.old.given
+        (option_map (λ z. (z.number, L.given z.listing)) attempts.old.tried) (drop attempts.old.next (order_for program.now (tree_at store.old term.0))))
+        (λ k. or_else (λ b. try_on (λ σ. gives (option_map (makes_of (program_over program.now hooks) store.new (tree_at store.old term.0) attempts.new.given attempts.new.last) σ))
+        (solve (program_over program.now hooks) (levels (program_over program.now hooks) B k) (cond_at (program_over program.now hooks) x.0) (bound_in store.new x.1) b))
+        (untried_by (program_over program.now hooks) B k store.new (tree_at store.old term.0) attempts.new.given (option_map (λ z. (z.number, L.given z.listing)) attempts.new.tried) (drop attempts.new.next (order_for program.now (tree_at store.old term.0))))))) }
     ensures ends { (hooks : List Operator) (B k b : ℕ) → IfErr result (IsEnd (untried_by (program_over program.now hooks) B k store.old (tree_at store.old term.0) attempts.old.given
         (option_map (λ z. (z.number, L.given z.listing)) attempts.old.tried) (drop attempts.old.next (order_for program.now (tree_at store.old term.0))) b)) }
     ensures given { attempts.new.given ≡ attempts.old.given }
@@ -180,7 +188,9 @@ pub fn next_attempt<L: Lister + Drop>(
     ensures begun { IfOk result (λ o. IfSome o (λ x. x.1.values.items ≡ first_values attempts.new.given attempts.new.last)) }
     ensures sorts { IfOk result (λ o. IfSome o (λ x. HaveSorts (HasEntry program.now.sig store.new table.new) (map variable_of x.1.variables.items) (trees_at store.new (numbers x.1.values.items)))) }
     ensures tried { IfOk result (λ o. IfSome o (λ x. IfSome attempts.new.tried (λ y. IsTried L.with_context program.now store.new table.new term y.number (L.asked y.listing) (L.given y.listing) (L.is_for y.listing program.now.sig)))) }
-    ensures plain { IsPlainTable program.now.sig store.new table.new }
+    ensures sort_table { IsSortTable program.now.sig store.new table.new }
+    ensures derived { (hooks : List Operator) (limit : ℕ) → IsDerivedTable (meanings_by program.now hooks limit false) store.old table.old
+        → IsDerivedTable (meanings_by program.now hooks limit false) store.new table.new }
     ensures kept { KeepsEntries table.old table.new }
     ensures extends { Extends store.old store.new }
 {

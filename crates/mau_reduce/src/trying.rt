@@ -1,5 +1,5 @@
 //! The candidates of one equation, one after another.
-ghost use Rattle.std.specs.Prelude.{◌≡◌, ℕ, List, [], true, Option, Some, None, IfOk, IfSome, IfNone, OnOk, All, drop, length, slice_get, ◌<◌};
+ghost use Rattle.std.specs.Prelude.{◌≡◌, ℕ, List, [], true, false, Option, Some, None, IfOk, IfSome, IfNone, OnOk, All, drop, length, slice_get, ◌<◌};
 ghost use Rattle.std.specs.Option.{option_map};
 ghost use Rattle.mau_terms.specs.Bare.{IsBare};
 ghost use Rattle.mau_terms.specs.View.{tree_of};
@@ -9,12 +9,14 @@ ghost use Rattle.mau_store.specs.Node.{Extends};
 ghost use Rattle.mau_store.specs.Trees.{tree_at};
 ghost use Rattle.mau_sorts.specs.Table.{KeepsEntries};
 ghost use Rattle.mau_listing.specs.Asked.{asks, last_after, CanGoOn};
-ghost use Rattle.mau_evaluation.specs.Run.{done, or_go_on, first_of};
+ghost use Rattle.mau_evaluation.specs.Run.{gives, or_else, first_of};
 ghost use Rattle.mau_api.specs.Terms.{IsTerm};
 ghost use Rattle.mau_api.specs.Programs.{program_over, equation_of};
-ghost use Rattle.mau_api.specs.Answers.{AreSettled};
+ghost use Rattle.mau_api.specs.Meanings.{meanings_by};
+ghost use Rattle.mau_api.specs.Answers.{IsDerivedTable, AreSettled};
 ghost use Rattle.mau_reduce.specs.Reducible.{IsReducible};
-ghost use Rattle.mau_reduce.specs.Tables.{IsPlainTable};
+ghost use Rattle.mau_reduce.specs.Tables.{IsSortTable};
+ghost use Rattle.mau_reduce.specs.Comes.{ComesTo};
 ghost use Rattle.mau_reduce.specs.Lasts.{IsListed};
 ghost use Rattle.mau_reduce.specs.ByTop.{order_for};
 ghost use Rattle.mau_reduce.specs.Compiled.{IsPatternOf, IsCompiled};
@@ -22,6 +24,7 @@ ghost use Rattle.mau_reduce.specs.Trying.{solution_in, solutions_behind, applied
 
 use crate::Compiled;
 use mau_api::{Equation, Lister, Program, Solution};
+use mau_listing::has_nodes;
 use mau_sorts::SortTable;
 use mau_store::Store;
 use mau_syntactic::Pattern;
@@ -55,27 +58,33 @@ pub(crate) fn next_candidate<L: Lister>(
     requires left { IsBare (terms_over program.now.sig) (tree_of equation.now.left) }
     requires term { IsTerm program.now.sig store.old term.0 }
     requires settled { AreSettled program.now.sig store.old table.old (tree_at store.old term.0) }
-    requires plain { IsPlainTable program.now.sig store.old table.old }
+    requires sort_table { IsSortTable program.now.sig store.old table.old }
     requires asked { L.asked listing.old ≡ asks (tree_of equation.now.left) [] term }
     requires signature { L.is_for listing.old program.now.sig }
     requires ready { CanGoOn L.with_context program.now.sig store.old table.old (L.asked listing.old) (L.given listing.old) }
-    ensures none { (hooks : List Operator) (B k b : ℕ) → IfOk result (λ o. IfNone o (applied_by (program_over program.now hooks) B k (equation_of equation.now) (tree_at store.old term.0)
-        (solutions_behind (program_over program.now hooks) (equation_of equation.now) (tree_at store.old term.0) (option_map (solution_in store.old) (L.given listing.old))) b ≡ done None 0 b)) }
-    ensures some { (hooks : List Operator) (B k b : ℕ) → IfOk result (λ o. IfSome o (λ x. applied_by (program_over program.now hooks) B k (equation_of equation.now) (tree_at store.old term.0)
-        (solutions_behind (program_over program.now hooks) (equation_of equation.now) (tree_at store.old term.0) (option_map (solution_in store.old) (L.given listing.old))) b
-        ≡ or_go_on (applied_by (program_over program.now hooks) B k (equation_of equation.now) (tree_at store.old term.0)
-        (solutions_behind (program_over program.now hooks) (equation_of equation.now) (tree_at store.old term.0) (Some (solution_in store.new x))))
-        (candidate_gives (program_over program.now hooks) B k (equation_of equation.now) (tree_at store.old term.0) (solution_in store.new x) b))) }
+    ensures none { (hooks : List Operator) (B : ℕ) → IsDerivedTable (meanings_by program.now hooks B false) store.old table.old
+        → IfOk result (λ o. IfNone o (ComesTo (program_over program.now hooks) (λ k. applied_by (program_over program.now hooks) B k (equation_of equation.now) (tree_at store.old term.0)
+        (solutions_behind (program_over program.now hooks) (equation_of equation.now) (tree_at store.old term.0) (option_map (solution_in store.old) (L.given listing.old)))) (λ k. gives None))) }
+    ensures some { (hooks : List Operator) (B : ℕ) → IsDerivedTable (meanings_by program.now hooks B false) store.old table.old
+        → IfOk result (λ o. IfSome o (λ x. ComesTo (program_over program.now hooks) (λ k. applied_by (program_over program.now hooks) B k (equation_of equation.now) (tree_at store.old term.0)
+        (solutions_behind (program_over program.now hooks) (equation_of equation.now) (tree_at store.old term.0) (option_map (solution_in store.old) (L.given listing.old))))
+        (λ k. or_else (candidate_gives (program_over program.now hooks) B k (equation_of equation.now) (tree_at store.old term.0) (solution_in store.new x))
+        (applied_by (program_over program.now hooks) B k (equation_of equation.now) (tree_at store.old term.0)
+        (solutions_behind (program_over program.now hooks) (equation_of equation.now) (tree_at store.old term.0) (Some (solution_in store.new x))))))) }
     ensures candidate { IfOk result (λ o. IfSome o (IsCandidate program.now.sig store.new (tree_of equation.now.left) (tree_at store.old term.0))) }
     ensures ready { OnOk result (CanGoOn L.with_context program.now.sig store.new table.new (L.asked listing.new) (L.given listing.new)) }
     ensures given { IfOk result (λ o. L.given listing.new ≡ last_after (L.given listing.old) o) }
     ensures asked { L.asked listing.new ≡ L.asked listing.old }
     ensures signature { L.is_for listing.new program.now.sig }
-    ensures plain { IsPlainTable program.now.sig store.new table.new }
+    ensures sort_table { IsSortTable program.now.sig store.new table.new }
+    ensures derived { (hooks : List Operator) (limit : ℕ) → IsDerivedTable (meanings_by program.now hooks limit false) store.old table.old
+        → IsDerivedTable (meanings_by program.now hooks limit false) store.new table.new }
     ensures kept { KeepsEntries table.old table.new }
     ensures extends { Extends store.old store.new }
 {
-    listing.next(store, &program.sig, table)
+    let found = listing.next(store, &program.sig, table);
+    has_nodes(store);
+    found
 }
 
 /// The one candidate of an equation whose left side has no axioms, if it has one. None is left behind it.
@@ -92,11 +101,13 @@ fn first_match(
     requires pattern { IfSome (slice_get program.now.equations number) (λ e. IsPatternOf program.now.sig e pattern.now) }
     requires term { IsTerm program.now.sig store.now term.0 }
     requires settled { AreSettled program.now.sig store.now table.now (tree_at store.now term.0) }
-    requires plain { IsPlainTable program.now.sig store.now table.now }
-    ensures none { (hooks : List Operator) (B k b : ℕ) → IfOk result (λ o. IfNone o (left_of_number (program_over program.now hooks) B k (tree_at store.now term.0) number None b ≡ done None 0 b)) }
-    ensures some { (hooks : List Operator) (B k b : ℕ) (rest : List ℕ) → IfOk result (λ o. IfSome o (λ x. left_of_all (program_over program.now hooks) B k (tree_at store.now term.0) number None rest b
-        ≡ or_go_on (first_of (applied_number (program_over program.now hooks) B k (tree_at store.now term.0)) rest)
-        (number_gives (program_over program.now hooks) B k (tree_at store.now term.0) number (solution_in store.now x) b))) }
+    requires sort_table { IsSortTable program.now.sig store.now table.now }
+    ensures none { (hooks : List Operator) (B : ℕ) → IsDerivedTable (meanings_by program.now hooks B false) store.now table.now
+        → IfOk result (λ o. IfNone o (ComesTo (program_over program.now hooks) (λ k. left_of_number (program_over program.now hooks) B k (tree_at store.now term.0) number None) (λ k. gives None))) }
+    ensures some { (hooks : List Operator) (B : ℕ) → IsDerivedTable (meanings_by program.now hooks B false) store.now table.now → (rest : List ℕ)
+        → IfOk result (λ o. IfSome o (λ x. ComesTo (program_over program.now hooks) (λ k. left_of_all (program_over program.now hooks) B k (tree_at store.now term.0) number None rest)
+        (λ k. or_else (number_gives (program_over program.now hooks) B k (tree_at store.now term.0) number (solution_in store.now x))
+        (first_of (applied_number (program_over program.now hooks) B k (tree_at store.now term.0)) rest)))) }
     ensures found { IfOk result (λ o. IfSome o (IsFound program.now store.now (tree_at store.now term.0) number)) }
     ensures listed { IfOk result (λ o. IfSome o (IsListed program.now store.now table.now term number)) }
 {
@@ -117,16 +128,20 @@ fn first_listed<L: Lister + Drop>(
     requires executable { IsExecutable program.now number }
     requires term { IsTerm program.now.sig store.old term.0 }
     requires settled { AreSettled program.now.sig store.old table.old (tree_at store.old term.0) }
-    requires plain { IsPlainTable program.now.sig store.old table.old }
-    ensures none { (hooks : List Operator) (B k b : ℕ) → IfOk result (λ o. IfNone o (left_of_number (program_over program.now hooks) B k (tree_at store.old term.0) number None b ≡ done None 0 b)) }
-    ensures some { (hooks : List Operator) (B k b : ℕ) → IfOk result (λ o. IfSome o (λ x. left_of_number (program_over program.now hooks) B k (tree_at store.old term.0) number None b
-        ≡ or_go_on (left_of_number (program_over program.now hooks) B k (tree_at store.old term.0) number (Some (solution_in store.new x.1)))
-        (number_gives (program_over program.now hooks) B k (tree_at store.old term.0) number (solution_in store.new x.1) b))) }
+    requires sort_table { IsSortTable program.now.sig store.old table.old }
+    ensures none { (hooks : List Operator) (B : ℕ) → IsDerivedTable (meanings_by program.now hooks B false) store.old table.old
+        → IfOk result (λ o. IfNone o (ComesTo (program_over program.now hooks) (λ k. left_of_number (program_over program.now hooks) B k (tree_at store.old term.0) number None) (λ k. gives None))) }
+    ensures some { (hooks : List Operator) (B : ℕ) → IsDerivedTable (meanings_by program.now hooks B false) store.old table.old
+        → IfOk result (λ o. IfSome o (λ x. ComesTo (program_over program.now hooks) (λ k. left_of_number (program_over program.now hooks) B k (tree_at store.old term.0) number None)
+        (λ k. or_else (number_gives (program_over program.now hooks) B k (tree_at store.old term.0) number (solution_in store.new x.1))
+        (left_of_number (program_over program.now hooks) B k (tree_at store.old term.0) number (Some (solution_in store.new x.1)))))) }
     ensures number { IfOk result (λ o. IfSome o (λ x. x.0.number ≡ number)) }
     ensures given { IfOk result (λ o. IfSome o (λ x. L.given x.0.listing ≡ Some x.1)) }
     ensures tried { IfOk result (λ o. IfSome o (λ x. IsTried L.with_context program.now store.new table.new term number (L.asked x.0.listing) (L.given x.0.listing) (L.is_for x.0.listing program.now.sig))) }
     ensures found { IfOk result (λ o. IfSome o (λ x. IsFound program.now store.new (tree_at store.old term.0) number x.1)) }
-    ensures plain { IsPlainTable program.now.sig store.new table.new }
+    ensures sort_table { IsSortTable program.now.sig store.new table.new }
+    ensures derived { (hooks : List Operator) (limit : ℕ) → IsDerivedTable (meanings_by program.now hooks limit false) store.old table.old
+        → IsDerivedTable (meanings_by program.now hooks limit false) store.new table.new }
     ensures kept { KeepsEntries table.old table.new }
     ensures extends { Extends store.old store.new }
 {
@@ -155,15 +170,19 @@ fn first_candidate<L: Lister + Drop>(
     requires compiled { IsCompiled program.now compiled.now }
     requires term { IsTerm program.now.sig store.old term.0 }
     requires settled { AreSettled program.now.sig store.old table.old (tree_at store.old term.0) }
-    requires plain { IsPlainTable program.now.sig store.old table.old }
-    ensures none { (hooks : List Operator) (B k b : ℕ) → IfOk result (λ o. IfNone o (left_of_number (program_over program.now hooks) B k (tree_at store.old term.0) number None b ≡ done None 0 b)) }
-    ensures some { (hooks : List Operator) (B k b : ℕ) (rest : List ℕ) → IfOk result (λ o. IfSome o (λ x. left_of_all (program_over program.now hooks) B k (tree_at store.old term.0) number None rest b
-        ≡ or_go_on (left_by (program_over program.now hooks) B k store.new (tree_at store.old term.0) (option_map (λ y. (y.number, L.given y.listing)) tried.new) rest)
-        (number_gives (program_over program.now hooks) B k (tree_at store.old term.0) number (solution_in store.new x) b))) }
+    requires sort_table { IsSortTable program.now.sig store.old table.old }
+    ensures none { (hooks : List Operator) (B : ℕ) → IsDerivedTable (meanings_by program.now hooks B false) store.old table.old
+        → IfOk result (λ o. IfNone o (ComesTo (program_over program.now hooks) (λ k. left_of_number (program_over program.now hooks) B k (tree_at store.old term.0) number None) (λ k. gives None))) }
+    ensures some { (hooks : List Operator) (B : ℕ) → IsDerivedTable (meanings_by program.now hooks B false) store.old table.old → (rest : List ℕ)
+        → IfOk result (λ o. IfSome o (λ x. ComesTo (program_over program.now hooks) (λ k. left_of_all (program_over program.now hooks) B k (tree_at store.old term.0) number None rest)
+        (λ k. or_else (number_gives (program_over program.now hooks) B k (tree_at store.old term.0) number (solution_in store.new x))
+        (left_by (program_over program.now hooks) B k store.new (tree_at store.old term.0) (option_map (λ y. (y.number, L.given y.listing)) tried.new) rest)))) }
     ensures tried { IfOk result (λ o. IfSome o (λ x. IfSome tried.new (λ y. IsTried L.with_context program.now store.new table.new term y.number (L.asked y.listing) (L.given y.listing) (L.is_for y.listing program.now.sig)))) }
     ensures found { IfOk result (λ o. IfSome o (IsFound program.now store.new (tree_at store.old term.0) number)) }
     ensures listed { IfOk result (λ o. IfSome o (IsListed program.now store.new table.new term number)) }
-    ensures plain { IsPlainTable program.now.sig store.new table.new }
+    ensures sort_table { IsSortTable program.now.sig store.new table.new }
+    ensures derived { (hooks : List Operator) (limit : ℕ) → IsDerivedTable (meanings_by program.now hooks limit false) store.old table.old
+        → IsDerivedTable (meanings_by program.now hooks limit false) store.new table.new }
     ensures kept { KeepsEntries table.old table.new }
     ensures extends { Extends store.old store.new }
 {
@@ -195,19 +214,23 @@ fn go_on<L: Lister>(
     requires reducible { IsReducible program.now }
     requires term { IsTerm program.now.sig store.old term.0 }
     requires settled { AreSettled program.now.sig store.old table.old (tree_at store.old term.0) }
-    requires plain { IsPlainTable program.now.sig store.old table.old }
+    requires sort_table { IsSortTable program.now.sig store.old table.old }
     requires tried { IsTried L.with_context program.now store.old table.old term tried.old.number (L.asked tried.old.listing) (L.given tried.old.listing) (L.is_for tried.old.listing program.now.sig) }
-    ensures none { (hooks : List Operator) (B k b : ℕ) → IfOk result (λ o. IfNone o (left_of_number (program_over program.now hooks) B k (tree_at store.old term.0) tried.old.number
-        (option_map (solution_in store.old) (L.given tried.old.listing)) b ≡ done None 0 b)) }
-    ensures some { (hooks : List Operator) (B k b : ℕ) → IfOk result (λ o. IfSome o (λ x. left_of_number (program_over program.now hooks) B k (tree_at store.old term.0) tried.old.number
-        (option_map (solution_in store.old) (L.given tried.old.listing)) b
-        ≡ or_go_on (left_of_number (program_over program.now hooks) B k (tree_at store.old term.0) tried.old.number (Some (solution_in store.new x)))
-        (number_gives (program_over program.now hooks) B k (tree_at store.old term.0) tried.old.number (solution_in store.new x) b))) }
+    ensures none { (hooks : List Operator) (B : ℕ) → IsDerivedTable (meanings_by program.now hooks B false) store.old table.old
+        → IfOk result (λ o. IfNone o (ComesTo (program_over program.now hooks) (λ k. left_of_number (program_over program.now hooks) B k (tree_at store.old term.0) tried.old.number
+        (option_map (solution_in store.old) (L.given tried.old.listing))) (λ k. gives None))) }
+    ensures some { (hooks : List Operator) (B : ℕ) → IsDerivedTable (meanings_by program.now hooks B false) store.old table.old
+        → IfOk result (λ o. IfSome o (λ x. ComesTo (program_over program.now hooks) (λ k. left_of_number (program_over program.now hooks) B k (tree_at store.old term.0) tried.old.number
+        (option_map (solution_in store.old) (L.given tried.old.listing)))
+        (λ k. or_else (number_gives (program_over program.now hooks) B k (tree_at store.old term.0) tried.old.number (solution_in store.new x))
+        (left_of_number (program_over program.now hooks) B k (tree_at store.old term.0) tried.old.number (Some (solution_in store.new x)))))) }
     ensures number { tried.new.number ≡ tried.old.number }
     ensures given { IfOk result (λ o. IfSome o (λ x. L.given tried.new.listing ≡ Some x)) }
     ensures tried { IfOk result (λ o. IfSome o (λ x. IsTried L.with_context program.now store.new table.new term tried.old.number (L.asked tried.new.listing) (L.given tried.new.listing) (L.is_for tried.new.listing program.now.sig))) }
     ensures found { IfOk result (λ o. IfSome o (λ x. IsFound program.now store.new (tree_at store.old term.0) tried.old.number x)) }
-    ensures plain { IsPlainTable program.now.sig store.new table.new }
+    ensures sort_table { IsSortTable program.now.sig store.new table.new }
+    ensures derived { (hooks : List Operator) (limit : ℕ) → IsDerivedTable (meanings_by program.now hooks limit false) store.old table.old
+        → IsDerivedTable (meanings_by program.now hooks limit false) store.new table.new }
     ensures kept { KeepsEntries table.old table.new }
     ensures extends { Extends store.old store.new }
 {
@@ -234,15 +257,19 @@ fn first_among<L: Lister + Drop>(
     requires compiled { IsCompiled program.now compiled.now }
     requires term { IsTerm program.now.sig store.old term.0 }
     requires settled { AreSettled program.now.sig store.old table.old (tree_at store.old term.0) }
-    requires plain { IsPlainTable program.now.sig store.old table.old }
-    ensures none { (hooks : List Operator) (B k b : ℕ) → IfOk result (λ o. IfNone o (first_of (applied_number (program_over program.now hooks) B k (tree_at store.old term.0)) (drop next.old order.now) b ≡ done None 0 b)) }
-    ensures some { (hooks : List Operator) (B k b : ℕ) → IfOk result (λ o. IfSome o (λ x. first_of (applied_number (program_over program.now hooks) B k (tree_at store.old term.0)) (drop next.old order.now) b
-        ≡ or_go_on (left_by (program_over program.now hooks) B k store.new (tree_at store.old term.0) (option_map (λ y. (y.number, L.given y.listing)) tried.new) (drop next.new order.now))
-        (number_gives (program_over program.now hooks) B k (tree_at store.old term.0) x.number (solution_in store.new x.solution) b))) }
+    requires sort_table { IsSortTable program.now.sig store.old table.old }
+    ensures none { (hooks : List Operator) (B : ℕ) → IsDerivedTable (meanings_by program.now hooks B false) store.old table.old
+        → IfOk result (λ o. IfNone o (ComesTo (program_over program.now hooks) (λ k. first_of (applied_number (program_over program.now hooks) B k (tree_at store.old term.0)) (drop next.old order.now)) (λ k. gives None))) }
+    ensures some { (hooks : List Operator) (B : ℕ) → IsDerivedTable (meanings_by program.now hooks B false) store.old table.old
+        → IfOk result (λ o. IfSome o (λ x. ComesTo (program_over program.now hooks) (λ k. first_of (applied_number (program_over program.now hooks) B k (tree_at store.old term.0)) (drop next.old order.now))
+        (λ k. or_else (number_gives (program_over program.now hooks) B k (tree_at store.old term.0) x.number (solution_in store.new x.solution))
+        (left_by (program_over program.now hooks) B k store.new (tree_at store.old term.0) (option_map (λ y. (y.number, L.given y.listing)) tried.new) (drop next.new order.now))))) }
     ensures tried { IfOk result (λ o. IfSome o (λ x. IfSome tried.new (λ y. IsTried L.with_context program.now store.new table.new term y.number (L.asked y.listing) (L.given y.listing) (L.is_for y.listing program.now.sig)))) }
     ensures found { IfOk result (λ o. IfSome o (λ x. IsFound program.now store.new (tree_at store.old term.0) x.number x.solution)) }
     ensures listed { IfOk result (λ o. IfSome o (λ x. IsListed program.now store.new table.new term x.number x.solution)) }
-    ensures plain { IsPlainTable program.now.sig store.new table.new }
+    ensures sort_table { IsSortTable program.now.sig store.new table.new }
+    ensures derived { (hooks : List Operator) (limit : ℕ) → IsDerivedTable (meanings_by program.now hooks limit false) store.old table.old
+        → IsDerivedTable (meanings_by program.now hooks limit false) store.new table.new }
     ensures kept { KeepsEntries table.old table.new }
     ensures extends { Extends store.old store.new }
 {
@@ -269,18 +296,22 @@ fn go_on_tried<L: Lister>(
     requires reducible { IsReducible program.now }
     requires term { IsTerm program.now.sig store.old term.0 }
     requires settled { AreSettled program.now.sig store.old table.old (tree_at store.old term.0) }
-    requires plain { IsPlainTable program.now.sig store.old table.old }
+    requires sort_table { IsSortTable program.now.sig store.old table.old }
     requires tried { IfSome tried.old (λ x. IsTried L.with_context program.now store.old table.old term x.number (L.asked x.listing) (L.given x.listing) (L.is_for x.listing program.now.sig)) }
-    ensures none { (hooks : List Operator) (B k b : ℕ) (rest : List ℕ) → IfOk result (λ o. IfNone o (left_by (program_over program.now hooks) B k store.old (tree_at store.old term.0)
-        (option_map (λ x. (x.number, L.given x.listing)) tried.old) rest b ≡ first_of (applied_number (program_over program.now hooks) B k (tree_at store.old term.0)) rest b)) }
-    ensures some { (hooks : List Operator) (B k b : ℕ) (rest : List ℕ) → IfOk result (λ o. IfSome o (λ x. left_by (program_over program.now hooks) B k store.old (tree_at store.old term.0)
-        (option_map (λ y. (y.number, L.given y.listing)) tried.old) rest b
-        ≡ or_go_on (left_by (program_over program.now hooks) B k store.new (tree_at store.old term.0) (option_map (λ y. (y.number, L.given y.listing)) tried.new) rest)
-        (number_gives (program_over program.now hooks) B k (tree_at store.old term.0) x.number (solution_in store.new x.solution) b))) }
+    ensures none { (hooks : List Operator) (B : ℕ) → IsDerivedTable (meanings_by program.now hooks B false) store.old table.old → (rest : List ℕ)
+        → IfOk result (λ o. IfNone o (ComesTo (program_over program.now hooks) (λ k. left_by (program_over program.now hooks) B k store.old (tree_at store.old term.0)
+        (option_map (λ x. (x.number, L.given x.listing)) tried.old) rest) (λ k. first_of (applied_number (program_over program.now hooks) B k (tree_at store.old term.0)) rest))) }
+    ensures some { (hooks : List Operator) (B : ℕ) → IsDerivedTable (meanings_by program.now hooks B false) store.old table.old → (rest : List ℕ)
+        → IfOk result (λ o. IfSome o (λ x. ComesTo (program_over program.now hooks) (λ k. left_by (program_over program.now hooks) B k store.old (tree_at store.old term.0)
+        (option_map (λ y. (y.number, L.given y.listing)) tried.old) rest)
+        (λ k. or_else (number_gives (program_over program.now hooks) B k (tree_at store.old term.0) x.number (solution_in store.new x.solution))
+        (left_by (program_over program.now hooks) B k store.new (tree_at store.old term.0) (option_map (λ y. (y.number, L.given y.listing)) tried.new) rest)))) }
     ensures listed { IfOk result (λ o. IfSome o (λ x. IsListed program.now store.new table.new term x.number x.solution)) }
     ensures tried { IfOk result (λ o. IfSome o (λ x. IfSome tried.new (λ y. IsTried L.with_context program.now store.new table.new term y.number (L.asked y.listing) (L.given y.listing) (L.is_for y.listing program.now.sig)))) }
     ensures found { IfOk result (λ o. IfSome o (λ x. IsFound program.now store.new (tree_at store.old term.0) x.number x.solution)) }
-    ensures plain { IsPlainTable program.now.sig store.new table.new }
+    ensures sort_table { IsSortTable program.now.sig store.new table.new }
+    ensures derived { (hooks : List Operator) (limit : ℕ) → IsDerivedTable (meanings_by program.now hooks limit false) store.old table.old
+        → IsDerivedTable (meanings_by program.now hooks limit false) store.new table.new }
     ensures kept { KeepsEntries table.old table.new }
     ensures extends { Extends store.old store.new }
 {
@@ -311,15 +342,19 @@ fn begin_next<L: Lister + Drop>(
     requires compiled { IsCompiled program.now compiled.now }
     requires term { IsTerm program.now.sig store.old term.0 }
     requires settled { AreSettled program.now.sig store.old table.old (tree_at store.old term.0) }
-    requires plain { IsPlainTable program.now.sig store.old table.old }
-    ensures none { (hooks : List Operator) (B k b : ℕ) → IfOk result (λ o. IfNone o (first_of (applied_number (program_over program.now hooks) B k (tree_at store.old term.0)) (drop next.old (order_for program.now (tree_at store.old term.0))) b ≡ done None 0 b)) }
-    ensures some { (hooks : List Operator) (B k b : ℕ) → IfOk result (λ o. IfSome o (λ x. first_of (applied_number (program_over program.now hooks) B k (tree_at store.old term.0)) (drop next.old (order_for program.now (tree_at store.old term.0))) b
-        ≡ or_go_on (left_by (program_over program.now hooks) B k store.new (tree_at store.old term.0) (option_map (λ y. (y.number, L.given y.listing)) tried.new) (drop next.new (order_for program.now (tree_at store.old term.0))))
-        (number_gives (program_over program.now hooks) B k (tree_at store.old term.0) x.number (solution_in store.new x.solution) b))) }
+    requires sort_table { IsSortTable program.now.sig store.old table.old }
+    ensures none { (hooks : List Operator) (B : ℕ) → IsDerivedTable (meanings_by program.now hooks B false) store.old table.old
+        → IfOk result (λ o. IfNone o (ComesTo (program_over program.now hooks) (λ k. first_of (applied_number (program_over program.now hooks) B k (tree_at store.old term.0)) (drop next.old (order_for program.now (tree_at store.old term.0)))) (λ k. gives None))) }
+    ensures some { (hooks : List Operator) (B : ℕ) → IsDerivedTable (meanings_by program.now hooks B false) store.old table.old
+        → IfOk result (λ o. IfSome o (λ x. ComesTo (program_over program.now hooks) (λ k. first_of (applied_number (program_over program.now hooks) B k (tree_at store.old term.0)) (drop next.old (order_for program.now (tree_at store.old term.0))))
+        (λ k. or_else (number_gives (program_over program.now hooks) B k (tree_at store.old term.0) x.number (solution_in store.new x.solution))
+        (left_by (program_over program.now hooks) B k store.new (tree_at store.old term.0) (option_map (λ y. (y.number, L.given y.listing)) tried.new) (drop next.new (order_for program.now (tree_at store.old term.0))))))) }
     ensures listed { IfOk result (λ o. IfSome o (λ x. IsListed program.now store.new table.new term x.number x.solution)) }
     ensures tried { IfOk result (λ o. IfSome o (λ x. IfSome tried.new (λ y. IsTried L.with_context program.now store.new table.new term y.number (L.asked y.listing) (L.given y.listing) (L.is_for y.listing program.now.sig)))) }
     ensures found { IfOk result (λ o. IfSome o (λ x. IsFound program.now store.new (tree_at store.old term.0) x.number x.solution)) }
-    ensures plain { IsPlainTable program.now.sig store.new table.new }
+    ensures sort_table { IsSortTable program.now.sig store.new table.new }
+    ensures derived { (hooks : List Operator) (limit : ℕ) → IsDerivedTable (meanings_by program.now hooks limit false) store.old table.old
+        → IsDerivedTable (meanings_by program.now hooks limit false) store.new table.new }
     ensures kept { KeepsEntries table.old table.new }
     ensures extends { Extends store.old store.new }
 {
@@ -342,18 +377,22 @@ pub(crate) fn next_found<L: Lister + Drop>(
     requires compiled { IsCompiled program.now compiled.now }
     requires term { IsTerm program.now.sig store.old term.0 }
     requires settled { AreSettled program.now.sig store.old table.old (tree_at store.old term.0) }
-    requires plain { IsPlainTable program.now.sig store.old table.old }
+    requires sort_table { IsSortTable program.now.sig store.old table.old }
     requires tried { IfSome tried.old (λ x. IsTried L.with_context program.now store.old table.old term x.number (L.asked x.listing) (L.given x.listing) (L.is_for x.listing program.now.sig)) }
-    ensures none { (hooks : List Operator) (B k b : ℕ) → IfOk result (λ o. IfNone o (left_by (program_over program.now hooks) B k store.old (tree_at store.old term.0)
-        (option_map (λ x. (x.number, L.given x.listing)) tried.old) (drop next.old (order_for program.now (tree_at store.old term.0))) b ≡ done None 0 b)) }
-    ensures some { (hooks : List Operator) (B k b : ℕ) → IfOk result (λ o. IfSome o (λ x. left_by (program_over program.now hooks) B k store.old (tree_at store.old term.0)
-        (option_map (λ y. (y.number, L.given y.listing)) tried.old) (drop next.old (order_for program.now (tree_at store.old term.0))) b
-        ≡ or_go_on (left_by (program_over program.now hooks) B k store.new (tree_at store.old term.0) (option_map (λ y. (y.number, L.given y.listing)) tried.new) (drop next.new (order_for program.now (tree_at store.old term.0))))
-        (number_gives (program_over program.now hooks) B k (tree_at store.old term.0) x.number (solution_in store.new x.solution) b))) }
+    ensures none { (hooks : List Operator) (B : ℕ) → IsDerivedTable (meanings_by program.now hooks B false) store.old table.old
+        → IfOk result (λ o. IfNone o (ComesTo (program_over program.now hooks) (λ k. left_by (program_over program.now hooks) B k store.old (tree_at store.old term.0)
+        (option_map (λ x. (x.number, L.given x.listing)) tried.old) (drop next.old (order_for program.now (tree_at store.old term.0)))) (λ k. gives None))) }
+    ensures some { (hooks : List Operator) (B : ℕ) → IsDerivedTable (meanings_by program.now hooks B false) store.old table.old
+        → IfOk result (λ o. IfSome o (λ x. ComesTo (program_over program.now hooks) (λ k. left_by (program_over program.now hooks) B k store.old (tree_at store.old term.0)
+        (option_map (λ y. (y.number, L.given y.listing)) tried.old) (drop next.old (order_for program.now (tree_at store.old term.0))))
+        (λ k. or_else (number_gives (program_over program.now hooks) B k (tree_at store.old term.0) x.number (solution_in store.new x.solution))
+        (left_by (program_over program.now hooks) B k store.new (tree_at store.old term.0) (option_map (λ y. (y.number, L.given y.listing)) tried.new) (drop next.new (order_for program.now (tree_at store.old term.0))))))) }
     ensures listed { IfOk result (λ o. IfSome o (λ x. IsListed program.now store.new table.new term x.number x.solution)) }
     ensures tried { IfOk result (λ o. IfSome o (λ x. IfSome tried.new (λ y. IsTried L.with_context program.now store.new table.new term y.number (L.asked y.listing) (L.given y.listing) (L.is_for y.listing program.now.sig)))) }
     ensures found { IfOk result (λ o. IfSome o (λ x. IsFound program.now store.new (tree_at store.old term.0) x.number x.solution)) }
-    ensures plain { IsPlainTable program.now.sig store.new table.new }
+    ensures sort_table { IsSortTable program.now.sig store.new table.new }
+    ensures derived { (hooks : List Operator) (limit : ℕ) → IsDerivedTable (meanings_by program.now hooks limit false) store.old table.old
+        → IsDerivedTable (meanings_by program.now hooks limit false) store.new table.new }
     ensures kept { KeepsEntries table.old table.new }
     ensures extends { Extends store.old store.new }
 {

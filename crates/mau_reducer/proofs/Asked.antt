@@ -1,5 +1,5 @@
 -- A condition that is asked: what is known of it, and what the loop computes of it.
-use Rattle.std.proofs.Common.{◌≡◌, ◌==◌, ◌+◌, ℕ, suc, List, [], All, Bool, true, if◌then◌else◌, Option, Some, None, IfSome, IfNone, Ok, Err, IfOk, IfErr, map, length, slice_get, eq-eqb, refl, sym, ap, ap₂, ◌∙◌, subst, arith}
+use Rattle.std.proofs.Common.{◌≡◌, ◌==◌, ◌+◌, ℕ, suc, List, All, Bool, true, if◌then◌else◌, Option, Some, None, IfSome, IfNone, Ok, Err, IfOk, IfErr, map, length, slice_get, eq-eqb, refl, sym, ap, ap₂, ◌∙◌, subst, arith}
 use Rattle.std.specs.List.{zip}
 use Rattle.std.proofs.lemmas.Option.{slice_get_past}
 use Rattle.mau_terms.specs.Subst.{Variable}
@@ -12,7 +12,8 @@ use Rattle.mau_sorts.proofs.Settling.{kept_on}
 use Rattle.mau_program.specs.declared.statements.Fragment.{Fragment}
 use Rattle.mau_program.specs.declared.statements.Equation.{Equation}
 use Rattle.mau_program.specs.Binding.{are_bound}
-use Rattle.mau_evaluation.specs.Run.{Outcome, done, Run}
+use Rattle.mau_evaluation.specs.Run.{Outcome, done, Run, counted_if}
+use Rattle.mau_evaluation.specs.Program.{Program}
 use Rattle.mau_evaluation.specs.Evaluation.{Binding, look_up, levels, solve}
 use Rattle.mau_api.specs.Programs.{program_over, fragment_of}
 use Rattle.mau_api.specs.Events.{Event}
@@ -20,11 +21,12 @@ use Rattle.mau_api.specs.Told.{TellsCondition}
 use Rattle.mau_api.specs.Answers.{IsAskable, IsValueOf, binding_in}
 use Rattle.mau_reduce.specs.declared.binding.Binding.{Binding as Kept}
 use Rattle.mau_reduce.specs.Bindings.{bound_in}
-use Rattle.mau_machine.specs.Words.{capped, IsEnd, solve_on, Asks}
+use Rattle.mau_machine.specs.Words.{Comes, ComesToEnd, solve_on, Asks}
+use Rattle.mau_reducer.proofs.Reached.{comes_along, end_along}
 use Rattle.mau_machine.specs.declared.goal.Goal.TheVariants.{Nothing}
 use Rattle.mau_reducer.specs.Basis.{Basis, asking}
-use Rattle.mau_reducer.specs.Handles.{written_in, written_at, first_in, first_at, rules_of, IsKnownBinding}
-use Rattle.mau_reducer.specs.States.{IsFit, IsReady, ComesOf}
+use Rattle.mau_reducer.specs.Handles.{written_in, membership_numbered, cond_of, written_at, first_in, variables_of_head, first_at, rules_of, IsKnownBinding}
+use Rattle.mau_reducer.specs.States.{IsFit, ComesOf}
 use Rattle.mau_reducer.specs.LaterStates.{binding_later}
 use Rattle.mau_reducer.specs.Meant.{meanings_of}
 use Rattle.mau_reducer.specs.MeantLaws.{solving_is}
@@ -56,15 +58,15 @@ module _ (b : Basis) (fs : List Fragment) (xs : List Variable) where
 
   -- it is the condition with the number behind all others
   pub written_asked : written_at (asking b fs xs) number ≡ fs
-  written_asked = ap₂ (λ (w : Bool) (o : Option Equation). written_in (if w then fs else []) o) itself none_there
+  written_asked = ap₂ (λ (w : Bool) (o : Option Equation). written_in (if w then fs else cond_of (membership_numbered b.program number)) o) itself none_there
 
   pub first_asked : first_at (asking b fs xs) number ≡ xs
-  first_asked = ap₂ (λ (w : Bool) (o : Option Equation). first_in (if w then xs else []) o) itself none_there
+  first_asked = ap₂ (λ (w : Bool) (o : Option Equation). first_in (if w then xs else variables_of_head (membership_numbered b.program number)) o) itself none_there
 
-  pub asking_ready : (nodes : List Node) (table : Table) → IsReady b nodes table → IsAskable b.program.sig xs fs → IsReady (asking b fs xs) nodes table
-  asking_ready nodes table r a = record {
+  pub asking_fit : (nodes : List Node) (table : Table) (begun : Bool) → IsFit b nodes table begun → IsAskable b.program.sig xs fs → IsFit (asking b fs xs) nodes table begun
+  asking_fit nodes table begun r a = record {
     basis = record { lawful = r.basis.lawful; reducible = r.basis.reducible; gives = r.basis.gives; compiled = r.basis.compiled; built_ins = r.basis.built_ins; askable = a };
-    plain = r.plain;
+    derived = r.derived;
     identities = r.identities;
   }
 
@@ -100,14 +102,14 @@ module _ (b : Basis) (fs : List Fragment) (bound : List (VarId × TermId)) (aska
         bound = ap₂ are_bound (first_asked b fs (variables_of bound)) (written_asked b fs (variables_of bound)) ∙ askable.bound;
       }
 
-  -- in the state in which the identities are settled too
-  module _ (b' d : Basis) (old mid : List Node) (before after : Table) (comes : ComesOf b b' old mid before after) (asks : d ≡ asking b' fs (variables_of bound)) (values : All (IsValueOf b.program.sig old before) bound)
+  -- in a later state
+  module _ (b' d : Basis) (old mid : List Node) (before after : Table) (begun : Bool) (comes : ComesOf b b' old mid before after begun) (asks : d ≡ asking b' fs (variables_of bound)) (values : All (IsValueOf b.program.sig old before) bound)
       (table : Table) (same : table ≡ after) (n : ℕ) (is : n ≡ suc (length d.program.equations)) where
     pub basis_is : d ≡ asked
     basis_is = asks ∙ ap (λ (x : Basis). asking x fs (variables_of bound)) comes.basis
 
     later : IsKnownBinding asked mid after e 0 σ × (bound_in mid σ ≡ bound_in old σ)
-    later = binding_later asked old mid before after (record { basis = refl; extends = comes.extends; kept = comes.kept; plain = comes.plain }) e 0 σ (known_first old before values)
+    later = binding_later asked old mid before after begun (record { basis = refl; extends = comes.extends; kept = comes.kept; derived = comes.derived; identities = comes.identities }) e 0 σ (known_first old before values)
 
     number_is : n ≡ e
     number_is = is ∙ ap (λ (x : Basis). suc (length x.program.equations)) basis_is
@@ -117,11 +119,11 @@ module _ (b : Basis) (fs : List Fragment) (bound : List (VarId × TermId)) (aska
         subst (λ (t : Table). IsKnownBinding d mid t n 0 σ) (sym same)
         (subst (λ (x : Basis). IsKnownBinding x mid after n 0 σ) (sym basis_is) (subst (λ (i : ℕ). IsKnownBinding asked mid after i 0 σ) (sym number_is) later.0))
 
-    pub asked_ready : IsReady b' mid after → IsReady d mid table
-    asked_ready ready =
-        subst (λ (t : Table). IsReady d mid t) (sym same)
-        (subst (λ (x : Basis). IsReady x mid after) (sym basis_is)
-        (asking_ready b fs (variables_of bound) mid after (subst (λ (x : Basis). IsReady x mid after) comes.basis ready) askable))
+    pub asked_ready : (word : Bool) → word ≡ begun → IsFit b' mid after begun → IsFit d mid table word
+    asked_ready word w fit =
+        subst (λ (t : Table). IsFit d mid t word) (sym same)
+        (subst (λ (x : Basis). IsFit x mid after word) (sym basis_is)
+        (asking_fit b fs (variables_of bound) mid after word (subst (λ (x : Basis). IsFit x mid after word) comes.basis (subst (IsFit b' mid after) (sym w) fit)) askable))
 
     pub meant_alike : meanings_of d ≡ meanings_of b
     meant_alike = ap meanings_of basis_is
@@ -148,7 +150,7 @@ module _ (b : Basis) (fs : List Fragment) (bound : List (VarId × TermId)) (aska
 
     -- ---- what is known behind the loop, in a state that comes of that one
 
-    module _ (d' : Basis) (new : List Node) (last : Table) (more : ComesOf d d' mid new table last) where
+    module _ (d' : Basis) (new : List Node) (last : Table) (word : Bool) (more : ComesOf d d' mid new table last word) where
       basis_stays : d' ≡ asked
       basis_stays = more.basis ∙ basis_is
 
@@ -190,7 +192,31 @@ module _ (b : Basis) (fs : List Fragment) (bound : List (VarId × TermId)) (aska
 
       -- what the loop answers, as it is meant
       module _ (k B left : ℕ) where
-        pub loop_answer : (r : Answer) → IfOk r (λ a. IfSome a (λ x. capped (solve_on (rules_of d) k n 0 (bound_in mid σ) B) ≡ done (Some (bound_in new x.0)) x.1 left)) →
-            IfOk r (λ a. IfNone a ((q : ℕ) × (solve_on (rules_of d) k n 0 (bound_in mid σ) B ≡ done None q left))) → IfErr r (IsEnd (solve_on (rules_of d) k n 0 (bound_in mid σ) B)) →
-            IsLoopAnswer new ((meanings_of b).solving k b.limit (map fragment_of fs) (binding_in old bound) B) r left
-        loop_answer r some none ends = subst (λ (o : Outcome (Option Binding)). IsLoopAnswer new o r left) (outcome_is k B) (record { some = some; none = none; ends = ends })
+        abbrev asks_by : ℕ → Outcome (Option Binding)
+        asks_by j = (meanings_of b).solving j b.limit (map fragment_of fs) (binding_in old bound) B
+
+        same_program : program_over d.program d.hooks ≡ program_over b.program b.hooks
+        same_program = ap (λ (x : Basis). program_over x.program x.hooks) basis_is
+
+        abbrev solves : ℕ → Outcome (Option Binding)
+        solves j = solve_on (rules_of d) (k + j) n 0 (bound_in mid σ) B
+
+        pub loop_answer : (r : Answer) → IfOk r (λ a. IfSome a (λ x. Comes (program_over d.program d.hooks) solves (done (Some (bound_in new x.0)) x.1 left))) →
+            IfOk r (λ a. IfNone a (Comes (program_over d.program d.hooks) (λ j. counted_if 0 (solves j)) (done None 0 left))) →
+            IfErr r (ComesToEnd (program_over d.program d.hooks) solves) →
+            IsLoopAnswer (program_over b.program b.hooks) new (λ j. (meanings_of b).solving j b.limit (map fragment_of fs) (binding_in old bound) B) k r left
+        loop_answer (Ok (Some x)) some none ends = record {
+          some = comes_along (λ j. outcome_is (k + j) B) (subst (λ (P : Program). Comes P solves (done (Some (bound_in new x.0)) x.1 left)) same_program some);
+          none = tt;
+          ends = tt;
+        }
+        loop_answer (Ok None) some none ends = record {
+          some = tt;
+          none = comes_along (λ j. ap (counted_if 0) (outcome_is (k + j) B)) (subst (λ (P : Program). Comes P (λ j. counted_if 0 (solves j)) (done None 0 left)) same_program none);
+          ends = tt;
+        }
+        loop_answer (Err e') some none ends = record {
+          some = tt;
+          none = tt;
+          ends = end_along (program_over b.program b.hooks) (λ j. outcome_is (k + j) B) e' (subst (λ (P : Program). ComesToEnd P solves e') same_program ends);
+        }

@@ -21,8 +21,9 @@ use Rattle.mau_listing.specs.declared.solution.Solution.{Solution}
 use Rattle.mau_program.specs.declared.statements.Fragment as Written
 use Rattle.mau_program.specs.declared.statements.Fragment.TheVariants.{Equal, Match, Sort, Reach}
 use Rattle.mau_program.specs.declared.statements.Equation.{Equation}
+use Rattle.mau_program.specs.declared.statements.Membership.{Membership}
 use Rattle.mau_program.specs.Binding.{bound_behind}
-use Rattle.mau_evaluation.specs.Run.{Run, done, or_go_on}
+use Rattle.mau_evaluation.specs.Run.{Run, gives, or_go_on, or_else}
 use Rattle.mau_evaluation.specs.Program as Evaluated
 use Rattle.mau_evaluation.specs.Program.{Program}
 use Rattle.mau_evaluation.specs.Evaluation.{Binding, levels, look_up, solve}
@@ -32,14 +33,18 @@ use Rattle.mau_reduce.specs.declared.binding.Binding.{Binding as Kept}
 use Rattle.mau_reduce.specs.Bindings.{bound_in}
 use Rattle.mau_reduce.specs.Trying.{solution_in}
 use Rattle.mau_machine.specs.declared.goal.Goal.TheVariants as Goals
-use Rattle.mau_machine.specs.Words.{Words, rest_of, pattern_in, solve_on, Asks, IsUnchosen, IsExtension, IsChoiceOf}
+use Rattle.mau_machine.specs.Words.{Words, LeadsTo, IsKnownBy, rest_of, pattern_in, solve_on, Asks, IsUnchosen, IsExtension, IsChoiceOf}
 use Rattle.mau_choices.specs.declared.choices.Choices.{Choices}
+use Rattle.mau_reduce.specs.Comes.{ComesTo}
+use Rattle.mau_reduce.proofs.Comes.{comes_from, comes_as}
+use Rattle.mau_settling.specs.declared.settling.Settling.{Settling}
+use Rattle.mau_reducer.proofs.Leading.{leads_of}
 use Rattle.mau_choices.specs.Choosing.{left_of_choices, IsChoosing}
 use Rattle.mau_choices.proofs.Begun.{unchosen_begun}
 use Rattle.mau_choices.proofs.Later.{value_same, binding_same, left_same}
 use Rattle.mau_reducer.specs.declared.reducer.Candidates.{Candidates}
 use Rattle.mau_reducer.specs.Basis.{Basis}
-use Rattle.mau_reducer.specs.Handles.{written_at, first_in, first_at, bound_before, rules_of, IsKnownBinding, AreKnownChoices, words_of}
+use Rattle.mau_reducer.specs.Handles.{membership_numbered, variables_of_head, written_at, first_in, first_other, first_at, bound_before, rules_of, IsKnownBinding, AreKnownChoices, words_of}
 use Rattle.mau_reducer.specs.States.{ComesOf}
 use Rattle.mau_reducer.specs.Fragments.{bound_next, bound_on}
 use Rattle.mau_reducer.proofs.Conditions.{from_place, pattern_is}
@@ -71,13 +76,21 @@ bound_apart (Match p u ∷ fs) xs d = bound_apart fs (add_variables xs (tree_of 
 bound_apart (Sort t s ∷ fs) xs d = bound_apart fs xs d
 bound_apart (Reach t u ∷ fs) xs d = bound_apart fs (add_variables xs (tree_of u)) (distinct (tree_of u) xs d)
 
-first_apart : (b : Basis) → AreApart b.asked_under → (w : Bool) (o : Option Equation) → AreApart (first_in (if w then b.asked_under else []) o)
-first_apart b d true None = d
-first_apart b d false None = tt
-first_apart b d w (Some q) = distinct (tree_of q.left) [] tt
+head_apart : (o : Option Membership) → AreApart (variables_of_head o)
+head_apart None = tt
+head_apart (Some m) = distinct (tree_of m.left) [] tt
+
+other_apart : (b : Basis) → AreApart b.asked_under → (e : ℕ) (w : Bool) → AreApart (if w then b.asked_under else variables_of_head (membership_numbered b.program e))
+other_apart b d e true = d
+other_apart b d e false = head_apart (membership_numbered b.program e)
+
+first_apart : (xs : List Variable) → AreApart xs → (o : Option Equation) → AreApart (first_in xs o)
+first_apart xs d None = d
+first_apart xs d (Some q) = distinct (tree_of q.left) [] tt
 
 pub before_apart : (b : Basis) → AreApart b.asked_under → (e i : ℕ) → AreApart (bound_before b e i)
-before_apart b d e i = bound_apart (take i (written_at b e)) (first_at b e) (first_apart b d (e == suc (length b.program.equations)) (slice_get b.program.equations e))
+before_apart b d e i =
+    bound_apart (take i (written_at b e)) (first_at b e) (first_apart (first_other b e) (other_apart b d e (e == suc (length b.program.equations))) (slice_get b.program.equations e))
 
 pub all_apart : (b : Basis) → AreApart b.asked_under → (nodes : List Node) (table : Table) (e i : ℕ) (σ : Kept) → IsKnownBinding b nodes table e i σ → AreApart (map (λ (y : VarId × TermId). variable_of y.0) (pairs_of σ))
 all_apart b d nodes table e i σ h = subst AreApart (sym (all_variables b nodes table e i σ h)) (before_apart b d e i)
@@ -87,7 +100,7 @@ all_apart b d nodes table e i σ h = subst AreApart (sym (all_variables b nodes 
 module _ {L M : Type 0} (c : Bool) (asked : L → Asked) (given : L → Option Solution) (is_for : L → SignatureOf → Type 0)
     (asked_whole : M → Asked) (given_whole : M → Option Solution) (is_for_whole : M → SignatureOf → Type 0) (b : Basis) (nodes : List Node) (table : Table)
     (e i : ℕ) (σ : Kept) (h : IsKnownBinding b nodes table e i σ) (v : TermId) where
-  abbrev words : Words (Candidates L) (Choices M) Kept
+  abbrev words : Words (Candidates L) (Choices M) Kept Settling
   words = words_of c asked given is_for asked_whole given_whole is_for_whole b nodes table
 
   abbrev P : Program
@@ -140,9 +153,9 @@ asked_for c asked given is_for asked_whole given_whole is_for_whole b nodes tabl
 
 module _ {L M : Type 0} (c : Bool) (asked : L → Asked) (given : L → Option Solution) (is_for : L → SignatureOf → Type 0)
     (asked_whole : M → Asked) (given_whole : M → Option Solution) (is_for_whole : M → SignatureOf → Type 0) (b : Basis) (old new : List Node) (before after : Table)
-    (h : ComesOf b b old new before after) (e i : ℕ) (p u : Bare) (at : slice_get (written_at b e) i ≡ Some (Match p u)) (x x' : Choices M)
+    (begun : Bool) (h : ComesOf b b old new before after begun) (e i : ℕ) (p u : Bare) (at : slice_get (written_at b e) i ≡ Some (Match p u)) (x x' : Choices M)
     (is : AreKnownChoices c asked given is_for asked_whole given_whole is_for_whole b old before e i x) (same_binding : x'.binding ≡ x.binding) (same_value : x'.value ≡ x.value) where
-  abbrev words_now : Words (Candidates L) (Choices M) Kept
+  abbrev words_now : Words (Candidates L) (Choices M) Kept Settling
   words_now = words_of c asked given is_for asked_whole given_whole is_for_whole b new after
 
   abbrev Q : Program
@@ -162,18 +175,18 @@ module _ {L M : Type 0} (c : Bool) (asked : L → Asked) (given : L → Option S
   unchosen_was k n =
       ap (λ r. r n)
       (left_same b.program.sig old new before after (pattern_in (rest_of (rules_of b) e i)) x.binding x.value (asked_whole x.listing) (given_whole x.listing) (is_for_whole x.listing b.program.sig)
-      h.extends h.kept h.plain is.choosing Q (levels Q b.limit k) behind_it)
+      h.extends h.kept h.derived.over is.choosing Q (levels Q b.limit k) behind_it)
       ∙ ap (λ t. left_of_choices Q (levels Q b.limit k) t behind_it (binding_in old x.binding) (tree_at old x.value.0) (option_map (solution_in old) (given_whole x.listing)) n) pattern_so
 
   binding_so : binding_in new x.binding ≡ binding_in old x.binding
   binding_so =
       binding_same b.program.sig old new before after (pattern_in (rest_of (rules_of b) e i)) x.binding x.value (asked_whole x.listing) (given_whole x.listing) (is_for_whole x.listing b.program.sig)
-      h.extends h.kept h.plain is.choosing
+      h.extends h.kept h.derived.over is.choosing
 
   value_so : tree_at new x.value.0 ≡ tree_at old x.value.0
   value_so =
       value_same b.program.sig old new before after (pattern_in (rest_of (rules_of b) e i)) x.binding x.value (asked_whole x.listing) (given_whole x.listing) (is_for_whole x.listing b.program.sig)
-      h.extends h.kept h.plain is.choosing
+      h.extends h.kept h.derived.over is.choosing
 
   from_same : binding_in new x'.binding ≡ binding_in old x.binding
   from_same = ap (binding_in new) same_binding ∙ binding_so
@@ -188,27 +201,26 @@ module _ {L M : Type 0} (c : Bool) (asked : L → Asked) (given : L → Option S
       ∙ ap (λ t. left_of_choices Q (levels Q b.limit k) (tree_of p) behind_it (binding_in old x.binding) t (option_map (solution_in new) (given_whole x'.listing))) value_now)
 
   -- there is none
-  pub none_next : (k n : ℕ) (o : Option (List (VarId × TermId))) (r : Option Kept) → option_map pairs_of r ≡ o →
-      IfNone o (left_in k old (given_whole x.listing) n ≡ done None 0 n) → IfNone r (words_now.unchosen x k e i n ≡ done None 0 n)
-  none_next k n o (Some σ) q f = tt
-  none_next k n None None q f = unchosen_was k n ∙ f
-  none_next k n (Some τ) None q f = absurd (cc q)
+  pub none_next : (o : Option (List (VarId × TermId))) (r : Option Kept) → option_map pairs_of r ≡ o →
+      IfNone o (ComesTo Q (λ k. left_in k old (given_whole x.listing)) (λ k. gives None)) → IfNone r (IsKnownBy Q (λ k. words_now.unchosen x k e i) None)
+  none_next o (Some σ) q f = tt
+  none_next None None q f = leads_of (comes_from unchosen_was f)
+  none_next (Some τ) None q f = absurd (cc q)
 
-  some_one : (k n : ℕ) (σ : Kept) (τ : List (VarId × TermId)) → pairs_of σ ≡ τ →
-      left_in k old (given_whole x.listing) n ≡ or_go_on (left_in k new (given_whole x'.listing)) (solve Q (levels Q b.limit k) behind_it (binding_in new τ) n) →
-      words_now.unchosen x k e i n ≡ or_go_on (words_now.unchosen x' k e i) (solve_on (rules_of b) k e (suc i) (bound_in new σ) n)
-  some_one k n σ τ q f =
-      unchosen_was k n
-      ∙ (f
-      ∙ (ap (λ r. or_go_on r (solve Q (levels Q b.limit k) behind_it (binding_in new τ) n)) (sym (unchosen_now k))
-      ∙ ap (λ ρ. or_go_on (words_now.unchosen x' k e i) (solve Q (levels Q b.limit k) behind_it ρ n)) (sym (bound_pairs new σ τ q))))
+  some_one : (σ : Kept) (τ : List (VarId × TermId)) → pairs_of σ ≡ τ →
+      ComesTo Q (λ k. left_in k old (given_whole x.listing)) (λ k. or_else (solve Q (levels Q b.limit k) behind_it (binding_in new τ)) (left_in k new (given_whole x'.listing))) →
+      LeadsTo Q (λ k. words_now.unchosen x k e i) (λ k n. or_go_on (words_now.unchosen x' k e i) (solve_on (rules_of b) k e (suc i) (bound_in new σ) n))
+  some_one σ τ q f =
+      leads_of (comes_from unchosen_was (comes_as f (λ k n.
+      ap (λ r. or_go_on r (solve Q (levels Q b.limit k) behind_it (binding_in new τ) n)) (sym (unchosen_now k))
+      ∙ ap (λ ρ. or_go_on (words_now.unchosen x' k e i) (solve Q (levels Q b.limit k) behind_it ρ n)) (sym (bound_pairs new σ τ q)))))
 
-  pub some_next : (k n : ℕ) (o : Option (List (VarId × TermId))) (r : Option Kept) → option_map pairs_of r ≡ o →
-      IfSome o (λ τ. left_in k old (given_whole x.listing) n ≡ or_go_on (left_in k new (given_whole x'.listing)) (solve Q (levels Q b.limit k) behind_it (binding_in new τ) n)) →
-      IfSome r (λ σ. words_now.unchosen x k e i n ≡ or_go_on (words_now.unchosen x' k e i) (solve_on (rules_of b) k e (suc i) (bound_in new σ) n))
-  some_next k n o None q f = tt
-  some_next k n None (Some σ) q f = absurd (cc q)
-  some_next k n (Some τ) (Some σ) q f = let same : pairs_of σ ≡ τ = cc in some_one k n σ τ same f
+  pub some_next : (o : Option (List (VarId × TermId))) (r : Option Kept) → option_map pairs_of r ≡ o →
+      IfSome o (λ τ. ComesTo Q (λ k. left_in k old (given_whole x.listing)) (λ k. or_else (solve Q (levels Q b.limit k) behind_it (binding_in new τ)) (left_in k new (given_whole x'.listing)))) →
+      IfSome r (λ σ. LeadsTo Q (λ k. words_now.unchosen x k e i) (λ k n. or_go_on (words_now.unchosen x' k e i) (solve_on (rules_of b) k e (suc i) (bound_in new σ) n)))
+  some_next o None q f = tt
+  some_next None (Some σ) q f = absurd (cc q)
+  some_next (Some τ) (Some σ) q f = let same : pairs_of σ ≡ τ = cc in some_one σ τ same f
 
   -- it goes on from the same binding
   pub from_now : (r : Option Kept) → IfSome r (λ σ. (words_now.chosen_from x' ≡ words_now.chosen_from x) × (words_now.chosen_value x' ≡ words_now.chosen_value x))

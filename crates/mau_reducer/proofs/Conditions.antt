@@ -1,26 +1,29 @@
 -- Conditions as they are written.
-use Rattle.std.proofs.Common.{◌≡◌, ◌==◌, ◌<◌, ◌≤◌, ℕ, zero, suc, length, arith, eqb-true, eq-eqb, if◌then◌else◌, List, [], ◌∷◌, All, Bool, true, false, Option, Some, None, map, drop, slice_get, refl, sym, ap, ◌∙◌, subst}
+use Rattle.std.proofs.Common.{◌≡◌, ◌==◌, ◌+◌, ◌-◌, ◌<◌, ◌≤◌, nat_lt, IfSome, ℕ, zero, suc, length, arith, eqb-true, eq-eqb, if◌then◌else◌, List, [], ◌∷◌, All, Bool, true, false, Option, Some, None, map, drop, slice_get, refl, sym, ap, ◌∙◌, subst}
 use Rattle.std.specs.Option.{option_map}
-use Rattle.std.proofs.lemmas.Option.{slice_get-map, slice_get_within, get_or_from_slice_get}
+use Rattle.std.proofs.lemmas.Option.{slice_get-map, slice_get_past, slice_get_within, get_or_from_slice_get}
+use Rattle.std.proofs.lemmas.Bool.{lt-ltb, le-ltb}
 use Rattle.mau_terms.specs.Bare.{IsBare}
+use Rattle.mau_terms.specs.Subst.{variables}
 use Rattle.mau_terms.specs.View.{tree_of}
 use Rattle.mau_terms.specs.declared.bare.Bare.{Bare}
 use Rattle.mau_signature.specs.Signature.{SignatureOf, terms_over}
 use Rattle.mau_program.specs.declared.program.Program as Typed
 use Rattle.mau_program.specs.declared.statements.Equation.{Equation}
+use Rattle.mau_program.specs.declared.statements.Membership.{Membership}
 use Rattle.mau_program.specs.declared.statements.Fragment as Written
 use Rattle.mau_program.specs.declared.statements.Fragment.TheVariants.{Equal, Match, Sort, Reach}
 use Rattle.mau_formula.specs.Operator.{Operator}
 use Rattle.mau_api.specs.Programs.{program_over, equation_of, fragment_of}
 use Rattle.mau_reduce.specs.Attempting.{cond_in, cond_at}
-use Rattle.mau_program.specs.LawfulStatements.{IsLawfulFragment, IsLawfulEquation}
+use Rattle.mau_program.specs.LawfulStatements.{IsLawfulFragment, IsLawfulEquation, IsLawfulMembership}
 use Rattle.mau_evaluation.specs.Program as Evaluated
 use Rattle.mau_machine.specs.declared.goal.Goal.TheVariants as Goals
 use Rattle.mau_machine.specs.Words.{goal_of, HasSideBy, side_by, pattern_in, sort_in, rest_of, Asks, HasSide}
 use Rattle.mau_signature.specs.Faults.{IsSort}
 use Rattle.mau_api.specs.Answers.{IsFragment}
 use Rattle.mau_reducer.specs.Basis.{Basis, IsBasis}
-use Rattle.mau_reducer.specs.Handles.{written_in, written_by, written_at, side_written, pattern_written, sort_written, rules_of, goal_in}
+use Rattle.mau_reducer.specs.Handles.{written_in, membership_numbered, cond_of, other_by, written_by, written_at, first_in, variables_of_head, first_other, first_at, side_written, pattern_written, sort_written, rules_of, goal_in}
 use Rattle.mau_reducer.specs.Fragments.{rest_is}
 
 -- ---- the same condition
@@ -32,18 +35,72 @@ condition_in None = refl
 condition_of : (p : Typed.Program) (hooks : List Operator) (e : ℕ) → cond_at (program_over p hooks) e ≡ map fragment_of (written_in [] (slice_get p.equations e))
 condition_of p hooks e = ap cond_in (slice_get-map equation_of p.equations e) ∙ condition_in (slice_get p.equations e)
 
+not_equal : (a b : ℕ) → (a ≡ b → ⊥) → (a == b) ≡ false
+not_equal a b apart = by (a == b) refl
+  where
+    by : (w : Bool) → (a == b) ≡ w → w ≡ false
+    by false q = refl
+    by true q = absurd (apart (eqb-true a b q))
+
 -- it is none that is asked
 pub not_asked : (n e : ℕ) → e ≤ n → (e == suc n) ≡ false
-not_asked n e h = by (e == suc n) refl
-  where
-    by : (w : Bool) → (e == suc n) ≡ w → w ≡ false
-    by false q = refl
-    by true q = let k : e ≡ suc n = eqb-true e (suc n) q in absurd (omega (arith, k, h))
+not_asked n e h = not_equal e (suc n) (λ k. omega (arith, k, h))
+
+-- the one that is asked
+pub asked_other : (p : Typed.Program) (asked : List Written.Fragment) (e : ℕ) → e ≡ suc (length p.equations) → other_by p asked e ≡ asked
+asked_other p asked e h = ap (λ w. if w then asked else cond_of (membership_numbered p e)) (eq-eqb e (suc (length p.equations)) h)
+
+-- those of memberships
+pub member_other : (p : Typed.Program) (asked : List Written.Fragment) (e : ℕ) → suc (length p.equations) < e → other_by p asked e ≡ cond_of (slice_get p.memberships (e - suc (suc (length p.equations))))
+member_other p asked e h =
+    ap (λ w. if w then asked else cond_of (membership_numbered p e)) (not_equal e (suc (length p.equations)) (λ k. omega (arith, k, h)))
+    ∙ ap (λ w. cond_of (if w then slice_get p.memberships (e - suc (suc (length p.equations))) else None)) (lt-ltb (suc (length p.equations)) e h)
+
+-- nor that of a membership
+pub none_numbered : (p : Typed.Program) (e : ℕ) → e ≤ suc (length p.equations) → membership_numbered p e ≡ None
+none_numbered p e h = ap (λ w. if w then slice_get p.memberships (e - suc (suc (length p.equations))) else None) (le-ltb (suc (length p.equations)) e h)
+
+pub no_other : (p : Typed.Program) (asked : List Written.Fragment) (e : ℕ) → e ≤ length p.equations → other_by p asked e ≡ []
+no_other p asked e h =
+    ap (λ w. if w then asked else cond_of (membership_numbered p e)) (not_asked (length p.equations) e h)
+    ∙ ap cond_of (none_numbered p e (omega (arith, h)))
+
+pub no_first : (b : Basis) (e : ℕ) → e ≤ length b.program.equations → first_other b e ≡ []
+no_first b e h =
+    ap (λ w. if w then b.asked_under else variables_of_head (membership_numbered b.program e)) (not_asked (length b.program.equations) e h)
+    ∙ ap variables_of_head (none_numbered b.program e (omega (arith, h)))
+
+-- that of the membership at a place
+module _ (p : Typed.Program) (at : ℕ) (m : Membership) (there : slice_get p.memberships at ≡ Some m) (e : ℕ) (is : e ≡ suc (suc (length p.equations)) + at) where
+  not_the_asked : (e == suc (length p.equations)) ≡ false
+  not_the_asked = not_equal e (suc (length p.equations)) (λ k. omega (arith, k, is))
+
+  pub is_numbered : membership_numbered p e ≡ Some m
+  is_numbered =
+      let place : e - suc (suc (length p.equations)) ≡ at = omega (arith, is) in
+      ap (λ w. if w then slice_get p.memberships (e - suc (suc (length p.equations))) else None) (lt-ltb (suc (length p.equations)) e (omega (arith, is)))
+      ∙ (ap (slice_get p.memberships) place ∙ there)
+
+  pub no_equation : slice_get p.equations e ≡ None
+  no_equation = slice_get_past p.equations e (omega (arith, is))
+
+  pub written_of_member : (asked : List Written.Fragment) → written_by p asked e ≡ m.cond
+  written_of_member asked =
+      ap (written_in (other_by p asked e)) no_equation
+      ∙ (ap (λ w. if w then asked else cond_of (membership_numbered p e)) not_the_asked ∙ ap cond_of is_numbered)
+
+  pub first_of_member : (b : Basis) → b.program ≡ p → first_at b e ≡ variables (tree_of m.left)
+  first_of_member b same =
+      let none : slice_get b.program.equations e ≡ None = ap (λ (q : Typed.Program). slice_get q.equations e) same ∙ no_equation in
+      let not_it : (e == suc (length b.program.equations)) ≡ false = ap (λ (q : Typed.Program). e == suc (length q.equations)) same ∙ not_the_asked in
+      let numbered : membership_numbered b.program e ≡ Some m = ap (λ (q : Typed.Program). membership_numbered q e) same ∙ is_numbered in
+      ap (first_in (first_other b e)) none
+      ∙ (ap (λ w. if w then b.asked_under else variables_of_head (membership_numbered b.program e)) not_it ∙ ap variables_of_head numbered)
 
 pub condition_is : (b : Basis) (e : ℕ) → e ≤ length b.program.equations → cond_at (program_over b.program b.hooks) e ≡ map fragment_of (written_at b e)
 condition_is b e h =
     condition_of b.program b.hooks e
-    ∙ ap (λ (w : Bool). map fragment_of (written_in (if w then b.asked else []) (slice_get b.program.equations e))) (sym (not_asked (length b.program.equations) e h))
+    ∙ ap (λ fs. map fragment_of (written_in fs (slice_get b.program.equations e))) (sym (no_other b.program b.asked e h))
 
 -- ---- what the next fragment asks
 
@@ -87,14 +144,29 @@ lawful_built s (Reach t u) h = tt
 
 -- it is built as it may be
 fragment_built : (b : Basis) → IsBasis b → (e i : ℕ) (f : Written.Fragment) → slice_get (written_at b e) i ≡ Some f → IsBuiltFragment b.program.sig f
-fragment_built b is e i f h = by (slice_get b.program.equations e) refl (e == suc (length b.program.equations)) h
+fragment_built b is e i f h = by (slice_get b.program.equations e) refl (e == suc (length b.program.equations)) (membership_numbered b.program e) numbered h
   where
-    by : (o : Option Equation) → slice_get b.program.equations e ≡ o → (w : Bool) → slice_get (written_in (if w then b.asked else []) o) i ≡ Some f → IsBuiltFragment b.program.sig f
-    by None d true k = asked_built b.program.sig f (at_place (IsFragment b.program.sig) b.asked is.askable.fragments i f k)
-    by None d false k = absurd (cc k)
-    by (Some q) d w k =
+    numbered : (o : Option Membership) → membership_numbered b.program e ≡ o → IfSome o (λ m. (at : ℕ) × (slice_get b.program.memberships at ≡ Some m))
+    numbered None q = tt
+    numbered (Some m) q = which (nat_lt (suc (length b.program.equations)) e) q
+      where
+        which : (w : Bool) → (if w then slice_get b.program.memberships (e - suc (suc (length b.program.equations))) else None) ≡ Some m → (at : ℕ) × (slice_get b.program.memberships at ≡ Some m)
+        which true k = (e - suc (suc (length b.program.equations)), k)
+        which false k = absurd (cc k)
+
+    of_member : (o : Option Membership) → IfSome o (λ m. (at : ℕ) × (slice_get b.program.memberships at ≡ Some m)) → slice_get (cond_of o) i ≡ Some f → IsBuiltFragment b.program.sig f
+    of_member None there k = absurd (cc k)
+    of_member (Some m) there k =
         lawful_built b.program.sig f
-        (at_place (IsLawfulFragment b.program.sig) q.cond (at_place (IsLawfulEquation b.program.sig) b.program.equations is.lawful.equations e q d).parts.condition i f k)
+        (at_place (IsLawfulFragment b.program.sig) m.cond (at_place (IsLawfulMembership b.program.sig) b.program.memberships is.lawful.memberships there.0 m there.1).parts.condition i f k)
+
+    by : (o : Option Equation) → slice_get b.program.equations e ≡ o → (w : Bool) (q : Option Membership) → ((z : Option Membership) → membership_numbered b.program e ≡ z → IfSome z (λ m. (at : ℕ) × (slice_get b.program.memberships at ≡ Some m))) →
+        slice_get (written_in (if w then b.asked else cond_of (membership_numbered b.program e)) o) i ≡ Some f → IsBuiltFragment b.program.sig f
+    by None d true q there k = asked_built b.program.sig f (at_place (IsFragment b.program.sig) b.asked is.askable.fragments i f k)
+    by None d false q there k = of_member (membership_numbered b.program e) (there (membership_numbered b.program e) refl) k
+    by (Some x) d w q there k =
+        lawful_built b.program.sig f
+        (at_place (IsLawfulFragment b.program.sig) x.cond (at_place (IsLawfulEquation b.program.sig) b.program.equations is.lawful.equations e x d).parts.condition i f k)
 
 -- what it asks
 module _ (b : Basis) (e i : ℕ) where
@@ -203,17 +275,16 @@ module _ (b : Basis) (e i : ℕ) where
   pub sort_over : IsBasis b → (r : ℕ) → sort_written here ≡ Some r → IsSort b.program.sig.hierarchy r
   sort_over is r h = let t = sort_at r h in (fragment_built b is e i (Sort t.0 r) t.1).1
 
--- ---- the condition that is asked
+-- ---- behind the conditions of equations
 
-pub asked_there : (p : Typed.Program) (asked : List Written.Fragment) (e i : ℕ) → slice_get p.equations e ≡ None → e ≡ suc (length p.equations) → slice_get (written_by p asked e) i ≡ slice_get asked i
-asked_there p asked e i none is =
-    ap (λ (o : Option Equation). slice_get (written_in (if e == suc (length p.equations) then asked else []) o) i) none
-    ∙ ap (λ (w : Bool). slice_get (if w then asked else []) i) (eq-eqb e (suc (length p.equations)) is)
+pub asked_there : (p : Typed.Program) (asked : List Written.Fragment) (e : ℕ) → e ≡ suc (length p.equations) → other_by p asked e ≡ asked
+asked_there p asked e is = ap (λ (w : Bool). if w then asked else cond_of (membership_numbered p e)) (eq-eqb e (suc (length p.equations)) is)
 
-pub asked_not : (p : Typed.Program) (asked : List Written.Fragment) (e i : ℕ) → slice_get p.equations e ≡ None → (e ≡ suc (length p.equations) → ⊥) → slice_get (written_by p asked e) i ≡ None
-asked_not p asked e i none not_it =
-    ap (λ (o : Option Equation). slice_get (written_in (if e == suc (length p.equations) then asked else []) o) i) none ∙ by (e == suc (length p.equations)) refl
+pub member_there : (p : Typed.Program) (asked : List Written.Fragment) (e : ℕ) → suc (length p.equations) < e → other_by p asked e ≡ cond_of (slice_get p.memberships (e - suc (suc (length p.equations))))
+member_there p asked e low =
+    ap (λ (w : Bool). if w then asked else cond_of (membership_numbered p e)) (by (e == suc (length p.equations)) refl)
+    ∙ ap (λ (w : Bool). cond_of (if w then slice_get p.memberships (e - suc (suc (length p.equations))) else None)) (lt-ltb (suc (length p.equations)) e low)
   where
-    by : (w : Bool) → (e == suc (length p.equations)) ≡ w → slice_get (if w then asked else []) i ≡ None
-    by true q = absurd (not_it (eqb-true e (suc (length p.equations)) q))
+    by : (w : Bool) → (e == suc (length p.equations)) ≡ w → w ≡ false
     by false q = refl
+    by true q = let k : e ≡ suc (length p.equations) = eqb-true e (suc (length p.equations)) q in absurd (omega (arith, k, low))

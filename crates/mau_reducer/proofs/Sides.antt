@@ -4,7 +4,6 @@ use Rattle.std.specs.Prelude.{IsTrue}
 use Rattle.mau_terms.specs.Tree.{Tree}
 use Rattle.mau_terms.specs.Norm.{norm}
 use Rattle.mau_terms.specs.Bare.{IsLawful}
-use Rattle.mau_terms.specs.Finite.{IsIn as IsAmong}
 use Rattle.mau_terms.specs.Subst.{instance}
 use Rattle.mau_terms.specs.View.{tree_of}
 use Rattle.mau_terms.specs.declared.bare.Bare.{Bare}
@@ -17,19 +16,21 @@ use Rattle.mau_store.proofs.Numbers.{one_number}
 use Rattle.mau_sorts.specs.SortSets.{SortsOf, IsIn}
 use Rattle.mau_sorts.specs.Table.{Table, entry_at, IsSettled}
 use Rattle.mau_listing.specs.Asked.{HasEntry}
-use Rattle.mau_evaluation.specs.Program.{Program, Membership}
-use Rattle.mau_evaluation.specs.Evaluation.{look_up, has_number, admit, eval}
+use Rattle.mau_evaluation.specs.Program.{Program}
+use Rattle.mau_evaluation.specs.Evaluation.{look_up, has_number, levels, admit, eval}
 use Rattle.mau_api.specs.Programs.{program_over}
 use Rattle.mau_api.specs.declared.results.EvalEnd.{EvalEnd}
 use Rattle.mau_reduce.specs.declared.binding.Binding.{Binding as Kept}
 use Rattle.mau_reduce.specs.Bindings.{bound_in}
 use Rattle.mau_reduce.specs.Ends as Reduced
 use Rattle.mau_reduce.specs.Kinds.{IsTermIn}
-use Rattle.mau_reduce.specs.Tables.{IsPlainTable}
 use Rattle.mau_reduce.proofs.LaterStores.{bound_grown}
 use Rattle.mau_reduce.proofs.MadeOf.{same_value, refused_value}
-use Rattle.mau_reduce.proofs.PlainSorts.{plain_sorts, sorts_known, plain_exact}
-use Rattle.mau_reduce.proofs.PlainTables.{term_over}
+use Rattle.mau_reduce.proofs.PlainSorts.{plain_sorts, sorts_known}
+use Rattle.mau_reduce.proofs.Comes.{known_comes}
+use Rattle.mau_settling.proofs.Entries.{entries_are_known}
+use Rattle.mau_reducer.proofs.Leading.{leads_of}
+use Rattle.mau_reducer.specs.States.{IsOwnTable}
 use Rattle.mau_machine.specs.Words as Ends
 use Rattle.mau_machine.specs.Words.{side_by, sort_in, rest_of, side_of, IsSorted}
 use Rattle.mau_reducer.specs.Basis.{Basis, IsBasis}
@@ -90,16 +91,9 @@ entry_there : (o : Option SortsOf) → is_some o ≡ true → (x : SortsOf) × (
 entry_there None h = absurd (cc h)
 entry_there (Some x) h = (x, refl)
 
-module _ (b : Basis) (basis : IsBasis b) (nodes : List Node) (table : Table) (plain : IsPlainTable b.program.sig nodes table) (are : AreNodes nodes) (v : ℕ) (h : IsKnownValue b.program.sig nodes table v) where
+module _ (b : Basis) (basis : IsBasis b) (nodes : List Node) (table : Table) (derived : IsOwnTable b nodes table) (are : AreNodes nodes) (v : ℕ) (h : IsKnownValue b.program.sig nodes table v) where
   abbrev Q : Program
   Q = program_over b.program b.hooks
-
-  none : (m : Membership) → IsAmong m Q.memberships → m.exec ≡ false
-  none m i = by m.exec refl
-    where
-      by : (x : Bool) → m.exec ≡ x → m.exec ≡ false
-      by false e = e
-      by true e = absurd (basis.reducible.derives_nothing m i e)
 
   -- its sorts are settled
   pub value_settled : IsSettled table v
@@ -109,15 +103,15 @@ module _ (b : Basis) (basis : IsBasis b) (nodes : List Node) (table : Table) (pl
 
   module _ (e i r : ℕ) (is : sort_in (rest_of (rules_of b) e i) ≡ r) (has : Bool) (found : (x : SortsOf) → entry_at table v ≡ Some x → IsTrue has ↔ IsIn b.program.sig.hierarchy x r) where
     pub sort_tested : IsSorted (rules_of b) e i (tree_at nodes v) has
-    sort_tested = λ k n.
+    sort_tested =
         let t = tree_at nodes v in
         let x = entry_there (entry_at table v) value_settled in
-        let own = plain_exact b.program b.hooks basis.reducible.accepted none t (term_over b.program.sig basis.reducible.lawful nodes v h.known.term) r in
-        let kept = (plain.entries v x.0 x.1).1.exact r in
-        let test = found x.0 x.1 in (
-          plain_sorts Q none t,
-          sorts_known Q none b.limit k t n,
-          ap (has_number (plain_sorts Q none t)) is ∙ same_test (has_number (plain_sorts Q none t) r) has (λ d. test.1 (kept.1 (own.0 d))) (λ d. own.1 (kept.0 (test.0 d))),
+        let own = entries_are_known b.program b.hooks b.limit false nodes table derived v x.0 x.1 (h.known.term.within.normal, h.known.term.bare) in
+        let test = found x.0 x.1 in
+        let kept = own.2 r in (
+          own.0,
+          leads_of (known_comes Q (λ k. (levels Q b.limit k).sorts t) own.0 own.1 (λ none. (plain_sorts Q none t, λ k n. sorts_known Q none b.limit k t n))),
+          ap (has_number own.0) is ∙ same_test (has_number own.0 r) has (λ d. test.1 (kept.1 d)) (λ d. kept.0 (test.0 d)),
         )
 
     pub sort_entered : has ≡ true → HasEntry b.program.sig nodes table (sort_in (rest_of (rules_of b) e i)) (tree_at nodes v)

@@ -1,8 +1,7 @@
 -- What the world's calls give, from what the calls of mau_reduce do.
-use Rattle.std.proofs.Common.{◌≡◌, ◌==◌, ◌<◌, ◌-◌, ℕ, zero, suc, inl, inr, fold, get_or, slice_get, arith, nat_eq, eqb-true, length, List, [], ◌∷◌, Bool, true, false, if◌then◌else◌, Option, Some, None, Result, Ok, Err, IfOk, IfErr, map, drop, refl, sym, ap, ap₂, ◌∙◌, subst}
+use Rattle.std.proofs.Common.{◌≡◌, ◌<◌, ◌-◌, ℕ, zero, suc, inl, inr, fold, get_or, slice_get, arith, nat_eq, eqb-true, length, List, [], ◌∷◌, Bool, true, false, if◌then◌else◌, Option, Some, None, Result, Ok, Err, IfOk, IfErr, map, drop, refl, sym, ap, ap₂, ◌∙◌, subst}
 use Rattle.mau_terms.specs.Tree.{Tree, variable, numeral, apply, Trees, no_trees, tree}
 use Rattle.mau_terms.specs.Bare.{IsLawful}
-use Rattle.mau_terms.specs.Finite.{IsIn}
 use Rattle.mau_terms.specs.declared.ids.TermId.{TermId}
 use Rattle.mau_signature.specs.Signature.{SignatureOf, theory_at, terms_over}
 use Rattle.mau_formula.specs.Operator.{Operator}
@@ -19,20 +18,13 @@ use Rattle.mau_api.specs.declared.results.EvalEnd.TheVariants.{Stopped, TooDeep,
 use Rattle.mau_store.specs.Trees.{tree_at, trees_at}
 use Rattle.mau_store.specs.View.{numbers}
 use Rattle.mau_sorts.specs.Table.{Table}
-use Rattle.mau_sorts.proofs.Settling.{kept_same}
-use Rattle.mau_program.specs.declared.program.Program as Typed
-use Rattle.mau_evaluation.specs.Run.{Outcome, done}
-use Rattle.mau_evaluation.specs.Program.{Membership, Program}
-use Rattle.mau_evaluation.specs.Evaluation.{levels, settle}
-use Rattle.mau_api.specs.Programs.{program_over, fragment_of}
+use Rattle.mau_evaluation.specs.Run.{Outcome}
+use Rattle.mau_evaluation.specs.Program.{Program}
+use Rattle.mau_api.specs.Programs.{fragment_of}
 use Rattle.mau_reduce.specs.Kinds.{IsTermIn, AreUnder}
-use Rattle.mau_reduce.specs.Reducible.{IsReducible}
-use Rattle.mau_reduce.specs.Tables.{IsPlainTable}
 use Rattle.mau_reduce.proofs.KindsKept.{trees_kept, term_kept}
 use Rattle.mau_evaluation.specs.Listing.{kind_at}
 use Rattle.mau_reducer.specs.KnownHandles.{term_kind, is_term}
-use Rattle.mau_reduce.proofs.PlainTables.{plain_grown}
-use Rattle.mau_reduce.proofs.PlainSorts.{plain_sorts, settle_known}
 use Rattle.std.proofs.lemmas.List.{get_or_default}
 use Rattle.std.proofs.lemmas.Option.{slice_get_past}
 use Rattle.mau_terms.specs.Subst.{Variable, same_variable, value_at, instance, instances, variables}
@@ -66,10 +58,9 @@ use Rattle.mau_reduce.specs.Lasts.{IsLast}
 use Rattle.mau_reduce.specs.Steps.{equation_variables_of, equation_variables, IsEquationStep, IsBuiltInStep}
 use Rattle.mau_reduce.proofs.AllBound.{bound_are_all}
 use Rattle.mau_reducer.specs.Basis.{Basis, IsBasis, AreBuiltIns}
-use Rattle.mau_reducer.specs.Handles.{written_in, written_at, first_in, first_at, rules_of, IsKnownTerm, IsKnownBinding}
+use Rattle.mau_reducer.specs.Handles.{written_in, other_by, written_at, first_in, first_other, first_at, rules_of, IsKnownTerm, IsKnownBinding}
 use Rattle.mau_reducer.specs.Fragments.{all_taken, rest_is}
-use Rattle.mau_reducer.proofs.Conditions.{at_place, not_asked}
-use Rattle.mau_reducer.specs.States.{ComesOf}
+use Rattle.mau_reducer.proofs.Conditions.{at_place, no_other, no_first}
 use Rattle.mau_reducer.specs.LaterStates.{numbers_mapped}
 
 -- ---- operands
@@ -80,26 +71,6 @@ trees_of_ids nodes ts = numbers_mapped (tree_at nodes) ts
 
 pub trees_now : (s : SignatureOf) (old new : List Node) → Extends old new → (f : ℕ) (ts : List TermId) → AreUnder s old f (numbers ts) → trees_at old (numbers ts) ≡ map (λ t. tree_at new t.0) ts
 trees_now s old new x f ts under = sym (trees_kept (theory_at s) old new (numbers ts) x under.within) ∙ trees_of_ids new ts
-
--- ---- states
-
--- where the store alone has grown
-pub store_grown : (b : Basis) (old new : List Node) (table : Table) → Extends old new → IsPlainTable b.program.sig old table → ComesOf b b old new table table
-store_grown b old new table x plain = record { basis = refl; extends = x; kept = kept_same table; plain = plain_grown b.program.sig old new table x plain }
-
--- ---- sorts
-
--- they are known, on each level
-pub sorts_settled : (p : Typed.Program) (hooks : List Operator) → IsReducible p → (B k : ℕ) (t : Tree) (b : ℕ) →
-    (ss : List ℕ) × (settle (program_over p hooks) (levels (program_over p hooks) B k) (levels (program_over p hooks) B (suc k)).sorts t b ≡ done ss 0 b)
-sorts_settled p hooks red B k t b = (plain_sorts (program_over p hooks) none t, settle_known (program_over p hooks) none B k t b)
-  where
-    none : (m : Membership) → IsIn m (program_over p hooks).memberships → m.exec ≡ false
-    none m i = by m.exec refl
-      where
-        by : (x : Bool) → m.exec ≡ x → m.exec ≡ false
-        by false e = e
-        by true e = absurd (red.derives_nothing m i e)
 
 -- ---- ends
 
@@ -150,8 +121,8 @@ one_equation b is e q at exec =
 abbrev pub bound_at_end : Basis → ℕ → List Variable
 bound_at_end b e = fold bound_behind (first_at b e) (written_at b e)
 
-abbrev ended : Basis → Bool → Option Equation → List Variable
-ended b w o = fold bound_behind (first_in (if w then b.asked_under else []) o) (written_in (if w then b.asked else []) o)
+abbrev ended : List Variable → List Fragment → Option Equation → List Variable
+ended xs fs o = fold bound_behind (first_in xs o) (written_in fs o)
 
 pub variables_are : (b : Basis) → IsBasis b → (nodes : List Node) (t : Tree) (e : ℕ) (given : Given) (last : Option Found) → IsLast b.program nodes t e given last → bound_at_end b e ≡ equation_variables b.program e
 variables_are b is nodes t e given last h = by given last h
@@ -159,10 +130,11 @@ variables_are b is nodes t e given last h = by given last h
     behind : e ≡ length b.program.equations → bound_at_end b e ≡ equation_variables b.program e
     behind d =
         let none : slice_get b.program.equations e ≡ None = ap (slice_get b.program.equations) d ∙ slice_get_past b.program.equations (length b.program.equations) (omega arith) in
-        ap₂ (ended b) (not_asked (length b.program.equations) e (omega (arith, d))) none ∙ sym (ap equation_variables_of none)
+        ap (ended (first_other b e) (other_by b.program b.asked e)) none
+        ∙ (ap₂ (fold bound_behind) (no_first b e (omega (arith, d))) (no_other b.program b.asked e (omega (arith, d))) ∙ sym (ap equation_variables_of none))
 
     by : (given : Given) (last : Option Found) → IsLast b.program nodes t e given last → bound_at_end b e ≡ equation_variables b.program e
-    by Giving.Nothing (Some y) k = ap (ended b (e == suc (length b.program.equations))) k.1.at ∙ (sym (one_equation b is e k.1.equation k.1.at k.1.exec) ∙ sym (ap equation_variables_of k.1.at))
+    by Giving.Nothing (Some y) k = ap (ended (first_other b e) (other_by b.program b.asked e)) k.1.at ∙ (sym (one_equation b is e k.1.equation k.1.at k.1.exec) ∙ sym (ap equation_variables_of k.1.at))
     by Giving.Nothing None k = absurd k
     by Giving.TooLarge last k = absurd k
     by (Giving.Argument j) last k = behind k
@@ -216,8 +188,9 @@ use_of b is P nodes u e given last h xs vs are t v x equation built = by given l
     of_built d s =
         inr (record {
           operator = s.operator;
-          condition = ap₂ (λ (w : Bool) (o : Option Equation). written_in (if w then b.asked else []) o) (not_asked (length b.program.equations) e (omega (arith, d)))
-              (ap (slice_get b.program.equations) d ∙ slice_get_past b.program.equations (length b.program.equations) (omega arith));
+          condition =
+              ap (written_in (other_by b.program b.asked e)) (ap (slice_get b.program.equations) d ∙ slice_get_past b.program.equations (length b.program.equations) (omega arith))
+              ∙ no_other b.program b.asked e (omega (arith, d));
           statement = s.statement;
           built = s.built;
           leads = s.leads;
@@ -228,7 +201,7 @@ use_of b is P nodes u e given last h xs vs are t v x equation built = by given l
     by Giving.Nothing (Some y) k equation built =
         let s = equation (λ z. z) in
         let named : xs ≡ statement_variables (tree_of s.equation.left) s.equation.cond (tree_of s.equation.right) = are ∙ ap equation_variables_of s.at in
-        let cond : written_at b e ≡ s.equation.cond = ap (written_in (if e == suc (length b.program.equations) then b.asked else [])) s.at in
+        let cond : written_at b e ≡ s.equation.cond = ap (written_in (other_by b.program b.asked e)) s.at in
         inl (record {
           number = suc e;
           equation = s.equation;

@@ -1,10 +1,11 @@
 -- What the handles of a program's world stand for over the nodes of a store, and which of them are known.
-use Rattle.std.specs.Prelude.{◌≡◌, ◌==◌, ℕ, suc, length, List, [], map, drop, take, fold, Bool, true, Option, Some, None, IfSome, slice_get, refl, if◌then◌else◌}
+use Rattle.std.specs.Prelude.{◌≡◌, ◌==◌, ◌+◌, ◌-◌, nat_lt, ℕ, suc, length, List, [], map, drop, take, fold, Bool, true, Option, Some, None, IfSome, slice_get, refl, if◌then◌else◌}
 use Rattle.std.specs.Option.{option_map}
 use Rattle.mau_terms.specs.Bare.{IsLawful}
 use Rattle.mau_terms.specs.Solution.{HaveSorts}
 use Rattle.mau_terms.specs.Subst.{Variable, variables}
 use Rattle.mau_terms.specs.declared.bare.Bare.{Bare}
+use Rattle.mau_terms.specs.declared.ids.VarId.{VarId}
 use Rattle.mau_terms.specs.View.{tree_of, variable_of}
 use Rattle.mau_signature.specs.Signature.{SignatureOf, terms_over}
 use Rattle.mau_store.specs.Node.{Node}
@@ -18,8 +19,9 @@ use Rattle.mau_program.specs.declared.program.Program as Typed
 use Rattle.mau_program.specs.declared.statements.Fragment as Written
 use Rattle.mau_program.specs.declared.statements.Fragment.TheVariants.{Equal, Match, Sort, Reach}
 use Rattle.mau_program.specs.declared.statements.Equation.{Equation}
+use Rattle.mau_program.specs.declared.statements.Membership.{Membership}
 use Rattle.mau_program.specs.Binding.{bound_behind, are_bound}
-use Rattle.mau_evaluation.specs.Evaluation.{levels}
+use Rattle.mau_evaluation.specs.Evaluation.{Binding as Bound, levels}
 use Rattle.mau_api.specs.Programs.{program_over, fragment_of}
 use Rattle.mau_api.specs.Terms.{IsTerm}
 use Rattle.mau_api.specs.Answers.{AreSettled, binding_in}
@@ -37,30 +39,53 @@ use Rattle.mau_machine.specs.declared.goal.Goal.TheVariants.{Nothing, Equality, 
 use Rattle.mau_machine.specs.Words.{Rules, Words, Asks, rest_of, pattern_in}
 use Rattle.mau_reducer.specs.declared.reducer.Candidates.{Candidates}
 use Rattle.mau_choices.specs.declared.choices.Choices.{Choices}
+use Rattle.mau_settling.specs.Settlings.{IsSettling, DerivesCurrent}
+use Rattle.mau_settling.specs.Settlings as Asking
+use Rattle.mau_settling.specs.declared.settling.Settling.{Settling}
 use Rattle.mau_choices.specs.Choosing.{left_of_choices, IsChoosing}
 use Rattle.mau_reducer.specs.Basis.{Basis}
 
--- ---- conditions by the numbers of their equations
+-- ---- conditions by their numbers
 
+-- Those of equations have their numbers. Behind them stands one that is empty, which is that of what a built-in gives; then comes the one that is asked, and
+-- then those of memberships.
 abbrev pub written_in : List Written.Fragment → Option Equation → List Written.Fragment
 written_in other (Some e) = e.cond
 written_in other None = other
 
--- the condition of the equation with a number, as it is written. Behind all equations stand two more: what a built-in gives has none, and then comes the one
--- that is asked
+-- the membership whose condition has a number
+abbrev pub membership_numbered : Typed.Program → ℕ → Option Membership
+membership_numbered p e = if nat_lt (suc (length p.equations)) e then slice_get p.memberships (e - suc (suc (length p.equations))) else None
+
+abbrev pub cond_of : Option Membership → List Written.Fragment
+cond_of (Some m) = m.cond
+cond_of None = []
+
+-- the condition behind those of equations that has a number, as it is written
+abbrev pub other_by : Typed.Program → List Written.Fragment → ℕ → List Written.Fragment
+other_by p asked e = if e == suc (length p.equations) then asked else cond_of (membership_numbered p e)
+
+-- the condition that has a number, as it is written
 abbrev pub written_by : Typed.Program → List Written.Fragment → ℕ → List Written.Fragment
-written_by p asked e = written_in (if e == suc (length p.equations) then asked else []) (slice_get p.equations e)
+written_by p asked e = written_in (other_by p asked e) (slice_get p.equations e)
 
 abbrev pub written_at : Basis → ℕ → List Written.Fragment
 written_at b e = written_by b.program b.asked e
 
--- the variables that have values before it: those of the left side
+-- the variables that have values before it: those of the left side, or of the head
 abbrev pub first_in : List Variable → Option Equation → List Variable
 first_in other (Some e) = variables (tree_of e.left)
 first_in other None = other
 
+abbrev pub variables_of_head : Option Membership → List Variable
+variables_of_head (Some m) = variables (tree_of m.left)
+variables_of_head None = []
+
+abbrev pub first_other : Basis → ℕ → List Variable
+first_other b e = if e == suc (length b.program.equations) then b.asked_under else variables_of_head (membership_numbered b.program e)
+
 abbrev pub first_at : Basis → ℕ → List Variable
-first_at b e = first_in (if e == suc (length b.program.equations) then b.asked_under else []) (slice_get b.program.equations e)
+first_at b e = first_in (first_other b e) (slice_get b.program.equations e)
 
 -- the variables that are bound before its fragment with the number i, counted from 0: those that have values before it, and then those that are matched
 abbrev pub bound_before : Basis → ℕ → ℕ → List Variable
@@ -143,6 +168,23 @@ pub record IsKnownBinding (b : Basis) (nodes : List Node) (table : Table) (e i :
   pub sorts : HaveSorts (HasEntry b.program.sig nodes table) (map variable_of σ.variables.items) (trees_at nodes (numbers σ.values.items))
   pub bound : AreBoundFrom b e i
 
+-- the sorts of the term t are being settled
+pub record IsKnownSettling (b : Basis) (nodes : List Node) (table : Table) (t : ℕ) (d : Settling) : Type 0 where
+  pub own : d.term.0 ≡ t
+  pub settling : IsSettling b.program nodes table d
+  pub derives : DerivesCurrent b.program b.hooks b.limit nodes d
+
+-- and the condition e has to be solved next, that of a membership, where σ has the values of its variables
+pub record IsKnownAsking (b : Basis) (nodes : List Node) (table : Table) (t e : ℕ) (σ : Bound) (d : Settling) : Type 0 where
+  pub known : IsKnownSettling b nodes table t d
+  pub place : ℕ
+  pub question : List (VarId × TermId)
+  pub asks : Asking.Asks d place question
+  pub membership : Membership
+  pub there : slice_get b.program.memberships place ≡ Some membership
+  pub number : e ≡ suc (suc (length b.program.equations)) + place
+  pub values : σ ≡ binding_in nodes question
+
 -- c says whether the listings of equations have contexts; those of fragments have none
 module _ {L M : Type 0} (c : Bool) (asked : L → Asked) (given : L → Option Solution) (is_for : L → SignatureOf → Type 0)
     (asked_whole : M → Asked) (given_whole : M → Option Solution) (is_for_whole : M → SignatureOf → Type 0) (b : Basis) (nodes : List Node) (table : Table) where
@@ -170,7 +212,7 @@ module _ {L M : Type 0} (c : Bool) (asked : L → Asked) (given : L → Option S
     pub variables : map (λ y. variable_of y.0) x.binding ≡ bound_before b e i
     pub bound : AreBoundFrom b e i
 
-  abbrev pub words_of : Words (Candidates L) (Choices M) Binding
+  abbrev pub words_of : Words (Candidates L) (Choices M) Binding Settling
   words_of = record {
     rules = rules_of b;
     tree = tree_at nodes;
@@ -179,6 +221,8 @@ module _ {L M : Type 0} (c : Bool) (asked : L → Asked) (given : L → Option S
     knows_operands = AreKnownOperands b.program.sig nodes;
     bound = bound_in nodes;
     knows_binding = IsKnownBinding b nodes table;
+    knows_settling = IsKnownSettling b nodes table;
+    knows_asking = IsKnownAsking b nodes table;
     untried = λ a k. untried_by (program_over b.program b.hooks) b.limit k nodes (tree_at nodes a.term.0) a.attempts.value.given
         (option_map (λ x. (x.number, given x.listing)) a.attempts.value.tried) (drop a.attempts.value.next (order_for b.program (tree_at nodes a.term.0)));
     knows_attempts = AreKnownCandidates;

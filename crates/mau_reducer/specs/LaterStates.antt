@@ -1,12 +1,18 @@
 -- States that come of one another.
-use Rattle.std.proofs.Common.{◌≡◌, ℕ, suc, List, [], ◌∷◌, Bool, Option, Some, None, IfSome, map, drop, refl, sym, ap, ◌∙◌, subst}
+use Rattle.std.proofs.Common.{◌≡◌, ℕ, suc, List, [], ◌∷◌, Bool, true, false, Option, Some, None, IfSome, map, drop, refl, sym, ap, ◌∙◌, subst}
 use Rattle.std.specs.Option.{option_map}
 use Rattle.mau_terms.specs.Tree.{Tree}
 use Rattle.mau_terms.specs.declared.ids.TermId.{TermId}
 use Rattle.mau_terms.specs.Subst.{Variable}
 use Rattle.mau_terms.specs.Solution.{HaveSorts}
-use Rattle.mau_terms.specs.View.{variable_of}
+use Rattle.mau_terms.specs.View.{tree_of, variable_of}
+use Rattle.mau_terms.specs.Norm.{unit_tree}
 use Rattle.mau_api.specs.Answers.{AreSettled}
+use Rattle.mau_api.specs.Meanings.{meanings_by}
+use Rattle.mau_deriving.proofs.ListedAll.{sorted_same}
+use Rattle.mau_settling.specs.Beginning.{AreIdentitiesSettled}
+use Rattle.mau_settling.specs.declared.settling.Settling.{Settling}
+use Rattle.mau_settling.proofs.States.{settling_stays, deriving_stays, asked_sorted}
 use Rattle.mau_signature.specs.Signature.{SignatureOf, theory_at}
 use Rattle.mau_store.specs.Node.{Node, Extends}
 use Rattle.mau_store.specs.Trees.{tree_at, trees_at}
@@ -24,11 +30,10 @@ use Rattle.mau_evaluation.specs.Evaluation.{Binding, levels}
 use Rattle.mau_reduce.specs.declared.binding.Binding.{Binding as Kept}
 use Rattle.mau_reduce.specs.declared.trying.Tried.{Tried}
 use Rattle.mau_reduce.specs.Bindings.{bound_in}
-use Rattle.mau_reduce.specs.Tables.{IsPlainTable}
 use Rattle.mau_reduce.specs.Trying.{IsTried}
 use Rattle.mau_reduce.specs.ByTop.{order_for}
 use Rattle.mau_reduce.proofs.KindsKept.{is_term_kept, tree_kept, trees_kept, under_kept}
-use Rattle.mau_reduce.proofs.PlainTables.{plain_grown, identities_grown, settled_grown}
+use Rattle.mau_reduce.proofs.PlainTables.{tree_settled_grown, settled_grown, derived_extended}
 use Rattle.mau_reduce.specs.Attempting.{untried_by, makes_of}
 use Rattle.mau_reduce.specs.Giving.{IsGivenAt}
 use Rattle.mau_reduce.specs.Lasts.{IsLast}
@@ -38,38 +43,46 @@ use Rattle.mau_reducer.specs.declared.reducer.Candidates.{Candidates}
 use Rattle.mau_choices.specs.declared.choices.Choices.{Choices}
 use Rattle.mau_choices.proofs.Later.{value_same, binding_same, choosing_grown, left_same}
 use Rattle.mau_reducer.specs.Basis.{Basis}
-use Rattle.mau_reducer.specs.Handles.{rules_of, as_id, IsKnownTerm, IsKnownValue, AreKnownOperands, IsKnownBinding, AreKnownCandidates, IsKnownCandidate, AreKnownChoices, words_of}
-use Rattle.mau_reducer.specs.States.{IsFit, IsReady, ComesOf}
+use Rattle.mau_reducer.specs.Handles.{rules_of, as_id, IsKnownTerm, IsKnownValue, AreKnownOperands, IsKnownBinding, IsKnownSettling, IsKnownAsking, AreKnownCandidates, IsKnownCandidate, AreKnownChoices, words_of}
+use Rattle.mau_reducer.specs.States.{IsOwnTable, IsFit, ComesOf}
 
 -- ---- they are an order
 
-pub same_state : (b : Basis) (nodes : List Node) (table : Table) → IsPlainTable b.program.sig nodes table → ComesOf b b nodes nodes table table
-same_state b nodes table plain = record { basis = refl; extends = extension_is_preorder.reflexive nodes; kept = kept_same table; plain = plain }
+pub same_state : (b : Basis) (nodes : List Node) (table : Table) (begun : Bool) → IsFit b nodes table begun → ComesOf b b nodes nodes table table begun
+same_state b nodes table begun fit =
+    record { basis = refl; extends = extension_is_preorder.reflexive nodes; kept = kept_same table; derived = fit.derived; identities = fit.identities }
 
-pub later_state : (b c d : Basis) (nodes more most : List Node) (one two three : Table) → ComesOf b c nodes more one two → ComesOf c d more most two three → ComesOf b d nodes most one three
-later_state b c d nodes more most one two three h k = record {
+pub later_state : (b c d : Basis) (nodes more most : List Node) (one two three : Table) (begun last : Bool) → ComesOf b c nodes more one two begun → ComesOf c d more most two three last → ComesOf b d nodes most one three last
+later_state b c d nodes more most one two three begun last h k = record {
   basis = k.basis ∙ h.basis;
   extends = extension_is_preorder.transitive nodes more most h.extends k.extends;
   kept = kept_on one two three h.kept k.kept;
-  plain = subst (λ (x : Basis). IsPlainTable x.program.sig most three) h.basis k.plain;
+  derived = subst (λ (x : Basis). IsOwnTable x most three) h.basis k.derived;
+  identities = subst (λ (x : Basis). last ≡ true → AreIdentitiesSettled x.program.sig most three) h.basis k.identities;
 }
 
-pub ready_later : (b c : Basis) (nodes more : List Node) (one two : Table) → IsReady b nodes one → ComesOf b c nodes more one two → IsReady c more two
-ready_later b c nodes more one two ready h =
-    subst (λ (x : Basis). IsReady x more two) (sym h.basis)
-    (record { basis = ready.basis; plain = h.plain; identities = identities_grown b.program.sig nodes more one two h.extends h.kept ready.identities })
+pub fit_later : (b c : Basis) (nodes more : List Node) (one two : Table) (begun last : Bool) → IsFit b nodes one begun → ComesOf b c nodes more one two last → IsFit c more two last
+fit_later b c nodes more one two begun last fit h =
+    subst (λ (x : Basis). IsFit x more two last) (sym h.basis) (record { basis = fit.basis; derived = h.derived; identities = h.identities })
 
-pub fit_later : (b c : Basis) (nodes more : List Node) (one two : Table) (begun : Bool) → IsFit b nodes one begun → ComesOf b c nodes more one two → IsFit c more two begun
-fit_later b c nodes more one two begun fit h =
-    subst (λ (x : Basis). IsFit x more two begun) (sym h.basis)
-    (record { basis = fit.basis; plain = h.plain; identities = λ e. identities_grown b.program.sig nodes more one two h.extends h.kept (fit.identities e) })
+pub identities_grown : (s : SignatureOf) (old new : List Node) (before after : Table) → Extends old new → KeepsEntries before after → AreIdentitiesSettled s old before → AreIdentitiesSettled s new after
+identities_grown s old new before after x kept h = λ f i e. tree_settled_grown old new before after (unit_tree i) x kept (h f i e)
 
+-- where the store alone has grown
 pub fit_grown : (b : Basis) (old new : List Node) (table : Table) (begun : Bool) → Extends old new → IsFit b old table begun → IsFit b new table begun
 fit_grown b old new table begun x fit = record {
   basis = fit.basis;
-  plain = plain_grown b.program.sig old new table x fit.plain;
+  derived = derived_extended (meanings_by b.program b.hooks b.limit false) old new table x fit.derived;
   identities = λ e. identities_grown b.program.sig old new table table x (kept_same table) (fit.identities e);
 }
+
+-- where nothing is begun or ended, and the table is still an own one
+pub comes_with : (b : Basis) (old new : List Node) (before after : Table) (begun : Bool) → IsFit b old before begun → Extends old new → KeepsEntries before after → IsOwnTable b new after → ComesOf b b old new before after begun
+comes_with b old new before after begun fit x kept derived =
+    record { basis = refl; extends = x; kept = kept; derived = derived; identities = λ e. identities_grown b.program.sig old new before after x kept (fit.identities e) }
+
+pub store_grown : (b : Basis) (old new : List Node) (table : Table) (begun : Bool) → Extends old new → IsFit b old table begun → ComesOf b b old new table table begun
+store_grown b old new table begun x fit = comes_with b old new table table begun fit x (kept_same table) (fit_grown b old new table begun x fit).derived
 
 -- ---- what handles stand for stays the same
 
@@ -102,9 +115,9 @@ HaveSorts-then P Q h [] vs has = tt
 HaveSorts-then P Q h (x ∷ xs) [] has = absurd has
 HaveSorts-then P Q h (x ∷ xs) (v ∷ vs) has = (h x.1 v has.0, HaveSorts-then P Q h xs vs has.1)
 
-pub binding_later : (b : Basis) (old new : List Node) (before after : Table) → ComesOf b b old new before after → (e i : ℕ) (σ : Kept) → IsKnownBinding b old before e i σ →
+pub binding_later : (b : Basis) (old new : List Node) (before after : Table) (begun : Bool) → ComesOf b b old new before after begun → (e i : ℕ) (σ : Kept) → IsKnownBinding b old before e i σ →
     IsKnownBinding b new after e i σ × (bound_in new σ ≡ bound_in old σ)
-binding_later b old new before after h e i σ k =
+binding_later b old new before after begun h e i σ k =
     let same = trees_kept (theory_at b.program.sig) old new (numbers σ.values.items) h.extends k.values.within in (
       record {
         values = values_grown b.program old new h.extends σ k.values;
@@ -122,7 +135,7 @@ binding_later b old new before after h e i σ k =
 
 module _ {L M : Type 0} (c : Bool) (asked : L → Asked) (given : L → Option Solution) (is_for : L → SignatureOf → Type 0)
     (asked_whole : M → Asked) (given_whole : M → Option Solution) (is_for_whole : M → SignatureOf → Type 0) (b : Basis) (old new : List Node) (before after : Table)
-    (h : ComesOf b b old new before after) where
+    (begun : Bool) (h : ComesOf b b old new before after begun) where
   abbrev P : Program
   P = program_over b.program b.hooks
 
@@ -130,7 +143,7 @@ module _ {L M : Type 0} (c : Bool) (asked : L → Asked) (given : L → Option S
       IfSome o (λ x. IsTried c b.program old before t x.number (asked x.listing) (given x.listing) (is_for x.listing b.program.sig)) →
       IfSome o (λ x. IsTried c b.program new after t x.number (asked x.listing) (given x.listing) (is_for x.listing b.program.sig))
   tried_later t None k = tt
-  tried_later t (Some x) k = tried_grown c b.program old new before after t x.number (asked x.listing) (given x.listing) (is_for x.listing b.program.sig) h.extends h.kept h.plain.over k
+  tried_later t (Some x) k = tried_grown c b.program old new before after t x.number (asked x.listing) (given x.listing) (is_for x.listing b.program.sig) h.extends h.kept h.derived.over k
 
   last_ones : (t : TermId) (o : Option (Tried L)) →
       IfSome o (λ x. IsTried c b.program old before t x.number (asked x.listing) (given x.listing) (is_for x.listing b.program.sig)) →
@@ -186,7 +199,7 @@ module _ {L M : Type 0} (c : Bool) (asked : L → Asked) (given : L → Option S
   choices_known e i x k = record {
     asks = k.asks;
     choosing = choosing_grown b.program.sig old new before after (pattern_in (rest_of (rules_of b) e i)) x.binding x.value (asked_whole x.listing) (given_whole x.listing)
-        (is_for_whole x.listing b.program.sig) h.extends h.kept h.plain k.choosing;
+        (is_for_whole x.listing b.program.sig) h.extends h.kept h.derived.over k.choosing;
     variables = k.variables;
     bound = k.bound;
   }
@@ -197,7 +210,28 @@ module _ {L M : Type 0} (c : Bool) (asked : L → Asked) (given : L → Option S
   choices_same e i x is k n =
       ap (λ r. r n)
       (left_same b.program.sig old new before after (pattern_in (rest_of (rules_of b) e i)) x.binding x.value (asked_whole x.listing) (given_whole x.listing) (is_for_whole x.listing b.program.sig)
-      h.extends h.kept h.plain is.choosing P (levels P b.limit k) (rest_of (rules_of b) e (suc i)))
+      h.extends h.kept h.derived.over is.choosing P (levels P b.limit k) (rest_of (rules_of b) e (suc i)))
+
+  settling_known : (t : ℕ) (d : Settling) → IsKnownSettling b old before t d → IsKnownSettling b new after t d
+  settling_known t d k = record {
+    own = k.own;
+    settling = settling_stays b.program old new h.extends before after h.kept h.derived.over h.derived.closed d k.settling;
+    derives = deriving_stays b.program b.hooks b.limit old new h.extends before d k.settling k.derives;
+  }
+
+  asking_known : (t e : ℕ) (σ : Binding) (d : Settling) → IsKnownAsking b old before t e σ d → IsKnownAsking b new after t e σ d
+  asking_known t e σ d k =
+      let sorted = asked_sorted b.program old before d k.known.settling k.place k.question k.asks k.membership k.there in
+      record {
+        known = settling_known t d k.known;
+        place = k.place;
+        question = k.question;
+        asks = k.asks;
+        membership = k.membership;
+        there = k.there;
+        number = k.number;
+        values = k.values ∙ sym (sorted_same b.program.sig old new before after h.extends h.kept (tree_of k.membership.left) k.question sorted);
+      }
 
   words_stay : Keeps (words_of c asked given is_for asked_whole given_whole is_for_whole b old before) (words_of c asked given is_for asked_whole given_whole is_for_whole b new after)
   words_stay = record {
@@ -205,20 +239,22 @@ module _ {L M : Type 0} (c : Bool) (asked : L → Asked) (given : L → Option S
     terms = term_later b.program.sig old new h.extends;
     values = value_later b.program.sig old new h.extends before after h.kept;
     operands = operands_later b.program.sig old new h.extends;
-    bindings = binding_later b old new before after h;
+    bindings = binding_later b old new before after begun h;
+    settlings = settling_known;
+    askings = asking_known;
     attempts = λ t a k. (candidates_known t a k, untried_same t a k);
     candidates = λ t e a k. (candidate_known t e a k, makes_same t e a k);
     choices = λ e i x k. (choices_known e i x k, choices_same e i x k);
     chosen = λ e i x k.
         let p = pattern_in (rest_of (rules_of b) e i) in (
-          binding_same b.program.sig old new before after p x.binding x.value (asked_whole x.listing) (given_whole x.listing) (is_for_whole x.listing b.program.sig) h.extends h.kept h.plain k.choosing,
-          value_same b.program.sig old new before after p x.binding x.value (asked_whole x.listing) (given_whole x.listing) (is_for_whole x.listing b.program.sig) h.extends h.kept h.plain k.choosing,
+          binding_same b.program.sig old new before after p x.binding x.value (asked_whole x.listing) (given_whole x.listing) (is_for_whole x.listing b.program.sig) h.extends h.kept h.derived.over k.choosing,
+          value_same b.program.sig old new before after p x.binding x.value (asked_whole x.listing) (given_whole x.listing) (is_for_whole x.listing b.program.sig) h.extends h.kept h.derived.over k.choosing,
         );
   }
 
 pub words_kept : {L M : Type 0} (c : Bool) (asked : L → Asked) (given : L → Option Solution) (is_for : L → SignatureOf → Type 0)
-    (asked_whole : M → Asked) (given_whole : M → Option Solution) (is_for_whole : M → SignatureOf → Type 0) (b d : Basis) (old new : List Node) (before after : Table) → ComesOf b d old new before after →
+    (asked_whole : M → Asked) (given_whole : M → Option Solution) (is_for_whole : M → SignatureOf → Type 0) (b d : Basis) (old new : List Node) (before after : Table) (begun : Bool) → ComesOf b d old new before after begun →
     Keeps (words_of c asked given is_for asked_whole given_whole is_for_whole b old before) (words_of c asked given is_for asked_whole given_whole is_for_whole d new after)
-words_kept c asked given is_for asked_whole given_whole is_for_whole b d old new before after h =
+words_kept c asked given is_for asked_whole given_whole is_for_whole b d old new before after begun h =
     subst (λ (x : Basis). Keeps (words_of c asked given is_for asked_whole given_whole is_for_whole b old before) (words_of c asked given is_for asked_whole given_whole is_for_whole x new after)) (sym h.basis)
-    (words_stay c asked given is_for asked_whole given_whole is_for_whole b old new before after (record { basis = refl; extends = h.extends; kept = h.kept; plain = h.plain }))
+    (words_stay c asked given is_for asked_whole given_whole is_for_whole b old new before after begun (record { basis = refl; extends = h.extends; kept = h.kept; derived = h.derived; identities = h.identities }))

@@ -19,6 +19,5 @@ pub mod Solutions
 pub mod KnownHandles
 pub mod Fragments
 pub mod LaterStates
-pub mod Flags
 pub mod MeantLaws
-pub mod DerivedTables
+pub mod Flags

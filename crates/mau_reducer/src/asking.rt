@@ -27,7 +27,7 @@ fn copies(alloc: Global, cond: &[Fragment]) -> Result<Vec<Fragment>, NoMemory>
 }
 
 /// Variables with their values, in two lists.
-fn values_of(alloc: Global, bound: &[(VarId, TermId)]) -> Result<Binding, NoMemory>
+pub(crate) fn values_of(alloc: Global, bound: &[(VarId, TermId)]) -> Result<Binding, NoMemory>
     ensures pairs { IfOk result (λ b. zip b.variables.items b.values.items ≡ bound.now) }
     ensures one_each { IfOk result (λ b. length b.variables.items ≡ length b.values.items) }
 {

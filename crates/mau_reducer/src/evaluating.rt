@@ -1,13 +1,12 @@
 //! A program and a store as an evaluator.
-ghost use Rattle.std.specs.Prelude.{◌≡◌, true, OnOk};
-ghost use Rattle.mau_store.specs.Node.{Extends};
+ghost use Rattle.std.specs.Prelude.{◌≡◌};
 ghost use Rattle.mau_api.specs.Answers.{levels_of_item, levels_of_condition};
 
 use crate::asking::as_pairs;
 use crate::reducer::Reducer;
 use mau_api::{EvalEnd, Evaluator, Fragment, Lister, Reduced, Solution, StepWatcher};
-use mau_listing::WholeLister;
-use mau_reduce::{Natives, settle, settle_identities};
+use mau_listing::{WholeLister, has_nodes};
+use mau_reduce::Natives;
 use mau_sorts::SortTable;
 use mau_store::Store;
 use mau_terms::{NoMemory, TermId, VarId};
@@ -26,37 +25,14 @@ pub(crate) fn levels_of_condition() -> u32
     1999
 }
 
-impl<'a, L: Lister + Drop, M: WholeLister + Drop, N: Natives + Drop> Reducer<'a, L, M, N> {
-    ghost use Rattle.mau_reducer.specs.Worlds.{basis_of};
-    ghost use Rattle.mau_reducer.specs.States.{IsFit, IsReady, ComesOf};
-
-    /// Settles the identities, if they are not settled yet.
-    pub(crate) fn begin(&mut self, store: &mut Store) -> Result<(), NoMemory>
-        requires fits { IsFit (basis_of N.operators self.old) store.old self.old.table self.old.begun }
-        ensures ready { OnOk result (IsReady (basis_of N.operators self.new) store.new self.new.table) }
-        ensures fits { IsFit (basis_of N.operators self.new) store.new self.new.table self.new.begun }
-        ensures comes { ComesOf (basis_of N.operators self.old)
-            (basis_of N.operators self.new) store.old store.new self.old.table self.new.table }
-        ensures same { self.new.program ≡ self.old.program }
-    {
-        if self.begun {
-            return Ok(());
-        }
-        settle_identities(store, &self.program.sig, &mut self.table)?;
-        self.begun = true;
-        Ok(())
-    }
-}
-
 impl<'a, L: Lister + Drop, M: WholeLister + Drop, N: Natives + Drop> Evaluator
     for Reducer<'a, L, M, N> {
     ghost use Rattle.std.specs.Prelude.{true};
     ghost use Rattle.mau_reducer.specs.Worlds.{basis_of};
     ghost use Rattle.mau_reducer.specs.Meant.{meanings_of};
     ghost use Rattle.mau_reducer.specs.States.{IsFit};
-    ghost use Rattle.mau_reducer.specs.MeantLaws.{are_meanings};
+    ghost use Rattle.mau_reducer.specs.MeantLaws.{are_meanings, derived_as_meant};
     ghost use Rattle.mau_reducer.specs.LaterStates.{fit_grown};
-    ghost use Rattle.mau_reducer.specs.DerivedTables.{derived_table};
 
     ghost meanings = { λ w. meanings_of (basis_of N.operators w) };
 
@@ -71,21 +47,16 @@ impl<'a, L: Lister + Drop, M: WholeLister + Drop, N: Natives + Drop> Evaluator
         budget: &mut u64,
         watcher: &mut W,
     ) -> Result<Reduced, EvalEnd> {
-        match self.begin(store) {
-            Ok(()) => {
-                let levels = levels_of_item();
-                mau_machine::evaluate(
-                    store.allocator(),
-                    self,
-                    store,
-                    term,
-                    levels,
-                    budget,
-                    watcher,
-                )
-            }
-            Err(NoMemory) => Err(EvalEnd::NoMemory),
-        }
+        let levels = levels_of_item();
+        mau_machine::evaluate(
+            store.allocator(),
+            self,
+            store,
+            term,
+            levels,
+            budget,
+            watcher,
+        )
     }
 
     fn solve<W: StepWatcher>(
@@ -105,38 +76,30 @@ impl<'a, L: Lister + Drop, M: WholeLister + Drop, N: Natives + Drop> Evaluator
                 }
                 Ok(None)
             }
-            None => match self.begin(store) {
-                Ok(()) => match self.ask(store.allocator(), cond, bound) {
-                    Ok(binding) => {
-                        let condition = self.program.equations.items().len() + 1;
-                        let levels = levels_of_condition();
-                        let solved = mau_machine::solve(
-                            store.allocator(),
-                            self,
-                            store,
-                            condition,
-                            binding,
-                            levels,
-                            budget,
-                            watcher,
-                        );
-                        as_pairs(store.allocator(), solved)
-                    }
-                    Err(NoMemory) => Err(EvalEnd::NoMemory),
-                },
+            None => match self.ask(store.allocator(), cond, bound) {
+                Ok(binding) => {
+                    let condition = self.program.equations.items().len() + 1;
+                    let levels = levels_of_condition();
+                    let solved = mau_machine::solve(
+                        store.allocator(),
+                        self,
+                        store,
+                        condition,
+                        binding,
+                        levels,
+                        budget,
+                        watcher,
+                    );
+                    as_pairs(store.allocator(), solved)
+                }
                 Err(NoMemory) => Err(EvalEnd::NoMemory),
             },
         }
     }
 
     fn settle(&mut self, store: &mut Store, term: TermId) -> Result<(), EvalEnd> {
-        match self.begin(store) {
-            Ok(()) => match settle(store, &self.program.sig, &mut self.table, term) {
-                Ok(()) => Ok(()),
-                Err(NoMemory) => Err(EvalEnd::NoMemory),
-            },
-            Err(NoMemory) => Err(EvalEnd::NoMemory),
-        }
+        let levels = levels_of_condition();
+        mau_machine::settle(self, store, term, levels)
     }
 
     fn list<K: Lister>(
@@ -144,7 +107,9 @@ impl<'a, L: Lister + Drop, M: WholeLister + Drop, N: Natives + Drop> Evaluator
         store: &mut Store,
         listing: &mut K,
     ) -> Result<Option<Solution>, NoMemory> {
-        listing.next(store, &self.program.sig, &mut self.table)
+        let found = listing.next(store, &self.program.sig, &mut self.table);
+        has_nodes(store);
+        found
     }
 
     fn sorts(&self) -> &SortTable {
@@ -155,5 +120,5 @@ impl<'a, L: Lister + Drop, M: WholeLister + Drop, N: Natives + Drop> Evaluator
 
     ghost grows = { λ w old new x fit. (fit_grown (basis_of N.operators w) old new w.table w.begun x fit.0, fit.1) };
 
-    ghost derived = { λ w nodes fit. derived_table (basis_of N.operators w) fit.0.basis nodes w.table fit.0.plain };
+    ghost derived = { λ w nodes fit. derived_as_meant (basis_of N.operators w) nodes w.table fit.0.derived };
 }

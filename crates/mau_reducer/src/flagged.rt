@@ -4,7 +4,6 @@ ghost use Rattle.mau_store.specs.Node.{Node};
 ghost use Rattle.mau_program.specs.LawfulPrograms.{IsLawfulProgram};
 ghost use Rattle.mau_api.specs.Meanings.{meanings_by};
 ghost use Rattle.mau_built_ins.specs.NativeNumerals.{GivesNumerals};
-ghost use Rattle.mau_reducer.specs.Basis.{DerivesNothing};
 
 use crate::asking::as_pairs;
 use crate::evaluating::{levels_of_condition, levels_of_item};
@@ -36,7 +35,6 @@ impl<'a, L: Lister + Drop, M: WholeLister + Drop, N: Natives + Drop> Flagged<'a,
         remember: bool,
     ) -> Result<Flagged<'a, L, M, N>, NoMemory>
         requires lawful { IsLawfulProgram program.now }
-        requires derives_nothing { DerivesNothing program.now }
         requires numerals { All GivesNumerals (N.operators natives) }
         requires contexts { L.with_context ≡ true }
         ensures meanings { IfOk result (λ e. ⟦<Flagged<'a, L, M, N> as Evaluator>⟧.meanings e
@@ -58,10 +56,9 @@ impl<'a, L: Lister + Drop, M: WholeLister + Drop, N: Natives + Drop> Evaluator
     ghost use Rattle.mau_reducer.specs.Handles.{words_of};
     ghost use Rattle.mau_reducer.specs.Meant.{meanings_of};
     ghost use Rattle.mau_reducer.specs.States.{IsFit};
-    ghost use Rattle.mau_reducer.specs.MeantLaws.{are_meanings};
+    ghost use Rattle.mau_reducer.specs.MeantLaws.{are_meanings, derived_as_meant};
     ghost use Rattle.mau_reducer.specs.LaterStates.{fit_grown};
     ghost use Rattle.mau_reducer.specs.Flags.{flags_grown};
-    ghost use Rattle.mau_reducer.specs.DerivedTables.{derived_table};
 
     ghost meanings = { λ w. meanings_of (basis_of N.operators w.world.world) };
 
@@ -78,21 +75,16 @@ impl<'a, L: Lister + Drop, M: WholeLister + Drop, N: Natives + Drop> Evaluator
         budget: &mut u64,
         watcher: &mut W,
     ) -> Result<Reduced, EvalEnd> {
-        match self.world.world.begin(store) {
-            Ok(()) => {
-                let levels = levels_of_item();
-                mau_resting::evaluate(
-                    store.allocator(),
-                    &mut self.world,
-                    store,
-                    term,
-                    levels,
-                    budget,
-                    watcher,
-                )
-            }
-            Err(NoMemory) => Err(EvalEnd::NoMemory),
-        }
+        let levels = levels_of_item();
+        mau_resting::evaluate(
+            store.allocator(),
+            &mut self.world,
+            store,
+            term,
+            levels,
+            budget,
+            watcher,
+        )
     }
 
     fn solve<W: StepWatcher>(
@@ -109,32 +101,30 @@ impl<'a, L: Lister + Drop, M: WholeLister + Drop, N: Natives + Drop> Evaluator
                 .world
                 .world
                 .solve(store, cond, bound, last, budget, watcher),
-            None => match self.world.world.begin(store) {
-                Ok(()) => match self.world.world.ask(store.allocator(), cond, bound) {
-                    Ok(binding) => {
-                        let condition = self.world.world.program.equations.items().len() + 1;
-                        let levels = levels_of_condition();
-                        let solved = mau_resting::solve(
-                            store.allocator(),
-                            &mut self.world,
-                            store,
-                            condition,
-                            binding,
-                            levels,
-                            budget,
-                            watcher,
-                        );
-                        as_pairs(store.allocator(), solved)
-                    }
-                    Err(NoMemory) => Err(EvalEnd::NoMemory),
-                },
+            None => match self.world.world.ask(store.allocator(), cond, bound) {
+                Ok(binding) => {
+                    let condition = self.world.world.program.equations.items().len() + 1;
+                    let levels = levels_of_condition();
+                    let solved = mau_resting::solve(
+                        store.allocator(),
+                        &mut self.world,
+                        store,
+                        condition,
+                        binding,
+                        levels,
+                        budget,
+                        watcher,
+                    );
+                    as_pairs(store.allocator(), solved)
+                }
                 Err(NoMemory) => Err(EvalEnd::NoMemory),
             },
         }
     }
 
     fn settle(&mut self, store: &mut Store, term: TermId) -> Result<(), EvalEnd> {
-        self.world.world.settle(store, term)
+        let levels = levels_of_condition();
+        mau_resting::settle(&mut self.world, store, term, levels)
     }
 
     fn list<K: Lister>(
@@ -154,8 +144,8 @@ impl<'a, L: Lister + Drop, M: WholeLister + Drop, N: Natives + Drop> Evaluator
     ghost grows = { λ w old new x fit. (
       fit_grown (basis_of N.operators w.world.world) old new w.world.world.table w.world.world.begun x fit.0,
       fit.1,
-      flags_grown L.with_context L.asked L.given L.is_for M.asked M.given M.is_for (basis_of N.operators w.world.world) old new w.world.world.table x fit.0.plain w.world.levels.items fit.2,
+      flags_grown L.with_context L.asked L.given L.is_for M.asked M.given M.is_for (basis_of N.operators w.world.world) old new w.world.world.table w.world.world.begun x fit.0 w.world.levels.items fit.2,
     ) };
 
-    ghost derived = { λ w nodes fit. derived_table (basis_of N.operators w.world.world) fit.0.basis nodes w.world.world.table fit.0.plain };
+    ghost derived = { λ w nodes fit. derived_as_meant (basis_of N.operators w.world.world) nodes w.world.world.table fit.0.derived };
 }

@@ -1,13 +1,44 @@
 //! Fragments of conditions.
-ghost use Rattle.std.specs.Prelude.{◌≡◌, slice_get};
+ghost use Rattle.std.specs.Prelude.{◌≡◌, ◌+◌, ◌<◌, suc, length, slice_get};
 ghost use Rattle.std.specs.Option.{option_copied};
-ghost use Rattle.mau_reducer.specs.Handles.{written_by, side_written, pattern_written, sort_written};
+ghost use Rattle.mau_reducer.specs.Handles.{other_by, written_by, side_written, pattern_written, sort_written};
 
 use mau_api::{Fragment, Program};
 use mau_terms::Bare;
 
-/// The fragment at a place of the condition with a number, if there is one: of an equation's, or behind those and that of built-ins of
-/// the one that is asked.
+/// The number of the condition of the membership at a place.
+pub(crate) fn number_of_member(program: &Program, at: usize) -> usize
+    requires { at < length program.now.memberships }
+    ensures { result ≡ suc (suc (length program.now.equations)) + at }
+{
+    // What holds of a list is told with its length.
+    let _members = program.memberships.items().len();
+    program.equations.items().len() + 2 + at
+}
+
+/// The fragment at a place of a condition behind those of equations, if there is one: of the one that is asked, or of a membership's.
+fn other_at<'p>(
+    program: &'p Program,
+    asked: &'p Vec<Fragment>,
+    condition: usize,
+    at: usize,
+) -> Option<&'p Fragment>
+    ensures { option_copied result ≡ slice_get (other_by program.now asked.now.items condition) at }
+{
+    let equations = program.equations.items().len();
+    if condition == equations + 1 {
+        return asked.as_slice().get(at);
+    }
+    if condition > equations + 1 {
+        return match program.memberships.items().get(condition - (equations + 2)) {
+            Some(membership) => membership.cond.items().get(at),
+            None => None,
+        };
+    }
+    None
+}
+
+/// The fragment at a place of the condition with a number, if there is one: of an equation's, or of one behind those.
 pub(crate) fn fragment_at<'p>(
     program: &'p Program,
     asked: &'p Vec<Fragment>,
@@ -19,12 +50,7 @@ pub(crate) fn fragment_at<'p>(
     let equations = program.equations.items();
     match equations.get(condition) {
         Some(equation) => equation.cond.items().get(at),
-        None => {
-            if condition > equations.len() && condition - equations.len() == 1 {
-                return asked.as_slice().get(at);
-            }
-            None
-        }
+        None => other_at(program, asked, condition, at),
     }
 }
 

@@ -9,7 +9,7 @@ ghost use Rattle.mau_api.specs.Terms.{IsTerm};
 ghost use Rattle.mau_api.specs.Meanings.{meanings_by};
 ghost use Rattle.mau_reduce.specs.BuiltOperators.{IsBuiltAt};
 ghost use Rattle.mau_built_ins.specs.NativeNumerals.{GivesNumerals};
-ghost use Rattle.mau_reducer.specs.Basis.{DerivesNothing, AreBuiltIns};
+ghost use Rattle.mau_reducer.specs.Basis.{AreBuiltIns};
 
 use mau_api::{Evaluator, Fragment, Lister, Program};
 use mau_listing::WholeLister;
@@ -40,7 +40,7 @@ pub struct Reducer<'a, L, M, N> {
     pub(crate) asked: Vec<Fragment>,
     pub(crate) asked_under: Vec<VarId>,
     pub(crate) table: SortTable,
-    /// Whether the identities are settled.
+    /// Whether it is known that the identities are settled.
     pub(crate) begun: bool,
     of: PhantomData<L>,
     of_conditions: PhantomData<M>,
@@ -73,7 +73,6 @@ impl<'a, L: Lister + Drop, M: WholeLister + Drop, N: Natives + Drop> Reducer<'a,
         _remember: bool,
     ) -> Result<Reducer<'a, L, M, N>, NoMemory>
         requires lawful { IsLawfulProgram program.now }
-        requires derives_nothing { DerivesNothing program.now }
         requires numerals { All GivesNumerals (N.operators natives) }
         requires contexts { L.with_context ≡ true }
         ensures meanings { IfOk result (λ e. ⟦<Reducer<'a, L, M, N> as Evaluator>⟧.meanings e

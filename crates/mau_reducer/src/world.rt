@@ -4,16 +4,18 @@ ghost use Rattle.std.specs.List.{zip};
 ghost use Rattle.std.specs.Option.{option_copied, option_map};
 ghost use Rattle.mau_reducer.specs.Handles.{goal_in};
 
-use crate::fragments::{fragment_at, pattern_at, side_at, sort_at};
+use crate::asking::values_of;
+use crate::fragments::{fragment_at, number_of_member, pattern_at, side_at, sort_at};
 use crate::reducer::{Candidates, Reducer};
 use mau_api::{EvalEnd, Fragment, Lister, Step};
 use mau_choices::{Choices, begin_choices, next_choice};
 use mau_cond::Bound;
-use mau_listing::WholeLister;
+use mau_listing::{WholeLister, has_nodes};
 use mau_machine::{Goal, World};
 use mau_reduce::{
-    Binding, Natives, begin_attempts, instance, make, next_attempt, open, rebuild, settle, step,
+    Binding, Natives, begin_attempts, instance, make, next_attempt, open, rebuild, step,
 };
+use mau_settling::{Settling, begin_settling, settle_term};
 use mau_store::Store;
 use mau_terms::{NoMemory, OpId, TermId};
 
@@ -48,11 +50,11 @@ impl<'a, L: Lister + Drop, M: WholeLister + Drop, N: Natives + Drop> World
     for Reducer<'a, L, M, N> {
     ghost use Rattle.mau_reducer.specs.Worlds.{basis_of};
     ghost use Rattle.mau_reducer.specs.Handles.{words_of};
-    ghost use Rattle.mau_reducer.specs.States.{IsReady, ComesOf};
+    ghost use Rattle.mau_reducer.specs.States.{IsFit, ComesOf};
     ghost use Rattle.std.specs.Prelude.{refl, true};
     ghost use Rattle.mau_reducer.specs.KnownHandles.{operand_put, operand_known, normal_term};
     ghost use Rattle.mau_reducer.specs.Fragments.{passes_on, has_values_of};
-    ghost use Rattle.mau_reducer.specs.LaterStates.{same_state, later_state, ready_later, words_kept};
+    ghost use Rattle.mau_reducer.specs.LaterStates.{same_state, later_state, fit_later, words_kept};
 
     type Attempts = Candidates<L>;
 
@@ -60,15 +62,17 @@ impl<'a, L: Lister + Drop, M: WholeLister + Drop, N: Natives + Drop> World
 
     type Binding = Binding;
 
+    type Settling = Settling;
+
     ghost words = { λ w nodes. words_of L.with_context L.asked L.given L.is_for M.asked M.given M.is_for
         (basis_of N.operators w) nodes w.table };
 
     ghost table = { λ w. w.table };
 
-    ghost ready = { λ w nodes. IsReady (basis_of N.operators w) nodes w.table × (L.with_context ≡ true) };
+    ghost ready = { λ w nodes. IsFit (basis_of N.operators w) nodes w.table w.begun × (L.with_context ≡ true) };
 
     ghost grows = { λ w nodes v more. ComesOf (basis_of N.operators w)
-        (basis_of N.operators v) nodes more w.table v.table };
+        (basis_of N.operators v) nodes more w.table v.table v.begun };
 
     fn rests(&self, _: &Store, _: TermId, _: u32) -> bool {
         false
@@ -98,8 +102,43 @@ impl<'a, L: Lister + Drop, M: WholeLister + Drop, N: Natives + Drop> World
         }
     }
 
+    fn limit(&self) -> u64 {
+        self.limit
+    }
+
+    fn settling(&mut self, store: &mut Store, term: TermId) -> Result<Settling, NoMemory> {
+        if self.begun {
+            return settle_term(store, self.program, term);
+        }
+        begin_settling(store, self.program, term)
+    }
+
+    fn settle(
+        &mut self,
+        store: &mut Store,
+        _: TermId,
+        settling: &mut Settling,
+    ) -> Result<Option<(usize, Binding)>, NoMemory> {
+        let asks = settling.advance::<M>(store, self.program, &mut self.table)?;
+        has_nodes(store);
+        if asks {
+            return match settling.question() {
+                Some((at, question)) => {
+                    let binding = values_of(store.allocator(), question.items())?;
+                    Ok(Some((number_of_member(self.program, at), binding)))
+                }
+                None => unreachable!(),
+            };
+        }
+        self.begun = true;
+        Ok(None)
+    }
+
+    fn told(&self, _: &Store, _: TermId, _: usize, holds: bool, settling: &mut Settling) {
+        settling.told(holds);
+    }
+
     fn attempts(&mut self, store: &mut Store, term: TermId) -> Result<Candidates<L>, NoMemory> {
-        settle(store, &self.program.sig, &mut self.table, term)?;
         let built_in = self.built_in_at(store, term);
         let begun = begin_attempts(store, self.program, &self.natives, built_in, term);
         let attempts = Box::new(store.allocator(), begun)?;
@@ -259,18 +298,18 @@ impl<'a, L: Lister + Drop, M: WholeLister + Drop, N: Natives + Drop> World
 
     ghost extends = { λ w v nodes more h. (h.extends, h.kept) };
 
-    ghost stays = { λ w nodes r. same_state (basis_of N.operators w) nodes w.table r.0.plain };
+    ghost stays = { λ w nodes r. same_state (basis_of N.operators w) nodes w.table w.begun r.0 };
 
     ghost goes_on = { λ u v w nodes more most h k. later_state (basis_of N.operators u)
         (basis_of N.operators v)
-        (basis_of N.operators w) nodes more most u.table v.table w.table h k };
+        (basis_of N.operators w) nodes more most u.table v.table w.table v.begun w.begun h k };
 
     ghost begins = { λ u v nodes more r h. (
-      ready_later (basis_of N.operators u)
-          (basis_of N.operators v) nodes more u.table v.table r.0 h,
+      fit_later (basis_of N.operators u)
+          (basis_of N.operators v) nodes more u.table v.table u.begun v.begun r.0 h,
       r.1,
     ) };
 
     ghost keeps = { λ u v nodes more h. words_kept L.with_context L.asked L.given L.is_for M.asked M.given M.is_for (basis_of N.operators u)
-        (basis_of N.operators v) nodes more u.table v.table h };
+        (basis_of N.operators v) nodes more u.table v.table v.begun h };
 }

@@ -1,13 +1,12 @@
 -- What is built of the arguments of a term, in a state that comes of another.
-use Rattle.std.proofs.Common.{◌≡◌, ℕ, List, Bool, false, sym, ap, ◌∙◌, subst, map}
-use Rattle.mau_terms.specs.Tree.{Tree}
+use Rattle.std.proofs.Common.{◌≡◌, ℕ, List, false, ap, ◌∙◌, subst}
 use Rattle.mau_terms.specs.Norm.{build}
 use Rattle.mau_terms.specs.declared.ids.TermId.{TermId}
 use Rattle.mau_evaluation.specs.Run.{done}
 use Rattle.mau_evaluation.specs.Evaluation.{within_limits, top_changed}
 use Rattle.mau_machine.specs.Words.{Words, Rules, Keeps, trees}
 
-module _ {A C S : Type 0} (w w' : Words A C S) (keeps : Keeps w w') (t f : ℕ) (args : List TermId) (order : List ℕ) (value : w.knows_value t) (operands : w.knows_operands f args) where
+module _ {A C S D : Type 0} (w w' : Words A C S D) (keeps : Keeps w w') (t f : ℕ) (args : List TermId) (order : List ℕ) (value : w.knows_value t) (operands : w.knows_operands f args) where
   -- the term that was built is t itself, with the same top
   pub built_same : (same : ℕ) → same ≡ t →
       ((b : ℕ) → within_limits w'.rules.program.sign.theory (build (w'.rules.program.sign.theory f) f (trees w' args)) b ≡ done (w'.tree same) 0 b) →

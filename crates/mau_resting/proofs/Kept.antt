@@ -1,13 +1,12 @@
 -- Lists of levels: what is kept for terms.
-use Rattle.std.proofs.Common.{◌≡◌, ◌⊎◌, inl, inr, ℕ, zero, suc, ◌<◌, ◌≤◌, List, [], ◌∷◌, ◌++◌, set, get_or, take, length, Bool, true, ltb, Option, None, Some, IfSome, slice_get, refl, sym, subst, ap, arith}
+use Rattle.std.proofs.Common.{◌≡◌, ◌⊎◌, inl, inr, ℕ, zero, suc, ◌<◌, ◌≤◌, List, [], ◌∷◌, ◌++◌, set, get_or, take, length, true, ltb, Option, None, Some, IfSome, slice_get, refl, sym, subst, ap, arith}
 use Rattle.std.specs.Prelude.{SomeIff}
 use Rattle.std.proofs.lemmas.Bool.{ltb-true}
-use Rattle.mau_terms.specs.Tree.{Tree}
 use Rattle.mau_terms.specs.declared.ids.TermId.{TermId}
-use Rattle.mau_evaluation.specs.Run.{done}
-use Rattle.mau_machine.specs.Words.{Words, Keeps, eval_on}
+use Rattle.mau_machine.specs.Words.{Words, Keeps}
 use Rattle.mau_resting.specs.Rests.{RestsBy, AreResting, AreKnownBy}
 use Rattle.mau_resting.specs.Later.{resting_kept, rests_kept}
+use Rattle.mau_resting.proofs.Rested.{rests_more}
 
 -- ---- a place of a list
 
@@ -37,10 +36,9 @@ module _ (levels : List ℕ) (n m : ℕ) (more : n ≤ m) where
 -- ---- one term
 
 -- a number of levels that is kept is enough
-pub rests_at : {A C S : Type 0} (w : Words A C S) (levels : List ℕ) → AreResting w levels → (t known level : ℕ) → slice_get levels t ≡ Some known → (known ≡ 0 → ⊥) → known ≤ level →
-    w.knows_value t × ((b : ℕ) → eval_on w.rules level (w.tree t) b ≡ done (w.tree t) 0 b)
+pub rests_at : {A C S D : Type 0} (w : Words A C S D) (levels : List ℕ) → AreResting w levels → (t known level : ℕ) → slice_get levels t ≡ Some known → (known ≡ 0 → ⊥) → known ≤ level → w.knows_value t × RestsBy w level t
 rests_at w levels all t zero level at some h = absurd (some refl)
-rests_at w levels all t (suc n) level at some h = ((all t n at).0, λ b. (all t n at).1 level b h)
+rests_at w levels all t (suc n) level at some h = ((all t n at).0, rests_more w (suc n) level (w.tree t) h (all t n at).1)
 
 -- ---- one more
 
@@ -61,7 +59,7 @@ placed (x ∷ xs) (suc p) v (suc i) n e = by (placed xs p v i n e)
     by (inl h) = inl h
     by (inr h) = inr (ap suc h.0, h.1)
 
-pub marked : {A C S : Type 0} (w w' : Words A C S) → Keeps w w' → (old new : List ℕ) (t needed : ℕ) → AreResting w old → w.knows_value t → RestsBy w needed t →
+pub marked : {A C S D : Type 0} (w w' : Words A C S D) → Keeps w w' → (old new : List ℕ) (t needed : ℕ) → AreResting w old → w.knows_value t → RestsBy w needed t →
     ((i n : ℕ) → slice_get new i ≡ Some (suc n) → (slice_get old i ≡ Some (suc n)) ⊎ ((i ≡ t) × (suc n ≡ needed))) → AreResting w' new
 marked w w' keeps old new t needed all value rests put i n at = by (put i n at)
   where

@@ -1,16 +1,15 @@
 -- Terms that are their own values, and what is known of them.
-use Rattle.std.specs.Prelude.{◌≡◌, ◌≤◌, ℕ, zero, suc, List, [], ◌∷◌, Bool, true, Option, Some, slice_get}
+use Rattle.std.specs.Prelude.{◌≡◌, ◌+◌, ◌≤◌, ℕ, suc, List, [], ◌∷◌, true, Some, slice_get}
 use Rattle.mau_terms.specs.declared.ids.TermId.{TermId}
-use Rattle.mau_evaluation.specs.Run.{done}
-use Rattle.mau_machine.specs.Words.{Words, Rules, eval_on, IsUntried}
+use Rattle.mau_machine.specs.Words.{Words, IsKnownBy, eval_on, IsUntried}
 use Rattle.mau_resting.specs.declared.resting.Trying.{Trying}
 
--- by n levels and more the term t is its own value, and no application and no condition leads to it
-abbrev pub RestsBy : {A C S : Type 0} → Words A C S → ℕ → ℕ → Type 0
-RestsBy w n t = (k b : ℕ) → n ≤ k → eval_on w.rules k (w.tree t) b ≡ done (w.tree t) 0 b
+-- by n levels and more the term t is its own value, and no application leads to it; where sorts were derived it may be too deep by fewer levels than some number
+abbrev pub RestsBy : {A C S D : Type 0} → Words A C S D → ℕ → ℕ → Type 0
+RestsBy w n t = IsKnownBy w.rules.program (λ k. eval_on w.rules (n + k) (w.tree t)) (w.tree t)
 
 -- where a number of levels is kept for a term, that is so
-abbrev pub AreResting : {A C S : Type 0} → Words A C S → List ℕ → Type 0
+abbrev pub AreResting : {A C S D : Type 0} → Words A C S D → List ℕ → Type 0
 AreResting w levels = (i n : ℕ) → slice_get levels i ≡ Some (suc n) → w.knows_value i × RestsBy w (suc n) i
 
 -- for each of these terms a number of levels is kept, and none is greater than n
@@ -19,7 +18,7 @@ AreKnownBy levels n [] = Unit {0}
 AreKnownBy levels n (t ∷ ts) = ((m : ℕ) × (slice_get levels t.0 ≡ Some (suc m)) × (suc m ≤ n)) × AreKnownBy levels n ts
 
 -- what the handles of a world stand for, where candidates come with the word whether none was tried
-abbrev pub words_over : {A C S : Type 0} → Words A C S → Words (Trying A) C S
+abbrev pub words_over : {A C S D : Type 0} → Words A C S D → Words (Trying A) C S D
 words_over w = record {
   rules = w.rules;
   tree = w.tree;
@@ -28,6 +27,8 @@ words_over w = record {
   knows_operands = w.knows_operands;
   bound = w.bound;
   knows_binding = w.knows_binding;
+  knows_settling = w.knows_settling;
+  knows_asking = w.knows_asking;
   untried = λ a. w.untried a.attempts;
   knows_attempts = λ t a. w.knows_attempts t a.attempts × w.knows_value t × (a.untried ≡ true → IsUntried w (w.tree t) a.attempts);
   makes = λ a. w.makes a.attempts;

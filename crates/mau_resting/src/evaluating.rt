@@ -1,9 +1,9 @@
 //! The loop over a world that remembers which terms are their own values.
-ghost use Rattle.std.specs.Prelude.{◌≡◌, ◌≤◌, ℕ, true, false, Some, None, IfOk, IfErr, IfSome, IfNone};
-ghost use Rattle.mau_evaluation.specs.Run.{done};
+ghost use Rattle.std.specs.Prelude.{◌≡◌, ◌≤◌, ◌+◌, ℕ, true, false, Some, None, IfOk, IfErr, IfSome, IfNone, OnOk};
+ghost use Rattle.mau_evaluation.specs.Run.{done, counted_if};
 ghost use Rattle.mau_evaluation.specs.Evaluation.{look_up};
 ghost use Rattle.mau_api.specs.Told.{TellsEvaluation, TellsCondition, TellsMore};
-ghost use Rattle.mau_machine.specs.Words.{capped, IsEnd, eval_on, solve_on, kind_of, IsSolution};
+ghost use Rattle.mau_machine.specs.Words.{Comes, ComesToEnd, eval_on, solve_on, settle_on, kind_of, IsSolution};
 ghost use Rattle.mau_resting.specs.Rests.{AreResting};
 
 use crate::Resting;
@@ -26,10 +26,12 @@ pub fn evaluate<W: World + Drop, T: StepWatcher>(
     requires ready { W.ready resting.old.world store.old }
     requires resting { AreResting (W.words resting.old.world store.old) resting.old.levels.items }
     requires term { (W.words resting.old.world store.old).knows_term term.0 }
-    ensures value { IfOk result (λ x. capped (eval_on (W.words resting.old.world store.old).rules level
+    ensures value { IfOk result (λ x. Comes (W.words resting.old.world store.old).rules.program
+        (λ n. eval_on (W.words resting.old.world store.old).rules (level + n)
         ((W.words resting.old.world store.old).tree term.0) budget.old)
-        ≡ done ((W.words resting.new.world store.new).tree x.term.0) x.rewrites budget.new) }
-    ensures ends { IfErr result (IsEnd (eval_on (W.words resting.old.world store.old).rules level
+        (done ((W.words resting.new.world store.new).tree x.term.0) x.rewrites budget.new)) }
+    ensures ends { IfErr result (ComesToEnd (W.words resting.old.world store.old).rules.program
+        (λ n. eval_on (W.words resting.old.world store.old).rules (level + n)
         ((W.words resting.old.world store.old).tree term.0) budget.old)) }
     ensures known { IfOk result (λ x. (W.words resting.new.world store.new).knows_value x.term.0) }
     ensures kind { IfOk result (λ x. kind_of (W.words resting.new.world store.new) x.term.0
@@ -61,13 +63,15 @@ pub fn solve<W: World + Drop, T: StepWatcher>(
     requires ready { W.ready resting.old.world store.old }
     requires resting { AreResting (W.words resting.old.world store.old) resting.old.levels.items }
     requires binding { (W.words resting.old.world store.old).knows_binding condition 0 binding }
-    ensures some { IfOk result (λ o. IfSome o (λ x. capped (solve_on (W.words resting.old.world store.old).rules level condition 0
+    ensures some { IfOk result (λ o. IfSome o (λ x. Comes (W.words resting.old.world store.old).rules.program
+        (λ n. solve_on (W.words resting.old.world store.old).rules (level + n) condition 0
         ((W.words resting.old.world store.old).bound binding) budget.old)
-        ≡ done (Some ((W.words resting.new.world store.new).bound x.0)) x.1 budget.new)) }
-    ensures none { IfOk result (λ o. IfNone o ((r : ℕ) × (solve_on (W.words resting.old.world store.old).rules level condition 0
-        ((W.words resting.old.world store.old).bound binding) budget.old
-        ≡ done None r budget.new))) }
-    ensures ends { IfErr result (IsEnd (solve_on (W.words resting.old.world store.old).rules level condition 0
+        (done (Some ((W.words resting.new.world store.new).bound x.0)) x.1 budget.new))) }
+    ensures none { IfOk result (λ o. IfNone o (Comes (W.words resting.old.world store.old).rules.program
+        (λ n. counted_if 0 (solve_on (W.words resting.old.world store.old).rules (level + n) condition 0
+        ((W.words resting.old.world store.old).bound binding) budget.old)) (done None 0 budget.new))) }
+    ensures ends { IfErr result (ComesToEnd (W.words resting.old.world store.old).rules.program
+        (λ n. solve_on (W.words resting.old.world store.old).rules (level + n) condition 0
         ((W.words resting.old.world store.old).bound binding) budget.old)) }
     ensures known { IfOk result (λ o. IfSome o (λ x. IsSolution (W.words resting.new.world store.new) condition x.0)) }
     ensures falls { budget.new ≤ budget.old }
@@ -86,4 +90,24 @@ pub fn solve<W: World + Drop, T: StepWatcher>(
     mau_machine::solve(
         alloc, resting, store, condition, binding, level, budget, watcher,
     )
+}
+
+/// Settles the sorts of a term, of all below it and of the identities, in the same way.
+pub fn settle<W: World + Drop>(
+    resting: &mut Resting<W>,
+    store: &mut Store,
+    term: TermId,
+    level: u32,
+) -> Result<(), EvalEnd>
+    requires ready { W.ready resting.old.world store.old }
+    requires resting { AreResting (W.words resting.old.world store.old) resting.old.levels.items }
+    requires term { (W.words resting.old.world store.old).knows_term term.0 }
+    ensures settled { OnOk result ((W.words resting.new.world store.new).knows_value term.0) }
+    ensures ends { (b : ℕ) → IfErr result (ComesToEnd (W.words resting.old.world store.old).rules.program
+        (λ n. settle_on (W.words resting.old.world store.old).rules (level + n)
+        ((W.words resting.old.world store.old).tree term.0) b)) }
+    ensures grows { W.grows resting.old.world store.old resting.new.world store.new }
+    ensures resting { AreResting (W.words resting.new.world store.new) resting.new.levels.items }
+{
+    mau_machine::settle(resting, store, term, level)
 }

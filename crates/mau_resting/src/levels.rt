@@ -1,7 +1,6 @@
 //! How many levels it takes to find that a term is its own value.
 ghost use Rattle.std.specs.Prelude.{◌≡◌, ◌⊎◌, ◌≤◌, ◌<◌, ℕ, suc, List, All, None, IfSome, slice_get, slice_index_or};
-ghost use Rattle.mau_evaluation.specs.Run.{done};
-ghost use Rattle.mau_machine.specs.Words.{eval_on, settle_on, applied_on};
+ghost use Rattle.mau_machine.specs.Words.{IsSettled, IsKnownBy, applied_on};
 ghost use Rattle.mau_resting.specs.Rests.{AreResting, RestsBy, AreKnownBy};
 
 use mau_machine::World;
@@ -38,10 +37,9 @@ fn levels_of<W: World>(
     requires ready { W.ready world.old store.old }
     requires value { (W.words world.old store.old).knows_value term.0 }
     requires resting { AreResting (W.words world.old store.old) levels.now }
-    requires settles { (k b : ℕ) → (ss : List ℕ) × (settle_on (W.words world.old store.old).rules k
-        ((W.words world.old store.old).tree term.0) b ≡ done ss 0 b) }
-    requires none { (k b : ℕ) → applied_on (W.words world.old store.old).rules k
-        ((W.words world.old store.old).tree term.0) b ≡ done None 0 b }
+    requires settles { IsSettled (W.words world.old store.old).rules ((W.words world.old store.old).tree term.0) }
+    requires none { IsKnownBy (W.words world.old store.old).rules.program
+        (λ k. applied_on (W.words world.old store.old).rules k ((W.words world.old store.old).tree term.0)) None }
     ensures rests { IfSome result (λ n. RestsBy (W.words world.old store.old) n term.0) }
     ensures some { IfSome result (λ n. 0 < n) }
     ensures grows { W.grows world.old store.old world.new store.new }
@@ -83,10 +81,9 @@ pub(crate) fn mark<W: World>(world: &mut W, store: &mut Store, levels: &mut Vec<
     requires ready { W.ready world.old store.old }
     requires value { (W.words world.old store.old).knows_value term.0 }
     requires resting { AreResting (W.words world.old store.old) levels.old.items }
-    requires settles { (k b : ℕ) → (ss : List ℕ) × (settle_on (W.words world.old store.old).rules k
-        ((W.words world.old store.old).tree term.0) b ≡ done ss 0 b) }
-    requires none { (k b : ℕ) → applied_on (W.words world.old store.old).rules k
-        ((W.words world.old store.old).tree term.0) b ≡ done None 0 b }
+    requires settles { IsSettled (W.words world.old store.old).rules ((W.words world.old store.old).tree term.0) }
+    requires none { IsKnownBy (W.words world.old store.old).rules.program
+        (λ k. applied_on (W.words world.old store.old).rules k ((W.words world.old store.old).tree term.0)) None }
     ensures resting { AreResting (W.words world.new store.new) levels.new.items }
     ensures grows { W.grows world.old store.old world.new store.new }
 {

@@ -5,5 +5,5 @@ mod evaluating;
 mod levels;
 mod resting;
 
-pub use evaluating::{evaluate, solve};
+pub use evaluating::{evaluate, settle, solve};
 pub use resting::{Resting, Trying};

@@ -47,6 +47,8 @@ impl<W: World + Drop> World for Resting<W> {
 
     type Binding = W::Binding;
 
+    type Settling = W::Settling;
+
     ghost words = { λ r nodes. words_over (W.words r.world nodes) };
 
     ghost table = { λ r. W.table r.world };
@@ -78,6 +80,34 @@ impl<W: World + Drop> World for Resting<W> {
         order: &[usize],
     ) -> Result<(TermId, bool), EvalEnd> {
         self.world.build(store, op, args, order)
+    }
+
+    fn limit(&self) -> u64 {
+        self.world.limit()
+    }
+
+    fn settling(&mut self, store: &mut Store, term: TermId) -> Result<W::Settling, NoMemory> {
+        self.world.settling(store, term)
+    }
+
+    fn settle(
+        &mut self,
+        store: &mut Store,
+        term: TermId,
+        settling: &mut W::Settling,
+    ) -> Result<Option<(usize, W::Binding)>, NoMemory> {
+        self.world.settle(store, term, settling)
+    }
+
+    fn told(
+        &self,
+        store: &Store,
+        term: TermId,
+        condition: usize,
+        holds: bool,
+        settling: &mut W::Settling,
+    ) {
+        self.world.told(store, term, condition, holds, settling);
     }
 
     fn attempts(

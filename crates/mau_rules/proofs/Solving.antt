@@ -17,7 +17,6 @@ use Rattle.mau_api.specs.Answers.{uses_results, levels_of_item, levels_of_condit
 use Rattle.mau_api.specs.declared.results.EvalEnd.{EvalEnd}
 use Rattle.mau_api.specs.declared.results.EvalEnd.TheVariants.{Stopped, TooDeep, Overflow, NoMemory}
 use Rattle.mau_api.specs.declared.results.Reduced.{Reduced}
-use Rattle.mau_reduce.proofs.Candidates.{none_executable}
 use Rattle.mau_rules.specs.Runnable.{IsRunnable, GoesBy}
 use Rattle.mau_rules.specs.Known.{Item, Stops}
 use Rattle.mau_rules.specs.Found.{item_of, KnownSolving, KnownEvaluation, solving_by}
@@ -32,7 +31,7 @@ module _ (p : Typed.Program) (run : IsRunnable p) (m : Meanings) (goes : GoesBy 
 
   -- no membership is executable
   plain : DerivesNothing m
-  plain x i e = clash (none_executable p run.reducible m.hooks x (subst (λ (P : Program). IsIn x P.memberships) same_program i)) e
+  plain x i e = clash (run.none_derives x (subst (λ (P : Program). IsIn x P.memberships) same_program i)) e
     where
       clash : x.exec ≡ false → x.exec ≡ true → ⊥
       clash a b = cc

@@ -34,7 +34,7 @@ use Rattle.mau_api.proofs.Remaining.{next_is, rest_is}
 use Rattle.mau_api.proofs.Bridge.{listed_are_left}
 use Rattle.mau_api.proofs.KnownSorts.{values_are_known}
 use Rattle.mau_api.proofs.ValuesFit.{values_settled}
-use Rattle.mau_reduce.proofs.Candidates.{none_executable, same_option}
+use Rattle.mau_reduce.proofs.Candidates.{same_option}
 use Rattle.mau_reduce.proofs.PlainSorts.{plain_sorts, sorts_known, plain_exact}
 use Rattle.mau_rules.specs.Runnable.{IsRunnable}
 use Rattle.mau_rules.specs.Known.{Item, Gives, Fails, Got, got, fails, Known as IsKnown, more_if}
@@ -70,7 +70,7 @@ module _ (p : Typed.Program) (run : IsRunnable p) (hooks : List Operator) (q : R
   P = program_over p hooks
 
   abbrev none : (m : Membership) → IsIn m (program_over p hooks).memberships → m.exec ≡ false
-  none = none_executable p run.reducible hooks
+  none = run.none_derives
 
   -- the solutions of the left side, and those whose values have their sorts
   abbrev pub all : List Solution

@@ -12,11 +12,11 @@ use Rattle.mau_program.specs.declared.statements.Fragment.{Fragment}
 use Rattle.mau_program.specs.declared.statements.Fragment.TheVariants.{Equal, Match, Sort, Reach}
 use Rattle.mau_program.specs.declared.statements.Rule as Written
 use Rattle.mau_program.specs.LawfulPrograms.{IsLawfulProgram}
-use Rattle.mau_evaluation.specs.Program.{Rule}
+use Rattle.mau_evaluation.specs.Program.{Membership, Rule}
 use Rattle.mau_evaluation.specs.Rules.{has_reach}
-use Rattle.mau_api.specs.Programs.{fragment_of, rule_of}
+use Rattle.mau_api.specs.Programs.{fragment_of, membership_of, rule_of}
 use Rattle.mau_api.specs.Meanings.{Meanings, meanings_by}
-use Rattle.mau_reducer.proofs.Heads.{heads}
+use Rattle.mau_reduce.proofs.Valued.{heads_of}
 use Rattle.mau_reducer.proofs.FromLawful.{in_mapped, reducible}
 use Rattle.mau_rules.specs.Runnable.{IsRunnable, GoesBy}
 use Rattle.mau_declare.proofs.Once.{yes_no}
@@ -74,8 +74,9 @@ all_rest (q ∷ qs) all =
 
 pub runnable : (m : ModuleOf) → IsLawfulProgram (program_of m) → IsLawful (terms_over m.signature) → uses_memberships m ≡ false → rewriting_condition m ≡ None → IsRunnable (program_of m)
 runnable m lawful signature plain none = record {
-  reducible = reducible (program_of m) lawful signature (none_used m plain);
-  heads = λ hooks. heads (program_of m) lawful signature hooks;
+  reducible = reducible (program_of m) lawful signature;
+  none_derives = in_mapped membership_of (λ (x : Membership). x.exec ≡ false) m.statements.memberships (none_used m plain);
+  heads = heads_of (program_of m) (reducible (program_of m) lawful signature);
   rules = lawful.rules;
   no_reach = in_mapped rule_of (λ (q : Rule). q.exec ≡ true → has_reach q.cond ≡ false) m.statements.rules (all_rest m.statements.rules (none_found asks_to_rewrite m.statements.rules none));
 }

@@ -11,7 +11,7 @@ returns-clause-choosing g c =
       asked = e;
       signature = c.in_ok-listing.ensures.signature;
       ready = can_begin c.args.sig.now c.args.store.now c.args.table.now (tree_of c.args.pattern.now) c.args.binding c.args.value c.requires.pattern c.requires.values c.requires.value
-          c.requires.settled c.requires.plain.over (g.L.Lister.asked c.in_ok-listing.listing) e (g.L.Lister.given c.in_ok-listing.listing) c.in_ok-listing.ensures.given;
+          c.requires.settled c.requires.over (g.L.Lister.asked c.in_ok-listing.listing) e (g.L.Lister.given c.in_ok-listing.listing) c.in_ok-listing.ensures.given;
       values = c.requires.values;
       apart = c.requires.apart;
       value = c.requires.value;

@@ -1,14 +1,17 @@
-use Rattle.std.proofs.Common.{◌++◌, ◌∷◌, [], false, refl, sym, ◌∙◌, ap, subst, inl}
+use Rattle.std.proofs.Common.{ℕ, ◌+◌, ◌++◌, ◌∷◌, [], false, refl, sym, ◌∙◌, ap, subst, arith, inl}
 use Rattle.mau_store.specs.Trees.{tree_at}
 use Rattle.mau_api.specs.declared.step.Place.TheVariants.{Whole}
 use Rattle.mau_api.specs.Events.{entered, left}
 use Rattle.mau_api.specs.Told.{IsToldRun}
 use Rattle.mau_machine.specs.Telling.{evaluating, IsTelling}
-use Rattle.mau_machine.specs.Words.{capped, kind_of, eval_on}
-use Rattle.mau_machine.specs.Machine.{as_value, comes, task_in, whole}
+use Rattle.mau_terms.specs.Tree.{Tree}
+use Rattle.mau_evaluation.specs.Run.{Outcome, done, counted}
+use Rattle.mau_machine.specs.Words.{kind_of, eval_on}
+use Rattle.mau_machine.specs.Machine.{gave, as_value, comes, task_in, whole}
+use Rattle.mau_machine.specs.Steps.{AreAnswered}
 use Rattle.mau_machine.specs.Known.{value_of, HoldsIn}
 use Rattle.mau_machine.specs.declared.frame.Control.TheVariants as Next
-use Rattle.mau_machine.proofs.Counts.{value_is, value_ends_as, counted_zero}
+use Rattle.mau_machine.proofs.Following.{follows_as, ends_on, value_comes, value_comes_to_end, comes_lower, evaluations_fall}
 use Rattle.mau_machine.proofs.Tellings.{between}
 use Rattle.mau_machine.proofs.Advance.{more_on, from_zero, telling_starts}
 use Rattle.mau_machine.proofs.Held.{start_is, held_first}
@@ -20,8 +23,25 @@ returns-in-Ok-Value-clause-value g c =
     let w' = (g.W.World.words c.run.new.world c.run.new.store) in
     let t = Next.Eval c.args.level c.args.term in
     let fs = c.new-machine.result.frames.items in
-    value_is (eval_on w.rules c.args.level (w.tree c.args.term.0) c.args.budget.now) (w'.tree c.in-Ok-Value.value.0) c.run.new.machine.rewrites c.run.new.budget c.in-Ok-Value.ensures.small
-    (ap (λ o. capped (as_value o)) (sym (counted_zero (eval_on w.rules c.args.level (w.tree c.args.term.0) c.args.budget.now))) ∙ ap capped (start_is w fs t c.new-machine.result.rewrites c.args.budget.now c.new-machine.ensures.frames c.new-machine.ensures.rewrites) ∙ (c.in-Ok-Value.ensures.goes ∙ ap (λ z. capped (comes w'.rules (task_in w' z) c.run.new.machine.rewrites c.run.new.budget)) c.in-Ok-Value.field-0-is))
+    let b = c.args.budget.now in
+    let f : ℕ → Outcome Tree = λ n. eval_on w.rules (c.args.level + n) (w.tree c.args.term.0) b in
+    value_comes w.rules.program f (w'.tree c.in-Ok-Value.value.0) c.run.new.machine.rewrites c.run.new.budget c.in-Ok-Value.ensures.small
+    (follows_as w.rules.program (λ n. whole w n fs t c.new-machine.result.rewrites b) _ (λ n. as_value (counted 0 (f n))) (λ n. done (gave (w'.tree c.in-Ok-Value.value.0)) c.run.new.machine.rewrites c.run.new.budget)
+    (λ n. start_is w fs t c.new-machine.result.rewrites b c.new-machine.ensures.frames c.new-machine.ensures.rewrites n) (λ n. ap (λ z. comes w'.rules (task_in w' n z) c.run.new.machine.rewrites c.run.new.budget) (sym c.in-Ok-Value.field-0-is)) c.in-Ok-Value.ensures.goes)
+
+pub returns-in-Ok-Value-clause-falls : goal.returns-in-Ok-Value-clause-falls
+returns-in-Ok-Value-clause-falls g c =
+    let w = (g.W.World.words c.args.world.now c.args.store.now) in
+    let w' = (g.W.World.words c.run.new.world c.run.new.store) in
+    let t = Next.Eval c.args.level c.args.term in
+    let fs = c.new-machine.result.frames.items in
+    let b = c.args.budget.now in
+    let f : ℕ → Outcome Tree = λ n. eval_on w.rules (c.args.level + n) (w.tree c.args.term.0) b in
+    comes_lower w.rules.program f (w'.tree c.in-Ok-Value.value.0) c.run.new.machine.rewrites c.run.new.budget b
+    (value_comes w.rules.program f (w'.tree c.in-Ok-Value.value.0) c.run.new.machine.rewrites c.run.new.budget c.in-Ok-Value.ensures.small
+    (follows_as w.rules.program (λ n. whole w n fs t c.new-machine.result.rewrites b) _ (λ n. as_value (counted 0 (f n))) (λ n. done (gave (w'.tree c.in-Ok-Value.value.0)) c.run.new.machine.rewrites c.run.new.budget)
+    (λ n. start_is w fs t c.new-machine.result.rewrites b c.new-machine.ensures.frames c.new-machine.ensures.rewrites n) (λ n. ap (λ z. comes w'.rules (task_in w' n z) c.run.new.machine.rewrites c.run.new.budget) (sym c.in-Ok-Value.field-0-is)) c.in-Ok-Value.ensures.goes))
+    (λ n. evaluations_fall w.rules c.args.level (w.tree c.args.term.0) b n)
 
 pub returns-in-Ok-Value-clause-known : goal.returns-in-Ok-Value-clause-known
 returns-in-Ok-Value-clause-known g c =
@@ -46,10 +66,18 @@ returns-in-Ok-Value-clause-kind g c =
 pub returns-clause-ends : goal.returns-clause-ends
 returns-clause-ends g c =
     let w = (g.W.World.words c.args.world.now c.args.store.now) in
-    let w' = (g.W.World.words c.run.new.world c.run.new.store) in
     let t = Next.Eval c.args.level c.args.term in
     let fs = c.new-machine.result.frames.items in
-    value_ends_as (eval_on w.rules c.args.level (w.tree c.args.term.0) c.args.budget.now) (whole w fs t c.new-machine.result.rewrites c.args.budget.now) c.in-Err.end (ap (λ o. capped (as_value o)) (sym (counted_zero (eval_on w.rules c.args.level (w.tree c.args.term.0) c.args.budget.now))) ∙ ap capped (start_is w fs t c.new-machine.result.rewrites c.args.budget.now c.new-machine.ensures.frames c.new-machine.ensures.rewrites)) c.in-Err.ensures.ends
+    let b = c.args.budget.now in
+    let f : ℕ → Outcome Tree = λ n. eval_on w.rules (c.args.level + n) (w.tree c.args.term.0) b in
+    value_comes_to_end w.rules.program f c.in-Err.end
+    (ends_on w.rules.program (λ n. whole w n fs t c.new-machine.result.rewrites b) (λ n. as_value (counted 0 (f n))) c.in-Err.end
+    (λ n d q. start_is w fs t c.new-machine.result.rewrites b c.new-machine.ensures.frames c.new-machine.ensures.rewrites n ∙ q) c.in-Err.ensures.ends)
+
+pub run-requires-clause-answered : goal.run-requires-clause-answered
+run-requires-clause-answered g c =
+    let w = (g.W.World.words c.args.world.now c.args.store.now) in
+    subst (λ fs. AreAnswered w fs (Next.Eval c.args.level c.args.term) c.new-machine.result.rewrites c.args.budget.now) (sym c.new-machine.ensures.frames) tt
 
 pub run-requires-clause-told : goal.run-requires-clause-told
 run-requires-clause-told g c =
@@ -127,7 +155,7 @@ returns-in-Ok g c =
       ends = tt;
       known = tt;
       kind = tt;
-      falls = c.in-Ok.ensures.falls;
+      falls = omega arith;
       grows = c.in-Ok.ensures.grows;
       told = λ wants. tt;
       before = λ wants. more_on (g.T.StepWatcher.told c.args.watcher.now) (g.T.StepWatcher.told c.enter_whole.new.watcher) (g.T.StepWatcher.told c.run.new.watcher) (entered c.args.term Whole ∷ [], e1 wants) (c.in-Ok.ensures.front (v1.0 ∙ wants) (g.T.StepWatcher.told c.enter_whole.new.watcher) J begun);

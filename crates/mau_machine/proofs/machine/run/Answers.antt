@@ -1,13 +1,12 @@
-use Rattle.std.proofs.Common.{◌≡◌, [], sym, ◌∙◌, ap, subst, le_trans}
+use Rattle.std.proofs.Common.{◌≡◌, [], sym, ◌∙◌, subst}
 use Rattle.mau_machine.specs.Telling.{IsTelling}
-use Rattle.mau_machine.specs.Words.{capped}
+use Rattle.mau_machine.specs.Words.{Rules, ComesToEnd}
 use Rattle.mau_machine.specs.Machine.{whole}
 use Rattle.mau_machine.specs.Known.{HoldsIn}
-use Rattle.mau_machine.specs.Steps.{IsAlike}
-use Rattle.mau_machine.proofs.Counts.{ends_alike}
+use Rattle.mau_machine.specs.Steps.{Follows}
+use Rattle.mau_machine.proofs.Following.{follows_then, ends_follow, went_whole, went_answered, whole_later, ends_later, answered_later}
 use Rattle.mau_machine.proofs.Branches.{empty_is}
 use Rattle.mau_machine.proofs.Advance.{more_on}
-use Rattle.mau_machine.proofs.Held.{same_whole}
 use Rattle.mau_machine.proofs.machine.run.Goals as goal
 
 pub returns-then-is_empty-clause-goes : goal.returns-then-is_empty-clause-goes
@@ -15,7 +14,7 @@ returns-then-is_empty-clause-goes g c =
     let w0 = (g.W.World.words c.args.world.now c.args.store.now) in
     let w = (g.W.World.words c.loop.world c.loop.store) in
     let e : c.loop.machine.frames.items ≡ [] = empty_is c.as_slice.result.now c.loop.machine.frames.items c.as_slice.ensures.value c.if-is_empty.ensures in
-    c.loop.invariant.2 ∙ ap (λ fs. capped (whole w fs c.loop.task c.loop.machine.rewrites c.loop.budget)) e
+    subst (λ fs. Follows w0.rules.program (λ n. whole w0 n c.args.machine.now.frames.items c.args.task c.args.machine.now.rewrites c.args.budget.now) (λ n. whole w n fs c.loop.task c.loop.machine.rewrites c.loop.budget)) e c.loop.invariant.2
 
 pub returns-then-is_empty-clause-known : goal.returns-then-is_empty-clause-known
 returns-then-is_empty-clause-known g c =
@@ -33,12 +32,11 @@ returns-in-Err-clause-ends g c =
     let w0 = (g.W.World.words c.args.world.now c.args.store.now) in
     let w = (g.W.World.words c.loop.world c.loop.store) in
     let w' = (g.W.World.words c.step.new.world c.step.new.store) in
-    let grows = g.met.W.World.goes_on c.args.world.now c.loop.world c.step.new.world c.args.store.now c.loop.store c.step.new.store c.loop.invariant.0 c.in-Err.ensures.grows in
     let k = g.met.W.World.keeps c.loop.world c.step.new.world c.loop.store c.step.new.store c.in-Err.ensures.grows in
+    let k0 = g.met.W.World.keeps c.args.world.now c.loop.world c.args.store.now c.loop.store c.loop.invariant.0 in
     let H = c.loop.invariant.3 c.requires.held.0 c.requires.held.1 in
-    let same : IsAlike (whole w0 c.args.machine.now.frames.items c.args.task c.args.machine.now.rewrites c.args.budget.now) (whole w' c.loop.machine.frames.items c.loop.task c.loop.machine.rewrites c.loop.budget) =
-    c.loop.invariant.2 ∙ ap capped (sym (same_whole w w' k c.requires.held.0 c.loop.machine.frames.items c.loop.task H c.loop.machine.rewrites c.loop.budget)) in
-    ends_alike (whole w0 c.args.machine.now.frames.items c.args.task c.args.machine.now.rewrites c.args.budget.now) (whole w' c.loop.machine.frames.items c.loop.task c.loop.machine.rewrites c.loop.budget) c.in-Err.end same c.in-Err.ensures.ends
+    ends_follow w0.rules.program (λ n. whole w0 n c.args.machine.now.frames.items c.args.task c.args.machine.now.rewrites c.args.budget.now) (λ n. whole w n c.loop.machine.frames.items c.loop.task c.loop.machine.rewrites c.loop.budget) c.in-Err.end c.loop.invariant.2
+    (subst (λ (R : Rules). ComesToEnd R.program (λ n. whole w n c.loop.machine.frames.items c.loop.task c.loop.machine.rewrites c.loop.budget) c.in-Err.end) k0.rules (ends_later w w' k c.loop.machine.frames.items c.loop.task c.loop.machine.rewrites c.loop.budget c.in-Err.end H.frames H.next c.in-Err.ensures.ends))
 
 pub returns-in-Err-clause-grows : goal.returns-in-Err-clause-grows
 returns-in-Err-clause-grows g c =
@@ -51,12 +49,17 @@ loop-preserved g c =
     let w' = (g.W.World.words c.step.new.world c.step.new.store) in
     let grows = g.met.W.World.goes_on c.args.world.now c.loop.world c.step.new.world c.args.store.now c.loop.store c.step.new.store c.loop.invariant.0 c.in-Ok.ensures.grows in
     let k = g.met.W.World.keeps c.loop.world c.step.new.world c.loop.store c.step.new.store c.in-Ok.ensures.grows in
+    let k0 = g.met.W.World.keeps c.args.world.now c.loop.world c.args.store.now c.loop.store c.loop.invariant.0 in
     let H = c.loop.invariant.3 c.requires.held.0 c.requires.held.1 in
-    let same : IsAlike (whole w0 c.args.machine.now.frames.items c.args.task c.args.machine.now.rewrites c.args.budget.now) (whole w' c.loop.machine.frames.items c.loop.task c.loop.machine.rewrites c.loop.budget) =
-    c.loop.invariant.2 ∙ ap capped (sym (same_whole w w' k c.requires.held.0 c.loop.machine.frames.items c.loop.task H c.loop.machine.rewrites c.loop.budget)) in (
+    let fs = c.loop.machine.frames.items in
+    let gs = c.step.new.machine.frames.items in
+    let r = c.loop.machine.rewrites in
+    let q = c.step.new.machine.rewrites in (
       grows,
-      le_trans c.in-Ok.ensures.falls c.loop.invariant.1,
-      same ∙ c.in-Ok.ensures.goes,
+      went_answered w' fs gs c.loop.task c.in-Ok.next r q c.loop.budget c.step.new.budget c.in-Ok.ensures.goes (answered_later w w' k fs c.loop.task r c.loop.budget H.frames H.next c.loop.invariant.1),
+      follows_then w0.rules.program (λ n. whole w0 n c.args.machine.now.frames.items c.args.task c.args.machine.now.rewrites c.args.budget.now) (λ n. whole w n c.loop.machine.frames.items c.loop.task c.loop.machine.rewrites c.loop.budget) (λ n. whole w' n c.step.new.machine.frames.items c.in-Ok.next c.step.new.machine.rewrites c.step.new.budget) c.loop.invariant.2
+          (subst (λ (R : Rules). Follows R.program (λ n. whole w n c.loop.machine.frames.items c.loop.task c.loop.machine.rewrites c.loop.budget) (λ n. whole w' n c.step.new.machine.frames.items c.in-Ok.next c.step.new.machine.rewrites c.step.new.budget)) k0.rules
+          (whole_later w w' k fs c.loop.task r c.loop.budget (λ n. whole w' n c.step.new.machine.frames.items c.in-Ok.next c.step.new.machine.rewrites c.step.new.budget) H.frames H.next (went_whole w' fs gs c.loop.task c.in-Ok.next r q c.loop.budget c.step.new.budget c.in-Ok.ensures.goes))),
       λ asked h. c.in-Ok.ensures.known asked (c.loop.invariant.3 asked h),
       c.in-Ok.ensures.watched.0 ∙ c.loop.invariant.4,
       λ q. c.in-Ok.ensures.watched.1 (c.loop.invariant.4 ∙ q) ∙ c.loop.invariant.5 q,

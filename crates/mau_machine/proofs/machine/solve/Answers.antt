@@ -1,12 +1,15 @@
-use Rattle.std.proofs.Common.{◌≡◌, ℕ, ◌+◌, ◌≤◌, [], length, refl, sym, ◌∙◌, ap, subst, arith, take, length-append}
+use Rattle.std.proofs.Common.{◌≡◌, ℕ, ◌+◌, ◌≤◌, Option, Some, None, [], length, refl, sym, ◌∙◌, ap, subst, arith, take, length-append}
 use Rattle.std.proofs.Math.Seq.{take-append_seam}
 use Rattle.mau_machine.specs.Telling.{solving, IsTelling}
-use Rattle.mau_machine.specs.Words.{capped, solve_on, IsSolution}
-use Rattle.mau_machine.specs.Machine.{comes, task_in, whole}
+use Rattle.mau_evaluation.specs.Run.{Outcome, done, counted_if}
+use Rattle.mau_evaluation.specs.Evaluation.{Binding}
+use Rattle.mau_machine.specs.Words.{solve_on, IsSolution}
+use Rattle.mau_machine.specs.Machine.{held, failed, as_answer, comes, task_in, whole}
+use Rattle.mau_machine.specs.Steps.{AreAnswered}
 use Rattle.mau_machine.specs.Known.{answer_to, HoldsIn}
 use Rattle.mau_machine.specs.declared.frame.Condition.{Condition}
 use Rattle.mau_machine.specs.declared.frame.Control.TheVariants as Next
-use Rattle.mau_machine.proofs.Counts.{solution_is, none_is, answer_ends_as, answer_zero}
+use Rattle.mau_machine.proofs.Following.{follows_as, ends_on, solution_comes, none_comes, answer_comes_to_end, comes_lower, solutions_fall, uncounted_falls}
 use Rattle.mau_machine.proofs.Tellings.{none_shown, same_extends}
 use Rattle.mau_machine.proofs.Advance.{no_more, from_zero, telling_starts}
 use Rattle.mau_machine.proofs.Held.{start_is, held_first}
@@ -25,8 +28,26 @@ returns-in-Ok-Held-clause-some g c =
     let s : Condition g.row.W-Binding.Denot = record { level = c.args.level; condition = c.args.condition; at = 0; binding = c.args.binding } in
     let t = Next.Solve s in
     let fs = c.new-machine.result.frames.items in
-    solution_is (solve_on w.rules c.args.level c.args.condition 0 (w.bound c.args.binding) c.args.budget.now) (w'.bound c.in-Ok-Held.solution) c.run.new.machine.rewrites c.run.new.budget c.in-Ok-Held.ensures.small
-    (ap capped (sym (answer_zero (solve_on w.rules c.args.level c.args.condition 0 (w.bound c.args.binding) c.args.budget.now))) ∙ ap capped (start_is w fs t c.new-machine.result.rewrites c.args.budget.now c.new-machine.ensures.frames c.new-machine.ensures.rewrites) ∙ (c.in-Ok-Held.ensures.goes ∙ ap (λ z. capped (comes w'.rules (task_in w' z) c.run.new.machine.rewrites c.run.new.budget)) c.in-Ok-Held.field-0-is))
+    let b = c.args.budget.now in
+    let f : ℕ → Outcome (Option Binding) = λ n. solve_on w.rules (c.args.level + n) c.args.condition 0 (w.bound c.args.binding) b in
+    solution_comes w.rules.program f (w'.bound c.in-Ok-Held.solution) c.run.new.machine.rewrites c.run.new.budget c.in-Ok-Held.ensures.small
+    (follows_as w.rules.program (λ n. whole w n fs t c.new-machine.result.rewrites b) _ (λ n. as_answer (counted_if 0 (f n))) (λ n. done (held (w'.bound c.in-Ok-Held.solution)) c.run.new.machine.rewrites c.run.new.budget)
+    (λ n. start_is w fs t c.new-machine.result.rewrites b c.new-machine.ensures.frames c.new-machine.ensures.rewrites n) (λ n. ap (λ z. comes w'.rules (task_in w' n z) c.run.new.machine.rewrites c.run.new.budget) (sym c.in-Ok-Held.field-0-is)) c.in-Ok-Held.ensures.goes)
+
+pub returns-in-Ok-Held-clause-falls : goal.returns-in-Ok-Held-clause-falls
+returns-in-Ok-Held-clause-falls g c =
+    let w = (g.W.World.words c.args.world.now c.args.store.now) in
+    let w' = (g.W.World.words c.run.new.world c.run.new.store) in
+    let s : Condition g.row.W-Binding.Denot = record { level = c.args.level; condition = c.args.condition; at = 0; binding = c.args.binding } in
+    let t = Next.Solve s in
+    let fs = c.new-machine.result.frames.items in
+    let b = c.args.budget.now in
+    let f : ℕ → Outcome (Option Binding) = λ n. solve_on w.rules (c.args.level + n) c.args.condition 0 (w.bound c.args.binding) b in
+    comes_lower w.rules.program f (Some (w'.bound c.in-Ok-Held.solution)) c.run.new.machine.rewrites c.run.new.budget b
+    (solution_comes w.rules.program f (w'.bound c.in-Ok-Held.solution) c.run.new.machine.rewrites c.run.new.budget c.in-Ok-Held.ensures.small
+    (follows_as w.rules.program (λ n. whole w n fs t c.new-machine.result.rewrites b) _ (λ n. as_answer (counted_if 0 (f n))) (λ n. done (held (w'.bound c.in-Ok-Held.solution)) c.run.new.machine.rewrites c.run.new.budget)
+    (λ n. start_is w fs t c.new-machine.result.rewrites b c.new-machine.ensures.frames c.new-machine.ensures.rewrites n) (λ n. ap (λ z. comes w'.rules (task_in w' n z) c.run.new.machine.rewrites c.run.new.budget) (sym c.in-Ok-Held.field-0-is)) c.in-Ok-Held.ensures.goes))
+    (λ n. solutions_fall w.rules c.args.level c.args.condition 0 (w.bound c.args.binding) b n)
 
 pub returns-in-Ok-Held-clause-known : goal.returns-in-Ok-Held-clause-known
 returns-in-Ok-Held-clause-known g c =
@@ -46,17 +67,44 @@ returns-in-Ok-Failed-clause-none g c =
     let s : Condition g.row.W-Binding.Denot = record { level = c.args.level; condition = c.args.condition; at = 0; binding = c.args.binding } in
     let t = Next.Solve s in
     let fs = c.new-machine.result.frames.items in
-    none_is (solve_on w.rules c.args.level c.args.condition 0 (w.bound c.args.binding) c.args.budget.now) 0 c.run.new.budget
-    (ap capped (sym (answer_zero (solve_on w.rules c.args.level c.args.condition 0 (w.bound c.args.binding) c.args.budget.now))) ∙ ap capped (start_is w fs t c.new-machine.result.rewrites c.args.budget.now c.new-machine.ensures.frames c.new-machine.ensures.rewrites) ∙ (c.in-Ok-Failed.ensures.goes ∙ ap (λ z. capped (comes w'.rules (task_in w' z) c.run.new.machine.rewrites c.run.new.budget)) c.in-Ok-Failed.field-0-is))
+    let b = c.args.budget.now in
+    let f : ℕ → Outcome (Option Binding) = λ n. solve_on w.rules (c.args.level + n) c.args.condition 0 (w.bound c.args.binding) b in
+    none_comes w.rules.program f c.run.new.budget
+    (follows_as w.rules.program (λ n. whole w n fs t c.new-machine.result.rewrites b) _ (λ n. as_answer (counted_if 0 (f n))) (λ n. done failed 0 c.run.new.budget)
+    (λ n. start_is w fs t c.new-machine.result.rewrites b c.new-machine.ensures.frames c.new-machine.ensures.rewrites n) (λ n. ap (λ z. comes w'.rules (task_in w' n z) c.run.new.machine.rewrites c.run.new.budget) (sym c.in-Ok-Failed.field-0-is)) c.in-Ok-Failed.ensures.goes)
 
-pub returns-clause-ends : goal.returns-clause-ends
-returns-clause-ends g c =
+pub returns-in-Ok-Failed-clause-falls : goal.returns-in-Ok-Failed-clause-falls
+returns-in-Ok-Failed-clause-falls g c =
     let w = (g.W.World.words c.args.world.now c.args.store.now) in
     let w' = (g.W.World.words c.run.new.world c.run.new.store) in
     let s : Condition g.row.W-Binding.Denot = record { level = c.args.level; condition = c.args.condition; at = 0; binding = c.args.binding } in
     let t = Next.Solve s in
     let fs = c.new-machine.result.frames.items in
-    answer_ends_as (solve_on w.rules c.args.level c.args.condition 0 (w.bound c.args.binding) c.args.budget.now) (whole w fs t c.new-machine.result.rewrites c.args.budget.now) c.in-Err.end (ap capped (sym (answer_zero (solve_on w.rules c.args.level c.args.condition 0 (w.bound c.args.binding) c.args.budget.now))) ∙ ap capped (start_is w fs t c.new-machine.result.rewrites c.args.budget.now c.new-machine.ensures.frames c.new-machine.ensures.rewrites)) c.in-Err.ensures.ends
+    let b = c.args.budget.now in
+    let f : ℕ → Outcome (Option Binding) = λ n. solve_on w.rules (c.args.level + n) c.args.condition 0 (w.bound c.args.binding) b in
+    comes_lower w.rules.program (λ n. counted_if 0 (f n)) None 0 c.run.new.budget b
+    (none_comes w.rules.program f c.run.new.budget
+    (follows_as w.rules.program (λ n. whole w n fs t c.new-machine.result.rewrites b) _ (λ n. as_answer (counted_if 0 (f n))) (λ n. done failed 0 c.run.new.budget)
+    (λ n. start_is w fs t c.new-machine.result.rewrites b c.new-machine.ensures.frames c.new-machine.ensures.rewrites n) (λ n. ap (λ z. comes w'.rules (task_in w' n z) c.run.new.machine.rewrites c.run.new.budget) (sym c.in-Ok-Failed.field-0-is)) c.in-Ok-Failed.ensures.goes))
+    (λ n. uncounted_falls b (f n) (solutions_fall w.rules c.args.level c.args.condition 0 (w.bound c.args.binding) b n))
+
+pub returns-clause-ends : goal.returns-clause-ends
+returns-clause-ends g c =
+    let w = (g.W.World.words c.args.world.now c.args.store.now) in
+    let s : Condition g.row.W-Binding.Denot = record { level = c.args.level; condition = c.args.condition; at = 0; binding = c.args.binding } in
+    let t = Next.Solve s in
+    let fs = c.new-machine.result.frames.items in
+    let b = c.args.budget.now in
+    let f : ℕ → Outcome (Option Binding) = λ n. solve_on w.rules (c.args.level + n) c.args.condition 0 (w.bound c.args.binding) b in
+    answer_comes_to_end w.rules.program f c.in-Err.end
+    (ends_on w.rules.program (λ n. whole w n fs t c.new-machine.result.rewrites b) (λ n. as_answer (counted_if 0 (f n))) c.in-Err.end
+    (λ n d q. start_is w fs t c.new-machine.result.rewrites b c.new-machine.ensures.frames c.new-machine.ensures.rewrites n ∙ q) c.in-Err.ensures.ends)
+
+pub run-requires-clause-answered : goal.run-requires-clause-answered
+run-requires-clause-answered g c =
+    let w = (g.W.World.words c.args.world.now c.args.store.now) in
+    let s : Condition g.row.W-Binding.Denot = record { level = c.args.level; condition = c.args.condition; at = 0; binding = c.args.binding } in
+    subst (λ fs. AreAnswered w fs (Next.Solve s) c.new-machine.result.rewrites c.args.budget.now) (sym c.new-machine.ensures.frames) tt
 
 pub run-requires-clause-told : goal.run-requires-clause-told
 run-requires-clause-told g c =
@@ -162,7 +210,7 @@ returns-in-Ok g c =
       none = tt;
       ends = tt;
       known = tt;
-      falls = c.in-Ok.ensures.falls;
+      falls = omega arith;
       grows = c.in-Ok.ensures.grows;
       told = λ wants. tt;
       untold = λ wants. tt;

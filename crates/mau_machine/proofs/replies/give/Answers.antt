@@ -1,4 +1,4 @@
-use Rattle.std.proofs.Common.{suc, ◌<◌, ◌++◌, ◌∷◌, [], length, drop, get_or, true, refl, sym, ◌∙◌, ap, subst, rules, inl, inr, append_assoc}
+use Rattle.std.proofs.Common.{suc, ◌+◌, ◌<◌, ◌++◌, ◌∷◌, [], length, drop, get_or, true, refl, sym, ◌∙◌, ap, subst, rules, inl, inr, append_assoc}
 use Rattle.std.proofs.lemmas.Option.{slice_get-get_or}
 use Rattle.std.specs.Vec.{with_item}
 use Rattle.mau_terms.specs.Norm.{norm}
@@ -7,16 +7,17 @@ use Rattle.mau_api.specs.declared.step.Place.TheVariants.{Fragment as OfFragment
 use Rattle.mau_api.specs.Events.{entered, left}
 use Rattle.mau_api.specs.Told.{TellsMore}
 use Rattle.mau_machine.specs.Telling.{IsSide}
-use Rattle.mau_evaluation.specs.Run.{counted, counted_if, where_true}
-use Rattle.mau_machine.specs.Words.{capped, eval_on, solve_on, HasSideBy}
+use Rattle.mau_evaluation.specs.Run.{too_deep, counted, counted_if, gives, where_true}
+use Rattle.mau_machine.specs.Words.{capped, eval_on, sorts_on, solve_on, side_of, HasSideBy}
 use Rattle.mau_machine.specs.Machine.{as_value, as_answer, on_arguments, goes_on, comes, waits_in, task_in}
 use Rattle.mau_machine.specs.Known.{value_of}
 use Rattle.mau_machine.specs.declared.goal.Goal.TheVariants as Goals
 use Rattle.mau_machine.specs.declared.frame.Choosing.{Choosing}
 use Rattle.mau_machine.specs.declared.frame.Frame.TheVariants as Waiting
 use Rattle.mau_machine.specs.declared.frame.Control.TheVariants as Next
-use Rattle.mau_machine.proofs.Through.{alike_pushed, alike_popped, ends_popped, popped_result, last_is}
-use Rattle.mau_machine.proofs.Branches.{put_trees, put_none, second_side, second_side_ends, sorts_tested}
+use Rattle.mau_machine.proofs.Through.{last_is}
+use Rattle.mau_machine.proofs.Following.{exactly, leads_on, ends_on, any_end, ends_popped, went_popped, went_swapped, popped_result}
+use Rattle.mau_machine.proofs.Branches.{put_trees, put_none, second_side, second_side_ends, sorts_tested, sorts_end}
 use Rattle.mau_machine.proofs.Advance.{stays_popped, stays_swapped, argument_given, argument_missing, again_given, left_given, right_given, sorting_given, matching_given, Proceeds, popped_proceeds, more_on, more_by, on_err}
 use Rattle.mau_machine.proofs.Held.{held_popped, held_swapped, last_known, held_later, popped_known, same_state, kind_at_get, asks_on}
 use Rattle.mau_machine.proofs.replies.give.Goals as goal
@@ -27,8 +28,8 @@ returns-then-place-len-clause-goes g c =
     let f = Waiting.Argument c.in-Some-Argument.arguments c.in-Some-Argument.place in
     let p = last_is w c.args.machine.now.frames.items c.pop.new.self.items f _ c.in-Some-Argument.ensures.items c.in-Some-Argument.field-0-is in
     let a = c.in-Some-Argument.arguments in
-    λ b. alike_popped w c.args.machine.now.frames.items c.pop.new.self.items f (comes w.rules (task_in w (Next.Value c.args.value)) c.args.machine.now.rewrites b) (comes w.rules (task_in w (Next.Evaluating a)) c.args.machine.now.rewrites b) p
-    (ap (λ ts. capped (as_value (counted c.args.machine.now.rewrites (on_arguments w.rules a.level a.op.0 a.order.items (drop a.next a.order.items) ts b)))) (put_none w a.args.items c.in-Some-Argument.place (w.tree c.args.value.0) (search (rules, c.if-place-len.true))))
+    λ b. went_popped w c.args.machine.now.frames.items c.pop.new.self.items f (Next.Value c.args.value) (Next.Evaluating a) c.args.machine.now.rewrites c.args.machine.now.rewrites b b p
+    (exactly w.rules.program _ _ (λ n. ap (λ ts. capped (as_value (counted c.args.machine.now.rewrites (on_arguments w.rules (a.level + n) a.op.0 a.order.items (drop a.next a.order.items) ts b)))) (put_none w a.args.items c.in-Some-Argument.place (w.tree c.args.value.0) (search (rules, c.if-place-len.true)))))
 
 pub returns-then-place-len-clause-known : goal.returns-then-place-len-clause-known
 returns-then-place-len-clause-known g c =
@@ -44,8 +45,8 @@ returns-in-Some-Argument-clause-goes g c =
     let f = Waiting.Argument c.in-Some-Argument.arguments c.in-Some-Argument.place in
     let p = last_is w c.args.machine.now.frames.items c.pop.new.self.items f _ c.in-Some-Argument.ensures.items c.in-Some-Argument.field-0-is in
     let a = c.in-Some-Argument.arguments in
-    λ b. alike_popped w c.args.machine.now.frames.items c.pop.new.self.items f (comes w.rules (task_in w (Next.Value c.args.value)) c.args.machine.now.rewrites b) _ p
-    (ap (λ ts. capped (as_value (counted c.args.machine.now.rewrites (on_arguments w.rules a.level a.op.0 a.order.items (drop a.next a.order.items) ts b)))) (put_trees w a.args.items c.in-Some-Argument.place c.args.value))
+    λ b. went_popped w c.args.machine.now.frames.items c.pop.new.self.items f (Next.Value c.args.value) _ c.args.machine.now.rewrites c.args.machine.now.rewrites b b p
+    (exactly w.rules.program _ _ (λ n. ap (λ ts. capped (as_value (counted c.args.machine.now.rewrites (on_arguments w.rules (a.level + n) a.op.0 a.order.items (drop a.next a.order.items) ts b)))) (put_trees w a.args.items c.in-Some-Argument.place c.args.value)))
 
 pub returns-in-Some-Argument-clause-known : goal.returns-in-Some-Argument-clause-known
 returns-in-Some-Argument-clause-known g c =
@@ -65,7 +66,7 @@ returns-in-Some-Again-clause-goes g c =
     let w = (g.W.World.words c.args.world.now c.args.store.now) in
     let f = Waiting.Again c.in-Some-Again.field-0-0 in
     let p = last_is w c.args.machine.now.frames.items c.pop.new.self.items f _ c.in-Some-Again.ensures.items c.in-Some-Again.field-0-is in
-    λ b. alike_popped w c.args.machine.now.frames.items c.pop.new.self.items f (comes w.rules (task_in w (Next.Value c.args.value)) c.args.machine.now.rewrites b) (comes w.rules (task_in w (Next.Value c.args.value)) c.args.machine.now.rewrites b) p refl
+    λ b. went_popped w c.args.machine.now.frames.items c.pop.new.self.items f (Next.Value c.args.value) (Next.Value c.args.value) c.args.machine.now.rewrites c.args.machine.now.rewrites b b p (exactly w.rules.program _ _ (λ n. refl))
 
 pub returns-in-Some-Again-clause-known : goal.returns-in-Some-Again-clause-known
 returns-in-Some-Again-clause-known g c =
@@ -100,10 +101,9 @@ returns-in-Ok-clause-goes g c =
     let x = c.in-Some-Left.condition in
     let t = c.in-Ok.term in
     let q = Waiting.Right x c.args.value in
-    λ b. alike_popped w' c.args.machine.now.frames.items c.pop.new.self.items f (comes w'.rules (task_in w' (Next.Value c.args.value)) c.args.machine.now.rewrites b) (goes_on w'.rules (waits_in w' q) (as_value (counted c.args.machine.now.rewrites (eval_on w'.rules x.level (w'.tree t.0) b)))) p
-    (ap capped (second_side w'.rules x.level x.condition x.at (w'.bound x.binding) (w'.tree c.args.value.0) (w'.tree t.0) c.args.machine.now.rewrites b (c.in-Ok.ensures.value b)))
-    ∙ alike_pushed w' c.pop.new.self.items c.begin.new.machine.frames.items q _ (as_value (counted c.begin.new.machine.rewrites (eval_on w'.rules x.level (w'.tree t.0) b))) c.in_ok-begin-in-Ok.ensures.frames
-    (ap (λ n. capped (goes_on w'.rules (waits_in w' q) (as_value (counted n (eval_on w'.rules x.level (w'.tree t.0) b))))) (sym c.in_ok-begin-in-Ok.ensures.rewrites))
+    λ b. went_swapped w' c.args.machine.now.frames.items c.pop.new.self.items c.begin.new.machine.frames.items f q (Next.Value c.args.value) (Next.Eval x.level t) c.args.machine.now.rewrites c.begin.new.machine.rewrites b b p c.in_ok-begin-in-Ok.ensures.frames tt
+    (exactly w'.rules.program _ _ (λ n. ap capped (second_side w'.rules (x.level + n) x.condition x.at (w'.bound x.binding) (w'.tree c.args.value.0) (w'.tree t.0) c.args.machine.now.rewrites b (c.in-Ok.ensures.value n b))
+    ∙ ap (λ m. capped (goes_on w'.rules (waits_in w' n q) (as_value (counted m (eval_on w'.rules (x.level + n) (w'.tree t.0) b))))) (sym c.in_ok-begin-in-Ok.ensures.rewrites)))
 
 pub returns-in-Ok-clause-known : goal.returns-in-Ok-clause-known
 returns-in-Ok-clause-known g c =
@@ -127,7 +127,9 @@ returns-in-Some-Left-clause-ends g c =
     let f = Waiting.Left c.in-Some-Left.condition in
     let p = last_is w' c.args.machine.now.frames.items c.pop.new.self.items f _ c.in-Some-Left.ensures.items c.in-Some-Left.field-0-is in
     let x = c.in-Some-Left.condition in
-    λ b. ends_popped w' c.args.machine.now.frames.items c.pop.new.self.items f (comes w'.rules (task_in w' (Next.Value c.args.value)) c.args.machine.now.rewrites b) c.in-Err.end p (second_side_ends w'.rules x.level x.condition x.at (w'.bound x.binding) (w'.tree c.args.value.0) c.args.machine.now.rewrites b c.in-Err.end (c.in-Err.ensures.ends b))
+    λ b. ends_popped w' c.args.machine.now.frames.items c.pop.new.self.items f (λ n. comes w'.rules (task_in w' n (Next.Value c.args.value)) c.args.machine.now.rewrites b) c.in-Err.end p
+    (ends_on w'.rules.program (λ n. eval_on w'.rules (x.level + n) (side_of w'.rules x.condition x.at true (w'.bound x.binding)) b) _ c.in-Err.end
+    (λ n d h. second_side_ends w'.rules (x.level + n) x.condition x.at (w'.bound x.binding) (w'.tree c.args.value.0) c.args.machine.now.rewrites b d h) (c.in-Err.ensures.ends b))
 
 pub same-holds-requires-clause-left : goal.same-holds-requires-clause-left
 same-holds-requires-clause-left g c =
@@ -159,12 +161,12 @@ returns-in-Some-Right-clause-goes g c =
     let f = Waiting.Right c.in-Some-Right.condition c.in-Some-Right.left in
     let p = last_is w c.args.machine.now.frames.items c.pop.new.self.items f _ c.in-Some-Right.ensures.items c.in-Some-Right.field-0-is in
     let x = c.in-Some-Right.condition in
-    λ b. popped_result w c.args.machine.now.frames.items c.pop.new.self.items f (comes w.rules (task_in w (Next.Value c.args.value)) c.args.machine.now.rewrites b) (as_answer (counted_if c.args.machine.now.rewrites (where_true c.same-holds.result (solve_on w.rules x.level x.condition (suc x.at) (w.bound x.binding)) b))) (λ next. comes w.rules (task_in w next) c.args.machine.now.rewrites b) c.proceed.result p
-    (ap (λ y. as_answer (counted_if c.args.machine.now.rewrites (where_true y (solve_on w.rules x.level x.condition (suc x.at) (w.bound x.binding)) b))) (sym c.same-holds.ensures)) (c.proceed.ensures.goes c.args.machine.now.rewrites b)
+    λ b. popped_result w c.args.machine.now.frames.items c.pop.new.self.items f (Next.Value c.args.value) c.args.machine.now.rewrites b (λ n. as_answer (counted_if c.args.machine.now.rewrites (where_true c.same-holds.result (solve_on w.rules (x.level + n) x.condition (suc x.at) (w.bound x.binding)) b))) c.proceed.result p
+    (exactly w.rules.program _ _ (λ n. ap (λ y. capped (as_answer (counted_if c.args.machine.now.rewrites (where_true y (solve_on w.rules (x.level + n) x.condition (suc x.at) (w.bound x.binding)) b)))) (sym c.same-holds.ensures))) (c.proceed.ensures.goes c.args.machine.now.rewrites b)
 
 pub returns-in-Some-Right-clause-ends : goal.returns-in-Some-Right-clause-ends
 returns-in-Some-Right-clause-ends g c =
-    λ b. c.proceed.ensures.ends _
+    λ b. any_end _ _ c.proceed.result c.proceed.ensures.ends
 
 pub returns-in-Some-Right-clause-known : goal.returns-in-Some-Right-clause-known
 returns-in-Some-Right-clause-known g c =
@@ -209,12 +211,16 @@ returns-in-Ok-sorted-clause-goes g c =
     let f = Waiting.Sorting c.in-Some-Sorting.condition in
     let p = last_is w' c.args.machine.now.frames.items c.pop.new.self.items f _ c.in-Some-Sorting.ensures.items c.in-Some-Sorting.field-0-is in
     let x = c.in-Some-Sorting.condition in
-    λ b. popped_result w' c.args.machine.now.frames.items c.pop.new.self.items f (comes w'.rules (task_in w' (Next.Value c.args.value)) c.args.machine.now.rewrites b) (as_answer (counted_if c.args.machine.now.rewrites (where_true c.in-Ok-sorted.holds (solve_on w'.rules x.level x.condition (suc x.at) (w'.bound x.binding)) b))) (λ next. comes w'.rules (task_in w' next) c.args.machine.now.rewrites b) c.proceed-in-Ok-sorted.result p
-    (sorts_tested w'.rules x.level x.condition x.at (w'.bound x.binding) (w'.tree c.args.value.0) c.in-Ok-sorted.holds c.args.machine.now.rewrites b c.in-Ok-sorted.ensures.value) (c.proceed-in-Ok-sorted.ensures.goes c.args.machine.now.rewrites b)
+    let v = w'.tree c.args.value.0 in
+    let h = c.in-Ok-sorted.ensures.value in
+    λ b. popped_result w' c.args.machine.now.frames.items c.pop.new.self.items f (Next.Value c.args.value) c.args.machine.now.rewrites b (λ n. as_answer (counted_if c.args.machine.now.rewrites (where_true c.in-Ok-sorted.holds (solve_on w'.rules (x.level + n) x.condition (suc x.at) (w'.bound x.binding)) b))) c.proceed-in-Ok-sorted.result p
+    (leads_on w'.rules.program (λ k. sorts_on w'.rules k v) (λ k. gives h.0) h.1 x.level b _ _
+    (λ n e. ap capped (sorts_tested w'.rules (x.level + n) x.condition x.at (w'.bound x.binding) v h.0 c.in-Ok-sorted.holds c.args.machine.now.rewrites b h.2 e)) (λ n e. sorts_end w'.rules (x.level + n) x.condition x.at (w'.bound x.binding) v c.args.machine.now.rewrites b too_deep e))
+    (c.proceed-in-Ok-sorted.ensures.goes c.args.machine.now.rewrites b)
 
 pub returns-in-Ok-sorted-clause-ends : goal.returns-in-Ok-sorted-clause-ends
 returns-in-Ok-sorted-clause-ends g c =
-    λ b. c.proceed-in-Ok-sorted.ensures.ends _
+    λ b. any_end _ _ c.proceed-in-Ok-sorted.result c.proceed-in-Ok-sorted.ensures.ends
 
 pub returns-in-Ok-sorted-clause-known : goal.returns-in-Ok-sorted-clause-known
 returns-in-Ok-sorted-clause-known g c =
@@ -249,7 +255,7 @@ returns-in-Ok-choices-clause-goes g c =
     let f = Waiting.Matching c.in-Some-Matching.condition in
     let p = last_is w' c.args.machine.now.frames.items c.pop.new.self.items f _ c.in-Some-Matching.ensures.items c.in-Some-Matching.field-0-is in
     let x = c.in-Some-Matching.condition in
-    λ b. alike_popped w' c.args.machine.now.frames.items c.pop.new.self.items f (comes w'.rules (task_in w' (Next.Value c.args.value)) c.args.machine.now.rewrites b) _ p (ap (λ z. capped (as_answer (counted_if c.args.machine.now.rewrites z))) (sym (c.in-Ok-choices.ensures.value x.level b)))
+    λ b. went_popped w' c.args.machine.now.frames.items c.pop.new.self.items f (Next.Value c.args.value) _ c.args.machine.now.rewrites c.args.machine.now.rewrites b b p (exactly w'.rules.program _ _ (λ n. ap (λ z. capped (as_answer (counted_if c.args.machine.now.rewrites z))) (sym (c.in-Ok-choices.ensures.value (x.level + n) b))))
 
 pub returns-in-Ok-choices-clause-known : goal.returns-in-Ok-choices-clause-known
 returns-in-Ok-choices-clause-known g c =
@@ -296,6 +302,11 @@ pub returns-in_err-begin-in-Ok-clause-more : goal.returns-in_err-begin-in-Ok-cla
 returns-in_err-begin-in-Ok-clause-more g c =
     on_err c.from_residual-in_err-begin-in-Ok.result (TellsMore (g.T.StepWatcher.told c.args.watcher.now) (g.T.StepWatcher.told c.begin.new.watcher))
     (more_on (g.T.StepWatcher.told c.args.watcher.now) (g.T.StepWatcher.told c.leave.new.watcher) (g.T.StepWatcher.told c.begin.new.watcher) (more_by (g.T.StepWatcher.wanted c.args.watcher.now) (g.T.StepWatcher.told c.args.watcher.now) (g.T.StepWatcher.told c.leave.new.watcher) (left c.args.value) c.in_ok-leave.ensures.told c.in_ok-leave.ensures.watched.1) c.in_err-begin-in-Ok.ensures.more)
+
+pub returns-in-Ok-sorted-clause-more : goal.returns-in-Ok-sorted-clause-more
+returns-in-Ok-sorted-clause-more g c =
+    on_err c.proceed-in-Ok-sorted.result (TellsMore (g.T.StepWatcher.told c.args.watcher.now) (g.T.StepWatcher.told c.leave.new.watcher))
+    (more_by (g.T.StepWatcher.wanted c.args.watcher.now) (g.T.StepWatcher.told c.args.watcher.now) (g.T.StepWatcher.told c.leave.new.watcher) (left c.args.value) c.in_ok-leave.ensures.told c.in_ok-leave.ensures.watched.1)
 
 pub returns-in-Ok-clause-told : goal.returns-in-Ok-clause-told
 returns-in-Ok-clause-told g c =

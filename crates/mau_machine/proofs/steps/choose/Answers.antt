@@ -1,12 +1,12 @@
-use Rattle.std.proofs.Common.{◌≡◌, suc, refl, sym, ◌∙◌, ap, subst}
-use Rattle.std.specs.Prelude.{IfSome}
-use Rattle.mau_evaluation.specs.Run.{or_go_on}
-use Rattle.mau_machine.specs.Words.{IsChoiceOf, capped, solve_on}
-use Rattle.mau_machine.specs.Machine.{comes, task_in}
+use Rattle.std.proofs.Common.{◌≡◌, suc, ◌+◌, None, refl, sym, ◌∙◌, ap, subst}
+use Rattle.std.specs.Prelude.{IfSome, IfNone}
+use Rattle.mau_evaluation.specs.Run.{counted_if, or_go_on, gives}
+use Rattle.mau_machine.specs.Words.{IsChoiceOf, LeadsTo, IsKnownBy, capped, solve_on}
+use Rattle.mau_machine.specs.Machine.{as_answer}
 use Rattle.mau_machine.specs.declared.frame.Condition.{Condition}
 use Rattle.mau_machine.specs.declared.frame.Frame.TheVariants as Waiting
 use Rattle.mau_machine.specs.declared.frame.Control.TheVariants as Next
-use Rattle.mau_machine.proofs.Through.{alike_pushed}
+use Rattle.mau_machine.proofs.Following.{leads_on, went_on, went_pushed}
 use Rattle.mau_machine.proofs.Branches.{one_chosen, one}
 use Rattle.mau_machine.proofs.Advance.{stays_same, stays_marked, choice_told, fails_told}
 use Rattle.mau_machine.proofs.Held.{held_on, held_pushed, held_later}
@@ -28,11 +28,23 @@ returns-in_ok-wait-in-Some-clause-goes g c =
     let s : Condition g.row.W-Binding.Denot = (record { level = x.level; condition = x.condition; at = c.in-Some.at; binding = c.in-Ok-Some.binding }) in
     let f = Waiting.Choice x c.mark-mark.result in
     let next : suc x.at ≡ c.in-Some.at = one x.at ∙ sym c.in-Some.ensures.1 in
-    λ b. alike_pushed w' c.args.machine.now.frames.items c.wait.new.self.frames.items f (comes w'.rules (task_in w' (Next.Choose c.args.choosing)) c.args.machine.now.rewrites b) (comes w'.rules (task_in w' (Next.Solve s)) 0 b) c.in_ok-wait-in-Some.ensures.frames
-    (ap capped (one_chosen w'.rules (w'.unchosen c.args.choosing.choices x.level x.condition x.at) (w'.unchosen x.choices x.level x.condition x.at) x.before b (solve_on w'.rules x.level x.condition c.in-Some.at (w'.bound s.binding) b)
-    (subst (λ o. IfSome o (λ σ. w'.unchosen c.args.choosing.choices x.level x.condition x.at b ≡ or_go_on (w'.unchosen x.choices x.level x.condition x.at) (solve_on w'.rules x.level x.condition (suc x.at) (w'.bound σ) b)))
-    c.in-Ok-Some.field-0-is (c.in-Ok-Some.ensures.some x.level b)
-    ∙ ap (λ n. or_go_on (w'.unchosen x.choices x.level x.condition x.at) (solve_on w'.rules x.level x.condition n (w'.bound s.binding) b)) next)))
+    let P = w'.rules.program in
+    let h = subst (λ o. IfSome o (λ σ. LeadsTo P (λ k. w'.unchosen c.args.choosing.choices k x.condition x.at) (λ k b. or_go_on (w'.unchosen x.choices k x.condition x.at) (solve_on w'.rules k x.condition (suc x.at) (w'.bound σ) b))))
+    c.in-Ok-Some.field-0-is c.in-Ok-Some.ensures.some in
+    λ b. went_pushed w' c.args.machine.now.frames.items c.wait.new.self.frames.items f (Next.Choose c.args.choosing) (Next.Solve s) c.args.machine.now.rewrites 0 b b c.in_ok-wait-in-Some.ensures.frames tt
+    (leads_on P (λ k. w'.unchosen c.args.choosing.choices k x.condition x.at) (λ k b. or_go_on (w'.unchosen x.choices k x.condition x.at) (solve_on w'.rules k x.condition (suc x.at) (w'.bound s.binding) b)) h x.level b _ _
+    (λ n e. ap capped (one_chosen w'.rules (w'.unchosen c.args.choosing.choices (x.level + n) x.condition x.at) (w'.unchosen x.choices (x.level + n) x.condition x.at) x.before b (solve_on w'.rules (x.level + n) x.condition c.in-Some.at (w'.bound s.binding) b)
+    (e ∙ ap (λ m. or_go_on (w'.unchosen x.choices (x.level + n) x.condition x.at) (solve_on w'.rules (x.level + n) x.condition m (w'.bound s.binding) b)) next)))
+    (λ n e. ap (λ o. as_answer (counted_if x.before o)) e))
+
+pub returns-in-Ok-None-clause-goes : goal.returns-in-Ok-None-clause-goes
+returns-in-Ok-None-clause-goes g c =
+    let w' = (g.W.World.words c.choose.new.self c.choose.new.store) in
+    let x = c.args.choosing in
+    let P = w'.rules.program in
+    let h = subst (λ o. IfNone o (IsKnownBy P (λ k. w'.unchosen x.choices k x.condition x.at) None)) c.in-Ok-None.field-0-is c.in-Ok-None.ensures.none in
+    λ b. went_on w' c.args.machine.now.frames.items (Next.Choose x) (Next.Failed x.condition) c.args.machine.now.rewrites c.args.machine.now.rewrites b b
+    (leads_on P (λ k. w'.unchosen x.choices k x.condition x.at) (λ k. gives None) h x.level b _ _ (λ n e. ap (λ o. capped (as_answer (counted_if x.before o))) e) (λ n e. ap (λ o. as_answer (counted_if x.before o)) e))
 
 pub returns-in_ok-wait-in-Some-clause-known : goal.returns-in_ok-wait-in-Some-clause-known
 returns-in_ok-wait-in-Some-clause-known g c =

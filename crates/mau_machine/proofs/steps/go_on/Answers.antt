@@ -4,10 +4,10 @@ use Rattle.mau_api.specs.declared.step.Place.TheVariants.{Argument}
 use Rattle.mau_api.specs.Events.{entered}
 use Rattle.mau_evaluation.specs.Run.{counted}
 use Rattle.mau_machine.specs.Words.{capped, trees, eval_on}
-use Rattle.mau_machine.specs.Machine.{as_value, goes_on, comes, waits_in, task_in}
+use Rattle.mau_machine.specs.Machine.{as_value, goes_on, waits_in}
 use Rattle.mau_machine.specs.declared.frame.Frame.TheVariants as Waiting
 use Rattle.mau_machine.specs.declared.frame.Control.TheVariants as Next
-use Rattle.mau_machine.proofs.Through.{alike, alike_pushed}
+use Rattle.mau_machine.proofs.Following.{exactly, went_on, went_pushed}
 use Rattle.mau_machine.proofs.Branches.{at_trees, no_tree, one_argument, no_argument}
 use Rattle.mau_machine.proofs.Advance.{stays_same, stays_pushed, skipped_told, argument_told, tree_at_place}
 use Rattle.mau_machine.proofs.Held.{held_pushed, same_state, kind_at_place}
@@ -17,9 +17,9 @@ pub returns-then-place-len-clause-goes : goal.returns-then-place-len-clause-goes
 returns-then-place-len-clause-goes g c =
     let w = (g.W.World.words c.args.world.now c.args.store.now) in
     let a = c.args.arguments in
-    λ b. alike w c.args.machine.now.frames.items (comes w.rules (task_in w (Next.Evaluating a)) c.args.machine.now.rewrites b) (comes w.rules (task_in w (Next.Evaluating (record a { next = a.next + 1 }))) c.args.machine.now.rewrites b)
-    (ap (λ o. capped (as_value (counted c.args.machine.now.rewrites o))) (no_argument w.rules a.level a.op.0 (trees w a.args.items) a.order.items a.next c.index-place.result.now (search (rules, c.if-arguments-len.false)) c.index-place.ensures
-    (no_tree w a.args.items c.index-place.result.now (search (rules, c.if-place-len.true))) b))
+    λ b. went_on w c.args.machine.now.frames.items (Next.Evaluating a) (Next.Evaluating (record a { next = a.next + 1 })) c.args.machine.now.rewrites c.args.machine.now.rewrites b b
+    (exactly w.rules.program _ _ (λ n. ap (λ o. capped (as_value (counted c.args.machine.now.rewrites o))) (no_argument w.rules (a.level + n) a.op.0 (trees w a.args.items) a.order.items a.next c.index-place.result.now (search (rules, c.if-arguments-len.false)) c.index-place.ensures
+    (no_tree w a.args.items c.index-place.result.now (search (rules, c.if-place-len.true))) b)))
 
 pub returns-clause-goes : goal.returns-clause-goes
 returns-clause-goes g c =
@@ -28,10 +28,10 @@ returns-clause-goes g c =
     let i = c.index-place.result.now in
     let x = c.index-term.result.now in
     let f = Waiting.Argument (record a { next = a.next + 1 }) i in
-    λ b. alike_pushed w c.args.machine.now.frames.items c.begin.new.machine.frames.items f (comes w.rules (task_in w (Next.Evaluating a)) c.args.machine.now.rewrites b) (comes w.rules (task_in w (Next.Eval a.level x)) c.begin.new.machine.rewrites b) c.in_ok-begin.ensures.frames
-    (ap capped (one_argument w.rules a.level a.op.0 (trees w a.args.items) a.order.items a.next i (w.tree x.0) (search (rules, c.if-arguments-len.false)) c.index-place.ensures
+    λ b. went_pushed w c.args.machine.now.frames.items c.begin.new.machine.frames.items f (Next.Evaluating a) (Next.Eval a.level x) c.args.machine.now.rewrites c.begin.new.machine.rewrites b b c.in_ok-begin.ensures.frames tt
+    (exactly w.rules.program _ _ (λ n. ap capped (one_argument w.rules (a.level + n) a.op.0 (trees w a.args.items) a.order.items a.next i (w.tree x.0) (search (rules, c.if-arguments-len.false)) c.index-place.ensures
     (at_trees w a.args.items i x (search (rules, c.if-place-len.false)) c.index-term.ensures) c.args.machine.now.rewrites b)
-    ∙ ap (λ n. capped (goes_on w.rules (waits_in w f) (as_value (counted n (eval_on w.rules a.level (w.tree x.0) b))))) (sym c.in_ok-begin.ensures.rewrites))
+    ∙ ap (λ m. capped (goes_on w.rules (waits_in w n f) (as_value (counted m (eval_on w.rules (a.level + n) (w.tree x.0) b))))) (sym c.in_ok-begin.ensures.rewrites)))
 
 pub returns-clause-known : goal.returns-clause-known
 returns-clause-known g c =

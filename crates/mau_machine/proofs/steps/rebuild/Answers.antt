@@ -1,14 +1,15 @@
-use Rattle.std.proofs.Common.{◌∷◌, [], length, drop, true, refl, sym, ◌∙◌, ap}
+use Rattle.std.proofs.Common.{◌+◌, ◌∷◌, [], length, true, false, refl, sym, ◌∙◌, ap}
 use Rattle.mau_api.specs.declared.step.Place.TheVariants.{Whole}
 use Rattle.mau_api.specs.Events.{entered}
 use Rattle.mau_evaluation.specs.Run.{counted}
 use Rattle.mau_machine.specs.Words.{capped, trees, eval_on}
-use Rattle.mau_machine.specs.Machine.{as_value, on_arguments, comes, task_in}
+use Rattle.mau_terms.specs.Norm.{build}
+use Rattle.mau_evaluation.specs.Evaluation.{within_limits}
+use Rattle.mau_machine.specs.Machine.{as_value}
 use Rattle.mau_machine.specs.Known.{value_of}
 use Rattle.mau_machine.specs.declared.frame.Frame.TheVariants as Waiting
 use Rattle.mau_machine.specs.declared.frame.Control.TheVariants as Next
-use Rattle.mau_machine.proofs.Counts.{value_ends}
-use Rattle.mau_machine.proofs.Through.{alike_pushed, ends_through}
+use Rattle.mau_machine.proofs.Following.{exactly, ends_on, ends_exactly, ends_through, went_on, went_pushed}
 use Rattle.mau_machine.proofs.Branches.{built_from, built_ends_from, again_waits}
 use Rattle.mau_machine.proofs.Advance.{stays_same, stays_pushed, built_told, again_entered, built_is}
 use Rattle.mau_machine.proofs.Held.{held_on, held_pushed, held_later}
@@ -21,11 +22,20 @@ returns-in-Ok-default-true-clause-goes g c =
     let k = (g.met.W.World.keeps c.args.world.now c.build.new.self c.args.store.now c.build.new.store c.build.ensures.grows) in
     let a = c.args.arguments in
     let t = c.in-Ok-default-true.term in
-    λ b. alike_pushed w' c.args.machine.now.frames.items c.begin.new.machine.frames.items (Waiting.Again t) (comes w'.rules (task_in w' (Next.Evaluating c.args.arguments)) c.args.machine.now.rewrites b) (as_value (counted c.begin.new.machine.rewrites (eval_on w'.rules a.level (w'.tree t.0) b))) c.in_ok-begin-in-Ok-default-true.ensures.frames
-    (ap (λ o. capped (as_value (counted c.args.machine.now.rewrites o))) (built_from w' a.level a.op.0 a.order.items c.deref-2.result.now a.args.items c.deref.result.now a.next (w'.tree t.0) true c.in-Ok-default-true.field-0-1 b
+    λ b. went_pushed w' c.args.machine.now.frames.items c.begin.new.machine.frames.items (Waiting.Again t) (Next.Evaluating c.args.arguments) (Next.Eval a.level t) c.args.machine.now.rewrites c.begin.new.machine.rewrites b b c.in_ok-begin-in-Ok-default-true.ensures.frames tt
+    (exactly w'.rules.program _ _ (λ m. ap (λ o. capped (as_value (counted c.args.machine.now.rewrites o))) (built_from w' (a.level + m) a.op.0 a.order.items c.deref-2.result.now a.args.items c.deref.result.now a.next (w'.tree t.0) true c.in-Ok-default-true.field-0-1 b
     c.requires.last c.deref-2.ensures.value c.deref.ensures.value c.in-Ok-default-true.field-0-1-test (c.in-Ok-default-true.ensures.value b) c.in-Ok-default-true.ensures.changed)
-    ∙ (ap (λ n. capped (as_value (counted n (eval_on w'.rules a.level (w'.tree t.0) b)))) (sym c.in_ok-begin-in-Ok-default-true.ensures.rewrites)
-    ∙ ap capped (again_waits w'.rules (counted c.begin.new.machine.rewrites (eval_on w'.rules a.level (w'.tree t.0) b)))))
+    ∙ (ap (λ n. capped (as_value (counted n (eval_on w'.rules (a.level + m) (w'.tree t.0) b)))) (sym c.in_ok-begin-in-Ok-default-true.ensures.rewrites)
+    ∙ ap capped (again_waits w'.rules (counted c.begin.new.machine.rewrites (eval_on w'.rules (a.level + m) (w'.tree t.0) b))))))
+
+pub returns-in-Ok-default-false-clause-goes : goal.returns-in-Ok-default-false-clause-goes
+returns-in-Ok-default-false-clause-goes g c =
+    let w' = (g.W.World.words c.build.new.self c.build.new.store) in
+    let a = c.args.arguments in
+    let t = c.in-Ok-default-false.term in
+    λ b. went_on w' c.args.machine.now.frames.items (Next.Evaluating c.args.arguments) (Next.Top a.level t) c.args.machine.now.rewrites c.args.machine.now.rewrites b b
+    (exactly w'.rules.program _ _ (λ m. ap (λ o. capped (as_value (counted c.args.machine.now.rewrites o))) (built_from w' (a.level + m) a.op.0 a.order.items c.deref-2.result.now a.args.items c.deref.result.now a.next (w'.tree t.0) false c.in-Ok-default-false.field-0-1 b
+    c.requires.last c.deref-2.ensures.value c.deref.ensures.value c.in-Ok-default-false.field-0-1-test (c.in-Ok-default-false.ensures.value b) c.in-Ok-default-false.ensures.changed)))
 
 pub returns-in-Ok-default-true-clause-known : goal.returns-in-Ok-default-true-clause-known
 returns-in-Ok-default-true-clause-known g c =
@@ -51,9 +61,10 @@ returns-clause-ends g c =
     let w' = (g.W.World.words c.build.new.self c.build.new.store) in
     let k = (g.met.W.World.keeps c.args.world.now c.build.new.self c.args.store.now c.build.new.store c.build.ensures.grows) in
     let a = c.args.arguments in
-    λ b. ends_through w' c.args.machine.now.frames.items (comes w'.rules (task_in w' (Next.Evaluating c.args.arguments)) c.args.machine.now.rewrites b) c.in-Err.end
-    (value_ends c.args.machine.now.rewrites (on_arguments w'.rules a.level a.op.0 a.order.items (drop a.next a.order.items) (trees w' a.args.items) b) c.in-Err.end
-    (built_ends_from w' a.level a.op.0 a.order.items a.args.items c.deref.result.now a.next b c.in-Err.end c.requires.last c.deref.ensures.value (c.in-Err.ensures.ends b)))
+    let th = w'.rules.program.sign.theory in
+    λ b. ends_through w' c.args.machine.now.frames.items _ c.in-Err.end
+    (ends_on w'.rules.program (λ n. within_limits th (build (th a.op.0) a.op.0 (trees w' c.deref.result.now)) b) _ c.in-Err.end (λ n d h. ap (λ o. as_value (counted c.args.machine.now.rewrites o))
+    (built_ends_from w' (a.level + n) a.op.0 a.order.items a.args.items c.deref.result.now a.next b d c.requires.last c.deref.ensures.value h)) (ends_exactly w'.rules.program _ c.in-Err.end (λ n. c.in-Err.ensures.ends b)))
 
 pub returns-in-Ok-default-true-clause-told : goal.returns-in-Ok-default-true-clause-told
 returns-in-Ok-default-true-clause-told g c =

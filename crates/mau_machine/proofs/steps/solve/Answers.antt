@@ -1,16 +1,16 @@
-use Rattle.std.proofs.Common.{◌++◌, ◌∷◌, [], length, true, false, refl, sym, ◌∙◌, ap, subst}
+use Rattle.std.proofs.Common.{◌+◌, ◌++◌, ◌∷◌, [], length, true, false, refl, sym, ◌∙◌, ap, subst}
 use Rattle.mau_terms.specs.Norm.{norm}
 use Rattle.mau_api.specs.declared.step.Place.TheVariants.{Fragment as OfFragment}
 use Rattle.mau_api.specs.Events.{entered}
 use Rattle.mau_machine.specs.Telling.{IsSide}
 use Rattle.mau_evaluation.specs.Run.{counted}
-use Rattle.mau_machine.specs.Words.{capped, eval_on, Asks, HasSideBy}
-use Rattle.mau_machine.specs.Machine.{as_value, goes_on, comes, waits_in, task_in}
+use Rattle.mau_machine.specs.Words.{capped, eval_on, side_of, Asks, HasSideBy}
+use Rattle.mau_machine.specs.Machine.{as_value, goes_on, waits_in}
 use Rattle.mau_machine.specs.declared.goal.Goal.TheVariants as Goals
 use Rattle.mau_machine.specs.declared.frame.Frame.TheVariants as Waiting
 use Rattle.mau_machine.specs.declared.frame.Control.TheVariants as Next
-use Rattle.mau_machine.proofs.Through.{alike_pushed, ends_through}
-use Rattle.mau_machine.proofs.Branches.{equality, sort_test, match, equality_ends, sort_test_ends, match_ends}
+use Rattle.mau_machine.proofs.Following.{exactly, ends_on, ends_through, went_on, went_pushed}
+use Rattle.mau_machine.proofs.Branches.{nothing_left, reaching_fails, equality, sort_test, match, equality_ends, sort_test_ends, match_ends}
 use Rattle.mau_machine.proofs.Advance.{stays_same, stays_pushed, solved_told, left_entered, sorting_entered, matching_entered, fails_told}
 use Rattle.mau_machine.proofs.Held.{held_pushed, held_later, same_state, asks_on}
 use Rattle.mau_machine.proofs.steps.solve.Goals as goal
@@ -25,9 +25,9 @@ returns-in_ok-begin-in-Ok-clause-goes g c =
     let asks' = asks_on w w' k x.condition x.at Goals.Equality asks in
     let t = c.in-Ok.term in
     let f = Waiting.Left x in
-    λ b. alike_pushed w' c.args.machine.now.frames.items c.begin.new.machine.frames.items f (comes w'.rules (task_in w' (Next.Solve x)) c.args.machine.now.rewrites b) (comes w'.rules (task_in w' (Next.Eval x.level t)) c.begin.new.machine.rewrites b) c.in_ok-begin-in-Ok.ensures.frames
-    (ap capped (equality w'.rules x.level x.condition x.at (w'.bound x.binding) asks' (w'.tree t.0) b (c.in-Ok.ensures.value b) c.args.machine.now.rewrites)
-    ∙ ap (λ n. capped (goes_on w'.rules (waits_in w' f) (as_value (counted n (eval_on w'.rules x.level (w'.tree t.0) b))))) (sym c.in_ok-begin-in-Ok.ensures.rewrites))
+    λ b. went_pushed w' c.args.machine.now.frames.items c.begin.new.machine.frames.items f (Next.Solve x) (Next.Eval x.level t) c.args.machine.now.rewrites c.begin.new.machine.rewrites b b c.in_ok-begin-in-Ok.ensures.frames tt
+    (exactly w'.rules.program _ _ (λ n. ap capped (equality w'.rules (x.level + n) x.condition x.at (w'.bound x.binding) asks' (w'.tree t.0) b (c.in-Ok.ensures.value n b) c.args.machine.now.rewrites)
+    ∙ ap (λ m. capped (goes_on w'.rules (waits_in w' n f) (as_value (counted m (eval_on w'.rules (x.level + n) (w'.tree t.0) b))))) (sym c.in_ok-begin-in-Ok.ensures.rewrites)))
 
 pub returns-in_ok-begin-in-Ok-clause-known : goal.returns-in_ok-begin-in-Ok-clause-known
 returns-in_ok-begin-in-Ok-clause-known g c =
@@ -49,8 +49,9 @@ returns-in-Err-clause-ends g c =
     let x = c.args.condition in
     let asks : Asks w.rules x.condition x.at Goals.Equality = subst (λ z. Asks w.rules x.condition x.at z) c.in-Equality.is (c.goal.ensures c.args.store.now) in
     let asks' = asks_on w w' k x.condition x.at Goals.Equality asks in
-    λ b. ends_through w' c.args.machine.now.frames.items (comes w'.rules (task_in w' (Next.Solve x)) c.args.machine.now.rewrites b) c.in-Err.end
-    (equality_ends w'.rules x.level x.condition x.at (w'.bound x.binding) asks' c.args.machine.now.rewrites b c.in-Err.end (c.in-Err.ensures.ends b))
+    λ b. ends_through w' c.args.machine.now.frames.items _ c.in-Err.end
+    (ends_on w'.rules.program (λ n. eval_on w'.rules (x.level + n) (side_of w'.rules x.condition x.at false (w'.bound x.binding)) b) _ c.in-Err.end (λ n d h. equality_ends w'.rules (x.level + n) x.condition x.at (w'.bound x.binding) asks' c.args.machine.now.rewrites b d h)
+    (c.in-Err.ensures.ends b))
 
 pub returns-in_ok-begin-in-Ok-side-clause-goes : goal.returns-in_ok-begin-in-Ok-side-clause-goes
 returns-in_ok-begin-in-Ok-side-clause-goes g c =
@@ -62,9 +63,9 @@ returns-in_ok-begin-in-Ok-side-clause-goes g c =
     let asks' = asks_on w w' k x.condition x.at Goals.Sort asks in
     let t = c.in-Ok-side.term in
     let f = Waiting.Sorting x in
-    λ b. alike_pushed w' c.args.machine.now.frames.items c.begin-in-Ok-side.new.machine.frames.items f (comes w'.rules (task_in w' (Next.Solve x)) c.args.machine.now.rewrites b) (comes w'.rules (task_in w' (Next.Eval x.level t)) c.begin-in-Ok-side.new.machine.rewrites b) c.in_ok-begin-in-Ok-side.ensures.frames
-    (ap capped (sort_test w'.rules x.level x.condition x.at (w'.bound x.binding) asks' (w'.tree t.0) b (c.in-Ok-side.ensures.value b) c.args.machine.now.rewrites)
-    ∙ ap (λ n. capped (goes_on w'.rules (waits_in w' f) (as_value (counted n (eval_on w'.rules x.level (w'.tree t.0) b))))) (sym c.in_ok-begin-in-Ok-side.ensures.rewrites))
+    λ b. went_pushed w' c.args.machine.now.frames.items c.begin-in-Ok-side.new.machine.frames.items f (Next.Solve x) (Next.Eval x.level t) c.args.machine.now.rewrites c.begin-in-Ok-side.new.machine.rewrites b b c.in_ok-begin-in-Ok-side.ensures.frames tt
+    (exactly w'.rules.program _ _ (λ n. ap capped (sort_test w'.rules (x.level + n) x.condition x.at (w'.bound x.binding) asks' (w'.tree t.0) b (c.in-Ok-side.ensures.value n b) c.args.machine.now.rewrites)
+    ∙ ap (λ m. capped (goes_on w'.rules (waits_in w' n f) (as_value (counted m (eval_on w'.rules (x.level + n) (w'.tree t.0) b))))) (sym c.in_ok-begin-in-Ok-side.ensures.rewrites)))
 
 pub returns-in_ok-begin-in-Ok-side-clause-known : goal.returns-in_ok-begin-in-Ok-side-clause-known
 returns-in_ok-begin-in-Ok-side-clause-known g c =
@@ -86,8 +87,9 @@ returns-in-Err-side-clause-ends g c =
     let x = c.args.condition in
     let asks : Asks w.rules x.condition x.at Goals.Sort = subst (λ z. Asks w.rules x.condition x.at z) c.in-Sort.is (c.goal.ensures c.args.store.now) in
     let asks' = asks_on w w' k x.condition x.at Goals.Sort asks in
-    λ b. ends_through w' c.args.machine.now.frames.items (comes w'.rules (task_in w' (Next.Solve x)) c.args.machine.now.rewrites b) c.in-Err-side.end
-    (sort_test_ends w'.rules x.level x.condition x.at (w'.bound x.binding) asks' c.args.machine.now.rewrites b c.in-Err-side.end (c.in-Err-side.ensures.ends b))
+    λ b. ends_through w' c.args.machine.now.frames.items _ c.in-Err-side.end
+    (ends_on w'.rules.program (λ n. eval_on w'.rules (x.level + n) (side_of w'.rules x.condition x.at false (w'.bound x.binding)) b) _ c.in-Err-side.end (λ n d h. sort_test_ends w'.rules (x.level + n) x.condition x.at (w'.bound x.binding) asks' c.args.machine.now.rewrites b d h)
+    (c.in-Err-side.ensures.ends b))
 
 pub returns-in_ok-begin-in-Ok-side-2-clause-goes : goal.returns-in_ok-begin-in-Ok-side-2-clause-goes
 returns-in_ok-begin-in-Ok-side-2-clause-goes g c =
@@ -99,9 +101,9 @@ returns-in_ok-begin-in-Ok-side-2-clause-goes g c =
     let asks' = asks_on w w' k x.condition x.at Goals.Matching asks in
     let t = c.in-Ok-side-2.term in
     let f = Waiting.Matching x in
-    λ b. alike_pushed w' c.args.machine.now.frames.items c.begin-in-Ok-side-2.new.machine.frames.items f (comes w'.rules (task_in w' (Next.Solve x)) c.args.machine.now.rewrites b) (comes w'.rules (task_in w' (Next.Eval x.level t)) c.begin-in-Ok-side-2.new.machine.rewrites b) c.in_ok-begin-in-Ok-side-2.ensures.frames
-    (ap capped (match w'.rules x.level x.condition x.at (w'.bound x.binding) asks' (w'.tree t.0) b (c.in-Ok-side-2.ensures.value b) c.args.machine.now.rewrites)
-    ∙ ap (λ n. capped (goes_on w'.rules (waits_in w' f) (as_value (counted n (eval_on w'.rules x.level (w'.tree t.0) b))))) (sym c.in_ok-begin-in-Ok-side-2.ensures.rewrites))
+    λ b. went_pushed w' c.args.machine.now.frames.items c.begin-in-Ok-side-2.new.machine.frames.items f (Next.Solve x) (Next.Eval x.level t) c.args.machine.now.rewrites c.begin-in-Ok-side-2.new.machine.rewrites b b c.in_ok-begin-in-Ok-side-2.ensures.frames tt
+    (exactly w'.rules.program _ _ (λ n. ap capped (match w'.rules (x.level + n) x.condition x.at (w'.bound x.binding) asks' (w'.tree t.0) b (c.in-Ok-side-2.ensures.value n b) c.args.machine.now.rewrites)
+    ∙ ap (λ m. capped (goes_on w'.rules (waits_in w' n f) (as_value (counted m (eval_on w'.rules (x.level + n) (w'.tree t.0) b))))) (sym c.in_ok-begin-in-Ok-side-2.ensures.rewrites)))
 
 pub returns-in_ok-begin-in-Ok-side-2-clause-known : goal.returns-in_ok-begin-in-Ok-side-2-clause-known
 returns-in_ok-begin-in-Ok-side-2-clause-known g c =
@@ -123,8 +125,9 @@ returns-in-Err-side-2-clause-ends g c =
     let x = c.args.condition in
     let asks : Asks w.rules x.condition x.at Goals.Matching = subst (λ z. Asks w.rules x.condition x.at z) c.in-Matching.is (c.goal.ensures c.args.store.now) in
     let asks' = asks_on w w' k x.condition x.at Goals.Matching asks in
-    λ b. ends_through w' c.args.machine.now.frames.items (comes w'.rules (task_in w' (Next.Solve x)) c.args.machine.now.rewrites b) c.in-Err-side-2.end
-    (match_ends w'.rules x.level x.condition x.at (w'.bound x.binding) asks' c.args.machine.now.rewrites b c.in-Err-side-2.end (c.in-Err-side-2.ensures.ends b))
+    λ b. ends_through w' c.args.machine.now.frames.items _ c.in-Err-side-2.end
+    (ends_on w'.rules.program (λ n. eval_on w'.rules (x.level + n) (side_of w'.rules x.condition x.at true (w'.bound x.binding)) b) _ c.in-Err-side-2.end (λ n d h. match_ends w'.rules (x.level + n) x.condition x.at (w'.bound x.binding) asks' c.args.machine.now.rewrites b d h)
+    (c.in-Err-side-2.ensures.ends b))
 
 pub returns-in-Nothing-clause-told : goal.returns-in-Nothing-clause-told
 returns-in-Nothing-clause-told g c =
@@ -200,3 +203,19 @@ returns-in_ok-begin-in-Ok-side-2-clause-told g c =
     λ wants. stays_pushed w w' k c.args.store.now c.side-in-Matching.new.store X.0 (g.W.World.table c.args.world.now) (g.W.World.table c.side-in-Matching.new.world) X.1 c.args.machine.now.frames.items c.begin-in-Ok-side-2.new.machine.frames.items (Waiting.Matching x) (Next.Solve x) (Next.Eval x.level t) c.args.machine.now.rewrites c.begin-in-Ok-side-2.new.machine.rewrites (length (g.T.StepWatcher.told c.args.watcher.now)) (g.T.StepWatcher.told c.args.watcher.now) (g.T.StepWatcher.told c.begin-in-Ok-side-2.new.watcher) (entered t (OfFragment x.at 1) ∷ []) c.in_ok-begin-in-Ok-side-2.ensures.frames refl
     (c.in_ok-begin-in-Ok-side-2.ensures.told wants ∙ ap (λ p. (g.T.StepWatcher.told c.args.watcher.now) ++ entered t p ∷ []) c.in_ok-place-in-Ok-side-2.ensures)
     (λ n m J ys l h q. matching_entered w' c.side-in-Matching.new.store (g.W.World.table c.side-in-Matching.new.world) n m J c.args.machine.now.rewrites c.begin-in-Ok-side-2.new.machine.rewrites x.level x t ys s c.in_ok-begin-in-Ok-side-2.ensures.rewrites h q)
+
+pub returns-in-Nothing-clause-goes : goal.returns-in-Nothing-clause-goes
+returns-in-Nothing-clause-goes g c =
+    let w = (g.W.World.words c.args.world.now c.args.store.now) in
+    let x = c.args.condition in
+    let asks : Asks w.rules x.condition x.at Goals.Nothing = subst (λ z. Asks w.rules x.condition x.at z) c.in-Nothing.is (c.goal.ensures c.args.store.now) in
+    λ b. went_on w c.args.machine.now.frames.items (Next.Solve x) (Next.Held x.condition x.binding) c.args.machine.now.rewrites c.args.machine.now.rewrites b b
+    (exactly w.rules.program _ _ (λ n. ap capped (nothing_left w.rules (x.level + n) x.condition x.at (w.bound x.binding) asks c.args.machine.now.rewrites b)))
+
+pub returns-in-Reaching-clause-goes : goal.returns-in-Reaching-clause-goes
+returns-in-Reaching-clause-goes g c =
+    let w = (g.W.World.words c.args.world.now c.args.store.now) in
+    let x = c.args.condition in
+    let asks : Asks w.rules x.condition x.at Goals.Reaching = subst (λ z. Asks w.rules x.condition x.at z) c.in-Reaching.is (c.goal.ensures c.args.store.now) in
+    λ b. went_on w c.args.machine.now.frames.items (Next.Solve x) (Next.Failed x.condition) c.args.machine.now.rewrites c.args.machine.now.rewrites b b
+    (exactly w.rules.program _ _ (λ n. ap capped (reaching_fails w.rules (x.level + n) x.condition x.at (w.bound x.binding) asks c.args.machine.now.rewrites b)))

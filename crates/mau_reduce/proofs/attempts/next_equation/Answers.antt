@@ -1,11 +1,12 @@
-use Rattle.std.proofs.Common.{◌≡◌, Some, IfSome, IsSome, drop, map, refl, sym, ap, ◌∙◌, subst, arith}
+use Rattle.std.proofs.Common.{◌≡◌, None, IfSome, IfNone, drop, map, refl, sym, ap, ◌∙◌, subst, arith}
 use Rattle.std.specs.Option.{option_map}
 use Rattle.std.proofs.lemmas.Option.{slice_get_within}
 use Rattle.mau_terms.specs.Subst.{variables}
 use Rattle.mau_terms.specs.View.{tree_of, variable_of}
 use Rattle.mau_store.specs.Trees.{tree_at}
-use Rattle.mau_evaluation.specs.Run.{or_go_on}
+use Rattle.mau_evaluation.specs.Run.{gives, or_else}
 use Rattle.mau_api.specs.Programs.{program_over}
+use Rattle.mau_reduce.specs.Comes.{ComesTo}
 use Rattle.mau_reduce.specs.ByTop.{order_for}
 use Rattle.mau_reduce.specs.Trying.{solution_in, left_by, number_gives, IsFound}
 use Rattle.mau_reduce.specs.Lasts.{left_variables_of, IsListed}
@@ -14,10 +15,10 @@ use Rattle.mau_reduce.proofs.CompiledAt.{compiled_there, compiled_at}
 use Rattle.mau_reduce.proofs.attempts.next_equation.Goals as goal
 
 pub returns-in_ok-binding-in-Some-clause-some : goal.returns-in_ok-binding-in-Some-clause-some
-returns-in_ok-binding-in-Some-clause-some g c = λ hooks B k b.
-    subst (λ o. IfSome o (λ x. left_by (program_over c.args.program.now hooks) B k c.args.store.now (tree_at c.args.store.now c.args.term.0) (option_map (λ y. (y.number, g.L.Lister.given y.listing)) c.args.attempts.now.tried) (drop c.args.attempts.now.next (order_for c.args.program.now (tree_at c.args.store.now c.args.term.0))) b
-    ≡ or_go_on (left_by (program_over c.args.program.now hooks) B k c.next_found.new.store (tree_at c.args.store.now c.args.term.0) (option_map (λ y. (y.number, g.L.Lister.given y.listing)) c.next_found.new.tried) (drop c.next_found.new.next (order_for c.args.program.now (tree_at c.args.store.now c.args.term.0))))
-    (number_gives (program_over c.args.program.now hooks) B k (tree_at c.args.store.now c.args.term.0) x.number (solution_in c.next_found.new.store x.solution) b))) c.in-Some.is (c.in_ok-found.ensures.some hooks B k b)
+returns-in_ok-binding-in-Some-clause-some g c = λ hooks B derived.
+    subst (λ o. IfSome o (λ x. ComesTo (program_over c.args.program.now hooks) (λ k. left_by (program_over c.args.program.now hooks) B k c.args.store.now (tree_at c.args.store.now c.args.term.0) (option_map (λ y. (y.number, g.L.Lister.given y.listing)) c.args.attempts.now.tried) (drop c.args.attempts.now.next (order_for c.args.program.now (tree_at c.args.store.now c.args.term.0))))
+    (λ k. or_else (number_gives (program_over c.args.program.now hooks) B k (tree_at c.args.store.now c.args.term.0) x.number (solution_in c.next_found.new.store x.solution))
+    (left_by (program_over c.args.program.now hooks) B k c.next_found.new.store (tree_at c.args.store.now c.args.term.0) (option_map (λ y. (y.number, g.L.Lister.given y.listing)) c.next_found.new.tried) (drop c.next_found.new.next (order_for c.args.program.now (tree_at c.args.store.now c.args.term.0))))))) c.in-Some.is (c.in_ok-found.ensures.some hooks B derived)
 
 pub index-requires : goal.index-requires
 index-requires g c =
@@ -50,3 +51,8 @@ returns-in_ok-binding-in-Some-clause-is g c = (refl, subst (λ o. IfSome o (λ x
 pub returns-in_ok-binding-in-Some-clause-listed : goal.returns-in_ok-binding-in-Some-clause-listed
 returns-in_ok-binding-in-Some-clause-listed g c =
     at_some (λ x. IsListed c.args.program.now c.next_found.new.store c.next_found.new.table c.args.term x.number x.solution) c.in_ok-found.field-0 c.in-Some.found c.in-Some.is c.in_ok-found.ensures.listed
+
+pub returns-in-None-clause-none : goal.returns-in-None-clause-none
+returns-in-None-clause-none g c = λ hooks B derived.
+    subst (λ o. IfNone o (ComesTo (program_over c.args.program.now hooks) (λ k. left_by (program_over c.args.program.now hooks) B k c.args.store.now (tree_at c.args.store.now c.args.term.0) (option_map (λ y. (y.number, g.L.Lister.given y.listing)) c.args.attempts.now.tried) (drop c.args.attempts.now.next (order_for c.args.program.now (tree_at c.args.store.now c.args.term.0))))
+    (λ k. gives None))) c.in-None.is (c.in_ok-found.ensures.none hooks B derived)

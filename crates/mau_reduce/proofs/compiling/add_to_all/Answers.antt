@@ -1,4 +1,4 @@
-use Rattle.std.proofs.Common.{◌≡◌, ◌<◌, ◌≤◌, length, map, arith}
+use Rattle.std.proofs.Common.{◌<◌, ◌≤◌, length, map, arith}
 use Rattle.std.proofs.lemmas.List.{length-map}
 use Rattle.mau_reduce.proofs.Ordered.{none_added, one_added_in, all_added}
 use Rattle.mau_reduce.proofs.compiling.add_to_all.Goals as goal

@@ -1,4 +1,4 @@
-use Rattle.std.proofs.Common.{◌≡◌, ◌<◌, ◌+◌, suc, All, IfSome, Some, length, map, get_or, slice_get, sym, ap, ◌∙◌, subst, arith}
+use Rattle.std.proofs.Common.{◌≡◌, ◌<◌, ◌+◌, All, IfSome, Some, length, map, get_or, slice_get, sym, ap, ◌∙◌, subst, arith}
 use Rattle.std.proofs.lemmas.List.{get_or_default, length-map}
 use Rattle.mau_terms.specs.Bare.{IsBare}
 use Rattle.mau_terms.specs.View.{tree_of}

@@ -1,4 +1,4 @@
-use Rattle.std.proofs.Common.{◌≡◌, Some, IfOk, IfErr, slice_get, sym, ap, ◌∙◌, subst, arith}
+use Rattle.std.proofs.Common.{◌≡◌, IfOk, IfErr, sym, subst, arith}
 use Rattle.std.proofs.lemmas.Option.{slice_get_within}
 use Rattle.mau_terms.specs.Bare.{IsBareIn}
 use Rattle.mau_terms.specs.Reading.{reading}
@@ -8,7 +8,7 @@ use Rattle.mau_signature.specs.Signature.{theory_at, terms_over}
 use Rattle.mau_program.specs.declared.statements.Equation as Written
 use Rattle.mau_store.specs.Trees.{tree_at, StandsFor}
 use Rattle.mau_evaluation.specs.Evaluation.{admit}
-use Rattle.mau_api.specs.Programs.{program_over, equation_of}
+use Rattle.mau_api.specs.Programs.{equation_of}
 use Rattle.mau_reduce.specs.Bindings.{bound_in}
 use Rattle.mau_reduce.specs.Ends.{IsEnd}
 use Rattle.mau_reduce.specs.Trying.{solution_in}

@@ -1,4 +1,4 @@
-use Rattle.std.proofs.Common.{◌≡◌, IfOk, IfErr, sym, ap₂, subst}
+use Rattle.std.proofs.Common.{IfOk, IfErr, sym, ap₂, subst}
 use Rattle.mau_signature.specs.Signature.{theory_at}
 use Rattle.mau_store.specs.Trees.{tree_at, StandsFor}
 use Rattle.mau_evaluation.specs.Evaluation.{admit}

@@ -8,7 +8,7 @@ use Rattle.mau_terms.specs.Subst.{value_at, instance}
 use Rattle.mau_terms.specs.View.{tree_of, variable_of}
 use Rattle.mau_terms.proofs.Taken.{one_kind}
 use Rattle.mau_signature.specs.Signature.{theory_at, terms_over}
-use Rattle.mau_store.specs.Trees.{tree_at, trees_at}
+use Rattle.mau_store.specs.Trees.{tree_at}
 use Rattle.mau_store.specs.View.{numbers}
 use Rattle.mau_store.proofs.Growth.{extension_is_preorder}
 use Rattle.mau_store.proofs.Standing.{tree_at-extends}

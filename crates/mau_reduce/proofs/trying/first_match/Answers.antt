@@ -1,10 +1,9 @@
-use Rattle.std.proofs.Common.{◌≡◌, ◌⊎◌, inl, inr, [], subst, sym}
+use Rattle.std.proofs.Common.{◌≡◌, ◌⊎◌, inl, inr, subst, sym}
 use Rattle.mau_terms.specs.Tree.{Tree}
 use Rattle.mau_terms.specs.Bare.{IsBare}
 use Rattle.mau_signature.specs.Signature.{terms_over}
 use Rattle.mau_store.specs.Trees.{tree_at}
 use Rattle.mau_listing.specs.Asked.{IsBelow, IsTreeSettled}
-use Rattle.mau_reduce.proofs.PlainTables.{plain_is_table}
 use Rattle.mau_reduce.proofs.FreeMatches.{left_bare, none_answer, one_answer, found_answer, listed_answer, pattern_is}
 use Rattle.mau_reduce.proofs.trying.first_match.Goals as goal
 
@@ -25,25 +24,25 @@ solution-requires-clause-settled c = λ u i. by u i
     by u (inr i) = c.requires.settled.below u i
 
 pub returns-clause-none : goal.returns-clause-none
-returns-clause-none c = λ hooks B k b.
+returns-clause-none c = λ hooks B derived.
     let p = c.args.program.now in
-    none_answer p c.requires.reducible c.args.number c.requires.executable c.args.store.now c.args.table.now c.args.term c.requires.term c.requires.settled c.args.pattern.now (pattern_is p c.args.number c.requires.executable c.args.pattern.now c.requires.pattern)
-    c.solution.result (c.solution.ensures.next [] (plain_is_table p.sig c.args.store.now c.args.table.now c.requires.plain)) hooks B k b
+    none_answer p c.requires.reducible c.args.number c.requires.executable c.args.store.now c.args.table.now c.args.term c.requires.term c.requires.settled c.args.pattern.now (pattern_is p c.args.number c.requires.executable c.args.pattern.now c.requires.pattern) hooks B derived
+    c.solution.result (c.solution.ensures.next derived.known derived.declared)
 
 pub returns-clause-some : goal.returns-clause-some
-returns-clause-some c = λ hooks B k b rest.
+returns-clause-some c = λ hooks B derived rest.
     let p = c.args.program.now in
-    one_answer p c.requires.reducible c.args.number c.requires.executable c.args.store.now c.args.table.now c.args.term c.requires.term c.requires.settled c.args.pattern.now (pattern_is p c.args.number c.requires.executable c.args.pattern.now c.requires.pattern)
-    c.solution.result (c.solution.ensures.next [] (plain_is_table p.sig c.args.store.now c.args.table.now c.requires.plain)) hooks B k b rest
+    one_answer p c.requires.reducible c.args.number c.requires.executable c.args.store.now c.args.table.now c.args.term c.requires.term c.requires.settled c.args.pattern.now (pattern_is p c.args.number c.requires.executable c.args.pattern.now c.requires.pattern) hooks B derived
+    c.solution.result (c.solution.ensures.next derived.known derived.declared) rest
 
 pub returns-clause-found : goal.returns-clause-found
 returns-clause-found c =
     let p = c.args.program.now in
     found_answer p c.requires.reducible c.args.number c.requires.executable c.args.store.now c.args.table.now c.args.term c.requires.term c.requires.settled c.args.pattern.now (pattern_is p c.args.number c.requires.executable c.args.pattern.now c.requires.pattern)
-    c.solution.result (c.solution.ensures.next [] (plain_is_table p.sig c.args.store.now c.args.table.now c.requires.plain)) c.solution.ensures.solves
+    c.requires.sort_table c.solution.result (c.solution.ensures.next c.requires.sort_table.known c.requires.sort_table.declared) c.solution.ensures.solves
 
 pub returns-clause-listed : goal.returns-clause-listed
 returns-clause-listed c =
     let p = c.args.program.now in
     listed_answer p c.requires.reducible c.args.number c.requires.executable c.args.store.now c.args.table.now c.args.term c.requires.term c.requires.settled c.args.pattern.now (pattern_is p c.args.number c.requires.executable c.args.pattern.now c.requires.pattern)
-    c.solution.result (c.solution.ensures.next [] (plain_is_table p.sig c.args.store.now c.args.table.now c.requires.plain)) c.solution.ensures.solves
+    c.solution.result c.solution.ensures.solves

@@ -1,25 +1,38 @@
-use Rattle.std.proofs.Common.{◌≡◌, Some, None, IfSome, ap, ◌∙◌, subst}
+use Rattle.std.proofs.Common.{◌≡◌, [], Some, None, IfSome, ap, ◌∙◌, subst}
 use Rattle.std.specs.Option.{option_map}
 use Rattle.std.proofs.lemmas.Option.{slice_get_within}
 use Rattle.mau_terms.specs.View.{tree_of}
 use Rattle.mau_store.specs.Trees.{tree_at}
-use Rattle.mau_listing.specs.Asked.{last_after}
-use Rattle.mau_evaluation.specs.Run.{done, or_go_on}
+use Rattle.mau_listing.specs.Asked.{asks, last_after}
+use Rattle.mau_program.specs.declared.statements.Equation.{Equation}
+use Rattle.mau_evaluation.specs.Run.{gives, or_else}
 use Rattle.mau_api.specs.Programs.{program_over, equation_of}
 use Rattle.mau_reduce.specs.Trying.{solution_in, left_of_number, number_gives, IsCandidate, IsTried, IsFound}
-use Rattle.mau_reduce.proofs.Numbered.{at_index, exec_at, executable_of, equation_there, none_if, some_if, none_of_number, one_of_number}
+use Rattle.mau_reduce.specs.Comes.{ComesTo}
+use Rattle.mau_reduce.proofs.Numbered.{at_index, one_at, in_equations, exec_at, executable_of, equation_there, none_if, some_if, none_of_number, one_of_number}
 use Rattle.mau_reduce.proofs.trying.go_on.Goals as goal
 
+pub next_candidate-requires-clause-left : goal.next_candidate-requires-clause-left
+next_candidate-requires-clause-left g c =
+    let sides = c.requires.reducible.sides (equation_of c.index-items-tried.result) (in_equations c.args.program.now c.args.tried.now.number c.index-items-tried.result (at_index c.args.program.now.equations c.items.result.now c.args.tried.now.number c.index-items-tried.result c.items.ensures (slice_get_within c.args.program.now.equations c.args.tried.now.number c.requires.tried.equation c.requires.tried.at) c.index-items-tried.is)) in
+    (sides.kind, sides.left)
+
+pub next_candidate-requires-clause-asked : goal.next_candidate-requires-clause-asked
+next_candidate-requires-clause-asked g c =
+    c.requires.tried.asked
+    ∙ ap (λ (e : Equation). asks (tree_of e.left) [] c.args.term) (one_at c.args.program.now.equations c.args.tried.now.number c.requires.tried.equation c.index-items-tried.result c.requires.tried.at
+    (at_index c.args.program.now.equations c.items.result.now c.args.tried.now.number c.index-items-tried.result c.items.ensures (slice_get_within c.args.program.now.equations c.args.tried.now.number c.requires.tried.equation c.requires.tried.at) c.index-items-tried.is))
+
 pub returns-clause-none : goal.returns-clause-none
-returns-clause-none g c = λ hooks B k b.
-    none_if (left_of_number (program_over c.args.program.now hooks) B k (tree_at c.args.store.now c.args.term.0) c.args.tried.now.number (option_map (solution_in c.args.store.now) (g.L.Lister.given c.args.tried.now.listing)) b ≡ done None 0 b) c.in_ok-found.found
-    (λ is. none_of_number (program_over c.args.program.now hooks) B k (tree_at c.args.store.now c.args.term.0) c.args.tried.now.number (equation_of c.index-items-tried.result) (equation_there c.args.program.now hooks c.args.tried.now.number c.index-items-tried.result (at_index c.args.program.now.equations c.items.result.now c.args.tried.now.number c.index-items-tried.result c.items.ensures (slice_get_within c.args.program.now.equations c.args.tried.now.number c.requires.tried.equation c.requires.tried.at) c.index-items-tried.is)) c.next_candidate.new.store (option_map (solution_in c.args.store.now) (g.L.Lister.given c.args.tried.now.listing)) c.in_ok-found.found b is (c.in_ok-found.ensures.none hooks B k b))
+returns-clause-none g c = λ hooks B derived.
+    none_if (ComesTo (program_over c.args.program.now hooks) (λ k. left_of_number (program_over c.args.program.now hooks) B k (tree_at c.args.store.now c.args.term.0) c.args.tried.now.number (option_map (solution_in c.args.store.now) (g.L.Lister.given c.args.tried.now.listing))) (λ k. gives None)) c.in_ok-found.found
+    (λ is. none_of_number (program_over c.args.program.now hooks) B (tree_at c.args.store.now c.args.term.0) c.args.tried.now.number (equation_of c.index-items-tried.result) (equation_there c.args.program.now hooks c.args.tried.now.number c.index-items-tried.result (at_index c.args.program.now.equations c.items.result.now c.args.tried.now.number c.index-items-tried.result c.items.ensures (slice_get_within c.args.program.now.equations c.args.tried.now.number c.requires.tried.equation c.requires.tried.at) c.index-items-tried.is)) c.next_candidate.new.store (option_map (solution_in c.args.store.now) (g.L.Lister.given c.args.tried.now.listing)) c.in_ok-found.found is (c.in_ok-found.ensures.none hooks B derived))
 
 pub returns-clause-some : goal.returns-clause-some
-returns-clause-some g c = λ hooks B k b.
-    some_if (λ x. left_of_number (program_over c.args.program.now hooks) B k (tree_at c.args.store.now c.args.term.0) c.args.tried.now.number (option_map (solution_in c.args.store.now) (g.L.Lister.given c.args.tried.now.listing)) b
-    ≡ or_go_on (left_of_number (program_over c.args.program.now hooks) B k (tree_at c.args.store.now c.args.term.0) c.args.tried.now.number (Some (solution_in c.next_candidate.new.store x))) (number_gives (program_over c.args.program.now hooks) B k (tree_at c.args.store.now c.args.term.0) c.args.tried.now.number (solution_in c.next_candidate.new.store x) b)) c.in_ok-found.found
-    (λ x is. one_of_number (program_over c.args.program.now hooks) B k (tree_at c.args.store.now c.args.term.0) c.args.tried.now.number (equation_of c.index-items-tried.result) (equation_there c.args.program.now hooks c.args.tried.now.number c.index-items-tried.result (at_index c.args.program.now.equations c.items.result.now c.args.tried.now.number c.index-items-tried.result c.items.ensures (slice_get_within c.args.program.now.equations c.args.tried.now.number c.requires.tried.equation c.requires.tried.at) c.index-items-tried.is)) c.next_candidate.new.store (option_map (solution_in c.args.store.now) (g.L.Lister.given c.args.tried.now.listing)) c.in_ok-found.found b x is (c.in_ok-found.ensures.some hooks B k b))
+returns-clause-some g c = λ hooks B derived.
+    some_if (λ x. ComesTo (program_over c.args.program.now hooks) (λ k. left_of_number (program_over c.args.program.now hooks) B k (tree_at c.args.store.now c.args.term.0) c.args.tried.now.number (option_map (solution_in c.args.store.now) (g.L.Lister.given c.args.tried.now.listing)))
+    (λ k. or_else (number_gives (program_over c.args.program.now hooks) B k (tree_at c.args.store.now c.args.term.0) c.args.tried.now.number (solution_in c.next_candidate.new.store x)) (left_of_number (program_over c.args.program.now hooks) B k (tree_at c.args.store.now c.args.term.0) c.args.tried.now.number (Some (solution_in c.next_candidate.new.store x))))) c.in_ok-found.found
+    (λ x is. one_of_number (program_over c.args.program.now hooks) B (tree_at c.args.store.now c.args.term.0) c.args.tried.now.number (equation_of c.index-items-tried.result) (equation_there c.args.program.now hooks c.args.tried.now.number c.index-items-tried.result (at_index c.args.program.now.equations c.items.result.now c.args.tried.now.number c.index-items-tried.result c.items.ensures (slice_get_within c.args.program.now.equations c.args.tried.now.number c.requires.tried.equation c.requires.tried.at) c.index-items-tried.is)) c.next_candidate.new.store (option_map (solution_in c.args.store.now) (g.L.Lister.given c.args.tried.now.listing)) c.in_ok-found.found x is (c.in_ok-found.ensures.some hooks B derived))
 
 pub returns-clause-given : goal.returns-clause-given
 returns-clause-given g c =

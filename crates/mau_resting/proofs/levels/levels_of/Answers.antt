@@ -1,4 +1,4 @@
-use Rattle.std.proofs.Common.{◌≡◌, ◌+◌, ℕ, true, false, List, IfSome, IfNone, Some, sym, ap, ◌∙◌, subst, rules}
+use Rattle.std.proofs.Common.{◌≡◌, false, IfSome, IfNone, sym, ◌∙◌, subst, rules}
 use Rattle.mau_terms.specs.Tree.{node}
 use Rattle.mau_evaluation.specs.Run.{done}
 use Rattle.mau_terms.specs.Norm.{build}

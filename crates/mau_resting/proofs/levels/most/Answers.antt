@@ -1,4 +1,4 @@
-use Rattle.std.proofs.Common.{◌≡◌, ◌≤◌, take, add-one, sym, refl, subst, arith, rules}
+use Rattle.std.proofs.Common.{◌≤◌, take, add-one, sym, refl, subst, rules}
 use Rattle.mau_resting.specs.Rests.{AreKnownBy}
 use Rattle.mau_resting.proofs.Kept.{known_next, found_at}
 use Rattle.mau_resting.proofs.levels.most.Goals.{then-known-most, else-known-most}

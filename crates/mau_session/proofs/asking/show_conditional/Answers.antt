@@ -8,18 +8,13 @@ use Rattle.mau_program.specs.LawfulPrograms.{IsLawfulProgram}
 use Rattle.mau_program.specs.declared.statements.Fragment.{Fragment}
 use Rattle.mau_api.specs.Meanings.{Meanings}
 use Rattle.mau_api.specs.Answers.{IsAskable}
-use Rattle.mau_reducer.specs.Basis.{DerivesNothing}
 use Rattle.mau_session.specs.KeptQuery.{query_of}
 use Rattle.mau_session.specs.KeptWhere.{ending_of, GainsShownWhere}
-use Rattle.mau_session.proofs.Evaluated.{none_used}
 use Rattle.mau_session.proofs.AskedBy.{meant_in, can_be_asked, both_ok}
 use Rattle.mau_session.proofs.asking.show_conditional.Goals as goal
 
 pub new-requires-clause-lawful : goal.new-requires-clause-lawful
 new-requires-clause-lawful g c = subst IsLawfulProgram (sym c.program-program.ensures) c.requires.lawful
-
-pub new-requires-clause-derives_nothing : goal.new-requires-clause-derives_nothing
-new-requires-clause-derives_nothing g c = subst DerivesNothing (sym c.program-program.ensures) (none_used c.args.module.now c.requires.ready.plain)
 
 pub new-requires-clause-numerals : goal.new-requires-clause-numerals
 new-requires-clause-numerals g c = subst (All GivesNumerals) (sym c.new-natives.ensures) c.requires.numerals

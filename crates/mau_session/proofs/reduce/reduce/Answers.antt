@@ -7,15 +7,11 @@ use Rattle.mau_api.specs.Meanings.{meanings_by}
 use Rattle.mau_program.specs.LawfulPrograms.{IsLawfulProgram}
 use Rattle.mau_built_ins.specs.NativeNumerals.{GivesNumerals}
 use Rattle.mau_module.specs.Lawful.{program_of}
-use Rattle.mau_reducer.specs.Basis.{DerivesNothing}
-use Rattle.mau_session.proofs.Evaluated.{none_used, meant_by, gains_plainly}
+use Rattle.mau_session.proofs.Evaluated.{meant_by, gains_plainly}
 use Rattle.mau_session.proofs.reduce.reduce.Goals as goal
 
 pub new-requires-clause-lawful : goal.new-requires-clause-lawful
 new-requires-clause-lawful g c = subst IsLawfulProgram (sym c.program-program.ensures) c.requires.lawful
-
-pub new-requires-clause-derives_nothing : goal.new-requires-clause-derives_nothing
-new-requires-clause-derives_nothing g c = subst DerivesNothing (sym c.program-program.ensures) (none_used c.args.module.now c.requires.plain)
 
 pub new-requires-clause-numerals : goal.new-requires-clause-numerals
 new-requires-clause-numerals g c = subst (All GivesNumerals) (sym c.new-natives.ensures) c.requires.numerals

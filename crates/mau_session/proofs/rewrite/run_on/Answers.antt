@@ -6,21 +6,16 @@ use Rattle.mau_program.specs.declared.program.Program.{Program}
 use Rattle.mau_program.specs.LawfulPrograms.{IsLawfulProgram}
 use Rattle.mau_api.specs.Meanings.{Meanings, meanings_by}
 use Rattle.mau_built_ins.specs.NativeNumerals.{GivesNumerals}
-use Rattle.mau_reducer.specs.Basis.{DerivesNothing}
 use Rattle.mau_rules.specs.Runnable.{IsRunnable}
 use Rattle.mau_rules.specs.Runs.{stand_of, IsRunOf}
 use Rattle.mau_module.specs.Lawful.{program_of}
 use Rattle.mau_session.specs.KeptRun.{run_answer_in}
-use Rattle.mau_session.proofs.Evaluated.{none_used}
 use Rattle.mau_session.proofs.Runnable.{runnable, goes_by}
 use Rattle.mau_session.proofs.Rewritten.{may_run_plainly}
 use Rattle.mau_session.proofs.rewrite.run_on.Goals as goal
 
 pub new-requires-clause-lawful : goal.new-requires-clause-lawful
 new-requires-clause-lawful g c = subst IsLawfulProgram (sym c.program-program.ensures) c.requires.lawful
-
-pub new-requires-clause-derives_nothing : goal.new-requires-clause-derives_nothing
-new-requires-clause-derives_nothing g c = subst DerivesNothing (sym c.program-program.ensures) (none_used c.args.module.now c.requires.ready.plain)
 
 pub new-requires-clause-numerals : goal.new-requires-clause-numerals
 new-requires-clause-numerals g c = subst (All GivesNumerals) (sym c.new-natives.ensures) c.requires.numerals

@@ -8,8 +8,7 @@ use Rattle.mau_api.specs.Told.{TellsCondition}
 use Rattle.mau_api.specs.Answers.{levels_of_condition, LeavesEnough, binding_in, IsValueOf, solving_from, MaySolve, IsSolvedExactly}
 use Rattle.mau_reducer.specs.Worlds.{basis_of}
 use Rattle.mau_reducer.specs.Meant.{meanings_of}
-use Rattle.mau_reducer.specs.LaterStates.{ready_later}
-use Rattle.mau_reducer.proofs.WhatIsMeant.{fit_ready}
+use Rattle.mau_reducer.specs.LaterStates.{same_state, fit_later}
 use Rattle.mau_reducer.proofs.WhatIsSolved.{may_solve, solves_exactly, left_enough, none_of, pairs_in, from_pairs, none_in, ok_in}
 use Rattle.mau_reducer.proofs.Asked.{number_counted, binding_known, asked_ready, kept_before, means_alike, one_each_of, values_paired, tells_paired, loop_answer}
 use Rattle.mau_reducer.proofs.EmptyConditions.{is_nothing, bindings_of, some_bound, may_end, ends_there, ends_leaves}
@@ -17,95 +16,91 @@ use Rattle.mau_reducer.proofs.evaluating.ReducerEvaluator.solve.Goals as goal
 
 pub solve-solved-requires-clause-ready : goal.solve-solved-requires-clause-ready
 solve-solved-requires-clause-ready g c = (
-  asked_ready (basis_of g.N.Natives.operators c.args.self.now) c.args.cond.now c.args.bound.now c.requires.condition c.in-Ok-ask.binding c.in-Ok-ask.ensures.pairs c.in-Ok-ask.ensures.one_each
-      (basis_of g.N.Natives.operators c.begin.new.self) (basis_of g.N.Natives.operators c.ask.new.self) c.args.store.now c.begin.new.store c.args.self.now.table c.begin.new.self.table c.begin.ensures.comes c.in-Ok-ask.ensures.asks c.requires.bound c.ask.new.self.table c.ask.ensures.table (length c.items.result.now + 1) (number_counted c.items.result.now c.ask.new.self.program.now.equations c.items.ensures) c.in-Ok.ensures.ready,
+  asked_ready (basis_of g.N.Natives.operators c.args.self.now) c.args.cond.now c.args.bound.now c.requires.condition c.in-Ok.binding c.in-Ok.ensures.pairs c.in-Ok.ensures.one_each
+      (basis_of g.N.Natives.operators c.args.self.now) (basis_of g.N.Natives.operators c.ask.new.self) c.args.store.now c.args.store.now c.args.self.now.table c.args.self.now.table c.args.self.now.begun (same_state (basis_of g.N.Natives.operators c.args.self.now) c.args.store.now c.args.self.now.table c.args.self.now.begun c.requires.fits.0) c.in-Ok.ensures.asks c.requires.bound c.ask.new.self.table c.ask.ensures.table (length c.items.result.now + 1) (number_counted c.items.result.now c.ask.new.self.program.now.equations c.items.ensures) c.ask.new.self.begun c.ask.ensures.begun c.requires.fits.0,
   c.requires.fits.1,
 )
 
 pub solve-solved-requires-clause-binding : goal.solve-solved-requires-clause-binding
 solve-solved-requires-clause-binding g c =
-    binding_known (basis_of g.N.Natives.operators c.args.self.now) c.args.cond.now c.args.bound.now c.requires.condition c.in-Ok-ask.binding c.in-Ok-ask.ensures.pairs c.in-Ok-ask.ensures.one_each
-    (basis_of g.N.Natives.operators c.begin.new.self) (basis_of g.N.Natives.operators c.ask.new.self) c.args.store.now c.begin.new.store c.args.self.now.table c.begin.new.self.table c.begin.ensures.comes c.in-Ok-ask.ensures.asks c.requires.bound c.ask.new.self.table c.ask.ensures.table (length c.items.result.now + 1) (number_counted c.items.result.now c.ask.new.self.program.now.equations c.items.ensures)
+    binding_known (basis_of g.N.Natives.operators c.args.self.now) c.args.cond.now c.args.bound.now c.requires.condition c.in-Ok.binding c.in-Ok.ensures.pairs c.in-Ok.ensures.one_each
+    (basis_of g.N.Natives.operators c.args.self.now) (basis_of g.N.Natives.operators c.ask.new.self) c.args.store.now c.args.store.now c.args.self.now.table c.args.self.now.table c.args.self.now.begun (same_state (basis_of g.N.Natives.operators c.args.self.now) c.args.store.now c.args.self.now.table c.args.self.now.begun c.requires.fits.0) c.in-Ok.ensures.asks c.requires.bound c.ask.new.self.table c.ask.ensures.table (length c.items.result.now + 1) (number_counted c.items.result.now c.ask.new.self.program.now.equations c.items.ensures)
 
 pub as_pairs-requires : goal.as_pairs-requires
 as_pairs-requires g c =
-    one_each_of (basis_of g.N.Natives.operators c.args.self.now) c.args.cond.now c.args.bound.now c.requires.condition c.in-Ok-ask.binding c.in-Ok-ask.ensures.pairs c.in-Ok-ask.ensures.one_each
-    (basis_of g.N.Natives.operators c.begin.new.self) (basis_of g.N.Natives.operators c.ask.new.self) c.args.store.now c.begin.new.store c.args.self.now.table c.begin.new.self.table c.begin.ensures.comes c.in-Ok-ask.ensures.asks c.requires.bound c.ask.new.self.table c.ask.ensures.table (length c.items.result.now + 1) (number_counted c.items.result.now c.ask.new.self.program.now.equations c.items.ensures)
-    (basis_of g.N.Natives.operators c.solve-solved.new.world) c.solve-solved.new.store c.solve-solved.new.world.table c.solve-solved.ensures.grows c.solve-solved.result c.solve-solved.ensures.known
+    one_each_of (basis_of g.N.Natives.operators c.args.self.now) c.args.cond.now c.args.bound.now c.requires.condition c.in-Ok.binding c.in-Ok.ensures.pairs c.in-Ok.ensures.one_each
+    (basis_of g.N.Natives.operators c.args.self.now) (basis_of g.N.Natives.operators c.ask.new.self) c.args.store.now c.args.store.now c.args.self.now.table c.args.self.now.table c.args.self.now.begun (same_state (basis_of g.N.Natives.operators c.args.self.now) c.args.store.now c.args.self.now.table c.args.self.now.begun c.requires.fits.0) c.in-Ok.ensures.asks c.requires.bound c.ask.new.self.table c.ask.ensures.table (length c.items.result.now + 1) (number_counted c.items.result.now c.ask.new.self.program.now.equations c.items.ensures)
+    (basis_of g.N.Natives.operators c.solve-solved.new.world) c.solve-solved.new.store c.solve-solved.new.world.table c.solve-solved.new.world.begun c.solve-solved.ensures.grows c.solve-solved.result c.solve-solved.ensures.known
 
-pub returns-in-Ok-ask-clause-allowed : goal.returns-in-Ok-ask-clause-allowed
-returns-in-Ok-ask-clause-allowed g c =
+pub returns-in-Ok-clause-allowed : goal.returns-in-Ok-clause-allowed
+returns-in-Ok-clause-allowed g c =
     subst (λ (o : Option (Bor (List (VarId × TermId)))). MaySolve (meanings_of (basis_of g.N.Natives.operators c.args.self.now)) (solving_from (meanings_of (basis_of g.N.Natives.operators c.args.self.now)) (bindings_of c.args.store.now o) (map fragment_of c.args.cond.now) (binding_in c.args.store.now c.args.bound.now)) c.args.budget.now c.solve-solved.new.store (pairs_in (λ (v : Vec (VarId × TermId) Global). v.items) c.as_pairs.result)) (sym c.in-None.is)
     (may_solve (meanings_of (basis_of g.N.Natives.operators c.args.self.now)) c.levels_of_condition-levels.result c.levels_of_condition-levels.ensures (λ k B. (meanings_of (basis_of g.N.Natives.operators c.args.self.now)).solving k B (map fragment_of c.args.cond.now) (binding_in c.args.store.now c.args.bound.now))
     c.args.budget.now c.solve-solved.new.store c.solve-solved.new.budget c.solve-solved.result
-    (loop_answer (basis_of g.N.Natives.operators c.args.self.now) c.args.cond.now c.args.bound.now c.requires.condition c.in-Ok-ask.binding c.in-Ok-ask.ensures.pairs c.in-Ok-ask.ensures.one_each
-    (basis_of g.N.Natives.operators c.begin.new.self) (basis_of g.N.Natives.operators c.ask.new.self) c.args.store.now c.begin.new.store c.args.self.now.table c.begin.new.self.table c.begin.ensures.comes c.in-Ok-ask.ensures.asks c.requires.bound c.ask.new.self.table c.ask.ensures.table (length c.items.result.now + 1) (number_counted c.items.result.now c.ask.new.self.program.now.equations c.items.ensures)
-    (basis_of g.N.Natives.operators c.solve-solved.new.world) c.solve-solved.new.store c.solve-solved.new.world.table c.solve-solved.ensures.grows c.levels_of_condition-levels.result c.args.budget.now c.solve-solved.new.budget c.solve-solved.result c.solve-solved.ensures.some c.solve-solved.ensures.none c.solve-solved.ensures.ends)
+    (loop_answer (basis_of g.N.Natives.operators c.args.self.now) c.args.cond.now c.args.bound.now c.requires.condition c.in-Ok.binding c.in-Ok.ensures.pairs c.in-Ok.ensures.one_each
+    (basis_of g.N.Natives.operators c.args.self.now) (basis_of g.N.Natives.operators c.ask.new.self) c.args.store.now c.args.store.now c.args.self.now.table c.args.self.now.table c.args.self.now.begun (same_state (basis_of g.N.Natives.operators c.args.self.now) c.args.store.now c.args.self.now.table c.args.self.now.begun c.requires.fits.0) c.in-Ok.ensures.asks c.requires.bound c.ask.new.self.table c.ask.ensures.table (length c.items.result.now + 1) (number_counted c.items.result.now c.ask.new.self.program.now.equations c.items.ensures)
+    (basis_of g.N.Natives.operators c.solve-solved.new.world) c.solve-solved.new.store c.solve-solved.new.world.table c.solve-solved.new.world.begun c.solve-solved.ensures.grows c.levels_of_condition-levels.result c.args.budget.now c.solve-solved.new.budget c.solve-solved.result c.solve-solved.ensures.some c.solve-solved.ensures.none c.solve-solved.ensures.ends)
     (pairs_in (λ (v : Vec (VarId × TermId) Global). v.items) c.as_pairs.result) c.as_pairs.ensures)
 
-pub returns-in-Ok-ask-clause-exact : goal.returns-in-Ok-ask-clause-exact
-returns-in-Ok-ask-clause-exact g c =
+pub returns-in-Ok-clause-exact : goal.returns-in-Ok-clause-exact
+returns-in-Ok-clause-exact g c =
     λ e.
     subst (λ (o : Option (Bor (List (VarId × TermId)))). IsSolvedExactly (meanings_of (basis_of g.N.Natives.operators c.args.self.now)) (solving_from (meanings_of (basis_of g.N.Natives.operators c.args.self.now)) (bindings_of c.args.store.now o) (map fragment_of c.args.cond.now) (binding_in c.args.store.now c.args.bound.now)) c.args.budget.now c.solve-solved.new.store (pairs_in (λ (v : Vec (VarId × TermId) Global). v.items) c.as_pairs.result) c.solve-solved.new.budget) (sym c.in-None.is)
     (solves_exactly (meanings_of (basis_of g.N.Natives.operators c.args.self.now)) c.levels_of_condition-levels.result c.levels_of_condition-levels.ensures (λ k B. (meanings_of (basis_of g.N.Natives.operators c.args.self.now)).solving k B (map fragment_of c.args.cond.now) (binding_in c.args.store.now c.args.bound.now))
     c.args.budget.now c.solve-solved.new.store c.solve-solved.new.budget c.solve-solved.result
-    (loop_answer (basis_of g.N.Natives.operators c.args.self.now) c.args.cond.now c.args.bound.now c.requires.condition c.in-Ok-ask.binding c.in-Ok-ask.ensures.pairs c.in-Ok-ask.ensures.one_each
-    (basis_of g.N.Natives.operators c.begin.new.self) (basis_of g.N.Natives.operators c.ask.new.self) c.args.store.now c.begin.new.store c.args.self.now.table c.begin.new.self.table c.begin.ensures.comes c.in-Ok-ask.ensures.asks c.requires.bound c.ask.new.self.table c.ask.ensures.table (length c.items.result.now + 1) (number_counted c.items.result.now c.ask.new.self.program.now.equations c.items.ensures)
-    (basis_of g.N.Natives.operators c.solve-solved.new.world) c.solve-solved.new.store c.solve-solved.new.world.table c.solve-solved.ensures.grows c.levels_of_condition-levels.result c.args.budget.now c.solve-solved.new.budget c.solve-solved.result c.solve-solved.ensures.some c.solve-solved.ensures.none c.solve-solved.ensures.ends)
+    (loop_answer (basis_of g.N.Natives.operators c.args.self.now) c.args.cond.now c.args.bound.now c.requires.condition c.in-Ok.binding c.in-Ok.ensures.pairs c.in-Ok.ensures.one_each
+    (basis_of g.N.Natives.operators c.args.self.now) (basis_of g.N.Natives.operators c.ask.new.self) c.args.store.now c.args.store.now c.args.self.now.table c.args.self.now.table c.args.self.now.begun (same_state (basis_of g.N.Natives.operators c.args.self.now) c.args.store.now c.args.self.now.table c.args.self.now.begun c.requires.fits.0) c.in-Ok.ensures.asks c.requires.bound c.ask.new.self.table c.ask.ensures.table (length c.items.result.now + 1) (number_counted c.items.result.now c.ask.new.self.program.now.equations c.items.ensures)
+    (basis_of g.N.Natives.operators c.solve-solved.new.world) c.solve-solved.new.store c.solve-solved.new.world.table c.solve-solved.new.world.begun c.solve-solved.ensures.grows c.levels_of_condition-levels.result c.args.budget.now c.solve-solved.new.budget c.solve-solved.result c.solve-solved.ensures.some c.solve-solved.ensures.none c.solve-solved.ensures.ends)
     (pairs_in (λ (v : Vec (VarId × TermId) Global). v.items) c.as_pairs.result) c.as_pairs.ensures)
 
-pub returns-in-Ok-ask-clause-left : goal.returns-in-Ok-ask-clause-left
-returns-in-Ok-ask-clause-left g c =
+pub returns-in-Ok-clause-left : goal.returns-in-Ok-clause-left
+returns-in-Ok-clause-left g c =
     subst (λ (o : Option (Bor (List (VarId × TermId)))). OnOk c.as_pairs.result (LeavesEnough (solving_from (meanings_of (basis_of g.N.Natives.operators c.args.self.now)) (bindings_of c.args.store.now o) (map fragment_of c.args.cond.now) (binding_in c.args.store.now c.args.bound.now) levels_of_condition c.args.self.now.limit c.args.budget.now) c.solve-solved.new.budget)) (sym c.in-None.is)
     (ok_in (λ (v : Vec (VarId × TermId) Global). v.items) (LeavesEnough ((meanings_of (basis_of g.N.Natives.operators c.args.self.now)).solving levels_of_condition c.args.self.now.limit (map fragment_of c.args.cond.now) (binding_in c.args.store.now c.args.bound.now) c.args.budget.now) c.solve-solved.new.budget) c.as_pairs.result (left_enough (meanings_of (basis_of g.N.Natives.operators c.args.self.now)) c.levels_of_condition-levels.result c.levels_of_condition-levels.ensures (λ k B. (meanings_of (basis_of g.N.Natives.operators c.args.self.now)).solving k B (map fragment_of c.args.cond.now) (binding_in c.args.store.now c.args.bound.now))
     c.args.budget.now c.solve-solved.new.store c.solve-solved.new.budget c.solve-solved.result
-    (loop_answer (basis_of g.N.Natives.operators c.args.self.now) c.args.cond.now c.args.bound.now c.requires.condition c.in-Ok-ask.binding c.in-Ok-ask.ensures.pairs c.in-Ok-ask.ensures.one_each
-    (basis_of g.N.Natives.operators c.begin.new.self) (basis_of g.N.Natives.operators c.ask.new.self) c.args.store.now c.begin.new.store c.args.self.now.table c.begin.new.self.table c.begin.ensures.comes c.in-Ok-ask.ensures.asks c.requires.bound c.ask.new.self.table c.ask.ensures.table (length c.items.result.now + 1) (number_counted c.items.result.now c.ask.new.self.program.now.equations c.items.ensures)
-    (basis_of g.N.Natives.operators c.solve-solved.new.world) c.solve-solved.new.store c.solve-solved.new.world.table c.solve-solved.ensures.grows c.levels_of_condition-levels.result c.args.budget.now c.solve-solved.new.budget c.solve-solved.result c.solve-solved.ensures.some c.solve-solved.ensures.none c.solve-solved.ensures.ends)
+    (loop_answer (basis_of g.N.Natives.operators c.args.self.now) c.args.cond.now c.args.bound.now c.requires.condition c.in-Ok.binding c.in-Ok.ensures.pairs c.in-Ok.ensures.one_each
+    (basis_of g.N.Natives.operators c.args.self.now) (basis_of g.N.Natives.operators c.ask.new.self) c.args.store.now c.args.store.now c.args.self.now.table c.args.self.now.table c.args.self.now.begun (same_state (basis_of g.N.Natives.operators c.args.self.now) c.args.store.now c.args.self.now.table c.args.self.now.begun c.requires.fits.0) c.in-Ok.ensures.asks c.requires.bound c.ask.new.self.table c.ask.ensures.table (length c.items.result.now + 1) (number_counted c.items.result.now c.ask.new.self.program.now.equations c.items.ensures)
+    (basis_of g.N.Natives.operators c.solve-solved.new.world) c.solve-solved.new.store c.solve-solved.new.world.table c.solve-solved.new.world.begun c.solve-solved.ensures.grows c.levels_of_condition-levels.result c.args.budget.now c.solve-solved.new.budget c.solve-solved.result c.solve-solved.ensures.some c.solve-solved.ensures.none c.solve-solved.ensures.ends)
     (pairs_in (λ (v : Vec (VarId × TermId) Global). v.items) c.as_pairs.result) c.as_pairs.ensures))
 
-pub returns-in-Ok-ask-clause-values : goal.returns-in-Ok-ask-clause-values
-returns-in-Ok-ask-clause-values g c =
+pub returns-in-Ok-clause-values : goal.returns-in-Ok-clause-values
+returns-in-Ok-clause-values g c =
     from_pairs (λ (v : Vec (VarId × TermId) Global). v.items) (λ bs k. All (IsValueOf c.args.self.now.program.now.sig c.solve-solved.new.store c.solve-solved.new.world.table) bs) c.as_pairs.result
-    (values_paired (basis_of g.N.Natives.operators c.args.self.now) c.args.cond.now c.args.bound.now c.requires.condition c.in-Ok-ask.binding c.in-Ok-ask.ensures.pairs c.in-Ok-ask.ensures.one_each
-    (basis_of g.N.Natives.operators c.begin.new.self) (basis_of g.N.Natives.operators c.ask.new.self) c.args.store.now c.begin.new.store c.args.self.now.table c.begin.new.self.table c.begin.ensures.comes c.in-Ok-ask.ensures.asks c.requires.bound c.ask.new.self.table c.ask.ensures.table (length c.items.result.now + 1) (number_counted c.items.result.now c.ask.new.self.program.now.equations c.items.ensures)
-    (basis_of g.N.Natives.operators c.solve-solved.new.world) c.solve-solved.new.store c.solve-solved.new.world.table c.solve-solved.ensures.grows c.solve-solved.result (pairs_in (λ (v : Vec (VarId × TermId) Global). v.items) c.as_pairs.result) c.as_pairs.ensures c.solve-solved.ensures.known)
+    (values_paired (basis_of g.N.Natives.operators c.args.self.now) c.args.cond.now c.args.bound.now c.requires.condition c.in-Ok.binding c.in-Ok.ensures.pairs c.in-Ok.ensures.one_each
+    (basis_of g.N.Natives.operators c.args.self.now) (basis_of g.N.Natives.operators c.ask.new.self) c.args.store.now c.args.store.now c.args.self.now.table c.args.self.now.table c.args.self.now.begun (same_state (basis_of g.N.Natives.operators c.args.self.now) c.args.store.now c.args.self.now.table c.args.self.now.begun c.requires.fits.0) c.in-Ok.ensures.asks c.requires.bound c.ask.new.self.table c.ask.ensures.table (length c.items.result.now + 1) (number_counted c.items.result.now c.ask.new.self.program.now.equations c.items.ensures)
+    (basis_of g.N.Natives.operators c.solve-solved.new.world) c.solve-solved.new.store c.solve-solved.new.world.table c.solve-solved.new.world.begun c.solve-solved.ensures.grows c.solve-solved.result (pairs_in (λ (v : Vec (VarId × TermId) Global). v.items) c.as_pairs.result) c.as_pairs.ensures c.solve-solved.ensures.known)
 
-pub returns-in-Ok-ask-clause-told : goal.returns-in-Ok-ask-clause-told
-returns-in-Ok-ask-clause-told g c =
+pub returns-in-Ok-clause-told : goal.returns-in-Ok-clause-told
+returns-in-Ok-clause-told g c =
     λ wanted.
     from_pairs (λ (v : Vec (VarId × TermId) Global). v.items) (λ bs k. TellsCondition c.args.self.now.program.now (g.N.Natives.operators c.args.self.now.natives) c.solve-solved.new.store c.solve-solved.new.world.table (g.W.StepWatcher.told c.args.watcher.now) (g.W.StepWatcher.told c.solve-solved.new.watcher) (look_up (binding_in c.solve-solved.new.store bs)) c.args.cond.now k) c.as_pairs.result
-    (tells_paired (basis_of g.N.Natives.operators c.args.self.now) c.args.cond.now c.args.bound.now c.requires.condition c.in-Ok-ask.binding c.in-Ok-ask.ensures.pairs c.in-Ok-ask.ensures.one_each
-    (basis_of g.N.Natives.operators c.begin.new.self) (basis_of g.N.Natives.operators c.ask.new.self) c.args.store.now c.begin.new.store c.args.self.now.table c.begin.new.self.table c.begin.ensures.comes c.in-Ok-ask.ensures.asks c.requires.bound c.ask.new.self.table c.ask.ensures.table (length c.items.result.now + 1) (number_counted c.items.result.now c.ask.new.self.program.now.equations c.items.ensures)
-    (basis_of g.N.Natives.operators c.solve-solved.new.world) c.solve-solved.new.store c.solve-solved.new.world.table c.solve-solved.ensures.grows (g.W.StepWatcher.told c.args.watcher.now) (g.W.StepWatcher.told c.solve-solved.new.watcher) c.solve-solved.result (pairs_in (λ (v : Vec (VarId × TermId) Global). v.items) c.as_pairs.result) c.as_pairs.ensures (c.solve-solved.ensures.told wanted))
+    (tells_paired (basis_of g.N.Natives.operators c.args.self.now) c.args.cond.now c.args.bound.now c.requires.condition c.in-Ok.binding c.in-Ok.ensures.pairs c.in-Ok.ensures.one_each
+    (basis_of g.N.Natives.operators c.args.self.now) (basis_of g.N.Natives.operators c.ask.new.self) c.args.store.now c.args.store.now c.args.self.now.table c.args.self.now.table c.args.self.now.begun (same_state (basis_of g.N.Natives.operators c.args.self.now) c.args.store.now c.args.self.now.table c.args.self.now.begun c.requires.fits.0) c.in-Ok.ensures.asks c.requires.bound c.ask.new.self.table c.ask.ensures.table (length c.items.result.now + 1) (number_counted c.items.result.now c.ask.new.self.program.now.equations c.items.ensures)
+    (basis_of g.N.Natives.operators c.solve-solved.new.world) c.solve-solved.new.store c.solve-solved.new.world.table c.solve-solved.new.world.begun c.solve-solved.ensures.grows (g.W.StepWatcher.told c.args.watcher.now) (g.W.StepWatcher.told c.solve-solved.new.watcher) c.solve-solved.result (pairs_in (λ (v : Vec (VarId × TermId) Global). v.items) c.as_pairs.result) c.as_pairs.ensures (c.solve-solved.ensures.told wanted))
 
-pub returns-in-Ok-ask-clause-untold : goal.returns-in-Ok-ask-clause-untold
-returns-in-Ok-ask-clause-untold g c =
+pub returns-in-Ok-clause-untold : goal.returns-in-Ok-clause-untold
+returns-in-Ok-clause-untold g c =
     λ wanted none.
     none_of (g.W.StepWatcher.told c.solve-solved.new.watcher ≡ g.W.StepWatcher.told c.args.watcher.now) c.solve-solved.result (pairs_in (λ (v : Vec (VarId × TermId) Global). v.items) c.as_pairs.result) c.as_pairs.ensures (c.solve-solved.ensures.untold wanted) (none_in (λ (v : Vec (VarId × TermId) Global). v.items) c.as_pairs.result none)
 
-pub returns-in-Ok-ask-clause-fits : goal.returns-in-Ok-ask-clause-fits
-returns-in-Ok-ask-clause-fits g c = (
-  fit_ready (basis_of g.N.Natives.operators c.solve-solved.new.world) c.solve-solved.new.store c.solve-solved.new.world.table c.solve-solved.new.world.begun
-      (ready_later (basis_of g.N.Natives.operators c.ask.new.self) (basis_of g.N.Natives.operators c.solve-solved.new.world) c.begin.new.store c.solve-solved.new.store c.ask.new.self.table c.solve-solved.new.world.table (asked_ready (basis_of g.N.Natives.operators c.args.self.now) c.args.cond.now c.args.bound.now c.requires.condition c.in-Ok-ask.binding c.in-Ok-ask.ensures.pairs c.in-Ok-ask.ensures.one_each
-      (basis_of g.N.Natives.operators c.begin.new.self) (basis_of g.N.Natives.operators c.ask.new.self) c.args.store.now c.begin.new.store c.args.self.now.table c.begin.new.self.table c.begin.ensures.comes c.in-Ok-ask.ensures.asks c.requires.bound c.ask.new.self.table c.ask.ensures.table (length c.items.result.now + 1) (number_counted c.items.result.now c.ask.new.self.program.now.equations c.items.ensures) c.in-Ok.ensures.ready) c.solve-solved.ensures.grows),
+pub returns-in-Ok-clause-fits : goal.returns-in-Ok-clause-fits
+returns-in-Ok-clause-fits g c = (
+  fit_later (basis_of g.N.Natives.operators c.ask.new.self) (basis_of g.N.Natives.operators c.solve-solved.new.world) c.args.store.now c.solve-solved.new.store c.ask.new.self.table c.solve-solved.new.world.table c.ask.new.self.begun c.solve-solved.new.world.begun (asked_ready (basis_of g.N.Natives.operators c.args.self.now) c.args.cond.now c.args.bound.now c.requires.condition c.in-Ok.binding c.in-Ok.ensures.pairs c.in-Ok.ensures.one_each
+      (basis_of g.N.Natives.operators c.args.self.now) (basis_of g.N.Natives.operators c.ask.new.self) c.args.store.now c.args.store.now c.args.self.now.table c.args.self.now.table c.args.self.now.begun (same_state (basis_of g.N.Natives.operators c.args.self.now) c.args.store.now c.args.self.now.table c.args.self.now.begun c.requires.fits.0) c.in-Ok.ensures.asks c.requires.bound c.ask.new.self.table c.ask.ensures.table (length c.items.result.now + 1) (number_counted c.items.result.now c.ask.new.self.program.now.equations c.items.ensures) c.ask.new.self.begun c.ask.ensures.begun c.requires.fits.0) c.solve-solved.ensures.grows,
   c.requires.fits.1,
 )
 
-pub returns-in-Ok-ask-clause-kept : goal.returns-in-Ok-ask-clause-kept
-returns-in-Ok-ask-clause-kept g c =
-    kept_before (basis_of g.N.Natives.operators c.args.self.now) c.args.cond.now c.args.bound.now c.requires.condition c.in-Ok-ask.binding c.in-Ok-ask.ensures.pairs c.in-Ok-ask.ensures.one_each
-    (basis_of g.N.Natives.operators c.begin.new.self) (basis_of g.N.Natives.operators c.ask.new.self) c.args.store.now c.begin.new.store c.args.self.now.table c.begin.new.self.table c.begin.ensures.comes c.in-Ok-ask.ensures.asks c.requires.bound c.ask.new.self.table c.ask.ensures.table (length c.items.result.now + 1) (number_counted c.items.result.now c.ask.new.self.program.now.equations c.items.ensures)
+pub returns-in-Ok-clause-kept : goal.returns-in-Ok-clause-kept
+returns-in-Ok-clause-kept g c =
+    kept_before (basis_of g.N.Natives.operators c.args.self.now) c.args.cond.now c.args.bound.now c.requires.condition c.in-Ok.binding c.in-Ok.ensures.pairs c.in-Ok.ensures.one_each
+    (basis_of g.N.Natives.operators c.args.self.now) (basis_of g.N.Natives.operators c.ask.new.self) c.args.store.now c.args.store.now c.args.self.now.table c.args.self.now.table c.args.self.now.begun (same_state (basis_of g.N.Natives.operators c.args.self.now) c.args.store.now c.args.self.now.table c.args.self.now.begun c.requires.fits.0) c.in-Ok.ensures.asks c.requires.bound c.ask.new.self.table c.ask.ensures.table (length c.items.result.now + 1) (number_counted c.items.result.now c.ask.new.self.program.now.equations c.items.ensures)
     c.solve-solved.new.world.table c.solve-solved.ensures.grows.kept
 
-pub returns-in-Ok-ask-clause-meanings : goal.returns-in-Ok-ask-clause-meanings
-returns-in-Ok-ask-clause-meanings g c =
-    means_alike (basis_of g.N.Natives.operators c.args.self.now) c.args.cond.now c.args.bound.now c.requires.condition c.in-Ok-ask.binding c.in-Ok-ask.ensures.pairs c.in-Ok-ask.ensures.one_each
-    (basis_of g.N.Natives.operators c.begin.new.self) (basis_of g.N.Natives.operators c.ask.new.self) c.args.store.now c.begin.new.store c.args.self.now.table c.begin.new.self.table c.begin.ensures.comes c.in-Ok-ask.ensures.asks c.requires.bound c.ask.new.self.table c.ask.ensures.table (length c.items.result.now + 1) (number_counted c.items.result.now c.ask.new.self.program.now.equations c.items.ensures)
-    (basis_of g.N.Natives.operators c.solve-solved.new.world) c.solve-solved.new.store c.solve-solved.new.world.table c.solve-solved.ensures.grows
-
-pub returns-in-Err-ask-clause-exact : goal.returns-in-Err-ask-clause-exact
-returns-in-Err-ask-clause-exact g c = λ e. record { levels = levels_of_condition; enough = omega arith; just = λ d. refl; is = tt }
+pub returns-in-Ok-clause-meanings : goal.returns-in-Ok-clause-meanings
+returns-in-Ok-clause-meanings g c =
+    means_alike (basis_of g.N.Natives.operators c.args.self.now) c.args.cond.now c.args.bound.now c.requires.condition c.in-Ok.binding c.in-Ok.ensures.pairs c.in-Ok.ensures.one_each
+    (basis_of g.N.Natives.operators c.args.self.now) (basis_of g.N.Natives.operators c.ask.new.self) c.args.store.now c.args.store.now c.args.self.now.table c.args.self.now.table c.args.self.now.begun (same_state (basis_of g.N.Natives.operators c.args.self.now) c.args.store.now c.args.self.now.table c.args.self.now.begun c.requires.fits.0) c.in-Ok.ensures.asks c.requires.bound c.ask.new.self.table c.ask.ensures.table (length c.items.result.now + 1) (number_counted c.items.result.now c.ask.new.self.program.now.equations c.items.ensures)
+    (basis_of g.N.Natives.operators c.solve-solved.new.world) c.solve-solved.new.store c.solve-solved.new.world.table c.solve-solved.new.world.begun c.solve-solved.ensures.grows
 
 pub returns-in-Err-clause-exact : goal.returns-in-Err-clause-exact
 returns-in-Err-clause-exact g c = λ e. record { levels = levels_of_condition; enough = omega arith; just = λ d. refl; is = tt }

@@ -1,84 +1,58 @@
-use Rattle.std.proofs.Common.{ℕ, OnOk, refl, subst, arith}
+use Rattle.std.proofs.Common.{ℕ, OnOk, refl, subst}
 use Rattle.mau_store.specs.Trees.{tree_at}
-use Rattle.mau_sorts.proofs.Settling.{kept_on}
-use Rattle.mau_api.specs.Answers.{levels_of_item, LeavesEnough}
+use Rattle.mau_api.specs.Answers.{LeavesEnough}
 use Rattle.mau_reducer.specs.Worlds.{basis_of}
 use Rattle.mau_reducer.specs.Meant.{meanings_of}
-use Rattle.mau_reducer.specs.LaterStates.{ready_later}
-use Rattle.mau_reducer.specs.Flags.{flags_later}
-use Rattle.mau_reducer.proofs.WhatIsMeant.{fit_ready, term_known, value_is, end_is, exact, is_allowed, left_enough}
+use Rattle.mau_reducer.specs.LaterStates.{same_state, fit_later}
+use Rattle.mau_reducer.proofs.WhatIsMeant.{term_known, value_is, end_is, exact, is_allowed, left_enough}
 use Rattle.mau_reducer.proofs.flagged.FlaggedEvaluator.evaluate.Goals as goal
 
 pub evaluate-requires-clause-term : goal.evaluate-requires-clause-term
 evaluate-requires-clause-term g c =
-    term_known (basis_of g.N.Natives.operators c.args.self.now.world.world) (basis_of g.N.Natives.operators c.begin.new.self) c.args.store.now c.begin.new.store
-    c.args.self.now.world.world.table c.begin.new.self.table c.begin.ensures.comes c.args.term.0 c.requires.term
+    term_known (basis_of g.N.Natives.operators c.args.self.now.world.world) (basis_of g.N.Natives.operators c.args.self.now.world.world) c.args.store.now c.args.store.now
+    c.args.self.now.world.world.table c.args.self.now.world.world.table c.args.self.now.world.world.begun (same_state (basis_of g.N.Natives.operators c.args.self.now.world.world) c.args.store.now c.args.self.now.world.world.table c.args.self.now.world.world.begun c.requires.fits.0) c.args.term.0 c.requires.term
     c.requires.fits.0.basis
 
-pub returns-in-Ok-clause-allowed : goal.returns-in-Ok-clause-allowed
-returns-in-Ok-clause-allowed g c =
+pub returns-clause-allowed : goal.returns-clause-allowed
+returns-clause-allowed g c =
     is_allowed (meanings_of (basis_of g.N.Natives.operators c.args.self.now.world.world)) refl c.levels_of_item-levels.result c.levels_of_item-levels.ensures
     (tree_at c.args.store.now c.args.term.0) c.args.budget.now c.evaluate.new.store (g.W.StepWatcher.wanted c.args.watcher.now)
     c.evaluate.result c.evaluate.new.budget
-    (value_is (basis_of g.N.Natives.operators c.args.self.now.world.world) (basis_of g.N.Natives.operators c.begin.new.self) c.args.store.now c.begin.new.store
-    c.args.self.now.world.world.table c.begin.new.self.table c.begin.ensures.comes c.args.term.0 c.requires.term c.levels_of_item-levels.result c.args.budget.now
+    (value_is (basis_of g.N.Natives.operators c.args.self.now.world.world) (basis_of g.N.Natives.operators c.args.self.now.world.world) c.args.store.now c.args.store.now
+    c.args.self.now.world.world.table c.args.self.now.world.world.table c.args.self.now.world.world.begun (same_state (basis_of g.N.Natives.operators c.args.self.now.world.world) c.args.store.now c.args.self.now.world.world.table c.args.self.now.world.world.begun c.requires.fits.0) c.args.term.0 c.requires.term c.levels_of_item-levels.result c.args.budget.now
     c.evaluate.new.store c.evaluate.result c.evaluate.new.budget c.evaluate.ensures.value)
-    (end_is (basis_of g.N.Natives.operators c.args.self.now.world.world) (basis_of g.N.Natives.operators c.begin.new.self) c.args.store.now c.begin.new.store
-    c.args.self.now.world.world.table c.begin.new.self.table c.begin.ensures.comes c.args.term.0 c.requires.term c.levels_of_item-levels.result c.args.budget.now
+    (end_is (basis_of g.N.Natives.operators c.args.self.now.world.world) (basis_of g.N.Natives.operators c.args.self.now.world.world) c.args.store.now c.args.store.now
+    c.args.self.now.world.world.table c.args.self.now.world.world.table c.args.self.now.world.world.begun (same_state (basis_of g.N.Natives.operators c.args.self.now.world.world) c.args.store.now c.args.self.now.world.world.table c.args.self.now.world.world.begun c.requires.fits.0) c.args.term.0 c.requires.term c.levels_of_item-levels.result c.args.budget.now
     c.evaluate.result c.evaluate.ensures.ends)
 
-pub returns-in-Ok-clause-exact : goal.returns-in-Ok-clause-exact
-returns-in-Ok-clause-exact g c = λ e.
+pub returns-clause-exact : goal.returns-clause-exact
+returns-clause-exact g c = λ e.
     exact (meanings_of (basis_of g.N.Natives.operators c.args.self.now.world.world)) refl c.levels_of_item-levels.result c.levels_of_item-levels.ensures
     (tree_at c.args.store.now c.args.term.0) c.args.budget.now c.evaluate.new.store
     c.evaluate.result c.evaluate.new.budget
-    (value_is (basis_of g.N.Natives.operators c.args.self.now.world.world) (basis_of g.N.Natives.operators c.begin.new.self) c.args.store.now c.begin.new.store
-    c.args.self.now.world.world.table c.begin.new.self.table c.begin.ensures.comes c.args.term.0 c.requires.term c.levels_of_item-levels.result c.args.budget.now
+    (value_is (basis_of g.N.Natives.operators c.args.self.now.world.world) (basis_of g.N.Natives.operators c.args.self.now.world.world) c.args.store.now c.args.store.now
+    c.args.self.now.world.world.table c.args.self.now.world.world.table c.args.self.now.world.world.begun (same_state (basis_of g.N.Natives.operators c.args.self.now.world.world) c.args.store.now c.args.self.now.world.world.table c.args.self.now.world.world.begun c.requires.fits.0) c.args.term.0 c.requires.term c.levels_of_item-levels.result c.args.budget.now
     c.evaluate.new.store c.evaluate.result c.evaluate.new.budget c.evaluate.ensures.value)
-    (end_is (basis_of g.N.Natives.operators c.args.self.now.world.world) (basis_of g.N.Natives.operators c.begin.new.self) c.args.store.now c.begin.new.store
-    c.args.self.now.world.world.table c.begin.new.self.table c.begin.ensures.comes c.args.term.0 c.requires.term c.levels_of_item-levels.result c.args.budget.now
+    (end_is (basis_of g.N.Natives.operators c.args.self.now.world.world) (basis_of g.N.Natives.operators c.args.self.now.world.world) c.args.store.now c.args.store.now
+    c.args.self.now.world.world.table c.args.self.now.world.world.table c.args.self.now.world.world.begun (same_state (basis_of g.N.Natives.operators c.args.self.now.world.world) c.args.store.now c.args.self.now.world.world.table c.args.self.now.world.world.begun c.requires.fits.0) c.args.term.0 c.requires.term c.levels_of_item-levels.result c.args.budget.now
     c.evaluate.result c.evaluate.ensures.ends)
 
-pub returns-in-Ok-clause-left : goal.returns-in-Ok-clause-left
-returns-in-Ok-clause-left g c =
+pub returns-clause-left : goal.returns-clause-left
+returns-clause-left g c =
     let m = meanings_of (basis_of g.N.Natives.operators c.args.self.now.world.world) in
     subst (λ (k : ℕ). OnOk c.evaluate.result (LeavesEnough (m.evaluation k m.limit (tree_at c.args.store.now c.args.term.0) c.args.budget.now) c.evaluate.new.budget))
     c.levels_of_item-levels.ensures
     (left_enough (meanings_of (basis_of g.N.Natives.operators c.args.self.now.world.world)) refl c.levels_of_item-levels.result c.levels_of_item-levels.ensures
     (tree_at c.args.store.now c.args.term.0) c.args.budget.now c.evaluate.new.store
     c.evaluate.result c.evaluate.new.budget
-    (value_is (basis_of g.N.Natives.operators c.args.self.now.world.world) (basis_of g.N.Natives.operators c.begin.new.self) c.args.store.now c.begin.new.store
-    c.args.self.now.world.world.table c.begin.new.self.table c.begin.ensures.comes c.args.term.0 c.requires.term c.levels_of_item-levels.result c.args.budget.now
+    (value_is (basis_of g.N.Natives.operators c.args.self.now.world.world) (basis_of g.N.Natives.operators c.args.self.now.world.world) c.args.store.now c.args.store.now
+    c.args.self.now.world.world.table c.args.self.now.world.world.table c.args.self.now.world.world.begun (same_state (basis_of g.N.Natives.operators c.args.self.now.world.world) c.args.store.now c.args.self.now.world.world.table c.args.self.now.world.world.begun c.requires.fits.0) c.args.term.0 c.requires.term c.levels_of_item-levels.result c.args.budget.now
     c.evaluate.new.store c.evaluate.result c.evaluate.new.budget c.evaluate.ensures.value))
 
-pub returns-in-Ok-clause-fits : goal.returns-in-Ok-clause-fits
-returns-in-Ok-clause-fits g c =
-    let d = basis_of g.N.Natives.operators c.begin.new.self in
-    let e = basis_of g.N.Natives.operators c.evaluate.new.resting.world in (
-      fit_ready e c.evaluate.new.store c.evaluate.new.resting.world.table c.evaluate.new.resting.world.begun
-          (ready_later d e c.begin.new.store c.evaluate.new.store c.begin.new.self.table c.evaluate.new.resting.world.table c.in-Ok.ensures.ready c.evaluate.ensures.grows),
-      c.requires.fits.1,
-      c.evaluate.ensures.resting,
-    )
-
-pub evaluate-requires-clause-resting : goal.evaluate-requires-clause-resting
-evaluate-requires-clause-resting g c =
-    flags_later g.L.Lister.with_context g.L.Lister.asked g.L.Lister.given g.L.Lister.is_for g.M.Lister.asked g.M.Lister.given g.M.Lister.is_for
-    (basis_of g.N.Natives.operators c.args.self.now.world.world) (basis_of g.N.Natives.operators c.begin.new.self) c.args.store.now c.begin.new.store
-    c.args.self.now.world.world.table c.begin.new.self.table c.begin.ensures.comes c.args.self.now.world.levels.items c.requires.fits.2
-
-pub returns-in-Ok-clause-kept : goal.returns-in-Ok-clause-kept
-returns-in-Ok-clause-kept g c =
-    kept_on c.args.self.now.world.world.table c.begin.new.self.table c.evaluate.new.resting.world.table c.begin.ensures.comes.kept c.evaluate.ensures.grows.kept
-
-pub returns-in-Err-clause-exact : goal.returns-in-Err-clause-exact
-returns-in-Err-clause-exact g c = λ e. record { levels = levels_of_item; enough = omega arith; just = λ d. refl; is = tt }
-
-pub returns-in-Err-clause-fits : goal.returns-in-Err-clause-fits
-returns-in-Err-clause-fits g c = (
-  c.begin.ensures.fits,
+pub returns-clause-fits : goal.returns-clause-fits
+returns-clause-fits g c = (
+  fit_later (basis_of g.N.Natives.operators c.args.self.now.world.world) (basis_of g.N.Natives.operators c.evaluate.new.resting.world) c.args.store.now c.evaluate.new.store
+      c.args.self.now.world.world.table c.evaluate.new.resting.world.table c.args.self.now.world.world.begun c.evaluate.new.resting.world.begun c.requires.fits.0 c.evaluate.ensures.grows,
   c.requires.fits.1,
-  flags_later g.L.Lister.with_context g.L.Lister.asked g.L.Lister.given g.L.Lister.is_for g.M.Lister.asked g.M.Lister.given g.M.Lister.is_for
-      (basis_of g.N.Natives.operators c.args.self.now.world.world) (basis_of g.N.Natives.operators c.begin.new.self) c.args.store.now c.begin.new.store
-      c.args.self.now.world.world.table c.begin.new.self.table c.begin.ensures.comes c.args.self.now.world.levels.items c.requires.fits.2,
+  c.evaluate.ensures.resting,
 )

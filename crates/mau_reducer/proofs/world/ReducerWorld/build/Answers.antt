@@ -7,8 +7,9 @@ use Rattle.mau_evaluation.specs.Run.{done}
 use Rattle.mau_evaluation.specs.Evaluation.{within_limits, top_changed}
 use Rattle.mau_machine.specs.Words.{IsEnd}
 use Rattle.mau_reducer.specs.Worlds.{basis_of}
+use Rattle.mau_reducer.specs.LaterStates.{store_grown}
 use Rattle.mau_reducer.specs.KnownHandles.{term_kind}
-use Rattle.mau_reducer.proofs.Taking.{trees_now, store_grown, as_end}
+use Rattle.mau_reducer.proofs.Taking.{trees_now, as_end}
 use Rattle.mau_reducer.proofs.world.ReducerWorld.build.Goals as goal
 
 pub returns-in-Ok-clause-value : goal.returns-in-Ok-clause-value
@@ -28,7 +29,7 @@ returns-in-Ok-clause-kind g c = term_kind c.args.self.now.program.now.sig c.requ
 
 pub returns-in-Ok-clause-grows : goal.returns-in-Ok-clause-grows
 returns-in-Ok-clause-grows g c =
-    store_grown (basis_of g.N.Natives.operators c.args.self.now) c.args.store.now c.rebuild.new.store c.args.self.now.table c.rebuild.ensures.extends c.requires.ready.0.plain
+    store_grown (basis_of g.N.Natives.operators c.args.self.now) c.args.store.now c.rebuild.new.store c.args.self.now.table c.args.self.now.begun c.rebuild.ensures.extends c.requires.ready.0
 
 pub returns-in-Err-clause-ends : goal.returns-in-Err-clause-ends
 returns-in-Err-clause-ends g c = λ b.
@@ -39,4 +40,4 @@ returns-in-Err-clause-ends g c = λ b.
 
 pub returns-in-Err-clause-grows : goal.returns-in-Err-clause-grows
 returns-in-Err-clause-grows g c =
-    store_grown (basis_of g.N.Natives.operators c.args.self.now) c.args.store.now c.rebuild.new.store c.args.self.now.table c.rebuild.ensures.extends c.requires.ready.0.plain
+    store_grown (basis_of g.N.Natives.operators c.args.self.now) c.args.store.now c.rebuild.new.store c.args.self.now.table c.args.self.now.begun c.rebuild.ensures.extends c.requires.ready.0

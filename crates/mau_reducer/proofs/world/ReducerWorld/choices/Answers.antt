@@ -52,4 +52,4 @@ returns-clause-begun g c =
     (subst (λ bs. IfOk c.begin_choices.result (λ x. x.binding ≡ bs)) c.from_parts-bound.ensures c.begin_choices.ensures.binding) c.begin_choices.ensures.value
 
 pub returns-clause-grows : goal.returns-clause-grows
-returns-clause-grows g c = same_state (basis_of g.N.Natives.operators c.args.self.now) c.args.store.now c.args.self.now.table c.requires.ready.0.plain
+returns-clause-grows g c = same_state (basis_of g.N.Natives.operators c.args.self.now) c.args.store.now c.args.self.now.table c.args.self.now.begun c.requires.ready.0

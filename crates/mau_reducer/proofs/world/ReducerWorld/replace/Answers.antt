@@ -8,7 +8,8 @@ use Rattle.mau_reduce.specs.Ends.{IsEnd}
 use Rattle.mau_reduce.specs.Bindings.{bound_in}
 use Rattle.mau_reduce.specs.Attempting.{makes_of}
 use Rattle.mau_reducer.specs.Worlds.{basis_of}
-use Rattle.mau_reducer.proofs.Taking.{made_kind, made_known, as_ends, store_grown}
+use Rattle.mau_reducer.specs.LaterStates.{store_grown}
+use Rattle.mau_reducer.proofs.Taking.{made_kind, made_known, as_ends}
 use Rattle.mau_reducer.proofs.world.ReducerWorld.replace.Goals as goal
 
 pub make-requires-clause-compiled : goal.make-requires-clause-compiled
@@ -53,4 +54,4 @@ returns-clause-known g c =
 
 pub returns-clause-grows : goal.returns-clause-grows
 returns-clause-grows g c =
-    store_grown (basis_of g.N.Natives.operators c.args.self.now) c.args.store.now c.make.new.store c.args.self.now.table c.make.ensures.extends c.requires.ready.0.plain
+    store_grown (basis_of g.N.Natives.operators c.args.self.now) c.args.store.now c.make.new.store c.args.self.now.table c.args.self.now.begun c.make.ensures.extends c.requires.ready.0

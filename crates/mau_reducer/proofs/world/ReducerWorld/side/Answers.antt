@@ -1,8 +1,8 @@
 use Rattle.std.proofs.Common.{sym}
 use Rattle.mau_reducer.specs.Worlds.{basis_of}
+use Rattle.mau_reducer.specs.LaterStates.{store_grown}
 use Rattle.mau_reducer.proofs.Conditions.{has_side, side_is, side_bare}
 use Rattle.mau_reducer.proofs.Sides.{side_value, side_ends, side_built, side_known}
-use Rattle.mau_reducer.proofs.Taking.{store_grown}
 use Rattle.mau_reducer.proofs.world.ReducerWorld.side.Goals as goal
 
 pub unreachable-requires : goal.unreachable-requires
@@ -39,4 +39,4 @@ returns-clause-known g c =
 
 pub returns-clause-grows : goal.returns-clause-grows
 returns-clause-grows g c =
-    store_grown (basis_of g.N.Natives.operators c.args.self.now) c.args.store.now c.instance.new.store c.args.self.now.table c.instance.ensures.extends c.requires.ready.0.plain
+    store_grown (basis_of g.N.Natives.operators c.args.self.now) c.args.store.now c.instance.new.store c.args.self.now.table c.args.self.now.begun c.instance.ensures.extends c.requires.ready.0

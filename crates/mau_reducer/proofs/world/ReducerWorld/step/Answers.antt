@@ -9,7 +9,8 @@ use Rattle.mau_api.specs.Programs.{program_over}
 use Rattle.mau_reduce.specs.Bindings.{bound_in}
 use Rattle.mau_reduce.specs.Attempting.{makes_of}
 use Rattle.mau_reducer.specs.Worlds.{basis_of}
-use Rattle.mau_reducer.proofs.Taking.{solved_variables, variables_are, use_told, value_made, store_grown}
+use Rattle.mau_reducer.specs.LaterStates.{store_grown}
+use Rattle.mau_reducer.proofs.Taking.{solved_variables, variables_are, use_told, value_made}
 use Rattle.mau_reducer.proofs.world.ReducerWorld.step.Goals as goal
 
 pub step-requires-clause-variables : goal.step-requires-clause-variables
@@ -39,4 +40,4 @@ returns-clause-used g c =
 
 pub returns-clause-grows : goal.returns-clause-grows
 returns-clause-grows g c =
-    store_grown (basis_of g.N.Natives.operators c.args.self.now) c.args.store.now c.step.new.store c.args.self.now.table c.step.ensures.extends c.requires.ready.0.plain
+    store_grown (basis_of g.N.Natives.operators c.args.self.now) c.args.store.now c.step.new.store c.args.self.now.table c.args.self.now.begun c.step.ensures.extends c.requires.ready.0
