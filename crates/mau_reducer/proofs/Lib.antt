@@ -31,4 +31,4 @@ pub mod Asked
 -- conditions without fragments
 pub mod EmptyConditions
 -- tables that are kept
-pub mod Keeping
+pub mod TablesKept

@@ -1,11 +1,11 @@
 //! The sorts that an evaluator has settled, kept while there is no evaluator.
-ghost use Rattle.std.specs.Prelude.{◌≡◌, List, All, true, IfOk};
+ghost use Rattle.std.specs.Prelude.{◌≡◌, List, All, true, false, IfOk};
 ghost use Rattle.mau_store.specs.Node.{Node};
 ghost use Rattle.mau_program.specs.LawfulPrograms.{IsLawfulProgram};
 ghost use Rattle.mau_api.specs.Meanings.{meanings_by};
 ghost use Rattle.mau_built_ins.specs.NativeNumerals.{GivesNumerals};
 ghost use Rattle.mau_reducer.specs.Basis.{DerivesNothing};
-ghost use Rattle.mau_reducer.specs.Keeping.{IsKept};
+ghost use Rattle.mau_reducer.specs.KeptTables.{IsKept};
 
 use crate::flagged::Flagged;
 use crate::reducer::Reducer;

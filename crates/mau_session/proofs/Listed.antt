@@ -17,6 +17,7 @@ use Rattle.mau_store.specs.Trees.{tree_at}
 use Rattle.mau_store.specs.View.{numbers}
 use Rattle.mau_store.proofs.Standing.{tree_at-extends}
 use Rattle.mau_canon.proofs.Standing.{stand_there}
+use Rattle.mau_sorts.proofs.Settling.{kept_same}
 use Rattle.mau_sorts.specs.HasSort.{Known}
 use Rattle.mau_sorts.specs.Table.{Table, AreOver, KeepsEntries}
 use Rattle.mau_listing.specs.declared.solution.Solution.{Solution}
@@ -27,12 +28,10 @@ use Rattle.mau_listing.specs.Next
 use Rattle.mau_listing.specs.Next.{matcher_cmp, IsLeastBehind}
 use Rattle.mau_listing.specs.Asked.{Asked, question_in, matcher_in, IsTableOf, BySort, IsGiven, CanBeLast}
 use Rattle.mau_listing.proofs.Growth.{found_same, askable_extended, given_is_last, last_of_store, given_of_store, trees_long}
-use Rattle.mau_api.specs.Terms.{IsNormalBare}
 use Rattle.mau_api.specs.Meanings.{Meanings}
-use Rattle.mau_api.specs.Answers.{IsDerivedTable, AreSettled}
+use Rattle.mau_api.specs.Answers.{IsDerivedTable}
 use Rattle.mau_conditional.specs.Meant.{HasDerivedSort}
-use Rattle.mau_conditional.specs.NextWhere.{HaveGrown}
-use Rattle.mau_conditional.proofs.Derived.{are_derived, next_so}
+use Rattle.mau_conditional.proofs.Derived.{listed_derived}
 use Rattle.mau_conditional.proofs.Ready.{ready_on, ready_behind}
 use Rattle.mau_module.specs.Modules.{ModuleOf}
 use Rattle.mau_session.specs.Terms.{terms_in}
@@ -138,27 +137,16 @@ module _ (m : ModuleOf) (e : Meanings) (q : Query) (over : IsQueryOver m.signatu
 
 -- what a listing of an evaluator answers
 module _ (m : ModuleOf) (e : Meanings) (goes : GoesIn m e) (q : Query) (table : Table) (ready : IsReady m.signature table q) (derived : IsDerivedTable e q.store table) (o : Option Matcher) where
-  -- by the sorts that are known besides those by declarations, over the signature s
-  abbrev pub Listed : Bool → SignatureOf → Asked → Option Solution → Type 0
-  Listed w s a last =
-      (known : Known) → IsTableOf s known q.store table →
-      Next.IsNext (Question.IsSolution w s (BySort s known) (question_in q.store a)) (matcher_cmp (theory_at s) a.pattern) (option_map (matcher_in q.store) last) o
+  -- by the sorts that are known besides those by declarations
+  abbrev pub Listed : Bool → Asked → Option Solution → Type 0
+  Listed w a last =
+      (known : Known) → IsTableOf e.program.sig known q.store table →
+      Next.IsNext (Question.IsSolution w e.program.sig (BySort e.program.sig known) (question_in q.store a)) (matcher_cmp (theory_at e.program.sig) a.pattern) (option_map (matcher_in q.store) last) o
 
-  of_own : Listed q.with_context e.program.sig (asked_for q) q.last → Answers m e q ready.query (question_in q.store (asked_for q)) o
-  of_own h =
-      let r = e.program.sig in
-      let u = question_in q.store (asked_for q) in
-      let last = option_map (matcher_in q.store) q.last in
-      let askable = ready.query.askable in
-      let normal : IsNormalBare r u.subject = subst (λ (z : SignatureOf). IsNormalBare z u.subject) goes.signature (askable.subject.normal, askable.bare) in
-      let settled = subst (λ (z : SignatureOf). AreSettled z q.store table u.subject) goes.signature ready.listing.settled in
-      let d = are_derived e goes.goes q.store table derived u normal settled q.with_context in
-      let next = next_so (Question.IsSolution q.with_context r (BySort r d.known) u) (Question.IsSolution q.with_context r (HasDerivedSort e) u) d.to d.from (matcher_cmp (theory_at r) u.pattern) last o (h d.known d.is_table) in
-      subst (λ (z : SignatureOf). Next.IsNext (Question.IsSolution q.with_context z (HasDerivedSort e) u) (matcher_cmp (theory_at z) u.pattern) last o) (sym goes.signature) next
-
-  pub answers_here : (w : Bool) (a : Asked) (last : Option Solution) → w ≡ q.with_context → a ≡ asked_for q → last ≡ q.last → Listed w e.program.sig a last → Answers m e q ready.query (question_in q.store (asked_for q)) o
+  pub answers_here : (w : Bool) (a : Asked) (last : Option Solution) → w ≡ q.with_context → a ≡ asked_for q → last ≡ q.last → Listed w a last → Answers m e q ready.query (question_in q.store (asked_for q)) o
   answers_here w a last ew ea el h =
-      of_own (subst (λ l. Listed q.with_context e.program.sig (asked_for q) l) el (subst (λ b. Listed q.with_context e.program.sig b last) ea (subst (λ v. Listed v e.program.sig a last) ew h)))
+      listed_derived e goes.goes m.signature goes.signature q.store table derived q.with_context (asked_for q) q.last ready.listing o
+      (subst (λ l. Listed q.with_context (asked_for q) l) el (subst (λ b. Listed q.with_context b last) ea (subst (λ v. Listed v a last) ew h)))
 
 module _ (m : ModuleOf) (q : Query) where
   pub given_here : (w : Bool) (s : SignatureOf) (a : Asked) → w ≡ q.with_context → s ≡ m.signature → a ≡ asked_for q → (store : List Node) (sorts : Table) (x : Solution)
@@ -167,14 +155,14 @@ module _ (m : ModuleOf) (q : Query) where
       subst (λ b. IsGiven q.with_context m.signature store sorts b x) ea (subst (λ r. IsGiven q.with_context r store sorts a x) es (subst (λ v. IsGiven v s store sorts a x) ew h))
 
 -- in a store that has grown
-module _ (m : ModuleOf) (q : Query) (store : List Node) (extends : Extends q.store store) where
+module _ (s : SignatureOf) (q : Query) (store : List Node) (extends : Extends q.store store) where
   abbrev pub grown : Query
   grown = record q { store = store }
 
-  pub grown_over : IsQueryOver m.signature q → IsQueryOver m.signature grown
+  pub grown_over : IsQueryOver s q → IsQueryOver s grown
   grown_over over = record {
     lawful = over.lawful;
-    askable = askable_extended q.store store extends m.signature (asked_for q) over.askable;
+    askable = askable_extended q.store store extends s (asked_for q) over.askable;
     stands = tree_at-extends q.store store q.number.0 extends over.askable.subject.there ∙ over.stands;
     subject = over.subject;
     numbered = over.numbered;
@@ -182,19 +170,19 @@ module _ (m : ModuleOf) (q : Query) (store : List Node) (extends : Extends q.sto
     small = over.small;
   }
 
-  pub grown_ready : (table sorts : Table) → KeepsEntries table sorts → AreOver m.signature.hierarchy sorts → IsReady m.signature table q → IsReady m.signature sorts grown
+  pub grown_ready : (table sorts : Table) → KeepsEntries table sorts → AreOver s.hierarchy sorts → IsReady s table q → IsReady s sorts grown
   grown_ready table sorts kept over ready = record {
     query = grown_over ready.query;
-    listing = ready_on q.with_context m.signature q.store store table sorts (record { extends = extends; kept = kept }) over (asked_for q) q.last ready.listing;
+    listing = ready_on q.with_context s q.store store table sorts (record { extends = extends; kept = kept }) over (asked_for q) q.last ready.listing;
   }
 
-  pub grown_same : (table : Table) → IsReady m.signature table q → query_of grown ≡ query_of q
+  pub grown_same : (table : Table) → IsReady s table q → query_of grown ≡ query_of q
   grown_same table ready = ap (λ o. record (query_of q) { last = o }) (by q.last ready.listing.can.given)
     where
-      by : (o : Option Solution) → IfSome o (CanBeLast q.with_context m.signature q.store table (asked_for q)) → option_map (matcher_in store) o ≡ option_map (matcher_in q.store) o
+      by : (o : Option Solution) → IfSome o (CanBeLast q.with_context s q.store table (asked_for q)) → option_map (matcher_in store) o ≡ option_map (matcher_in q.store) o
       by None g = refl
       by (Some x) g =
-          let there = last_of_store q.with_context m.signature q.store table (asked_for q) x g in
+          let there = last_of_store q.with_context s q.store table (asked_for q) x g in
           ap Some (found_same q.store store extends x there.left there.right there.values)
 
 -- ---- one solution more

@@ -14,7 +14,7 @@ use Rattle.mau_formula.specs.Operator.{Operator}
 use Rattle.mau_sorts.specs.Table.{Table}
 use Rattle.mau_listing.specs.Asked.{Asked, asks, matcher_in, IsAskable}
 use Rattle.mau_api.specs.Meanings.{Meanings}
-use Rattle.mau_reducer.specs.Keeping.{IsKept}
+use Rattle.mau_reducer.specs.KeptTables.{IsKept}
 use Rattle.mau_conditional.specs.NextWhere.{GoesByProgram, IsReadyFor}
 use Rattle.mau_module.specs.Modules.{ModuleOf}
 use Rattle.mau_module.specs.Lawful.{program_of}

@@ -5,7 +5,7 @@ use Rattle.mau_store.specs.Node.{Node, Extends}
 use Rattle.mau_sorts.specs.Table.{Table}
 use Rattle.mau_program.specs.declared.program.Program.{Program}
 use Rattle.mau_reduce.proofs.PlainTables.{plain_grown}
-use Rattle.mau_reducer.specs.Keeping.{IsKept}
+use Rattle.mau_reducer.specs.KeptTables.{IsKept}
 
 pub kept_grown : (p : Program) (hooks : List Operator) (limit : ℕ) (old new : List Node) (table : Table) → Extends old new → IsKept p hooks limit old table → IsKept p hooks limit new table
 kept_grown p hooks limit old new table x kept = plain_grown p.sig old new table x kept

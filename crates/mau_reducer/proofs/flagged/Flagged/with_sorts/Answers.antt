@@ -4,7 +4,7 @@ use Rattle.mau_reducer.specs.declared.reducer.Reducer.{Reducer}
 use Rattle.mau_reducer.specs.Worlds.{basis_of}
 use Rattle.mau_reducer.specs.Handles.{words_of}
 use Rattle.mau_reducer.specs.States.{IsFit}
-use Rattle.mau_reducer.proofs.keeping.Flagged.with_sorts.Goals as goal
+use Rattle.mau_reducer.proofs.flagged.Flagged.with_sorts.Goals as goal
 
 pub returns-clause-fits : goal.returns-clause-fits
 returns-clause-fits g c = λ nodes kept.
