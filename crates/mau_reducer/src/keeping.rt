@@ -47,10 +47,10 @@ impl<'a, L: Lister + Drop, M: WholeLister + Drop, N: Natives + Drop> Flagged<'a,
 
     /// The sorts that it has settled.
     pub fn into_sorts(self) -> SortTable
-        ensures table { result ≡ ⟦<Flagged<'a, L, M, N> as Evaluator>⟧.table self }
-        ensures kept { (nodes : List Node) → ⟦<Flagged<'a, L, M, N> as Evaluator>⟧.fits self nodes →
-            IsKept (⟦<Flagged<'a, L, M, N> as Evaluator>⟧.meanings self).program (⟦<Flagged<'a, L, M, N> as Evaluator>⟧.meanings self).hooks
-            (⟦<Flagged<'a, L, M, N> as Evaluator>⟧.meanings self).limit nodes result }
+        ensures table { result ≡ ⟦<Flagged<'a, L, M, N> as Evaluator>⟧.table self.entry }
+        ensures kept { (nodes : List Node) → ⟦<Flagged<'a, L, M, N> as Evaluator>⟧.fits self.entry nodes →
+            IsKept (⟦<Flagged<'a, L, M, N> as Evaluator>⟧.meanings self.entry).program (⟦<Flagged<'a, L, M, N> as Evaluator>⟧.meanings self.entry).hooks
+            (⟦<Flagged<'a, L, M, N> as Evaluator>⟧.meanings self.entry).limit nodes result }
     {
         self.world.world.table
     }
