@@ -16,10 +16,12 @@ use Rattle.mau_sorts.specs.HasSort.{HasSort}
 use Rattle.mau_sorts.specs.Table.{Table}
 use Rattle.mau_listing.proofs.Answered.{normal_is}
 use Rattle.mau_program.specs.LawfulPrograms.{IsLawfulProgram}
-use Rattle.mau_program.specs.declared.program.Program.{Program}
+use Rattle.mau_program.specs.declared.program.Program as Typed
 use Rattle.mau_program.specs.declared.statements.Fragment.{Fragment}
 use Rattle.mau_evaluation.specs.Run.{End, stopped, too_deep, overflowed}
+use Rattle.mau_evaluation.specs.Program.{Program}
 use Rattle.mau_evaluation.specs.Evaluation.{has_number}
+use Rattle.mau_api.specs.Programs.{program_over}
 use Rattle.mau_api.specs.Terms.{IsNormalBare}
 use Rattle.mau_api.specs.Meanings.{Meanings}
 use Rattle.mau_api.specs.Answers.{IsAskable, MayEnd}
@@ -48,18 +50,19 @@ module _ (m : ModuleOf) (ops : List Operator) (limit : ℕ) (is : IsLawfulProgra
   kinds : SortsAreOfKind (meanings_in (environment_of ops limit) m)
   kinds t r k normal has bare =
       let s = m.signature in
+      let P : Program = program_over (program_of m) ops in
       let none = none_executable (environment_of ops limit) m plain in
       let over : IsTreeOver s t = subst (IsTreeOver s) normal.0 (norm_over s lawful t (subst (λ u. IsBare (terms_over s) (reading (theory_at s) u)) (sym normal.0) normal.1)) in
-      let sorts : has.sorts ≡ plain_sorts _ none (norm (theory_at s) t) = (let e = sym (has.known 0) ∙ sorts_known _ none limit has.levels (norm (theory_at s) t) 0 in cc) in
-      let own : has_number (plain_sorts _ none t) r ≡ true = ap (λ u. has_number (plain_sorts _ none u) r) (sym normal.0) ∙ (ap (λ ss. has_number ss r) (sym sorts) ∙ has.has) in
+      let sorts : has.sorts ≡ plain_sorts P none (norm (theory_at s) t) = (let e = sym (has.known 0) ∙ sorts_known P none limit has.levels (norm (theory_at s) t) 0 in cc) in
+      let own : has_number (plain_sorts P none t) r ≡ true = ap (λ u. has_number (plain_sorts P none u) r) (sym normal.0) ∙ (ap (λ ss. has_number ss r) (sym sorts) ∙ has.has) in
       sort_kind s is.accepted lawful t (normal_is (theory_at s) lawful.theories t normal.0) over r ((plain_exact (program_of m) ops is.accepted none t over r).0 own) k bare
 
   pub goes_in : GoesIn m (meanings_in (environment_of ops limit) m)
   goes_in = record { goes = record { defined = refl; accepted = is.accepted; heads = heads (program_of m) is lawful ops; kinds = kinds }; signature = refl }
 
 -- a table that is kept is one for the module's program
-pub kept_for : (m : ModuleOf) (p : Program) → p ≡ program_of m → (store : List Node) (sorts : Table) (hooks : List Operator) (budget : ℕ) → ((hooks : List Operator) (budget : ℕ) → IsKept (program_of m) hooks budget store sorts) → IsKept p hooks budget store sorts
-kept_for m p same store sorts hooks budget kept = subst (λ (z : Program). IsKept z hooks budget store sorts) (sym same) (kept hooks budget)
+pub kept_for : (m : ModuleOf) (p : Typed.Program) → p ≡ program_of m → (store : List Node) (sorts : Table) (hooks : List Operator) (budget : ℕ) → ((hooks : List Operator) (budget : ℕ) → IsKept (program_of m) hooks budget store sorts) → IsKept p hooks budget store sorts
+kept_for m p same store sorts hooks budget kept = subst (λ (z : Typed.Program). IsKept z hooks budget store sorts) (sym same) (kept hooks budget)
 
 -- ---- an evaluator by such a program
 

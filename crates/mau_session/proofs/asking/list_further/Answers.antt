@@ -38,8 +38,7 @@ show_query-requires-clause-ready g c =
 
 pub show_query-requires-clause-fits : goal.show_query-requires-clause-fits
 show_query-requires-clause-fits g c =
-    let ops = c.new-natives.result in
-    c.in_ok-evaluator.ensures.fits c.args.query.store (kept_for c.args.module.now c.program-program.result.now c.program-program.ensures c.args.query.store c.args.sorts _ c.args.session.now.limit c.requires.ready.kept)
+    c.in_ok-evaluator.ensures.fits c.args.query.store (kept_for c.args.module.now c.program-program.result.now c.program-program.ensures c.args.query.store c.args.sorts (operators c.args.session.now.hooks.now) c.args.session.now.limit c.requires.ready.kept)
 
 pub show_query-requires-clause-goes : goal.show_query-requires-clause-goes
 show_query-requires-clause-goes g c =

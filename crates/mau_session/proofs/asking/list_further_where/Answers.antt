@@ -45,7 +45,7 @@ show_kept-requires-clause-ready g c =
 pub show_kept-requires-clause-fits : goal.show_kept-requires-clause-fits
 show_kept-requires-clause-fits g c =
     c.in_ok-evaluator.ensures.fits c.args.kept.query.store
-    (kept_for c.args.module.now c.program-program.result.now c.program-program.ensures c.args.kept.query.store c.args.sorts _ c.args.session.now.limit c.requires.ready.query.kept)
+    (kept_for c.args.module.now c.program-program.result.now c.program-program.ensures c.args.kept.query.store c.args.sorts (operators c.args.session.now.hooks.now) c.args.session.now.limit c.requires.ready.query.kept)
 
 pub show_kept-requires-clause-can : goal.show_kept-requires-clause-can
 show_kept-requires-clause-can g c =

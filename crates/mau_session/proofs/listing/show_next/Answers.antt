@@ -5,7 +5,7 @@ use Rattle.mau_listing.specs.declared.solution.Solution.{Solution}
 use Rattle.mau_listing.specs.Asked.{Asked, matcher_in, IsGiven, CanGoOn}
 use Rattle.mau_conditional.proofs.Ready.{over_of}
 use Rattle.mau_session.specs.declared.query.Query.{Query}
-use Rattle.mau_session.specs.KeptQuery.{query_of, IsReady}
+use Rattle.mau_session.specs.KeptQuery.{query_of, asked_for, IsReady}
 use Rattle.mau_session.specs.Next.{ShowsNext, shows_one, shows_none}
 use Rattle.mau_session.proofs.Listed.{answers_here, given_here, nothing_next, something_next, grown, grown_over, grown_ready, grown_same, advanced_ready, advanced_same}
 use Rattle.mau_session.proofs.listing.show_next.Goals as goal
@@ -19,9 +19,9 @@ list-requires-clause-ready g c =
     let q = c.args.query.now in
     let table = g.E.Evaluator.table c.args.evaluator.now in
     let r = (g.E.Evaluator.meanings c.args.evaluator.now).program.sig in
-    let own = subst (λ (z : SignatureOf). CanGoOn q.with_context z q.store table _ q.last) c.requires.goes.signature c.requires.ready.listing.can in
+    let own = subst (λ (z : SignatureOf). CanGoOn q.with_context z q.store table (asked_for q) q.last) c.requires.goes.signature c.requires.ready.listing.can in
     subst (λ w. CanGoOn w r q.store table (g.L.Lister.asked c.args.listing.now) (g.L.Lister.given c.args.listing.now)) (sym c.requires.contexts)
-    (subst (λ (a : Asked). CanGoOn q.with_context r q.store table a (g.L.Lister.given c.args.listing.now)) (sym c.requires.asked) (subst (λ (l : Option Solution). CanGoOn q.with_context r q.store table _ l) (sym c.requires.given) own))
+    (subst (λ (a : Asked). CanGoOn q.with_context r q.store table a (g.L.Lister.given c.args.listing.now)) (sym c.requires.asked) (subst (λ (l : Option Solution). CanGoOn q.with_context r q.store table (asked_for q) l) (sym c.requires.given) own))
 
 pub returns-in-None-clause-shown : goal.returns-in-None-clause-shown
 returns-in-None-clause-shown g c =

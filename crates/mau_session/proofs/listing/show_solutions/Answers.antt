@@ -24,7 +24,7 @@ returns-then-not-branch-clause-shown g c =
     let M = g.E.Evaluator.meanings c.args.evaluator.now in
     ended_progress m M (query_of c.args.query.now) c.args.out.now.items c.args.most 18446744073709551615 (query_of c.loop.query) (query_of c.show_next.new.query) c.loop.counter c.loop.out.items c.show_next.new.out.items
     (subst (λ n. c.loop.counter < n) c.unwrap_or-end.ensures c.loop-test.true) c.loop.invariant.progress
-    (subst (ShowsNext m M (query_of c.loop.query) c.loop.out.items (query_of c.show_next.new.query) c.show_next.new.out.items) c.if-not-branch.true (subst (λ (n : Meanings). ShowsNext m n (query_of c.loop.query) c.loop.out.items (query_of c.show_next.new.query) c.show_next.new.out.items c.in_ok-show_next.branch) c.loop.invariant.meanings c.in_ok-show_next.ensures.shown))
+    (subst (ShowsNext m M (query_of c.loop.query) c.loop.out.items (query_of c.show_next.new.query) c.show_next.new.out.items) c.if-not-branch.true (subst (λ (n : Meanings). ShowsNext m n (query_of c.loop.query) c.loop.out.items (query_of c.show_next.new.query) c.show_next.new.out.items c.in_ok-show_next.field-0) c.loop.invariant.meanings c.in_ok-show_next.ensures.shown))
 
 pub loop-preserved : goal.loop-preserved
 loop-preserved g c =
@@ -34,7 +34,7 @@ loop-preserved g c =
     record {
       progress = more_progress m M (query_of c.args.query.now) c.args.out.now.items (query_of c.loop.query) (query_of c.show_next.new.query) c.loop.counter (c.loop.counter + 1) c.loop.out.items c.show_next.new.out.items refl
           c.loop.invariant.progress
-          (subst (ShowsNext m M (query_of c.loop.query) c.loop.out.items (query_of c.show_next.new.query) c.show_next.new.out.items) c.if-not-branch.false (subst (λ (n : Meanings). ShowsNext m n (query_of c.loop.query) c.loop.out.items (query_of c.show_next.new.query) c.show_next.new.out.items c.in_ok-show_next.branch) c.loop.invariant.meanings c.in_ok-show_next.ensures.shown));
+          (subst (ShowsNext m M (query_of c.loop.query) c.loop.out.items (query_of c.show_next.new.query) c.show_next.new.out.items) c.if-not-branch.false (subst (λ (n : Meanings). ShowsNext m n (query_of c.loop.query) c.loop.out.items (query_of c.show_next.new.query) c.show_next.new.out.items c.in_ok-show_next.field-0) c.loop.invariant.meanings c.in_ok-show_next.ensures.shown));
       ready = c.in_ok-show_next.ensures.ready;
       fits = c.in_ok-show_next.ensures.fits;
       meanings = c.show_next.ensures.meanings ∙ i.meanings;
