@@ -4,17 +4,16 @@ use Rattle.mau_signature.specs.Signature.{SignatureOf, theory_at}
 use Rattle.mau_store.specs.Node.{Node, Extends}
 use Rattle.mau_store.proofs.Growth.{extension_is_preorder}
 use Rattle.mau_sorts.specs.Table.{Table}
-use Rattle.mau_sorts.proofs.Settling.{kept_on}
+use Rattle.mau_sorts.proofs.Settling.{kept_same, kept_on}
 use Rattle.mau_program.specs.declared.statements.Fragment.{Fragment}
 use Rattle.mau_evaluation.specs.Run.{stopped, too_deep, overflowed}
 use Rattle.mau_listing.specs.Matcher.{Matcher}
 use Rattle.mau_listing.specs.Next.{matcher_cmp, IsNext}
 use Rattle.mau_listing.specs.Question.{Question, IsSolution}
-use Rattle.mau_listing.specs.Asked.{BySort}
-use Rattle.mau_listing.proofs.Growth.{table_grown}
 use Rattle.mau_api.specs.Meanings.{Meanings}
 use Rattle.mau_api.specs.declared.results.EvalEnd.{EvalEnd}
 use Rattle.mau_api.specs.declared.results.EvalEnd.TheVariants.{Stopped, TooDeep, Overflow, NoMemory}
+use Rattle.mau_conditional.specs.Meant.{HasDerivedSort}
 use Rattle.mau_conditional.specs.declared.next.Turn.{Turn}
 use Rattle.mau_conditional.specs.NextWhere.{NextOf, next_is, none_is_left, next_holds, nothing_next, next_ends, next_passed, NextFor, IfCame, IsTurned, IsTurnOf, HaveGrown}
 
@@ -27,7 +26,7 @@ module _ (w : Bool) (s : SignatureOf) (m : Meanings) (c : List Fragment) (u : Qu
     pub holds_here : (x : Matcher) (left : ℕ) → IsTurned w s m c u last b (Ok true) left x → NextFor w s m c u from began (next_is x) left
     holds_here x left t = leads (next_is x) left (next_holds last b x t.asked.0 t.asked.1 left t.next t.asked.2)
 
-    pub none_here : (left : ℕ) → IsNext (IsSolution w s (BySort s []) u) (matcher_cmp (theory_at s) u.pattern) last None → left ≡ b → NextFor w s m c u from began none_is_left left
+    pub none_here : (left : ℕ) → IsNext (IsSolution w s (HasDerivedSort m) u) (matcher_cmp (theory_at s) u.pattern) last None → left ≡ b → NextFor w s m c u from began none_is_left left
     none_here left none e = subst (NextFor w s m c u from began none_is_left) (sym e) (leads none_is_left b (nothing_next last b none))
 
     pub passed_here : (x : Matcher) (now : Option Matcher) (left : ℕ) → IsTurned w s m c u last b (Ok false) left x → now ≡ Some x → Leads now left
@@ -55,19 +54,11 @@ turn_as w s m n c u v e f nodes last b r now left t =
 
 -- ---- stores and tables that grow
 
-pub grown_twice : (s : SignatureOf) (old middle new : List Node) (before between after : Table) → HaveGrown s old middle before between → HaveGrown s middle new between after → HaveGrown s old new before after
-grown_twice s old middle new before between after h k = record {
+pub grown_twice : (old middle new : List Node) (before between after : Table) → HaveGrown old middle before between → HaveGrown middle new between after → HaveGrown old new before after
+grown_twice old middle new before between after h k = record {
   extends = extension_is_preorder.transitive old middle new h.extends k.extends;
   kept = kept_on before between after h.kept k.kept;
-  over = k.over;
-  table = k.table;
 }
 
--- the store alone
-pub grown_further : (s : SignatureOf) (old middle new : List Node) (before after : Table) → HaveGrown s old middle before after → Extends middle new → HaveGrown s old new before after
-grown_further s old middle new before after h extends = record {
-  extends = extension_is_preorder.transitive old middle new h.extends extends;
-  kept = h.kept;
-  over = h.over;
-  table = table_grown s [] middle new extends after h.table;
-}
+pub grown_not : (nodes : List Node) (table : Table) → HaveGrown nodes nodes table table
+grown_not nodes table = record { extends = extension_is_preorder.reflexive nodes; kept = kept_same table }

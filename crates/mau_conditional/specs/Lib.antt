@@ -4,6 +4,8 @@
 
 -- which solutions are shown, and how a listing is left
 pub mod Where
+-- the sorts of values, and what may come of asking a condition
+pub mod Meant
 -- what is proved of these
 pub mod Laws
 -- ---- what only inner contracts and proofs cite

@@ -38,3 +38,5 @@ pub mod WhatIsSolved
 pub mod Asked
 -- conditions without fragments
 pub mod EmptyConditions
+-- tables that are kept
+pub mod TablesKept

@@ -13,6 +13,8 @@ pub mod Irreducible
 pub mod Handles
 -- its states
 pub mod States
+-- tables that are kept
+pub mod KeptTables
 -- what becomes of a condition that is asked
 pub mod Solutions
 -- lemmas by which it has the laws of worlds and of evaluators

@@ -5,6 +5,7 @@ mod asking;
 mod evaluating;
 mod flagged;
 mod fragments;
+mod keeping;
 pub mod laws;
 mod reducer;
 mod tests_of_programs;

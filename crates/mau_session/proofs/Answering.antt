@@ -2,6 +2,7 @@
 use Rattle.std.proofs.Common.{◌≡◌, ℕ, ◌+◌, List, [], ◌∷◌, ◌++◌, Bool, true, false, ◌||◌, Option, None, Some, Result, Ok, Err, IfOk, OnOk, refl, sym, ◌∙◌, ap, ap₂, subst, append_assoc, append-nil}
 use Rattle.std.specs.Prelude.{slice_get}
 use Rattle.mau_terms.specs.Tree.{Tree}
+use Rattle.mau_api.specs.Meanings.{Meanings}
 use Rattle.mau_module.specs.Modules.{ModuleOf}
 use Rattle.mau_modtext.specs.Word.{Word}
 use Rattle.mau_modtext.specs.declared.raw.RawItem.{RawItem}
@@ -23,10 +24,10 @@ use Rattle.mau_session.specs.Environment.{Environment, meanings_in}
 use Rattle.mau_session.specs.Next.{GainsShown}
 use Rattle.mau_program.specs.declared.statements.Fragment.{Fragment}
 use Rattle.mau_conditional.specs.Where.{Ending, no_more, bound_reached, ends_by}
-use Rattle.mau_session.specs.Where.{left_where, where_lines, IsConditionOf, WhereAnswer, where_too_deep, where_overflows, where_listed}
-use Rattle.mau_session.specs.Transcript.{TermsRead, TermsAnswer, too_deep, overflows, listed, asks_where, MatchAnswer, listing_not_built, bound_refused, command_answered, ContinueAnswer, continued, continued_where, term_answered, BodyAnswer, item_faulty, item_answered, ItemsAnswer, item_first}
-use Rattle.mau_session.specs.Gains.{GainsListing, GainsListed, gains_solutions, gains_too_deep, gains_overflow, GainsWhere, GainsListedWhere, gains_solutions_where, gains_too_deep_where, gains_overflow_where, GainsTerms, ChosenAnswer, chosen_not_built, chosen_refused, chosen_answered, GainsChosen, GainsMatch, GainsOn, GainsOnWhere, GainsContinue, GainsAnswer, GainsTerm, GainsBody, GainsItem}
-use Rattle.mau_session.specs.Lines.{too_deep_line, overflow_line, answer_lines}
+use Rattle.mau_session.specs.Where.{left_where, where_lines, IsConditionOf, WhereAnswer, where_too_deep, where_overflows, where_sorts_end, where_listed}
+use Rattle.mau_session.specs.Transcript.{TermsRead, TermsAnswer, too_deep, overflows, sorts_end, listed, asks_where, MatchAnswer, listing_not_built, bound_refused, command_answered, ContinueAnswer, continued, continued_where, term_answered, BodyAnswer, item_faulty, item_answered, ItemsAnswer, item_first}
+use Rattle.mau_session.specs.Gains.{GainsListing, GainsListed, gains_solutions, gains_sorts_end, gains_too_deep, gains_overflow, GainsWhere, GainsListedWhere, gains_solutions_where, gains_sorts_end_where, gains_too_deep_where, gains_overflow_where, GainsTerms, ChosenAnswer, chosen_not_built, chosen_refused, chosen_answered, GainsChosen, GainsMatch, GainsOn, GainsOnWhere, GainsContinue, GainsAnswer, GainsTerm, GainsBody, GainsItem}
+use Rattle.mau_session.specs.Lines.{too_deep_line, overflow_line, end_line, answer_lines}
 use Rattle.mau_session.specs.Answers.{listing_lines, match_head, continue_head, reduce_head}
 
 -- what was written answers an item, where it is known whether that is a refusal
@@ -85,12 +86,18 @@ module _ (e : Environment) (ws : List Word) (st : StateOf) (k : ℕ) (item : Raw
 
 -- the answer of a match command without a condition whose pattern and subject are read
 pub gains_terms : (e : Environment) (ws : List Word) (m : ModuleOf) (k : ℕ) (c : RawCommand) (most : Option ℕ) (p t : Bare) (os : Pairs) → TermsRead ws m c p t os → has_condition c ≡ false
-    → (o a n : List ℕ) (left : OutcomeOf) → a ≡ o ++ match_head k (has_context c.kind) m → GainsListed m os (has_context c.kind) (tree_of p) (tree_of t) most left a n → GainsTerms e ws m k c most o n left
-gains_terms e ws m k c most p t os read none o _ _ _ head (gains_solutions left a n within listing) = record {
+    → (o a n : List ℕ) (left : OutcomeOf) → a ≡ o ++ match_head k (has_context c.kind) m → GainsListed m (meanings_in e m) (asked_first (has_context c.kind) (tree_of p) (tree_of t) os) most left a n
+    → GainsTerms e ws m k c most o n left
+gains_terms e ws m k c most p t os read none o _ _ _ head (gains_solutions left a n within known listing) = record {
   bytes = match_head k (has_context c.kind) m ++ listing_lines m os (has_context c.kind) (tree_of p) 0 listing.found listing.ended;
   answer = subst (λ l. TermsAnswer e ws m k c most l (match_head k (has_context c.kind) m ++ listing_lines m os (has_context c.kind) (tree_of p) 0 listing.found listing.ended)) (sym listing.leaves)
-      (listed p t os listing.found listing.ended read none within listing.listing);
+      (listed p t os listing.found listing.ended read none within known listing.listing);
   gained = listing.gained ∙ ap (λ x. x ++ listing_lines m os (has_context c.kind) (tree_of p) 0 listing.found listing.ended) head ∙ append_assoc o (match_head k (has_context c.kind) m) (listing_lines m os (has_context c.kind) (tree_of p) 0 listing.found listing.ended);
+}
+gains_terms e ws m k c most p t os read none o _ _ _ head (gains_sorts_end x a n within ends gained) = record {
+  bytes = match_head k (has_context c.kind) m ++ end_line e.budget x;
+  answer = sorts_end p t os x read none within ends;
+  gained = gained ∙ ap (λ w. w ++ end_line e.budget x) head ∙ append_assoc o (match_head k (has_context c.kind) m) (end_line e.budget x);
 }
 gains_terms e ws m k c most p t os read none o _ _ _ head (gains_too_deep a n cause gained) = record {
   bytes = match_head k (has_context c.kind) m ++ too_deep_line;
@@ -112,14 +119,19 @@ gains_asked e ws m k c most p t os read some o n left g = record { bytes = g.byt
 pub gains_where : (e : Environment) (ws : List Word) (m : ModuleOf) (k : ℕ) (c : RawCommand) (most : Option ℕ) (p t : Tree) (ns os : Pairs) (cond : List Fragment) → IsConditionOf ws m c.cond p ns os cond
     → (o a n : List ℕ) (left : OutcomeOf) → a ≡ o ++ match_head k (has_context c.kind) m
     → GainsListedWhere m (meanings_in e m) cond (asked_first (has_context c.kind) p t os) most left a n → GainsWhere e ws m k c most p t ns o n left
-gains_where e ws m k c most p t ns os cond is o _ _ _ head (gains_solutions_where left a n within listing) =
+gains_where e ws m k c most p t ns os cond is o _ _ _ head (gains_solutions_where left a n within known listing) =
     let lines = where_lines m e.budget (asked_first (has_context c.kind) p t os) listing.found listing.ending in
     record {
       bytes = match_head k (has_context c.kind) m ++ lines;
       answer = subst (λ l. WhereAnswer e ws m k c most p t ns l (match_head k (has_context c.kind) m ++ lines)) (sym listing.leaves)
-          (where_listed os cond listing.found listing.ending is within listing.listing);
+          (where_listed os cond listing.found listing.ending is within known listing.listing);
       gained = listing.gained ∙ ap (λ x. x ++ lines) head ∙ append_assoc o (match_head k (has_context c.kind) m) lines;
     }
+gains_where e ws m k c most p t ns os cond is o _ _ _ head (gains_sorts_end_where x a n within ends gained) = record {
+  bytes = match_head k (has_context c.kind) m ++ end_line e.budget x;
+  answer = where_sorts_end os cond x is within ends;
+  gained = gained ∙ ap (λ w. w ++ end_line e.budget x) head ∙ append_assoc o (match_head k (has_context c.kind) m) (end_line e.budget x);
+}
 gains_where e ws m k c most p t ns os cond is o _ _ _ head (gains_too_deep_where a n cause gained) = record {
   bytes = match_head k (has_context c.kind) m ++ too_deep_line;
   answer = where_too_deep os cond is cause;
@@ -131,31 +143,31 @@ gains_where e ws m k c most p t ns os cond is o _ _ _ head (gains_overflow_where
   gained = gained ∙ ap (λ x. x ++ overflow_line) head ∙ append_assoc o (match_head k (has_context c.kind) m) overflow_line;
 }
 
--- what a query shows of which nothing was shown
-pub gains_listing : (m : ModuleOf) (ns : Pairs) (w : Bool) (p t : Tree) (most : Option ℕ) (q next : QueryOf) (left : OutcomeOf) (old new : List ℕ) (ended : Bool)
-    → q ≡ asked_first w p t ns → GainsShown m q next most old new ended → left ≡ left_by ended next → GainsListing m ns w p t most left old new
-gains_listing m ns w p t most q next left old new ended e g l =
-    let h = subst (λ k. GainsShown m k next most old new ended) e g in
+-- what a query shows
+pub gains_listing : (m : ModuleOf) (e : Meanings) (q first next : QueryOf) (most : Option ℕ) (left : OutcomeOf) (old new : List ℕ) (ended : Bool)
+    → q ≡ first → GainsShown m e q next most old new ended → left ≡ left_by ended next → GainsListing m e first most left old new
+gains_listing m e q first next most left old new ended same g l =
+    let h = subst (λ k. GainsShown m e k next most old new ended) same g in
     record { found = h.found; ended = ended; listing = h.shows; leaves = l ∙ ap (left_by ended) h.after; gained = h.gained }
 
 -- what a query shows that goes on, behind the first line of the answer
-pub gains_on : (st : StateOf) (k i : ℕ) (q : QueryOf) (most : Option ℕ) (m : ModuleOf) (at_number : slice_get st.modules i ≡ Some m) (next : QueryOf) (after : StateOf) (o a n : List ℕ) (ended refused : Bool)
-    → a ≡ o ++ continue_head k m → GainsShown m q next most a n ended → after ≡ state_after st i (left_by ended next) → refused ≡ refuses (left_by ended next)
-    → GainsOn st k i q most after o n refused
-gains_on st k i q most m at_number next after o a n ended refused head shown is answered = record {
+pub gains_on : (e : Environment) (st : StateOf) (k i : ℕ) (q : QueryOf) (most : Option ℕ) (m : ModuleOf) (at_number : slice_get st.modules i ≡ Some m) (left : OutcomeOf) (after : StateOf) (o a n : List ℕ) (refused : Bool)
+    → a ≡ o ++ continue_head k m → GainsListing m (meanings_in e m) q most left a n → after ≡ state_after st i left → refused ≡ refuses left
+    → GainsOn e st k i q most after o n refused
+gains_on e st k i q most m at_number left after o a n refused head g is answered = record {
   «module» = m;
   there = at_number;
-  found = shown.found;
-  ended = ended;
-  shows = shown.shows;
-  after = is ∙ ap (λ p. state_after st i (left_by ended p)) shown.after;
+  found = g.found;
+  ended = g.ended;
+  shows = g.listing;
+  after = is ∙ ap (state_after st i) g.leaves;
   gained =
-      shown.gained ∙ ap (λ x. x ++ listing_lines m q.variables q.with_context q.pattern q.shown shown.found ended) head
-      ∙ append_assoc o (continue_head k m) (listing_lines m q.variables q.with_context q.pattern q.shown shown.found ended);
-  answered = answered ∙ never ended;
+      g.gained ∙ ap (λ x. x ++ listing_lines m q.variables q.with_context q.pattern q.shown g.found g.ended) head
+      ∙ append_assoc o (continue_head k m) (listing_lines m q.variables q.with_context q.pattern q.shown g.found g.ended);
+  answered = answered ∙ (ap refuses g.leaves ∙ never g.ended);
 }
   where
-    never : (b : Bool) → refuses (left_by b next) ≡ false
+    never : (b : Bool) → refuses (left_by b (shown_more q g.found)) ≡ false
     never true = refl
     never false = refl
 
@@ -176,7 +188,7 @@ where_goes (ends_by x) q cond = refl
 
 -- the answer of a command that continues a query
 pub continues : (e : Environment) (ws : List Word) (st : StateOf) (taken : Option GoingOf) (k : ℕ) (c : RawCommand) (most : Option ℕ) (i : ℕ) (q : QueryOf) (next : StateOf) (o n : List ℕ) (refused : Bool)
-    → bound_of ws c.bound ≡ Ok most → st.going ≡ Some (record { number = i; what = a_listing q }) → GainsOn (record st { going = taken }) k i q most next o n refused → GainsContinue e ws st k c next o n refused
+    → bound_of ws c.bound ≡ Ok most → st.going ≡ Some (record { number = i; what = a_listing q }) → GainsOn e (record st { going = taken }) k i q most next o n refused → GainsContinue e ws st k c next o n refused
 continues e ws st taken k c most i q next o n refused bound going on =
     let bytes = continue_head k on.«module» ++ listing_lines on.«module» q.variables q.with_context q.pattern q.shown on.found on.ended in
     let p = shown_more q on.found in
@@ -199,7 +211,7 @@ continues_where e ws st taken k c most i q cond next o n refused bound going on 
       bytes = bytes;
       answer = subst (λ s. ContinueAnswer e ws st k c s bytes refused) (sym (on.after ∙ after_taken st taken i left (where_goes on.ending (shown_more q on.found) cond)))
           (subst (λ b. ContinueAnswer e ws st k c (state_after st i left) bytes b) (sym on.answered)
-          (continued_where most i q cond on.«module» on.found on.ending bound going on.there on.shows));
+          (continued_where most i q cond on.«module» on.found on.ending bound going on.there on.plain on.shows));
       gained = on.gained;
     }
 

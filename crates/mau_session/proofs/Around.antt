@@ -31,10 +31,11 @@ use Rattle.mau_canon.proofs.Elements.{no_greatest}
 use Rattle.mau_signature.specs.OverSignature.{IsTreeOver}
 use Rattle.mau_listing.specs.declared.solution.Solution.{Solution}
 use Rattle.mau_listing.specs.Matcher.{Matcher}
+use Rattle.mau_sorts.specs.Table.{Table}
 use Rattle.mau_listing.specs.Asked.{matcher_in, IsGiven}
 use Rattle.mau_session.specs.Answers.{is_whole}
 use Rattle.mau_session.specs.Parts.{IsContext}
-use Rattle.mau_session.specs.KeptQuery.{asked_for, IsReady}
+use Rattle.mau_session.specs.KeptQuery.{asked_for, IsQueryOver}
 use Rattle.mau_session.specs.declared.query.Query.{Query}
 use Rattle.mau_signature.proofs.OverSignature.{norm_over}
 
@@ -166,7 +167,7 @@ pub record IsAround (s : SignatureOf) (p t : Tree) (x : Matcher) : Type 0 where
 not_whole : (x : Matcher) → is_whole x ≡ false → (x.left ≡ []) × (x.right ≡ []) → ⊥
 not_whole x e h = let w : is_whole x ≡ true = ap₂ (λ (l r : List Tree). (length l == 0) && (length r == 0)) h.0 h.1 in absurd cc
 
-module _ (s : SignatureOf) (q : Query) (ready : IsReady s q) (x : Solution) (given : IsGiven true s q.store q.sorts (asked_for q) x) (around : is_whole (matcher_in q.store x) ≡ false) where
+module _ (s : SignatureOf) (q : Query) (ready : IsQueryOver s q) (table : Table) (x : Solution) (given : IsGiven true s q.store table (asked_for q) x) (around : is_whole (matcher_in q.store x) ≡ false) where
   abbrev axioms : ℕ → Theory
   axioms = theory_at s
 
@@ -183,7 +184,7 @@ module _ (s : SignatureOf) (q : Query) (ready : IsReady s q) (x : Solution) (giv
       ap (λ t. norm axioms (reading axioms t)) ready.stands ∙ sym same ∙ sym ready.stands
 
   over : IsTreeOver s subject
-  over = subst (IsTreeOver s) (sym ready.stands) (norm_over s ready.lawful (tree_of q.subject) (subst (λ t. IsBare (terms_over s) (reading axioms t)) ready.stands ready.can.askable.bare))
+  over = subst (IsTreeOver s) (sym ready.stands) (norm_over s ready.lawful (tree_of q.subject) (subst (λ t. IsBare (terms_over s) (reading axioms t)) ready.stands ready.askable.bare))
 
   same_portion : norm axioms (with_values (tree_of q.pattern) given.solves.bare) ≡ norm axioms (with_values (tree_of q.pattern) here.values)
   same_portion =
@@ -197,7 +198,7 @@ module _ (s : SignatureOf) (q : Query) (ready : IsReady s q) (x : Solution) (giv
       by None e fits = absurd (not_whole here around (fits.1, fits.2))
       by (Some f) e fits =
           let assoc = assoc_top_assoc axioms (norm axioms (tree_of q.pattern)) f e in
-          let within = subst (IsWithin axioms) (sym read_norm) ready.can.askable.subject.within in
+          let within = subst (IsWithin axioms) (sym read_norm) ready.askable.subject.within in
           let vs = given.solves.bare in
           let p = tree_of q.pattern in
           let t = reading axioms subject in

@@ -4,12 +4,11 @@ use Rattle.mau_terms.specs.Tree.{Tree}
 use Rattle.mau_terms.specs.Subst.{variables}
 use Rattle.mau_terms.specs.View.{tree_of, variable_of}
 use Rattle.mau_formula.specs.Operator.{Operator}
-use Rattle.mau_program.specs.LawfulPrograms.{IsLawfulProgram}
+use Rattle.mau_sorts.specs.Table.{Table}
 use Rattle.mau_program.specs.declared.program.Program.{Program}
 use Rattle.mau_program.specs.declared.statements.Fragment.{Fragment}
 use Rattle.mau_api.specs.Meanings.{Meanings, meanings_by}
 use Rattle.mau_conditional.specs.Where.{Ending, no_more, bound_reached, ends_by}
-use Rattle.mau_conditional.specs.NextWhere.{CanBeAsked}
 use Rattle.mau_modtext.specs.Word.{Word}
 use Rattle.mau_modtext.specs.declared.raw.RawCommand.{RawCommand}
 use Rattle.mau_modtext.specs.declared.raw.RawFragment.{RawFragment}
@@ -37,30 +36,12 @@ use Rattle.mau_session.specs.declared.conditional.ConditionalQuery.{ConditionalQ
 use Rattle.mau_session.specs.declared.conditions.ConditionFault.{ConditionFault}
 use Rattle.mau_session.specs.declared.conditions.ConditionFault.TheVariants.{Unread, Unbound}
 use Rattle.mau_session.specs.declared.terms.Terms.{Terms}
-use Rattle.mau_session.proofs.Evaluated.{evaluated_derives}
 use Rattle.mau_session.proofs.Extending.{Extends, stays, twice, read_extends}
 
 -- ---- the evaluator
 
 pub meant_in : (m : ModuleOf) (ops hooks : List Operator) (limit : ℕ) (p : Program) (n : Meanings) → n ≡ meanings_by p hooks limit false → hooks ≡ ops → p ≡ program_of m → n ≡ meanings_in (environment_of ops limit) m
 meant_in m ops hooks limit p n e h same = e ∙ (ap (λ (z : List Operator). meanings_by p z limit false) h ∙ ap (λ (z : Program). meanings_by z ops limit false) same)
-
-pub can_be_asked : (m : ModuleOf) (ops : List Operator) (limit : ℕ) (n : Meanings) → n ≡ meanings_in (environment_of ops limit) m → IsLawfulProgram (program_of m) → (k : ConditionalQuery) → IsReadyWhere m k
-    → CanBeAsked m.signature n (tree_of k.query.pattern) k.cond
-can_be_asked m ops limit n same lawful k ready =
-    subst (λ (z : Meanings). CanBeAsked m.signature z (tree_of k.query.pattern) k.cond) (sym same)
-    (record {
-      plain = record {
-        defined = refl;
-        derives_nothing = evaluated_derives (environment_of ops limit) m ready.plain;
-        accepted = lawful.accepted;
-        lawful = ready.query.lawful;
-      };
-      exactly = refl;
-      signature = refl;
-      pattern = ready.query.can.askable.pattern;
-      condition = ready.condition;
-    })
 
 pub both_ok : {X E : Type 0} (P Q R : X → Type 0) (r : Result X E) → IfOk r P → IfOk r Q → ((x : X) → P x → Q x → R x) → IfOk r R
 both_ok P Q R (Ok x) p q f = f x p q
@@ -133,5 +114,5 @@ where_goes_on bound_reached q cond = refl
 where_goes_on (ends_by x) q cond = refl
 
 -- the module with a number is one
-pub module_ready : (ms : List ModuleOf) (n : ℕ) (m : ModuleOf) (k : ConditionalQuery) → (o : ModuleOf) × (slice_get ms n ≡ Some o) × IsReadyWhere o k → slice_get ms n ≡ Some m → IsReadyWhere m k
-module_ready ms n m k (o, there, ready) here = let e = sym there ∙ here in let same : o ≡ m = cc in subst (λ (z : ModuleOf). IsReadyWhere z k) same ready
+pub module_ready : (ms : List ModuleOf) (n : ℕ) (m : ModuleOf) (sorts : Table) (k : ConditionalQuery) → (o : ModuleOf) × (slice_get ms n ≡ Some o) × IsReadyWhere o sorts k → slice_get ms n ≡ Some m → IsReadyWhere m sorts k
+module_ready ms n m sorts k (o, there, ready) here = let e = sym there ∙ here in let same : o ≡ m = cc in subst (λ (z : ModuleOf). IsReadyWhere z sorts k) same ready

@@ -1,5 +1,6 @@
 -- A query of which nothing was shown.
-use Rattle.std.proofs.Common.{◌≡◌, ◌≤◌, ◌<◌, ℕ, List, [], length, take, None, sym, subst, arith}
+use Rattle.std.proofs.Common.{◌≡◌, ◌≤◌, ◌<◌, ℕ, List, [], Bool, true, length, take, Option, Some, None, is_some, inl, refl, sym, ap, ◌∙◌, subst, arith}
+use Rattle.std.specs.Option.{option_map}
 use Rattle.mau_terms.specs.Norm.{norm}
 use Rattle.mau_terms.specs.Bare.{IsBare, IsLawful}
 use Rattle.mau_terms.specs.Reading.{reading}
@@ -8,50 +9,67 @@ use Rattle.mau_terms.specs.View.{tree_of}
 use Rattle.mau_terms.proofs.Chains.{last_bare}
 use Rattle.mau_terms.proofs.Law.{equal_reading}
 use Rattle.mau_signature.specs.Signature.{SignatureOf, theory_at, terms_over}
-use Rattle.mau_store.specs.Node.{Node, AreNodes, IsOf}
+use Rattle.mau_store.specs.Node.{Node, Extends}
 use Rattle.mau_store.specs.Trees.{StandsFor, tree_at}
+use Rattle.mau_store.proofs.Standing.{tree_at-extends}
 use Rattle.mau_canon.specs.Standing.{StandsWithin}
-use Rattle.mau_sorts.specs.Table.{empty_table, Table, AreOver, AreEntries, IsSettled}
-use Rattle.mau_signature.specs.OverSignature.{IsTreeOver}
-use Rattle.mau_listing.specs.Asked.{CanGoOn}
-use Rattle.mau_listing.specs.Prepared.{HasIdentities}
+use Rattle.mau_sorts.specs.SortSets.{SortsOf}
+use Rattle.mau_sorts.specs.Table.{Table, entry_at, AreOver}
+use Rattle.mau_listing.specs.Asked.{matcher_in, IsBelow, CanGoOn}
+use Rattle.mau_listing.specs.declared.solution.Solution.{Solution}
+use Rattle.mau_api.specs.Terms.{IsNormalBare}
+use Rattle.mau_api.specs.Meanings.{Meanings}
+use Rattle.mau_api.specs.Answers.{IsDerivedTable, AreSettled}
+use Rattle.mau_session.specs.Settled.{AreSortsKnown}
 use Rattle.mau_session.specs.Matching.{numbered_from}
-use Rattle.mau_session.specs.KeptQuery.{asked_for, IsReady}
+use Rattle.mau_session.specs.KeptQuery.{query_of, asked_for, IsQueryOver, IsReady}
 use Rattle.mau_session.specs.declared.query.Query.{Query}
-use Rattle.mau_signature.proofs.OverSignature.{norm_over}
-use Rattle.mau_session.proofs.Settling.{settled_for}
+use Rattle.mau_session.proofs.Listed.{grown_over}
 
-pub no_entries : (s : SignatureOf) (nodes : List Node) (table : Table) → table ≡ empty_table → AreEntries s [] nodes table
-no_entries s nodes table e = subst (AreEntries s [] nodes) (sym e) (λ i entry at. absurd (cc at))
+pub fresh_over : (s : SignatureOf) → IsLawful (terms_over s) → (q : Query) → IsBare (terms_over s) (tree_of q.pattern) → IsBare (terms_over s) (tree_of q.subject) →
+    StandsWithin (theory_at s) q.store q.number.0 → StandsFor (theory_at s) q.store q.number.0 (tree_of q.subject) →
+    variables (tree_of q.pattern) ≡ numbered_from 0 (take (length (variables (tree_of q.pattern))) q.vars) → length (variables (tree_of q.pattern)) ≤ length q.vars → length q.vars < 4294967296 → IsQueryOver s q
+fresh_over s lawful q pattern subject within stands numbered few small = record {
+  lawful = lawful;
+  askable = record {
+    pattern = pattern;
+    bound = λ k d h. absurd (omega arith);
+    subject = within;
+    bare = subst (λ u. IsBare (terms_over s) (reading (theory_at s) u)) (sym stands) (last_bare (equal_reading (terms_over s) lawful (tree_of q.subject) subject));
+  };
+  stands = stands;
+  subject = subject;
+  numbered = numbered;
+  few = few;
+  small = small;
+}
 
-module _ (s : SignatureOf) (lawful : IsLawful (terms_over s)) (q : Query) (none : q.last ≡ None) (pattern : IsBare (terms_over s) (tree_of q.pattern)) (subject : IsBare (terms_over s) (tree_of q.subject))
-    (within : StandsWithin (theory_at s) q.store q.number.0) (stands : StandsFor (theory_at s) q.store q.number.0 (tree_of q.subject)) (are : AreNodes q.store)
-    (identities : HasIdentities s q.store) (settled : (i : ℕ) → IsOf q.store i → IsTreeOver s (tree_at q.store i) → IsSettled q.sorts i) (over : AreOver s.hierarchy q.sorts) where
-  reading_bare : IsBare (terms_over s) (reading (theory_at s) (norm (theory_at s) (tree_of q.subject)))
-  reading_bare = last_bare (equal_reading (terms_over s) lawful (tree_of q.subject) subject)
+-- after its subject's sorts were taken
+module _ (s : SignatureOf) (q : Query) (over : IsQueryOver s q) (none : q.last ≡ None) (store : List Node) (extends : Extends q.store store) (table : Table) (settled : AreSettled s store table (tree_at q.store q.number.0)) where
+  same_subject : tree_at store q.number.0 ≡ tree_at q.store q.number.0
+  same_subject = tree_at-extends q.store store q.number.0 extends over.askable.subject.there
 
-  can_begin : CanGoOn q.with_context s q.store q.sorts (asked_for q) None
-  can_begin = record {
-    askable = record {
-      pattern = pattern;
-      bound = λ k d h. absurd (omega arith);
-      subject = within;
-      bare = subst (λ u. IsBare (terms_over s) (reading (theory_at s) u)) (sym stands) reading_bare;
-    };
-    settled = settled_for s q.store are q.sorts settled lawful identities (asked_for q) within.there (subst (IsTreeOver s) (sym stands) (norm_over s lawful (tree_of q.subject) reading_bare));
-    over = over;
-    given = tt;
-  }
+  settled_now : AreSettled s store table (tree_at store q.number.0)
+  settled_now = subst (AreSettled s store table) (sym same_subject) settled
 
-  pub fresh_ready : AreEntries s [] q.store q.sorts → variables (tree_of q.pattern) ≡ numbered_from 0 (take (length (variables (tree_of q.pattern))) q.vars)
-      → length (variables (tree_of q.pattern)) ≤ length q.vars → length q.vars < 4294967296 → IsReady s q
-  fresh_ready entries numbered few small = record {
-    lawful = lawful;
-    can = subst (CanGoOn q.with_context s q.store q.sorts (asked_for q)) (sym none) can_begin;
-    table = record { entries = entries; settled = λ t r among. absurd (let low : among.0 < 0 = among.1 in omega arith) };
-    stands = stands;
-    subject = subject;
-    numbered = numbered;
-    few = few;
-    small = small;
-  }
+  pub settled_ready : AreOver s.hierarchy table → IsReady s table (record q { store = store })
+  settled_ready sorts =
+      let now = grown_over s q store extends over in
+      let begun : CanGoOn q.with_context s store table (asked_for q) None =
+      record { askable = now.askable; settled = record { identities = settled.identities; below = settled_now.below; subject = inl settled_now.itself }; over = sorts; given = tt } in
+      record { query = now; listing = record { can = subst (CanGoOn q.with_context s store table (asked_for q)) (sym none) begun; settled = settled_now } }
+
+pub settled_same : (q : Query) → q.last ≡ None → (store : List Node) → query_of (record q { store = store }) ≡ query_of q
+settled_same q none store = ap (λ o. record (query_of q) { last = o }) (ap (option_map (matcher_in store)) none ∙ sym (ap (option_map (matcher_in q.store)) none))
+
+-- the sorts of a settled subject are known
+pub subject_known : (e : Meanings) (q : Query) → IsQueryOver e.program.sig q → (store : List Node) (table : Table) → IsDerivedTable e store table → AreSettled e.program.sig store table (tree_at q.store q.number.0) →
+    AreSortsKnown e (norm (theory_at e.program.sig) (tree_of q.subject))
+subject_known e q over store table derived settled = subst (AreSortsKnown e) over.stands (by (entry_at table settled.itself.number) refl settled.itself.settled)
+  where
+    by : (o : Option SortsOf) → entry_at table settled.itself.number ≡ o → is_some o ≡ true → AreSortsKnown e (tree_at q.store q.number.0)
+    by None at h = cc
+    by (Some x) at h =
+        let normal : IsNormalBare e.program.sig (tree_at q.store q.number.0) = (over.askable.subject.normal, over.askable.bare) in
+        let entry = derived.entries settled.itself.number x at (subst (IsNormalBare e.program.sig) (sym settled.itself.tree) normal) in
+        subst (AreSortsKnown e) settled.itself.tree (record { levels = entry.levels; sorts = entry.sorts; known = entry.known })

@@ -1,4 +1,3 @@
-pub mod Settling
 pub mod Listed
 pub mod Around
 pub mod PartLines
@@ -19,6 +18,8 @@ pub mod Naming
 pub mod Answering
 pub mod Rewritten
 pub mod Evaluated
+pub mod Plain
+pub mod Begun
 pub mod AskedBy
 pub mod Runnable
 pub mod RunAnswered

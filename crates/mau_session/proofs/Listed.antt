@@ -17,8 +17,9 @@ use Rattle.mau_store.specs.Trees.{tree_at}
 use Rattle.mau_store.specs.View.{numbers}
 use Rattle.mau_store.proofs.Standing.{tree_at-extends}
 use Rattle.mau_canon.proofs.Standing.{stand_there}
-use Rattle.mau_sorts.specs.Table.{Table, AreOver, KeepsEntries}
 use Rattle.mau_sorts.proofs.Settling.{kept_same}
+use Rattle.mau_sorts.specs.HasSort.{Known}
+use Rattle.mau_sorts.specs.Table.{Table, AreOver, KeepsEntries}
 use Rattle.mau_listing.specs.declared.solution.Solution.{Solution}
 use Rattle.mau_listing.specs.Question.{Question}
 use Rattle.mau_listing.specs.Matcher.{Matcher}
@@ -26,19 +27,23 @@ use Rattle.mau_listing.specs.Question
 use Rattle.mau_listing.specs.Next
 use Rattle.mau_listing.specs.Next.{matcher_cmp, IsLeastBehind}
 use Rattle.mau_listing.specs.Asked.{Asked, question_in, matcher_in, IsTableOf, BySort, IsGiven, CanBeLast}
-use Rattle.mau_listing.proofs.Growth.{found_same, given_is_last, last_of_store, given_of_store, listings_go_on, trees_long}
-use Rattle.mau_listing.proofs.Growth.{table_grown}
+use Rattle.mau_listing.proofs.Growth.{found_same, askable_extended, given_is_last, last_of_store, given_of_store, trees_long}
+use Rattle.mau_api.specs.Meanings.{Meanings}
+use Rattle.mau_api.specs.Answers.{IsDerivedTable}
+use Rattle.mau_conditional.specs.Meant.{HasDerivedSort}
+use Rattle.mau_conditional.proofs.Derived.{listed_derived}
+use Rattle.mau_conditional.proofs.Ready.{ready_on, ready_behind}
 use Rattle.mau_module.specs.Modules.{ModuleOf}
 use Rattle.mau_session.specs.Terms.{terms_in}
 use Rattle.mau_session.specs.Matching.{IsSolution}
-use Rattle.mau_session.specs.KeptQuery.{asked_for, query_of, IsReady}
+use Rattle.mau_session.specs.KeptQuery.{asked_for, query_of, IsQueryOver, IsReady, GoesIn}
 use Rattle.mau_session.specs.Next.{IsNext, NoneIsBehind}
 use Rattle.mau_session.specs.declared.query.Query.{Query}
 
 abbrev pub question : Tree → Tree → Question
 question p u = record { pattern = p; bound = []; subject = u }
 
-module _ (m : ModuleOf) (lawful : IsLawful (terms_in m)) (p t : Tree) (bare : IsBare (terms_in m) t) where
+module _ (m : ModuleOf) (e : Meanings) (lawful : IsLawful (terms_in m)) (p t : Tree) (bare : IsBare (terms_in m) t) where
   -- the subject as its normal form is read
   abbrev read : Tree
   read = reading (terms_in m).theory (norm (terms_in m).theory t)
@@ -77,9 +82,9 @@ module _ (m : ModuleOf) (lawful : IsLawful (terms_in m)) (p t : Tree) (bare : Is
   }
 
   abbrev pub IsFound : Bool → Matcher → Type 0
-  IsFound w = Question.IsSolution w m.signature (BySort m.signature []) (question p (norm (terms_in m).theory t))
+  IsFound w = Question.IsSolution w m.signature (HasDerivedSort e) (question p (norm (terms_in m).theory t))
 
-  pub solution_in : (w : Bool) (x : Matcher) → IsSolution m w p t x → IsFound w x
+  pub solution_in : (w : Bool) (x : Matcher) → IsSolution m e w p t x → IsFound w x
   solution_in false x is = record {
     bare = is.values;
     values = is.normal;
@@ -95,7 +100,7 @@ module _ (m : ModuleOf) (lawful : IsLawful (terms_in m)) (p t : Tree) (bare : Is
     agrees = λ b among. absurd (let low : among.0 < 0 = among.1 in omega arith);
   }
 
-  pub solution_from : (w : Bool) (x : Matcher) → IsFound w x → IsSolution m w p t x
+  pub solution_from : (w : Bool) (x : Matcher) → IsFound w x → IsSolution m e w p t x
   solution_from false x is = record { values = is.bare; normal = is.values; solves = ((fits_from is.bare is.solves.0, is.solves.1), is.no_left, is.no_right) }
   solution_from true x is = record {
     values = is.bare;
@@ -103,85 +108,93 @@ module _ (m : ModuleOf) (lawful : IsLawful (terms_in m)) (p t : Tree) (bare : Is
     solves = (within_from (assoc_top (terms_in m).theory (norm (terms_in m).theory p)) is.bare x.left x.right is.solves.0, is.solves.1);
   }
 
-  none_behind : (w : Bool) (last : Option Matcher) → Next.IsNext (IsFound w) (matcher_cmp (terms_in m).theory p) last None → NoneIsBehind m w p t last
+  none_behind : (w : Bool) (last : Option Matcher) → Next.IsNext (IsFound w) (matcher_cmp (terms_in m).theory p) last None → NoneIsBehind m e w p t last
   none_behind w last none x is behind = none x (solution_in w x is) behind
 
-  next_behind : (w : Bool) (last : Option Matcher) (x : Matcher) → IsLeastBehind (IsFound w) (matcher_cmp (terms_in m).theory p) last x → IsNext m w p t last x
+  next_behind : (w : Bool) (last : Option Matcher) (x : Matcher) → IsLeastBehind (IsFound w) (matcher_cmp (terms_in m).theory p) last x → IsNext m e w p t last x
   next_behind w last x is = record { is_one = solution_from w x is.is_one; behind = is.behind; least = λ y solved behind. is.least y (solution_in w y solved) behind }
 
 -- ---- queries
 
-module _ (m : ModuleOf) (q : Query) (ready : IsReady m.signature q) where
-  abbrev Answers : Question → Option Matcher → Type 0
+module _ (m : ModuleOf) (e : Meanings) (q : Query) (over : IsQueryOver m.signature q) where
+  abbrev pub Answers : Question → Option Matcher → Type 0
   Answers u o =
-      Next.IsNext (Question.IsSolution q.with_context m.signature (BySort m.signature []) u) (matcher_cmp (terms_in m).theory (tree_of q.pattern)) (option_map (matcher_in q.store) q.last) o
+      Next.IsNext (Question.IsSolution q.with_context m.signature (HasDerivedSort e) u) (matcher_cmp (terms_in m).theory (tree_of q.pattern)) (option_map (matcher_in q.store) q.last) o
 
   pub same_question : question (tree_of q.pattern) (tree_at q.store q.number.0) ≡ question (tree_of q.pattern) (norm (terms_in m).theory (tree_of q.subject))
-  same_question = ap (question (tree_of q.pattern)) ready.stands
+  same_question = ap (question (tree_of q.pattern)) over.stands
 
-  pub nothing_next : (o : Option Matcher) → o ≡ None → Answers (question_in q.store (asked_for q)) o → NoneIsBehind m q.with_context (tree_of q.pattern) (tree_of q.subject) (query_of q).last
-  nothing_next o e answer =
-      let none = subst (Answers (question_in q.store (asked_for q))) e answer in
-      none_behind m ready.lawful (tree_of q.pattern) (tree_of q.subject) ready.subject q.with_context (option_map (matcher_in q.store) q.last) (subst (λ u. Answers u None) same_question none)
+  pub nothing_next : (o : Option Matcher) → o ≡ None → Answers (question_in q.store (asked_for q)) o → NoneIsBehind m e q.with_context (tree_of q.pattern) (tree_of q.subject) (query_of q).last
+  nothing_next o same answer =
+      let none = subst (Answers (question_in q.store (asked_for q))) same answer in
+      none_behind m e over.lawful (tree_of q.pattern) (tree_of q.subject) over.subject q.with_context (option_map (matcher_in q.store) q.last) (subst (λ u. Answers u None) same_question none)
 
   pub something_next : (x : Matcher) (o : Option Matcher) → o ≡ Some x → Answers (question_in q.store (asked_for q)) o
-      → IsNext m q.with_context (tree_of q.pattern) (tree_of q.subject) (query_of q).last x
-  something_next x o e answer =
-      let some = subst (Answers (question_in q.store (asked_for q))) e answer in
-      next_behind m ready.lawful (tree_of q.pattern) (tree_of q.subject) ready.subject q.with_context (option_map (matcher_in q.store) q.last) x (subst (λ u. Answers u (Some x)) same_question some)
+      → IsNext m e q.with_context (tree_of q.pattern) (tree_of q.subject) (query_of q).last x
+  something_next x o same answer =
+      let some = subst (Answers (question_in q.store (asked_for q))) same answer in
+      next_behind m e over.lawful (tree_of q.pattern) (tree_of q.subject) over.subject q.with_context (option_map (matcher_in q.store) q.last) x (subst (λ u. Answers u (Some x)) same_question some)
 
-  -- what a listing of these answers
-  pub answers_here : (w : Bool) (s : SignatureOf) (a : Asked) (last : Option Solution) → w ≡ q.with_context → s ≡ m.signature → a ≡ asked_for q → last ≡ q.last → (o : Option Matcher)
-      → Next.IsNext (Question.IsSolution w s (BySort s []) (question_in q.store a)) (matcher_cmp (theory_at s) a.pattern) (option_map (matcher_in q.store) last) o
-      → Answers (question_in q.store (asked_for q)) o
-  answers_here w s a last ew es ea el o h =
-      subst (λ l. Next.IsNext (Question.IsSolution q.with_context m.signature (BySort m.signature []) (question_in q.store (asked_for q))) (matcher_cmp (theory_at m.signature) (asked_for q).pattern) (option_map (matcher_in q.store) l) o) el
-      (subst (λ b. Next.IsNext (Question.IsSolution q.with_context m.signature (BySort m.signature []) (question_in q.store b)) (matcher_cmp (theory_at m.signature) b.pattern) (option_map (matcher_in q.store) last) o) ea
-      (subst (λ r. Next.IsNext (Question.IsSolution q.with_context r (BySort r []) (question_in q.store a)) (matcher_cmp (theory_at r) a.pattern) (option_map (matcher_in q.store) last) o) es
-      (subst (λ v. Next.IsNext (Question.IsSolution v s (BySort s []) (question_in q.store a)) (matcher_cmp (theory_at s) a.pattern) (option_map (matcher_in q.store) last) o) ew h)))
+-- what a listing of an evaluator answers
+module _ (m : ModuleOf) (e : Meanings) (goes : GoesIn m e) (q : Query) (table : Table) (ready : IsReady m.signature table q) (derived : IsDerivedTable e q.store table) (o : Option Matcher) where
+  -- by the sorts that are known besides those by declarations
+  abbrev pub Listed : Bool → Asked → Option Solution → Type 0
+  Listed w a last =
+      (known : Known) → IsTableOf e.program.sig known q.store table →
+      Next.IsNext (Question.IsSolution w e.program.sig (BySort e.program.sig known) (question_in q.store a)) (matcher_cmp (theory_at e.program.sig) a.pattern) (option_map (matcher_in q.store) last) o
 
+  pub answers_here : (w : Bool) (a : Asked) (last : Option Solution) → w ≡ q.with_context → a ≡ asked_for q → last ≡ q.last → Listed w a last → Answers m e q ready.query (question_in q.store (asked_for q)) o
+  answers_here w a last ew ea el h =
+      listed_derived e goes.goes m.signature goes.signature q.store table derived q.with_context (asked_for q) q.last ready.listing o
+      (subst (λ l. Listed q.with_context (asked_for q) l) el (subst (λ b. Listed q.with_context b last) ea (subst (λ v. Listed v a last) ew h)))
+
+module _ (m : ModuleOf) (q : Query) where
   pub given_here : (w : Bool) (s : SignatureOf) (a : Asked) → w ≡ q.with_context → s ≡ m.signature → a ≡ asked_for q → (store : List Node) (sorts : Table) (x : Solution)
       → IsGiven w s store sorts a x → IsGiven q.with_context m.signature store sorts (asked_for q) x
   given_here w s a ew es ea store sorts x h =
       subst (λ b. IsGiven q.with_context m.signature store sorts b x) ea (subst (λ r. IsGiven q.with_context r store sorts a x) es (subst (λ v. IsGiven v s store sorts a x) ew h))
 
-  module _ (store : List Node) (sorts : Table) (extends : Extends q.store store) (kept : KeepsEntries q.sorts sorts) (over : AreOver m.signature.hierarchy sorts)
-      (table : IsTableOf m.signature [] q.store q.sorts → IsTableOf m.signature [] store sorts) where
-    -- what a query is, in a store and a table that have grown
-    abbrev pub grown : Query
-    grown = record q { store = store; sorts = sorts }
+-- in a store that has grown
+module _ (s : SignatureOf) (q : Query) (store : List Node) (extends : Extends q.store store) where
+  abbrev pub grown : Query
+  grown = record q { store = store }
 
-    pub grown_ready : IsReady m.signature grown
-    grown_ready = record {
-      lawful = ready.lawful;
-      can = listings_go_on q.with_context m.signature q.store store q.sorts sorts extends kept over (asked_for q) q.last ready.can;
-      table = table ready.table;
-      stands = tree_at-extends q.store store q.number.0 extends ready.can.askable.subject.there ∙ ready.stands;
-      subject = ready.subject;
-      numbered = ready.numbered;
-      few = ready.few;
-      small = ready.small;
-    }
+  pub grown_over : IsQueryOver s q → IsQueryOver s grown
+  grown_over over = record {
+    lawful = over.lawful;
+    askable = askable_extended q.store store extends s (asked_for q) over.askable;
+    stands = tree_at-extends q.store store q.number.0 extends over.askable.subject.there ∙ over.stands;
+    subject = over.subject;
+    numbered = over.numbered;
+    few = over.few;
+    small = over.small;
+  }
 
-    pub grown_same : query_of grown ≡ query_of q
-    grown_same = ap (λ o. record (query_of q) { last = o }) (by q.last ready.can.given)
-      where
-        by : (o : Option Solution) → IfSome o (CanBeLast q.with_context m.signature q.store q.sorts (asked_for q)) → option_map (matcher_in store) o ≡ option_map (matcher_in q.store) o
-        by None g = refl
-        by (Some x) g =
-            let there = last_of_store q.with_context m.signature q.store q.sorts (asked_for q) x g in
-            ap Some (found_same q.store store extends x there.left there.right there.values)
+  pub grown_ready : (table sorts : Table) → KeepsEntries table sorts → AreOver s.hierarchy sorts → IsReady s table q → IsReady s sorts grown
+  grown_ready table sorts kept over ready = record {
+    query = grown_over ready.query;
+    listing = ready_on q.with_context s q.store store table sorts (record { extends = extends; kept = kept }) over (asked_for q) q.last ready.listing;
+  }
+
+  pub grown_same : (table : Table) → IsReady s table q → query_of grown ≡ query_of q
+  grown_same table ready = ap (λ o. record (query_of q) { last = o }) (by q.last ready.listing.can.given)
+    where
+      by : (o : Option Solution) → IfSome o (CanBeLast q.with_context s q.store table (asked_for q)) → option_map (matcher_in store) o ≡ option_map (matcher_in q.store) o
+      by None g = refl
+      by (Some x) g =
+          let there = last_of_store q.with_context s q.store table (asked_for q) x g in
+          ap Some (found_same q.store store extends x there.left there.right there.values)
 
 -- ---- one solution more
 
-module _ (m : ModuleOf) (q : Query) (ready : IsReady m.signature q) (x : Solution) (given : IsGiven q.with_context m.signature q.store q.sorts (asked_for q) x) where
+module _ (m : ModuleOf) (q : Query) (over : IsQueryOver m.signature q) (table : Table) (x : Solution) (given : IsGiven q.with_context m.signature q.store table (asked_for q) x) where
   pub given_there : AreOf q.store (numbers x.values)
   given_there = stand_there (theory_at m.signature) q.store (numbers x.values) given.values
 
   pub given_each : length x.values ≡ length (variables (tree_of q.pattern))
-  given_each = by q.with_context (given_is_last q.with_context m.signature q.store q.sorts (asked_for q) x given)
+  given_each = by q.with_context (given_is_last q.with_context m.signature q.store table (asked_for q) x given)
     where
-      by : (w : Bool) → CanBeLast w m.signature q.store q.sorts (asked_for q) x → length x.values ≡ length (variables (tree_of q.pattern))
+      by : (w : Bool) → CanBeLast w m.signature q.store table (asked_for q) x → length x.values ≡ length (variables (tree_of q.pattern))
       by false is = is.one_each
       by true is =
           sym (trees_long q.store x.values) ∙ ap length (sym is.solves.values) ∙ length-map is.solves.bare (norm (theory_at m.signature))
@@ -197,20 +210,24 @@ module _ (m : ModuleOf) (q : Query) (ready : IsReady m.signature q) (x : Solutio
     abbrev pub advanced : ℕ → Query
     advanced n = record q { store = store; last = Some x; shown = n }
 
-    pub advanced_ready : (n : ℕ) → IsReady m.signature (advanced n)
-    advanced_ready n =
-        let last = given_is_last q.with_context m.signature q.store q.sorts (asked_for q) x given in
-        record {
-          lawful = ready.lawful;
-          can = listings_go_on q.with_context m.signature q.store store q.sorts q.sorts extends (kept_same q.sorts) ready.can.over (asked_for q) (Some x)
-              (record { askable = ready.can.askable; settled = ready.can.settled; over = ready.can.over; given = last });
-          table = table_grown m.signature [] q.store store extends q.sorts ready.table;
-          stands = tree_at-extends q.store store q.number.0 extends ready.can.askable.subject.there ∙ ready.stands;
-          subject = ready.subject;
-          numbered = ready.numbered;
-          few = ready.few;
-          small = ready.small;
-        }
+    pub advanced_over : (n : ℕ) → IsQueryOver m.signature (advanced n)
+    advanced_over n = record {
+      lawful = over.lawful;
+      askable = askable_extended q.store store extends m.signature (asked_for q) over.askable;
+      stands = tree_at-extends q.store store q.number.0 extends over.askable.subject.there ∙ over.stands;
+      subject = over.subject;
+      numbered = over.numbered;
+      few = over.few;
+      small = over.small;
+    }
 
     pub advanced_same : matcher_in store x ≡ matcher_in q.store x
-    advanced_same = let there = given_of_store q.with_context m.signature q.store q.sorts (asked_for q) x given in found_same q.store store extends x there.left there.right there.values
+    advanced_same = let there = given_of_store q.with_context m.signature q.store table (asked_for q) x given in found_same q.store store extends x there.left there.right there.values
+
+    -- so it can go on behind it
+    pub advanced_ready : (n : ℕ) → AreOver m.signature.hierarchy table → IsReady m.signature table q → IsReady m.signature table (advanced n)
+    advanced_ready n over_table ready = record {
+      query = advanced_over n;
+      listing = ready_on q.with_context m.signature q.store store table table (record { extends = extends; kept = kept_same table }) over_table (asked_for q) (Some x)
+          (ready_behind q.with_context m.signature q.store table (asked_for q) q.last x ready.listing given);
+    }

@@ -8,34 +8,34 @@ use Rattle.mau_listing.specs.declared.solution.Solution.{Solution}
 use Rattle.mau_listing.specs.Next.{matcher_cmp}
 use Rattle.mau_listing.specs.Question.{Question}
 use Rattle.mau_store.specs.Node.{Node}
-use Rattle.mau_sorts.specs.Table.{Table, AreOver}
-use Rattle.mau_listing.specs.Asked.{Asked, question_in, matcher_in, IsTableOf}
+use Rattle.mau_listing.specs.Asked.{Asked, question_in, matcher_in}
 use Rattle.mau_program.specs.declared.statements.Fragment.{Fragment}
 use Rattle.mau_api.specs.Meanings.{Meanings}
 use Rattle.mau_evaluation.specs.Run.{stopped, too_deep, overflowed}
 use Rattle.mau_api.specs.declared.results.EvalEnd.{EvalEnd}
 use Rattle.mau_api.specs.declared.results.EvalEnd.TheVariants.{Stopped, TooDeep, Overflow, NoMemory}
-use Rattle.mau_conditional.specs.NextWhere.{NextOf, next_is, none_is_left, asking_ended, NextWhere, asking_in, NextFor, IfCame, HaveGrown}
+use Rattle.mau_conditional.specs.NextWhere.{NextOf, next_is, none_is_left, asking_ended, NextWhere, NextFor, IfCame}
+use Rattle.mau_conditional.specs.Meant.{Asks}
 use Rattle.mau_conditional.proofs.Shown.{next_where_as}
 use Rattle.mau_module.specs.Modules.{ModuleOf}
 use Rattle.mau_session.specs.Terms.{terms_in}
 use Rattle.mau_session.specs.Matching.{IsSolution}
-use Rattle.mau_session.specs.KeptQuery.{asked_for, query_of, IsReady}
+use Rattle.mau_session.specs.KeptQuery.{asked_for, query_of, IsQueryOver}
 use Rattle.mau_session.specs.Query.{QueryOf}
 use Rattle.mau_session.specs.KeptWhere.{NextIs, ShowsNoMore, ShowsNextWhere}
 use Rattle.mau_session.specs.declared.query.Query.{Query}
-use Rattle.mau_session.proofs.Listed.{question, IsFound, solution_in, solution_from, same_question, grown, grown_ready, grown_same}
+use Rattle.mau_session.proofs.Listed.{question, IsFound, solution_in, solution_from, same_question}
 
-module _ (m : ModuleOf) (q : Query) (ready : IsReady m.signature q) (e : Meanings) (c : List Fragment) where
+module _ (m : ModuleOf) (q : Query) (ready : IsQueryOver m.signature q) (e : Meanings) (c : List Fragment) where
   pub where_here : (b : ℕ) (o : NextOf) (left : ℕ) → NextFor q.with_context m.signature e c (question_in q.store (asked_for q)) (option_map (matcher_in q.store) q.last) b o left → NextIs m e c (query_of q) b o left
   where_here b o left next =
       let p = tree_of q.pattern in
       let t = tree_of q.subject in
       let last = option_map (matcher_in q.store) q.last in
-      let here : NextWhere (IsFound m ready.lawful p t ready.subject q.with_context) (matcher_cmp (terms_in m).theory p) (asking_in e p c) last b o left =
-      subst (λ (u : Question). NextFor q.with_context m.signature e c u last b o left) (same_question m q ready) next in
-      next_where_as (IsFound m ready.lawful p t ready.subject q.with_context) (IsSolution m q.with_context p t) (solution_from m ready.lawful p t ready.subject q.with_context)
-      (solution_in m ready.lawful p t ready.subject q.with_context) (matcher_cmp (terms_in m).theory p) (asking_in e p c) last b o left here
+      let here : NextWhere (IsFound m e ready.lawful p t ready.subject q.with_context) (matcher_cmp (terms_in m).theory p) (Asks e p c) last b o left =
+      subst (λ (u : Question). NextFor q.with_context m.signature e c u last b o left) (same_question m e q ready) next in
+      next_where_as (IsFound m e ready.lawful p t ready.subject q.with_context) (IsSolution m e q.with_context p t) (solution_from m e ready.lawful p t ready.subject q.with_context)
+      (solution_in m e ready.lawful p t ready.subject q.with_context) (matcher_cmp (terms_in m).theory p) (Asks e p c) last b o left here
 
   -- as a listing has it
   module _ (w : Bool) (s : SignatureOf) (d : List Fragment) (a : Asked) (last : Option Solution) (ew : w ≡ q.with_context) (es : s ≡ m.signature) (ed : d ≡ c) (ea : a ≡ asked_for q) (el : last ≡ q.last) (b left : ℕ) where
@@ -66,11 +66,3 @@ module _ (m : ModuleOf) (q : Query) (ready : IsReady m.signature q) (e : Meaning
 
     pub one_comes : (nodes : List Node) (o : Option Solution) (x : Solution) → o ≡ Some x → IfCame nodes (Ok o) Comes → NextIs m e c (query_of q) b (next_is (matcher_in nodes x)) left
     one_comes nodes o x some came = where_of (next_is (matcher_in nodes x)) (subst (λ (z : Option Solution). IfCame nodes (Ok z) Comes) some came)
-
--- in a store and a table that have grown
-module _ (m : ModuleOf) (q : Query) (ready : IsReady m.signature q) (s : SignatureOf) (es : s ≡ m.signature) (store : List Node) (sorts : Table) (h : HaveGrown s q.store store q.sorts sorts) where
-  pub ready_grown : IsReady m.signature (grown m q ready store sorts h.extends h.kept (subst (λ (r : SignatureOf). AreOver r.hierarchy sorts) es h.over) (λ t. subst (λ (r : SignatureOf). IsTableOf r [] store sorts) es h.table))
-  ready_grown = grown_ready m q ready store sorts h.extends h.kept (subst (λ (r : SignatureOf). AreOver r.hierarchy sorts) es h.over) (λ t. subst (λ (r : SignatureOf). IsTableOf r [] store sorts) es h.table)
-
-  pub same_grown : query_of (record q { store = store; sorts = sorts }) ≡ query_of q
-  same_grown = grown_same m q ready store sorts h.extends h.kept (subst (λ (r : SignatureOf). AreOver r.hierarchy sorts) es h.over) (λ t. subst (λ (r : SignatureOf). IsTableOf r [] store sorts) es h.table)

@@ -8,6 +8,7 @@ use Rattle.std.specs.declared.cmp.Ordering.TheVariants.{Less, Equal, Greater}
 use Rattle.mau_terms.specs.Tree.{Tree}
 use Rattle.mau_listing.specs.Matcher.{Matcher}
 use Rattle.mau_listing.proofs.Ordered.{matchers_are_ordered}
+use Rattle.mau_api.specs.Meanings.{Meanings}
 use Rattle.mau_module.specs.Modules.{ModuleOf}
 use Rattle.mau_session.specs.Terms.{terms_in}
 use Rattle.mau_session.specs.Matching.{IsSolution, IsBefore, IsBehind, AreFirst, AreAll, class_of, Shows, shows_all, shows_first}
@@ -25,7 +26,7 @@ contains_cases x y xs among = by among.0 among.1 among.2
     by zero h e = inl e
     by (suc k) h e = inr (k, omega (arith, h), e)
 
-module _ (m : ModuleOf) (w : Bool) (p t : Tree) where
+module _ (m : ModuleOf) (means : Meanings) (w : Bool) (p t : Tree) where
   never_before : (xs : Matcher) → IsBefore m p xs xs → ⊥
   never_before xs h = own_reverse _ ((matchers_are_ordered (terms_in m).theory p).antisymm xs xs) h
 
@@ -34,9 +35,9 @@ module _ (m : ModuleOf) (w : Bool) (p t : Tree) where
 
   -- ---- the rest of a listing
 
-  rest_first : (last : Option Matcher) (xs : Matcher) (found : List Matcher) → AreFirst m w p t last (xs ∷ found) → AreFirst m w p t (Some xs) found
+  rest_first : (last : Option Matcher) (xs : Matcher) (found : List Matcher) → AreFirst m means w p t last (xs ∷ found) → AreFirst m means w p t (Some xs) found
   rest_first last xs found f = record {
-    solutions = All-tail (IsSolution m w p t) xs found f.solutions;
+    solutions = All-tail (IsSolution m means w p t) xs found f.solutions;
     behind = λ k d h. f.ascending 0 (suc k) d (omega arith) (omega (arith, h));
     ascending = λ i j d h l. f.ascending (suc i) (suc j) d (omega (arith, h)) (omega (arith, l));
     others = λ ys is before.
@@ -47,7 +48,7 @@ module _ (m : ModuleOf) (w : Bool) (p t : Tree) where
         (f.others ys is (behind_trans m p last xs ys (All-head (IsBehind m p last) xs found f.behind) before));
   }
 
-  rest_all : (last : Option Matcher) (xs : Matcher) (found : List Matcher) → AreAll m w p t last (xs ∷ found) → AreAll m w p t (Some xs) found
+  rest_all : (last : Option Matcher) (xs : Matcher) (found : List Matcher) → AreAll m means w p t last (xs ∷ found) → AreAll m means w p t (Some xs) found
   rest_all last xs found a = record {
     first = rest_first last xs found a.first;
     complete = λ vs left right solves before.
@@ -59,47 +60,47 @@ module _ (m : ModuleOf) (w : Bool) (p t : Tree) where
   -- ---- two listings
 
   -- the first of one is the first of the other, or behind it
-  same_or_behind : (last : Option Matcher) (xs ys : Matcher) (f g : List Matcher) → AreFirst m w p t last (xs ∷ f) → AreFirst m w p t last (ys ∷ g) → (ys ≡ xs) ⊎ IsBefore m p ys xs
+  same_or_behind : (last : Option Matcher) (xs ys : Matcher) (f g : List Matcher) → AreFirst m means w p t last (xs ∷ f) → AreFirst m means w p t last (ys ∷ g) → (ys ≡ xs) ⊎ IsBefore m p ys xs
   same_or_behind last xs ys f g a b =
       ⊎_elim
       (λ (among : Contains (ys ∷ g) xs).
       ⊎_elim inl (λ (later : Contains g xs). inr (subst (IsBefore m p ys) later.2 (let low = later.1 in b.ascending 0 (suc later.0) xs (omega arith) (omega (arith, low))))) (contains_cases ys xs g among))
       (λ (all : All (λ zs. IsBefore m p zs xs) (ys ∷ g)). inr (All-head (λ zs. IsBefore m p zs xs) ys g all))
-      (b.others xs (All-head (IsSolution m w p t) xs f a.solutions) (All-head (IsBehind m p last) xs f a.behind))
+      (b.others xs (All-head (IsSolution m means w p t) xs f a.solutions) (All-head (IsBehind m p last) xs f a.behind))
 
-  first_same : (last : Option Matcher) (xs ys : Matcher) (f g : List Matcher) → AreFirst m w p t last (xs ∷ f) → AreFirst m w p t last (ys ∷ g) → xs ≡ ys
+  first_same : (last : Option Matcher) (xs ys : Matcher) (f g : List Matcher) → AreFirst m means w p t last (xs ∷ f) → AreFirst m means w p t last (ys ∷ g) → xs ≡ ys
   first_same last xs ys f g a b =
       ⊎_elim (λ (same : ys ≡ xs). sym same)
       (λ (before : IsBefore m p ys xs). ⊎_elim (λ (same : xs ≡ ys). same) (λ (behind : IsBefore m p xs ys). absurd (not_both xs ys behind before)) (same_or_behind last ys xs g f b a))
       (same_or_behind last xs ys f g a b)
 
-  firsts_same : (last : Option Matcher) (f g : List Matcher) → AreFirst m w p t last f → AreFirst m w p t last g → length f ≡ length g → f ≡ g
+  firsts_same : (last : Option Matcher) (f g : List Matcher) → AreFirst m means w p t last f → AreFirst m means w p t last g → length f ≡ length g → f ≡ g
   firsts_same last [] [] a b e = refl
   firsts_same last [] (ys ∷ g) a b e = absurd (omega (arith, e))
   firsts_same last (xs ∷ f) [] a b e = absurd (omega (arith, e))
   firsts_same last (xs ∷ f) (ys ∷ g) a b e =
       let same = first_same last xs ys f g a b in
       ap₂ (λ zs h. zs ∷ h) same
-      (firsts_same (Some xs) f g (rest_first last xs f a) (subst (λ zs. AreFirst m w p t (Some zs) g) (sym same) (rest_first last ys g b)) (omega (arith, e)))
+      (firsts_same (Some xs) f g (rest_first last xs f a) (subst (λ zs. AreFirst m means w p t (Some zs) g) (sym same) (rest_first last ys g b)) (omega (arith, e)))
 
   -- no listing of first solutions is longer than all
-  none_longer : (last : Option Matcher) (f g : List Matcher) → AreAll m w p t last f → AreFirst m w p t last g → length f < length g → ⊥
+  none_longer : (last : Option Matcher) (f g : List Matcher) → AreAll m means w p t last f → AreFirst m means w p t last g → length f < length g → ⊥
   none_longer last f [] a b h = omega (arith, h)
   none_longer last [] (ys ∷ g) a b h =
-      let is = All-head (IsSolution m w p t) ys g b.solutions in
+      let is = All-head (IsSolution m means w p t) ys g b.solutions in
       let same : class_of m ys.left ys.right is.values ≡ ys = ap (λ vs. record { left = ys.left; right = ys.right; values = vs }) is.normal in
       let among = a.complete is.values ys.left ys.right is.solves (subst (IsBehind m p last) (sym same) (All-head (IsBehind m p last) ys g b.behind)) in
       let low = among.1 in
       omega (arith, low)
   none_longer last (xs ∷ f) (ys ∷ g) a b h =
       let same = first_same last xs ys f g a.first b in
-      none_longer (Some xs) f g (rest_all last xs f a) (subst (λ zs. AreFirst m w p t (Some zs) g) (sym same) (rest_first last ys g b)) (omega (arith, h))
+      none_longer (Some xs) f g (rest_all last xs f a) (subst (λ zs. AreFirst m means w p t (Some zs) g) (sym same) (rest_first last ys g b)) (omega (arith, h))
 
   pub record AreOneListing (f g : List Matcher) (e d : Bool) : Type 0 where
     pub found : f ≡ g
     pub ended : e ≡ d
 
-  pub shows_once : (last : Option Matcher) (most : Option ℕ) (f g : List Matcher) (e d : Bool) → Shows m w p t last most f e → Shows m w p t last most g d → AreOneListing f g e d
+  pub shows_once : (last : Option Matcher) (most : Option ℕ) (f g : List Matcher) (e d : Bool) → Shows m means w p t last most f e → Shows m means w p t last most g d → AreOneListing f g e d
   shows_once last _ _ _ _ _ (shows_all most f a h) (shows_all most' g b k) =
       let as_long : length f ≡ length g =
       ⊎_elim (λ (low : length f < length g). absurd (none_longer last f g a b.first low))

@@ -49,7 +49,7 @@ use Rattle.mau_session.specs.Where.{ShowsWhere, left_where, where_lines, WhereAn
 use Rattle.mau_session.specs.RuleRun.{RuleRunOf, rewriting_condition}
 use Rattle.mau_session.specs.RunLines.{run_head, run_lines, left_by_run}
 use Rattle.mau_session.specs.RewriteAnswer.{RunTermAnswer, start_refused, start_answered, RewriteAnswer, rewrites_nothing, rewrite_unknown, rewrite_not_built, rewrite_unbounded, rewrite_conditional, rewrite_answered}
-use Rattle.mau_session.specs.Transcript.{TermAnswer, term_refused, term_answered, ReduceAnswer, reduces_nothing, reduce_unknown, reduce_not_built, reduce_answered, reduce_is_answered, rewrite_is_answered, PatternReads, SubjectReads, TermsRead, TermsAnswer, pattern_refused, subject_refused, too_deep, overflows, listed, asks_where, MatchAnswer, command_not_built, module_unknown, listing_not_built, bound_refused, command_answered, ContinueAnswer, number_refused, nothing_to_continue, continued, continued_where, run_continued, BodyAnswer, module_not_built, module_accepted, module_refused, match_answered, continue_answered, other_unknown, other_not_built, SettingAnswer, trace_not_built, trace_off, changes_nothing, module_selected, selects_none, setting_answered, ItemAnswer, item_faulty, item_answered, ItemsAnswer, items_end, item_quits, item_first, Transcript, text_refused, items_answered}
+use Rattle.mau_session.specs.Transcript.{TermAnswer, term_refused, term_answered, ReduceAnswer, reduces_nothing, reduce_unknown, reduce_not_built, reduce_answered, reduce_is_answered, rewrite_is_answered, PatternReads, SubjectReads, TermsRead, TermsAnswer, pattern_refused, subject_refused, too_deep, overflows, sorts_end, listed, asks_where, MatchAnswer, command_not_built, module_unknown, listing_not_built, bound_refused, command_answered, ContinueAnswer, number_refused, nothing_to_continue, continued, continued_where, run_continued, BodyAnswer, module_not_built, module_accepted, module_refused, match_answered, continue_answered, other_unknown, other_not_built, SettingAnswer, trace_not_built, trace_off, changes_nothing, module_selected, selects_none, setting_answered, ItemAnswer, item_faulty, item_answered, ItemsAnswer, items_end, item_quits, item_first, Transcript, text_refused, items_answered}
 use Rattle.mau_tokens.proofs.Answer.{answers_are_one as tokens_are_one}
 use Rattle.mau_api.proofs.LawfulMeanings.{meanings_are_lawful}
 use Rattle.mau_module.specs.Lawful.{program_of}
@@ -57,6 +57,7 @@ use Rattle.mau_results.specs.Results.{AnswerOf, MayAnswer}
 use Rattle.mau_session.specs.Lines.{answer_lines}
 use Rattle.mau_results.proofs.Allowed.{answers_are_one}
 use Rattle.mau_session.proofs.Evaluated.{evaluated_derives}
+use Rattle.mau_session.proofs.Plain.{sorts_never_end}
 use Rattle.mau_session.proofs.OneListing.{shows_once}
 use Rattle.mau_session.proofs.OneWhere.{shows_where_once, AreOneEnd, one_end, not_deep_and_overflow, not_deep_and_within, not_overflow_and_within, where_once}
 use Rattle.mau_session.proofs.Shaped.{IsShapedIn, AreShaped, one_more_shaped, flattened_shaped, prelude_shaped}
@@ -111,7 +112,7 @@ module _ (ws : List Word) (m : ModuleOf) (k : ℕ) (c : RawCommand) where
       let two = term_once m.grammar (part_tokens ws c.second) (part_texts ws c.second) (goal_of (tree_of p)) x.pairs os os' t u x.subject y' in
       record { pattern = one.tree; subject = two.tree; pairs = two.pairs }
 
-module _ (env : Environment) (ws : List Word) (m : ModuleOf) (shaped : IsShapedIn m) (k : ℕ) (c : RawCommand) where
+module _ (env : Environment) (ws : List Word) (m : ModuleOf) (shaped : IsShapedIn m) (plain : uses_memberships m ≡ false) (k : ℕ) (c : RawCommand) where
   pair : {p q t u : Bare} {os os' : Pairs} → TermsRead ws m c p t os → TermsRead ws m c q u os' → AreOnePair ws m k c p q t u os os'
   pair x y = pair_once ws m k c x y
 
@@ -120,34 +121,46 @@ module _ (env : Environment) (ws : List Word) (m : ModuleOf) (shaped : IsShapedI
   terms_once {most} (pattern_refused f u n) (subject_refused p' ns' f' x' u' n') = absurd (no_pattern_read ws m k c f u n p' ns' x')
   terms_once {most} (pattern_refused f u n) (too_deep p' t' os' r' bare' d') = absurd (no_pattern_read ws m k c f u n p' r'.pairs r'.pattern)
   terms_once {most} (pattern_refused f u n) (overflows p' t' os' r' bare' d') = absurd (no_pattern_read ws m k c f u n p' r'.pairs r'.pattern)
-  terms_once {most} (pattern_refused f u n) (listed p' t' os' found' e' r' bare' w' l') = absurd (no_pattern_read ws m k c f u n p' r'.pairs r'.pattern)
+  terms_once {most} (pattern_refused f u n) (sorts_end p' t' os' y' r' bare' w' h') = absurd (sorts_never_end env m plain _ y' h')
+  terms_once {most} (pattern_refused f u n) (listed p' t' os' found' e' r' bare' w' known' l') = absurd (no_pattern_read ws m k c f u n p' r'.pairs r'.pattern)
   terms_once {most} (pattern_refused f u n) (asks_where p' t' os' left' b' r' asked' a') = absurd (no_pattern_read ws m k c f u n p' r'.pairs r'.pattern)
   terms_once {most} (subject_refused p ns f x u n) (pattern_refused f' u' n') = absurd (no_pattern_read ws m k c f' u' n' p ns x)
   terms_once {most} (subject_refused p ns f x u n) (subject_refused p' ns' f' x' u' n') = record { bytes = ap (faulty_line k) (subject_fault_once ws m k c p p' ns ns' f f' x x' u u' n n'); left = refl }
   terms_once {most} (subject_refused p ns f x u n) (too_deep p' t' os' r' bare' d') = absurd (no_subject_read ws m k c p ns f x u n r')
   terms_once {most} (subject_refused p ns f x u n) (overflows p' t' os' r' bare' d') = absurd (no_subject_read ws m k c p ns f x u n r')
-  terms_once {most} (subject_refused p ns f x u n) (listed p' t' os' found' e' r' bare' w' l') = absurd (no_subject_read ws m k c p ns f x u n r')
+  terms_once {most} (subject_refused p ns f x u n) (sorts_end p' t' os' y' r' bare' w' h') = absurd (sorts_never_end env m plain _ y' h')
+  terms_once {most} (subject_refused p ns f x u n) (listed p' t' os' found' e' r' bare' w' known' l') = absurd (no_subject_read ws m k c p ns f x u n r')
   terms_once {most} (subject_refused p ns f x u n) (asks_where p' t' os' left' b' r' asked' a') = absurd (no_subject_read ws m k c p ns f x u n r')
   terms_once {most} (too_deep p t os r bare d) (pattern_refused f' u' n') = absurd (no_pattern_read ws m k c f' u' n' p r.pairs r.pattern)
   terms_once {most} (too_deep p t os r bare d) (subject_refused p' ns' f' x' u' n') = absurd (no_subject_read ws m k c p' ns' f' x' u' n' r)
   terms_once {most} (too_deep p t os r bare d) (too_deep p' t' os' r' bare' d') = one_end
   terms_once {most} (too_deep p t os r bare d) (overflows p' t' os' r' bare' d') = absurd (not_deep_and_overflow m (tree_of t) (tree_of t') (pair r r').subject d d')
-  terms_once {most} (too_deep p t os r bare d) (listed p' t' os' found' e' r' bare' w' l') = absurd (not_deep_and_within m (tree_of t) (tree_of t') (pair r r').subject d w')
+  terms_once {most} (too_deep p t os r bare d) (sorts_end p' t' os' y' r' bare' w' h') = absurd (sorts_never_end env m plain _ y' h')
+  terms_once {most} (too_deep p t os r bare d) (listed p' t' os' found' e' r' bare' w' known' l') = absurd (not_deep_and_within m (tree_of t) (tree_of t') (pair r r').subject d w')
   terms_once {most} (too_deep p t os r bare d) (asks_where p' t' os' left' b' r' asked' a') = absurd (yes_no _ asked' bare)
   terms_once {most} (overflows p t os r bare d) (pattern_refused f' u' n') = absurd (no_pattern_read ws m k c f' u' n' p r.pairs r.pattern)
   terms_once {most} (overflows p t os r bare d) (subject_refused p' ns' f' x' u' n') = absurd (no_subject_read ws m k c p' ns' f' x' u' n' r)
   terms_once {most} (overflows p t os r bare d) (too_deep p' t' os' r' bare' d') = absurd (not_deep_and_overflow m (tree_of t') (tree_of t) (pair r' r).subject d' d)
   terms_once {most} (overflows p t os r bare d) (overflows p' t' os' r' bare' d') = one_end
-  terms_once {most} (overflows p t os r bare d) (listed p' t' os' found' e' r' bare' w' l') = absurd (not_overflow_and_within m (tree_of t) (tree_of t') (pair r r').subject d w')
+  terms_once {most} (overflows p t os r bare d) (sorts_end p' t' os' y' r' bare' w' h') = absurd (sorts_never_end env m plain _ y' h')
+  terms_once {most} (overflows p t os r bare d) (listed p' t' os' found' e' r' bare' w' known' l') = absurd (not_overflow_and_within m (tree_of t) (tree_of t') (pair r r').subject d w')
   terms_once {most} (overflows p t os r bare d) (asks_where p' t' os' left' b' r' asked' a') = absurd (yes_no _ asked' bare)
-  terms_once {most} (listed p t os found e r bare w l) (pattern_refused f' u' n') = absurd (no_pattern_read ws m k c f' u' n' p r.pairs r.pattern)
-  terms_once {most} (listed p t os found e r bare w l) (subject_refused p' ns' f' x' u' n') = absurd (no_subject_read ws m k c p' ns' f' x' u' n' r)
-  terms_once {most} (listed p t os found e r bare w l) (too_deep p' t' os' r' bare' d') = absurd (not_deep_and_within m (tree_of t') (tree_of t) (pair r' r).subject d' w)
-  terms_once {most} (listed p t os found e r bare w l) (overflows p' t' os' r' bare' d') = absurd (not_overflow_and_within m (tree_of t') (tree_of t) (pair r' r).subject d' w)
-  terms_once {most} (listed p t os found e r bare w l) (listed p' t' os' found' e' r' bare' w' l') =
+  terms_once {most} (sorts_end p t os y r bare w h) (pattern_refused f' u' n') = absurd (sorts_never_end env m plain _ y h)
+  terms_once {most} (sorts_end p t os y r bare w h) (subject_refused p' ns' f' x' u' n') = absurd (sorts_never_end env m plain _ y h)
+  terms_once {most} (sorts_end p t os y r bare w h) (too_deep p' t' os' r' bare' d') = absurd (sorts_never_end env m plain _ y h)
+  terms_once {most} (sorts_end p t os y r bare w h) (overflows p' t' os' r' bare' d') = absurd (sorts_never_end env m plain _ y h)
+  terms_once {most} (sorts_end p t os y r bare w h) (sorts_end p' t' os' y' r' bare' w' h') = absurd (sorts_never_end env m plain _ y h)
+  terms_once {most} (sorts_end p t os y r bare w h) (listed p' t' os' found' e' r' bare' w' known' l') = absurd (sorts_never_end env m plain _ y h)
+  terms_once {most} (sorts_end p t os y r bare w h) (asks_where p' t' os' left' b' r' asked' a') = absurd (sorts_never_end env m plain _ y h)
+  terms_once {most} (listed p t os found e r bare w known l) (pattern_refused f' u' n') = absurd (no_pattern_read ws m k c f' u' n' p r.pairs r.pattern)
+  terms_once {most} (listed p t os found e r bare w known l) (subject_refused p' ns' f' x' u' n') = absurd (no_subject_read ws m k c p' ns' f' x' u' n' r)
+  terms_once {most} (listed p t os found e r bare w known l) (too_deep p' t' os' r' bare' d') = absurd (not_deep_and_within m (tree_of t') (tree_of t) (pair r' r).subject d' w)
+  terms_once {most} (listed p t os found e r bare w known l) (overflows p' t' os' r' bare' d') = absurd (not_overflow_and_within m (tree_of t') (tree_of t) (pair r' r).subject d' w)
+  terms_once {most} (listed p t os found e r bare w known l) (sorts_end p' t' os' y' r' bare' w' h') = absurd (sorts_never_end env m plain _ y' h')
+  terms_once {most} (listed p t os found e r bare w known l) (listed p' t' os' found' e' r' bare' w' known' l') =
       let one = pair r r' in
-      let l'' = subst (λ p. Shows m (has_context c.kind) p (tree_of t) None most found' e') (sym one.pattern) (subst (λ t. Shows m (has_context c.kind) (tree_of p') t None most found' e') (sym one.subject) l') in
-      let same = shows_once m (has_context c.kind) (tree_of p) (tree_of t) None most found found' e e' l l'' in
+      let l'' = subst (λ p. Shows m (meanings_in env m) (has_context c.kind) p (tree_of t) None most found' e') (sym one.pattern) (subst (λ t. Shows m (meanings_in env m) (has_context c.kind) (tree_of p') t None most found' e') (sym one.subject) l') in
+      let same = shows_once m (meanings_in env m) (has_context c.kind) (tree_of p) (tree_of t) None most found found' e e' l l'' in
       record {
         bytes =
             ap (λ os. match_head k (has_context c.kind) m ++ listing_lines m os (has_context c.kind) (tree_of p) 0 found e) one.pairs
@@ -158,16 +171,17 @@ module _ (env : Environment) (ws : List Word) (m : ModuleOf) (shaped : IsShapedI
             ∙ ap₂ (λ os found. left_by e (shown_more (asked_first (has_context c.kind) (tree_of p') (tree_of t') os) found)) one.pairs same.found
             ∙ ap (λ e. left_by e (shown_more (asked_first (has_context c.kind) (tree_of p') (tree_of t') os') found')) same.ended;
       }
-  terms_once {most} (listed p t os found e r bare w l) (asks_where p' t' os' left' b' r' asked' a') = absurd (yes_no _ asked' bare)
+  terms_once {most} (listed p t os found e r bare w known l) (asks_where p' t' os' left' b' r' asked' a') = absurd (yes_no _ asked' bare)
   terms_once {most} (asks_where p t os left b r asked a) (pattern_refused f' u' n') = absurd (no_pattern_read ws m k c f' u' n' p r.pairs r.pattern)
   terms_once {most} (asks_where p t os left b r asked a) (subject_refused p' ns' f' x' u' n') = absurd (no_subject_read ws m k c p' ns' f' x' u' n' r)
   terms_once {most} (asks_where p t os left b r asked a) (too_deep p' t' os' r' bare' d') = absurd (yes_no _ asked bare')
   terms_once {most} (asks_where p t os left b r asked a) (overflows p' t' os' r' bare' d') = absurd (yes_no _ asked bare')
-  terms_once {most} (asks_where p t os left b r asked a) (listed p' t' os' found' e' r' bare' w' l') = absurd (yes_no _ asked bare')
+  terms_once {most} (asks_where p t os left b r asked a) (sorts_end p' t' os' y' r' bare' w' h') = absurd (sorts_never_end env m plain _ y' h')
+  terms_once {most} (asks_where p t os left b r asked a) (listed p' t' os' found' e' r' bare' w' known' l') = absurd (yes_no _ asked bare')
   terms_once {most} (asks_where p t os left b r asked a) (asks_where p' t' os' left' b' r' asked' a') =
       let one = pair r r' in
       let a'' = subst (λ p. WhereAnswer env ws m k c most p (tree_of t) os left' b') (sym one.pattern) (subst (λ t. WhereAnswer env ws m k c most (tree_of p') t os left' b') (sym one.subject) (subst (λ ns. WhereAnswer env ws m k c most (tree_of p') (tree_of t') ns left' b') (sym one.pairs) a')) in
-      where_once env ws m shaped k c (tree_of p) (tree_of t) os a a''
+      where_once env ws m shaped plain k c (tree_of p) (tree_of t) os a a''
 
 record AreOneItem (st next : StateOf) (b c : List ℕ) (r s : Bool) : Type 0 where
   state : st ≡ next
@@ -250,7 +264,7 @@ module _ (env : Environment) (ws : List Word) (st : StateOf) (all : AreShaped st
   match_once (command_answered n m most left b e x h w f y) (bound_refused n' m' r' e' x' h' w' f') = absurd (bound_or_refused ws st k i c f f')
   match_once (command_answered n m most left b e x h w f y) (command_answered n' m' most' left' b' e' x' h' w' f' y') =
       let same = module_at ws st k i c x h x' h' in
-      let o = terms_once env ws m (all n m h) k c y (subst (λ m. TermsAnswer env ws m k c most left' b') (sym same) (subst (λ a. TermsAnswer env ws m' k c a left' b') (sym (bound_once ws st k i c f f')) y')) in
+      let o = terms_once env ws m (all n m h) w k c y (subst (λ m. TermsAnswer env ws m k c most left' b') (sym same) (subst (λ a. TermsAnswer env ws m' k c a left' b') (sym (bound_once ws st k i c f f')) y')) in
       record { state = ap₂ (state_after st) (chosen_once ws st k i c x x') o.left; bytes = o.bytes; refused = ap refuses o.left }
 
 -- what a rewrite command asks for is one
@@ -323,12 +337,12 @@ module _ (env : Environment) (free : env.remembers ≡ false) (ws : List Word) (
   continue_once (number_refused r e) (number_refused r' e') = record { state = refl; bytes = ap (refusal_line k ws) (refusal_once ws st k i c e e'); refused = refl }
   continue_once (number_refused r e) (nothing_to_continue most' e' n') = absurd (bound_or_refused ws st k i c e' e)
   continue_once (number_refused r e) (continued most' n' q' m' found' b' e' g' h' l') = absurd (bound_or_refused ws st k i c e' e)
-  continue_once (number_refused r e) (continued_where most' n' q' cond' m' found' b' e' g' h' l') = absurd (bound_or_refused ws st k i c e' e)
+  continue_once (number_refused r e) (continued_where most' n' q' cond' m' found' b' e' g' h' plain' l') = absurd (bound_or_refused ws st k i c e' e)
   continue_once (number_refused r e) (run_continued most' n' r' m' a' e' g' h' plain' y') = absurd (bound_or_refused ws st k i c e' e)
   continue_once (nothing_to_continue most e n) (number_refused r' e') = absurd (bound_or_refused ws st k i c e e')
   continue_once (nothing_to_continue most e n) (nothing_to_continue most' e' n') = one_item
   continue_once (nothing_to_continue most e n) (continued most' n' q' m' found' b' e' g' h' l') = let o = sym n ∙ g' in absurd cc
-  continue_once (nothing_to_continue most e n) (continued_where most' n' q' cond' m' found' b' e' g' h' l') = let o = sym n ∙ g' in absurd cc
+  continue_once (nothing_to_continue most e n) (continued_where most' n' q' cond' m' found' b' e' g' h' plain' l') = let o = sym n ∙ g' in absurd cc
   continue_once (nothing_to_continue most e n) (run_continued most' n' r' m' a' e' g' h' plain' y') = let o = sym n ∙ g' in absurd cc
   continue_once (continued most n q m found b e g h l) (number_refused r' e') = absurd (bound_or_refused ws st k i c e e')
   continue_once (continued most n q m found b e g h l) (nothing_to_continue most' e' n') = let o = sym n' ∙ g in absurd cc
@@ -337,10 +351,10 @@ module _ (env : Environment) (free : env.remembers ≡ false) (ws : List Word) (
       let what : a_listing q ≡ a_listing q' = going.1 in
       let query : q ≡ q' = cc in
       let same : m ≡ m' = going_at going.0 h h' in
-      let l'' = subst (λ m. Shows m q.with_context q.pattern q.subject q.last most found' b') (sym same)
-      (subst (λ (x : QueryOf). Shows m' x.with_context x.pattern x.subject x.last most found' b') (sym query)
-      (subst (λ a. Shows m' q'.with_context q'.pattern q'.subject q'.last a found' b') (sym (bound_once ws st k i c e e')) l')) in
-      let one = shows_once m q.with_context q.pattern q.subject q.last most found found' b b' l l'' in
+      let l'' = subst (λ m. Shows m (meanings_in env m) q.with_context q.pattern q.subject q.last most found' b') (sym same)
+      (subst (λ (x : QueryOf). Shows m' (meanings_in env m') x.with_context x.pattern x.subject x.last most found' b') (sym query)
+      (subst (λ a. Shows m' (meanings_in env m') q'.with_context q'.pattern q'.subject q'.last a found' b') (sym (bound_once ws st k i c e e')) l')) in
+      let one = shows_once m (meanings_in env m) q.with_context q.pattern q.subject q.last most found found' b b' l l'' in
       record {
         state =
             ap₂ (λ n (x : QueryOf). state_after st n (left_by b (shown_more x found))) going.0 query
@@ -350,12 +364,12 @@ module _ (env : Environment) (free : env.remembers ≡ false) (ws : List Word) (
             ∙ ap₂ (λ f b. continue_head k m' ++ listing_lines m' q'.variables q'.with_context q'.pattern q'.shown f b) one.found one.ended;
         refused = refl;
       }
-  continue_once (continued most n q m found b e g h l) (continued_where most' n' q' cond' m' found' b' e' g' h' l') = let o : a_listing q ≡ a_listing_where q' cond' = (going_once g g').1 in absurd cc
+  continue_once (continued most n q m found b e g h l) (continued_where most' n' q' cond' m' found' b' e' g' h' plain' l') = let o : a_listing q ≡ a_listing_where q' cond' = (going_once g g').1 in absurd cc
   continue_once (continued most n q m found b e g h l) (run_continued most' n' r' m' a' e' g' h' plain' y') = let o : a_listing q ≡ a_rule_run r' = (going_once g g').1 in absurd cc
-  continue_once (continued_where most n q cond m found b e g h l) (number_refused r' e') = absurd (bound_or_refused ws st k i c e e')
-  continue_once (continued_where most n q cond m found b e g h l) (nothing_to_continue most' e' n') = let o = sym n' ∙ g in absurd cc
-  continue_once (continued_where most n q cond m found b e g h l) (continued most' n' q' m' found' b' e' g' h' l') = let o : a_listing_where q cond ≡ a_listing q' = (going_once g g').1 in absurd cc
-  continue_once (continued_where most n q cond m found b e g h l) (continued_where most' n' q' cond' m' found' b' e' g' h' l') =
+  continue_once (continued_where most n q cond m found b e g h plain l) (number_refused r' e') = absurd (bound_or_refused ws st k i c e e')
+  continue_once (continued_where most n q cond m found b e g h plain l) (nothing_to_continue most' e' n') = let o = sym n' ∙ g in absurd cc
+  continue_once (continued_where most n q cond m found b e g h plain l) (continued most' n' q' m' found' b' e' g' h' l') = let o : a_listing_where q cond ≡ a_listing q' = (going_once g g').1 in absurd cc
+  continue_once (continued_where most n q cond m found b e g h plain l) (continued_where most' n' q' cond' m' found' b' e' g' h' plain' l') =
       let going = going_once g g' in
       let what : a_listing_where q cond ≡ a_listing_where q' cond' = going.1 in
       let query : q ≡ q' = cc in
@@ -365,7 +379,7 @@ module _ (env : Environment) (free : env.remembers ≡ false) (ws : List Word) (
       (subst (λ (x : QueryOf). ShowsWhere m' (meanings_in env m') cond x most found' b') (sym query)
       (subst (λ z. ShowsWhere m' (meanings_in env m') z q' most found' b') (sym conds)
       (subst (λ a. ShowsWhere m' (meanings_in env m') cond' q' a found' b') (sym (bound_once ws st k i c e e')) l'))) in
-      let one = shows_where_once m (meanings_in env m) cond q most found found' b b' l l'' in
+      let one = shows_where_once m (meanings_in env m) (evaluated_derives env m plain) cond q most found found' b b' l l'' in
       record {
         state =
             ap₂ (λ n (x : QueryOf). state_after st n (left_where b (shown_more x found) cond)) going.0 query
@@ -376,11 +390,11 @@ module _ (env : Environment) (free : env.remembers ≡ false) (ws : List Word) (
             ∙ ap₂ (λ f b. continue_head k m' ++ where_lines m' env.budget q' f b) one.0 one.1;
         refused = refl;
       }
-  continue_once (continued_where most n q cond m found b e g h l) (run_continued most' n' r' m' a' e' g' h' plain' y') = let o : a_listing_where q cond ≡ a_rule_run r' = (going_once g g').1 in absurd cc
+  continue_once (continued_where most n q cond m found b e g h plain l) (run_continued most' n' r' m' a' e' g' h' plain' y') = let o : a_listing_where q cond ≡ a_rule_run r' = (going_once g g').1 in absurd cc
   continue_once (run_continued most n r m a e g h plain y) (number_refused r' e') = absurd (bound_or_refused ws st k i c e e')
   continue_once (run_continued most n r m a e g h plain y) (nothing_to_continue most' e' n') = let o = sym n' ∙ g in absurd cc
   continue_once (run_continued most n r m a e g h plain y) (continued most' n' q' m' found' b' e' g' h' l') = let o : a_rule_run r ≡ a_listing q' = (going_once g g').1 in absurd cc
-  continue_once (run_continued most n r m a e g h plain y) (continued_where most' n' q' cond' m' found' b' e' g' h' l') = let o : a_rule_run r ≡ a_listing_where q' cond' = (going_once g g').1 in absurd cc
+  continue_once (run_continued most n r m a e g h plain y) (continued_where most' n' q' cond' m' found' b' e' g' h' plain' l') = let o : a_rule_run r ≡ a_listing_where q' cond' = (going_once g g').1 in absurd cc
   continue_once (run_continued most n r m a e g h plain y) (run_continued most' n' r' m' a' e' g' h' plain' y') =
       let going = going_once g g' in
       let what : a_rule_run r ≡ a_rule_run r' = going.1 in
@@ -563,7 +577,7 @@ module _ (env : Environment) (ws : List Word) (st : StateOf) (k i : ℕ) (c : Ra
   continue_keeps (number_refused r e) = refl
   continue_keeps (nothing_to_continue most e n) = refl
   continue_keeps (continued most n q m found b e g h l) = after_keeps st n (left_by b (shown_more q found))
-  continue_keeps (continued_where most n q cond m found b e g h l) = after_keeps st n (left_where b (shown_more q found) cond)
+  continue_keeps (continued_where most n q cond m found b e g h plain l) = after_keeps st n (left_where b (shown_more q found) cond)
   continue_keeps (run_continued most n r m a e g h plain y) = after_keeps st n (left_by_run r.kind r.variables a)
 
   reduce_keeps : {u : StateOf} {b : List ℕ} {r : Bool} → ReduceAnswer env ws st k i c u b r → u.modules ≡ st.modules

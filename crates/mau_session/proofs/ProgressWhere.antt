@@ -11,6 +11,7 @@ use Rattle.mau_api.specs.declared.results.EvalEnd.{EvalEnd}
 use Rattle.mau_api.specs.declared.results.EvalEnd.TheVariants.{Stopped, TooDeep, Overflow, NoMemory}
 use Rattle.mau_conditional.specs.Where as Conditional
 use Rattle.mau_conditional.specs.Where.{Ending as EndingOf, no_more, bound_reached, ends_by, wants_one, one_fewer, enough_shown}
+use Rattle.mau_conditional.specs.Meant.{Asks}
 use Rattle.mau_conditional.specs.NextWhere.{next_is, none_is_left, asking_ended}
 use Rattle.mau_conditional.proofs.Shown.{shows_next, shows_none, shows_end}
 use Rattle.mau_module.specs.Modules.{ModuleOf}
@@ -18,7 +19,7 @@ use Rattle.mau_session.specs.Terms.{terms_in}
 use Rattle.mau_session.specs.Matching.{IsSolution, last_shown}
 use Rattle.mau_session.specs.Answers.{all_matchers, matcher_lines}
 use Rattle.mau_session.specs.Query.{QueryOf, shown_more}
-use Rattle.mau_session.specs.Where.{asking, last_where}
+use Rattle.mau_session.specs.Where.{last_where}
 use Rattle.mau_session.specs.KeptWhere.{ending_of, IsEndingBy, ShowsOneMore, ShowsNoMore, ShowsNextWhere, GainsMatchersWhere, GainsShownWhere}
 use Rattle.mau_session.specs.declared.conditional.Ending.{Ending}
 use Rattle.mau_session.specs.declared.conditional.Ending.TheVariants.{BoundReached}
@@ -74,7 +75,7 @@ none_left k n e = by (k - n) (omega (arith, e))
 module _ (m : ModuleOf) (e : Meanings) (c : List Fragment) (q : QueryOf) (old : List ℕ) (most : Option ℕ) where
   -- what its solutions behind a last one show
   abbrev Behind : Option Matcher → ℕ → Option ℕ → List Matcher → EndingOf → Type 0
-  Behind = Conditional.ShowsWhere (IsSolution m q.with_context q.pattern q.subject) (matcher_cmp (terms_in m).theory q.pattern) (asking e q.pattern c)
+  Behind = Conditional.ShowsWhere (IsSolution m e q.with_context q.pattern q.subject) (matcher_cmp (terms_in m).theory q.pattern) (Asks e q.pattern c)
 
   pub record IsProgressWhere (now : QueryOf) (n b : ℕ) (new : List ℕ) : Type 0 where
     pub found : List Matcher
@@ -110,7 +111,7 @@ module _ (m : ModuleOf) (e : Meanings) (c : List Fragment) (q : QueryOf) (old : 
               subst (λ z. Behind (Some x) left z more d) (sym (less_one most n))
               (subst (λ z. Behind (Some x) left (less most z) more d) same (subst (λ o. Behind o left (less most k) more d) (last_shown-push q.last f x) g)) in
               let with_it : Behind (last_shown q.last f) b (less most n) (x ∷ more) d =
-              shows_next (IsSolution m q.with_context q.pattern q.subject) (matcher_cmp (terms_in m).theory q.pattern) (asking e q.pattern c) (last_shown q.last f) b x left s.is (less most n) (some_left most end n h) more d here in
+              shows_next (IsSolution m e q.with_context q.pattern q.subject) (matcher_cmp (terms_in m).theory q.pattern) (Asks e q.pattern c) (last_shown q.last f) b x left s.is (less most n) (some_left most end n h) more d here in
               subst (λ z. Behind q.last e.limit most z d) (sym (append_assoc f (x ∷ []) more)) (p.leads (x ∷ more) d with_it);
           gained =
               s.gained
@@ -132,13 +133,13 @@ module _ (m : ModuleOf) (e : Meanings) (c : List Fragment) (q : QueryOf) (old : 
     none_more next left end new h s =
         let z = subst (λ (z : QueryOf). ShowsNoMore m e c z b out none_is_left next new left) p.after s in
         stays next new no_more s.after s.gained
-        (shows_none (IsSolution m q.with_context q.pattern q.subject) (matcher_cmp (terms_in m).theory q.pattern) (asking e q.pattern c) (last_shown q.last p.found) b left z.is (less most n) (some_left most end n h))
+        (shows_none (IsSolution m e q.with_context q.pattern q.subject) (matcher_cmp (terms_in m).theory q.pattern) (Asks e q.pattern c) (last_shown q.last p.found) b left z.is (less most n) (some_left most end n h))
 
     ends_here : (next : QueryOf) (left end : ℕ) (new : List ℕ) (d : End) → n < unwrap_or most end → ShowsNoMore m e c now b out (asking_ended d) next new left → GainsMatchersWhere m e c q next most old new (ends_by d)
     ends_here next left end new d h s =
         let z = subst (λ (z : QueryOf). ShowsNoMore m e c z b out (asking_ended d) next new left) p.after s in
         stays next new (ends_by d) s.after s.gained
-        (shows_end (IsSolution m q.with_context q.pattern q.subject) (matcher_cmp (terms_in m).theory q.pattern) (asking e q.pattern c) (last_shown q.last p.found) b d left z.is (less most n) (some_left most end n h))
+        (shows_end (IsSolution m e q.with_context q.pattern q.subject) (matcher_cmp (terms_in m).theory q.pattern) (Asks e q.pattern c) (last_shown q.last p.found) b d left z.is (less most n) (some_left most end n h))
 
     pub ends_with : (next : QueryOf) (left end : ℕ) (new : List ℕ) (d : EvalEnd) (r : Result Ending OutOfMemory) → IfOk r (IsEndingBy d) → n < unwrap_or most end
         → ShowsNextWhere m e c now b out (Err d) next new left → IfOk r (λ x. GainsMatchersWhere m e c q next most old new (ending_of x))

@@ -5,6 +5,7 @@ use Rattle.std.proofs.lemmas.List.Kept.{AllPairs-cons}
 use Rattle.mau_terms.specs.Tree.{Tree}
 use Rattle.mau_listing.specs.Matcher.{Matcher}
 use Rattle.mau_listing.proofs.Ordered.{matchers_are_ordered}
+use Rattle.mau_api.specs.Meanings.{Meanings}
 use Rattle.mau_module.specs.Modules.{ModuleOf}
 use Rattle.mau_session.specs.Terms.{terms_in}
 use Rattle.mau_session.specs.Matching.{IsSolution, IsBefore, IsBehind, AreFirst, AreAll, class_of, last_shown}
@@ -35,10 +36,10 @@ pub last_shown-push : (last : Option Matcher) (found : List Matcher) (xs : Match
 last_shown-push last [] xs = refl
 last_shown-push last (ys ∷ found) xs = last_shown-push (Some ys) found xs
 
-module _ (m : ModuleOf) (w : Bool) (p t : Tree) (last : Option Matcher) where
+module _ (m : ModuleOf) (means : Meanings) (w : Bool) (p t : Tree) (last : Option Matcher) where
   -- found was shown behind `last`, and then `now` is the last one: what comes behind it is what comes behind `last` and all of them
   pub record AreShown (now : Option Matcher) (found : List Matcher) : Type 0 where
-    pub first : AreFirst m w p t last found
+    pub first : AreFirst m means w p t last found
     pub now_is : last_shown last found ≡ now
     pub covers : (xs : Matcher) → IsBehind m p now xs → IsBehind m p last xs × All (λ ys. IsBefore m p ys xs) found
     pub reaches : (xs : Matcher) → IsBehind m p last xs → All (λ ys. IsBefore m p ys xs) found → IsBehind m p now xs
@@ -46,7 +47,7 @@ module _ (m : ModuleOf) (w : Bool) (p t : Tree) (last : Option Matcher) where
   pub none_shown : AreShown last []
   none_shown = record {
     first = record {
-      solutions = All-nil (IsSolution m w p t);
+      solutions = All-nil (IsSolution m means w p t);
       behind = All-nil (IsBehind m p last);
       ascending = λ i j d h l. absurd (omega (arith, l));
       others = λ xs is behind. inr (All-nil (λ ys. IsBefore m p ys xs));
@@ -56,12 +57,12 @@ module _ (m : ModuleOf) (w : Bool) (p t : Tree) (last : Option Matcher) where
     reaches = λ xs behind all. behind;
   }
 
-  pub one_shown : (now : Option Matcher) (found : List Matcher) (xs : Matcher) → AreShown now found → IsNext m w p t now xs → AreShown (Some xs) (found ++ xs ∷ [])
+  pub one_shown : (now : Option Matcher) (found : List Matcher) (xs : Matcher) → AreShown now found → IsNext m means w p t now xs → AreShown (Some xs) (found ++ xs ∷ [])
   one_shown now found xs shown next =
       let here = shown.covers xs next.behind in
       record {
         first = record {
-          solutions = All-push (IsSolution m w p t) found xs shown.first.solutions next.is_one;
+          solutions = All-push (IsSolution m means w p t) found xs shown.first.solutions next.is_one;
           behind = All-push (IsBehind m p last) found xs shown.first.behind here.0;
           ascending = pairs_push (IsBefore m p) found xs shown.first.ascending here.1;
           others = λ ys is behind. by ys is behind (shown.first.others ys is behind);
@@ -71,7 +72,7 @@ module _ (m : ModuleOf) (w : Bool) (p t : Tree) (last : Option Matcher) where
         reaches = λ ys behind all. All-last (λ zs. IsBefore m p zs ys) found xs all;
       }
     where
-      by : (ys : Matcher) → IsSolution m w p t ys → IsBehind m p last ys → Contains found ys ⊎ All (λ zs. IsBefore m p zs ys) found
+      by : (ys : Matcher) → IsSolution m means w p t ys → IsBehind m p last ys → Contains found ys ⊎ All (λ zs. IsBefore m p zs ys) found
           → Contains (found ++ xs ∷ []) ys ⊎ All (λ zs. IsBefore m p zs ys) (found ++ xs ∷ [])
       by ys is behind (inl among) = inl (Contains-append_left found (xs ∷ []) ys among)
       by ys is behind (inr all) =
@@ -80,12 +81,12 @@ module _ (m : ModuleOf) (w : Bool) (p t : Tree) (last : Option Matcher) where
           (λ (same : xs ≡ ys). inl (subst (Contains (found ++ xs ∷ [])) same (Contains-push found xs)))
           (next.least ys is (shown.reaches ys behind all))
 
-  pub all_shown : (now : Option Matcher) (found : List Matcher) → AreShown now found → NoneIsBehind m w p t now → AreAll m w p t last found
+  pub all_shown : (now : Option Matcher) (found : List Matcher) → AreShown now found → NoneIsBehind m means w p t now → AreAll m means w p t last found
   all_shown now found shown none = record {
     first = shown.first;
     complete = λ vs left right solves behind.
         let x = class_of m left right vs in
-        let is : IsSolution m w p t x = record { values = vs; normal = refl; solves = solves } in
+        let is : IsSolution m means w p t x = record { values = vs; normal = refl; solves = solves } in
         ⊎_elim
         (λ (among : Contains found x). among)
         (λ (all : All (λ ys. IsBefore m p ys x) found). absurd (none x is (shown.reaches x behind all)))

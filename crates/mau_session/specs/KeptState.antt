@@ -3,7 +3,7 @@ use Rattle.std.specs.Prelude.{◌≡◌, ◌<◌, List, length, Some, IfSome, sl
 use Rattle.std.specs.Option.{option_map}
 use Rattle.mau_module.specs.Modules.{ModuleOf}
 use Rattle.mau_module.specs.Library.{HasPrelude}
-use Rattle.mau_session.specs.KeptQuery.{query_of, IsReady}
+use Rattle.mau_session.specs.KeptQuery.{query_of, IsReadyKept}
 use Rattle.mau_session.specs.KeptWhere.{IsReadyWhere}
 use Rattle.mau_session.specs.KeptRun.{rule_run_of, IsReadyRun}
 use Rattle.mau_session.specs.declared.state.State.{State}
@@ -15,8 +15,8 @@ use Rattle.mau_session.specs.declared.state.Outcome.TheVariants.{Refused, Ended,
 use Rattle.mau_session.specs.State.{ContinuedOf, a_listing, a_listing_where, a_rule_run, GoingOf, StateOf, OutcomeOf, is_refused, has_ended, goes_on}
 
 abbrev pub continued_of : Continued → ContinuedOf
-continued_of (Listing q) = a_listing (query_of q)
-continued_of (ListingWhere k) = a_listing_where (query_of k.query) k.cond
+continued_of (Listing q sorts) = a_listing (query_of q)
+continued_of (ListingWhere k sorts) = a_listing_where (query_of k.query) k.cond
 continued_of (Rules r) = a_rule_run (rule_run_of r)
 
 abbrev pub going_of : Going → GoingOf
@@ -32,8 +32,8 @@ outcome_of (GoesOn w) = goes_on (continued_of w)
 
 -- it can go on over a module
 abbrev pub IsReadyOver : ModuleOf → Continued → Type 0
-IsReadyOver m (Listing q) = IsReady m.signature q
-IsReadyOver m (ListingWhere k) = IsReadyWhere m k
+IsReadyOver m (Listing q sorts) = IsReadyKept m sorts q
+IsReadyOver m (ListingWhere k sorts) = IsReadyWhere m sorts k
 IsReadyOver m (Rules r) = IsReadyRun m r
 
 -- it can go on over the module with a number

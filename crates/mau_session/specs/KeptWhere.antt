@@ -3,6 +3,7 @@ use Rattle.std.specs.Prelude.{◌≡◌, ◌≢◌, ℕ, ◌+◌, List, [], ◌�
 use Rattle.mau_terms.specs.Tree.{Tree}
 use Rattle.mau_terms.specs.Subst.{variables}
 use Rattle.mau_terms.specs.View.{tree_of, variable_of}
+use Rattle.mau_sorts.specs.Table.{Table}
 use Rattle.mau_listing.specs.Matcher.{Matcher}
 use Rattle.mau_listing.specs.Next.{matcher_cmp}
 use Rattle.mau_evaluation.specs.Run.{End, stopped, too_deep, overflowed}
@@ -12,6 +13,7 @@ use Rattle.mau_api.specs.Answers.{IsAskable}
 use Rattle.mau_api.specs.declared.results.EvalEnd.{EvalEnd}
 use Rattle.mau_api.specs.declared.results.EvalEnd.TheVariants.{Stopped, TooDeep, Overflow, NoMemory}
 use Rattle.mau_conditional.specs.Where.{Ending as EndingOf, no_more, bound_reached, ends_by}
+use Rattle.mau_conditional.specs.Meant.{Asks}
 use Rattle.mau_conditional.specs.NextWhere.{NextOf, next_is, none_is_left, asking_ended, NextWhere}
 use Rattle.mau_modtext.specs.Word.{Word}
 use Rattle.mau_modtext.specs.declared.raw.RawFragment.{RawFragment}
@@ -22,13 +24,12 @@ use Rattle.mau_statement.specs.declared.fault.StatementFault.TheVariants.{NoMemo
 use Rattle.mau_module.specs.Modules.{ModuleOf}
 use Rattle.mau_module.specs.Conditions.{context_of}
 use Rattle.mau_session.specs.Terms.{Pairs, terms_in}
-use Rattle.mau_session.specs.Built.{uses_memberships}
 use Rattle.mau_session.specs.Shown.{shown_variable}
 use Rattle.mau_session.specs.Matching.{IsSolution}
 use Rattle.mau_session.specs.Answers.{all_matchers, matcher_lines}
 use Rattle.mau_session.specs.Query.{QueryOf, shown_more}
-use Rattle.mau_session.specs.KeptQuery.{query_of, IsReady}
-use Rattle.mau_session.specs.Where.{asking, ShowsWhere, where_lines, shown_condition_fault}
+use Rattle.mau_session.specs.KeptQuery.{query_of, IsReadyKept}
+use Rattle.mau_session.specs.Where.{ShowsWhere, where_lines, shown_condition_fault}
 use Rattle.mau_session.specs.declared.conditional.ConditionalQuery.{ConditionalQuery}
 use Rattle.mau_session.specs.declared.conditional.Ending.{Ending}
 use Rattle.mau_session.specs.declared.conditional.Ending.TheVariants.{NoMore, BoundReached, Stopped as EndStopped, TooDeep as EndTooDeep, Overflow as EndOverflow}
@@ -51,17 +52,16 @@ IsEndingBy Overflow e = e ≡ EndOverflow
 IsEndingBy NoMemory e = ⊥
 
 -- over the module m its listing can go on, and its condition may be asked under each solution
-pub record IsReadyWhere (m : ModuleOf) (k : ConditionalQuery) : Type 0 where
-  pub query : IsReady m.signature k.query
+pub record IsReadyWhere (m : ModuleOf) (sorts : Table) (k : ConditionalQuery) : Type 0 where
+  pub query : IsReadyKept m sorts k.query
   pub condition : IsAskable m.signature (variables (tree_of k.query.pattern)) k.cond
-  pub plain : uses_memberships m ≡ false
 
 -- ---- one solution more
 
 -- what comes next of a query's solutions, with so much of the budget
 abbrev pub NextIs : ModuleOf → Meanings → List Fragment → QueryOf → ℕ → NextOf → ℕ → Type 0
 NextIs m e c q b o left =
-    NextWhere (IsSolution m q.with_context q.pattern q.subject) (matcher_cmp (terms_in m).theory q.pattern) (asking e q.pattern c) q.last b o left
+    NextWhere (IsSolution m e q.with_context q.pattern q.subject) (matcher_cmp (terms_in m).theory q.pattern) (Asks e q.pattern c) q.last b o left
 
 -- the next solution is shown
 pub record ShowsOneMore (m : ModuleOf) (e : Meanings) (c : List Fragment) (q : QueryOf) (b : ℕ) (out : List ℕ) (next : QueryOf) (new : List ℕ) (left : ℕ) : Type 0 where

@@ -10,6 +10,7 @@ pub mod Shown
 pub mod Environment
 pub mod Lines
 pub mod Matching
+pub mod Settled
 pub mod Commands
 pub mod Answers
 pub mod Built

@@ -25,6 +25,7 @@ use Rattle.mau_parse.specs.declared.fault.ParseFault.{ParseFault}
 use Rattle.mau_parse.specs.declared.fault.ParseFault.TheVariants.{NoMemory as NoMemoryOfParse}
 use Rattle.mau_declare.specs.Words.{index_at, token_index, first_index}
 use Rattle.mau_program.specs.declared.statements.Fragment.{Fragment}
+use Rattle.mau_evaluation.specs.Run.{End}
 use Rattle.mau_conditional.specs.Where.{Ending}
 use Rattle.mau_module.specs.Modules.{ModuleOf}
 use Rattle.mau_module.specs.Library.{last_named}
@@ -35,9 +36,10 @@ use Rattle.mau_session.specs.declared.refusal.Refusal.TheVariants.{NotBuilt, Unk
 use Rattle.mau_session.specs.Terms.{Pairs, terms_in, kind_of_term}
 use Rattle.mau_statement.specs.Parts.{TermReads, IsUnread, is_empty}
 use Rattle.mau_session.specs.Matching.{Shows}
+use Rattle.mau_session.specs.Settled.{AreSortsKnown, SortsEnd}
 use Rattle.mau_results.specs.Results.{AnswerOf, MayAnswer}
 use Rattle.mau_results.specs.Runs.{run_by, RunAnswerOf, MayRun}
-use Rattle.mau_session.specs.Lines.{too_deep_line, overflow_line, answer_lines}
+use Rattle.mau_session.specs.Lines.{too_deep_line, overflow_line, end_line, answer_lines}
 use Rattle.mau_session.specs.Environment.{Environment, meanings_in}
 use Rattle.mau_session.specs.Query.{QueryOf, asked_first, shown_more}
 use Rattle.mau_session.specs.State.{a_listing, a_listing_where, a_rule_run, StateOf, at_first, accepted, selected, IsChosen, NamesNone, OutcomeOf, is_refused, has_ended, left_by, refuses, state_after}
@@ -67,8 +69,8 @@ pub record TermsRead (ws : List Word) (m : ModuleOf) (c : RawCommand) (p t : Bar
   pub subject : SubjectReads ws m c p pairs t os
 
 -- The pattern is read in any kind, and the subject in the pattern's. Without a condition, a subject whose normal form is deeper than 1,000, or else holds
--- the successor of the greatest numeral, has an end in place of solutions, which leaves nothing to continue. Otherwise the first
--- solutions are listed, at most so many, or all; those of `xmatch` with their contexts.
+-- the successor of the greatest numeral, has an end in place of solutions, which leaves nothing to continue; and so has one whose sorts
+-- end, which are taken then. Otherwise the first solutions are listed, at most so many, or all; those of `xmatch` with their contexts.
 pub data TermsAnswer (e : Environment) (ws : List Word) (m : ModuleOf) (k : ℕ) (c : RawCommand) (most : Option ℕ) : OutcomeOf → List ℕ → Type 0 where
   pattern_refused : (f : ParseFault) → IsUnread ws m.grammar c.first AnyKind [] f → f ≢ NoMemoryOfParse → TermsAnswer e ws m k c most is_refused (parse_fault_line k f)
   subject_refused : (p : Bare) (ns : Pairs) (f : ParseFault) → PatternReads ws m c p ns → IsUnread ws m.grammar c.second (Kind (kind_of_term m (tree_of p))) ns f
@@ -77,8 +79,11 @@ pub data TermsAnswer (e : Environment) (ws : List Word) (m : ModuleOf) (k : ℕ)
       → IsCause (terms_in m).theory (norm (terms_in m).theory (tree_of t)) TooDeep → TermsAnswer e ws m k c most has_ended (match_head k (has_context c.kind) m ++ too_deep_line)
   overflows : (p t : Bare) (os : Pairs) → TermsRead ws m c p t os → has_condition c ≡ false
       → IsCause (terms_in m).theory (norm (terms_in m).theory (tree_of t)) Overflow → TermsAnswer e ws m k c most has_ended (match_head k (has_context c.kind) m ++ overflow_line)
+  sorts_end : (p t : Bare) (os : Pairs) (x : End) → TermsRead ws m c p t os → has_condition c ≡ false → IsWithin (terms_in m).theory (norm (terms_in m).theory (tree_of t))
+      → SortsEnd (meanings_in e m) (norm (terms_in m).theory (tree_of t)) x → TermsAnswer e ws m k c most has_ended (match_head k (has_context c.kind) m ++ end_line e.budget x)
   listed : (p t : Bare) (os : Pairs) (found : List Matcher) (ended : Bool) → TermsRead ws m c p t os → has_condition c ≡ false
-      → IsWithin (terms_in m).theory (norm (terms_in m).theory (tree_of t)) → Shows m (has_context c.kind) (tree_of p) (tree_of t) None most found ended
+      → IsWithin (terms_in m).theory (norm (terms_in m).theory (tree_of t)) → AreSortsKnown (meanings_in e m) (norm (terms_in m).theory (tree_of t))
+      → Shows m (meanings_in e m) (has_context c.kind) (tree_of p) (tree_of t) None most found ended
       → TermsAnswer e ws m k c most (left_by ended (shown_more (asked_first (has_context c.kind) (tree_of p) (tree_of t) os) found))
       (match_head k (has_context c.kind) m ++ listing_lines m os (has_context c.kind) (tree_of p) 0 found ended)
   asks_where : (p t : Bare) (os : Pairs) (left : OutcomeOf) (bytes : List ℕ) → TermsRead ws m c p t os → has_condition c ≡ true
@@ -105,11 +110,12 @@ pub data ContinueAnswer (e : Environment) (ws : List Word) (st : StateOf) (k : �
   number_refused : (r : Refusal) → bound_of ws c.bound ≡ Err r → ContinueAnswer e ws st k c st (refusal_line k ws r) true
   nothing_to_continue : (most : Option ℕ) → bound_of ws c.bound ≡ Ok most → st.going ≡ None → ContinueAnswer e ws st k c st (refusal_line k ws NothingToContinue) true
   continued : (most : Option ℕ) (n : ℕ) (q : QueryOf) (m : ModuleOf) (found : List Matcher) (ended : Bool) → bound_of ws c.bound ≡ Ok most
-      → st.going ≡ Some (record { number = n; what = a_listing q }) → slice_get st.modules n ≡ Some m → Shows m q.with_context q.pattern q.subject q.last most found ended
+      → st.going ≡ Some (record { number = n; what = a_listing q }) → slice_get st.modules n ≡ Some m → Shows m (meanings_in e m) q.with_context q.pattern q.subject q.last most found ended
       → ContinueAnswer e ws st k c (state_after st n (left_by ended (shown_more q found)))
       (continue_head k m ++ listing_lines m q.variables q.with_context q.pattern q.shown found ended) false
   continued_where : (most : Option ℕ) (n : ℕ) (q : QueryOf) (cond : List Fragment) (m : ModuleOf) (found : List Matcher) (ending : Ending) → bound_of ws c.bound ≡ Ok most
-      → st.going ≡ Some (record { number = n; what = a_listing_where q cond }) → slice_get st.modules n ≡ Some m → ShowsWhere m (meanings_in e m) cond q most found ending
+      → st.going ≡ Some (record { number = n; what = a_listing_where q cond }) → slice_get st.modules n ≡ Some m → uses_memberships m ≡ false
+      → ShowsWhere m (meanings_in e m) cond q most found ending
       → ContinueAnswer e ws st k c (state_after st n (left_where ending (shown_more q found) cond)) (continue_head k m ++ where_lines m e.budget q found ending) false
   run_continued : (most : Option ℕ) (n : ℕ) (r : RuleRunOf) (m : ModuleOf) (a : RunAnswerOf) → bound_of ws c.bound ≡ Ok most
       → st.going ≡ Some (record { number = n; what = a_rule_run r }) → slice_get st.modules n ≡ Some m → uses_memberships m ≡ false

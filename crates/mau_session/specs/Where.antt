@@ -1,6 +1,5 @@
 -- Listings with a condition: the solutions under which it holds.
-use Rattle.std.specs.Prelude.{◌≡◌, ◌≢◌, ℕ, ◌+◌, List, ◌++◌, length, map, true, false, Option, Some, None, codes, decimal}
-use Rattle.std.specs.List.{zip}
+use Rattle.std.specs.Prelude.{◌≡◌, ◌≢◌, ℕ, ◌+◌, List, ◌++◌, length, true, false, Option, Some, None, codes, decimal}
 use Rattle.mau_terms.specs.Tree.{Tree}
 use Rattle.mau_terms.specs.Norm.{norm}
 use Rattle.mau_terms.specs.Subst.{Variable, variables}
@@ -8,14 +7,12 @@ use Rattle.mau_canon.specs.declared.fault.BuildFault.TheVariants.{TooDeep, Overf
 use Rattle.mau_canon.specs.Within.{IsWithin, IsCause}
 use Rattle.mau_listing.specs.Matcher.{Matcher}
 use Rattle.mau_listing.specs.Next.{matcher_cmp}
-use Rattle.mau_evaluation.specs.Run.{Run}
-use Rattle.mau_evaluation.specs.Evaluation.{Binding}
+use Rattle.mau_evaluation.specs.Run.{End}
 use Rattle.mau_program.specs.declared.statements.Fragment.{Fragment}
-use Rattle.mau_api.specs.Programs.{fragment_of}
 use Rattle.mau_api.specs.Meanings.{Meanings}
-use Rattle.mau_results.specs.Results.{condition_levels}
 use Rattle.mau_conditional.specs.Where as Conditional
 use Rattle.mau_conditional.specs.Where.{Ending, no_more, bound_reached, ends_by}
+use Rattle.mau_conditional.specs.Meant.{Asks}
 use Rattle.mau_modtext.specs.Word.{Word}
 use Rattle.mau_modtext.specs.declared.raw.RawCommand.{RawCommand}
 use Rattle.mau_modtext.specs.declared.raw.RawFragment.{RawFragment}
@@ -29,6 +26,7 @@ use Rattle.mau_session.specs.Terms.{Pairs, terms_in}
 use Rattle.mau_session.specs.Environment.{Environment, meanings_in}
 use Rattle.mau_session.specs.Lines.{too_deep_line, overflow_line, end_line}
 use Rattle.mau_session.specs.Matching.{IsSolution}
+use Rattle.mau_session.specs.Settled.{AreSortsKnown, SortsEnd}
 use Rattle.mau_session.specs.Shown.{shown_variable}
 use Rattle.mau_session.specs.Answers.{faulty_line, shown_parse_fault, all_matchers, last_line, match_head}
 use Rattle.mau_session.specs.Built.{has_context}
@@ -37,15 +35,11 @@ use Rattle.mau_session.specs.State.{OutcomeOf, is_refused, has_ended, goes_on, a
 
 -- ---- which solutions are shown
 
--- the condition c, asked for the solution x of the pattern p on the levels of a condition that an item asks, by the meanings e
-abbrev pub asking : Meanings → Tree → List Fragment → Matcher → Run (Option Binding)
-asking e p c x = e.solving condition_levels e.limit (map fragment_of c) (zip (variables p) x.values)
-
 -- What a query shows behind the last solution shown, where at most so many are asked for: of its solutions, each class once and in ascending order, those
 -- under which c holds. All are asked with one budget, that of the item.
 abbrev pub ShowsWhere : ModuleOf → Meanings → List Fragment → QueryOf → Option ℕ → List Matcher → Ending → Type 0
 ShowsWhere m e c q most found ending =
-    Conditional.ShowsWhere (IsSolution m q.with_context q.pattern q.subject) (matcher_cmp (terms_in m).theory q.pattern) (asking e q.pattern c) q.last e.limit most found ending
+    Conditional.ShowsWhere (IsSolution m e q.with_context q.pattern q.subject) (matcher_cmp (terms_in m).theory q.pattern) (Asks e q.pattern c) q.last e.limit most found ending
 
 -- what it leaves: where as many were shown as were asked for, the query and the condition
 abbrev pub left_where : Ending → QueryOf → List Fragment → OutcomeOf
@@ -90,7 +84,7 @@ pub record IsConditionOf (ws : List Word) (m : ModuleOf) (raws : List RawFragmen
   pub bound : first_unbound (variables p) cond ≡ None
 
 -- Its pattern p and its subject t are read, with the variables ns. The condition is read behind them. A subject whose normal form is beyond the limits
--- has an end in place of solutions; otherwise those are listed under which the condition holds.
+-- has an end in place of solutions, and so has one whose sorts end; otherwise those are listed under which the condition holds.
 pub data WhereAnswer (e : Environment) (ws : List Word) (m : ModuleOf) (k : ℕ) (c : RawCommand) (most : Option ℕ) (p t : Tree) (ns : Pairs) : OutcomeOf → List ℕ → Type 0 where
   condition_refused : (f : StatementFault) → ConditionUnread ws (context_of m) ns c.cond f → f ≢ NoMemory → WhereAnswer e ws m k c most p t ns is_refused (condition_fault_line k f)
   variable_unbound : (os : Pairs) (cond : List Fragment) (x : Variable) → ConditionReads ws (context_of m) ns c.cond os cond → first_unbound (variables p) cond ≡ Some x
@@ -99,7 +93,9 @@ pub data WhereAnswer (e : Environment) (ws : List Word) (m : ModuleOf) (k : ℕ)
       → WhereAnswer e ws m k c most p t ns has_ended (match_head k (has_context c.kind) m ++ too_deep_line)
   where_overflows : (os : Pairs) (cond : List Fragment) → IsConditionOf ws m c.cond p ns os cond → IsCause (terms_in m).theory (norm (terms_in m).theory t) Overflow
       → WhereAnswer e ws m k c most p t ns has_ended (match_head k (has_context c.kind) m ++ overflow_line)
+  where_sorts_end : (os : Pairs) (cond : List Fragment) (x : End) → IsConditionOf ws m c.cond p ns os cond → IsWithin (terms_in m).theory (norm (terms_in m).theory t)
+      → SortsEnd (meanings_in e m) (norm (terms_in m).theory t) x → WhereAnswer e ws m k c most p t ns has_ended (match_head k (has_context c.kind) m ++ end_line e.budget x)
   where_listed : (os : Pairs) (cond : List Fragment) (found : List Matcher) (ending : Ending) → IsConditionOf ws m c.cond p ns os cond
-      → IsWithin (terms_in m).theory (norm (terms_in m).theory t) → ShowsWhere m (meanings_in e m) cond (asked_first (has_context c.kind) p t os) most found ending
+      → IsWithin (terms_in m).theory (norm (terms_in m).theory t) → AreSortsKnown (meanings_in e m) (norm (terms_in m).theory t) → ShowsWhere m (meanings_in e m) cond (asked_first (has_context c.kind) p t os) most found ending
       → WhereAnswer e ws m k c most p t ns (left_where ending (shown_more (asked_first (has_context c.kind) p t os) found) cond)
       (match_head k (has_context c.kind) m ++ where_lines m e.budget (asked_first (has_context c.kind) p t os) found ending)

@@ -1,10 +1,6 @@
 //! The answers of items.
-ghost use Rattle.std.specs.Prelude.{◌≡◌, ◌≢◌, ◌<◌, ◌≤◌, ◌++◌, ℕ, List, [], length, slice_get, take, true, false, All, Some, OnOk, Ok, IfOk};
-ghost use Rattle.mau_terms.specs.Bare.{IsBare};
-ghost use Rattle.mau_terms.specs.Subst.{variables};
+ghost use Rattle.std.specs.Prelude.{◌≡◌, ◌≢◌, ◌<◌, ◌≤◌, ◌++◌, ℕ, List, [], length, slice_get, true, false, All, Some, OnOk, Ok, IfOk};
 ghost use Rattle.mau_terms.specs.View.{tree_of};
-ghost use Rattle.mau_session.specs.Terms.{terms_in};
-ghost use Rattle.mau_session.specs.Matching.{numbered_from};
 ghost use Rattle.mau_modtext.specs.Word.{Word};
 ghost use Rattle.mau_modtext.specs.declared.raw.Setting.TheVariants as Setting;
 ghost use Rattle.mau_modtext.specs.declared.raw.RawBody.TheVariants as RawBody;
@@ -13,7 +9,8 @@ ghost use Rattle.mau_session.specs.KeptState.{state_of, outcome_of, going_of, Is
 ghost use Rattle.mau_session.specs.declared.state.Outcome.TheVariants as Outcome;
 ghost use Rattle.mau_module.specs.Modules.{ModuleOf};
 ghost use Rattle.mau_session.specs.Bounds;
-ghost use Rattle.mau_session.specs.KeptQuery.{query_of, IsReady};
+ghost use Rattle.mau_session.specs.Query.{asked_first};
+ghost use Rattle.mau_session.specs.KeptQuery.{query_of, IsReadyKept};
 ghost use Rattle.mau_session.specs.KeptRun.{rule_run_of, IsReadyRun};
 ghost use Rattle.mau_session.specs.RunGains.{GainsRunOn};
 ghost use Rattle.mau_session.specs.Answers.{module_line, refusal_line, parse_fault_line, ok_line, unknown_module_line};
@@ -27,10 +24,11 @@ ghost use Rattle.mau_program.specs.LawfulPrograms.{IsLawfulProgram};
 ghost use Rattle.mau_module.specs.Lawful.{program_of};
 ghost use Rattle.mau_formula.specs.Operators.{operators};
 ghost use Rattle.mau_built_ins.specs.NativeNumerals.{GivesNumerals};
-ghost use Rattle.mau_session.specs.Environment.{Environment, environment_of};
+ghost use Rattle.mau_session.specs.Environment.{Environment, environment_of, meanings_in};
 ghost use Rattle.mau_session.specs.Transcript.{ItemsAnswer, PatternReads, TermsRead};
 ghost use Rattle.mau_session.specs.Gains.{GainsListed, GainsTerms, GainsChosen, GainsMatch, GainsOn, GainsContinue, GainsSetting, GainsBody, GainsItem};
 
+use crate::asking::{list_first, list_further};
 use crate::bounds::bound_of;
 use crate::built::{
     begins_unbuilt, has_context, is_built_module, is_continue, is_match, is_reduce, is_rewrite,
@@ -38,7 +36,6 @@ use crate::built::{
 };
 use crate::command::{has_condition, unbuilt};
 use crate::heads::{write_continue_head, write_match_head};
-use crate::listings::show_query;
 use crate::query::Query;
 use crate::reading::{kind_of_term, read_term};
 use crate::reduce::answer_reduce;
@@ -57,6 +54,7 @@ use mau_declare::{Words, write_text};
 use mau_modtext::{RawBody, RawCommand, RawItem, RawModule, Setting, TextFault};
 use mau_module::Module;
 use mau_parse::Goal;
+use mau_sorts::SortTable;
 use mau_terms::{Bare, NoMemory, Vars};
 use std::alloc::Global;
 
@@ -70,51 +68,33 @@ fn write_module(out: &mut Vec<u8>, number: usize, module: &Module) -> Result<(),
     write_text(out, "\n")
 }
 
-/// What a query leaves behind its listing.
-fn left_by(query: Query, has_ended: bool) -> Outcome
-    ensures left { outcome_of result ≡ Rattle.mau_session.specs.State.left_by has_ended (query_of query) }
-    ensures ready { (m : ModuleOf) → IsReady m.signature query → IsReadyOutcome m result }
-{
-    if has_ended {
-        Outcome::Ended
-    } else {
-        Outcome::GoesOn(Continued::Listing(query))
-    }
-}
-
 /// Writes what stands behind the head of a listing: the first solutions of a pattern and a subject, with contexts or without, at most so
-/// many, or the end where the subject's normal form is beyond the limits. The pattern's variables are the first ones.
+/// many, or the end where the subject's normal form is beyond the limits or its sorts end.
 fn answer_listing(
     out: &mut Vec<u8>,
-    alloc: Global,
+    session: &Session,
     module: &Module,
     with_context: bool,
-    vars: Vars,
-    pattern: Bare,
-    subject: Bare,
+    terms: Terms,
     most: Option<u64>,
 ) -> Result<Outcome, NoMemory>
-    requires few { length (variables (tree_of pattern)) ≤ length vars }
-    requires small { length vars < 4294967296 }
-    requires numbered { variables (tree_of pattern) ≡ numbered_from 0 (take (length (variables (tree_of pattern))) vars) }
-    requires pattern { IsBare (terms_in module.now) (tree_of pattern) }
-    requires subject { IsBare (terms_in module.now) (tree_of subject) }
-    ensures gained { IfOk result (λ left. GainsListed module.now vars with_context (tree_of pattern) (tree_of subject) most (outcome_of left) out.old.items out.new.items) }
+    requires lawful { IsLawfulProgram (program_of module.now) }
+    requires plain { Built.uses_memberships module.now ≡ false }
+    requires numerals { All GivesNumerals (operators session.now.hooks.now) }
+    requires usable { AreUsable module.now terms }
+    ensures gained { IfOk result (λ left. GainsListed module.now (meanings_in (environment_of (operators session.now.hooks.now) session.now.limit) module.now)
+        (asked_first with_context (tree_of terms.pattern) (tree_of terms.subject) terms.vars) most (outcome_of left) out.old.items out.new.items) }
     ensures ready { IfOk result (IsReadyOutcome module.now) }
 {
     match Query::new(
-        alloc,
+        session.alloc,
         module.signature(),
         with_context,
-        pattern,
-        subject,
-        vars,
+        terms.pattern,
+        terms.subject,
+        terms.vars,
     ) {
-        Ok(query) => {
-            let mut query = query;
-            let has_ended = show_query(out, alloc, module, &mut query, most)?;
-            Ok(left_by(query, has_ended))
-        }
+        Ok(query) => list_first(out, session, module, query, most),
         Err(BuildFault::TooDeep) => {
             write_text(out, "Too deep.\n")?;
             Ok(Outcome::Ended)
@@ -152,16 +132,7 @@ fn answer_read(
     }
     let with_context = has_context(command.kind);
     write_match_head(out, number, with_context, module)?;
-    answer_listing(
-        out,
-        session.alloc,
-        module,
-        with_context,
-        terms.vars,
-        terms.pattern,
-        terms.subject,
-        most,
-    )
+    answer_listing(out, session, module, with_context, terms, most)
 }
 
 /// Answers a match command over a module, whose pattern was read. Gives what it leaves.
@@ -309,24 +280,25 @@ fn answer_match(
 /// item was not refused.
 fn list_on(
     out: &mut Vec<u8>,
-    alloc: Global,
+    session: &Session,
     state: &mut State,
     number: usize,
     chosen: usize,
     query: Query,
+    sorts: SortTable,
     most: Option<u64>,
 ) -> Result<bool, NoMemory>
+    requires numerals { All GivesNumerals (operators session.now.hooks.now) }
     requires ready { IsReadyState state.old }
-    requires there { (m : ModuleOf) × (slice_get state.old.library chosen ≡ Some m) × IsReady m.signature query }
-    ensures gained { IfOk result (GainsOn (state_of state.old) number chosen (query_of query) most
+    requires there { (m : ModuleOf) × (slice_get state.old.library chosen ≡ Some m) × IsReadyKept m sorts query }
+    ensures gained { IfOk result (GainsOn (environment_of (operators session.now.hooks.now) session.now.limit) (state_of state.old) number chosen (query_of query) most
         (state_of state.new) out.old.items out.new.items) }
     ensures ready { OnOk result (IsReadyState state.new) }
 {
-    let mut query = query;
     let module = state.library.module(chosen);
     write_continue_head(out, number, module)?;
-    let has_ended = show_query(out, alloc, module, &mut query, most)?;
-    Ok(state.conclude(chosen, left_by(query, has_ended)))
+    let left = list_further(out, session, module, query, sorts, most)?;
+    Ok(state.conclude(chosen, left))
 }
 
 /// Rewrites on in a run over the module with the number `chosen`, by at most so many rules. Says that the item was not refused.
@@ -374,11 +346,11 @@ fn go_on(
     let chosen = going.number;
     let what = going.what;
     match what {
-        Continued::Listing(query) => {
-            list_on(out, session.alloc, state, number, chosen, query, most)
+        Continued::Listing(query, sorts) => {
+            list_on(out, session, state, number, chosen, query, sorts, most)
         }
-        Continued::ListingWhere(kept) => {
-            list_where_on(out, session, state, number, chosen, kept, most)
+        Continued::ListingWhere(kept, sorts) => {
+            list_where_on(out, session, state, number, chosen, kept, sorts, most)
         }
         Continued::Rules(running) => {
             rewrite_on(out, session, state, number, chosen, running, most)

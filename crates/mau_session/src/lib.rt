@@ -11,6 +11,7 @@ mod conditional;
 mod conditions;
 mod heads;
 pub mod laws;
+mod left;
 mod listing;
 mod listing_where;
 mod listings;

@@ -3,9 +3,10 @@ ghost use Rattle.std.specs.Prelude.{◌≡◌, ◌+◌, ◌++◌, ◌<◌, ◌�
 ghost use Rattle.mau_terms.specs.View.{tree_of};
 ghost use Rattle.mau_store.specs.Node.{Extends, IsOf, AreOf};
 ghost use Rattle.mau_store.specs.View.{numbers};
+ghost use Rattle.mau_sorts.specs.Table.{Table};
 ghost use Rattle.mau_listing.specs.Asked.{matcher_in, IsGiven};
 ghost use Rattle.mau_session.specs.Matching.{numbered_from};
-ghost use Rattle.mau_session.specs.KeptQuery.{id_tree, id_trees, query_of, asked_for, IsReady};
+ghost use Rattle.mau_session.specs.KeptQuery.{id_tree, id_trees, query_of, asked_for, IsQueryOver, IsReady, GoesIn};
 ghost use Rattle.mau_session.specs.Answers.{value_line, value_lines, substitution_lines, matcher_lines, last_line};
 ghost use Rattle.mau_session.specs.Next.{ShowsNext, GainsMatchers, GainsShown};
 ghost use Rattle.mau_session.specs.Shown.{printer_in};
@@ -14,6 +15,7 @@ use crate::part::write_part;
 use crate::query::Query;
 use crate::show::{printer_of, write_term, write_variable};
 use mau_declare::{write_number, write_text};
+use mau_api::Evaluator;
 use mau_listing::{Lister, Solution};
 use mau_module::Module;
 use mau_print::Printer;
@@ -113,12 +115,12 @@ pub fn show_solution(
     solution: Solution,
 ) -> Result<(), NoMemory>
     requires printer { printer.now ≡ printer_in module.now }
-    requires ready { IsReady module.now.signature query.old }
-    requires given { IsGiven query.old.with_context module.now.signature query.old.store query.old.sorts (asked_for query.old) solution }
+    requires query { IsQueryOver module.now.signature query.old }
+    requires given { (table : Table) × IsGiven query.old.with_context module.now.signature query.old.store table (asked_for query.old) solution }
     ensures shown { OnOk result (query.new ≡ record query.old { store = query.new.store; last = Some solution; shown = query.old.shown + 1 }) }
     ensures extends { Extends query.old.store query.new.store }
     ensures gained { OnOk result (out.new.items ≡ out.old.items ++ matcher_lines module.now query.old.vars query.old.with_context (tree_of query.old.pattern) (query.old.shown + 1) (matcher_in query.old.store solution)) }
-    ensures ready { OnOk result (IsReady module.now.signature query.new) }
+    ensures query { OnOk result (IsQueryOver module.now.signature query.new) }
 {
     let number = query.shown.checked_add(1).ok_or(NoMemory)?;
     write_matcher(out, number)?;
@@ -138,27 +140,33 @@ pub fn show_solution(
 }
 
 /// Shows the next solution of a query, and says whether there is one.
-fn show_next<L: Lister>(
+fn show_next<L: Lister, E: Evaluator>(
     out: &mut Vec<u8>,
     alloc: Global,
     module: &Module,
     printer: &Printer,
     query: &mut Query,
     listing: &mut L,
+    evaluator: &mut E,
 ) -> Result<bool, NoMemory>
     requires contexts { L.with_context ≡ query.old.with_context }
     requires printer { printer.now ≡ printer_in module.now }
-    requires ready { IsReady module.now.signature query.old }
+    requires ready { IsReady module.now.signature (E.table evaluator.old) query.old }
+    requires fits { E.fits evaluator.old query.old.store }
+    requires goes { GoesIn module.now (E.meanings evaluator.old) }
     requires signature { L.is_for listing.old module.now.signature }
     requires asked { L.asked listing.old ≡ asked_for query.old }
     requires given { L.given listing.old ≡ query.old.last }
-    ensures shown { IfOk result (ShowsNext module.now (query_of query.old) out.old.items (query_of query.new) out.new.items) }
-    ensures ready { OnOk result (IsReady module.now.signature query.new) }
+    ensures shown { IfOk result (ShowsNext module.now (E.meanings evaluator.old) (query_of query.old) out.old.items (query_of query.new) out.new.items) }
+    ensures ready { OnOk result (IsReady module.now.signature (E.table evaluator.new) query.new) }
+    ensures fits { OnOk result (E.fits evaluator.new query.new.store) }
+    ensures meanings { E.meanings evaluator.new ≡ E.meanings evaluator.old }
     ensures signature { OnOk result (L.is_for listing.new module.now.signature) }
     ensures asked { OnOk result (L.asked listing.new ≡ asked_for query.new) }
     ensures given { OnOk result (L.given listing.new ≡ query.new.last) }
+    ensures contexts { OnOk result (query.new.with_context ≡ query.old.with_context) }
 {
-    match listing.next(&mut query.store, module.signature(), &mut query.sorts)? {
+    match evaluator.list(&mut query.store, listing)? {
         None => Ok(false),
         Some(solution) => {
             show_solution(out, alloc, module, printer, query, solution)?;
@@ -168,25 +176,30 @@ fn show_next<L: Lister>(
 }
 
 /// Shows the next solutions of a query, at most so many, or all. Says whether it has ended: whether there were fewer.
-fn show_solutions<L: Lister>(
+fn show_solutions<L: Lister, E: Evaluator>(
     out: &mut Vec<u8>,
     alloc: Global,
     module: &Module,
     query: &mut Query,
     listing: &mut L,
+    evaluator: &mut E,
     most: Option<u64>,
 ) -> Result<bool, NoMemory>
     requires contexts { L.with_context ≡ query.old.with_context }
-    requires ready { IsReady module.now.signature query.old }
+    requires ready { IsReady module.now.signature (E.table evaluator.old) query.old }
+    requires fits { E.fits evaluator.old query.old.store }
+    requires goes { GoesIn module.now (E.meanings evaluator.old) }
     requires signature { L.is_for listing.old module.now.signature }
     requires asked { L.asked listing.old ≡ asked_for query.old }
     requires given { L.given listing.old ≡ query.old.last }
-    ensures shown { IfOk result (GainsMatchers module.now (query_of query.old) (query_of query.new) most out.old.items out.new.items) }
-    ensures ready { OnOk result (IsReady module.now.signature query.new) }
+    ensures shown { IfOk result (GainsMatchers module.now (E.meanings evaluator.old) (query_of query.old) (query_of query.new) most out.old.items out.new.items) }
+    ensures ready { OnOk result (IsReady module.now.signature (E.table evaluator.new) query.new) }
+    ensures fits { OnOk result (E.fits evaluator.new query.new.store) }
+    ensures meanings { E.meanings evaluator.new ≡ E.meanings evaluator.old }
 {
     let printer = printer_of(alloc, module)?;
     for _ in 0..most.unwrap_or(u64::MAX) {
-        if !show_next(out, alloc, module, &printer, query, listing)? {
+        if !show_next(out, alloc, module, &printer, query, listing, evaluator)? {
             return Ok(true);
         }
     }
@@ -224,20 +237,25 @@ pub fn write_end(out: &mut Vec<u8>, has_ended: bool, shown: u64) -> Result<(), N
 }
 
 /// Shows the solutions of a query behind the last one that was shown, at most so many, and the last line. Says whether it has ended.
-pub fn show<L: Lister + Drop>(
+pub fn show<L: Lister + Drop, E: Evaluator>(
     out: &mut Vec<u8>,
     alloc: Global,
     module: &Module,
     query: &mut Query,
+    evaluator: &mut E,
     most: Option<u64>,
 ) -> Result<bool, NoMemory>
     requires contexts { L.with_context ≡ query.old.with_context }
-    requires ready { IsReady module.now.signature query.old }
-    ensures shown { IfOk result (GainsShown module.now (query_of query.old) (query_of query.new) most out.old.items out.new.items) }
-    ensures ready { OnOk result (IsReady module.now.signature query.new) }
+    requires ready { IsReady module.now.signature (E.table evaluator.old) query.old }
+    requires fits { E.fits evaluator.old query.old.store }
+    requires goes { GoesIn module.now (E.meanings evaluator.old) }
+    ensures shown { IfOk result (GainsShown module.now (E.meanings evaluator.old) (query_of query.old) (query_of query.new) most out.old.items out.new.items) }
+    ensures ready { OnOk result (IsReady module.now.signature (E.table evaluator.new) query.new) }
+    ensures fits { OnOk result (E.fits evaluator.new query.new.store) }
+    ensures meanings { E.meanings evaluator.new ≡ E.meanings evaluator.old }
 {
     let mut listing: L = listing_of(alloc, module, query)?;
-    let has_ended = show_solutions(out, alloc, module, query, &mut listing, most)?;
+    let has_ended = show_solutions(out, alloc, module, query, &mut listing, evaluator, most)?;
     write_end(out, has_ended, query.shown)?;
     Ok(has_ended)
 }

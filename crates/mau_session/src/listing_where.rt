@@ -37,7 +37,7 @@ fn show_next_where<L: Lister, E: Evaluator>(
 ) -> Result<bool, EvalEnd>
     requires contexts { L.with_context ≡ kept.old.query.with_context }
     requires printer { printer.now ≡ printer_in module.now }
-    requires ready { IsReady module.now.signature kept.old.query }
+    requires ready { IsReady module.now.signature (E.table evaluator.old) kept.old.query }
     requires signature { L.is_for listing.old module.now.signature }
     requires asked { L.asked listing.old ≡ asked_for kept.old.query }
     requires given { L.given listing.old ≡ kept.old.query.last }
@@ -45,7 +45,7 @@ fn show_next_where<L: Lister, E: Evaluator>(
     requires can { CanBeAsked module.now.signature (E.meanings evaluator.old) (tree_of kept.old.query.pattern) kept.old.cond }
     ensures shown { ShowsNextWhere module.now (E.meanings evaluator.old) kept.old.cond (query_of kept.old.query) budget.old out.old.items result
         (query_of kept.new.query) out.new.items budget.new }
-    ensures ready { OnOk result (IsReady module.now.signature kept.new.query) }
+    ensures ready { OnOk result (IsReady module.now.signature (E.table evaluator.new) kept.new.query) }
     ensures signature { OnOk result (L.is_for listing.new module.now.signature) }
     ensures asked { OnOk result (L.asked listing.new ≡ asked_for kept.new.query) }
     ensures given { IfOk result (λ more. more ≡ true → L.given listing.new ≡ kept.new.query.last) }
@@ -57,7 +57,6 @@ fn show_next_where<L: Lister, E: Evaluator>(
 {
     let next = next_where(
         &mut kept.query.store,
-        &mut kept.query.sorts,
         listing,
         evaluator,
         module.signature(),
@@ -90,7 +89,7 @@ fn show_solutions_where<L: Lister, E: Evaluator>(
     most: Option<u64>,
 ) -> Result<Ending, NoMemory>
     requires contexts { L.with_context ≡ kept.old.query.with_context }
-    requires ready { IsReady module.now.signature kept.old.query }
+    requires ready { IsReady module.now.signature (E.table evaluator.old) kept.old.query }
     requires signature { L.is_for listing.old module.now.signature }
     requires asked { L.asked listing.old ≡ asked_for kept.old.query }
     requires given { L.given listing.old ≡ kept.old.query.last }
@@ -99,7 +98,9 @@ fn show_solutions_where<L: Lister, E: Evaluator>(
     requires limit { limit ≡ (E.meanings evaluator.old).limit }
     ensures shown { IfOk result (λ e. GainsMatchersWhere module.now (E.meanings evaluator.old) kept.old.cond (query_of kept.old.query) (query_of kept.new.query)
         most out.old.items out.new.items (ending_of e)) }
-    ensures ready { IfOk result (λ e. e ≡ BoundReached → IsReady module.now.signature kept.new.query) }
+    ensures ready { IfOk result (λ e. e ≡ BoundReached → IsReady module.now.signature (E.table evaluator.new) kept.new.query) }
+    ensures fits { IfOk result (λ e. e ≡ BoundReached → E.fits evaluator.new kept.new.query.store) }
+    ensures meanings { E.meanings evaluator.new ≡ E.meanings evaluator.old }
     ensures condition { kept.new.cond ≡ kept.old.cond }
     ensures pattern { IfOk result (λ e. e ≡ BoundReached → kept.new.query.pattern ≡ kept.old.query.pattern) }
 {
@@ -153,13 +154,15 @@ fn show_where<L: Lister + Drop, E: Evaluator>(
     most: Option<u64>,
 ) -> Result<Ending, NoMemory>
     requires contexts { L.with_context ≡ kept.old.query.with_context }
-    requires ready { IsReady module.now.signature kept.old.query }
+    requires ready { IsReady module.now.signature (E.table evaluator.old) kept.old.query }
     requires fits { E.fits evaluator.old kept.old.query.store }
     requires can { CanBeAsked module.now.signature (E.meanings evaluator.old) (tree_of kept.old.query.pattern) kept.old.cond }
     requires limit { limit ≡ (E.meanings evaluator.old).limit }
     ensures shown { IfOk result (λ e. GainsShownWhere module.now (E.meanings evaluator.old) kept.old.cond (query_of kept.old.query) (query_of kept.new.query)
         most out.old.items out.new.items (ending_of e)) }
-    ensures ready { IfOk result (λ e. e ≡ BoundReached → IsReady module.now.signature kept.new.query) }
+    ensures ready { IfOk result (λ e. e ≡ BoundReached → IsReady module.now.signature (E.table evaluator.new) kept.new.query) }
+    ensures fits { IfOk result (λ e. e ≡ BoundReached → E.fits evaluator.new kept.new.query.store) }
+    ensures meanings { E.meanings evaluator.new ≡ E.meanings evaluator.old }
     ensures condition { kept.new.cond ≡ kept.old.cond }
     ensures pattern { IfOk result (λ e. e ≡ BoundReached → kept.new.query.pattern ≡ kept.old.query.pattern) }
 {
@@ -188,13 +191,15 @@ pub fn show_kept<E: Evaluator>(
     limit: u64,
     most: Option<u64>,
 ) -> Result<Ending, NoMemory>
-    requires ready { IsReady module.now.signature kept.old.query }
+    requires ready { IsReady module.now.signature (E.table evaluator.old) kept.old.query }
     requires fits { E.fits evaluator.old kept.old.query.store }
     requires can { CanBeAsked module.now.signature (E.meanings evaluator.old) (tree_of kept.old.query.pattern) kept.old.cond }
     requires limit { limit ≡ (E.meanings evaluator.old).limit }
     ensures shown { IfOk result (λ e. GainsShownWhere module.now (E.meanings evaluator.old) kept.old.cond (query_of kept.old.query) (query_of kept.new.query)
         most out.old.items out.new.items (ending_of e)) }
-    ensures ready { IfOk result (λ e. e ≡ BoundReached → IsReady module.now.signature kept.new.query) }
+    ensures ready { IfOk result (λ e. e ≡ BoundReached → IsReady module.now.signature (E.table evaluator.new) kept.new.query) }
+    ensures fits { IfOk result (λ e. e ≡ BoundReached → E.fits evaluator.new kept.new.query.store) }
+    ensures meanings { E.meanings evaluator.new ≡ E.meanings evaluator.old }
     ensures condition { kept.new.cond ≡ kept.old.cond }
     ensures pattern { IfOk result (λ e. e ≡ BoundReached → kept.new.query.pattern ≡ kept.old.query.pattern) }
 {

@@ -12,10 +12,11 @@ ghost use Rattle.mau_store.specs.Trees.{tree_at, trees_at};
 ghost use Rattle.mau_store.specs.View.{numbers};
 ghost use Rattle.mau_canon.specs.Standing.{IsNumberOf, StandWithin};
 ghost use Rattle.mau_canon.specs.Within.{IsWithin};
+ghost use Rattle.mau_sorts.specs.Table.{Table};
 ghost use Rattle.mau_listing.specs.Asked.{matcher_in, IsGiven};
 ghost use Rattle.mau_session.specs.Answers.{term_line, context_line, part_lines, right_label};
 ghost use Rattle.mau_session.specs.Parts.{IsContext};
-ghost use Rattle.mau_session.specs.KeptQuery.{asked_for, IsReady};
+ghost use Rattle.mau_session.specs.KeptQuery.{asked_for, IsQueryOver};
 ghost use Rattle.mau_session.specs.Shown.{printer_in};
 
 use crate::query::Query;
@@ -220,8 +221,8 @@ pub fn write_part(
     solution: &Solution,
 ) -> Result<(), NoMemory>
     requires printer { printer.now ≡ printer_in module.now }
-    requires ready { IsReady module.now.signature query.old }
-    requires given { IsGiven query.old.with_context module.now.signature query.old.store query.old.sorts (asked_for query.old) solution.now }
+    requires query { IsQueryOver module.now.signature query.old }
+    requires given { (table : Table) × IsGiven query.old.with_context module.now.signature query.old.store table (asked_for query.old) solution.now }
     ensures gained { OnOk result (out.new.items ≡ out.old.items ++ part_lines module.now query.old.vars query.old.with_context (tree_of query.old.pattern) (matcher_in query.old.store solution.now)) }
     ensures query { query.new ≡ record query.old { store = query.new.store } }
     ensures extends { Extends query.old.store query.new.store }

@@ -7,19 +7,17 @@ ghost use Rattle.mau_terms.specs.View.{tree_of};
 ghost use Rattle.mau_signature.specs.Signature.{terms_over, theory_at};
 ghost use Rattle.mau_canon.specs.Within.{IsWithin, IsCause};
 ghost use Rattle.mau_session.specs.Matching.{numbered_from};
-ghost use Rattle.mau_session.specs.KeptQuery.{query_of, IsReady};
+ghost use Rattle.mau_session.specs.KeptQuery.{query_of, IsQueryOver};
 
-use crate::settled::settle_terms;
 use mau_canon::{BuildFault, build_bare};
-use mau_listing::{Solution, put_identities};
+use mau_listing::Solution;
 use mau_signature::Signature;
-use mau_sorts::SortTable;
 use mau_store::Store;
 use mau_terms::{Bare, TermId, Vars};
 use std::alloc::Global;
 
-/// Whether solutions have contexts, a pattern and a subject, their variables, the subject's normal form and all sorts in a store and a table of its own, the last
-/// solution that was shown, and how many were.
+/// Whether solutions have contexts, a pattern and a subject, their variables, the subject's normal form in a store of its own, the last solution that was shown,
+/// and how many were.
 #[derive(Drop)]
 pub struct Query {
     pub with_context: bool,
@@ -27,7 +25,6 @@ pub struct Query {
     pub subject: Bare,
     pub vars: Vars,
     pub store: Store,
-    pub sorts: SortTable,
     pub number: TermId,
     pub last: Option<Solution>,
     pub shown: u64,
@@ -56,7 +53,8 @@ impl Query {
         requires numbered { variables (tree_of pattern) ≡ numbered_from 0 (take (length (variables (tree_of pattern))) vars) }
         requires few { length (variables (tree_of pattern)) ≤ length vars }
         requires small { length vars < 4294967296 }
-        ensures ready { IfOk result (IsReady sig.now) }
+        ensures query { IfOk result (IsQueryOver sig.now) }
+        ensures first { IfOk result (λ q. q.last ≡ None) }
         ensures asked { IfOk result (λ q. query_of q ≡ record { with_context = with_context; pattern = tree_of pattern; subject = tree_of subject; variables = vars; last = None; shown = 0 }) }
         ensures within { IfOk result (λ q. IsWithin (theory_at sig.now) (norm (theory_at sig.now) (tree_of subject))) }
         ensures refused { IfErr result (IsCause (theory_at sig.now) (norm (theory_at sig.now) (tree_of subject))) }
@@ -64,16 +62,12 @@ impl Query {
         is_lawful(sig);
         let mut store = Store::new(alloc);
         let number = build_bare(&mut store, sig, &subject)?;
-        put_identities(&mut store, sig)?;
-        let mut sorts = SortTable::new(alloc);
-        settle_terms(&store, sig, &mut sorts)?;
         Ok(Query {
             with_context,
             pattern,
             subject,
             vars,
             store,
-            sorts,
             number,
             last: None,
             shown: 0,

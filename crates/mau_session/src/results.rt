@@ -9,11 +9,13 @@ ghost use Rattle.mau_api.specs.Meanings.{meanings_by};
 ghost use Rattle.mau_results.specs.Kept.{answer_in, IsThere};
 ghost use Rattle.mau_session.specs.Terms.{terms_in};
 ghost use Rattle.mau_module.specs.Lawful.{program_of};
-ghost use Rattle.mau_session.specs.Lines.{count_line, result_line, stopped_line, answer_lines};
+ghost use Rattle.mau_evaluation.specs.Run.{End};
+ghost use Rattle.mau_session.specs.Lines.{count_line, result_line, stopped_line, end_line, answer_lines};
+ghost use Rattle.mau_session.specs.Gains.{IsEnd};
 ghost use Rattle.mau_session.specs.Gains.{GainsAnswer};
 
 use crate::show::{printer_of, write_term};
-use mau_api::{Evaluator, StepWatcher};
+use mau_api::{EvalEnd, Evaluator, StepWatcher};
 use mau_declare::{write_number, write_text};
 use mau_module::Module;
 use mau_results::{Answer, evaluate_bare};
@@ -58,6 +60,18 @@ pub fn write_stopped(out: &mut Vec<u8>, limit: u64) -> Result<(), NoMemory>
     write_text(out, "Stopped: ")?;
     write_number(out, u128::from(limit))?;
     write_text(out, ".\n")
+}
+
+/// Writes the end of an item with this budget, but for want of memory.
+pub fn write_item_end(out: &mut Vec<u8>, limit: u64, end: EvalEnd) -> Result<(), NoMemory>
+    ensures { OnOk result ((x : End) × IsEnd end x × (out.new.items ≡ out.old.items ++ end_line limit x)) }
+{
+    match end {
+        EvalEnd::Stopped => write_stopped(out, limit),
+        EvalEnd::TooDeep => write_text(out, "Too deep.\n"),
+        EvalEnd::Overflow => write_text(out, "Overflow.\n"),
+        EvalEnd::NoMemory => Err(NoMemory),
+    }
 }
 
 /// Writes the lines of an answer of an item with this budget.

@@ -1,45 +1,26 @@
-//! Settling the sorts of all terms of a store.
-ghost use Rattle.std.specs.Prelude.{◌≡◌, ℕ, [], OnOk};
-ghost use Rattle.mau_store.specs.Node.{AreNodes, IsOf};
-ghost use Rattle.mau_store.specs.Trees.{tree_at};
-ghost use Rattle.mau_sorts.specs.Table.{IsSettled, IsReady, AreEntries, AreOver, KeepsEntries};
-ghost use Rattle.mau_signature.specs.OverSignature.{IsTreeOver};
+//! Taking the sorts of a subject.
+ghost use Rattle.std.specs.Prelude.{◌≡◌, None, OnOk, IfErr};
+ghost use Rattle.mau_terms.specs.Norm.{norm};
+ghost use Rattle.mau_terms.specs.View.{tree_of};
+ghost use Rattle.mau_signature.specs.Signature.{theory_at};
+ghost use Rattle.mau_api.specs.Answers.{MayEnd};
+ghost use Rattle.mau_session.specs.Settled.{AreSortsKnown};
+ghost use Rattle.mau_session.specs.KeptQuery.{query_of, IsQueryOver, IsReady};
 
-use mau_signature::Signature;
-use mau_sorts::SortTable;
-use mau_store::Store;
-use mau_terms::{NoMemory, TermId};
+use crate::query::Query;
+use mau_api::{EvalEnd, Evaluator};
 
-/// Settles the sorts of a term by declarations alone, if its arguments are settled.
-fn settle_one(
-    store: &Store,
-    sig: &Signature,
-    sorts: &mut SortTable,
-    id: TermId,
-) -> Result<(), NoMemory>
-    requires over { AreOver sig.now.hierarchy sorts.old }
-    ensures settled { OnOk result (IsReady sig.now store.now sorts.old id.0 → IsSettled sorts.new id.0) }
-    ensures kept { KeepsEntries sorts.old sorts.new }
-    ensures over { AreOver sig.now.hierarchy sorts.new }
-    ensures entries { AreEntries sig.now [] store.now sorts.old → AreEntries sig.now [] store.now sorts.new }
+/// Takes the sorts of a query's subject, of which nothing was shown.
+pub fn settle_subject<E: Evaluator>(query: &mut Query, evaluator: &mut E) -> Result<(), EvalEnd>
+    requires query { IsQueryOver (E.meanings evaluator.old).program.sig query.old }
+    requires first { query.old.last ≡ None }
+    requires fits { E.fits evaluator.old query.old.store }
+    ensures ready { OnOk result (IsReady (E.meanings evaluator.old).program.sig (E.table evaluator.new) query.new) }
+    ensures known { OnOk result (AreSortsKnown (E.meanings evaluator.old) (norm (theory_at (E.meanings evaluator.old).program.sig) (tree_of query.old.subject))) }
+    ensures ends { IfErr result (MayEnd (E.meanings evaluator.old) (norm (theory_at (E.meanings evaluator.old).program.sig) (tree_of query.old.subject))) }
+    ensures same { query_of query.new ≡ query_of query.old }
+    ensures fits { E.fits evaluator.new query.new.store }
+    ensures meanings { E.meanings evaluator.new ≡ E.meanings evaluator.old }
 {
-    if sorts.is_settled(id) || !sorts.is_ready(sig, store, id) {
-        return Ok(());
-    }
-    sorts.settle_declared(sig, store, id, &[])?;
-    Ok(())
-}
-
-/// Settles the sorts of all terms of a store that are terms over the signature, by declarations alone.
-pub fn settle_terms(store: &Store, sig: &Signature, sorts: &mut SortTable) -> Result<(), NoMemory>
-    requires over { AreOver sig.now.hierarchy sorts.old }
-    ensures settled { OnOk result ((i : ℕ) → IsOf store.now i → IsTreeOver sig.now (tree_at store.now i) → IsSettled sorts.new i) }
-    ensures over { AreOver sig.now.hierarchy sorts.new }
-    ensures entries { AreEntries sig.now [] store.now sorts.old → AreEntries sig.now [] store.now sorts.new }
-    ensures nodes { AreNodes store.now }
-{
-    for i in 0..store.len() {
-        settle_one(store, sig, sorts, TermId(i))?;
-    }
-    Ok(())
+    evaluator.settle(&mut query.store, query.number)
 }

@@ -13,16 +13,17 @@ use crate::running::Running;
 use mau_declare::Words;
 use mau_modtext::RawCommand;
 use mau_module::{Library, Module, NAT};
+use mau_sorts::SortTable;
 use mau_terms::NoMemory;
 use std::alloc::Global;
 
 /// What may be continued.
 #[derive(Drop)]
 pub enum Continued {
-    /// A listing of solutions.
-    Listing(Query),
+    /// A listing of solutions, with the sorts that were settled for it.
+    Listing(Query, SortTable),
     /// A listing of those under which a condition holds.
-    ListingWhere(ConditionalQuery),
+    ListingWhere(ConditionalQuery, SortTable),
     /// A rule run.
     Rules(Running),
 }

@@ -13,40 +13,28 @@ ghost use Rattle.mau_session.specs.Built;
 ghost use Rattle.mau_session.specs.Commands.{has_rewriting};
 ghost use Rattle.mau_session.specs.Query.{asked_first};
 ghost use Rattle.mau_session.specs.KeptQuery.{query_of};
-ghost use Rattle.mau_session.specs.KeptWhere.{ending_of, IsReadyWhere};
+ghost use Rattle.mau_session.specs.KeptWhere.{IsReadyWhere};
 ghost use Rattle.mau_session.specs.KeptTerms.{AreUsable};
 ghost use Rattle.mau_session.specs.KeptState.{state_of, outcome_of, IsReadyState, IsReadyOutcome};
-ghost use Rattle.mau_session.specs.Where;
 ghost use Rattle.mau_session.specs.Gains.{GainsWhere, GainsListedWhere, GainsOnWhere};
-ghost use Rattle.mau_session.specs.declared.conditional.Ending.TheVariants.{BoundReached};
 
-use crate::asking::show_conditional;
+use crate::asking::{list_first_where, list_further_where};
 use crate::built::has_context;
-use crate::conditional::{ConditionalQuery, Ending};
+use crate::conditional::ConditionalQuery;
 use crate::conditions::read_asked;
 use crate::heads::{write_continue_head, write_match_head};
 use crate::query::Query;
 use crate::refusal::refuse_condition;
 use crate::session::Session;
-use crate::state::{Continued, Outcome, State};
+use crate::state::{Outcome, State};
 use crate::terms::Terms;
 use mau_canon::BuildFault;
 use mau_declare::write_text;
 use mau_modtext::RawCommand;
 use mau_module::Module;
 use mau_program::Fragment;
+use mau_sorts::SortTable;
 use mau_terms::{NoMemory, Seq};
-
-/// What a query with a condition leaves behind its listing.
-fn left_where(kept: ConditionalQuery, ending: Ending) -> Outcome
-    ensures left { outcome_of result ≡ Where.left_where (ending_of ending) (query_of kept.query) kept.cond }
-    ensures ready { (m : ModuleOf) → (ending ≡ BoundReached → IsReadyWhere m kept) → IsReadyOutcome m result }
-{
-    match ending {
-        Ending::BoundReached => Outcome::GoesOn(Continued::ListingWhere(kept)),
-        Ending::NoMore | Ending::Stopped | Ending::TooDeep | Ending::Overflow => Outcome::Ended,
-    }
-}
 
 /// Writes what stands behind the head of a listing with a condition: the first solutions under which it holds, at most so many, or the end
 /// where the subject's normal form is beyond the limits.
@@ -77,9 +65,8 @@ fn list_where(
         terms.vars,
     ) {
         Ok(query) => {
-            let mut kept = ConditionalQuery { query, cond };
-            let ending = show_conditional(out, session, module, &mut kept, most)?;
-            Ok(left_where(kept, ending))
+            let kept = ConditionalQuery { query, cond };
+            list_first_where(out, session, module, kept, most)
         }
         Err(BuildFault::TooDeep) => {
             write_text(out, "Too deep.\n")?;
@@ -146,18 +133,18 @@ pub fn list_where_on(
     number: usize,
     chosen: usize,
     kept: ConditionalQuery,
+    sorts: SortTable,
     most: Option<u64>,
 ) -> Result<bool, NoMemory>
     requires numerals { All GivesNumerals (operators session.now.hooks.now) }
     requires ready { IsReadyState state.old }
-    requires there { (m : ModuleOf) × (slice_get state.old.library chosen ≡ Some m) × IsReadyWhere m kept }
+    requires there { (m : ModuleOf) × (slice_get state.old.library chosen ≡ Some m) × IsReadyWhere m sorts kept }
     ensures gained { IfOk result (GainsOnWhere (environment_of (operators session.now.hooks.now) session.now.limit) (state_of state.old) number chosen (query_of kept.query) kept.cond most
         (state_of state.new) out.old.items out.new.items) }
     ensures ready { OnOk result (IsReadyState state.new) }
 {
-    let mut kept = kept;
     let module = state.library.module(chosen);
     write_continue_head(out, number, module)?;
-    let ending = show_conditional(out, session, module, &mut kept, most)?;
-    Ok(state.conclude(chosen, left_where(kept, ending)))
+    let left = list_further_where(out, session, module, kept, sorts, most)?;
+    Ok(state.conclude(chosen, left))
 }

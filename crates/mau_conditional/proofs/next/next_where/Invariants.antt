@@ -12,8 +12,8 @@ invariant-loop g l =
     let m = g.E.Evaluator.meanings l.fn.evaluator in record {
       asked : g.L.Lister.asked l.listing ≡ a;
       signature : g.L.Lister.is_for l.listing l.sig;
-      ready : IsReadyFor w l.sig l.store l.sorts a (g.L.Lister.given l.listing);
-      grown : HaveGrown l.sig l.fn.store l.store l.fn.sorts l.sorts;
+      ready : IsReadyFor w l.sig l.store (g.E.Evaluator.table l.evaluator) a (g.L.Lister.given l.listing);
+      grown : HaveGrown l.fn.store l.store (g.E.Evaluator.table l.fn.evaluator) (g.E.Evaluator.table l.evaluator);
       fits : g.E.Evaluator.fits l.evaluator l.store;
       meanings : g.E.Evaluator.meanings l.evaluator ≡ m;
       leads : Leads w l.sig m l.cond (question_in l.fn.store a) (option_map (matcher_in l.fn.store) (g.L.Lister.given l.fn.listing)) l.fn.budget

@@ -18,11 +18,11 @@ returns-in-Listing-clause-gained g c before modules current going =
     let ws = c.args.session.now.words.now in
     let st = state_of c.args.state.now in
     let i = c.args.going.number in
-    let is : c.args.going.what ≡ Listing c.in-Listing.query = cc in
-    let goes : before.going ≡ Some (record { number = i; what = continued_of (Listing c.in-Listing.query) }) = going ∙ ap (λ w. Some (record { number = i; what = continued_of w })) is in
+    let is : c.args.going.what ≡ Listing c.in-Listing.query c.in-Listing.sorts = cc in
+    let goes : before.going ≡ Some (record { number = i; what = continued_of (Listing c.in-Listing.query c.in-Listing.sorts) }) = going ∙ ap (λ w. Some (record { number = i; what = continued_of w })) is in
     IfOk-weaker c.list_on.result _ _ (λ refused on.
     continues e ws before st.going c.args.number c.args.command.now c.args.most i (query_of c.in-Listing.query) (state_of c.list_on.new.state) c.args.out.now.items c.list_on.new.out.items refused
-    c.requires.bound goes (subst (λ s. GainsOn s c.args.number i (query_of c.in-Listing.query) c.args.most (state_of c.list_on.new.state) c.args.out.now.items c.list_on.new.out.items refused) (as_taken st before modules current) on)) c.list_on.ensures.gained
+    c.requires.bound goes (subst (λ s. GainsOn e s c.args.number i (query_of c.in-Listing.query) c.args.most (state_of c.list_on.new.state) c.args.out.now.items c.list_on.new.out.items refused) (as_taken st before modules current) on)) c.list_on.ensures.gained
 
 pub returns-in-ListingWhere-clause-gained : goal.returns-in-ListingWhere-clause-gained
 returns-in-ListingWhere-clause-gained g c before modules current going =
@@ -30,8 +30,8 @@ returns-in-ListingWhere-clause-gained g c before modules current going =
     let ws = c.args.session.now.words.now in
     let st = state_of c.args.state.now in
     let i = c.args.going.number in
-    let is : c.args.going.what ≡ ListingWhere c.in-ListingWhere.kept = cc in
-    let goes : before.going ≡ Some (record { number = i; what = continued_of (ListingWhere c.in-ListingWhere.kept) }) = going ∙ ap (λ w. Some (record { number = i; what = continued_of w })) is in
+    let is : c.args.going.what ≡ ListingWhere c.in-ListingWhere.kept c.in-ListingWhere.sorts = cc in
+    let goes : before.going ≡ Some (record { number = i; what = continued_of (ListingWhere c.in-ListingWhere.kept c.in-ListingWhere.sorts) }) = going ∙ ap (λ w. Some (record { number = i; what = continued_of w })) is in
     IfOk-weaker c.list_where_on.result _ _ (λ refused on.
     continues_where e ws before st.going c.args.number c.args.command.now c.args.most i (query_of c.in-ListingWhere.kept.query) c.in-ListingWhere.kept.cond (state_of c.list_where_on.new.state) c.args.out.now.items c.list_where_on.new.out.items refused
     c.requires.bound goes (subst (λ s. GainsOnWhere e s c.args.number i (query_of c.in-ListingWhere.kept.query) c.in-ListingWhere.kept.cond c.args.most (state_of c.list_where_on.new.state) c.args.out.now.items c.list_where_on.new.out.items refused) (as_taken st before modules current) on)) c.list_where_on.ensures.gained

@@ -37,8 +37,8 @@ write_portion-requires-clause-within c =
     let s = c.args.module.now.signature in
     let q = c.args.query.now in
     let x = c.args.solution.now in
-    let given = subst (λ w. IsGiven w s q.store q.sorts (asked_for q) x) c.if-not-query.false c.requires.given in
-    let around = is_around s q c.requires.ready x given (sym (c.is_whole.ensures q.store) ∙ c.if-is_whole.false) in
+    let given = subst (λ w. IsGiven w s q.store c.requires.given.0 (asked_for q) x) c.if-not-query.false c.requires.given.1 in
+    let around = is_around s q c.requires.query c.requires.given.0 x given (sym (c.is_whole.ensures q.store) ∙ c.if-is_whole.false) in
     subst (λ (l : List TermId). IsWithin (theory_at s) (norm (theory_at s) (with_values (tree_of q.pattern) (trees_at q.store (numbers l))))) (sym c.items.ensures) around.portion
 
 pub operator_of-op-requires-clause-top : goal.operator_of-op-requires-clause-top
@@ -46,22 +46,22 @@ operator_of-op-requires-clause-top c =
     let s = c.args.module.now.signature in
     let q = c.args.query.now in
     let x = c.args.solution.now in
-    let given = subst (λ w. IsGiven w s q.store q.sorts (asked_for q) x) c.if-not-query.false c.requires.given in
-    let around = is_around s q c.requires.ready x given (sym (c.is_whole.ensures q.store) ∙ c.if-is_whole.false) in
+    let given = subst (λ w. IsGiven w s q.store c.requires.given.0 (asked_for q) x) c.if-not-query.false c.requires.given.1 in
+    let around = is_around s q c.requires.query c.requires.given.0 x given (sym (c.is_whole.ensures q.store) ∙ c.if-is_whole.false) in
     let new = c.write_portion.new.store in
     let extends = c.write_portion.ensures.extends in
-    (around.op, around.elements, tree_at-extends q.store new q.number.0 extends c.requires.ready.can.askable.subject.there ∙ around.subject)
+    (around.op, around.elements, tree_at-extends q.store new q.number.0 extends c.requires.query.askable.subject.there ∙ around.subject)
 
 pub write_contexts-requires-clause-operator : goal.write_contexts-requires-clause-operator
 write_contexts-requires-clause-operator c =
     let s = c.args.module.now.signature in
     let q = c.args.query.now in
     let x = c.args.solution.now in
-    let given = subst (λ w. IsGiven w s q.store q.sorts (asked_for q) x) c.if-not-query.false c.requires.given in
-    let around = is_around s q c.requires.ready x given (sym (c.is_whole.ensures q.store) ∙ c.if-is_whole.false) in
+    let given = subst (λ w. IsGiven w s q.store c.requires.given.0 (asked_for q) x) c.if-not-query.false c.requires.given.1 in
+    let around = is_around s q c.requires.query c.requires.given.0 x given (sym (c.is_whole.ensures q.store) ∙ c.if-is_whole.false) in
     let new = c.write_portion.new.store in
     let extends = c.write_portion.ensures.extends in
-    let there = c.requires.ready.can.askable.subject.there in
+    let there = c.requires.query.askable.subject.there in
     let op : c.operator_of-op.result.0 ≡ around.op = c.operator_of-op.ensures around.op around.elements (tree_at-extends q.store new q.number.0 extends there ∙ around.subject) in
     subst (IsOperator s) (sym op) around.operator
 
@@ -70,25 +70,25 @@ write_contexts-requires-clause-left c =
     let th = theory_at c.args.module.now.signature in
     let new = c.write_portion.new.store in
     subst (λ (l : List TermId). StandWithin th new (numbers l)) (sym c.items-2.ensures)
-    (stand_within_extended th c.args.query.now.store new (numbers c.args.solution.now.left) c.write_portion.ensures.extends c.requires.given.left)
+    (stand_within_extended th c.args.query.now.store new (numbers c.args.solution.now.left) c.write_portion.ensures.extends c.requires.given.1.left)
 
 pub write_contexts-requires-clause-right : goal.write_contexts-requires-clause-right
 write_contexts-requires-clause-right c =
     let th = theory_at c.args.module.now.signature in
     let new = c.write_portion.new.store in
     subst (λ (l : List TermId). StandWithin th new (numbers l)) (sym c.items-3.ensures)
-    (stand_within_extended th c.args.query.now.store new (numbers c.args.solution.now.right) c.write_portion.ensures.extends c.requires.given.right)
+    (stand_within_extended th c.args.query.now.store new (numbers c.args.solution.now.right) c.write_portion.ensures.extends c.requires.given.1.right)
 
 pub write_contexts-requires-clause-left_context : goal.write_contexts-requires-clause-left_context
 write_contexts-requires-clause-left_context c =
     let s = c.args.module.now.signature in
     let q = c.args.query.now in
     let x = c.args.solution.now in
-    let given = subst (λ w. IsGiven w s q.store q.sorts (asked_for q) x) c.if-not-query.false c.requires.given in
-    let around = is_around s q c.requires.ready x given (sym (c.is_whole.ensures q.store) ∙ c.if-is_whole.false) in
+    let given = subst (λ w. IsGiven w s q.store c.requires.given.0 (asked_for q) x) c.if-not-query.false c.requires.given.1 in
+    let around = is_around s q c.requires.query c.requires.given.0 x given (sym (c.is_whole.ensures q.store) ∙ c.if-is_whole.false) in
     let new = c.write_portion.new.store in
     let extends = c.write_portion.ensures.extends in
-    let there = c.requires.ready.can.askable.subject.there in
+    let there = c.requires.query.askable.subject.there in
     let op : c.operator_of-op.result.0 ≡ around.op = c.operator_of-op.ensures around.op around.elements (tree_at-extends q.store new q.number.0 extends there ∙ around.subject) in
     let ids = numbers x.left in
     let same = trees_at-extends q.store new ids extends (stand_there (theory_at s) q.store ids given.left) in
@@ -100,11 +100,11 @@ write_contexts-requires-clause-right_context c =
     let s = c.args.module.now.signature in
     let q = c.args.query.now in
     let x = c.args.solution.now in
-    let given = subst (λ w. IsGiven w s q.store q.sorts (asked_for q) x) c.if-not-query.false c.requires.given in
-    let around = is_around s q c.requires.ready x given (sym (c.is_whole.ensures q.store) ∙ c.if-is_whole.false) in
+    let given = subst (λ w. IsGiven w s q.store c.requires.given.0 (asked_for q) x) c.if-not-query.false c.requires.given.1 in
+    let around = is_around s q c.requires.query c.requires.given.0 x given (sym (c.is_whole.ensures q.store) ∙ c.if-is_whole.false) in
     let new = c.write_portion.new.store in
     let extends = c.write_portion.ensures.extends in
-    let there = c.requires.ready.can.askable.subject.there in
+    let there = c.requires.query.askable.subject.there in
     let op : c.operator_of-op.result.0 ≡ around.op = c.operator_of-op.ensures around.op around.elements (tree_at-extends q.store new q.number.0 extends there ∙ around.subject) in
     let ids = numbers x.right in
     let same = trees_at-extends q.store new ids extends (stand_there (theory_at s) q.store ids given.right) in
@@ -116,11 +116,11 @@ returns-clause-gained c =
     let s = c.args.module.now.signature in
     let q = c.args.query.now in
     let x = c.args.solution.now in
-    let given = subst (λ w. IsGiven w s q.store q.sorts (asked_for q) x) c.if-not-query.false c.requires.given in
-    let around = is_around s q c.requires.ready x given (sym (c.is_whole.ensures q.store) ∙ c.if-is_whole.false) in
+    let given = subst (λ w. IsGiven w s q.store c.requires.given.0 (asked_for q) x) c.if-not-query.false c.requires.given.1 in
+    let around = is_around s q c.requires.query c.requires.given.0 x given (sym (c.is_whole.ensures q.store) ∙ c.if-is_whole.false) in
     let new = c.write_portion.new.store in
     let extends = c.write_portion.ensures.extends in
-    let there = c.requires.ready.can.askable.subject.there in
+    let there = c.requires.query.askable.subject.there in
     let op : c.operator_of-op.result.0 ≡ around.op = c.operator_of-op.ensures around.op around.elements (tree_at-extends q.store new q.number.0 extends there ∙ around.subject) in
     let m = c.args.module.now in
     let p = tree_of q.pattern in

@@ -1,4 +1,4 @@
-use Rattle.std.proofs.Common.{◌≡◌, sym, ap, subst}
+use Rattle.std.proofs.Common.{◌≡◌, IfOk, sym, ap, subst}
 use Rattle.mau_terms.specs.Tree.{Tree}
 use Rattle.mau_terms.specs.Norm.{norm}
 use Rattle.mau_terms.specs.Subst.{variables}
@@ -9,34 +9,29 @@ use Rattle.mau_signature.specs.Signature.{SignatureOf, theory_at}
 use Rattle.mau_formula.specs.Operators.{operators}
 use Rattle.mau_api.specs.Answers.{IsAskable}
 use Rattle.mau_session.specs.Environment.{environment_of, meanings_in}
-use Rattle.mau_session.specs.Query.{QueryOf, asked_first}
-use Rattle.mau_session.specs.KeptQuery.{query_of, IsReady}
-use Rattle.mau_session.specs.KeptWhere.{ending_of}
+use Rattle.mau_session.specs.Query.{QueryOf}
+use Rattle.mau_session.specs.KeptQuery.{query_of, IsQueryOver}
 use Rattle.mau_session.specs.KeptState.{outcome_of}
-use Rattle.mau_session.specs.Gains.{gains_solutions_where, gains_too_deep_where, gains_overflow_where}
-use Rattle.mau_session.proofs.AskedBy.{gains_listing_where}
+use Rattle.mau_session.specs.Gains.{GainsListedWhere, gains_too_deep_where, gains_overflow_where}
 use Rattle.mau_session.proofs.such_that.list_where.Goals as goal
 
-pub show_conditional-requires-clause-ready : goal.show_conditional-requires-clause-ready
-show_conditional-requires-clause-ready g c =
-    let m = c.args.module.now in
-    record {
-      query = subst (λ (s : SignatureOf). IsReady s c.in-Ok.query) c.signature.ensures.value c.in-Ok.ensures.ready;
-      condition = subst (λ (p : Tree). IsAskable m.signature (variables p) c.args.cond) (sym (ap (λ (q : QueryOf). q.pattern) c.in-Ok.ensures.asked)) c.requires.askable;
-      plain = c.requires.plain;
-    }
+pub list_first_where-requires-clause-query : goal.list_first_where-requires-clause-query
+list_first_where-requires-clause-query g c = subst (λ (s : SignatureOf). IsQueryOver s c.in-Ok.query) c.signature.ensures.value c.in-Ok.ensures.query
+
+pub list_first_where-requires-clause-within : goal.list_first_where-requires-clause-within
+list_first_where-requires-clause-within g c =
+    subst (λ t. IsWithin (theory_at c.args.module.now.signature) (norm (theory_at c.args.module.now.signature) t)) (sym (ap (λ (q : QueryOf). q.subject) c.in-Ok.ensures.asked))
+    (subst (λ (s : SignatureOf). IsWithin (theory_at s) (norm (theory_at s) (tree_of c.args.terms.subject))) c.signature.ensures.value c.in-Ok.ensures.within)
+
+pub list_first_where-requires-clause-condition : goal.list_first_where-requires-clause-condition
+list_first_where-requires-clause-condition g c =
+    subst (λ (p : Tree). IsAskable c.args.module.now.signature (variables p) c.args.cond) (sym (ap (λ (q : QueryOf). q.pattern) c.in-Ok.ensures.asked)) c.requires.askable
 
 pub returns-in-Ok-clause-gained : goal.returns-in-Ok-clause-gained
 returns-in-Ok-clause-gained g c =
     let m = c.args.module.now in
     let e = meanings_in (environment_of (operators c.args.session.now.hooks.now) c.args.session.now.limit) m in
-    let old = c.args.out.now.items in
-    let new = c.show_conditional.new.out.items in
-    let next = c.show_conditional.new.kept in
-    let x = c.in_ok-ending-in-Ok.ending in
-    gains_solutions_where _ old new (subst (λ s. IsWithin (theory_at s) (norm (theory_at s) (tree_of c.args.terms.subject))) c.signature.ensures.value c.in-Ok.ensures.within)
-    (gains_listing_where m e c.args.cond next.cond (query_of c.in-Ok.query) (asked_first c.args.with_context (tree_of c.args.terms.pattern) (tree_of c.args.terms.subject) c.args.terms.vars) (query_of next.query) c.args.most
-    (outcome_of c.left_where.result) old new (ending_of x) c.in-Ok.ensures.asked c.in_ok-ending-in-Ok.ensures.shown c.left_where.ensures.left c.show_conditional.ensures.condition)
+    subst (λ (q : QueryOf). IfOk c.list_first_where.result (λ left. GainsListedWhere m e c.args.cond q c.args.most (outcome_of left) c.args.out.now.items c.list_first_where.new.out.items)) c.in-Ok.ensures.asked c.list_first_where.ensures.gained
 
 pub returns-in-Err-TooDeep-clause-gained : goal.returns-in-Err-TooDeep-clause-gained
 returns-in-Err-TooDeep-clause-gained g c =

@@ -1,0 +1,103 @@
+-- What an evaluator by a module's program gives, as it is said of the module.
+use Rattle.std.proofs.Common.{◌≡◌, ℕ, List, [], Bool, true, false, refl, sym, ap, ◌∙◌, subst}
+use Rattle.mau_terms.specs.Tree.{Tree}
+use Rattle.mau_terms.specs.Norm.{norm}
+use Rattle.mau_terms.specs.Bare.{IsBare, IsBareIn, IsLawful}
+use Rattle.mau_terms.specs.Reading.{reading}
+use Rattle.mau_terms.specs.Subst.{variables}
+use Rattle.mau_terms.specs.View.{tree_of}
+use Rattle.mau_poset.specs.Order.{kind_of}
+use Rattle.mau_signature.specs.Signature.{theory_at, terms_over}
+use Rattle.mau_signature.specs.OverSignature.{IsTreeOver}
+use Rattle.mau_signature.proofs.OverSignature.{norm_over}
+use Rattle.mau_formula.specs.Operator.{Operator}
+use Rattle.mau_store.specs.Node.{Node}
+use Rattle.mau_sorts.specs.HasSort.{HasSort}
+use Rattle.mau_sorts.specs.Table.{Table}
+use Rattle.mau_listing.proofs.Answered.{normal_is}
+use Rattle.mau_program.specs.LawfulPrograms.{IsLawfulProgram}
+use Rattle.mau_program.specs.declared.program.Program as Typed
+use Rattle.mau_program.specs.declared.statements.Fragment.{Fragment}
+use Rattle.mau_evaluation.specs.Run.{End, stopped, too_deep, overflowed}
+use Rattle.mau_evaluation.specs.Program.{Program}
+use Rattle.mau_evaluation.specs.Evaluation.{has_number}
+use Rattle.mau_api.specs.Programs.{program_over}
+use Rattle.mau_api.specs.Terms.{IsNormalBare}
+use Rattle.mau_api.specs.Meanings.{Meanings}
+use Rattle.mau_api.specs.Answers.{IsAskable, MayEnd}
+use Rattle.mau_api.specs.declared.results.EvalEnd.{EvalEnd}
+use Rattle.mau_api.specs.declared.results.EvalEnd.TheVariants.{Stopped, TooDeep, Overflow, NoMemory}
+use Rattle.mau_reduce.proofs.PlainSorts.{plain_sorts, sorts_known, plain_exact}
+use Rattle.mau_reduce.proofs.SortKinds.{sort_kind}
+use Rattle.mau_reducer.specs.KeptTables.{IsKept}
+use Rattle.mau_reducer.proofs.Heads.{heads}
+use Rattle.mau_conditional.specs.Meant.{HasDerivedSort}
+use Rattle.mau_conditional.specs.NextWhere.{SortsAreOfKind, CanBeAsked}
+use Rattle.mau_module.specs.Modules.{ModuleOf}
+use Rattle.mau_module.specs.Lawful.{program_of}
+use Rattle.mau_session.specs.Environment.{environment_of, meanings_in}
+use Rattle.mau_session.specs.Terms.{terms_in}
+use Rattle.mau_session.specs.Built.{uses_memberships}
+use Rattle.mau_session.specs.Settled.{AreSortsKnown, SortsEnd}
+use Rattle.mau_session.specs.Gains.{IsEnd}
+use Rattle.mau_session.specs.KeptQuery.{IsQueryOver, IsReady, GoesIn}
+use Rattle.mau_session.specs.declared.query.Query.{Query}
+use Rattle.mau_session.proofs.Plain.{none_executable}
+
+-- ---- lawful programs
+
+module _ (m : ModuleOf) (ops : List Operator) (limit : ℕ) (is : IsLawfulProgram (program_of m)) (lawful : IsLawful (terms_in m)) (plain : uses_memberships m ≡ false) where
+  kinds : SortsAreOfKind (meanings_in (environment_of ops limit) m)
+  kinds t r k normal has bare =
+      let s = m.signature in
+      let P : Program = program_over (program_of m) ops in
+      let none = none_executable (environment_of ops limit) m plain in
+      let over : IsTreeOver s t = subst (IsTreeOver s) normal.0 (norm_over s lawful t (subst (λ u. IsBare (terms_over s) (reading (theory_at s) u)) (sym normal.0) normal.1)) in
+      let sorts : has.sorts ≡ plain_sorts P none (norm (theory_at s) t) = (let e = sym (has.known 0) ∙ sorts_known P none limit has.levels (norm (theory_at s) t) 0 in cc) in
+      let own : has_number (plain_sorts P none t) r ≡ true = ap (λ u. has_number (plain_sorts P none u) r) (sym normal.0) ∙ (ap (λ ss. has_number ss r) (sym sorts) ∙ has.has) in
+      sort_kind s is.accepted lawful t (normal_is (theory_at s) lawful.theories t normal.0) over r ((plain_exact (program_of m) ops is.accepted none t over r).0 own) k bare
+
+  pub goes_in : GoesIn m (meanings_in (environment_of ops limit) m)
+  goes_in = record { goes = record { defined = refl; accepted = is.accepted; heads = heads (program_of m) is lawful ops; kinds = kinds }; signature = refl }
+
+-- a table that is kept is one for the module's program
+pub kept_for : (m : ModuleOf) (p : Typed.Program) → p ≡ program_of m → (store : List Node) (sorts : Table) (hooks : List Operator) (budget : ℕ) → ((hooks : List Operator) (budget : ℕ) → IsKept (program_of m) hooks budget store sorts) → IsKept p hooks budget store sorts
+kept_for m p same store sorts hooks budget kept = subst (λ (z : Typed.Program). IsKept z hooks budget store sorts) (sym same) (kept hooks budget)
+
+-- ---- an evaluator by such a program
+
+module _ (m : ModuleOf) (ops : List Operator) (limit : ℕ) (n : Meanings) (same : n ≡ meanings_in (environment_of ops limit) m) where
+  abbrev meant : Meanings
+  meant = meanings_in (environment_of ops limit) m
+
+  pub over_as : (q : Query) → IsQueryOver m.signature q → IsQueryOver n.program.sig q
+  over_as q over = subst (λ (e : Meanings). IsQueryOver e.program.sig q) (sym same) over
+
+  pub ready_as : (table : Table) (q : Query) → IsReady n.program.sig table q → IsReady m.signature table q
+  ready_as table q ready = subst (λ (e : Meanings). IsReady e.program.sig table q) same ready
+
+  pub known_as : (t : Tree) → AreSortsKnown n (norm (theory_at n.program.sig) t) → AreSortsKnown (meanings_in (environment_of ops limit) m) (norm (terms_in m).theory t)
+  known_as t known = subst (λ (e : Meanings). AreSortsKnown e (norm (theory_at e.program.sig) t)) same known
+
+  ends_so : (e : Meanings) (t : Tree) (end : EvalEnd) (x : End) → MayEnd e t end → IsEnd end x → SortsEnd e t x
+  ends_so e t Stopped x h is = subst (SortsEnd e t) (sym is) h
+  ends_so e t TooDeep x h is = subst (SortsEnd e t) (sym is) h
+  ends_so e t Overflow x h is = subst (SortsEnd e t) (sym is) h
+  ends_so e t NoMemory x h is = absurd is
+
+  pub ends_as : (t : Tree) (end : EvalEnd) (x : End) → MayEnd n (norm (theory_at n.program.sig) t) end → IsEnd end x → SortsEnd (meanings_in (environment_of ops limit) m) (norm (terms_in m).theory t) x
+  ends_as t end x h is = ends_so meant (norm (terms_in m).theory t) end x (subst (λ (e : Meanings). MayEnd e (norm (theory_at e.program.sig) t) end) same h) is
+
+  pub goes_as : GoesIn m (meanings_in (environment_of ops limit) m) → GoesIn m n
+  goes_as goes = subst (GoesIn m) (sym same) goes
+
+  -- the table is kept whatever the native operators and the budget
+  pub kept_as : (store : List Node) (sorts : Table) → IsKept n.program n.hooks n.limit store sorts → (hooks : List Operator) (budget : ℕ) → IsKept (program_of m) hooks budget store sorts
+  kept_as store sorts kept hooks budget = subst (λ (e : Meanings). IsKept e.program e.hooks e.limit store sorts) same kept
+
+  -- it may be asked the condition of a query
+  pub can_be_asked : GoesIn m (meanings_in (environment_of ops limit) m) → (q : Query) → IsQueryOver m.signature q → (cond : List Fragment) → IsAskable m.signature (variables (tree_of q.pattern)) cond →
+      CanBeAsked m.signature n (tree_of q.pattern) cond
+  can_be_asked goes q over cond condition =
+      subst (λ (z : Meanings). CanBeAsked m.signature z (tree_of q.pattern) cond) (sym same)
+      (record { goes = goes.goes; exactly = refl; signature = refl; pattern = over.askable.pattern; condition = condition })
