@@ -4,7 +4,6 @@ ghost use Rattle.mau_store.specs.Node.{Node};
 ghost use Rattle.mau_program.specs.LawfulPrograms.{IsLawfulProgram};
 ghost use Rattle.mau_api.specs.Meanings.{meanings_by};
 ghost use Rattle.mau_built_ins.specs.NativeNumerals.{GivesNumerals};
-ghost use Rattle.mau_reducer.specs.Basis.{DerivesNothing};
 ghost use Rattle.mau_reducer.specs.KeptTables.{IsKept};
 
 use crate::flagged::Flagged;
@@ -28,7 +27,6 @@ impl<'a, L: Lister + Drop, M: WholeLister + Drop, N: Natives + Drop> Flagged<'a,
         sorts: SortTable,
     ) -> Result<Flagged<'a, L, M, N>, NoMemory>
         requires lawful { IsLawfulProgram program.now }
-        requires derives_nothing { DerivesNothing program.now }
         requires numerals { All GivesNumerals (N.operators natives) }
         requires contexts { L.with_context ≡ true }
         ensures meanings { IfOk result (λ e. ⟦<Flagged<'a, L, M, N> as Evaluator>⟧.meanings e

@@ -6,7 +6,6 @@ use Rattle.mau_built_ins.specs.NativeNumerals.{GivesNumerals}
 use Rattle.mau_program.specs.LawfulPrograms.{IsLawfulProgram}
 use Rattle.mau_sorts.specs.Table.{Table}
 use Rattle.mau_api.specs.Meanings.{Meanings}
-use Rattle.mau_reducer.specs.Basis.{DerivesNothing}
 use Rattle.mau_reducer.specs.KeptTables.{IsKept}
 use Rattle.mau_session.specs.Environment.{environment_of, meanings_in}
 use Rattle.mau_session.specs.Next.{GainsShown}
@@ -23,10 +22,6 @@ use Rattle.mau_session.proofs.asking.list_first.Goals as goal
 pub new-requires-clause-lawful : goal.new-requires-clause-lawful
 new-requires-clause-lawful g c =
     subst IsLawfulProgram (sym c.program-program.ensures) c.requires.lawful
-
-pub new-requires-clause-derives_nothing : goal.new-requires-clause-derives_nothing
-new-requires-clause-derives_nothing g c =
-    subst DerivesNothing (sym c.program-program.ensures) (none_used c.args.module.now c.requires.plain)
 
 pub new-requires-clause-numerals : goal.new-requires-clause-numerals
 new-requires-clause-numerals g c =

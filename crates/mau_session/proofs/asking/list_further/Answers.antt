@@ -6,7 +6,6 @@ use Rattle.mau_built_ins.specs.NativeNumerals.{GivesNumerals}
 use Rattle.mau_program.specs.LawfulPrograms.{IsLawfulProgram}
 use Rattle.mau_sorts.specs.Table.{Table}
 use Rattle.mau_api.specs.Meanings.{Meanings}
-use Rattle.mau_reducer.specs.Basis.{DerivesNothing}
 use Rattle.mau_reducer.specs.KeptTables.{IsKept}
 use Rattle.mau_session.specs.Environment.{environment_of, meanings_in}
 use Rattle.mau_session.specs.Next.{GainsShown}
@@ -23,10 +22,6 @@ use Rattle.mau_session.proofs.asking.list_further.Goals as goal
 pub with_sorts-requires-clause-lawful : goal.with_sorts-requires-clause-lawful
 with_sorts-requires-clause-lawful g c =
     subst IsLawfulProgram (sym c.program-program.ensures) c.requires.lawful
-
-pub with_sorts-requires-clause-derives_nothing : goal.with_sorts-requires-clause-derives_nothing
-with_sorts-requires-clause-derives_nothing g c =
-    subst DerivesNothing (sym c.program-program.ensures) (none_used c.args.module.now c.requires.ready.plain)
 
 pub with_sorts-requires-clause-numerals : goal.with_sorts-requires-clause-numerals
 with_sorts-requires-clause-numerals g c =
