@@ -19,16 +19,16 @@ use std::process::Abort;
 use std::test::Fail;
 
 /// The numbers 0, s 0, .. of which the even ones have a sort, by a membership whose condition asks for that sort.
-const EVEN: &str =
+pub(crate) const EVEN: &str =
     "fmod EVEN is sorts Even Nat . subsort Even < Nat . op z : -> Nat . op s_ : Nat -> Nat . var N : Nat .
 mb z : Even . cmb s s N : Even if N : Even . endfm ";
 
 /// A constant with two minimal sorts.
-const TWO: &str =
+pub(crate) const TWO: &str =
     "fmod TWO is sorts A B C . subsorts A B < C . op a : -> C . op f : C -> C . mb a : B . mb a : A . endfm ";
 
 /// An identity with a membership.
-const UNIT: &str =
+pub(crate) const UNIT: &str =
     "fmod UNIT is sorts E L . subsort E < L . op e : -> L . op a : -> L . op _;_ : L L -> L [assoc id: e] . mb e : E . endfm ";
 
 /// Pairs of numerals, of which some are told to have a sort.
@@ -36,17 +36,28 @@ const PAIR: &str =
     "fmod PAIR is protecting NAT . sorts Up Pair . subsort Up < Pair . op pair : Nat Nat -> Pair . vars X Y : Nat .
 cmb pair(X, Y) : Up if X < Y . endfm ";
 
+/// Appends the name of the sort that is shown for a term.
+pub(crate) fn push_sort(
+    program: &Program,
+    table: &SortTable,
+    id: TermId,
+    shown: &mut String,
+) -> Result<(), Fail> {
+    match table.sort_of(id) {
+        Some(sort) => match program.sorts.items().get(sort as usize) {
+            Some(name) => shown.push_str(name.as_str())?,
+            None => shown.push('?')?,
+        },
+        None => shown.push('-')?,
+    }
+    Ok(())
+}
+
 /// Appends the name of the sort that is shown for each settled term, in the order in which they were settled.
 fn show_sorts(program: &Program, table: &SortTable, shown: &mut String) -> Result<(), Fail> {
     for id in table.settled() {
         shown.push(' ')?;
-        match table.sort_of(*id) {
-            Some(sort) => match program.sorts.items().get(sort as usize) {
-                Some(name) => shown.push_str(name.as_str())?,
-                None => shown.push('?')?,
-            },
-            None => shown.push('-')?,
-        }
+        push_sort(program, table, *id, shown)?;
     }
     Ok(())
 }
