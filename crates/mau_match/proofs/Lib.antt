@@ -34,3 +34,4 @@ pub mod Order
 pub mod Behind
 pub mod Searching
 pub mod Listed
+pub mod Skipping

@@ -64,6 +64,10 @@ contains_has [] x h = absurd (omega (arith, h.1))
 contains_has (y ∷ xs) x (zero, l, e) = or_left (same_variable (variable_of y) (variable_of x)) (has_variable (map variable_of xs) (variable_of x)) (subst (λ z. same_variable (variable_of z) (variable_of x) ≡ true) (sym e) (same_itself (variable_of x)))
 contains_has (y ∷ xs) x (suc k, l, e) = or_right (same_variable (variable_of y) (variable_of x)) (has_variable (map variable_of xs) (variable_of x)) (contains_has xs x (k, omega arith, e))
 
+pub has_middle : (xs : List Variable) (x : Variable) (zs : List Variable) → has_variable (xs ++ x ∷ zs) x ≡ true
+has_middle [] x zs = or_left (same_variable x x) (has_variable zs x) (same_itself x)
+has_middle (y ∷ xs) x zs = or_right (same_variable y x) (has_variable (xs ++ x ∷ zs) x) (has_middle xs x zs)
+
 -- ---- lists of a value
 
 module _ (s : SignatureOf) (known : Known) (f r : ℕ) (v : Tree) (has : HasSort s known v r) where

@@ -1,5 +1,5 @@
 -- The walk for the next variable of a search, in a store: what its parts hold, and when there is no answer.
-use Rattle.std.proofs.Common.{◌≡◌, ◌<◌, suc, List, [], ◌∷◌, ◌++◌, length, map, take, drop, get_or, true, None, All, Contains, inl, sym, ◌∙◌, ap, ap₂, subst, arith, false}
+use Rattle.std.proofs.Common.{◌≡◌, ◌+◌, ◌≤◌, ◌<◌, ℕ, suc, List, [], ◌∷◌, ◌++◌, length, map, take, drop, get_or, Bool, true, Some, None, nat_lt, ltb-true, ltb-false, IfSome, All, Contains, inl, refl, sym, ◌∙◌, ap, ap₂, subst, arith, false}
 use Rattle.mau_terms.specs.Tree.{Tree}
 use Rattle.mau_terms.specs.Bare.{IsLawful}
 use Rattle.mau_terms.specs.Subst.{Variable, variables}
@@ -15,7 +15,13 @@ use Rattle.mau_listing.specs.Answers.{IsAnswer}
 use Rattle.mau_listing.proofs.Growth.{question_same}
 use Rattle.mau_terms.specs.Solution.{HaveSorts}
 use Rattle.mau_match.specs.Possible.{Agrees, IsNever}
-use Rattle.mau_match.specs.Limited.{IsLimitOf}
+use Rattle.std.proofs.lemmas.List.Elements.{All-append, All-cons, All-nil}
+use Rattle.mau_terms.specs.Norm.{norm}
+use Rattle.mau_terms.specs.Subst.{value_at}
+use Rattle.mau_terms.specs.Solution.{list_under, value_key}
+use Rattle.mau_match.specs.Limited.{IsLimitOf, AreLimited, IsWithinLimit, long_at}
+use Rattle.mau_match.specs.declared.part.Limit.{Limit}
+use Rattle.mau_match.proofs.Limited.{has_middle}
 use Rattle.mau_match.proofs.Limited.{limits_hold}
 use Rattle.mau_match.proofs.Complete.{not_impossible, value_is_of_hidden}
 use Rattle.mau_match.specs.Hidden.{IsHidden}
@@ -42,7 +48,7 @@ use Rattle.mau_domains.specs.Stored.{IsPartOver}
 use Rattle.mau_match.specs.declared.part.Given.{Given}
 use Rattle.mau_domains.specs.declared.part.Part.{Part as PartOfCode}
 use Rattle.mau_domains.specs.declared.part.Part.TheVariants.{One}
-use Rattle.mau_match.proofs.Answering.{any_value, sorts_at, bound_is, value_normal, walked_value, none_refused, occurs_at}
+use Rattle.mau_match.proofs.Answering.{any_value, sorts_at, bound_is, value_normal, walked_value, none_refused, occurs_at, there}
 use Rattle.mau_match.proofs.GivenFor.{names, names_split, names_long, given_names, given_is}
 use Rattle.mau_match.proofs.Good.{IsTerm, AreItemsOf, items_kept, AllGood, good}
 use Rattle.mau_match.proofs.PartsOver.{parts_over}
@@ -102,8 +108,10 @@ module _ (s : SignatureOf) (lawful : IsLawful (terms_over s)) (old : List Node) 
         ∙ ap (λ y. parts_of (theory_at s) (given_variables q xs) (given_at q xs vs) (variable_of y) (tree_of t.pattern) (just (tree_at old t.subject.0))) et
 
     -- an answer that begins with the chosen values is not impossible
-    pub not_refused : (known : Known) → All (IsLimitOf s known (variables_in ps)) g.limits → (u : Tree) (us : List Tree) → AnswerIn s known old t (trees_at old (numbers chosen) ++ u ∷ us) → IsNever s old g (tree_of t.pattern) (just (tree_at old t.subject.0)) → ⊥
-    not_refused known limits u us a never =
+    not_refused_by : (known : Known) (u : Tree) (us : List Tree) → AnswerIn s known old t (trees_at old (numbers chosen) ++ u ∷ us)
+        → ((gg : Variable → Tree) → ((y : Variable) → has_variable (variables (tree_of t.pattern)) y ≡ true → gg y ≡ value_at (variables (tree_of t.pattern)) (trees_at old (numbers chosen) ++ u ∷ us) y) → AreLimited (theory_at s) g.limits gg)
+        → IsNever s old g (tree_of t.pattern) (just (tree_at old t.subject.0)) → ⊥
+    not_refused_by known u us a limits never =
         not_impossible s lawful (BySort s known) q xs (variable_of x) zs names_are vs as_many u us a
         (λ gg ag fair whole same.
         never gg
@@ -111,9 +119,41 @@ module _ (s : SignatureOf) (lawful : IsLawful (terms_over s)) (old : List Node) 
           agrees =
               subst (λ b. Agrees (theory_at s) b (values_of old g) gg) (sym (given_names s old t (take (length chosen) ps) chosen g ev el))
               (subst (λ v. Agrees (theory_at s) (given_variables q xs) v gg) (sym (given_is s old t (take (length chosen) ps) chosen g ev el)) ag);
-          limited = limits_hold s lawful known q ask.pattern (vs ++ u ∷ us) a gg same (variables_in ps) are.variables g.limits limits;
+          limited = limits gg same;
         })
         fair whole)
+
+    pub not_refused : (known : Known) → All (IsLimitOf s known (variables_in ps)) g.limits → (u : Tree) (us : List Tree) → AnswerIn s known old t (trees_at old (numbers chosen) ++ u ∷ us) → IsNever s old g (tree_of t.pattern) (just (tree_at old t.subject.0)) → ⊥
+    not_refused known limits u us a = not_refused_by known u us a (λ gg same. limits_hold s lawful known q ask.pattern (vs ++ u ∷ us) a gg same (variables_in ps) are.variables g.limits limits)
+
+    -- where it is impossible with few elements for the next variable, that has more
+    pub not_short : (known : Known) (ls : List Limit) → All (IsLimitOf s known (variables_in ps)) ls → (l : Limit) → l.variable ≡ (get_or ps (length chosen) no_place).variable → l.least ≡ 0 → (most : ℕ) → l.most ≡ Some most → g.limits ≡ ls ++ l ∷ []
+        → (u : Tree) (us : List Tree) → AnswerIn s known old t (trees_at old (numbers chosen) ++ u ∷ us) → IsNever s old g (tree_of t.pattern) (just (tree_at old t.subject.0)) → most + 1 ≤ length (value_key (theory_at s) (Some l.op.0) u)
+    not_short known ls limits l ex least most em el' u us a never = by (nat_lt most long) refl
+      where
+        long : ℕ
+        long = length (list_under (theory_at s l.op.0) l.op.0 (norm (theory_at s) u))
+
+        one : (gg : Variable → Tree) → gg (variable_of (get_or ps (length chosen) no_place).variable) ≡ u → long ≤ most → IsWithinLimit (theory_at s) gg l
+        one gg e h =
+            let same : long_at (theory_at s) gg l.op.0 (variable_of l.variable) ≡ long = ap (λ y. length (list_under (theory_at s l.op.0) l.op.0 (norm (theory_at s) (gg (variable_of y))))) ex ∙ ap (λ w. length (list_under (theory_at s l.op.0) l.op.0 (norm (theory_at s) w))) e in (
+              omega (arith, least),
+              subst (λ o. IfSome o (λ n. long_at (theory_at s) gg l.op.0 (variable_of l.variable) ≤ n)) (sym em) (omega (arith, same, h)),
+            )
+
+        has : has_variable (variables (tree_of t.pattern)) (variable_of (get_or ps (length chosen) no_place).variable) ≡ true
+        has = subst (λ ys. has_variable ys (variable_of (get_or ps (length chosen) no_place).variable) ≡ true) (sym names_are) (has_middle (names (take (length chosen) ps)) (variable_of (get_or ps (length chosen) no_place).variable) (names (drop (suc (length chosen)) ps)))
+
+        by : (b : Bool) → nat_lt most long ≡ b → most + 1 ≤ long
+        by true e = omega (arith, ltb-true most long e)
+        by false e =
+            absurd
+            (not_refused_by known u us a
+            (λ gg same.
+            subst (λ ms. AreLimited (theory_at s) ms gg) (sym el')
+            (All-append (IsWithinLimit (theory_at s) gg) ls (l ∷ []) (limits_hold s lawful known q ask.pattern (vs ++ u ∷ us) a gg same (variables_in ps) are.variables ls limits)
+            (All-cons (IsWithinLimit (theory_at s) gg) l [] (one gg (same (variable_of x) has ∙ there s lawful (BySort s known) q ask.pattern xs (variable_of x) zs names_are vs as_many u us a) (ltb-false most long e)) (All-nil (IsWithinLimit (theory_at s) gg)))))
+            never)
 
     module _ (new : List Node) (parts : List PartOfCode) (adds : AddsParts s old new [] parts (walked s old g (tree_of t.pattern) (just (tree_at old t.subject.0)))) where
       -- its parts are within the limits

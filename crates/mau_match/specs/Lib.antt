@@ -26,5 +26,7 @@ pub mod Hidden
 pub mod Single
 -- how long the values of variables are
 pub mod Limited
+-- values that are too short
+pub mod Skipped
 -- the search over a store that grows
 pub mod Searched

@@ -1,5 +1,5 @@
 //! What the value of the next variable may be: the parts of the subject that it is of, and the values of these in order.
-ghost use Rattle.std.specs.Prelude.{◌≡◌, ◌⊎◌, true, ◌++◌, ◌∷◌, ◌<◌, List, All, Contains, length, map, IfOk, IfSome, IfNone, OnOk};
+ghost use Rattle.std.specs.Prelude.{◌≡◌, ◌⊎◌, true, false, Some, ◌++◌, ◌∷◌, ◌+◌, ◌<◌, List, All, Contains, length, map, IfOk, IfSome, IfNone, OnOk};
 ghost use Rattle.mau_terms.specs.Tree.{Tree};
 ghost use Rattle.mau_terms.specs.View.{tree_of};
 ghost use Rattle.mau_terms.specs.declared.ids.VarId.{VarId};
@@ -14,18 +14,20 @@ ghost use Rattle.mau_sorts.specs.Table.{AreOver};
 ghost use Rattle.mau_listing.specs.Asked.{IsAskable, IsTableOf};
 ghost use Rattle.mau_listing.specs.Places.{operator_number, variables_in};
 ghost use Rattle.mau_trial.specs.Tried.{ArePlacesOf, asked_in};
-ghost use Rattle.mau_domains.specs.Search.{IsLeastOrNone, first_of};
+ghost use Rattle.mau_domains.specs.Search.{IsLeastOrNone, IsValueBehind, first_of};
 ghost use Rattle.mau_match.specs.Walked.{parts_in};
 ghost use Rattle.mau_domains.specs.Values.{by_key};
 ghost use Rattle.mau_match.specs.Values.{IsValueOfAny};
 ghost use Rattle.mau_domains.specs.Stored.{tree_in, IsListOperator, IsPartOver};
-ghost use Rattle.mau_match.specs.Searched.{AnswerIn};
+ghost use Rattle.mau_match.specs.Searched.{AnswerIn, order_of};
+ghost use Rattle.mau_match.specs.Skipped.{IsAsLong};
 
 use crate::choices::push;
 use crate::hide::{fresh, hide};
 use crate::limits::limits_of;
 use crate::may_match::may_match;
 use crate::single::by_sort;
+use crate::skip::{only_items, passed};
 use crate::variables::occurs;
 use crate::walk::parts_for;
 use crate::{Given, Limit};
@@ -194,6 +196,139 @@ fn may_answer(
         &trial.pattern,
         &Part::One(trial.subject),
     )
+}
+
+/// Whether an answer may begin with the chosen values and one more within a limit.
+fn may_be_short(
+    trial: &Trial,
+    places: &[Place],
+    store: &mut Store,
+    sig: &Signature,
+    sorts: &SortTable,
+    chosen: &[TermId],
+    op: OpId,
+    most: usize,
+) -> Result<bool, NoMemory>
+    requires askable { IsAskable sig.now store.old (asked_in trial.now) }
+    requires places { ArePlacesOf sig.now (tree_of trial.now.pattern) places.now }
+    requires over { AreOver sig.now.hierarchy sorts.now }
+    requires chosen { StandWithin (theory_at sig.now) store.old (numbers chosen.now) }
+    requires room { length chosen.now < length places.now }
+    ensures refused { (known : Known) (u : Tree) (us : List Tree) → IsTableOf sig.now known store.old sorts.now →
+        AnswerIn sig.now known store.old trial.now (trees_at store.old (numbers chosen.now) ++ u ∷ us) →
+        IfOk result (λ b. b ≡ false → IsAsLong (theory_at sig.now) (Some op.0) (most + 1) u) }
+    ensures extends { Extends store.old store.new }
+{
+    is_lawful(sig);
+    let target = places[chosen.len()].variable;
+    let front = &places[..chosen.len()];
+    let mut limits = limits_of(store, sig, sorts, &trial.pattern, places)?;
+    limits.push(Limit {
+        op,
+        variable: target,
+        least: 0,
+        most: Some(most),
+    })?;
+    let given = given_for(
+        store.allocator(),
+        &trial.bound,
+        front,
+        chosen,
+        target,
+        limits,
+    )?;
+    may_match(
+        store,
+        sig,
+        &given,
+        &trial.pattern,
+        &Part::One(trial.subject),
+    )
+}
+
+/// The next step of a search for a number: twice as far, until one was too far.
+fn further(step: usize, growing: bool) -> usize {
+    if growing {
+        step.saturating_mul(2)
+    } else {
+        step
+    }
+}
+
+/// So many elements as the next value has in each answer that begins with the chosen values.
+fn least_length(
+    trial: &Trial,
+    places: &[Place],
+    store: &mut Store,
+    sig: &Signature,
+    sorts: &SortTable,
+    chosen: &[TermId],
+    op: OpId,
+) -> Result<usize, NoMemory>
+    requires askable { IsAskable sig.now store.old (asked_in trial.now) }
+    requires places { ArePlacesOf sig.now (tree_of trial.now.pattern) places.now }
+    requires over { AreOver sig.now.hierarchy sorts.now }
+    requires chosen { StandWithin (theory_at sig.now) store.old (numbers chosen.now) }
+    requires room { length chosen.now < length places.now }
+    ensures least { (known : Known) (u : Tree) (us : List Tree) → IsTableOf sig.now known store.old sorts.now →
+        AnswerIn sig.now known store.old trial.now (trees_at store.old (numbers chosen.now) ++ u ∷ us) → IfOk result (λ n. IsAsLong (theory_at sig.now) (Some op.0) n u) }
+    ensures extends { Extends store.old store.new }
+{
+    let mut low: usize = 0;
+    let mut step: usize = 1;
+    let mut growing = true;
+    for _ in 0..128 {
+        let most = low.saturating_add(step.saturating_sub(1));
+        if step == 0 || most == usize::MAX {
+            return Ok(low);
+        }
+        if may_be_short(trial, places, store, sig, sorts, chosen, op, most)? {
+            step /= 2;
+            growing = false;
+            continue;
+        }
+        low = most + 1;
+        step = further(step, growing);
+    }
+    Ok(low)
+}
+
+/// How far a value that leads to no answer may be passed over.
+pub fn skipped(
+    trial: &Trial,
+    places: &[Place],
+    store: &mut Store,
+    sig: &Signature,
+    sorts: &SortTable,
+    chosen: &[TermId],
+    parts: &[Part],
+    value: TermId,
+) -> Result<TermId, NoMemory>
+    requires askable { IsAskable sig.now store.old (asked_in trial.now) }
+    requires places { ArePlacesOf sig.now (tree_of trial.now.pattern) places.now }
+    requires over { AreOver sig.now.hierarchy sorts.now }
+    requires chosen { StandWithin (theory_at sig.now) store.old (numbers chosen.now) }
+    requires room { length chosen.now < length places.now }
+    requires parts { All (IsPartOver sig.now store.old) parts.now }
+    requires value { StandsWithin (theory_at sig.now) store.old value.0 }
+    ensures onward { (known : Known) (u : Tree) (us : List Tree) → IsTableOf sig.now known store.old sorts.now →
+        AnswerIn sig.now known store.old trial.now (trees_at store.old (numbers chosen.now) ++ u ∷ us) → IsValueOfAny (theory_at sig.now) (parts_in store.old parts.now) u →
+        IsValueBehind (order_of sig.now places.now) (length chosen.now) (Some (tree_at store.old value.0)) u →
+        IfOk result (λ id. IsValueBehind (order_of sig.now places.now) (length chosen.now) (Some (tree_at store.new id.0)) u) }
+    ensures back { (u : Tree) → IfOk result (λ id. IsValueBehind (order_of sig.now places.now) (length chosen.now) (Some (tree_at store.new id.0)) u →
+        IsValueBehind (order_of sig.now places.now) (length chosen.now) (Some (tree_at store.old value.0)) u) }
+    ensures within { IfOk result (λ id. StandsWithin (theory_at sig.now) store.new id.0) }
+    ensures extends { Extends store.old store.new }
+{
+    let under = places[chosen.len()].under;
+    let Some(op) = under else {
+        return Ok(value);
+    };
+    if only_items(sig, op, parts).is_none() {
+        return Ok(value);
+    }
+    let least = least_length(trial, places, store, sig, sorts, chosen, op)?;
+    passed(store, sig, under, parts, least, value)
 }
 
 /// About how many values some parts have.
