@@ -26,16 +26,16 @@ returns-in-Ok-clause-gained g c =
     let e = meanings_in (environment_of (operators c.args.session.now.hooks.now) c.args.session.now.limit) m in
     subst (λ (q : QueryOf). IfOk c.list_first.result (λ left. GainsListed m e q c.args.most (outcome_of left) c.args.out.now.items c.list_first.new.out.items)) c.in-Ok.ensures.asked c.list_first.ensures.gained
 
-pub returns-in-Err-TooDeep-clause-gained : goal.returns-in-Err-TooDeep-clause-gained
-returns-in-Err-TooDeep-clause-gained g c =
+pub returns-in_ok-write_text-in-Err-TooDeep-clause-gained : goal.returns-in_ok-write_text-in-Err-TooDeep-clause-gained
+returns-in_ok-write_text-in-Err-TooDeep-clause-gained g c =
     let s = c.signature.result.now in
     let t = tree_of c.args.terms.subject in
     gains_too_deep c.args.out.now.items c.write_text.new.out.items
     (subst (λ s. IsCause (theory_at s) (norm (theory_at s) t) TooDeep) c.signature.ensures.value (subst (IsCause (theory_at s) (norm (theory_at s) t)) c.in-Err-TooDeep.field-0-is c.in-Err-TooDeep.ensures.refused))
     c.in_ok-write_text-in-Err-TooDeep.ensures
 
-pub returns-in-Err-Overflow-clause-gained : goal.returns-in-Err-Overflow-clause-gained
-returns-in-Err-Overflow-clause-gained g c =
+pub returns-in_ok-write_text-in-Err-Overflow-clause-gained : goal.returns-in_ok-write_text-in-Err-Overflow-clause-gained
+returns-in_ok-write_text-in-Err-Overflow-clause-gained g c =
     let s = c.signature.result.now in
     let t = tree_of c.args.terms.subject in
     gains_overflow c.args.out.now.items c.write_text-in-Err-Overflow.new.out.items
