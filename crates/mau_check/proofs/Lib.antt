@@ -34,3 +34,5 @@ pub mod BuiltOf
 pub mod Checked
 -- what the last fact concludes
 pub mod Concluding
+-- arguments by the numbers of another store
+pub mod NumbersElsewhere

@@ -14,6 +14,7 @@ mod lines;
 mod named;
 mod over;
 mod plain;
+mod renumbering;
 mod said;
 mod sorts;
 mod statements;
@@ -21,3 +22,7 @@ mod variables;
 mod written;
 
 pub use check::{CheckAnswer, Conclusion, Judgement, check_facts, judge};
+pub use kept::{Holes, Kept, kept_all, kept_at};
+pub use lines::{add_variable, numeral};
+pub use over::build_over;
+pub use renumbering::renumbered;

@@ -31,7 +31,7 @@ fn kind_of_numerals(sig: &Signature) -> Option<u32>
 }
 
 /// A numeral, if there are any.
-fn numeral(store: &mut Store, sig: &Signature, value: u128) -> Result<Option<Kept>, NoMemory>
+pub fn numeral(store: &mut Store, sig: &Signature, value: u128) -> Result<Option<Kept>, NoMemory>
     ensures kept { IfOk result (λ k. IsKept sig.now store.new k (Some (numeral value))) }
     ensures extends { Extends store.old store.new }
 {
@@ -89,7 +89,7 @@ fn add_named(
 }
 
 /// The term of a line that is a variable, or a hole.
-fn add_variable(
+pub fn add_variable(
     store: &mut Store,
     program: &Program,
     variables: &mut Vars,

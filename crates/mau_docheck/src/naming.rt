@@ -1,5 +1,5 @@
 //! The terms of a store with their holes named.
-ghost use Rattle.std.specs.Prelude.{◌≡◌, ◌<◌, ℕ, List, length, map, slice_index, IfOk};
+ghost use Rattle.std.specs.Prelude.{◌≡◌, ◌<◌, ℕ, List, length, IfOk};
 ghost use Rattle.mau_terms.specs.Tree.{Tree};
 ghost use Rattle.mau_store.specs.Node.{Node, AreBelow, Extends, arguments};
 ghost use Rattle.mau_store.specs.Trees.{tree_at, tree_over};
@@ -7,21 +7,9 @@ ghost use Rattle.mau_store.specs.View.{node_of, numbers as numbers_of};
 ghost use Rattle.mau_docheck.specs.Naming.{IsNamed, AreNamed};
 
 use crate::holes::named_variable;
+use mau_check::renumbered;
 use mau_store::{NodeView, Store};
 use mau_terms::{NoMemory, TermId, Vars};
-use std::alloc::Global;
-
-/// The numbers of arguments, by those of all older nodes.
-fn renumbered(alloc: Global, numbers: &[TermId], args: &[TermId]) -> Result<Vec<TermId>, NoMemory>
-    requires { AreBelow (length numbers.now) (numbers_of args.now) }
-    ensures { IfOk result (λ ids. numbers_of ids.items ≡ map (slice_index (numbers_of numbers.now)) (numbers_of args.now)) }
-{
-    let mut ids = Vec::with_capacity(alloc, args.len())?;
-    for arg in args {
-        ids.push(numbers[arg.0])?;
-    }
-    Ok(ids)
-}
 
 /// Adds a node of another store with its holes named, where `numbers` are those of that store's older nodes.
 fn add_named(

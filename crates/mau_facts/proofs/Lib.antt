@@ -14,3 +14,5 @@ pub mod HeadFaults
 pub mod Spelled
 pub mod Written
 pub mod Law
+-- lines that can be written
+pub mod Ranged

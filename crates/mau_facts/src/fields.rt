@@ -173,7 +173,7 @@ fn has_space(word: &[u8]) -> bool
 }
 
 /// A word as a name, if it is text without spaces and not empty.
-fn as_name(word: &[u8]) -> Option<&str>
+pub(crate) fn as_name(word: &[u8]) -> Option<&str>
     ensures some { IfSome result (λ t. (t.now ≡ word.now) × (is_name word.now ≡ true)) }
     ensures none { IfNone result (is_name word.now ≡ false) }
 {
@@ -202,7 +202,7 @@ fn has_sort(word: &[u8]) -> bool
 }
 
 /// A word as a name and a sort with a colon between them.
-fn as_variable(word: &[u8]) -> Option<&str>
+pub(crate) fn as_variable(word: &[u8]) -> Option<&str>
     ensures some { IfSome result (λ t. (t.now ≡ word.now) × (is_variable word.now ≡ true)) }
     ensures none { IfNone result (is_variable word.now ≡ false) }
 {

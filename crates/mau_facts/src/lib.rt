@@ -14,6 +14,7 @@ mod read;
 mod show;
 mod term;
 mod words;
+mod writable;
 mod write;
 
 pub use document::{
@@ -22,3 +23,4 @@ pub use document::{
 pub use fault::FactFault;
 pub use read::read_facts;
 pub use show::show_document;
+pub use writable::can_be_written;

@@ -1,6 +1,6 @@
 use Rattle.std.proofs.Common.{length, arith}
-use Rattle.mau_docheck.proofs.NamedTerms.{argument_below, renumbered_more}
-use Rattle.mau_docheck.proofs.naming.renumbered.Goals as goal
+use Rattle.mau_check.proofs.NumbersElsewhere.{argument_below, renumbered_more}
+use Rattle.mau_check.proofs.renumbering.renumbered.Goals as goal
 
 pub bounds-numbers-arg : goal.bounds-numbers-arg
 bounds-numbers-arg c = argument_below (length c.args.numbers.now) c.args.args.now c.loop-arg.arg-index _ c.requires c.loop-arg-test.true
