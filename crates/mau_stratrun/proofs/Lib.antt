@@ -19,5 +19,6 @@ pub mod Leading
 pub mod Placing
 pub mod Running
 pub mod Beginning
+pub mod Yielding
 pub mod Stepping
 pub mod Branching

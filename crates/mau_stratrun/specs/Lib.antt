@@ -8,6 +8,8 @@ pub mod Worlds
 pub mod States
 -- runs
 pub mod Runs
+-- what leaves and calls yield
+pub mod Laws
 -- what only inner contracts and proofs cite
 pub mod Turns
 pub mod Moves

@@ -5,6 +5,7 @@ mod ahead;
 mod branch;
 mod course;
 mod cursor;
+pub mod laws;
 mod leaves;
 mod outside;
 mod run;
