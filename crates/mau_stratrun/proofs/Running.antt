@@ -1,10 +1,12 @@
 -- What the list of a run by numbers says of its strategy.
-use Rattle.std.proofs.Common.{◌≡◌, inl, inr, ℕ, List, [], ◌∷◌, ◌++◌, map, get_or, Contains, true, refl, ap, ap₂, sym, ◌∙◌, subst, arith, length-append}
+use Rattle.std.proofs.Common.{◌≡◌, ◌⊎◌, inl, inr, ℕ, List, [], ◌∷◌, ◌++◌, map, get_or, All, Contains, Bool, true, false, refl, ap, ap₂, sym, ◌∙◌, subst, arith, length-append}
 use Rattle.std.proofs.lemmas.List.{get_or_append_left}
 use Rattle.std.proofs.lemmas.List.Elements.{All-contains}
 use Rattle.mau_terms.specs.Tree.{Tree}
+use Rattle.mau_terms.specs.Finite.{IsIn}
+use Rattle.mau_evaluation.proofs.Inside.{in_list, from_list}
 use Rattle.mau_evaluation.specs.Engine.{engine_of}
-use Rattle.mau_evaluation.specs.Configs.{Todo, Frame, on}
+use Rattle.mau_evaluation.specs.Configs.{Todo, Frame, Config, on}
 use Rattle.mau_evaluation.specs.Reach.{IsClosed, Reached, begun, entered, IsAsked}
 use Rattle.mau_evaluation.specs.Eventually.{RunsTo}
 use Rattle.mau_evaluation.proofs.Meet.{solutions_hold, ended_runs_are_whole}
@@ -103,3 +105,41 @@ module _ (s : State) (h : IsState s) (seen : List ℕ) (l : IsListed s seen) whe
       by Overflow m = caused Overflow m
       by CallDepth m = caused CallDepth m
       by NoMemory m = tt
+
+-- ---- which solutions are added
+
+in_either : (c : ℕ) (xs ys : List ℕ) → IsIn c (xs ++ ys) → IsIn c xs ⊎ IsIn c ys
+in_either c [] ys i = inr i
+in_either c (x ∷ xs) ys (inl e) = inl (inl e)
+in_either c (x ∷ xs) ys (inr i) = by (in_either c xs ys i)
+  where
+    by : IsIn c xs ⊎ IsIn c ys → IsIn c (x ∷ xs) ⊎ IsIn c ys
+    by (inl j) = inl (inr j)
+    by (inr j) = inr j
+
+not_both : (b : Bool) → b ≡ true → b ≡ false → ⊥
+not_both b p q = absurd (cc)
+
+module _ (s : State) (old more : List ℕ) (a : All (λ n. is_solution (config_in s n) ≡ false) more) where
+  in_old : (x : ℕ) (u : Tree) → config_in s x ≡ on u [] [] → IsIn x (old ++ more) → Contains (map (config_in s) old) (on u [] [])
+  in_old x u e i = by (in_either x old more i)
+    where
+      by : IsIn x old ⊎ IsIn x more → Contains (map (config_in s) old) (on u [] [])
+      by (inl j) = subst (Contains (map (config_in s) old)) e (contains_map (config_in s) old x (in_list x old j))
+      by (inr j) = absurd (not_both (is_solution (config_in s x)) (ap is_solution e) (All-contains (λ n. is_solution (config_in s n) ≡ false) more x a (in_list x more j)))
+
+  pub adds_none : (new : List ℕ) → new ≡ old ++ more → (u : Tree) → Contains (map (config_in s) new) (on u [] []) → Contains (map (config_in s) old) (on u [] [])
+  adds_none new e u k =
+      let x = from_map (config_in s) new k.0 (on u [] []) (k.1, k.2) in
+      in_old x.0 u x.2 (from_list x.0 (old ++ more) (subst (λ zs. Contains zs x.0) e (k.0, x.1.0, x.1.1)))
+
+  pub adds_one : (new : List ℕ) (n : ℕ) (c : StoredConfig) → new ≡ (old ++ more) ++ n ∷ [] → config_in s n ≡ made_in s c → (u : Tree) → Contains (map (config_in s) new) (on u [] []) →
+      Contains (map (config_in s) old) (on u [] []) ⊎ (u ≡ s.setting.tree c.term.0)
+  adds_one new n c e same u k =
+      let x = from_map (config_in s) new k.0 (on u [] []) (k.1, k.2) in
+      by x.0 x.2 (in_either x.0 (old ++ more) (n ∷ []) (from_list x.0 ((old ++ more) ++ n ∷ []) (subst (λ zs. Contains zs x.0) e (k.0, x.1.0, x.1.1))))
+    where
+      by : (y : ℕ) → config_in s y ≡ on u [] [] → IsIn y (old ++ more) ⊎ IsIn y (n ∷ []) → Contains (map (config_in s) old) (on u [] []) ⊎ (u ≡ s.setting.tree c.term.0)
+      by y q (inl i) = inl (in_old y u q i)
+      by y q (inr (inl z)) = inr (ap (λ (v : Config). v.term) (sym q ∙ (ap (config_in s) z ∙ same)))
+      by y q (inr (inr z)) = absurd z

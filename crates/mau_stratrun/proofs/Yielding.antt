@@ -1,13 +1,12 @@
 -- What is yielded by leaves and calls.
-use Rattle.std.proofs.Common.{◌≡◌, ℕ, List, [], ◌∷◌, ◌++◌, map, inl, inr, refl, sym, ap, ◌∙◌, subst}
+use Rattle.std.proofs.Common.{◌≡◌, List, [], ◌∷◌, map, inr, refl, sym, ap, subst}
 use Rattle.mau_terms.specs.Tree.{Tree}
 use Rattle.mau_evaluation.specs.Program.{Program}
 use Rattle.mau_evaluation.specs.Engine.{Engine, engine_of}
-use Rattle.mau_evaluation.specs.Strategy.{Strategy, idle, fail, every_rule, label, top_only, call, test, part_rewrite, label_by, StratDef}
+use Rattle.mau_evaluation.specs.Strategy.{Strategy, idle, fail, every_rule, label, top_only, test, part_rewrite, label_by, StratDef}
 use Rattle.mau_evaluation.specs.Configs.{Todo, Frame, Config, on, LeafNext, NextBy}
 use Rattle.mau_evaluation.specs.OrderedLists.{IsLeaf, LeafList, BodyList}
-use Rattle.mau_evaluation.specs.Entries.{LeafFront, BodyFront, NextOf, BeginsWith}
-use Rattle.mau_stratrun.specs.Settings.{Fixed}
+use Rattle.mau_evaluation.specs.Entries.{LeafFront, BodyFront}
 use Rattle.mau_stratrun.specs.Yields.{result_of, body_on, after}
 use Rattle.mau_stratrun.specs.Laws.{LeavesYield, CallsYield}
 use Rattle.mau_stratrun.proofs.Agreeing.{front_itself}

@@ -1,5 +1,5 @@
 -- What is yielded by leaves and calls, in the words of mau_evaluation: who gives results or bodies one after another meets `Leaves` by these.
-use Rattle.std.specs.Prelude.{◌≡◌, ℕ, suc, List, map}
+use Rattle.std.specs.Prelude.{◌≡◌, ℕ, List, map}
 use Rattle.mau_terms.specs.Tree.{Tree}
 use Rattle.mau_evaluation.specs.Engine.{engine_of}
 use Rattle.mau_evaluation.specs.Strategy.{call}

@@ -1,6 +1,7 @@
 -- A run of a strategy: what holds of it, and what it answers.
-use Rattle.std.specs.Prelude.{◌≡◌, ◌⊎◌, ℕ, ◌≤◌, List, [], ◌∷◌, length, map, slice_index, Contains}
+use Rattle.std.specs.Prelude.{◌≡◌, ◌⊎◌, ℕ, ◌≤◌, List, [], ◌∷◌, length, map, slice_index, Contains, Option, Some, None, Result, Ok, Err}
 use Rattle.mau_terms.specs.Tree.{Tree}
+use Rattle.mau_terms.specs.declared.ids.TermId.{TermId}
 use Rattle.mau_evaluation.specs.Engine.{engine_of}
 use Rattle.mau_evaluation.specs.Strategy.{Strategy}
 use Rattle.mau_evaluation.specs.Satisfies.{Sat, Cut}
@@ -43,6 +44,12 @@ IsSolutionOf s seen n = (t : Tree) (d : Todo) → Began s seen t d →
 -- no solution with this term is listed
 abbrev pub IsNew : State → List ℕ → ℕ → Type 0
 IsNew s seen n = Contains (map (config_in s) seen) (on (s.setting.tree n) [] []) → ⊥
+
+-- of the solutions that are listed just the one that was given is new; none is where none was given
+abbrev pub AddsJust : State → List ℕ → List ℕ → Result (Option TermId) LeafEnd → Type 0
+AddsJust s old new (Ok (Some n)) = (u : Tree) → Contains (map (config_in s) new) (on u [] []) → Contains (map (config_in s) old) (on u [] []) ⊎ (u ≡ s.setting.tree n.0)
+AddsJust s old new (Ok None) = (u : Tree) → Contains (map (config_in s) new) (on u [] []) → Contains (map (config_in s) old) (on u [] [])
+AddsJust s old new (Err e) = (u : Tree) → Contains (map (config_in s) new) (on u [] []) → Contains (map (config_in s) old) (on u [] [])
 
 -- each term that satisfies it is the term of a solution that is listed, and it is not cut, for all limits from some on
 abbrev pub IsWhole : State → List ℕ → Type 0

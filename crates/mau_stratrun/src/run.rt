@@ -3,7 +3,7 @@ ghost use Rattle.std.specs.Prelude.{◌≡◌, ◌<◌, ◌≤◌, length, None,
 ghost use Rattle.mau_strat.specs.Forms.{LeafIn};
 ghost use Rattle.mau_stratrun.specs.Courses.{state_in, HasBodies};
 ghost use Rattle.mau_strat.specs.Interned.{nothing};
-ghost use Rattle.mau_stratrun.specs.Runs.{IsRunning, Began, begun_with, IsSolutionOf, IsNew, IsWhole, IsRunEnd, IsEndOf};
+ghost use Rattle.mau_stratrun.specs.Runs.{IsRunning, Began, begun_with, IsSolutionOf, IsNew, AddsJust, IsWhole, IsRunEnd, IsEndOf};
 
 use crate::ahead::{First, enter};
 use crate::course::Course;
@@ -110,6 +110,8 @@ impl<X: Leaves + Drop> StratRun<X> {
             self.new.walk.listed id.0)) }
         ensures once { IfOk result (λ o. IfSome o (λ id.
             IsNew (state_in (X.world self.new.course.leaves) self.new.course.forms self.new.course.interner) self.old.walk.listed id.0)) }
+        ensures adds { AddsJust (state_in (X.world self.new.course.leaves) self.new.course.forms self.new.course.interner)
+            self.old.walk.listed self.new.walk.listed result }
         ensures whole { result ≡ Ok None → IsWhole (state_in (X.world self.new.course.leaves) self.new.course.forms
             self.new.course.interner) self.new.walk.listed }
         ensures end { IfErr result (IsRunEnd (state_in (X.world self.new.course.leaves) self.new.course.forms self.new.course.interner)
