@@ -14,5 +14,6 @@ mod strategy;
 mod term;
 mod uses;
 
+pub use brackets::closing;
 pub use fault::StratFault;
 pub use strategy::read_strategy;
