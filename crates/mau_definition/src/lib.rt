@@ -7,4 +7,4 @@ mod definition;
 mod fault;
 
 pub use definition::read_definition;
-pub use fault::DefinitionFault;
+pub use fault::{DefinitionFault, of_statement};

@@ -23,13 +23,13 @@ use Rattle.mau_module.specs.declared.fault.Limit.{Limit}
 use Rattle.mau_module.specs.declared.fault.ModuleFault.{ModuleFault}
 use Rattle.mau_module.specs.declared.fault.ModuleFault.TheVariants.{UnknownModule, ImportTooDeep, TooLarge, UnknownSort, Signed, Statement}
 use Rattle.mau_module.specs.declared.TheConstants.{MAX_DEPTH}
-use Rattle.mau_module.specs.Modules.{StatementsOf, no_statements, and_more, ModuleOf}
+use Rattle.mau_module.specs.Modules.{StatementsOf, and_more, ModuleOf}
 use Rattle.mau_module.specs.Numbering.{number_in}
 use Rattle.mau_module.specs.Included.{first_unknown, numerals_of, numeral_kind, has_truth}
 use Rattle.mau_module.specs.Framed.{Frame, all_parts, frame_of, included_declarations, limit_passed}
 use Rattle.mau_module.specs.Declarations.{hierarchy_over, given_over}
 use Rattle.mau_module.specs.Carried.{carried}
-use Rattle.mau_module.specs.Stated.{AreLawful, HasCarriedFault, OwnRead}
+use Rattle.mau_module.specs.Stated.{AreLawful, HasCarriedFault, OwnRead, only_strats}
 use Rattle.mau_module.specs.Named.{labels_of, own_labels, own_strats}
 use Rattle.mau_module.specs.Faults.{statement_fault}
 
@@ -77,9 +77,12 @@ carried_in ms f s = carried ms f.names s f.parts
 abbrev pub truth_in : List ModuleOf → Frame → SignatureOf → Option OpId
 truth_in ms f s = if has_truth (all_parts ms f.parts) then number_of s.names (constant_of (OneWord (codes "true") ∷ []) (kind_of s.hierarchy (number_in f.names (codes "Bool")))) else None
 
--- what its own statements are read over
+-- what its own statements are read over, where its terms are written so
+abbrev pub context_over : List ModuleOf → Frame → SignatureOf → GrammarOf → ContextOf
+context_over ms f s g = record { signature = s; grammar = g; sorts = f.names; truth = truth_in ms f s }
+
 abbrev pub context_in : List ModuleOf → List Word → Frame → Elements → SignatureOf → ContextOf
-context_in ms ws f e s = record { signature = s; grammar = grammar_in ws f e s; sorts = f.names; truth = truth_in ms f s }
+context_in ms ws f e s = context_over ms f s (grammar_in ws f e s)
 
 -- beside it: the labels of its rules, and the strategies that are declared, those of its parts first
 abbrev pub around_in : List ModuleOf → List Word → RawModule → Frame → Elements → SignatureOf → Around
@@ -92,7 +95,7 @@ around_in ms ws raw f e s = record {
 
 -- the strategies that it declares itself; what it states is read behind these
 abbrev pub declared_in : List Word → RawModule → Frame → StatementsOf
-declared_in ws raw f = record no_statements { strats = own_strats ws f.names raw.elements }
+declared_in ws raw f = only_strats (own_strats ws f.names raw.elements)
 
 -- the statements of its own, or the first one at fault
 abbrev pub OwnAs : List ModuleOf → List Word → RawModule → Frame → Elements → SignatureOf → Result StatementsOf (ℕ × DefinitionFault) → Type 0

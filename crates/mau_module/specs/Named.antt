@@ -1,5 +1,5 @@
 -- What names name in the strategies of a module: labels of rules, and declared strategies.
-use Rattle.std.specs.Prelude.{ℕ, List, [], ◌∷◌, map, Option, if◌then◌else◌}
+use Rattle.std.specs.Prelude.{ℕ, List, [], ◌∷◌, map, Option, None, option_map, if◌then◌else◌}
 use Rattle.std.specs.List.{flat_map}
 use Rattle.std.specs.Option.{option_map_or}
 use Rattle.mau_tokens.specs.declared.token.Token.{Token}
@@ -22,13 +22,13 @@ as_list o = option_map_or (λ l. l ∷ []) o []
 abbrev pub labels_of : List Rule → List (List ℕ)
 labels_of rules = flat_map (λ (r : Rule). as_list r.label) rules
 
--- the label of an element that is a rule, if it has one
-abbrev pub token_label : List Word → Option Token → List (List ℕ)
-token_label ws o = option_map_or (λ t. token_text ws t ∷ []) o []
+-- the token of the label of an element that is a rule, if it has one
+abbrev pub label_token : RawElement → Option Token
+label_token (Statement raw) = if is_rule raw.kind then raw.label else None
+label_token _ = None
 
 abbrev pub label_in : List Word → RawElement → List (List ℕ)
-label_in ws (Statement raw) = if is_rule raw.kind then token_label ws raw.label else []
-label_in ws _ = []
+label_in ws e = as_list (option_map (token_text ws) (label_token e))
 
 -- those of the rules of a text
 abbrev pub own_labels : List Word → List RawElement → List (List ℕ)

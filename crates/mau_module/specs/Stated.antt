@@ -9,6 +9,7 @@ use Rattle.mau_modtext.specs.declared.raw.RawElement.{RawElement}
 use Rattle.mau_modtext.specs.declared.raw.RawElement.TheVariants.{Statement as StatementElement}
 use Rattle.mau_modtext.specs.declared.raw.RawStatement.{RawStatement}
 use Rattle.mau_modtext.specs.Statements.{is_definition}
+use Rattle.mau_program.specs.declared.definitions.StratDecl.{StratDecl}
 use Rattle.mau_program.specs.declared.definitions.StratDef.{StratDef}
 use Rattle.mau_statement.specs.Statements.{StatementRead}
 use Rattle.mau_program.specs.Tops.{is_left_side, is_head}
@@ -21,7 +22,7 @@ use Rattle.mau_definition.specs.declared.fault.DefinitionFault.{DefinitionFault}
 use Rattle.mau_definition.specs.declared.fault.DefinitionFault.TheVariants.{Statement as OfStatement}
 use Rattle.mau_module.specs.declared.statements.Stated.{Stated}
 use Rattle.mau_module.specs.declared.statements.Stated.TheVariants.{Statement as AStatement, Definition as ADefinition}
-use Rattle.mau_module.specs.Modules.{StatementsOf}
+use Rattle.mau_module.specs.Modules.{StatementsOf, no_statements}
 
 -- ---- statements of the parts, by the operators and axioms of this module
 
@@ -57,6 +58,10 @@ with_one a (Rule r) = record a { rules = a.rules ++ r ∷ [] }
 abbrev pub with_statement : StatementsOf → Stated → StatementsOf
 with_statement a (AStatement x) = with_one a x
 with_statement a (ADefinition d) = record a { strategies = a.strategies ++ d ∷ [] }
+
+-- no statements, and these declared strategies
+abbrev pub only_strats : List StratDecl → StatementsOf
+only_strats strats = record no_statements { strats = strats }
 
 -- the statement that an element is
 abbrev pub statement_in : RawElement → Option RawStatement

@@ -7,6 +7,7 @@ mod build;
 mod cut;
 mod fault;
 mod fragments;
+pub mod laws;
 mod leaf;
 mod setting;
 mod stack;
