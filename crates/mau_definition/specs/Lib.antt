@@ -7,5 +7,7 @@ pub mod Bound
 -- what a definition of a text says, or its first fault
 pub mod Definitions
 pub mod Faults
+-- the law
+pub mod Laws
 -- what only inner contracts and proofs cite
 pub mod Inner

@@ -5,6 +5,7 @@ mod bound;
 mod call;
 mod definition;
 mod fault;
+pub mod laws;
 
 pub use definition::read_definition;
 pub use fault::{DefinitionFault, of_statement};
