@@ -59,11 +59,12 @@ unknown_declared false l e h = absurd cc
 -- a declaration with some number of arguments is one of the name
 found_named : (w : List ℕ) (n : ℕ) (ds : List StratDecl) (d : StratDecl) → find (λ (d : StratDecl). has_name w d && length d.args == n) ds ≡ Some d → list_any (has_name w) ds ≡ true
 found_named w n [] d e = absurd cc
-found_named w n (x ∷ ds) d e = by (has_name w x) (length x.args == n) e
+found_named w n (x ∷ ds) d e = by (has_name w x) (length x.args == n) (found_named w n ds d) e
   where
-    by : (a b : Bool) → (if a && b then Some x else find (λ (d : StratDecl). has_name w d && length d.args == n) ds) ≡ Some d → (a || list_any (has_name w) ds) ≡ true
-    by true b h = refl
-    by false b h = found_named w n ds d h
+    by : (a b : Bool) → (find (λ (d : StratDecl). has_name w d && length d.args == n) ds ≡ Some d → list_any (has_name w) ds ≡ true)
+        → (if a && b then Some x else find (λ (d : StratDecl). has_name w d && length d.args == n) ds) ≡ Some d → (a || list_any (has_name w) ds) ≡ true
+    by true b rest h = refl
+    by false b rest h = rest h
 
 variable_same : {v w : VarId} → Var v ≡ Var w → v ≡ w
 variable_same e = cc
@@ -136,6 +137,7 @@ module _ (s : SettingOf) (shaped : All IsShaped s.context.grammar.productions) w
       (rest.0, ap₂ (λ (z : Assign) zs. z ∷ zs) one.1 rest.1)
 
   uses_no_fault : {ps : List Piece} {ns os : Pairs} {xs : List Assign} {f : StratFault} → UsesRead s ps ns os xs → UsesFault s ps ns f → ⊥
+  uses_no_fault (no_uses ns) x = elim x [ ]
   uses_no_fault (one_use p q us ns m os a more u r) (no_variable p' us' ns' n) = no_variable_none p ns u.middle u.variable u.is_variable n
   uses_no_fault (one_use p q us ns m os a more u r) (no_value p' q' us' ns' m' v x f t e n) = value_there p q ns m m' a v x f u t e n
   uses_no_fault (one_use p q us ns m os a more u r) (later_use p' q' us' ns' m' a' g u' l) =
@@ -167,6 +169,7 @@ module _ (s : SettingOf) (shaped : All IsShaped s.context.grammar.productions) w
       (rest.0, ap₂ (λ (z : Tree) zs. z ∷ zs) one.tree rest.1)
 
   arguments_no_fault : {sorts : List ℕ} {ps : List Piece} {ns os : Pairs} {bs : List Tree} {f : StratFault} → ArgumentsRead s sorts ps ns os bs → ArgumentsFault s sorts ps ns f → ⊥
+  arguments_no_fault (no_arguments ns) x = elim x [ ]
   arguments_no_fault (one_argument k ks p ps ns m os b more t r) (no_argument k' ks' p' ps' ns' f n) = term_there p (Kind (kind_in s k)) ns t n
   arguments_no_fault (one_argument k ks p ps ns m os b more t r) (later_argument k' ks' p' ps' ns' m' b' f t' l) =
       arguments_no_fault r (subst (λ z. ArgumentsFault s ks ps z f) (sym (term_same p (Kind (kind_in s k)) ns t t').pairs) l)
@@ -210,6 +213,7 @@ module _ (s : SettingOf) (shaped : All IsShaped s.context.grammar.productions) w
       (rest.0, ap₂ (λ (ys zs : List FragmentOf). ys ++ zs) one.fragments rest.1)
 
   fragments_no_fault : {ps : List Piece} {ns os : Pairs} {xs : List FragmentOf} {f : StratFault} → FragmentsRead s ps ns os xs → FragmentsFault s ps ns f → ⊥
+  fragments_no_fault (no_fragments ns) x = elim x [ ]
   fragments_no_fault (one_fragment p ps raw ns m os xs more e c r) (not_cut p' ps' ns' at e') = ok_not e e'
   fragments_no_fault (one_fragment p ps raw ns m os xs more e c r) (no_fragment p' ps' raw' ns' f g e' u o) =
       condition_no_fault s.words s.context shaped ns (raw ∷ []) c (subst (λ zs. ConditionUnread s.words s.context ns zs f) (raws_same (ok_same e' e)) u)

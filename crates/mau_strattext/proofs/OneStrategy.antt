@@ -51,6 +51,7 @@ module _ (s : SettingOf) (shaped : All IsShaped s.context.grammar.productions) w
   nothing_first e (behind_form t p ps ns f h i l) = absurd cc
 
   pub none_first : {t : Bool} {ps : List Piece} {ns : Pairs} {f : StratFault} → HasNoFault s t ps ns → FirstFault s t ps ns f → ⊥
+  none_first (no_pieces t ns) x = elim x [ ]
   none_first (leaf_reads t p ps ns m x r h) (at_leaf t' p' ps' ns' f u) = leaf_no_fault s shaped t p (inner ps) ns r u
   none_first (leaf_reads t p ps ns m x r h) (behind_leaf t' p' ps' ns' m' x' f r' l) =
       none_first h (fault_same refl refl (sym (leaf_once s shaped t p (inner ps) ns r r').pairs) l)
@@ -155,8 +156,8 @@ module _ (s : SettingOf) (shaped : All IsShaped s.context.grammar.productions) w
   place_kept (Arity n) = refl
   place_kept NoMemory = refl
 
-  same_place : {f g : StratFault} → without_trees f ≡ without_trees g → fault_place f ≡ fault_place g
-  same_place {f} {g} e = place_kept f ∙ (ap fault_place e ∙ sym (place_kept g))
+  same_place : (f g : StratFault) → without_trees f ≡ without_trees g → fault_place f ≡ fault_place g
+  same_place f g e = place_kept f ∙ (ap fault_place e ∙ sym (place_kept g))
 
   same_pieces : {ps qs : List Piece} → AreFirstPieces (texts s) ps → AreFirstPieces (texts s) qs → ps ≡ qs
   same_pieces a b = a.found ∙ sym b.found
@@ -173,7 +174,8 @@ module _ (s : SettingOf) (shaped : All IsShaped s.context.grammar.productions) w
       by : HasNoFault s false u.pieces ns ⊎ ((g : StratFault) × FirstFault s false u.pieces ns g × (start_at s i ≤ fault_place g)) → ⊥
       by (inl h) = none_first h (fault_same (same_pieces b.before u.before) refl refl b.fault)
       by (inr x) =
-          let p = same_place {f} {x.0} (first_once b.fault (fault_same (same_pieces u.before b.before) refl refl x.1)) in
+          let g = x.0 in
+          let p = same_place f g (first_once b.fault (fault_same (same_pieces u.before b.before) refl refl x.1)) in
           let l : fault_place f < start_at s i = subst (λ j. fault_place f < start_at s j) same b.earlier in
           absurd (omega (arith, l, p, x.2))
 
