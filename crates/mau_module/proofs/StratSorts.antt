@@ -1,6 +1,6 @@
 -- The sorts of declared strategies are sorts of the module: those of its parts in its numbers, and its own.
 use Rattle.std.proofs.Common.{◌≡◌, ◌<◌, ◌≤◌, ℕ, ◌+◌, List, [], ◌∷◌, ◌++◌, Option, Some, None, Bool, true, false, length, get_or, map, refl, sym, ap, subst, ◌⊎◌, inl, inr, arith}
-use Rattle.std.specs.Prelude.{All, fold, slice_get, bytes_eq, position, nat_lt, if◌then◌else◌}
+use Rattle.std.specs.Prelude.{All, codes, fold, slice_get, bytes_eq, position, nat_lt, if◌then◌else◌}
 use Rattle.std.specs.List.{flat_map}
 use Rattle.std.proofs.lemmas.List.Elements.{All-nil, All-append, All-map}
 use Rattle.std.proofs.lemmas.List.Quantifiers.{position-Some}
@@ -16,6 +16,7 @@ use Rattle.mau_modtext.specs.declared.raw.RawStrats.{RawStrats}
 use Rattle.mau_declare.specs.Words.{first_text}
 use Rattle.mau_declare.specs.Flattened.{name_at}
 use Rattle.mau_declare.specs.Names.{number_of}
+use Rattle.mau_program.specs.BuiltIns.{HasTruth}
 use Rattle.mau_program.specs.declared.definitions.StratDecl.{StratDecl}
 use Rattle.mau_renumber.specs.Carried.{Numbers}
 use Rattle.mau_renumber.specs.Strategies.{strategy_declaration_to}
@@ -94,3 +95,12 @@ module _ (names : List (List ℕ)) (h : Hierarchy) (named : length names ≡ h.s
   pub own_sorts : (ws : List Word) (es : List RawElement) → AreThere (own_strats ws names es)
   own_sorts ws [] = All-nil (HasSorts h)
   own_sorts ws (e ∷ es) = All-append (HasSorts h) (strats_in ws names e) (own_strats ws names es) (element_sorts ws e) (own_sorts ws es)
+
+-- all that a module knows, which has truth values and so sorts
+pub names_sorts : (ms : List ModuleOf) (ws : List Word) (names : List (List ℕ)) (s : SignatureOf) (parts : List ℕ) (es : List RawElement) (a : StatementsOf) (ds : List StratDecl)
+    → HasTruth names s → length names ≡ s.hierarchy.sorts → a ≡ carried ms names s parts → ds ≡ a.strats ++ own_strats ws names es → All (HasSorts s.hierarchy) ds
+names_sorts ms ws names s parts es a ds truth count is e =
+    let some : 0 < length names = omega (arith, (position-Some (bytes_eq (codes "Bool")) names truth.bool [] truth.named).0) in
+    subst (All (HasSorts s.hierarchy)) (sym e)
+    (All-append (HasSorts s.hierarchy) a.strats (own_strats ws names es)
+    (subst (λ (b : StatementsOf). All (HasSorts s.hierarchy) b.strats) (sym is) (carried_sorts names s.hierarchy count some s refl ms parts)) (own_sorts names s.hierarchy count some ws es))
