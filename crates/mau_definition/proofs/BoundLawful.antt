@@ -48,9 +48,11 @@ module _ (s : SignatureOf) (xs : List Variable) where
   lawful_strategy (or_else x y) t e =
       (lawful_strategy x t.0 ((and_parts (is_bound_in xs x) (is_bound_in xs y) e).0), lawful_strategy y t.1 ((and_parts (is_bound_in xs x) (is_bound_in xs y) e).1))
   lawful_strategy (branch x y z) t e =
-      let more = (and_parts (is_bound_in xs x) (is_bound_in xs y && is_bound_in xs z) e).1 in
-      (lawful_strategy x t.0 ((and_parts (is_bound_in xs x) (is_bound_in xs y && is_bound_in xs z) e).0),
-      lawful_strategy y t.1 ((and_parts (is_bound_in xs y) (is_bound_in xs z) more).0), lawful_strategy z t.2 ((and_parts (is_bound_in xs y) (is_bound_in xs z) more).1))
+      let more = (and_parts (is_bound_in xs x) (is_bound_in xs y && is_bound_in xs z) e).1 in (
+        lawful_strategy x t.0 ((and_parts (is_bound_in xs x) (is_bound_in xs y && is_bound_in xs z) e).0),
+        lawful_strategy y t.1 ((and_parts (is_bound_in xs y) (is_bound_in xs z) more).0),
+        lawful_strategy z t.2 ((and_parts (is_bound_in xs y) (is_bound_in xs z) more).1),
+      )
   lawful_strategy (negation x) t e = lawful_strategy x t e
   lawful_strategy (attempt x) t e = lawful_strategy x t e
   lawful_strategy (test_of x) t e = lawful_strategy x t e

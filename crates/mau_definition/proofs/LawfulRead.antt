@@ -34,13 +34,15 @@ module _ (a : Around) where
   lawful_read raw d r t b =
       let cond = condition_given a.words a.context r.middle raw.cond r.last d.cond r.condition in
       let behind = body_extends raw.right r.last d.vars d.body r.body in
-      let from = both_extend cond.extends behind in
+      let from = both_extend r.middle r.last d.vars cond.extends behind in
       let call = call_given raw.left [] r.middle (record { name = d.name; args = d.args }) r.defined in
       record {
         args = t.args;
         condition = t.condition;
-        listed = (λ i x l. given_listed d.vars _ (given_more r.middle d.vars from _ (call i x l)),
-            fragments_listed d.vars d.cond (all_more a.words a.context r.last d.vars behind d.cond cond.given));
+        listed = (
+          λ i x l. given_listed d.vars _ (given_more r.middle d.vars from _ (call i x l)),
+          fragments_listed d.vars d.cond (all_more a.words a.context r.last d.vars behind d.cond cond.given),
+        );
         bound = (and_parts (binds_condition d) (binds_body d) b).0;
         body = lawful_strategy a.context.signature _ d.body t.body ((and_parts (binds_condition d) (binds_body d) b).1);
       }

@@ -24,8 +24,8 @@ use Rattle.mau_terms.specs.declared.bare.Bare.{Bare}
 pub same_extends : (ns : Pairs) → Extends ns ns
 same_extends ns = λ k v e. e
 
-pub both_extend : {ns ms os : Pairs} → Extends ns ms → Extends ms os → Extends ns os
-both_extend x y = λ k v e. y k v (x k v e)
+pub both_extend : (ns ms os : Pairs) → Extends ns ms → Extends ms os → Extends ns os
+both_extend ns ms os x y = λ k v e. y k v (x k v e)
 
 -- P holds of the arguments of a strategy that is a call
 abbrev pub IfCall : (List Tree → Type 0) → StrategyOf → Type 0
@@ -45,7 +45,7 @@ module _ (s : SettingOf) where
   uses_extend : {ps : List Piece} {ns os : Pairs} {xs : List Assign} → UsesRead s ps ns os xs → Extends ns os
   uses_extend (no_uses ns) = same_extends ns
   uses_extend (one_use p q us ns m os a more u r) =
-      both_extend (both_extend (term_extends p _ ns u.middle _ u.is_variable) (term_extends q _ u.middle m a.value u.value)) (uses_extend r)
+      both_extend ns m os (both_extend ns u.middle m (term_extends p _ ns u.middle _ u.is_variable) (term_extends q _ u.middle m a.value u.value)) (uses_extend r)
 
   -- arguments stay given
   arguments_more : (ms os : Pairs) → Extends ms os → (ts : List Tree) → All (AreGiven ms) ts → All (AreGiven os) ts
@@ -60,14 +60,14 @@ module _ (s : SettingOf) where
   arguments_given (one_argument k ks p ps ns m os b more t r) =
       let rest = arguments_given r in
       record {
-        extends = both_extend (term_extends p _ ns m b t) rest.extends;
+        extends = both_extend ns m os (term_extends p _ ns m b t) rest.extends;
         given = All-cons (AreGiven os) (tree_of b) more (given_more m os rest.extends (tree_of b) (term_given p _ ns m b t)) rest.given;
       }
 
   fragments_extend : {ps : List Piece} {ns os : Pairs} {xs : List Fragment} → FragmentsRead s ps ns os xs → Extends ns os
   fragments_extend (no_fragments ns) = same_extends ns
   fragments_extend (one_fragment p ps raw ns m os xs more e c r) =
-      both_extend (condition_given s.words s.context ns (raw ∷ []) m xs c).extends (fragments_extend r)
+      both_extend ns m os (condition_given s.words s.context ns (raw ∷ []) m xs c).extends (fragments_extend r)
 
   pub record IsGivenBehind (ns os : Pairs) (x : StrategyOf) : Type 0 where
     pub extends : Extends ns os
@@ -81,7 +81,7 @@ module _ (s : SettingOf) where
   leaf_given (name_reads i ns d e t f) = record { extends = same_extends ns; given = All-nil (AreGiven ns) }
   leaf_given (assigned_reads i us ns os xs l u) = record { extends = uses_extend u; given = tt }
   leaf_given (called_reads i ps ns os d bs e u) = let a = arguments_given u in record { extends = a.extends; given = a.given }
-  leaf_given (test_reads i k p ps ns m os b xs e u v) = record { extends = both_extend (term_extends p _ ns m b u) (fragments_extend v); given = tt }
+  leaf_given (test_reads i k p ps ns m os b xs e u v) = record { extends = both_extend ns m os (term_extends p _ ns m b u) (fragments_extend v); given = tt }
 
   -- ---- what is made of strategies is no call
 
@@ -132,14 +132,14 @@ module _ (s : SettingOf) where
   shape_given (joined w e f) t i ns os x r =
       let j = i + length (text e) in
       record {
-        extends = both_extend (shape_given e t i ns r.2 r.0 r.3).extends (shape_given f false (j + 1) r.2 os r.1 r.4).extends;
+        extends = both_extend ns r.2 os (shape_given e t i ns r.2 r.0 r.3).extends (shape_given f false (j + 1) r.2 os r.1 r.4).extends;
         given = joined_given os (word_at s j) r.0 r.1 x r.5;
       }
   shape_given (chosen e f g) t i ns os x r =
       let j = i + length (text e) + 1 in
       record {
-        extends = both_extend (shape_given e t i ns r.3 r.0 r.5).extends
-            (both_extend (shape_given f false j r.3 r.4 r.1 r.6).extends (shape_given g false (j + length (text f) + 1) r.4 os r.2 r.7).extends);
+        extends = both_extend ns r.3 os (shape_given e t i ns r.3 r.0 r.5).extends
+            (both_extend r.3 r.4 os (shape_given f false j r.3 r.4 r.1 r.6).extends (shape_given g false (j + length (text f) + 1) r.4 os r.2 r.7).extends);
         given = subst (Given os) (sym r.8) tt;
       }
 

@@ -11,7 +11,9 @@ use Rattle.mau_program.specs.Trees.{StrategyOf, call}
 use Rattle.mau_program.specs.declared.definitions.StratDecl.{StratDecl}
 use Rattle.mau_statement.specs.Context.{ContextOf}
 use Rattle.mau_statement.specs.Parts.{Pairs, part_words, is_empty, begin_of}
-use Rattle.mau_shapes.specs.Words.{Beginning, of_name, beginning}
+use Rattle.mau_shapes.specs.Words.{beginning}
+use Rattle.mau_shapes.specs.declared.words.Beginning.{Beginning}
+use Rattle.mau_shapes.specs.declared.words.Beginning.TheVariants.{Name as of_name}
 use Rattle.mau_strattext.specs.Setting.{SettingOf, setting_of}
 use Rattle.mau_strattext.specs.Strategies.{StrategyRead}
 use Rattle.mau_strattext.specs.declared.fault.StratFault.{StratFault}

@@ -1,4 +1,5 @@
 -- Faults that say something: all but want of memory.
+use Rattle.std.specs.Prelude.{Bool, true, false}
 use Rattle.mau_statement.specs.declared.fault.StatementFault.{StatementFault}
 use Rattle.mau_statement.specs.declared.fault.StatementFault.TheVariants.{NoMemory as NoMemoryOfStatement}
 use Rattle.mau_strattext.specs.declared.fault.StratFault.{StratFault}
@@ -19,3 +20,11 @@ of_statement f = Statement f
 abbrev pub of_strategy : StratFault → DefinitionFault
 of_strategy NoMemoryOfStrategy = NoMemory
 of_strategy f = Strategy f
+
+abbrev pub is_memory_of_strategy : StratFault → Bool
+is_memory_of_strategy NoMemoryOfStrategy = true
+is_memory_of_strategy _ = false
+
+abbrev pub is_memory : DefinitionFault → Bool
+is_memory NoMemory = true
+is_memory _ = false

@@ -78,11 +78,7 @@ pub fn is_bound_in(
 
 /// Whether a strategy of this form has no other variables than it may have, where these are bound.
 #[cycle(bound)]
-fn is_form_bound(
-    alloc: Global,
-    variables: &[VarId],
-    form: &StrategyForm,
-) -> Result<bool, NoMemory>
+fn is_form_bound(alloc: Global, variables: &[VarId], form: &StrategyForm) -> Result<bool, NoMemory>
     ensures { IfOk result (λ bound. bound ≡ Bound.is_bound_in (map variable_of variables.now) (strategy_of form.now)) }
 {
     match form {

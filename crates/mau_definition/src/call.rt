@@ -40,7 +40,8 @@ fn is_name(word: &str) -> bool
 /// How many words the parentheses have with which the words begin; all, where they are not closed.
 fn pair_size(text: &str, tokens: &[Token]) -> usize
     requires { AreSpans text.now tokens.now }
-    ensures { result ≡ Calls.pair_size (words_of text.now tokens.now) }
+    ensures value { result ≡ Calls.pair_size (words_of text.now tokens.now) }
+    ensures within { result ≤ length tokens.now }
 {
     match closing(&Words::new(text, tokens), tokens.len()) {
         Some(end) => end + 1,
@@ -55,7 +56,7 @@ fn call_size(text: &str, tokens: &[Token]) -> usize
 {
     let words = Words::new(text, tokens);
     if tokens.len() > 1 && is_name(words.text(0)) && words.is(1, "(") {
-        pair_size(text, &tokens[1..]).saturating_add(1)
+        pair_size(text, &tokens[1..]) + 1
     } else {
         1
     }

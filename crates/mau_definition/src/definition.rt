@@ -15,7 +15,7 @@ ghost use Rattle.mau_definition.specs.Inner.{HasTypedParts, IsBodyFault};
 
 use crate::bound::{binds, binds_condition};
 use crate::call::{Call, read_call};
-use crate::fault::{DefinitionFault, of_statement, of_strategy};
+use crate::fault::{DefinitionFault, is_memory, is_memory_of_strategy, of_statement, of_strategy};
 use mau_declare::Words;
 use mau_modtext::RawStatement;
 use mau_program::{Fragment, StratDecl, StratDef, Strategy};
@@ -58,7 +58,7 @@ fn call_fault(
 ) -> DefinitionFault
     ensures { (a : Around) → a.words ≡ words.now → a.context ≡ context.now → IfTold (λ g. CallOf a raw.now [] [] (Err g)) fault → IfFault (DefinitionUnread a raw.now) result }
 {
-    if matches!(fault, StratFault::NoMemory) {
+    if is_memory_of_strategy(&fault) {
         return DefinitionFault::NoMemory;
     }
     let mut vars = Vars::new(alloc);
@@ -70,7 +70,7 @@ fn call_fault(
 
 /// The first fault of a definition whose strategy has one: a variable of its condition that isn't bound comes first.
 fn body_fault(alloc: Global, args: &Args, cond: &[Fragment], fault: StratFault) -> DefinitionFault
-    ensures { IfTold (λ g. IfFault (IsBodyFault args.now cond.now g) result) fault }
+    ensures first { IfTold (λ g. IfFault (IsBodyFault args.now cond.now g) result) fault }
     ensures memory { fault ≡ StratFault.NoMemory → result ≡ DefinitionFault.NoMemory }
 {
     if matches!(fault, StratFault::NoMemory) {
@@ -154,14 +154,10 @@ fn judge(alloc: Global, fragments: usize, definition: &StratDef) -> Result<(), D
     ensures fault { IfErr result (IfFault (λ f. DefinitionJudged fragments definition.now (Err f))) }
 {
     if definition.vars.len() > MAX_VARIABLES {
-        return Err(DefinitionFault::Statement(StatementFault::LimitExceeded(
-            Limit::Variables,
-        )));
+        return Err(DefinitionFault::Statement(StatementFault::LimitExceeded(Limit::Variables)));
     }
     if fragments > MAX_FRAGMENTS {
-        return Err(DefinitionFault::Statement(StatementFault::LimitExceeded(
-            Limit::Fragments,
-        )));
+        return Err(DefinitionFault::Statement(StatementFault::LimitExceeded(Limit::Fragments)));
     }
     match binds(alloc, definition) {
         Ok(true) => Ok(()),
@@ -174,7 +170,10 @@ fn judge(alloc: Global, fragments: usize, definition: &StratDef) -> Result<(), D
 fn unread_fault(fragments: usize, fault: DefinitionFault) -> DefinitionFault
     ensures { (a : Around) (raw : RawStatementOf) → length raw.cond ≡ fragments → IfFault (DefinitionUnread a raw) fault → IfFault (λ f. DefinitionRead a raw (Err f)) result }
 {
-    if matches!(fault, DefinitionFault::NoMemory) || fragments <= MAX_FRAGMENTS {
+    if fragments <= MAX_FRAGMENTS {
+        return fault;
+    }
+    if is_memory(&fault) {
         return fault;
     }
     DefinitionFault::Statement(StatementFault::LimitExceeded(Limit::Fragments))

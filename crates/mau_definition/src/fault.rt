@@ -70,3 +70,23 @@ pub fn of_strategy(fault: StratFault) -> DefinitionFault
         fault => DefinitionFault::Strategy(fault),
     }
 }
+
+/// Whether memory was wanted for a strategy.
+pub fn is_memory_of_strategy(fault: &StratFault) -> bool
+    ensures { result ≡ Faults.is_memory_of_strategy fault.now }
+{
+    match fault {
+        StratFault::NoMemory => true,
+        _ => false,
+    }
+}
+
+/// Whether memory was wanted.
+pub fn is_memory(fault: &DefinitionFault) -> bool
+    ensures { result ≡ Faults.is_memory fault.now }
+{
+    match fault {
+        DefinitionFault::NoMemory => true,
+        _ => false,
+    }
+}
