@@ -29,7 +29,7 @@ use crate::frame::{Frame, frame_of};
 use crate::library::Library;
 use crate::limits::limit_passed;
 use crate::module::Module;
-use crate::named::{Named, named_in};
+use crate::naming::{Named, named_in};
 use crate::own::{read_carried, read_own};
 use crate::signing::{Signed, sign_over};
 use crate::statements::{Counts, Statements};
@@ -171,9 +171,7 @@ fn read_statements(
         Ok(named) => named,
         Err(NoMemory) => return Err(ModuleFault::NoMemory),
     };
-    let own = match own_statements(
-        alloc, library, words, raw, frame, signature, grammar, named,
-    ) {
+    let own = match own_statements(alloc, library, words, raw, frame, signature, grammar, named) {
         Ok(own) => own,
         Err(fault) => return Err(fault),
     };

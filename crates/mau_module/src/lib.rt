@@ -12,7 +12,7 @@ pub mod laws;
 mod library;
 mod limits;
 mod module;
-mod named;
+mod naming;
 mod numbering;
 mod own;
 mod prelude;

@@ -26,3 +26,9 @@ returns-in-Err-clause-fault c =
     ap (carried ms c.frame.inside.names s) c.deref.ensures.value ∙ ap (λ (f : Frame). carried_in ms f s) c.frame.view_is in
     parts_at_fault ms c.args.words.now c.args.raw.now c.args.frame.now c.requires.frame c.args.elements.now s c.requires.signed c.in-Err.fault
     (subst (λ a. IfOwn (λ i x. (i ≡ 0) × HasCarriedFault s a x) c.in-Err.fault) same c.in-Err.ensures.at_fault)
+
+pub own_statements-requires-clause-sorts : goal.own_statements-requires-clause-sorts
+own_statements-requires-clause-sorts c = ?
+
+pub returns-in-Err-own_statements-clause-fault : goal.returns-in-Err-own_statements-clause-fault
+returns-in-Err-own_statements-clause-fault c = ?

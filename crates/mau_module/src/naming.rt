@@ -62,13 +62,7 @@ fn label_token(element: &RawElement) -> Option<Token>
     ensures { result ≡ Named.label_token element.now }
 {
     match element {
-        RawElement::Statement(raw) => {
-            if is_rule(raw.kind) {
-                raw.label
-            } else {
-                None
-            }
-        }
+        RawElement::Statement(raw) => { if is_rule(raw.kind) { raw.label } else { None } }
         _ => None,
     }
 }
@@ -202,11 +196,7 @@ fn own_strats(
 }
 
 /// Adds equal declarations.
-fn add_copies(
-    alloc: Global,
-    strats: &[StratDecl],
-    out: &mut Vec<StratDecl>,
-) -> Result<(), NoMemory>
+fn add_copies(alloc: Global, strats: &[StratDecl], out: &mut Vec<StratDecl>) -> Result<(), NoMemory>
     ensures { OnOk result (out.new.items ≡ out.old.items ++ strats.now) }
 {
     for strat in strats {
