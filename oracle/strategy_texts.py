@@ -89,7 +89,8 @@ class Reader:
             self.at += 1
         elif behind == "(":
             if narrow:
-                raise Unexpected(self.at + 1)
+                self.name(word, narrow)
+                raise Unexpected(self.at)
             self.with_parentheses(word)
         elif behind == "[":
             self.values(word)
@@ -192,12 +193,14 @@ class Reader:
             self.unbound |= bound is not None and word not in bound
             return {word}
         if word not in ("a", "b"):
-            self.fault("NoParse", place)
+            self.fault("NoParse", part[0])
         return set()
 
     def fragment(self, ends, bound):
         start, end = self.part(ends)
         words = self.words[start:end]
+        if words[1:2] in ([":"], ["="], [":="]) and words[0] == "(":
+            raise Skipped
         if len(words) == 5 and words[0] == "(" and words[2] == ":" and words[4] == ")":
             self.judge((start + 1, start + 2), bound)
             if words[3] != "S":

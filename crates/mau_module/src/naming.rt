@@ -3,7 +3,8 @@ ghost use Rattle.std.specs.Prelude.{◌≡◌, ◌<◌, ◌≤◌, ◌++◌, len
 ghost use Rattle.std.specs.List.{flat_map};
 ghost use Rattle.mau_poset.specs.declared.TheConstants.{MAX_SORTS};
 ghost use Rattle.mau_program.specs.declared.definitions.StratDecl.{StratDecl as DeclOf};
-ghost use Rattle.mau_module.specs.Named;
+ghost use Rattle.mau_module.specs.Named as Specs;
+ghost use Rattle.mau_modtext.specs.Statements as Parts;
 ghost use Rattle.mau_module.specs.Named.{as_list, labels_of, own_labels, own_strats};
 
 use crate::numbering::number_in;
@@ -49,7 +50,7 @@ fn labels_of(alloc: Global, rules: &[Rule]) -> Result<Vec<Text>, NoMemory>
 
 /// Whether a statement is a rule.
 fn is_rule(kind: StatementKind) -> bool
-    ensures { result ≡ Rattle.mau_modtext.specs.Statements.is_rule kind }
+    ensures { result ≡ Parts.is_rule kind }
 {
     match kind {
         StatementKind::Rule => true,
@@ -59,7 +60,7 @@ fn is_rule(kind: StatementKind) -> bool
 
 /// The label of an element that is a rule, if it has one.
 fn label_token(element: &RawElement) -> Option<Token>
-    ensures { result ≡ Named.label_token element.now }
+    ensures { result ≡ Specs.label_token element.now }
 {
     match element {
         RawElement::Statement(raw) => { if is_rule(raw.kind) { raw.label } else { None } }
@@ -74,7 +75,7 @@ fn add_own_label(
     element: &RawElement,
     labels: &mut Vec<Text>,
 ) -> Result<(), NoMemory>
-    ensures { OnOk result (labels.new.items ≡ labels.old.items ++ Named.label_in words.now element.now) }
+    ensures { OnOk result (labels.new.items ≡ labels.old.items ++ Specs.label_in words.now element.now) }
 {
     match label_token(element) {
         Some(token) => {
@@ -103,7 +104,7 @@ fn add_own_labels(
 /// The number of the sort that one token names.
 fn sort_in(words: &Words, sorts: &Names, tokens: &TokenList) -> u32
     requires { length sorts.now ≤ MAX_SORTS }
-    ensures value { result ≡ Named.sort_in words.now sorts.now tokens.now }
+    ensures value { result ≡ Specs.sort_in words.now sorts.now tokens.now }
     ensures within { 0 < length sorts.now → result < length sorts.now }
 {
     number_in(sorts, words.first_text(tokens.items()))
@@ -117,7 +118,7 @@ fn sorts_in(
     named: &[TokenList],
 ) -> Result<Vec<u32>, NoMemory>
     requires { length sorts.now ≤ MAX_SORTS }
-    ensures { IfOk result (λ found. found.items ≡ map (Named.sort_in words.now sorts.now) named.now) }
+    ensures { IfOk result (λ found. found.items ≡ map (Specs.sort_in words.now sorts.now) named.now) }
 {
     let mut found = Vec::with_capacity(alloc, named.len())?;
     for tokens in named {
@@ -135,7 +136,7 @@ fn declared(
     name: Token,
 ) -> Result<StratDecl, NoMemory>
     requires { length sorts.now ≤ MAX_SORTS }
-    ensures { IfOk result (λ d. d ≡ Named.declared_strat words.now sorts.now strats.now name) }
+    ensures { IfOk result (λ d. d ≡ Specs.declared_strat words.now sorts.now strats.now name) }
 {
     Ok(StratDecl {
         name: Text::new(alloc, words.token_text(name))?,
@@ -153,7 +154,7 @@ fn add_declared(
     out: &mut Vec<StratDecl>,
 ) -> Result<(), NoMemory>
     requires { length sorts.now ≤ MAX_SORTS }
-    ensures { OnOk result (out.new.items ≡ out.old.items ++ map (Named.declared_strat words.now sorts.now strats.now) strats.now.names) }
+    ensures { OnOk result (out.new.items ≡ out.old.items ++ map (Specs.declared_strat words.now sorts.now strats.now) strats.now.names) }
 {
     for name in strats.names.items() {
         out.push(declared(alloc, words, sorts, strats, *name)?)?;
@@ -170,7 +171,7 @@ fn add_strats(
     out: &mut Vec<StratDecl>,
 ) -> Result<(), NoMemory>
     requires { length sorts.now ≤ MAX_SORTS }
-    ensures { OnOk result (out.new.items ≡ out.old.items ++ Named.strats_in words.now sorts.now element.now) }
+    ensures { OnOk result (out.new.items ≡ out.old.items ++ Specs.strats_in words.now sorts.now element.now) }
 {
     match element {
         RawElement::Strats(strats) => add_declared(alloc, words, sorts, strats, out),
