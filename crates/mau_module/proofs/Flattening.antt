@@ -1,12 +1,10 @@
 -- A module of a text, or the fault of one of its statements, from what was read of it in turn.
 use Rattle.std.proofs.Common.{◌≡◌, ◌<◌, ◌≤◌, ℕ, List, ◌++◌, length, sym, ap, ap₂, subst, ◌∙◌, arith}
-use Rattle.std.specs.Prelude.{All, Result, Ok, Err, IfErr}
+use Rattle.std.specs.Prelude.{All, Result, Ok, Err}
 use Rattle.std.proofs.Math.Seq.{drop-append_seam}
 use Rattle.std.proofs.lemmas.List.Elements.{All-push}
 use Rattle.mau_modtext.specs.Word.{Word}
-use Rattle.mau_modtext.specs.declared.raw.RawElement.{RawElement}
 use Rattle.mau_modtext.specs.declared.raw.RawModule.{RawModule}
-use Rattle.mau_statement.specs.Context.{ContextOf}
 use Rattle.mau_signature.specs.declared.decl.Decl.{Decl}
 use Rattle.mau_signature.specs.Signature.{SignatureOf}
 use Rattle.mau_grammar.specs.Grammar.{GrammarOf}
@@ -76,21 +74,6 @@ own_as ms ws raw f e s g labels names strats p q d c r w =
     (subst (λ y. OwnRead (around ws (context_over ms f s (grammar_in ws f e s)) all y) (only_strats strats) 1 raw.elements r) d
     (subst (λ y. OwnRead (around ws (context_over ms f s (grammar_in ws f e s)) y names) (only_strats strats) 1 raw.elements r) q
     (subst (λ y. OwnRead (around ws (context_over ms f s y) labels names) (only_strats strats) 1 raw.elements r) p w)))
-
--- what is read of them is so over what is equal
-pub own_moved : (ws : List Word) (c d : ContextOf) (labels known : List (List ℕ)) (names all : List StratDecl) (strats : List StratDecl) (es fs : List RawElement)
-    → c ≡ d → labels ≡ known → names ≡ all → es ≡ fs → (r : Result StatementsOf (ℕ × DefinitionFault))
-    → OwnRead (around ws c labels names) (only_strats strats) 1 es r → OwnRead (around ws d known all) (only_strats strats) 1 fs r
-own_moved ws c d labels known names all strats es fs p q n e r w =
-    subst (λ y. OwnRead (around ws d known all) (only_strats strats) 1 y r) e
-    (subst (λ y. OwnRead (around ws d known y) (only_strats strats) 1 es r) n
-    (subst (λ y. OwnRead (around ws d y names) (only_strats strats) 1 es r) q
-    (subst (λ y. OwnRead (around ws y labels names) (only_strats strats) 1 es r) p w)))
-
-pub fault_moved : (P Q : ℕ → DefinitionFault → Type 0) → ((i : ℕ) (f : DefinitionFault) → P i f → Q i f) → (r : Result StatementsOf ModuleFault)
-    → IfErr r (IfStated P) → IfErr r (IfStated Q)
-fault_moved P Q h (Ok a) w = tt
-fault_moved P Q h (Err g) w = stated_moved P Q h g w
 
 -- the statements behind those of the parts
 pub behind_parts : (a b : StatementsOf) → behind (counts_of a) (and_more a b) ≡ b

@@ -156,8 +156,8 @@ module _ (ms : List ModuleOf) (ws : List Word) (raw : RawModule) where
       own_once (around_in ms ws raw f e s) (shaped_of s f.names (map (variable_at ws s.hierarchy) e.variables)) x
       (subst (λ e. OwnAs ms ws raw f e s r') (sym m.0) (subst (λ s. OwnAs ms ws raw f e' s r') (sym m.1) x'))
 
-  same_fault : {i i' : ℕ} {f f' : DefinitionFault} → own_told (Err (i, f)) ≡ own_told (Err (i', f')) → told (Err (statement_fault i f)) ≡ told (Err (statement_fault i' f'))
-  same_fault {i} {i'} {f} {f'} e =
+  same_fault : (i i' : ℕ) (f f' : DefinitionFault) → own_told (Err (i, f)) ≡ own_told (Err (i', f')) → told (Err (statement_fault i f)) ≡ told (Err (statement_fault i' f'))
+  same_fault i i' f f' e =
       let m = err_once refl e in
       ap (λ g. Err g) (told_numbered i f ∙ (ap (λ (p : ℕ × DefinitionFault). statement_fault p.0 p.1) m ∙ sym (told_numbered i' f')))
 
@@ -218,7 +218,7 @@ module _ (ms : List ModuleOf) (ws : List Word) (raw : RawModule) where
   module_once (own_at_fault e s i f p l x) (sort_unknown at' f' x') = absurd (ok_err p.elements x')
   module_once (own_at_fault e s i f p l x) (not_signed e' t' f' x' y') = absurd (not_refused ms ws raw x' y' p)
   module_once (own_at_fault e s i f p l x) (carried_at_fault e' s' f' p' x') = absurd (not_lawful ms ws raw p p' l x')
-  module_once (own_at_fault e s i f p l x) (own_at_fault e' s' i' f' p' l' x') = same_fault (same_own p p' x x')
+  module_once (own_at_fault e s i f p l x) (own_at_fault e' s' i' f' p' l' x') = same_fault i i' f f' (same_own p p' x x')
   module_once (own_at_fault e s i f p l x) (flattened e' s' a' p' l' x') = absurd (ok_err refl (same_own p' p x' x))
   module_once (flattened e s a p l x) (module_unknown n' k') = absurd (some_none k' p.framed.known)
   module_once (flattened e s a p l x) (import_too_deep k' d') = absurd (deep_shallow ms ws raw d' p.framed.shallow)

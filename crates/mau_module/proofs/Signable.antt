@@ -21,7 +21,7 @@ use Rattle.mau_signing.specs.Signed.{SignatureRead, signature_read, signature_ov
 use Rattle.mau_signing.proofs.OneSignature.{signature_once}
 use Rattle.mau_statement.specs.declared.fault.StatementFault.{StatementFault}
 use Rattle.mau_module.specs.declared.fault.ModuleFault.{ModuleFault}
-use Rattle.mau_module.specs.declared.fault.ModuleFault.TheVariants.{UnknownModule, ImportTooDeep, TooLarge, UnknownSort, Signed, Statement, NoMemory as OutOfMemory}
+use Rattle.mau_module.specs.declared.fault.ModuleFault.TheVariants.{UnknownModule, ImportTooDeep, TooLarge, UnknownSort, Signed, Statement, Strategy, NoMemory as OutOfMemory}
 use Rattle.mau_module.specs.Faults.{IfOwn, IfSigned, fault_of}
 use Rattle.mau_module.specs.Modules.{ModuleOf, StatementsOf}
 use Rattle.mau_module.specs.Included.{numerals_of, pairs_of, has_truth}
@@ -49,6 +49,7 @@ signed_none P never ImportTooDeep p = absurd p
 signed_none P never (TooLarge limit) p = absurd p
 signed_none P never (UnknownSort at) p = absurd p
 signed_none P never (Statement i f) p = absurd p
+signed_none P never (Strategy i f) p = absurd p
 
 own_none : (P : ℕ → StatementFault → Type 0) → ((i : ℕ) (x : StatementFault) → P i x → ⊥) → (f : ModuleFault) → IfOwn P f → f ≡ OutOfMemory
 own_none P never (Statement i x) p = absurd (never i x p)
@@ -58,6 +59,7 @@ own_none P never (UnknownModule name) p = absurd p
 own_none P never ImportTooDeep p = absurd p
 own_none P never (TooLarge limit) p = absurd p
 own_none P never (UnknownSort at) p = absurd p
+own_none P never (Strategy i f) p = absurd p
 
 no_carried_fault : (s : SignatureOf) (a : StatementsOf) → AreLawful s a → (f : StatementFault) → HasCarriedFault s a f → ⊥
 no_carried_fault s a l _ (no_left_side n) = n l.left_sides

@@ -8,6 +8,7 @@ use Rattle.mau_tokens.specs.declared.token.Token.{Token}
 use Rattle.mau_poset.specs.Order.{Hierarchy, kind_of, kinds}
 use Rattle.mau_poset.proofs.Orders.{kind_of-in_range}
 use Rattle.mau_signature.specs.Faults.{IsSort}
+use Rattle.std.specs.Option.{option_map_or}
 use Rattle.mau_signature.specs.Signature.{SignatureOf}
 use Rattle.mau_modtext.specs.Word.{Word}
 use Rattle.mau_modtext.specs.declared.raw.RawElement.{RawElement}
@@ -66,7 +67,7 @@ module _ (names : List (List ℕ)) (h : Hierarchy) (named : length names ≡ h.s
     part_sorts : (p : ℕ) → AreThere (carried_part ms names s p).strats
     part_sorts p = by (slice_get ms p)
       where
-        by : (o : Option ModuleOf) → AreThere (elim o as (λ _. StatementsOf) [ Some m ↦ carried_from (numbers_from m names s) m.own.statements | None ↦ no_statements ]).strats
+        by : (o : Option ModuleOf) → AreThere (option_map_or (λ m. carried_from (numbers_from m names s) m.own.statements) o no_statements).strats
         by (Some m) = moved_sorts m m.own.statements.strats
         by None = All-nil (HasSorts h)
 

@@ -12,8 +12,8 @@ use Rattle.mau_module.proofs.own.read_own.Goals.{in-Some+in-Ok+in_ok-add-in-Ok, 
 pub loop-element-init : goal.loop-element-init
 loop-element-init c = record {
   few = omega arith;
-  rest = λ r o. subst (λ a. OwnRead (around c.args.words.now c.args.context.now c.args.labels.now c.args.names.now) a 1 c.args.elements.now r) c.new-own.ensures o;
-  lawful = subst (AreLawfulOver c.args.context.now.signature) (sym c.new-own.ensures) (strats_lawful c.args.context.now.signature c.args.strats.items);
+  rest = λ r o. subst (λ a. OwnRead (around c.args.words.now c.args.context.now c.args.labels.now c.args.names.now) a 1 c.args.elements.now r) c.of_strats-own.ensures o;
+  lawful = subst (AreLawfulOver c.args.context.now.signature) (sym c.of_strats-own.ensures) (strats_lawful c.args.context.now.signature c.args.strats.items);
 }
 
 pub loop-element-preserved : goal.loop-element-preserved
