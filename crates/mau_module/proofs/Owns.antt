@@ -5,7 +5,10 @@ use Rattle.std.proofs.Math.Seq.{drop-cons}
 use Rattle.mau_modtext.specs.declared.raw.RawElement.{RawElement}
 use Rattle.mau_modtext.specs.declared.raw.RawStatement.{RawStatement}
 use Rattle.mau_definition.specs.Definitions.{Around}
-use Rattle.mau_definition.specs.Faults.{IfFault}
+use Rattle.mau_statement.specs.Faults.{IfFault as IfFaultOfStatement}
+use Rattle.mau_statement.specs.declared.fault.StatementFault.{StatementFault}
+use Rattle.mau_statement.specs.declared.fault.StatementFault.TheVariants.{LimitExceeded, Parse, UnknownSort, LhsVariable, MembershipHead, UnboundVariable, NoMemory as NoMemoryOfStatement}
+use Rattle.mau_definition.specs.Faults.{IfFault, of_statement}
 use Rattle.mau_definition.specs.declared.fault.DefinitionFault.{DefinitionFault}
 use Rattle.mau_definition.specs.declared.fault.DefinitionFault.TheVariants.{Statement as OfStatement, Strategy as OfStrategy, NoMemory}
 use Rattle.mau_module.specs.declared.fault.ModuleFault.{ModuleFault}
@@ -34,6 +37,26 @@ module _ (a : Around) (es : List RawElement) (own : StatementsOf) (before i : �
   -- one at fault
   pub refused : (raw : RawStatement) (f : DefinitionFault) → statement_in e ≡ Some raw → StatedRead a raw (Err f) → OwnRead a own (before + 1) (drop i es) (Err (before + 1, f))
   refused raw f q s = subst (λ xs. OwnRead a own (before + 1) xs (Err (before + 1, f))) (sym front) (at_fault own (before + 1) e (drop (suc i) es) raw f q s)
+
+-- a fault that is handed on
+pub handed_on : (P Q : DefinitionFault → Type 0) → ((f : DefinitionFault) → P f → Q f) → (f : DefinitionFault) → IfFault P f → IfFault Q f
+handed_on P Q h (OfStatement f) p = h (OfStatement f) p
+handed_on P Q h (OfStrategy f) p = h (OfStrategy f) p
+handed_on P Q h NoMemory p = p
+
+-- that of a statement which defines no strategy
+pub of_plain : (P : StatementFault → Type 0) (Q : DefinitionFault → Type 0) → ((f : StatementFault) → P f → Q (OfStatement f)) → (f : StatementFault) (g : DefinitionFault)
+    → g ≡ of_statement f → IfFaultOfStatement P f → IfFault Q g
+of_plain P Q h f g e p = subst (IfFault Q) (sym e) (by f p)
+  where
+    by : (f : StatementFault) → IfFaultOfStatement P f → IfFault Q (of_statement f)
+    by (LimitExceeded l) p = h (LimitExceeded l) p
+    by (Parse x) p = h (Parse x) p
+    by (UnknownSort n) p = h (UnknownSort n) p
+    by LhsVariable p = h LhsVariable p
+    by MembershipHead p = h MembershipHead p
+    by UnboundVariable p = h UnboundVariable p
+    by NoMemoryOfStatement p = p
 
 -- a fault with its number
 module _ (n : ℕ) (Q : DefinitionFault → Type 0) (P : ℕ → DefinitionFault → Type 0) (then : (f : DefinitionFault) → Q f → P n f) where
