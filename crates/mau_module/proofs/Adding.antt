@@ -1,5 +1,5 @@
 -- Statements that are added one by one stay lawful.
-use Rattle.std.proofs.Common.{◌≡◌, ◌≤◌, List, [], ◌∷◌, ◌++◌, length, Ok, sym, subst}
+use Rattle.std.proofs.Common.{◌≡◌, ◌≤◌, List, length, Ok, sym, subst}
 use Rattle.std.proofs.lemmas.List.Elements.{All-nil, All-push}
 use Rattle.mau_signature.specs.Signature.{SignatureOf}
 use Rattle.mau_program.specs.declared.statements.Equation.{Equation as EquationType}

@@ -1,7 +1,6 @@
 -- No attribute of a text makes an operator native.
 use Rattle.std.proofs.Common.{◌≡◌, ℕ, List, [], ◌∷◌, ◌++◌, Bool, true, false, cond, map, length, Option, Some, None, refl, sym, ◌∙◌, ap, subst, inl, inr}
 use Rattle.std.specs.Prelude.{Result, Ok, Err, fold, bytes_eq, codes}
-use Rattle.std.specs.List.{flat_map}
 use Rattle.mau_terms.specs.Finite.{IsIn}
 use Rattle.mau_tokens.specs.declared.token.Token.{Token}
 use Rattle.mau_signature.specs.declared.attributes.Attrs.{Attrs}
@@ -13,10 +12,9 @@ use Rattle.mau_modtext.specs.declared.raw.RawAttr.{RawAttr}
 use Rattle.mau_modtext.specs.declared.raw.RawOps.{RawOps}
 use Rattle.mau_modtext.specs.declared.raw.RawElement.{RawElement}
 use Rattle.mau_modtext.specs.declared.raw.RawElement.TheVariants.{Import, Sorts, Subsorts, Ops, Vars, Statement, Strats}
-use Rattle.mau_declare.specs.declared.element.SortUse.{SortUse}
 use Rattle.mau_declare.specs.declared.element.Operators.{Operators}
 use Rattle.mau_declare.specs.Words.{token_text}
-use Rattle.mau_declare.specs.Attributes.{given_by, given, attributes}
+use Rattle.mau_declare.specs.Attributes.{given_by, given}
 use Rattle.mau_declare.specs.Elements.{Elements, no_elements, sort_use, subsort_pairs, argument_step, operators_over, operators, variables, with_operators, behind_statement, element_step, elements_of}
 use Rattle.mau_declare.specs.Statements.{unknown_in_statement, unknown_in_strats}
 use Rattle.mau_declare.specs.Flattened.{declarations, declarations_in, declaration_at}

@@ -1,7 +1,6 @@
 -- The sorts of declared strategies are sorts of the module: those of its parts in its numbers, and its own.
-use Rattle.std.proofs.Common.{◌≡◌, ◌<◌, ◌≤◌, ℕ, ◌+◌, List, [], ◌∷◌, ◌++◌, Option, Some, None, Bool, true, false, length, get_or, map, refl, sym, ap, subst, ◌⊎◌, inl, inr, arith}
-use Rattle.std.specs.Prelude.{All, codes, fold, slice_get, bytes_eq, position, nat_lt, if◌then◌else◌}
-use Rattle.std.specs.List.{flat_map}
+use Rattle.std.proofs.Common.{◌≡◌, ◌<◌, ℕ, ◌+◌, List, [], ◌∷◌, ◌++◌, Option, Some, None, Bool, true, false, length, get_or, map, refl, sym, subst, arith}
+use Rattle.std.specs.Prelude.{All, codes, fold, slice_get, bytes_eq, nat_lt, if◌then◌else◌}
 use Rattle.std.proofs.lemmas.List.Elements.{All-nil, All-append, All-map}
 use Rattle.std.proofs.lemmas.List.Quantifiers.{position-Some}
 use Rattle.mau_tokens.specs.declared.token.Token.{Token}
@@ -19,7 +18,6 @@ use Rattle.mau_declare.specs.Flattened.{name_at}
 use Rattle.mau_declare.specs.Names.{number_of}
 use Rattle.mau_program.specs.BuiltIns.{HasTruth}
 use Rattle.mau_program.specs.declared.definitions.StratDecl.{StratDecl}
-use Rattle.mau_renumber.specs.Carried.{Numbers}
 use Rattle.mau_renumber.specs.Strategies.{strategy_declaration_to}
 use Rattle.mau_strattext.specs.Setting.{HasSorts}
 use Rattle.mau_module.specs.Modules.{ModuleOf, StatementsOf, no_statements, and_more}

@@ -1,8 +1,6 @@
 use Rattle.std.proofs.Common.{subst}
-use Rattle.std.specs.Prelude.{IfOk, IfErr, Err, All, Ok}
-use Rattle.mau_signature.specs.Signature.{SignatureOf}
+use Rattle.std.specs.Prelude.{IfOk}
 use Rattle.mau_statement.specs.Context.{ContextOf}
-use Rattle.mau_strattext.specs.Setting.{HasSorts}
 use Rattle.mau_module.specs.Made.{AreLawfulOver}
 use Rattle.mau_module.proofs.flatten.own_statements.Goals as goal
 

@@ -1,8 +1,5 @@
-use Rattle.std.proofs.Common.{◌≡◌, ℕ, ◌++◌, ap, ap₂, sym, subst, ◌∙◌, Err, Ok}
-use Rattle.std.specs.Prelude.{List}
-use Rattle.mau_program.specs.declared.definitions.StratDecl.{StratDecl}
+use Rattle.std.proofs.Common.{◌≡◌, ◌++◌, ap, ap₂, subst, ◌∙◌, Err, Ok}
 use Rattle.mau_definition.specs.Definitions.{around}
-use Rattle.mau_definition.specs.declared.fault.DefinitionFault.{DefinitionFault}
 use Rattle.mau_module.specs.Carried.{carried}
 use Rattle.mau_module.specs.Faults.{IfOwn}
 use Rattle.mau_module.specs.Framed.{Frame}

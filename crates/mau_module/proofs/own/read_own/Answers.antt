@@ -1,6 +1,6 @@
 use Rattle.std.proofs.Common.{◌+◌, sym, ap, subst, ◌∙◌, Err, Ok, arith}
 use Rattle.std.specs.Option.{option_copied}
-use Rattle.mau_definition.specs.Definitions.{Around, around}
+use Rattle.mau_definition.specs.Definitions.{around}
 use Rattle.mau_module.specs.Stated.{StatedRead, OwnRead, only_strats, none_left}
 use Rattle.mau_module.specs.Made.{AreLawfulOver}
 use Rattle.mau_module.proofs.Adding.{one_added, strats_lawful}
