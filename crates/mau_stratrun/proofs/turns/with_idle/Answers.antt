@@ -1,0 +1,4 @@
+use Rattle.mau_stratrun.proofs.turns.with_idle.Goals as goal
+
+pub returns-clause-leaves : goal.returns-clause-leaves
+returns-clause-leaves c leaves all = c.add-2.ensures.leaves leaves (c.add.ensures.leaves leaves all)
