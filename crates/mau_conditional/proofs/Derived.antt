@@ -55,7 +55,7 @@ module _ (p : Typed.Program) (hooks : List Operator) (limit : ℕ) (remembers : 
   sort_from x i v j r h =
       let own = values_are_known p hooks limit remembers heads accepted nodes table derived u.subject normal settled u.pattern x i v j in
       let one = values_are_one.2 (program_over p hooks) v h.sorts own.sorts 0 0 (record { level = h.levels; each = limit; budget = 0; left = 0; comes = h.known 0 })
-          (record { level = own.levels; each = limit; budget = 0; left = 0; comes = own.known_at 0 }) in
+      (record { level = own.levels; each = limit; budget = 0; left = 0; comes = own.known_at 0 }) in
       (own.exact r).0 (subst (λ ss. has_number ss r ≡ true) one.0 h.has)
 
   are_derived_by : (w : Bool) → AreDerived (meanings_by p hooks limit remembers) nodes table w u
@@ -96,7 +96,7 @@ module _ (m : Meanings) (goes : GoesByProgram m) (s : SignatureOf) (es : s ≡ m
     (w : Bool) (a : Asked) (given : Option Declared.Solution) (ready : IsReadyFor w s nodes table a given) (o : Option Matcher) where
   pub listed_derived :
       ((known : Known) → IsTableOf m.program.sig known nodes table →
-          IsNext (IsSolution w m.program.sig (BySort m.program.sig known) (question_in nodes a)) (matcher_cmp (theory_at m.program.sig) a.pattern) (option_map (matcher_in nodes) given) o) →
+      IsNext (IsSolution w m.program.sig (BySort m.program.sig known) (question_in nodes a)) (matcher_cmp (theory_at m.program.sig) a.pattern) (option_map (matcher_in nodes) given) o) →
       IsNext (IsSolution w s (HasDerivedSort m) (question_in nodes a)) (matcher_cmp (theory_at s) a.pattern) (option_map (matcher_in nodes) given) o
   listed_derived h =
       let r = m.program.sig in

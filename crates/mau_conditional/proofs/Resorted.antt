@@ -39,9 +39,9 @@ module _ (s : SignatureOf) (P Q : ℕ → Tree → Type 0) where
       bare = is.bare;
       values = is.values;
       solves = (
-          is.solves.0,
-          resort (variables u.pattern) is.bare (each is.bare [] [] (fits_alone (terms_over s) lawful u.pattern (reading (theory_at s) u.subject) is.bare is.solves.0)) is.solves.1,
-        );
+        is.solves.0,
+        resort (variables u.pattern) is.bare (each is.bare [] [] (fits_alone (terms_over s) lawful u.pattern (reading (theory_at s) u.subject) is.bare is.solves.0)) is.solves.1,
+      );
       agrees = is.agrees;
       no_left = is.no_left;
       no_right = is.no_right;

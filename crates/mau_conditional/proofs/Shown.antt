@@ -13,7 +13,7 @@ use Rattle.mau_terms.specs.Subst.{variables}
 use Rattle.mau_program.specs.declared.statements.Fragment.{Fragment}
 use Rattle.mau_api.specs.Programs.{fragment_of}
 use Rattle.mau_api.specs.Meanings.{Meanings}
-use Rattle.mau_api.specs.Answers.{DerivesNothing}
+use Rattle.mau_results.specs.Results.{DerivesNothing}
 use Rattle.mau_listing.specs.Matcher.{Matcher}
 use Rattle.mau_listing.specs.Next.{matcher_cmp, IsLeastBehind, IsNext}
 use Rattle.mau_listing.specs.Question.{IsSolution}

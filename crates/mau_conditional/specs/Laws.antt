@@ -6,7 +6,7 @@ use Rattle.mau_listing.specs.Matcher.{Matcher}
 use Rattle.mau_listing.specs.Next.{matcher_cmp}
 use Rattle.mau_listing.specs.Question.{Question, IsSolution}
 use Rattle.mau_api.specs.Meanings.{Meanings}
-use Rattle.mau_api.specs.Answers.{DerivesNothing}
+use Rattle.mau_results.specs.Results.{DerivesNothing}
 use Rattle.mau_conditional.specs.Where.{Ending, ShowsWhere}
 use Rattle.mau_conditional.specs.Meant.{HasDerivedSort, Asks}
 

@@ -9,7 +9,7 @@ use Rattle.mau_evaluation.specs.Run.{Outcome, done}
 use Rattle.mau_evaluation.specs.Evaluation.{Binding, has_number}
 use Rattle.mau_api.specs.Programs.{fragment_of}
 use Rattle.mau_api.specs.Meanings.{Meanings}
-use Rattle.mau_api.specs.Answers.{DerivesNothing}
+use Rattle.mau_results.specs.Results.{condition_levels, DerivesNothing}
 
 -- by the meanings m the normal form t has the sort r: for some number of levels, with the budget of an item for each condition of a membership, its sorts are
 -- known, and r is one of them
@@ -22,4 +22,4 @@ pub record HasDerivedSort (m : Meanings) (r : ℕ) (t : Tree) : Type 0 where
 -- asking the condition c for the values of p's variables in x with a budget may give this: on the levels of a condition that an item asks or, where sorts were
 -- derived before, on more
 abbrev pub Asks : Meanings → Tree → List Fragment → Matcher → ℕ → Outcome (Option Binding) → Type 0
-Asks m p c x b o = (k : ℕ) × (1999 ≤ k) × (DerivesNothing m → k ≡ 1999) × (m.solving k m.limit (map fragment_of c) (zip (variables p) x.values) b ≡ o)
+Asks m p c x b o = (k : ℕ) × (condition_levels ≤ k) × (DerivesNothing m → k ≡ condition_levels) × (m.solving k m.limit (map fragment_of c) (zip (variables p) x.values) b ≡ o)

@@ -11,7 +11,7 @@ use Rattle.mau_listing.specs.Next.{matcher_cmp}
 use Rattle.mau_listing.proofs.Ordered.{matchers_are_ordered}
 use Rattle.mau_program.specs.declared.statements.Fragment.{Fragment}
 use Rattle.mau_api.specs.Meanings.{Meanings}
-use Rattle.mau_api.specs.Answers.{DerivesNothing}
+use Rattle.mau_results.specs.Results.{DerivesNothing}
 use Rattle.mau_conditional.specs.Where.{Ending}
 use Rattle.mau_conditional.specs.Meant.{Asks}
 use Rattle.mau_conditional.proofs.Shown.{shown_alike, asked_once}

@@ -109,14 +109,7 @@ pub fn list_further(
         false,
         sorts,
     )?;
-    let has_ended = show_query(
-        out,
-        session.alloc,
-        module,
-        &mut query,
-        &mut evaluator,
-        most,
-    )?;
+    let has_ended = show_query(out, session.alloc, module, &mut query, &mut evaluator, most)?;
     Ok(left_by(query, evaluator.into_sorts(), has_ended))
 }
 
