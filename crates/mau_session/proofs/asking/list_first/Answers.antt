@@ -16,7 +16,7 @@ use Rattle.mau_session.specs.Gains.{gains_solutions, gains_sorts_end, gains_solu
 use Rattle.mau_session.proofs.Evaluated.{none_used}
 use Rattle.mau_session.proofs.Answering.{gains_listing}
 use Rattle.mau_session.proofs.AskedBy.{meant_in, gains_listing_where}
-use Rattle.mau_session.proofs.Begun.{goes_in, over_as, ready_as, known_as, ends_as, goes_as, kept_as, can_be_asked}
+use Rattle.mau_session.proofs.Begun.{goes_in, over_as, ready_as, known_as, ends_as, goes_as, kept_as, kept_any, can_be_asked}
 use Rattle.mau_session.proofs.asking.list_first.Goals as goal
 
 pub new-requires-clause-lawful : goal.new-requires-clause-lawful
@@ -81,7 +81,7 @@ returns-in_ok-has_ended-in-Ok-clause-ready g c =
     let next = c.show_query.new.query in
     c.left_by.ensures.ready m (record {
       ready = subst (λ (t : Table). IsReady m.signature t next) (sym c.into_sorts.ensures.table) c.in_ok-has_ended-in-Ok.ensures.ready;
-      kept = kept_as m ops limit _ own next.store c.into_sorts.result (c.into_sorts.ensures.kept next.store c.in_ok-has_ended-in-Ok.ensures.fits);
+      kept = kept_any m ops limit c.requires.lawful c.requires.query.lawful c.requires.plain next.store c.into_sorts.result (kept_as m ops limit _ own next.store c.into_sorts.result (c.into_sorts.ensures.kept next.store c.in_ok-has_ended-in-Ok.ensures.fits));
       plain = c.requires.plain;
     })
 

@@ -22,7 +22,7 @@ use Rattle.mau_session.specs.Gains.{gains_solutions, gains_sorts_end, gains_solu
 use Rattle.mau_session.proofs.Evaluated.{none_used}
 use Rattle.mau_session.proofs.Answering.{gains_listing}
 use Rattle.mau_session.proofs.AskedBy.{meant_in, gains_listing_where}
-use Rattle.mau_session.proofs.Begun.{goes_in, over_as, ready_as, known_as, ends_as, goes_as, kept_as, can_be_asked}
+use Rattle.mau_session.proofs.Begun.{goes_in, over_as, ready_as, known_as, ends_as, goes_as, kept_as, kept_any, can_be_asked}
 use Rattle.mau_session.proofs.asking.list_first_where.Goals as goal
 
 pub new-requires-clause-lawful : goal.new-requires-clause-lawful
@@ -100,7 +100,7 @@ returns-in_ok-ending-in-Ok-clause-ready g c =
     c.left_where.ensures.ready m (λ bound. record {
       query = record {
         ready = subst (λ (t : Table). IsReady m.signature t next.query) (sym c.into_sorts.ensures.table) (c.in_ok-ending-in-Ok.ensures.ready bound);
-        kept = kept_as m ops limit _ own next.query.store c.into_sorts.result (c.into_sorts.ensures.kept next.query.store (c.in_ok-ending-in-Ok.ensures.fits bound));
+        kept = kept_any m ops limit c.requires.lawful c.requires.query.lawful c.requires.plain next.query.store c.into_sorts.result (kept_as m ops limit _ own next.query.store c.into_sorts.result (c.into_sorts.ensures.kept next.query.store (c.in_ok-ending-in-Ok.ensures.fits bound)));
         plain = c.requires.plain;
       };
       condition = subst (λ (fs : List Fragment). IsAskable m.signature (variables (tree_of next.query.pattern)) fs) (sym c.show_kept.ensures.condition)

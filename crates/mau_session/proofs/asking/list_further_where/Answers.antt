@@ -22,7 +22,7 @@ use Rattle.mau_session.specs.Gains.{gains_solutions, gains_sorts_end, gains_solu
 use Rattle.mau_session.proofs.Evaluated.{none_used}
 use Rattle.mau_session.proofs.Answering.{gains_listing}
 use Rattle.mau_session.proofs.AskedBy.{meant_in, gains_listing_where}
-use Rattle.mau_session.proofs.Begun.{goes_in, over_as, ready_as, known_as, ends_as, goes_as, kept_as, kept_for, can_be_asked}
+use Rattle.mau_session.proofs.Begun.{goes_in, over_as, ready_as, known_as, ends_as, goes_as, kept_as, kept_any, kept_for, can_be_asked}
 use Rattle.mau_session.proofs.asking.list_further_where.Goals as goal
 
 pub with_sorts-requires-clause-lawful : goal.with_sorts-requires-clause-lawful
@@ -40,7 +40,7 @@ show_kept-requires-clause-ready g c =
 pub show_kept-requires-clause-fits : goal.show_kept-requires-clause-fits
 show_kept-requires-clause-fits g c =
     c.in_ok-evaluator.ensures.fits c.args.kept.query.store
-    (kept_for c.args.module.now c.program-program.result.now c.program-program.ensures c.args.kept.query.store c.args.sorts (operators c.args.session.now.hooks.now) c.args.session.now.limit c.requires.ready.query.kept)
+    (kept_for c.args.module.now c.program-program.result.now c.program-program.ensures c.args.kept.query.store c.args.sorts (operators c.new-natives.result.table.now) c.args.session.now.limit c.requires.ready.query.kept)
 
 pub show_kept-requires-clause-can : goal.show_kept-requires-clause-can
 show_kept-requires-clause-can g c =
@@ -84,7 +84,7 @@ returns-clause-ready g c =
     c.left_where.ensures.ready m (λ bound. record {
       query = record {
         ready = subst (λ (t : Table). IsReady m.signature t next.query) (sym c.into_sorts.ensures.table) (c.in_ok-ending.ensures.ready bound);
-        kept = kept_as m ops limit _ own next.query.store c.into_sorts.result (c.into_sorts.ensures.kept next.query.store (c.in_ok-ending.ensures.fits bound));
+        kept = kept_any m ops limit c.requires.lawful c.requires.ready.query.ready.query.lawful c.requires.ready.query.plain next.query.store c.into_sorts.result (kept_as m ops limit _ own next.query.store c.into_sorts.result (c.into_sorts.ensures.kept next.query.store (c.in_ok-ending.ensures.fits bound)));
         plain = c.requires.ready.query.plain;
       };
       condition = subst (λ (fs : List Fragment). IsAskable m.signature (variables (tree_of next.query.pattern)) fs) (sym c.show_kept.ensures.condition)
