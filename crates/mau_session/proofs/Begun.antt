@@ -17,7 +17,6 @@ use Rattle.mau_sorts.specs.HasSort.{HasSort}
 use Rattle.mau_sorts.specs.SortSets.{SortsOf}
 use Rattle.mau_trial.proofs.Among.{contains_none}
 use Rattle.mau_sorts.specs.Table.{Table}
-use Rattle.mau_listing.proofs.Answered.{normal_is}
 use Rattle.mau_program.specs.LawfulPrograms.{IsLawfulProgram}
 use Rattle.mau_program.specs.declared.program.Program as Typed
 use Rattle.mau_program.specs.declared.statements.Fragment.{Fragment}
@@ -59,7 +58,7 @@ module _ (m : ModuleOf) (ops : List Operator) (limit : ℕ) (is : IsLawfulProgra
       let over : IsTreeOver s t = subst (IsTreeOver s) normal.0 (norm_over s lawful t (subst (λ u. IsBare (terms_over s) (reading (theory_at s) u)) (sym normal.0) normal.1)) in
       let sorts : has.sorts ≡ plain_sorts P none (norm (theory_at s) t) = (let e = sym (has.known 0) ∙ sorts_known P none limit has.levels (norm (theory_at s) t) 0 in cc) in
       let own : has_number (plain_sorts P none t) r ≡ true = ap (λ u. has_number (plain_sorts P none u) r) (sym normal.0) ∙ (ap (λ ss. has_number ss r) (sym sorts) ∙ has.has) in
-      sort_kind s is.accepted lawful [] (λ u q c. absurd (contains_none (u, q) c)) t (normal_is (theory_at s) lawful.theories t normal.0) over r ((plain_exact (program_of m) ops is.accepted none t over r).0 own) k bare
+      sort_kind s is.accepted lawful [] (λ u q c. absurd (contains_none (u, q) c)) t normal.0 over r ((plain_exact (program_of m) ops is.accepted none t over r).0 own) k bare
 
   -- an entry of derived sorts has the declared ones, so it is one whatever the native operators and the budget
   entry_any : (hooks : List Operator) (budget : ℕ) (t : Tree) (e : SortsOf) → IsNormalBare m.signature t → IsEntryOf (meanings_by (program_of m) ops limit false) t e →
