@@ -49,7 +49,7 @@ use Rattle.mau_session.specs.Where.{ShowsWhere, left_where, where_lines, WhereAn
 use Rattle.mau_session.specs.RuleRun.{RuleRunOf, rewriting_condition}
 use Rattle.mau_session.specs.RunLines.{run_head, run_lines, left_by_run}
 use Rattle.mau_session.specs.RewriteAnswer.{RunTermAnswer, start_refused, start_answered, RewriteAnswer, rewrites_nothing, rewrite_unknown, rewrite_not_built, rewrite_unbounded, rewrite_conditional, rewrite_answered}
-use Rattle.mau_session.specs.Transcript.{TermAnswer, term_refused, term_answered, ReduceAnswer, reduces_nothing, reduce_unknown, reduce_not_built, reduce_answered, reduce_is_answered, rewrite_is_answered, PatternReads, SubjectReads, TermsRead, TermsAnswer, pattern_refused, subject_refused, too_deep, overflows, sorts_end, listed, asks_where, MatchAnswer, command_not_built, module_unknown, listing_not_built, bound_refused, command_answered, ContinueAnswer, number_refused, nothing_to_continue, continued, continued_where, run_continued, BodyAnswer, module_not_built, module_accepted, module_refused, match_answered, continue_answered, other_unknown, other_not_built, SettingAnswer, trace_not_built, trace_off, changes_nothing, module_selected, selects_none, setting_answered, ItemAnswer, item_faulty, item_answered, ItemsAnswer, items_end, item_quits, item_first, Transcript, text_refused, items_answered}
+use Rattle.mau_session.specs.Transcript.{TermAnswer, term_refused, term_answered, ReduceAnswer, reduces_nothing, reduce_unknown, reduce_not_built, reduce_answered, reduce_is_answered, rewrite_is_answered, PatternReads, SubjectReads, TermsRead, TermsAnswer, pattern_refused, subject_refused, too_deep, overflows, sorts_end, listed, asks_where, MatchAnswer, command_not_built, module_unknown, listing_not_built, bound_refused, command_answered, ContinueAnswer, number_refused, nothing_to_continue, continued, continued_where, run_continued, BodyAnswer, module_accepted, module_refused, match_answered, continue_answered, other_unknown, other_not_built, SettingAnswer, trace_not_built, trace_off, changes_nothing, module_selected, selects_none, setting_answered, ItemAnswer, item_faulty, item_answered, ItemsAnswer, items_end, item_quits, item_first, Transcript, text_refused, items_answered}
 use Rattle.mau_tokens.proofs.Answer.{answers_are_one as tokens_are_one}
 use Rattle.mau_api.proofs.LawfulMeanings.{meanings_are_lawful}
 use Rattle.mau_module.specs.Lawful.{program_of}
@@ -486,18 +486,13 @@ module _ (env : Environment) (free : env.remembers ≡ false) (ws : List Word) (
   setting_once (selects_none name h) (selects_none name' h') = one_item
 
   body_once : {x : RawBody} {u v : StateOf} {b c : List ℕ} {r s : Bool} → BodyAnswer env ws st k i x u b r → BodyAnswer env ws st k i x v c s → AreOneItem u v b c r s
-  body_once (module_not_built raw f) (module_not_built raw' f') = one_item
-  body_once (module_not_built raw f) (module_accepted raw' m' t' x') = absurd (yes_no _ t' f)
-  body_once (module_not_built raw f) (module_refused raw' w' t' x') = absurd (yes_no _ t' f)
-  body_once (module_accepted raw m t x) (module_not_built raw' f') = absurd (yes_no _ t f')
-  body_once (module_accepted raw m t x) (module_accepted raw' m' t' x') =
+  body_once (module_accepted raw m x) (module_accepted raw' m' x') =
       let o = module_once st.modules ws raw x x' in
       let e : m ≡ m' = cc in
       record { state = ap (accepted st) e; bytes = ap (module_line k) e; refused = refl }
-  body_once (module_accepted raw m t x) (module_refused raw' w' t' x') = let o = module_once st.modules ws raw x x' in absurd cc
-  body_once (module_refused raw w t x) (module_not_built raw' f') = absurd (yes_no _ t f')
-  body_once (module_refused raw w t x) (module_accepted raw' m' t' x') = let o = module_once st.modules ws raw x x' in absurd cc
-  body_once (module_refused raw w t x) (module_refused raw' w' t' x') =
+  body_once (module_accepted raw m x) (module_refused raw' w' x') = let o = module_once st.modules ws raw x x' in absurd cc
+  body_once (module_refused raw w x) (module_accepted raw' m' x') = let o = module_once st.modules ws raw x x' in absurd cc
+  body_once (module_refused raw w x) (module_refused raw' w' x') =
       record { state = refl; bytes = ap (faulty_line k) (module_shown_once w w' (module_once st.modules ws raw x x')); refused = refl }
   body_once (match_answered c n b r t x) (match_answered c' n' b' r' t' x') = match_once env ws st all k i c x x'
   body_once (match_answered c n b r t x) (continue_answered c' n' b' r' f' t' x') = absurd (yes_no _ t f')
@@ -606,9 +601,8 @@ module _ (env : Environment) (ws : List Word) (st : StateOf) (all : AreShaped st
   same_shaped u e = subst AreShaped (sym e) all
 
   body_shaped : {x : RawBody} {u : StateOf} {b : List ℕ} {r : Bool} → BodyAnswer env ws st k i x u b r → AreShaped u.modules
-  body_shaped (module_not_built raw f) = all
-  body_shaped (module_accepted raw m t x) = one_more_shaped st.modules m all (flattened_shaped st.modules ws raw x)
-  body_shaped (module_refused raw w t x) = all
+  body_shaped (module_accepted raw m x) = one_more_shaped st.modules m all (flattened_shaped st.modules ws raw x)
+  body_shaped (module_refused raw w x) = all
   body_shaped (match_answered c n b r t x) = same_shaped n (match_keeps env ws st k i c x)
   body_shaped (continue_answered c n b r f t x) = same_shaped n (continue_keeps env ws st k i c x)
   body_shaped (reduce_is_answered c n b r f g t x) = same_shaped n (reduce_keeps env ws st k i c x)

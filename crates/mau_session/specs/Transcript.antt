@@ -49,7 +49,7 @@ use Rattle.mau_session.specs.RewriteAnswer.{RewriteAnswer}
 use Rattle.mau_session.specs.Bounds.{bound_of}
 use Rattle.mau_session.specs.Commands.{has_condition, unbuilt}
 use Rattle.mau_session.specs.Where.{ShowsWhere, left_where, where_lines, WhereAnswer}
-use Rattle.mau_session.specs.Built.{is_built_module, uses_memberships, is_match, has_context, is_reduce, is_rewrite, is_continue, fault_answer}
+use Rattle.mau_session.specs.Built.{uses_memberships, is_match, has_context, is_reduce, is_rewrite, is_continue, fault_answer}
 use Rattle.mau_session.specs.Answers.{refusal_line, fault_line, parse_fault_line, module_fault_line, ok_line, unknown_module_line, module_line, match_head, continue_head, reduce_head, listing_lines}
 
 -- ---- the answer of a match command
@@ -154,10 +154,9 @@ pub data SettingAnswer (ws : List Word) (st : StateOf) (k i : ℕ) : Setting →
 
 -- what it says, from the word i on: the state after it, its bytes, and whether it was refused
 pub data BodyAnswer (e : Environment) (ws : List Word) (st : StateOf) (k i : ℕ) : RawBody → StateOf → List ℕ → Bool → Type 0 where
-  module_not_built : (raw : RawModule) → is_built_module raw.kind ≡ false → BodyAnswer e ws st k i (Module raw) st (refusal_line k ws (NotBuilt i)) true
-  module_accepted : (raw : RawModule) (m : ModuleOf) → is_built_module raw.kind ≡ true → FlattenedAs st.modules ws raw (Ok m)
+  module_accepted : (raw : RawModule) (m : ModuleOf) → FlattenedAs st.modules ws raw (Ok m)
       → BodyAnswer e ws st k i (Module raw) (accepted st m) (module_line k m) false
-  module_refused : (raw : RawModule) (f : ModuleFault) → is_built_module raw.kind ≡ true → FlattenedAs st.modules ws raw (Err f)
+  module_refused : (raw : RawModule) (f : ModuleFault) → FlattenedAs st.modules ws raw (Err f)
       → BodyAnswer e ws st k i (Module raw) st (module_fault_line k f) true
   match_answered : (c : RawCommand) (next : StateOf) (bytes : List ℕ) (refused : Bool) → is_match c.kind ≡ true → MatchAnswer e ws st k i c next bytes refused
       → BodyAnswer e ws st k i (Command c) next bytes refused

@@ -31,8 +31,8 @@ ghost use Rattle.mau_session.specs.Gains.{GainsListed, GainsTerms, GainsChosen, 
 use crate::asking::{list_first, list_further};
 use crate::bounds::bound_of;
 use crate::built::{
-    begins_unbuilt, has_context, is_built_module, is_continue, is_match, is_reduce, is_rewrite,
-    is_unended, quits, uses_memberships,
+    begins_unbuilt, has_context, is_continue, is_match, is_reduce, is_rewrite, is_unended, quits,
+    uses_memberships,
 };
 use crate::command::{has_condition, unbuilt};
 use crate::heads::{write_continue_head, write_match_head};
@@ -450,9 +450,6 @@ fn answer_module(
         (state_of state.new) out.old.items out.new.items) }
     ensures ready { OnOk result (IsReadyState state.new) }
 {
-    if !is_built_module(raw.kind) {
-        return refuse(out, words, number, Refusal::NotBuilt(item));
-    }
     match state.library.flatten(alloc, words, raw) {
         Ok(module) => {
             write_module(out, number, &module)?;

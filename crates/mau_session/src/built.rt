@@ -3,19 +3,9 @@ ghost use Rattle.std.specs.Prelude.{◌≡◌, ◌↔◌, true, Ok};
 ghost use Rattle.mau_modtext.specs.declared.raw.RawBody.TheVariants as RawBody;
 ghost use Rattle.mau_session.specs.Built;
 
-use mau_modtext::{CommandKind, ModuleKind, RawBody, RawItem, TextFault};
+use mau_modtext::{CommandKind, RawBody, RawItem, TextFault};
 use mau_module::Module;
 use mau_program::Membership;
-
-/// Whether modules of this kind are built.
-pub fn is_built_module(kind: ModuleKind) -> bool
-    ensures { result ≡ Built.is_built_module kind }
-{
-    match kind {
-        ModuleKind::StrategyModule => false,
-        _ => true,
-    }
-}
 
 /// Whether a membership may be used to evaluate.
 fn is_used(membership: &Membership) -> bool
@@ -95,7 +85,7 @@ pub fn is_continue(kind: CommandKind) -> bool
 pub fn begins_unbuilt(word: &str) -> bool
     ensures { result ≡ Built.begins_unbuilt word.now }
 {
-    matches!(word, "smod" | "dsrewrite" | "dsrew")
+    matches!(word, "dsrewrite" | "dsrew")
 }
 
 /// Whether an item has no end.
