@@ -14,9 +14,9 @@ PIECE = re.compile(
 MODULES = {b"fmod": b"endfm", b"mod": b"endm", b"smod": b"endsm"}
 ENDING = (b"quit", b"q", b"eof")
 IMPORTS = (b"protecting", b"pr", b"extending", b"ex", b"including", b"inc")
-STATEMENTS = (b"eq", b"ceq", b"cq", b"mb", b"cmb", b"rl", b"crl")
+STATEMENTS = (b"eq", b"ceq", b"cq", b"mb", b"cmb", b"rl", b"crl", b"sd", b"csd")
 # The faults whose last field is the place of a token.
-PLACED = "NotUtf8 OpenComment OpenString TokenTooLong Unended NotBuilt Unexpected Unsupported UnknownSort NumberTooLarge NoParse Ambiguous SuccessorTooLarge"
+PLACED = "NotUtf8 OpenComment OpenString TokenTooLong Unended NotBuilt Unexpected Unsupported UnknownSort NumberTooLarge NoParse Ambiguous SuccessorTooLarge UnknownName"
 SENTENCES = {
     "NotUtf8": "The text is not UTF-8 from here on.",
     "OpenComment": "This comment is not closed: each parenthesis in it wants its own `)`.",
@@ -51,6 +51,7 @@ SENTENCES = {
     "LhsVariable": "The left side of this equation is a variable once its normal form is taken.",
     "MembershipHead": "The left side of a membership must not be a variable or a numeral, nor have an operator with `assoc` or `id:`, or the successor, at its top.",
     "UnboundVariable": "A variable stands here that nothing before it binds.",
+    "UnknownName": "No rule with this label and no strategy with this name is in the module or in one that it imports.",
     "LimitExceeded": "There are too many {1} here: the limits are 64 variables and 32 fragments.",
 }
 
@@ -144,7 +145,7 @@ def forms(element):
 
 def place(name, fields, number, item):
     """The place in the text that a refusal of this item is about."""
-    if name in PLACED.split():
+    if name in PLACED.split() or name == "Arity" and number:
         return int(fields[-1])
     words, wanted = [token for token, _ in item], fields[0].encode() if fields else b""
     is_module = words[0] in MODULES
@@ -200,6 +201,8 @@ def explained(text, line):
     if name in ("NotPreregular", "NotAssociativeSorts"):
         fields = [fields[0], " ".join(fields[1:])]
     sentence = SENTENCES[name].format(*fields) if name in SENTENCES else in_the_language(name)
+    if name == "Arity" and number:
+        sentence = "No strategy with this name is declared that takes so many arguments."
     if not number and name in ("LhsVariable", "MembershipHead") and fields[0] == "0":
         sentence += " It is one that the module includes, and is judged by the operators of this module."
     return [*shown_line(text, at), textwrap.fill(sentence, 100, initial_indent="    ", subsequent_indent="    ")]

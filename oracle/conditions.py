@@ -1,11 +1,12 @@
 #!/usr/bin/env python3
-"""Compares `match` and `xmatch` with conditions on random modules with a brute-force reading of the definitions, written apart from the code and its proofs.
+"""Compares `match` and `xmatch` with conditions and memberships on random modules with a brute-force reading of the definitions, written apart from the code
+and its proofs.
 
-usage: oracle/conditions.py PROGRAM FIRST LAST
+usage: oracle/conditions.py PROGRAM FIRST LAST [plain]
 
-For each number from FIRST on and below LAST it makes a module with random equations, some with conditions, and listings with conditions over it, with
-and without bounds, and goes on with them, with a small budget. What is compared is which solutions are shown, and how each listing is left: also where an
-asking ends, and where a variable isn't bound.
+For each number from FIRST on and below LAST it makes a module with random equations and memberships, some with conditions, and listings over it, most with
+conditions, with and without bounds, and goes on with them, with a small budget; with the word `plain` there are no memberships. What is compared is which
+solutions are shown, and how each listing is left: also where the subject's sorts or an asking ends, and where a variable isn't bound.
 """
 import random
 import sys
@@ -13,8 +14,8 @@ import sys
 sys.dont_write_bytecode = True
 import reduce
 from comparing import compare_texts, difference
-from evaluation import End, Evaluator, Statement, TooMuch
-from match import listed, random_question, size, solutions
+from evaluation import End, Evaluator, Statement, TooMuch, first_places
+from match import listed, random_question, size
 from modules import random_module, suits
 from prelude import bool_equations, signature_with_truth
 from reduce import random_fragments, random_statement, text_of, with_strategies
@@ -23,7 +24,7 @@ from statements_of import pairs_of
 
 LIMIT = 12
 TRUE = (("true", ()), ())
-reduce.HAS_CONDITIONS = True
+reduce.HAS_CONDITIONS, reduce.HAS_MEMBERSHIPS = True, "plain" not in sys.argv[4:]
 sys.setrecursionlimit(30_000)
 
 
@@ -44,6 +45,18 @@ def first_unbound(pattern, fragments):
                 return v
         bound |= set(variables_of(one)) if sign == ":=" else set()
     return None
+
+
+def solutions(evaluator, pattern, subject, variables, is_part):
+    """The variables of a pattern, its associative top, and its solutions in order: contexts, instance and values. The subject's sorts are taken first."""
+    sig, places = evaluator.sig, {}
+    evaluator.budget, evaluator.variables = LIMIT, variables
+    first_places(sig, pattern, None, places)
+    whole, shape = sig.norm(subject), sig.norm(pattern)
+    evaluator.settle(whole, 1)
+    top = shape[0] if is_part and isinstance(shape, tuple) and shape[0] != "v" and sig.op(shape).attrs.get("assoc") else None
+    found = evaluator.solutions(variables, pattern, whole, 1, is_part)
+    return list(places), top, [(None, left, right, sig.norm(pattern, values), tuple(values[v] for v in places)) for left, right, values in found]
 
 
 class Listing:
@@ -85,11 +98,11 @@ def compare(number, program):
     sig = signature_with_truth(module)
     if not suits(sig) or sig.refusal():
         return ["unsuited"], None
-    statements = [it for it in (random_statement(sig, r) for _ in range(r.choice([0, 2, 4]))) if it and not isinstance(it[1], str)]
+    statements = [it for it in (random_statement(sig, r) for _ in range(r.choice([0, 2, 4, 6]))) if it]
     text = module_text(*module)[: -len("endfm\n")] + "".join(text_of(sig, it) for it in statements) + "endfm\n"
     made = [Statement(left, right, [("=", one, TRUE) if sign == "Bool" else (sign, one, other) for sign, one, other in fragments], owise, nonexec)
             for left, right, fragments, owise, nonexec in statements]
-    evaluator = Evaluator(sig, bool_equations(sig) + made, [], LIMIT, 300_000)
+    equations, memberships = bool_equations(sig) + [it for it in made if not isinstance(it.right, str)], [it for it in made if isinstance(it.right, str)]
     wanted, item, had = ["[1] module M"], 1, {"modules": 1}
     for _ in range(6):
         question = random_question(sig, r)
@@ -98,7 +111,7 @@ def compare(number, program):
         bound = pairs_of(question[0])
         pool = bound | {(name, r.choice(sig.sorts)) for name in "UV"[: r.choice([0, 1, 2])]}
         condition = random_fragments(sig, r, pool, pool if r.random() < 0.1 else bound)
-        if not condition or not condition[0]:
+        if not condition or not condition[0] and r.random() < 0.5:
             continue
         variables, is_part = [], r.random() < 0.5
         pattern, subject = (numbered(it, variables) for it in question)
@@ -106,18 +119,26 @@ def compare(number, program):
         both = lambda one, other: tuple(reversed([numbered(it, variables) for it in (other, one)]))
         one_or = lambda sign, one, other: both(one, other) if sign == ":=" else (numbered(one, variables), numbered(other, variables) if sign == "=" else other)
         fragments = [(sign, *one_or(sign, one, other)) for sign, one, other in condition[0]]
-        answer = solutions(sig, pattern, subject, variables, is_part)
-        if answer is None:
-            continue
         command, most = "xmatch" if is_part else "match", r.choice([None, None, 1, 2, 3])
         text_line = f"{command}{f' [{most}]' if most else ''} {sig.source(pattern, variables)} <=? {sig.source(subject, variables)} "
-        text_line += f"{r.choice(['such that', 's.t.'])} {source_of(sig, fragments, variables)} .\n"
+        text_line += f"{r.choice(['such that', 's.t.'])} {source_of(sig, fragments, variables)} .\n" if fragments else ".\n"
         unbound = first_unbound(pattern, fragments)
         if unbound is not None:
             item += 1
             text += text_line
             wanted.append(f"[{item}] refused: UnboundVariable {sig.variable(variables[unbound])}")
             had["unbound"] = had.get("unbound", 0) + 1
+            continue
+        evaluator = Evaluator(sig, equations, memberships, LIMIT, 300_000)
+        try:
+            answer = solutions(evaluator, pattern, subject, variables, is_part)
+        except TooMuch:
+            continue
+        except End as end:
+            item += 1
+            text += text_line
+            wanted += [f"[{item}] {command} in M", str(end)]
+            had["sorts end"] = had.get("sorts end", 0) + 1
             continue
         listing, goes_on, line = Listing(sig, evaluator, answer, variables, fragments, is_part), True, text_line
         while goes_on:

@@ -16,7 +16,7 @@ use Rattle.mau_declare.specs.Words.{token_index, token_text}
 use Rattle.mau_declare.specs.Names.{number_of}
 use Rattle.mau_declare.specs.Forms.{form_of}
 use Rattle.mau_declare.specs.Attributes.{attributes, has_conflict}
-use Rattle.mau_declare.specs.Statements.{unknown_in_statement}
+use Rattle.mau_declare.specs.Statements.{unknown_in_statement, unknown_in_strats}
 use Rattle.mau_declare.specs.Readings.{and_then, read_all}
 
 -- what the elements of a module declare beside its sorts: subsort pairs, operators and variables
@@ -124,12 +124,12 @@ with_operators e ops = record { pairs = e.pairs; operators = e.operators ++ ops 
 abbrev pub with_variables : Elements → List Declared → Elements
 with_variables e vs = record { pairs = e.pairs; operators = e.operators; variables = e.variables ++ vs }
 
--- the elements before a statement, where it names sorts alone
+-- the elements before a statement or a strategy, where it names sorts alone
 abbrev pub behind_statement : Elements → Option ℕ → Result Elements ℕ
 behind_statement e None = Ok e
 behind_statement e (Some at) = Err at
 
--- the elements before an element with what it declares. Imports, sorts and strategies are read by others, and so are statements
+-- the elements before an element with what it declares. Imports and sorts are read by others, and so are statements and strategies
 -- but for the sorts that they name.
 abbrev pub element_step : List Word → List (List ℕ) → Elements → RawElement → Result Elements ℕ
 element_step ws sorts e (Import name) = Ok e
@@ -138,7 +138,7 @@ element_step ws sorts e (Subsorts lists) = and_then (subsort_pairs ws sorts list
 element_step ws sorts e (Ops o) = and_then (operators ws sorts o) (λ ops. Ok (with_operators e ops))
 element_step ws sorts e (Vars v) = and_then (variables ws sorts v) (λ vs. Ok (with_variables e vs))
 element_step ws sorts e (Statement s) = behind_statement e (unknown_in_statement ws sorts s)
-element_step ws sorts e (Strats s) = Ok e
+element_step ws sorts e (Strats s) = behind_statement e (unknown_in_strats ws sorts s)
 
 -- what elements declare over these sorts
 abbrev pub elements_of : List Word → List (List ℕ) → List RawElement → Result Elements ℕ

@@ -1,4 +1,4 @@
--- The sorts that statements name: that of a membership, and those in a condition.
+-- The sorts that statements name: that of a membership, and those in a condition; and those that declarations of strategies name.
 use Rattle.std.specs.Prelude.{ℕ, List, [], ◌∷◌, Option, Some, None, is_some, if◌then◌else◌}
 use Rattle.std.specs.Option.{option_or}
 use Rattle.mau_tokens.specs.declared.token.Token.{Token}
@@ -9,6 +9,7 @@ use Rattle.mau_modtext.specs.declared.raw.FragmentKind.{FragmentKind}
 use Rattle.mau_modtext.specs.declared.raw.FragmentKind.TheVariants.{Sort}
 use Rattle.mau_modtext.specs.declared.raw.RawFragment.{RawFragment}
 use Rattle.mau_modtext.specs.declared.raw.RawStatement.{RawStatement}
+use Rattle.mau_modtext.specs.declared.raw.RawStrats.{RawStrats}
 use Rattle.mau_declare.specs.Words.{token_text}
 use Rattle.mau_declare.specs.Names.{number_of}
 
@@ -36,3 +37,11 @@ unknown_in_head _ ws sorts right = None
 -- the first place in a statement
 abbrev pub unknown_in_statement : List Word → List (List ℕ) → RawStatement → Option ℕ
 unknown_in_statement ws sorts s = option_or (unknown_in_head s.kind ws sorts s.right) (unknown_in_condition ws sorts s.cond)
+
+-- the first place in some sorts, and in a declaration of strategies: the sorts of their arguments, and that of the terms that they are for
+abbrev pub unknown_in_sorts : List Word → List (List ℕ) → List (List Token) → Option ℕ
+unknown_in_sorts ws sorts [] = None
+unknown_in_sorts ws sorts (ts ∷ more) = option_or (unknown_sort ws sorts ts) (unknown_in_sorts ws sorts more)
+
+abbrev pub unknown_in_strats : List Word → List (List ℕ) → RawStrats → Option ℕ
+unknown_in_strats ws sorts s = option_or (unknown_in_sorts ws sorts s.args) (unknown_sort ws sorts s.sort)

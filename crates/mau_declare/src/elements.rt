@@ -4,7 +4,7 @@ ghost use Rattle.mau_poset.specs.declared.TheConstants.{MAX_SORTS};
 ghost use Rattle.mau_declare.specs.Counts.{forms_in, declaration_count};
 ghost use Rattle.mau_declare.specs.Flattened.{declared_forms};
 ghost use Rattle.mau_declare.specs.Elements.{AreOver, declared, element_step, elements_of};
-ghost use Rattle.mau_declare.specs.Statements.{unknown_in_statement};
+ghost use Rattle.mau_declare.specs.Statements.{unknown_in_statement, unknown_in_strats};
 ghost use Rattle.mau_declare.specs.Faults.{IfUnknownSort};
 ghost use Rattle.mau_modtext.specs.declared.raw.RawElement.TheVariants as RawElement;
 
@@ -13,10 +13,10 @@ use crate::fault::ElementFault;
 use crate::lists::read_subsorts;
 use crate::names::Names;
 use crate::operators::read_operators;
-use crate::statements::unknown_in_statement;
+use crate::statements::{unknown_in_statement, unknown_in_strats};
 use crate::uses::read_sort_use;
 use crate::words::Words;
-use mau_modtext::{RawElement, RawOps, RawStatement, RawVars, TokenList};
+use mau_modtext::{RawElement, RawOps, RawStatement, RawStrats, RawVars, TokenList};
 use mau_terms::{NoMemory, Seq};
 use mau_tokens::Token;
 use std::alloc::Global;
@@ -138,6 +138,17 @@ fn check_statement(
     }
 }
 
+/// Reads the sorts that a declaration of strategies names.
+fn check_strats(words: &Words, sorts: &Names, strats: &RawStrats) -> Result<(), ElementFault>
+    ensures ok { OnOk result (unknown_in_strats words.now sorts.now strats.now ≡ None) }
+    ensures unknown { IfErr result (λ e. IfUnknownSort e (λ at. unknown_in_strats words.now sorts.now strats.now ≡ Some at)) }
+{
+    match unknown_in_strats(words, sorts, strats) {
+        Some(at) => Err(ElementFault::UnknownSort(at)),
+        None => Ok(()),
+    }
+}
+
 /// Reads an element, and adds what it declares. The sorts that it declares are among `sorts` already.
 fn read_element(
     alloc: Global,
@@ -157,7 +168,8 @@ fn read_element(
         RawElement::Ops(ops) => add_operators(alloc, words, sorts, ops, elements),
         RawElement::Vars(vars) => add_variables(alloc, words, sorts, vars, elements),
         RawElement::Statement(statement) => check_statement(words, sorts, statement),
-        RawElement::Import(_) | RawElement::Sorts(_) | RawElement::Strats(_) => Ok(()),
+        RawElement::Strats(strats) => check_strats(words, sorts, strats),
+        RawElement::Import(_) | RawElement::Sorts(_) => Ok(()),
     }
 }
 

@@ -1,10 +1,10 @@
-//! The sorts that statements name: that of a membership, and those in a condition.
+//! The sorts that statements name: that of a membership, and those in a condition; and those that declarations of strategies name.
 ghost use Rattle.std.specs.Prelude.{◌≡◌};
 ghost use Rattle.mau_declare.specs.Statements;
 
 use crate::names::Names;
 use crate::words::Words;
-use mau_modtext::{FragmentKind, RawFragment, RawStatement, StatementKind};
+use mau_modtext::{FragmentKind, RawFragment, RawStatement, RawStrats, StatementKind, TokenList};
 use mau_tokens::Token;
 
 /// The place at fault in a side that is to be a sort: one token that names one.
@@ -60,5 +60,28 @@ pub fn unknown_in_statement(words: &Words, sorts: &Names, statement: &RawStateme
     match unknown_in_head(words, sorts, statement) {
         Some(at) => Some(at),
         None => unknown_in_condition(words, sorts, statement.cond.items()),
+    }
+}
+
+/// The first place at fault in some sorts.
+fn unknown_in_sorts(words: &Words, sorts: &Names, named: &[TokenList]) -> Option<u32>
+    ensures { result ≡ Statements.unknown_in_sorts words.now sorts.now named.now }
+{
+    for tokens in named {
+        match unknown_sort(words, sorts, tokens.items()) {
+            Some(at) => return Some(at),
+            None => (),
+        }
+    }
+    None
+}
+
+/// The first place in a declaration of strategies where a token is to name a sort, and names none.
+pub fn unknown_in_strats(words: &Words, sorts: &Names, strats: &RawStrats) -> Option<u32>
+    ensures { result ≡ Statements.unknown_in_strats words.now sorts.now strats.now }
+{
+    match unknown_in_sorts(words, sorts, strats.args.items()) {
+        Some(at) => Some(at),
+        None => unknown_sort(words, sorts, strats.sort.items()),
     }
 }

@@ -17,7 +17,7 @@ use Rattle.mau_module.specs.Modules.{ModuleOf}
 use Rattle.mau_module.specs.Flattened.{FlattenedAs}
 use Rattle.mau_module.specs.Faults.{IfFault}
 use Rattle.mau_module.specs.declared.fault.ModuleFault.{ModuleFault}
-use Rattle.mau_module.specs.declared.fault.ModuleFault.TheVariants.{UnknownModule, ImportTooDeep, TooLarge, UnknownSort, Signed, Statement, NoMemory}
+use Rattle.mau_module.specs.declared.fault.ModuleFault.TheVariants.{UnknownModule, ImportTooDeep, TooLarge, UnknownSort, Signed, Statement, Strategy, NoMemory}
 use Rattle.mau_docheck.specs.Known.{is_built, Leaves, module_accepted, module_refused, KnownAfter, KnownBefore, known_before, none_known, items_before}
 use Rattle.mau_docheck.specs.Kept.{IsLonger, IsCountAt, AreCounts, count_before, AreModulesOf}
 
@@ -38,6 +38,7 @@ if_named P (TooLarge limit) n p = p
 if_named P (UnknownSort at) n p = p
 if_named P (Signed text) n p = p
 if_named P (Statement i f) n p = p
+if_named P (Strategy i f) n p = p
 if_named P NoMemory n p = absurd (n refl)
 
 -- a module that is at fault, and that no memory was wanting for, leaves the modules as they are

@@ -33,9 +33,9 @@ use Rattle.mau_api.proofs.Remaining.{next_is}
 use Rattle.mau_reduce.proofs.Candidates.{same_option}
 use Rattle.mau_reduce.proofs.Leftover.{left_behind}
 use Rattle.mau_reduce.proofs.PlainSorts.{plain_sorts, sorts_known}
-use Rattle.mau_rules.specs.Runnable.{IsRunnable}
+use Rattle.mau_leaves.specs.Plain.{IsPlain}
 use Rattle.mau_rules.proofs.Passing.{AllFail, no_more_fail, one_fails, HasFirst, first_kept, none_kept}
-use Rattle.mau_rules.proofs.Trying.{head, having, test, question, left_of_all}
+use Rattle.mau_leaves.proofs.PlainTrying.{head, having, test, question, left_of_all}
 use Rattle.mau_leaves.specs.Steps.{IsOver, Passes, Throughout}
 use Rattle.mau_leaves.specs.Uses.{Use, behind, at_one, solutions_behind, IsLeft}
 use Rattle.mau_leaves.proofs.Behind.{behind_one}
@@ -66,7 +66,7 @@ in_middle : {A : Type 0} (xs ys : List A) (x : A) → IsIn x (xs ++ x ∷ ys)
 in_middle [] ys x = inl refl
 in_middle (z ∷ xs) ys x = inr (in_middle xs ys x)
 
-module _ (p : Typed.Program) (run : IsRunnable p) (hooks : List Operator) (q : Rule) (t : Tree) (normal : norm (theory_at p.sig) t ≡ t) (bare : IsBare (terms_over p.sig) (reading (theory_at p.sig) t))
+module _ (p : Typed.Program) (run : IsPlain p) (hooks : List Operator) (q : Rule) (t : Tree) (normal : norm (theory_at p.sig) t ≡ t) (bare : IsBare (terms_over p.sig) (reading (theory_at p.sig) t))
     (limit : ℕ) (remembers : Bool) (nodes : List Node) (table : Table) (derived : IsDerivedTable (meanings_by p hooks limit remembers) nodes table) (settled : AreSettled p.sig nodes table t) where
   abbrev P : Program
   P = program_over p hooks
@@ -82,8 +82,8 @@ module _ (p : Typed.Program) (run : IsRunnable p) (hooks : List Operator) (q : R
 
   ascends : IsAscending (compare (theory_at p.sig) q.left) All
   ascends =
-      subst (λ u. IsAscending (compare (theory_at p.sig) q.left) (solutions_within (terms_over p.sig) q.left u)) (norm-reading-is (theory_at p.sig) run.reducible.lawful.theories t normal)
-      (solutions_within_are_listed (terms_over p.sig) run.reducible.lawful q.left (reading (theory_at p.sig) t) bare).2
+      subst (λ u. IsAscending (compare (theory_at p.sig) q.left) (solutions_within (terms_over p.sig) q.left u)) (norm-reading-is (theory_at p.sig) run.runnable.reducible.lawful.theories t normal)
+      (solutions_within_are_listed (terms_over p.sig) run.runnable.reducible.lawful q.left (reading (theory_at p.sig) t) bare).2
 
   abbrev pub NextIs : Option Solution → Option Solution → Type 0
   NextIs last o = IsNext (IsSolution true p.sig (BySort p.sig derived.known) (question p run hooks q t normal bare)) (matcher_cmp (theory_at p.sig) q.left) (option_map as_matcher last) (option_map as_matcher o)

@@ -32,10 +32,11 @@ use Rattle.mau_api.specs.declared.results.EvalEnd.{EvalEnd}
 use Rattle.mau_reduce.specs.Trying.{solution_in}
 use Rattle.mau_reduce.proofs.KindsKept.{tree_kept}
 use Rattle.mau_reduce.proofs.Candidates.{matchers_of}
-use Rattle.mau_rules.specs.Runnable.{IsRunnable, GoesBy}
+use Rattle.mau_rules.specs.Runnable.{GoesBy}
+use Rattle.mau_leaves.specs.Plain.{IsPlain}
 use Rattle.mau_rules.specs.Found.{IsValued}
 use Rattle.mau_rules.proofs.Answered.{derived_as, next_as}
-use Rattle.mau_rules.proofs.Valued.{listed_valued, listed_contexts, listed_of_kind}
+use Rattle.mau_leaves.proofs.PlainValues.{listed_valued, listed_contexts, listed_of_kind}
 use Rattle.mau_leaves.specs.Steps.{Gives, IsOver, Passes, Throughout}
 use Rattle.mau_leaves.specs.Uses.{Use, behind, at_one, IsLeft}
 use Rattle.mau_leaves.specs.Answers.{IsNextShown, IsDueBy}
@@ -66,7 +67,7 @@ never_none m s rule nodes table given e k stands at = by k (subst (λ (o : Optio
     by Before h at = h
     by (Within found) h at = h
 
-module _ (p : Typed.Program) (run : IsRunnable p) (m : Meanings) (goes : GoesBy p m) (rule : Written.Rule) (old new : List Node) (before after : Table) (extends : Extends old new) (kept : KeepsEntries before after)
+module _ (p : Typed.Program) (run : IsPlain p) (m : Meanings) (goes : GoesBy p m) (rule : Written.Rule) (old new : List Node) (before after : Table) (extends : Extends old new) (kept : KeepsEntries before after)
     (c : Bool) (a : Asked) where
   abbrev Left : List Node → Option Listed.Solution → Standing → Engine → Answers Use → Type 0
   Left nodes given s = left_in p m.hooks rule nodes a given s
@@ -110,7 +111,7 @@ module _ (p : Typed.Program) (run : IsRunnable p) (m : Meanings) (goes : GoesBy 
         Throughout (engine_of (program_over p m.hooks)) (left_in p m.hooks rule old a (Some x) s) (λ L. Gives (left_in p m.hooks rule old a (Some x) s L) u (left_in p m.hooks rule new a (Some x) (Within found) L))
     found_turn b found comes =
         let u : Use = record { rule = rule_of rule; solution = y; values = binding_in new found.items } in
-        let h = given_through P run.reducible.lawful (rule_of rule) [] t y (last_in old s) (binding_in new found.items) comes in (
+        let h = given_through P run.runnable.reducible.lawful (rule_of rule) [] t y (last_in old s) (binding_in new found.items) comes in (
           u,
           (λ i. Some (record { rule = rule_of rule; solution = same_y i; values = binding_in new found.items })),
           subst (λ (f : Engine → Answers Use → Type 0). Throughout (engine_of P) f (λ L. Gives (f L) u (Left new (Some x) (Within found) L))) now_is
@@ -122,11 +123,11 @@ module _ (p : Typed.Program) (run : IsRunnable p) (m : Meanings) (goes : GoesBy 
     passed_turn b comes =
         subst (λ (f : Engine → Answers Use → Type 0). Throughout (engine_of P) f (λ L. Passes (f L) (Left new (Some x) Behind L))) now_is
         (subst (λ (g : Engine → Answers Use → Type 0). Throughout (engine_of P) (λ L. IsLeft P L (rule_of rule) [] t (at_one y (last_in old s))) (λ L. Passes (IsLeft P L (rule_of rule) [] t (at_one y (last_in old s))) (g L))) then_behind
-        (passed_through P run.reducible.lawful (rule_of rule) [] t y (last_in old s) comes))
+        (passed_through P run.runnable.reducible.lawful (rule_of rule) [] t y (last_in old s) comes))
 
     pub due_turn : (b : ℕ) (e : EvalEnd) → IsNextShown (program_over p m.hooks) b (last_in old s) (rule_of rule).cond (binding_of (tree_of rule.left) (solution_in old x)) new (Err e) →
         IsDueBy (program_over p m.hooks) b (left_in p m.hooks rule old a (Some x) s) e
-    due_turn b e h = subst (λ (f : Engine → Answers Use → Type 0). IsDueBy P b f e) now_is (due_through P run.reducible.lawful (rule_of rule) [] t y (last_in old s) b e h)
+    due_turn b e h = subst (λ (f : Engine → Answers Use → Type 0). IsDueBy P b f e) now_is (due_through P run.runnable.reducible.lawful (rule_of rule) [] t y (last_in old s) b e h)
 
     -- what is known then
     pub found_search : AreOver p.sig.hierarchy after → (found : Vec (VarId × TermId) Global) → All (IsValueOf p.sig new after) found.items →

@@ -1,9 +1,9 @@
 -- The equations of the module of truth values are lawful over its signature.
-use Rattle.std.proofs.Common.{◌≡◌, ◌<◌, ◌≤◌, ◌^◌, ℕ, List, [], ◌∷◌, ◌++◌, length, nat_le, true, refl, sym, subst, lit<}
+use Rattle.std.proofs.Common.{◌≡◌, ◌≤◌, ℕ, List, [], ◌∷◌, ◌++◌, length, nat_le, true, refl, sym, subst, lit<}
 use Rattle.std.specs.Prelude.{All}
 use Rattle.std.proofs.lemmas.List.Elements.{All-nil, All-cons, All-append}
 use Rattle.mau_poset.specs.Order.{kind_of, kinds_before, first_sort}
-use Rattle.mau_terms.specs.Tree.{Tree, variable, node, trees_of}
+use Rattle.mau_terms.specs.Tree.{Tree, node, trees_of}
 use Rattle.mau_terms.specs.Subst.{variables}
 use Rattle.mau_terms.specs.Bare.{TermSignature, IsBareIn, AreBareIn}
 use Rattle.mau_terms.specs.View.{tree_of}

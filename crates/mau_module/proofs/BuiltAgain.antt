@@ -1,6 +1,6 @@
 -- What is built in of the operators of a module.
-use Rattle.std.proofs.Common.{◌≡◌, ◌<◌, ◌≤◌, ◌⊎◌, ℕ, ◌+◌, ◌-◌, suc, List, [], ◌∷◌, ◌++◌, Bool, true, false, ◌&&◌, map, length, take, get_or, Option, Some, None, refl, sym, ◌∙◌, ap, ap₂, subst, inl, inr, arith}
-use Rattle.std.specs.Prelude.{All, slice_get, codes, bytes_eq, position}
+use Rattle.std.proofs.Common.{◌≡◌, ◌<◌, ◌≤◌, ℕ, ◌+◌, suc, List, [], ◌∷◌, ◌++◌, Bool, true, false, ◌&&◌, map, length, take, get_or, Option, Some, refl, sym, ◌∙◌, ap, ap₂, subst, inl, inr, arith}
+use Rattle.std.specs.Prelude.{All, codes, bytes_eq}
 use Rattle.std.specs.List.{position_or_len, range_with_len}
 use Rattle.std.specs.Option.{option_map_or}
 use Rattle.std.proofs.lemmas.Bool.{lt-ltb, le-leb}
@@ -16,32 +16,29 @@ use Rattle.mau_terms.proofs.Finite.{in_left, in_right}
 use Rattle.mau_signature.specs.declared.decl.Decl.{Decl}
 use Rattle.mau_signature.specs.declared.form.Piece.{Piece}
 use Rattle.mau_signature.specs.declared.form.Piece.TheVariants.{Word}
-use Rattle.mau_signature.specs.Attributes.{united, with_attributes, with_united}
-use Rattle.mau_signature.specs.Faults.{IsSort, HasSorts}
+use Rattle.mau_signature.specs.Attributes.{united, with_attributes}
 use Rattle.mau_signature.specs.Names.{Operator, if_constant, operator_of, constant_of, same_operator, operators_of, declarations_of, place_of}
 use Rattle.mau_signature.specs.Signature.{SignatureOf, IsOperator, IsAlike, declarations_at, form_of, arguments_of, result_of, attributes_of, terms_over}
 use Rattle.mau_signature.proofs.Same.{same_operator-is}
 use Rattle.mau_sigcheck.specs.Built.{IsBuiltAndAccepted}
-use Rattle.mau_declare.specs.Names.{has_name}
 use Rattle.mau_declare.specs.Flattened.{name_at}
 use Rattle.mau_renumber.specs.Carried.{declaration_to}
-use Rattle.mau_program.specs.BuiltIns.{Place, sort, kind, Shape, Row, truth_rows, number_rows, IsNamed, IsAt, AreAt, HasShape, IsDeclaredBy, IsConstantIn, HasTruth, HasNumbers, HasBuiltIn, of_truth_values, of_numbers, AreBuiltIn}
+use Rattle.mau_program.specs.BuiltIns.{Place, sort, kind, Shape, Row, IsNamed, IsAt, AreAt, HasShape, IsDeclaredBy, IsConstantIn, HasTruth, HasNumbers, HasBuiltIn, of_truth_values, of_numbers, AreBuiltIn}
 use Rattle.mau_signing.specs.Signed.{signature_over}
 use Rattle.mau_module.specs.Modules.{ModuleOf}
-use Rattle.mau_module.specs.Library.{truth}
-use Rattle.mau_module.specs.Numbering.{number_in, sort_to, number_to}
+use Rattle.mau_module.specs.Numbering.{number_in, number_to}
 use Rattle.mau_module.specs.Included.{of_module, number_from, numerals_of, has_truth}
-use Rattle.mau_module.specs.Truth.{if_declaration, comparison, truth_over}
+use Rattle.mau_module.specs.Truth.{truth_over}
 use Rattle.mau_module.specs.Declarations.{declarations_of as declarations_of_parts, hierarchy_over, if_truth, all_declarations, given_over}
-use Rattle.mau_module.specs.Made.{number_at, IsMadeOver, AreMade, IsClosed}
+use Rattle.mau_module.specs.Made.{number_at, AreMade, IsClosed}
 use Rattle.mau_module.proofs.Alls.{all_one}
-use Rattle.mau_module.proofs.Members.{in_both, all_in, in_filtered, in_mapped, in_flattened, range_in}
+use Rattle.mau_module.proofs.Members.{in_both, in_filtered, in_mapped, in_flattened, range_in}
 use Rattle.mau_module.proofs.Numbers.{sort_number}
 use Rattle.mau_module.proofs.Numberings.{IsNumbering, number_found, kinds_kept, number_there, name_in}
-use Rattle.mau_module.proofs.Including.{in_of_it, out_of_it, IsPart, part_is, hierarchy_is, part_numbering}
+use Rattle.mau_module.proofs.Including.{out_of_it, IsPart, part_is, hierarchy_is, part_numbering}
 use Rattle.mau_module.proofs.Sources as Sources
 use Rattle.mau_module.proofs.Sourced.{truth_name}
-use Rattle.mau_module.proofs.Keeping.{its, old_accepted, moved, move, operator_moved, at, has_sorts_of, first_has, image, image_there, keeps_kinds, kept}
+use Rattle.mau_module.proofs.Keeping.{moved, move, operator_moved, at, has_sorts_of, first_has, image, image_there, kept}
 
 -- ---- over the signature of some declarations
 

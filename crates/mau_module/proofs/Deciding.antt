@@ -1,22 +1,20 @@
 -- Whether declarations are without a fault, and whether their signature is accepted, by computation, where no operator has an identity.
-use Rattle.std.proofs.Common.{◌≡◌, ◌<◌, ◌≤◌, ◌⊎◌, ℕ, ◌+◌, ◌-◌, zero, suc, List, [], ◌∷◌, ◌++◌, Bool, true, false, not, ◌&&◌, ◌||◌, cond, map, length, get_or, Option, Some, None, refl, sym, ◌∙◌, ap, ap₂, subst, inl, inr, arith, append_assoc, append-nil}
-use Rattle.std.specs.Prelude.{All, Contains, filter, is_none, nat_eq, nat_le, nat_lt, if◌then◌else◌}
+use Rattle.std.proofs.Common.{◌≡◌, ◌<◌, ◌≤◌, ◌⊎◌, ℕ, ◌+◌, ◌-◌, List, [], ◌∷◌, ◌++◌, Bool, true, false, not, ◌&&◌, ◌||◌, cond, map, get_or, Option, Some, None, refl, sym, ◌∙◌, ap, ap₂, subst, inl, inr, arith, append_assoc, append-nil}
+use Rattle.std.specs.Prelude.{filter, is_none, nat_eq, nat_le, nat_lt, if◌then◌else◌}
 use Rattle.std.specs.List.{range_with_len}
-use Rattle.std.proofs.lemmas.Bool.{true≢false, not-true, not_from_false, eqb-true, eq-eqb, leb-true, ltb-true, lt-ltb, and_parts, or_cases, or_from, or_left, or_right, cases_lt}
+use Rattle.std.proofs.lemmas.Bool.{true≢false, not-true, eqb-true, eq-eqb, leb-true, ltb-true, lt-ltb, and_parts, or_cases, or_from, or_left, or_right, cases_lt}
 use Rattle.mau_poset.specs.Order.{Hierarchy, Chain, no_step, step, Leads, IsBelow, AreOnCycle, IsAtOrBelow, kind_of, kinds}
 use Rattle.mau_poset.proofs.Orders.{kind_of-kind}
 use Rattle.mau_terms.specs.Finite.{IsIn}
 use Rattle.mau_terms.specs.Bare.{IsLawful}
-use Rattle.mau_terms.specs.declared.theory.Identity.{Identity}
-use Rattle.mau_signature.specs.declared.attributes.Attrs.{Attrs}
 use Rattle.mau_signature.specs.declared.attributes.IdSpec.{IdSpec}
 use Rattle.mau_signature.specs.declared.decl.Decl.{Decl}
 use Rattle.mau_signature.specs.Attributes.{united, has_two_values}
-use Rattle.mau_signature.specs.Faults.{Given, has_wrong_arity, has_other_kind, attributes_suit, attributes_up_to, is_identity_in, mismatches_kind, conflicts, has_bad_strategy, lacks_identity, is_at_fault, IsFaultless, one_more, IsSort}
-use Rattle.mau_signature.specs.Names.{Operator, operator_of, operators_of, declarations_of}
-use Rattle.mau_signature.specs.Signature.{SignatureOf, IsOperator, declarations_at, attributes_of, arguments_of, result_of, theory_at, terms_over, AreAtOrBelow, swapped, Applies, IsResult, IsLeastResult, AppliesNone, IsDeclaredResult, HasLeastResult, identity_in}
-use Rattle.mau_sigcheck.specs.Tuples.{AreInKinds, IsInKind, HoldsAtAll, tuples_of}
-use Rattle.mau_sigcheck.specs.Accepted.{IsAccepted, IsAcceptedOperator, IsPreregular, BracketsAgree, BracketsAgreeAt, KeepsSorts, LowersSort, IsWithinLimit, result_kind, argument_kinds, triple_kinds, Gives}
+use Rattle.mau_signature.specs.Faults.{Given, has_wrong_arity, has_other_kind, attributes_suit, attributes_up_to, is_identity_in, mismatches_kind, conflicts, has_bad_strategy, lacks_identity, is_at_fault, IsFaultless, one_more}
+use Rattle.mau_signature.specs.Names.{operator_of, operators_of, declarations_of}
+use Rattle.mau_signature.specs.Signature.{SignatureOf, IsOperator, declarations_at, attributes_of, arguments_of, result_of, terms_over, AreAtOrBelow, swapped, Applies, IsLeastResult, AppliesNone, identity_in}
+use Rattle.mau_sigcheck.specs.Tuples.{AreInKinds, IsInKind, tuples_of}
+use Rattle.mau_sigcheck.specs.Accepted.{IsAccepted, IsAcceptedOperator, IsPreregular, BracketsAgree, BracketsAgreeAt, KeepsSorts, IsWithinLimit, Gives}
 use Rattle.mau_module.proofs.Members.{in_filter, in_range, in_contains, contains_in, get_in}
 
 -- ---- lists

@@ -8,7 +8,7 @@ use Rattle.mau_declare.specs.Elements.{Elements, elements_of}
 use Rattle.mau_signing.specs.Signed.{SignatureRead}
 use Rattle.mau_module.specs.declared.fault.Limit.{Limit}
 use Rattle.mau_module.specs.declared.fault.ModuleFault.{ModuleFault}
-use Rattle.mau_module.specs.declared.fault.ModuleFault.TheVariants.{UnknownModule, ImportTooDeep, TooLarge, UnknownSort, Signed, Statement, NoMemory}
+use Rattle.mau_module.specs.declared.fault.ModuleFault.TheVariants.{UnknownModule, ImportTooDeep, TooLarge, UnknownSort, Signed, Statement, Strategy, NoMemory}
 use Rattle.mau_module.specs.Faults.{IfFault, IfSigned}
 use Rattle.mau_module.specs.declared.TheConstants.{MAX_DEPTH}
 use Rattle.mau_module.specs.Modules.{ModuleOf}
@@ -42,3 +42,4 @@ module _ (ms : List ModuleOf) (ws : List Word) (raw : RawModule) where
     no_signature e framed p (TooLarge limit) w = absurd w
     no_signature e framed p (UnknownSort at) w = absurd w
     no_signature e framed p (Statement i x) w = absurd w
+    no_signature e framed p (Strategy i x) w = absurd w

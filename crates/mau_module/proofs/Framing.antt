@@ -1,14 +1,13 @@
 -- The parts of a module: those that it imports, with all that they include.
-use Rattle.std.proofs.Common.{◌≡◌, ◌<◌, ◌⊎◌, ℕ, List, [], ◌∷◌, ◌++◌, Bool, true, false, cond, length, take, Some, refl, sym, ◌∙◌, ap, subst, inl, inr, arith}
-use Rattle.std.specs.Prelude.{All, fold, slice_get}
+use Rattle.std.proofs.Common.{◌≡◌, ◌<◌, ◌⊎◌, ℕ, List, [], ◌∷◌, ◌++◌, Bool, true, false, cond, length, take, refl, sym, ◌∙◌, ap, subst, inl, inr}
+use Rattle.std.specs.Prelude.{All, fold}
 use Rattle.mau_terms.specs.Finite.{IsIn}
 use Rattle.mau_terms.proofs.Finite.{in_left, in_right}
 use Rattle.mau_module.specs.Modules.{ModuleOf}
 use Rattle.mau_module.specs.Included.{of_module, has_part, with_part, parts_of}
 use Rattle.mau_module.specs.Known.{AreKnown}
-use Rattle.mau_module.specs.Framed.{all_parts, parts_over}
 use Rattle.mau_module.specs.Library.{bool}
-use Rattle.mau_module.specs.Made.{IsMadeOver, AreMade, IsClosed}
+use Rattle.mau_module.specs.Made.{AreMade, IsClosed}
 use Rattle.mau_module.proofs.Members.{in_both, all_in}
 use Rattle.mau_module.proofs.Including.{module_there, length_take, still_there, in_of_it, out_of_it}
 use Rattle.mau_module.proofs.Sourced.{part_in}

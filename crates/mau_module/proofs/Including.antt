@@ -1,29 +1,20 @@
 -- A module and those that it includes: sorts, pairs and declarations of a part are there again, in the numbers of the whole.
-use Rattle.std.proofs.Common.{◌≡◌, ◌<◌, ◌≤◌, ◌⊎◌, ℕ, ◌+◌, zero, suc, List, [], ◌∷◌, ◌++◌, Bool, true, false, cond, map, length, take, get_or, Option, Some, None, refl, sym, ◌∙◌, ap, ap₂, subst, inl, inr, arith}
-use Rattle.std.specs.Prelude.{All, Contains, slice_get, codes}
-use Rattle.std.specs.List.{flat_map, range_with_len, list_any}
+use Rattle.std.proofs.Common.{◌≡◌, ◌<◌, ℕ, zero, suc, List, [], ◌∷◌, ◌++◌, true, map, length, take, Some, refl, sym, ◌∙◌, ap, ap₂, subst, inl, inr, arith}
+use Rattle.std.specs.Prelude.{All, slice_get}
 use Rattle.std.specs.Option.{option_map_or}
 use Rattle.mau_poset.specs.Order.{Hierarchy, Leads, IsWithin}
 use Rattle.mau_terms.specs.Finite.{IsIn}
-use Rattle.mau_terms.proofs.Finite.{in_left, in_right, in_map}
-use Rattle.mau_signature.specs.declared.decl.Decl.{Decl}
-use Rattle.mau_signature.specs.Faults.{IsSort, HasSorts}
+use Rattle.mau_terms.proofs.Finite.{in_left, in_map}
 use Rattle.mau_signature.specs.Signature.{SignatureOf}
 use Rattle.mau_declare.specs.Names.{has_name}
 use Rattle.mau_declare.specs.Flattened.{name_at}
-use Rattle.mau_renumber.specs.Carried.{declaration_to}
 use Rattle.mau_module.specs.Modules.{ModuleOf}
-use Rattle.mau_module.specs.Library.{truth}
-use Rattle.mau_module.specs.Numbering.{number_in, sort_to, number_to, pair_to}
-use Rattle.mau_module.specs.Included.{of_module, pairs_of, number_from, has_part, has_truth}
-use Rattle.mau_module.specs.Known.{AreKnown}
-use Rattle.mau_module.specs.Framed.{all_parts}
-use Rattle.mau_module.specs.Truth.{if_declaration, comparison, truth_over, truth_declarations}
-use Rattle.mau_module.specs.Declarations.{declarations_of, hierarchy_over, if_truth, all_declarations}
+use Rattle.mau_module.specs.Numbering.{number_in, sort_to, pair_to}
+use Rattle.mau_module.specs.Included.{of_module, pairs_of}
+use Rattle.mau_module.specs.Declarations.{hierarchy_over}
 use Rattle.mau_module.specs.Made.{IsMadeOver, AreMade, IsClosed}
-use Rattle.mau_module.proofs.Members.{in_both, all_in, in_at, at_in, in_mapped, in_flat, in_flattened, in_contains, contains_in, in_range, range_in}
-use Rattle.mau_module.proofs.Numbers.{sort_number, kind_number}
-use Rattle.mau_module.proofs.Numberings.{IsNumbering, name_of_number, number_found, kind_has_sort, number_of_kind, number_again, kinds_kept, number_there, name_in}
+use Rattle.mau_module.proofs.Members.{in_both, all_in, in_mapped, in_flat, in_flattened, in_contains, contains_in}
+use Rattle.mau_module.proofs.Numberings.{IsNumbering, name_of_number, name_in}
 
 -- ---- modules with a number
 

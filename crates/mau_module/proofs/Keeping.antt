@@ -1,38 +1,31 @@
 -- The numbers of a part keep kinds, and what is built in of a part is built in of the whole.
-use Rattle.std.proofs.Common.{◌≡◌, ◌<◌, ◌≤◌, ◌⊎◌, ℕ, ◌+◌, List, [], ◌∷◌, ◌++◌, Bool, true, false, ◌&&◌, if◌then◌else◌, map, length, take, get_or, Option, Some, None, refl, sym, ◌∙◌, ap, ap₂, subst, inl, inr, arith}
-use Rattle.std.specs.Prelude.{All, slice_get, codes, bytes_eq, position, nat_lt, nat_le}
+use Rattle.std.proofs.Common.{◌≡◌, ◌<◌, ℕ, ◌+◌, List, [], ◌∷◌, ◌++◌, Bool, true, false, ◌&&◌, if◌then◌else◌, map, length, take, Option, Some, None, refl, sym, ◌∙◌, ap, ap₂, subst, inl, inr, arith}
+use Rattle.std.specs.Prelude.{All, codes}
 use Rattle.std.specs.Option.{option_map}
 use Rattle.std.proofs.lemmas.Bool.{lt-ltb, le-leb}
 use Rattle.std.proofs.lemmas.List.Elements.{All-head, All-tail}
-use Rattle.std.proofs.lemmas.List.Quantifiers.{position-Some}
-use Rattle.std.proofs.lemmas.Slice.Eq.{bytes_eq-Decides}
-use Rattle.std.proofs.lemmas.Option.{slice_get-get_or}
-use Rattle.std.specs.Option.{option_map_or}
-use Rattle.mau_poset.specs.Order.{Hierarchy, kind_of, kinds}
+use Rattle.mau_poset.specs.Order.{Hierarchy, kind_of}
 use Rattle.mau_terms.specs.Finite.{IsIn}
 use Rattle.mau_terms.proofs.Finite.{in_left, in_right}
 use Rattle.mau_signature.specs.declared.decl.Decl.{Decl}
-use Rattle.mau_signature.specs.Attributes.{united, with_attributes, with_united}
-use Rattle.mau_signature.specs.Faults.{IsSort, HasSorts, Given}
-use Rattle.mau_signature.specs.Names.{Operator, if_constant, operator_of, same_operator, operators_of, declarations_of}
+use Rattle.mau_signature.specs.Attributes.{united, with_attributes}
+use Rattle.mau_signature.specs.Faults.{IsSort, HasSorts}
+use Rattle.mau_signature.specs.Names.{Operator, if_constant, operator_of, declarations_of}
 use Rattle.mau_signature.specs.Signature.{SignatureOf, IsOperator, declarations_at, form_of, arguments_of, result_of, terms_over}
 use Rattle.mau_sigcheck.specs.Built.{IsBuiltAndAccepted}
-use Rattle.mau_declare.specs.Names.{has_name}
-use Rattle.mau_declare.specs.Flattened.{name_at}
-use Rattle.mau_renumber.specs.Carried.{Numbers, declaration_to, op_or_zero, operator_like, operator_to}
+use Rattle.mau_renumber.specs.Carried.{declaration_to, op_or_zero, operator_like, operator_to}
 use Rattle.mau_renumber.specs.Keeps.{KeepsOperator, KeepsKinds}
-use Rattle.mau_program.specs.BuiltIns.{Place, sort, kind, Shape, Row, truth_rows, number_rows, IsNamed, IsAt, AreAt, HasShape, IsDeclaredBy, HasTruth, HasNumbers, HasBuiltIn, of_truth_values, of_numbers}
 use Rattle.mau_signing.specs.Signed.{signature_over}
 use Rattle.mau_module.specs.Modules.{ModuleOf}
 use Rattle.mau_module.specs.Library.{nat}
-use Rattle.mau_module.specs.Numbering.{number_in, sort_to, number_to}
-use Rattle.mau_module.specs.Included.{of_module, number_from, numerals_of, has_part}
+use Rattle.mau_module.specs.Numbering.{number_in, number_to}
+use Rattle.mau_module.specs.Included.{numerals_of, has_part}
 use Rattle.mau_module.specs.Declarations.{hierarchy_over, all_declarations, given_over}
 use Rattle.mau_module.specs.Carried.{numbers_from}
 use Rattle.mau_module.specs.Made.{HasNumberSorts, IsMadeOver, AreMade, IsClosed}
-use Rattle.mau_module.proofs.Members.{in_both, all_in, in_filtered, in_mapped}
+use Rattle.mau_module.proofs.Members.{in_both, all_in}
 use Rattle.mau_module.proofs.Numbers.{sort_number}
-use Rattle.mau_module.proofs.Numberings.{IsNumbering, name_of_number, number_found, number_within, kinds_kept, number_there, sort_within}
+use Rattle.mau_module.proofs.Numberings.{IsNumbering, name_of_number, number_within, kinds_kept, number_there, sort_within}
 use Rattle.mau_module.proofs.Including.{made_before, in_of_it, closed_of, IsPart, part_is, length_take, included_again, hierarchy_is, part_numbering}
 use Rattle.mau_module.proofs.Sources as Sources
 use Rattle.mau_module.proofs.Sourced.{name_there, part_in, in_part, from_source}

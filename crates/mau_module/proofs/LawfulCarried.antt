@@ -1,6 +1,6 @@
 -- The statements of all parts, in the numbers of the whole, are lawful where the left sides of equations and the heads of memberships are.
-use Rattle.std.proofs.Common.{◌≡◌, ◌<◌, ◌≤◌, ℕ, ◌+◌, List, [], ◌∷◌, ◌++◌, true, map, length, get_or, Some, refl, sym, ◌∙◌, ap, subst, inl, inr, arith, length-append}
-use Rattle.std.specs.Prelude.{All, fold, slice_get}
+use Rattle.std.proofs.Common.{◌≡◌, ◌≤◌, ℕ, ◌+◌, List, [], ◌∷◌, ◌++◌, true, map, length, get_or, refl, sym, ap, subst, inl, inr, arith, length-append}
+use Rattle.std.specs.Prelude.{All, fold}
 use Rattle.std.specs.Option.{option_map_or}
 use Rattle.std.proofs.Math.ListN.{get_or-append, get_or-map}
 use Rattle.std.proofs.lemmas.List.{get_or-append-add, length-map}
@@ -27,8 +27,8 @@ use Rattle.mau_signing.specs.Signed.{signature_over}
 use Rattle.mau_module.specs.Modules.{ModuleOf, StatementsOf, no_statements, and_more}
 use Rattle.mau_module.specs.Declarations.{hierarchy_over, given_over}
 use Rattle.mau_module.specs.Carried.{numbers_from, carried_from, carried_part, carried}
-use Rattle.mau_module.specs.Made.{HaveFewVariables, AreLawfulOver, IsMadeOver, AreMade, IsClosed}
-use Rattle.mau_module.proofs.Including.{IsPart, part_is}
+use Rattle.mau_module.specs.Made.{HaveFewVariables, AreLawfulOver, AreMade, IsClosed}
+use Rattle.mau_module.proofs.Including.{part_is}
 use Rattle.mau_module.proofs.Keeping.{keeps_kinds}
 
 -- ---- lists of statements

@@ -33,6 +33,7 @@ pub mod LawfulCarried
 pub mod MadeOver
 pub mod Entering
 pub mod Adding
+pub mod StratSorts
 pub mod TextMade
 pub mod Numerals
 -- and those of the prelude: the rows of numbers, what they have, their equations, and the whole

@@ -1,22 +1,16 @@
 -- A module over those before it is lawful, and so is a library with one module more.
-use Rattle.std.proofs.Common.{◌≡◌, ◌≢◌, ◌<◌, ◌≤◌, ◌⊎◌, ℕ, ◌+◌, zero, suc, List, [], ◌∷◌, ◌++◌, Option, Some, None, length, take, refl, sym, ◌∙◌, ap, subst, inl, inr, arith, length-append}
-use Rattle.std.specs.Prelude.{All, slice_get}
-use Rattle.std.proofs.lemmas.Bool.{cases_lt}
-use Rattle.mau_poset.specs.Order.{IsPoset}
+use Rattle.std.proofs.Common.{◌≡◌, ◌≢◌, ◌≤◌, ◌⊎◌, ℕ, zero, suc, List, [], ◌∷◌, ◌++◌, Some, None, length, take, refl, sym, ap, subst, inl, inr, arith}
+use Rattle.std.specs.Prelude.{slice_get}
 use Rattle.mau_terms.specs.Finite.{IsIn}
 use Rattle.mau_terms.proofs.Finite.{in_left}
 use Rattle.mau_signature.specs.declared.decl.Decl.{Decl}
-use Rattle.mau_signature.specs.Made.{IsSignature}
 use Rattle.mau_signature.specs.Signature.{SignatureOf}
-use Rattle.mau_sigcheck.specs.Accepted.{IsAccepted}
 use Rattle.mau_sigcheck.specs.Built.{IsBuiltAndAccepted}
 use Rattle.mau_program.specs.BuiltIns.{AreBuiltIn}
 use Rattle.mau_program.specs.LawfulPrograms.{IsLawfulProgram}
 use Rattle.mau_program.proofs.WellDeclared.{built_and_accepted}
 use Rattle.mau_signing.specs.Signed.{signature_over}
-use Rattle.mau_module.specs.Modules.{ModuleOf, StatementsOf, and_more}
-use Rattle.mau_module.specs.Kept.{IsOver}
-use Rattle.mau_module.specs.Framed.{all_parts}
+use Rattle.mau_module.specs.Modules.{ModuleOf}
 use Rattle.mau_module.specs.Declarations.{hierarchy_over, given_over}
 use Rattle.mau_module.specs.Carried.{carried}
 use Rattle.mau_module.specs.Stated.{AreLawful}

@@ -1,8 +1,8 @@
 -- What is built in of the module of numbers: each declaration of its table stands in a row of those of numbers.
-use Rattle.std.proofs.Common.{◌≡◌, ◌<◌, ℕ, ◌+◌, List, [], ◌∷◌, ◌++◌, true, map, Option, Some, None, refl, sym, ◌∙◌, ap, ap₂, subst, inl, inr, arith}
-use Rattle.std.specs.Prelude.{All, codes, bytes_eq, position}
+use Rattle.std.proofs.Common.{◌≡◌, ◌<◌, ℕ, ◌+◌, List, [], ◌∷◌, ◌++◌, true, map, Option, Some, None, refl, sym, ◌∙◌, ap, ap₂, subst, inl, inr}
+use Rattle.std.specs.Prelude.{All, codes}
 use Rattle.std.proofs.lemmas.List.Elements.{All-cons}
-use Rattle.mau_poset.specs.Order.{Hierarchy, kind_of, kinds}
+use Rattle.mau_poset.specs.Order.{Hierarchy, kind_of}
 use Rattle.mau_poset.proofs.Orders.{kind_of-in_range}
 use Rattle.mau_terms.specs.Finite.{IsIn}
 use Rattle.mau_signature.specs.declared.decl.Decl.{Decl}
@@ -15,7 +15,7 @@ use Rattle.mau_signature.specs.Signature.{SignatureOf, signature_of, declaration
 use Rattle.mau_sigcheck.specs.Built.{IsBuiltAndAccepted}
 use Rattle.mau_prelude.specs.Rows.{bool, nz_nat, nat, word_form, prefix_form, infix_form, declare}
 use Rattle.mau_prelude.specs.Numbers.{sums, products, choices, comparisons}
-use Rattle.mau_program.specs.BuiltIns.{Shape, number_rows, IsNamed, HasShape, HasTruth, HasNumbers, HasBuiltIn, of_numbers}
+use Rattle.mau_program.specs.BuiltIns.{IsNamed, HasShape, HasTruth, HasNumbers, HasBuiltIn, of_numbers}
 use Rattle.mau_module.proofs.Alls.{all_one}
 use Rattle.mau_module.proofs.Numberings.{kind_again}
 use Rattle.mau_module.proofs.Sources as Sources

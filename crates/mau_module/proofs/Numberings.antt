@@ -1,6 +1,6 @@
 -- Sorts and kinds in the numbers of a module that includes theirs: kinds are kept, and numbers of numbers are numbers.
-use Rattle.std.proofs.Common.{◌≡◌, ◌<◌, ◌≤◌, ◌⊎◌, ℕ, ◌+◌, List, [], ◌∷◌, Bool, ◌||◌, true, false, cond, length, get_or, Option, Some, None, refl, sym, ◌∙◌, ap, ap₂, subst, inl, inr, arith, eq-eqb, eqb-true}
-use Rattle.std.specs.Prelude.{bytes_eq, position, slice_get, nat_lt, nat_eq}
+use Rattle.std.proofs.Common.{◌≡◌, ◌<◌, ◌≤◌, ◌⊎◌, ℕ, ◌+◌, List, [], ◌∷◌, Bool, ◌||◌, true, false, length, get_or, Some, refl, sym, ◌∙◌, ap, subst, inl, inr, arith, eq-eqb, eqb-true}
+use Rattle.std.specs.Prelude.{bytes_eq, position, nat_eq}
 use Rattle.std.specs.List.{list_any, position_or_len, range_with_len}
 use Rattle.std.specs.Option.{option_map_or}
 use Rattle.std.proofs.lemmas.Bool.{cases_lt}
@@ -8,9 +8,8 @@ use Rattle.std.proofs.lemmas.List.Quantifiers.{position-Some}
 use Rattle.std.proofs.lemmas.List.FromFn.{get_or-range_with_len, length-range_with_len}
 use Rattle.std.proofs.lemmas.Option.{slice_get-get_or}
 use Rattle.std.proofs.lemmas.Slice.Eq.{bytes_eq-Decides}
-use Rattle.mau_poset.specs.Order.{Hierarchy, Chain, no_step, step, Leads, Joins, AreJoined, IsWithin, kind_of, kinds}
+use Rattle.mau_poset.specs.Order.{Hierarchy, no_step, step, Leads, Joins, AreJoined, IsWithin, kind_of, kinds}
 use Rattle.mau_poset.proofs.Orders.{kind_of-kind, kind_of-above, kind_of-in_range, joined_sorts, numbers_kinds}
-use Rattle.mau_poset.specs.Laws.{IsFirst}
 use Rattle.mau_terms.specs.Finite.{IsIn}
 use Rattle.mau_signature.specs.Faults.{IsSort}
 use Rattle.mau_declare.specs.Names.{has_name}

@@ -8,24 +8,31 @@ use Rattle.mau_modtext.specs.declared.raw.RawModule.{RawModule}
 use Rattle.mau_modtext.specs.declared.raw.RawStatement.{RawStatement}
 use Rattle.mau_declare.specs.Elements.{Elements, elements_of}
 use Rattle.mau_declare.specs.Flattened.{variable_at}
-use Rattle.mau_declare.proofs.Once.{some_none, some_once}
+use Rattle.mau_declare.proofs.Once.{yes_no, some_none, some_once}
 use Rattle.mau_grammar.specs.Production.{IsShaped}
-use Rattle.mau_statement.specs.Context.{ContextOf}
+use Rattle.mau_program.specs.declared.definitions.StratDef.{StratDef}
 use Rattle.mau_statement.specs.Faults.{without_trees as without_trees_of_statement, told as told_of_statement}
 use Rattle.mau_statement.specs.Statements.{StatementRead}
 use Rattle.mau_statement.specs.declared.fault.StatementFault.{StatementFault}
 use Rattle.mau_statement.specs.declared.statement.Statement.{Statement as StatementType}
 use Rattle.mau_statement.proofs.OneStatement.{shaped_of, statement_once}
+use Rattle.mau_definition.specs.Definitions.{Around, DefinitionRead}
+use Rattle.mau_definition.specs.Laws.{without_trees as without_trees_of_definition, told as told_of_definition}
+use Rattle.mau_definition.specs.declared.fault.DefinitionFault.{DefinitionFault}
+use Rattle.mau_definition.specs.declared.fault.DefinitionFault.TheVariants.{Statement as OfStatement, Strategy as OfStrategy, NoMemory as NoMemoryOfDefinition}
+use Rattle.mau_definition.proofs.OneDefinition.{definition_once}
 use Rattle.mau_signing.specs.Signed.{SignatureRead}
 use Rattle.mau_signing.proofs.OneSignature.{signature_once}
 use Rattle.mau_module.specs.declared.fault.ModuleFault.{ModuleFault}
 use Rattle.mau_module.specs.declared.fault.ModuleFault.TheVariants.{UnknownModule, TooLarge, UnknownSort, Signed, Statement}
 use Rattle.mau_module.specs.declared.TheConstants.{MAX_DEPTH}
-use Rattle.mau_module.specs.Modules.{StatementsOf, no_statements, ModuleOf}
+use Rattle.mau_module.specs.declared.statements.Stated.{Stated}
+use Rattle.mau_module.specs.declared.statements.Stated.TheVariants.{Statement as AStatement, Definition as ADefinition}
+use Rattle.mau_module.specs.Modules.{StatementsOf, ModuleOf}
 use Rattle.mau_module.specs.Framed.{frame_of}
-use Rattle.mau_module.specs.Stated.{AreLawful, HasCarriedFault, no_left_side, no_head, with_statement, OwnRead, none_left, no_statement, at_fault, one_more}
-use Rattle.mau_module.specs.Faults.{told}
-use Rattle.mau_module.specs.Flattened.{given_in, conflict_in, carried_in, context_in, module_in, IsSigned, FlattenedAs, module_unknown, import_too_deep, too_large, sort_unknown, not_signed, carried_at_fault, own_at_fault, flattened}
+use Rattle.mau_module.specs.Stated.{AreLawful, HasCarriedFault, no_left_side, no_head, with_statement, StatedRead, statement_read, statement_unread, definition_read, definition_unread, OwnRead, none_left, no_statement, at_fault, one_more}
+use Rattle.mau_module.specs.Faults.{statement_fault, without_trees, told}
+use Rattle.mau_module.specs.Flattened.{given_in, conflict_in, carried_in, around_in, OwnAs, module_in, IsSigned, FlattenedAs, module_unknown, import_too_deep, too_large, sort_unknown, not_signed, carried_at_fault, own_at_fault, flattened}
 
 ok_once : {X E : Type 0} {x y : X} {r : Result X E} → r ≡ Ok x → r ≡ Ok y → x ≡ y
 ok_once t f = let e = sym t ∙ f in cc
@@ -87,37 +94,72 @@ module _ (ms : List ModuleOf) (ws : List Word) (raw : RawModule) where
 -- ---- its own statements
 
 -- an answer of statements, as far as it is one
-abbrev own_told : Result StatementsOf (ℕ × StatementFault) → Result StatementsOf (ℕ × StatementFault)
+abbrev own_told : Result StatementsOf (ℕ × DefinitionFault) → Result StatementsOf (ℕ × DefinitionFault)
 own_told (Ok a) = Ok a
-own_told (Err p) = Err (p.0, without_trees_of_statement p.1)
+own_told (Err p) = Err (p.0, without_trees_of_definition p.1)
 
-module _ (ws : List Word) (c : ContextOf) (shaped : All IsShaped c.grammar.productions) where
-  same_statement : {raw raw' : RawStatement} (r s : Result StatementType StatementFault) → raw ≡ raw' → StatementRead ws c raw r → StatementRead ws c raw' s → told_of_statement r ≡ told_of_statement s
-  same_statement {raw} r s m y y' = statement_once ws c shaped raw r s y (subst (λ raw. StatementRead ws c raw s) (sym m) y')
+module _ (a : Around) (shaped : All IsShaped a.context.grammar.productions) where
+  statements_same : (raw : RawStatement) {r r' : Result StatementType StatementFault} → StatementRead a.words a.context raw r → StatementRead a.words a.context raw r'
+      → told_of_statement r ≡ told_of_statement r'
+  statements_same raw {r} {r'} y y' = statement_once a.words a.context shaped raw r r' y y'
 
-  own_once : {a : StatementsOf} {i : ℕ} {es : List RawElement} {r s : Result StatementsOf (ℕ × StatementFault)} → OwnRead ws c a i es r → OwnRead ws c a i es s → own_told r ≡ own_told s
-  own_once (none_left a i) (none_left a' i') = refl
-  own_once (no_statement a i e es r n o) (no_statement a' i' e' es' r' n' o') = own_once o o'
-  own_once (no_statement a i e es r n o) (at_fault a' i' e' es' raw' f' t' y') = absurd (some_none t' n)
-  own_once (no_statement a i e es r n o) (one_more a' i' e' es' raw' x' r' t' y' o') = absurd (some_none t' n)
-  own_once (at_fault a i e es raw f t y) (no_statement a' i' e' es' r' n' o') = absurd (some_none t n')
-  own_once (at_fault a i e es raw f t y) (at_fault a' i' e' es' raw' f' t' y') = ap (λ f. Err (i, f)) (err_once refl (same_statement (Err f) (Err f') (some_once t t') y y'))
-  own_once (at_fault a i e es raw f t y) (one_more a' i' e' es' raw' x' r' t' y' o') = absurd (ok_err refl (same_statement (Ok x') (Err f) (some_once t' t) y' y))
-  own_once (one_more a i e es raw x r t y o) (no_statement a' i' e' es' r' n' o') = absurd (some_none t n')
-  own_once (one_more a i e es raw x r t y o) (at_fault a' i' e' es' raw' f' t' y') = absurd (ok_err refl (same_statement (Ok x) (Err f') (some_once t t') y y'))
-  own_once (one_more a i e es raw x r t y o) (one_more a' i' e' es' raw' x' r' t' y' o') =
-      let m : x ≡ x' = ok_once refl (same_statement (Ok x) (Ok x') (some_once t t') y y') in
-      own_once o (subst (λ x. OwnRead ws c (with_statement a x) (suc i) es r') (sym m) o')
+  definitions_same : (raw : RawStatement) {r r' : Result StratDef DefinitionFault} → DefinitionRead a raw r → DefinitionRead a raw r' → told_of_definition r ≡ told_of_definition r'
+  definitions_same raw {r} {r'} y y' = definition_once a shaped raw r r' y y'
+
+  stated_once : (raw : RawStatement) {r r' : Result Stated DefinitionFault} → StatedRead a raw r → StatedRead a raw r' → told_of_definition r ≡ told_of_definition r'
+  stated_once raw (statement_read x k y) (statement_read x' k' y') = ap (λ x. Ok (AStatement x)) (ok_once refl (statements_same raw y y'))
+  stated_once raw (statement_read x k y) (statement_unread f' k' y') = absurd (ok_err refl (statements_same raw y y'))
+  stated_once raw (statement_read x k y) (definition_read d' k' y') = absurd (yes_no _ k' k)
+  stated_once raw (statement_read x k y) (definition_unread f' k' y') = absurd (yes_no _ k' k)
+  stated_once raw (statement_unread f k y) (statement_read x' k' y') = absurd (ok_err refl (statements_same raw y' y))
+  stated_once raw (statement_unread f k y) (statement_unread f' k' y') = ap (λ f. Err (OfStatement f)) (err_once refl (statements_same raw y y'))
+  stated_once raw (statement_unread f k y) (definition_read d' k' y') = absurd (yes_no _ k' k)
+  stated_once raw (statement_unread f k y) (definition_unread f' k' y') = absurd (yes_no _ k' k)
+  stated_once raw (definition_read d k y) (statement_read x' k' y') = absurd (yes_no _ k k')
+  stated_once raw (definition_read d k y) (statement_unread f' k' y') = absurd (yes_no _ k k')
+  stated_once raw (definition_read d k y) (definition_read d' k' y') = ap (λ d. Ok (ADefinition d)) (ok_once refl (definitions_same raw y y'))
+  stated_once raw (definition_read d k y) (definition_unread f' k' y') = absurd (ok_err refl (definitions_same raw y y'))
+  stated_once raw (definition_unread f k y) (statement_read x' k' y') = absurd (yes_no _ k k')
+  stated_once raw (definition_unread f k y) (statement_unread f' k' y') = absurd (yes_no _ k k')
+  stated_once raw (definition_unread f k y) (definition_read d' k' y') = absurd (ok_err refl (definitions_same raw y' y))
+  stated_once raw (definition_unread f k y) (definition_unread f' k' y') = ap (λ f. Err f) (err_once refl (definitions_same raw y y'))
+
+  same_stated : {raw raw' : RawStatement} {r r' : Result Stated DefinitionFault} → raw ≡ raw' → StatedRead a raw r → StatedRead a raw' r' → told_of_definition r ≡ told_of_definition r'
+  same_stated {raw} {raw'} {r} {r'} m y y' = stated_once raw y (subst (λ raw. StatedRead a raw r') (sym m) y')
+
+  own_once : {o : StatementsOf} {i : ℕ} {es : List RawElement} {r s : Result StatementsOf (ℕ × DefinitionFault)} → OwnRead a o i es r → OwnRead a o i es s → own_told r ≡ own_told s
+  own_once (none_left o i) (none_left o' i') = refl
+  own_once (no_statement o i e es r n w) (no_statement o' i' e' es' r' n' w') = own_once w w'
+  own_once (no_statement o i e es r n w) (at_fault o' i' e' es' raw' f' t' y') = absurd (some_none t' n)
+  own_once (no_statement o i e es r n w) (one_more o' i' e' es' raw' x' r' t' y' w') = absurd (some_none t' n)
+  own_once (at_fault o i e es raw f t y) (no_statement o' i' e' es' r' n' w') = absurd (some_none t n')
+  own_once (at_fault o i e es raw f t y) (at_fault o' i' e' es' raw' f' t' y') = ap (λ f. Err (i, f)) (err_once refl (same_stated (some_once t t') y y'))
+  own_once (at_fault o i e es raw f t y) (one_more o' i' e' es' raw' x' r' t' y' w') = absurd (ok_err refl (same_stated (some_once t' t) y' y))
+  own_once (one_more o i e es raw x r t y w) (no_statement o' i' e' es' r' n' w') = absurd (some_none t n')
+  own_once (one_more o i e es raw x r t y w) (at_fault o' i' e' es' raw' f' t' y') = absurd (ok_err refl (same_stated (some_once t t') y y'))
+  own_once (one_more o i e es raw x r t y w) (one_more o' i' e' es' raw' x' r' t' y' w') =
+      let m : x ≡ x' = ok_once refl (same_stated (some_once t t') y y') in
+      own_once w (subst (λ x. OwnRead a (with_statement o x) (suc i) es r') (sym m) w')
+
+-- a fault with its number, as far as it is told
+told_numbered : (i : ℕ) (f : DefinitionFault) → without_trees (statement_fault i f) ≡ statement_fault i (without_trees_of_definition f)
+told_numbered i (OfStatement f) = refl
+told_numbered i (OfStrategy f) = refl
+told_numbered i NoMemoryOfDefinition = refl
 
 module _ (ms : List ModuleOf) (ws : List Word) (raw : RawModule) where
-  abbrev OwnAs : Elements → SignatureOf → Result StatementsOf (ℕ × StatementFault) → Type 0
-  OwnAs e s r = OwnRead ws (context_in ms ws (frame_of ms ws raw) e s) no_statements 1 raw.elements r
-
-  same_own : {e e' : Elements} {s s' : SignatureOf} {r r' : Result StatementsOf (ℕ × StatementFault)} → IsSigned ms ws raw e s → IsSigned ms ws raw e' s'
-      → OwnAs e s r → OwnAs e' s' r' → own_told r ≡ own_told r'
+  same_own : {e e' : Elements} {s s' : SignatureOf} {r r' : Result StatementsOf (ℕ × DefinitionFault)} → IsSigned ms ws raw e s → IsSigned ms ws raw e' s'
+      → OwnAs ms ws raw (frame_of ms ws raw) e s r → OwnAs ms ws raw (frame_of ms ws raw) e' s' r' → own_told r ≡ own_told r'
   same_own {e} {e'} {s} {s'} {r} {r'} p p' x x' =
       let m = signed_once ms ws raw p p' in
-      own_once ws (context_in ms ws (frame_of ms ws raw) e s) (shaped_of s (frame_of ms ws raw).names (map (variable_at ws s.hierarchy) e.variables)) x (subst (λ e. OwnAs e s r') (sym m.0) (subst (λ s. OwnAs e' s r') (sym m.1) x'))
+      let f = frame_of ms ws raw in
+      own_once (around_in ms ws raw f e s) (shaped_of s f.names (map (variable_at ws s.hierarchy) e.variables)) x
+      (subst (λ e. OwnAs ms ws raw f e s r') (sym m.0) (subst (λ s. OwnAs ms ws raw f e' s r') (sym m.1) x'))
+
+  same_fault : (i i' : ℕ) (f f' : DefinitionFault) → own_told (Err (i, f)) ≡ own_told (Err (i', f')) → told (Err (statement_fault i f)) ≡ told (Err (statement_fault i' f'))
+  same_fault i i' f f' e =
+      let m = err_once refl e in
+      ap (λ g. Err g) (told_numbered i f ∙ (ap (λ (p : ℕ × DefinitionFault). statement_fault p.0 p.1) m ∙ sym (told_numbered i' f')))
 
   -- ---- modules
 
@@ -176,7 +218,7 @@ module _ (ms : List ModuleOf) (ws : List Word) (raw : RawModule) where
   module_once (own_at_fault e s i f p l x) (sort_unknown at' f' x') = absurd (ok_err p.elements x')
   module_once (own_at_fault e s i f p l x) (not_signed e' t' f' x' y') = absurd (not_refused ms ws raw x' y' p)
   module_once (own_at_fault e s i f p l x) (carried_at_fault e' s' f' p' x') = absurd (not_lawful ms ws raw p p' l x')
-  module_once (own_at_fault e s i f p l x) (own_at_fault e' s' i' f' p' l' x') = ap (λ (f : ℕ × StatementFault). Err (Statement f.0 f.1)) (err_once refl (same_own p p' x x'))
+  module_once (own_at_fault e s i f p l x) (own_at_fault e' s' i' f' p' l' x') = same_fault i i' f f' (same_own p p' x x')
   module_once (own_at_fault e s i f p l x) (flattened e' s' a' p' l' x') = absurd (ok_err refl (same_own p' p x' x))
   module_once (flattened e s a p l x) (module_unknown n' k') = absurd (some_none k' p.framed.known)
   module_once (flattened e s a p l x) (import_too_deep k' d') = absurd (deep_shallow ms ws raw d' p.framed.shallow)

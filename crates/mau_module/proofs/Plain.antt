@@ -1,7 +1,6 @@
 -- No attribute of a text makes an operator native.
 use Rattle.std.proofs.Common.{◌≡◌, ℕ, List, [], ◌∷◌, ◌++◌, Bool, true, false, cond, map, length, Option, Some, None, refl, sym, ◌∙◌, ap, subst, inl, inr}
 use Rattle.std.specs.Prelude.{Result, Ok, Err, fold, bytes_eq, codes}
-use Rattle.std.specs.List.{flat_map}
 use Rattle.mau_terms.specs.Finite.{IsIn}
 use Rattle.mau_tokens.specs.declared.token.Token.{Token}
 use Rattle.mau_signature.specs.declared.attributes.Attrs.{Attrs}
@@ -13,12 +12,11 @@ use Rattle.mau_modtext.specs.declared.raw.RawAttr.{RawAttr}
 use Rattle.mau_modtext.specs.declared.raw.RawOps.{RawOps}
 use Rattle.mau_modtext.specs.declared.raw.RawElement.{RawElement}
 use Rattle.mau_modtext.specs.declared.raw.RawElement.TheVariants.{Import, Sorts, Subsorts, Ops, Vars, Statement, Strats}
-use Rattle.mau_declare.specs.declared.element.SortUse.{SortUse}
 use Rattle.mau_declare.specs.declared.element.Operators.{Operators}
 use Rattle.mau_declare.specs.Words.{token_text}
-use Rattle.mau_declare.specs.Attributes.{given_by, given, attributes}
+use Rattle.mau_declare.specs.Attributes.{given_by, given}
 use Rattle.mau_declare.specs.Elements.{Elements, no_elements, sort_use, subsort_pairs, argument_step, operators_over, operators, variables, with_operators, behind_statement, element_step, elements_of}
-use Rattle.mau_declare.specs.Statements.{unknown_in_statement}
+use Rattle.mau_declare.specs.Statements.{unknown_in_statement, unknown_in_strats}
 use Rattle.mau_declare.specs.Flattened.{declarations, declarations_in, declaration_at}
 use Rattle.mau_declare.specs.Readings.{and_then, read_all}
 use Rattle.mau_module.proofs.Members.{in_both, in_mapped, in_flattened}
@@ -75,10 +73,13 @@ operators_plain ws sorts o ops e =
     let is : operators_over ws o p.0 q.0 ≡ ops = let w = q.2 in cc in
     subst (λ (x : Operators). IsPlain x.attrs) is (all_given ws (length o.args) no_attributes o.attrs refl)
 
+behind_plain : (e f : Elements) (u : Option ℕ) → behind_statement e u ≡ Ok f → ArePlain e.operators → ArePlain f.operators
+behind_plain e f None w a = let is : e ≡ f = cc in subst (λ (y : Elements). ArePlain y.operators) is a
+behind_plain e f (Some at) w a = absurd cc
+
 step_plain : (ws : List Word) (sorts : List (List ℕ)) (e f : Elements) (x : RawElement) → element_step ws sorts e x ≡ Ok f → ArePlain e.operators → ArePlain f.operators
 step_plain ws sorts e f (Import name) s a = let is : e ≡ f = cc in subst (λ (y : Elements). ArePlain y.operators) is a
 step_plain ws sorts e f (Sorts names) s a = let is : e ≡ f = cc in subst (λ (y : Elements). ArePlain y.operators) is a
-step_plain ws sorts e f (Strats names) s a = let is : e ≡ f = cc in subst (λ (y : Elements). ArePlain y.operators) is a
 step_plain ws sorts e f (Subsorts lists) s a =
     let p = passed (subsort_pairs ws sorts lists) (λ pairs. Ok (Rattle.mau_declare.specs.Elements.with_pairs e pairs)) f s in
     let is : Rattle.mau_declare.specs.Elements.with_pairs e p.0 ≡ f = let w = p.2 in cc in subst (λ (y : Elements). ArePlain y.operators) is a
@@ -89,11 +90,8 @@ step_plain ws sorts e f (Ops o) s a =
     let p = passed (operators ws sorts o) (λ ops. Ok (with_operators e ops)) f s in
     let is : with_operators e p.0 ≡ f = let w = p.2 in cc in
     subst (λ (y : Elements). ArePlain y.operators) is (one_more e.operators p.0 a (operators_plain ws sorts o p.0 p.1))
-step_plain ws sorts e f (Statement st) s a = by (unknown_in_statement ws sorts st) s
-  where
-    by : (u : Option ℕ) → behind_statement e u ≡ Ok f → ArePlain f.operators
-    by None w = let is : e ≡ f = cc in subst (λ (y : Elements). ArePlain y.operators) is a
-    by (Some at) w = absurd cc
+step_plain ws sorts e f (Statement st) s a = behind_plain e f (unknown_in_statement ws sorts st) s a
+step_plain ws sorts e f (Strats st) s a = behind_plain e f (unknown_in_strats ws sorts st) s a
 
 all_plain : (ws : List Word) (sorts : List (List ℕ)) (e f : Elements) (xs : List RawElement) → read_all (element_step ws sorts) e xs ≡ Ok f → ArePlain e.operators → ArePlain f.operators
 all_plain ws sorts e f [] s a = let is : e ≡ f = cc in subst (λ (y : Elements). ArePlain y.operators) is a

@@ -1,6 +1,6 @@
 -- The modules of the prelude are lawful.
-use Rattle.std.proofs.Common.{◌≡◌, ◌<◌, ℕ, List, [], ◌∷◌, ◌++◌, true, Some, length, refl, sym, ap, subst, arith}
-use Rattle.std.specs.Prelude.{All, nat_lt, slice_get}
+use Rattle.std.proofs.Common.{◌≡◌, ◌<◌, ℕ, List, [], ◌∷◌, ◌++◌, true, length, refl}
+use Rattle.std.specs.Prelude.{All, nat_lt}
 use Rattle.std.proofs.lemmas.Bool.{ltb-true}
 use Rattle.mau_declare.specs.Names.{has_name}
 use Rattle.mau_prelude.specs.declared.module.PreludeModule.{PreludeModule}
@@ -11,8 +11,8 @@ use Rattle.mau_module.specs.Library.{truth_value, truth, bool}
 use Rattle.mau_module.specs.Included.{of_module, parts_of}
 use Rattle.mau_module.specs.Known.{AreKnown}
 use Rattle.mau_module.specs.Libraries.{AreLawfulModules}
-use Rattle.mau_module.specs.Prelude.{table_frame, with_table, prelude}
-use Rattle.mau_module.specs.Made.{IsMadeOver, AreMade, IsSignedOver}
+use Rattle.mau_module.specs.Prelude.{table_frame, prelude}
+use Rattle.mau_module.specs.Made.{AreMade, IsSignedOver}
 use Rattle.mau_module.specs.Ready.{module_of, IsReady}
 use Rattle.mau_module.proofs.Deciding.{every, every_in}
 use Rattle.mau_module.proofs.Framing.{frame_closed}

@@ -1,8 +1,8 @@
 -- The tables of the prelude are those of modules, each over the modules before it.
-use Rattle.std.proofs.Common.{◌≡◌, ◌≤◌, ◌<◌, ℕ, List, [], ◌∷◌, ◌++◌, true, Some, None, length, refl, sym, ap, subst, inl, inr, arith}
+use Rattle.std.proofs.Common.{◌≡◌, ◌<◌, ℕ, List, [], ◌∷◌, true, Some, None, length, refl, sym, ap, subst, inl, inr, arith}
 use Rattle.std.specs.Prelude.{All, codes}
 use Rattle.std.proofs.lemmas.List.Elements.{All-nil}
-use Rattle.mau_poset.specs.Order.{Hierarchy, IsWithin, kind_of, kinds_before, first_sort}
+use Rattle.mau_poset.specs.Order.{IsWithin, kind_of, kinds_before, first_sort}
 use Rattle.mau_terms.specs.Finite.{IsIn}
 use Rattle.mau_terms.specs.View.{tree_of}
 use Rattle.mau_signature.specs.Attributes.{no_attributes}
@@ -32,7 +32,6 @@ use Rattle.mau_module.specs.Ready.{IsSignable, module_of, IsReady}
 use Rattle.mau_module.proofs.LawfulCarried.{HaveTops}
 use Rattle.mau_module.proofs.BuiltAgain.{constant_there, truth_there}
 use Rattle.mau_module.proofs.Deciding.{every, every_in}
-use Rattle.mau_module.proofs.Members.{contains_in}
 use Rattle.mau_module.proofs.PreludeFacts.{ms1, ms2, ms3, parts1, parts2, parts3, names1, names2, names3}
 use Rattle.mau_module.proofs.PreludeSigned.{in_all, have_sorts, of_bools, of_numbers, declared_in_truth, declared_in_bool, declared_in_nat, constants_read, truth_read, bool_read, nat_read, no_numerals_in_constants, no_numerals_in_truth, no_numerals_in_bool, numerals_in_nat, within_numbers}
 use Rattle.mau_module.proofs.PreludeMade.{truth_value_made, truth_made, bool_made, nat_made}

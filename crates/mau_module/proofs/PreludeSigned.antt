@@ -1,22 +1,20 @@
 -- The signatures of the modules of the prelude: no declaration is at fault, and they are accepted, by computation.
-use Rattle.std.proofs.Common.{◌≡◌, ◌<◌, ◌≤◌, ℕ, ◌+◌, zero, suc, List, [], ◌∷◌, ◌++◌, Bool, true, false, not, ◌&&◌, ◌||◌, map, length, get_or, Option, Some, None, refl, sym, ◌∙◌, ap, ap₂, subst, inl, inr, arith}
-use Rattle.std.specs.Prelude.{All, Ok, is_none, nat_eq, nat_lt, codes}
-use Rattle.std.specs.List.{list_any, range_with_len}
+use Rattle.std.proofs.Common.{◌≡◌, ◌<◌, ℕ, ◌+◌, List, [], ◌∷◌, ◌++◌, Bool, true, false, not, ◌&&◌, ◌||◌, map, get_or, Option, Some, None, refl, sym, ◌∙◌, ap, subst, inl, inr, arith}
+use Rattle.std.specs.Prelude.{All, Ok, is_none, nat_eq, nat_lt}
 use Rattle.std.proofs.lemmas.Bool.{true≢false, not-true, eqb-true, ltb-true, and_parts, or_cases}
-use Rattle.mau_poset.specs.Order.{Hierarchy, IsPoset, IsWithin, kind_of, kinds, kinds_before, first_sort}
+use Rattle.mau_poset.specs.Order.{Hierarchy, IsWithin, kind_of, kinds, kinds_before, first_sort}
 use Rattle.mau_terms.specs.Finite.{IsIn}
 use Rattle.mau_signature.specs.declared.decl.Decl.{Decl}
-use Rattle.mau_signature.specs.Faults.{Given, given, HasSorts, IsSort, is_successor, IsSuccessorIn, AreNumerals, IsFaultless, no_declaration}
+use Rattle.mau_signature.specs.Faults.{given, HasSorts, IsSort, is_successor, IsSuccessorIn, AreNumerals, IsFaultless, no_declaration}
 use Rattle.mau_signature.specs.Laws.{HasNumeral}
-use Rattle.mau_signature.specs.Signature.{SignatureOf, signature_of}
+use Rattle.mau_signature.specs.Signature.{signature_of}
 use Rattle.mau_signature.proofs.Lawful.{faultless_are_lawful}
-use Rattle.mau_sigcheck.specs.Accepted.{IsAccepted, IsWithinLimit}
 use Rattle.mau_prelude.specs.Booleans.{constants, connectives}
 use Rattle.mau_prelude.specs.Numbers.{number_pairs, sums, products, choices, comparisons}
 use Rattle.mau_signing.specs.Signed.{SignatureRead, signature_read, signature_over}
 use Rattle.mau_module.specs.Truth.{truth_over}
-use Rattle.mau_module.proofs.Deciding.{every, every_in, IsOrderTest, by_table, is_flat, table_order, is_rising, no_cycle, are_fine, faultless, is_right, accepted, within_limit}
-use Rattle.mau_module.proofs.Members.{contains_in, get_in}
+use Rattle.mau_module.proofs.Deciding.{every, every_in, IsOrderTest, by_table, table_order, is_rising, no_cycle, are_fine, faultless, is_right, accepted, within_limit}
+use Rattle.mau_module.proofs.Members.{get_in}
 
 -- ---- lists
 

@@ -16,7 +16,6 @@ use Rattle.mau_signing.proofs.OneSignature.{signature_is}
 use Rattle.mau_module.specs.Modules.{ModuleOf}
 use Rattle.mau_module.specs.Library.{truth_value, truth, bool}
 use Rattle.mau_module.specs.Libraries.{IsLibrary, IsNext}
-use Rattle.mau_module.specs.Included.{parts_of}
 use Rattle.mau_module.specs.Known.{AreKnown}
 use Rattle.mau_module.specs.Framed.{Frame}
 use Rattle.mau_module.specs.declared.TheConstants.{MAX_DEPTH}

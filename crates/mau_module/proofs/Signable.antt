@@ -1,16 +1,14 @@
 -- What is declared over some parts is a signature: what signing it asks for, and that it is refused for want of memory alone.
-use Rattle.std.proofs.Common.{◌≡◌, ◌≤◌, ◌<◌, ℕ, ◌+◌, List, [], ◌∷◌, ◌++◌, Bool, true, Option, Some, None, length, refl, sym, ◌∙◌, ap, subst, arith}
-use Rattle.std.specs.Prelude.{All, Result, Ok, Err}
+use Rattle.std.proofs.Common.{◌≡◌, ◌≤◌, ℕ, List, [], ◌∷◌, ◌++◌, Option, None, length, refl, sym, subst}
+use Rattle.std.specs.Prelude.{All, Ok, Err}
 use Rattle.mau_poset.specs.Order.{Hierarchy, IsPoset, IsWithin}
 use Rattle.mau_poset.specs.declared.TheConstants.{MAX_SORTS}
-use Rattle.mau_terms.specs.Finite.{IsIn}
 use Rattle.mau_terms.proofs.Finite.{in_left, in_right}
-use Rattle.mau_terms.specs.View.{tree_of}
 use Rattle.mau_signature.specs.declared.TheConstants.{MAX_DECLARATIONS}
 use Rattle.mau_signature.specs.declared.decl.Decl.{Decl}
 use Rattle.mau_signature.specs.Faults.{Given, given, HasSorts, AreNumerals, IsFaultless}
 use Rattle.mau_signature.specs.Made.{IsSignature}
-use Rattle.mau_signature.specs.Signature.{SignatureOf, theory_at}
+use Rattle.mau_signature.specs.Signature.{SignatureOf}
 use Rattle.mau_sigcheck.specs.Accepted.{IsAccepted}
 use Rattle.mau_sigcheck.specs.Built.{IsBuiltAndAccepted}
 use Rattle.mau_program.proofs.WellDeclared.{built_and_accepted}
@@ -21,13 +19,13 @@ use Rattle.mau_signing.specs.Signed.{SignatureRead, signature_read, signature_ov
 use Rattle.mau_signing.proofs.OneSignature.{signature_once}
 use Rattle.mau_statement.specs.declared.fault.StatementFault.{StatementFault}
 use Rattle.mau_module.specs.declared.fault.ModuleFault.{ModuleFault}
-use Rattle.mau_module.specs.declared.fault.ModuleFault.TheVariants.{UnknownModule, ImportTooDeep, TooLarge, UnknownSort, Signed, Statement, NoMemory as OutOfMemory}
+use Rattle.mau_module.specs.declared.fault.ModuleFault.TheVariants.{UnknownModule, ImportTooDeep, TooLarge, UnknownSort, Signed, Statement, Strategy, NoMemory as OutOfMemory}
 use Rattle.mau_module.specs.Faults.{IfOwn, IfSigned, fault_of}
 use Rattle.mau_module.specs.Modules.{ModuleOf, StatementsOf}
 use Rattle.mau_module.specs.Included.{numerals_of, pairs_of, has_truth}
 use Rattle.mau_module.specs.Declarations.{declarations_of, hierarchy_over, if_truth, all_declarations, given_over}
 use Rattle.mau_module.specs.Carried.{carried}
-use Rattle.mau_module.specs.Stated.{AreLawful, HasCarriedFault, no_left_side, no_head, IsLeftSide}
+use Rattle.mau_module.specs.Stated.{AreLawful, HasCarriedFault, no_left_side, no_head}
 use Rattle.mau_module.specs.Made.{AreMade, IsClosed}
 use Rattle.mau_module.specs.Ready.{IsSignable}
 use Rattle.mau_module.proofs.LawfulCarried.{HaveTops, carried_lawful}
@@ -49,6 +47,7 @@ signed_none P never ImportTooDeep p = absurd p
 signed_none P never (TooLarge limit) p = absurd p
 signed_none P never (UnknownSort at) p = absurd p
 signed_none P never (Statement i f) p = absurd p
+signed_none P never (Strategy i f) p = absurd p
 
 own_none : (P : ℕ → StatementFault → Type 0) → ((i : ℕ) (x : StatementFault) → P i x → ⊥) → (f : ModuleFault) → IfOwn P f → f ≡ OutOfMemory
 own_none P never (Statement i x) p = absurd (never i x p)
@@ -58,6 +57,7 @@ own_none P never (UnknownModule name) p = absurd p
 own_none P never ImportTooDeep p = absurd p
 own_none P never (TooLarge limit) p = absurd p
 own_none P never (UnknownSort at) p = absurd p
+own_none P never (Strategy i f) p = absurd p
 
 no_carried_fault : (s : SignatureOf) (a : StatementsOf) → AreLawful s a → (f : StatementFault) → HasCarriedFault s a f → ⊥
 no_carried_fault s a l _ (no_left_side n) = n l.left_sides

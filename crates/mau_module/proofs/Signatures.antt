@@ -14,7 +14,7 @@ use Rattle.mau_signing.specs.Refusals.{IfRefused, IsCycleRefusal}
 use Rattle.mau_signing.specs.declared.fault.SignFault.{SignFault}
 use Rattle.mau_signing.specs.declared.fault.SignFault.TheVariants.{Refused, NoMemory}
 use Rattle.mau_module.specs.declared.fault.ModuleFault.{ModuleFault}
-use Rattle.mau_module.specs.declared.fault.ModuleFault.TheVariants.{UnknownModule, ImportTooDeep, TooLarge, UnknownSort, Signed, Statement, NoMemory as OutOfMemory}
+use Rattle.mau_module.specs.declared.fault.ModuleFault.TheVariants.{UnknownModule, ImportTooDeep, TooLarge, UnknownSort, Signed, Statement, Strategy, NoMemory as OutOfMemory}
 use Rattle.mau_module.specs.Faults.{IfSigned, fault_of}
 use Rattle.mau_module.specs.Modules.{ModuleOf}
 use Rattle.mau_module.specs.Known.{AreKnown}
@@ -41,6 +41,7 @@ if_signed_then P Q h ImportTooDeep p = p
 if_signed_then P Q h (TooLarge limit) p = p
 if_signed_then P Q h (UnknownSort at) p = p
 if_signed_then P Q h (Statement i f) p = p
+if_signed_then P Q h (Strategy i f) p = p
 
 pub on_cycle_read : (names news : List (List ℕ)) (pairs : List (ℕ × ℕ)) (g : Given) (c : Option ℕ) → names ≡ news → pairs ≡ g.hierarchy.pairs
     → (t : List ℕ) → IsCycleRefusal names pairs t → SignatureRead news g c (Err t)

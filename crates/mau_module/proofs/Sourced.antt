@@ -1,29 +1,27 @@
 -- All declarations of a part are among those of the whole, in its numbers.
-use Rattle.std.proofs.Common.{◌≡◌, ◌<◌, ◌≤◌, ◌⊎◌, ℕ, ◌+◌, zero, suc, List, [], ◌∷◌, ◌++◌, Bool, true, false, ◌||◌, map, length, take, Some, refl, sym, ◌∙◌, ap, ap₂, subst, inl, inr, arith, eqb-true, eq-eqb}
+use Rattle.std.proofs.Common.{◌≡◌, ◌<◌, ◌≤◌, ℕ, ◌+◌, List, [], ◌∷◌, ◌++◌, Bool, true, false, ◌||◌, map, length, take, Some, refl, sym, ◌∙◌, ap, ap₂, subst, inl, inr, arith, eqb-true, eq-eqb}
 use Rattle.std.specs.Prelude.{All, slice_get, codes, bytes_eq, nat_eq}
-use Rattle.std.specs.List.{range_with_len, list_any}
+use Rattle.std.specs.List.{range_with_len}
 use Rattle.std.proofs.lemmas.Slice.Eq.{bytes_eq-Decides}
 use Rattle.std.proofs.lemmas.List.Elements.{All-head, All-tail}
-use Rattle.mau_poset.specs.Order.{Hierarchy, kind_of, kinds}
+use Rattle.mau_poset.specs.Order.{Hierarchy, kinds}
 use Rattle.mau_poset.proofs.Orders.{kind_of-above}
 use Rattle.mau_terms.specs.Finite.{IsIn}
 use Rattle.mau_terms.proofs.Finite.{in_left, in_right, in_map}
 use Rattle.mau_signature.specs.declared.decl.Decl.{Decl}
 use Rattle.mau_signature.specs.Faults.{IsSort, HasSorts}
 use Rattle.mau_declare.specs.Names.{has_name}
-use Rattle.mau_declare.specs.Flattened.{name_at}
 use Rattle.mau_renumber.specs.Carried.{declaration_to}
 use Rattle.mau_module.specs.Modules.{ModuleOf}
 use Rattle.mau_module.specs.Library.{truth}
 use Rattle.mau_module.specs.Numbering.{number_in, sort_to, number_to, first_sort_of}
 use Rattle.mau_module.specs.Included.{of_module, number_from, has_part, has_truth}
-use Rattle.mau_module.specs.Framed.{all_parts}
-use Rattle.mau_module.specs.Truth.{if_declaration, comparison, truth_over, truth_declarations}
+use Rattle.mau_module.specs.Truth.{if_declaration, comparison, truth_over}
 use Rattle.mau_module.specs.Declarations.{declarations_of, hierarchy_over, if_truth, all_declarations}
-use Rattle.mau_module.specs.Made.{DeclaresTruth, IsMadeOver, AreMade, IsClosed}
+use Rattle.mau_module.specs.Made.{IsMadeOver, AreMade, IsClosed}
 use Rattle.mau_module.proofs.Members.{in_both, all_in, in_mapped, in_flat, in_flattened, in_range, range_in}
 use Rattle.mau_module.proofs.Numbers.{sort_number, kind_number}
-use Rattle.mau_module.proofs.Numberings.{IsNumbering, name_of_number, number_within, kind_has_sort, number_again, number_there}
+use Rattle.mau_module.proofs.Numberings.{IsNumbering, name_of_number, number_within, number_again, number_there}
 use Rattle.mau_module.proofs.Including.{before_it, made_before, in_of_it, out_of_it, closed_of, IsPart, part_is, part_there, included_again, closed_there, part_numbering, numbered}
 
 -- ---- names and parts that are there

@@ -1,6 +1,6 @@
 -- The signature of some declarations: where the operator of each stands, and which declarations stand there.
-use Rattle.std.proofs.Common.{◌≡◌, ◌≢◌, ◌<◌, ℕ, ◌+◌, ◌-◌, zero, suc, List, [], ◌∷◌, ◌++◌, Bool, true, false, not, ◌||◌, cond, map, length, get_or, Option, Some, None, refl, sym, ◌∙◌, ap, ap₂, subst, arith, inl, inr}
-use Rattle.std.specs.Prelude.{All, filter, nat_lt, position}
+use Rattle.std.proofs.Common.{◌≡◌, ◌≢◌, ◌<◌, ℕ, ◌+◌, ◌-◌, List, [], ◌∷◌, ◌++◌, Bool, true, false, not, ◌||◌, cond, map, length, get_or, Option, Some, None, refl, sym, ◌∙◌, ap, subst, arith, inl, inr}
+use Rattle.std.specs.Prelude.{All, nat_lt, position}
 use Rattle.std.specs.List.{list_any, position_or_len}
 use Rattle.std.specs.Option.{option_map}
 use Rattle.std.proofs.lemmas.List.{get_or-map, length-map}
@@ -9,10 +9,9 @@ use Rattle.std.proofs.lemmas.List.Quantifiers.{position-Some}
 use Rattle.mau_poset.specs.Order.{Hierarchy, kind_of}
 use Rattle.mau_terms.specs.Finite.{IsIn}
 use Rattle.mau_terms.proofs.Finite.{in_map}
-use Rattle.mau_terms.specs.declared.ids.OpId.{OpId}
 use Rattle.mau_signature.specs.declared.attributes.Attrs.{Attrs}
 use Rattle.mau_signature.specs.declared.decl.Decl.{Decl}
-use Rattle.mau_signature.specs.Attributes.{no_attributes, first_given, unite, united, with_attributes, with_united}
+use Rattle.mau_signature.specs.Attributes.{first_given, united, with_attributes, with_united}
 use Rattle.mau_signature.specs.Names.{Operator, operator_of, same_operator, operators_of, declarations_of}
 use Rattle.mau_signature.specs.Signature.{SignatureOf, signature_of, IsOperator, IsAlike, declarations_at, form_of, arguments_of, result_of, attributes_of, number_of}
 use Rattle.mau_signature.proofs.Same.{same_operator-is, same_operator_itself}

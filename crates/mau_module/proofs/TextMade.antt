@@ -1,5 +1,5 @@
 -- The module of a text is one over those of the library.
-use Rattle.std.proofs.Common.{◌≡◌, ◌<◌, ◌≤◌, ℕ, zero, suc, List, [], ◌∷◌, Bool, true, false, cond, Option, Some, None, length, map, refl, sym, ◌∙◌, ap, ap₂, subst, inl, inr, arith}
+use Rattle.std.proofs.Common.{◌≡◌, ◌<◌, ◌≤◌, ℕ, suc, List, [], ◌∷◌, Bool, true, false, cond, Option, Some, None, length, refl, sym, ◌∙◌, ap, ap₂, subst, arith}
 use Rattle.std.specs.Prelude.{All, Ok, IfSome, bytes_eq}
 use Rattle.std.proofs.lemmas.List.Elements.{All-cons, All-nil}
 use Rattle.mau_poset.specs.Order.{IsPoset}
@@ -29,10 +29,10 @@ use Rattle.mau_module.specs.Included.{numbers_of, numeral_kind, numerals_of, par
 use Rattle.mau_module.specs.Known.{AreKnown}
 use Rattle.mau_module.specs.Kept.{IsOver}
 use Rattle.mau_module.specs.Framed.{Frame, all_parts, imported, frame_of}
-use Rattle.mau_module.specs.Declarations.{hierarchy_over, given_over}
+use Rattle.mau_module.specs.Declarations.{given_over}
 use Rattle.mau_module.specs.Flattened.{IsSigned, hierarchy_in, own_in, given_in, carried_in}
 use Rattle.mau_module.specs.Gathered.{AreStatements}
-use Rattle.mau_module.specs.Made.{AreLawfulOver, IsMadeOver, AreMade, IsClosed, IsSignedOver}
+use Rattle.mau_module.specs.Made.{AreLawfulOver, AreMade, IsClosed, IsSignedOver}
 use Rattle.mau_module.proofs.Framing.{frame_closed, truth_included}
 use Rattle.mau_module.proofs.Plain.{declared_plain}
 use Rattle.mau_module.proofs.Flattening.{behind_parts, made, parts_are_next}

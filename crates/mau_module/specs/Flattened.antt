@@ -1,5 +1,5 @@
 -- What a module of a text is, over the library: a module with all that it includes, or why it is none.
-use Rattle.std.specs.Prelude.{◌≡◌, ℕ, ◌+◌, ◌<◌, ◌≤◌, List, [], ◌∷◌, map, Option, Some, None, option_map, Result, Ok, Err, codes, if◌then◌else◌}
+use Rattle.std.specs.Prelude.{◌≡◌, ℕ, ◌+◌, ◌<◌, ◌≤◌, List, [], ◌∷◌, ◌++◌, map, Option, Some, None, option_map, Result, Ok, Err, codes, if◌then◌else◌}
 use Rattle.mau_terms.specs.declared.ids.OpId.{OpId}
 use Rattle.mau_poset.specs.Order.{Hierarchy, kind_of}
 use Rattle.mau_signature.specs.declared.decl.Decl.{Decl}
@@ -16,18 +16,22 @@ use Rattle.mau_declare.specs.Elements.{Elements, elements_of}
 use Rattle.mau_declare.specs.Flattened.{declarations, first_conflict, variable_at}
 use Rattle.mau_statement.specs.Context.{ContextOf}
 use Rattle.mau_statement.specs.declared.fault.StatementFault.{StatementFault}
+use Rattle.mau_definition.specs.Definitions.{Around}
+use Rattle.mau_definition.specs.declared.fault.DefinitionFault.{DefinitionFault}
 use Rattle.mau_signing.specs.Signed.{SignatureRead}
 use Rattle.mau_module.specs.declared.fault.Limit.{Limit}
 use Rattle.mau_module.specs.declared.fault.ModuleFault.{ModuleFault}
 use Rattle.mau_module.specs.declared.fault.ModuleFault.TheVariants.{UnknownModule, ImportTooDeep, TooLarge, UnknownSort, Signed, Statement}
 use Rattle.mau_module.specs.declared.TheConstants.{MAX_DEPTH}
-use Rattle.mau_module.specs.Modules.{StatementsOf, no_statements, and_more, ModuleOf}
+use Rattle.mau_module.specs.Modules.{StatementsOf, and_more, ModuleOf}
 use Rattle.mau_module.specs.Numbering.{number_in}
 use Rattle.mau_module.specs.Included.{first_unknown, numerals_of, numeral_kind, has_truth}
 use Rattle.mau_module.specs.Framed.{Frame, all_parts, frame_of, included_declarations, limit_passed}
 use Rattle.mau_module.specs.Declarations.{hierarchy_over, given_over}
 use Rattle.mau_module.specs.Carried.{carried}
-use Rattle.mau_module.specs.Stated.{AreLawful, HasCarriedFault, OwnRead}
+use Rattle.mau_module.specs.Stated.{AreLawful, HasCarriedFault, OwnRead, only_strats}
+use Rattle.mau_module.specs.Named.{labels_of, own_labels, own_strats}
+use Rattle.mau_module.specs.Faults.{statement_fault}
 
 -- ---- its signature
 
@@ -73,9 +77,29 @@ carried_in ms f s = carried ms f.names s f.parts
 abbrev pub truth_in : List ModuleOf → Frame → SignatureOf → Option OpId
 truth_in ms f s = if has_truth (all_parts ms f.parts) then number_of s.names (constant_of (OneWord (codes "true") ∷ []) (kind_of s.hierarchy (number_in f.names (codes "Bool")))) else None
 
--- what its own statements are read over
+-- what its own statements are read over, where its terms are written so
+abbrev pub context_over : List ModuleOf → Frame → SignatureOf → GrammarOf → ContextOf
+context_over ms f s g = record { signature = s; grammar = g; sorts = f.names; truth = truth_in ms f s }
+
 abbrev pub context_in : List ModuleOf → List Word → Frame → Elements → SignatureOf → ContextOf
-context_in ms ws f e s = record { signature = s; grammar = grammar_in ws f e s; sorts = f.names; truth = truth_in ms f s }
+context_in ms ws f e s = context_over ms f s (grammar_in ws f e s)
+
+-- beside it: the labels of its rules, and the strategies that are declared, those of its parts first
+abbrev pub around_in : List ModuleOf → List Word → RawModule → Frame → Elements → SignatureOf → Around
+around_in ms ws raw f e s = record {
+  words = ws;
+  context = context_in ms ws f e s;
+  labels = labels_of (carried_in ms f s).rules ++ own_labels ws raw.elements;
+  names = (carried_in ms f s).strats ++ own_strats ws f.names raw.elements;
+}
+
+-- the strategies that it declares itself; what it states is read behind these
+abbrev pub declared_in : List Word → RawModule → Frame → StatementsOf
+declared_in ws raw f = only_strats (own_strats ws f.names raw.elements)
+
+-- the statements of its own, or the first one at fault
+abbrev pub OwnAs : List ModuleOf → List Word → RawModule → Frame → Elements → SignatureOf → Result StatementsOf (ℕ × DefinitionFault) → Type 0
+OwnAs ms ws raw f e s r = OwnRead (around_in ms ws raw f e s) (declared_in ws raw f) 1 raw.elements r
 
 -- the module with these statements of its own
 abbrev pub module_in : List ModuleOf → List Word → RawModule → Elements → SignatureOf → StatementsOf → ModuleOf
@@ -106,10 +130,10 @@ pub data FlattenedAs (ms : List ModuleOf) (ws : List Word) (raw : RawModule) : R
       → FlattenedAs ms ws raw (Err (Signed text))
   carried_at_fault : (e : Elements) (s : SignatureOf) (f : StatementFault) → IsSigned ms ws raw e s
       → HasCarriedFault s (carried_in ms (frame_of ms ws raw) s) f → FlattenedAs ms ws raw (Err (Statement 0 f))
-  own_at_fault : (e : Elements) (s : SignatureOf) (i : ℕ) (f : StatementFault) → IsSigned ms ws raw e s
+  own_at_fault : (e : Elements) (s : SignatureOf) (i : ℕ) (f : DefinitionFault) → IsSigned ms ws raw e s
       → AreLawful s (carried_in ms (frame_of ms ws raw) s)
-      → OwnRead ws (context_in ms ws (frame_of ms ws raw) e s) no_statements 1 raw.elements (Err (i, f)) → FlattenedAs ms ws raw (Err (Statement i f))
+      → OwnAs ms ws raw (frame_of ms ws raw) e s (Err (i, f)) → FlattenedAs ms ws raw (Err (statement_fault i f))
   flattened : (e : Elements) (s : SignatureOf) (own : StatementsOf) → IsSigned ms ws raw e s
       → AreLawful s (carried_in ms (frame_of ms ws raw) s)
-      → OwnRead ws (context_in ms ws (frame_of ms ws raw) e s) no_statements 1 raw.elements (Ok own)
+      → OwnAs ms ws raw (frame_of ms ws raw) e s (Ok own)
       → FlattenedAs ms ws raw (Ok (module_in ms ws raw e s own))

@@ -13,9 +13,10 @@ pub mod Framed
 -- its declarations
 pub mod Truth
 pub mod Declarations
--- its statements
+-- its statements, and what names name in its strategies
 pub mod Carried
 pub mod Stated
+pub mod Named
 -- the whole
 pub mod Faults
 pub mod Flattened

@@ -16,6 +16,10 @@ use Rattle.mau_program.specs.declared.statements.Membership.{Membership}
 use Rattle.mau_program.specs.declared.statements.Rule.{Rule}
 use Rattle.mau_program.specs.declared.definitions.StratDef.{StratDef}
 use Rattle.mau_statement.specs.declared.TheConstants.{MAX_VARIABLES}
+use Rattle.mau_statement.specs.Lawful.{IsLawfulStatement}
+use Rattle.mau_statement.specs.Statements.{variables_of}
+use Rattle.mau_module.specs.declared.statements.Stated.{Stated}
+use Rattle.mau_module.specs.declared.statements.Stated.TheVariants.{Statement as AStatement, Definition as ADefinition}
 use Rattle.mau_program.specs.BuiltIns.{HasBuiltIn}
 use Rattle.mau_program.specs.LawfulStatements.{IsLawfulEquation, IsLawfulMembership, IsLawfulRule}
 use Rattle.mau_program.specs.LawfulStrategies.{IsLawfulDefinition}
@@ -48,6 +52,11 @@ pub record AreLawfulOver (s : SignatureOf) (a : StatementsOf) : Type 0 where
   pub rules : All (IsLawfulRule s) a.rules
   pub strategies : All (IsLawfulDefinition s) a.strategies
   pub few : HaveFewVariables a
+
+-- what one statement of a text says is lawful
+abbrev pub IsLawfulStated : SignatureOf → Stated → Type 0
+IsLawfulStated s (AStatement x) = IsLawfulStatement s x × (length (variables_of x) ≤ MAX_VARIABLES)
+IsLawfulStated s (ADefinition d) = IsLawfulDefinition s d × (length d.vars ≤ MAX_VARIABLES)
 
 -- ---- the modules of the prelude on which the others rest
 

@@ -1,6 +1,8 @@
 //! Why a module of a text is not accepted.
 
+use mau_definition::DefinitionFault;
 use mau_statement::StatementFault;
+use mau_strattext::StratFault;
 use mau_terms::{NoMemory, Seq, Text};
 use std::alloc::{AllocError, AllocFailed};
 
@@ -26,6 +28,8 @@ pub enum ModuleFault {
     Signed(Seq<u8>),
     /// The fault of a statement. Those of the module itself are counted from 1; 0 is one of a module that it includes.
     Statement(usize, StatementFault),
+    /// The call or the strategy of a definition is none, in the statement with this number.
+    Strategy(usize, StratFault),
     NoMemory,
 }
 
@@ -65,6 +69,7 @@ impl<T: Drop> From<AllocFailed<T>> for ModuleFault {
 impl ModuleFault {
     ghost use Rattle.std.specs.Prelude.{◌≡◌};
     ghost use Rattle.mau_statement.specs.Faults.{IfFault};
+    ghost use Rattle.mau_module.specs.Faults.{statement_fault};
 
     /// The fault of the statement with a number.
     pub fn of_statement(number: usize, fault: StatementFault) -> ModuleFault
@@ -74,6 +79,17 @@ impl ModuleFault {
         match fault {
             StatementFault::NoMemory => ModuleFault::NoMemory,
             fault => ModuleFault::Statement(number, fault),
+        }
+    }
+
+    /// The fault of the module's own statement with a number.
+    pub fn of_stated(number: usize, fault: DefinitionFault) -> ModuleFault
+        ensures { result ≡ statement_fault number fault }
+    {
+        match fault {
+            DefinitionFault::Statement(fault) => ModuleFault::Statement(number, fault),
+            DefinitionFault::Strategy(fault) => ModuleFault::Strategy(number, fault),
+            DefinitionFault::NoMemory => ModuleFault::NoMemory,
         }
     }
 }

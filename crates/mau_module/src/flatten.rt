@@ -13,12 +13,13 @@ ghost use Rattle.mau_module.specs.Known.{AreKnown};
 ghost use Rattle.mau_module.specs.Faults.{IfFault};
 ghost use Rattle.mau_module.specs.Framed.{all_parts, frame_of, included_declarations};
 ghost use Rattle.mau_declare.specs.Words.{token_text};
-ghost use Rattle.mau_module.specs.Modules.{no_statements};
+ghost use Rattle.mau_strattext.specs.Setting.{HasSorts as AreSorts};
+ghost use Rattle.mau_definition.specs.Definitions.{around};
 ghost use Rattle.mau_module.specs.Behind.{behind};
 ghost use Rattle.mau_module.specs.Kept.{AreKept, IsOver};
-ghost use Rattle.mau_module.specs.Faults.{IfOwn};
-ghost use Rattle.mau_module.specs.Stated.{OwnRead};
-ghost use Rattle.mau_module.specs.Flattened.{FlattenedAs, IsFramed, IsSigned, context_in, grammar_in, hierarchy_in, own_in};
+ghost use Rattle.mau_module.specs.Faults.{IfStated};
+ghost use Rattle.mau_module.specs.Stated.{OwnRead, only_strats};
+ghost use Rattle.mau_module.specs.Flattened.{FlattenedAs, IsFramed, IsSigned, context_over, grammar_in, hierarchy_in, own_in};
 ghost use Rattle.mau_module.specs.Gathered.{AreStatements};
 
 use crate::MAX_DEPTH;
@@ -28,6 +29,7 @@ use crate::frame::{Frame, frame_of};
 use crate::library::Library;
 use crate::limits::limit_passed;
 use crate::module::Module;
+use crate::naming::{Named, named_in};
 use crate::own::{read_carried, read_own};
 use crate::signing::{Signed, sign_over};
 use crate::statements::{Counts, Statements};
@@ -101,22 +103,35 @@ fn own_statements(
     words: &Words,
     raw: &RawModule,
     frame: &Frame,
-    elements: &Elements,
     signature: &Signature,
     grammar: &Grammar,
+    named: Named,
 ) -> Result<Statements, ModuleFault>
     requires few { length frame.now.names ≤ MAX_SORTS }
-    requires named { length frame.now.names ≡ signature.now.hierarchy.sorts }
+    requires count { length frame.now.names ≡ signature.now.hierarchy.sorts }
     requires its { IsItsGrammar frame.now.names signature.now grammar.now }
     requires truth { HasTruth frame.now.names signature.now }
-    requires grammar { grammar.now ≡ grammar_in words.now frame.now elements.now signature.now }
-    ensures ok { IfOk result (λ own. OwnRead words.now (context_in library.now words.now frame.now elements.now signature.now) no_statements 1 raw.now.elements (Ok own)) }
+    requires sorts { All (AreSorts signature.now.hierarchy) named.names.items }
+    ensures ok { IfOk result (λ own. OwnRead (around words.now (context_over library.now frame.now signature.now grammar.now) named.labels.items named.names.items) (only_strats named.strats.items) 1 raw.now.elements (Ok own)) }
     ensures lawful { IfOk result (AreLawfulOver signature.now) }
-    ensures at_fault { IfErr result (IfOwn (λ i f. OwnRead words.now (context_in library.now words.now frame.now elements.now signature.now) no_statements 1 raw.now.elements (Err (i, f)))) }
+    ensures at_fault { IfErr result (IfStated (λ i f. OwnRead (around words.now (context_over library.now frame.now signature.now grammar.now) named.labels.items named.names.items) (only_strats named.strats.items) 1 raw.now.elements (Err (i, f)))) }
 {
     let truth = truth_in(alloc, library, frame, signature)?;
     let context = Context::new(signature, grammar, &frame.names, truth);
-    read_own(alloc, words, &context, raw.elements.items())
+    let Named {
+        labels,
+        names,
+        strats,
+    } = named;
+    read_own(
+        alloc,
+        words,
+        &context,
+        &labels,
+        &names,
+        strats,
+        raw.elements.items(),
+    )
 }
 
 /// All statements of a module whose signature is known, and how many of them are those of its parts.
@@ -146,9 +161,17 @@ fn read_statements(
         Ok(statements) => statements,
         Err(fault) => return Err(fault),
     };
-    let own = match own_statements(
-        alloc, library, words, raw, frame, elements, signature, grammar,
+    let named = match named_in(
+        alloc,
+        words,
+        &frame.names,
+        raw.elements.items(),
+        &statements,
     ) {
+        Ok(named) => named,
+        Err(NoMemory) => return Err(ModuleFault::NoMemory),
+    };
+    let own = match own_statements(alloc, library, words, raw, frame, signature, grammar, named) {
         Ok(own) => own,
         Err(fault) => return Err(fault),
     };

@@ -12,6 +12,7 @@ pub mod laws;
 mod library;
 mod limits;
 mod module;
+mod naming;
 mod numbering;
 mod own;
 mod prelude;

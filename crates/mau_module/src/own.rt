@@ -1,23 +1,29 @@
 //! The statements of a module: those of its parts, judged by its own operators and axioms, and those that it states itself.
-ghost use Rattle.std.specs.Prelude.{◌≡◌, ◌<◌, ◌≤◌, length, All, true, false, Ok, Err, IfOk, IfErr, OnOk, IsTrue, ◌↔◌};
+ghost use Rattle.std.specs.Prelude.{◌≡◌, ◌≢◌, ◌<◌, ◌≤◌, length, All, true, false, Ok, Err, IfOk, IfErr, OnOk, IsTrue, ◌↔◌};
 ghost use Rattle.std.specs.Option.{option_copied};
-ghost use Rattle.mau_module.specs.Modules.{no_statements};
-ghost use Rattle.mau_module.specs.Stated.{IsLeftSide, IsHead, AreLawful, HasCarriedFault, OwnRead, statement_in};
-ghost use Rattle.mau_module.specs.Faults.{IfOwn};
+ghost use Rattle.mau_modtext.specs.Statements.{is_definition};
+ghost use Rattle.mau_modtext.specs.declared.raw.StatementKind.TheVariants as Kind;
+ghost use Rattle.mau_strattext.specs.Setting.{HasSorts as AreSorts};
+ghost use Rattle.mau_definition.specs.Definitions.{around};
+ghost use Rattle.mau_definition.specs.Faults.{IfFault};
+ghost use Rattle.mau_module.specs.Stated.{IsLeftSide, IsHead, AreLawful, HasCarriedFault, StatedRead, OwnRead, statement_in, only_strats};
+ghost use Rattle.mau_module.specs.Faults.{IfOwn, IfStated};
 ghost use Rattle.mau_poset.specs.declared.TheConstants.{MAX_SORTS};
 ghost use Rattle.mau_module.specs.Known.{AreKnown};
 ghost use Rattle.mau_module.specs.Carried.{carried};
-ghost use Rattle.mau_module.specs.Made.{AreLawfulOver};
+ghost use Rattle.mau_module.specs.Made.{AreLawfulOver, IsLawfulStated};
 
 use crate::fault::ModuleFault;
 use crate::library::Library;
-use crate::statements::Statements;
+use crate::statements::{Stated, Statements};
 use crate::tables::carried;
 use mau_declare::{Names, Words};
+use mau_definition::{DefinitionFault, of_statement, read_definition};
 use mau_modtext::{RawElement, RawStatement, StatementKind};
-use mau_program::{Equation, Membership};
+use mau_program::{Equation, Membership, StratDecl};
 use mau_signature::{Signature, is_bare};
 use mau_statement::{Context, StatementFault, is_head, is_left_side, read_statement};
+use mau_terms::Text;
 use std::alloc::Global;
 
 /// Whether the left side of an equation is one.
@@ -97,41 +103,79 @@ pub fn read_carried(
     }
 }
 
-/// The equation, membership or rule that an element is.
+/// The statement that an element is.
 fn statement_in(element: &RawElement) -> Option<&RawStatement>
     ensures { option_copied result ≡ statement_in element.now }
 {
     match element {
-        RawElement::Statement(raw) => match raw.kind {
-            StatementKind::Definition => None,
-            _ => Some(raw),
-        },
+        RawElement::Statement(raw) => Some(raw),
         _ => None,
     }
 }
 
-/// Reads the statements of a module itself. A fault has the number of the statement, counted from 1.
+/// Whether a statement defines a strategy.
+fn is_definition(raw: &RawStatement) -> bool
+    ensures value { result ≡ is_definition raw.now.kind }
+    ensures no { result ≡ false → raw.now.kind ≢ Kind.Definition }
+{
+    match raw.kind {
+        StatementKind::Definition => true,
+        _ => false,
+    }
+}
+
+/// What a statement of a module says, where rules have these labels and these strategies are declared.
+fn read_stated(
+    alloc: Global,
+    words: &Words,
+    context: &Context,
+    labels: &[Text],
+    names: &[StratDecl],
+    raw: &RawStatement,
+) -> Result<Stated, DefinitionFault>
+    requires sorts { All (AreSorts context.now.signature.hierarchy) names.now }
+    ensures read { IfOk result (λ x. StatedRead (around words.now context.now labels.now names.now) raw.now (Ok x)) }
+    ensures lawful { IfOk result (IsLawfulStated context.now.signature) }
+    ensures fault { IfErr result (IfFault (λ f. StatedRead (around words.now context.now labels.now names.now) raw.now (Err f))) }
+{
+    if is_definition(raw) {
+        return match read_definition(alloc, words, context, labels, names, raw) {
+            Ok(definition) => Ok(Stated::Definition(definition)),
+            Err(fault) => Err(fault),
+        };
+    }
+    match read_statement(alloc, words, context, raw) {
+        Ok(statement) => Ok(Stated::Statement(statement)),
+        Err(fault) => Err(of_statement(fault)),
+    }
+}
+
+/// Reads the statements of a module itself, which declares these strategies. A fault has the number of the statement, counted from 1.
 pub fn read_own(
     alloc: Global,
     words: &Words,
     context: &Context,
+    labels: &[Text],
+    names: &[StratDecl],
+    strats: Vec<StratDecl>,
     elements: &[RawElement],
 ) -> Result<Statements, ModuleFault>
-    ensures ok { IfOk result (λ own. OwnRead words.now context.now no_statements 1 elements.now (Ok own)) }
+    requires sorts { All (AreSorts context.now.signature.hierarchy) names.now }
+    ensures ok { IfOk result (λ own. OwnRead (around words.now context.now labels.now names.now) (only_strats strats.items) 1 elements.now (Ok own)) }
     ensures lawful { IfOk result (AreLawfulOver context.now.signature) }
-    ensures at_fault { IfErr result (IfOwn (λ i f. OwnRead words.now context.now no_statements 1 elements.now (Err (i, f)))) }
+    ensures at_fault { IfErr result (IfStated (λ i f. OwnRead (around words.now context.now labels.now names.now) (only_strats strats.items) 1 elements.now (Err (i, f)))) }
 {
-    let mut own = Statements::new(alloc);
+    let mut own = Statements::of_strats(alloc, strats);
     let _count = elements.len();
     let mut before = 0;
     for element in elements {
         match statement_in(element) {
-            Some(raw) => match read_statement(alloc, words, context, raw) {
+            Some(raw) => match read_stated(alloc, words, context, labels, names, raw) {
                 Ok(statement) => {
                     own.add(statement)?;
                     before += 1;
                 }
-                Err(fault) => return Err(ModuleFault::of_statement(before + 1, fault)),
+                Err(fault) => return Err(ModuleFault::of_stated(before + 1, fault)),
             },
             None => (),
         }

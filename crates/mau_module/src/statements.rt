@@ -5,6 +5,13 @@ use mau_terms::NoMemory;
 use std::alloc::Global;
 use std::marker::Model;
 
+/// A statement of a text: an equation, a membership or a rule; or a definition of a strategy.
+#[derive(Drop)]
+pub enum Stated {
+    Statement(Statement),
+    Definition(StratDef),
+}
+
 /// Statements, each kind in order, and declared strategies.
 #[derive(Drop)]
 pub struct Statements {
@@ -53,7 +60,7 @@ impl Statements {
     ghost use Rattle.std.specs.Prelude.{◌≡◌, OnOk};
     ghost use Rattle.mau_module.specs.Modules.{no_statements, and_more};
     ghost use Rattle.mau_module.specs.Behind.{counts_of};
-    ghost use Rattle.mau_module.specs.Stated.{with_statement};
+    ghost use Rattle.mau_module.specs.Stated.{with_one, with_statement};
 
     /// No statements.
     pub fn new(alloc: Global) -> Statements
@@ -81,9 +88,22 @@ impl Statements {
         }
     }
 
-    /// Adds a statement behind those of its kind.
-    pub fn add(&mut self, statement: Statement) -> Result<(), NoMemory>
-        ensures { OnOk result (self.new ≡ with_statement self.old statement) }
+    /// No statements, and these declared strategies.
+    pub fn of_strats(alloc: Global, strats: Vec<StratDecl>) -> Statements
+        ensures { result ≡ record no_statements { strats = strats.items } }
+    {
+        Statements {
+            equations: Vec::new(alloc),
+            memberships: Vec::new(alloc),
+            rules: Vec::new(alloc),
+            strategies: Vec::new(alloc),
+            strats,
+        }
+    }
+
+    /// Adds an equation, a membership or a rule behind those of its kind.
+    fn add_one(&mut self, statement: Statement) -> Result<(), NoMemory>
+        ensures { OnOk result (self.new ≡ with_one self.old statement) }
     {
         match statement {
             Statement::Equation(equation) => self.equations.push(equation)?,
@@ -91,6 +111,19 @@ impl Statements {
             Statement::Rule(rule) => self.rules.push(rule)?,
         }
         Ok(())
+    }
+
+    /// Adds a statement behind those of its kind.
+    pub fn add(&mut self, statement: Stated) -> Result<(), NoMemory>
+        ensures { OnOk result (self.new ≡ with_statement self.old statement) }
+    {
+        match statement {
+            Stated::Statement(statement) => self.add_one(statement),
+            Stated::Definition(definition) => {
+                self.strategies.push(definition)?;
+                Ok(())
+            }
+        }
     }
 
     /// Adds other statements behind these.

@@ -1,5 +1,5 @@
 -- What an answer of an evaluator says of a computation that stays the same under larger limits.
-use Rattle.std.proofs.Common.{◌≡◌, ◌⊎◌, inl, inr, ◌≤◌, ◌+◌, ◌-◌, ℕ, true, false, refl, sym, ap, ◌∙◌, subst, arith}
+use Rattle.std.proofs.Common.{◌≡◌, ◌⊎◌, inl, inr, ◌≤◌, ◌+◌, ◌-◌, ℕ, false, refl, sym, ap, ◌∙◌, subst, arith}
 use Rattle.mau_evaluation.specs.Run.{stopped, too_deep, overflowed, Outcome, done, ended, Run}
 use Rattle.mau_evaluation.specs.Laws.{StaysTheSame}
 use Rattle.mau_evaluation.specs.Higher.{IsHigher, IsRicher, with_more}
@@ -12,7 +12,7 @@ module _ (I : Item) {A : Type 0} (F : ℕ → ℕ → Run A) (stays : StaysTheSa
   pub record IsAt (before : ℕ) (o : Outcome A) : Type 0 where
     pub level : ℕ
     pub enough : I.least ≤ level
-    pub just : I.plain ≡ true → level ≡ I.least
+    pub just : I.plain → level ≡ I.least
     pub is : F level I.limit before ≡ o
 
   -- an outcome that is not too deep stays on more levels

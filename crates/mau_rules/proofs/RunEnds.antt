@@ -18,7 +18,7 @@ use Rattle.mau_api.specs.declared.results.EvalEnd.{EvalEnd}
 use Rattle.mau_api.specs.declared.results.EvalEnd.TheVariants.{Stopped, TooDeep, Overflow, NoMemory}
 use Rattle.mau_rules.specs.declared.run.RuleEnd.{RuleEnd}
 use Rattle.mau_rules.specs.declared.run.RuleRun.{RuleRun}
-use Rattle.mau_rules.specs.Runs.{ended_at, IsRunAnswered, MayRun}
+use Rattle.mau_rules.specs.Runs.{ended_at, IsRunAnswered, IsRunExactly, MayRun}
 use Rattle.mau_rules.specs.Counted.{KnownEnd}
 use Rattle.mau_rules.specs.Known.{Item, IsExactly, Gives, Got, got, fails, Known, more}
 use Rattle.mau_rules.specs.Found.{item_of, KnownEvaluation}
@@ -85,27 +85,31 @@ under_ends I P f b0 shown n s b under out v after TooDeep k = under.known (fails
 under_ends I P f b0 shown n s b under out v after Overflow k = under.known (fails overflowed) after (k n out)
 under_ends I P f b0 shown n s b under out v after NoMemory k = tt
 
+-- want of memory says nothing
+pub no_memory_exact : (m : Meanings) (f : ℕ → ℕ → Run PassEnd) (b : ℕ) (nodes : List Node) (run : RuleRun) → IsRunExactly m f b nodes run (Err NoMemory)
+no_memory_exact m f b nodes run = record { levels = levels_of_condition; enough = omega arith; just = λ derives. refl; is = tt }
+
 module _ (m : Meanings) (wanted : Bool) (f : ℕ → ℕ → Run PassEnd) (b : ℕ) where
   abbrev I : Item
   I = item_of m wanted
 
-  exactly : (o : Outcome PassEnd) → IsExactly I f b o → f levels_of_condition m.limit b ≡ o
-  exactly o e = e.above levels_of_condition (let j = e.just refl in omega (arith, j))
-
   module _ (nodes : List Node) (run : RuleRun) where
-    pub value_exact : (e : RuleEnd) (x : Reduced) (r after : ℕ) → x.rewrites ≡ shown_count r → Gives I f b (ended_at nodes run e) r after → uses_results m wanted ≡ false →
-        IsRunAnswered (f levels_of_condition m.limit b) nodes run (Ok (e, x))
-    value_exact e x r after shown G none = (r, after, exactly (done (ended_at nodes run e) r after) (G.exact none), shown)
+    -- the outcome of just the budget given is this answer
+    answered : (r : Result (RuleEnd × Reduced) EvalEnd) (o : Outcome PassEnd) → (IsExactly I f b o) → ((p : Outcome PassEnd) → p ≡ o → IsRunAnswered p nodes run r) → IsRunExactly m f b nodes run r
+    answered r o e is = record { levels = e.level; enough = e.enough; just = e.just; is = is (f e.level m.limit b) (e.above e.level (omega arith)) }
+
+    pub value_exact : (e : RuleEnd) (x : Reduced) (r after : ℕ) → x.rewrites ≡ shown_count r → Gives I f b (ended_at nodes run e) r after → uses_results m wanted ≡ false → IsRunExactly m f b nodes run (Ok (e, x))
+    value_exact e x r after shown G none = answered (Ok (e, x)) (done (ended_at nodes run e) r after) (G.exact none) (λ p is. (r, after, is, shown))
 
     pub value_allowed : (e : RuleEnd) (x : Reduced) (r after : ℕ) → x.rewrites ≡ shown_count r → Gives I f b (ended_at nodes run e) r after → MayRun m f b nodes run (Ok (e, x))
     value_allowed e x r after shown G =
         (r, (G.level + levels_of_condition, G.each + m.limit, G.budget + b, G.left + b, omega arith, omega arith, omega arith, G.comes (G.level + levels_of_condition) (G.each + m.limit) b (omega arith) (omega arith)), shown)
 
-    pub end_exact : (e : EvalEnd) → KnownEnd I f b e → uses_results m wanted ≡ false → IsRunAnswered (f levels_of_condition m.limit b) nodes run (Err e)
-    end_exact Stopped k none = exactly (ended stopped) (k.exact none)
-    end_exact TooDeep k none = k.exact none
-    end_exact Overflow k none = exactly (ended overflowed) (k.exact none)
-    end_exact NoMemory k none = tt
+    pub end_exact : (e : EvalEnd) → KnownEnd I f b e → uses_results m wanted ≡ false → IsRunExactly m f b nodes run (Err e)
+    end_exact Stopped k none = answered (Err Stopped) (ended stopped) (k.exact none) (λ p is. is)
+    end_exact TooDeep k none = record { levels = levels_of_condition; enough = omega arith; just = λ derives. refl; is = k.exact none }
+    end_exact Overflow k none = answered (Err Overflow) (ended overflowed) (k.exact none) (λ p is. is)
+    end_exact NoMemory k none = no_memory_exact m f b nodes run
 
     pub end_allowed : (e : EvalEnd) → KnownEnd I f b e → MayRun m f b nodes run (Err e)
     end_allowed Stopped k = k.item b (omega arith)

@@ -1,19 +1,18 @@
 -- What the answers of an evaluator say of evaluations and conditions.
-use Rattle.std.proofs.Common.{◌≡◌, ◌⊎◌, inl, inr, ◌≤◌, ◌-◌, ℕ, suc, Bool, true, false, List, Option, Some, None, Result, Ok, Err, OnOk, sym, ap, ◌∙◌, subst, arith}
+use Rattle.std.proofs.Common.{◌≡◌, ◌⊎◌, inl, inr, ◌≤◌, ◌-◌, ℕ, suc, Bool, false, List, Option, Some, None, Result, Ok, Err, OnOk, sym, ap, ◌∙◌, arith}
 use Rattle.mau_terms.specs.Tree.{Tree}
-use Rattle.mau_terms.specs.Finite.{IsIn}
 use Rattle.mau_terms.specs.declared.ids.VarId.{VarId}
 use Rattle.mau_terms.specs.declared.ids.TermId.{TermId}
 use Rattle.mau_store.specs.Node.{Node}
 use Rattle.mau_store.specs.Trees.{tree_at}
 use Rattle.mau_program.specs.declared.program.Program as Typed
 use Rattle.mau_evaluation.specs.Run.{stopped, too_deep, overflowed, Outcome, done, ended, Run}
-use Rattle.mau_evaluation.specs.Program.{Fragment, Program}
+use Rattle.mau_evaluation.specs.Program.{Fragment}
 use Rattle.mau_evaluation.specs.Evaluation.{Binding, eval}
 use Rattle.mau_evaluation.specs.Laws.{StaysTheSame}
 use Rattle.mau_api.specs.Programs.{program_over}
-use Rattle.mau_api.specs.Meanings.{Meanings, program_of, StaysUnderLimits, AreMeanings}
-use Rattle.mau_api.specs.Answers.{uses_results, levels_of_item, levels_of_condition, DerivesNothing, HasCause, LeavesEnough, binding_in, solving_from, IsSolvedExactly, MaySolve, IsExact, IsAllowed}
+use Rattle.mau_api.specs.Meanings.{Meanings, StaysUnderLimits, AreMeanings}
+use Rattle.mau_api.specs.Answers.{uses_results, levels_of_item, levels_of_condition, HasCause, LeavesEnough, binding_in, solving_from, IsSolvedExactly, MaySolve, IsExact, IsAllowed}
 use Rattle.mau_api.specs.declared.results.EvalEnd.{EvalEnd}
 use Rattle.mau_api.specs.declared.results.EvalEnd.TheVariants.{Stopped, TooDeep, Overflow, NoMemory}
 use Rattle.mau_api.specs.declared.results.Reduced.{Reduced}
@@ -25,16 +24,6 @@ use Rattle.mau_rules.proofs.Base.{base_gives, base_stops, base_deep, base_overfl
 module _ (p : Typed.Program) (run : IsRunnable p) (m : Meanings) (goes : GoesBy p m) (laws : AreMeanings m) (wanted : Bool) where
   abbrev I : Item
   I = item_of m wanted
-
-  same_program : program_of m ≡ program_over p m.hooks
-  same_program = ap (λ q. program_over q m.hooks) goes.program
-
-  -- no membership is executable
-  plain : DerivesNothing m
-  plain x i e = clash (run.none_derives x (subst (λ (P : Program). IsIn x P.memberships) same_program i)) e
-    where
-      clash : x.exec ≡ false → x.exec ≡ true → ⊥
-      clash a b = cc
 
   -- ---- conditions
 
@@ -56,20 +45,20 @@ module _ (p : Typed.Program) (run : IsRunnable p) (m : Meanings) (goes : GoesBy 
           allowed.0,
           allowed.2,
           base_gives I F law.stays law.levels law.budgets before after (Some (binding_in nodes x.0)) allowed.0 w.0 w.1 w.2 w.3 w.4 w.5 w.6 w.7 left
-              (λ u. let z = exact u in (Some (binding_in nodes x.0), z.is.0, record { level = z.levels; enough = z.enough; just = λ e. z.just plain; is = z.is.1 })),
+              (λ u. let z = exact u in (Some (binding_in nodes x.0), z.is.0, record { level = z.levels; enough = z.enough; just = z.just; is = z.is.1 })),
         )
     solving_known before nodes (Ok None) after allowed exact left =
         let w = allowed.1 in (
           allowed.0,
           base_gives I F law.stays law.levels law.budgets before after None allowed.0 w.0 w.1 w.2 w.3 w.4 w.5 w.6 w.7 left
-              (λ u. let z = exact u in (None, z.is.0, record { level = z.levels; enough = z.enough; just = λ e. z.just plain; is = z.is.1 })),
+              (λ u. let z = exact u in (None, z.is.0, record { level = z.levels; enough = z.enough; just = z.just; is = z.is.1 })),
         )
     solving_known before nodes (Err Stopped) after allowed exact left =
-        base_stops I F law.stays law.levels law.budgets before allowed.0 allowed.1 (λ u. let z = exact u in record { level = z.levels; enough = z.enough; just = λ e. z.just plain; is = z.is })
+        base_stops I F law.stays law.levels law.budgets before allowed.0 allowed.1 (λ u. let z = exact u in record { level = z.levels; enough = z.enough; just = z.just; is = z.is })
     solving_known before nodes (Err TooDeep) after allowed exact left =
-        base_deep I F law.stays law.levels law.budgets before allowed.0 allowed.1 allowed.2 (λ u. let z = exact u in record { level = z.levels; enough = z.enough; just = λ e. z.just plain; is = z.is })
+        base_deep I F law.stays law.levels law.budgets before allowed.0 allowed.1 allowed.2 (λ u. let z = exact u in record { level = z.levels; enough = z.enough; just = z.just; is = z.is })
     solving_known before nodes (Err Overflow) after allowed exact left =
-        base_overflows I F law.stays law.levels law.budgets before allowed.0 allowed.1 allowed.2 allowed.6 (λ u. let z = exact u in record { level = z.levels; enough = z.enough; just = λ e. z.just plain; is = z.is })
+        base_overflows I F law.stays law.levels law.budgets before allowed.0 allowed.1 allowed.2 allowed.6 (λ u. let z = exact u in record { level = z.levels; enough = z.enough; just = z.just; is = z.is })
     solving_known before nodes (Err NoMemory) after allowed exact left = tt
 
   -- ---- evaluations
@@ -108,14 +97,14 @@ module _ (p : Typed.Program) (run : IsRunnable p) (m : Meanings) (goes : GoesBy 
           allowed.2,
           base_gives I G above (λ k k' B h. own.levels (suc k) (suc k') B (omega arith)) (λ k B B' h. own.budgets (suc k) B B' h) before after (tree_at nodes x.term.0) allowed.0
               (w.0 - 1) w.1 w.2 w.3 (enough_below w.0 w.4) w.5 w.6 (on w.0 w.1 w.2 (done (tree_at nodes x.term.0) allowed.0 w.3) w.4 w.7) left
-              (λ u. let z = exact u in (tree_at nodes x.term.0, z.is.0, record { level = z.levels - 1; enough = enough_below z.levels z.enough; just = λ e. just_below z.levels (z.just plain); is = on z.levels m.limit before (done (tree_at nodes x.term.0) z.is.0 after) z.enough z.is.1 })),
+              (λ u. let z = exact u in (tree_at nodes x.term.0, z.is.0, record { level = z.levels - 1; enough = enough_below z.levels z.enough; just = λ none. just_below z.levels (z.just none); is = on z.levels m.limit before (done (tree_at nodes x.term.0) z.is.0 after) z.enough z.is.1 })),
         )
     evaluation_known before nodes (Err Stopped) after remembered allowed exact left = by allowed.0
       where
         by : HasCause (λ k B. m.evaluation k B t) levels_of_item m.limit before Stopped → Stops I G before
         by (k, e) =
             base_stops I G above (λ k k' B h. own.levels (suc k) (suc k') B (omega arith)) (λ k B B' h. own.budgets (suc k) B B' h) before k (more k e)
-            (λ u. let z = exact u in record { level = z.levels - 1; enough = enough_below z.levels z.enough; just = λ e. just_below z.levels (z.just plain); is = on z.levels m.limit before (ended stopped) z.enough z.is })
+            (λ u. let z = exact u in record { level = z.levels - 1; enough = enough_below z.levels z.enough; just = λ none. just_below z.levels (z.just none); is = on z.levels m.limit before (ended stopped) z.enough z.is })
           where
             clash : (let o : Outcome Tree = ended stopped in o ≡ ended too_deep) → ⊥
             clash q = cc
@@ -128,9 +117,9 @@ module _ (p : Typed.Program) (run : IsRunnable p) (m : Meanings) (goes : GoesBy 
                 at (inr z) = sym z ∙ e
     evaluation_known before nodes (Err TooDeep) after remembered allowed exact left =
         base_deep I G above (λ k k' B h. own.levels (suc k) (suc k') B (omega arith)) (λ k B B' h. own.budgets (suc k) B B' h) before allowed.0 allowed.1 allowed.2
-        (λ u. let z = exact u in record { level = z.levels - 1; enough = enough_below z.levels z.enough; just = λ e. just_below z.levels (z.just plain); is = on z.levels m.limit before (ended too_deep) z.enough z.is })
+        (λ u. let z = exact u in record { level = z.levels - 1; enough = enough_below z.levels z.enough; just = λ none. just_below z.levels (z.just none); is = on z.levels m.limit before (ended too_deep) z.enough z.is })
     evaluation_known before nodes (Err Overflow) after remembered allowed exact left =
         base_overflows I G above (λ k k' B h. own.levels (suc k) (suc k') B (omega arith)) (λ k B B' h. own.budgets (suc k) B B' h) before (allowed.0 - 1) allowed.1 allowed.2
         (on allowed.0 allowed.1 allowed.2 (ended overflowed) allowed.3 allowed.6)
-        (λ u. let z = exact u in record { level = z.levels - 1; enough = enough_below z.levels z.enough; just = λ e. just_below z.levels (z.just plain); is = on z.levels m.limit before (ended overflowed) z.enough z.is })
+        (λ u. let z = exact u in record { level = z.levels - 1; enough = enough_below z.levels z.enough; just = λ none. just_below z.levels (z.just none); is = on z.levels m.limit before (ended overflowed) z.enough z.is })
     evaluation_known before nodes (Err NoMemory) after remembered allowed exact left = tt

@@ -17,13 +17,12 @@ use Rattle.mau_terms.specs.declared.ids.TermId.{TermId}
 use Rattle.mau_signature.specs.OverSignature.{IsTreeOver}
 use Rattle.mau_signature.specs.Signature.{SignatureOf, theory_at, terms_over}
 use Rattle.mau_signature.proofs.OverSignature.{norm_over}
-use Rattle.mau_formula.specs.Operator.{Operator}
 use Rattle.mau_store.specs.Node.{Node}
 use Rattle.mau_store.specs.Trees.{tree_at, trees_at}
 use Rattle.mau_store.specs.View.{numbers}
 use Rattle.mau_canon.specs.Standing.{StandsWithin, StandWithin}
 use Rattle.mau_sorts.specs.Table.{Table}
-use Rattle.mau_listing.specs.Asked.{asks, IsGiven, HasEntry}
+use Rattle.mau_listing.specs.Asked.{asks, IsGiven, HasEntry, BySort}
 use Rattle.mau_listing.specs.Question.{OfNorm}
 use Rattle.mau_listing.specs.declared.solution.Solution as Listed
 use Rattle.mau_listing.proofs.Growth.{trees_long}
@@ -36,13 +35,13 @@ use Rattle.mau_api.specs.Answers.{IsValueOf, AreSettled}
 use Rattle.mau_api.proofs.ValuesFit.{values_settled}
 use Rattle.mau_reduce.specs.Bindings.{HaveKinds}
 use Rattle.mau_reduce.specs.Contexts.{AreContexts}
+use Rattle.mau_reduce.specs.Tables.{IsSortTable}
 use Rattle.mau_reduce.specs.Trying.{solution_in}
 use Rattle.mau_reduce.proofs.Fitting.{listed_around, listed_kind, contexts_of}
 use Rattle.mau_reduce.proofs.KindsKept.{norms_of}
-use Rattle.mau_reduce.proofs.SortKinds.{have_kinds}
+use Rattle.mau_reduce.proofs.SortKinds.{have_kinds_by}
 use Rattle.mau_rules.specs.Runnable.{IsRunnable}
 use Rattle.mau_rules.specs.Found.{IsValued}
-use Rattle.mau_rules.proofs.Trying.{test, declared_sorts}
 
 module _ (s : SignatureOf) (P : ℕ → Tree → Type 0) where
   sorts_of_norms : (xs : List Variable) (vs : List Tree) → HaveSorts (OfNorm P s) xs vs → HaveSorts P xs (map (norm (theory_at s)) vs)
@@ -61,9 +60,10 @@ module _ (s : SignatureOf) (nodes : List Node) (table : Table) where
       (record { term = record { within = All-head (StandsWithin (theory_at s) nodes) i.0 (numbers ids) within; bare = bare (tree_at nodes i.0) (inl refl) }; kind = kinds.0; sort = sorts.0 })
       (values_of xs ids (All-tail (StandsWithin (theory_at s) nodes) i.0 (numbers ids) within) (λ v j. bare v (inr j)) kinds.1 sorts.1)
 
-module _ (p : Typed.Program) (run : IsRunnable p) (hooks : List Operator) (q : Rule) (t : Tree) (normal : norm (theory_at p.sig) t ≡ t) (bare : IsBare (terms_over p.sig) (reading (theory_at p.sig) t))
+module _ (p : Typed.Program) (run : IsRunnable p) (q : Rule) (t : Tree) (normal : norm (theory_at p.sig) t ≡ t) (bare : IsBare (terms_over p.sig) (reading (theory_at p.sig) t))
     (old new : List Node) (before after : Table) (settled : AreSettled p.sig old before t) (x : Listed.Solution) (term : TermId) (subject : tree_at new term.0 ≡ t)
-    (listed : IsIn (solution_in new x) (solutions_within (terms_over p.sig) q.left t)) (passes : test p run hooks q t normal bare (solution_in new x) ≡ true)
+    (listed : IsIn (solution_in new x) (solutions_within (terms_over p.sig) q.left t)) (sorts : IsSortTable p.sig old before)
+    (have : HaveSorts (BySort p.sig sorts.known) (variables q.left) (solution_in new x).values)
     (given : IsGiven true p.sig new after (asks q.left [] term) x) where
   abbrev s : SignatureOf
   s = p.sig
@@ -80,7 +80,7 @@ module _ (p : Typed.Program) (run : IsRunnable p) (hooks : List Operator) (q : R
       (z.normal, subst (IsTreeOver s) z.normal (norm_over s run.reducible.lawful v (subst (λ u. IsBare (terms_over s) (reading th u)) (sym z.normal) z.bare)), z.bare)
 
   kinds : HaveKinds s (variables q.left) y.values
-  kinds = have_kinds s run.reducible.accepted run.reducible.lawful (variables q.left) y.values each (declared_sorts p run hooks q t normal bare (variables q.left) y.values (λ v j. (each v j).1) passes)
+  kinds = have_kinds_by s run.reducible.accepted run.reducible.lawful sorts.known sorts.kinds (variables q.left) y.values each have
 
   one_value_each : (o : Option ℕ) (vs ls rs : List Tree) → FitsAt (terms_over p.sig) o q.left (reading (theory_at p.sig) t) vs ls rs → length vs ≡ length (variables q.left)
   one_value_each None vs ls rs h = h.0.one_each
@@ -91,15 +91,15 @@ module _ (p : Typed.Program) (run : IsRunnable p) (hooks : List Operator) (q : R
       let fits = (solutions_within_are_listed (terms_over s) run.reducible.lawful q.left (reading th t) bare).0 y (subst (λ u. IsIn y (solutions_within (terms_over s) q.left u)) (sym (norm-reading-is th run.reducible.lawful.theories t normal)) listed) in
       sym (trees_long new x.values) ∙ (sym (length-map y.values (reading th)) ∙ one_value_each (assoc_top th (norm th q.left)) (map (reading th) y.values) y.left y.right fits.1)
 
-  sorts : HaveSorts (HasEntry s new after) (variables q.left) y.values
-  sorts = subst (HaveSorts (HasEntry s new after) (variables q.left)) given.solves.values (sorts_of_norms s (HasEntry s new after) (variables q.left) given.solves.bare given.solves.solves.1)
+  entries : HaveSorts (HasEntry s new after) (variables q.left) y.values
+  entries = subst (HaveSorts (HasEntry s new after) (variables q.left)) given.solves.values (sorts_of_norms s (HasEntry s new after) (variables q.left) given.solves.bare given.solves.solves.1)
 
   pub listed_valued : IsValued p.sig new after q.left x
   listed_valued = record {
     one_each = one_each;
     values = λ xs e.
         values_of s new after xs x.values given.values (λ v j. (each v j).2)
-        (subst (λ zs. HaveKinds s zs y.values) (sym e) kinds) (subst (λ zs. HaveSorts (HasEntry s new after) zs y.values) (sym e) sorts);
+        (subst (λ zs. HaveKinds s zs y.values) (sym e) kinds) (subst (λ zs. HaveSorts (HasEntry s new after) zs y.values) (sym e) entries);
   }
 
   pub listed_contexts : AreContexts p.sig new t (numbers x.left) (numbers x.right)

@@ -25,7 +25,7 @@ use Rattle.mau_api.specs.Told.{shown_count}
 use Rattle.mau_api.specs.Programs.{rule_of}
 use Rattle.mau_api.specs.Variables.{statement_variables}
 use Rattle.mau_api.specs.Meanings.{Meanings}
-use Rattle.mau_api.specs.Answers.{binding_in, IsValueOf, uses_results, levels_of_condition}
+use Rattle.mau_api.specs.Answers.{binding_in, IsValueOf, uses_results, levels_of_condition, DerivesNothing}
 use Rattle.mau_api.specs.declared.results.Reduced.{Reduced}
 use Rattle.mau_api.specs.declared.results.EvalEnd.{EvalEnd}
 use Rattle.mau_api.specs.declared.results.EvalEnd.TheVariants.{Stopped, TooDeep, Overflow, NoMemory}
@@ -86,9 +86,9 @@ found_tree p nodes x = tree_with p nodes x (slice_get p.rules x.number)
 
 -- ---- what is known of a search
 
--- the limits of an item, for an evaluator that goes by m; no membership is executable
+-- the limits of an item, for an evaluator that goes by m
 abbrev pub item_of : Meanings → Bool → Item
-item_of m wanted = record { least = levels_of_condition; limit = m.limit; uses = uses_results m wanted; plain = true }
+item_of m wanted = record { least = levels_of_condition; limit = m.limit; uses = uses_results m wanted; plain = DerivesNothing m }
 
 -- of a condition
 abbrev pub KnownSolving : Item → (ℕ → ℕ → Run (Option Binding)) → ℕ → List Node → Result (Option (List (VarId × TermId) × ℕ)) EvalEnd → ℕ → Type 0

@@ -1,15 +1,15 @@
 -- What is known of a computation under limits, once calls of an evaluator have answered. f k B b is what is computed where terms have k + 1 levels and
 -- conditions k, where each condition of a membership has the budget B, from the budget b.
-use Rattle.std.specs.Prelude.{◌≡◌, ◌⊎◌, ◌≤◌, ◌+◌, ℕ, Bool, true, false, Option, Some, None}
+use Rattle.std.specs.Prelude.{◌≡◌, ◌⊎◌, ◌≤◌, ◌+◌, ℕ, Bool, false, Option, Some, None}
 use Rattle.mau_evaluation.specs.Run.{End, stopped, too_deep, overflowed, Outcome, done, ended, Run}
 
--- the limits of an item: the levels of its conditions, and the budget of each condition of a membership; whether remembered results are used, and whether no
--- membership is executable
-pub record Item : Type 0 where
+-- the limits of an item: the levels of its conditions, and the budget of each condition of a membership; whether remembered results are used; and that no
+-- membership is executable, so that no sort is derived
+pub record Item : Type 1 where
   pub least : ℕ
   pub limit : ℕ
   pub uses : Bool
-  pub plain : Bool
+  pub plain : Type 0
 
 -- more levels, or more budget, would have been needed
 abbrev pub IsCut : {A : Type 0} → Outcome A → Type 0
@@ -20,12 +20,12 @@ pub data Leaves {A : Type 0} (x : A) (r after : ℕ) (o : Outcome A) : Type 0 wh
   cut : IsCut o → Leaves x r after o
   left_of : (l : ℕ) → o ≡ done x r l → l ≤ after → Leaves x r after o
 
--- For just the budgets given it is o: for some levels, no fewer than an item has, and for more; with fewer it may be too deep. Where no membership is executable
--- these are just the levels of an item
+-- For just the budgets given it is o: for some levels, no fewer than an item has, and for more; with fewer it may be too deep, since a sort that is kept was
+-- derived by more. Where no membership is executable these are just the levels of an item
 pub record IsExactly (I : Item) {A : Type 0} (f : ℕ → ℕ → Run A) (before : ℕ) (o : Outcome A) : Type 0 where
   pub level : ℕ
   pub enough : I.least ≤ level
-  pub just : I.plain ≡ true → level ≡ I.least
+  pub just : I.plain → level ≡ I.least
   pub above : (k : ℕ) → level ≤ k → f k I.limit before ≡ o
   pub below : (k : ℕ) → I.least ≤ k → (f k I.limit before ≡ ended too_deep) ⊎ (f k I.limit before ≡ o)
 

@@ -1,5 +1,5 @@
 -- What a rule run stands for, and what its calls answer: by the runs of mau_evaluation.
-use Rattle.std.specs.Prelude.{◌≡◌, ◌⊎◌, ℕ, suc, List, length, slice_index, Option, Result, Ok, Err}
+use Rattle.std.specs.Prelude.{◌≡◌, ◌⊎◌, ◌≤◌, ℕ, suc, List, length, slice_index, Option, Result, Ok, Err}
 use Rattle.mau_terms.specs.Tree.{Tree}
 use Rattle.mau_store.specs.Node.{Node}
 use Rattle.mau_store.specs.Trees.{tree_at}
@@ -11,7 +11,7 @@ use Rattle.mau_api.specs.Terms.{IsTerm}
 use Rattle.mau_api.specs.Told.{shown_count}
 use Rattle.mau_api.specs.Programs.{program_over}
 use Rattle.mau_api.specs.Meanings.{Meanings}
-use Rattle.mau_api.specs.Answers.{levels_of_condition, GivesUnder, HasCause}
+use Rattle.mau_api.specs.Answers.{levels_of_condition, DerivesNothing, GivesUnder, HasCause}
 use Rattle.mau_api.specs.declared.results.Reduced.{Reduced}
 use Rattle.mau_api.specs.declared.results.EvalEnd.{EvalEnd}
 use Rattle.mau_api.specs.declared.results.EvalEnd.TheVariants.{Stopped, TooDeep, Overflow, NoMemory}
@@ -55,6 +55,14 @@ IsRunAnswered o nodes run (Err Stopped) = o ≡ ended stopped
 IsRunAnswered o nodes run (Err TooDeep) = o ≡ ended too_deep
 IsRunAnswered o nodes run (Err Overflow) = o ≡ ended overflowed
 IsRunAnswered o nodes run (Err NoMemory) = Unit {0}
+
+-- f is a run under so many levels for conditions, a budget of each condition of a membership, and a budget. The answer is that for just the budget given, and for
+-- the levels of a condition that an item asks or, where sorts were derived before, for more
+pub record IsRunExactly (m : Meanings) (f : ℕ → ℕ → Run PassEnd) (budget : ℕ) (nodes : List Node) (run : RuleRun) (answer : Result (RuleEnd × Reduced) EvalEnd) : Type 0 where
+  pub levels : ℕ
+  pub enough : levels_of_condition ≤ levels
+  pub just : DerivesNothing m → levels ≡ levels_of_condition
+  pub is : IsRunAnswered (f levels m.limit budget) nodes run answer
 
 -- where results may be remembered: what the run comes to is that for larger limits; it is stopped only where by the limits of an item the run is stopped or too
 -- deep; and the other ends have their causes

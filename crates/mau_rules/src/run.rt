@@ -6,9 +6,9 @@ ghost use Rattle.mau_sorts.specs.Table.{KeepsEntries};
 ghost use Rattle.mau_evaluation.specs.RuleRuns.{is_out, one_less};
 ghost use Rattle.mau_api.specs.Terms.{IsTerm};
 ghost use Rattle.mau_api.specs.Told.{TellsMore};
-ghost use Rattle.mau_api.specs.Answers.{AreSettled, uses_results, levels_of_condition};
+ghost use Rattle.mau_api.specs.Answers.{AreSettled, uses_results};
 ghost use Rattle.mau_rules.specs.Runnable.{IsRunnable, GoesBy};
-ghost use Rattle.mau_rules.specs.Runs.{stand_of, begins_with, IsRunOf, IsRunAnswered, MayRun, rewriting_by, frewriting_by};
+ghost use Rattle.mau_rules.specs.Runs.{stand_of, begins_with, IsRunOf, IsRunExactly, MayRun, rewriting_by, frewriting_by};
 ghost use Rattle.mau_rules.specs.Telling.{TellsRules};
 
 use crate::by_top::RulesByTop;
@@ -105,8 +105,7 @@ impl RuleRun {
         requires fits { E.fits evaluator.old store.old }
         requires run { IsRunOf program.now store.old self.old }
         ensures exact { uses_results (E.meanings evaluator.old) (W.wanted watcher.old) ≡ false →
-            IsRunAnswered (rewriting_by program.now (E.meanings evaluator.old) bound (stand_of store.old self.old) levels_of_condition (E.meanings evaluator.old).limit budget)
-            store.new self.new result }
+            IsRunExactly (E.meanings evaluator.old) (rewriting_by program.now (E.meanings evaluator.old) bound (stand_of store.old self.old)) budget store.new self.new result }
         ensures allowed { MayRun (E.meanings evaluator.old) (rewriting_by program.now (E.meanings evaluator.old) bound (stand_of store.old self.old)) budget store.new self.new result }
         ensures term { IfOk result (λ x. x.1.term ≡ self.new.term) }
         ensures settled { IfOk result (λ x. AreSettled program.now.sig store.new (E.table evaluator.new) (tree_at store.new x.1.term.0)) }
@@ -177,8 +176,7 @@ impl RuleRun {
         requires fits { E.fits evaluator.old store.old }
         requires run { IsRunOf program.now store.old self.old }
         ensures exact { uses_results (E.meanings evaluator.old) (W.wanted watcher.old) ≡ false →
-            IsRunAnswered (frewriting_by program.now (E.meanings evaluator.old) gas bound (stand_of store.old self.old) levels_of_condition (E.meanings evaluator.old).limit budget)
-            store.new self.new result }
+            IsRunExactly (E.meanings evaluator.old) (frewriting_by program.now (E.meanings evaluator.old) gas bound (stand_of store.old self.old)) budget store.new self.new result }
         ensures allowed { MayRun (E.meanings evaluator.old) (frewriting_by program.now (E.meanings evaluator.old) gas bound (stand_of store.old self.old)) budget store.new self.new result }
         ensures term { IfOk result (λ x. x.1.term ≡ self.new.term) }
         ensures settled { IfOk result (λ x. AreSettled program.now.sig store.new (E.table evaluator.new) (tree_at store.new x.1.term.0)) }

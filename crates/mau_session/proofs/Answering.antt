@@ -25,8 +25,8 @@ use Rattle.mau_session.specs.Next.{GainsShown}
 use Rattle.mau_program.specs.declared.statements.Fragment.{Fragment}
 use Rattle.mau_conditional.specs.Where.{Ending, no_more, bound_reached, ends_by}
 use Rattle.mau_session.specs.Where.{left_where, where_lines, IsConditionOf, WhereAnswer, where_too_deep, where_overflows, where_sorts_end, where_listed}
-use Rattle.mau_session.specs.Transcript.{TermsRead, TermsAnswer, too_deep, overflows, sorts_end, listed, asks_where, MatchAnswer, listing_not_built, bound_refused, command_answered, ContinueAnswer, continued, continued_where, term_answered, BodyAnswer, item_faulty, item_answered, ItemsAnswer, item_first}
-use Rattle.mau_session.specs.Gains.{GainsListing, GainsListed, gains_solutions, gains_sorts_end, gains_too_deep, gains_overflow, GainsWhere, GainsListedWhere, gains_solutions_where, gains_sorts_end_where, gains_too_deep_where, gains_overflow_where, GainsTerms, ChosenAnswer, chosen_not_built, chosen_refused, chosen_answered, GainsChosen, GainsMatch, GainsOn, GainsOnWhere, GainsContinue, GainsAnswer, GainsTerm, GainsBody, GainsItem}
+use Rattle.mau_session.specs.Transcript.{TermsRead, TermsAnswer, too_deep, overflows, sorts_end, listed, asks_where, MatchAnswer, bound_refused, command_answered, ContinueAnswer, continued, continued_where, term_answered, BodyAnswer, item_faulty, item_answered, ItemsAnswer, item_first}
+use Rattle.mau_session.specs.Gains.{GainsListing, GainsListed, gains_solutions, gains_sorts_end, gains_too_deep, gains_overflow, GainsWhere, GainsListedWhere, gains_solutions_where, gains_sorts_end_where, gains_too_deep_where, gains_overflow_where, GainsTerms, ChosenAnswer, chosen_refused, chosen_answered, GainsChosen, GainsMatch, GainsOn, GainsOnWhere, GainsContinue, GainsAnswer, GainsTerm, GainsBody, GainsItem}
 use Rattle.mau_session.specs.Lines.{too_deep_line, overflow_line, end_line, answer_lines}
 use Rattle.mau_session.specs.Answers.{listing_lines, match_head, continue_head, reduce_head}
 
@@ -211,7 +211,7 @@ continues_where e ws st taken k c most i q cond next o n refused bound going on 
       bytes = bytes;
       answer = subst (λ s. ContinueAnswer e ws st k c s bytes refused) (sym (on.after ∙ after_taken st taken i left (where_goes on.ending (shown_more q on.found) cond)))
           (subst (λ b. ContinueAnswer e ws st k c (state_after st i left) bytes b) (sym on.answered)
-          (continued_where most i q cond on.«module» on.found on.ending bound going on.there on.plain on.shows));
+          (continued_where most i q cond on.«module» on.found on.ending bound going on.there on.shows));
       gained = on.gained;
     }
 
@@ -220,14 +220,13 @@ pub as_taken : (st before : StateOf) → before.modules ≡ st.modules → befor
 as_taken st before e f = ap₂ (λ ms i. record st { modules = ms; current = i }) (sym e) (sym f)
 
 -- the answer of a match command over a module that was chosen
-pub gains_chosen : (e : Environment) (ws : List Word) (st : StateOf) (k i : ℕ) (c : RawCommand) (n : ℕ) (next : StateOf) (old new : List ℕ) (refused : Bool) → unbuilt ws c ≡ None → IsChosen ws st c n
-    → GainsChosen e ws st k i c n next old new refused → GainsMatch e ws st k i c next old new refused
-gains_chosen e ws st k i c n next old new refused built chosen g = record { bytes = g.bytes; answer = by g.answer; gained = g.gained }
+pub gains_chosen : (e : Environment) (ws : List Word) (st : StateOf) (k : ℕ) (c : RawCommand) (n : ℕ) (next : StateOf) (old new : List ℕ) (refused : Bool) → unbuilt ws c ≡ None → IsChosen ws st c n
+    → GainsChosen e ws st k c n next old new refused → GainsMatch e ws st k c next old new refused
+gains_chosen e ws st k c n next old new refused built chosen g = record { bytes = g.bytes; answer = by g.answer; gained = g.gained }
   where
-    by : {s : StateOf} {b : List ℕ} {r : Bool} → ChosenAnswer e ws st k i c n s b r → MatchAnswer e ws st k i c s b r
-    by (chosen_not_built m there uses) = listing_not_built n m built chosen there uses
-    by (chosen_refused m r there none d) = bound_refused n m r built chosen there none d
-    by (chosen_answered m most left bytes there none d a) = command_answered n m most left bytes built chosen there none d a
+    by : {s : StateOf} {b : List ℕ} {r : Bool} → ChosenAnswer e ws st k c n s b r → MatchAnswer e ws st k c s b r
+    by (chosen_refused m r there d) = bound_refused n m r built chosen there d
+    by (chosen_answered m most left bytes there d a) = command_answered n m most left bytes built chosen there d a
 
 -- ---- evaluations
 

@@ -114,5 +114,6 @@ where_goes_on bound_reached q cond = refl
 where_goes_on (ends_by x) q cond = refl
 
 -- the module with a number is one
-pub module_ready : (ms : List ModuleOf) (n : ℕ) (m : ModuleOf) (sorts : Table) (k : ConditionalQuery) → (o : ModuleOf) × (slice_get ms n ≡ Some o) × IsReadyWhere o sorts k → slice_get ms n ≡ Some m → IsReadyWhere m sorts k
-module_ready ms n m sorts k (o, there, ready) here = let e = sym there ∙ here in let same : o ≡ m = cc in subst (λ (z : ModuleOf). IsReadyWhere z sorts k) same ready
+pub module_ready : (e : Environment) (ms : List ModuleOf) (n : ℕ) (m : ModuleOf) (sorts : Table) (k : ConditionalQuery) → (o : ModuleOf) × (slice_get ms n ≡ Some o) × IsReadyWhere e o sorts k → slice_get ms n ≡ Some m
+    → IsReadyWhere e m sorts k
+module_ready e ms n m sorts k (o, there, ready) here = let f = sym there ∙ here in let same : o ≡ m = cc in subst (λ (z : ModuleOf). IsReadyWhere e z sorts k) same ready

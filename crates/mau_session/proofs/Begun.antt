@@ -1,104 +1,68 @@
 -- What an evaluator by a module's program gives, as it is said of the module.
-use Rattle.std.proofs.Common.{◌≡◌, ℕ, List, [], Bool, true, false, refl, sym, ap, ◌∙◌, subst}
+use Rattle.std.proofs.Common.{◌≡◌, ℕ, List, [], refl, sym, ◌∙◌, subst}
 use Rattle.mau_terms.specs.Tree.{Tree}
 use Rattle.mau_terms.specs.Norm.{norm}
-use Rattle.mau_terms.specs.Bare.{IsBare, IsBareIn, IsLawful}
+use Rattle.mau_terms.specs.Bare.{IsBare, IsLawful}
 use Rattle.mau_terms.specs.Reading.{reading}
 use Rattle.mau_terms.specs.Subst.{variables}
 use Rattle.mau_terms.specs.View.{tree_of}
-use Rattle.mau_poset.specs.Order.{kind_of}
 use Rattle.mau_signature.specs.Signature.{theory_at, terms_over}
 use Rattle.mau_signature.specs.OverSignature.{IsTreeOver}
 use Rattle.mau_signature.proofs.OverSignature.{norm_over}
 use Rattle.mau_formula.specs.Operator.{Operator}
 use Rattle.mau_store.specs.Node.{Node}
-use Rattle.mau_store.specs.Trees.{tree_at}
-use Rattle.mau_sorts.specs.HasSort.{HasSort}
-use Rattle.mau_sorts.specs.SortSets.{SortsOf}
-use Rattle.mau_trial.proofs.Among.{contains_none}
 use Rattle.mau_sorts.specs.Table.{Table}
 use Rattle.mau_program.specs.LawfulPrograms.{IsLawfulProgram}
 use Rattle.mau_program.specs.declared.program.Program as Typed
 use Rattle.mau_program.specs.declared.statements.Fragment.{Fragment}
-use Rattle.mau_evaluation.specs.Run.{End, stopped, too_deep, overflowed, done}
+use Rattle.mau_evaluation.specs.Run.{End}
 use Rattle.mau_evaluation.specs.Program.{Program}
-use Rattle.mau_evaluation.specs.Evaluation.{has_number}
+use Rattle.mau_evaluation.specs.Evaluation.{sorts_at}
+use Rattle.mau_evaluation.specs.Laws.{Comes}
+use Rattle.mau_evaluation.specs.HasSort.{HasSort}
+use Rattle.mau_evaluation.proofs.Derived.{known_sorts_are_derived}
+use Rattle.mau_evaluation.proofs.SortsGiven.{number_in}
 use Rattle.mau_api.specs.Programs.{program_over}
-use Rattle.mau_api.specs.Terms.{IsNormalBare}
-use Rattle.mau_api.specs.Meanings.{Meanings, meanings_by}
-use Rattle.mau_api.specs.Answers.{IsAskable, MayEnd, IsEntryOf}
+use Rattle.mau_api.specs.Meanings.{Meanings}
+use Rattle.mau_api.specs.Answers.{IsAskable, MayEnd}
 use Rattle.mau_api.specs.declared.results.EvalEnd.{EvalEnd}
 use Rattle.mau_api.specs.declared.results.EvalEnd.TheVariants.{Stopped, TooDeep, Overflow, NoMemory}
-use Rattle.mau_reduce.proofs.PlainSorts.{plain_sorts, sorts_known, plain_exact}
-use Rattle.mau_reduce.proofs.SortKinds.{sort_kind}
 use Rattle.mau_reducer.specs.KeptTables.{IsKept}
 use Rattle.mau_reduce.proofs.Valued.{heads_of}
 use Rattle.mau_reducer.proofs.FromLawful.{reducible}
-use Rattle.mau_conditional.specs.Meant.{HasDerivedSort}
 use Rattle.mau_conditional.specs.NextWhere.{SortsAreOfKind, CanBeAsked}
 use Rattle.mau_module.specs.Modules.{ModuleOf}
 use Rattle.mau_module.specs.Lawful.{program_of}
 use Rattle.mau_session.specs.Environment.{environment_of, meanings_in}
 use Rattle.mau_session.specs.Terms.{terms_in}
-use Rattle.mau_session.specs.Built.{uses_memberships}
 use Rattle.mau_session.specs.Settled.{AreSortsKnown, SortsEnd}
 use Rattle.mau_session.specs.Gains.{IsEnd}
 use Rattle.mau_session.specs.KeptQuery.{IsQueryOver, IsReady, GoesIn}
 use Rattle.mau_session.specs.declared.query.Query.{Query}
-use Rattle.mau_session.proofs.Plain.{none_executable}
+use Rattle.mau_session.proofs.DerivedKinds.{derived_kind}
 
 -- ---- lawful programs
 
-module _ (m : ModuleOf) (ops : List Operator) (limit : ℕ) (is : IsLawfulProgram (program_of m)) (lawful : IsLawful (terms_in m)) (plain : uses_memberships m ≡ false) where
+module _ (m : ModuleOf) (ops : List Operator) (limit : ℕ) (is : IsLawfulProgram (program_of m)) (lawful : IsLawful (terms_in m)) where
+  abbrev P : Program
+  P = program_over (program_of m) ops
+
   kinds : SortsAreOfKind (meanings_in (environment_of ops limit) m)
   kinds t r k normal has bare =
       let s = m.signature in
-      let P : Program = program_over (program_of m) ops in
-      let none = none_executable (environment_of ops limit) m plain in
       let over : IsTreeOver s t = subst (IsTreeOver s) normal.0 (norm_over s lawful t (subst (λ u. IsBare (terms_over s) (reading (theory_at s) u)) (sym normal.0) normal.1)) in
-      let sorts : has.sorts ≡ plain_sorts P none (norm (theory_at s) t) = (let e = sym (has.known 0) ∙ sorts_known P none limit has.levels (norm (theory_at s) t) 0 in cc) in
-      let own : has_number (plain_sorts P none t) r ≡ true = ap (λ u. has_number (plain_sorts P none u) r) (sym normal.0) ∙ (ap (λ ss. has_number ss r) (sym sorts) ∙ has.has) in
-      sort_kind s is.accepted lawful [] (λ u q c. absurd (contains_none (u, q) c)) t normal.0 over r ((plain_exact (program_of m) ops is.accepted none t over r).0 own) k bare
-
-  -- an entry of derived sorts has the declared ones, so it is one whatever the native operators and the budget
-  entry_any : (hooks : List Operator) (budget : ℕ) (t : Tree) (e : SortsOf) → IsNormalBare m.signature t → IsEntryOf (meanings_by (program_of m) ops limit false) t e →
-      IsEntryOf (meanings_by (program_of m) hooks budget false) t e
-  entry_any hooks budget t e normal h =
-      let s = m.signature in
-      let P : Program = program_over (program_of m) ops in
-      let Q : Program = program_over (program_of m) hooks in
-      let none = none_executable (environment_of ops limit) m plain in
-      let none' = none_executable (environment_of hooks budget) m plain in
-      let over : IsTreeOver s t = subst (IsTreeOver s) normal.0 (norm_over s lawful t (subst (λ u. IsBare (terms_over s) (reading (theory_at s) u)) (sym normal.0) normal.1)) in
-      let sorts : h.sorts ≡ plain_sorts P none (norm (theory_at s) t) = (let d = sym (h.known 0) ∙ sorts_known P none limit h.levels (norm (theory_at s) t) 0 in cc) in
-      let one = λ (r : ℕ). plain_exact (program_of m) ops is.accepted none t over r in
-      let other = λ (r : ℕ). plain_exact (program_of m) hooks is.accepted none' t over r in
-      record {
-        levels = 0;
-        sorts = plain_sorts Q none' t;
-        known = λ b. sorts_known Q none' budget 0 (norm (theory_at s) t) b ∙ ap (λ u. done (plain_sorts Q none' u) 0 b) normal.0;
-        exact = λ r. (
-          (λ x. (other r).1 ((one r).0 (ap (λ u. has_number (plain_sorts P none u) r) (sym normal.0) ∙ (ap (λ ss. has_number ss r) (sym sorts) ∙ (h.exact r).0 x)))),
-          (λ x. (h.exact r).1 (ap (λ ss. has_number ss r) sorts ∙ (ap (λ u. has_number (plain_sorts P none u) r) normal.0 ∙ (one r).1 ((other r).0 x)))),
-        );
-      }
-
-  -- and so is a table
-  pub kept_any : (store : List Node) (sorts : Table) → IsKept (program_of m) ops limit store sorts → (hooks : List Operator) (budget : ℕ) → IsKept (program_of m) hooks budget store sorts
-  kept_any store sorts k hooks budget = record {
-    entries = λ i e at normal. entry_any hooks budget (tree_at store i) e normal (k.entries i e at normal);
-    known = k.known;
-    declared = k.declared;
-    over = k.over;
-    closed = k.closed;
-  }
+      let comes : Comes (λ k B. sorts_at P k B t) has.sorts 0 = record { level = has.levels; each = limit; budget = 0; left = 0; comes = has.known 0 } in
+      let own : HasSort P t r = subst (λ u. HasSort P u r) normal.0 (known_sorts_are_derived P t has.sorts 0 comes r (number_in has.sorts r has.has)) in
+      derived_kind (program_of m) (reducible (program_of m) is lawful) ops t r own normal.0 over k bare
 
   pub goes_in : GoesIn m (meanings_in (environment_of ops limit) m)
   goes_in = record { goes = record { defined = refl; accepted = is.accepted; heads = heads_of (program_of m) (reducible (program_of m) is lawful) ops; kinds = kinds }; signature = refl }
 
 -- a table that is kept is one for the module's program
-pub kept_for : (m : ModuleOf) (p : Typed.Program) → p ≡ program_of m → (store : List Node) (sorts : Table) (hooks : List Operator) (budget : ℕ) → ((hooks : List Operator) (budget : ℕ) → IsKept (program_of m) hooks budget store sorts) → IsKept p hooks budget store sorts
-kept_for m p same store sorts hooks budget kept = subst (λ (z : Typed.Program). IsKept z hooks budget store sorts) (sym same) (kept hooks budget)
+pub kept_for : (m : ModuleOf) (p : Typed.Program) → p ≡ program_of m → (store : List Node) (sorts : Table) (hooks ops : List Operator) → hooks ≡ ops → (limit : ℕ) → IsKept (program_of m) ops limit store sorts
+    → IsKept p hooks limit store sorts
+kept_for m p same store sorts hooks ops own limit kept =
+    subst (λ (z : Typed.Program). IsKept z hooks limit store sorts) (sym same) (subst (λ (z : List Operator). IsKept (program_of m) z limit store sorts) (sym own) kept)
 
 -- ---- an evaluator by such a program
 

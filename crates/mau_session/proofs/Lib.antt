@@ -19,6 +19,7 @@ pub mod Answering
 pub mod Rewritten
 pub mod Evaluated
 pub mod Plain
+pub mod DerivedKinds
 pub mod Begun
 pub mod AskedBy
 pub mod Runnable

@@ -9,8 +9,11 @@ use Rattle.mau_statement.specs.declared.fault.StatementFault.{StatementFault}
 use Rattle.mau_statement.specs.declared.fault.StatementFault.TheVariants.{LimitExceeded, Parse, UnknownSort as UnknownSortOfStatement, LhsVariable, MembershipHead, UnboundVariable, NoMemory as NoMemoryOfStatement}
 use Rattle.mau_module.specs.Faults.{without_trees as module_without, told}
 use Rattle.mau_module.specs.declared.fault.ModuleFault.{ModuleFault}
-use Rattle.mau_module.specs.declared.fault.ModuleFault.TheVariants.{UnknownModule, ImportTooDeep, TooLarge, UnknownSort, Signed, Statement, NoMemory as NoMemoryOfModule}
-use Rattle.mau_session.specs.Answers.{shown_parse_fault, shown_statement_fault, shown_module_fault}
+use Rattle.mau_module.specs.declared.fault.ModuleFault.TheVariants.{UnknownModule, ImportTooDeep, TooLarge, UnknownSort, Signed, Statement, Strategy, NoMemory as NoMemoryOfModule}
+use Rattle.mau_strattext.specs.Laws.{without_trees as strategy_without}
+use Rattle.mau_strattext.specs.declared.fault.StratFault.{StratFault}
+use Rattle.mau_strattext.specs.declared.fault.StratFault.TheVariants.{TooManyTokens as TooManyWords, Unexpected, UnknownName, Parse as NoTerm, Arity, NoMemory as NoMemoryOfStrategy}
+use Rattle.mau_session.specs.Answers.{shown_parse_fault, shown_statement_fault, shown_strategy_fault, shown_module_fault}
 use Rattle.mau_session.specs.Where.{shown_condition_fault}
 
 shown_without : (f : ParseFault) → shown_parse_fault f ≡ shown_parse_fault (without_trees f)
@@ -45,6 +48,14 @@ condition_shown_without NoMemoryOfStatement = refl
 pub condition_shown_once : (e f : StatementFault) → statement_without e ≡ statement_without f → shown_condition_fault e ≡ shown_condition_fault f
 condition_shown_once e f s = condition_shown_without e ∙ ap shown_condition_fault s ∙ sym (condition_shown_without f)
 
+strategy_shown_without : (f : StratFault) → shown_strategy_fault f ≡ shown_strategy_fault (strategy_without f)
+strategy_shown_without (TooManyWords n) = refl
+strategy_shown_without (Unexpected at) = refl
+strategy_shown_without (UnknownName at) = refl
+strategy_shown_without (NoTerm at f) = shown_without f
+strategy_shown_without (Arity at) = refl
+strategy_shown_without NoMemoryOfStrategy = refl
+
 module_shown_without : (f : ModuleFault) → shown_module_fault f ≡ shown_module_fault (module_without f)
 module_shown_without (UnknownModule name) = refl
 module_shown_without ImportTooDeep = refl
@@ -52,6 +63,7 @@ module_shown_without (TooLarge limit) = refl
 module_shown_without (UnknownSort at) = refl
 module_shown_without (Signed text) = refl
 module_shown_without (Statement i f) = statement_shown_without i f
+module_shown_without (Strategy i f) = ap (λ x. decimal i ++ codes " " ++ x) (strategy_shown_without f)
 module_shown_without NoMemoryOfModule = refl
 
 pub module_shown_once : (e f : ModuleFault) → told (Err e) ≡ told (Err f) → shown_module_fault e ≡ shown_module_fault f
@@ -67,4 +79,5 @@ if_named P (TooLarge limit) n p = p
 if_named P (UnknownSort at) n p = p
 if_named P (Signed text) n p = p
 if_named P (Statement i f) n p = p
+if_named P (Strategy i f) n p = p
 if_named P NoMemoryOfModule n p = absurd (n refl)

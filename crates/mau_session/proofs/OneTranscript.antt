@@ -1,5 +1,5 @@
 -- A text has one transcript.
-use Rattle.std.proofs.Common.{◌≡◌, ◌≢◌, ℕ, ◌+◌, List, [], ◌++◌, Bool, true, false, ◌||◌, Some, None, Ok, refl, sym, ◌∙◌, ap, ap₂, subst, arith, Option, slice_get, Err}
+use Rattle.std.proofs.Common.{◌≡◌, ◌≢◌, ℕ, ◌+◌, List, [], ◌∷◌, ◌++◌, Bool, true, false, ◌||◌, Some, None, Ok, refl, sym, ◌∙◌, ap, ap₂, subst, arith, Option, slice_get, Err}
 use Rattle.mau_terms.specs.Tree.{Tree}
 use Rattle.mau_terms.specs.View.{tree_of}
 use Rattle.mau_terms.specs.declared.bare.Bare.{Bare}
@@ -40,7 +40,7 @@ use Rattle.mau_results.proofs.RunAnswers.{run_answers_are_one}
 use Rattle.mau_session.specs.Built.{uses_memberships, has_context, fault_answer}
 use Rattle.mau_session.specs.Answers.{refusal_line, faulty_line, shown_parse_fault, fault_line, module_line, match_head, continue_head, reduce_head, listing_lines}
 use Rattle.mau_session.specs.Environment.{Environment, meanings_in}
-use Rattle.mau_session.specs.Laws.{TranscriptsAreOne}
+use Rattle.mau_session.specs.Laws.{ComesTo, stands_there, comes_behind, UsesNoMemberships, TranscriptsAreOne}
 use Rattle.mau_session.specs.Query.{QueryOf, asked_first, shown_more}
 use Rattle.mau_session.specs.State.{ContinuedOf, a_listing, a_listing_where, a_rule_run, GoingOf, StateOf, at_first, accepted, selected, IsChosen, current_one, named_one, NamesNone, OutcomeOf, is_refused, has_ended, goes_on, left_by, refuses, state_after}
 use Rattle.mau_session.specs.declared.asked_run.AskedRun.{AskedRun}
@@ -48,8 +48,8 @@ use Rattle.mau_session.specs.Bounds.{bound_of, asked_run}
 use Rattle.mau_session.specs.Where.{ShowsWhere, left_where, where_lines, WhereAnswer}
 use Rattle.mau_session.specs.RuleRun.{RuleRunOf, rewriting_condition}
 use Rattle.mau_session.specs.RunLines.{run_head, run_lines, left_by_run}
-use Rattle.mau_session.specs.RewriteAnswer.{RunTermAnswer, start_refused, start_answered, RewriteAnswer, rewrites_nothing, rewrite_unknown, rewrite_not_built, rewrite_unbounded, rewrite_conditional, rewrite_answered}
-use Rattle.mau_session.specs.Transcript.{TermAnswer, term_refused, term_answered, ReduceAnswer, reduces_nothing, reduce_unknown, reduce_not_built, reduce_answered, reduce_is_answered, rewrite_is_answered, PatternReads, SubjectReads, TermsRead, TermsAnswer, pattern_refused, subject_refused, too_deep, overflows, sorts_end, listed, asks_where, MatchAnswer, command_not_built, module_unknown, listing_not_built, bound_refused, command_answered, ContinueAnswer, number_refused, nothing_to_continue, continued, continued_where, run_continued, BodyAnswer, module_not_built, module_accepted, module_refused, match_answered, continue_answered, other_unknown, other_not_built, SettingAnswer, trace_not_built, trace_off, changes_nothing, module_selected, selects_none, setting_answered, ItemAnswer, item_faulty, item_answered, ItemsAnswer, items_end, item_quits, item_first, Transcript, text_refused, items_answered}
+use Rattle.mau_session.specs.RewriteAnswer.{RunTermAnswer, start_refused, start_answered, RewriteAnswer, rewrites_nothing, rewrite_unknown, rewrite_unbounded, rewrite_conditional, rewrite_answered}
+use Rattle.mau_session.specs.Transcript.{TermAnswer, term_refused, term_answered, ReduceAnswer, reduces_nothing, reduce_unknown, reduce_answered, reduce_is_answered, rewrite_is_answered, PatternReads, SubjectReads, TermsRead, TermsAnswer, pattern_refused, subject_refused, too_deep, overflows, sorts_end, listed, asks_where, MatchAnswer, command_not_built, module_unknown, bound_refused, command_answered, ContinueAnswer, number_refused, nothing_to_continue, continued, continued_where, run_continued, BodyAnswer, module_accepted, module_refused, match_answered, continue_answered, other_unknown, other_not_built, SettingAnswer, trace_not_built, trace_off, changes_nothing, module_selected, selects_none, setting_answered, ItemAnswer, item_faulty, item_answered, ItemsAnswer, items_end, item_quits, item_first, Transcript, text_refused, items_answered}
 use Rattle.mau_tokens.proofs.Answer.{answers_are_one as tokens_are_one}
 use Rattle.mau_api.proofs.LawfulMeanings.{meanings_are_lawful}
 use Rattle.mau_module.specs.Lawful.{program_of}
@@ -191,7 +191,7 @@ record AreOneItem (st next : StateOf) (b c : List ℕ) (r s : Bool) : Type 0 whe
 one_item : {st : StateOf} {b : List ℕ} {r : Bool} → AreOneItem st st b b r r
 one_item = record { state = refl; bytes = refl; refused = refl }
 
-module _ (ws : List Word) (st : StateOf) (k i : ℕ) (c : RawCommand) where
+module _ (ws : List Word) (st : StateOf) (c : RawCommand) where
   built_or_not : {l : ℕ} → unbuilt ws c ≡ Some l → unbuilt ws c ≡ None → ⊥
   built_or_not e n = let o = sym e ∙ n in absurd cc
 
@@ -229,43 +229,30 @@ module _ (ws : List Word) (st : StateOf) (k i : ℕ) (c : RawCommand) where
   module_at : {n o : ℕ} {m l : ModuleOf} → IsChosen ws st c n → slice_get st.modules n ≡ Some m → IsChosen ws st c o → slice_get st.modules o ≡ Some l → m ≡ l
   module_at x h y l = let e = sym h ∙ ap (slice_get st.modules) (chosen_once x y) ∙ l in cc
 
-  used_or_not : {n o : ℕ} {m l : ModuleOf} → IsChosen ws st c n → slice_get st.modules n ≡ Some m → IsChosen ws st c o → slice_get st.modules o ≡ Some l
-      → uses_memberships m ≡ true → uses_memberships l ≡ false → ⊥
-  used_or_not {n} {o} {m} {l} x h y g uses none = yes_no (uses_memberships l) (ap uses_memberships (sym (module_at x h y g)) ∙ uses) none
-
-module _ (env : Environment) (ws : List Word) (st : StateOf) (all : AreShaped st.modules) (k i : ℕ) (c : RawCommand) where
-  match_once : {u v : StateOf} {b d : List ℕ} {r q : Bool} → MatchAnswer env ws st k i c u b r → MatchAnswer env ws st k i c v d q → AreOneItem u v b d r q
+module _ (env : Environment) (ws : List Word) (st : StateOf) (all : AreShaped st.modules) (unused : UsesNoMemberships st) (k : ℕ) (c : RawCommand) where
+  match_once : {u v : StateOf} {b d : List ℕ} {r q : Bool} → MatchAnswer env ws st k c u b r → MatchAnswer env ws st k c v d q → AreOneItem u v b d r q
   match_once (command_not_built l e) (command_not_built l' e') =
       let o = sym e ∙ e' in
       let h : l ≡ l' = cc in
       record { state = refl; bytes = ap (λ l. refusal_line k ws (NotBuilt l)) h; refused = refl }
-  match_once (command_not_built l e) (module_unknown t' e' x') = absurd (built_or_not ws st k i c e e')
-  match_once (command_not_built l e) (listing_not_built n' m' e' x' h' w') = absurd (built_or_not ws st k i c e e')
-  match_once (command_not_built l e) (bound_refused n' m' r' e' x' h' w' f') = absurd (built_or_not ws st k i c e e')
-  match_once (command_not_built l e) (command_answered n' m' most' left' b' e' x' h' w' f' y') = absurd (built_or_not ws st k i c e e')
-  match_once (module_unknown t e x) (command_not_built l' e') = absurd (built_or_not ws st k i c e' e)
-  match_once (module_unknown t e x) (module_unknown t' e' x') = record { state = refl; bytes = ap (λ t. refusal_line k ws (UnknownModule (token_index ws t))) (unknown_once ws st k i c x x'); refused = refl }
-  match_once (module_unknown t e x) (listing_not_built n' m' e' x' h' w') = absurd (never_chosen ws st k i c x x')
-  match_once (module_unknown t e x) (bound_refused n' m' r' e' x' h' w' f') = absurd (never_chosen ws st k i c x x')
-  match_once (module_unknown t e x) (command_answered n' m' most' left' b' e' x' h' w' f' y') = absurd (never_chosen ws st k i c x x')
-  match_once (listing_not_built n m e x h w) (command_not_built l' e') = absurd (built_or_not ws st k i c e' e)
-  match_once (listing_not_built n m e x h w) (module_unknown t' e' x') = absurd (never_chosen ws st k i c x' x)
-  match_once (listing_not_built n m e x h w) (listing_not_built n' m' e' x' h' w') = one_item
-  match_once (listing_not_built n m e x h w) (bound_refused n' m' r' e' x' h' w' f') = absurd (used_or_not ws st k i c x h x' h' w w')
-  match_once (listing_not_built n m e x h w) (command_answered n' m' most' left' b' e' x' h' w' f' y') = absurd (used_or_not ws st k i c x h x' h' w w')
-  match_once (bound_refused n m r e x h w f) (command_not_built l' e') = absurd (built_or_not ws st k i c e' e)
-  match_once (bound_refused n m r e x h w f) (module_unknown t' e' x') = absurd (never_chosen ws st k i c x' x)
-  match_once (bound_refused n m r e x h w f) (listing_not_built n' m' e' x' h' w') = absurd (used_or_not ws st k i c x' h' x h w' w)
-  match_once (bound_refused n m r e x h w f) (bound_refused n' m' r' e' x' h' w' f') = record { state = refl; bytes = ap (refusal_line k ws) (refusal_once ws st k i c f f'); refused = refl }
-  match_once (bound_refused n m r e x h w f) (command_answered n' m' most' left' b' e' x' h' w' f' y') = absurd (bound_or_refused ws st k i c f' f)
-  match_once (command_answered n m most left b e x h w f y) (command_not_built l' e') = absurd (built_or_not ws st k i c e' e)
-  match_once (command_answered n m most left b e x h w f y) (module_unknown t' e' x') = absurd (never_chosen ws st k i c x' x)
-  match_once (command_answered n m most left b e x h w f y) (listing_not_built n' m' e' x' h' w') = absurd (used_or_not ws st k i c x' h' x h w' w)
-  match_once (command_answered n m most left b e x h w f y) (bound_refused n' m' r' e' x' h' w' f') = absurd (bound_or_refused ws st k i c f f')
-  match_once (command_answered n m most left b e x h w f y) (command_answered n' m' most' left' b' e' x' h' w' f' y') =
-      let same = module_at ws st k i c x h x' h' in
-      let o = terms_once env ws m (all n m h) w k c y (subst (λ m. TermsAnswer env ws m k c most left' b') (sym same) (subst (λ a. TermsAnswer env ws m' k c a left' b') (sym (bound_once ws st k i c f f')) y')) in
-      record { state = ap₂ (state_after st) (chosen_once ws st k i c x x') o.left; bytes = o.bytes; refused = ap refuses o.left }
+  match_once (command_not_built l e) (module_unknown t' e' x') = absurd (built_or_not ws st c e e')
+  match_once (command_not_built l e) (bound_refused n' m' r' e' x' h' f') = absurd (built_or_not ws st c e e')
+  match_once (command_not_built l e) (command_answered n' m' most' left' b' e' x' h' f' y') = absurd (built_or_not ws st c e e')
+  match_once (module_unknown t e x) (command_not_built l' e') = absurd (built_or_not ws st c e' e)
+  match_once (module_unknown t e x) (module_unknown t' e' x') = record { state = refl; bytes = ap (λ t. refusal_line k ws (UnknownModule (token_index ws t))) (unknown_once ws st c x x'); refused = refl }
+  match_once (module_unknown t e x) (bound_refused n' m' r' e' x' h' f') = absurd (never_chosen ws st c x x')
+  match_once (module_unknown t e x) (command_answered n' m' most' left' b' e' x' h' f' y') = absurd (never_chosen ws st c x x')
+  match_once (bound_refused n m r e x h f) (command_not_built l' e') = absurd (built_or_not ws st c e' e)
+  match_once (bound_refused n m r e x h f) (module_unknown t' e' x') = absurd (never_chosen ws st c x' x)
+  match_once (bound_refused n m r e x h f) (bound_refused n' m' r' e' x' h' f') = record { state = refl; bytes = ap (refusal_line k ws) (refusal_once ws st c f f'); refused = refl }
+  match_once (bound_refused n m r e x h f) (command_answered n' m' most' left' b' e' x' h' f' y') = absurd (bound_or_refused ws st c f' f)
+  match_once (command_answered n m most left b e x h f y) (command_not_built l' e') = absurd (built_or_not ws st c e' e)
+  match_once (command_answered n m most left b e x h f y) (module_unknown t' e' x') = absurd (never_chosen ws st c x' x)
+  match_once (command_answered n m most left b e x h f y) (bound_refused n' m' r' e' x' h' f') = absurd (bound_or_refused ws st c f f')
+  match_once (command_answered n m most left b e x h f y) (command_answered n' m' most' left' b' e' x' h' f' y') =
+      let same = module_at ws st c x h x' h' in
+      let o = terms_once env ws m (all n m h) (unused n m h) k c y (subst (λ m. TermsAnswer env ws m k c most left' b') (sym same) (subst (λ a. TermsAnswer env ws m' k c a left' b') (sym (bound_once ws st c f f')) y')) in
+      record { state = ap₂ (state_after st) (chosen_once ws st c x x') o.left; bytes = o.bytes; refused = ap refuses o.left }
 
 -- what a rewrite command asks for is one
 module _ (ws : List Word) (c : RawCommand) where
@@ -278,47 +265,40 @@ module _ (ws : List Word) (c : RawCommand) where
   unasked_once : {r s : Refusal} → asked_run ws c ≡ Err r → asked_run ws c ≡ Err s → r ≡ s
   unasked_once e n = let o = sym e ∙ n in cc
 
-module _ (env : Environment) (free : env.remembers ≡ false) (ws : List Word) (st : StateOf) (k i : ℕ) (c : RawCommand) where
+module _ (env : Environment) (free : env.remembers ≡ false) (ws : List Word) (st : StateOf) (unused : UsesNoMemberships st) (k i : ℕ) (c : RawCommand) where
   -- what may be answered for one term is one
   one_term : (m : ModuleOf) → uses_memberships m ≡ false → (t u : Tree) (a b : AnswerOf) → t ≡ u → MayAnswer (meanings_in env m) env.remembers t a → MayAnswer (meanings_in env m) env.remembers u b → a ≡ b
-  one_term m unused t u a b e x y =
-      answers_are_one (meanings_in env m) (meanings_are_lawful (program_of m) env.operators env.budget env.remembers) (evaluated_derives env m unused) u a b
+  one_term m none t u a b e x y =
+      answers_are_one (meanings_in env m) (meanings_are_lawful (program_of m) env.operators env.budget env.remembers) (evaluated_derives env m none) u a b
       (subst (λ r. MayAnswer (meanings_in env m) r u a) free (subst (λ v. MayAnswer (meanings_in env m) env.remembers v a) e x))
       (subst (λ r. MayAnswer (meanings_in env m) r u b) free y)
 
   term_once_answered : {m : ModuleOf} → uses_memberships m ≡ false → {b d : List ℕ} {r q : OutcomeOf} → TermAnswer env ws m k c r b → TermAnswer env ws m k c q d → AreOneEnd b d r q
-  term_once_answered {m} unused (term_refused f u n) (term_refused f' u' n') = record { bytes = ap (faulty_line k) (shown_once f f' (fault_once m.grammar (part_tokens ws c.first) (part_texts ws c.first) AnyKind [] f f' u u' n n')); left = refl }
-  term_once_answered {m} unused (term_refused f u n) (term_answered t' ns' a' x' y') = absurd (no_pattern_read ws m k c f u n t' ns' x')
-  term_once_answered {m} unused (term_answered t ns a x y) (term_refused f' u' n') = absurd (no_pattern_read ws m k c f' u' n' t ns x)
-  term_once_answered {m} unused (term_answered t ns a x y) (term_answered t' ns' a' x' y') =
+  term_once_answered {m} none (term_refused f u n) (term_refused f' u' n') = record { bytes = ap (faulty_line k) (shown_once f f' (fault_once m.grammar (part_tokens ws c.first) (part_texts ws c.first) AnyKind [] f f' u u' n n')); left = refl }
+  term_once_answered {m} none (term_refused f u n) (term_answered t' ns' a' x' y') = absurd (no_pattern_read ws m k c f u n t' ns' x')
+  term_once_answered {m} none (term_answered t ns a x y) (term_refused f' u' n') = absurd (no_pattern_read ws m k c f' u' n' t ns x)
+  term_once_answered {m} none (term_answered t ns a x y) (term_answered t' ns' a' x' y') =
       let one = pattern_once ws m k c t t' ns ns' x x' in
-      record { bytes = ap₂ (λ os a. reduce_head k m ++ answer_lines m os env.budget a) one.pairs (one_term m unused (tree_of t) (tree_of t') a a' one.tree y y'); left = refl }
+      record { bytes = ap₂ (λ os a. reduce_head k m ++ answer_lines m os env.budget a) one.pairs (one_term m none (tree_of t) (tree_of t') a a' one.tree y y'); left = refl }
 
-  reduce_once : {u v : StateOf} {b d : List ℕ} {r q : Bool} → ReduceAnswer env ws st k i c u b r → ReduceAnswer env ws st k i c v d q → AreOneItem u v b d r q
+  reduce_once : {u v : StateOf} {b d : List ℕ} {r q : Bool} → ReduceAnswer env ws st k c u b r → ReduceAnswer env ws st k c v d q → AreOneItem u v b d r q
   reduce_once (reduces_nothing e) (reduces_nothing e') = one_item
   reduce_once (reduces_nothing e) (reduce_unknown t' e' x') = absurd (yes_no _ e e')
-  reduce_once (reduces_nothing e) (reduce_not_built n' m' e' x' h' w') = absurd (yes_no _ e e')
-  reduce_once (reduces_nothing e) (reduce_answered n' m' left' b' e' x' h' w' y') = absurd (yes_no _ e e')
+  reduce_once (reduces_nothing e) (reduce_answered n' m' left' b' e' x' h' y') = absurd (yes_no _ e e')
   reduce_once (reduce_unknown t e x) (reduces_nothing e') = absurd (yes_no _ e' e)
-  reduce_once (reduce_unknown t e x) (reduce_unknown t' e' x') = record { state = refl; bytes = ap (λ t. refusal_line k ws (UnknownModule (token_index ws t))) (unknown_once ws st k i c x x'); refused = refl }
-  reduce_once (reduce_unknown t e x) (reduce_not_built n' m' e' x' h' w') = absurd (never_chosen ws st k i c x x')
-  reduce_once (reduce_unknown t e x) (reduce_answered n' m' left' b' e' x' h' w' y') = absurd (never_chosen ws st k i c x x')
-  reduce_once (reduce_not_built n m e x h w) (reduces_nothing e') = absurd (yes_no _ e' e)
-  reduce_once (reduce_not_built n m e x h w) (reduce_unknown t' e' x') = absurd (never_chosen ws st k i c x' x)
-  reduce_once (reduce_not_built n m e x h w) (reduce_not_built n' m' e' x' h' w') = one_item
-  reduce_once (reduce_not_built n m e x h w) (reduce_answered n' m' left' b' e' x' h' w' y') = absurd (used_or_not ws st k i c x h x' h' w w')
-  reduce_once (reduce_answered n m left b e x h w y) (reduces_nothing e') = absurd (yes_no _ e' e)
-  reduce_once (reduce_answered n m left b e x h w y) (reduce_unknown t' e' x') = absurd (never_chosen ws st k i c x' x)
-  reduce_once (reduce_answered n m left b e x h w y) (reduce_not_built n' m' e' x' h' w') = absurd (used_or_not ws st k i c x' h' x h w' w)
-  reduce_once (reduce_answered n m left b e x h w y) (reduce_answered n' m' left' b' e' x' h' w' y') =
-      let same = module_at ws st k i c x h x' h' in
-      let o = term_once_answered w y (subst (λ m. TermAnswer env ws m k c left' b') (sym same) y') in
-      record { state = ap₂ (state_after st) (chosen_once ws st k i c x x') o.left; bytes = o.bytes; refused = ap refuses o.left }
+  reduce_once (reduce_unknown t e x) (reduce_unknown t' e' x') = record { state = refl; bytes = ap (λ t. refusal_line k ws (UnknownModule (token_index ws t))) (unknown_once ws st c x x'); refused = refl }
+  reduce_once (reduce_unknown t e x) (reduce_answered n' m' left' b' e' x' h' y') = absurd (never_chosen ws st c x x')
+  reduce_once (reduce_answered n m left b e x h y) (reduces_nothing e') = absurd (yes_no _ e' e)
+  reduce_once (reduce_answered n m left b e x h y) (reduce_unknown t' e' x') = absurd (never_chosen ws st c x' x)
+  reduce_once (reduce_answered n m left b e x h y) (reduce_answered n' m' left' b' e' x' h' y') =
+      let same = module_at ws st c x h x' h' in
+      let o = term_once_answered (unused n m h) y (subst (λ m. TermAnswer env ws m k c left' b') (sym same) y') in
+      record { state = ap₂ (state_after st) (chosen_once ws st c x x') o.left; bytes = o.bytes; refused = ap refuses o.left }
 
   -- what may be answered for one run is one
   one_run : (m : ModuleOf) → uses_memberships m ≡ false → (f : ℕ → ℕ → Run PassEnd) (a b : RunAnswerOf) → MayRun (meanings_in env m) env.remembers f a → MayRun (meanings_in env m) env.remembers f b → a ≡ b
-  one_run m unused f a b x y =
-      run_answers_are_one (meanings_in env m) (meanings_are_lawful (program_of m) env.operators env.budget env.remembers) (evaluated_derives env m unused) f a b
+  one_run m none f a b x y =
+      run_answers_are_one (meanings_in env m) (meanings_are_lawful (program_of m) env.operators env.budget env.remembers) (evaluated_derives env m none) f a b
       (subst (λ r. MayRun (meanings_in env m) r f a) free x) (subst (λ r. MayRun (meanings_in env m) r f b) free y)
 
   -- what goes on is one
@@ -334,17 +314,17 @@ module _ (env : Environment) (free : env.remembers ≡ false) (ws : List Word) (
   going_at e h h' = let at = sym h ∙ ap (slice_get st.modules) e ∙ h' in cc
 
   continue_once : {u v : StateOf} {b d : List ℕ} {r q : Bool} → ContinueAnswer env ws st k c u b r → ContinueAnswer env ws st k c v d q → AreOneItem u v b d r q
-  continue_once (number_refused r e) (number_refused r' e') = record { state = refl; bytes = ap (refusal_line k ws) (refusal_once ws st k i c e e'); refused = refl }
-  continue_once (number_refused r e) (nothing_to_continue most' e' n') = absurd (bound_or_refused ws st k i c e' e)
-  continue_once (number_refused r e) (continued most' n' q' m' found' b' e' g' h' l') = absurd (bound_or_refused ws st k i c e' e)
-  continue_once (number_refused r e) (continued_where most' n' q' cond' m' found' b' e' g' h' plain' l') = absurd (bound_or_refused ws st k i c e' e)
-  continue_once (number_refused r e) (run_continued most' n' r' m' a' e' g' h' plain' y') = absurd (bound_or_refused ws st k i c e' e)
-  continue_once (nothing_to_continue most e n) (number_refused r' e') = absurd (bound_or_refused ws st k i c e e')
+  continue_once (number_refused r e) (number_refused r' e') = record { state = refl; bytes = ap (refusal_line k ws) (refusal_once ws st c e e'); refused = refl }
+  continue_once (number_refused r e) (nothing_to_continue most' e' n') = absurd (bound_or_refused ws st c e' e)
+  continue_once (number_refused r e) (continued most' n' q' m' found' b' e' g' h' l') = absurd (bound_or_refused ws st c e' e)
+  continue_once (number_refused r e) (continued_where most' n' q' cond' m' found' b' e' g' h' l') = absurd (bound_or_refused ws st c e' e)
+  continue_once (number_refused r e) (run_continued most' n' r' m' a' e' g' h' y') = absurd (bound_or_refused ws st c e' e)
+  continue_once (nothing_to_continue most e n) (number_refused r' e') = absurd (bound_or_refused ws st c e e')
   continue_once (nothing_to_continue most e n) (nothing_to_continue most' e' n') = one_item
   continue_once (nothing_to_continue most e n) (continued most' n' q' m' found' b' e' g' h' l') = let o = sym n ∙ g' in absurd cc
-  continue_once (nothing_to_continue most e n) (continued_where most' n' q' cond' m' found' b' e' g' h' plain' l') = let o = sym n ∙ g' in absurd cc
-  continue_once (nothing_to_continue most e n) (run_continued most' n' r' m' a' e' g' h' plain' y') = let o = sym n ∙ g' in absurd cc
-  continue_once (continued most n q m found b e g h l) (number_refused r' e') = absurd (bound_or_refused ws st k i c e e')
+  continue_once (nothing_to_continue most e n) (continued_where most' n' q' cond' m' found' b' e' g' h' l') = let o = sym n ∙ g' in absurd cc
+  continue_once (nothing_to_continue most e n) (run_continued most' n' r' m' a' e' g' h' y') = let o = sym n ∙ g' in absurd cc
+  continue_once (continued most n q m found b e g h l) (number_refused r' e') = absurd (bound_or_refused ws st c e e')
   continue_once (continued most n q m found b e g h l) (nothing_to_continue most' e' n') = let o = sym n' ∙ g in absurd cc
   continue_once (continued most n q m found b e g h l) (continued most' n' q' m' found' b' e' g' h' l') =
       let going = going_once g g' in
@@ -353,7 +333,7 @@ module _ (env : Environment) (free : env.remembers ≡ false) (ws : List Word) (
       let same : m ≡ m' = going_at going.0 h h' in
       let l'' = subst (λ m. Shows m (meanings_in env m) q.with_context q.pattern q.subject q.last most found' b') (sym same)
       (subst (λ (x : QueryOf). Shows m' (meanings_in env m') x.with_context x.pattern x.subject x.last most found' b') (sym query)
-      (subst (λ a. Shows m' (meanings_in env m') q'.with_context q'.pattern q'.subject q'.last a found' b') (sym (bound_once ws st k i c e e')) l')) in
+      (subst (λ a. Shows m' (meanings_in env m') q'.with_context q'.pattern q'.subject q'.last a found' b') (sym (bound_once ws st c e e')) l')) in
       let one = shows_once m (meanings_in env m) q.with_context q.pattern q.subject q.last most found found' b b' l l'' in
       record {
         state =
@@ -364,12 +344,12 @@ module _ (env : Environment) (free : env.remembers ≡ false) (ws : List Word) (
             ∙ ap₂ (λ f b. continue_head k m' ++ listing_lines m' q'.variables q'.with_context q'.pattern q'.shown f b) one.found one.ended;
         refused = refl;
       }
-  continue_once (continued most n q m found b e g h l) (continued_where most' n' q' cond' m' found' b' e' g' h' plain' l') = let o : a_listing q ≡ a_listing_where q' cond' = (going_once g g').1 in absurd cc
-  continue_once (continued most n q m found b e g h l) (run_continued most' n' r' m' a' e' g' h' plain' y') = let o : a_listing q ≡ a_rule_run r' = (going_once g g').1 in absurd cc
-  continue_once (continued_where most n q cond m found b e g h plain l) (number_refused r' e') = absurd (bound_or_refused ws st k i c e e')
-  continue_once (continued_where most n q cond m found b e g h plain l) (nothing_to_continue most' e' n') = let o = sym n' ∙ g in absurd cc
-  continue_once (continued_where most n q cond m found b e g h plain l) (continued most' n' q' m' found' b' e' g' h' l') = let o : a_listing_where q cond ≡ a_listing q' = (going_once g g').1 in absurd cc
-  continue_once (continued_where most n q cond m found b e g h plain l) (continued_where most' n' q' cond' m' found' b' e' g' h' plain' l') =
+  continue_once (continued most n q m found b e g h l) (continued_where most' n' q' cond' m' found' b' e' g' h' l') = let o : a_listing q ≡ a_listing_where q' cond' = (going_once g g').1 in absurd cc
+  continue_once (continued most n q m found b e g h l) (run_continued most' n' r' m' a' e' g' h' y') = let o : a_listing q ≡ a_rule_run r' = (going_once g g').1 in absurd cc
+  continue_once (continued_where most n q cond m found b e g h l) (number_refused r' e') = absurd (bound_or_refused ws st c e e')
+  continue_once (continued_where most n q cond m found b e g h l) (nothing_to_continue most' e' n') = let o = sym n' ∙ g in absurd cc
+  continue_once (continued_where most n q cond m found b e g h l) (continued most' n' q' m' found' b' e' g' h' l') = let o : a_listing_where q cond ≡ a_listing q' = (going_once g g').1 in absurd cc
+  continue_once (continued_where most n q cond m found b e g h l) (continued_where most' n' q' cond' m' found' b' e' g' h' l') =
       let going = going_once g g' in
       let what : a_listing_where q cond ≡ a_listing_where q' cond' = going.1 in
       let query : q ≡ q' = cc in
@@ -378,8 +358,8 @@ module _ (env : Environment) (free : env.remembers ≡ false) (ws : List Word) (
       let l'' = subst (λ m. ShowsWhere m (meanings_in env m) cond q most found' b') (sym same)
       (subst (λ (x : QueryOf). ShowsWhere m' (meanings_in env m') cond x most found' b') (sym query)
       (subst (λ z. ShowsWhere m' (meanings_in env m') z q' most found' b') (sym conds)
-      (subst (λ a. ShowsWhere m' (meanings_in env m') cond' q' a found' b') (sym (bound_once ws st k i c e e')) l'))) in
-      let one = shows_where_once m (meanings_in env m) (evaluated_derives env m plain) cond q most found found' b b' l l'' in
+      (subst (λ a. ShowsWhere m' (meanings_in env m') cond' q' a found' b') (sym (bound_once ws st c e e')) l'))) in
+      let one = shows_where_once m (meanings_in env m) (evaluated_derives env m (unused n m h)) cond q most found found' b b' l l'' in
       record {
         state =
             ap₂ (λ n (x : QueryOf). state_after st n (left_where b (shown_more x found) cond)) going.0 query
@@ -390,20 +370,20 @@ module _ (env : Environment) (free : env.remembers ≡ false) (ws : List Word) (
             ∙ ap₂ (λ f b. continue_head k m' ++ where_lines m' env.budget q' f b) one.0 one.1;
         refused = refl;
       }
-  continue_once (continued_where most n q cond m found b e g h plain l) (run_continued most' n' r' m' a' e' g' h' plain' y') = let o : a_listing_where q cond ≡ a_rule_run r' = (going_once g g').1 in absurd cc
-  continue_once (run_continued most n r m a e g h plain y) (number_refused r' e') = absurd (bound_or_refused ws st k i c e e')
-  continue_once (run_continued most n r m a e g h plain y) (nothing_to_continue most' e' n') = let o = sym n' ∙ g in absurd cc
-  continue_once (run_continued most n r m a e g h plain y) (continued most' n' q' m' found' b' e' g' h' l') = let o : a_rule_run r ≡ a_listing q' = (going_once g g').1 in absurd cc
-  continue_once (run_continued most n r m a e g h plain y) (continued_where most' n' q' cond' m' found' b' e' g' h' plain' l') = let o : a_rule_run r ≡ a_listing_where q' cond' = (going_once g g').1 in absurd cc
-  continue_once (run_continued most n r m a e g h plain y) (run_continued most' n' r' m' a' e' g' h' plain' y') =
+  continue_once (continued_where most n q cond m found b e g h l) (run_continued most' n' r' m' a' e' g' h' y') = let o : a_listing_where q cond ≡ a_rule_run r' = (going_once g g').1 in absurd cc
+  continue_once (run_continued most n r m a e g h y) (number_refused r' e') = absurd (bound_or_refused ws st c e e')
+  continue_once (run_continued most n r m a e g h y) (nothing_to_continue most' e' n') = let o = sym n' ∙ g in absurd cc
+  continue_once (run_continued most n r m a e g h y) (continued most' n' q' m' found' b' e' g' h' l') = let o : a_rule_run r ≡ a_listing q' = (going_once g g').1 in absurd cc
+  continue_once (run_continued most n r m a e g h y) (continued_where most' n' q' cond' m' found' b' e' g' h' l') = let o : a_rule_run r ≡ a_listing_where q' cond' = (going_once g g').1 in absurd cc
+  continue_once (run_continued most n r m a e g h y) (run_continued most' n' r' m' a' e' g' h' y') =
       let going = going_once g g' in
       let what : a_rule_run r ≡ a_rule_run r' = going.1 in
       let run : r ≡ r' = cc in
       let same : m ≡ m' = going_at going.0 h h' in
       let y'' = subst (λ m. MayRun (meanings_in env m) env.remembers (run_by (meanings_in env m) r.kind most r.stand) a') (sym same)
       (subst (λ (x : RuleRunOf). MayRun (meanings_in env m') env.remembers (run_by (meanings_in env m') x.kind most x.stand) a') (sym run)
-      (subst (λ b. MayRun (meanings_in env m') env.remembers (run_by (meanings_in env m') r'.kind b r'.stand) a') (sym (bound_once ws st k i c e e')) y')) in
-      let one : a ≡ a' = one_run m plain (run_by (meanings_in env m) r.kind most r.stand) a a' y y'' in
+      (subst (λ b. MayRun (meanings_in env m') env.remembers (run_by (meanings_in env m') r'.kind b r'.stand) a') (sym (bound_once ws st c e e')) y')) in
+      let one : a ≡ a' = one_run m (unused n m h) (run_by (meanings_in env m) r.kind most r.stand) a a' y y'' in
       record {
         state =
             ap₂ (λ n (x : RuleRunOf). state_after st n (left_by_run x.kind x.variables a)) going.0 run
@@ -415,64 +395,53 @@ module _ (env : Environment) (free : env.remembers ≡ false) (ws : List Word) (
       }
 
   start_once : {m : ModuleOf} {asked : AskedRun} → uses_memberships m ≡ false → {b d : List ℕ} {r q : OutcomeOf} → RunTermAnswer env ws m k c asked r b → RunTermAnswer env ws m k c asked q d → AreOneEnd b d r q
-  start_once {m} unused (start_refused f u n) (start_refused f' u' n') = record { bytes = ap (faulty_line k) (shown_once f f' (fault_once m.grammar (part_tokens ws c.first) (part_texts ws c.first) AnyKind [] f f' u u' n n')); left = refl }
-  start_once {m} unused (start_refused f u n) (start_answered t' ns' a' x' y') = absurd (no_pattern_read ws m k c f u n t' ns' x')
-  start_once {m} unused (start_answered t ns a x y) (start_refused f' u' n') = absurd (no_pattern_read ws m k c f' u' n' t ns x)
-  start_once {m} {asked} unused (start_answered t ns a x y) (start_answered t' ns' a' x' y') =
+  start_once {m} none (start_refused f u n) (start_refused f' u' n') = record { bytes = ap (faulty_line k) (shown_once f f' (fault_once m.grammar (part_tokens ws c.first) (part_texts ws c.first) AnyKind [] f f' u u' n n')); left = refl }
+  start_once {m} none (start_refused f u n) (start_answered t' ns' a' x' y') = absurd (no_pattern_read ws m k c f u n t' ns' x')
+  start_once {m} none (start_answered t ns a x y) (start_refused f' u' n') = absurd (no_pattern_read ws m k c f' u' n' t ns x)
+  start_once {m} {asked} none (start_answered t ns a x y) (start_answered t' ns' a' x' y') =
       let one = pattern_once ws m k c t t' ns ns' x x' in
       let y'' = subst (λ t. MayRun (meanings_in env m) env.remembers (run_by (meanings_in env m) asked.kind asked.most (run_from t)) a') (sym one.tree) y' in
-      let same = one_run m unused (run_by (meanings_in env m) asked.kind asked.most (run_from (tree_of t))) a a' y y'' in
+      let same = one_run m none (run_by (meanings_in env m) asked.kind asked.most (run_from (tree_of t))) a a' y y'' in
       record { bytes = ap₂ (λ os a. run_head k asked.kind m ++ run_lines m os env.budget a) one.pairs same; left = ap₂ (left_by_run asked.kind) one.pairs same }
 
   condition_or_none : {n o q : ℕ} {m l : ModuleOf} → IsChosen ws st c n → slice_get st.modules n ≡ Some m → IsChosen ws st c o → slice_get st.modules o ≡ Some l
       → rewriting_condition m ≡ Some q → rewriting_condition l ≡ None → ⊥
-  condition_or_none x h y g some none = let o = sym some ∙ ap rewriting_condition (module_at ws st k i c x h y g) ∙ none in cc
+  condition_or_none x h y g some none = let o = sym some ∙ ap rewriting_condition (module_at ws st c x h y g) ∙ none in cc
 
-  rewrite_once : {u v : StateOf} {b d : List ℕ} {r q : Bool} → RewriteAnswer env ws st k i c u b r → RewriteAnswer env ws st k i c v d q → AreOneItem u v b d r q
+  rewrite_once : {u v : StateOf} {b d : List ℕ} {r q : Bool} → RewriteAnswer env ws st k c u b r → RewriteAnswer env ws st k c v d q → AreOneItem u v b d r q
   rewrite_once (rewrites_nothing e) (rewrites_nothing e') = one_item
   rewrite_once (rewrites_nothing e) (rewrite_unknown t' e' x') = absurd (yes_no _ e e')
-  rewrite_once (rewrites_nothing e) (rewrite_not_built n' m' e' x' h' w') = absurd (yes_no _ e e')
-  rewrite_once (rewrites_nothing e) (rewrite_unbounded n' m' r' e' x' h' w' f') = absurd (yes_no _ e e')
-  rewrite_once (rewrites_nothing e) (rewrite_conditional n' m' asked' q' e' x' h' w' f' g') = absurd (yes_no _ e e')
-  rewrite_once (rewrites_nothing e) (rewrite_answered n' m' asked' left' b' e' x' h' w' f' g' y') = absurd (yes_no _ e e')
+  rewrite_once (rewrites_nothing e) (rewrite_unbounded n' m' r' e' x' h' f') = absurd (yes_no _ e e')
+  rewrite_once (rewrites_nothing e) (rewrite_conditional n' m' asked' q' e' x' h' f' g') = absurd (yes_no _ e e')
+  rewrite_once (rewrites_nothing e) (rewrite_answered n' m' asked' left' b' e' x' h' f' g' y') = absurd (yes_no _ e e')
   rewrite_once (rewrite_unknown t e x) (rewrites_nothing e') = absurd (yes_no _ e' e)
-  rewrite_once (rewrite_unknown t e x) (rewrite_unknown t' e' x') = record { state = refl; bytes = ap (λ t. refusal_line k ws (UnknownModule (token_index ws t))) (unknown_once ws st k i c x x'); refused = refl }
-  rewrite_once (rewrite_unknown t e x) (rewrite_not_built n' m' e' x' h' w') = absurd (never_chosen ws st k i c x x')
-  rewrite_once (rewrite_unknown t e x) (rewrite_unbounded n' m' r' e' x' h' w' f') = absurd (never_chosen ws st k i c x x')
-  rewrite_once (rewrite_unknown t e x) (rewrite_conditional n' m' asked' q' e' x' h' w' f' g') = absurd (never_chosen ws st k i c x x')
-  rewrite_once (rewrite_unknown t e x) (rewrite_answered n' m' asked' left' b' e' x' h' w' f' g' y') = absurd (never_chosen ws st k i c x x')
-  rewrite_once (rewrite_not_built n m e x h w) (rewrites_nothing e') = absurd (yes_no _ e' e)
-  rewrite_once (rewrite_not_built n m e x h w) (rewrite_unknown t' e' x') = absurd (never_chosen ws st k i c x' x)
-  rewrite_once (rewrite_not_built n m e x h w) (rewrite_not_built n' m' e' x' h' w') = one_item
-  rewrite_once (rewrite_not_built n m e x h w) (rewrite_unbounded n' m' r' e' x' h' w' f') = absurd (used_or_not ws st k i c x h x' h' w w')
-  rewrite_once (rewrite_not_built n m e x h w) (rewrite_conditional n' m' asked' q' e' x' h' w' f' g') = absurd (used_or_not ws st k i c x h x' h' w w')
-  rewrite_once (rewrite_not_built n m e x h w) (rewrite_answered n' m' asked' left' b' e' x' h' w' f' g' y') = absurd (used_or_not ws st k i c x h x' h' w w')
-  rewrite_once (rewrite_unbounded n m r e x h w f) (rewrites_nothing e') = absurd (yes_no _ e' e)
-  rewrite_once (rewrite_unbounded n m r e x h w f) (rewrite_unknown t' e' x') = absurd (never_chosen ws st k i c x' x)
-  rewrite_once (rewrite_unbounded n m r e x h w f) (rewrite_not_built n' m' e' x' h' w') = absurd (used_or_not ws st k i c x' h' x h w' w)
-  rewrite_once (rewrite_unbounded n m r e x h w f) (rewrite_unbounded n' m' r' e' x' h' w' f') = record { state = refl; bytes = ap (refusal_line k ws) (unasked_once ws c f f'); refused = refl }
-  rewrite_once (rewrite_unbounded n m r e x h w f) (rewrite_conditional n' m' asked' q' e' x' h' w' f' g') = absurd (asked_or_refused ws c f' f)
-  rewrite_once (rewrite_unbounded n m r e x h w f) (rewrite_answered n' m' asked' left' b' e' x' h' w' f' g' y') = absurd (asked_or_refused ws c f' f)
-  rewrite_once (rewrite_conditional n m asked q e x h w f g) (rewrites_nothing e') = absurd (yes_no _ e' e)
-  rewrite_once (rewrite_conditional n m asked q e x h w f g) (rewrite_unknown t' e' x') = absurd (never_chosen ws st k i c x' x)
-  rewrite_once (rewrite_conditional n m asked q e x h w f g) (rewrite_not_built n' m' e' x' h' w') = absurd (used_or_not ws st k i c x' h' x h w' w)
-  rewrite_once (rewrite_conditional n m asked q e x h w f g) (rewrite_unbounded n' m' r' e' x' h' w' f') = absurd (asked_or_refused ws c f f')
-  rewrite_once (rewrite_conditional n m asked q e x h w f g) (rewrite_conditional n' m' asked' q' e' x' h' w' f' g') =
-      let o = sym g ∙ ap rewriting_condition (module_at ws st k i c x h x' h') ∙ g' in
+  rewrite_once (rewrite_unknown t e x) (rewrite_unknown t' e' x') = record { state = refl; bytes = ap (λ t. refusal_line k ws (UnknownModule (token_index ws t))) (unknown_once ws st c x x'); refused = refl }
+  rewrite_once (rewrite_unknown t e x) (rewrite_unbounded n' m' r' e' x' h' f') = absurd (never_chosen ws st c x x')
+  rewrite_once (rewrite_unknown t e x) (rewrite_conditional n' m' asked' q' e' x' h' f' g') = absurd (never_chosen ws st c x x')
+  rewrite_once (rewrite_unknown t e x) (rewrite_answered n' m' asked' left' b' e' x' h' f' g' y') = absurd (never_chosen ws st c x x')
+  rewrite_once (rewrite_unbounded n m r e x h f) (rewrites_nothing e') = absurd (yes_no _ e' e)
+  rewrite_once (rewrite_unbounded n m r e x h f) (rewrite_unknown t' e' x') = absurd (never_chosen ws st c x' x)
+  rewrite_once (rewrite_unbounded n m r e x h f) (rewrite_unbounded n' m' r' e' x' h' f') = record { state = refl; bytes = ap (refusal_line k ws) (unasked_once ws c f f'); refused = refl }
+  rewrite_once (rewrite_unbounded n m r e x h f) (rewrite_conditional n' m' asked' q' e' x' h' f' g') = absurd (asked_or_refused ws c f' f)
+  rewrite_once (rewrite_unbounded n m r e x h f) (rewrite_answered n' m' asked' left' b' e' x' h' f' g' y') = absurd (asked_or_refused ws c f' f)
+  rewrite_once (rewrite_conditional n m asked q e x h f g) (rewrites_nothing e') = absurd (yes_no _ e' e)
+  rewrite_once (rewrite_conditional n m asked q e x h f g) (rewrite_unknown t' e' x') = absurd (never_chosen ws st c x' x)
+  rewrite_once (rewrite_conditional n m asked q e x h f g) (rewrite_unbounded n' m' r' e' x' h' f') = absurd (asked_or_refused ws c f f')
+  rewrite_once (rewrite_conditional n m asked q e x h f g) (rewrite_conditional n' m' asked' q' e' x' h' f' g') =
+      let o = sym g ∙ ap rewriting_condition (module_at ws st c x h x' h') ∙ g' in
       let same : q ≡ q' = cc in
       record { state = refl; bytes = ap (λ q. refusal_line k ws (RewritingCondition q)) same; refused = refl }
-  rewrite_once (rewrite_conditional n m asked q e x h w f g) (rewrite_answered n' m' asked' left' b' e' x' h' w' f' g' y') = absurd (condition_or_none x h x' h' g g')
-  rewrite_once (rewrite_answered n m asked left b e x h w f g y) (rewrites_nothing e') = absurd (yes_no _ e' e)
-  rewrite_once (rewrite_answered n m asked left b e x h w f g y) (rewrite_unknown t' e' x') = absurd (never_chosen ws st k i c x' x)
-  rewrite_once (rewrite_answered n m asked left b e x h w f g y) (rewrite_not_built n' m' e' x' h' w') = absurd (used_or_not ws st k i c x' h' x h w' w)
-  rewrite_once (rewrite_answered n m asked left b e x h w f g y) (rewrite_unbounded n' m' r' e' x' h' w' f') = absurd (asked_or_refused ws c f f')
-  rewrite_once (rewrite_answered n m asked left b e x h w f g y) (rewrite_conditional n' m' asked' q' e' x' h' w' f' g') = absurd (condition_or_none x' h' x h g' g)
-  rewrite_once (rewrite_answered n m asked left b e x h w f g y) (rewrite_answered n' m' asked' left' b' e' x' h' w' f' g' y') =
-      let same = module_at ws st k i c x h x' h' in
-      let o = start_once w y (subst (λ m. RunTermAnswer env ws m k c asked left' b') (sym same) (subst (λ a. RunTermAnswer env ws m' k c a left' b') (sym (asked_once ws c f f')) y')) in
-      record { state = ap₂ (state_after st) (chosen_once ws st k i c x x') o.left; bytes = o.bytes; refused = ap refuses o.left }
+  rewrite_once (rewrite_conditional n m asked q e x h f g) (rewrite_answered n' m' asked' left' b' e' x' h' f' g' y') = absurd (condition_or_none x h x' h' g g')
+  rewrite_once (rewrite_answered n m asked left b e x h f g y) (rewrites_nothing e') = absurd (yes_no _ e' e)
+  rewrite_once (rewrite_answered n m asked left b e x h f g y) (rewrite_unknown t' e' x') = absurd (never_chosen ws st c x' x)
+  rewrite_once (rewrite_answered n m asked left b e x h f g y) (rewrite_unbounded n' m' r' e' x' h' f') = absurd (asked_or_refused ws c f f')
+  rewrite_once (rewrite_answered n m asked left b e x h f g y) (rewrite_conditional n' m' asked' q' e' x' h' f' g') = absurd (condition_or_none x' h' x h g' g)
+  rewrite_once (rewrite_answered n m asked left b e x h f g y) (rewrite_answered n' m' asked' left' b' e' x' h' f' g' y') =
+      let same = module_at ws st c x h x' h' in
+      let o = start_once (unused n m h) y (subst (λ m. RunTermAnswer env ws m k c asked left' b') (sym same) (subst (λ a. RunTermAnswer env ws m' k c a left' b') (sym (asked_once ws c f f')) y')) in
+      record { state = ap₂ (state_after st) (chosen_once ws st c x x') o.left; bytes = o.bytes; refused = ap refuses o.left }
 
-module _ (env : Environment) (free : env.remembers ≡ false) (ws : List Word) (st : StateOf) (all : AreShaped st.modules) (k i : ℕ) where
+module _ (env : Environment) (free : env.remembers ≡ false) (ws : List Word) (st : StateOf) (all : AreShaped st.modules) (unused : UsesNoMemberships st) (k i : ℕ) where
   setting_once : {x : Setting} {u v : StateOf} {b c : List ℕ} {r s : Bool} → SettingAnswer ws st k i x u b r → SettingAnswer ws st k i x v c s → AreOneItem u v b c r s
   setting_once trace_not_built trace_not_built = one_item
   setting_once trace_off trace_off = one_item
@@ -486,41 +455,36 @@ module _ (env : Environment) (free : env.remembers ≡ false) (ws : List Word) (
   setting_once (selects_none name h) (selects_none name' h') = one_item
 
   body_once : {x : RawBody} {u v : StateOf} {b c : List ℕ} {r s : Bool} → BodyAnswer env ws st k i x u b r → BodyAnswer env ws st k i x v c s → AreOneItem u v b c r s
-  body_once (module_not_built raw f) (module_not_built raw' f') = one_item
-  body_once (module_not_built raw f) (module_accepted raw' m' t' x') = absurd (yes_no _ t' f)
-  body_once (module_not_built raw f) (module_refused raw' w' t' x') = absurd (yes_no _ t' f)
-  body_once (module_accepted raw m t x) (module_not_built raw' f') = absurd (yes_no _ t f')
-  body_once (module_accepted raw m t x) (module_accepted raw' m' t' x') =
+  body_once (module_accepted raw m x) (module_accepted raw' m' x') =
       let o = module_once st.modules ws raw x x' in
       let e : m ≡ m' = cc in
       record { state = ap (accepted st) e; bytes = ap (module_line k) e; refused = refl }
-  body_once (module_accepted raw m t x) (module_refused raw' w' t' x') = let o = module_once st.modules ws raw x x' in absurd cc
-  body_once (module_refused raw w t x) (module_not_built raw' f') = absurd (yes_no _ t f')
-  body_once (module_refused raw w t x) (module_accepted raw' m' t' x') = let o = module_once st.modules ws raw x x' in absurd cc
-  body_once (module_refused raw w t x) (module_refused raw' w' t' x') =
+  body_once (module_accepted raw m x) (module_refused raw' w' x') = let o = module_once st.modules ws raw x x' in absurd cc
+  body_once (module_refused raw w x) (module_accepted raw' m' x') = let o = module_once st.modules ws raw x x' in absurd cc
+  body_once (module_refused raw w x) (module_refused raw' w' x') =
       record { state = refl; bytes = ap (faulty_line k) (module_shown_once w w' (module_once st.modules ws raw x x')); refused = refl }
-  body_once (match_answered c n b r t x) (match_answered c' n' b' r' t' x') = match_once env ws st all k i c x x'
+  body_once (match_answered c n b r t x) (match_answered c' n' b' r' t' x') = match_once env ws st all unused k c x x'
   body_once (match_answered c n b r t x) (continue_answered c' n' b' r' f' t' x') = absurd (yes_no _ t f')
   body_once (match_answered c n b r t x) (reduce_is_answered c' n' b' r' f' g' t' x') = absurd (yes_no _ t f')
   body_once (match_answered c n b r t x) (rewrite_is_answered c' n' b' r' f' g' j' t' x') = absurd (yes_no _ t f')
   body_once (match_answered c n b r t x) (other_unknown c' u' f' g' j' l' h') = absurd (yes_no _ t f')
   body_once (match_answered c n b r t x) (other_not_built c' o' f' g' j' l' h') = absurd (yes_no _ t f')
   body_once (continue_answered c n b r f t x) (match_answered c' n' b' r' t' x') = absurd (yes_no _ t' f)
-  body_once (continue_answered c n b r f t x) (continue_answered c' n' b' r' f' t' x') = continue_once env free ws st k i c x x'
+  body_once (continue_answered c n b r f t x) (continue_answered c' n' b' r' f' t' x') = continue_once env free ws st unused k i c x x'
   body_once (continue_answered c n b r f t x) (reduce_is_answered c' n' b' r' f' g' t' x') = absurd (yes_no _ t g')
   body_once (continue_answered c n b r f t x) (rewrite_is_answered c' n' b' r' f' g' j' t' x') = absurd (yes_no _ t g')
   body_once (continue_answered c n b r f t x) (other_unknown c' u' f' g' j' l' h') = absurd (yes_no _ t g')
   body_once (continue_answered c n b r f t x) (other_not_built c' o' f' g' j' l' h') = absurd (yes_no _ t g')
   body_once (reduce_is_answered c n b r f g t x) (match_answered c' n' b' r' t' x') = absurd (yes_no _ t' f)
   body_once (reduce_is_answered c n b r f g t x) (continue_answered c' n' b' r' f' t' x') = absurd (yes_no _ t' g)
-  body_once (reduce_is_answered c n b r f g t x) (reduce_is_answered c' n' b' r' f' g' t' x') = reduce_once env free ws st k i c x x'
+  body_once (reduce_is_answered c n b r f g t x) (reduce_is_answered c' n' b' r' f' g' t' x') = reduce_once env free ws st unused k i c x x'
   body_once (reduce_is_answered c n b r f g t x) (rewrite_is_answered c' n' b' r' f' g' j' t' x') = absurd (yes_no _ t j')
   body_once (reduce_is_answered c n b r f g t x) (other_unknown c' u' f' g' j' l' h') = absurd (yes_no _ t j')
   body_once (reduce_is_answered c n b r f g t x) (other_not_built c' o' f' g' j' l' h') = absurd (yes_no _ t j')
   body_once (rewrite_is_answered c n b r f g j t x) (match_answered c' n' b' r' t' x') = absurd (yes_no _ t' f)
   body_once (rewrite_is_answered c n b r f g j t x) (continue_answered c' n' b' r' f' t' x') = absurd (yes_no _ t' g)
   body_once (rewrite_is_answered c n b r f g j t x) (reduce_is_answered c' n' b' r' f' g' t' x') = absurd (yes_no _ t' j)
-  body_once (rewrite_is_answered c n b r f g j t x) (rewrite_is_answered c' n' b' r' f' g' j' t' x') = rewrite_once env free ws st k i c x x'
+  body_once (rewrite_is_answered c n b r f g j t x) (rewrite_is_answered c' n' b' r' f' g' j' t' x') = rewrite_once env free ws st unused k i c x x'
   body_once (rewrite_is_answered c n b r f g j t x) (other_unknown c' u' f' g' j' l' h') = absurd (yes_no _ t l')
   body_once (rewrite_is_answered c n b r f g j t x) (other_not_built c' o' f' g' j' l' h') = absurd (yes_no _ t l')
   body_once (other_unknown c u f g j l h) (match_answered c' n' b' r' t' x') = absurd (yes_no _ t' f)
@@ -528,17 +492,17 @@ module _ (env : Environment) (free : env.remembers ≡ false) (ws : List Word) (
   body_once (other_unknown c u f g j l h) (reduce_is_answered c' n' b' r' f' g' t' x') = absurd (yes_no _ t' j)
   body_once (other_unknown c u f g j l h) (rewrite_is_answered c' n' b' r' f' g' j' t' x') = absurd (yes_no _ t' l)
   body_once (other_unknown c u f g j l h) (other_unknown c' u' f' g' j' l' h') =
-      record { state = refl; bytes = ap (λ t. refusal_line k ws (UnknownModule (token_index ws t))) (unknown_once ws st k i c h h'); refused = refl }
-  body_once (other_unknown c u f g j l h) (other_not_built c' o' f' g' j' l' h') = absurd (never_chosen ws st k i c h h')
+      record { state = refl; bytes = ap (λ t. refusal_line k ws (UnknownModule (token_index ws t))) (unknown_once ws st c h h'); refused = refl }
+  body_once (other_unknown c u f g j l h) (other_not_built c' o' f' g' j' l' h') = absurd (never_chosen ws st c h h')
   body_once (other_not_built c o f g j l h) (match_answered c' n' b' r' t' x') = absurd (yes_no _ t' f)
   body_once (other_not_built c o f g j l h) (continue_answered c' n' b' r' f' t' x') = absurd (yes_no _ t' g)
   body_once (other_not_built c o f g j l h) (reduce_is_answered c' n' b' r' f' g' t' x') = absurd (yes_no _ t' j)
   body_once (other_not_built c o f g j l h) (rewrite_is_answered c' n' b' r' f' g' j' t' x') = absurd (yes_no _ t' l)
-  body_once (other_not_built c o f g j l h) (other_unknown c' u' f' g' j' l' h') = absurd (never_chosen ws st k i c h' h)
+  body_once (other_not_built c o f g j l h) (other_unknown c' u' f' g' j' l' h') = absurd (never_chosen ws st c h' h)
   body_once (other_not_built c o f g j l h) (other_not_built c' o' f' g' j' l' h') = one_item
   body_once (setting_answered x n b r h) (setting_answered x' n' b' r' h') = setting_once h h'
 
-module _ (env : Environment) (free : env.remembers ≡ false) (ws : List Word) (st : StateOf) (all : AreShaped st.modules) (k : ℕ) (item : RawItem) where
+module _ (env : Environment) (free : env.remembers ≡ false) (ws : List Word) (st : StateOf) (all : AreShaped st.modules) (unused : UsesNoMemberships st) (k : ℕ) (item : RawItem) where
   item_once : {u v : StateOf} {b c : List ℕ} {r s : Bool} → ItemAnswer env ws st k item u b r → ItemAnswer env ws st k item v c s → AreOneItem u v b c r s
   item_once (item_faulty f e) (item_faulty f' e') =
       let o = sym e ∙ e' in
@@ -549,7 +513,7 @@ module _ (env : Environment) (free : env.remembers ≡ false) (ws : List Word) (
   item_once (item_answered b ns bs r e x) (item_answered b' ns' bs' r' e' x') =
       let o = sym e' ∙ e in
       let h : b' ≡ b = cc in
-      body_once env free ws st all k (index_at ws item.at) x (subst (λ b. BodyAnswer env ws st k (index_at ws item.at) b ns' bs' r') h x')
+      body_once env free ws st all unused k (index_at ws item.at) x (subst (λ b. BodyAnswer env ws st k (index_at ws item.at) b ns' bs' r') h x')
 
   never_quits : {next : StateOf} {b : List ℕ} {r : Bool} → ItemAnswer env ws st k item next b r → item.body ≡ Ok Quit → ⊥
   never_quits (item_faulty f e) q = let o = sym e ∙ q in absurd cc
@@ -566,33 +530,30 @@ after_keeps st n has_ended = refl
 after_keeps st n (goes_on what) = refl
 
 module _ (env : Environment) (ws : List Word) (st : StateOf) (k i : ℕ) (c : RawCommand) where
-  match_keeps : {u : StateOf} {b : List ℕ} {r : Bool} → MatchAnswer env ws st k i c u b r → u.modules ≡ st.modules
+  match_keeps : {u : StateOf} {b : List ℕ} {r : Bool} → MatchAnswer env ws st k c u b r → u.modules ≡ st.modules
   match_keeps (command_not_built l e) = refl
   match_keeps (module_unknown t e x) = refl
-  match_keeps (listing_not_built n m e x h w) = refl
-  match_keeps (bound_refused n m r e x h w f) = refl
-  match_keeps (command_answered n m most left b e x h w f y) = after_keeps st n left
+  match_keeps (bound_refused n m r e x h f) = refl
+  match_keeps (command_answered n m most left b e x h f y) = after_keeps st n left
 
   continue_keeps : {u : StateOf} {b : List ℕ} {r : Bool} → ContinueAnswer env ws st k c u b r → u.modules ≡ st.modules
   continue_keeps (number_refused r e) = refl
   continue_keeps (nothing_to_continue most e n) = refl
   continue_keeps (continued most n q m found b e g h l) = after_keeps st n (left_by b (shown_more q found))
-  continue_keeps (continued_where most n q cond m found b e g h plain l) = after_keeps st n (left_where b (shown_more q found) cond)
-  continue_keeps (run_continued most n r m a e g h plain y) = after_keeps st n (left_by_run r.kind r.variables a)
+  continue_keeps (continued_where most n q cond m found b e g h l) = after_keeps st n (left_where b (shown_more q found) cond)
+  continue_keeps (run_continued most n r m a e g h y) = after_keeps st n (left_by_run r.kind r.variables a)
 
-  reduce_keeps : {u : StateOf} {b : List ℕ} {r : Bool} → ReduceAnswer env ws st k i c u b r → u.modules ≡ st.modules
+  reduce_keeps : {u : StateOf} {b : List ℕ} {r : Bool} → ReduceAnswer env ws st k c u b r → u.modules ≡ st.modules
   reduce_keeps (reduces_nothing e) = refl
   reduce_keeps (reduce_unknown t e x) = refl
-  reduce_keeps (reduce_not_built n m e x h w) = refl
-  reduce_keeps (reduce_answered n m left b e x h w y) = after_keeps st n left
+  reduce_keeps (reduce_answered n m left b e x h y) = after_keeps st n left
 
-  rewrite_keeps : {u : StateOf} {b : List ℕ} {r : Bool} → RewriteAnswer env ws st k i c u b r → u.modules ≡ st.modules
+  rewrite_keeps : {u : StateOf} {b : List ℕ} {r : Bool} → RewriteAnswer env ws st k c u b r → u.modules ≡ st.modules
   rewrite_keeps (rewrites_nothing e) = refl
   rewrite_keeps (rewrite_unknown t e x) = refl
-  rewrite_keeps (rewrite_not_built n m e x h w) = refl
-  rewrite_keeps (rewrite_unbounded n m r e x h w f) = refl
-  rewrite_keeps (rewrite_conditional n m asked q e x h w f g) = refl
-  rewrite_keeps (rewrite_answered n m asked left b e x h w f g y) = after_keeps st n left
+  rewrite_keeps (rewrite_unbounded n m r e x h f) = refl
+  rewrite_keeps (rewrite_conditional n m asked q e x h f g) = refl
+  rewrite_keeps (rewrite_answered n m asked left b e x h f g y) = after_keeps st n left
 
 module _ (env : Environment) (ws : List Word) (st : StateOf) (all : AreShaped st.modules) (k i : ℕ) where
   setting_keeps : {x : Setting} {u : StateOf} {b : List ℕ} {r : Bool} → SettingAnswer ws st k i x u b r → u.modules ≡ st.modules
@@ -606,9 +567,8 @@ module _ (env : Environment) (ws : List Word) (st : StateOf) (all : AreShaped st
   same_shaped u e = subst AreShaped (sym e) all
 
   body_shaped : {x : RawBody} {u : StateOf} {b : List ℕ} {r : Bool} → BodyAnswer env ws st k i x u b r → AreShaped u.modules
-  body_shaped (module_not_built raw f) = all
-  body_shaped (module_accepted raw m t x) = one_more_shaped st.modules m all (flattened_shaped st.modules ws raw x)
-  body_shaped (module_refused raw w t x) = all
+  body_shaped (module_accepted raw m x) = one_more_shaped st.modules m all (flattened_shaped st.modules ws raw x)
+  body_shaped (module_refused raw w x) = all
   body_shaped (match_answered c n b r t x) = same_shaped n (match_keeps env ws st k i c x)
   body_shaped (continue_answered c n b r f t x) = same_shaped n (continue_keeps env ws st k i c x)
   body_shaped (reduce_is_answered c n b r f g t x) = same_shaped n (reduce_keeps env ws st k i c x)
@@ -623,25 +583,29 @@ module _ (env : Environment) (ws : List Word) (st : StateOf) (all : AreShaped st
   item_shaped (item_answered x n b r e y) = body_shaped env ws st all k (index_at ws item.at) y
 
 module _ (env : Environment) (free : env.remembers ≡ false) (ws : List Word) where
-  items_once : {st : StateOf} {k : ℕ} {items : List RawItem} {b c : List ℕ} {r s : Bool} → AreShaped st.modules → ItemsAnswer env ws st k items b r → ItemsAnswer env ws st k items c s → AreOneAnswer b c r s
-  items_once all (items_end ms k) (items_end ms' k') = one_answer
-  items_once all (item_quits ms k item items q) (item_quits ms' k' item' items' q') = one_answer
-  items_once all (item_quits ms k item items q) (item_first ms' ns' k' item' items' b' more' r' later' x' y') = absurd (never_quits env free ws ms all k item x' q)
-  items_once all (item_first ms ns k item items b more r later x y) (item_quits ms' k' item' items' q') = absurd (never_quits env free ws ms all k item x q')
-  items_once all (item_first ms ns k item items b more r later x y) (item_first ms' ns' k' item' items' b' more' r' later' x' y') =
-      let one = item_once env free ws ms all k item x x' in
-      let rest = items_once (item_shaped env ws ms all k item x) y (subst (λ ns. ItemsAnswer env ws ns (k + 1) items more' later') (sym one.state) y') in
+  -- no state to which they lead has a membership that may be used
+  abbrev LeadsToNone : StateOf → ℕ → List RawItem → Type 0
+  LeadsToNone st k items = (last : StateOf) → ComesTo env ws st k items last → UsesNoMemberships last
+
+  items_once : {st : StateOf} {k : ℕ} {items : List RawItem} {b c : List ℕ} {r s : Bool} → AreShaped st.modules → LeadsToNone st k items → ItemsAnswer env ws st k items b r → ItemsAnswer env ws st k items c s → AreOneAnswer b c r s
+  items_once all unused (items_end ms k) (items_end ms' k') = one_answer
+  items_once all unused (item_quits ms k item items q) (item_quits ms' k' item' items' q') = one_answer
+  items_once all unused (item_quits ms k item items q) (item_first ms' ns' k' item' items' b' more' r' later' x' y') = absurd (never_quits env free ws ms all (unused ms (stands_there ms k (item ∷ items))) k item x' q)
+  items_once all unused (item_first ms ns k item items b more r later x y) (item_quits ms' k' item' items' q') = absurd (never_quits env free ws ms all (unused ms (stands_there ms k (item ∷ items))) k item x q')
+  items_once all unused (item_first ms ns k item items b more r later x y) (item_first ms' ns' k' item' items' b' more' r' later' x' y') =
+      let one = item_once env free ws ms all (unused ms (stands_there ms k (item ∷ items))) k item x x' in
+      let rest = items_once (item_shaped env ws ms all k item x) (λ last to. unused last (comes_behind ms ns last k item items b r x to)) y (subst (λ ns. ItemsAnswer env ws ns (k + 1) items more' later') (sym one.state) y') in
       record { bytes = ap₂ (λ b more. b ++ more) one.bytes rest.bytes; refused = ap₂ (λ r later. r || later) one.refused rest.refused }
 
 pub transcript_once : TranscriptsAreOne
-transcript_once env free text b c r s (text_refused f x) (text_refused f' x') = let o = tokens_are_one text _ _ x x' in let e : f ≡ f' = cc in (ap fault_line e, refl)
-transcript_once env free text b c r s (text_refused f x) (items_answered tokens' items' b' r' x' z' y') = let o = tokens_are_one text _ _ x x' in absurd cc
-transcript_once env free text b c r s (items_answered tokens items b' r' x z y) (text_refused f' x') = let o = tokens_are_one text _ _ x x' in absurd cc
-transcript_once env free text b c r s (items_answered tokens items b' r' x z y) (items_answered tokens' items' b'' r'' x' z' y') =
+transcript_once env free text none b c r s (text_refused f x) (text_refused f' x') = let o = tokens_are_one text _ _ x x' in let e : f ≡ f' = cc in (ap fault_line e, refl)
+transcript_once env free text none b c r s (text_refused f x) (items_answered tokens' items' b' r' x' z' y') = let o = tokens_are_one text _ _ x x' in absurd cc
+transcript_once env free text none b c r s (items_answered tokens items b' r' x z y) (text_refused f' x') = let o = tokens_are_one text _ _ x x' in absurd cc
+transcript_once env free text none b c r s (items_answered tokens items b' r' x z y) (items_answered tokens' items' b'' r'' x' z' y') =
     let o = tokens_are_one text _ _ x x' in
     let e : tokens ≡ tokens' = cc in
     let d = sym z ∙ ap (λ tokens. parts item_part (words_of text tokens)) e ∙ z' in
     let i : items ≡ items' = cc d in
     let y'' = subst (λ tokens. ItemsAnswer env (words_of text tokens) at_first 1 items b'' r'') (sym e) (subst (λ items. ItemsAnswer env (words_of text tokens') at_first 1 items b'' r'') (sym i) y') in
-    let one = items_once env free (words_of text tokens) prelude_shaped y y'' in
+    let one = items_once env free (words_of text tokens) prelude_shaped (λ last to. none tokens items last x z to) y y'' in
     (one.bytes, one.refused)

@@ -21,7 +21,6 @@ use Rattle.mau_session.specs.Environment.{Environment, meanings_in}
 use Rattle.mau_session.specs.State.{a_rule_run, GoingOf, StateOf, OutcomeOf, refuses, state_after}
 use Rattle.mau_session.specs.declared.asked_run.AskedRun.{AskedRun}
 use Rattle.mau_session.specs.Bounds.{bound_of}
-use Rattle.mau_session.specs.Built.{uses_memberships}
 use Rattle.mau_session.specs.Answers.{continue_head}
 use Rattle.mau_session.specs.RuleRun.{RuleRunOf}
 use Rattle.mau_session.specs.RunLines.{run_head, run_lines, left_by_run}
@@ -48,18 +47,17 @@ continues_run e ws st taken k c most i r next o n refused bound going on =
       bytes = bytes;
       answer = subst (λ s. ContinueAnswer e ws st k c s bytes refused) (sym (on.after ∙ after_taken st taken i left (run_goes r.kind r.variables on.answer)))
           (subst (λ b. ContinueAnswer e ws st k c (state_after st i left) bytes b) (sym on.answered)
-          (run_continued most i r on.«module» on.answer bound going on.there on.plain on.allowed));
+          (run_continued most i r on.«module» on.answer bound going on.there on.allowed));
       gained = on.gained;
     }
 
 -- what a rule run leaves that goes on, behind the first line of the answer
-pub gains_run_on : (e : Environment) (st : StateOf) (k i : ℕ) (r : RuleRunOf) (most : Option ℕ) (m : ModuleOf) (there : slice_get st.modules i ≡ Some m) (plain : uses_memberships m ≡ false)
+pub gains_run_on : (e : Environment) (st : StateOf) (k i : ℕ) (r : RuleRunOf) (most : Option ℕ) (m : ModuleOf) (there : slice_get st.modules i ≡ Some m)
     (after : StateOf) (o a n : List ℕ) (left : OutcomeOf) (refused : Bool) → a ≡ o ++ continue_head k m → GainsRun m (meanings_in e m) e.remembers most r a n left
     → after ≡ state_after st i left → refused ≡ refuses left → GainsRunOn e st k i r most after o n refused
-gains_run_on e st k i r most m there plain after o a n left refused head g is answered = record {
+gains_run_on e st k i r most m there after o a n left refused head g is answered = record {
   «module» = m;
   there = there;
-  plain = plain;
   answer = g.answer;
   allowed = g.allowed;
   after = is ∙ ap (state_after st i) g.leaves;

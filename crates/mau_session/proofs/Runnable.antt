@@ -1,4 +1,4 @@
--- In a module without memberships that may be used, and without rewriting conditions, terms may be rewritten.
+-- In a module without rewriting conditions terms may be rewritten.
 use Rattle.std.proofs.Common.{◌≡◌, ℕ, zero, suc, ◌+◌, ◌<◌, ◌≤◌, List, [], ◌∷◌, length, map, Bool, true, false, ◌&&◌, ◌||◌, not, cond, Option, None, Some, All, ltb, ⊎_elim, refl, sym, ◌∙◌, ap, subst, arith}
 use Rattle.std.specs.List.{list_any, position, position_or_len}
 use Rattle.std.proofs.lemmas.List.Elements.{All-nil, All-cons, All-head, All-tail}
@@ -12,9 +12,9 @@ use Rattle.mau_program.specs.declared.statements.Fragment.{Fragment}
 use Rattle.mau_program.specs.declared.statements.Fragment.TheVariants.{Equal, Match, Sort, Reach}
 use Rattle.mau_program.specs.declared.statements.Rule as Written
 use Rattle.mau_program.specs.LawfulPrograms.{IsLawfulProgram}
-use Rattle.mau_evaluation.specs.Program.{Membership, Rule}
+use Rattle.mau_evaluation.specs.Program.{Rule}
 use Rattle.mau_evaluation.specs.Rules.{has_reach}
-use Rattle.mau_api.specs.Programs.{fragment_of, membership_of, rule_of}
+use Rattle.mau_api.specs.Programs.{fragment_of, rule_of}
 use Rattle.mau_api.specs.Meanings.{Meanings, meanings_by}
 use Rattle.mau_reduce.proofs.Valued.{heads_of}
 use Rattle.mau_reducer.proofs.FromLawful.{in_mapped, reducible}
@@ -22,9 +22,7 @@ use Rattle.mau_rules.specs.Runnable.{IsRunnable, GoesBy}
 use Rattle.mau_declare.proofs.Once.{yes_no}
 use Rattle.mau_module.specs.Modules.{ModuleOf}
 use Rattle.mau_module.specs.Lawful.{program_of}
-use Rattle.mau_session.specs.Built.{uses_memberships}
 use Rattle.mau_session.specs.RuleRun.{is_rewriting, asks_to_rewrite, rewriting_condition}
-use Rattle.mau_session.proofs.Evaluated.{none_used}
 
 -- ---- no rule rewrites in its condition
 
@@ -72,10 +70,9 @@ all_rest (q ∷ qs) all =
 
 -- ---- programs that may be run
 
-pub runnable : (m : ModuleOf) → IsLawfulProgram (program_of m) → IsLawful (terms_over m.signature) → uses_memberships m ≡ false → rewriting_condition m ≡ None → IsRunnable (program_of m)
-runnable m lawful signature plain none = record {
+pub runnable : (m : ModuleOf) → IsLawfulProgram (program_of m) → IsLawful (terms_over m.signature) → rewriting_condition m ≡ None → IsRunnable (program_of m)
+runnable m lawful signature none = record {
   reducible = reducible (program_of m) lawful signature;
-  none_derives = in_mapped membership_of (λ (x : Membership). x.exec ≡ false) m.statements.memberships (none_used m plain);
   heads = heads_of (program_of m) (reducible (program_of m) lawful signature);
   rules = lawful.rules;
   no_reach = in_mapped rule_of (λ (q : Rule). q.exec ≡ true → has_reach q.cond ≡ false) m.statements.rules (all_rest m.statements.rules (none_found asks_to_rewrite m.statements.rules none));

@@ -14,8 +14,10 @@ use Rattle.mau_statement.specs.declared.fault.StatementFault.TheVariants.{LimitE
 use Rattle.mau_module.specs.Modules.{ModuleOf}
 use Rattle.mau_module.specs.declared.fault.Limit.{Limit}
 use Rattle.mau_module.specs.declared.fault.Limit.TheVariants.{Sorts, Declarations, Statements}
+use Rattle.mau_strattext.specs.declared.fault.StratFault.{StratFault}
+use Rattle.mau_strattext.specs.declared.fault.StratFault.TheVariants.{TooManyTokens as TooManyWords, Unexpected as UnexpectedWord, UnknownName, Parse as NoTerm, Arity, NoMemory as NoMemoryOfStrategy}
 use Rattle.mau_module.specs.declared.fault.ModuleFault.{ModuleFault}
-use Rattle.mau_module.specs.declared.fault.ModuleFault.TheVariants.{UnknownModule as UnknownImport, ImportTooDeep, TooLarge, UnknownSort, Signed, Statement, NoMemory as NoMemoryOfModule}
+use Rattle.mau_module.specs.declared.fault.ModuleFault.TheVariants.{UnknownModule as UnknownImport, ImportTooDeep, TooLarge, UnknownSort, Signed, Statement, Strategy, NoMemory as NoMemoryOfModule}
 use Rattle.mau_session.specs.declared.refusal.Refusal.{Refusal}
 use Rattle.mau_session.specs.declared.refusal.Refusal.TheVariants.{NotBuilt, UnknownModule, BadBound, NothingToContinue, RewritingCondition}
 use Rattle.mau_modtext.specs.Word.{Word}
@@ -84,6 +86,18 @@ shown_statement_fault i MembershipHead = codes "MembershipHead " ++ decimal i
 shown_statement_fault i UnboundVariable = codes "UnboundVariable " ++ decimal i
 shown_statement_fault i NoMemoryOfStatement = []
 
+-- why the call or the strategy of a definition is refused, in the statement i
+abbrev pub shown_strategy_fault : StratFault → List ℕ
+shown_strategy_fault (TooManyWords n) = codes "TooManyTokens " ++ decimal n
+shown_strategy_fault (UnexpectedWord at) = codes "Unexpected " ++ decimal at
+shown_strategy_fault (UnknownName at) = codes "UnknownName " ++ decimal at
+shown_strategy_fault (NoTerm at f) = shown_parse_fault f
+shown_strategy_fault (Arity at) = codes "Arity " ++ decimal at
+shown_strategy_fault NoMemoryOfStrategy = []
+
+abbrev pub shown_definition_fault : ℕ → StratFault → List ℕ
+shown_definition_fault i f = decimal i ++ codes " " ++ shown_strategy_fault f
+
 -- why a module is refused: the name of the fault, and the name, the limit or the place that it is about; what is at fault in sorts and
 -- operators has its own text, and want of memory has none
 abbrev pub limit_name : Limit → List ℕ
@@ -98,6 +112,7 @@ shown_module_fault (TooLarge limit) = codes "TooLarge " ++ limit_name limit
 shown_module_fault (UnknownSort at) = codes "UnknownSort " ++ decimal at
 shown_module_fault (Signed text) = text
 shown_module_fault (Statement i f) = shown_statement_fault i f
+shown_module_fault (Strategy i f) = shown_definition_fault i f
 shown_module_fault NoMemoryOfModule = []
 
 abbrev pub module_fault_line : ℕ → ModuleFault → List ℕ

@@ -3,8 +3,6 @@ use Rattle.std.specs.Prelude.{ℕ, List, Bool, true, false, ◌||◌, if◌then�
 use Rattle.std.specs.Str.{bytes_eq}
 use Rattle.std.specs.List.{list_any}
 use Rattle.mau_modtext.specs.Word.{Word}
-use Rattle.mau_modtext.specs.declared.raw.ModuleKind.{ModuleKind}
-use Rattle.mau_modtext.specs.declared.raw.ModuleKind.TheVariants.{StrategyModule}
 use Rattle.mau_modtext.specs.declared.raw.CommandKind.{CommandKind}
 use Rattle.mau_modtext.specs.declared.raw.CommandKind.TheVariants.{Match, Xmatch, Reduce, Rewrite, Frewrite, Continue}
 use Rattle.mau_modtext.specs.declared.raw.TextFault.{TextFault}
@@ -15,13 +13,7 @@ use Rattle.mau_module.specs.Modules.{ModuleOf}
 use Rattle.mau_session.specs.declared.refusal.Refusal.TheVariants.{NotBuilt}
 use Rattle.mau_session.specs.Answers.{refusal_line, text_fault_line}
 
--- a functional or system module
-abbrev pub is_built_module : ModuleKind → Bool
-is_built_module StrategyModule = false
-is_built_module _ = true
-
--- A membership of the module may be used to evaluate, so that a term may have a lower sort than the declared one. In such a module nothing is listed
--- and no term is evaluated.
+-- a membership of the module may be used to evaluate, so that a term may have a lower sort than the declared one
 abbrev pub uses_memberships : ModuleOf → Bool
 uses_memberships m = list_any (λ (x : Membership). x.exec) m.statements.memberships
 
@@ -56,8 +48,7 @@ is_continue _ = false
 
 -- the words with which items begin that aren't built yet
 abbrev pub begins_unbuilt : List ℕ → Bool
-begins_unbuilt w =
-    bytes_eq w (codes "smod") || bytes_eq w (codes "dsrewrite") || bytes_eq w (codes "dsrew")
+begins_unbuilt w = bytes_eq w (codes "dsrewrite") || bytes_eq w (codes "dsrew")
 
 abbrev pub is_unended : TextFault → Bool
 is_unended (Unended at) = true

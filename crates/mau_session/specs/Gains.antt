@@ -24,8 +24,6 @@ use Rattle.mau_session.specs.Query.{QueryOf, asked_first, shown_more}
 use Rattle.mau_session.specs.State.{StateOf, OutcomeOf, has_ended, left_by, refuses, state_after}
 use Rattle.mau_session.specs.Bounds.{bound_of}
 use Rattle.mau_session.specs.declared.refusal.Refusal.{Refusal}
-use Rattle.mau_session.specs.declared.refusal.Refusal.TheVariants.{NotBuilt}
-use Rattle.mau_session.specs.Built.{uses_memberships}
 use Rattle.mau_api.specs.Meanings.{Meanings}
 use Rattle.mau_results.specs.Results.{AnswerOf, MayAnswer}
 use Rattle.mau_session.specs.Lines.{too_deep_line, overflow_line, end_line, answer_lines}
@@ -87,21 +85,19 @@ pub record GainsTerms (e : Environment) (ws : List Word) (m : ModuleOf) (k : ℕ
   pub gained : new ≡ old ++ bytes
 
 -- the bytes of a match command over the module with the number n
-pub data ChosenAnswer (e : Environment) (ws : List Word) (st : StateOf) (k i : ℕ) (c : RawCommand) (n : ℕ) : StateOf → List ℕ → Bool → Type 0 where
-  chosen_not_built : (m : ModuleOf) → slice_get st.modules n ≡ Some m → uses_memberships m ≡ true → ChosenAnswer e ws st k i c n st (refusal_line k ws (NotBuilt i)) true
-  chosen_refused : (m : ModuleOf) (r : Refusal) → slice_get st.modules n ≡ Some m → uses_memberships m ≡ false → bound_of ws c.bound ≡ Err r
-      → ChosenAnswer e ws st k i c n st (refusal_line k ws r) true
-  chosen_answered : (m : ModuleOf) (most : Option ℕ) (left : OutcomeOf) (bytes : List ℕ) → slice_get st.modules n ≡ Some m → uses_memberships m ≡ false → bound_of ws c.bound ≡ Ok most
-      → TermsAnswer e ws m k c most left bytes → ChosenAnswer e ws st k i c n (state_after st n left) bytes (refuses left)
+pub data ChosenAnswer (e : Environment) (ws : List Word) (st : StateOf) (k : ℕ) (c : RawCommand) (n : ℕ) : StateOf → List ℕ → Bool → Type 0 where
+  chosen_refused : (m : ModuleOf) (r : Refusal) → slice_get st.modules n ≡ Some m → bound_of ws c.bound ≡ Err r → ChosenAnswer e ws st k c n st (refusal_line k ws r) true
+  chosen_answered : (m : ModuleOf) (most : Option ℕ) (left : OutcomeOf) (bytes : List ℕ) → slice_get st.modules n ≡ Some m → bound_of ws c.bound ≡ Ok most
+      → TermsAnswer e ws m k c most left bytes → ChosenAnswer e ws st k c n (state_after st n left) bytes (refuses left)
 
-pub record GainsChosen (e : Environment) (ws : List Word) (st : StateOf) (k i : ℕ) (c : RawCommand) (n : ℕ) (next : StateOf) (old new : List ℕ) (refused : Bool) : Type 0 where
+pub record GainsChosen (e : Environment) (ws : List Word) (st : StateOf) (k : ℕ) (c : RawCommand) (n : ℕ) (next : StateOf) (old new : List ℕ) (refused : Bool) : Type 0 where
   pub bytes : List ℕ
-  pub answer : ChosenAnswer e ws st k i c n next bytes refused
+  pub answer : ChosenAnswer e ws st k c n next bytes refused
   pub gained : new ≡ old ++ bytes
 
-pub record GainsMatch (e : Environment) (ws : List Word) (st : StateOf) (k i : ℕ) (c : RawCommand) (next : StateOf) (old new : List ℕ) (refused : Bool) : Type 0 where
+pub record GainsMatch (e : Environment) (ws : List Word) (st : StateOf) (k : ℕ) (c : RawCommand) (next : StateOf) (old new : List ℕ) (refused : Bool) : Type 0 where
   pub bytes : List ℕ
-  pub answer : MatchAnswer e ws st k i c next bytes refused
+  pub answer : MatchAnswer e ws st k c next bytes refused
   pub gained : new ≡ old ++ bytes
 
 -- a query over the module with the number n has gone on
@@ -119,7 +115,6 @@ pub record GainsOn (e : Environment) (st : StateOf) (k n : ℕ) (q : QueryOf) (m
 pub record GainsOnWhere (e : Environment) (st : StateOf) (k n : ℕ) (q : QueryOf) (cond : List Fragment) (most : Option ℕ) (next : StateOf) (old new : List ℕ) (refused : Bool) : Type 0 where
   pub «module» : ModuleOf
   pub there : slice_get st.modules n ≡ Some «module»
-  pub plain : uses_memberships «module» ≡ false
   pub found : List Matcher
   pub ending : Ending
   pub shows : ShowsWhere «module» (meanings_in e «module») cond q most found ending
@@ -149,9 +144,9 @@ pub record GainsTerm (e : Environment) (ws : List Word) (m : ModuleOf) (k : ℕ)
   pub answer : TermAnswer e ws m k c left bytes
   pub gained : new ≡ old ++ bytes
 
-pub record GainsReduce (e : Environment) (ws : List Word) (st : StateOf) (k i : ℕ) (c : RawCommand) (next : StateOf) (old new : List ℕ) (refused : Bool) : Type 0 where
+pub record GainsReduce (e : Environment) (ws : List Word) (st : StateOf) (k : ℕ) (c : RawCommand) (next : StateOf) (old new : List ℕ) (refused : Bool) : Type 0 where
   pub bytes : List ℕ
-  pub answer : ReduceAnswer e ws st k i c next bytes refused
+  pub answer : ReduceAnswer e ws st k c next bytes refused
   pub gained : new ≡ old ++ bytes
 
 pub record GainsBody (e : Environment) (ws : List Word) (st : StateOf) (k i : ℕ) (b : RawBody) (next : StateOf) (old new : List ℕ) (refused : Bool) : Type 0 where

@@ -1,5 +1,5 @@
 -- What the code keeps of a query.
-use Rattle.std.specs.Prelude.{◌≡◌, ◌<◌, ◌≤◌, ℕ, List, [], false, take, length}
+use Rattle.std.specs.Prelude.{◌≡◌, ◌<◌, ◌≤◌, List, [], take, length}
 use Rattle.std.specs.Option.{option_map}
 use Rattle.mau_terms.specs.Tree.{Tree}
 use Rattle.mau_terms.specs.Bare.{IsBare, IsLawful}
@@ -10,7 +10,6 @@ use Rattle.mau_signature.specs.Signature.{SignatureOf, theory_at, terms_over}
 use Rattle.mau_store.specs.Node.{Node}
 use Rattle.mau_store.specs.Trees.{StandsFor, tree_at, trees_at}
 use Rattle.mau_store.specs.View.{numbers}
-use Rattle.mau_formula.specs.Operator.{Operator}
 use Rattle.mau_sorts.specs.Table.{Table}
 use Rattle.mau_listing.specs.Asked.{Asked, asks, matcher_in, IsAskable}
 use Rattle.mau_api.specs.Meanings.{Meanings}
@@ -18,7 +17,7 @@ use Rattle.mau_reducer.specs.KeptTables.{IsKept}
 use Rattle.mau_conditional.specs.NextWhere.{GoesByProgram, IsReadyFor}
 use Rattle.mau_module.specs.Modules.{ModuleOf}
 use Rattle.mau_module.specs.Lawful.{program_of}
-use Rattle.mau_session.specs.Built.{uses_memberships}
+use Rattle.mau_session.specs.Environment.{Environment}
 use Rattle.mau_session.specs.declared.query.Query.{Query}
 use Rattle.mau_session.specs.Matching.{numbered_from}
 use Rattle.mau_session.specs.Query.{QueryOf}
@@ -68,8 +67,7 @@ pub record GoesIn (m : ModuleOf) (e : Meanings) : Type 0 where
 
 -- ---- between items
 
--- its listing can go on over the module m, by the sorts that an evaluator had settled
-pub record IsReadyKept (m : ModuleOf) (sorts : Table) (q : Query) : Type 0 where
+-- its listing can go on over the module m, by the sorts that an evaluator had settled in this environment
+pub record IsReadyKept (e : Environment) (m : ModuleOf) (sorts : Table) (q : Query) : Type 0 where
   pub ready : IsReady m.signature sorts q
-  pub kept : (hooks : List Operator) (limit : ℕ) → IsKept (program_of m) hooks limit q.store sorts
-  pub plain : uses_memberships m ≡ false
+  pub kept : IsKept (program_of m) e.operators e.budget q.store sorts

@@ -1,5 +1,5 @@
 -- What the code keeps of a rule run, and has for its answer.
-use Rattle.std.specs.Prelude.{◌≡◌, ◌++◌, ℕ, List, false, Option, None}
+use Rattle.std.specs.Prelude.{◌≡◌, List, None}
 use Rattle.mau_store.specs.Node.{Node}
 use Rattle.mau_evaluation.specs.Run.{stopped, too_deep, overflowed}
 use Rattle.mau_evaluation.specs.RuleRuns.{Stand}
@@ -12,15 +12,13 @@ use Rattle.mau_module.specs.Lawful.{program_of}
 use Rattle.mau_session.specs.declared.running.Running.{Running}
 use Rattle.mau_session.specs.declared.running.RunAnswer.{RunAnswer}
 use Rattle.mau_session.specs.declared.running.RunAnswer.TheVariants.{Value, Stopped, TooDeep, Overflow}
-use Rattle.mau_session.specs.Built.{uses_memberships}
 use Rattle.mau_session.specs.RuleRun.{RuleRunOf, rewriting_condition}
 
 abbrev pub rule_run_of : Running → RuleRunOf
 rule_run_of r = record { kind = r.kind; stand = stand_of r.store r.run; variables = r.vars }
 
--- terms of the module are rewritten, and it is a run of the module's program
+-- no condition of the module rewrites, and it is a run of the module's program
 pub record IsReadyRun (m : ModuleOf) (r : Running) : Type 0 where
-  pub plain : uses_memberships m ≡ false
   pub conditions : rewriting_condition m ≡ None
   pub run : IsRunOf (program_of m) r.store r.run
 

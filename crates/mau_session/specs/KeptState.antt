@@ -3,6 +3,7 @@ use Rattle.std.specs.Prelude.{◌≡◌, ◌<◌, List, length, Some, IfSome, sl
 use Rattle.std.specs.Option.{option_map}
 use Rattle.mau_module.specs.Modules.{ModuleOf}
 use Rattle.mau_module.specs.Library.{HasPrelude}
+use Rattle.mau_session.specs.Environment.{Environment}
 use Rattle.mau_session.specs.KeptQuery.{query_of, IsReadyKept}
 use Rattle.mau_session.specs.KeptWhere.{IsReadyWhere}
 use Rattle.mau_session.specs.KeptRun.{rule_run_of, IsReadyRun}
@@ -30,26 +31,26 @@ outcome_of Refused = is_refused
 outcome_of Ended = has_ended
 outcome_of (GoesOn w) = goes_on (continued_of w)
 
--- it can go on over a module
-abbrev pub IsReadyOver : ModuleOf → Continued → Type 0
-IsReadyOver m (Listing q sorts) = IsReadyKept m sorts q
-IsReadyOver m (ListingWhere k sorts) = IsReadyWhere m sorts k
-IsReadyOver m (Rules r) = IsReadyRun m r
+-- it can go on over a module, in the environment in which it was begun
+abbrev pub IsReadyOver : Environment → ModuleOf → Continued → Type 0
+IsReadyOver e m (Listing q sorts) = IsReadyKept e m sorts q
+IsReadyOver e m (ListingWhere k sorts) = IsReadyWhere e m sorts k
+IsReadyOver e m (Rules r) = IsReadyRun m r
 
 -- it can go on over the module with a number
-pub record IsReadyAt (ms : List ModuleOf) (g : Going) : Type 0 where
+pub record IsReadyAt (e : Environment) (ms : List ModuleOf) (g : Going) : Type 0 where
   pub «module» : ModuleOf
   pub there : slice_get ms g.number ≡ Some «module»
-  pub ready : IsReadyOver «module» g.what
+  pub ready : IsReadyOver e «module» g.what
 
 -- the modules of the prelude are there, the current module is one, and so is that of what goes on
-pub record IsReadyState (s : State) : Type 0 where
+pub record IsReadyState (e : Environment) (s : State) : Type 0 where
   pub prelude : HasPrelude s.library
   pub current : s.current < length s.library
-  pub going : IfSome s.going (IsReadyAt s.library)
+  pub going : IfSome s.going (IsReadyAt e s.library)
 
 -- so can what a command leaves
-abbrev pub IsReadyOutcome : ModuleOf → Outcome → Type 0
-IsReadyOutcome m Refused = Unit {0}
-IsReadyOutcome m Ended = Unit {0}
-IsReadyOutcome m (GoesOn w) = IsReadyOver m w
+abbrev pub IsReadyOutcome : Environment → ModuleOf → Outcome → Type 0
+IsReadyOutcome e m Refused = Unit {0}
+IsReadyOutcome e m Ended = Unit {0}
+IsReadyOutcome e m (GoesOn w) = IsReadyOver e m w

@@ -23,6 +23,7 @@ use Rattle.mau_statement.specs.Faults.{IfFault}
 use Rattle.mau_statement.specs.declared.fault.StatementFault.TheVariants.{NoMemory as NoMemoryOfStatement}
 use Rattle.mau_module.specs.Modules.{ModuleOf}
 use Rattle.mau_module.specs.Conditions.{context_of}
+use Rattle.mau_session.specs.Environment.{Environment}
 use Rattle.mau_session.specs.Terms.{Pairs, terms_in}
 use Rattle.mau_session.specs.Shown.{shown_variable}
 use Rattle.mau_session.specs.Matching.{IsSolution}
@@ -52,8 +53,8 @@ IsEndingBy Overflow e = e ≡ EndOverflow
 IsEndingBy NoMemory e = ⊥
 
 -- over the module m its listing can go on, and its condition may be asked under each solution
-pub record IsReadyWhere (m : ModuleOf) (sorts : Table) (k : ConditionalQuery) : Type 0 where
-  pub query : IsReadyKept m sorts k.query
+pub record IsReadyWhere (e : Environment) (m : ModuleOf) (sorts : Table) (k : ConditionalQuery) : Type 0 where
+  pub query : IsReadyKept e m sorts k.query
   pub condition : IsAskable m.signature (variables (tree_of k.query.pattern)) k.cond
 
 -- ---- one solution more

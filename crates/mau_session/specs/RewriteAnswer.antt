@@ -19,7 +19,6 @@ use Rattle.mau_session.specs.Environment.{Environment, meanings_in}
 use Rattle.mau_session.specs.State.{StateOf, IsChosen, NamesNone, OutcomeOf, is_refused, refuses, state_after}
 use Rattle.mau_session.specs.declared.asked_run.AskedRun.{AskedRun}
 use Rattle.mau_session.specs.Bounds.{asked_run}
-use Rattle.mau_session.specs.Built.{uses_memberships}
 use Rattle.mau_session.specs.Answers.{refusal_line, parse_fault_line}
 use Rattle.mau_session.specs.RuleRun.{rewriting_condition}
 use Rattle.mau_session.specs.RunLines.{run_head, run_lines, left_by_run}
@@ -32,18 +31,15 @@ pub data RunTermAnswer (e : Environment) (ws : List Word) (m : ModuleOf) (k : �
       → MayRun (meanings_in e m) e.remembers (run_by (meanings_in e m) asked.kind asked.most (run_from (tree_of t))) a
       → RunTermAnswer e ws m k c asked (left_by_run asked.kind ns a) (run_head k asked.kind m ++ run_lines m ns e.budget a)
 
--- The rewrite command begins at the word i; the state after it is told. The place of a term without tokens, which no command has, is refused before its
--- module is looked for; then a module in which memberships may be used, the numbers of the command, and a module in which a condition rewrites, before the
--- term is read.
-pub data RewriteAnswer (e : Environment) (ws : List Word) (st : StateOf) (k i : ℕ) (c : RawCommand) : StateOf → List ℕ → Bool → Type 0 where
-  rewrites_nothing : is_empty ws c.first ≡ true → RewriteAnswer e ws st k i c st (refusal_line k ws (NotBuilt (first_index ws c.first))) true
-  rewrite_unknown : (t : Token) → is_empty ws c.first ≡ false → NamesNone ws st c t → RewriteAnswer e ws st k i c st (refusal_line k ws (UnknownModule (token_index ws t))) true
-  rewrite_not_built : (n : ℕ) (m : ModuleOf) → is_empty ws c.first ≡ false → IsChosen ws st c n → slice_get st.modules n ≡ Some m → uses_memberships m ≡ true
-      → RewriteAnswer e ws st k i c st (refusal_line k ws (NotBuilt i)) true
-  rewrite_unbounded : (n : ℕ) (m : ModuleOf) (r : Refusal) → is_empty ws c.first ≡ false → IsChosen ws st c n → slice_get st.modules n ≡ Some m → uses_memberships m ≡ false
-      → asked_run ws c ≡ Err r → RewriteAnswer e ws st k i c st (refusal_line k ws r) true
-  rewrite_conditional : (n : ℕ) (m : ModuleOf) (asked : AskedRun) (q : ℕ) → is_empty ws c.first ≡ false → IsChosen ws st c n → slice_get st.modules n ≡ Some m → uses_memberships m ≡ false
-      → asked_run ws c ≡ Ok asked → rewriting_condition m ≡ Some q → RewriteAnswer e ws st k i c st (refusal_line k ws (RewritingCondition q)) true
+-- The state after the rewrite command is told. The place of a term without tokens, which no command has, is refused before its module is looked for; then
+-- the numbers of the command, and a module in which a condition rewrites, before the term is read.
+pub data RewriteAnswer (e : Environment) (ws : List Word) (st : StateOf) (k : ℕ) (c : RawCommand) : StateOf → List ℕ → Bool → Type 0 where
+  rewrites_nothing : is_empty ws c.first ≡ true → RewriteAnswer e ws st k c st (refusal_line k ws (NotBuilt (first_index ws c.first))) true
+  rewrite_unknown : (t : Token) → is_empty ws c.first ≡ false → NamesNone ws st c t → RewriteAnswer e ws st k c st (refusal_line k ws (UnknownModule (token_index ws t))) true
+  rewrite_unbounded : (n : ℕ) (m : ModuleOf) (r : Refusal) → is_empty ws c.first ≡ false → IsChosen ws st c n → slice_get st.modules n ≡ Some m
+      → asked_run ws c ≡ Err r → RewriteAnswer e ws st k c st (refusal_line k ws r) true
+  rewrite_conditional : (n : ℕ) (m : ModuleOf) (asked : AskedRun) (q : ℕ) → is_empty ws c.first ≡ false → IsChosen ws st c n → slice_get st.modules n ≡ Some m
+      → asked_run ws c ≡ Ok asked → rewriting_condition m ≡ Some q → RewriteAnswer e ws st k c st (refusal_line k ws (RewritingCondition q)) true
   rewrite_answered : (n : ℕ) (m : ModuleOf) (asked : AskedRun) (left : OutcomeOf) (bytes : List ℕ) → is_empty ws c.first ≡ false → IsChosen ws st c n → slice_get st.modules n ≡ Some m
-      → uses_memberships m ≡ false → asked_run ws c ≡ Ok asked → rewriting_condition m ≡ None → RunTermAnswer e ws m k c asked left bytes
-      → RewriteAnswer e ws st k i c (state_after st n left) bytes (refuses left)
+      → asked_run ws c ≡ Ok asked → rewriting_condition m ≡ None → RunTermAnswer e ws m k c asked left bytes
+      → RewriteAnswer e ws st k c (state_after st n left) bytes (refuses left)

@@ -11,7 +11,6 @@ use Rattle.mau_session.specs.Terms.{Pairs}
 use Rattle.mau_session.specs.Environment.{Environment, meanings_in}
 use Rattle.mau_session.specs.declared.asked_run.AskedRun.{AskedRun}
 use Rattle.mau_session.specs.State.{StateOf, OutcomeOf, state_after}
-use Rattle.mau_session.specs.Built.{uses_memberships}
 use Rattle.mau_session.specs.Answers.{continue_head}
 use Rattle.mau_session.specs.RuleRun.{RuleRunOf}
 use Rattle.mau_session.specs.RunLines.{run_lines, left_by_run}
@@ -34,16 +33,15 @@ pub record GainsRunTerm (e : Environment) (ws : List Word) (m : ModuleOf) (k : �
   pub answer : RunTermAnswer e ws m k c asked left bytes
   pub gained : new ≡ old ++ bytes
 
-pub record GainsRewrite (e : Environment) (ws : List Word) (st : StateOf) (k i : ℕ) (c : RawCommand) (next : StateOf) (old new : List ℕ) (refused : Bool) : Type 0 where
+pub record GainsRewrite (e : Environment) (ws : List Word) (st : StateOf) (k : ℕ) (c : RawCommand) (next : StateOf) (old new : List ℕ) (refused : Bool) : Type 0 where
   pub bytes : List ℕ
-  pub answer : RewriteAnswer e ws st k i c next bytes refused
+  pub answer : RewriteAnswer e ws st k c next bytes refused
   pub gained : new ≡ old ++ bytes
 
 -- a rule run over the module with the number n has gone on
 pub record GainsRunOn (e : Environment) (st : StateOf) (k n : ℕ) (r : RuleRunOf) (most : Option ℕ) (next : StateOf) (old new : List ℕ) (refused : Bool) : Type 0 where
   pub «module» : ModuleOf
   pub there : slice_get st.modules n ≡ Some «module»
-  pub plain : uses_memberships «module» ≡ false
   pub answer : RunAnswerOf
   pub allowed : MayRun (meanings_in e «module») e.remembers (run_by (meanings_in e «module») r.kind most r.stand) answer
   pub after : next ≡ state_after st n (left_by_run r.kind r.variables answer)

@@ -49,7 +49,7 @@ use Rattle.mau_session.specs.RewriteAnswer.{RewriteAnswer}
 use Rattle.mau_session.specs.Bounds.{bound_of}
 use Rattle.mau_session.specs.Commands.{has_condition, unbuilt}
 use Rattle.mau_session.specs.Where.{ShowsWhere, left_where, where_lines, WhereAnswer}
-use Rattle.mau_session.specs.Built.{is_built_module, uses_memberships, is_match, has_context, is_reduce, is_rewrite, is_continue, fault_answer}
+use Rattle.mau_session.specs.Built.{is_match, has_context, is_reduce, is_rewrite, is_continue, fault_answer}
 use Rattle.mau_session.specs.Answers.{refusal_line, fault_line, parse_fault_line, module_fault_line, ok_line, unknown_module_line, module_line, match_head, continue_head, reduce_head, listing_lines}
 
 -- ---- the answer of a match command
@@ -89,18 +89,16 @@ pub data TermsAnswer (e : Environment) (ws : List Word) (m : ModuleOf) (k : ℕ)
   asks_where : (p t : Bare) (os : Pairs) (left : OutcomeOf) (bytes : List ℕ) → TermsRead ws m c p t os → has_condition c ≡ true
       → WhereAnswer e ws m k c most (tree_of p) (tree_of t) os left bytes → TermsAnswer e ws m k c most left bytes
 
--- The match command begins at the word i; the state after it is told. What isn't built in it comes before its module is looked for, a
--- module that isn't built before its bound is judged, and all of these before its terms are read.
-pub data MatchAnswer (e : Environment) (ws : List Word) (st : StateOf) (k i : ℕ) (c : RawCommand) : StateOf → List ℕ → Bool → Type 0 where
-  command_not_built : (l : ℕ) → unbuilt ws c ≡ Some l → MatchAnswer e ws st k i c st (refusal_line k ws (NotBuilt l)) true
-  module_unknown : (t : Token) → unbuilt ws c ≡ None → NamesNone ws st c t → MatchAnswer e ws st k i c st (refusal_line k ws (UnknownModule (token_index ws t))) true
-  listing_not_built : (n : ℕ) (m : ModuleOf) → unbuilt ws c ≡ None → IsChosen ws st c n → slice_get st.modules n ≡ Some m → uses_memberships m ≡ true
-      → MatchAnswer e ws st k i c st (refusal_line k ws (NotBuilt i)) true
-  bound_refused : (n : ℕ) (m : ModuleOf) (r : Refusal) → unbuilt ws c ≡ None → IsChosen ws st c n → slice_get st.modules n ≡ Some m → uses_memberships m ≡ false
-      → bound_of ws c.bound ≡ Err r → MatchAnswer e ws st k i c st (refusal_line k ws r) true
+-- The state after the match command is told. What isn't built in it comes before its module is looked for, its module before its bound is judged, and
+-- all of these before its terms are read.
+pub data MatchAnswer (e : Environment) (ws : List Word) (st : StateOf) (k : ℕ) (c : RawCommand) : StateOf → List ℕ → Bool → Type 0 where
+  command_not_built : (l : ℕ) → unbuilt ws c ≡ Some l → MatchAnswer e ws st k c st (refusal_line k ws (NotBuilt l)) true
+  module_unknown : (t : Token) → unbuilt ws c ≡ None → NamesNone ws st c t → MatchAnswer e ws st k c st (refusal_line k ws (UnknownModule (token_index ws t))) true
+  bound_refused : (n : ℕ) (m : ModuleOf) (r : Refusal) → unbuilt ws c ≡ None → IsChosen ws st c n → slice_get st.modules n ≡ Some m → bound_of ws c.bound ≡ Err r
+      → MatchAnswer e ws st k c st (refusal_line k ws r) true
   command_answered : (n : ℕ) (m : ModuleOf) (most : Option ℕ) (left : OutcomeOf) (bytes : List ℕ) → unbuilt ws c ≡ None → IsChosen ws st c n
-      → slice_get st.modules n ≡ Some m → uses_memberships m ≡ false → bound_of ws c.bound ≡ Ok most → TermsAnswer e ws m k c most left bytes
-      → MatchAnswer e ws st k i c (state_after st n left) bytes (refuses left)
+      → slice_get st.modules n ≡ Some m → bound_of ws c.bound ≡ Ok most → TermsAnswer e ws m k c most left bytes
+      → MatchAnswer e ws st k c (state_after st n left) bytes (refuses left)
 
 -- ---- the answer of `continue`
 
@@ -114,11 +112,10 @@ pub data ContinueAnswer (e : Environment) (ws : List Word) (st : StateOf) (k : �
       → ContinueAnswer e ws st k c (state_after st n (left_by ended (shown_more q found)))
       (continue_head k m ++ listing_lines m q.variables q.with_context q.pattern q.shown found ended) false
   continued_where : (most : Option ℕ) (n : ℕ) (q : QueryOf) (cond : List Fragment) (m : ModuleOf) (found : List Matcher) (ending : Ending) → bound_of ws c.bound ≡ Ok most
-      → st.going ≡ Some (record { number = n; what = a_listing_where q cond }) → slice_get st.modules n ≡ Some m → uses_memberships m ≡ false
-      → ShowsWhere m (meanings_in e m) cond q most found ending
+      → st.going ≡ Some (record { number = n; what = a_listing_where q cond }) → slice_get st.modules n ≡ Some m → ShowsWhere m (meanings_in e m) cond q most found ending
       → ContinueAnswer e ws st k c (state_after st n (left_where ending (shown_more q found) cond)) (continue_head k m ++ where_lines m e.budget q found ending) false
   run_continued : (most : Option ℕ) (n : ℕ) (r : RuleRunOf) (m : ModuleOf) (a : RunAnswerOf) → bound_of ws c.bound ≡ Ok most
-      → st.going ≡ Some (record { number = n; what = a_rule_run r }) → slice_get st.modules n ≡ Some m → uses_memberships m ≡ false
+      → st.going ≡ Some (record { number = n; what = a_rule_run r }) → slice_get st.modules n ≡ Some m
       → MayRun (meanings_in e m) e.remembers (run_by (meanings_in e m) r.kind most r.stand) a
       → ContinueAnswer e ws st k c (state_after st n (left_by_run r.kind r.variables a)) (continue_head k m ++ run_lines m r.variables e.budget a) false
 
@@ -130,15 +127,12 @@ pub data TermAnswer (e : Environment) (ws : List Word) (m : ModuleOf) (k : ℕ) 
   term_answered : (t : Bare) (ns : Pairs) (a : AnswerOf) → TermReads ws m.grammar c.first AnyKind [] ns t → MayAnswer (meanings_in e m) e.remembers (tree_of t) a
       → TermAnswer e ws m k c has_ended (reduce_head k m ++ answer_lines m ns e.budget a)
 
--- The reduce command begins at the word i; the state after it is told. The place of a term without tokens, which no command has, is refused before its
--- module is looked for, and a module in which memberships may be used before the term is read.
-pub data ReduceAnswer (e : Environment) (ws : List Word) (st : StateOf) (k i : ℕ) (c : RawCommand) : StateOf → List ℕ → Bool → Type 0 where
-  reduces_nothing : is_empty ws c.first ≡ true → ReduceAnswer e ws st k i c st (refusal_line k ws (NotBuilt (first_index ws c.first))) true
-  reduce_unknown : (t : Token) → is_empty ws c.first ≡ false → NamesNone ws st c t → ReduceAnswer e ws st k i c st (refusal_line k ws (UnknownModule (token_index ws t))) true
-  reduce_not_built : (n : ℕ) (m : ModuleOf) → is_empty ws c.first ≡ false → IsChosen ws st c n → slice_get st.modules n ≡ Some m → uses_memberships m ≡ true
-      → ReduceAnswer e ws st k i c st (refusal_line k ws (NotBuilt i)) true
+-- The state after the reduce command is told. The place of a term without tokens, which no command has, is refused before its module is looked for.
+pub data ReduceAnswer (e : Environment) (ws : List Word) (st : StateOf) (k : ℕ) (c : RawCommand) : StateOf → List ℕ → Bool → Type 0 where
+  reduces_nothing : is_empty ws c.first ≡ true → ReduceAnswer e ws st k c st (refusal_line k ws (NotBuilt (first_index ws c.first))) true
+  reduce_unknown : (t : Token) → is_empty ws c.first ≡ false → NamesNone ws st c t → ReduceAnswer e ws st k c st (refusal_line k ws (UnknownModule (token_index ws t))) true
   reduce_answered : (n : ℕ) (m : ModuleOf) (left : OutcomeOf) (bytes : List ℕ) → is_empty ws c.first ≡ false → IsChosen ws st c n → slice_get st.modules n ≡ Some m
-      → uses_memberships m ≡ false → TermAnswer e ws m k c left bytes → ReduceAnswer e ws st k i c (state_after st n left) bytes (refuses left)
+      → TermAnswer e ws m k c left bytes → ReduceAnswer e ws st k c (state_after st n left) bytes (refuses left)
 
 -- ---- the answer of a setting that begins at the word i
 
@@ -154,19 +148,18 @@ pub data SettingAnswer (ws : List Word) (st : StateOf) (k i : ℕ) : Setting →
 
 -- what it says, from the word i on: the state after it, its bytes, and whether it was refused
 pub data BodyAnswer (e : Environment) (ws : List Word) (st : StateOf) (k i : ℕ) : RawBody → StateOf → List ℕ → Bool → Type 0 where
-  module_not_built : (raw : RawModule) → is_built_module raw.kind ≡ false → BodyAnswer e ws st k i (Module raw) st (refusal_line k ws (NotBuilt i)) true
-  module_accepted : (raw : RawModule) (m : ModuleOf) → is_built_module raw.kind ≡ true → FlattenedAs st.modules ws raw (Ok m)
+  module_accepted : (raw : RawModule) (m : ModuleOf) → FlattenedAs st.modules ws raw (Ok m)
       → BodyAnswer e ws st k i (Module raw) (accepted st m) (module_line k m) false
-  module_refused : (raw : RawModule) (f : ModuleFault) → is_built_module raw.kind ≡ true → FlattenedAs st.modules ws raw (Err f)
+  module_refused : (raw : RawModule) (f : ModuleFault) → FlattenedAs st.modules ws raw (Err f)
       → BodyAnswer e ws st k i (Module raw) st (module_fault_line k f) true
-  match_answered : (c : RawCommand) (next : StateOf) (bytes : List ℕ) (refused : Bool) → is_match c.kind ≡ true → MatchAnswer e ws st k i c next bytes refused
+  match_answered : (c : RawCommand) (next : StateOf) (bytes : List ℕ) (refused : Bool) → is_match c.kind ≡ true → MatchAnswer e ws st k c next bytes refused
       → BodyAnswer e ws st k i (Command c) next bytes refused
   continue_answered : (c : RawCommand) (next : StateOf) (bytes : List ℕ) (refused : Bool) → is_match c.kind ≡ false → is_continue c.kind ≡ true
       → ContinueAnswer e ws st k c next bytes refused → BodyAnswer e ws st k i (Command c) next bytes refused
   reduce_is_answered : (c : RawCommand) (next : StateOf) (bytes : List ℕ) (refused : Bool) → is_match c.kind ≡ false → is_continue c.kind ≡ false → is_reduce c.kind ≡ true
-      → ReduceAnswer e ws st k i c next bytes refused → BodyAnswer e ws st k i (Command c) next bytes refused
+      → ReduceAnswer e ws st k c next bytes refused → BodyAnswer e ws st k i (Command c) next bytes refused
   rewrite_is_answered : (c : RawCommand) (next : StateOf) (bytes : List ℕ) (refused : Bool) → is_match c.kind ≡ false → is_continue c.kind ≡ false → is_reduce c.kind ≡ false
-      → is_rewrite c.kind ≡ true → RewriteAnswer e ws st k i c next bytes refused → BodyAnswer e ws st k i (Command c) next bytes refused
+      → is_rewrite c.kind ≡ true → RewriteAnswer e ws st k c next bytes refused → BodyAnswer e ws st k i (Command c) next bytes refused
   other_unknown : (c : RawCommand) (t : Token) → is_match c.kind ≡ false → is_continue c.kind ≡ false → is_reduce c.kind ≡ false → is_rewrite c.kind ≡ false → NamesNone ws st c t
       → BodyAnswer e ws st k i (Command c) st (refusal_line k ws (UnknownModule (token_index ws t))) true
   other_not_built : (c : RawCommand) (n : ℕ) → is_match c.kind ≡ false → is_continue c.kind ≡ false → is_reduce c.kind ≡ false → is_rewrite c.kind ≡ false → IsChosen ws st c n

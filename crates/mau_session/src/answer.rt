@@ -8,6 +8,7 @@ ghost use Rattle.mau_session.specs.State.{StateOf, at_first};
 ghost use Rattle.mau_session.specs.KeptState.{state_of, outcome_of, going_of, IsReadyState, IsReadyAt, IsReadyOutcome};
 ghost use Rattle.mau_session.specs.declared.state.Outcome.TheVariants as Outcome;
 ghost use Rattle.mau_module.specs.Modules.{ModuleOf};
+ghost use Rattle.mau_module.specs.Library.{HasPrelude};
 ghost use Rattle.mau_session.specs.Bounds;
 ghost use Rattle.mau_session.specs.Query.{asked_first};
 ghost use Rattle.mau_session.specs.KeptQuery.{query_of, IsReadyKept};
@@ -16,7 +17,6 @@ ghost use Rattle.mau_session.specs.RunGains.{GainsRunOn};
 ghost use Rattle.mau_session.specs.Answers.{module_line, refusal_line, parse_fault_line, ok_line, unknown_module_line};
 ghost use Rattle.mau_statement.specs.Parts.{is_empty};
 ghost use Rattle.mau_session.specs.Reading.{IsBareOf};
-ghost use Rattle.mau_session.specs.Built;
 ghost use Rattle.mau_session.specs.Built.{fault_answer};
 ghost use Rattle.mau_session.specs.Commands.{has_rewriting};
 ghost use Rattle.mau_session.specs.KeptTerms.{AreUsable};
@@ -31,8 +31,7 @@ ghost use Rattle.mau_session.specs.Gains.{GainsListed, GainsTerms, GainsChosen, 
 use crate::asking::{list_first, list_further};
 use crate::bounds::bound_of;
 use crate::built::{
-    begins_unbuilt, has_context, is_built_module, is_continue, is_match, is_reduce, is_rewrite,
-    is_unended, quits, uses_memberships,
+    begins_unbuilt, has_context, is_continue, is_match, is_reduce, is_rewrite, is_unended, quits,
 };
 use crate::command::{has_condition, unbuilt};
 use crate::heads::{write_continue_head, write_match_head};
@@ -79,12 +78,11 @@ fn answer_listing(
     most: Option<u64>,
 ) -> Result<Outcome, NoMemory>
     requires lawful { IsLawfulProgram (program_of module.now) }
-    requires plain { Built.uses_memberships module.now ≡ false }
     requires numerals { All GivesNumerals (operators session.now.hooks.now) }
     requires usable { AreUsable module.now terms }
     ensures gained { IfOk result (λ left. GainsListed module.now (meanings_in (environment_of (operators session.now.hooks.now) session.now.limit) module.now)
         (asked_first with_context (tree_of terms.pattern) (tree_of terms.subject) terms.vars) most (outcome_of left) out.old.items out.new.items) }
-    ensures ready { IfOk result (IsReadyOutcome module.now) }
+    ensures ready { IfOk result (IsReadyOutcome (environment_of (operators session.now.hooks.now) session.now.limit) module.now) }
 {
     match Query::new(
         session.alloc,
@@ -118,14 +116,13 @@ fn answer_read(
     terms: Terms,
 ) -> Result<Outcome, NoMemory>
     requires lawful { IsLawfulProgram (program_of module.now) }
-    requires plain { Built.uses_memberships module.now ≡ false }
     requires numerals { All GivesNumerals (operators session.now.hooks.now) }
     requires no_rewriting { has_rewriting command.now.cond ≡ false }
     requires read { TermsRead session.now.words.now module.now command.now terms.pattern terms.subject terms.vars }
     requires usable { AreUsable module.now terms }
     ensures gained { IfOk result (λ left. GainsTerms (environment_of (operators session.now.hooks.now) session.now.limit) session.now.words.now
         module.now number command.now most out.old.items out.new.items (outcome_of left)) }
-    ensures ready { IfOk result (IsReadyOutcome module.now) }
+    ensures ready { IfOk result (IsReadyOutcome (environment_of (operators session.now.hooks.now) session.now.limit) module.now) }
 {
     if has_condition(command) {
         return answer_where(out, session, module, number, command, most, terms);
@@ -148,7 +145,6 @@ fn answer_subject(
 ) -> Result<Outcome, NoMemory>
     requires few { length session.now.words.now ≤ 16777216 }
     requires lawful { IsLawfulProgram (program_of module.now) }
-    requires plain { Built.uses_memberships module.now ≡ false }
     requires numerals { All GivesNumerals (operators session.now.hooks.now) }
     requires room { length vars ≤ 16777216 }
     requires subject { is_empty session.now.words.now command.now.second ≡ false }
@@ -157,7 +153,7 @@ fn answer_subject(
     requires bare { IsBareOf module.now Goal.AnyKind pattern }
     ensures gained { IfOk result (λ left. GainsTerms (environment_of (operators session.now.hooks.now) session.now.limit) session.now.words.now
         module.now number command.now most out.old.items out.new.items (outcome_of left)) }
-    ensures ready { IfOk result (IsReadyOutcome module.now) }
+    ensures ready { IfOk result (IsReadyOutcome (environment_of (operators session.now.hooks.now) session.now.limit) module.now) }
 {
     let mut vars = vars;
     let goal = Goal::Kind(kind_of_term(module, &pattern));
@@ -192,14 +188,13 @@ fn answer_terms(
 ) -> Result<Outcome, NoMemory>
     requires few { length session.now.words.now ≤ 16777216 }
     requires lawful { IsLawfulProgram (program_of module.now) }
-    requires plain { Built.uses_memberships module.now ≡ false }
     requires numerals { All GivesNumerals (operators session.now.hooks.now) }
     requires pattern { is_empty session.now.words.now command.now.first ≡ false }
     requires subject { is_empty session.now.words.now command.now.second ≡ false }
     requires no_rewriting { has_rewriting command.now.cond ≡ false }
     ensures gained { IfOk result (λ left. GainsTerms (environment_of (operators session.now.hooks.now) session.now.limit) session.now.words.now
         module.now number command.now most out.old.items out.new.items (outcome_of left)) }
-    ensures ready { IfOk result (IsReadyOutcome module.now) }
+    ensures ready { IfOk result (IsReadyOutcome (environment_of (operators session.now.hooks.now) session.now.limit) module.now) }
 {
     let mut vars = Vars::new(session.alloc);
     match read_term(
@@ -215,32 +210,28 @@ fn answer_terms(
     }
 }
 
-/// Answers a match command that begins at the word `item`, over the module with the number `chosen`. Says whether it was refused.
+/// Answers a match command over the module with the number `chosen`. Says whether it was refused.
 fn answer_chosen(
     out: &mut Vec<u8>,
     session: &Session,
     state: &mut State,
     number: usize,
-    item: usize,
     command: &RawCommand,
     chosen: usize,
 ) -> Result<bool, NoMemory>
     requires few { length session.now.words.now ≤ 16777216 }
     requires numerals { All GivesNumerals (operators session.now.hooks.now) }
-    requires ready { IsReadyState state.old }
+    requires ready { IsReadyState (environment_of (operators session.now.hooks.now) session.now.limit) state.old }
     requires within { chosen < length state.old.library }
     requires pattern { is_empty session.now.words.now command.now.first ≡ false }
     requires subject { is_empty session.now.words.now command.now.second ≡ false }
     requires no_rewriting { has_rewriting command.now.cond ≡ false }
-    ensures gained { IfOk result (GainsChosen (environment_of (operators session.now.hooks.now) session.now.limit) session.now.words.now (state_of state.old) number item command.now chosen
+    ensures gained { IfOk result (GainsChosen (environment_of (operators session.now.hooks.now) session.now.limit) session.now.words.now (state_of state.old) number command.now chosen
         (state_of state.new) out.old.items out.new.items) }
-    ensures ready { OnOk result (IsReadyState state.new) }
+    ensures ready { OnOk result (IsReadyState (environment_of (operators session.now.hooks.now) session.now.limit) state.new) }
 {
     let words = session.words;
     let module = state.library.module(chosen);
-    if uses_memberships(module) {
-        return refuse(out, words, number, Refusal::NotBuilt(item));
-    }
     match bound_of(words, command.bound) {
         Err(refusal) => refuse(out, words, number, refusal),
         Ok(most) => {
@@ -250,28 +241,27 @@ fn answer_chosen(
     }
 }
 
-/// Answers a match command that begins at the word `item`. Says whether it was refused.
+/// Answers a match command. Says whether it was refused.
 fn answer_match(
     out: &mut Vec<u8>,
     session: &Session,
     state: &mut State,
     number: usize,
-    item: usize,
     command: &RawCommand,
 ) -> Result<bool, NoMemory>
     requires few { length session.now.words.now ≤ 16777216 }
     requires numerals { All GivesNumerals (operators session.now.hooks.now) }
-    requires ready { IsReadyState state.old }
-    ensures gained { IfOk result (GainsMatch (environment_of (operators session.now.hooks.now) session.now.limit) session.now.words.now (state_of state.old) number item command.now
+    requires ready { IsReadyState (environment_of (operators session.now.hooks.now) session.now.limit) state.old }
+    ensures gained { IfOk result (GainsMatch (environment_of (operators session.now.hooks.now) session.now.limit) session.now.words.now (state_of state.old) number command.now
         (state_of state.new) out.old.items out.new.items) }
-    ensures ready { OnOk result (IsReadyState state.new) }
+    ensures ready { OnOk result (IsReadyState (environment_of (operators session.now.hooks.now) session.now.limit) state.new) }
 {
     let words = session.words;
     match unbuilt(words, command) {
         Some(word) => refuse(out, words, number, Refusal::NotBuilt(word)),
         None => match state.choose(words, command) {
             Err(refusal) => refuse(out, words, number, refusal),
-            Ok(chosen) => answer_chosen(out, session, state, number, item, command, chosen),
+            Ok(chosen) => answer_chosen(out, session, state, number, command, chosen),
         },
     }
 }
@@ -289,11 +279,12 @@ fn list_on(
     most: Option<u64>,
 ) -> Result<bool, NoMemory>
     requires numerals { All GivesNumerals (operators session.now.hooks.now) }
-    requires ready { IsReadyState state.old }
-    requires there { (m : ModuleOf) × (slice_get state.old.library chosen ≡ Some m) × IsReadyKept m sorts query }
+    requires ready { IsReadyState (environment_of (operators session.now.hooks.now) session.now.limit) state.old }
+    requires there { (m : ModuleOf) × (slice_get state.old.library chosen ≡ Some m)
+        × IsReadyKept (environment_of (operators session.now.hooks.now) session.now.limit) m sorts query }
     ensures gained { IfOk result (GainsOn (environment_of (operators session.now.hooks.now) session.now.limit) (state_of state.old) number chosen (query_of query) most
         (state_of state.new) out.old.items out.new.items) }
-    ensures ready { OnOk result (IsReadyState state.new) }
+    ensures ready { OnOk result (IsReadyState (environment_of (operators session.now.hooks.now) session.now.limit) state.new) }
 {
     let module = state.library.module(chosen);
     write_continue_head(out, number, module)?;
@@ -312,11 +303,11 @@ fn rewrite_on(
     most: Option<u64>,
 ) -> Result<bool, NoMemory>
     requires numerals { All GivesNumerals (operators session.now.hooks.now) }
-    requires ready { IsReadyState state.old }
+    requires ready { IsReadyState (environment_of (operators session.now.hooks.now) session.now.limit) state.old }
     requires there { (m : ModuleOf) × (slice_get state.old.library chosen ≡ Some m) × IsReadyRun m running }
     ensures gained { IfOk result (GainsRunOn (environment_of (operators session.now.hooks.now) session.now.limit) (state_of state.old) number chosen
         (rule_run_of running) most (state_of state.new) out.old.items out.new.items) }
-    ensures ready { OnOk result (IsReadyState state.new) }
+    ensures ready { OnOk result (IsReadyState (environment_of (operators session.now.hooks.now) session.now.limit) state.new) }
 {
     let module = state.library.module(chosen);
     write_continue_head(out, number, module)?;
@@ -335,13 +326,13 @@ fn go_on(
     most: Option<u64>,
 ) -> Result<bool, NoMemory>
     requires numerals { All GivesNumerals (operators session.now.hooks.now) }
-    requires ready { IsReadyState state.old }
-    requires going { IsReadyAt state.old.library going }
+    requires ready { IsReadyState (environment_of (operators session.now.hooks.now) session.now.limit) state.old }
+    requires going { IsReadyAt (environment_of (operators session.now.hooks.now) session.now.limit) state.old.library going }
     requires bound { Bounds.bound_of session.now.words.now command.now.bound ≡ Ok most }
     ensures gained { (before : StateOf) → before.modules ≡ state.old.library → before.current ≡ state.old.current → before.going ≡ Some (going_of going) →
         IfOk result (GainsContinue (environment_of (operators session.now.hooks.now) session.now.limit) session.now.words.now before number command.now
         (state_of state.new) out.old.items out.new.items) }
-    ensures ready { OnOk result (IsReadyState state.new) }
+    ensures ready { OnOk result (IsReadyState (environment_of (operators session.now.hooks.now) session.now.limit) state.new) }
 {
     let chosen = going.number;
     let what = going.what;
@@ -367,10 +358,10 @@ fn answer_continue(
     command: &RawCommand,
 ) -> Result<bool, NoMemory>
     requires numerals { All GivesNumerals (operators session.now.hooks.now) }
-    requires ready { IsReadyState state.old }
+    requires ready { IsReadyState (environment_of (operators session.now.hooks.now) session.now.limit) state.old }
     ensures gained { IfOk result (GainsContinue (environment_of (operators session.now.hooks.now) session.now.limit) session.now.words.now
         (state_of state.old) number command.now (state_of state.new) out.old.items out.new.items) }
-    ensures ready { OnOk result (IsReadyState state.new) }
+    ensures ready { OnOk result (IsReadyState (environment_of (operators session.now.hooks.now) session.now.limit) state.new) }
 {
     let words = session.words;
     match bound_of(words, command.bound) {
@@ -391,7 +382,7 @@ fn answer_unbuilt(
     item: usize,
     command: &RawCommand,
 ) -> Result<bool, NoMemory>
-    requires ready { IsReadyState state.now }
+    requires current { state.now.current < length state.now.library }
     requires no_match { Rattle.mau_session.specs.Built.is_match command.now.kind ≡ false }
     requires no_continue { Rattle.mau_session.specs.Built.is_continue command.now.kind ≡ false }
     requires no_reduce { Rattle.mau_session.specs.Built.is_reduce command.now.kind ≡ false }
@@ -416,20 +407,20 @@ fn answer_command(
 ) -> Result<bool, NoMemory>
     requires few { length session.now.words.now ≤ 16777216 }
     requires numerals { All GivesNumerals (operators session.now.hooks.now) }
-    requires ready { IsReadyState state.old }
+    requires ready { IsReadyState (environment_of (operators session.now.hooks.now) session.now.limit) state.old }
     ensures gained { IfOk result (GainsBody (environment_of (operators session.now.hooks.now) session.now.limit) session.now.words.now
         (state_of state.old) number item (RawBody.Command command.now) (state_of state.new) out.old.items out.new.items) }
-    ensures ready { OnOk result (IsReadyState state.new) }
+    ensures ready { OnOk result (IsReadyState (environment_of (operators session.now.hooks.now) session.now.limit) state.new) }
 {
     let words = session.words;
     if is_match(command.kind) {
-        answer_match(out, session, state, number, item, command)
+        answer_match(out, session, state, number, command)
     } else if is_continue(command.kind) {
         answer_continue(out, session, state, number, command)
     } else if is_reduce(command.kind) {
-        answer_reduce(out, session, state, number, item, command)
+        answer_reduce(out, session, state, number, command)
     } else if is_rewrite(command.kind) {
-        answer_rewrite(out, session, state, number, item, command)
+        answer_rewrite(out, session, state, number, command)
     } else {
         answer_unbuilt(out, words, state, number, item, command)
     }
@@ -445,14 +436,11 @@ fn answer_module(
     item: usize,
     raw: &RawModule,
 ) -> Result<bool, NoMemory>
-    requires ready { IsReadyState state.old }
+    requires prelude { HasPrelude state.old.library }
     ensures gained { (e : Environment) → IfOk result (GainsBody e words.now (state_of state.old) number item (RawBody.Module raw.now)
         (state_of state.new) out.old.items out.new.items) }
-    ensures ready { OnOk result (IsReadyState state.new) }
+    ensures ready { (e : Environment) → IsReadyState e state.old → OnOk result (IsReadyState e state.new) }
 {
-    if !is_built_module(raw.kind) {
-        return refuse(out, words, number, Refusal::NotBuilt(item));
-    }
     match state.library.flatten(alloc, words, raw) {
         Ok(module) => {
             write_module(out, number, &module)?;
@@ -501,10 +489,9 @@ fn answer_select(
     number: usize,
     name: &str,
 ) -> Result<bool, NoMemory>
-    requires ready { IsReadyState state.old }
     ensures gained { (ws : List Word) (i : ℕ) → IfOk result (GainsSetting ws (state_of state.old) number i (Setting.Select name.now)
         (state_of state.new) out.old.items out.new.items) }
-    ensures ready { OnOk result (IsReadyState state.new) }
+    ensures ready { (e : Environment) → IsReadyState e state.old → OnOk result (IsReadyState e state.new) }
 {
     if state.select(name) {
         accept_setting(out, number)
@@ -523,10 +510,9 @@ fn answer_setting(
     item: usize,
     setting: &Setting,
 ) -> Result<bool, NoMemory>
-    requires ready { IsReadyState state.old }
     ensures gained { IfOk result (GainsSetting words.now (state_of state.old) number item setting.now
         (state_of state.new) out.old.items out.new.items) }
-    ensures ready { OnOk result (IsReadyState state.new) }
+    ensures ready { (e : Environment) → IsReadyState e state.old → OnOk result (IsReadyState e state.new) }
 {
     match setting {
         Setting::Trace(true) => refuse(out, words, number, Refusal::NotBuilt(item)),
@@ -547,11 +533,11 @@ fn answer_body(
 ) -> Result<bool, NoMemory>
     requires few { length session.now.words.now ≤ 16777216 }
     requires numerals { All GivesNumerals (operators session.now.hooks.now) }
-    requires ready { IsReadyState state.old }
+    requires ready { IsReadyState (environment_of (operators session.now.hooks.now) session.now.limit) state.old }
     requires stays { body.now ≢ RawBody.Quit }
     ensures gained { IfOk result (GainsBody (environment_of (operators session.now.hooks.now) session.now.limit) session.now.words.now
         (state_of state.old) number item body.now (state_of state.new) out.old.items out.new.items) }
-    ensures ready { OnOk result (IsReadyState state.new) }
+    ensures ready { OnOk result (IsReadyState (environment_of (operators session.now.hooks.now) session.now.limit) state.new) }
 {
     let alloc = session.alloc;
     let words = session.words;
@@ -592,11 +578,11 @@ fn answer_item(
 ) -> Result<bool, NoMemory>
     requires few { length session.now.words.now ≤ 16777216 }
     requires numerals { All GivesNumerals (operators session.now.hooks.now) }
-    requires ready { IsReadyState state.old }
+    requires ready { IsReadyState (environment_of (operators session.now.hooks.now) session.now.limit) state.old }
     requires stays { item.now.body ≢ Ok RawBody.Quit }
     ensures gained { IfOk result (GainsItem (environment_of (operators session.now.hooks.now) session.now.limit) session.now.words.now
         (state_of state.old) number item.now (state_of state.new) out.old.items out.new.items) }
-    ensures ready { OnOk result (IsReadyState state.new) }
+    ensures ready { OnOk result (IsReadyState (environment_of (operators session.now.hooks.now) session.now.limit) state.new) }
 {
     let word = session.words.index_at(item.at);
     match &item.body {

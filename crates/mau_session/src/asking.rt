@@ -1,5 +1,5 @@
 //! The evaluator by which a query's solutions are listed, and its condition is asked.
-ghost use Rattle.std.specs.Prelude.{◌≡◌, false, All, IfOk, None};
+ghost use Rattle.std.specs.Prelude.{◌≡◌, All, IfOk, None};
 ghost use Rattle.mau_terms.specs.Norm.{norm};
 ghost use Rattle.mau_terms.specs.Subst.{variables};
 ghost use Rattle.mau_terms.specs.View.{tree_of};
@@ -10,7 +10,6 @@ ghost use Rattle.mau_program.specs.LawfulPrograms.{IsLawfulProgram};
 ghost use Rattle.mau_api.specs.Answers.{IsAskable};
 ghost use Rattle.mau_module.specs.Lawful.{program_of};
 ghost use Rattle.mau_session.specs.Environment.{environment_of, meanings_in};
-ghost use Rattle.mau_session.specs.Built;
 ghost use Rattle.mau_session.specs.Terms.{terms_in};
 ghost use Rattle.mau_session.specs.KeptQuery.{query_of, IsQueryOver, IsReadyKept};
 ghost use Rattle.mau_session.specs.KeptWhere.{IsReadyWhere};
@@ -43,14 +42,13 @@ pub fn list_first(
     most: Option<u64>,
 ) -> Result<Outcome, NoMemory>
     requires lawful { IsLawfulProgram (program_of module.now) }
-    requires plain { Built.uses_memberships module.now ≡ false }
     requires numerals { All GivesNumerals (operators session.now.hooks.now) }
     requires query { IsQueryOver module.now.signature query }
     requires first { query.last ≡ None }
     requires within { IsWithin (terms_in module.now).theory (norm (terms_in module.now).theory (tree_of query.subject)) }
     ensures gained { IfOk result (λ left. GainsListed module.now (meanings_in (environment_of (operators session.now.hooks.now) session.now.limit) module.now)
         (query_of query) most (outcome_of left) out.old.items out.new.items) }
-    ensures ready { IfOk result (IsReadyOutcome module.now) }
+    ensures ready { IfOk result (IsReadyOutcome (environment_of (operators session.now.hooks.now) session.now.limit) module.now) }
 {
     let mut query = query;
     let program = module.program();
@@ -93,10 +91,10 @@ pub fn list_further(
 ) -> Result<Outcome, NoMemory>
     requires lawful { IsLawfulProgram (program_of module.now) }
     requires numerals { All GivesNumerals (operators session.now.hooks.now) }
-    requires ready { IsReadyKept module.now sorts query }
+    requires ready { IsReadyKept (environment_of (operators session.now.hooks.now) session.now.limit) module.now sorts query }
     ensures gained { IfOk result (λ left. GainsListing module.now (meanings_in (environment_of (operators session.now.hooks.now) session.now.limit) module.now)
         (query_of query) most (outcome_of left) out.old.items out.new.items) }
-    ensures ready { IfOk result (IsReadyOutcome module.now) }
+    ensures ready { IfOk result (IsReadyOutcome (environment_of (operators session.now.hooks.now) session.now.limit) module.now) }
 {
     let mut query = query;
     let program = module.program();
@@ -123,7 +121,6 @@ pub fn list_first_where(
     most: Option<u64>,
 ) -> Result<Outcome, NoMemory>
     requires lawful { IsLawfulProgram (program_of module.now) }
-    requires plain { Built.uses_memberships module.now ≡ false }
     requires numerals { All GivesNumerals (operators session.now.hooks.now) }
     requires query { IsQueryOver module.now.signature kept.query }
     requires first { kept.query.last ≡ None }
@@ -131,7 +128,7 @@ pub fn list_first_where(
     requires condition { IsAskable module.now.signature (variables (tree_of kept.query.pattern)) kept.cond }
     ensures gained { IfOk result (λ left. GainsListedWhere module.now (meanings_in (environment_of (operators session.now.hooks.now) session.now.limit) module.now) kept.cond
         (query_of kept.query) most (outcome_of left) out.old.items out.new.items) }
-    ensures ready { IfOk result (IsReadyOutcome module.now) }
+    ensures ready { IfOk result (IsReadyOutcome (environment_of (operators session.now.hooks.now) session.now.limit) module.now) }
 {
     let mut kept = kept;
     let program = module.program();
@@ -175,10 +172,10 @@ pub fn list_further_where(
 ) -> Result<Outcome, NoMemory>
     requires lawful { IsLawfulProgram (program_of module.now) }
     requires numerals { All GivesNumerals (operators session.now.hooks.now) }
-    requires ready { IsReadyWhere module.now sorts kept }
+    requires ready { IsReadyWhere (environment_of (operators session.now.hooks.now) session.now.limit) module.now sorts kept }
     ensures gained { IfOk result (λ left. GainsListingWhere module.now (meanings_in (environment_of (operators session.now.hooks.now) session.now.limit) module.now) kept.cond
         (query_of kept.query) most (outcome_of left) out.old.items out.new.items) }
-    ensures ready { IfOk result (IsReadyOutcome module.now) }
+    ensures ready { IfOk result (IsReadyOutcome (environment_of (operators session.now.hooks.now) session.now.limit) module.now) }
 {
     let mut kept = kept;
     let program = module.program();

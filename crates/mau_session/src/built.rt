@@ -3,33 +3,7 @@ ghost use Rattle.std.specs.Prelude.{◌≡◌, ◌↔◌, true, Ok};
 ghost use Rattle.mau_modtext.specs.declared.raw.RawBody.TheVariants as RawBody;
 ghost use Rattle.mau_session.specs.Built;
 
-use mau_modtext::{CommandKind, ModuleKind, RawBody, RawItem, TextFault};
-use mau_module::Module;
-use mau_program::Membership;
-
-/// Whether modules of this kind are built.
-pub fn is_built_module(kind: ModuleKind) -> bool
-    ensures { result ≡ Built.is_built_module kind }
-{
-    match kind {
-        ModuleKind::StrategyModule => false,
-        _ => true,
-    }
-}
-
-/// Whether a membership may be used to evaluate.
-fn is_used(membership: &Membership) -> bool
-    ensures { result ≡ membership.now.exec }
-{
-    membership.exec
-}
-
-/// Whether a module has a membership that may be used to evaluate: neither listings nor evaluations in such modules are built.
-pub fn uses_memberships(module: &Module) -> bool
-    ensures { result ≡ Built.uses_memberships «module».now }
-{
-    module.memberships().iter().any(is_used)
-}
+use mau_modtext::{CommandKind, RawBody, RawItem, TextFault};
 
 /// Whether a command is a match, with contexts or without.
 pub fn is_match(kind: CommandKind) -> bool
@@ -95,7 +69,7 @@ pub fn is_continue(kind: CommandKind) -> bool
 pub fn begins_unbuilt(word: &str) -> bool
     ensures { result ≡ Built.begins_unbuilt word.now }
 {
-    matches!(word, "smod" | "dsrewrite" | "dsrew")
+    matches!(word, "dsrewrite" | "dsrew")
 }
 
 /// Whether an item has no end.

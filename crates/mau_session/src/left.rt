@@ -1,6 +1,7 @@
 //! What queries leave behind their listings.
 ghost use Rattle.std.specs.Prelude.{◌≡◌};
 ghost use Rattle.mau_module.specs.Modules.{ModuleOf};
+ghost use Rattle.mau_session.specs.Environment.{Environment};
 ghost use Rattle.mau_session.specs.State;
 ghost use Rattle.mau_session.specs.Where;
 ghost use Rattle.mau_session.specs.KeptQuery.{query_of, IsReadyKept};
@@ -16,7 +17,7 @@ use mau_sorts::SortTable;
 /// What a query leaves behind its listing.
 pub fn left_by(query: Query, sorts: SortTable, has_ended: bool) -> Outcome
     ensures left { outcome_of result ≡ State.left_by has_ended (query_of query) }
-    ensures ready { (m : ModuleOf) → IsReadyKept m sorts query → IsReadyOutcome m result }
+    ensures ready { (e : Environment) (m : ModuleOf) → IsReadyKept e m sorts query → IsReadyOutcome e m result }
 {
     if has_ended {
         Outcome::Ended
@@ -28,7 +29,7 @@ pub fn left_by(query: Query, sorts: SortTable, has_ended: bool) -> Outcome
 /// What a query with a condition leaves behind its listing.
 pub fn left_where(kept: ConditionalQuery, sorts: SortTable, ending: Ending) -> Outcome
     ensures left { outcome_of result ≡ Where.left_where (ending_of ending) (query_of kept.query) kept.cond }
-    ensures ready { (m : ModuleOf) → (ending ≡ BoundReached → IsReadyWhere m sorts kept) → IsReadyOutcome m result }
+    ensures ready { (e : Environment) (m : ModuleOf) → (ending ≡ BoundReached → IsReadyWhere e m sorts kept) → IsReadyOutcome e m result }
 {
     match ending {
         Ending::BoundReached => Outcome::GoesOn(Continued::ListingWhere(kept, sorts)),

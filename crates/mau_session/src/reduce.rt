@@ -9,13 +9,11 @@ ghost use Rattle.mau_statement.specs.Parts;
 ghost use Rattle.mau_session.specs.Terms.{terms_in};
 ghost use Rattle.mau_module.specs.Lawful.{program_of};
 ghost use Rattle.mau_session.specs.Environment.{environment_of, meanings_in};
-ghost use Rattle.mau_session.specs.Built;
 ghost use Rattle.mau_session.specs.Answers.{reduce_head};
 ghost use Rattle.mau_session.specs.KeptState.{state_of, outcome_of, IsReadyState, IsReadyOutcome};
 ghost use Rattle.mau_session.specs.State.{IsChosen};
 ghost use Rattle.mau_session.specs.Gains.{GainsAnswer, GainsTerm, GainsReduce};
 
-use crate::built::uses_memberships;
 use crate::reading::{is_empty, read_term};
 use crate::refusal::{Refusal, refuse, refuse_term, write_head};
 use crate::results::write_reduced;
@@ -51,7 +49,6 @@ fn reduce(
     term: &Bare,
 ) -> Result<(), NoMemory>
     requires lawful { IsLawfulProgram (program_of module.now) }
-    requires plain { Built.uses_memberships module.now ≡ false }
     requires numerals { All GivesNumerals (operators session.now.hooks.now) }
     requires bare { IsBare (terms_in module.now) (tree_of term.now) }
     ensures { OnOk result (GainsAnswer module.now
@@ -91,10 +88,9 @@ fn answer_term(
     requires numerals { All GivesNumerals (operators session.now.hooks.now) }
     requires term { Parts.is_empty session.now.words.now command.now.first ≡ false }
     requires lawful { IsLawfulProgram (program_of module.now) }
-    requires plain { Built.uses_memberships module.now ≡ false }
     ensures gained { IfOk result (λ left. GainsTerm (environment_of (operators session.now.hooks.now) session.now.limit)
         session.now.words.now module.now number command.now out.old.items out.new.items (outcome_of left)) }
-    ensures ready { IfOk result (IsReadyOutcome module.now) }
+    ensures ready { IfOk result (IsReadyOutcome (environment_of (operators session.now.hooks.now) session.now.limit) module.now) }
 {
     let mut vars = Vars::new(session.alloc);
     match read_term(
@@ -114,49 +110,44 @@ fn answer_term(
     }
 }
 
-/// Answers a reduce command that begins at the word `item`, over the module with the number `chosen`. Says whether it was refused.
+/// Answers a reduce command over the module with the number `chosen`. Says whether it was refused.
 fn reduce_chosen(
     out: &mut Vec<u8>,
     session: &Session,
     state: &mut State,
     number: usize,
-    item: usize,
     command: &RawCommand,
     chosen: usize,
 ) -> Result<bool, NoMemory>
     requires few { length session.now.words.now ≤ 16777216 }
     requires numerals { All GivesNumerals (operators session.now.hooks.now) }
-    requires ready { IsReadyState state.old }
+    requires ready { IsReadyState (environment_of (operators session.now.hooks.now) session.now.limit) state.old }
     requires chosen { IsChosen session.now.words.now (state_of state.old) command.now chosen }
     requires within { chosen < length state.old.library }
     requires term { Parts.is_empty session.now.words.now command.now.first ≡ false }
     ensures gained { IfOk result (GainsReduce (environment_of (operators session.now.hooks.now) session.now.limit) session.now.words.now
-        (state_of state.old) number item command.now (state_of state.new) out.old.items out.new.items) }
-    ensures ready { OnOk result (IsReadyState state.new) }
+        (state_of state.old) number command.now (state_of state.new) out.old.items out.new.items) }
+    ensures ready { OnOk result (IsReadyState (environment_of (operators session.now.hooks.now) session.now.limit) state.new) }
 {
     let module = state.library.module(chosen);
-    if uses_memberships(module) {
-        return refuse(out, session.words, number, Refusal::NotBuilt(item));
-    }
     let left = answer_term(out, session, module, number, command)?;
     Ok(state.conclude(chosen, left))
 }
 
-/// Answers a reduce command that begins at the word `item`. Says whether it was refused.
+/// Answers a reduce command. Says whether it was refused.
 pub fn answer_reduce(
     out: &mut Vec<u8>,
     session: &Session,
     state: &mut State,
     number: usize,
-    item: usize,
     command: &RawCommand,
 ) -> Result<bool, NoMemory>
     requires few { length session.now.words.now ≤ 16777216 }
     requires numerals { All GivesNumerals (operators session.now.hooks.now) }
-    requires ready { IsReadyState state.old }
+    requires ready { IsReadyState (environment_of (operators session.now.hooks.now) session.now.limit) state.old }
     ensures gained { IfOk result (GainsReduce (environment_of (operators session.now.hooks.now) session.now.limit) session.now.words.now
-        (state_of state.old) number item command.now (state_of state.new) out.old.items out.new.items) }
-    ensures ready { OnOk result (IsReadyState state.new) }
+        (state_of state.old) number command.now (state_of state.new) out.old.items out.new.items) }
+    ensures ready { OnOk result (IsReadyState (environment_of (operators session.now.hooks.now) session.now.limit) state.new) }
 {
     let words = session.words;
     let term = command.first.items();
@@ -170,6 +161,6 @@ pub fn answer_reduce(
     }
     match state.choose(words, command) {
         Err(refusal) => refuse(out, words, number, refusal),
-        Ok(chosen) => reduce_chosen(out, session, state, number, item, command, chosen),
+        Ok(chosen) => reduce_chosen(out, session, state, number, command, chosen),
     }
 }

@@ -2,7 +2,7 @@
 ghost use Rattle.std.specs.Prelude.{◌≡◌, ◌≢◌, ◌++◌, true, codes, decimal, OnOk, IfOk};
 ghost use Rattle.mau_declare.specs.Words.{place_at};
 ghost use Rattle.mau_session.specs.declared.state.Outcome.TheVariants as Outcome;
-ghost use Rattle.mau_session.specs.Answers.{item_head, refusal_line, faulty_line, shown_text_fault, text_fault_line, fault_line, shown_parse_fault, parse_fault_line, limit_name, statement_limit_name, shown_statement_fault, shown_module_fault, module_fault_line};
+ghost use Rattle.mau_session.specs.Answers.{item_head, refusal_line, faulty_line, shown_text_fault, text_fault_line, fault_line, shown_parse_fault, parse_fault_line, limit_name, statement_limit_name, shown_statement_fault, shown_strategy_fault, shown_definition_fault, shown_module_fault, module_fault_line};
 ghost use Rattle.mau_session.specs.Shown.{shown_variable};
 ghost use Rattle.mau_session.specs.Where.{shown_condition_fault};
 ghost use Rattle.mau_session.specs.KeptWhere.{shown_unasked, IsNamed};
@@ -15,6 +15,7 @@ use mau_modtext::TextFault;
 use mau_module::{Limit, Module, ModuleFault};
 use mau_parse::ParseFault;
 use mau_statement::StatementFault;
+use mau_strattext::StratFault;
 use mau_terms::{NoMemory, VarId, Vars};
 use mau_tokens::TokenFault;
 
@@ -151,6 +152,33 @@ fn write_statement_fault(
     }
 }
 
+/// Writes why the call or the strategy of a definition is refused.
+fn write_strategy_fault(out: &mut Vec<u8>, fault: &StratFault) -> Result<(), NoMemory>
+    ensures { OnOk result (out.new.items ≡ out.old.items ++ shown_strategy_fault fault.now) }
+{
+    match fault {
+        StratFault::TooManyTokens(count) => write_count(out, "TooManyTokens ", *count),
+        StratFault::Unexpected(at) => write_at(out, "Unexpected ", *at),
+        StratFault::UnknownName(at) => write_at(out, "UnknownName ", *at),
+        StratFault::Parse(_, fault) => write_parse_fault(out, fault),
+        StratFault::Arity(at) => write_at(out, "Arity ", *at),
+        StratFault::NoMemory => Err(NoMemory),
+    }
+}
+
+/// Writes why the call or the strategy of a definition is refused, in the statement with this number.
+fn write_definition_fault(
+    out: &mut Vec<u8>,
+    statement: usize,
+    fault: &StratFault,
+) -> Result<(), NoMemory>
+    ensures { OnOk result (out.new.items ≡ out.old.items ++ shown_definition_fault statement fault.now) }
+{
+    write_number(out, statement as u128)?;
+    write_text(out, " ")?;
+    write_strategy_fault(out, fault)
+}
+
 /// Writes why a module is refused.
 fn write_shown_module(out: &mut Vec<u8>, fault: &ModuleFault) -> Result<(), NoMemory>
     ensures ok { OnOk result (out.new.items ≡ out.old.items ++ shown_module_fault fault.now) }
@@ -172,6 +200,7 @@ fn write_shown_module(out: &mut Vec<u8>, fault: &ModuleFault) -> Result<(), NoMe
             Ok(())
         }
         ModuleFault::Statement(number, fault) => write_statement_fault(out, *number, fault),
+        ModuleFault::Strategy(number, fault) => write_definition_fault(out, *number, fault),
         ModuleFault::NoMemory => Err(NoMemory),
     }
 }

@@ -11,8 +11,7 @@ ghost use Rattle.mau_rules.specs.Runs.{end_of, IsRunOf};
 ghost use Rattle.mau_module.specs.Lawful.{program_of};
 ghost use Rattle.mau_module.specs.Modules.{ModuleOf};
 ghost use Rattle.mau_session.specs.Terms.{terms_in};
-ghost use Rattle.mau_session.specs.Environment.{environment_of, meanings_in};
-ghost use Rattle.mau_session.specs.Built;
+ghost use Rattle.mau_session.specs.Environment.{Environment, environment_of, meanings_in};
 ghost use Rattle.mau_session.specs.RuleRun as Conditions;
 ghost use Rattle.mau_session.specs.RunLines;
 ghost use Rattle.mau_session.specs.RunLines.{run_name, run_head, bound_line, run_lines};
@@ -22,7 +21,6 @@ ghost use Rattle.mau_session.specs.State.{IsChosen};
 ghost use Rattle.mau_session.specs.RunGains.{begun, GainsRun, GainsRunTerm, GainsRewrite};
 
 use crate::asked_run::{AskedRun, asked_run};
-use crate::built::uses_memberships;
 use crate::reading::{is_empty, read_term};
 use crate::refusal::{Refusal, refuse, refuse_term, write_head};
 use crate::results::{write_count, write_result, write_stopped};
@@ -118,7 +116,7 @@ fn write_run(
 /// What a run leaves behind its answer.
 fn left_by_run(running: Running, answer: RunAnswer) -> Outcome
     ensures left { outcome_of result ≡ RunLines.left_by_run running.kind running.vars (run_answer_in running.store running.run answer) }
-    ensures ready { (m : ModuleOf) → IsReadyRun m running → IsReadyOutcome m result }
+    ensures ready { (e : Environment) (m : ModuleOf) → IsReadyRun m running → IsReadyOutcome e m result }
 {
     match answer {
         RunAnswer::Value(RuleEnd::Bound, _, _) => Outcome::GoesOn(Continued::Rules(running)),
@@ -140,7 +138,7 @@ pub fn run_on(
     ensures gained { IfOk result (λ left. GainsRun module.now
         (meanings_in (environment_of (operators session.now.hooks.now) session.now.limit) module.now) false most
         (rule_run_of running) out.old.items out.new.items (outcome_of left)) }
-    ensures ready { IfOk result (IsReadyOutcome module.now) }
+    ensures ready { IfOk result (IsReadyOutcome (environment_of (operators session.now.hooks.now) session.now.limit) module.now) }
 {
     let _ = module.signature().operators();
     let program = module.program();
@@ -182,13 +180,12 @@ fn begin(
 ) -> Result<Outcome, NoMemory>
     requires numerals { All GivesNumerals (operators session.now.hooks.now) }
     requires lawful { IsLawfulProgram (program_of module.now) }
-    requires plain { Built.uses_memberships module.now ≡ false }
     requires conditions { Conditions.rewriting_condition module.now ≡ None }
     requires bare { IsBare (terms_in module.now) (tree_of term.now) }
     ensures gained { IfOk result (λ left. GainsRun module.now
         (meanings_in (environment_of (operators session.now.hooks.now) session.now.limit) module.now) false asked.most
         (begun asked.kind (tree_of term.now) vars) out.old.items out.new.items (outcome_of left)) }
-    ensures ready { IfOk result (IsReadyOutcome module.now) }
+    ensures ready { IfOk result (IsReadyOutcome (environment_of (operators session.now.hooks.now) session.now.limit) module.now) }
 {
     let alloc = session.alloc;
     let sig = module.signature();
@@ -230,11 +227,10 @@ fn answer_start(
     requires numerals { All GivesNumerals (operators session.now.hooks.now) }
     requires term { Parts.is_empty session.now.words.now command.now.first ≡ false }
     requires lawful { IsLawfulProgram (program_of module.now) }
-    requires plain { Built.uses_memberships module.now ≡ false }
     requires conditions { Conditions.rewriting_condition module.now ≡ None }
     ensures gained { IfOk result (λ left. GainsRunTerm (environment_of (operators session.now.hooks.now) session.now.limit)
         session.now.words.now module.now number command.now asked out.old.items out.new.items (outcome_of left)) }
-    ensures ready { IfOk result (IsReadyOutcome module.now) }
+    ensures ready { IfOk result (IsReadyOutcome (environment_of (operators session.now.hooks.now) session.now.limit) module.now) }
 {
     let mut vars = Vars::new(session.alloc);
     match read_term(
@@ -253,31 +249,27 @@ fn answer_start(
     }
 }
 
-/// Answers a rewrite command that begins at the word `item`, over the module with the number `chosen`. Says whether it was refused.
+/// Answers a rewrite command over the module with the number `chosen`. Says whether it was refused.
 fn rewrite_chosen(
     out: &mut Vec<u8>,
     session: &Session,
     state: &mut State,
     number: usize,
-    item: usize,
     command: &RawCommand,
     chosen: usize,
 ) -> Result<bool, NoMemory>
     requires few { length session.now.words.now ≤ 16777216 }
     requires numerals { All GivesNumerals (operators session.now.hooks.now) }
-    requires ready { IsReadyState state.old }
+    requires ready { IsReadyState (environment_of (operators session.now.hooks.now) session.now.limit) state.old }
     requires chosen { IsChosen session.now.words.now (state_of state.old) command.now chosen }
     requires within { chosen < length state.old.library }
     requires term { Parts.is_empty session.now.words.now command.now.first ≡ false }
     ensures gained { IfOk result (GainsRewrite (environment_of (operators session.now.hooks.now) session.now.limit) session.now.words.now
-        (state_of state.old) number item command.now (state_of state.new) out.old.items out.new.items) }
-    ensures ready { OnOk result (IsReadyState state.new) }
+        (state_of state.old) number command.now (state_of state.new) out.old.items out.new.items) }
+    ensures ready { OnOk result (IsReadyState (environment_of (operators session.now.hooks.now) session.now.limit) state.new) }
 {
     let words = session.words;
     let module = state.library.module(chosen);
-    if uses_memberships(module) {
-        return refuse(out, words, number, Refusal::NotBuilt(item));
-    }
     match asked_run(words, command) {
         Err(refusal) => refuse(out, words, number, refusal),
         Ok(asked) => match rewriting_condition(module) {
@@ -290,21 +282,20 @@ fn rewrite_chosen(
     }
 }
 
-/// Answers a rewrite command that begins at the word `item`. Says whether it was refused.
+/// Answers a rewrite command. Says whether it was refused.
 pub fn answer_rewrite(
     out: &mut Vec<u8>,
     session: &Session,
     state: &mut State,
     number: usize,
-    item: usize,
     command: &RawCommand,
 ) -> Result<bool, NoMemory>
     requires few { length session.now.words.now ≤ 16777216 }
     requires numerals { All GivesNumerals (operators session.now.hooks.now) }
-    requires ready { IsReadyState state.old }
+    requires ready { IsReadyState (environment_of (operators session.now.hooks.now) session.now.limit) state.old }
     ensures gained { IfOk result (GainsRewrite (environment_of (operators session.now.hooks.now) session.now.limit) session.now.words.now
-        (state_of state.old) number item command.now (state_of state.new) out.old.items out.new.items) }
-    ensures ready { OnOk result (IsReadyState state.new) }
+        (state_of state.old) number command.now (state_of state.new) out.old.items out.new.items) }
+    ensures ready { OnOk result (IsReadyState (environment_of (operators session.now.hooks.now) session.now.limit) state.new) }
 {
     let words = session.words;
     let term = command.first.items();
@@ -318,6 +309,6 @@ pub fn answer_rewrite(
     }
     match state.choose(words, command) {
         Err(refusal) => refuse(out, words, number, refusal),
-        Ok(chosen) => rewrite_chosen(out, session, state, number, item, command, chosen),
+        Ok(chosen) => rewrite_chosen(out, session, state, number, command, chosen),
     }
 }

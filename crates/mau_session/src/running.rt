@@ -2,10 +2,10 @@
 ghost use Rattle.std.specs.Prelude.{◌≡◌, true, false, IfOk};
 ghost use Rattle.mau_store.specs.Node.{Extends};
 ghost use Rattle.mau_store.specs.Trees.{tree_at};
-ghost use Rattle.mau_api.specs.Answers.{AreSettled, uses_results, levels_of_condition};
+ghost use Rattle.mau_api.specs.Answers.{AreSettled, uses_results};
 ghost use Rattle.mau_results.specs.Runs.{run_by, MayRun};
 ghost use Rattle.mau_rules.specs.Runnable.{IsRunnable, GoesBy};
-ghost use Rattle.mau_rules.specs.Runs.{stand_of, IsRunOf, IsRunAnswered};
+ghost use Rattle.mau_rules.specs.Runs.{stand_of, IsRunOf, IsRunExactly};
 ghost use Rattle.mau_rules.specs.Runs;
 ghost use Rattle.mau_session.specs.KeptRun.{run_answer_in};
 
@@ -54,8 +54,7 @@ fn run_rules<E: Evaluator, L: Lister + Drop, W: StepWatcher>(
     requires fits { E.fits evaluator.old store.old }
     requires run { IsRunOf program.now store.old run.old }
     ensures exact { uses_results (E.meanings evaluator.old) (W.wanted watcher.old) ≡ false →
-        IsRunAnswered (run_by (E.meanings evaluator.old) kind most (stand_of store.old run.old) levels_of_condition (E.meanings evaluator.old).limit budget)
-        store.new run.new result }
+        IsRunExactly (E.meanings evaluator.old) (run_by (E.meanings evaluator.old) kind most (stand_of store.old run.old)) budget store.new run.new result }
     ensures allowed { Runs.MayRun (E.meanings evaluator.old) (run_by (E.meanings evaluator.old) kind most (stand_of store.old run.old)) budget store.new run.new result }
     ensures term { IfOk result (λ x. x.1.term ≡ run.new.term) }
     ensures settled { IfOk result (λ x. AreSettled program.now.sig store.new (E.table evaluator.new) (tree_at store.new x.1.term.0)) }

@@ -3,6 +3,7 @@ ghost use Rattle.std.specs.Prelude.{◌≡◌, ◌<◌, ℕ, length, true, false
 ghost use Rattle.mau_module.specs.Modules.{ModuleOf};
 ghost use Rattle.mau_module.specs.Library.{last_named};
 ghost use Rattle.mau_module.specs.Libraries.{IsNext};
+ghost use Rattle.mau_session.specs.Environment.{Environment};
 ghost use Rattle.mau_session.specs.State.{at_first, accepted, selected, IsChosen, IsUnknown, state_after, refuses};
 ghost use Rattle.mau_session.specs.KeptState.{state_of, outcome_of, IsReadyState, IsReadyOutcome};
 
@@ -55,7 +56,7 @@ impl State {
     /// The modules of the prelude, of which that of the numbers is the current one, and nothing to continue.
     pub fn new(alloc: Global) -> Result<State, NoMemory>
         ensures state { IfOk result (λ s. state_of s ≡ at_first) }
-        ensures ready { IfOk result IsReadyState }
+        ensures ready { IfOk result (λ s. (e : Environment) → IsReadyState e s) }
     {
         Ok(State {
             library: Library::prelude(alloc)?,
@@ -66,10 +67,9 @@ impl State {
 
     /// Accepts a module, which is the current one then.
     pub fn accept(&mut self, module: Module) -> Result<(), NoMemory>
-        requires ready { IsReadyState self.old }
         requires next { IsNext self.old.library «module» }
         ensures state { OnOk result (state_of self.new ≡ accepted (state_of self.old) «module») }
-        ensures ready { OnOk result (IsReadyState self.new) }
+        ensures ready { OnOk result ((e : Environment) → IsReadyState e self.old → IsReadyState e self.new) }
     {
         let number = self.library.len();
         self.library.enter(module)?;
@@ -79,10 +79,9 @@ impl State {
 
     /// Makes the module of a name the current one, if there is one. Says whether there is.
     pub fn select(&mut self, name: &str) -> bool
-        requires ready { IsReadyState self.old }
         ensures selected { result ≡ true → (n : ℕ) × (last_named self.old.library name.now ≡ Some n) × (state_of self.new ≡ selected (state_of self.old) n) }
         ensures unknown { result ≡ false → (last_named self.old.library name.now ≡ None) × (self.new ≡ self.old) }
-        ensures ready { IsReadyState self.new }
+        ensures ready { (e : Environment) → IsReadyState e self.old → IsReadyState e self.new }
     {
         match self.library.find(name) {
             Some(number) => {
@@ -95,7 +94,7 @@ impl State {
 
     /// The number of a command's module, or that no module has the name that it gives.
     pub fn choose(&self, words: &Words, command: &RawCommand) -> Result<usize, Refusal>
-        requires ready { IsReadyState self.now }
+        requires current { self.now.current < length self.now.library }
         ensures chosen { IfOk result (IsChosen words.now (state_of self.now) command.now) }
         ensures within { IfOk result (λ i. i < length self.now.library) }
         ensures unknown { IfErr result (IsUnknown words.now (state_of self.now) command.now) }
@@ -111,11 +110,10 @@ impl State {
 
     /// Keeps what a command over the module with this number leaves. Says whether it was refused.
     pub fn conclude(&mut self, number: usize, outcome: Outcome) -> bool
-        requires ready { IsReadyState self.old }
-        requires left { (m : ModuleOf) × (slice_get self.old.library number ≡ Some m) × IsReadyOutcome m outcome }
         ensures state { state_of self.new ≡ state_after (state_of self.old) number (outcome_of outcome) }
         ensures refused { result ≡ refuses (outcome_of outcome) }
-        ensures ready { IsReadyState self.new }
+        ensures ready { (e : Environment) (m : ModuleOf) → IsReadyState e self.old → slice_get self.old.library number ≡ Some m → IsReadyOutcome e m outcome
+            → IsReadyState e self.new }
     {
         match outcome {
             Outcome::Refused => true,

@@ -9,7 +9,6 @@ ghost use Rattle.mau_api.specs.Answers.{IsAskable};
 ghost use Rattle.mau_module.specs.Lawful.{program_of};
 ghost use Rattle.mau_module.specs.Modules.{ModuleOf};
 ghost use Rattle.mau_session.specs.Environment.{environment_of, meanings_in};
-ghost use Rattle.mau_session.specs.Built;
 ghost use Rattle.mau_session.specs.Commands.{has_rewriting};
 ghost use Rattle.mau_session.specs.Query.{asked_first};
 ghost use Rattle.mau_session.specs.KeptQuery.{query_of};
@@ -48,13 +47,12 @@ fn list_where(
     most: Option<u64>,
 ) -> Result<Outcome, NoMemory>
     requires lawful { IsLawfulProgram (program_of module.now) }
-    requires plain { Built.uses_memberships module.now ≡ false }
     requires numerals { All GivesNumerals (operators session.now.hooks.now) }
     requires usable { AreUsable module.now terms }
     requires askable { IsAskable module.now.signature (variables (tree_of terms.pattern)) cond }
     ensures gained { IfOk result (λ left. GainsListedWhere module.now (meanings_in (environment_of (operators session.now.hooks.now) session.now.limit) module.now) cond
         (asked_first with_context (tree_of terms.pattern) (tree_of terms.subject) terms.vars) most (outcome_of left) out.old.items out.new.items) }
-    ensures ready { IfOk result (IsReadyOutcome module.now) }
+    ensures ready { IfOk result (IsReadyOutcome (environment_of (operators session.now.hooks.now) session.now.limit) module.now) }
 {
     match Query::new(
         session.alloc,
@@ -91,13 +89,12 @@ pub fn answer_where(
     terms: Terms,
 ) -> Result<Outcome, NoMemory>
     requires lawful { IsLawfulProgram (program_of module.now) }
-    requires plain { Built.uses_memberships module.now ≡ false }
     requires numerals { All GivesNumerals (operators session.now.hooks.now) }
     requires no_rewriting { has_rewriting command.now.cond ≡ false }
     requires usable { AreUsable module.now terms }
     ensures gained { IfOk result (λ left. GainsWhere (environment_of (operators session.now.hooks.now) session.now.limit) session.now.words.now module.now number command.now most
         (tree_of terms.pattern) (tree_of terms.subject) terms.vars out.old.items out.new.items (outcome_of left)) }
-    ensures ready { IfOk result (IsReadyOutcome module.now) }
+    ensures ready { IfOk result (IsReadyOutcome (environment_of (operators session.now.hooks.now) session.now.limit) module.now) }
 {
     let pattern = terms.pattern;
     let subject = terms.subject;
@@ -137,11 +134,12 @@ pub fn list_where_on(
     most: Option<u64>,
 ) -> Result<bool, NoMemory>
     requires numerals { All GivesNumerals (operators session.now.hooks.now) }
-    requires ready { IsReadyState state.old }
-    requires there { (m : ModuleOf) × (slice_get state.old.library chosen ≡ Some m) × IsReadyWhere m sorts kept }
+    requires ready { IsReadyState (environment_of (operators session.now.hooks.now) session.now.limit) state.old }
+    requires there { (m : ModuleOf) × (slice_get state.old.library chosen ≡ Some m)
+        × IsReadyWhere (environment_of (operators session.now.hooks.now) session.now.limit) m sorts kept }
     ensures gained { IfOk result (GainsOnWhere (environment_of (operators session.now.hooks.now) session.now.limit) (state_of state.old) number chosen (query_of kept.query) kept.cond most
         (state_of state.new) out.old.items out.new.items) }
-    ensures ready { OnOk result (IsReadyState state.new) }
+    ensures ready { OnOk result (IsReadyState (environment_of (operators session.now.hooks.now) session.now.limit) state.new) }
 {
     let module = state.library.module(chosen);
     write_continue_head(out, number, module)?;

@@ -18,3 +18,5 @@ pub mod Coding
 pub mod Before
 pub mod Closing
 pub mod Leading
+-- the pieces that the reader of the code has
+pub mod Found

@@ -4,6 +4,7 @@ use Rattle.mau_shapes.specs.Words.{Words}
 use Rattle.mau_shapes.specs.Shape.{Shape, IsTextOf}
 use Rattle.mau_shapes.specs.Front.{IsFront}
 use Rattle.mau_shapes.specs.Pieces.{pieces}
+use Rattle.mau_shapes.specs.Machine.{pieces_found}
 use Rattle.mau_shapes.specs.declared.pieces.Piece.{Piece}
 use Rattle.mau_shapes.specs.declared.pieces.Piece.TheVariants.{Plain, Label, Variable, Value, Call, Argument, Test, Pattern, Fragment, Wrapper}
 
@@ -52,8 +53,10 @@ pub record ArePiecesBefore (f : Words) (ps : List Piece) : Type 0 where
   pub whole : All (IsWhole (length f)) ps
   pub behind : All (IsBehind (length f)) rest
 
--- the pieces of a text before the first word with which no strategy goes on; all, where there is no such word
+-- The pieces of a text before the first word with which no strategy goes on; all, where there is no such word. Several strategies may
+-- begin so: where a name or a part ends directly before that word, it ends there, as the reader of the code has it.
 pub record AreFirstPieces (ws : Words) (ps : List Piece) : Type 0 where
   pub front : Words
   pub longest : IsLongestFront ws front
   pub before : ArePiecesBefore front ps
+  pub found : ps ≡ pieces_found ws

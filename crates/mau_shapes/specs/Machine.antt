@@ -212,3 +212,15 @@ flushed_in _ n r = r.pieces
 
 abbrev pub flushed : ℕ → Reader → List Piece
 flushed n r = flushed_in r.mode n r
+
+-- ---- the pieces where no strategy goes on, or at the end: the reader r stands before the words ws, the first of which is at the place i
+
+abbrev pub pieces_from : ℕ → Reader → List Word → List Piece
+pieces_from i r [] = flushed i r
+pieces_from i r (w ∷ ws) = elim (next w i r) [ None ↦ flushed i r | Some q ↦ pieces_from (i + 1) q ws ]
+
+abbrev pub nothing_read : Reader
+nothing_read = record { mode = mode.Operand; frames = []; pieces = [] }
+
+abbrev pub pieces_found : List Word → List Piece
+pieces_found ws = pieces_from 0 nothing_read ws

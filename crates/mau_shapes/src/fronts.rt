@@ -1,8 +1,9 @@
 //! What stands in a text before its first fault.
-ghost use Rattle.std.specs.Prelude.{◌≤◌, length, take, IfOk};
+ghost use Rattle.std.specs.Prelude.{◌≡◌, ◌≤◌, length, take, IfOk};
 ghost use Rattle.mau_tokens.specs.Spans.{AreSpans};
 ghost use Rattle.mau_shapes.specs.Front.{IsFront};
 ghost use Rattle.mau_shapes.specs.Before.{IsLongestFront, ArePiecesBefore, AreFirstPieces};
+ghost use Rattle.mau_shapes.specs.Machine.{pieces_found};
 ghost use Rattle.mau_shapes.specs.Reading.{words_of};
 
 use crate::pieces::Pieces;
@@ -17,6 +18,7 @@ fn front_length(alloc: Global, text: &str, tokens: &[Token]) -> Result<usize, No
     requires { AreSpans text.now tokens.now }
     ensures within { IfOk result (λ count. count ≤ length tokens.now) }
     ensures front { IfOk result (λ count. IsLongestFront (words_of text.now tokens.now) (take count (words_of text.now tokens.now))) }
+    ensures found { IfOk result (λ count. pieces_found (words_of text.now tokens.now) ≡ pieces_found (take count (words_of text.now tokens.now))) }
 {
     let mut reader = Reader::new(alloc);
     for place in 0..tokens.len() {
@@ -39,7 +41,8 @@ fn front_pieces(
     requires spans { AreSpans text.now tokens.now }
     requires within { count ≤ length tokens.now }
     requires front { IsFront (take count (words_of text.now tokens.now)) }
-    ensures { IfOk result (ArePiecesBefore (take count (words_of text.now tokens.now))) }
+    ensures before { IfOk result (ArePiecesBefore (take count (words_of text.now tokens.now))) }
+    ensures found { IfOk result (λ pieces. pieces ≡ pieces_found (take count (words_of text.now tokens.now))) }
 {
     let mut reader = Reader::new(alloc);
     for place in 0..count {

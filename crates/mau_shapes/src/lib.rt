@@ -15,3 +15,4 @@ pub use fault::ShapeFault;
 pub use fronts::pieces_before;
 pub use pieces::{Part, Piece, Pieces};
 pub use shape::read_shape;
+pub use words::{Beginning, beginning_of};

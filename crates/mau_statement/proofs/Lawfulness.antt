@@ -34,7 +34,7 @@ given_from k (p ∷ ps) (suc i) name s e =
     (subst (λ j. has_variable (listed_from (suc k) ps) (j, s) ≡ true) (omega arith) (given_from (suc k) ps i name s e))
 
 mutual
-  given_listed : (ps : List (List ℕ × ℕ)) (t : Tree) → AreGiven ps t → has_only (listed ps) t ≡ true
+  pub given_listed : (ps : List (List ℕ × ℕ)) (t : Tree) → AreGiven ps t → has_only (listed ps) t ≡ true
   given_listed ps (variable i s) g = subst (λ j. has_variable (listed ps) (j, s) ≡ true) (omega arith) (given_from 0 ps i g.0 s g.1)
   given_listed ps (numeral n) g = refl
   given_listed ps (apply f ts) g = all_listed ps ts g
@@ -49,7 +49,7 @@ fragment_listed ps (Match p u) h = (given_listed ps (tree_of p) h.0, given_liste
 fragment_listed ps (Sort t s) h = given_listed ps (tree_of t) h
 fragment_listed ps (Reach t u) h = (given_listed ps (tree_of t) h.0, given_listed ps (tree_of u) h.1)
 
-fragments_listed : (ps : List (List ℕ × ℕ)) (fs : List Fragment) → All (HasVariablesOf ps) fs → All (HasListedIn ps) fs
+pub fragments_listed : (ps : List (List ℕ × ℕ)) (fs : List Fragment) → All (HasVariablesOf ps) fs → All (HasListedIn ps) fs
 fragments_listed ps fs h = λ i x w. fragment_listed ps (get_or fs i x) (h i x w)
 
 -- ---- no fault

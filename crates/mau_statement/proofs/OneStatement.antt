@@ -157,17 +157,17 @@ module _ (ws : List Word) (c : ContextOf) (shaped : All IsShaped c.grammar.produ
 
   -- ---- a term
 
-  part_once : (ts : List Token) (goal : Goal) (ns : Pairs) {os os' : Pairs} {b b' : Bare} → TermReads ws c.grammar ts goal ns os b → TermReads ws c.grammar ts goal ns os' b'
+  pub part_once : (ts : List Token) (goal : Goal) (ns : Pairs) {os os' : Pairs} {b b' : Bare} → TermReads ws c.grammar ts goal ns os b → TermReads ws c.grammar ts goal ns os' b'
       → AreOneTerm c.grammar (part_tokens ws ts) (part_texts ws ts) goal ns os os' b b'
   part_once ts goal ns {os} {os'} {b} {b'} x y = term_once c.grammar (part_tokens ws ts) (part_texts ws ts) goal ns os os' b b' x y
 
-  part_no_fault : (ts : List Token) (goal : Goal) (ns : Pairs) {os : Pairs} {b : Bare} {f : StatementFault} → TermReads ws c.grammar ts goal ns os b → PartUnread ws c.grammar ts goal ns f → ⊥
+  pub part_no_fault : (ts : List Token) (goal : Goal) (ns : Pairs) {os : Pairs} {b : Bare} {f : StatementFault} → TermReads ws c.grammar ts goal ns os b → PartUnread ws c.grammar ts goal ns f → ⊥
   part_no_fault ts goal ns {os} {b} x (nothing_there e) =
       let none = nil_from_length (part_words ws ts) (eqb-true _ 0 e) in
       nothing_reads c.grammar shaped (part_texts ws ts) goal ns os b (ap (map (λ w. w.text)) none) x
   part_no_fault ts goal ns {os} {b} x (no_term f e n u) = term_no_fault c.grammar (part_tokens ws ts) (part_texts ws ts) goal ns os b f x u n
 
-  part_fault_once : (ts : List Token) (goal : Goal) (ns : Pairs) {e f : StatementFault} → PartUnread ws c.grammar ts goal ns e → PartUnread ws c.grammar ts goal ns f → without_trees e ≡ without_trees f
+  pub part_fault_once : (ts : List Token) (goal : Goal) (ns : Pairs) {e f : StatementFault} → PartUnread ws c.grammar ts goal ns e → PartUnread ws c.grammar ts goal ns f → without_trees e ≡ without_trees f
   part_fault_once ts goal ns (nothing_there h) (nothing_there h') = refl
   part_fault_once ts goal ns (nothing_there h) (no_term f h' n u) = absurd (yes_no _ h h')
   part_fault_once ts goal ns (no_term f h n u) (nothing_there h') = absurd (yes_no _ h' h)

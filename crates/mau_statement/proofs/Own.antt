@@ -38,12 +38,12 @@ extends_added ns [] k y e = e
 extends_added ns (z ∷ ys) k y e = extends_added (with_pair ns z) ys k y ((pairs_keep_places ns z).stay k y e)
 
 mutual
-  given_more : (ns os : Pairs) → Extends ns os → (t : Tree) → AreGiven ns t → AreGiven os t
+  pub given_more : (ns os : Pairs) → Extends ns os → (t : Tree) → AreGiven ns t → AreGiven os t
   given_more ns os x (variable i s) g = (g.0, x i (g.0, s) g.1)
   given_more ns os x (numeral n) g = tt
   given_more ns os x (apply f ts) g = all_given_more ns os x ts g
 
-  all_given_more : (ns os : Pairs) → Extends ns os → (ts : Trees) → AllGiven ns ts → AllGiven os ts
+  pub all_given_more : (ns os : Pairs) → Extends ns os → (ts : Trees) → AllGiven ns ts → AllGiven os ts
   all_given_more ns os x no_trees g = tt
   all_given_more ns os x (tree t ts) g = (given_more ns os x t g.0, all_given_more ns os x ts g.1)
 
@@ -123,7 +123,7 @@ module _ (ws : List Word) (c : ContextOf) where
   variables_more ns os x (Sort t sort) h = given_more ns os x (tree_of t) h
   variables_more ns os x (Reach t u) h = (given_more ns os x (tree_of t) h.0, given_more ns os x (tree_of u) h.1)
 
-  all_more : (ns os : Pairs) → Extends ns os → (fs : List Fragment) → All (HasVariablesOf ns) fs → All (HasVariablesOf os) fs
+  pub all_more : (ns os : Pairs) → Extends ns os → (fs : List Fragment) → All (HasVariablesOf ns) fs → All (HasVariablesOf os) fs
   all_more ns os x fs h = λ k d l. variables_more ns os x (get_or fs k d) (h k d l)
 
   pub record IsConditionGiven (ns os : Pairs) (fs : List Fragment) : Type 0 where

@@ -25,7 +25,7 @@ fn has_variable(variables: &[VarId], variable: VarId) -> bool
 
 /// Whether each variable of a term is among these.
 #[cycle(only)]
-fn has_only(variables: &[VarId], term: &Bare) -> bool
+pub fn has_only(variables: &[VarId], term: &Bare) -> bool
     ensures { result ≡ Binding.has_only (map variable_of variables.now) (tree_of term.now) }
 {
     match term {
@@ -58,7 +58,7 @@ fn add_variable(variables: &mut Vec<VarId>, added: VarId) -> Result<(), NoMemory
 
 /// Adds the variables of a term that are not there, by first occurrence.
 #[cycle(add)]
-fn add_variables(variables: &mut Vec<VarId>, term: &Bare) -> Result<(), NoMemory>
+pub fn add_variables(variables: &mut Vec<VarId>, term: &Bare) -> Result<(), NoMemory>
     ensures { OnOk result (map variable_of variables.new.items ≡ add_variables (map variable_of variables.old.items) (tree_of term.now)) }
 {
     match term {
@@ -106,7 +106,7 @@ fn bind(variables: &mut Vec<VarId>, fragment: &Fragment) -> Result<(), NoMemory>
 }
 
 /// Whether fragments have no other variables than they may have. Adds those that they bind, where they do.
-fn are_bound(variables: &mut Vec<VarId>, fragments: &[Fragment]) -> Result<bool, NoMemory>
+pub fn are_bound(variables: &mut Vec<VarId>, fragments: &[Fragment]) -> Result<bool, NoMemory>
     ensures value { IfOk result (λ bound. bound ≡ Binding.are_bound (map variable_of variables.old.items) fragments.now) }
     ensures behind { IfOk result (λ bound. bound ≡ true → map variable_of variables.new.items ≡ fold Binding.bound_behind (map variable_of variables.old.items) fragments.now) }
 {

@@ -1,8 +1,8 @@
 //! Statements of a module's text. [`read_statement`] reads an equation, a membership or a rule
 //! as typed terms and fragments, or says why it is none: a part is no term, a left side or a
 //! head may not be one, a variable is not bound, or there are too many parts. [`read_condition`] reads
-//! a condition by itself, and [`first_unbound`] tells which of its variables isn't bound. [`laws`]
-//! has what holds of this.
+//! a condition by itself, and [`first_unbound`] tells which of its variables isn't bound; [`has_only`], [`are_bound`] and
+//! [`add_variables`] judge the same of other texts. [`laws`] has what holds of this.
 #![tactic(auto)]
 
 mod binding;
@@ -17,7 +17,7 @@ mod reading;
 mod statement;
 mod tops;
 
-pub use binding::first_unbound;
+pub use binding::{add_variables, are_bound, first_unbound, has_only};
 pub use condition::read_condition;
 pub use context::Context;
 pub use fault::{Limit, StatementFault};

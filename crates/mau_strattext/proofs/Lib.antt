@@ -9,3 +9,6 @@ pub mod Leaves
 pub mod Top
 pub mod Bracketed
 pub mod Cuts
+-- each strategy is one
+pub mod OneLeaf
+pub mod OneStrategy

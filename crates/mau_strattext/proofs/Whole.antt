@@ -16,29 +16,29 @@ use Rattle.mau_strattext.specs.Building.{Makes, opens, wraps, marks, joins, choo
 
 -- ---- pieces behind a word
 
-abbrev AllInner : List Piece → Type 0
+abbrev pub AllInner : List Piece → Type 0
 AllInner [] = Unit {0}
 AllInner (p ∷ ps) = (is_inner p ≡ true) × AllInner ps
 
-abbrev IsOuter : List Piece → Type 0
+abbrev pub IsOuter : List Piece → Type 0
 IsOuter [] = Unit {0}
 IsOuter (p ∷ ps) = is_inner p ≡ false
 
-inner_split : (us rest : List Piece) → AllInner us → IsOuter rest → inner (us ++ rest) ≡ us
+pub inner_split : (us rest : List Piece) → AllInner us → IsOuter rest → inner (us ++ rest) ≡ us
 inner_split [] [] a o = refl
 inner_split [] (p ∷ ps) a o = ap (λ (b : Bool). if b then p ∷ inner ps else []) o
 inner_split (u ∷ us) rest a o = ap (λ (b : Bool). if b then u ∷ inner (us ++ rest) else []) a.0 ∙ ap (λ zs. u ∷ zs) (inner_split us rest a.1 o)
 
-behind_split : (us rest : List Piece) → AllInner us → IsOuter rest → behind_inner (us ++ rest) ≡ rest
+pub behind_split : (us rest : List Piece) → AllInner us → IsOuter rest → behind_inner (us ++ rest) ≡ rest
 behind_split [] [] a o = refl
 behind_split [] (p ∷ ps) a o = ap (λ (b : Bool). if b then behind_inner ps else p ∷ ps) o
 behind_split (u ∷ us) rest a o = ap (λ (b : Bool). if b then behind_inner (us ++ rest) else u ∷ (us ++ rest)) a.0 ∙ behind_split us rest a.1 o
 
-uses_inner : (i : ℕ) (us : List Use) → AllInner (use_pieces i us)
+pub uses_inner : (i : ℕ) (us : List Use) → AllInner (use_pieces i us)
 uses_inner i [] = tt
 uses_inner i (u ∷ us) = (refl, (refl, uses_inner (i + length u.0 + 1 + length u.1 + 1) us))
 
-terms_inner : (i : ℕ) (ts : List Words) → AllInner (term_pieces i ts ++ Called ∷ [])
+pub terms_inner : (i : ℕ) (ts : List Words) → AllInner (term_pieces i ts ++ Called ∷ [])
 terms_inner i [] = (refl, tt)
 terms_inner i (t ∷ ts) = (refl, terms_inner (i + length t + 1) ts)
 
@@ -46,12 +46,12 @@ fragments_inner : (i : ℕ) (ts : List Words) → AllInner (fragment_pieces i ts
 fragments_inner i [] = tt
 fragments_inner i (t ∷ ts) = (refl, fragments_inner (i + length t + 1) ts)
 
-such_inner : (i : ℕ) (c : Option SuchThat) → AllInner (such_pieces i c)
+pub such_inner : (i : ℕ) (c : Option SuchThat) → AllInner (such_pieces i c)
 such_inner i None = tt
 such_inner i (Some c) = fragments_inner (i + length c.0) c.1
 
 -- pieces of a shape begin with a word
-outer : (e : Shape) (i : ℕ) (rest : List Piece) → IsOuter (pieces i e ++ rest)
+pub outer : (e : Shape) (i : ℕ) (rest : List Piece) → IsOuter (pieces i e ++ rest)
 outer (plain w) i rest = refl
 outer (assigned w us) i rest = refl
 outer (called w ts) i rest = refl
@@ -73,7 +73,7 @@ outer (chosen e f g) i rest =
 -- ---- one piece
 
 module _ (s : SettingOf) where
-  leaf_is : {t : Bool} {p : Piece} {ps : List Piece} {ns os : Pairs} {x : StrategyOf} → LeafReads s t p ps ns os x → is_leaf p ≡ true
+  pub leaf_is : {t : Bool} {p : Piece} {ps : List Piece} {ns os : Pairs} {x : StrategyOf} → LeafReads s t p ps ns os x → is_leaf p ≡ true
   leaf_is (idle_reads i ns e) = refl
   leaf_is (fail_reads i ns e) = refl
   leaf_is (all_reads i ns e) = refl

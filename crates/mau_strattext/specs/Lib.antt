@@ -12,6 +12,8 @@ pub mod Faults
 pub mod Strategies
 -- what terms of a strategy that is read are
 pub mod Lawful
+-- the law
+pub mod Laws
 -- What only inner contracts and proofs cite: strategies put together piece by piece.
 pub mod Building
 pub mod Terms

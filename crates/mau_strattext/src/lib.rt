@@ -7,6 +7,7 @@ mod build;
 mod cut;
 mod fault;
 mod fragments;
+pub mod laws;
 mod leaf;
 mod setting;
 mod stack;
@@ -14,5 +15,6 @@ mod strategy;
 mod term;
 mod uses;
 
+pub use brackets::closing;
 pub use fault::StratFault;
 pub use strategy::read_strategy;

@@ -1,7 +1,6 @@
 use Rattle.std.proofs.Common.{ap, sym, subst, ◌∙◌}
 use Rattle.mau_module.specs.Framed.{Frame}
 use Rattle.mau_module.specs.Flattened.{grammar_in}
-use Rattle.mau_module.specs.Modules.{ModuleOf}
 use Rattle.mau_module.proofs.Flattening.{made_of_text}
 use Rattle.std.specs.Prelude.{All}
 use Rattle.mau_poset.specs.Order.{Hierarchy, IsWithin}

@@ -1,6 +1,4 @@
 use Rattle.std.proofs.Common.{◌++◌, ap, subst, ◌∙◌}
-use Rattle.std.specs.Prelude.{All}
-use Rattle.mau_signature.specs.Faults.{HasSorts}
 use Rattle.mau_declare.specs.Flattened.{AreLower}
 use Rattle.mau_module.specs.Declarations.{hierarchy_over}
 use Rattle.mau_module.proofs.Tabled.{ordered_as, signed_as}

@@ -1,4 +1,4 @@
-use Rattle.std.proofs.Common.{◌≡◌, ℕ, List, [], ap, ap₂, ◌∙◌}
+use Rattle.std.proofs.Common.{◌≡◌, ℕ, List, ap, ap₂, ◌∙◌}
 use Rattle.std.specs.Prelude.{fold}
 use Rattle.mau_signature.specs.declared.decl.Decl.{Decl}
 use Rattle.mau_grammar.specs.declared.aliases.Alias.{Alias}

@@ -1,4 +1,4 @@
-use Rattle.std.proofs.Common.{◌++◌, ◌∷◌, [], length, sym, ap, ◌∙◌}
+use Rattle.std.proofs.Common.{◌++◌, ◌∷◌, [], length}
 use Rattle.mau_module.specs.Declarations.{all_declarations}
 use Rattle.mau_module.proofs.Numerals.{some_names}
 use Rattle.mau_module.proofs.signing.sign_declarations.Goals as goal

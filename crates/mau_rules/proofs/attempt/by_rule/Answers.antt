@@ -42,9 +42,9 @@ use Rattle.mau_rules.specs.Known.{Gives}
 use Rattle.mau_rules.specs.Found.{item_of, rule_at, solving_by, stand_with, found_stand, KnownSolving}
 use Rattle.mau_rules.proofs.Shown.{lawful_rule}
 use Rattle.mau_rules.proofs.Trying.{at_none}
-use Rattle.mau_rules.proofs.Rounds.{Left, begins, goes_past}
+use Rattle.mau_rules.proofs.Rounds.{Left, goes_past}
 use Rattle.mau_rules.proofs.Answered.{answer_ends, answer_holds}
-use Rattle.mau_rules.proofs.Turned.{none_turn, some_turn, valued_turn, contexts_turn, kind_turn}
+use Rattle.mau_rules.proofs.Turned.{begun_turn, none_turn, some_turn, valued_turn, contexts_turn, kind_turn}
 use Rattle.mau_rules.proofs.Told.{behind_same, behind_equal, behind_on, found_as}
 use Rattle.mau_rules.proofs.attempt.by_rule.Goals as goal
 
@@ -85,7 +85,8 @@ loop-init g c =
       wanted = refl;
       left = λ rule there run normal bare.
           subst (λ (o : Option Listed.Solution). Left p run m.hooks (rule_of rule) (tree_at store c.args.term.0) normal bare (item_of m (g.W.StepWatcher.wanted c.args.watcher.now)) c.args.number c.args.budget.now c.args.budget.now (option_map (matcher_in store) o)) (sym c.in-Ok.ensures.given)
-          (begins p run m.hooks (rule_of rule) (tree_at store c.args.term.0) normal bare (item_of m (g.W.StepWatcher.wanted c.args.watcher.now)) c.args.number (subst (λ (r : Rule). r.exec ≡ true) (one_at p.rules c.args.number actual rule at there) exec) c.args.budget.now);
+          (begun_turn p run m c.requires.goes_by rule c.args.number (tree_at store c.args.term.0) normal bare (g.W.StepWatcher.wanted c.args.watcher.now) store table (g.met.E.Evaluator.derived c.args.evaluator.now store c.requires.fits) c.requires.settled
+          (subst (λ (r : Rule). r.exec ≡ true) (one_at p.rules c.args.number actual rule at there) exec) c.args.budget.now);
     }
 
 pub list-requires-clause-fits : goal.list-requires-clause-fits
@@ -109,7 +110,8 @@ returns-in-Ok-None-clause-known g c = λ h around rule there.
     let run = c.requires.runnable in
     let normal = c.requires.term.within.normal in
     let bare = c.requires.term.bare in
-    let I = item_of m (g.W.StepWatcher.wanted c.args.watcher.now) in
+    let w = g.W.StepWatcher.wanted c.args.watcher.now in
+    let I = item_of m w in
     let i = c.loop.invariant in
     let began = c.args.store.now in
     let now = c.loop.store in
@@ -126,7 +128,7 @@ returns-in-Ok-None-clause-known g c = λ h around rule there.
     let later : tree_at new c.args.term.0 ≡ t = tree_kept (theory_at p.sig) began new c.args.term.0 reached c.requires.term.within in
     let derived = subst (λ (n : Meanings). IsDerivedTable n now before) i.meanings (g.met.E.Evaluator.derived c.loop.evaluator now i.fits) in
     let settled = settled_grown p.sig began now (g.E.Evaluator.table c.args.evaluator.now) before t i.extends i.kept c.requires.settled in
-    none_turn p run m c.requires.goes_by rule c.args.number t normal bare I c.args.budget.now c.loop.budget now new before after wc c.requires.contexts a c.args.term (i.asked rule there) subject later given s same derived settled (i.left rule there run normal bare)
+    none_turn p run m c.requires.goes_by rule c.args.number t normal bare w c.args.budget.now c.loop.budget now new before after wc c.requires.contexts a c.args.term (i.asked rule there) subject later given s same derived settled (i.left rule there run normal bare)
     (subst (λ (o : Option Listed.Solution). (known : Known) → IsTableOf s known now before →
     IsNext (IsSolution wc s (BySort s known) (question_in now a)) (matcher_cmp (theory_at s) a.pattern) (option_map (matcher_in now) given) (option_map (matcher_in new) o)) c.in-Ok-None.field-0-is c.in-Ok-None.ensures.next) h around
 
@@ -147,7 +149,8 @@ shown_for-requires-clause-values g c = λ rule there.
     let run = c.requires.runnable in
     let normal = c.requires.term.within.normal in
     let bare = c.requires.term.bare in
-    let I = item_of m (g.W.StepWatcher.wanted c.args.watcher.now) in
+    let w = g.W.StepWatcher.wanted c.args.watcher.now in
+    let I = item_of m w in
     let i = c.loop.invariant in
     let began = c.args.store.now in
     let now = c.loop.store in
@@ -165,11 +168,10 @@ shown_for-requires-clause-values g c = λ rule there.
     let derived = subst (λ (n : Meanings). IsDerivedTable n now before) i.meanings (g.met.E.Evaluator.derived c.loop.evaluator now i.fits) in
     let settled = settled_grown p.sig began now (g.E.Evaluator.table c.args.evaluator.now) before t i.extends i.kept c.requires.settled in
     let x = c.in-Ok-Some.solution in
-    let next = some_turn p run m c.requires.goes_by rule c.args.number t normal bare I c.args.budget.now c.loop.budget now new before after wc c.requires.contexts a c.args.term (i.asked rule there) subject later given s same derived settled (i.left rule there run normal bare) x
-    (subst (λ (o : Option Listed.Solution). (known : Known) → IsTableOf s known now before →
-    IsNext (IsSolution wc s (BySort s known) (question_in now a)) (matcher_cmp (theory_at s) a.pattern) (option_map (matcher_in now) given) (option_map (matcher_in new) o)) c.in-Ok-Some.field-0-is c.in-Ok-Some.ensures.next) in
+    let is = subst (λ (o : Option Listed.Solution). (known : Known) → IsTableOf s known now before →
+    IsNext (IsSolution wc s (BySort s known) (question_in now a)) (matcher_cmp (theory_at s) a.pattern) (option_map (matcher_in now) given) (option_map (matcher_in new) o)) c.in-Ok-Some.field-0-is c.in-Ok-Some.ensures.next in
     let solves : IsGiven wc s new after a x = subst (λ (o : Option Listed.Solution). IfSome o (IsGiven wc s new after a)) c.in-Ok-Some.field-0-is c.in-Ok-Some.ensures.solves in
-    valued_turn p run m c.requires.goes_by rule c.args.number t normal bare I c.args.budget.now c.loop.budget now new before after wc c.requires.contexts a c.args.term (i.asked rule there) subject later given s same derived settled (i.left rule there run normal bare) x next solves
+    valued_turn p run m c.requires.goes_by rule c.args.number t normal bare w c.args.budget.now c.loop.budget now new before after wc c.requires.contexts a c.args.term (i.asked rule there) subject later given s same derived settled (i.left rule there run normal bare) x is solves
 
 -- what a condition says, for an evaluator that goes by the same meanings and a watcher that wants the same
 asked_so : (m n : Meanings) (v w : Bool) → n ≡ m → v ≡ w → (f : Meanings → ℕ → ℕ → Run (Option Binding)) (b : ℕ) (nodes : List Node) (r : Result (Option (List (VarId × TermId) × ℕ)) EvalEnd) (after : ℕ) → KnownSolving (item_of n v) (f n) b nodes r after → KnownSolving (item_of m w) (f m) b nodes r after
@@ -183,7 +185,8 @@ returns-in-Ok-Some-shown_for-clause-known g c = λ h around rule there.
     let run = c.requires.runnable in
     let normal = c.requires.term.within.normal in
     let bare = c.requires.term.bare in
-    let I = item_of m (g.W.StepWatcher.wanted c.args.watcher.now) in
+    let w = g.W.StepWatcher.wanted c.args.watcher.now in
+    let I = item_of m w in
     let i = c.loop.invariant in
     let began = c.args.store.now in
     let now = c.loop.store in
@@ -201,9 +204,9 @@ returns-in-Ok-Some-shown_for-clause-known g c = λ h around rule there.
     let derived = subst (λ (n : Meanings). IsDerivedTable n now before) i.meanings (g.met.E.Evaluator.derived c.loop.evaluator now i.fits) in
     let settled = settled_grown p.sig began now (g.E.Evaluator.table c.args.evaluator.now) before t i.extends i.kept c.requires.settled in
     let x = c.in-Ok-Some.solution in
-    let next = some_turn p run m c.requires.goes_by rule c.args.number t normal bare I c.args.budget.now c.loop.budget now new before after wc c.requires.contexts a c.args.term (i.asked rule there) subject later given s same derived settled (i.left rule there run normal bare) x
-    (subst (λ (o : Option Listed.Solution). (known : Known) → IsTableOf s known now before →
-    IsNext (IsSolution wc s (BySort s known) (question_in now a)) (matcher_cmp (theory_at s) a.pattern) (option_map (matcher_in now) given) (option_map (matcher_in new) o)) c.in-Ok-Some.field-0-is c.in-Ok-Some.ensures.next) in
+    let is = subst (λ (o : Option Listed.Solution). (known : Known) → IsTableOf s known now before →
+    IsNext (IsSolution wc s (BySort s known) (question_in now a)) (matcher_cmp (theory_at s) a.pattern) (option_map (matcher_in now) given) (option_map (matcher_in new) o)) c.in-Ok-Some.field-0-is c.in-Ok-Some.ensures.next in
+    let next = some_turn p run m c.requires.goes_by rule c.args.number t normal bare w c.args.budget.now c.loop.budget now new before after wc c.requires.contexts a c.args.term (i.asked rule there) subject later given s same derived settled (i.left rule there run normal bare) x is in
     let solves : IsGiven wc s new after a x = subst (λ (o : Option Listed.Solution). IfSome o (IsGiven wc s new after a)) c.in-Ok-Some.field-0-is c.in-Ok-Some.ensures.solves in
     let told = asked_so m (g.E.Evaluator.meanings c.list.new.self) (g.W.StepWatcher.wanted c.loop.watcher) (g.W.StepWatcher.wanted c.args.watcher.now) (c.list.ensures.meanings ∙ i.meanings) i.wanted
     (λ n. solving_by (program_over p n.hooks) (rule_of rule).cond (binding_of (rule_of rule).left (solution_in new x))) c.loop.budget c.shown_for.new.store (Ok (Some (c.in-Ok-Some-shown_for.bound.items, c.in-Ok-Some-shown_for.rewrites))) c.shown_for.new.budget
@@ -230,7 +233,8 @@ returns-in-Ok-Some-shown_for-clause-found g c =
     let run = c.requires.runnable in
     let normal = c.requires.term.within.normal in
     let bare = c.requires.term.bare in
-    let I = item_of m (g.W.StepWatcher.wanted c.args.watcher.now) in
+    let w = g.W.StepWatcher.wanted c.args.watcher.now in
+    let I = item_of m w in
     let i = c.loop.invariant in
     let began = c.args.store.now in
     let now = c.loop.store in
@@ -248,19 +252,18 @@ returns-in-Ok-Some-shown_for-clause-found g c =
     let derived = subst (λ (n : Meanings). IsDerivedTable n now before) i.meanings (g.met.E.Evaluator.derived c.loop.evaluator now i.fits) in
     let settled = settled_grown p.sig began now (g.E.Evaluator.table c.args.evaluator.now) before t i.extends i.kept c.requires.settled in
     let x = c.in-Ok-Some.solution in
-    let next = some_turn p run m c.requires.goes_by rule c.args.number t normal bare I c.args.budget.now c.loop.budget now new before after wc c.requires.contexts a c.args.term (i.asked rule there) subject later given s same derived settled (i.left rule there run normal bare) x
-    (subst (λ (o : Option Listed.Solution). (known : Known) → IsTableOf s known now before →
-    IsNext (IsSolution wc s (BySort s known) (question_in now a)) (matcher_cmp (theory_at s) a.pattern) (option_map (matcher_in now) given) (option_map (matcher_in new) o)) c.in-Ok-Some.field-0-is c.in-Ok-Some.ensures.next) in
+    let is = subst (λ (o : Option Listed.Solution). (known : Known) → IsTableOf s known now before →
+    IsNext (IsSolution wc s (BySort s known) (question_in now a)) (matcher_cmp (theory_at s) a.pattern) (option_map (matcher_in now) given) (option_map (matcher_in new) o)) c.in-Ok-Some.field-0-is c.in-Ok-Some.ensures.next in
     let solves : IsGiven wc s new after a x = subst (λ (o : Option Listed.Solution). IfSome o (IsGiven wc s new after a)) c.in-Ok-Some.field-0-is c.in-Ok-Some.ensures.solves in
     record {
       rule = rule;
       at = there;
       exec = c.if-not-rule.false;
-      contexts = contexts_grown p new c.shown_for.new.store c.shown_for.ensures.extends t (numbers x.left) (numbers x.right) (contexts_turn p run m c.requires.goes_by rule c.args.number t normal bare I c.args.budget.now c.loop.budget now new before after wc c.requires.contexts a c.args.term (i.asked rule there) subject later given s same derived settled (i.left rule there run normal bare) x next solves);
+      contexts = contexts_grown p new c.shown_for.new.store c.shown_for.ensures.extends t (numbers x.left) (numbers x.right) (contexts_turn p run m c.requires.goes_by rule c.args.number t normal bare w c.args.budget.now c.loop.budget now new before after wc c.requires.contexts a c.args.term (i.asked rule there) subject later given s same derived settled (i.left rule there run normal bare) x is solves);
       bound = subst (λ (o : Option (Vec (VarId × TermId) Global × ℕ)). IfSome o (λ z. All (IsValueOf p.sig c.shown_for.new.store (g.E.Evaluator.table c.shown_for.new.evaluator)) z.0.items)) c.in-Ok-Some-shown_for.field-0-is c.in-Ok-Some-shown_for.ensures.bound;
       named = subst (λ (o : Option (Vec (VarId × TermId) Global × ℕ)). IfSome o (λ z. map (λ b. variable_of b.0) z.0.items ≡ statement_variables (tree_of rule.left) rule.cond (tree_of rule.right)))
           c.in-Ok-Some-shown_for.field-0-is (c.in-Ok-Some-shown_for.ensures.named rule there);
-      kind = kind_turn p run m c.requires.goes_by rule c.args.number t normal bare I c.args.budget.now c.loop.budget now new before after wc c.requires.contexts a c.args.term (i.asked rule there) subject later given s same derived settled (i.left rule there run normal bare) x next solves;
+      kind = kind_turn p run m c.requires.goes_by rule c.args.number t normal bare w c.args.budget.now c.loop.budget now new before after wc c.requires.contexts a c.args.term (i.asked rule there) subject later given s same derived settled (i.left rule there run normal bare) x is solves;
     }
 
 pub returns-in-Err-shown_for-clause-known : goal.returns-in-Err-shown_for-clause-known
@@ -271,7 +274,8 @@ returns-in-Err-shown_for-clause-known g c = λ h around rule there.
     let run = c.requires.runnable in
     let normal = c.requires.term.within.normal in
     let bare = c.requires.term.bare in
-    let I = item_of m (g.W.StepWatcher.wanted c.args.watcher.now) in
+    let w = g.W.StepWatcher.wanted c.args.watcher.now in
+    let I = item_of m w in
     let i = c.loop.invariant in
     let began = c.args.store.now in
     let now = c.loop.store in
@@ -289,9 +293,9 @@ returns-in-Err-shown_for-clause-known g c = λ h around rule there.
     let derived = subst (λ (n : Meanings). IsDerivedTable n now before) i.meanings (g.met.E.Evaluator.derived c.loop.evaluator now i.fits) in
     let settled = settled_grown p.sig began now (g.E.Evaluator.table c.args.evaluator.now) before t i.extends i.kept c.requires.settled in
     let x = c.in-Ok-Some.solution in
-    let next = some_turn p run m c.requires.goes_by rule c.args.number t normal bare I c.args.budget.now c.loop.budget now new before after wc c.requires.contexts a c.args.term (i.asked rule there) subject later given s same derived settled (i.left rule there run normal bare) x
-    (subst (λ (o : Option Listed.Solution). (known : Known) → IsTableOf s known now before →
-    IsNext (IsSolution wc s (BySort s known) (question_in now a)) (matcher_cmp (theory_at s) a.pattern) (option_map (matcher_in now) given) (option_map (matcher_in new) o)) c.in-Ok-Some.field-0-is c.in-Ok-Some.ensures.next) in
+    let is = subst (λ (o : Option Listed.Solution). (known : Known) → IsTableOf s known now before →
+    IsNext (IsSolution wc s (BySort s known) (question_in now a)) (matcher_cmp (theory_at s) a.pattern) (option_map (matcher_in now) given) (option_map (matcher_in new) o)) c.in-Ok-Some.field-0-is c.in-Ok-Some.ensures.next in
+    let next = some_turn p run m c.requires.goes_by rule c.args.number t normal bare w c.args.budget.now c.loop.budget now new before after wc c.requires.contexts a c.args.term (i.asked rule there) subject later given s same derived settled (i.left rule there run normal bare) x is in
     let solves : IsGiven wc s new after a x = subst (λ (o : Option Listed.Solution). IfSome o (IsGiven wc s new after a)) c.in-Ok-Some.field-0-is c.in-Ok-Some.ensures.solves in
     let told = asked_so m (g.E.Evaluator.meanings c.list.new.self) (g.W.StepWatcher.wanted c.loop.watcher) (g.W.StepWatcher.wanted c.args.watcher.now) (c.list.ensures.meanings ∙ i.meanings) i.wanted
     (λ n. solving_by (program_over p n.hooks) (rule_of rule).cond (binding_of (rule_of rule).left (solution_in new x))) c.loop.budget c.shown_for.new.store (Err c.in-Err-shown_for.end) c.shown_for.new.budget (c.in-Err-shown_for.ensures.known rule there) in
@@ -308,7 +312,8 @@ loop-preserved g c =
     let run = c.requires.runnable in
     let normal = c.requires.term.within.normal in
     let bare = c.requires.term.bare in
-    let I = item_of m (g.W.StepWatcher.wanted c.args.watcher.now) in
+    let w = g.W.StepWatcher.wanted c.args.watcher.now in
+    let I = item_of m w in
     let i = c.loop.invariant in
     let began = c.args.store.now in
     let now = c.loop.store in
@@ -326,9 +331,8 @@ loop-preserved g c =
     let derived = subst (λ (n : Meanings). IsDerivedTable n now before) i.meanings (g.met.E.Evaluator.derived c.loop.evaluator now i.fits) in
     let settled = settled_grown p.sig began now (g.E.Evaluator.table c.args.evaluator.now) before t i.extends i.kept c.requires.settled in
     let x = c.in-Ok-Some.solution in
-    let next = some_turn p run m c.requires.goes_by rule c.args.number t normal bare I c.args.budget.now c.loop.budget now new before after wc c.requires.contexts a c.args.term (i.asked rule there) subject later given s same derived settled (i.left rule there run normal bare) x
-    (subst (λ (o : Option Listed.Solution). (known : Known) → IsTableOf s known now before →
-    IsNext (IsSolution wc s (BySort s known) (question_in now a)) (matcher_cmp (theory_at s) a.pattern) (option_map (matcher_in now) given) (option_map (matcher_in new) o)) c.in-Ok-Some.field-0-is c.in-Ok-Some.ensures.next) in
+    let is = subst (λ (o : Option Listed.Solution). (known : Known) → IsTableOf s known now before →
+    IsNext (IsSolution wc s (BySort s known) (question_in now a)) (matcher_cmp (theory_at s) a.pattern) (option_map (matcher_in now) given) (option_map (matcher_in new) o)) c.in-Ok-Some.field-0-is c.in-Ok-Some.ensures.next in
     let solves : IsGiven wc s new after a x = subst (λ (o : Option Listed.Solution). IfSome o (IsGiven wc s new after a)) c.in-Ok-Some.field-0-is c.in-Ok-Some.ensures.solves in
     let final = c.shown_for.new.store in
     let last = g.E.Evaluator.table c.shown_for.new.evaluator in
@@ -353,9 +357,7 @@ loop-preserved g c =
       told = subst (λ (o : Option (Vec (VarId × TermId) Global × ℕ)). IfNone o (g.W.StepWatcher.told c.shown_for.new.watcher ≡ g.W.StepWatcher.told c.loop.watcher)) c.in-Ok-None-shown_for.field-0-is c.in-Ok-None-shown_for.ensures.untold ∙ i.told;
       wanted = c.shown_for.ensures.wanted ∙ i.wanted;
       left = λ r k run' normal' bare'.
-          let turn = some_turn p run' m c.requires.goes_by r c.args.number t normal' bare' I c.args.budget.now c.loop.budget now new before after wc c.requires.contexts a c.args.term (i.asked r k) subject later given s same derived settled (i.left r k run' normal' bare') x
-          (subst (λ (o : Option Listed.Solution). (known : Known) → IsTableOf s known now before →
-          IsNext (IsSolution wc s (BySort s known) (question_in now a)) (matcher_cmp (theory_at s) a.pattern) (option_map (matcher_in now) given) (option_map (matcher_in new) o)) c.in-Ok-Some.field-0-is c.in-Ok-Some.ensures.next) in
+          let turn = some_turn p run' m c.requires.goes_by r c.args.number t normal' bare' w c.args.budget.now c.loop.budget now new before after wc c.requires.contexts a c.args.term (i.asked r k) subject later given s same derived settled (i.left r k run' normal' bare') x is in
           let told = asked_so m (g.E.Evaluator.meanings c.list.new.self) (g.W.StepWatcher.wanted c.loop.watcher) (g.W.StepWatcher.wanted c.args.watcher.now) (c.list.ensures.meanings ∙ i.meanings) i.wanted
           (λ n. solving_by (program_over p n.hooks) (rule_of r).cond (binding_of (rule_of r).left (solution_in new x))) c.loop.budget final (Ok None) c.shown_for.new.budget
           (subst (λ (o : Option (Vec (VarId × TermId) Global × ℕ)). KnownSolving (item_of (g.E.Evaluator.meanings c.list.new.self) (g.W.StepWatcher.wanted c.loop.watcher))

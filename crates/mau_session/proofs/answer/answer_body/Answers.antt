@@ -30,3 +30,9 @@ returns-in-Setting-clause-gained g c =
     c.args.out.now.items c.answer_setting.new.out.items)) (sym c.in-Setting.is)
     (IfOk-weaker c.answer_setting.result _ _
     (λ r g. record { bytes = g.bytes; answer = setting_answered _ _ g.bytes r g.answer; gained = g.gained }) c.answer_setting.ensures.gained)
+
+pub returns-in-Module-clause-ready : goal.returns-in-Module-clause-ready
+returns-in-Module-clause-ready g c = c.answer_module.ensures.ready (environment_of (operators c.args.session.now.hooks.now) c.args.session.now.limit) c.requires.ready
+
+pub returns-in-Setting-clause-ready : goal.returns-in-Setting-clause-ready
+returns-in-Setting-clause-ready g c = c.answer_setting.ensures.ready (environment_of (operators c.args.session.now.hooks.now) c.args.session.now.limit) c.requires.ready

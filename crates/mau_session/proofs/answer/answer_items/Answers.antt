@@ -1,7 +1,8 @@
-use Rattle.std.proofs.Common.{◌≡◌, ℕ, suc, ◌+◌, ◌<◌, List, [], ◌∷◌, false, ◌||◌, length, get_or, drop, arith, sym, ◌∙◌, ap, subst, add-one}
+use Rattle.std.proofs.Common.{◌≡◌, ℕ, suc, ◌+◌, ◌<◌, List, [], ◌∷◌, ◌++◌, false, ◌||◌, length, get_or, drop, arith, sym, ◌∙◌, ap, subst, add-one}
 use Rattle.std.proofs.lemmas.List.{drop_all}
 use Rattle.std.proofs.Math.Seq.{drop-cons}
 use Rattle.mau_modtext.specs.declared.raw.RawItem.{RawItem}
+use Rattle.mau_session.specs.State.{at_first}
 use Rattle.mau_session.specs.KeptState.{state_of}
 use Rattle.mau_formula.specs.Operators.{operators}
 use Rattle.mau_session.specs.Environment.{environment_of}
@@ -13,6 +14,19 @@ use Rattle.mau_session.proofs.answer.answer_items.Goals.{then-refused, else-refu
 -- the item at i, and those behind it
 from_item : (items : List RawItem) (i : ℕ) (item : RawItem) → i < length items → item ≡ get_or items i item → drop i items ≡ item ∷ drop (i + 1) items
 from_item items i item h e = drop-cons items i item h ∙ ap (λ x. x ∷ drop (suc i) items) (sym e) ∙ ap (λ n. item ∷ drop n items) (sym (add-one i))
+
+pub loop-item-init : goal.loop-item-init
+loop-item-init g c =
+    let e = environment_of (operators c.args.session.now.hooks.now) c.args.session.now.limit in
+    let ws = c.args.session.now.words.now in
+    let all = c.args.items.now in
+    record {
+      ready = c.in_ok-state.ensures.ready e;
+      few = omega arith;
+      rest = λ more later h.
+          subst (λ (w : List ℕ). ItemsAnswer e ws at_first 1 all (w ++ more) later) (sym c.new-out.ensures.items)
+          (subst (λ s. ItemsAnswer e ws s 1 all more later) c.in_ok-state.ensures.state h);
+    }
 
 pub returns-then-quits : goal.returns-then-quits
 returns-then-quits g c =

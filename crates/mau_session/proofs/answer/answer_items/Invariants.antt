@@ -8,7 +8,7 @@ use Rattle.mau_session.proofs.answer.answer_items.Given as goal
 
 abbrev pub invariant-loop-item : goal.invariant-loop-item
 invariant-loop-item g l = record {
-  ready : IsReadyState l.state;
+  ready : IsReadyState (environment_of (operators l.session.hooks.now) l.session.limit) l.state;
   few : l.number ≤ l.item-index + 1;
   rest : (more : List ℕ) (later : Bool) → ItemsAnswer (environment_of (operators l.session.hooks.now) l.session.limit) l.session.words.now (state_of l.state) l.number (drop l.item-index l.items) more later → ItemsAnswer (environment_of (operators l.session.hooks.now) l.session.limit) l.session.words.now at_first 1 l.items (l.out.items ++ more) (l.refused || later);
 }

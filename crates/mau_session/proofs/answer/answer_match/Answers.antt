@@ -28,7 +28,7 @@ returns-in-Err-clause-gained g c =
     refused_with _ c.refuse-in-Err.result c.refuse-in-Err.ensures.bytes c.refuse-in-Err.ensures.refused
     (λ g. record {
       bytes = _;
-      answer = subst (λ r. MatchAnswer e ws st c.args.number c.args.item c.args.command.now st (refusal_line c.args.number ws r) true) (sym u.named) (module_unknown u.token built u.none);
+      answer = subst (λ r. MatchAnswer e ws st c.args.number c.args.command.now st (refusal_line c.args.number ws r) true) (sym u.named) (module_unknown u.token built u.none);
       gained = g;
     })
 
@@ -39,5 +39,5 @@ returns-in-Ok-clause-gained g c =
     let st = state_of c.args.state.now in
     let built : unbuilt ws c.args.command.now ≡ None = sym c.in-None.ensures.unbuilt in
     IfOk-weaker c.answer_chosen.result _ _
-    (λ r g. gains_chosen e ws st c.args.number c.args.item c.args.command.now c.in-Ok.chosen (state_of c.answer_chosen.new.state) c.args.out.now.items c.answer_chosen.new.out.items r built c.in-Ok.ensures.chosen g)
+    (λ r g. gains_chosen e ws st c.args.number c.args.command.now c.in-Ok.chosen (state_of c.answer_chosen.new.state) c.args.out.now.items c.answer_chosen.new.out.items r built c.in-Ok.ensures.chosen g)
     c.answer_chosen.ensures.gained

@@ -26,4 +26,4 @@ returns-in-Err-clause-gained g c =
 
 pub returns-in-Err-clause-ready : goal.returns-in-Err-clause-ready
 returns-in-Err-clause-ready g c =
-    unread_with Refused (IsReadyOutcome c.args.module.now) c.refuse_term.result c.refuse_term.ensures.bytes c.refuse_term.ensures.named c.refuse_term.ensures.refused (λ g n. tt)
+    unread_with Refused (IsReadyOutcome (environment_of (operators c.args.session.now.hooks.now) c.args.session.now.limit) c.args.module.now) c.refuse_term.result c.refuse_term.ensures.bytes c.refuse_term.ensures.named c.refuse_term.ensures.refused (λ g n. tt)

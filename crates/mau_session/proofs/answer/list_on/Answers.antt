@@ -11,10 +11,10 @@ pub list_further-requires-clause-ready : goal.list_further-requires-clause-ready
 list_further-requires-clause-ready g c =
     let both : Some c.requires.there.0 ≡ Some c.module-module.result.now = sym c.requires.there.1 ∙ c.module-module.ensures.there in
     let same : c.requires.there.0 ≡ c.module-module.result.now = cc in
-    subst (λ (m : ModuleOf). IsReadyKept m c.args.sorts c.args.query) same c.requires.there.2
+    subst (λ (m : ModuleOf). IsReadyKept (environment_of (operators c.args.session.now.hooks.now) c.args.session.now.limit) m c.args.sorts c.args.query) same c.requires.there.2
 
-pub conclude-requires-clause-left : goal.conclude-requires-clause-left
-conclude-requires-clause-left g c = (c.module-module.result.now, c.module-module.ensures.there, c.in_ok-left.ensures.ready)
+pub returns-clause-ready : goal.returns-clause-ready
+returns-clause-ready g c = c.conclude.ensures.ready (environment_of (operators c.args.session.now.hooks.now) c.args.session.now.limit) c.module-module.result.now c.requires.ready c.module-module.ensures.there c.in_ok-left.ensures.ready
 
 pub returns-clause-gained : goal.returns-clause-gained
 returns-clause-gained g c =

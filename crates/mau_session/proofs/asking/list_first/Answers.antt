@@ -13,10 +13,9 @@ use Rattle.mau_session.specs.KeptQuery.{query_of, IsReady}
 use Rattle.mau_session.specs.KeptWhere.{ending_of, GainsShownWhere}
 use Rattle.mau_session.specs.KeptState.{outcome_of}
 use Rattle.mau_session.specs.Gains.{gains_solutions, gains_sorts_end, gains_solutions_where, gains_sorts_end_where}
-use Rattle.mau_session.proofs.Evaluated.{none_used}
 use Rattle.mau_session.proofs.Answering.{gains_listing}
 use Rattle.mau_session.proofs.AskedBy.{meant_in, gains_listing_where}
-use Rattle.mau_session.proofs.Begun.{goes_in, over_as, ready_as, known_as, ends_as, goes_as, kept_as, kept_any, can_be_asked}
+use Rattle.mau_session.proofs.Begun.{goes_in, over_as, ready_as, known_as, ends_as, goes_as, kept_as, can_be_asked}
 use Rattle.mau_session.proofs.asking.list_first.Goals as goal
 
 pub new-requires-clause-lawful : goal.new-requires-clause-lawful
@@ -53,7 +52,7 @@ show_query-requires-clause-goes g c =
     let ops = operators c.args.session.now.hooks.now in
     let limit = c.args.session.now.limit in
     let same = meant_in m ops _ limit c.program-program.result.now _ c.in_ok-evaluator.ensures.meanings c.new-natives.ensures c.program-program.ensures in
-    goes_as m ops limit _ (c.settle_subject.ensures.meanings ∙ same) (goes_in m ops limit c.requires.lawful c.requires.query.lawful c.requires.plain)
+    goes_as m ops limit _ (c.settle_subject.ensures.meanings ∙ same) (goes_in m ops limit c.requires.lawful c.requires.query.lawful)
 
 pub returns-in_ok-has_ended-in-Ok-clause-gained : goal.returns-in_ok-has_ended-in-Ok-clause-gained
 returns-in_ok-has_ended-in-Ok-clause-gained g c =
@@ -79,10 +78,9 @@ returns-in_ok-has_ended-in-Ok-clause-ready g c =
     let same = meant_in m ops _ limit c.program-program.result.now _ c.in_ok-evaluator.ensures.meanings c.new-natives.ensures c.program-program.ensures in
     let own = c.show_query.ensures.meanings ∙ (c.settle_subject.ensures.meanings ∙ same) in
     let next = c.show_query.new.query in
-    c.left_by.ensures.ready m (record {
+    c.left_by.ensures.ready (environment_of ops limit) m (record {
       ready = subst (λ (t : Table). IsReady m.signature t next) (sym c.into_sorts.ensures.table) c.in_ok-has_ended-in-Ok.ensures.ready;
-      kept = kept_any m ops limit c.requires.lawful c.requires.query.lawful c.requires.plain next.store c.into_sorts.result (kept_as m ops limit _ own next.store c.into_sorts.result (c.into_sorts.ensures.kept next.store c.in_ok-has_ended-in-Ok.ensures.fits));
-      plain = c.requires.plain;
+      kept = kept_as m ops limit _ own next.store c.into_sorts.result (c.into_sorts.ensures.kept next.store c.in_ok-has_ended-in-Ok.ensures.fits);
     })
 
 pub returns-in_ok-write_item_end-in-Err-clause-gained : goal.returns-in_ok-write_item_end-in-Err-clause-gained

@@ -19,10 +19,9 @@ use Rattle.mau_session.specs.KeptQuery.{query_of, IsReady}
 use Rattle.mau_session.specs.KeptWhere.{ending_of, GainsShownWhere}
 use Rattle.mau_session.specs.KeptState.{outcome_of}
 use Rattle.mau_session.specs.Gains.{gains_solutions, gains_sorts_end, gains_solutions_where, gains_sorts_end_where}
-use Rattle.mau_session.proofs.Evaluated.{none_used}
 use Rattle.mau_session.proofs.Answering.{gains_listing}
 use Rattle.mau_session.proofs.AskedBy.{meant_in, gains_listing_where}
-use Rattle.mau_session.proofs.Begun.{goes_in, over_as, ready_as, known_as, ends_as, goes_as, kept_as, kept_any, can_be_asked}
+use Rattle.mau_session.proofs.Begun.{goes_in, over_as, ready_as, known_as, ends_as, goes_as, kept_as, can_be_asked}
 use Rattle.mau_session.proofs.asking.list_first_where.Goals as goal
 
 pub new-requires-clause-lawful : goal.new-requires-clause-lawful
@@ -59,7 +58,7 @@ show_kept-requires-clause-can g c =
     let ops = operators c.args.session.now.hooks.now in
     let limit = c.args.session.now.limit in
     let same = meant_in m ops _ limit c.program-program.result.now _ c.in_ok-evaluator.ensures.meanings c.new-natives.ensures c.program-program.ensures in
-    let goes = goes_in m ops limit c.requires.lawful c.requires.query.lawful c.requires.plain in
+    let goes = goes_in m ops limit c.requires.lawful c.requires.query.lawful in
     let now = ready_as m ops limit _ same _ c.settle_subject.new.query c.in-Ok.ensures.ready in
     can_be_asked m ops limit _ (c.settle_subject.ensures.meanings ∙ same) goes c.settle_subject.new.query now.query c.args.kept.cond
     (subst (λ (p : Tree). IsAskable m.signature (variables p) c.args.kept.cond) (sym (ap (λ (q : QueryOf). q.pattern) c.settle_subject.ensures.same)) c.requires.condition)
@@ -97,11 +96,10 @@ returns-in_ok-ending-in-Ok-clause-ready g c =
     let same = meant_in m ops _ limit c.program-program.result.now _ c.in_ok-evaluator.ensures.meanings c.new-natives.ensures c.program-program.ensures in
     let own = c.show_kept.ensures.meanings ∙ (c.settle_subject.ensures.meanings ∙ same) in
     let next = c.show_kept.new.kept in
-    c.left_where.ensures.ready m (λ bound. record {
+    c.left_where.ensures.ready (environment_of ops limit) m (λ bound. record {
       query = record {
         ready = subst (λ (t : Table). IsReady m.signature t next.query) (sym c.into_sorts.ensures.table) (c.in_ok-ending-in-Ok.ensures.ready bound);
-        kept = kept_any m ops limit c.requires.lawful c.requires.query.lawful c.requires.plain next.query.store c.into_sorts.result (kept_as m ops limit _ own next.query.store c.into_sorts.result (c.into_sorts.ensures.kept next.query.store (c.in_ok-ending-in-Ok.ensures.fits bound)));
-        plain = c.requires.plain;
+        kept = kept_as m ops limit _ own next.query.store c.into_sorts.result (c.into_sorts.ensures.kept next.query.store (c.in_ok-ending-in-Ok.ensures.fits bound));
       };
       condition = subst (λ (fs : List Fragment). IsAskable m.signature (variables (tree_of next.query.pattern)) fs) (sym c.show_kept.ensures.condition)
           (subst (λ (p : Bare). IsAskable m.signature (variables (tree_of p)) c.args.kept.cond) (sym (c.in_ok-ending-in-Ok.ensures.pattern bound)) ((subst (λ (p : Tree). IsAskable m.signature (variables p) c.args.kept.cond) (sym (ap (λ (q : QueryOf). q.pattern) c.settle_subject.ensures.same)) c.requires.condition)));

@@ -13,10 +13,9 @@ use Rattle.mau_session.specs.KeptQuery.{query_of, IsReady}
 use Rattle.mau_session.specs.KeptWhere.{ending_of, GainsShownWhere}
 use Rattle.mau_session.specs.KeptState.{outcome_of}
 use Rattle.mau_session.specs.Gains.{gains_solutions, gains_sorts_end, gains_solutions_where, gains_sorts_end_where}
-use Rattle.mau_session.proofs.Evaluated.{none_used}
 use Rattle.mau_session.proofs.Answering.{gains_listing}
 use Rattle.mau_session.proofs.AskedBy.{meant_in, gains_listing_where}
-use Rattle.mau_session.proofs.Begun.{goes_in, over_as, ready_as, known_as, ends_as, goes_as, kept_as, kept_any, kept_for, can_be_asked}
+use Rattle.mau_session.proofs.Begun.{goes_in, over_as, ready_as, known_as, ends_as, goes_as, kept_as, kept_for, can_be_asked}
 use Rattle.mau_session.proofs.asking.list_further.Goals as goal
 
 pub with_sorts-requires-clause-lawful : goal.with_sorts-requires-clause-lawful
@@ -33,7 +32,7 @@ show_query-requires-clause-ready g c =
 
 pub show_query-requires-clause-fits : goal.show_query-requires-clause-fits
 show_query-requires-clause-fits g c =
-    c.in_ok-evaluator.ensures.fits c.args.query.store (kept_for c.args.module.now c.program-program.result.now c.program-program.ensures c.args.query.store c.args.sorts (operators c.new-natives.result.table.now) c.args.session.now.limit c.requires.ready.kept)
+    c.in_ok-evaluator.ensures.fits c.args.query.store (kept_for c.args.module.now c.program-program.result.now c.program-program.ensures c.args.query.store c.args.sorts (operators c.new-natives.result.table.now) (operators c.args.session.now.hooks.now) c.new-natives.ensures c.args.session.now.limit c.requires.ready.kept)
 
 pub show_query-requires-clause-goes : goal.show_query-requires-clause-goes
 show_query-requires-clause-goes g c =
@@ -41,7 +40,7 @@ show_query-requires-clause-goes g c =
     let ops = operators c.args.session.now.hooks.now in
     let limit = c.args.session.now.limit in
     let same = meant_in m ops _ limit c.program-program.result.now _ c.in_ok-evaluator.ensures.meanings c.new-natives.ensures c.program-program.ensures in
-    goes_as m ops limit _ same (goes_in m ops limit c.requires.lawful c.requires.ready.ready.query.lawful c.requires.ready.plain)
+    goes_as m ops limit _ same (goes_in m ops limit c.requires.lawful c.requires.ready.ready.query.lawful)
 
 pub returns-clause-gained : goal.returns-clause-gained
 returns-clause-gained g c =
@@ -66,8 +65,7 @@ returns-clause-ready g c =
     let same = meant_in m ops _ limit c.program-program.result.now _ c.in_ok-evaluator.ensures.meanings c.new-natives.ensures c.program-program.ensures in
     let own = c.show_query.ensures.meanings ∙ same in
     let next = c.show_query.new.query in
-    c.left_by.ensures.ready m (record {
+    c.left_by.ensures.ready (environment_of ops limit) m (record {
       ready = subst (λ (t : Table). IsReady m.signature t next) (sym c.into_sorts.ensures.table) c.in_ok-has_ended.ensures.ready;
-      kept = kept_any m ops limit c.requires.lawful c.requires.ready.ready.query.lawful c.requires.ready.plain next.store c.into_sorts.result (kept_as m ops limit _ own next.store c.into_sorts.result (c.into_sorts.ensures.kept next.store c.in_ok-has_ended.ensures.fits));
-      plain = c.requires.ready.plain;
+      kept = kept_as m ops limit _ own next.store c.into_sorts.result (c.into_sorts.ensures.kept next.store c.in_ok-has_ended.ensures.fits);
     })

@@ -19,10 +19,9 @@ use Rattle.mau_session.specs.KeptQuery.{query_of, IsReady}
 use Rattle.mau_session.specs.KeptWhere.{ending_of, GainsShownWhere}
 use Rattle.mau_session.specs.KeptState.{outcome_of}
 use Rattle.mau_session.specs.Gains.{gains_solutions, gains_sorts_end, gains_solutions_where, gains_sorts_end_where}
-use Rattle.mau_session.proofs.Evaluated.{none_used}
 use Rattle.mau_session.proofs.Answering.{gains_listing}
 use Rattle.mau_session.proofs.AskedBy.{meant_in, gains_listing_where}
-use Rattle.mau_session.proofs.Begun.{goes_in, over_as, ready_as, known_as, ends_as, goes_as, kept_as, kept_any, kept_for, can_be_asked}
+use Rattle.mau_session.proofs.Begun.{goes_in, over_as, ready_as, known_as, ends_as, goes_as, kept_as, kept_for, can_be_asked}
 use Rattle.mau_session.proofs.asking.list_further_where.Goals as goal
 
 pub with_sorts-requires-clause-lawful : goal.with_sorts-requires-clause-lawful
@@ -40,7 +39,7 @@ show_kept-requires-clause-ready g c =
 pub show_kept-requires-clause-fits : goal.show_kept-requires-clause-fits
 show_kept-requires-clause-fits g c =
     c.in_ok-evaluator.ensures.fits c.args.kept.query.store
-    (kept_for c.args.module.now c.program-program.result.now c.program-program.ensures c.args.kept.query.store c.args.sorts (operators c.new-natives.result.table.now) c.args.session.now.limit c.requires.ready.query.kept)
+    (kept_for c.args.module.now c.program-program.result.now c.program-program.ensures c.args.kept.query.store c.args.sorts (operators c.new-natives.result.table.now) (operators c.args.session.now.hooks.now) c.new-natives.ensures c.args.session.now.limit c.requires.ready.query.kept)
 
 pub show_kept-requires-clause-can : goal.show_kept-requires-clause-can
 show_kept-requires-clause-can g c =
@@ -48,7 +47,7 @@ show_kept-requires-clause-can g c =
     let ops = operators c.args.session.now.hooks.now in
     let limit = c.args.session.now.limit in
     let same = meant_in m ops _ limit c.program-program.result.now _ c.in_ok-evaluator.ensures.meanings c.new-natives.ensures c.program-program.ensures in
-    can_be_asked m ops limit _ same (goes_in m ops limit c.requires.lawful c.requires.ready.query.ready.query.lawful c.requires.ready.query.plain) c.args.kept.query c.requires.ready.query.ready.query c.args.kept.cond c.requires.ready.condition
+    can_be_asked m ops limit _ same (goes_in m ops limit c.requires.lawful c.requires.ready.query.ready.query.lawful) c.args.kept.query c.requires.ready.query.ready.query c.args.kept.cond c.requires.ready.condition
 
 pub show_kept-requires-clause-limit : goal.show_kept-requires-clause-limit
 show_kept-requires-clause-limit g c =
@@ -81,11 +80,10 @@ returns-clause-ready g c =
     let same = meant_in m ops _ limit c.program-program.result.now _ c.in_ok-evaluator.ensures.meanings c.new-natives.ensures c.program-program.ensures in
     let own = c.show_kept.ensures.meanings ∙ same in
     let next = c.show_kept.new.kept in
-    c.left_where.ensures.ready m (λ bound. record {
+    c.left_where.ensures.ready (environment_of ops limit) m (λ bound. record {
       query = record {
         ready = subst (λ (t : Table). IsReady m.signature t next.query) (sym c.into_sorts.ensures.table) (c.in_ok-ending.ensures.ready bound);
-        kept = kept_any m ops limit c.requires.lawful c.requires.ready.query.ready.query.lawful c.requires.ready.query.plain next.query.store c.into_sorts.result (kept_as m ops limit _ own next.query.store c.into_sorts.result (c.into_sorts.ensures.kept next.query.store (c.in_ok-ending.ensures.fits bound)));
-        plain = c.requires.ready.query.plain;
+        kept = kept_as m ops limit _ own next.query.store c.into_sorts.result (c.into_sorts.ensures.kept next.query.store (c.in_ok-ending.ensures.fits bound));
       };
       condition = subst (λ (fs : List Fragment). IsAskable m.signature (variables (tree_of next.query.pattern)) fs) (sym c.show_kept.ensures.condition)
           (subst (λ (p : Bare). IsAskable m.signature (variables (tree_of p)) c.args.kept.cond) (sym (c.in_ok-ending.ensures.pattern bound)) (c.requires.ready.condition));

@@ -3,19 +3,9 @@ use Rattle.mau_formula.specs.Operators.{operators}
 use Rattle.mau_session.specs.Environment.{environment_of}
 use Rattle.mau_session.specs.KeptState.{state_of, outcome_of}
 use Rattle.mau_session.specs.State.{state_after}
-use Rattle.mau_session.specs.Transcript.{ReduceAnswer, reduce_not_built, reduce_answered}
+use Rattle.mau_session.specs.Transcript.{ReduceAnswer, reduce_answered}
 use Rattle.mau_session.proofs.Answering.{refused_with}
 use Rattle.mau_session.proofs.reduce.reduce_chosen.Goals as goal
-
-pub returns-then-uses_memberships-clause-gained : goal.returns-then-uses_memberships-clause-gained
-returns-then-uses_memberships-clause-gained g c =
-    refused_with _ c.refuse.result c.refuse.ensures.bytes c.refuse.ensures.refused
-    (λ g. record {
-      bytes = _;
-      answer = reduce_not_built c.args.chosen c.module-module.result.now c.requires.term c.requires.chosen c.module-module.ensures.there
-          (sym c.uses_memberships.ensures ∙ c.if-uses_memberships.true);
-      gained = g;
-    })
 
 pub returns-clause-gained : goal.returns-clause-gained
 returns-clause-gained g c =
@@ -26,8 +16,11 @@ returns-clause-gained g c =
     let g = c.in_ok-left.ensures.gained in
     record {
       bytes = g.bytes;
-      answer = subst (λ s. ReduceAnswer e ws st c.args.number c.args.item c.args.command.now s g.bytes c.conclude.result) (sym c.conclude.ensures.state)
-          (subst (λ b. ReduceAnswer e ws st c.args.number c.args.item c.args.command.now (state_after st c.args.chosen left) g.bytes b) (sym c.conclude.ensures.refused)
-          (reduce_answered c.args.chosen c.module-module.result.now left g.bytes c.requires.term c.requires.chosen c.module-module.ensures.there (sym c.uses_memberships.ensures ∙ c.if-uses_memberships.false) g.answer));
+      answer = subst (λ s. ReduceAnswer e ws st c.args.number c.args.command.now s g.bytes c.conclude.result) (sym c.conclude.ensures.state)
+          (subst (λ b. ReduceAnswer e ws st c.args.number c.args.command.now (state_after st c.args.chosen left) g.bytes b) (sym c.conclude.ensures.refused)
+          (reduce_answered c.args.chosen c.module-module.result.now left g.bytes c.requires.term c.requires.chosen c.module-module.ensures.there g.answer));
       gained = g.gained;
     }
+
+pub returns-clause-ready : goal.returns-clause-ready
+returns-clause-ready g c = c.conclude.ensures.ready (environment_of (operators c.args.session.now.hooks.now) c.args.session.now.limit) c.module-module.result.now c.requires.ready c.module-module.ensures.there c.in_ok-left.ensures.ready

@@ -19,7 +19,7 @@ returns-in-Err-clause-gained g c =
     refused_with _ c.refuse-in-Err.result c.refuse-in-Err.ensures.bytes c.refuse-in-Err.ensures.refused
     (λ g. record {
       bytes = _;
-      answer = subst (λ r. RewriteAnswer e ws st c.args.number c.args.item c.args.command.now st (refusal_line c.args.number ws r) true) (sym u.named) (rewrite_unknown u.token (ap (is_empty ws) (sym c.items-term.ensures) ∙ sym c.is_empty.ensures ∙ c.if-is_empty.false) u.none);
+      answer = subst (λ r. RewriteAnswer e ws st c.args.number c.args.command.now st (refusal_line c.args.number ws r) true) (sym u.named) (rewrite_unknown u.token (ap (is_empty ws) (sym c.items-term.ensures) ∙ sym c.is_empty.ensures ∙ c.if-is_empty.false) u.none);
       gained = g;
     })
 
@@ -34,7 +34,7 @@ returns-then-is_empty-clause-gained g c =
     refused_with _ c.refuse.result c.refuse.ensures.bytes c.refuse.ensures.refused
     (λ g. record {
       bytes = _;
-      answer = subst (λ n. RewriteAnswer e ws st c.args.number c.args.item c.args.command.now st (refusal_line c.args.number ws (NotBuilt n)) true) (sym at) (rewrites_nothing empty);
+      answer = subst (λ n. RewriteAnswer e ws st c.args.number c.args.command.now st (refusal_line c.args.number ws (NotBuilt n)) true) (sym at) (rewrites_nothing empty);
       gained = g;
     })
 

@@ -29,7 +29,7 @@ returns-in-Err-clause-gained g c =
 
 pub returns-in-Err-clause-ready : goal.returns-in-Err-clause-ready
 returns-in-Err-clause-ready g c =
-    unread_with Refused (IsReadyOutcome c.args.module.now) c.refuse_term.result c.refuse_term.ensures.bytes c.refuse_term.ensures.named c.refuse_term.ensures.refused (λ g n. tt)
+    unread_with Refused (IsReadyOutcome (environment_of (operators c.args.session.now.hooks.now) c.args.session.now.limit) c.args.module.now) c.refuse_term.result c.refuse_term.ensures.bytes c.refuse_term.ensures.named c.refuse_term.ensures.refused (λ g n. tt)
 
 pub returns-in_ok-write_run_head-in-Ok-clause-gained : goal.returns-in_ok-write_run_head-in-Ok-clause-gained
 returns-in_ok-write_run_head-in-Ok-clause-gained g c =

@@ -36,7 +36,6 @@ run_on-requires-clause-ready g c =
     let stands : StandsFor (theory_at m.signature) nodes i t = subst (λ (s : SignatureOf). StandsFor (theory_at s) nodes i t) c.signature-sig.ensures.value c.in-Ok.ensures.ok in
     let term : IsTerm m.signature nodes i = read_term m.signature lawful t c.requires.bare nodes i within stands in
     record {
-      plain = c.requires.plain;
       conditions = c.requires.conditions;
       run = subst (λ (p : Program). IsRunOf p nodes c.in_ok-run-in-Ok.run') c.program.ensures (c.in_ok-run-in-Ok.ensures.run nodes (subst (λ (p : Program). IsTerm p.sig nodes i) (sym c.program.ensures) term));
     }

@@ -3,27 +3,17 @@ use Rattle.mau_formula.specs.Operators.{operators}
 use Rattle.mau_session.specs.Environment.{environment_of}
 use Rattle.mau_session.specs.KeptState.{state_of, outcome_of}
 use Rattle.mau_session.specs.State.{state_after}
-use Rattle.mau_session.specs.RewriteAnswer.{RewriteAnswer, rewrite_not_built, rewrite_unbounded, rewrite_conditional, rewrite_answered}
+use Rattle.mau_session.specs.RewriteAnswer.{RewriteAnswer, rewrite_unbounded, rewrite_conditional, rewrite_answered}
 use Rattle.mau_session.proofs.Answering.{refused_with}
 use Rattle.mau_session.proofs.rewrite.rewrite_chosen.Goals as goal
 
-pub returns-then-uses_memberships-clause-gained : goal.returns-then-uses_memberships-clause-gained
-returns-then-uses_memberships-clause-gained g c =
+pub returns-in-Err-clause-gained : goal.returns-in-Err-clause-gained
+returns-in-Err-clause-gained g c =
     refused_with _ c.refuse.result c.refuse.ensures.bytes c.refuse.ensures.refused
     (λ g. record {
       bytes = _;
-      answer = rewrite_not_built c.args.chosen c.module-module.result.now c.requires.term c.requires.chosen c.module-module.ensures.there
-          (sym c.uses_memberships.ensures ∙ c.if-uses_memberships.true);
-      gained = g;
-    })
-
-pub returns-in-Err-clause-gained : goal.returns-in-Err-clause-gained
-returns-in-Err-clause-gained g c =
-    refused_with _ c.refuse-in-Err.result c.refuse-in-Err.ensures.bytes c.refuse-in-Err.ensures.refused
-    (λ g. record {
-      bytes = _;
       answer = rewrite_unbounded c.args.chosen c.module-module.result.now c.in-Err.refusal c.requires.term c.requires.chosen c.module-module.ensures.there
-          (sym c.uses_memberships.ensures ∙ c.if-uses_memberships.false) (sym c.asked_run.ensures ∙ c.in-Err.is);
+          (sym c.asked_run.ensures ∙ c.in-Err.is);
       gained = g;
     })
 
@@ -33,7 +23,7 @@ returns-in-Some-clause-gained g c =
     (λ g. record {
       bytes = _;
       answer = rewrite_conditional c.args.chosen c.module-module.result.now c.in-Ok.asked c.in-Some.rule c.requires.term c.requires.chosen c.module-module.ensures.there
-          (sym c.uses_memberships.ensures ∙ c.if-uses_memberships.false) (sym c.asked_run.ensures ∙ c.in-Ok.is) (sym c.rewriting_condition.ensures ∙ c.in-Some.is);
+          (sym c.asked_run.ensures ∙ c.in-Ok.is) (sym c.rewriting_condition.ensures ∙ c.in-Some.is);
       gained = g;
     })
 
@@ -46,9 +36,13 @@ returns-in_ok-left-in-None-clause-gained g c =
     let g = c.in_ok-left-in-None.ensures.gained in
     record {
       bytes = g.bytes;
-      answer = subst (λ s. RewriteAnswer e ws st c.args.number c.args.item c.args.command.now s g.bytes c.conclude.result) (sym c.conclude.ensures.state)
-          (subst (λ b. RewriteAnswer e ws st c.args.number c.args.item c.args.command.now (state_after st c.args.chosen left) g.bytes b) (sym c.conclude.ensures.refused)
-          (rewrite_answered c.args.chosen c.module-module.result.now c.in-Ok.asked left g.bytes c.requires.term c.requires.chosen c.module-module.ensures.there (sym c.uses_memberships.ensures ∙ c.if-uses_memberships.false)
+      answer = subst (λ s. RewriteAnswer e ws st c.args.number c.args.command.now s g.bytes c.conclude.result) (sym c.conclude.ensures.state)
+          (subst (λ b. RewriteAnswer e ws st c.args.number c.args.command.now (state_after st c.args.chosen left) g.bytes b) (sym c.conclude.ensures.refused)
+          (rewrite_answered c.args.chosen c.module-module.result.now c.in-Ok.asked left g.bytes c.requires.term c.requires.chosen c.module-module.ensures.there
           (sym c.asked_run.ensures ∙ c.in-Ok.is) (sym c.rewriting_condition.ensures ∙ c.in-None.is) g.answer));
       gained = g.gained;
     }
+
+pub returns-in_ok-left-in-None-clause-ready : goal.returns-in_ok-left-in-None-clause-ready
+returns-in_ok-left-in-None-clause-ready g c =
+    c.conclude.ensures.ready (environment_of (operators c.args.session.now.hooks.now) c.args.session.now.limit) c.module-module.result.now c.requires.ready c.module-module.ensures.there c.in_ok-left-in-None.ensures.ready

@@ -9,6 +9,7 @@ use Rattle.mau_built_ins.specs.NativeNumerals.{GivesNumerals}
 use Rattle.mau_rules.specs.Runnable.{IsRunnable}
 use Rattle.mau_rules.specs.Runs.{stand_of, IsRunOf}
 use Rattle.mau_module.specs.Lawful.{program_of}
+use Rattle.mau_session.specs.Environment.{environment_of}
 use Rattle.mau_session.specs.KeptRun.{run_answer_in}
 use Rattle.mau_session.proofs.Runnable.{runnable, goes_by}
 use Rattle.mau_session.proofs.Rewritten.{may_run_plainly}
@@ -23,7 +24,7 @@ new-requires-clause-numerals g c = subst (All GivesNumerals) (sym c.new-natives.
 pub run_item-requires-clause-runnable : goal.run_item-requires-clause-runnable
 run_item-requires-clause-runnable g c =
     subst IsRunnable (sym c.program-program.ensures)
-    (runnable c.args.module.now c.requires.lawful (subst (λ (s : SignatureOf). IsLawful (terms_over s)) c.signature.ensures.value c.operators.ensures.lawful) c.requires.ready.plain c.requires.ready.conditions)
+    (runnable c.args.module.now c.requires.lawful (subst (λ (s : SignatureOf). IsLawful (terms_over s)) c.signature.ensures.value c.operators.ensures.lawful) c.requires.ready.conditions)
 
 pub run_item-requires-clause-goes_by : goal.run_item-requires-clause-goes_by
 run_item-requires-clause-goes_by g c = goes_by _ _ _ _ _ c.in_ok-evaluator.ensures.meanings
@@ -55,9 +56,8 @@ returns-clause-gained g c =
 
 pub returns-clause-ready : goal.returns-clause-ready
 returns-clause-ready g c =
-    c.left_by_run.ensures.ready c.args.module.now
+    c.left_by_run.ensures.ready (environment_of (operators c.args.session.now.hooks.now) c.args.session.now.limit) c.args.module.now
     (record {
-      plain = c.requires.ready.plain;
       conditions = c.requires.ready.conditions;
       run = subst (λ (p : Program). IsRunOf p c.run_item.new.store c.run_item.new.run) c.program-program.ensures c.run_item.ensures.run;
     })

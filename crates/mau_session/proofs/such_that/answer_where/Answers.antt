@@ -34,7 +34,7 @@ returns-in-Err-clause-gained g c =
 
 pub returns-in-Err-clause-ready : goal.returns-in-Err-clause-ready
 returns-in-Err-clause-ready g c =
-    unread_with Refused (IsReadyOutcome c.args.module.now) c.refuse_condition.result c.refuse_condition.ensures.bytes c.refuse_condition.ensures.named c.refuse_condition.ensures.refused (λ b n. tt)
+    unread_with Refused (IsReadyOutcome (environment_of (operators c.args.session.now.hooks.now) c.args.session.now.limit) c.args.module.now) c.refuse_condition.result c.refuse_condition.ensures.bytes c.refuse_condition.ensures.named c.refuse_condition.ensures.refused (λ b n. tt)
 
 pub list_where-requires-clause-usable : goal.list_where-requires-clause-usable
 list_where-requires-clause-usable g c =

@@ -10,10 +10,10 @@ use Rattle.mau_session.proofs.AskedBy.{where_goes_on, module_ready}
 use Rattle.mau_session.proofs.such_that.list_where_on.Goals as goal
 
 pub list_further_where-requires-clause-ready : goal.list_further_where-requires-clause-ready
-list_further_where-requires-clause-ready g c = module_ready c.args.state.now.library c.args.chosen c.module-module.result.now c.args.sorts c.args.kept c.requires.there c.module-module.ensures.there
+list_further_where-requires-clause-ready g c = module_ready (environment_of (operators c.args.session.now.hooks.now) c.args.session.now.limit) c.args.state.now.library c.args.chosen c.module-module.result.now c.args.sorts c.args.kept c.requires.there c.module-module.ensures.there
 
-pub conclude-requires-clause-left : goal.conclude-requires-clause-left
-conclude-requires-clause-left g c = (c.module-module.result.now, c.module-module.ensures.there, c.in_ok-left.ensures.ready)
+pub returns-clause-ready : goal.returns-clause-ready
+returns-clause-ready g c = c.conclude.ensures.ready (environment_of (operators c.args.session.now.hooks.now) c.args.session.now.limit) c.module-module.result.now c.requires.ready c.module-module.ensures.there c.in_ok-left.ensures.ready
 
 pub returns-clause-gained : goal.returns-clause-gained
 returns-clause-gained g c =
@@ -25,7 +25,6 @@ returns-clause-gained g c =
     record {
       «module» = m;
       there = c.module-module.ensures.there;
-      plain = (module_ready c.args.state.now.library c.args.chosen m c.args.sorts c.args.kept c.requires.there c.module-module.ensures.there).query.plain;
       found = shown.found;
       ending = shown.ending;
       shows = shown.listing;

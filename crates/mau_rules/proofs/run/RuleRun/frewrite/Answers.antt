@@ -11,7 +11,7 @@ use Rattle.mau_rules.specs.Counted.{IsCounted}
 use Rattle.mau_rules.specs.Found.{item_of}
 use Rattle.mau_rules.specs.Runs.{turns_of, stand_of, frewriting_by}
 use Rattle.mau_rules.specs.Passes.{passing_by}
-use Rattle.mau_rules.proofs.RunEnds.{value_exact, value_allowed, end_exact, end_allowed}
+use Rattle.mau_rules.proofs.RunEnds.{no_memory_exact, value_exact, value_allowed, end_exact, end_allowed}
 use Rattle.mau_rules.proofs.PassEnds.{run_begins}
 use Rattle.mau_rules.proofs.PassWalk.{RestKnown, rest_from}
 use Rattle.mau_store.specs.Trees.{tree_at}
@@ -187,3 +187,11 @@ returns-clause-silent g c = c.loop.invariant.told.behind.silent
 
 pub returns-in-Err-clause-before : goal.returns-in-Err-clause-before
 returns-in-Err-clause-before g c = λ e. (behind_same (g.W.StepWatcher.wanted c.args.watcher.now) (g.W.StepWatcher.told c.args.watcher.now)).more
+
+-- ---- want of memory
+
+pub returns-in-Err-clause-exact : goal.returns-in-Err-clause-exact
+returns-in-Err-clause-exact g c = λ none. no_memory_exact _ _ _ _ _
+
+pub returns-clause-exact : goal.returns-clause-exact
+returns-clause-exact g c = λ none. no_memory_exact _ _ _ _ _

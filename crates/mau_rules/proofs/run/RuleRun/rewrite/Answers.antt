@@ -20,7 +20,7 @@ use Rattle.mau_rules.specs.Runs.{stand_of, rewriting_by}
 use Rattle.mau_rules.specs.Rounds.{KnownRound}
 use Rattle.mau_rules.proofs.Running.{stand_at}
 use Rattle.mau_rules.proofs.Uses.{round_so}
-use Rattle.mau_rules.proofs.RunEnds.{IsUnder, begun_known, under_begun, under_more, under_bound, under_normal, run_not_begun, under_ends, value_exact, value_allowed, end_exact, end_allowed}
+use Rattle.mau_rules.proofs.RunEnds.{no_memory_exact, IsUnder, begun_known, under_begun, under_more, under_bound, under_normal, run_not_begun, under_ends, value_exact, value_allowed, end_exact, end_allowed}
 use Rattle.mau_api.specs.Told.{TellsEvaluation}
 use Rattle.mau_rules.specs.Telling.{TellsRules}
 use Rattle.mau_rules.proofs.Told.{behind_told, behind_on, evaluation_rules, told_on, told_still}
@@ -374,3 +374,11 @@ returns-in-Err-round-clause-before g c = λ w. (behind_on (g.W.StepWatcher.wante
 
 pub returns-in-Err-round-clause-silent : goal.returns-in-Err-round-clause-silent
 returns-in-Err-round-clause-silent g c = (behind_on (g.W.StepWatcher.wanted c.loop.watcher) (g.W.StepWatcher.wanted c.args.watcher.now) (g.W.StepWatcher.told c.args.watcher.now) (g.W.StepWatcher.told c.loop.watcher) (g.W.StepWatcher.told c.round.new.watcher) c.loop.invariant.wanted c.loop.invariant.told.behind c.round.ensures.behind).silent
+
+-- ---- want of memory
+
+pub returns-in-Err-new-clause-exact : goal.returns-in-Err-new-clause-exact
+returns-in-Err-new-clause-exact g c = λ none. no_memory_exact _ _ _ _ _
+
+pub returns-clause-exact : goal.returns-clause-exact
+returns-clause-exact g c = λ none. no_memory_exact _ _ _ _ _
