@@ -115,7 +115,7 @@ fn own_solution(
 }
 
 /// Goes on behind the solution whose values are those of a binding, and gives the binding by that one, for the fragments behind.
-pub fn own_choice<L: WholeLister>(
+pub fn own_choice<L: WholeLister + Drop>(
     store: &mut Store,
     program: &Program,
     table: &SortTable,

@@ -1,5 +1,6 @@
 -- A condition that is asked: what is known of it, and what the loop computes of it.
 use Rattle.std.proofs.Common.{◌≡◌, ◌==◌, ◌+◌, ℕ, suc, List, All, Bool, true, if◌then◌else◌, Option, Some, None, IfSome, IfNone, Ok, Err, IfOk, IfErr, map, length, slice_get, eq-eqb, refl, sym, ap, ap₂, ◌∙◌, subst, arith}
+use Rattle.std.specs.Borrow.{Bor}
 use Rattle.std.specs.List.{zip}
 use Rattle.std.specs.Option.{option_map}
 use Rattle.std.proofs.lemmas.Option.{slice_get_past}
@@ -40,6 +41,10 @@ use Rattle.mau_reducer.specs.Solutions.{IsPaired}
 use Rattle.mau_reducer.proofs.Choosing.{pairs_of, one_value_each, all_values}
 use Rattle.mau_reducer.proofs.WhatIsSolved.{Answer, Paired, IsLoopAnswer, of_pairs}
 use Rattle.mau_reducer.proofs.Pairs.{pairs_bound, variables_paired, paired_within, paired_kinds, paired_sorts}
+
+-- a solution that may be given, as a binding
+abbrev pub bindings_of : List Node → Option (Bor (List (VarId × TermId))) → Option Binding
+bindings_of nodes o = option_map (λ (x : Bor (List (VarId × TermId))). binding_in nodes x.now) o
 
 -- all of the condition with this number is solved
 abbrev pub IsSolved : Basis → List Node → Table → ℕ → Kept → Type 0

@@ -1,4 +1,4 @@
-use Rattle.std.proofs.Common.{refl, sym, subst}
+use Rattle.std.proofs.Common.{None, refl, sym, subst}
 use Rattle.std.specs.Prelude.{IfSome, IfNone}
 use Rattle.mau_machine.specs.Words.{EndsWhere, settle_on, solve_on}
 use Rattle.mau_machine.specs.Steps.{Goes}

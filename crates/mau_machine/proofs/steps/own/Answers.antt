@@ -1,6 +1,6 @@
 use Rattle.std.proofs.Common.{◌≡◌, suc, ◌+◌, Some, refl, sym, ◌∙◌, ap, subst}
 use Rattle.mau_evaluation.specs.Run.{counted_if, or_go_on}
-use Rattle.mau_machine.specs.Words.{capped, choose_after, solve_from}
+use Rattle.mau_machine.specs.Words.{LeadsTo, capped, choose_after, solve_from}
 use Rattle.mau_machine.specs.Machine.{as_answer}
 use Rattle.mau_machine.specs.declared.frame.Condition.{Condition}
 use Rattle.mau_machine.specs.declared.frame.Frame.TheVariants as Waiting
@@ -21,8 +21,11 @@ returns-in_ok-wait-in-Some-clause-goes g c =
     let next : suc x.at ≡ c.in-Some.at = one x.at ∙ sym c.in-Some.ensures.1 in
     let R = w'.rules in
     let l = w'.bound c.args.last.value in
+    let leads =
+    subst (λ z. LeadsTo R.program (λ k. choose_after R (w'.bound z) k x.condition x.at (w'.chosen_from y.choices) (w'.chosen_value y.choices))
+    (λ k b. or_go_on (w'.unchosen x.choices k x.condition x.at) (solve_from R (Some (w'.bound z)) k x.condition (suc x.at) (w'.bound s.binding) b))) c.deref.ensures c.in-Ok.ensures.own in
     λ b. went_pushed w' c.args.machine.now.frames.items c.wait.new.self.frames.items f (Next.Own c.args.choosing c.args.last) (Next.Solve s) c.args.machine.now.rewrites 0 b b c.in_ok-wait-in-Some.ensures.frames tt
-    (leads_on R.program (λ k. choose_after R l k x.condition x.at (w'.chosen_from y.choices) (w'.chosen_value y.choices)) (λ k b. or_go_on (w'.unchosen x.choices k x.condition x.at) (solve_from R (Some l) k x.condition (suc x.at) (w'.bound s.binding) b)) c.in-Ok.ensures.own x.level b _ _
+    (leads_on R.program (λ k. choose_after R l k x.condition x.at (w'.chosen_from y.choices) (w'.chosen_value y.choices)) (λ k b. or_go_on (w'.unchosen x.choices k x.condition x.at) (solve_from R (Some l) k x.condition (suc x.at) (w'.bound s.binding) b)) leads x.level b _ _
     (λ n e. ap capped (one_chosen R (choose_after R l (x.level + n) x.condition x.at (w'.chosen_from y.choices) (w'.chosen_value y.choices)) (w'.unchosen x.choices (x.level + n) x.condition x.at) x.before b (solve_from R (Some l) (x.level + n) x.condition c.in-Some.at (w'.bound s.binding) b)
     (e ∙ ap (λ m. or_go_on (w'.unchosen x.choices (x.level + n) x.condition x.at) (solve_from R (Some l) (x.level + n) x.condition m (w'.bound s.binding) b)) next)))
     (λ n e. ap (λ o. as_answer (counted_if x.before o)) e))
