@@ -1,6 +1,7 @@
 -- The solution that another binding has, among all solutions in their order.
 use Rattle.std.proofs.Common.{◌≡◌, ℕ, zero, suc, ◌+◌, ◌<◌, List, [], ◌∷◌, ◌++◌, map, take, drop, get_or, All, Contains, length, Bool, true, false, ◌&&◌, ◌||◌, not, if◌then◌else◌, Option, Some, inl, inr, refl, sym, ap, ap₂, ◌∙◌, subst, arith}
-use Rattle.std.proofs.lemmas.List.Elements.{All-head, All-tail, All-nil, All-cons}
+use Rattle.std.proofs.lemmas.List.{take_more}
+use Rattle.std.proofs.lemmas.List.Elements.{All-head, All-tail, All-nil, All-cons, All-append}
 use Rattle.std.specs.Cmp.{IsTotalOrder}
 use Rattle.std.specs.Ordering.{ordering_reverse, is_lt}
 use Rattle.std.specs.declared.cmp.Ordering.{Ordering}
@@ -27,7 +28,8 @@ use Rattle.mau_evaluation.specs.Listing.{Solution, same_tree, keep, IsAscending,
 use Rattle.mau_evaluation.specs.Evaluation.{Binding, Level, look_up, binds, agree, own_and_after}
 use Rattle.mau_evaluation.proofs.Reduced.{same_tree_true}
 use Rattle.mau_evaluation.proofs.Still.{same_tree_itself}
-use Rattle.mau_reduce.specs.Bindings.{paired}
+use Rattle.mau_reduce.specs.declared.binding.Binding.{Binding as Kept}
+use Rattle.mau_reduce.specs.Bindings.{paired, bound_in}
 use Rattle.mau_reduce.proofs.Leftover.{not_itself}
 use Rattle.mau_choices.specs.Choosing.{AreValuesIn}
 
@@ -64,12 +66,14 @@ trees_more : (nodes : List Node) (ids : List TermId) (v : TermId) → trees_at n
 trees_more nodes [] v = refl
 trees_more nodes (i ∷ ids) v = ap (λ ts. tree_at nodes i.0 ∷ ts) (trees_more nodes ids v)
 
-variables_more : (xs : List VarId) (i : ℕ) (d : VarId) → i < length xs → map variable_of (take (i + 1) xs) ≡ map variable_of (take i xs) ++ variable_of (get_or xs i d) ∷ []
-variables_more [] i d h = absurd (omega (arith, h))
-variables_more (x ∷ xs) zero d h = refl
-variables_more (x ∷ xs) (suc i) d h = ap (λ ys. variable_of x ∷ ys) (variables_more xs i d (omega (arith, h)))
+named_more : (xs : List VarId) (x : VarId) → map variable_of (xs ++ x ∷ []) ≡ map variable_of xs ++ variable_of x ∷ []
+named_more [] x = refl
+named_more (y ∷ xs) x = ap (λ ys. variable_of y ∷ ys) (named_more xs x)
 
-pub found_more : (τ : Binding) (xs : List Variable) (vs : List Tree) (x : Variable) (v : Tree) → AreValuesIn τ xs vs → (binds τ x ≡ true) × (look_up τ x ≡ v) → AreValuesIn τ (xs ++ x ∷ []) (vs ++ v ∷ [])
+variables_more : (xs : List VarId) (i : ℕ) (d : VarId) → i < length xs → map variable_of (take (i + 1) xs) ≡ map variable_of (take i xs) ++ variable_of (get_or xs i d) ∷ []
+variables_more xs i d h = ap (map variable_of) (take_more xs i d h) ∙ named_more (take i xs) (get_or xs i d)
+
+found_more : (τ : Binding) (xs : List Variable) (vs : List Tree) (x : Variable) (v : Tree) → AreValuesIn τ xs vs → (binds τ x ≡ true) × (look_up τ x ≡ v) → AreValuesIn τ (xs ++ x ∷ []) (vs ++ v ∷ [])
 found_more τ [] [] x v h k = (k, tt)
 found_more τ [] (w ∷ vs) x v h k = absurd h
 found_more τ (y ∷ xs) [] x v h k = absurd h
@@ -84,6 +88,21 @@ values_more nodes τ xs ids more i d v h e was one =
     subst (λ ys. AreValuesIn τ ys (trees_at nodes (numbers more))) (sym (variables_more xs i d h))
     (subst (AreValuesIn τ (map variable_of (take i xs) ++ variable_of (get_or xs i d) ∷ [])) (sym (ap (λ zs. trees_at nodes (numbers zs)) e ∙ trees_more nodes ids v))
     (found_more τ (map variable_of (take i xs)) (trees_at nodes (numbers ids)) (variable_of (get_or xs i d)) (tree_at nodes v.0) was one))
+
+-- as the code has it
+pub bound_more : (nodes : List Node) (σ : Kept) (names : List VarId) (ids : List TermId) → names ≡ σ.variables.items → ids ≡ σ.values.items → (xs : List VarId) (was more : List TermId) (i : ℕ) (d : VarId) (v : TermId) → i < length xs →
+    more ≡ was ++ v ∷ [] → AreValuesIn (bound_in nodes σ) (map variable_of (take i xs)) (trees_at nodes (numbers was)) →
+    (binds (paired (map variable_of names) (trees_at nodes (numbers ids))) (variable_of (get_or xs i d)) ≡ true)
+    × (look_up (paired (map variable_of names) (trees_at nodes (numbers ids))) (variable_of (get_or xs i d)) ≡ tree_at nodes v.0) →
+    AreValuesIn (bound_in nodes σ) (map variable_of (take (i + 1) xs)) (trees_at nodes (numbers more))
+bound_more nodes σ names ids e f xs was more i d v h m before one =
+    let same : paired (map variable_of names) (trees_at nodes (numbers ids)) ≡ bound_in nodes σ = ap₂ (λ (ns : List VarId) (is : List TermId). paired (map variable_of ns) (trees_at nodes (numbers is))) e f in
+    values_more nodes (bound_in nodes σ) xs was more i d v h m before
+    (subst (λ τ. (binds τ (variable_of (get_or xs i d)) ≡ true) × (look_up τ (variable_of (get_or xs i d)) ≡ tree_at nodes v.0)) same one)
+
+pub among_more : (all names was more : List TermId) (v : TermId) → names ≡ all → more ≡ was ++ v ∷ [] → All (Contains all) was → Contains names v → All (Contains all) more
+among_more all names was more v e m h k =
+    subst (λ ids. All (Contains all) ids) (sym m) (All-append (Contains all) was (v ∷ []) h (All-cons (Contains all) v [] (subst (λ ids. Contains ids v) e k) (All-nil (Contains all))))
 
 -- values that are among others stand where those stand
 pub among_stand : (th : ℕ → Theory) (nodes : List Node) (all ids : List TermId) → StandWithin th nodes (numbers all) → All (Contains all) ids → StandWithin th nodes (numbers ids)

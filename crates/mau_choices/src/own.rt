@@ -1,5 +1,5 @@
 //! The solution that another binding has of a pattern, and what comes behind it.
-ghost use Rattle.std.specs.Prelude.{◌≡◌, List, None, true, false, All, Contains, map, IfOk, IfSome};
+ghost use Rattle.std.specs.Prelude.{◌≡◌, ℕ, List, None, true, false, All, Contains, map, IfOk, IfSome};
 ghost use Rattle.std.specs.Option.{option_map};
 ghost use Rattle.mau_terms.specs.Norm.{norm};
 ghost use Rattle.mau_terms.specs.Bare.{IsBare, IsLawful};
@@ -19,7 +19,7 @@ ghost use Rattle.mau_api.specs.Programs.{program_over};
 ghost use Rattle.mau_api.specs.Meanings.{meanings_by};
 ghost use Rattle.mau_api.specs.Answers.{IsDerivedTable, IsValueOf, binding_in, AreApart};
 ghost use Rattle.mau_machine.specs.Words.{IsExtension};
-ghost use Rattle.mau_reduce.specs.Bindings.{bound_in};
+ghost use Rattle.mau_reduce.specs.Bindings.{paired, bound_in};
 ghost use Rattle.mau_reduce.specs.Reducible.{IsReducible};
 ghost use Rattle.mau_reduce.specs.Tables.{IsSortTable};
 ghost use Rattle.mau_reduce.specs.Comes.{ComesTo};
@@ -39,34 +39,31 @@ use mau_terms::{Bare, NoMemory, Seq, TermId, VarId};
 use mau_trial::{Trial, solution_of, solves, variables_of};
 use std::alloc::Global;
 
-/// The value of a variable, if it has one.
-fn value_in(bound: &Binding, variable: VarId) -> Option<TermId>
-    ensures value { IfSome result (λ v. (nodes : List Node) → (binds (bound_in nodes bound.now) (variable_of variable) ≡ true)
-        × (look_up (bound_in nodes bound.now) (variable_of variable) ≡ tree_at nodes v.0)) }
-    ensures among { IfSome result (Contains bound.now.values.items) }
+/// The value at the place of a variable, if it has one.
+fn value_in(variables: &[VarId], values: &[TermId], variable: VarId) -> Option<TermId>
+    ensures value { IfSome result (λ v. (nodes : List Node) →
+        (binds (paired (map variable_of variables.now) (trees_at nodes (numbers values.now))) (variable_of variable) ≡ true)
+        × (look_up (paired (map variable_of variables.now) (trees_at nodes (numbers values.now))) (variable_of variable) ≡ tree_at nodes v.0)) }
+    ensures among { IfSome result (Contains values.now) }
 {
-    let count = bound.variables.len().min(bound.values.len());
+    let count = variables.len().min(values.len());
     for i in 0..count {
-        if bound.variables[i] == variable {
-            return Some(bound.values[i]);
+        if variables[i] == variable {
+            return Some(values[i]);
         }
     }
     None
 }
 
-/// The values of variables, of which each has one.
-fn values_in(
-    alloc: Global,
-    bound: &Binding,
-    variables: &[VarId],
-) -> Result<Vec<TermId>, NoMemory>
+/// The values that a binding gives to variables, of which each has one.
+fn values_in(alloc: Global, bound: &Binding, variables: &[VarId]) -> Result<Vec<TermId>, NoMemory>
     ensures values { (nodes : List Node) → IfOk result (λ vs. AreValuesIn (bound_in nodes bound.now) (map variable_of variables.now)
         (trees_at nodes (numbers vs.items))) }
     ensures among { IfOk result (λ vs. All (Contains bound.now.values.items) vs.items) }
 {
     let mut values = Vec::with_capacity(alloc, variables.len())?;
     for i in 0..variables.len() {
-        match value_in(bound, variables[i]) {
+        match value_in(&bound.variables, &bound.values, variables[i]) {
             Some(value) => values.push(value)?,
             // Never: a solution of a condition has a value of each variable that is matched.
             None => return Err(NoMemory),
