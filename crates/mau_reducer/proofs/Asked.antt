@@ -175,6 +175,9 @@ module _ (b : Basis) (fs : List Fragment) (bound : List (VarId × TermId)) (aska
       pub last_known : IfSome last (λ x. StandWithin (theory_at d.program.sig) mid (numbers (value x).values.items))
       last_known = last_stands last given same_last each last_values
 
+      abbrev known : Option Binding
+      known = option_map (λ y. binding_in old (now y)) given
+
       -- what the loop computes is what is meant
       pub outcome_is : (k B : ℕ) → solve_from (rules_of d) (option_map (λ x. bound_in mid (value x)) last) k n 0 (bound_in mid σ) B
           ≡ solving_from (meanings_of b) (option_map (λ y. binding_in old (now y)) given) (map fragment_of fs) (binding_in old bound) k b.limit B
@@ -185,9 +188,6 @@ module _ (b : Basis) (fs : List Fragment) (bound : List (VarId × TermId)) (aska
           ∙ (ap (λ (τ : Binding). solve_from (rules_of asked) known k e 0 τ B) (later.1 ∙ (sym (pairs_bound old σ.variables.items σ.values.items) ∙ ap (binding_in old) pairs))
           ∙ by_fragments known)))
         where
-          abbrev known : Option Binding
-          known = option_map (λ y. binding_in old (now y)) given
-
           by_fragments : (o : Option Binding) → solve_from (rules_of asked) o k e 0 (binding_in old bound) B ≡ solving_from (meanings_of b) o (map fragment_of fs) (binding_in old bound) k b.limit B
           by_fragments None =
               ap (λ (cs : List Fragment). solve (program_over b.program b.hooks) (levels (program_over b.program b.hooks) b.limit k) (map fragment_of cs) (binding_in old bound) B) (written_asked b fs (variables_of bound))

@@ -1,15 +1,14 @@
-use Rattle.std.proofs.Common.{◌≡◌, ◌+◌, List, All, Vec, Global, Option, OnOk, map, length, refl, sym, ◌∙◌, subst, arith}
-use Rattle.std.specs.Borrow.{Bor}
+use Rattle.std.proofs.Common.{◌≡◌, ◌+◌, All, Vec, Global, map, length, refl, arith}
 use Rattle.mau_terms.specs.declared.ids.VarId.{VarId}
 use Rattle.mau_terms.specs.declared.ids.TermId.{TermId}
 use Rattle.mau_evaluation.specs.Evaluation.{look_up}
 use Rattle.mau_api.specs.Programs.{fragment_of}
 use Rattle.mau_api.specs.Told.{TellsCondition}
-use Rattle.mau_api.specs.Answers.{levels_of_condition, LeavesEnough, binding_in, IsValueOf, solving_from, MaySolve, IsSolvedExactly}
+use Rattle.mau_api.specs.Answers.{levels_of_condition, LeavesEnough, binding_in, IsValueOf, solving_from}
 use Rattle.mau_reducer.specs.Worlds.{basis_of}
 use Rattle.mau_reducer.specs.Meant.{meanings_of}
 use Rattle.mau_reducer.specs.LaterStates.{same_state, fit_later}
-use Rattle.mau_reducer.proofs.WhatIsSolved.{may_solve, solves_exactly, left_enough, none_of, pairs_in, from_pairs, none_in, ok_in}
+use Rattle.mau_reducer.proofs.WhatIsSolved.{may_solve, solves_exactly, left_enough, none_of, pairs_in, from_pairs, none_in, ok_in, wants_memory}
 use Rattle.mau_reducer.proofs.Asked.{number_counted, binding_known, asked_ready, kept_before, means_alike, one_each_of, values_paired, tells_paired, bindings_of, last_known, loop_answer}
 use Rattle.mau_reducer.proofs.evaluating.ReducerEvaluator.solve.Goals as goal
 
@@ -109,3 +108,6 @@ returns-in-Ok-clause-meanings g c =
 
 pub returns-in-Err-clause-exact : goal.returns-in-Err-clause-exact
 returns-in-Err-clause-exact g c = λ e. record { levels = levels_of_condition; enough = omega arith; just = λ d. refl; is = tt }
+
+pub returns-in_err-behind-clause-exact : goal.returns-in_err-behind-clause-exact
+returns-in_err-behind-clause-exact g c = λ e. record { levels = levels_of_condition; enough = omega arith; just = λ d. refl; is = wants_memory (λ (v : Vec (VarId × TermId) Global). v.items) _ c.args.store.now c.args.budget.now c.from_residual.result c.from_residual.ensures.1 }

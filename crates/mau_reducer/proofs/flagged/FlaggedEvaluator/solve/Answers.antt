@@ -1,5 +1,4 @@
-use Rattle.std.proofs.Common.{◌≡◌, ◌+◌, List, All, Vec, Global, Option, OnOk, map, length, refl, sym, ap, subst, arith}
-use Rattle.std.specs.Borrow.{Bor}
+use Rattle.std.proofs.Common.{◌≡◌, ◌+◌, All, Vec, Global, map, length, refl, sym, ap, subst, arith}
 use Rattle.mau_terms.specs.declared.ids.VarId.{VarId}
 use Rattle.mau_terms.specs.declared.ids.TermId.{TermId}
 use Rattle.mau_store.proofs.Growth.{extension_is_preorder}
@@ -8,13 +7,13 @@ use Rattle.mau_sorts.specs.Table.{Table, KeepsEntries}
 use Rattle.mau_evaluation.specs.Evaluation.{look_up}
 use Rattle.mau_api.specs.Programs.{fragment_of}
 use Rattle.mau_api.specs.Told.{TellsCondition}
-use Rattle.mau_api.specs.Answers.{levels_of_condition, LeavesEnough, binding_in, IsValueOf, solving_from, MaySolve, IsSolvedExactly}
+use Rattle.mau_api.specs.Answers.{levels_of_condition, LeavesEnough, binding_in, IsValueOf, solving_from}
 use Rattle.mau_reducer.specs.Worlds.{basis_of}
 use Rattle.mau_reducer.specs.Meant.{meanings_of}
 use Rattle.mau_reducer.specs.LaterStates.{same_state, fit_later}
 use Rattle.mau_reducer.specs.Flags.{flags_by}
 use Rattle.mau_reducer.proofs.Asked.{fit_unchanged, meant_alike}
-use Rattle.mau_reducer.proofs.WhatIsSolved.{may_solve, solves_exactly, left_enough, none_of, pairs_in, from_pairs, none_in, ok_in}
+use Rattle.mau_reducer.proofs.WhatIsSolved.{may_solve, solves_exactly, left_enough, none_of, pairs_in, from_pairs, none_in, ok_in, wants_memory}
 use Rattle.mau_reducer.proofs.Asked.{number_counted, binding_known, asked_ready, kept_before, means_alike, one_each_of, values_paired, tells_paired, bindings_of, last_known, loop_answer}
 use Rattle.mau_reducer.proofs.flagged.FlaggedEvaluator.solve.Goals as goal
 
@@ -142,3 +141,6 @@ returns-in-Err-clause-fits g c =
           (subst (λ (t : Table). KeepsEntries c.args.self.now.world.world.table t) (sym e.table) (kept_same c.args.self.now.world.world.table)) fit.derived fit.identities
           c.args.self.now.world.levels.items c.requires.fits.2,
     )
+
+pub returns-in_err-behind-clause-exact : goal.returns-in_err-behind-clause-exact
+returns-in_err-behind-clause-exact g c = λ e. record { levels = levels_of_condition; enough = omega arith; just = λ d. refl; is = wants_memory (λ (v : Vec (VarId × TermId) Global). v.items) _ c.args.store.now c.args.budget.now c.from_residual.result c.from_residual.ensures.1 }

@@ -48,11 +48,11 @@ returns-in-Ok-clause-known g c =
     let u = pattern_at (basis_of g.N.Natives.operators c.args.self.now) c.args.condition c.args.at c.in-Some.pattern.now (sym c.in-Some.ensures) in
     let σ : Kept = record { variables = c.into_parts-variables.result.0; values = c.into_parts-variables.result.1 } in (
       choices_still g.L.Lister.with_context g.L.Lister.asked g.L.Lister.given g.L.Lister.is_for g.M.Lister.asked g.M.Lister.given g.M.Lister.is_for
-    (basis_of g.N.Natives.operators c.args.self.now) c.args.store.now c.own_choice.new.store c.args.self.now.table c.args.self.now.table c.args.self.now.begun (store_grown (basis_of g.N.Natives.operators c.args.self.now) c.args.store.now c.own_choice.new.store c.args.self.now.table c.args.self.now.begun c.own_choice.ensures.extends c.requires.ready.0)
-    c.args.condition c.args.at c.in-Some.pattern.now u.0 u.1 c.args.choices.now c.own_choice.new.choices c.requires.choices c.own_choice.ensures.binding c.own_choice.ensures.value c.in-Ok.ensures.choosing,
+          (basis_of g.N.Natives.operators c.args.self.now) c.args.store.now c.own_choice.new.store c.args.self.now.table c.args.self.now.table c.args.self.now.begun (store_grown (basis_of g.N.Natives.operators c.args.self.now) c.args.store.now c.own_choice.new.store c.args.self.now.table c.args.self.now.begun c.own_choice.ensures.extends c.requires.ready.0)
+          c.args.condition c.args.at c.in-Some.pattern.now u.0 u.1 c.args.choices.now c.own_choice.new.choices c.requires.choices c.own_choice.ensures.binding c.own_choice.ensures.value c.in-Ok.ensures.choosing,
       known_one g.L.Lister.with_context g.L.Lister.asked g.L.Lister.given g.L.Lister.is_for g.M.Lister.asked g.M.Lister.given g.M.Lister.is_for
-    (basis_of g.N.Natives.operators c.args.self.now) c.args.store.now c.own_choice.new.store c.args.self.now.table c.args.self.now.table c.args.self.now.begun (store_grown (basis_of g.N.Natives.operators c.args.self.now) c.args.store.now c.own_choice.new.store c.args.self.now.table c.args.self.now.begun c.own_choice.ensures.extends c.requires.ready.0)
-    c.args.condition c.args.at c.in-Some.pattern.now u.0 u.1 c.args.choices.now c.own_choice.new.choices c.requires.choices c.own_choice.ensures.binding c.own_choice.ensures.value σ c.in-Ok.bound c.into_parts-variables.ensures.pairs c.into_parts-variables.ensures.one_each c.in-Ok.ensures.values c.in-Ok.ensures.variables,
+          (basis_of g.N.Natives.operators c.args.self.now) c.args.store.now c.own_choice.new.store c.args.self.now.table c.args.self.now.table c.args.self.now.begun (store_grown (basis_of g.N.Natives.operators c.args.self.now) c.args.store.now c.own_choice.new.store c.args.self.now.table c.args.self.now.begun c.own_choice.ensures.extends c.requires.ready.0)
+          c.args.condition c.args.at c.in-Some.pattern.now u.0 u.1 c.args.choices.now c.own_choice.new.choices c.requires.choices c.own_choice.ensures.binding c.own_choice.ensures.value σ c.in-Ok.bound c.into_parts-variables.ensures.pairs c.into_parts-variables.ensures.one_each c.in-Ok.ensures.values c.in-Ok.ensures.variables,
     )
 
 pub returns-in-Ok-clause-begun : goal.returns-in-Ok-clause-begun
