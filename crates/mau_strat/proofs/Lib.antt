@@ -1,5 +1,6 @@
 pub mod Opens
 pub mod Turns
+pub mod Ways
 pub mod Stacks
 pub mod Goes
 pub mod Inserted
