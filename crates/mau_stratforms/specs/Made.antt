@@ -1,0 +1,24 @@
+-- Strategies by numbers over a table of leaves, and those of a program.
+use Rattle.std.specs.Prelude.{◌≡◌, ℕ, ◌<◌, List, map, length, All, slice_get, Some}
+use Rattle.std.specs.List.{slice_index_or}
+use Rattle.mau_evaluation.specs.Strategy.{Strategy, idle}
+use Rattle.mau_program.specs.Trees.{StrategyOf}
+use Rattle.mau_program.specs.declared.definitions.StratDef.{StratDef}
+use Rattle.mau_strat.specs.declared.configs.StrategyId.{StrategyId}
+use Rattle.mau_strat.specs.declared.forms.Form.{Form}
+use Rattle.mau_strat.specs.Forms.{AreForms, LeafIn, strategy_at}
+use Rattle.mau_stratforms.specs.Meanings.{meaning_of, definition_of}
+use Rattle.mau_stratforms.specs.Tables.{IsTable, leaf_in}
+
+-- the strategy with this number is s
+abbrev pub IsNumberOf : List Form → List Strategy → Strategy → ℕ → Type 0
+IsNumberOf forms table s n = (n < length forms) × (strategy_at (leaf_in table) forms n ≡ s)
+
+-- a strategy has this number, and the bodies of these definitions have those, over a table that has all their leaves
+pub record AreFormsOf (definitions : List StratDef) (s : StrategyOf) (forms : List Form) (table : List Strategy) (bodies : List StrategyId) (n : ℕ) : Type 0 where
+  pub forms : AreForms forms
+  pub leaves : All (LeafIn (length table)) forms
+  pub table : IsTable table
+  pub strategy : IsNumberOf forms table (meaning_of s) n
+  pub count : length bodies ≡ length definitions
+  pub bodies : (k : ℕ) (b : StrategyId) → slice_get bodies k ≡ Some b → IsNumberOf forms table (slice_index_or (map (λ d. d.body) (map definition_of definitions)) k idle) b.0
