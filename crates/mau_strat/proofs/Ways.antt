@@ -67,11 +67,11 @@ module _ (B N : ℕ → List ℕ → Type 0) where
 
   pub entered_from : (start : ℕ) (seen ps : List ℕ) → AreParents B N start seen ps → (j p : ℕ) → slice_get ps j ≡ Some p → IsEnteredFrom seen j p
   entered_from start seen ps no_parents j p e = absurd (no_place p j e)
-  entered_from start seen ps (one_more old qs c h n) j p e = by (at_place qs n.from j p e)
+  entered_from start seen ps (one_more old qs c h n) j p e = by (λ i. entered_from start old qs h j p i) (at_place qs n.from j p e)
     where
-      by : (slice_get qs j ≡ Some p) ⊎ ((j ≡ length qs) × (p ≡ n.from)) → IsEnteredFrom (old ++ c ∷ []) j p
-      by (inl i) = stays old c j p (entered_from start old qs h j p i)
-      by (inr i) = newest old c j p n (ap suc i.0 ∙ sym (parents_count start old qs h)) i.1
+      by : (slice_get qs j ≡ Some p → IsEnteredFrom old j p) → (slice_get qs j ≡ Some p) ⊎ ((j ≡ length qs) × (p ≡ n.from)) → IsEnteredFrom (old ++ c ∷ []) j p
+      by f (inl i) = stays old c j p (f i)
+      by f (inr i) = newest old c j p n (ap suc i.0 ∙ sym (parents_count start old qs h)) i.1
 
   pub parents_earlier : (start : ℕ) (seen ps : List ℕ) → AreParents B N start seen ps → (j p : ℕ) → slice_get ps j ≡ Some p → p ≤ j
   parents_earlier start seen ps h j p e = (entered_from start seen ps h j p e).earlier

@@ -1,6 +1,6 @@
 -- The way of a run to a solution, by the configurations that its numbers stand for.
-use Rattle.std.proofs.Common.{◌≡◌, ℕ, ◌<◌, List, [], ◌∷◌, ◌++◌, length, map, take, slice_get, get_or, All, Some, true, refl, ap, ap₂, sym, ◌∙◌, subst, arith}
-use Rattle.std.proofs.lemmas.List.{map-append}
+use Rattle.std.proofs.Common.{◌≡◌, ℕ, ◌+◌, ◌<◌, List, [], ◌∷◌, ◌++◌, length, map, take, slice_get, get_or, All, Some, true, refl, ap, ap₂, sym, ◌∙◌, subst, arith}
+use Rattle.std.proofs.lemmas.List.{map-append, take_more}
 use Rattle.std.proofs.lemmas.List.Elements.{All-nil, All-cons, All-head, All-tail}
 use Rattle.mau_terms.specs.declared.ids.TermId.{TermId}
 use Rattle.mau_evaluation.specs.Configs.{Config, on}
@@ -40,3 +40,10 @@ module _ (s : State) where
         is = w.is;
         path = subst (IsPathBy s.setting.fixed (config_in s (get_or seen 0 0)) (map (config_in s) w.rest)) whole r.1;
       }
+
+-- ---- terms along the way
+
+pub one_more : {A B C : Type 0} (f : A → C) (g : B → C) (xs : List A) (ys : List B) (i : ℕ) (x : A) (y : B) → i < length ys → y ≡ get_or ys i y → f x ≡ g y → map f xs ≡ map g (take i ys) →
+    map f (xs ++ x ∷ []) ≡ map g (take (i + 1) ys)
+one_more f g xs ys i x y h p e m =
+    map-append f xs (x ∷ []) ∙ (ap₂ (λ us u. us ++ u ∷ []) m (e ∙ ap g p) ∙ (sym (map-append g (take i ys) (get_or ys i y ∷ [])) ∙ ap (map g) (sym (take_more ys i y h))))
