@@ -1,12 +1,18 @@
 -- Lists that are compared element by element.
-use Rattle.std.proofs.Common.{◌≡◌, ℕ, zero, suc, ◌<◌, List, [], ◌∷◌, length, map, get_or, Some, refl, ap, sym, ◌∙◌, subst, arith}
+use Rattle.std.proofs.Common.{◌≡◌, ◌↔◌, ℕ, zero, suc, ◌<◌, List, [], ◌∷◌, length, map, get_or, Some, refl, ap, sym, ◌∙◌, subst, arith}
 use Rattle.mau_terms.specs.Subst.{Variable}
-use Rattle.mau_terms.specs.View.{variable_of}
+use Rattle.mau_terms.specs.View.{tree_of, variable_of}
+use Rattle.mau_terms.specs.declared.bare.Bare.{Bare}
+use Rattle.mau_api.specs.Programs.{fragment_of}
+use Rattle.mau_evaluation.specs.Strategy as Meant
 use Rattle.mau_evaluation.specs.Strategy.{Strategy, PartUses, no_parts, part_use, Strategies, no_strategies, strategy}
-use Rattle.mau_program.specs.Trees.{StrategyOf}
+use Rattle.mau_program.specs.Trees.{StrategyOf, part_rewrite, label_by}
+use Rattle.mau_program.specs.declared.statements.Fragment.{Fragment}
+use Rattle.mau_program.specs.declared.strategies.TestKind.{TestKind}
+use Rattle.mau_program.specs.declared.strategies.Assign.{Assign}
 use Rattle.mau_program.specs.Strategies.{strategies_of, uses_of}
 use Rattle.mau_program.specs.declared.strategies.PartUse.{PartUse}
-use Rattle.mau_stratforms.specs.Meanings.{meaning_of, meanings_of, parts_of}
+use Rattle.mau_stratforms.specs.Meanings.{kind_of, assign_of, meaning_of, meanings_of, parts_of}
 use Rattle.mau_stratforms.specs.Parts.{part_of}
 
 module _ {A B : Type 0} (f : A → B) where
@@ -63,3 +69,19 @@ parts_same us vs e = parts_forth us ∙ (ap from_parts e ∙ sym (parts_forth vs
 
 pub same_parts : (us vs : List PartUse) → parts_of (uses_of us) ≡ parts_of (uses_of vs) → map part_of us ≡ map part_of vs
 same_parts us vs e = sym (parts_back us) ∙ (ap to_parts e ∙ parts_back vs)
+
+-- ---- forms with strategies inside
+
+pub part_rewrites_same : (k l : TestKind) (p q : Bare) (c d : List Fragment) (us vs : List PartUse) → (kind_of k ≡ kind_of l) × (tree_of p ≡ tree_of q) × (map fragment_of c ≡ map fragment_of d) →
+    (map part_of us ≡ map part_of vs) ↔ (meaning_of (part_rewrite k p c (uses_of us)) ≡ meaning_of (part_rewrite l q d (uses_of vs)))
+part_rewrites_same k l p q c d us vs h = (
+  λ e. let m = parts_same us vs e in λ i. Meant.part_rewrite (h.0 i) (h.1 i) (h.2 i) (m i),
+  λ e. let m : parts_of (uses_of us) ≡ parts_of (uses_of vs) = cc in same_parts us vs m,
+)
+
+pub label_bys_same : (l m : List ℕ) (xs ys : List Assign) (ss ts : List StrategyOf) → (l ≡ m) × (map assign_of xs ≡ map assign_of ys) →
+    (map meaning_of ss ≡ map meaning_of ts) ↔ (meaning_of (label_by l xs (strategies_of ss)) ≡ meaning_of (label_by m ys (strategies_of ts)))
+label_bys_same l m xs ys ss ts h = (
+  λ e. let n = strategies_same ss ts e in λ i. Meant.label_by (h.0 i) (h.1 i) (n i),
+  λ e. let n : meanings_of (strategies_of ss) ≡ meanings_of (strategies_of ts) = cc in same_strategies ss ts n,
+)

@@ -16,9 +16,9 @@ IsNumberOf forms table s n = (n < length forms) × (strategy_at (leaf_in table) 
 
 -- a strategy has this number, and the bodies of these definitions have those, over a table that has all their leaves
 pub record AreFormsOf (definitions : List StratDef) (s : StrategyOf) (forms : List Form) (table : List Strategy) (bodies : List StrategyId) (n : ℕ) : Type 0 where
-  pub forms : AreForms forms
+  pub are_forms : AreForms forms
   pub leaves : All (LeafIn (length table)) forms
-  pub table : IsTable table
+  pub is_table : IsTable table
   pub strategy : IsNumberOf forms table (meaning_of s) n
   pub count : length bodies ≡ length definitions
-  pub bodies : (k : ℕ) (b : StrategyId) → slice_get bodies k ≡ Some b → IsNumberOf forms table (slice_index_or (map (λ d. d.body) (map definition_of definitions)) k idle) b.0
+  pub numbers : (k : ℕ) (b : StrategyId) → slice_get bodies k ≡ Some b → IsNumberOf forms table (slice_index_or (map (λ d. d.body) (map definition_of definitions)) k idle) b.0

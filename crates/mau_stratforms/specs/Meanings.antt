@@ -47,5 +47,9 @@ abbrev mutual
   parts_of Written.no_uses = no_parts
   parts_of (Written.use_of v s us) = part_use (variable_of v) (meaning_of s) (parts_of us)
 
+-- what strategies mean, one by one
+abbrev pub meant : List Written.StrategyOf → List Strategy
+meant ss = map meaning_of ss
+
 abbrev pub definition_of : WrittenDef.StratDef → StratDef
 definition_of d = record { name = d.name; args = d.args; body = meaning_of d.body; cond = map fragment_of d.cond }

@@ -17,11 +17,11 @@ use Rattle.mau_stratforms.specs.declared.maker.Two.{Two}
 use Rattle.mau_stratforms.specs.declared.maker.Two.TheVariants as two
 
 -- further strategies and leaves
-pub record Goes (forms : List Form) (table : List Strategy) (forms' : List Form) (table' : List Strategy) : Type 0 where
-  pub forms : Extends forms forms'
-  pub table : Extends table table'
-  pub are_forms : AreForms forms'
-  pub leaves : All (LeafIn (length table')) forms'
+pub record Goes (f : List Form) (t : List Strategy) (f' : List Form) (t' : List Strategy) : Type 0 where
+  pub forms : Extends f f'
+  pub table : Extends t t'
+  pub are_forms : AreForms f'
+  pub leaves : All (LeafIn (length t')) f'
 
 -- the leaves of the table have these numbers
 abbrev pub HasLeaves : (ℕ → Strategy) → List Strategy → Type 0

@@ -2,7 +2,7 @@
 ghost use Rattle.std.specs.Prelude.{◌≡◌, ℕ, ◌<◌, length, All, IfOk};
 ghost use Rattle.mau_evaluation.specs.Strategy.{Strategy as Meant, branch};
 ghost use Rattle.mau_strat.specs.Forms.{AreBelow, LeafIn, IsLeaf, parts, strategy_at, strategy_over};
-ghost use Rattle.mau_stratforms.specs.Meanings.{meaning_of};
+ghost use Rattle.mau_stratforms.specs.Meanings.{meaning_of, meant};
 ghost use Rattle.mau_stratforms.specs.Made.{AreFormsOf};
 ghost use Rattle.mau_stratforms.specs.Parts.{Goes, IsMade, AreMade, form_one, form_two, over_one, over_two};
 
@@ -78,7 +78,7 @@ fn with_two(two: Two, e: StrategyId, f: StrategyId) -> Form
 impl StratForms {
     /// None.
     pub fn new(alloc: Global) -> StratForms
-        ensures { All (LeafIn (length result.leaves)) result.forms }
+        ensures { All (LeafIn (length (meant result.leaves))) result.forms }
     {
         StratForms {
             forms: Forms::new(alloc),
@@ -89,12 +89,12 @@ impl StratForms {
     /// The number of the strategy with this form, whose parts and leaf have numbers.
     fn put(&mut self, form: Form) -> Result<StrategyId, NoMemory>
         requires parts { AreBelow (length self.old.forms) (parts form) }
-        requires leaf { LeafIn (length self.old.leaves) form }
-        requires leaves { All (LeafIn (length self.old.leaves)) self.old.forms }
+        requires leaf { LeafIn (length (meant self.old.leaves)) form }
+        requires leaves { All (LeafIn (length (meant self.old.leaves))) self.old.forms }
         ensures id { IfOk result (λ id. id.0 < length self.new.forms) }
         ensures strategy { (leaf : ℕ → Meant) → IfOk result (λ id. strategy_at leaf self.new.forms id.0 ≡
             strategy_over leaf (strategy_at leaf self.old.forms) form) }
-        ensures goes { Goes self.old.forms self.old.leaves self.new.forms self.new.leaves }
+        ensures goes { Goes self.old.forms (meant self.old.leaves) self.new.forms (meant self.new.leaves) }
         ensures same { self.new.leaves ≡ self.old.leaves }
     {
         self.forms.add(form)
@@ -103,9 +103,9 @@ impl StratForms {
     /// The number of a leaf as a strategy.
     fn put_leaf(&mut self, alloc: Global, leaf: &Strategy) -> Result<StrategyId, NoMemory>
         requires leaf { IsLeaf (meaning_of leaf.now) }
-        requires leaves { All (LeafIn (length self.old.leaves)) self.old.forms }
-        ensures made { IfOk result (λ id. IsMade self.new.forms self.new.leaves (meaning_of leaf.now) id.0) }
-        ensures goes { Goes self.old.forms self.old.leaves self.new.forms self.new.leaves }
+        requires leaves { All (LeafIn (length (meant self.old.leaves))) self.old.forms }
+        ensures made { IfOk result (λ id. IsMade self.new.forms (meant self.new.leaves) (meaning_of leaf.now) id.0) }
+        ensures goes { Goes self.old.forms (meant self.old.leaves) self.new.forms (meant self.new.leaves) }
     {
         let _ = self.forms.len();
         let id = match self.leaves.add(alloc, leaf) {
@@ -118,9 +118,9 @@ impl StratForms {
     /// The number of a strategy, whose parts are added first. It recurses as deep as the strategy is.
     #[cycle(add)]
     pub fn add(&mut self, alloc: Global, strategy: &Strategy) -> Result<StrategyId, NoMemory>
-        requires { All (LeafIn (length self.old.leaves)) self.old.forms }
-        ensures made { IfOk result (λ id. IsMade self.new.forms self.new.leaves (meaning_of strategy.now) id.0) }
-        ensures goes { Goes self.old.forms self.old.leaves self.new.forms self.new.leaves }
+        requires { All (LeafIn (length (meant self.old.leaves))) self.old.forms }
+        ensures made { IfOk result (λ id. IsMade self.new.forms (meant self.new.leaves) (meaning_of strategy.now) id.0) }
+        ensures goes { Goes self.old.forms (meant self.old.leaves) self.new.forms (meant self.new.leaves) }
     {
         match strategy.form() {
             StrategyForm::Idle => self.put(Form::Idle),
@@ -148,9 +148,9 @@ impl StratForms {
     /// The number of a strategy with one in it.
     #[cycle(add)]
     fn add_one(&mut self, alloc: Global, one: One, e: &Strategy) -> Result<StrategyId, NoMemory>
-        requires { All (LeafIn (length self.old.leaves)) self.old.forms }
-        ensures made { IfOk result (λ id. IsMade self.new.forms self.new.leaves (over_one one (meaning_of e.now)) id.0) }
-        ensures goes { Goes self.old.forms self.old.leaves self.new.forms self.new.leaves }
+        requires { All (LeafIn (length (meant self.old.leaves))) self.old.forms }
+        ensures made { IfOk result (λ id. IsMade self.new.forms (meant self.new.leaves) (over_one one (meaning_of e.now)) id.0) }
+        ensures goes { Goes self.old.forms (meant self.old.leaves) self.new.forms (meant self.new.leaves) }
     {
         let first = match self.add(alloc, e) {
             Ok(first) => first,
@@ -168,9 +168,9 @@ impl StratForms {
         e: &Strategy,
         f: &Strategy,
     ) -> Result<StrategyId, NoMemory>
-        requires { All (LeafIn (length self.old.leaves)) self.old.forms }
-        ensures made { IfOk result (λ id. IsMade self.new.forms self.new.leaves (over_two two (meaning_of e.now) (meaning_of f.now)) id.0) }
-        ensures goes { Goes self.old.forms self.old.leaves self.new.forms self.new.leaves }
+        requires { All (LeafIn (length (meant self.old.leaves))) self.old.forms }
+        ensures made { IfOk result (λ id. IsMade self.new.forms (meant self.new.leaves) (over_two two (meaning_of e.now) (meaning_of f.now)) id.0) }
+        ensures goes { Goes self.old.forms (meant self.old.leaves) self.new.forms (meant self.new.leaves) }
     {
         let first = match self.add(alloc, e) {
             Ok(first) => first,
@@ -192,10 +192,10 @@ impl StratForms {
         f: &Strategy,
         g: &Strategy,
     ) -> Result<StrategyId, NoMemory>
-        requires { All (LeafIn (length self.old.leaves)) self.old.forms }
-        ensures made { IfOk result (λ id. IsMade self.new.forms self.new.leaves
+        requires { All (LeafIn (length (meant self.old.leaves))) self.old.forms }
+        ensures made { IfOk result (λ id. IsMade self.new.forms (meant self.new.leaves)
             (branch (meaning_of e.now) (meaning_of f.now) (meaning_of g.now)) id.0) }
-        ensures goes { Goes self.old.forms self.old.leaves self.new.forms self.new.leaves }
+        ensures goes { Goes self.old.forms (meant self.old.leaves) self.new.forms (meant self.new.leaves) }
     {
         let first = match self.add(alloc, e) {
             Ok(first) => first,
@@ -218,10 +218,10 @@ impl StratForms {
         alloc: Global,
         definitions: &[StratDef],
     ) -> Result<Vec<StrategyId>, NoMemory>
-        requires { All (LeafIn (length self.old.leaves)) self.old.forms }
+        requires { All (LeafIn (length (meant self.old.leaves))) self.old.forms }
         ensures count { IfOk result (λ ids. length ids.items ≡ length definitions.now) }
-        ensures made { IfOk result (λ ids. AreMade self.new.forms self.new.leaves definitions.now ids.items) }
-        ensures goes { Goes self.old.forms self.old.leaves self.new.forms self.new.leaves }
+        ensures made { IfOk result (λ ids. AreMade self.new.forms (meant self.new.leaves) definitions.now ids.items) }
+        ensures goes { Goes self.old.forms (meant self.old.leaves) self.new.forms (meant self.new.leaves) }
     {
         let _ = self.forms.len();
         let mut bodies = Vec::new(alloc);
@@ -244,7 +244,7 @@ pub fn forms_of(
     program: &Program,
     strategy: &Strategy,
 ) -> Result<ProgramForms, NoMemory>
-    ensures { IfOk result (λ p. AreFormsOf program.now.strategies strategy.now p.forms p.leaves p.bodies.items p.strategy.0) }
+    ensures { IfOk result (λ p. AreFormsOf program.now.strategies strategy.now p.forms (meant p.leaves) p.bodies.items p.strategy.0) }
 {
     let mut made = StratForms::new(alloc);
     let bodies = made.add_bodies(alloc, program.strategies.items())?;

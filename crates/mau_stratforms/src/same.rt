@@ -1,13 +1,13 @@
 //! Whether two strategies are one.
 ghost use Rattle.std.specs.Prelude.{◌≡◌, ◌↔◌, map, IsTrue};
-ghost use Rattle.mau_terms.specs.View.{tree_of};
+ghost use Rattle.mau_terms.specs.View.{tree_of, variable_of};
 ghost use Rattle.mau_program.specs.Strategies.{strategy_of};
 ghost use Rattle.mau_api.specs.Programs.{fragment_of};
 ghost use Rattle.mau_stratforms.specs.Meanings.{kind_of, assign_of, meaning_of};
 ghost use Rattle.mau_stratforms.specs.Parts.{part_of};
 
 use mau_program::{Assign, Fragment, PartUse, Strategy, StrategyForm, TestKind};
-use mau_terms::{Bare, Seq};
+use mau_terms::{Bare, Seq, Text, VarId};
 
 /// Whether two kinds of tests are one.
 fn same_kind(a: TestKind, b: TestKind) -> bool
@@ -19,6 +19,13 @@ fn same_kind(a: TestKind, b: TestKind) -> bool
         (TestKind::Amatch, TestKind::Amatch) => true,
         _ => false,
     }
+}
+
+/// Whether two variables are one.
+fn same_variable(a: VarId, b: VarId) -> bool
+    ensures { IsTrue result ↔ variable_of a ≡ variable_of b }
+{
+    a.index == b.index && a.sort == b.sort
 }
 
 /// Whether two assignments are one.
@@ -75,6 +82,18 @@ fn same_condition(a: &Seq<Fragment>, b: &Seq<Fragment>) -> bool
     true
 }
 
+/// Whether two labels with their assignments are one.
+fn same_label(
+    label: &Text,
+    assigns: &Seq<Assign>,
+    other_label: &Text,
+    other_assigns: &Seq<Assign>,
+) -> bool
+    ensures { IsTrue result ↔ (label.now ≡ other_label.now) × (map assign_of assigns.now ≡ map assign_of other_assigns.now) }
+{
+    label.as_str() == other_label.as_str() && same_assigns(assigns, other_assigns)
+}
+
 /// Whether two patterns are looked for in the same way, under the same condition.
 fn same_test(
     kind: TestKind,
@@ -114,6 +133,14 @@ fn same_all(a: &[Strategy], b: &[Strategy]) -> bool
     true
 }
 
+/// Whether two uses of parts are one.
+#[cycle(same)]
+fn same_use(a: &PartUse, b: &PartUse) -> bool
+    ensures { IsTrue result ↔ part_of a.now ≡ part_of b.now }
+{
+    same_variable(a.var, b.var) && same(&a.strategy, &b.strategy)
+}
+
 /// Whether two lists of uses of parts are one.
 #[cycle(same)]
 fn same_uses(a: &[PartUse], b: &[PartUse]) -> bool
@@ -123,7 +150,7 @@ fn same_uses(a: &[PartUse], b: &[PartUse]) -> bool
         return false;
     }
     for i in 0..a.len() {
-        if a[i].var != b[i].var || !same(&a[i].strategy, &b[i].strategy) {
+        if !same_use(&a[i], &b[i]) {
             return false;
         }
     }
@@ -140,7 +167,7 @@ fn same_form(a: &StrategyForm, b: &StrategyForm) -> bool
         (StrategyForm::Fail, StrategyForm::Fail) => true,
         (StrategyForm::All, StrategyForm::All) => true,
         (StrategyForm::Label(l, xs), StrategyForm::Label(m, ys)) => {
-            l.as_str() == m.as_str() && same_assigns(xs, ys)
+            same_label(l, xs, m, ys)
         }
         (StrategyForm::Top(s), StrategyForm::Top(t)) => same(s, t),
         (StrategyForm::Call(f, ts), StrategyForm::Call(g, us)) => {
@@ -165,7 +192,7 @@ fn same_form(a: &StrategyForm, b: &StrategyForm) -> bool
             same_test(*k, p, c, *l, q, d) && same_uses(us, vs)
         }
         (StrategyForm::LabelBy(l, xs, ss), StrategyForm::LabelBy(m, ys, ts)) => {
-            l.as_str() == m.as_str() && same_assigns(xs, ys) && same_all(ss, ts)
+            same_label(l, xs, m, ys) && same_all(ss, ts)
         }
         _ => false,
     }
