@@ -2,7 +2,9 @@
 use Rattle.std.proofs.Common.{◌≡◌, ◌⊎◌, inl, inr, ℕ, zero, suc, ◌+◌, ◌<◌, ◌≤◌, List, [], ◌∷◌, ◌++◌, length, slice_get, Some, All, Result, Ok, Err, IfOk, refl, ap, ap₂, sym, ◌∙◌, subst, arith, length-append}
 use Rattle.std.proofs.lemmas.List.Elements.{All-push, All-nil, All-cons, All-weaker}
 use Rattle.std.proofs.lemmas.Option.{slice_get_within}
+use Rattle.mau_terms.specs.declared.memory.NoMemory.{NoMemory}
 use Rattle.mau_evaluation.specs.Strategy.{Strategy, branch}
+use Rattle.mau_program.specs.Trees.{StrategyOf}
 use Rattle.mau_strat.specs.declared.configs.StrategyId.{StrategyId}
 use Rattle.mau_strat.specs.declared.forms.LeafId.{LeafId}
 use Rattle.mau_strat.specs.declared.forms.Form.{Form}
@@ -15,6 +17,7 @@ use Rattle.mau_stratforms.specs.declared.maker.One.{One}
 use Rattle.mau_stratforms.specs.declared.maker.One.TheVariants as one
 use Rattle.mau_stratforms.specs.declared.maker.Two.{Two}
 use Rattle.mau_stratforms.specs.declared.maker.Two.TheVariants as two
+use Rattle.mau_stratforms.specs.Meanings.{meant}
 use Rattle.mau_stratforms.specs.Parts.{Goes, HasLeaves, IsMade, form_one, over_one, form_two, over_two}
 
 -- ---- lists that grow
@@ -108,7 +111,19 @@ if_ok (Err e) p f = tt
 abbrev pub IsPut : List Form → Form → List Form → ℕ → Type 0
 IsPut f form f' n = (n < length f') × ((leaf : ℕ → Strategy) → strategy_at leaf f' n ≡ strategy_over leaf (strategy_at leaf f) form)
 
+pub put_made : (r : Result StrategyId NoMemory) (f : List Form) (form : Form) (f' : List Form) → IfOk r (λ id. id.0 < length f') →
+    ((leaf : ℕ → Strategy) → IfOk r (λ id. strategy_at leaf f' id.0 ≡ strategy_over leaf (strategy_at leaf f) form)) → IfOk r (λ id. IsPut f form f' id.0)
+put_made (Ok id) f form f' a b = (a, b)
+put_made (Err e) f form f' a b = tt
+
+-- the table is as it was
+pub made_over : (f' : List Form) (old new : List StrategyOf) (s : Strategy) (n : ℕ) → new ≡ old → IsMade f' (meant old) s n → IsMade f' (meant new) s n
+made_over f' old new s n e m = subst (λ t. IsMade f' (meant t) s n) (sym e) m
+
 module _ (f : List Form) (t : List Strategy) (f' : List Form) (n : ℕ) where
+  pub plain_made : (form : Form) (s : Strategy) → ((leaf g : ℕ → Strategy) → strategy_over leaf g form ≡ s) → IsPut f form f' n → IsMade f' t s n
+  plain_made form s e p = (p.0, λ leaf h. p.1 leaf ∙ e leaf (strategy_at leaf f))
+
   pub leaf_made : (l : LeafId) (s : Strategy) → slice_get t l.0 ≡ Some s → IsPut f (Leaf l) f' n → IsMade f' t s n
   leaf_made l s k p = (p.0, λ leaf h. p.1 leaf ∙ h l.0 s k)
 
