@@ -1,16 +1,15 @@
 -- Bodies of definitions by numbers, and all strategies of a program.
-use Rattle.std.proofs.Common.{◌≡◌, ◌⊎◌, inl, inr, ℕ, zero, suc, ◌+◌, ◌<◌, List, [], ◌∷◌, ◌++◌, length, map, slice_get, Some, refl, ap, ap₂, sym, ◌∙◌, subst, arith}
+use Rattle.std.proofs.Common.{◌≡◌, ◌⊎◌, inl, inr, ℕ, zero, suc, ◌<◌, List, [], ◌∷◌, ◌++◌, length, map, slice_get, Some, refl, ap, sym, ◌∙◌, subst, arith}
 use Rattle.std.specs.List.{slice_index_or}
-use Rattle.std.proofs.lemmas.Option.{slice_get_within, get_or_from_slice_get, slice_get-get_or}
-use Rattle.std.proofs.lemmas.List.{get_or_default}
+use Rattle.std.proofs.lemmas.Option.{slice_get_within, get_or_from_slice_get}
 use Rattle.mau_evaluation.specs.Strategy.{Strategy, idle}
 use Rattle.mau_program.specs.declared.definitions.StratDef.{StratDef}
 use Rattle.mau_strat.specs.declared.configs.StrategyId.{StrategyId}
 use Rattle.mau_strat.specs.declared.forms.Form.{Form}
 use Rattle.mau_stratforms.specs.Meanings.{meaning_of, definition_of}
 use Rattle.mau_stratforms.specs.Tables.{leaf_in}
-use Rattle.mau_stratforms.specs.Made.{IsNumberOf}
-use Rattle.mau_stratforms.specs.Parts.{Goes, HasLeaves, IsMade, AreMade}
+use Rattle.mau_stratforms.specs.Made.{IsNumberOf, Goes, HasLeaves, IsMade}
+use Rattle.mau_stratforms.specs.Parts.{AreMade}
 use Rattle.mau_stratforms.proofs.Making.{made_stays}
 
 same_some : {A : Type 0} (a b : A) → Some a ≡ Some b → a ≡ b

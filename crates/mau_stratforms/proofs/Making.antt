@@ -1,7 +1,6 @@
 -- Strategies are added, part after part.
 use Rattle.std.proofs.Common.{◌≡◌, ◌⊎◌, inl, inr, ℕ, zero, suc, ◌+◌, ◌<◌, ◌≤◌, List, [], ◌∷◌, ◌++◌, length, slice_get, Some, All, Result, Ok, Err, IfOk, refl, ap, ap₂, sym, ◌∙◌, subst, arith, length-append}
 use Rattle.std.proofs.lemmas.List.Elements.{All-push, All-nil, All-cons, All-weaker}
-use Rattle.std.proofs.lemmas.Option.{slice_get_within}
 use Rattle.mau_terms.specs.declared.memory.NoMemory.{NoMemory}
 use Rattle.mau_evaluation.specs.Strategy.{Strategy, branch}
 use Rattle.mau_program.specs.Trees.{StrategyOf}
@@ -18,7 +17,8 @@ use Rattle.mau_stratforms.specs.declared.maker.One.TheVariants as one
 use Rattle.mau_stratforms.specs.declared.maker.Two.{Two}
 use Rattle.mau_stratforms.specs.declared.maker.Two.TheVariants as two
 use Rattle.mau_stratforms.specs.Meanings.{meant}
-use Rattle.mau_stratforms.specs.Parts.{Goes, HasLeaves, IsMade, form_one, over_one, form_two, over_two}
+use Rattle.mau_stratforms.specs.Made.{Goes, HasLeaves, IsMade}
+use Rattle.mau_stratforms.specs.Parts.{form_one, over_one, form_two, over_two}
 
 -- ---- lists that grow
 

@@ -1,6 +1,6 @@
--- What adding a strategy adds, and what a strategy is over its parts.
-use Rattle.std.specs.Prelude.{◌≡◌, ℕ, ◌<◌, List, length, All, slice_get, Some}
-use Rattle.mau_evaluation.specs.Strategy.{Strategy, top_only, star, plus, to_normal, in_turn, either, or_else, branch, negation, attempt, test_of}
+-- What a strategy is over its parts.
+use Rattle.std.specs.Prelude.{◌≡◌, ℕ, List, slice_get, Some}
+use Rattle.mau_evaluation.specs.Strategy.{Strategy, top_only, star, plus, to_normal, in_turn, either, or_else, negation, attempt, test_of}
 use Rattle.mau_terms.specs.Subst.{Variable}
 use Rattle.mau_terms.specs.View.{variable_of}
 use Rattle.mau_program.specs.declared.strategies.PartUse.{PartUse}
@@ -8,28 +8,12 @@ use Rattle.mau_program.specs.declared.definitions.StratDef.{StratDef}
 use Rattle.mau_strat.specs.declared.configs.StrategyId.{StrategyId}
 use Rattle.mau_strat.specs.declared.forms.Form.{Form}
 use Rattle.mau_strat.specs.declared.forms.Form.TheVariants as form
-use Rattle.mau_strat.specs.Sharing.{Extends}
-use Rattle.mau_strat.specs.Forms.{AreForms, LeafIn, strategy_at}
 use Rattle.mau_stratforms.specs.Meanings.{meaning_of}
+use Rattle.mau_stratforms.specs.Made.{IsMade}
 use Rattle.mau_stratforms.specs.declared.maker.One.{One}
 use Rattle.mau_stratforms.specs.declared.maker.One.TheVariants as one
 use Rattle.mau_stratforms.specs.declared.maker.Two.{Two}
 use Rattle.mau_stratforms.specs.declared.maker.Two.TheVariants as two
-
--- further strategies and leaves
-pub record Goes (f : List Form) (t : List Strategy) (f' : List Form) (t' : List Strategy) : Type 0 where
-  pub forms : Extends f f'
-  pub table : Extends t t'
-  pub are_forms : AreForms f'
-  pub leaves : All (LeafIn (length t')) f'
-
--- the leaves of the table have these numbers
-abbrev pub HasLeaves : (ℕ → Strategy) → List Strategy → Type 0
-HasLeaves leaf table = (l : ℕ) (x : Strategy) → slice_get table l ≡ Some x → leaf l ≡ x
-
--- the strategy with this number is s
-abbrev pub IsMade : List Form → List Strategy → Strategy → ℕ → Type 0
-IsMade forms table s n = (n < length forms) × ((leaf : ℕ → Strategy) → HasLeaves leaf table → strategy_at leaf forms n ≡ s)
 
 -- bodies of definitions have these numbers
 abbrev pub AreMade : List Form → List Strategy → List StratDef → List StrategyId → Type 0

@@ -3,8 +3,8 @@ ghost use Rattle.std.specs.Prelude.{◌≡◌, ℕ, ◌<◌, length, All, IfOk};
 ghost use Rattle.mau_evaluation.specs.Strategy.{Strategy as Meant, branch};
 ghost use Rattle.mau_strat.specs.Forms.{AreBelow, LeafIn, IsLeaf, parts, strategy_at, strategy_over};
 ghost use Rattle.mau_stratforms.specs.Meanings.{meaning_of, meant};
-ghost use Rattle.mau_stratforms.specs.Made.{AreFormsOf};
-ghost use Rattle.mau_stratforms.specs.Parts.{Goes, IsMade, AreMade, form_one, form_two, over_one, over_two};
+ghost use Rattle.mau_stratforms.specs.Made.{AreFormsOf, Goes, IsMade};
+ghost use Rattle.mau_stratforms.specs.Parts.{AreMade, form_one, form_two, over_one, over_two};
 
 use crate::table::LeafTable;
 use mau_program::{Program, StratDef, Strategy, StrategyForm};

@@ -1,4 +1,4 @@
-use Rattle.std.proofs.Common.{◌≡◌, ◌<◌, map, length, sym, ◌∙◌, ap, arith}
+use Rattle.std.proofs.Common.{◌<◌, map, length, sym, ◌∙◌, ap, arith}
 use Rattle.mau_program.specs.Depth.{depth}
 use Rattle.mau_program.specs.Strategies.{strategy_of}
 use Rattle.mau_program.specs.declared.strategies.PartUse.{PartUse}

@@ -1,5 +1,5 @@
 use Rattle.std.proofs.Common.{sym, ◌∙◌, ap, subst}
-use Rattle.mau_evaluation.specs.Strategy.{Strategy, branch}
+use Rattle.mau_evaluation.specs.Strategy.{branch}
 use Rattle.mau_program.specs.Strategies.{strategy_of}
 use Rattle.mau_strat.specs.declared.forms.Form.TheVariants.{Idle, Fail, All as AllRules, If}
 use Rattle.mau_stratforms.specs.Meanings.{meaning_of, meant}

@@ -1,4 +1,4 @@
-use Rattle.std.proofs.Common.{◌≡◌, ◌+◌, [], ◌∷◌, ◌++◌, length, slice_get, Some, refl, sym, ◌∙◌, ap, subst, rules, arith, length-append}
+use Rattle.std.proofs.Common.{◌≡◌, ◌+◌, [], ◌∷◌, ◌++◌, length, slice_get, Some, refl, sym, ◌∙◌, ap, subst, rules, length-append}
 use Rattle.std.proofs.lemmas.Option.{slice_get_read}
 use Rattle.mau_stratforms.specs.Meanings.{meant}
 use Rattle.mau_stratforms.specs.Parts.{AreMade}

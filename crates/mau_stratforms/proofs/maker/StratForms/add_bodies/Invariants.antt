@@ -1,6 +1,7 @@
 use Rattle.std.proofs.Common.{◌≡◌, length}
 use Rattle.mau_stratforms.specs.Meanings.{meant}
-use Rattle.mau_stratforms.specs.Parts.{Goes, AreMade}
+use Rattle.mau_stratforms.specs.Made.{Goes}
+use Rattle.mau_stratforms.specs.Parts.{AreMade}
 use Rattle.mau_stratforms.proofs.maker.StratForms.add_bodies.Given as goal
 
 abbrev pub invariant-loop-definition : goal.invariant-loop-definition

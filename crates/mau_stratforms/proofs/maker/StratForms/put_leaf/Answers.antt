@@ -1,4 +1,3 @@
-use Rattle.std.proofs.Common.{sym}
 use Rattle.mau_strat.specs.declared.forms.Form.TheVariants.{Leaf}
 use Rattle.mau_stratforms.specs.Meanings.{meaning_of, meant}
 use Rattle.mau_stratforms.proofs.Leaves.{table_extends}
