@@ -125,7 +125,7 @@ module _ (th : ℕ → Theory) (bound : List Variable) (gg : Variable → Tree) 
 
   -- nothing is hidden at first
   pub shared_none : (ps : Trees) → AreShared th bound [] gg f ps []
-  shared_none ps t = (0, ap (how_many t) (frees_none ps), refl)
+  shared_none ps t = (0, omega (arith, ap (how_many t) (frees_none ps)), refl)
 
   -- a pattern that is no list of f has what is not known of it beside
   pub besides_other : (hs : List Variable) (h : ℕ) (p : Tree) (ts : Trees) → p ≡ apply h ts → (h == f) ≡ false → besides_of th bound hs gg f p ≡ free th bound gg f p

@@ -179,6 +179,7 @@ fn may_be_at(
     ensures refused { IfOk result (λ b. b ≡ false → IsNever sig.now store.old given.now (apply op.0 (trees_of (map tree_of patterns.now))) (just (tree_at store.old id.0))) }
     ensures extends { Extends store.old store.new }
 {
+    is_lawful(sig);
     may_be_placed(store, sig, given, op, patterns, id)
 }
 

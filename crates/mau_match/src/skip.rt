@@ -91,13 +91,7 @@ fn grown_list(
 }
 
 /// How many of the first elements of a list behind which too few items follow each long enough list behind it is past: as few as can be told.
-fn cut_of(
-    store: &Store,
-    items: &[TermId],
-    list: &[TermId],
-    least: usize,
-    from: usize,
-) -> usize
+fn cut_of(store: &Store, items: &[TermId], list: &[TermId], least: usize, from: usize) -> usize
     requires sorted { AreSorted store.now (numbers items.now) }
     requires rest { rest_of (trees_at store.now (numbers list.now)) (trees_at store.now (numbers items.now)) ≡ Some (trees_at store.now (numbers (drop from items.now))) }
     requires room { from ≤ length items.now }

@@ -99,11 +99,7 @@ fn lack_of(store: &Store, counts: &[usize], items: &[TermId], term: TermId) -> u
 }
 
 /// How many elements stand at least beside those whose numbers are sums of some numbers.
-fn least_beside(
-    store: &Store,
-    counts: &[usize],
-    items: &[TermId],
-) -> Result<usize, NoMemory>
+fn least_beside(store: &Store, counts: &[usize], items: &[TermId]) -> Result<usize, NoMemory>
     ensures { IfOk result (λ n. (beside : List Tree) → AreBeside counts.now (trees_at store.now (numbers items.now)) beside → n ≤ length beside) }
 {
     let mut rest = copy_of(store.allocator(), items)?;
@@ -130,13 +126,7 @@ fn is_place_of(given: &Given, variable: VarId, place: VarId) -> bool
 
 /// A number, and how often a variable without a value is an argument, through nested uses of the operator.
 #[cycle(times)]
-fn times_of(
-    given: &Given,
-    op: OpId,
-    variable: VarId,
-    pattern: &Bare,
-    count: usize,
-) -> Option<usize>
+fn times_of(given: &Given, op: OpId, variable: VarId, pattern: &Bare, count: usize) -> Option<usize>
     ensures { IfSome result (λ n. n ≡ count + copies (bound_of given.now) (variable_of variable) op.0 (tree_of pattern.now)) }
 {
     match pattern {

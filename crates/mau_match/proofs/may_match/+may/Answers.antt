@@ -95,7 +95,7 @@ may_unite-returns-in-Some-clause-refused t c =
     let id = c.args.id.0 in
     let e = extension_is_preorder.transitive old first mid c.may_be_placed.ensures.extends c.unit_of.ensures.extends in
     let same : tree_at mid id ≡ tree_at old id = tree_at-extends old mid id e c.requires.term.there in
-    let unit : tree_at mid c.in-Some.unit.0 ∷ [] ≡ units_of (th f).id = ap (units_in mid) (sym c.in-Some.is) ∙ c.in_ok-unit_of.ensures.value in
+    let unit : tree_at mid c.in-Some.unit.0 ∷ [] ≡ units_of (th f).id = ap (units_in mid) (sym c.in-Some.is) ∙ c.in_ok-unit.ensures.value in
     IfOk-weaker c.may_fold_pair.result _ _
     (λ b h r. united_before s old mid e g c.requires.values f ps (tree_at old id) (tree_at mid id) (tree_at mid c.in-Some.unit.0) same unit c.requires.plain c.requires.not_successor (c.in_ok-may_be_placed.ensures.refused c.if-branch.false) (h r))
     c.may_fold_pair.ensures.refused
@@ -106,7 +106,7 @@ may_unite-may_fold_pair-requires t c =
     let old = c.args.store.now in
     let mid = c.unit_of.new.store in
     let e = extension_is_preorder.transitive old c.may_be_placed.new.store mid c.may_be_placed.ensures.extends c.unit_of.ensures.extends in
-    let unit : StandsWithin th mid c.in-Some.unit.0 = rw c.in-Some.is at c.in_ok-unit_of.ensures.within in (
+    let unit : StandsWithin th mid c.in-Some.unit.0 = rw c.in-Some.is at c.in_ok-unit.ensures.within in (
       omega arith,
       (
         c.requires.bare,

@@ -19,6 +19,6 @@ loop-cut-preserved c =
     let cut = c.loop-cut.cut in
     let rest : Some (terms nodes (drop c.in-Some.after items)) ≡ rest_of (terms nodes (take cut list)) (terms nodes items) = ap (option_map (λ n. terms nodes (drop n items))) (sym c.in-Some.is) ∙ c.rest_from.ensures.rest in
     record {
-      cut = cut_less nodes items list c.requires.sorted c.args.least cut c.in-Some.after (omega (arith, c.loop-cut-test.true)) c.loop-cut.invariant.within (omega (arith, c.loop-cut.invariant.within, c.requires.few)) (sym rest) (omega (arith, c.if-after.false)) c.loop-cut.invariant.cut;
+      cut = cut_less nodes items list c.requires.sorted c.args.least cut c.in-Some.after (omega (arith, c.loop-cut-test.true)) c.loop-cut.invariant.within (omega (arith, c.loop-cut.invariant.within, c.requires.few)) (sym rest) (omega (arith, c.if-items-after.false)) c.loop-cut.invariant.cut;
       within = omega (arith, c.loop-cut.invariant.within);
     }

@@ -1,7 +1,8 @@
-use Rattle.std.proofs.Common.{◌≡◌, ◌+◌, ◌≤◌, [], List, map, length, sym, ◌∙◌, ap, subst, arith}
+use Rattle.std.proofs.Common.{◌≡◌, ℕ, ◌+◌, ◌≤◌, [], List, map, length, ltb-true, sym, subst, arith}
 use Rattle.mau_terms.specs.Tree.{trees_of}
 use Rattle.mau_terms.specs.Subst.{Variable}
 use Rattle.mau_terms.specs.View.{tree_of, variable_of}
+use Rattle.mau_terms.specs.declared.ids.VarId.{VarId}
 use Rattle.mau_signature.specs.Signature.{theory_at}
 use Rattle.mau_store.specs.Trees.{trees_at}
 use Rattle.mau_store.specs.View.{numbers}
@@ -25,6 +26,7 @@ returns c = λ more gg limited fair same.
     let shared : AreShared th bound (map variable_of hidden) gg f ps counts = c.in_ok-push_shares.ensures th gg none in
     let beside : AreBeside counts us (besides th bound (map variable_of hidden) gg f ps) = beside_same counts (frees th bound gg f ps) us (besides th bound (map variable_of hidden) gg f ps) same shared in
     let most = c.in-Some.most in
-    let few = (rw c.in-Some.is at c.all_most_apart.ensures) gg limited fair in
-    let many = c.in_ok-least.ensures beside in
-    omega (arith, few, many, more)
+    let told : length (besides th bound (map variable_of c.deref.result.now) gg f ps) ≤ most = omega (arith, (rw c.in-Some.is at c.all_most_apart.ensures) gg limited fair) in
+    let few : length (besides th bound (map variable_of hidden) gg f ps) ≤ most = subst (λ (l : List VarId). length (besides th bound (map variable_of l) gg f ps) ≤ most) c.deref.ensures.value told in
+    let many = c.in_ok-least.ensures (besides th bound (map variable_of hidden) gg f ps) (subst (λ (l : List ℕ). AreBeside l us (besides th bound (map variable_of hidden) gg f ps)) (sym c.deref-2.ensures.value) beside) in
+    omega (arith, few, many, ltb-true most c.in_ok-least.least more)

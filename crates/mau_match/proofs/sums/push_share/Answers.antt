@@ -1,7 +1,8 @@
-use Rattle.std.proofs.Common.{◌≡◌, [], ◌∷◌, ◌++◌, map, sym, ◌∙◌, ap, ap₂, subst, false, arith}
+use Rattle.std.proofs.Common.{◌≡◌, List, [], ◌∷◌, ◌++◌, map, sym, ◌∙◌, ap, ap₂, subst, false, arith}
 use Rattle.std.proofs.lemmas.List.{map-append}
 use Rattle.mau_terms.specs.Tree.{trees_of}
-use Rattle.mau_terms.specs.Subst.{Variable}
+use Rattle.mau_terms.specs.Subst.{Variable, has_variable}
+use Rattle.mau_terms.specs.declared.ids.VarId.{VarId}
 use Rattle.mau_terms.specs.View.{tree_of, variable_of}
 use Rattle.mau_match.specs.Parts.{copies_in}
 use Rattle.mau_match.specs.Sums.{AreShared}
@@ -20,4 +21,4 @@ returns c = λ th gg h.
     let names : map variable_of c.push.new.self.items ≡ map variable_of hs ++ x ∷ [] = ap (map variable_of) c.in_ok-push.ensures.items ∙ map-append variable_of hs (c.args.variable ∷ []) in
     let many : c.in-Some.times ≡ copies_in bound x f ps = omega (arith, rw c.in-Some.is at c.times_in.ensures) in
     let numbers : c.push-2.new.self.items ≡ ms ++ copies_in bound x f ps ∷ [] = c.in_ok-push-2.ensures.items ∙ ap (λ n. ms ++ n ∷ []) many in
-    subst (λ ys. AreShared th bound ys gg f ps c.push-2.new.self.items) (sym names) (subst (AreShared th bound (map variable_of hs ++ x ∷ []) gg f ps) (sym numbers) (shared_more th bound gg f x (map variable_of hs) (sym c.has_variable.ensures ∙ c.if-has_variable.false) ps ms h))
+    subst (λ ys. AreShared th bound ys gg f ps c.push-2.new.self.items) (sym names) (subst (AreShared th bound (map variable_of hs ++ x ∷ []) gg f ps) (sym numbers) (shared_more th bound gg f x (map variable_of hs) (ap (λ (l : List VarId). has_variable (map variable_of l) x) (sym c.deref.ensures.value) ∙ sym c.has_variable.ensures ∙ c.if-has_variable.false) ps ms h))
