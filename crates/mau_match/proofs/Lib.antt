@@ -22,6 +22,7 @@ pub mod Stepping
 pub mod Good
 pub mod Answering
 pub mod Limited
+pub mod Uneven
 pub mod PartsOver
 pub mod GivenFor
 pub mod NextVariable

@@ -1,5 +1,5 @@
 -- What is refused step by step, while the store grows, is never so.
-use Rattle.std.proofs.Common.{◌≡◌, ◌⊎◌, ℕ, ◌+◌, ◌-◌, ◌==◌, ◌<◌, ◌≤◌, List, [], ◌∷◌, ◌++◌, map, length, take, drop, get_or, Bool, true, false, Some, None, inl, inr, if◌then◌else◌, refl, sym, ◌∙◌, ap, ap₂, subst, arith, eq-eqb, length-append}
+use Rattle.std.proofs.Common.{◌≡◌, ◌⊎◌, ℕ, ◌+◌, ◌-◌, ◌==◌, ◌<◌, ◌≤◌, List, [], ◌∷◌, ◌++◌, map, length, take, drop, get_or, Bool, true, false, Option, Some, None, inl, inr, if◌then◌else◌, refl, sym, ◌∙◌, ap, ap₂, subst, arith, eq-eqb, length-append}
 use Rattle.std.specs.Ordering.{is_gt}
 use Rattle.std.proofs.lemmas.List.{take_more, take_rest, map-append}
 use Rattle.mau_terms.specs.Tree.{Tree, apply, node, Trees, no_trees, tree, trees_of}
@@ -8,7 +8,7 @@ use Rattle.mau_terms.specs.Norm.{unit_tree, all_pieces, arrange, build, norm, no
 use Rattle.mau_terms.specs.Lawful.{AreLawful}
 use Rattle.mau_terms.specs.Subst.{Variable, instance, instances}
 use Rattle.mau_terms.specs.Solution.{list_under}
-use Rattle.mau_terms.specs.Finite.{IsIn}
+use Rattle.mau_terms.specs.Finite.{IsIn, units_of}
 use Rattle.mau_terms.specs.View.{tree_of}
 use Rattle.mau_terms.specs.declared.theory.Identity.{Identity}
 use Rattle.mau_terms.specs.declared.theory.Identity.TheVariants.{Const, Num}
@@ -28,11 +28,12 @@ use Rattle.mau_canon.proofs.Values.{values_in-extends}
 use Rattle.mau_domains.specs.Parts.{Reach, whole, inside, Part, just, IsOf, Reaches}
 use Rattle.mau_domains.specs.Stored.{reach_of}
 use Rattle.mau_match.specs.Parts.{headed, is_bound, are_bound, alone_in, lists_in, apart_from, known_in, without_all, least_lengths, too_few_for, IsFair, AreFair}
-use Rattle.mau_match.specs.Possible.{Agrees, AgreesIn, IsNever, AreNever, AreNeverSorted, AreNeverJoined, IsNeverAmong, AreNeverAmong, AreNeverLeft, free, frees}
+use Rattle.mau_match.specs.Possible.{Agrees, AgreesIn, IsNever, IsNeverPlaced, AreNever, AreNeverSorted, AreNeverJoined, IsNeverAmong, AreNeverAmong, AreNeverLeft, free, frees}
 use Rattle.mau_match.specs.Limited.{AreLimited}
 use Rattle.mau_match.specs.Walked.{bound_of, values_of, target_of, span_in, AreGivenWithin, IsSpanWithin}
 use Rattle.mau_match.specs.declared.part.Given.{Given}
 use Rattle.mau_match.specs.declared.part.Span.{Span}
+use Rattle.mau_match.proofs.Builds.{IsFolded, Built, placed, counted, folded, built_other}
 use Rattle.mau_match.proofs.KnownElements.{bound_norm}
 use Rattle.mau_match.proofs.Lengths.{not_too_few}
 use Rattle.mau_match.proofs.NothingMissed.{Way, ways, alone_value, only_placed, head_op}
@@ -82,29 +83,52 @@ module _ (s : SignatureOf) (lawful : AreLawful (theory_at s)) (nodes : List Node
   built : (gg : Variable → Tree) → AgreesIn s nodes g gg → IsFair (theory_at s) gg (apply f ps) → build (theory_at s f) f (norms (theory_at s) (instances gg ps)) ≡ node f (arrange (theory_at s f).comm (norms (theory_at s) (instances gg ps)))
   built gg ag fair = only_placed (theory_at s) lawful (bound_of g) (values_of nodes g) gg (target_of g) ag.agrees f plain not_succ no_id (norms (theory_at s) (instances gg ps)) fair.0
 
-  pub never_at_pair : (v : Tree) (es : List Tree) → (theory_at s f).comm ≡ true → v ≡ node f es → AreNeverSorted s nodes g ps es → IsNever s nodes g (apply f ps) (just v)
-  never_at_pair v es m e h gg ag fair o =
-      let zs = norms (theory_at s) (instances gg ps) in
-      let k : arrange (theory_at s f).comm zs ≡ es = same_arguments f f (arrange (theory_at s f).comm zs) es (sym (built gg ag fair) ∙ o ∙ e) in
-      h gg ag fair.1 (subst (λ d. arrange d zs ≡ es) m k)
-
-  pub never_at_stand : (v : Tree) (es : List Tree) → (theory_at s f).comm ≡ false → v ≡ node f es → AreNever s nodes g ps es → IsNever s nodes g (apply f ps) (just v)
-  never_at_stand v es m e h gg ag fair o =
-      let zs = norms (theory_at s) (instances gg ps) in
-      let k : arrange (theory_at s f).comm zs ≡ es = same_arguments f f (arrange (theory_at s f).comm zs) es (sym (built gg ag fair) ∙ o ∙ e) in
-      h gg ag fair.1 (subst (λ d. arrange d zs ≡ es) m k)
-
-  pub never_at_other : (v : Tree) → headed f v ≡ false → IsNever s nodes g (apply f ps) (just v)
-  never_at_other v e gg ag fair o =
-      let k : headed f v ≡ true = ap (headed f) (sym o ∙ built gg ag fair) ∙ eq-eqb f f refl in
-      let n : true ≡ false = sym k ∙ e in
-      absurd (cc)
+  pub never_at_placed : (v : Tree) → IsNeverPlaced s nodes g f ps v → IsNever s nodes g (apply f ps) (just v)
+  never_at_placed v h gg ag fair o = h gg ag fair.1 (sym (built gg ag fair) ∙ o)
 
   -- if it is none of the terms of a part, it is not of the part
   pub never_alone : (q : Part) → ((v : Tree) → IsIn v (alone_in (theory_at s) q) → IsNever s nodes g (apply f ps) (just v)) → IsNever s nodes g (apply f ps) q
   never_alone q h gg ag fair o =
       let v = build (theory_at s f) f (norms (theory_at s) (instances gg ps)) in
       h v (alone_value (theory_at s) lawful (bound_of g) (values_of nodes g) gg (target_of g) ag.agrees f plain no_id (norms (theory_at s) (instances gg ps)) fair.0 q o) gg ag fair refl
+
+-- ---- arguments at their places
+
+module _ (s : SignatureOf) (nodes : List Node) (g : Given) (f : ℕ) (ps : Trees) (v : Tree) where
+  pub placed_pair : (es : List Tree) → (theory_at s f).comm ≡ true → v ≡ node f es → AreNeverSorted s nodes g ps es → IsNeverPlaced s nodes g f ps v
+  placed_pair es m e h gg ag fair o =
+      let zs = norms (theory_at s) (instances gg ps) in
+      let k : arrange (theory_at s f).comm zs ≡ es = same_arguments f f (arrange (theory_at s f).comm zs) es (o ∙ e) in
+      h gg ag fair (subst (λ d. arrange d zs ≡ es) m k)
+
+  pub placed_stand : (es : List Tree) → (theory_at s f).comm ≡ false → v ≡ node f es → AreNever s nodes g ps es → IsNeverPlaced s nodes g f ps v
+  placed_stand es m e h gg ag fair o =
+      let zs = norms (theory_at s) (instances gg ps) in
+      let k : arrange (theory_at s f).comm zs ≡ es = same_arguments f f (arrange (theory_at s f).comm zs) es (o ∙ e) in
+      h gg ag fair (subst (λ d. arrange d zs ≡ es) m k)
+
+  pub placed_other : headed f v ≡ false → IsNeverPlaced s nodes g f ps v
+  placed_other e gg ag fair o =
+      let k : headed f v ≡ true = ap (headed f) (sym o) ∙ eq-eqb f f refl in
+      let n : true ≡ false = sym k ∙ e in
+      absurd (cc)
+
+  -- an operator with an identity has its arguments at their places, or one of them is the identity and the other is the term
+  pub never_united : (theory_at s f).assoc ≡ false → (theory_at s f).succ ≡ false → (i : Identity) → (theory_at s f).id ≡ Some i → IsNeverPlaced s nodes g f ps v
+      → AreNever s nodes g ps (unit_tree i ∷ v ∷ []) → AreNever s nodes g ps (v ∷ unit_tree i ∷ []) → IsNever s nodes g (apply f ps) (just v)
+  never_united plain not_succ i id places first second gg ag fair o = by (built_other (theory_at s) f zs plain fair.0.two_by_unit)
+    where
+      zs : List Tree
+      zs = norms (theory_at s) (instances gg ps)
+
+      by : Built (theory_at s f) f zs (build (theory_at s f) f zs) → ⊥
+      by (placed es e k nc) = places gg ag fair.1 (ap (node f) nc ∙ sym e ∙ o)
+      by (counted n q e k) = let no : false ≡ true = sym not_succ ∙ q in absurd (cc)
+      by (folded j u e) = one (let k : Some j ≡ Some i = sym u ∙ id in cc) e
+        where
+          one : j ≡ i → IsFolded j zs (build (theory_at s f) f zs) → ⊥
+          one k (inl q) = first gg ag fair.1 (q ∙ ap₂ (λ a b. a ∷ b ∷ []) (ap unit_tree k) o)
+          one k (inr q) = second gg ag fair.1 (q ∙ ap₂ (λ a b. a ∷ b ∷ []) o (ap unit_tree k))
 
 -- two terms in one order or the other
 abbrev IsPaired : Tree → Tree → List Tree → Type 0
@@ -153,6 +177,18 @@ module _ (s : SignatureOf) (nodes : List Node) (g : Given) (p : Tree) (ps : Tree
 
 pub are_before : (s : SignatureOf) (old new : List Node) → Extends old new → (g : Given) → AreGivenWithin s old g → (ps : Trees) (es' es : List Tree) → es' ≡ es → AreNever s new g ps es' → AreNever s old g ps es
 are_before s old new e g w ps es' es k h gg ag fair o = h gg (agrees_stay s old new e g w gg ag) fair (o ∙ sym k)
+
+-- the same of an operator with an identity, whose number is found while the store grows
+pub united_before : (s : SignatureOf) (old new : List Node) → Extends old new → (g : Given) → AreGivenWithin s old g → (f : ℕ) (ps : Trees) (v v' u : Tree) → v' ≡ v → u ∷ [] ≡ units_of (theory_at s f).id → (theory_at s f).assoc ≡ false → (theory_at s f).succ ≡ false
+    → IsNeverPlaced s old g f ps v → AreNever s new g ps (u ∷ v' ∷ []) × AreNever s new g ps (v' ∷ u ∷ []) → IsNever s old g (apply f ps) (just v)
+united_before s old new e g w f ps v v' u k is plain not_succ places both = by (theory_at s f).id refl is
+  where
+    by : (o : Option Identity) → (theory_at s f).id ≡ o → u ∷ [] ≡ units_of o → IsNever s old g (apply f ps) (just v)
+    by None n q = cc
+    by (Some i) n q =
+        let m : u ≡ unit_tree i = cc in
+        never_united s old g f ps v plain not_succ i n places (are_before s old new e g w ps (u ∷ v' ∷ []) (unit_tree i ∷ v ∷ []) (ap₂ (λ a b. a ∷ b ∷ []) m k) both.0)
+        (are_before s old new e g w ps (v' ∷ u ∷ []) (v ∷ unit_tree i ∷ []) (ap₂ (λ a b. a ∷ b ∷ []) k m) both.1)
 
 pub among_before : (s : SignatureOf) (old new : List Node) → Extends old new → (g : Given) → AreGivenWithin s old g → (f : ℕ) (ps : Trees) (us' us : List Tree) → us' ≡ us → AreNeverAmong s new g f ps us' → AreNeverAmong s old g f ps us
 among_before s old new e g w f ps us' us k h gg ag fair o = h gg (agrees_stay s old new e g w gg ag) fair (subst (Reaches true inside (frees (theory_at s) (bound_of g) gg f ps)) (sym k) o)

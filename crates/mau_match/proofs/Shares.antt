@@ -47,7 +47,7 @@ many_sort : (t : Tree) (l : List Tree) → how_many t (sort_trees l) ≡ how_man
 many_sort t [] = refl
 many_sort t (u ∷ l) = many_insert t u (sort_trees l) ∙ ap (λ n. if same_tree t u then 1 + n else n) (many_sort t l)
 
-many_same : (t : Tree) (a b : List Tree) → sort_trees a ≡ sort_trees b → how_many t a ≡ how_many t b
+pub many_same : (t : Tree) (a b : List Tree) → sort_trees a ≡ sort_trees b → how_many t a ≡ how_many t b
 many_same t a b e = sym (many_sort t a) ∙ ap (how_many t) e ∙ many_sort t b
 
 many_itself : (t : Tree) (l : List Tree) → how_many t (t ∷ l) ≡ 1 + how_many t l

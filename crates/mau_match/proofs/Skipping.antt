@@ -25,7 +25,7 @@ use Rattle.mau_canon.proofs.Standing.{stand_among, stand_at}
 use Rattle.mau_listing.proofs.Growth.{trees_long}
 use Rattle.mau_terms.specs.declared.theory.Theory.{Theory}
 use Rattle.mau_match.specs.Parts.{same_tree}
-use Rattle.mau_match.specs.Skipped.{rest_of, with_last, IsFar, IsFurther, IsPassed, IsPassedBy}
+use Rattle.mau_match.specs.Skipped.{rest_of, without_last, IsPast, IsCut, IsFar, IsFurther, IsPassed, IsPassedBy}
 use Rattle.mau_terms.specs.Norm.{arrange}
 use Rattle.mau_terms.specs.Order.{sort_trees}
 use Rattle.mau_terms.specs.Lawful.{AreLawful}
@@ -147,25 +147,69 @@ one (y ∷ ys) a x (c ∷ cs) rest e h k = by (one ys a.1 x (c ∷ cs) rest) (sa
     by ih true s e = let i : ys ≡ rest = cc in omega (arith, sub_length (c ∷ cs) (y ∷ ys) h, ap length i)
     by ih false s e = ih e (sub_behind c y cs ys (λ i. never s i (low k) (within y x ys rest e a.0)) h) k
 
--- the list with another last element is before each sub-list behind it that has more elements than are left
-pub dead : (ys : List Tree) → IsAscending IsBefore ys → (x : Tree) (xs t rest : List Tree) → rest_of (x ∷ xs) ys ≡ Some rest → IsSubList t ys → IsBelow IsBefore (x ∷ xs) t → 1 + length xs + length rest < length t → (z : Tree) → IsBelow IsBefore (with_last z (x ∷ xs)) t
-dead [] a x xs t rest e h k l z = cc
-dead (y ∷ ys) a x xs [] rest e h k l z = absurd k
-dead (y ∷ ys) a x [] (c ∷ cs) rest e h k l z = absurd (omega (arith, l, one (y ∷ ys) a x (c ∷ cs) rest e h k))
-dead (y ∷ ys) a x (w ∷ xs) (c ∷ cs) rest e h (inl k) l z = inl k
-dead (y ∷ ys) a x (w ∷ xs) (c ∷ cs) rest e h (inr k) l z =
-    by (λ e'. dead ys a.1 w xs cs rest e' (sub_after c y cs ys h) k.1 (omega (arith, l)) z) (λ e' i. dead ys a.1 x (w ∷ xs) (c ∷ cs) rest e' i (inr k) l z) (same_tree x y) refl e
+-- a sub-list behind the list that has more elements than are left is past all but the last element
+pub past : (ys : List Tree) → IsAscending IsBefore ys → (x : Tree) (xs t rest : List Tree) → rest_of (x ∷ xs) ys ≡ Some rest → IsSubList t ys → IsBelow IsBefore (x ∷ xs) t → 1 + length xs + length rest < length t → IsPast (without_last (x ∷ xs)) t
+past [] a x xs t rest e h k l = cc
+past (y ∷ ys) a x xs [] rest e h k l = absurd k
+past (y ∷ ys) a x [] (c ∷ cs) rest e h k l = absurd (omega (arith, l, one (y ∷ ys) a x (c ∷ cs) rest e h k))
+past (y ∷ ys) a x (w ∷ xs) (c ∷ cs) rest e h (inl k) l = inl k
+past (y ∷ ys) a x (w ∷ xs) (c ∷ cs) rest e h (inr k) l =
+    by (λ e'. past ys a.1 w xs cs rest e' (sub_after c y cs ys h) k.1 (omega (arith, l))) (λ e' i. past ys a.1 x (w ∷ xs) (c ∷ cs) rest e' i (inr k) l) (same_tree x y) refl e
   where
-    by : (rest_of (w ∷ xs) ys ≡ Some rest → IsBelow IsBefore (with_last z (w ∷ xs)) cs) → (rest_of (x ∷ w ∷ xs) ys ≡ Some rest → IsSubList (c ∷ cs) ys → IsBelow IsBefore (with_last z (x ∷ w ∷ xs)) (c ∷ cs))
-        → (d : Bool) → same_tree x y ≡ d → (if d then rest_of (w ∷ xs) ys else rest_of (x ∷ w ∷ xs) ys) ≡ Some rest → IsBelow IsBefore (with_last z (x ∷ w ∷ xs)) (c ∷ cs)
+    by : (rest_of (w ∷ xs) ys ≡ Some rest → IsPast (without_last (w ∷ xs)) cs) → (rest_of (x ∷ w ∷ xs) ys ≡ Some rest → IsSubList (c ∷ cs) ys → IsPast (without_last (x ∷ w ∷ xs)) (c ∷ cs))
+        → (d : Bool) → same_tree x y ≡ d → (if d then rest_of (w ∷ xs) ys else rest_of (x ∷ w ∷ xs) ys) ≡ Some rest → IsPast (without_last (x ∷ w ∷ xs)) (c ∷ cs)
     by first later true s e = inr (k.0, first e)
     by first later false s e = later e (sub_behind c y cs ys (λ i. other x y s (k.0 ∙ i)) h)
 
--- the list without its last element, and another one behind it
-pub with_last_is : (z : Tree) (xs : List Tree) → 1 ≤ length xs → with_last z xs ≡ take (length xs - 1) xs ++ z ∷ []
-with_last_is z [] h = absurd (omega arith)
-with_last_is z (x ∷ []) h = refl
-with_last_is z (x ∷ y ∷ xs) h = ap (λ w. x ∷ w) (with_last_is z (y ∷ xs) (omega arith)) ∙ ap (λ n. take n (x ∷ y ∷ xs) ++ z ∷ []) (let e : suc (length (y ∷ xs) - 1) ≡ length (x ∷ y ∷ xs) - 1 = omega arith in e)
+-- a sub-list whose first element is greater has its elements among what follows
+one_past : (ys : List Tree) → IsAscending IsBefore ys → (x : Tree) (t rest : List Tree) → rest_of (x ∷ []) ys ≡ Some rest → IsSubList t ys → IsPast (x ∷ []) t → length t ≤ length rest
+one_past [] a x t rest e h k = cc
+one_past (y ∷ ys) a x [] rest e h k = absurd k
+one_past (y ∷ ys) a x (c ∷ cs) rest e h (inr k) = absurd k.1
+one_past (y ∷ ys) a x (c ∷ cs) rest e h (inl k) = by (one_past ys a.1 x (c ∷ cs) rest) (same_tree x y) refl e
+  where
+    never : IsBefore y x ⊎ (y ≡ x) → c ≡ y → ⊥
+    never (inl m) i = irrefl x (chain x y x (subst (IsBefore x) i k) m)
+    never (inr m) i = irrefl x (subst (IsBefore x) (i ∙ m) k)
+
+    by : (rest_of (x ∷ []) ys ≡ Some rest → IsSubList (c ∷ cs) ys → IsPast (x ∷ []) (c ∷ cs) → length (c ∷ cs) ≤ length rest) → (d : Bool) → same_tree x y ≡ d → (if d then Some ys else rest_of (x ∷ []) ys) ≡ Some rest → length (c ∷ cs) ≤ length rest
+    by ih true s e =
+        let i : ys ≡ rest = cc in
+        omega (arith, sub_length (c ∷ cs) ys (sub_behind c y cs ys (never (inr (sym (same_is x y s)))) h), ap length i)
+    by ih false s e = ih e (sub_behind c y cs ys (never (within y x ys rest e a.0)) h) (inl k)
+
+-- one that is past the list and has more elements than can follow is past all but the last element
+pub past_more : (ys : List Tree) → IsAscending IsBefore ys → (x : Tree) (xs t rest : List Tree) → rest_of (x ∷ xs) ys ≡ Some rest → IsSubList t ys → IsPast (x ∷ xs) t → length xs + length rest < length t → IsPast (without_last (x ∷ xs)) t
+past_more [] a x xs t rest e h k l = cc
+past_more (y ∷ ys) a x xs [] rest e h k l = absurd k
+past_more (y ∷ ys) a x [] (c ∷ cs) rest e h k l = absurd (omega (arith, l, one_past (y ∷ ys) a x (c ∷ cs) rest e h k))
+past_more (y ∷ ys) a x (w ∷ xs) (c ∷ cs) rest e h (inl k) l = inl k
+past_more (y ∷ ys) a x (w ∷ xs) (c ∷ cs) rest e h (inr k) l =
+    by (λ e'. past_more ys a.1 w xs cs rest e' (sub_after c y cs ys h) k.1 (omega (arith, l))) (λ e' i. past_more ys a.1 x (w ∷ xs) (c ∷ cs) rest e' i (inr k) l) (same_tree x y) refl e
+  where
+    by : (rest_of (w ∷ xs) ys ≡ Some rest → IsPast (without_last (w ∷ xs)) cs) → (rest_of (x ∷ w ∷ xs) ys ≡ Some rest → IsSubList (c ∷ cs) ys → IsPast (without_last (x ∷ w ∷ xs)) (c ∷ cs))
+        → (d : Bool) → same_tree x y ≡ d → (if d then rest_of (w ∷ xs) ys else rest_of (x ∷ w ∷ xs) ys) ≡ Some rest → IsPast (without_last (x ∷ w ∷ xs)) (c ∷ cs)
+    by first later true s e = inr (k.0, first e)
+    by first later false s e = later e (sub_behind c y cs ys (λ i. other x y s (k.0 ∙ i)) h)
+
+-- what is past a list stands behind it with anything at its end
+past_below : (xs t : List Tree) (z : Tree) → IsPast xs t → IsBelow IsBefore (xs ++ z ∷ []) t
+past_below [] t z h = absurd h
+past_below (x ∷ xs) [] z h = absurd h
+past_below (x ∷ xs) (c ∷ cs) z (inl h) = inl h
+past_below (x ∷ xs) (c ∷ cs) z (inr h) = inr (h.0, past_below xs cs z h.1)
+
+without_last_is : (xs : List Tree) → without_last xs ≡ take (length xs - 1) xs
+without_last_is [] = refl
+without_last_is (x ∷ []) = refl
+without_last_is (x ∷ y ∷ xs) = ap (λ w. x ∷ w) (without_last_is (y ∷ xs)) ∙ ap (λ n. take n (x ∷ y ∷ xs)) (let e : suc (length (y ∷ xs) - 1) ≡ length (x ∷ y ∷ xs) - 1 = omega arith in e)
+
+-- the first elements but the last of them
+take_less : (k : ℕ) (xs : List Tree) → k < length xs → without_last (take (suc k) xs) ≡ take k xs
+take_less k [] h = absurd (omega (arith, h))
+take_less zero (x ∷ xs) h = refl
+take_less (suc k) (x ∷ []) h = absurd (omega (arith, h))
+take_less (suc k) (x ∷ y ∷ xs) h = ap (λ w. x ∷ w) (take_less k (y ∷ xs) (omega (arith, h)))
 
 -- ---- what follows, one place after another
 
@@ -206,15 +250,42 @@ module _ (nodes : List Node) where
         let l : n + length (terms nodes list) < length t = omega (arith, trees_long nodes list, e, long, short) in
         subst (λ w. IsBelow IsBefore w t) (sym same) (grown n (terms nodes items) (ascending_sorted (terms nodes items) sorted) (terms nodes list) (terms nodes rs) t rest m sub below l)
 
-    pub far_other : (z : TermId) → 1 ≤ length list → length list + (length items - from) < least → (far : List TermId) → far ≡ take (length list - 1) list ++ z ∷ [] → IsFar (terms nodes items) (terms nodes list) least (terms nodes far)
-    far_other z some few far is t sub long below =
-        let same : terms nodes far ≡ with_last (tree_at nodes z.0) (terms nodes list) = ap (terms nodes) is ∙ terms_joined nodes (take (length list - 1) list) (z ∷ []) ∙ ap (λ w. w ++ tree_at nodes z.0 ∷ []) (terms_take (length list - 1) list)
-        ∙ ap (λ n. take (n - 1) (terms nodes list) ++ tree_at nodes z.0 ∷ []) (sym (trees_long nodes list)) ∙ sym (with_last_is (tree_at nodes z.0) (terms nodes list) (omega (arith, some, trees_long nodes list))) in
-        subst (λ w. IsBelow IsBefore w t) (sym same) (by (terms nodes list) rest below (omega (arith, some, trees_long nodes list)) (omega (arith, few, long, trees_long nodes list, trees_long nodes (drop from items), length-drop from items)))
+    -- too few items follow: at first the last element is given up
+    pub cut_first : 1 ≤ length list → length list + (length items - from) < least → IsCut (terms nodes items) (terms nodes list) least (length list - 1)
+    cut_first some few t sub long below =
+        subst (λ w. IsPast w t) (without_last_is (terms nodes list) ∙ ap (λ n. take (n - 1) (terms nodes list)) (trees_long nodes list))
+        (by (terms nodes list) rest below (omega (arith, some, trees_long nodes list)) (omega (arith, few, long, trees_long nodes list, trees_long nodes (drop from items), length-drop from items)))
       where
-        by : (xs : List Tree) → rest_of xs (terms nodes items) ≡ Some (terms nodes (drop from items)) → IsBelow IsBefore xs t → 1 ≤ length xs → length xs + length (terms nodes (drop from items)) < length t → IsBelow IsBefore (with_last (tree_at nodes z.0) xs) t
+        by : (xs : List Tree) → rest_of xs (terms nodes items) ≡ Some (terms nodes (drop from items)) → IsBelow IsBefore xs t → 1 ≤ length xs → length xs + length (terms nodes (drop from items)) < length t → IsPast (without_last xs) t
         by [] e k h l = absurd (omega (arith, h))
-        by (x ∷ xs) e k h l = dead (terms nodes items) (ascending_sorted (terms nodes items) sorted) x xs t (terms nodes (drop from items)) e sub k (omega (arith, l)) (tree_at nodes z.0)
+        by (x ∷ xs) e k h l = past (terms nodes items) (ascending_sorted (terms nodes items) sorted) x xs t (terms nodes (drop from items)) e sub k (omega (arith, l))
+
+  module _ (items list : List TermId) (sorted : AreSorted nodes (numbers items)) (least : ℕ) where
+    -- and so is one more, where too few items follow the elements before it
+    pub cut_more : (k from : ℕ) → suc k ≤ length list → rest_of (terms nodes (take (suc k) list)) (terms nodes items) ≡ Some (terms nodes (drop from items)) → k + (length items - from) < least → IsCut (terms nodes items) (terms nodes list) least (suc k) → IsCut (terms nodes items) (terms nodes list) least k
+    cut_more k from room rest few h t sub long below =
+        subst (λ w. IsPast w t) (take_less k (terms nodes list) (omega (arith, room, trees_long nodes list)))
+        (by (take (suc k) (terms nodes list)) (ap (λ w. rest_of w (terms nodes items)) (sym (terms_take (suc k) list)) ∙ rest) (h t sub long below)
+        (let n : length (take (suc k) (terms nodes list)) ≡ suc k = ap length (sym (terms_take (suc k) list)) ∙ trees_long nodes (take (suc k) list) ∙ length-take-of (suc k) list room in omega (arith, n, few, long, trees_long nodes (drop from items), length-drop from items)))
+      where
+        length-take-of : (n : ℕ) (ids : List TermId) → n ≤ length ids → length (take n ids) ≡ n
+        length-take-of zero ids h = refl
+        length-take-of (suc n) [] h = absurd (omega (arith, h))
+        length-take-of (suc n) (x ∷ ids) h = ap suc (length-take-of n ids (omega (arith, h)))
+
+        by : (xs : List Tree) → rest_of xs (terms nodes items) ≡ Some (terms nodes (drop from items)) → IsPast xs t → length xs + length (terms nodes (drop from items)) < suc (length t) → IsPast (without_last xs) t
+        by [] e k l = absurd k
+        by (x ∷ xs) e k l = past_more (terms nodes items) (ascending_sorted (terms nodes items) sorted) x xs t (terms nodes (drop from items)) e sub k (omega (arith, l))
+
+    pub cut_less : (c from : ℕ) → 0 < c → c < length list → c < least → rest_of (terms nodes (take c list)) (terms nodes items) ≡ Some (terms nodes (drop from items)) → length items - from ≤ least - c → IsCut (terms nodes items) (terms nodes list) least c → IsCut (terms nodes items) (terms nodes list) least (c - 1)
+    cut_less zero from some room short rest few h = absurd (omega (arith, some))
+    cut_less (suc k) from some room short rest few h = subst (IsCut (terms nodes items) (terms nodes list) least) (let e : k ≡ suc k - 1 = omega arith in e) (cut_more k from (omega (arith, room)) rest (omega (arith, few, short)) h)
+
+    -- the elements that are left, and any behind them
+    pub far_cut : (k : ℕ) → IsCut (terms nodes items) (terms nodes list) least k → (z : TermId) (far : List TermId) → far ≡ take k list ++ z ∷ [] → IsFar (terms nodes items) (terms nodes list) least (terms nodes far)
+    far_cut k h z far is t sub long below =
+        let same : terms nodes far ≡ take k (terms nodes list) ++ tree_at nodes z.0 ∷ [] = ap (terms nodes) is ∙ terms_joined nodes (take k list) (z ∷ []) ∙ ap (λ w. w ++ tree_at nodes z.0 ∷ []) (terms_take k list) in
+        subst (λ w. IsBelow IsBefore w t) (sym same) (past_below (take k (terms nodes list)) t (tree_at nodes z.0) (h t sub long below))
 
 pub stand_joined : (th : ℕ → Theory) (nodes : List Node) (xs ys : List TermId) → StandWithin th nodes (numbers xs) → StandWithin th nodes (numbers ys) → StandWithin th nodes (numbers (xs ++ ys))
 stand_joined th nodes xs ys hx hy = subst (StandWithin th nodes) (sym (map-append (λ (id : TermId). id.0) xs ys)) (All-append (StandsWithin th nodes) (numbers xs) (numbers ys) hx hy)

@@ -26,6 +26,8 @@ pub mod Hidden
 pub mod Single
 -- how long the values of variables are
 pub mod Limited
+-- elements whose number is a sum
+pub mod Sums
 -- values that are too short
 pub mod Skipped
 -- the search over a store that grows

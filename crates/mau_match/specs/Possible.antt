@@ -1,6 +1,6 @@
 -- Values of all variables by which a pattern may be of a part, where some of them are known: what no test may overlook.
 use Rattle.std.specs.Prelude.{◌≡◌, ℕ, List, [], ◌++◌, true, ◌==◌, if◌then◌else◌}
-use Rattle.mau_terms.specs.Tree.{Tree, variable, numeral, apply, Trees, no_trees, tree}
+use Rattle.mau_terms.specs.Tree.{Tree, variable, numeral, apply, node, Trees, no_trees, tree}
 use Rattle.mau_terms.specs.Norm.{norm, norms, all_pieces, arrange}
 use Rattle.mau_terms.specs.Subst.{Variable, has_variable, instance, instances}
 use Rattle.mau_terms.specs.Solution.{list_under}
@@ -33,6 +33,10 @@ AreNever s nodes g ps es = (gg : Variable → Tree) → AgreesIn s nodes g gg �
 -- none make them be these terms in some order
 abbrev pub AreNeverSorted : SignatureOf → List Node → Given → Trees → List Tree → Type 0
 AreNeverSorted s nodes g ps es = (gg : Variable → Tree) → AgreesIn s nodes g gg → AreFair (theory_at s) gg ps → arrange true (norms (theory_at s) (instances gg ps)) ≡ es → ⊥
+
+-- none make the arguments of f be those of the term v
+abbrev pub IsNeverPlaced : SignatureOf → List Node → Given → ℕ → Trees → Tree → Type 0
+IsNeverPlaced s nodes g f ps v = (gg : Variable → Tree) → AgreesIn s nodes g gg → AreFair (theory_at s) gg ps → node f (arrange (theory_at s f).comm (norms (theory_at s) (instances gg ps))) ≡ v → ⊥
 
 -- none make their lists under f, joined, be such a part of these items
 abbrev pub AreNeverJoined : SignatureOf → List Node → Given → ℕ → Trees → Reach × List Tree → Type 0

@@ -1,5 +1,5 @@
 -- Values that are too short, and how far they are passed over.
-use Rattle.std.specs.Prelude.{◌≡◌, ◌⊎◌, ℕ, ◌≤◌, List, [], ◌∷◌, length, Option, Some, None, if◌then◌else◌}
+use Rattle.std.specs.Prelude.{◌≡◌, ◌⊎◌, ℕ, ◌≤◌, List, [], ◌∷◌, length, take, Option, Some, None, if◌then◌else◌}
 use Rattle.mau_terms.specs.Tree.{Tree}
 use Rattle.mau_terms.specs.Solution.{value_key}
 use Rattle.mau_terms.specs.declared.theory.Theory.{Theory}
@@ -15,11 +15,21 @@ rest_of [] ys = Some ys
 rest_of (x ∷ xs) [] = None
 rest_of (x ∷ xs) (y ∷ ys) = if same_tree x y then rest_of xs ys else rest_of (x ∷ xs) ys
 
--- xs with z in place of its last element
-abbrev pub with_last : Tree → List Tree → List Tree
-with_last z [] = []
-with_last z (x ∷ []) = z ∷ []
-with_last z (x ∷ y ∷ xs) = x ∷ with_last z (y ∷ xs)
+-- xs without its last element
+abbrev pub without_last : List Tree → List Tree
+without_last [] = []
+without_last (x ∷ []) = []
+without_last (x ∷ y ∷ xs) = x ∷ without_last (y ∷ xs)
+
+-- t has a greater element than xs at the first place where they differ, and xs goes on to there
+abbrev pub IsPast : List Tree → List Tree → Type 0
+IsPast [] t = ⊥
+IsPast (x ∷ xs) [] = ⊥
+IsPast (x ∷ xs) (c ∷ cs) = IsBefore x c ⊎ ((x ≡ c) × IsPast xs cs)
+
+-- each sub-list of the items that is so long and stands behind the list is greater within the first k elements of the list
+abbrev pub IsCut : List Tree → List Tree → ℕ → ℕ → Type 0
+IsCut items list least k = (t : List Tree) → IsSubList t items → least ≤ length t → IsBelow IsBefore list t → IsPast (take k list) t
 
 -- no sub-list of the items that is so long stands behind the list and not behind the far one
 abbrev pub IsFar : List Tree → List Tree → ℕ → List Tree → Type 0

@@ -10,21 +10,21 @@ ghost use Rattle.mau_store.specs.Trees.{tree_at, trees_at};
 ghost use Rattle.mau_store.specs.View.{numbers};
 ghost use Rattle.mau_canon.specs.Standing.{StandsWithin, StandWithin};
 ghost use Rattle.mau_sorts.specs.HasSort.{Known};
-ghost use Rattle.mau_sorts.specs.Table.{AreOver};
-ghost use Rattle.mau_listing.specs.Asked.{IsAskable, IsTableOf};
-ghost use Rattle.mau_listing.specs.Places.{operator_number, variables_in};
+ghost use Rattle.mau_listing.specs.Asked.{IsAskable};
+ghost use Rattle.mau_listing.specs.Places.{operator_number, under_all, variables_in};
 ghost use Rattle.mau_trial.specs.Tried.{ArePlacesOf, asked_in};
 ghost use Rattle.mau_domains.specs.Search.{IsLeastOrNone, IsValueBehind, first_of};
 ghost use Rattle.mau_match.specs.Walked.{parts_in};
 ghost use Rattle.mau_domains.specs.Values.{by_key};
 ghost use Rattle.mau_match.specs.Values.{IsValueOfAny};
 ghost use Rattle.mau_domains.specs.Stored.{tree_in, IsListOperator, IsPartOver};
+ghost use Rattle.mau_match.specs.Limited.{IsLimitOf};
+ghost use Rattle.mau_match.specs.Listing.{place_at};
 ghost use Rattle.mau_match.specs.Searched.{AnswerIn, order_of};
 ghost use Rattle.mau_match.specs.Skipped.{IsAsLong};
 
 use crate::choices::push;
 use crate::hide::{fresh, hide};
-use crate::limits::limits_of;
 use crate::may_match::may_match;
 use crate::single::by_sort;
 use crate::skip::{only_items, passed};
@@ -35,7 +35,6 @@ use mau_canon::BuildFault;
 use mau_domains::{Part, Reach, next_value};
 use mau_listing::{Place, compare_lists, is_lawful, value_key_of};
 use mau_signature::Signature;
-use mau_sorts::SortTable;
 use mau_store::Store;
 use mau_terms::{NoMemory, OpId, Seq, TermId, VarId};
 use mau_trial::Trial;
@@ -120,6 +119,13 @@ fn given_for(
     })
 }
 
+/// The same limits once more.
+fn copied(alloc: Global, limits: &[Limit]) -> Result<Vec<Limit>, NoMemory>
+    ensures { IfOk result (λ own. own.items ≡ limits.now) }
+{
+    Ok(Vec::from_slice(alloc, limits)?)
+}
+
 /// The parts that the value of the next variable may be of by the walk to its first place, and none where no answer begins with the
 /// chosen values.
 fn walked_candidates(
@@ -164,15 +170,14 @@ fn may_answer(
     places: &[Place],
     store: &mut Store,
     sig: &Signature,
-    sorts: &SortTable,
+    limits: &[Limit],
     chosen: &[TermId],
 ) -> Result<bool, NoMemory>
     requires askable { IsAskable sig.now store.old (asked_in trial.now) }
     requires places { ArePlacesOf sig.now (tree_of trial.now.pattern) places.now }
-    requires over { AreOver sig.now.hierarchy sorts.now }
     requires chosen { StandWithin (theory_at sig.now) store.old (numbers chosen.now) }
     requires room { length chosen.now < length places.now }
-    ensures refused { (known : Known) (u : Tree) (us : List Tree) → IsTableOf sig.now known store.old sorts.now →
+    ensures refused { (known : Known) (u : Tree) (us : List Tree) → All (IsLimitOf sig.now known (variables_in places.now)) limits.now →
         AnswerIn sig.now known store.old trial.now (trees_at store.old (numbers chosen.now) ++ u ∷ us) →
         IfOk result (λ b. b ≡ true) }
     ensures extends { Extends store.old store.new }
@@ -180,15 +185,8 @@ fn may_answer(
     is_lawful(sig);
     let target = places[chosen.len()].variable;
     let front = &places[..chosen.len()];
-    let limits = limits_of(store, sig, sorts, &trial.pattern, places)?;
-    let given = given_for(
-        store.allocator(),
-        &trial.bound,
-        front,
-        chosen,
-        target,
-        limits,
-    )?;
+    let own = copied(store.allocator(), limits)?;
+    let given = given_for(store.allocator(), &trial.bound, front, chosen, target, own)?;
     may_match(
         store,
         sig,
@@ -204,17 +202,16 @@ fn may_be_short(
     places: &[Place],
     store: &mut Store,
     sig: &Signature,
-    sorts: &SortTable,
+    limits: &[Limit],
     chosen: &[TermId],
     op: OpId,
     most: usize,
 ) -> Result<bool, NoMemory>
     requires askable { IsAskable sig.now store.old (asked_in trial.now) }
     requires places { ArePlacesOf sig.now (tree_of trial.now.pattern) places.now }
-    requires over { AreOver sig.now.hierarchy sorts.now }
     requires chosen { StandWithin (theory_at sig.now) store.old (numbers chosen.now) }
     requires room { length chosen.now < length places.now }
-    ensures refused { (known : Known) (u : Tree) (us : List Tree) → IsTableOf sig.now known store.old sorts.now →
+    ensures refused { (known : Known) (u : Tree) (us : List Tree) → All (IsLimitOf sig.now known (variables_in places.now)) limits.now →
         AnswerIn sig.now known store.old trial.now (trees_at store.old (numbers chosen.now) ++ u ∷ us) →
         IfOk result (λ b. b ≡ false → IsAsLong (theory_at sig.now) (Some op.0) (most + 1) u) }
     ensures extends { Extends store.old store.new }
@@ -222,21 +219,14 @@ fn may_be_short(
     is_lawful(sig);
     let target = places[chosen.len()].variable;
     let front = &places[..chosen.len()];
-    let mut limits = limits_of(store, sig, sorts, &trial.pattern, places)?;
-    limits.push(Limit {
+    let mut own = copied(store.allocator(), limits)?;
+    own.push(Limit {
         op,
         variable: target,
         least: 0,
         most: Some(most),
     })?;
-    let given = given_for(
-        store.allocator(),
-        &trial.bound,
-        front,
-        chosen,
-        target,
-        limits,
-    )?;
+    let given = given_for(store.allocator(), &trial.bound, front, chosen, target, own)?;
     may_match(
         store,
         sig,
@@ -261,16 +251,15 @@ fn least_length(
     places: &[Place],
     store: &mut Store,
     sig: &Signature,
-    sorts: &SortTable,
+    limits: &[Limit],
     chosen: &[TermId],
     op: OpId,
 ) -> Result<usize, NoMemory>
     requires askable { IsAskable sig.now store.old (asked_in trial.now) }
     requires places { ArePlacesOf sig.now (tree_of trial.now.pattern) places.now }
-    requires over { AreOver sig.now.hierarchy sorts.now }
     requires chosen { StandWithin (theory_at sig.now) store.old (numbers chosen.now) }
     requires room { length chosen.now < length places.now }
-    ensures least { (known : Known) (u : Tree) (us : List Tree) → IsTableOf sig.now known store.old sorts.now →
+    ensures least { (known : Known) (u : Tree) (us : List Tree) → All (IsLimitOf sig.now known (variables_in places.now)) limits.now →
         AnswerIn sig.now known store.old trial.now (trees_at store.old (numbers chosen.now) ++ u ∷ us) → IfOk result (λ n. IsAsLong (theory_at sig.now) (Some op.0) n u) }
     ensures extends { Extends store.old store.new }
 {
@@ -282,7 +271,7 @@ fn least_length(
         if step == 0 || most == usize::MAX {
             return Ok(low);
         }
-        if may_be_short(trial, places, store, sig, sorts, chosen, op, most)? {
+        if may_be_short(trial, places, store, sig, limits, chosen, op, most)? {
             step /= 2;
             growing = false;
             continue;
@@ -293,26 +282,51 @@ fn least_length(
     Ok(low)
 }
 
-/// How far a value that leads to no answer may be passed over.
+/// So many elements as the next value has in each answer that begins with the chosen values, where values of these parts may be passed over.
+fn shortest(
+    trial: &Trial,
+    places: &[Place],
+    store: &mut Store,
+    sig: &Signature,
+    limits: &[Limit],
+    chosen: &[TermId],
+    parts: &[Part],
+) -> Result<usize, NoMemory>
+    requires askable { IsAskable sig.now store.old (asked_in trial.now) }
+    requires places { ArePlacesOf sig.now (tree_of trial.now.pattern) places.now }
+    requires chosen { StandWithin (theory_at sig.now) store.old (numbers chosen.now) }
+    requires room { length chosen.now < length places.now }
+    ensures least { (known : Known) (u : Tree) (us : List Tree) → All (IsLimitOf sig.now known (variables_in places.now)) limits.now →
+        AnswerIn sig.now known store.old trial.now (trees_at store.old (numbers chosen.now) ++ u ∷ us) →
+        IfOk result (λ n. IsAsLong (theory_at sig.now) (place_at (under_all places.now) (length chosen.now)) n u) }
+    ensures extends { Extends store.old store.new }
+{
+    let under = places[chosen.len()].under;
+    let Some(op) = under else {
+        return Ok(0);
+    };
+    if only_items(sig, op, parts).is_none() {
+        return Ok(0);
+    }
+    least_length(trial, places, store, sig, limits, chosen, op)
+}
+
+/// How far a value that leads to no answer may be passed over, where the next value has so many elements in each answer.
 pub fn skipped(
     trial: &Trial,
     places: &[Place],
     store: &mut Store,
     sig: &Signature,
-    sorts: &SortTable,
     chosen: &[TermId],
     parts: &[Part],
+    least: usize,
     value: TermId,
 ) -> Result<TermId, NoMemory>
-    requires askable { IsAskable sig.now store.old (asked_in trial.now) }
     requires places { ArePlacesOf sig.now (tree_of trial.now.pattern) places.now }
-    requires over { AreOver sig.now.hierarchy sorts.now }
-    requires chosen { StandWithin (theory_at sig.now) store.old (numbers chosen.now) }
     requires room { length chosen.now < length places.now }
     requires parts { All (IsPartOver sig.now store.old) parts.now }
     requires value { StandsWithin (theory_at sig.now) store.old value.0 }
-    ensures onward { (known : Known) (u : Tree) (us : List Tree) → IsTableOf sig.now known store.old sorts.now →
-        AnswerIn sig.now known store.old trial.now (trees_at store.old (numbers chosen.now) ++ u ∷ us) → IsValueOfAny (theory_at sig.now) (parts_in store.old parts.now) u →
+    ensures onward { (u : Tree) → IsAsLong (theory_at sig.now) (place_at (under_all places.now) (length chosen.now)) least u → IsValueOfAny (theory_at sig.now) (parts_in store.old parts.now) u →
         IsValueBehind (order_of sig.now places.now) (length chosen.now) (Some (tree_at store.old value.0)) u →
         IfOk result (λ id. IsValueBehind (order_of sig.now places.now) (length chosen.now) (Some (tree_at store.new id.0)) u) }
     ensures back { (u : Tree) → IfOk result (λ id. IsValueBehind (order_of sig.now places.now) (length chosen.now) (Some (tree_at store.new id.0)) u →
@@ -320,15 +334,7 @@ pub fn skipped(
     ensures within { IfOk result (λ id. StandsWithin (theory_at sig.now) store.new id.0) }
     ensures extends { Extends store.old store.new }
 {
-    let under = places[chosen.len()].under;
-    let Some(op) = under else {
-        return Ok(value);
-    };
-    if only_items(sig, op, parts).is_none() {
-        return Ok(value);
-    }
-    let least = least_length(trial, places, store, sig, sorts, chosen, op)?;
-    passed(store, sig, under, parts, least, value)
+    passed(store, sig, places[chosen.len()].under, parts, least, value)
 }
 
 /// About how many values some parts have.
@@ -405,19 +411,18 @@ fn fewer(
     places: &[Place],
     store: &mut Store,
     sig: &Signature,
-    sorts: &SortTable,
+    limits: &[Limit],
     chosen: &[TermId],
     before: usize,
     best: Vec<Part>,
 ) -> Result<Vec<Part>, NoMemory>
     requires askable { IsAskable sig.now store.old (asked_in trial.now) }
     requires places { ArePlacesOf sig.now (tree_of trial.now.pattern) places.now }
-    requires over { AreOver sig.now.hierarchy sorts.now }
     requires chosen { StandWithin (theory_at sig.now) store.old (numbers chosen.now) }
     requires room { length chosen.now < length places.now }
     requires best { All (IsPartOver sig.now store.old) best.items }
     ensures within { IfOk result (λ parts. All (IsPartOver sig.now store.new) parts.items) }
-    ensures some { (known : Known) (u : Tree) (us : List Tree) → IsTableOf sig.now known store.old sorts.now →
+    ensures some { (known : Known) (u : Tree) (us : List Tree) → All (IsLimitOf sig.now known (variables_in places.now)) limits.now →
         AnswerIn sig.now known store.old trial.now (trees_at store.old (numbers chosen.now) ++ u ∷ us) → IsValueOfAny (theory_at sig.now) (parts_in store.old best.items) u →
         IfOk result (λ parts. IsValueOfAny (theory_at sig.now) (parts_in store.new parts.items) u) }
     ensures extends { Extends store.old store.new }
@@ -426,7 +431,7 @@ fn fewer(
     match later_candidates(trial, places, store, sig, chosen, before)? {
         Some(parts) => {
             let sort = places[chosen.len()].variable.sort;
-            let found = by_sort(store, sig, sorts, sort, parts)?;
+            let found = by_sort(store, sig, limits, sort, parts)?;
             if weight_of(&found) < weight_of(&best) {
                 return Ok(found);
             }
@@ -448,18 +453,17 @@ fn fewest(
     places: &[Place],
     store: &mut Store,
     sig: &Signature,
-    sorts: &SortTable,
+    limits: &[Limit],
     chosen: &[TermId],
     parts: Vec<Part>,
 ) -> Result<Vec<Part>, NoMemory>
     requires askable { IsAskable sig.now store.old (asked_in trial.now) }
     requires places { ArePlacesOf sig.now (tree_of trial.now.pattern) places.now }
-    requires over { AreOver sig.now.hierarchy sorts.now }
     requires chosen { StandWithin (theory_at sig.now) store.old (numbers chosen.now) }
     requires room { length chosen.now < length places.now }
     requires parts { All (IsPartOver sig.now store.old) parts.items }
     ensures within { IfOk result (λ best. All (IsPartOver sig.now store.new) best.items) }
-    ensures some { (known : Known) (u : Tree) (us : List Tree) → IsTableOf sig.now known store.old sorts.now →
+    ensures some { (known : Known) (u : Tree) (us : List Tree) → All (IsLimitOf sig.now known (variables_in places.now)) limits.now →
         AnswerIn sig.now known store.old trial.now (trees_at store.old (numbers chosen.now) ++ u ∷ us) → IsValueOfAny (theory_at sig.now) (parts_in store.old parts.items) u →
         IfOk result (λ best. IsValueOfAny (theory_at sig.now) (parts_in store.new best.items) u) }
     ensures extends { Extends store.old store.new }
@@ -469,43 +473,54 @@ fn fewest(
         if weight_of(&best) <= FEW {
             return Ok(best);
         }
-        best = fewer(trial, places, store, sig, sorts, chosen, before, best)?;
+        best = fewer(trial, places, store, sig, limits, chosen, before, best)?;
     }
     Ok(best)
 }
 
-/// The parts that the value of the next variable may be of, and none where no answer begins with the chosen values.
+/// What the value of the next variable may be: the parts that it is of, and how many elements it has at least.
+#[derive(Drop)]
+pub struct Domain {
+    pub parts: Vec<Part>,
+    pub least: usize,
+}
+
+/// What the value of the next variable may be, and nothing where no answer begins with the chosen values.
 pub fn candidates(
     trial: &Trial,
     places: &[Place],
     store: &mut Store,
     sig: &Signature,
-    sorts: &SortTable,
+    limits: &[Limit],
     chosen: &[TermId],
-) -> Result<Option<Vec<Part>>, NoMemory>
+) -> Result<Option<Domain>, NoMemory>
     requires askable { IsAskable sig.now store.old (asked_in trial.now) }
     requires places { ArePlacesOf sig.now (tree_of trial.now.pattern) places.now }
-    requires over { AreOver sig.now.hierarchy sorts.now }
     requires chosen { StandWithin (theory_at sig.now) store.old (numbers chosen.now) }
     requires room { length chosen.now < length places.now }
-    ensures within { IfOk result (λ o. IfSome o (λ parts. All (IsPartOver sig.now store.new) parts.items)) }
-    ensures some { (known : Known) (u : Tree) (us : List Tree) → IsTableOf sig.now known store.old sorts.now →
+    ensures within { IfOk result (λ o. IfSome o (λ d. All (IsPartOver sig.now store.new) d.parts.items)) }
+    ensures some { (known : Known) (u : Tree) (us : List Tree) → All (IsLimitOf sig.now known (variables_in places.now)) limits.now →
         AnswerIn sig.now known store.old trial.now (trees_at store.old (numbers chosen.now) ++ u ∷ us) →
-        IfOk result (λ o. IfSome o (λ parts. IsValueOfAny (theory_at sig.now) (parts_in store.new parts.items) u)) }
-    ensures none { (known : Known) (u : Tree) (us : List Tree) → IsTableOf sig.now known store.old sorts.now → AnswerIn sig.now known store.old trial.now (trees_at store.old (numbers chosen.now) ++ u ∷ us) →
+        IfOk result (λ o. IfSome o (λ d. IsValueOfAny (theory_at sig.now) (parts_in store.new d.parts.items) u)) }
+    ensures least { (known : Known) (u : Tree) (us : List Tree) → All (IsLimitOf sig.now known (variables_in places.now)) limits.now →
+        AnswerIn sig.now known store.old trial.now (trees_at store.old (numbers chosen.now) ++ u ∷ us) →
+        IfOk result (λ o. IfSome o (λ d. IsAsLong (theory_at sig.now) (place_at (under_all places.now) (length chosen.now)) d.least u)) }
+    ensures none { (known : Known) (u : Tree) (us : List Tree) → All (IsLimitOf sig.now known (variables_in places.now)) limits.now →
+        AnswerIn sig.now known store.old trial.now (trees_at store.old (numbers chosen.now) ++ u ∷ us) →
         IfOk result (λ o. IfNone o ⊥) }
     ensures extends { Extends store.old store.new }
 {
     is_lawful(sig);
-    if !may_answer(trial, places, store, sig, sorts, chosen)? {
+    if !may_answer(trial, places, store, sig, limits, chosen)? {
         return Ok(None);
     }
     match walked_candidates(trial, places, store, sig, chosen)? {
         Some(parts) => {
             let sort = places[chosen.len()].variable.sort;
-            let found = by_sort(store, sig, sorts, sort, parts)?;
-            let best = fewest(trial, places, store, sig, sorts, chosen, found)?;
-            Ok(Some(best))
+            let found = by_sort(store, sig, limits, sort, parts)?;
+            let best = fewest(trial, places, store, sig, limits, chosen, found)?;
+            let least = shortest(trial, places, store, sig, limits, chosen, &best)?;
+            Ok(Some(Domain { parts: best, least }))
         }
         None => Ok(None),
     }

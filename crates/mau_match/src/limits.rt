@@ -1,12 +1,12 @@
 //! How long the values of the variables of a pattern are as lists of its associative operators, by their sorts.
-ghost use Rattle.std.specs.Prelude.{◌≡◌, ◌⊎◌, ℕ, ◌≤◌, List, Some, All, Contains, true, IfOk, IfSome, OnOk};
+ghost use Rattle.std.specs.Prelude.{◌≡◌, ◌⊎◌, ℕ, ◌≤◌, List, Some, None, All, Contains, true, false, IfOk, IfSome, OnOk};
 ghost use Rattle.mau_terms.specs.Tree.{Tree, trees_of};
 ghost use Rattle.mau_terms.specs.Norm.{unit_tree};
 ghost use Rattle.mau_terms.specs.Subst.{Variable};
 ghost use Rattle.mau_terms.specs.Bare.{IsBare};
 ghost use Rattle.mau_terms.specs.View.{tree_of, variable_of};
 ghost use Rattle.mau_terms.specs.declared.theory.Identity.{Identity as IdentityOf};
-ghost use Rattle.mau_terms.specs.declared.theory.Theory.{Theory};
+ghost use Rattle.mau_terms.specs.declared.theory.Theory.{Theory as TheoryOf};
 ghost use Rattle.mau_terms.specs.declared.ids.VarId.{VarId as VarIdOf};
 ghost use Rattle.mau_signature.specs.Faults.{IsSort};
 ghost use Rattle.mau_signature.specs.Signature.{IsOperator, theory_at, terms_over};
@@ -27,14 +27,14 @@ use mau_listing::Place;
 use mau_signature::Signature;
 use mau_sorts::SortTable;
 use mau_store::{NodeView, Store};
-use mau_terms::{Bare, Identity, NoMemory, OpId, TermId, VarId};
+use mau_terms::{Bare, Identity, NoMemory, OpId, TermId, Theory, VarId};
 use std::alloc::Global;
 
 // ---- what limits say
 
 /// How many elements the value of a variable has at least as a list of an operator.
 pub fn least_of(limits: &[Limit], op: OpId, variable: VarId) -> usize
-    ensures { (th : ℕ → Theory) (gg : Variable → Tree) → AreLimited th limits.now gg → result ≤ long_at th gg op.0 (variable_of variable) }
+    ensures { (th : ℕ → TheoryOf) (gg : Variable → Tree) → AreLimited th limits.now gg → result ≤ long_at th gg op.0 (variable_of variable) }
 {
     for limit in limits {
         if limit.op == op && limit.variable == variable && limit.least > 0 {
@@ -46,7 +46,7 @@ pub fn least_of(limits: &[Limit], op: OpId, variable: VarId) -> usize
 
 /// How many elements it has at most, if there is a limit.
 pub fn most_of(limits: &[Limit], op: OpId, variable: VarId) -> Option<usize>
-    ensures { IfSome result (λ n. (th : ℕ → Theory) (gg : Variable → Tree) → AreLimited th limits.now gg → long_at th gg op.0 (variable_of variable) ≤ n) }
+    ensures { IfSome result (λ n. (th : ℕ → TheoryOf) (gg : Variable → Tree) → AreLimited th limits.now gg → long_at th gg op.0 (variable_of variable) ≤ n) }
 {
     for limit in limits {
         if limit.op == op && limit.variable == variable && limit.most.is_some() {
@@ -54,6 +54,18 @@ pub fn most_of(limits: &[Limit], op: OpId, variable: VarId) -> Option<usize>
         }
     }
     None
+}
+
+/// Whether an operator is neither associative nor the successor and has no identity, so that it is the top of each of its terms.
+pub fn is_plain(theory: &Theory) -> bool
+    ensures assoc { result ≡ true → theory.now.assoc ≡ false }
+    ensures succ { result ≡ true → theory.now.succ ≡ false }
+    ensures id { result ≡ true → theory.now.id ≡ None }
+{
+    if theory.assoc || theory.succ {
+        return false;
+    }
+    theory.id.is_none()
 }
 
 // ---- limits by sorts

@@ -15,15 +15,16 @@ ghost use Rattle.mau_domains.specs.Parts.{Part as PartOf, whole, just, IsOf};
 ghost use Rattle.mau_domains.specs.Stored.{part_in, reach_of};
 ghost use Rattle.mau_match.specs.Parts.{headed, apart_from, is_bound, IsFair, AreFair};
 ghost use Rattle.mau_match.specs.Limited.{AreLimited};
-ghost use Rattle.mau_match.specs.Possible.{free, frees, IsNever, AreNever, AreNeverSorted, AreNeverJoined, IsNeverAmong, AreNeverAmong, AreNeverLeft};
+ghost use Rattle.mau_match.specs.Possible.{free, frees, IsNever, IsNeverPlaced, AreNever, AreNeverSorted, AreNeverJoined, IsNeverAmong, AreNeverAmong, AreNeverLeft};
 ghost use Rattle.mau_match.specs.Walked.{IsPartWithin, IsSpanWithin, AreGivenWithin, bound_of, values_of, target_of, span_in};
 
 use crate::arguments::spans_in;
-use crate::choices::push_alone;
+use crate::choices::{push_alone, unit_of};
 use crate::known::build_known;
-use crate::limits::{least_of, most_of};
+use crate::limits::{is_plain, least_of, most_of};
 use crate::lists::copy_of;
 use crate::steps::{are_too_few, without_known};
+use crate::sums::are_uneven;
 use crate::variables::is_bound;
 use crate::{Given, Span};
 use mau_canon::BuildFault;
@@ -31,7 +32,7 @@ use mau_domains::{Part, Reach};
 use mau_listing::is_lawful;
 use mau_signature::Signature;
 use mau_store::{NodeView, Store};
-use mau_terms::{Bare, NoMemory, OpId, Seq, TermId, Theory};
+use mau_terms::{Bare, NoMemory, OpId, Seq, TermId};
 use std::alloc::Global;
 
 /// Whether a pattern may be of a part.
@@ -118,8 +119,11 @@ fn may_term(
     ensures extends { Extends store.old store.new }
 {
     let theory = sig.theory(op);
-    if theory.succ || theory.id.is_some() {
+    if theory.succ {
         return Ok(true);
+    }
+    if theory.id.is_some() {
+        return may_be_united(store, sig, given, op, patterns, part);
     }
     let mut ids = Vec::new(store.allocator());
     push_alone(store, sig, part, &mut ids)?;
@@ -175,6 +179,27 @@ fn may_be_at(
     ensures refused { IfOk result (λ b. b ≡ false → IsNever sig.now store.old given.now (apply op.0 (trees_of (map tree_of patterns.now))) (just (tree_at store.old id.0))) }
     ensures extends { Extends store.old store.new }
 {
+    is_lawful(sig);
+    may_be_placed(store, sig, given, op, patterns, id)
+}
+
+/// Whether it may be a term with the arguments at its places.
+#[cycle(may)]
+fn may_be_placed(
+    store: &mut Store,
+    sig: &Signature,
+    given: &Given,
+    op: OpId,
+    patterns: &[Bare],
+    id: TermId,
+) -> Result<bool, NoMemory>
+    requires operator { IsOperator sig.now op.0 }
+    requires bare { All (λ p. IsBare (terms_over sig.now) (tree_of p)) patterns.now }
+    requires values { AreGivenWithin sig.now store.old given.now }
+    requires term { StandsWithin (theory_at sig.now) store.old id.0 }
+    ensures refused { IfOk result (λ b. b ≡ false → IsNeverPlaced sig.now store.old given.now op.0 (trees_of (map tree_of patterns.now)) (tree_at store.old id.0)) }
+    ensures extends { Extends store.old store.new }
+{
     match arguments_of(store, sig, op, id)? {
         Some(ids) => {
             if sig.theory(op).comm {
@@ -185,6 +210,86 @@ fn may_be_at(
         }
         None => Ok(false),
     }
+}
+
+/// Whether an operator with an identity may be of a part; of lists nothing is said.
+#[cycle(may)]
+fn may_be_united(
+    store: &mut Store,
+    sig: &Signature,
+    given: &Given,
+    op: OpId,
+    patterns: &[Bare],
+    part: &Part,
+) -> Result<bool, NoMemory>
+    requires operator { IsOperator sig.now op.0 }
+    requires plain { (theory_at sig.now op.0).assoc ≡ false }
+    requires not_successor { (theory_at sig.now op.0).succ ≡ false }
+    requires bare { All (λ p. IsBare (terms_over sig.now) (tree_of p)) patterns.now }
+    requires values { AreGivenWithin sig.now store.old given.now }
+    requires part { IsPartWithin sig.now store.old part.now }
+    ensures refused { IfOk result (λ b. b ≡ false → IsNever sig.now store.old given.now (apply op.0 (trees_of (map tree_of patterns.now))) (part_in store.old part.now)) }
+    ensures extends { Extends store.old store.new }
+{
+    match part {
+        Part::One(id) => may_unite(store, sig, given, op, patterns, *id),
+        Part::ListOf(_, _, _) => Ok(true),
+    }
+}
+
+/// Whether an operator with an identity may be a term: with the arguments at its places, or with one of them the identity and the other the term.
+#[cycle(may)]
+fn may_unite(
+    store: &mut Store,
+    sig: &Signature,
+    given: &Given,
+    op: OpId,
+    patterns: &[Bare],
+    id: TermId,
+) -> Result<bool, NoMemory>
+    requires operator { IsOperator sig.now op.0 }
+    requires plain { (theory_at sig.now op.0).assoc ≡ false }
+    requires not_successor { (theory_at sig.now op.0).succ ≡ false }
+    requires bare { All (λ p. IsBare (terms_over sig.now) (tree_of p)) patterns.now }
+    requires values { AreGivenWithin sig.now store.old given.now }
+    requires term { StandsWithin (theory_at sig.now) store.old id.0 }
+    ensures refused { IfOk result (λ b. b ≡ false → IsNever sig.now store.old given.now (apply op.0 (trees_of (map tree_of patterns.now))) (just (tree_at store.old id.0))) }
+    ensures extends { Extends store.old store.new }
+{
+    is_lawful(sig);
+    if may_be_placed(store, sig, given, op, patterns, id)? {
+        return Ok(true);
+    }
+    match unit_of(store, sig, op)? {
+        Some(unit) => may_fold_pair(store, sig, given, patterns, unit, id),
+        None => Ok(true),
+    }
+}
+
+/// Whether two arguments may be two terms, in one order or the other.
+#[cycle(may)]
+fn may_fold_pair(
+    store: &mut Store,
+    sig: &Signature,
+    given: &Given,
+    patterns: &[Bare],
+    unit: TermId,
+    id: TermId,
+) -> Result<bool, NoMemory>
+    requires bare { All (λ p. IsBare (terms_over sig.now) (tree_of p)) patterns.now }
+    requires values { AreGivenWithin sig.now store.old given.now }
+    requires unit { StandsWithin (theory_at sig.now) store.old unit.0 }
+    requires term { StandsWithin (theory_at sig.now) store.old id.0 }
+    ensures refused { IfOk result (λ b. b ≡ false → AreNever sig.now store.old given.now (trees_of (map tree_of patterns.now)) (tree_at store.old unit.0 ∷ tree_at store.old id.0 ∷ [])
+        × AreNever sig.now store.old given.now (trees_of (map tree_of patterns.now)) (tree_at store.old id.0 ∷ tree_at store.old unit.0 ∷ [])) }
+    ensures extends { Extends store.old store.new }
+{
+    let ids = swapped(store.allocator(), id, unit)?;
+    if may_stand(store, sig, given, patterns, &ids)? {
+        return Ok(true);
+    }
+    let others = swapped(store.allocator(), unit, id)?;
+    may_stand(store, sig, given, patterns, &others)
 }
 
 /// The arguments of a term, where an operator is its top.
@@ -379,18 +484,6 @@ fn may_be_within(
     }
 }
 
-/// Whether an operator is neither associative nor the successor and has no identity, so that it is the top of each of its terms.
-fn is_plain(theory: &Theory) -> bool
-    ensures assoc { result ≡ true → theory.now.assoc ≡ false }
-    ensures succ { result ≡ true → theory.now.succ ≡ false }
-    ensures id { result ≡ true → theory.now.id ≡ None }
-{
-    if theory.assoc || theory.succ {
-        return false;
-    }
-    theory.id.is_none()
-}
-
 /// How many of so many elements are left, at most, where what is not known of a pattern's list takes some, if there are enough.
 #[cycle(left)]
 fn left_beside(
@@ -549,6 +642,9 @@ fn may_cover(
     ensures extends { Extends store.old store.new }
 {
     if are_too_many(sig, given, op, patterns, reach, items.len()) {
+        return Ok(false);
+    }
+    if are_uneven(store, sig, given, op, patterns, reach, items)? {
         return Ok(false);
     }
     may_fill(store, sig, given, op, patterns, items)

@@ -1,10 +1,11 @@
 //! Variables whose values are no lists of an operator, since no list of it has their sort.
 ghost use Rattle.std.specs.Prelude.{◌≡◌, ◌≢◌, ℕ, List, [], Some, None, Contains, All, true, false, IfOk, IfSome, OnOk};
 ghost use Rattle.mau_terms.specs.Tree.{Tree};
+ghost use Rattle.mau_terms.specs.declared.ids.VarId.{VarId as VarIdOf};
 ghost use Rattle.mau_poset.specs.Order.{IsAtOrBelow};
 ghost use Rattle.mau_signature.specs.Faults.{IsSort};
 ghost use Rattle.mau_signature.specs.declared.decl.Decl.{Decl};
-ghost use Rattle.mau_signature.specs.Signature.{IsOperator, declarations_at, theory_at};
+ghost use Rattle.mau_signature.specs.Signature.{SignatureOf, IsOperator, declarations_at, theory_at};
 ghost use Rattle.mau_store.specs.Node.{Extends, IsOf};
 ghost use Rattle.mau_store.specs.Trees.{tree_at, trees_at};
 ghost use Rattle.mau_store.specs.View.{numbers};
@@ -16,11 +17,13 @@ ghost use Rattle.mau_domains.specs.Lists.{alone_of};
 ghost use Rattle.mau_domains.specs.Parts.{some_of};
 ghost use Rattle.mau_domains.specs.Stored.{part_in, reach_of, IsListOperator, AreItems, IsPartOver};
 ghost use Rattle.mau_domains.specs.Values.{IsValueOf};
+ghost use Rattle.mau_match.specs.Limited.{IsLimitOf};
 ghost use Rattle.mau_match.specs.Parts.{headed};
 ghost use Rattle.mau_match.specs.Single.{IsNoList, IsSingle, HasListOf, Covers};
 ghost use Rattle.mau_match.specs.Values.{IsValueOfAny};
 ghost use Rattle.mau_match.specs.Walked.{parts_in};
 
+use crate::Limit;
 use crate::choices::{is_headed, push, push_terms, push_unit};
 use mau_domains::{Part, Reach};
 use mau_listing::is_lawful;
@@ -100,6 +103,18 @@ pub fn is_single(store: &Store, sig: &Signature, sorts: &SortTable, op: OpId, so
         return false;
     }
     is_never_settled(store, sig, sorts, op, sort)
+}
+
+/// Whether a limit says that no list of an operator has a sort.
+fn is_one(limits: &[Limit], op: OpId, sort: u32) -> bool
+    ensures { (s : SignatureOf) (known : Known) (xs : List VarIdOf) → All (IsLimitOf s known xs) limits.now → result ≡ true → IsSingle s known op.0 sort }
+{
+    for limit in limits {
+        if limit.op == op && limit.variable.sort == sort && limit.most.is_some() {
+            return true;
+        }
+    }
+    false
 }
 
 // ---- parts without lists
@@ -202,22 +217,20 @@ fn split(
 pub fn by_sort(
     store: &mut Store,
     sig: &Signature,
-    sorts: &SortTable,
+    limits: &[Limit],
     sort: u32,
     parts: Vec<Part>,
 ) -> Result<Vec<Part>, NoMemory>
-    requires over { AreOver sig.now.hierarchy sorts.now }
-    requires sort { IsSort sig.now.hierarchy sort }
     requires parts { All (IsPartOver sig.now store.old) parts.items }
     ensures within { IfOk result (λ out. All (IsPartOver sig.now store.new) out.items) }
-    ensures values { (known : Known) (v : Tree) → IsTableOf sig.now known store.old sorts.now → IsValueOfAny (theory_at sig.now) (parts_in store.old parts.items) v → HasSort sig.now known v sort →
+    ensures values { (known : Known) (xs : List VarIdOf) (v : Tree) → All (IsLimitOf sig.now known xs) limits.now → IsValueOfAny (theory_at sig.now) (parts_in store.old parts.items) v → HasSort sig.now known v sort →
         IfOk result (λ out. IsValueOfAny (theory_at sig.now) (parts_in store.new out.items) v) }
     ensures extends { Extends store.old store.new }
 {
     let Some(op) = list_operator(&parts) else {
         return Ok(parts);
     };
-    if !is_single(store, sig, sorts, op, sort) {
+    if !is_one(limits, op, sort) {
         return Ok(parts);
     }
     split(store, sig, op, &parts)

@@ -13,7 +13,7 @@ ghost use Rattle.mau_lists.specs.Lists.{IsSubList};
 ghost use Rattle.mau_lists.specs.Terms.{AreSorted};
 ghost use Rattle.mau_listing.specs.Places.{operator_number};
 ghost use Rattle.mau_domains.specs.Stored.{IsListOperator, IsPartOver};
-ghost use Rattle.mau_match.specs.Skipped.{rest_of, IsFar, IsPassed, IsPassedBy, IsFurther};
+ghost use Rattle.mau_match.specs.Skipped.{rest_of, IsCut, IsFar, IsPassed, IsPassedBy, IsFurther};
 ghost use Rattle.mau_match.specs.Values.{IsValueOfAny};
 ghost use Rattle.mau_match.specs.Walked.{parts_in};
 
@@ -90,7 +90,30 @@ fn grown_list(
     joined(store.allocator(), list, &items[from..from + more])
 }
 
-/// A list behind which too few items follow, with the greatest item in place of its last element.
+/// How many of the first elements of a list behind which too few items follow each long enough list behind it is past: as few as can be told.
+fn cut_of(store: &Store, items: &[TermId], list: &[TermId], least: usize, from: usize) -> usize
+    requires sorted { AreSorted store.now (numbers items.now) }
+    requires rest { rest_of (trees_at store.now (numbers list.now)) (trees_at store.now (numbers items.now)) ≡ Some (trees_at store.now (numbers (drop from items.now))) }
+    requires room { from ≤ length items.now }
+    requires some { 1 ≤ length list.now }
+    requires few { length list.now + (length items.now - from) < least }
+    ensures cut { IsCut (trees_at store.now (numbers items.now)) (trees_at store.now (numbers list.now)) least result }
+    ensures within { result < length list.now }
+{
+    let mut cut = list.len() - 1;
+    while cut > 0 {
+        let Some(after) = rest_from(store, items, &list[..cut]) else {
+            return cut;
+        };
+        if items.len() - after > least - cut {
+            return cut;
+        }
+        cut -= 1;
+    }
+    cut
+}
+
+/// A list behind which too few items follow: its first elements, as few as can be told, and the greatest item.
 fn other_last(
     store: &Store,
     sig: &Signature,
@@ -110,12 +133,9 @@ fn other_last(
     ensures far { IfOk result (λ far. IsFar (trees_at store.now (numbers items.now)) (trees_at store.now (numbers list.now)) least (trees_at store.now (numbers far.items))) }
     ensures within { IfOk result (λ far. StandWithin (theory_at sig.now) store.now (numbers far.items)) }
 {
+    let cut = cut_of(store, items, list, least, from);
     let last = items[items.len() - 1];
-    joined(
-        store.allocator(),
-        &list[..list.len() - 1],
-        slice::from_ref(&last),
-    )
+    joined(store.allocator(), &list[..cut], slice::from_ref(&last))
 }
 
 /// A list up to which no sub-list of the items that is so long stands behind a shorter list, if there is one.

@@ -4,9 +4,7 @@ use Rattle.mau_store.proofs.Growth.{extension_is_preorder}
 use Rattle.mau_canon.proofs.Standing.{stand_within_extended}
 use Rattle.mau_listing.proofs.Growth.{askable_extended}
 use Rattle.mau_trial.specs.Tried.{asked_in}
-use Rattle.mau_match.specs.Searched.{subject_in}
 use Rattle.mau_match.proofs.NextVariable.{answer_grown}
-use Rattle.mau_match.proofs.Searching.{grows_nodes}
 use Rattle.mau_match.proofs.candidates.fewest.Goals as goal
 
 pub fewer-requires-clause-askable : goal.fewer-requires-clause-askable
@@ -25,7 +23,7 @@ loop-before-preserved c =
     record {
       extends = extension_is_preorder.transitive old mid c.fewer.new.store inv.extends c.fewer.ensures.extends;
       within = c.in_ok-best.ensures.within;
-      some = λ known u us table a any.
-          c.in_ok-best.ensures.some known u us ((grows_nodes s (subject_in old t) old mid c.args.sorts.now c.requires.over inv.extends).table known table)
-          (answer_grown s known t old mid inv.extends c.requires.askable c.args.chosen.now c.requires.chosen u us a) (inv.some known u us table a any);
+      some = λ known u us each a any.
+          c.in_ok-best.ensures.some known u us each
+          (answer_grown s known t old mid inv.extends c.requires.askable c.args.chosen.now c.requires.chosen u us a) (inv.some known u us each a any);
     }

@@ -5,9 +5,7 @@ use Rattle.mau_store.proofs.Growth.{extension_is_preorder}
 use Rattle.mau_canon.proofs.Standing.{stand_within_extended}
 use Rattle.mau_listing.proofs.Growth.{askable_extended}
 use Rattle.mau_trial.specs.Tried.{asked_in}
-use Rattle.mau_match.specs.Searched.{subject_in}
 use Rattle.mau_match.proofs.NextVariable.{answer_grown}
-use Rattle.mau_match.proofs.Searching.{grows_nodes}
 use Rattle.mau_match.proofs.candidates.least_length.Goals as goal
 
 pub may_be_short-requires-clause-askable : goal.may_be_short-requires-clause-askable
@@ -25,7 +23,7 @@ loop-preserved c =
     let inv = c.loop.invariant in
     record {
       extends = extension_is_preorder.transitive old mid c.may_be_short.new.store inv.extends c.may_be_short.ensures.extends;
-      least = λ known u us table a.
-          c.in_ok-may_be_short.ensures.refused known u us ((grows_nodes s (subject_in old t) old mid c.args.sorts.now c.requires.over inv.extends).table known table)
+      least = λ known u us each a.
+          c.in_ok-may_be_short.ensures.refused known u us each
           (answer_grown s known t old mid inv.extends c.requires.askable c.args.chosen.now c.requires.chosen u us a) c.if-branch.false;
     }

@@ -2,9 +2,7 @@ use Rattle.std.proofs.Common.{◌++◌, map, take, length, All, sym, ap, ◌∙�
 use Rattle.std.proofs.lemmas.Result.{IfOk-weaker}
 use Rattle.mau_terms.specs.declared.ids.VarId.{VarId}
 use Rattle.mau_terms.specs.declared.ids.TermId.{TermId}
-use Rattle.mau_terms.specs.View.{tree_of}
 use Rattle.mau_listing.specs.Places.{variables_in}
-use Rattle.mau_trial.proofs.Instances.{places_are_sorted}
 use Rattle.mau_match.specs.Limited.{IsLimitOf}
 use Rattle.mau_match.proofs.GivenFor.{given_stand}
 use Rattle.mau_match.proofs.Impossible.{not_false}
@@ -17,14 +15,10 @@ may_match-requires-clause-values c =
     given_stand c.args.sig.now c.args.store.now t (take (length c.args.chosen.now) c.args.places.now) c.args.chosen.now c.in_ok-given.given (c.in_ok-given.ensures.variables ∙ ap (λ bs. map {B = VarId} (λ b. b.0) bs ++ variables_in (take (length c.args.chosen.now) c.args.places.now)) c.deref.ensures.value)
     (c.in_ok-given.ensures.values ∙ ap (λ bs. map {B = TermId} (λ b. b.1) bs ++ c.args.chosen.now) c.deref.ensures.value) c.requires.askable.bound c.requires.chosen
 
-pub limits_of-requires-clause-sorts : goal.limits_of-requires-clause-sorts
-limits_of-requires-clause-sorts c =
-    places_are_sorted c.args.sig.now (tree_of c.args.trial.now.pattern) c.requires.askable.pattern c.args.places.now c.requires.places.variables
-
 pub returns-clause-refused : goal.returns-clause-refused
-returns-clause-refused c = λ known u us table a.
+returns-clause-refused c = λ known u us each a.
     let limits : All (IsLimitOf c.args.sig.now known (variables_in c.args.places.now)) c.in_ok-given.given.limits =
-    subst (All (IsLimitOf c.args.sig.now known (variables_in c.args.places.now))) (sym c.in_ok-given.ensures.limits) (c.in_ok-limits.ensures known table) in
+    subst (All (IsLimitOf c.args.sig.now known (variables_in c.args.places.now))) (sym (c.in_ok-given.ensures.limits ∙ c.in_ok-own.ensures)) each in
     let pass = not_refused c.args.sig.now c.is_lawful.ensures.lawful c.args.store.now c.args.trial.now c.args.places.now c.requires.places c.requires.askable c.args.chosen.now c.requires.room c.in_ok-given.given
     (c.in_ok-given.ensures.variables ∙ ap (λ bs. map {B = VarId} (λ b. b.0) bs ++ variables_in (take (length c.args.chosen.now) c.args.places.now)) c.deref.ensures.value)
     (c.in_ok-given.ensures.values ∙ ap (λ bs. map {B = TermId} (λ b. b.1) bs ++ c.args.chosen.now) c.deref.ensures.value) c.in_ok-given.ensures.target known limits u us a in

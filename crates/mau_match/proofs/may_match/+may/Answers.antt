@@ -7,7 +7,7 @@ use Rattle.mau_terms.specs.Tree.{Tree, trees_of, tree, apply, node}
 use Rattle.mau_terms.specs.Norm.{norm}
 use Rattle.mau_terms.specs.Subst.{instance}
 use Rattle.mau_terms.specs.Solution.{list_under}
-use Rattle.mau_terms.specs.Finite.{IsIn}
+use Rattle.mau_terms.specs.Finite.{IsIn, units_of}
 use Rattle.mau_terms.specs.View.{tree_of, variable_of}
 use Rattle.mau_terms.specs.declared.ids.TermId.{TermId}
 use Rattle.mau_terms.specs.declared.theory.Identity.{Identity}
@@ -25,11 +25,12 @@ use Rattle.mau_domains.specs.Parts.{Reach, just, inside, Reaches}
 use Rattle.mau_domains.specs.Stored.{part_in, reach_of}
 use Rattle.mau_match.specs.Parts.{is_bound, are_bound, known_in, without_all, least_lengths, too_few_for, alone_in}
 use Rattle.mau_match.specs.Possible.{free, frees, IsNever, AreNever, AreNeverSorted, AreNeverJoined, AreNeverAmong}
-use Rattle.mau_match.specs.Walked.{bound_of, values_of, target_of, span_in, IsSpanWithin}
+use Rattle.mau_match.specs.Walked.{bound_of, values_of, target_of, span_in, units_in, IsSpanWithin}
 use Rattle.mau_match.proofs.Lengths.{reach_length}
 use Rattle.mau_match.proofs.Adding.{bare_arguments, bare_first, bare_rest, first_and_rest, trees_more}
 use Rattle.mau_match.proofs.Taking.{stand_cut, only_these}
-use Rattle.mau_match.proofs.Refusing.{never_before, joined_before, span_stays, spans_more, in_more, never_at_pair, never_at_stand, never_alone, never_sorted, never_rest, never_rest_among, are_before, among_before, ids_split, two_ids, never_listed, never_few, never_joined, never_there, never_left, never_all, left_before, free_other}
+use Rattle.mau_match.proofs.Refusing.{never_before, joined_before, span_stays, spans_more, in_more, never_at_placed, placed_pair, placed_stand, placed_other, united_before, never_alone, never_sorted, never_rest, never_rest_among, are_before, among_before, ids_split, two_ids, never_listed, never_few, never_joined, never_there, never_left, never_all, left_before, free_other}
+use Rattle.mau_match.proofs.Uneven.{as_many}
 use Rattle.mau_match.proofs.may_match.+may.Goals as goal
 
 abbrev no_term : TermId
@@ -37,8 +38,18 @@ no_term = record { 0 = 0 }
 
 -- ---- a term
 
-pub may_be_at-returns-then-theory-clause-refused : goal.may_be_at-returns-then-theory-clause-refused
-may_be_at-returns-then-theory-clause-refused t c =
+pub may_be_at-returns-clause-refused : goal.may_be_at-returns-clause-refused
+may_be_at-returns-clause-refused t c =
+    let s = c.args.sig.now in
+    let old = c.args.store.now in
+    let f = c.args.op.0 in
+    let ps = trees_of (map tree_of c.args.patterns.now) in
+    IfOk-weaker c.may_be_placed.result _ _
+    (λ b h e. never_at_placed s c.is_lawful.ensures.lawful.theories old c.args.given.now f ps c.requires.plain c.requires.not_successor c.requires.no_identity (tree_at old c.args.id.0) (h e))
+    c.may_be_placed.ensures.refused
+
+pub may_be_placed-returns-then-theory-clause-refused : goal.may_be_placed-returns-then-theory-clause-refused
+may_be_placed-returns-then-theory-clause-refused t c =
     let s = c.args.sig.now in
     let th = theory_at s in
     let old = c.args.store.now in
@@ -49,12 +60,12 @@ may_be_at-returns-then-theory-clause-refused t c =
     let m : (th f).comm ≡ true = ap (λ w. w.comm) (sym c.theory.ensures.value) ∙ c.if-theory.true in
     let is : v ≡ node f (trees_at old (numbers ids)) = subst (λ o. IfSome o (λ ids. v ≡ node f (trees_at old (numbers ids.items)))) c.in-Some.is c.in_ok-ids.ensures.some in
     IfOk-weaker c.may_pair.result _ _
-    (λ b h e. never_at_pair s c.theory.ensures.lawful.theories old c.args.given.now f ps c.requires.plain c.requires.not_successor c.requires.no_identity v (trees_at old (numbers ids)) m is
+    (λ b h e. placed_pair s old c.args.given.now f ps v (trees_at old (numbers ids)) m is
     (subst (λ l. AreNeverSorted s old c.args.given.now ps (trees_at old (numbers l))) c.deref.ensures.value (h e)))
     c.may_pair.ensures.refused
 
-pub may_be_at-returns-in-Some-clause-refused : goal.may_be_at-returns-in-Some-clause-refused
-may_be_at-returns-in-Some-clause-refused t c =
+pub may_be_placed-returns-in-Some-clause-refused : goal.may_be_placed-returns-in-Some-clause-refused
+may_be_placed-returns-in-Some-clause-refused t c =
     let s = c.args.sig.now in
     let th = theory_at s in
     let old = c.args.store.now in
@@ -65,9 +76,94 @@ may_be_at-returns-in-Some-clause-refused t c =
     let m : (th f).comm ≡ false = ap (λ w. w.comm) (sym c.theory.ensures.value) ∙ c.if-theory.false in
     let is : v ≡ node f (trees_at old (numbers ids)) = subst (λ o. IfSome o (λ ids. v ≡ node f (trees_at old (numbers ids.items)))) c.in-Some.is c.in_ok-ids.ensures.some in
     IfOk-weaker c.may_stand.result _ _
-    (λ b h e. never_at_stand s c.theory.ensures.lawful.theories old c.args.given.now f ps c.requires.plain c.requires.not_successor c.requires.no_identity v (trees_at old (numbers ids)) m is
+    (λ b h e. placed_stand s old c.args.given.now f ps v (trees_at old (numbers ids)) m is
     (subst (λ l. AreNever s old c.args.given.now ps (trees_at old (numbers l))) c.deref-else-theory.ensures.value (h e)))
     c.may_stand.ensures.refused
+
+-- ---- an operator with an identity
+
+pub may_unite-returns-in-Some-clause-refused : goal.may_unite-returns-in-Some-clause-refused
+may_unite-returns-in-Some-clause-refused t c =
+    let s = c.args.sig.now in
+    let th = theory_at s in
+    let old = c.args.store.now in
+    let first = c.may_be_placed.new.store in
+    let mid = c.unit_of.new.store in
+    let g = c.args.given.now in
+    let f = c.args.op.0 in
+    let ps = trees_of (map tree_of c.args.patterns.now) in
+    let id = c.args.id.0 in
+    let e = extension_is_preorder.transitive old first mid c.may_be_placed.ensures.extends c.unit_of.ensures.extends in
+    let same : tree_at mid id ≡ tree_at old id = tree_at-extends old mid id e c.requires.term.there in
+    let unit : tree_at mid c.in-Some.unit.0 ∷ [] ≡ units_of (th f).id = ap (units_in mid) (sym c.in-Some.is) ∙ c.in_ok-unit.ensures.value in
+    IfOk-weaker c.may_fold_pair.result _ _
+    (λ b h r. united_before s old mid e g c.requires.values f ps (tree_at old id) (tree_at mid id) (tree_at mid c.in-Some.unit.0) same unit c.requires.plain c.requires.not_successor (c.in_ok-may_be_placed.ensures.refused c.if-branch.false) (h r))
+    c.may_fold_pair.ensures.refused
+
+pub may_unite-may_fold_pair-requires : goal.may_unite-may_fold_pair-requires
+may_unite-may_fold_pair-requires t c =
+    let th = theory_at c.args.sig.now in
+    let old = c.args.store.now in
+    let mid = c.unit_of.new.store in
+    let e = extension_is_preorder.transitive old c.may_be_placed.new.store mid c.may_be_placed.ensures.extends c.unit_of.ensures.extends in
+    let unit : StandsWithin th mid c.in-Some.unit.0 = rw c.in-Some.is at c.in_ok-unit.ensures.within in (
+      omega arith,
+      (
+        c.requires.bare,
+        (
+          stand_within_extended th old mid (numbers c.args.given.now.values) e c.requires.values,
+          (unit, stands_within_extended th old mid e c.args.id.0 c.requires.term),
+        ),
+      ),
+    )
+
+pub may_fold_pair-may_stand-requires : goal.may_fold_pair-may_stand-requires
+may_fold_pair-may_stand-requires t c =
+    let th = theory_at c.args.sig.now in
+    let old = c.args.store.now in
+    let u = c.args.unit.0 in
+    let i = c.args.id.0 in
+    let both : StandWithin th old (u ∷ i ∷ []) = All-cons (StandsWithin th old) u (i ∷ []) c.requires.unit (All-cons (StandsWithin th old) i [] c.requires.term (All-nil (StandsWithin th old))) in (
+      omega arith,
+      (c.requires.bare, (c.requires.values, subst (λ l. StandWithin th old (numbers l)) (sym (c.deref.ensures.value ∙ c.in_ok-ids.ensures)) both)),
+    )
+
+pub may_fold_pair-may_stand-requires-2 : goal.may_fold_pair-may_stand-requires-2
+may_fold_pair-may_stand-requires-2 t c =
+    let th = theory_at c.args.sig.now in
+    let old = c.args.store.now in
+    let mid = c.may_stand.new.store in
+    let e = c.may_stand.ensures.extends in
+    let u = c.args.unit.0 in
+    let i = c.args.id.0 in
+    let both : StandWithin th mid (i ∷ u ∷ []) =
+    All-cons (StandsWithin th mid) i (u ∷ []) (stands_within_extended th old mid e i c.requires.term) (All-cons (StandsWithin th mid) u [] (stands_within_extended th old mid e u c.requires.unit) (All-nil (StandsWithin th mid))) in (
+      omega arith,
+      (
+        c.requires.bare,
+        (
+          stand_within_extended th old mid (numbers c.args.given.now.values) e c.requires.values,
+          subst (λ l. StandWithin th mid (numbers l)) (sym (c.deref-2.ensures.value ∙ c.in_ok-others.ensures)) both,
+        ),
+      ),
+    )
+
+pub may_fold_pair-returns-clause-refused : goal.may_fold_pair-returns-clause-refused
+may_fold_pair-returns-clause-refused t c =
+    let s = c.args.sig.now in
+    let th = theory_at s in
+    let old = c.args.store.now in
+    let mid = c.may_stand.new.store in
+    let g = c.args.given.now in
+    let ps = trees_of (map tree_of c.args.patterns.now) in
+    let e = c.may_stand.ensures.extends in
+    let u = c.args.unit.0 in
+    let i = c.args.id.0 in
+    let at_u : tree_at mid u ≡ tree_at old u = tree_at-extends old mid u e c.requires.unit.there in
+    let at_i : tree_at mid i ≡ tree_at old i = tree_at-extends old mid i e c.requires.term.there in
+    let first : AreNever s old g ps (tree_at old u ∷ tree_at old i ∷ []) = subst (λ (l : List TermId). AreNever s old g ps (trees_at old (numbers l))) (c.deref.ensures.value ∙ c.in_ok-ids.ensures) (c.in_ok-may_stand.ensures.refused c.if-branch.false) in
+    let others : trees_at mid (numbers c.deref-2.result.now) ≡ tree_at old i ∷ tree_at old u ∷ [] = ap (λ w. trees_at mid (numbers w)) (c.deref-2.ensures.value ∙ c.in_ok-others.ensures) ∙ ap₂ (λ v w. v ∷ w ∷ []) at_i at_u in
+    IfOk-weaker c.may_stand-2.result _ _ (λ b h r. (first, are_before s old mid e g c.requires.values ps (trees_at mid (numbers c.deref-2.result.now)) (tree_at old i ∷ tree_at old u ∷ []) others (h r))) c.may_stand-2.ensures.refused
 
 -- ---- one of some terms
 
@@ -455,6 +551,15 @@ may_cover-returns-then-are_too_many-clause-refused t c = λ b.
     let us = trees_at old (numbers c.args.items.now) in
     never_all s old c.args.given.now c.args.op.0 ps (reach_of c.args.reach) us (c.are_too_many.ensures.whole c.if-are_too_many.true)
     (λ gg limited fair. omega (arith, c.are_too_many.ensures.many c.if-are_too_many.true gg limited fair, trees_long old c.args.items.now))
+
+pub may_cover-returns-then-branch-clause-refused : goal.may_cover-returns-then-branch-clause-refused
+may_cover-returns-then-branch-clause-refused t c = λ b gg ag fair o.
+    let s = c.args.sig.now in
+    let old = c.args.store.now in
+    let g = c.args.given.now in
+    let ps = trees_of (map tree_of c.args.patterns.now) in
+    let us = trees_at old (numbers c.args.items.now) in
+    c.in_ok-are_uneven.ensures.uneven c.if-branch.true gg ag.limited fair (as_many (reach_of c.args.reach) (frees (theory_at s) (bound_of g) gg c.args.op.0 ps) us (c.in_ok-are_uneven.ensures.whole c.if-branch.true) o)
 
 pub may_cover-returns-clause-refused : goal.may_cover-returns-clause-refused
 may_cover-returns-clause-refused t c =
