@@ -1,5 +1,12 @@
-//! Rows: a module, the number of an equation whose left side is a constant, the budget of its condition, and what solves that one behind
+//! Rows: a module, the number of an equation whose condition can be asked with no value given, its budget, and what solves it one behind
 //! another solution.
+ghost use Rattle.std.specs.Prelude.{◌≡◌, ◌≤◌, length, [], map, All, true, false, IfOk, IfSome};
+ghost use Rattle.std.specs.Option.{option_map};
+ghost use Rattle.mau_program.specs.LawfulPrograms.{IsLawfulProgram};
+ghost use Rattle.mau_evaluation.specs.Rules.{has_reach};
+ghost use Rattle.mau_api.specs.Programs.{fragment_of};
+ghost use Rattle.mau_api.specs.Answers.{binding_in, IsAskable, IsValueOf, IsSolutionOf};
+
 use crate::reading::module_of;
 use crate::rows::push_sort;
 use mau_api::{EvalEnd, Evaluator, Fragment, Unwatched};
@@ -9,10 +16,11 @@ use mau_match::Listing;
 use mau_program::Program;
 use mau_reduce::Hooks;
 use mau_reducer::Flagged;
+use mau_sorts::SortTable;
+use mau_statement::are_bound;
 use mau_store::Store;
 use mau_terms::{TermId, VarId};
 use std::alloc::Global;
-use std::process::Abort;
 use std::test::Fail;
 
 /// Lists over three elements, each of a sort of its own, and parts of them.
@@ -29,13 +37,13 @@ endfm ";
 /// Appends the sorts that are shown of values, and a `+` for each application that is counted.
 fn push_solution(
     program: &Program,
-    evaluator: &impl Evaluator,
+    table: &SortTable,
     values: &[(VarId, TermId)],
     rewrites: u64,
     shown: &mut String,
 ) -> Result<(), Fail> {
     for pair in values {
-        push_sort(program, evaluator.sorts(), pair.1, shown)?;
+        push_sort(program, table, pair.1, shown)?;
     }
     for _ in 0..rewrites {
         shown.push('+')?;
@@ -44,14 +52,93 @@ fn push_solution(
     Ok(())
 }
 
-/// The solutions of a condition, one behind another, each asked with the same budget: `.` where there is no further one, and `!` where it
-/// stops.
-fn shown_of(
-    alloc: Global,
+/// Whether no fragment is solved by rules.
+fn are_plain(cond: &[Fragment]) -> bool
+    ensures { result ≡ true → has_reach (map fragment_of cond.now) ≡ false }
+{
+    match cond {
+        [] => true,
+        [Fragment::Reach(..), ..] => false,
+        [_, rest @ ..] => are_plain(rest),
+    }
+}
+
+/// The solution behind which the next one is asked.
+fn slice_of(last: &Option<Vec<(VarId, TermId)>>) -> Option<&[(VarId, TermId)]>
+    ensures { option_map (λ x. x.now) result ≡ option_map (λ x. x.items) last.now }
+{
+    match last {
+        Some(values) => Some(values.as_slice()),
+        None => None,
+    }
+}
+
+/// The next solution of a condition behind one, or the first.
+fn next_of<E: Evaluator>(
+    store: &mut Store,
+    evaluator: &mut E,
+    cond: &[Fragment],
+    last: &Option<Vec<(VarId, TermId)>>,
+    limit: u64,
+) -> Result<Option<(Vec<(VarId, TermId)>, u64)>, EvalEnd>
+    requires fits { E.fits evaluator.old store.old }
+    requires condition { IsAskable (E.meanings evaluator.old).program.sig [] cond.now }
+    requires last { IfSome last.now (λ x. All (IsValueOf (E.meanings evaluator.old).program.sig store.old (E.table evaluator.old)) x.items) }
+    requires solution { IfSome last.now (λ x. IsSolutionOf (E.meanings evaluator.old) (map fragment_of cond.now) [] (binding_in store.old x.items)) }
+    ensures values { IfOk result (λ o. IfSome o (λ x.
+        All (IsValueOf (E.meanings evaluator.old).program.sig store.new (E.table evaluator.new)) x.0.items)) }
+    ensures solution { IfOk result (λ o. IfSome o (λ x.
+        IsSolutionOf (E.meanings evaluator.old) (map fragment_of cond.now) [] (binding_in store.new x.0.items))) }
+    ensures fits { E.fits evaluator.new store.new }
+    ensures meanings { E.meanings evaluator.new ≡ E.meanings evaluator.old }
+{
+    let mut budget = limit;
+    let behind = slice_of(last);
+    evaluator.solve(store, cond, &[], behind, &mut budget, &mut Unwatched)
+}
+
+/// Appends the solutions of a condition, one behind another, each asked with the same budget: `.` where there is no further one, and `!`
+/// where it stops.
+fn push_solutions<E: Evaluator>(
     program: &Program,
+    store: &mut Store,
+    evaluator: &mut E,
     cond: &[Fragment],
     limit: u64,
-) -> Result<String, Fail> {
+    shown: &mut String,
+) -> Result<(), Fail>
+    requires fits { E.fits evaluator.old store.old }
+    requires condition { IsAskable (E.meanings evaluator.old).program.sig [] cond.now }
+{
+    let mut last: Option<Vec<(VarId, TermId)>> = None;
+    for _ in 0..9 {
+        match next_of(store, evaluator, cond, &last, limit) {
+            Ok(Some((values, rewrites))) => {
+                push_solution(program, evaluator.sorts(), &values, rewrites, shown)?;
+                last = Some(values);
+            }
+            Ok(None) => {
+                shown.push('.')?;
+                return Ok(());
+            }
+            Err(EvalEnd::Stopped) => {
+                shown.push('!')?;
+                return Ok(());
+            }
+            Err(_) => {
+                shown.push('?')?;
+                return Ok(());
+            }
+        }
+    }
+    Ok(())
+}
+
+/// What is shown of a condition.
+fn shown_of(alloc: Global, program: &Program, cond: &[Fragment], limit: u64) -> Result<String, Fail>
+    requires lawful { IsLawfulProgram program.now }
+    requires condition { IsAskable program.now.sig [] cond.now }
+{
     let hooks = HookTable::new(alloc);
     let natives = Hooks::new(&hooks);
     let mut store = Store::new(alloc);
@@ -59,67 +146,56 @@ fn shown_of(
         alloc, program, natives, limit, false,
     )?;
     let mut shown = String::new(alloc);
-    let mut last: Option<Vec<(VarId, TermId)>> = None;
-    for _ in 0..9 {
-        let mut budget = limit;
-        let behind = match &last {
-            Some(values) => Some(values.as_slice()),
-            None => None,
-        };
-        match evaluator.solve(&mut store, cond, &[], behind, &mut budget, &mut Unwatched) {
-            Ok(Some((values, rewrites))) => {
-                push_solution(program, &evaluator, &values, rewrites, &mut shown)?;
-                last = Some(values);
-            }
-            Ok(None) => {
-                shown.push('.')?;
-                return Ok(shown);
-            }
-            Err(EvalEnd::Stopped) => {
-                shown.push('!')?;
-                return Ok(shown);
-            }
-            Err(_) => {
-                shown.push('?')?;
-                return Ok(shown);
-            }
-        }
-    }
+    push_solutions(program, &mut store, &mut evaluator, cond, limit, &mut shown)?;
     Ok(shown)
 }
 
-/// Each row: the module, which of its conditions is asked, the budget, and what is shown.
+/// What is shown of the condition of an equation.
+fn shown_at(alloc: Global, program: &Program, number: usize, limit: u64) -> Result<String, Fail>
+    requires lawful { IsLawfulProgram program.now }
+{
+    match program.equations.items().get(number) {
+        Some(equation) => {
+            let cond = equation.cond.items();
+            let mut variables: Vec<VarId> = Vec::new(alloc);
+            if are_plain(cond) && are_bound(&mut variables, cond)? {
+                shown_of(alloc, program, cond, limit)
+            } else {
+                Err("it cannot be asked".into())
+            }
+        }
+        None => Err("there is none".into()),
+    }
+}
+
+/// What is shown of the condition of an equation of the module of a text.
+fn shown_row(alloc: Global, text: &str, number: usize, limit: u64) -> Result<String, Fail>
+    requires { length text.now ≤ 16777216 }
+{
+    let read = module_of(alloc, text)?;
+    shown_at(alloc, read.program(), number, limit)
+}
+
+/// Each row: the module, the number of the equation, the budget, and what is shown.
 const ROWS: [(&str, usize, u64, &str); 7] = [
-    (PARTS, 0, 9, "ListAList+ ABC+ ListCList+ ."),
-    (PARTS, 1, 9, "ListAListBC+ ABCListC+ ."),
+    (PARTS, 3, 9, "ListAList+ ABC+ ListCList+ ."),
+    (PARTS, 4, 9, "ListAListBC+ ABCListC+ ."),
     (
         PARTS,
-        2,
+        5,
         9,
         "ListListListAList+ ListListABC+ ListListListCList+ AListListBC+ AListBCList+ ListCListCList+ .",
     ),
-    (PARTS, 3, 9, "ABC++ ListCList++ ."),
-    (PARTS, 3, 1, "!"),
-    (PARTS, 3, 2, "ABC++ !"),
-    (PARTS, 3, 3, "ABC++ ListCList++ ."),
+    (PARTS, 6, 9, "ABC++ ListCList++ ."),
+    (PARTS, 6, 1, "!"),
+    (PARTS, 6, 2, "ABC++ !"),
+    (PARTS, 6, 3, "ABC++ ListCList++ ."),
 ];
 
 #[test]
 fn solutions_behind_another(rt: HostRuntime) -> Result<(), Fail> {
     for row in ROWS {
-        let read = module_of(rt.alloc(), row.0)?;
-        let program = read.program();
-        let mut asked: &[Fragment] = &[];
-        let mut left = row.1;
-        for equation in program.equations.items() {
-            if !equation.cond.items().is_empty() {
-                if left == 0 {
-                    asked = equation.cond.items();
-                }
-                left = left.wrapping_sub(1);
-            }
-        }
-        let shown = shown_of(rt.alloc(), program, asked, row.2)?;
+        let shown = shown_row(rt.alloc(), row.0, row.1, row.2)?;
         assert_eq!(rt; shown.as_str(), row.3);
     }
     Ok(())
