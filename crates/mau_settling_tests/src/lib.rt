@@ -4,6 +4,8 @@
 #[cfg(test)]
 mod behind;
 #[cfg(test)]
+mod conditional;
+#[cfg(test)]
 mod evaluated;
 #[cfg(test)]
 mod reading;
