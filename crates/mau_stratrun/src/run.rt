@@ -4,7 +4,7 @@ ghost use Rattle.mau_strat.specs.Forms.{LeafIn};
 ghost use Rattle.mau_stratrun.specs.States.{IsConfig, config_in};
 ghost use Rattle.mau_stratrun.specs.Courses.{state_in, HasBodies};
 ghost use Rattle.mau_strat.specs.Interned.{nothing};
-ghost use Rattle.mau_stratrun.specs.Runs.{IsRunning, Began, begun_with, IsSolutionOf, IsNew, AddsJust, PathIs, IsWhole, IsRunEnd, IsEndOf};
+ghost use Rattle.mau_stratrun.specs.Runs.{IsRunning, Began, begun_with, IsSolutionOf, IsNew, AddsJust, GoesOn, PathIs, IsWhole, IsRunEnd, IsEndOf};
 
 use crate::ahead::{First, enter};
 use crate::course::Course;
@@ -113,6 +113,8 @@ impl<X: Leaves + Drop> StratRun<X> {
         ensures once { IfOk result (λ o. IfSome o (λ id.
             IsNew (state_in (X.world self.new.course.leaves) self.new.course.forms self.new.course.interner) self.old.walk.listed id.0)) }
         ensures adds { AddsJust (state_in (X.world self.new.course.leaves) self.new.course.forms self.new.course.interner)
+            self.old.walk.listed self.new.walk.listed result }
+        ensures goes_on { GoesOn (state_in (X.world self.new.course.leaves) self.new.course.forms self.new.course.interner)
             self.old.walk.listed self.new.walk.listed result }
         ensures path { PathIs (state_in (X.world self.new.course.leaves) self.new.course.forms self.new.course.interner)
             self.new.walk.listed self.new.walk.trace.parents self.new.walk.trace.way result }
