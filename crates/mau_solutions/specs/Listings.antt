@@ -1,5 +1,5 @@
 -- What may be answered where the results of a strategy are listed: solutions one after another, and how the listing ends.
-use Rattle.std.specs.Prelude.{◌≡◌, ◌⊎◌, ℕ, ◌≤◌, List, [], ◌∷◌, ◌++◌, length, Contains, Bool, true, false, Option}
+use Rattle.std.specs.Prelude.{◌≡◌, ◌⊎◌, ℕ, ◌≤◌, List, [], ◌∷◌, ◌++◌, length, Contains, true, false, Option}
 use Rattle.mau_terms.specs.Tree.{Tree}
 use Rattle.mau_evaluation.specs.Run.{End, stopped, too_deep, overflowed}
 use Rattle.mau_evaluation.specs.RuleRuns.{one_less, is_out}
@@ -32,6 +32,10 @@ outside e = record { form = e; calls = most_calls; values = [] }
 abbrev pub reached_first : Strategy → Tree → ReachedOf
 reached_first e t = record { start = t; strategy = outside e; seen = on t (outside e ∷ []) [] ∷ [] }
 
+-- it has gone on to these entries
+abbrev pub went_on : ReachedOf → List Config → ReachedOf
+went_on r more = record { start = r.start; strategy = r.strategy; seen = r.seen ++ more }
+
 -- ---- what comes next
 
 abbrev pub IsCall : Strategy → Type 0
@@ -51,12 +55,12 @@ module _ (m : Meanings) (defs : List StratDef) where
     pub reaches : RunsTo (program_of m) (engine_of (program_of m)) defs r.start r.strategy (r.seen ++ more)
     pub none : (u : Tree) → Contains more (on u [] []) → ⊥
 
-  -- u is the next solution, and behind it the run stands at `next`
+  -- behind entries that are no solutions u is the next one, and the run stands at it
   pub record IsNextSolution (r : ReachedOf) (u : Tree) (next : ReachedOf) : Type 0 where
     pub passed : List Config
     pub passes : Passes r passed
     pub entered : IsNextEntry First Whole (r.seen ++ passed) (on u [] [])
-    pub stands : next ≡ record r { seen = (r.seen ++ passed) ++ on u [] [] ∷ [] }
+    pub stands : next ≡ went_on (went_on r passed) (on u [] [] ∷ [])
 
   -- ---- ends
 
@@ -71,14 +75,14 @@ module _ (m : Meanings) (defs : List StratDef) where
   HasEndCause too_deep seen = IsDueTo too_deep seen
   HasEndCause overflowed seen = IsDueTo overflowed seen
 
-  -- the run is at a call to which no calls are left
+  -- the run is at a call to which no calls are left: all behind it is done
   pub record IsTooNested (seen : List Config) : Type 0 where
     pub place : ℕ
-    pub term : Tree
+    pub on_term : Tree
     pub first : Todo
     pub behind : List Todo
     pub frames : List Frame
-    pub asked : IsAsked First Whole seen place (on term (first ∷ behind) frames) []
+    pub asked : IsAsked First Whole seen place (on on_term (first ∷ behind) frames) []
     pub is_call : IsCall first.form
     pub none_left : first.calls ≡ 0
 
@@ -104,5 +108,5 @@ module _ (m : Meanings) (defs : List StratDef) where
     lists_enough : (r : ReachedOf) (most : Option ℕ) → is_out most ≡ true → ListsSolutions r most [] r bound_reached
     lists_one : (r next last : ReachedOf) (most : Option ℕ) (u : Tree) (sort : ℕ) (found : List (Tree × ℕ)) (e : StrategyEnd) → is_out most ≡ false
         → IsNextSolution m defs r u next → HasShownSort m u sort → ListsSolutions next (one_less most) found last e → ListsSolutions r most ((u, sort) ∷ found) last e
-    lists_no_more : (r : ReachedOf) (most : Option ℕ) (more : List Config) (e : StrategyEnd) → is_out most ≡ false → Passes m defs r more
-        → HasStrategyEnd (r.seen ++ more) e → ListsSolutions r most [] (record r { seen = r.seen ++ more }) e
+    lists_none : (r : ReachedOf) (most : Option ℕ) (more : List Config) (e : StrategyEnd) → is_out most ≡ false → Passes m defs r more
+        → HasStrategyEnd (r.seen ++ more) e → ListsSolutions r most [] (went_on r more) e
