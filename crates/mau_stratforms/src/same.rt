@@ -166,9 +166,7 @@ fn same_form(a: &StrategyForm, b: &StrategyForm) -> bool
         (StrategyForm::Idle, StrategyForm::Idle) => true,
         (StrategyForm::Fail, StrategyForm::Fail) => true,
         (StrategyForm::All, StrategyForm::All) => true,
-        (StrategyForm::Label(l, xs), StrategyForm::Label(m, ys)) => {
-            same_label(l, xs, m, ys)
-        }
+        (StrategyForm::Label(l, xs), StrategyForm::Label(m, ys)) => { same_label(l, xs, m, ys) }
         (StrategyForm::Top(s), StrategyForm::Top(t)) => same(s, t),
         (StrategyForm::Call(f, ts), StrategyForm::Call(g, us)) => {
             f.as_str() == g.as_str() && ts.same(us)
