@@ -1,8 +1,10 @@
 use Rattle.std.proofs.Common.{◌++◌, Contains, Ok, ap, ◌∙◌, sym, subst}
 use Rattle.std.proofs.lemmas.List.Elements.{Contains-push}
+use Rattle.mau_strat.specs.declared.configs.Config.{Config as StoredConfig}
 use Rattle.mau_strat.specs.Walks.{AnswerIs, WayIs}
 use Rattle.mau_stratrun.specs.States.{config_in, begins_in, next_in}
 use Rattle.mau_stratrun.specs.Courses.{state_in, is_solution}
+use Rattle.mau_stratrun.proofs.FormKinds.{in_all}
 use Rattle.mau_stratrun.proofs.Adding.{config_is}
 use Rattle.mau_stratrun.proofs.Running.{solved, new_one, given_is, whole_run, run_end, adds_none, adds_one}
 use Rattle.mau_stratrun.proofs.Pathing.{path_to}
@@ -80,3 +82,7 @@ pub returns-in-Err-clause-goes_on : goal.returns-in-Err-clause-goes_on
 returns-in-Err-clause-goes_on g c =
     let end = c.in-Err.ensures.end in
     (end.0, end.1, end.2)
+
+pub returns-in-Ok-Some-clause-term : goal.returns-in-Ok-Some-clause-term
+returns-in-Ok-Some-clause-term g c =
+    in_all (λ (x : StoredConfig). (g.X.Leaves.world c.next.new.engine.leaves).is_term x.term.0) c.next.new.engine.interner.configs c.in-Ok-Some.number c.config-config.result c.next.ensures.ready.1.facts.terms c.config-config.ensures.config
