@@ -103,7 +103,7 @@ mapped f (x ∷ xs) = omega (arith, mapped f xs)
 not_both : (b : Bool) → b ≡ true → b ≡ false → ⊥
 not_both b p q = absurd (cc)
 
-reached_is : (x y : ReachedOf) → x.start ≡ y.start → x.strategy ≡ y.strategy → x.seen ≡ y.seen → x ≡ y
+pub reached_is : (x y : ReachedOf) → x.start ≡ y.start → x.strategy ≡ y.strategy → x.seen ≡ y.seen → x ≡ y
 reached_is x y a b c =
     ap (λ t. record { start = t; strategy = x.strategy; seen = x.seen }) a ∙
     (ap (λ d. record { start = y.start; strategy = d; seen = x.seen }) b ∙ ap (λ ds. record { start = y.start; strategy = y.strategy; seen = ds }) c)

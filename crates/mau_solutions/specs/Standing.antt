@@ -52,3 +52,8 @@ module _ (m : Meanings) (defs : List StratDef) (old new : ReachedOf) where
   abbrev pub Came : (ℕ → Tree) → Result Next NoMemory → Type 0
   Came tree (Ok n) = CameOf tree n
   Came tree (Err e) = WentOn (λ seen. Unit {0})
+
+-- a solution is given by the number of a term
+abbrev pub IsOfTerm : (ℕ → Type 0) → Next → Type 0
+IsOfTerm is_term (Solution id) = is_term id.0
+IsOfTerm is_term _ = Unit {0}

@@ -3,5 +3,7 @@
 
 pub mod laws;
 mod next;
+mod start;
 
 pub use next::{Next, next_solution};
+pub use start::{MOST_CALLS, begin};

@@ -4,7 +4,7 @@ ghost use Rattle.mau_evaluation.specs.Strategy.{StratDef};
 ghost use Rattle.mau_api.specs.Meanings.{Meanings};
 ghost use Rattle.mau_stratrun.specs.Courses.{state_in};
 ghost use Rattle.mau_stratrun.specs.Runs.{IsRunning};
-ghost use Rattle.mau_solutions.specs.Standing.{reached_of, GoesBy, Came};
+ghost use Rattle.mau_solutions.specs.Standing.{reached_of, GoesBy, Came, IsOfTerm};
 
 use mau_stratrun::{LeafEnd, Leaves, StratRun};
 use mau_terms::{NoMemory, TermId};
@@ -37,6 +37,7 @@ pub fn next_solution<X: Leaves + Drop>(run: &mut StratRun<X>) -> Result<Next, No
         (reached_of (state_in (X.world run.new.course.leaves) run.new.course.forms run.new.course.interner) run.old.walk.listed)
         (reached_of (state_in (X.world run.new.course.leaves) run.new.course.forms run.new.course.interner) run.new.walk.listed)
         (X.world run.new.course.leaves).setting.tree result }
+    ensures term { IfOk result (IsOfTerm (X.world run.new.course.leaves).is_term) }
     ensures limit { run.new.limit ≡ run.old.limit }
     ensures within { length run.old.walk.listed ≤ run.old.limit → length run.new.walk.listed ≤ run.old.limit }
 {
