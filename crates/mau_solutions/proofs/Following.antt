@@ -1,6 +1,6 @@
 -- What holds of a listing from a place that the run reaches.
 use Rattle.std.proofs.Common.{◌≡◌, ◌⊎◌, inl, inr, ℕ, List, [], ◌∷◌, ◌++◌, Contains, Option, refl, ap, sym, ◌∙◌, subst, arith}
-use Rattle.std.proofs.lemmas.List.Elements.{Contains-push, Contains-push_cases, Contains-append_cases}
+use Rattle.std.proofs.lemmas.List.Elements.{Contains-append_left, Contains-push, Contains-push_cases, Contains-append_cases}
 use Rattle.mau_terms.specs.Tree.{Tree}
 use Rattle.mau_terms.specs.Finite.{IsIn}
 use Rattle.mau_evaluation.specs.Engine.{Engine, engine_of}
@@ -15,7 +15,7 @@ use Rattle.mau_evaluation.proofs.Meet.{solutions_hold, ended_runs_are_whole}
 use Rattle.mau_evaluation.proofs.After.{askings_are_right}
 use Rattle.mau_api.specs.Meanings.{Meanings, program_of}
 use Rattle.mau_solutions.specs.Listings.{most_calls, ReachedOf, outside, reached_first, IsNextSolution, Passes, StrategyEnd, no_more, bound_reached, HasStrategyEnd, ListsSolutions, lists_enough, lists_one, lists_none}
-use Rattle.mau_solutions.specs.Laws.{SolutionsSatisfy, ListingsAreWhole}
+use Rattle.mau_solutions.specs.Laws.{SolutionsSatisfy, EachOnce, SolutionsAreNew, ListingsAreWhole}
 
 module _ (m : Meanings) (defs : List StratDef) where
   -- the run has reached what the listing stands at
@@ -90,6 +90,23 @@ module _ (m : Meanings) (defs : List StratDef) where
       by (inl c) = at_last (Contains-push_cases (r.seen ++ n.passed) (on v [] []) (on u [] []) (subst (λ (x : ReachedOf). Contains x.seen (on u [] [])) n.stands c))
       by (inr i) = inr (i.0, inr i.1)
 
+  -- what is listed was not there
+  pub not_seen : (r last : ReachedOf) (most : Option ℕ) (found : List (Tree × ℕ)) (e : StrategyEnd) → ListsSolutions m defs r most found last e →
+      (u : Tree) (sort : ℕ) → IsIn (u, sort) found → Contains r.seen (on u [] []) → ⊥
+  not_seen r last most found e (lists_enough r' most' o) u sort i k = absurd i
+  not_seen r last most found e (lists_none r' most' more e' o p h) u sort i k = absurd i
+  not_seen r last most found e (lists_one r' next last' most' v s found' e' o n h l) u sort (inl i) k =
+      n.entered.fresh (Contains-append_left r.seen n.passed (on v [] []) (subst (λ x. Contains r.seen (on x [] [])) (ap (λ (p : Tree × ℕ). p.0) i) k))
+  not_seen r last most found e (lists_one r' next last' most' v s found' e' o n h l) u sort (inr i) k =
+      not_seen next last (one_less most) found' e l u sort i
+      (subst (λ (x : ReachedOf). Contains x.seen (on u [] [])) (sym n.stands) (Contains-append_left (r.seen ++ n.passed) (on v [] [] ∷ []) (on u [] []) (Contains-append_left r.seen n.passed (on u [] []) k)))
+
+  pub each_once : (r last : ReachedOf) (most : Option ℕ) (found : List (Tree × ℕ)) (e : StrategyEnd) → ListsSolutions m defs r most found last e → EachOnce found
+  each_once r last most found e (lists_enough r' most' o) = tt
+  each_once r last most found e (lists_none r' most' more e' o p h) = tt
+  each_once r last most found e (lists_one r' next last' most' v s found' e' o n h l) =
+      ((λ sort i. not_seen next last (one_less most) found' e l v sort i (next_there r next v n)), each_once next last (one_less most) found' e l)
+
   -- why it ended
   pub last_end : (r last : ReachedOf) (most : Option ℕ) (found : List (Tree × ℕ)) (e : StrategyEnd) → ListsSolutions m defs r most found last e →
       (e ≡ bound_reached) ⊎ HasStrategyEnd m defs last.seen e
@@ -98,6 +115,9 @@ module _ (m : Meanings) (defs : List StratDef) where
   last_end r last most found e (lists_one r' next last' most' v s found' e' o n h l) = last_end next last (one_less most) found' e l
 
 -- ---- the laws
+
+pub solutions_are_new : SolutionsAreNew
+solutions_are_new m defs r last most found end l = each_once m defs r last most found end l
 
 pub solutions_satisfy : SolutionsSatisfy
 solutions_satisfy m defs lawful e t most found last end l u sort i =

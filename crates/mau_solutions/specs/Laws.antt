@@ -1,5 +1,5 @@
 -- What is proved of listings of a strategy's results.
-use Rattle.std.specs.Prelude.{ℕ, List, [], Option}
+use Rattle.std.specs.Prelude.{◌∷◌, ℕ, List, [], Option}
 use Rattle.mau_terms.specs.Tree.{Tree}
 use Rattle.mau_terms.specs.Finite.{IsIn}
 use Rattle.mau_terms.specs.Bare.{IsLawful}
@@ -22,3 +22,13 @@ ListingsAreWhole = (m : Meanings) (defs : List StratDef) → IsLawful (program_o
     (e : Strategy) (t : Tree) (most : Option ℕ) (found : List (Tree × ℕ)) (last : ReachedOf) → ListsSolutions m defs (reached_first e t) most found last no_more →
     Eventually (engine_of (program_of m)) (λ L.
     ((u : Tree) → Sat (program_of m) L defs most_calls [] e t u → (sort : ℕ) × IsIn (u, sort) found) × (Cut (program_of m) L defs most_calls [] e t → ⊥))
+
+-- no term stands in it twice
+abbrev pub EachOnce : List (Tree × ℕ) → Type 0
+EachOnce [] = Unit {0}
+EachOnce (x ∷ xs) = ((sort : ℕ) → IsIn (x.0, sort) xs → ⊥) × EachOnce xs
+
+-- no solution is listed twice
+abbrev pub SolutionsAreNew : Type 0
+SolutionsAreNew = (m : Meanings) (defs : List StratDef) (r last : ReachedOf) (most : Option ℕ) (found : List (Tree × ℕ)) (end : StrategyEnd) →
+    ListsSolutions m defs r most found last end → EachOnce found
