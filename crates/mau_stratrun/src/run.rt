@@ -1,7 +1,7 @@
 //! Runs of strategies.
 ghost use Rattle.std.specs.Prelude.{◌≡◌, ◌<◌, ◌≤◌, [], length, map, None, Ok, All, IfOk, IfErr, IfSome};
 ghost use Rattle.mau_strat.specs.Forms.{LeafIn};
-ghost use Rattle.mau_stratrun.specs.States.{IsConfig, config_in};
+ghost use Rattle.mau_stratrun.specs.States.{IsConfig, config_in, Larger};
 ghost use Rattle.mau_stratrun.specs.Courses.{state_in, HasBodies};
 ghost use Rattle.mau_strat.specs.Interned.{nothing};
 ghost use Rattle.mau_strat.specs.Steps.{IfOverLimit};
@@ -129,6 +129,8 @@ impl<X: Leaves + Drop> StratRun<X> {
             self.old.limit self.new.walk.listed) }
         ensures within { length self.old.walk.listed ≤ self.old.limit → length self.new.walk.listed ≤ self.old.limit }
         ensures limit { self.new.limit ≡ self.old.limit }
+        ensures larger { Larger (state_in (X.world self.old.course.leaves) self.old.course.forms self.old.course.interner)
+            (state_in (X.world self.new.course.leaves) self.new.course.forms self.new.course.interner) }
     {
         match self.walk.next(&mut self.course, self.limit) {
             Ok(Some(number)) => {

@@ -1,8 +1,8 @@
 use Rattle.std.proofs.Common.{◌++◌, Contains, Ok, ap, ◌∙◌, sym, subst}
-use Rattle.std.proofs.lemmas.List.Elements.{Contains-push}
+use Rattle.std.proofs.lemmas.List.Elements.{Contains-push, All-contains}
 use Rattle.mau_strat.specs.declared.configs.Config.{Config as StoredConfig}
 use Rattle.mau_strat.specs.Walks.{AnswerIs, WayIs}
-use Rattle.mau_stratrun.specs.States.{config_in, begins_in, next_in}
+use Rattle.mau_stratrun.specs.States.{config_in, IsConfig, begins_in, next_in}
 use Rattle.mau_stratrun.specs.Courses.{state_in, is_solution}
 use Rattle.mau_stratrun.proofs.FormKinds.{in_all}
 use Rattle.mau_stratrun.proofs.Adding.{config_is}
@@ -86,3 +86,10 @@ returns-in-Err-clause-goes_on g c =
 pub returns-in-Ok-Some-clause-term : goal.returns-in-Ok-Some-clause-term
 returns-in-Ok-Some-clause-term g c =
     in_all (λ (x : StoredConfig). (g.X.Leaves.world c.next.new.engine.leaves).is_term x.term.0) c.next.new.engine.interner.configs c.in-Ok-Some.number c.config-config.result c.next.ensures.ready.1.facts.terms c.config-config.ensures.config
+
+pub config-config-requires : goal.config-config-requires
+config-config-requires g c =
+    let s = (state_in (g.X.Leaves.world c.next.new.engine.leaves) c.next.new.engine.forms c.next.new.engine.interner) in
+    let answer = subst (AnswerIs (begins_in s) (next_in s) (λ n. is_solution (config_in s n)) c.args.self.now.walk.listed c.next.new.self.listed) c.in-Ok-Some.field-0-is c.in-Ok-Some.ensures.answer in
+    let listed = subst (λ xs. Contains xs c.in-Ok-Some.number) (sym answer.1) (Contains-push (c.args.self.now.walk.listed ++ answer.0) c.in-Ok-Some.number) in
+    All-contains (IsConfig s) c.next.new.self.listed c.in-Ok-Some.number c.next.ensures.ready.2.configs listed
