@@ -24,6 +24,9 @@ pub trait Successors {
     /// What is kept of the listed configurations is so.
     ghost ready: { Self → List ℕ → Type 0 };
 
+    /// All is as it was, and there may be more.
+    ghost grows: { Self → Self → Type 0 };
+
     /// Whether a listed configuration is a solution.
     fn is_solution(&self, config: usize) -> bool
         requires { (listed : List ℕ) × ready self.now listed × Contains listed config }
@@ -49,7 +52,14 @@ pub trait Successors {
         ensures ready { ready self.new listed.now }
         ensures kept_begins { (e : ℕ) (cs : List ℕ) → begins self.old e cs → begins self.new e cs }
         ensures kept_next { (e : ℕ) (cs : List ℕ) → next self.old e cs → next self.new e cs }
-        ensures kept_solves { (c : ℕ) → Contains listed.now c → solves self.new c ≡ solves self.old c };
+        ensures kept_solves { (c : ℕ) → Contains listed.now c → solves self.new c ≡ solves self.old c }
+        ensures grows { grows self.old self.new };
+
+    /// It is so where nothing has changed.
+    ghost grows_none: { (s : Self) → grows s s };
+
+    /// And step after step.
+    ghost grows_on: { (s t u : Self) → grows s t → grows t u → grows s u };
 
     /// No successors are the first ones of any listed configuration.
     ghost none_given: { (s : Self) (listed : List ℕ) (e : ℕ) → ready s listed → Contains listed e → begins s e [] };

@@ -123,6 +123,7 @@ impl Walk {
         ensures answer { IfOk result (AnswerIs (S.begins engine.new) (S.next engine.new) (S.solves engine.new) self.old.listed self.new.listed) }
         ensures end { IfErr result (EndAfter (S.begins engine.new) (S.next engine.new) (S.due engine.new) (S.solves engine.new) limit self.old.listed self.new.listed) }
         ensures way { WayIs (S.begins engine.new) (S.next engine.new) self.new.listed self.new.trace.parents self.new.trace.way result }
+        ensures grows { S.grows engine.old engine.new }
     {
         self.trace.clear();
         for _ in 0..u64::MAX {
@@ -156,6 +157,7 @@ impl Walk {
         ensures unchanged { OnErr result (self.new.listed ≡ self.old.listed) }
         ensures way { self.old.trace.way ≡ [] → self.new.trace.way ≡ [] }
         ensures kept_solves { (c : ℕ) → Contains self.old.listed c → S.solves engine.new c ≡ S.solves engine.old c }
+        ensures grows { S.grows engine.old engine.new }
     {
         let Some(latest) = self.stack.last() else {
             return Ok(Went::Done);

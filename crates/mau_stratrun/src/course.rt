@@ -217,7 +217,8 @@ impl<X: Leaves + Drop> Successors for Course<X> {
     ghost use Rattle.mau_stratrun.specs.States.{config_in, begins_in, next_in};
     ghost use Rattle.mau_stratrun.specs.Yields.{IsEnd};
     ghost use Rattle.mau_stratrun.specs.Courses.{state_in, IsListed, is_solution, IsCourse};
-    ghost use Rattle.mau_stratrun.specs.CourseLaws.{none_given, stays_listed};
+    ghost use Rattle.mau_stratrun.specs.States.{Larger};
+    ghost use Rattle.mau_stratrun.specs.CourseLaws.{none_given, stays_listed, larger_none, larger_on};
     ghost use Rattle.std.specs.Prelude.{map};
 
     type Cause = LeafEnd;
@@ -233,6 +234,8 @@ impl<X: Leaves + Drop> Successors for Course<X> {
 
     ghost ready = { λ s listed. X.is_ready s.leaves × IsCourse (X.world s.leaves) s.forms s.bodies.items s.interner s.kept.items ×
         IsListed (state_in (X.world s.leaves) s.forms s.interner) listed };
+
+    ghost grows = { λ s t. Larger (state_in (X.world s.leaves) s.forms s.interner) (state_in (X.world t.leaves) t.forms t.interner) };
 
     fn is_solution(&self, config: usize) -> bool {
         let config = self.interner.config(config);
@@ -251,6 +254,11 @@ impl<X: Leaves + Drop> Successors for Course<X> {
         let number = listed.at(entry);
         self.go_on(listed, number, at)
     }
+
+    ghost grows_none = { λ s. larger_none (state_in (X.world s.leaves) s.forms s.interner) };
+
+    ghost grows_on = { λ s t u a b. larger_on (state_in (X.world s.leaves) s.forms s.interner) (state_in (X.world t.leaves) t.forms t.interner)
+        (state_in (X.world u.leaves) u.forms u.interner) a b };
 
     ghost none_given = { λ s listed e r c. none_given (state_in (X.world s.leaves) s.forms s.interner) listed r.2 e c };
 

@@ -49,6 +49,7 @@ loop-preserved g c =
       | in-Again w ↦ record {
         run = c.turn.ensures.run;
         ready = c.turn.ensures.ready;
+        grows = g.met.S.Successors.grows_on c.args.engine.now c.loop.engine c.turn.new.engine c.loop.invariant.grows c.turn.ensures.grows;
         went = on_again (g.S.Successors.solves c.loop.engine) (g.S.Successors.solves c.turn.new.engine) c.args.self.now.listed c.loop.self.listed c.turn.new.self.listed c.loop.invariant.went c.turn.ensures.kept_solves (subst (TurnIs (g.S.Successors.begins c.turn.new.engine) (g.S.Successors.next c.turn.new.engine) c.loop.self.listed c.turn.new.self.listed) w.in-Again.is c.in_ok-turn.ensures.turn);
         way = c.turn.ensures.way c.loop.invariant.way;
         within = within;
@@ -56,8 +57,18 @@ loop-preserved g c =
       | in-Entered+else-is_solution w ↦ record {
         run = c.turn.ensures.run;
         ready = c.turn.ensures.ready;
+        grows = g.met.S.Successors.grows_on c.args.engine.now c.loop.engine c.turn.new.engine c.loop.invariant.grows c.turn.ensures.grows;
         went = on_entered (g.S.Successors.solves c.loop.engine) (g.S.Successors.solves c.turn.new.engine) c.args.self.now.listed c.loop.self.listed c.turn.new.self.listed c.loop.invariant.went c.turn.ensures.kept_solves w.in-Entered.config (subst (TurnIs (g.S.Successors.begins c.turn.new.engine) (g.S.Successors.next c.turn.new.engine) c.loop.self.listed c.turn.new.self.listed) w.in-Entered.is c.in_ok-turn.ensures.turn) (sym w.is_solution.ensures ∙ w.if-is_solution.false);
         way = c.turn.ensures.way c.loop.invariant.way;
         within = within;
       }
     ]
+
+pub returns-in_err-turn-clause-grows : goal.returns-in_err-turn-clause-grows
+returns-in_err-turn-clause-grows g c = g.met.S.Successors.grows_on c.args.engine.now c.loop.engine c.turn.new.engine c.loop.invariant.grows c.turn.ensures.grows
+
+pub returns-in-Done-clause-grows : goal.returns-in-Done-clause-grows
+returns-in-Done-clause-grows g c = g.met.S.Successors.grows_on c.args.engine.now c.loop.engine c.turn.new.engine c.loop.invariant.grows c.turn.ensures.grows
+
+pub returns-then-is_solution-clause-grows : goal.returns-then-is_solution-clause-grows
+returns-then-is_solution-clause-grows g c = g.met.S.Successors.grows_on c.args.engine.now c.loop.engine c.turn.new.engine c.loop.invariant.grows c.turn.ensures.grows

@@ -7,6 +7,7 @@ abbrev pub invariant-loop : goal.invariant-loop
 invariant-loop g l = record {
   run : IsRun (g.S.Successors.begins l.engine) (g.S.Successors.next l.engine) l.self.listed l.self.trace.parents l.self.stack.items;
   ready : g.S.Successors.ready l.engine l.self.listed;
+  grows : g.S.Successors.grows l.fn.engine l.engine;
   went : WentOn (g.S.Successors.solves l.engine) l.fn.self.listed l.self.listed;
   way : l.self.trace.way ≡ [];
   within : length l.fn.self.listed ≤ l.limit → length l.self.listed ≤ l.limit;

@@ -1,0 +1,4 @@
+pub mod Following
+pub mod Coming
+pub mod Beginning
+pub mod Growing
