@@ -1,10 +1,12 @@
-//! Derivations made of what was told: a recorder of runs, and sections of facts that prove what a run leads to.
+//! Derivations made of what was told: a recorder of runs, the sorts that memberships give, and sections of facts that prove what a run leads to.
 #![tactic(auto)]
 
 mod certified;
 mod contexts;
 mod copies;
+mod deriving;
 mod frames;
+mod known;
 mod lines;
 mod names;
 mod nodes;
@@ -13,7 +15,9 @@ mod rounds;
 mod section;
 mod steps;
 mod terms;
+mod told_sorts;
 mod walk;
 
+pub use deriving::{Reason, Shown, SortOf, derive_sorts};
 pub use recorder::{Recorder, Told};
 pub use section::{Run, prove};
