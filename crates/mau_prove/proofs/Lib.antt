@@ -5,5 +5,7 @@ pub mod Standing
 pub mod Working
 -- copies of terms in another store
 pub mod Copied
+-- sections in documents
+pub mod Documented
 -- what was judged
 pub mod Concluded

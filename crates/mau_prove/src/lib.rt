@@ -5,6 +5,7 @@ mod certified;
 mod contexts;
 mod copies;
 mod deriving;
+mod document;
 mod frames;
 mod known;
 mod lines;
@@ -19,5 +20,6 @@ mod told_sorts;
 mod walk;
 
 pub use deriving::{Reason, Shown, SortOf, derive_sorts};
+pub use document::show_sections;
 pub use recorder::{Recorder, Told};
 pub use section::{Run, prove};

@@ -1,33 +1,16 @@
 //! Documents of one section, and what a check of them says.
-ghost use Rattle.std.specs.Prelude.{◌≡◌, ◌<◌, ◌^◌, All, IfOk, length};
+ghost use Rattle.std.specs.Prelude.{◌≤◌, All, length};
 ghost use Rattle.mau_formula.specs.Operators.{operators};
 ghost use Rattle.mau_built_ins.specs.NativeNumerals.{GivesNumerals};
-ghost use Rattle.mau_facts.specs.Documents.{IsWritable};
 ghost use Rattle.mau_prove.specs.Proved.{CanBeWritten};
 
 use mau_docheck::check;
-use mau_facts::{Document, Section, show_document};
+use mau_facts::Section;
 use mau_formula::HookTable;
-use mau_terms::Seq;
+use mau_prove::show_sections;
 use std::alloc::Global;
 use std::process::Abort;
 use std::test::Fail;
-
-/// A document of one section.
-fn document_of(alloc: Global, text: &str, section: Section) -> Result<Document, Fail>
-    requires text { length text.now < 2 ^ 32 }
-    requires section { CanBeWritten section }
-    ensures { IfOk result IsWritable }
-{
-    let text = text.as_bytes().to_vec(alloc)?;
-    let mut sections = Vec::new(alloc);
-    sections.push(section)?;
-    Ok(Document {
-        version: 1,
-        text: Seq::new(text),
-        sections: Seq::new(sections),
-    })
-}
 
 /// What stands behind the first line of some bytes.
 fn behind_first_line(bytes: &[u8]) -> &[u8] {
@@ -48,11 +31,12 @@ pub fn conclusion(
     section: Section,
 ) -> Result<Vec<u8>, Fail>
     requires numerals { All GivesNumerals (operators hooks.now) }
-    requires text { length text.now < 2 ^ 32 }
+    requires text { length text.now ≤ 16777216 }
     requires section { CanBeWritten section }
 {
-    let document = document_of(alloc, text, section)?;
-    let bytes = show_document(alloc, &document)?;
+    let mut sections = Vec::new(alloc);
+    sections.push(section)?;
+    let bytes = show_sections(alloc, text.as_bytes().to_vec(alloc)?, sections)?;
     assert!(rt; bytes.len() <= 16_777_216);
     let (said, refused) = check(alloc, hooks, &bytes)?;
     assert!(rt; !refused, "each section is accepted");
