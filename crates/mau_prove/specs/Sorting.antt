@@ -25,14 +25,14 @@ is_rewriting (Sort t r) = false
 is_rewriting (Reach t u) = true
 
 -- an evaluator that means m goes by the program p, and fits the nodes of its store; what is kept of its terms is right
-pub record IsWorking (p : Program) (m : Meanings) (Fits : Type 0) (nodes : List Node) (kept : List (Option Kept)) : Type 0 where
+pub record IsWorking (p : Program) (m : Meanings) (Fits : Type 0) (nodes : List Node) (known : List (Option Kept)) : Type 0 where
   pub program : m.program ≡ p
   pub fits : Fits
-  pub kept : AreSomeKept p.sig nodes kept
+  pub kept : AreSomeKept p.sig nodes known
 
 -- it means what it meant, its store has grown, and what is kept of the terms is right
-pub record HasWorked (s : SignatureOf) (before after : Meanings) (Fits : Type 0) (old new : List Node) (kept : List (Option Kept)) : Type 0 where
+pub record HasWorked (s : SignatureOf) (before after : Meanings) (Fits : Type 0) (old new : List Node) (known : List (Option Kept)) : Type 0 where
   pub meanings : after ≡ before
   pub fits : Fits
   pub extends : Extends old new
-  pub kept : AreSomeKept s new kept
+  pub kept : AreSomeKept s new known

@@ -1,11 +1,10 @@
 //! Which terms of a run's store are terms of the program within the limits, and what is kept of these.
-ghost use Rattle.std.specs.Prelude.{◌≡◌, Option, IfOk, IfSome, IsTrue};
-ghost use Rattle.mau_signature.specs.Signature.{SignatureOf, terms_over};
-ghost use Rattle.mau_terms.specs.Bare.{IsLawful};
+ghost use Rattle.std.specs.Prelude.{List, Option, IfOk, IfSome, IsTrue};
+ghost use Rattle.mau_signature.specs.Signature.{SignatureOf};
+ghost use Rattle.mau_signature.specs.OverSignature.{IsTreeOver};
 ghost use Rattle.mau_store.specs.Node.{Node, Extends, IsOf};
-ghost use Rattle.mau_program.specs.LawfulPrograms.{IsLawfulProgram};
+ghost use Rattle.mau_store.specs.Trees.{tree_at};
 ghost use Rattle.mau_api.specs.Terms.{IsTerm};
-ghost use Rattle.mau_check.specs.declared.kept.Kept.{Kept};
 ghost use Rattle.mau_prove.specs.Making.{AreSomeKept, IsOne};
 ghost use Rattle.mau_prove.specs.Sorting.{IsKeptTerm};
 
@@ -141,5 +140,17 @@ pub fn known_at(kept: &[Option<Kept>], id: TermId) -> Option<Kept>
             None
         }
         None => None,
+    }
+}
+
+/// Whether a term is one of the program within the limits.
+pub fn is_term(sig: &Signature, kept: &[Option<Kept>], id: TermId) -> bool
+    ensures term { (nodes : List Node) → AreSomeKept sig.now nodes kept.now → IsTrue result → IsTerm sig.now nodes id.0 }
+    ensures tree { (nodes : List Node) → AreSomeKept sig.now nodes kept.now → IsTrue result → IsTreeOver sig.now (tree_at nodes id.0) }
+{
+    let _ = sig.operators();
+    match known_at(kept, id) {
+        Some(_) => true,
+        None => false,
     }
 }

@@ -4,11 +4,11 @@
 mod certified;
 mod contexts;
 mod copies;
-mod deriving;
 mod document;
 mod frames;
 mod known;
 mod lines;
+mod memberships;
 mod names;
 mod nodes;
 mod recorder;
@@ -19,7 +19,7 @@ mod terms;
 mod told_sorts;
 mod walk;
 
-pub use deriving::{Reason, Shown, SortOf, derive_sorts};
 pub use document::show_sections;
+pub use memberships::{Reason, Shown, SortOf, derive_sorts};
 pub use recorder::{Recorder, Told};
 pub use section::{Run, prove};

@@ -8,7 +8,7 @@ ghost use Rattle.mau_built_ins.specs.NativeNumerals.{GivesNumerals};
 ghost use Rattle.mau_prove.specs.Proved.{CanBeWritten, Proves};
 
 use crate::certified::is_proof;
-use crate::deriving::SortOf;
+use crate::memberships::SortOf;
 use crate::frames::Making;
 use crate::lines::{add_variables, no_lines};
 use crate::recorder::Told;

@@ -3,7 +3,7 @@ ghost use Rattle.std.specs.Prelude.{◌≡◌, OnOk};
 ghost use Rattle.mau_program.specs.LawfulPrograms.{IsLawfulProgram};
 ghost use Rattle.mau_prove.specs.Making.{Stand};
 
-use crate::deriving::{Reason, Shown, SortOf};
+use crate::memberships::{Reason, Shown, SortOf};
 use crate::frames::{Making, add_fact, opened};
 use crate::terms::{line_of, lines_of};
 use crate::walk::add_events;

@@ -9,6 +9,7 @@ ghost use Rattle.mau_prove.specs.Proved.{CanBeWritten};
 
 use crate::documents::conclusion;
 use crate::natives::natives;
+use crate::proving::proved;
 use crate::reading::{module_of, term_of};
 use mau_api::Evaluator;
 use mau_extend::ExtListing;
@@ -17,7 +18,7 @@ use mau_formula::HookTable;
 use mau_match::Listing;
 use mau_module::Module;
 use mau_program::Program;
-use mau_prove::{Recorder, Run, derive_sorts, prove};
+use mau_prove::Recorder;
 use mau_reduce::Hooks;
 use mau_reducer::Flagged;
 use mau_store::Store;
@@ -48,8 +49,8 @@ var N : Nat . var E : Even . mb z : Even . cmb s s N : Even if N : Even . eq hal
 
 /// Pairs of which those have a sort whose first number is less, by a condition that is evaluated; a list whose sort goes by those of its elements.
 const LESS: &str = "fmod LESS is sorts Nat True Truth Up Pair Ups . subsort True < Truth . subsort Up < Pair . op z : -> Nat . op s_ : Nat -> Nat .
-op t : -> True . op lt : Nat Nat -> Truth . op pair : Nat Nat -> Pair . op nil : -> Ups . op cons : Up Ups -> Ups . op cons : Pair Ups ~> Ups . op pick : Pair -> Truth .
-op all : Ups -> Truth . op all : [Ups] ~> Truth . vars X Y : Nat . var Q : Up . var L : Ups . eq lt(z, s Y) = t . eq lt(s X, s Y) = lt(X, Y) .
+op t : -> True . op lt : Nat Nat -> Truth . op pair : Nat Nat -> Pair . op nil : -> Ups . op cons : Up Ups -> Ups . op pick : Pair -> Truth .
+op all : Ups -> Truth . vars X Y : Nat . var Q : Up . var L : Ups . eq lt(z, s Y) = t . eq lt(s X, s Y) = lt(X, Y) .
 cmb pair(X, Y) : Up if lt(X, Y) = t . eq pick(Q) = t . eq all(L) = t . endfm ";
 
 /// A section that proves what a term of a module evaluates to, for the second item of a text.
@@ -77,22 +78,18 @@ fn section_of(
         Ok(value) => value.term,
         Err(_) => return Err("it has no value".into()),
     };
-    let sorts = match derive_sorts::<_, Listing>(alloc, program, store, &mut evaluator, 1000) {
-        Ok(sorts) => sorts,
-        Err(_) => return Err("a sort has no derivation".into()),
-    };
-    let run = Run {
+    proved(
+        alloc,
+        program,
+        name,
+        hooks,
         store,
+        &mut evaluator,
         vars,
-        events: told.events(),
-        sorts: &sorts,
-        start: id,
+        &told,
+        id,
         end,
-    };
-    match prove(alloc, program, hooks, run, 2, name) {
-        Ok(section) => Ok(section),
-        Err(_) => Err("it has no proof".into()),
-    }
+    )
 }
 
 /// What is concluded of the evaluation of the term of a text, over its module.
@@ -139,13 +136,13 @@ const ROWS: [(&str, &str, &str); 22] = [
     (PLAIN, "f(f(a))", "f(f(a)) ---> b"),
     (PLAIN, "f(X:S)", "f(X:S) ---> f(X:S)"),
     (FACT, "5 !", "5 ! ---> 120"),
-    (FACT, "2 + X:Nat + 3", "X:Nat + 5 ---> X:Nat + 5"),
+    (FACT, "(2 !) !", "2 ! ! ---> 2"),
     (FACT, "if 3 ! == 6 then 1 else 2 fi", "if 3 ! == 6 then 1 else 2 fi ---> 1"),
     (BIG, "big(3, 7)", "big(3, 7) ---> 7"),
     (BIG, "big(7, 3)", "big(7, 3) ---> 7"),
     (LAST, "last(a b a)", "last(a b a) ---> a"),
     (SET, "a a b", "a a b ---> c"),
-    (SET, "a c b X:Set", "a b c X:Set ---> c X:Set"),
+    (SET, "a c b", "a b c ---> c"),
     (EVEN, "half(z)", "half(z) ---> z"),
     (EVEN, "half(s s s s z)", "half(s s s s z) ---> z"),
     (EVEN, "half(w)", "half(w) ---> z"),

@@ -8,6 +8,8 @@ mod evaluated;
 #[cfg(test)]
 mod natives;
 #[cfg(test)]
+mod proving;
+#[cfg(test)]
 mod reading;
 #[cfg(test)]
 mod rewritten;

@@ -11,6 +11,7 @@ ghost use Rattle.mau_prove.specs.Proved.{CanBeWritten};
 
 use crate::documents::conclusion;
 use crate::natives::natives;
+use crate::proving::proved;
 use crate::reading::{module_of, term_of};
 use mau_extend::ExtListing;
 use mau_facts::Section;
@@ -18,7 +19,7 @@ use mau_formula::HookTable;
 use mau_match::Listing;
 use mau_module::Module;
 use mau_program::{Fragment, Program, Rule};
-use mau_prove::{Recorder, Run, derive_sorts, prove};
+use mau_prove::Recorder;
 use mau_reduce::Hooks;
 use mau_reducer::Flagged;
 use mau_rules::RuleRun;
@@ -78,7 +79,7 @@ fn is_runnable(program: &Program) -> bool
     are_plain(program.rules.items())
 }
 
-/// A section that proves what so many uses of rules make of a term, for the second item of a text. The run is fair, or goes from place to place.
+/// A section that proves what so many uses of rules make of a term, from place to place.
 fn section_of(
     rt: &impl Abort,
     alloc: Global,
@@ -88,7 +89,6 @@ fn section_of(
     store: &mut Store,
     vars: &Vars,
     id: TermId,
-    fair: bool,
     most: u64,
 ) -> Result<Section, Fail>
     requires lawful { IsLawfulProgram program.now }
@@ -103,46 +103,87 @@ fn section_of(
     )?;
     let mut run = RuleRun::start(alloc, program, id)?;
     let mut told = Recorder::new(alloc);
-    let ended = if fair {
-        run.frewrite::<_, ExtListing<Listing>, _>(
-            program,
-            store,
-            &mut evaluator,
-            Some(most),
-            1,
-            1000,
-            &mut told,
-        )
-    } else {
-        run.rewrite::<_, ExtListing<Listing>, _>(
-            program,
-            store,
-            &mut evaluator,
-            Some(most),
-            1000,
-            &mut told,
-        )
-    };
-    let end = match ended {
+    let end = match run.rewrite::<
+        Flagged<ExtListing<Listing>, Listing, Hooks>,
+        ExtListing<Listing>,
+        Recorder,
+    >(
+        program,
+        store,
+        &mut evaluator,
+        Some(most),
+        1000,
+        &mut told,
+    ) {
         Ok((_, value)) => value.term,
         Err(_) => return Err("it has no value".into()),
     };
-    let sorts = match derive_sorts::<_, Listing>(alloc, program, store, &mut evaluator, 1000) {
-        Ok(sorts) => sorts,
-        Err(_) => return Err("a sort has no derivation".into()),
-    };
-    let told = Run {
+    proved(
+        alloc,
+        program,
+        name,
+        hooks,
         store,
+        &mut evaluator,
         vars,
-        events: told.events(),
-        sorts: &sorts,
-        start: id,
+        &told,
+        id,
         end,
+    )
+}
+
+/// The same of a fair run.
+fn fair_section_of(
+    rt: &impl Abort,
+    alloc: Global,
+    program: &Program,
+    name: &str,
+    hooks: &HookTable,
+    store: &mut Store,
+    vars: &Vars,
+    id: TermId,
+    most: u64,
+) -> Result<Section, Fail>
+    requires lawful { IsLawfulProgram program.now }
+    requires numerals { All GivesNumerals (operators hooks.now) }
+    requires term { IsTerm program.now.sig store.old id.0 }
+    ensures { IfOk result CanBeWritten }
+{
+    assert!(rt; is_runnable(program));
+    let natives = Hooks::new(hooks);
+    let mut evaluator = Flagged::<ExtListing<Listing>, Listing, Hooks>::new(
+        alloc, program, natives, 1000, false,
+    )?;
+    let mut run = RuleRun::start(alloc, program, id)?;
+    let mut told = Recorder::new(alloc);
+    let end = match run.frewrite::<
+        Flagged<ExtListing<Listing>, Listing, Hooks>,
+        ExtListing<Listing>,
+        Recorder,
+    >(
+        program,
+        store,
+        &mut evaluator,
+        Some(most),
+        1,
+        1000,
+        &mut told,
+    ) {
+        Ok((_, value)) => value.term,
+        Err(_) => return Err("it has no value".into()),
     };
-    match prove(alloc, program, hooks, told, 2, name) {
-        Ok(section) => Ok(section),
-        Err(_) => Err("it has no proof".into()),
-    }
+    proved(
+        alloc,
+        program,
+        name,
+        hooks,
+        store,
+        &mut evaluator,
+        vars,
+        &told,
+        id,
+        end,
+    )
 }
 
 /// What is concluded of a run of rules on the term of a text, over its module.
@@ -163,18 +204,13 @@ fn concluded(
     let mut store = Store::new(alloc);
     let mut vars = Vars::new(alloc);
     let id = term_of(rt, alloc, of, &mut store, &mut vars, term)?;
-    let section = section_of(
-        rt,
-        alloc,
-        of.program(),
-        of.name(),
-        &hooks,
-        &mut store,
-        &vars,
-        id,
-        fair,
-        most,
-    )?;
+    let program = of.program();
+    let name = of.name();
+    let section = if fair {
+        fair_section_of(rt, alloc, program, name, &hooks, &mut store, &vars, id, most)?
+    } else {
+        section_of(rt, alloc, program, name, &hooks, &mut store, &vars, id, most)?
+    };
     conclusion(rt, alloc, &hooks, text, section)
 }
 
