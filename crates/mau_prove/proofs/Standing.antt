@@ -1,5 +1,5 @@
 -- What is kept of lines, one after another and in stores that grow.
-use Rattle.std.proofs.Common.{◌≡◌, ℕ, subst, IfSome, List, [], ◌∷◌, ◌++◌, Option, Some, None, Result, Ok, Err, IfOk}
+use Rattle.std.proofs.Common.{◌≡◌, ℕ, sym, subst, IfSome, OnOk, OnErr, List, [], ◌∷◌, ◌++◌, Option, Some, None, Result, Ok, Err, IfOk}
 use Rattle.mau_terms.specs.Tree.{Tree}
 use Rattle.mau_signature.specs.Signature.{SignatureOf}
 use Rattle.mau_store.specs.Node.{Node, Extends}
@@ -38,6 +38,11 @@ all_kept items s nodes ks lent numbers o found h e d f =
 pub one_place_more : (s : SignatureOf) (nodes : List Node) (ks : List (Option Kept)) (o : Option Kept) → AreSomeKept s nodes ks → IfSome o (IsOne s nodes) → AreSomeKept s nodes (ks ++ o ∷ [])
 one_place_more s nodes ks (Some k) h one = some_more s nodes ks k h one
 one_place_more s nodes ks None h one = (h.0 ++ None ∷ [], zip_push (IsKept s nodes) ks h.0 None None h.1 (λ w. w))
+
+-- where there is no memory for it, all stays as it was
+pub pushed : {A E : Type 0} (s : SignatureOf) (nodes : List Node) (ks new : List (Option Kept)) (o : Option Kept) (r : Result A E) → OnOk r (new ≡ ks ++ o ∷ []) → OnErr r (new ≡ ks) → AreSomeKept s nodes ks → IfSome o (IsOne s nodes) → AreSomeKept s nodes new
+pushed s nodes ks new o (Ok x) e d h one = subst (AreSomeKept s nodes) (sym e) (one_place_more s nodes ks o h one)
+pushed s nodes ks new o (Err x) e d h one = subst (AreSomeKept s nodes) (sym d) h
 
 -- what is kept, if anything, is one of a term
 pub one_kept : {E : Type 0} (s : SignatureOf) (nodes : List Node) (t : Tree) (r : Result (Option Kept) E) → IfOk r (λ k. IsKept s nodes k (Some t)) → IfOk r (λ o. IfSome o (IsOne s nodes))

@@ -1,5 +1,5 @@
 //! Which terms of a run's store are terms of the program within the limits, and what is kept of these.
-ghost use Rattle.std.specs.Prelude.{List, Option, IfOk, IfSome, IsTrue};
+ghost use Rattle.std.specs.Prelude.{◌≡◌, ◌++◌, ◌∷◌, [], List, Option, IfOk, IfSome, IsTrue, OnOk, OnErr};
 ghost use Rattle.mau_signature.specs.Signature.{SignatureOf};
 ghost use Rattle.mau_signature.specs.OverSignature.{IsTreeOver};
 ghost use Rattle.mau_store.specs.Node.{Node, Extends, IsOf};
@@ -93,6 +93,15 @@ fn own(found: Option<Kept>, place: usize) -> Option<Kept>
     }
 }
 
+/// Adds what is kept of a node, if anything is.
+fn push_kept(kept: &mut Vec<Option<Kept>>, found: Option<Kept>) -> Result<(), NoMemory>
+    ensures added { OnOk result (kept.new.items ≡ kept.old.items ++ found ∷ []) }
+    ensures unchanged { OnErr result (kept.new.items ≡ kept.old.items) }
+{
+    kept.push(found)?;
+    Ok(())
+}
+
 /// Adds what is kept of a node of a store.
 fn add_known(
     store: &mut Store,
@@ -107,8 +116,7 @@ fn add_known(
 {
     let node = copy_of(store, TermId(place))?;
     let found = kept_node(store, program, kept, &node)?;
-    kept.push(own(found, place))?;
-    Ok(())
+    push_kept(kept, own(found, place))
 }
 
 /// Adds what is kept of the terms of a store that are not there yet.

@@ -11,12 +11,12 @@ returns-in-Num-clause-one c = one_kept c.args.program.now.sig c.numeral.new.stor
 pub build_over-requires : goal.build_over-requires
 build_over-requires c =
     let s = c.args.program.now.sig in
-    subst (λ ks. (us : List Tree) × AreKeptFor s c.args.store.now ks us) (sym c.deref-3.ensures.value)
-    (all_kept (λ v. v.items) s c.args.store.now c.args.kept.now c.args.kept.now c.deref-2.result.now c.in-Ok-Some.field-0 c.in-Ok-Some.terms c.requires refl c.in-Ok-Some.field-0-is (c.in-Ok-Some.ensures.some s c.args.store.now))
+    subst (λ ks. (us : List Tree) × AreKeptFor s c.args.store.now ks us) (sym c.deref-in-App-2.ensures.value)
+    (all_kept (λ v. v.items) s c.args.store.now c.args.kept.now c.args.kept.now c.deref-in-App.result.now c.in-Ok-Some.field-0 c.in-Ok-Some.terms c.requires.kept refl c.in-Ok-Some.field-0-is (c.in-Ok-Some.ensures.some s c.args.store.now))
 
 pub returns-in-Ok-Some-clause-one : goal.returns-in-Ok-Some-clause-one
 returns-in-Ok-Some-clause-one c =
     let s = c.args.program.now.sig in
-    let all = subst (λ ks. (us : List Tree) × AreKeptFor s c.args.store.now ks us) (sym c.deref-3.ensures.value)
-    (all_kept (λ v. v.items) s c.args.store.now c.args.kept.now c.args.kept.now c.deref-2.result.now c.in-Ok-Some.field-0 c.in-Ok-Some.terms c.requires refl c.in-Ok-Some.field-0-is (c.in-Ok-Some.ensures.some s c.args.store.now)) in
+    let all = subst (λ ks. (us : List Tree) × AreKeptFor s c.args.store.now ks us) (sym c.deref-in-App-2.ensures.value)
+    (all_kept (λ v. v.items) s c.args.store.now c.args.kept.now c.args.kept.now c.deref-in-App.result.now c.in-Ok-Some.field-0 c.in-Ok-Some.terms c.requires.kept refl c.in-Ok-Some.field-0-is (c.in-Ok-Some.ensures.some s c.args.store.now)) in
     one_over s c.build_over.new.store (over s c.in-App.op.0 all.0) c.build_over.result (c.build_over.ensures.some all.0 all.1)

@@ -1,12 +1,13 @@
-use Rattle.std.proofs.Common.{[]}
+use Rattle.std.proofs.Common.{[], sym, subst}
+use Rattle.mau_prove.specs.Making.{AreSomeKept}
 use Rattle.mau_prove.proofs.Working.{worked_on, works_on, at_first}
 use Rattle.mau_prove.proofs.memberships.derive_sorts.Goals as goal
 
 pub loop-term-init : goal.loop-term-init
 loop-term-init g c = record {
   worked =
-      at_first c.args.program.now (g.E.Evaluator.meanings c.args.evaluator.now) c.args.store.now []
-      (record { program = c.requires.program; fits = c.requires.fits; kept = ([], tt) });
+      at_first c.args.program.now (g.E.Evaluator.meanings c.args.evaluator.now) c.args.store.now c.new-known.result.items
+      (record { program = c.requires.program; fits = c.requires.fits; kept = subst (AreSomeKept c.args.program.now.sig c.args.store.now) (sym c.new-known.ensures.items) ([], tt) });
   plain = c.new-plain.ensures.over c.args.program.now.sig.hierarchy;
 }
 

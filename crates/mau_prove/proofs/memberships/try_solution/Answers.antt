@@ -18,9 +18,12 @@ bound_to-requires g c =
     let m = g.E.Evaluator.meanings c.args.evaluator.now in
     let s1 = c.complete_known.new.store in
     let fits = g.met.E.Evaluator.grows c.args.evaluator.now c.args.store.now s1 c.complete_known.ensures.extends c.requires.working.fits in
-    subst (λ (t : Table). AreOver c.args.program.now.sig.hierarchy t) (sym c.sorts.ensures.value)
-    (subst (λ (z : SignatureOf). AreOver z.hierarchy (g.E.Evaluator.table c.args.evaluator.now)) (sig_of c.args.program.now m c.args.store.now c.args.known.now.items c.requires.working)
-    (g.met.E.Evaluator.derived c.args.evaluator.now s1 fits).over)
+    record {
+      over =
+          subst (λ (t : Table). AreOver c.args.program.now.sig.hierarchy t) (sym c.sorts.ensures.value)
+          (subst (λ (z : SignatureOf). AreOver z.hierarchy (g.E.Evaluator.table c.args.evaluator.now)) (sig_of c.args.program.now m c.args.store.now c.args.known.now.items c.requires.working)
+          (g.met.E.Evaluator.derived c.args.evaluator.now s1 fits).over);
+    }
 
 pub solve_under-requires-clause-fits : goal.solve_under-requires-clause-fits
 solve_under-requires-clause-fits g c = g.met.E.Evaluator.grows c.args.evaluator.now c.args.store.now c.complete_known.new.store c.complete_known.ensures.extends c.requires.working.fits
