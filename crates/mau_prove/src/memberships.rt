@@ -354,7 +354,15 @@ fn reason_for<E: Evaluator, L: WholeLister + Drop>(
             return Ok(Reason::Declared);
         }
         match by_membership_at::<E, L>(
-            alloc, store, program, evaluator, known, term, sort, at as usize, limit,
+            alloc,
+            store,
+            program,
+            evaluator,
+            known,
+            term,
+            sort,
+            at as usize,
+            limit,
         ) {
             Ok(Some(shown)) => return Ok(Reason::Member(at + 1, shown)),
             Ok(None) => (),

@@ -8,9 +8,9 @@ ghost use Rattle.mau_built_ins.specs.NativeNumerals.{GivesNumerals};
 ghost use Rattle.mau_prove.specs.Proved.{CanBeWritten, Proves};
 
 use crate::certified::is_proof;
-use crate::memberships::SortOf;
 use crate::frames::Making;
 use crate::lines::{add_variables, no_lines};
+use crate::memberships::SortOf;
 use crate::recorder::Told;
 use crate::terms::{add_terms, line_of};
 use crate::told_sorts::{add_sorts, no_sort_facts};

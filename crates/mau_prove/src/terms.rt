@@ -5,8 +5,8 @@ ghost use Rattle.mau_store.specs.View.{node_of};
 ghost use Rattle.mau_program.specs.LawfulPrograms.{IsLawfulProgram};
 ghost use Rattle.mau_prove.specs.Making.{Stand};
 
-use crate::memberships::{Reason, Shown, SortOf};
 use crate::lines::{HOLE, Lines, add_hole, add_numeral, add_over, line_of_variable};
+use crate::memberships::{Reason, Shown, SortOf};
 use crate::recorder::Told;
 use mau_api::Step;
 use mau_program::Program;

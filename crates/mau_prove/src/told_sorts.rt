@@ -3,8 +3,8 @@ ghost use Rattle.std.specs.Prelude.{◌≡◌, OnOk};
 ghost use Rattle.mau_program.specs.LawfulPrograms.{IsLawfulProgram};
 ghost use Rattle.mau_prove.specs.Making.{Stand};
 
-use crate::memberships::{Reason, Shown, SortOf};
 use crate::frames::{Making, add_fact, opened};
+use crate::memberships::{Reason, Shown, SortOf};
 use crate::terms::{line_of, lines_of};
 use crate::walk::add_events;
 use mau_api::Place;

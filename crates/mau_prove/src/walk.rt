@@ -16,12 +16,7 @@ use mau_store::Store;
 use mau_terms::{NoMemory, TermId};
 
 /// What a side of a fragment leads to, and the sorts of its value, show the fragment.
-fn use_side(
-    making: &Making,
-    outer: &mut Frame,
-    fact: u64,
-    value: TermId,
-) -> Result<(), NoMemory> {
+fn use_side(making: &Making, outer: &mut Frame, fact: u64, value: TermId) -> Result<(), NoMemory> {
     outer.uses.push(fact)?;
     add_sort_facts(&making.sorted, &[value], &mut outer.uses)
 }

@@ -1,4 +1,6 @@
-use Rattle.std.proofs.Common.{◌≡◌, List, map, refl, sym, ap, ◌∙◌, subst}
+use Rattle.std.proofs.Common.{◌≡◌, false, All, List, map, refl, sym, ap, ◌∙◌, subst}
+use Rattle.mau_program.specs.declared.statements.Fragment.{Fragment}
+use Rattle.mau_prove.specs.Sorting.{is_rewriting}
 use Rattle.mau_poset.specs.Order.{kind_of}
 use Rattle.mau_terms.specs.Subst.{Variable, variables}
 use Rattle.mau_terms.specs.View.{tree_of, variable_of}
@@ -53,3 +55,11 @@ returns g c =
     let last = g.E.Evaluator.meanings c.try_all.new.evaluator in
     worked_on p.sig m after last c.args.store.now c.solutions_of.new.store c.try_all.new.store c.args.known.now.items c.try_all.new.known.items
     (asked_apart p m after c.args.store.now c.solutions_of.new.store c.args.known.now.items c.requires.working c.solutions_of.ensures.meanings c.solutions_of.ensures.fits c.solutions_of.ensures.extends) c.try_all.ensures
+
+pub try_all-requires-clause-condition : goal.try_all-requires-clause-condition
+try_all-requires-clause-condition g c =
+    let s = c.args.program.now.sig in
+    let mb = c.args.membership.now in
+    let plain = subst (All (λ (f : Fragment). is_rewriting f ≡ false)) c.items-cond.ensures (c.has_rewriting.ensures c.if-has_rewriting.false) in
+    subst (IsAskable s (map variable_of c.deref-2.result.now)) (sym c.items-cond.ensures)
+    (membership_askable s mb c.requires.membership c.if-not-membership.false plain (map variable_of c.deref-2.result.now) (ap (map variable_of) c.deref-2.ensures.value ∙ c.in_ok-variables.ensures))
