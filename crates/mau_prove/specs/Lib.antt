@@ -9,4 +9,5 @@ pub mod Proved
 -- ---- what only inner contracts and proofs cite
 
 pub mod Making
+pub mod Sorting
 pub mod Copies

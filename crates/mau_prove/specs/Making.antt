@@ -8,8 +8,11 @@ use Rattle.mau_check.specs.Kept.{IsKeptFor, AreKept}
 use Rattle.mau_prove.specs.declared.lines.Lines.{Lines}
 
 -- what is kept is kept of some terms
+abbrev pub AreSomeKept : SignatureOf → List Node → List (Option Kept) → Type 0
+AreSomeKept s nodes ks = (terms : List (Option Tree)) × AreKept s nodes ks terms
+
 abbrev pub Stand : SignatureOf → Lines → Type 0
-Stand s l = (terms : List (Option Tree)) × AreKept s l.store l.kept.items terms
+Stand s l = AreSomeKept s l.store l.kept.items
 
 -- k is kept of a term
 abbrev pub IsOne : SignatureOf → List Node → Kept → Type 0

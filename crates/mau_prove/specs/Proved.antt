@@ -5,6 +5,7 @@ use Rattle.mau_terms.specs.Norm.{norm}
 use Rattle.mau_signature.specs.Signature.{theory_at}
 use Rattle.mau_formula.specs.Operator.{Operator}
 use Rattle.mau_program.specs.declared.program.Program.{Program}
+use Rattle.mau_facts.specs.declared.document.Document.{Document}
 use Rattle.mau_facts.specs.declared.document.Section.{Section}
 use Rattle.mau_facts.specs.Fields.{IsField}
 use Rattle.mau_facts.specs.Lines.{Line, section_lines, HasForms}
@@ -28,3 +29,7 @@ pub record Proves (p : Program) (hooks : List Operator) (pairs : List (List ℕ 
   pub last : said_last p x ≡ Some (leads by_equations from to)
   pub begins : norm (theory_at p.sig) from ≡ t
   pub ends : norm (theory_at p.sig) to ≡ u
+
+-- a document of the first format, with the text of a session and these sections
+abbrev pub document_of : List ℕ → List Section → Document
+document_of text sections = record { version = 1; text = text; sections = sections }

@@ -2,6 +2,7 @@
 ghost use Rattle.std.specs.Prelude.{◌≡◌};
 
 use crate::lines::Lines;
+use crate::told_sorts::SortFacts;
 use mau_api::Place;
 use mau_facts::Fact;
 use mau_terms::{NoMemory, Seq};
@@ -37,13 +38,14 @@ pub fn opened(alloc: Global, place: Place, at: u64) -> Frame {
     }
 }
 
-/// A section while it is made: its lines, its facts, and for each line the fact that its term is equal to itself, or 0.
+/// A section while it is made: its lines, its facts, for each line the fact that its term is equal to itself, or 0, and the facts that tell sorts.
 #[derive(Drop)]
 pub struct Making {
     pub alloc: Global,
     pub lines: Lines,
     pub facts: Vec<Fact>,
     pub same: Vec<u64>,
+    pub sorted: SortFacts,
 }
 
 /// Adds a fact. Gives its number.

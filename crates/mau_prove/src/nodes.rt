@@ -16,14 +16,14 @@ use std::alloc::Global;
 
 /// A node of which the arguments are copied.
 #[derive(Drop)]
-enum Owned {
+pub enum Owned {
     Num(u128),
     Var(VarId),
     App(OpId, Vec<TermId>),
 }
 
 /// A node.
-fn copy_of(store: &Store, id: TermId) -> Result<Owned, NoMemory>
+pub fn copy_of(store: &Store, id: TermId) -> Result<Owned, NoMemory>
     requires { IsOf store.now id.0 }
 {
     match store.view(id) {

@@ -10,8 +10,10 @@ ghost use Rattle.mau_prove.specs.Proved.{CanBeWritten, Proves};
 use crate::certified::is_proof;
 use crate::frames::Making;
 use crate::lines::{add_variables, no_lines};
+use crate::memberships::SortOf;
 use crate::recorder::Told;
 use crate::terms::{add_terms, line_of};
+use crate::told_sorts::{add_sorts, no_sort_facts};
 use crate::walk::add_facts;
 use mau_facts::{Section, can_be_written};
 use mau_formula::HookTable;
@@ -20,12 +22,13 @@ use mau_store::Store;
 use mau_terms::{NoMemory, Seq, TermId, Text, Vars};
 use std::alloc::Global;
 
-/// What was told of a run from one term of a store to another, with the variables of these terms.
+/// What was told of a run from one term of a store to another, with the variables of these terms, and why values have their sorts.
 #[derive(Clone, Copy)]
 pub struct Run<'a> {
     pub store: &'a Store,
     pub vars: &'a Vars,
     pub events: &'a [Told],
+    pub sorts: &'a [SortOf],
     pub start: TermId,
     pub end: TermId,
 }
@@ -37,14 +40,16 @@ fn make(alloc: Global, program: &Program, run: Run<'_>) -> Result<Making, NoMemo
     let mut lines = no_lines(alloc);
     add_variables(&mut lines, program, run.vars)?;
     let memo = add_terms(
-        &mut lines, program, run.store, run.events, run.start, run.end,
+        &mut lines, program, run.store, run.events, run.sorts, run.start, run.end,
     )?;
     let mut making = Making {
         alloc,
         lines,
         facts: Vec::new(alloc),
         same: Vec::new(alloc),
+        sorted: no_sort_facts(alloc),
     };
+    add_sorts(&mut making, program, run.store, &memo, run.sorts)?;
     let (first, last) = (line_of(&memo, run.start), line_of(&memo, run.end));
     add_facts(
         &mut making,

@@ -4,8 +4,9 @@ ghost use Rattle.mau_program.specs.LawfulPrograms.{IsLawfulProgram};
 ghost use Rattle.mau_prove.specs.Making.{Stand};
 
 use crate::contexts::add_context;
-use crate::frames::{Frame, Making, add_fact, copied};
+use crate::frames::{Frame, Making, add_fact};
 use crate::terms::{line_of, lines_of};
+use crate::told_sorts::add_sort_facts;
 use mau_api::{Statement, Step};
 use mau_facts::{BuiltFact, Fact, StepFact};
 use mau_program::Program;
@@ -28,7 +29,8 @@ fn arguments(
     }
 }
 
-/// The fact of a use of a statement, with the lines of its context and of what it leads to.
+/// The fact of a use of a statement, with the lines of its context and of what it leads to. It uses what shows the condition, and the sorts of
+/// its values.
 fn use_of(
     making: &Making,
     frame: &Frame,
@@ -40,7 +42,8 @@ fn use_of(
     to: u64,
 ) -> Result<Fact, NoMemory> {
     let bind = lines_of(&making.lines, memo, step.values.items())?;
-    let uses = copied(making.alloc, &frame.uses)?;
+    let mut uses: Vec<u64> = frame.uses.iter().copied().collect(making.alloc)?;
+    add_sort_facts(&making.sorted, step.values.items(), &mut uses)?;
     Ok(Fact::Step(StepFact {
         rule,
         number,
@@ -48,7 +51,7 @@ fn use_of(
         from: frame.at,
         to,
         bind: Seq::new(bind),
-        uses,
+        uses: Seq::new(uses),
     }))
 }
 

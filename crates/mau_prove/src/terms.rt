@@ -6,6 +6,7 @@ ghost use Rattle.mau_program.specs.LawfulPrograms.{IsLawfulProgram};
 ghost use Rattle.mau_prove.specs.Making.{Stand};
 
 use crate::lines::{HOLE, Lines, add_hole, add_numeral, add_over, line_of_variable};
+use crate::memberships::{Reason, Shown, SortOf};
 use crate::recorder::Told;
 use mau_api::Step;
 use mau_program::Program;
@@ -52,6 +53,27 @@ fn mark_told(marks: &mut Vec<bool>, events: &[Told])
     }
 }
 
+/// Marks the terms that show a condition, with the values of variables.
+fn mark_shown(marks: &mut Vec<bool>, shown: &Shown)
+    ensures { length marks.new.items ≡ length marks.old.items }
+{
+    mark_all(marks, shown.values.items());
+    mark_told(marks, shown.told.events());
+}
+
+/// Marks the terms of sorts, and those that show these.
+fn mark_sorts(marks: &mut Vec<bool>, sorts: &[SortOf])
+    ensures { length marks.new.items ≡ length marks.old.items }
+{
+    for derived in sorts {
+        mark(marks, derived.term);
+        match &derived.reason {
+            Reason::Declared => (),
+            Reason::Member(_, shown) => mark_shown(marks, shown),
+        }
+    }
+}
+
 /// Marks the arguments of a term that is marked.
 fn mark_arguments(marks: &mut Vec<bool>, store: &Store, id: TermId)
     requires there { IsOf store.now id.0 }
@@ -63,10 +85,11 @@ fn mark_arguments(marks: &mut Vec<bool>, store: &Store, id: TermId)
     }
 }
 
-/// Which terms of a store are named by what was told, or are below such a term.
+/// Which terms of a store are named by what was told or by what shows sorts, or are below such a term.
 fn needed(
     store: &Store,
     events: &[Told],
+    sorts: &[SortOf],
     start: TermId,
     end: TermId,
 ) -> Result<Vec<bool>, NoMemory> {
@@ -77,6 +100,7 @@ fn needed(
     mark(&mut marks, start);
     mark(&mut marks, end);
     mark_told(&mut marks, events);
+    mark_sorts(&mut marks, sorts);
     for i in 0..store.len() {
         let place = store.len() - 1 - i;
         if place < marks.len() && marks[place] {
@@ -179,12 +203,13 @@ fn add_marked(
     Ok(memo)
 }
 
-/// Adds the terms that were told, and what is below them. Gives the line of each, and 0 for all others.
+/// Adds the terms that were told or that show sorts, and what is below them. Gives the line of each, and 0 for all others.
 pub fn add_terms(
     lines: &mut Lines,
     program: &Program,
     store: &Store,
     events: &[Told],
+    sorts: &[SortOf],
     start: TermId,
     end: TermId,
 ) -> Result<Vec<u64>, NoMemory>
@@ -192,6 +217,6 @@ pub fn add_terms(
     requires stand { Stand program.now.sig lines.old }
     ensures { OnOk result (Stand program.now.sig lines.new) }
 {
-    let marks = needed(store, events, start, end)?;
+    let marks = needed(store, events, sorts, start, end)?;
     add_marked(lines, program, store, &marks)
 }

@@ -8,14 +8,27 @@ use crate::recorder::Told;
 use crate::rounds::end_round;
 use crate::steps::add_step;
 use crate::terms::line_of;
+use crate::told_sorts::add_sort_facts;
 use mau_api::Place;
 use mau_facts::Fact;
 use mau_program::Program;
 use mau_store::Store;
-use mau_terms::NoMemory;
+use mau_terms::{NoMemory, TermId};
+
+/// What a side of a fragment leads to, and the sorts of its value, show the fragment.
+fn use_side(making: &Making, outer: &mut Frame, fact: u64, value: TermId) -> Result<(), NoMemory> {
+    outer.uses.push(fact)?;
+    add_sort_facts(&making.sorted, &[value], &mut outer.uses)
+}
 
 /// What a frame leads to becomes a part of the one around it: its whole, an argument, or a side of a fragment. The value has the line `to`.
-fn leave(making: &mut Making, outer: &mut Frame, inner: &Frame, to: u64) -> Result<(), NoMemory>
+fn leave(
+    making: &mut Making,
+    outer: &mut Frame,
+    inner: &Frame,
+    value: TermId,
+    to: u64,
+) -> Result<(), NoMemory>
     ensures { making.new.lines ≡ making.old.lines }
 {
     let fact = joined(making, inner)?;
@@ -25,10 +38,10 @@ fn leave(making: &mut Making, outer: &mut Frame, inner: &Frame, to: u64) -> Resu
             outer.at = to;
         }
         (Place::Argument(index), Some(fact)) => outer.moved.push(Moved { index, fact, to })?,
-        (Place::Fragment(_, _), Some(fact)) => outer.uses.push(fact)?,
+        (Place::Fragment(_, _), Some(fact)) => use_side(making, outer, fact, value)?,
         (Place::Fragment(_, _), None) => {
             let fact = same_fact(making, inner.at)?;
-            outer.uses.push(fact)?;
+            use_side(making, outer, fact, value)?;
         }
         (_, None) => (),
     }
@@ -65,7 +78,7 @@ fn go_on(
         Told::Left(value) => {
             end_round(making, program, &mut top)?;
             let mut outer = frames.pop().ok_or(NoMemory)?;
-            leave(making, &mut outer, &top, line_of(memo, *value))?;
+            leave(making, &mut outer, &top, *value, line_of(memo, *value))?;
             frames.push(outer)?;
             Ok(())
         }
@@ -78,13 +91,13 @@ fn go_on(
     }
 }
 
-/// The frame of the whole run, behind all events.
-fn walk(
+/// A frame behind events that were told in it.
+pub fn add_events(
     making: &mut Making,
     program: &Program,
     store: &Store,
     memo: &[u64],
-    start: u64,
+    frame: Frame,
     events: &[Told],
 ) -> Result<Frame, NoMemory>
     requires lawful { IsLawfulProgram program.now }
@@ -92,7 +105,7 @@ fn walk(
     ensures { OnOk result (Stand program.now.sig making.new.lines) }
 {
     let mut frames = Vec::new(making.alloc);
-    frames.push(opened(making.alloc, Place::Whole, start))?;
+    frames.push(frame)?;
     for event in events {
         let top = frames.pop().ok_or(NoMemory)?;
         go_on(making, program, store, memo, &mut frames, top, event)?;
@@ -114,7 +127,8 @@ pub fn add_facts(
     requires stand { Stand program.now.sig making.old.lines }
     ensures { OnOk result (Stand program.now.sig making.new.lines) }
 {
-    let mut frame = walk(making, program, store, memo, start, events)?;
+    let frame = opened(making.alloc, Place::Whole, start);
+    let mut frame = add_events(making, program, store, memo, frame, events)?;
     end_round(making, program, &mut frame)?;
     if frame.facts.is_empty() {
         add_fact(making, Fact::Same(start, end, None))?;
