@@ -1,3 +1,0 @@
--- Lemmas.
--- programs whose rules may be run
-pub mod Runnable
