@@ -14,9 +14,6 @@ pub mod Limits
 pub mod Throughs
 -- a search in a store that has grown
 pub mod Searching
--- which solutions of a left side have the sorts of its variables, and what is known of one that is listed
-pub mod PlainTrying
-pub mod PlainValues
 -- the next solution of a rule's left side, as a listing gives it
 pub mod Listings
 -- tables of an evaluator

@@ -1,7 +1,5 @@
 -- The results of leaves, one after another.
 
--- programs in which uses are searched for
-pub mod Plain
 -- what is left of answers, as steps are taken
 pub mod Steps
 -- the uses of rules at a term, and what is left of them
