@@ -42,3 +42,9 @@ pub mod TopSteps
 pub mod Follows
 -- a variable that no pattern of a rule has is not determined
 pub mod NotDetermined
+-- the bodies of a call, definition after definition
+pub mod Bodies
+-- the bodies of a call as a run has them
+pub mod Calling
+-- the cursors of who gives the results of leaves, as there are more terms
+pub mod Cursors

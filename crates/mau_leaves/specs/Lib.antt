@@ -20,3 +20,11 @@ pub mod Top
 pub mod Follows
 -- the variables that a fragment of a condition matches
 pub mod Matched
+-- strategies of a program, as evaluation sees them
+pub mod Meanings
+-- searches for the bodies of a call without arguments
+pub mod Calls
+-- who gives the results of leaves: what cursors have yielded
+pub mod Cursors
+-- so it is as runs need it
+pub mod CursorLaws

@@ -1,6 +1,8 @@
 //! The results of leaves of strategies, one after another, by any evaluator and any listing with contexts.
 #![tactic(auto)]
 
+mod bodies;
+mod cursor;
 mod determined;
 pub mod laws;
 mod place;
@@ -9,6 +11,8 @@ mod turn;
 mod uses;
 mod value;
 
+pub use bodies::CallBodies;
+pub use cursor::{CallCursor, LeafCursor, RunLeaves};
 pub use place::{PlaceUses, next_at, start_place};
 pub use top::{TopResults, next_top, start_top};
 pub use uses::{RuleUses, Standing, next_use, start_uses};

@@ -43,7 +43,7 @@ pub struct RuleUses<L> {
 }
 
 /// The next solution of a condition behind one, or the first, asked with the whole budget of an item.
-fn ask<E: Evaluator>(
+pub(crate) fn ask<E: Evaluator>(
     program: &Program,
     store: &mut Store,
     evaluator: &mut E,
@@ -80,7 +80,7 @@ fn ask<E: Evaluator>(
 }
 
 /// The solution of the condition behind which a search stands.
-fn last_of(standing: &Standing) -> Option<&[(VarId, TermId)]>
+pub(crate) fn last_of(standing: &Standing) -> Option<&[(VarId, TermId)]>
     ensures { option_map (λ x. x.now) result ≡ found_in standing.now }
 {
     match standing {
