@@ -1,15 +1,12 @@
 -- Who gives the results of leaves is as runs need it, and cursors have yielded the same as there are more terms.
-use Rattle.std.proofs.Common.{◌≡◌, ℕ, ◌≤◌, List, [], ◌∷◌, ◌++◌, map, length, Bool, Option, Some, None, IfSome, Result, Ok, Err, IfOk, inl, refl, sym, ap, ◌∙◌, subst, arith, length-append}
+use Rattle.std.proofs.Common.{◌≡◌, ℕ, ◌≤◌, List, [], ◌∷◌, ◌++◌, map, length, slice_get, suc, Bool, Option, Some, None, IfSome, Result, Ok, Err, IfOk, inl, refl, sym, ap, ◌∙◌, subst, arith, length-append}
 use Rattle.std.proofs.lemmas.List.{map-append}
 use Rattle.mau_terms.specs.Tree.{Tree}
-use Rattle.mau_terms.specs.Bare.{IsBare}
-use Rattle.mau_terms.specs.Reading.{reading}
 use Rattle.mau_terms.specs.declared.ids.TermId.{TermId}
-use Rattle.mau_signature.specs.Signature.{SignatureOf, theory_at, terms_over}
+use Rattle.mau_signature.specs.Signature.{SignatureOf}
 use Rattle.mau_store.specs.Node.{Node, Extends}
 use Rattle.mau_store.specs.Trees.{tree_at}
 use Rattle.mau_store.proofs.Growth.{extension_keeps_terms, extension_is_preorder}
-use Rattle.mau_canon.proofs.Standing.{stands_within_extended}
 use Rattle.mau_sorts.specs.Table.{Table, KeepsEntries, AreOver}
 use Rattle.mau_listing.specs.Asked.{Asked}
 use Rattle.mau_listing.specs.declared.solution.Solution as Listed
@@ -17,7 +14,7 @@ use Rattle.mau_program.specs.declared.program.Program as Typed
 use Rattle.mau_program.specs.Trees as Written
 use Rattle.mau_evaluation.specs.Engine.{engine_of}
 use Rattle.mau_evaluation.specs.Configs.{Todo}
-use Rattle.mau_evaluation.specs.OrderedLists.{results}
+use Rattle.mau_evaluation.specs.OrderedLists.{IsLeaf, results}
 use Rattle.mau_cond.proofs.Grown.{value_grown}
 use Rattle.mau_api.specs.Terms.{IsTerm}
 use Rattle.mau_api.specs.Programs.{program_over}
@@ -25,7 +22,6 @@ use Rattle.mau_api.specs.Meanings.{Meanings}
 use Rattle.mau_api.specs.Answers.{AreSettled}
 use Rattle.mau_api.specs.declared.results.EvalEnd.{EvalEnd}
 use Rattle.mau_api.specs.declared.results.EvalEnd.TheVariants as Ended
-use Rattle.mau_reduce.proofs.PlainTables.{settled_grown}
 use Rattle.mau_rules.specs.Runnable.{IsRunnable}
 use Rattle.mau_strat.specs.declared.forms.LeafId.{LeafId}
 use Rattle.mau_stratrun.specs.declared.leaves.Yielded.{Yielded}
@@ -38,12 +34,18 @@ use Rattle.mau_stratrun.proofs.Yielding.{leaves_yield}
 use Rattle.mau_leaves.specs.Uses.{is_chosen}
 use Rattle.mau_leaves.specs.Top.{left_of_top, IsTop}
 use Rattle.mau_leaves.specs.Follows.{IsLeafDue, IsNextGiven, IsTopOf}
-use Rattle.mau_leaves.specs.Cursors.{fixed_of, leaf_end, yielded_by, chosen_by, IsTopCursor, yields_in, world_of, world_of_calls}
+use Rattle.mau_evaluation.specs.Strategy.{idle}
+use Rattle.mau_leaves.specs.Meanings.{meaning_of}
+use Rattle.mau_leaves.specs.Cursors.{leaf_at, fixed_of, leaf_end, yielded_by, chosen_by, IsTopCursor, IsTestCursor, yields_in, world_of, world_of_calls}
 use Rattle.mau_leaves.specs.declared.cursor.CallCursor.{CallCursor}
 use Rattle.mau_leaves.specs.declared.top.TopResults.{TopResults}
 use Rattle.mau_leaves.specs.declared.cursor.LeafCursor.{LeafCursor}
-use Rattle.mau_leaves.specs.declared.cursor.LeafCursor.TheVariants.{Top, Bodies, Unsearched}
+use Rattle.mau_leaves.specs.declared.cursor.LeafCursor.TheVariants.{Top, Bodies, Test, Unsearched}
+use Rattle.mau_leaves.specs.declared.testing.TestCursor.{TestCursor}
+use Rattle.mau_leaves.specs.Tests.{left_of_test, IsTest}
+use Rattle.mau_leaves.proofs.Searching.{term_grown, settled_later}
 use Rattle.mau_leaves.proofs.TopSteps.{top_grown, still_top}
+use Rattle.mau_leaves.proofs.Testing.{test_grown, still_test}
 use Rattle.mau_leaves.proofs.Follows.{passes}
 use Rattle.mau_leaves.proofs.Calling.{call_cursor_grown}
 
@@ -54,16 +56,6 @@ module _ {K : Type 0} (asked : K → Asked) (given : K → Option Listed.Solutio
   -- ---- further terms
 
   module _ (run : IsRunnable p) (old new : List Node) (before after : Table) (extends : Extends old new) (kept : KeepsEntries before after) (over : AreOver p.sig.hierarchy after) where
-    term_grown : (n : ℕ) → IsTerm p.sig old n × AreSettled p.sig old before (tree_at old n) → IsTerm p.sig new n × AreSettled p.sig new after (tree_at new n)
-    term_grown n (is, settled) =
-        let same : tree_at new n ≡ tree_at old n = (extension_keeps_terms old new extends n is.within.there).tree in (
-          record {
-            within = stands_within_extended (theory_at p.sig) old new extends n is.within;
-            bare = subst (λ (t : Tree). IsBare (terms_over p.sig) (reading (theory_at p.sig) t)) (sym same) is.bare;
-          },
-          subst (AreSettled p.sig new after) (sym same) (settled_grown p.sig old new before after (tree_at old n) extends kept settled),
-        )
-
     top_cursor_grown : (label : Option LeafId) (s : TopResults K) (d : Todo) (t : Tree) (ys : List Yield) → IsTopCursor asked given is_for c p m leaves old before label s d t ys → IsTopCursor asked given is_for c p m leaves new after label s d t ys
     top_cursor_grown label s d t ys h = record {
       results = h.results;
@@ -75,9 +67,21 @@ module _ {K : Type 0} (asked : K → Asked) (given : K → Option Listed.Solutio
           h.rest (still_top asked given is_for c p run m old before s h.top new after extends kept over (is_chosen (chosen_by leaves label)));
     }
 
+    test_cursor_grown : (s : TestCursor K) (d : Todo) (t : Tree) (ys : List Yield) → IsTestCursor asked given is_for c p m old before s d t ys → IsTestCursor asked given is_for c p m new after s d t ys
+    test_cursor_grown s d t ys h = record {
+      results = h.results;
+      yielded = h.yielded;
+      form = h.form;
+      test = test_grown asked given is_for c p m old new before after extends kept over s h.test;
+      rest =
+          passes (engine_of (program_over p m.hooks)) (λ L. results (program_over p m.hooks) L d t) h.results (left_of_test asked given p m.hooks old s) (left_of_test asked given p m.hooks new s) h.rest
+          (still_test asked given is_for c p m old new before after extends kept over s h.test);
+    }
+
     cursor_grown : (k : LeafCursor K) (d : Todo) (t : Tree) (ys : List Yield) → yields_in asked given is_for c p m leaves old before k d t ys → yields_in asked given is_for c p m leaves new after k d t ys
     cursor_grown (Top label s) d t ys h = top_cursor_grown label s d t ys h
     cursor_grown (Bodies s) d t ys h = call_cursor_grown p m leaves old new before after extends kept s d t ys h
+    cursor_grown (Test s) d t ys h = test_cursor_grown s d t ys h
     cursor_grown Unsearched d t ys h = h
 
     pub world_grown : LeavesGrow (world_of asked given is_for c p m leaves old before) (world_of asked given is_for c p m leaves new after)
@@ -85,7 +89,7 @@ module _ {K : Type 0} (asked : K → Asked) (given : K → Option Listed.Solutio
       fixed = refl;
       terms = longer old new extends;
       trees = λ j i. (extension_keeps_terms old new extends j i).tree;
-      is_term = term_grown;
+      is_term = λ n h. (term_grown p old new before after extends kept n h.0, settled_later p old new before after extends kept n h.0 h.1);
       is_bound = λ b h. value_grown p.sig old new before after extends kept (b.variable, b.value) h;
       yields = cursor_grown;
     }
@@ -124,6 +128,18 @@ module _ {K : Type 0} (asked : K → Asked) (given : K → Option Listed.Solutio
     top_yields s form top (Ok None) term settled n = subst (YieldsAll f d t) (sym yielded) ((leaves_yield f d t us).1 n)
     top_yields s form top (Err e) term settled n = (record { results = us; yielded = yielded; form = form; top = top; rest = n.0 }, cause e n.1)
 
+    -- the same of a test
+    pub test_yields : (s : TestCursor K) → IsLeaf d.form → IsTest asked given is_for c p m nodes table s → (r : Result (Option TermId) EvalEnd) → IfOk r (λ o. IfSome o (λ id. id ≡ s.term)) →
+        IsNextGiven (program_over p m.hooks) m.limit (fixed_of p m leaves).definitions d t us (left_of_test asked given p m.hooks nodes s) nodes r →
+        IsNextYield (world_of asked given is_for c p m leaves nodes table) (Test s) d t ys (yielded_by r)
+    test_yields s form test (Ok (Some id)) itself n = (
+      record { results = us ++ tree_at nodes id.0 ∷ []; yielded = more_yielded (tree_at nodes id.0); form = form; test = test; rest = n.0 },
+      subst (YieldsFirst f d t) (sym (more_yielded (tree_at nodes id.0))) ((leaves_yield f d t (us ++ tree_at nodes id.0 ∷ [])).0 n.1),
+      subst (λ (i : TermId). IsTerm p.sig nodes i.0 × AreSettled p.sig nodes table (tree_at nodes i.0)) (sym itself) (test.term, test.settled),
+    )
+    test_yields s form test (Ok None) itself n = subst (YieldsAll f d t) (sym yielded) ((leaves_yield f d t us).1 n)
+    test_yields s form test (Err e) itself n = (record { results = us; yielded = yielded; form = form; test = test; rest = n.0 }, cause e n.1)
+
   -- ---- the next body of a call
 
   pub call_yields : (nodes : List Node) (table : Table) (s : CallCursor) (d : Todo) (t : Tree) (ys : List Yield) (r : Result (Option Yielded) LeafEnd) → IsNextYield (world_of_calls p m leaves nodes table) s d t ys r →
@@ -132,3 +148,10 @@ module _ {K : Type 0} (asked : K → Asked) (given : K → Option Listed.Solutio
   call_yields nodes table s d t ys (Ok (Some (BodyOf b))) h = h
   call_yields nodes table s d t ys (Ok None) h = h
   call_yields nodes table s d t ys (Err e) h = h
+
+-- ---- leaves by their forms
+
+pub leaf_there : (leaves : List Written.StrategyOf) (i : ℕ) (s : Written.StrategyOf) → slice_get leaves i ≡ Some s → leaf_at leaves i ≡ meaning_of s
+leaf_there [] i s e = cc
+leaf_there (x ∷ leaves) 0 s e = ap (λ (z : Option Written.StrategyOf). elim z [ None ↦ idle | Some y ↦ meaning_of y ]) e
+leaf_there (x ∷ leaves) (suc i) s e = leaf_there leaves i s e

@@ -46,5 +46,7 @@ pub mod NotDetermined
 pub mod Bodies
 -- the bodies of a call as a run has them
 pub mod Calling
+-- tests
+pub mod Testing
 -- the cursors of who gives the results of leaves, as there are more terms
 pub mod Cursors

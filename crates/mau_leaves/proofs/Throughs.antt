@@ -31,7 +31,7 @@ due_by P b now q Overflow h n = record { question = q; ends = h; needs = n }
 due_by P b now q NoMemory h n = tt
 
 module _ (P : Program) (lawful : IsLawful P.sign) where
-  rightly : (k B b : ℕ) → AsksRightly P (engine_of P k B b)
+  pub rightly : (k B b : ℕ) → AsksRightly P (engine_of P k B b)
   rightly k B b = let h = askings_are_right P lawful k B b in record { first = h.0; next = h.1 }
 
   -- ---- the next solution of a condition

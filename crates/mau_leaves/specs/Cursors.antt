@@ -2,6 +2,7 @@
 use Rattle.std.specs.Prelude.{◌≡◌, ℕ, suc, ◌<◌, List, [], map, length, slice_get, All, Bool, true, false, Option, Some, None, IsSome, Result, Ok, Err}
 use Rattle.std.specs.List.{slice_index_or}
 use Rattle.mau_terms.specs.Tree.{Tree}
+use Rattle.mau_terms.specs.Subst.{Variable}
 use Rattle.mau_terms.specs.declared.ids.TermId.{TermId}
 use Rattle.mau_terms.specs.declared.ids.VarId.{VarId}
 use Rattle.mau_signature.specs.Signature.{SignatureOf}
@@ -12,11 +13,12 @@ use Rattle.mau_listing.specs.Asked.{Asked}
 use Rattle.mau_listing.specs.declared.solution.Solution as Listed
 use Rattle.mau_program.specs.declared.program.Program as Typed
 use Rattle.mau_program.specs.Trees as Written
-use Rattle.mau_program.specs.LawfulStrategies.{IsLawfulDefinition}
+use Rattle.mau_program.specs.LawfulStrategies.{IsLawfulStrategy, IsLawfulDefinition}
 use Rattle.mau_evaluation.specs.Strategy.{Strategy, idle, call}
 use Rattle.mau_evaluation.specs.Engine.{Engine, engine_of}
 use Rattle.mau_evaluation.specs.Answers.{Answers, no_more, answer}
 use Rattle.mau_evaluation.specs.Configs.{Todo}
+use Rattle.mau_evaluation.specs.OrderedLists.{IsLeaf as IsLeafForm}
 use Rattle.mau_api.specs.Terms.{IsTerm}
 use Rattle.mau_api.specs.Programs.{program_over}
 use Rattle.mau_api.specs.Meanings.{Meanings}
@@ -39,12 +41,14 @@ use Rattle.mau_stratrun.specs.Worlds.{World}
 use Rattle.mau_leaves.specs.Meanings.{meaning_of, definition_of}
 use Rattle.mau_leaves.specs.Uses.{is_chosen}
 use Rattle.mau_leaves.specs.Top.{left_of_top, IsTop}
+use Rattle.mau_leaves.specs.Tests.{left_of_test, IsTest}
 use Rattle.mau_leaves.specs.Searches.{found_in}
 use Rattle.mau_leaves.specs.Calls.{left_of_call, body_found, IsCallSearch}
 use Rattle.mau_leaves.specs.Follows.{HasGiven, HasGivenBodies, IsTopOf}
 use Rattle.mau_leaves.specs.declared.top.TopResults.{TopResults}
 use Rattle.mau_leaves.specs.declared.cursor.LeafCursor.{LeafCursor}
-use Rattle.mau_leaves.specs.declared.cursor.LeafCursor.TheVariants.{Top, Bodies, Unsearched}
+use Rattle.mau_leaves.specs.declared.cursor.LeafCursor.TheVariants.{Top, Bodies, Test, Unsearched}
+use Rattle.mau_leaves.specs.declared.testing.TestCursor.{TestCursor}
 use Rattle.mau_leaves.specs.declared.cursor.CallCursor.{CallCursor}
 
 -- ---- leaves by numbers
@@ -94,6 +98,11 @@ fixed_of p m leaves = record {
   budget = m.limit;
 }
 
+-- a leaf is lawful where some variables have values
+pub record IsLawfulLeaf (s : SignatureOf) (leaf : Written.StrategyOf) : Type 0 where
+  pub variables : List Variable
+  pub lawful : IsLawfulStrategy s variables leaf
+
 -- no leaf has two numbers, what has a number is a leaf, and terms may be evaluated by the meanings and with the budget of an item; listings have contexts
 pub record IsReady (c : Bool) (p : Typed.Program) (m : Meanings) (leaves : List Written.StrategyOf) (budget : ℕ) (nodes : List Node) : Type 0 where
   pub contexts : c ≡ true
@@ -103,6 +112,7 @@ pub record IsReady (c : Bool) (p : Typed.Program) (m : Meanings) (leaves : List 
   pub nodes : AreNodes nodes
   pub apart : TellsApart (leaf_at leaves) (length leaves)
   pub kinds : (l : ℕ) → l < length leaves → IsLeaf (leaf_at leaves l)
+  pub lawful : All (IsLawfulLeaf p.sig) leaves
   pub definitions : All (IsLawfulDefinition p.sig) p.strategies
 
 -- an end of an evaluation as one of a leaf
@@ -180,9 +190,18 @@ module _ {K : Type 0} (asked : K → Asked) (given : K → Option Listed.Solutio
     pub top : IsTop asked given is_for c p m nodes table s
     pub rest : HasGiven (program_over p m.hooks) (engine_of (program_over p m.hooks)) d t results (left_of_top asked given p m.hooks (is_chosen (chosen_by leaves label)) nodes s)
 
+  -- the result of a test
+  pub record IsTestCursor (s : TestCursor K) (d : Todo) (t : Tree) (ys : List Yield) : Type 0 where
+    pub results : List Tree
+    pub yielded : ys ≡ map result_of results
+    pub form : IsLeafForm d.form
+    pub test : IsTest asked given is_for c p m nodes table s
+    pub rest : HasGiven (program_over p m.hooks) (engine_of (program_over p m.hooks)) d t results (left_of_test asked given p m.hooks nodes s)
+
   abbrev pub yields_in : LeafCursor K → Todo → Tree → List Yield → Type 0
   yields_in (Top label s) d t ys = IsTopCursor label s d t ys
   yields_in (Bodies s) d t ys = IsCallCursor p m leaves nodes table s d t ys
+  yields_in (Test s) d t ys = IsTestCursor s d t ys
   yields_in Unsearched d t ys = ys ≡ []
 
   -- terms are evaluated, values have the sorts of their variables

@@ -24,6 +24,8 @@ pub mod Matched
 pub mod Meanings
 -- searches for the bodies of a call without arguments
 pub mod Calls
+-- tests: their results by the uses of a rule
+pub mod Tests
 -- who gives the results of leaves: what cursors have yielded
 pub mod Cursors
 -- so it is as runs need it

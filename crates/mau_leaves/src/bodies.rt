@@ -27,7 +27,7 @@ pub struct CallBodies {
 }
 
 /// Whether a condition has a rewriting fragment.
-fn has_reach(cond: &[Fragment]) -> bool
+pub(crate) fn has_reach(cond: &[Fragment]) -> bool
     ensures { result ≡ Defined.has_reach (map fragment_of cond.now) }
 {
     for fragment in cond {

@@ -1,19 +1,24 @@
 //! Who gives the results of leaves and the bodies of calls, by any evaluator and any listing with contexts.
-ghost use Rattle.std.specs.Prelude.{◌≡◌, ℕ, List, map, All, true, IsSome, IfOk};
+ghost use Rattle.std.specs.Prelude.{◌≡◌, ℕ, List, [], map, All, true, false, IsSome, IfOk};
 ghost use Rattle.std.specs.Option.{option_map};
 ghost use Rattle.mau_terms.specs.Tree.{Tree};
 ghost use Rattle.mau_store.specs.Node.{Extends};
+ghost use Rattle.mau_store.specs.Trees.{tree_at};
+ghost use Rattle.mau_api.specs.Terms.{IsTerm};
+ghost use Rattle.mau_api.specs.Answers.{AreSettled};
 ghost use Rattle.mau_sorts.specs.Table.{KeepsEntries};
 ghost use Rattle.mau_program.specs.LawfulStrategies.{IsLawfulDefinition};
 ghost use Rattle.mau_evaluation.specs.Configs.{Todo};
 ghost use Rattle.mau_stratrun.specs.Yields.{Yield};
-ghost use Rattle.mau_stratrun.specs.Worlds.{IsNextYield};
+ghost use Rattle.mau_stratrun.specs.Worlds.{values_of, IsNextYield};
 ghost use Rattle.mau_rules.specs.Runnable.{IsRunnable, GoesBy};
 ghost use Rattle.mau_leaves.specs.Searches.{found_in};
-ghost use Rattle.mau_leaves.specs.Cursors.{label_in, chosen_by, call_in, leaf_end, yielded_by, bound_by, IsTopCursor, IsCallCursor, IsGivenBody, yields_in, world_of, world_of_calls};
+ghost use Rattle.mau_leaves.specs.Cursors.{leaf_at, label_in, chosen_by, call_in, IsLawfulLeaf, leaf_end, yielded_by, bound_by, IsTopCursor, IsTestCursor, IsCallCursor, IsGivenBody, yields_in, world_of, world_of_calls};
+ghost use Rattle.mau_leaves.specs.declared.uses.Standing.TheVariants.{Behind};
 ghost use Rattle.mau_leaves.specs.declared.cursor.LeafCursor.TheVariants as At;
 
 use crate::bodies::{CallBodies, next_body};
+use crate::testing::{TestCursor, next_test, start_test};
 use crate::top::{TopResults, next_top, start_top};
 use crate::uses::{Standing, last_of};
 use mau_api::{EvalEnd, Evaluator, Lister, Program, Strategy, StrategyForm};
@@ -41,6 +46,8 @@ pub enum LeafCursor<L> {
     Top(Option<LeafId>, TopResults<L>),
     /// A call without arguments.
     Bodies(CallCursor),
+    /// A test.
+    Test(TestCursor<L>),
     /// Nothing is searched for yet: who asks is told that memory is wanting.
     Unsearched,
 }
@@ -156,6 +163,36 @@ fn next_of_top<E: Evaluator, L: Lister + Drop>(
     yielded(found)
 }
 
+/// The result of a test.
+fn next_of_test<E: Evaluator, L: Lister + Drop>(
+    program: &Program,
+    leaves: &[Strategy],
+    store: &mut Store,
+    evaluator: &mut E,
+    test: &mut TestCursor<L>,
+    limit: u64,
+) -> Result<Option<Yielded>, LeafEnd>
+    requires contexts { L.with_context ≡ true }
+    requires runnable { IsRunnable program.now }
+    requires goes_by { GoesBy program.now (E.meanings evaluator.old) }
+    requires fits { E.fits evaluator.old store.old }
+    requires limit { limit ≡ (E.meanings evaluator.old).limit }
+    requires yields { (d : Todo) × (t : Tree) × (ys : List Yield) × IsTestCursor L.asked L.given L.is_for L.with_context program.now
+        (E.meanings evaluator.old) leaves.now store.old (E.table evaluator.old) test.old d t ys }
+    ensures next { (d : Todo) (t : Tree) (ys : List Yield) → IsTestCursor L.asked L.given L.is_for L.with_context program.now
+        (E.meanings evaluator.old) leaves.now store.old (E.table evaluator.old) test.old d t ys →
+        IsNextYield (world_of L.asked L.given L.is_for L.with_context program.now (E.meanings evaluator.old) leaves.now
+        store.new (E.table evaluator.new)) (At.Test test.new) d t ys result }
+    ensures extends { Extends store.old store.new }
+    ensures fits { E.fits evaluator.new store.new }
+    ensures kept { KeepsEntries (E.table evaluator.old) (E.table evaluator.new) }
+    ensures meanings { E.meanings evaluator.new ≡ E.meanings evaluator.old }
+{
+    let _ = leaves;
+    let found = next_test(program, store, evaluator, test, limit);
+    yielded(found)
+}
+
 /// Variables with their values.
 fn bounds(alloc: Global, found: &[(VarId, TermId)]) -> Result<Vec<Bound>, NoMemory>
     ensures { IfOk result (λ values. values.items ≡ map bound_by found.now) }
@@ -237,6 +274,69 @@ fn next_of_call<E: Evaluator>(
     give_body(store.allocator(), cursor, calls)
 }
 
+/// The cursor of a call without arguments, which has yielded nothing.
+fn call_cursor(leaf: LeafId, calls: usize) -> CallCursor
+    ensures leaf { result.leaf ≡ leaf }
+    ensures calls { result.calls ≡ calls }
+    ensures begun { (result.bodies.number ≡ 0) × (result.bodies.standing ≡ Behind) × (result.due ≡ false) }
+{
+    CallCursor {
+        leaf,
+        calls,
+        bodies: CallBodies {
+            number: 0,
+            standing: Standing::Behind,
+        },
+        due: false,
+    }
+}
+
+/// The cursor of a leaf on a term, which has yielded nothing. Tests whose variables may have values before are not searched for yet.
+fn start_leaf<E: Evaluator, L: Lister + Drop>(
+    program: &Program,
+    leaves: &[Strategy],
+    store: &Store,
+    evaluator: &E,
+    leaf: LeafId,
+    calls: usize,
+    values: &[Bound],
+    term: TermId,
+) -> Result<LeafCursor<L>, NoMemory>
+    requires runnable { IsRunnable program.now }
+    requires goes_by { GoesBy program.now (E.meanings evaluator.now) }
+    requires fits { E.fits evaluator.now store.now }
+    requires lawful { All (IsLawfulLeaf program.now.sig) leaves.now }
+    requires term { IsTerm program.now.sig store.now term.0 }
+    requires settled { AreSettled program.now.sig store.now (E.table evaluator.now) (tree_at store.now term.0) }
+    ensures yields { IfOk result (λ k. yields_in L.asked L.given L.is_for L.with_context program.now (E.meanings evaluator.now)
+        leaves.now store.now (E.table evaluator.now) k
+        (record { form = leaf_at leaves.now leaf.0; calls = calls; values = values_of (tree_at store.now) values.now })
+        (tree_at store.now term.0) []) }
+{
+    let strategy = match leaves.get(leaf.0) {
+        Some(strategy) => strategy,
+        None => return Ok(LeafCursor::Unsearched),
+    };
+    match strategy.form() {
+        StrategyForm::Call(_, args) => {
+            if !args.items().is_empty() {
+                return Ok(LeafCursor::Unsearched);
+            }
+            Ok(LeafCursor::Bodies(call_cursor(leaf, calls)))
+        }
+        StrategyForm::Test(kind, pattern, cond) => {
+            if !values.is_empty() {
+                return Ok(LeafCursor::Unsearched);
+            }
+            match start_test(program, store, evaluator, *kind, pattern, cond, term)? {
+                Some(test) => Ok(LeafCursor::Test(test)),
+                None => Ok(LeafCursor::Unsearched),
+            }
+        }
+        _ => Ok(LeafCursor::Unsearched),
+    }
+}
+
 /// What comes behind that which a cursor has yielded.
 fn next_of<E: Evaluator, L: Lister + Drop>(
     program: &Program,
@@ -268,6 +368,7 @@ fn next_of<E: Evaluator, L: Lister + Drop>(
             program, leaves, store, evaluator, *leaf, results, limit,
         ),
         LeafCursor::Bodies(bodies) => next_of_call(program, leaves, store, evaluator, bodies, limit),
+        LeafCursor::Test(test) => next_of_test(program, leaves, store, evaluator, test, limit),
         LeafCursor::Unsearched => Err(LeafEnd::NoMemory),
     }
 }
@@ -295,18 +396,16 @@ impl<'a, E: Evaluator + Drop, L: Lister + Drop> Leaves for RunLeaves<'a, E, L> {
                 Some(_) => Ok(LeafCursor::Top(Some(leaf), start_top(term))),
                 None => Ok(LeafCursor::Unsearched),
             },
-            Lead::Leaf(leaf) => match name_of(self.leaves, leaf) {
-                Some(_) => Ok(LeafCursor::Bodies(CallCursor {
-                    leaf,
-                    calls,
-                    bodies: CallBodies {
-                        number: 0,
-                        standing: Standing::Behind,
-                    },
-                    due: false,
-                })),
-                None => Ok(LeafCursor::Unsearched),
-            },
+            Lead::Leaf(leaf) => start_leaf(
+                self.program,
+                self.leaves,
+                &self.store,
+                &self.evaluator,
+                leaf,
+                calls,
+                values,
+                term,
+            ),
             Lead::All => Ok(LeafCursor::Unsearched),
         }
     }
