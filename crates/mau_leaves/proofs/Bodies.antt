@@ -1,5 +1,5 @@
 -- The bodies of a call without arguments, definition after definition.
-use Rattle.std.proofs.Common.{◌≡◌, ℕ, suc, ◌<◌, ◌≤◌, List, [], ◌∷◌, length, map, drop, All, Bool, true, false, Option, Some, None, IfSome, slice_get, refl, sym, ap, ◌∙◌, subst, arith, length-drop}
+use Rattle.std.proofs.Common.{◌≡◌, ℕ, suc, ◌<◌, ◌≤◌, List, [], ◌∷◌, length, map, drop, All, Vec, Global, Bool, true, false, Option, Some, None, IfSome, slice_get, refl, sym, ap, ◌∙◌, subst, arith, length-drop}
 use Rattle.std.proofs.Math.Seq.{drop-cons}
 use Rattle.std.proofs.lemmas.Option.{slice_get_within, get_or_from_slice_get}
 use Rattle.std.proofs.lemmas.List.Elements.{All-nil, All-cons, All-head, All-tail}
@@ -192,6 +192,37 @@ module _ (p : Typed.Program) (hooks : List Operator) (k : ℕ) (n : List ℕ) wh
 
       pub body_due : (s : Standing) → (s ≡ Behind → ⊥) → (b : ℕ) (e : EvalEnd) → QuestionEnds Q b (question_from (last_in nodes s) (definition_of d).cond []) e → IsDueBy Q b (left_standing p hooks k n nodes i s) e
       body_due s h b e ends = subst (λ (f : Engine → Answers Todo → Type 0). IsDueBy Q b f e) (stands_at s h nodes) (due_body Q lawful k (definition_of d) (last_in nodes s) rest b e ends)
+
+-- ---- what is known of the definition that is begun
+
+pub begun_here : (p : Typed.Program) (m : Meanings) (nodes : List Node) (table : Table) (i : ℕ) (s : Standing) → (s ≡ Behind → ⊥) → IsStanding p m nodes table i s → IsBegun p m nodes table i s
+begun_here p m nodes table i Behind h is = absurd (h refl)
+begun_here p m nodes table i Before h is = is
+begun_here p m nodes table i (Within found) h is = is
+
+pub begun_within : (p : Typed.Program) (m : Meanings) (nodes : List Node) (table : Table) (i : ℕ) (s : Standing) → (s ≡ Behind → ⊥) → IsStanding p m nodes table i s → i < length p.strategies
+begun_within p m nodes table i s h is = let d = begun_here p m nodes table i s h is in slice_get_within p.strategies i d.definition d.at
+
+module _ (p : Typed.Program) (m : Meanings) (nodes : List Node) (table : Table) (i : ℕ) (s : Standing) (h : s ≡ Behind → ⊥) (is : IsStanding p m nodes table i s) (d : Written.StratDef) (at : slice_get p.strategies i ≡ Some d) where
+  here : IsBegun p m nodes table i s
+  here = begun_here p m nodes table i s h is
+
+  same : here.definition ≡ d
+  same = one (sym here.at ∙ at)
+    where
+      one : Some here.definition ≡ Some d → here.definition ≡ d
+      one e = cc
+
+  pub condition_here : IsAskable p.sig [] d.cond
+  condition_here = subst (λ (x : Written.StratDef). IsAskable p.sig [] x.cond) same here.condition
+
+  pub shown_here : IfSome (found_in s) (IsShownFor m p.sig d nodes table)
+  shown_here = subst (λ (x : Written.StratDef). IfSome (found_in s) (IsShownFor m p.sig x nodes table)) same here.shown
+
+-- a solution of its condition that was found
+pub stands_within : (p : Typed.Program) (m : Meanings) (nodes : List Node) (table : Table) (i : ℕ) (d : Written.StratDef) → slice_get p.strategies i ≡ Some d → IsAskable p.sig [] d.cond → (found : Vec (VarId × TermId) Global) →
+    All (IsValueOf p.sig nodes table) found.items → IsSolutionOf m (map fragment_of d.cond) [] (binding_in nodes found.items) → IsStanding p m nodes table i (Within found)
+stands_within p m nodes table i d at condition found values solution = record { definition = d; at = at; condition = condition; shown = record { values = values; solution = solution } }
 
 -- ---- in a store that has grown
 

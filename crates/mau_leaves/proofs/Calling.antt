@@ -1,5 +1,5 @@
 -- The bodies of a call, one after another, as a run has them.
-use Rattle.std.proofs.Common.{◌≡◌, ℕ, suc, ◌<◌, List, [], ◌∷◌, ◌++◌, length, map, drop, All, Bool, true, false, Option, Some, None, IsSome, Result, Ok, Err, slice_get, inr, refl, sym, ap, ◌∙◌, subst, arith}
+use Rattle.std.proofs.Common.{◌≡◌, ℕ, zero, suc, ◌<◌, List, [], ◌∷◌, ◌++◌, length, map, drop, All, Bool, true, false, Option, Some, None, IsSome, Result, Ok, Err, slice_get, inr, refl, sym, ap, ◌∙◌, subst, arith}
 use Rattle.std.proofs.lemmas.List.{map-append, length-map}
 use Rattle.std.proofs.lemmas.List.Elements.{All-nil, All-cons, All-head, All-tail}
 use Rattle.std.proofs.lemmas.Option.{slice_get_within}
@@ -140,7 +140,7 @@ module _ (p : Typed.Program) (m : Meanings) (leaves : List Written.StrategyOf) (
 
   body_there : (ds : List WrittenDef.StratDef) (i : ℕ) (d : WrittenDef.StratDef) → slice_get ds i ≡ Some d → body_at (map definition_of ds) i ≡ (definition_of d).body
   body_there [] i d e = cc
-  body_there (x ∷ ds) 0 d e = ap (λ (z : Option WrittenDef.StratDef). elim z [ None ↦ idle | Some y ↦ (definition_of y).body ]) e
+  body_there (x ∷ ds) zero d e = ap (λ (z : Option WrittenDef.StratDef). elim z [ None ↦ idle | Some y ↦ (definition_of y).body ]) e
   body_there (x ∷ ds) (suc i) d e = body_there ds i d e
 
   values_there : (found : List (VarId × TermId)) → values_of (tree_at nodes) (map bound_by found) ≡ binding_in nodes found

@@ -1,5 +1,5 @@
 -- Who gives the results of leaves is as runs need it, and cursors have yielded the same as there are more terms.
-use Rattle.std.proofs.Common.{◌≡◌, ℕ, ◌≤◌, List, [], ◌∷◌, ◌++◌, map, length, slice_get, suc, Bool, Option, Some, None, IfSome, Result, Ok, Err, IfOk, inl, refl, sym, ap, ◌∙◌, subst, arith, length-append}
+use Rattle.std.proofs.Common.{◌≡◌, ℕ, ◌≤◌, List, [], ◌∷◌, ◌++◌, map, length, slice_get, zero, suc, Bool, Option, Some, None, IfSome, Result, Ok, Err, IfOk, inl, refl, sym, ap, ◌∙◌, subst, arith, length-append}
 use Rattle.std.proofs.lemmas.List.{map-append}
 use Rattle.mau_terms.specs.Tree.{Tree}
 use Rattle.mau_terms.specs.declared.ids.TermId.{TermId}
@@ -153,5 +153,5 @@ module _ {K : Type 0} (asked : K → Asked) (given : K → Option Listed.Solutio
 
 pub leaf_there : (leaves : List Written.StrategyOf) (i : ℕ) (s : Written.StrategyOf) → slice_get leaves i ≡ Some s → leaf_at leaves i ≡ meaning_of s
 leaf_there [] i s e = cc
-leaf_there (x ∷ leaves) 0 s e = ap (λ (z : Option Written.StrategyOf). elim z [ None ↦ idle | Some y ↦ meaning_of y ]) e
+leaf_there (x ∷ leaves) zero s e = ap (λ (z : Option Written.StrategyOf). elim z [ None ↦ idle | Some y ↦ meaning_of y ]) e
 leaf_there (x ∷ leaves) (suc i) s e = leaf_there leaves i s e

@@ -78,9 +78,10 @@ pub trait Leaves {
         ensures ready { is_ready self.new }
         ensures grows { LeavesGrow (world self.old) (world self.new) };
 
-    /// What comes behind that which a cursor has yielded.
+    /// What comes behind that which a cursor has yielded. The cursor is one that was made here.
     fn next(&mut self, cursor: &mut Self::Cursor) -> Result<Option<Yielded>, LeafEnd>
         requires ready { is_ready self.old }
+        requires yields { (d : Todo) × (t : Tree) × (ys : List Yield) × (world self.old).yields cursor.old d t ys }
         ensures next { (d : Todo) (t : Tree) (ys : List Yield) → (world self.old).yields cursor.old d t ys →
             IsNextYield (world self.new) cursor.new d t ys result }
         ensures ready { is_ready self.new }
