@@ -326,6 +326,9 @@ module _ (p : Typed.Program) (m : Meanings) (leaves : List Written.StrategyOf) (
     none_found k more over =
         none_left p m leaves old before s d t ys h k more (subst (λ (a : Engine → Answers Todo → Type 0). Throughout (engine_of R) a (λ L. IsOver (a L))) (was k) over)
 
+    abbrev idle_cursor : CallCursor
+    idle_cursor = record { leaf = s.leaf; calls = s.calls; bodies = bodies; due = s.due }
+
     pub search_ends : (k : ℕ) → d.calls ≡ suc k → (e : EvalEnd) →
         ((j : ℕ) → IsNextOne (program_over p m.hooks) m.limit (left_of_call p m.hooks j name old s.bodies) (left_of_call p m.hooks j name new bodies) (body_found p j new bodies) (Err e)) →
         IsNextYield (world_of_calls p m leaves new after) (record { leaf = s.leaf; calls = s.calls; bodies = bodies; due = s.due }) d t ys (Err (leaf_end e))
@@ -346,9 +349,6 @@ module _ (p : Typed.Program) (m : Meanings) (leaves : List Written.StrategyOf) (
       where
         clash : (b : Bool) → b ≡ false → b ≡ true → {X : Type 0} → X
         clash b i j = cc
-
-        abbrev idle_cursor : CallCursor
-        idle_cursor = record { leaf = s.leaf; calls = s.calls; bodies = bodies; due = s.due }
 
         is : (j : ℕ) → (λ (L : Engine). left_of_call p m.hooks j name new bodies L) ≡ left_of_cursor p m leaves new after j h.name idle_cursor
         is j = λ i L. left_due (sym due i) (body_found p j new bodies) (left_of_call p m.hooks j (same_name i) new bodies L)

@@ -59,7 +59,7 @@ in_two (z ∷ xs) ys x = ap (λ zs. z ∷ zs) (in_two xs ys x)
 
 module _ (P : Program) (L : Engine) (q : Rule) (σ : Binding) (t : Tree) (X : Type 0) (e : End) (test : Solution → Bool)
     (sorted : (y : Solution) → IsIn y (solutions_within P.sign q.left t) →
-        (have_sorts L.level.sorts (variables q.left) y.values L.budget ≡ done (test y) 0 L.budget) ⊎ (X × (have_sorts L.level.sorts (variables q.left) y.values L.budget ≡ ended e))) where
+    (have_sorts L.level.sorts (variables q.left) y.values L.budget ≡ done (test y) 0 L.budget) ⊎ (X × (have_sorts L.level.sorts (variables q.left) y.values L.budget ≡ ended e))) where
   -- the values agree with what is bound, and have their sorts
   abbrev pub accepted : Solution → Bool
   accepted y = agree P.sign.theory σ (variables q.left) y.values && test y

@@ -251,7 +251,7 @@ module _ {K : Type 0} (asked : K → Asked) (given : K → Option Listed.Solutio
 
     pub ends_test : (e : EvalEnd) → IsNextOne (program_over p m.hooks) b (uses_left old s.uses) (uses_left new w) o (Err e) →
         Throughout (engine_of (program_over p m.hooks)) (left_of_test asked given p m.hooks old s) (λ L.
-            Passes (left_of_test asked given p m.hooks old s L) (left_of_test asked given p m.hooks new (record { term = s.term; rule = s.rule; uses = w; over = s.over }) L)) ×
+        Passes (left_of_test asked given p m.hooks old s L) (left_of_test asked given p m.hooks new (record { term = s.term; rule = s.rule; uses = w; over = s.over }) L)) ×
         IsDueBy (program_over p m.hooks) b (left_of_test asked given p m.hooks old s) e
     ends_test e (g, d) = (
       subst (λ (f : Engine → Answers Tree → Type 0). Throughout (engine_of R) f (λ L. Passes (f L) (left_of_test asked given p m.hooks new then L))) was

@@ -30,12 +30,15 @@ pub struct CallBodies {
 pub(crate) fn has_reach(cond: &[Fragment]) -> bool
     ensures { result ≡ Defined.has_reach (map fragment_of cond.now) }
 {
-    for fragment in cond {
-        if let Fragment::Reach(_, _) = fragment {
-            return true;
-        }
+    match cond {
+        [] => false,
+        [first, rest @ ..] => match first {
+            Fragment::Reach(_, _) => true,
+            Fragment::Equal(_, _) => has_reach(rest),
+            Fragment::Match(_, _) => has_reach(rest),
+            Fragment::Sort(_, _) => has_reach(rest),
+        },
     }
-    false
 }
 
 /// The next solution of the condition of the definition that is gone through.
@@ -90,11 +93,7 @@ fn ask_on<E: Evaluator>(
 
 /// Begins the next definition, where it has the name and no arguments; else it is passed over. One whose condition has a rewriting fragment
 /// is not begun yet: the search gives up.
-fn begin_definition(
-    program: &Program,
-    name: &str,
-    bodies: &mut CallBodies,
-) -> Result<Turn, EvalEnd>
+fn begin_definition(program: &Program, name: &str, bodies: &mut CallBodies) -> Result<Turn, EvalEnd>
     requires definitions { All (IsLawfulDefinition program.now.sig) program.now.strategies }
     requires idle { bodies.old.standing ≡ At.Behind }
     ensures turn { (b k : ℕ) (hooks : List Operator) (nodes : List Node) → IsTurn (program_over program.now hooks) b

@@ -208,7 +208,11 @@ fn bounds(alloc: Global, found: &[(VarId, TermId)]) -> Result<Vec<Bound>, NoMemo
 }
 
 /// The body that is due.
-fn give_body(alloc: Global, cursor: &mut CallCursor, calls: usize) -> Result<Option<Yielded>, LeafEnd>
+fn give_body(
+    alloc: Global,
+    cursor: &mut CallCursor,
+    calls: usize,
+) -> Result<Option<Yielded>, LeafEnd>
     requires due { cursor.old.due ≡ true }
     requires found { IsSome (found_in cursor.old.bodies.standing) }
     ensures given { IsGivenBody cursor.old cursor.new calls result }
@@ -367,7 +371,9 @@ fn next_of<E: Evaluator, L: Lister + Drop>(
         LeafCursor::Top(leaf, results) => next_of_top(
             program, leaves, store, evaluator, *leaf, results, limit,
         ),
-        LeafCursor::Bodies(bodies) => next_of_call(program, leaves, store, evaluator, bodies, limit),
+        LeafCursor::Bodies(bodies) => next_of_call(
+            program, leaves, store, evaluator, bodies, limit,
+        ),
         LeafCursor::Test(test) => next_of_test(program, leaves, store, evaluator, test, limit),
         LeafCursor::Unsearched => Err(LeafEnd::NoMemory),
     }

@@ -37,7 +37,12 @@ pub struct TestCursor<L> {
 
 /// Whether a test of this kind looks at the solutions with contexts, as far as it is known: those of a pattern without an associative top have
 /// none.
-fn is_within(alloc: Global, sig: &Signature, kind: TestKind, pattern: &Bare) -> Result<bool, NoMemory>
+fn is_within(
+    alloc: Global,
+    sig: &Signature,
+    kind: TestKind,
+    pattern: &Bare,
+) -> Result<bool, NoMemory>
     requires { IsBare (terms_over sig.now) (tree_of pattern.now) }
     ensures { IfOk result (λ b. b ≡ true → WithinIsWhole sig.now kind (tree_of pattern.now)) }
 {

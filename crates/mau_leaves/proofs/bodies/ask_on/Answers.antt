@@ -142,8 +142,7 @@ returns-in-Err-clause-turn g c = λ k n.
     let new = c.ask.new.store in
     let told = shown_as (program_over p m.hooks) c.args.limit new (Err c.in-Err.end) (option_map (λ z. binding_in old z.now) c.last_of-last.result) (last_in old s.standing)
     (then_of (binding_in old) c.last_of-last.result (found_in s.standing) c.last_of-last.ensures) (map fragment_of c.items.result.now) (map fragment_of d.cond) (ap (map fragment_of) c.items.ensures) [] [] refl
-    (c.in-Err.ensures.shown) in
-    (
+    (c.in-Err.ensures.shown) in (
       still_standing p m old new before (g.E.Evaluator.table c.ask.new.evaluator) c.ask.ensures.extends c.ask.ensures.kept k n s.number s.standing c.requires.search,
       body_due p m.hooks k n old c.requires.runnable.reducible.lawful new s.number d at s.standing c.requires.within c.args.limit c.in-Err.end told,
     )

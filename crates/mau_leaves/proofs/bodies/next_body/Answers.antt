@@ -42,12 +42,12 @@ loop-preserved g c =
     let n = c.args.name.now in
     record {
       passed = λ k.
-        let told = subst (λ (z : Meanings). IsTurn (program_over p z.hooks) c.args.limit (left_of_call p z.hooks k n c.loop.store c.loop.bodies)
-        (left_of_call p z.hooks k n c.turn_on.new.store c.turn_on.new.bodies) (body_found p k c.turn_on.new.store c.turn_on.new.bodies) (Ok c.in-Ok-Passed.field-0)) i.meanings (c.in-Ok-Passed.ensures.turn k) in
+          let told = subst (λ (z : Meanings). IsTurn (program_over p z.hooks) c.args.limit (left_of_call p z.hooks k n c.loop.store c.loop.bodies)
+          (left_of_call p z.hooks k n c.turn_on.new.store c.turn_on.new.bodies) (body_found p k c.turn_on.new.store c.turn_on.new.bodies) (Ok c.in-Ok-Passed.field-0)) i.meanings (c.in-Ok-Passed.ensures.turn k) in
           passed_then (program_over p m.hooks) c.args.limit (left_of_call p m.hooks k n c.args.store.now c.args.bodies.now) (left_of_call p m.hooks k n c.loop.store c.loop.bodies) (left_of_call p m.hooks k n c.turn_on.new.store c.turn_on.new.bodies)
-    (body_found p k c.turn_on.new.store c.turn_on.new.bodies) (i.passed k)
-    (subst (λ (t : Turn). IsTurn (program_over p m.hooks) c.args.limit (left_of_call p m.hooks k n c.loop.store c.loop.bodies) (left_of_call p m.hooks k n c.turn_on.new.store c.turn_on.new.bodies)
-    (body_found p k c.turn_on.new.store c.turn_on.new.bodies) (Ok t)) c.in-Ok-Passed.field-0-is told);
+          (body_found p k c.turn_on.new.store c.turn_on.new.bodies) (i.passed k)
+          (subst (λ (t : Turn). IsTurn (program_over p m.hooks) c.args.limit (left_of_call p m.hooks k n c.loop.store c.loop.bodies) (left_of_call p m.hooks k n c.turn_on.new.store c.turn_on.new.bodies)
+          (body_found p k c.turn_on.new.store c.turn_on.new.bodies) (Ok t)) c.in-Ok-Passed.field-0-is told);
       search = subst (λ (z : Meanings). IsCallSearch p z c.turn_on.new.store (g.E.Evaluator.table c.turn_on.new.evaluator) c.turn_on.new.bodies) i.meanings c.turn_on.ensures.search;
       meanings = c.turn_on.ensures.meanings ∙ i.meanings;
       fits = c.turn_on.ensures.fits;
