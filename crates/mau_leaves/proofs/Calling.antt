@@ -48,7 +48,7 @@ use Rattle.mau_leaves.specs.declared.uses.Standing.{Standing}
 use Rattle.mau_leaves.specs.declared.uses.Standing.TheVariants.{Behind, Before, Within}
 use Rattle.mau_leaves.specs.declared.bodies.CallBodies.{CallBodies}
 use Rattle.mau_leaves.specs.declared.cursor.CallCursor.{CallCursor}
-use Rattle.mau_leaves.proofs.Bodies.{standing_grown, still_standing, standing_same, found_same}
+use Rattle.mau_leaves.proofs.Definitions.{standing_grown, still_standing, standing_same, found_same}
 use Rattle.mau_leaves.proofs.Rewrites.{those_none}
 use Rattle.mau_leaves.proofs.Steps.{so, through_as, through_always, due_as}
 use Rattle.mau_leaves.proofs.Follows.{begins, passes, gives, front, whole, needs}

@@ -45,7 +45,7 @@ use Rattle.mau_leaves.specs.declared.testing.TestCursor.{TestCursor}
 use Rattle.mau_leaves.specs.Tests.{left_of_test, IsTest}
 use Rattle.mau_leaves.proofs.Searching.{term_grown, settled_later}
 use Rattle.mau_leaves.proofs.TopSteps.{top_grown, still_top}
-use Rattle.mau_leaves.proofs.Testing.{test_grown, still_test}
+use Rattle.mau_leaves.proofs.Holding.{test_grown, still_test}
 use Rattle.mau_leaves.proofs.Follows.{passes}
 use Rattle.mau_leaves.proofs.Calling.{call_cursor_grown}
 

@@ -43,10 +43,10 @@ pub mod Follows
 -- a variable that no pattern of a rule has is not determined
 pub mod NotDetermined
 -- the bodies of a call, definition after definition
-pub mod Bodies
+pub mod Definitions
 -- the bodies of a call as a run has them
 pub mod Calling
 -- tests
-pub mod Testing
+pub mod Holding
 -- the cursors of who gives the results of leaves, as there are more terms
 pub mod Cursors

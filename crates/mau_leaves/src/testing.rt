@@ -23,7 +23,7 @@ use mau_program::Rule;
 use mau_signature::Signature;
 use mau_statement::{add_variables, are_bound};
 use mau_store::Store;
-use mau_terms::{Bare, NoMemory, Seq, TermId, Vars};
+use mau_terms::{Bare, Duplicate, NoMemory, Seq, TermId, Vars};
 use std::alloc::Global;
 
 /// A test on a term: the rule whose first use is searched for, the search, and whether it is over.

@@ -1,5 +1,7 @@
 pub mod Opens
 pub mod Turns
+pub mod Ways
+pub mod Filling
 pub mod Stacks
 pub mod Goes
 pub mod Inserted

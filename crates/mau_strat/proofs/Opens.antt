@@ -6,7 +6,7 @@ use Rattle.std.proofs.lemmas.List.Elements.{Contains-append_left, All-push}
 use Rattle.std.proofs.Common.{length-append}
 use Rattle.mau_strat.specs.declared.walk.Open.{Open}
 use Rattle.mau_evaluation.specs.Reach.{At, IsClosedAt, ClosedBehind, IsClosed, IsNextEntry, Reached, begun, entered}
-use Rattle.mau_strat.specs.Walks.{IsGiven, ClosedFrom, AreOpen}
+use Rattle.mau_strat.specs.Walks.{IsGiven, ClosedFrom, AreOpen, AreParents, no_parents, one_more}
 
 pub at_index : (xs : List ℕ) (i : ℕ) → i < length xs → At xs i (get_or xs i 0)
 at_index xs i h = (h, get_or_default xs i (get_or xs i 0) 0 h)
@@ -61,7 +61,7 @@ module _ (B N B' N' : ℕ → List ℕ → Type 0) (kb : (e : ℕ) (cs : List �
       below : IsGiven B N xs o.entry o.at → o.entry ≤ length xs
       below g = let s : o.entry < length xs = g.stands in omega arith
 
-  entry_kept : (seen : List ℕ) (c : ℕ) → IsNextEntry B N seen c → IsNextEntry B' N' seen c
+  abbrev pub entry_kept : (seen : List ℕ) (c : ℕ) → IsNextEntry B N seen c → IsNextEntry B' N' seen c
   entry_kept seen c h = record {
     from = h.from;
     entry = h.entry;
@@ -76,6 +76,10 @@ module _ (B N B' N' : ℕ → List ℕ → Type 0) (kb : (e : ℕ) (cs : List �
   pub reached_kept : (start : ℕ) (seen : List ℕ) → Reached B N start seen → Reached B' N' start seen
   reached_kept start seen begun = begun
   reached_kept start seen (entered old c r n) = entered old c (reached_kept start old r) (entry_kept old c n)
+
+  pub parents_kept : (start : ℕ) (seen ps : List ℕ) → AreParents B N start seen ps → AreParents B' N' start seen ps
+  parents_kept start seen ps no_parents = no_parents
+  parents_kept start seen ps (one_more old qs c r n) = one_more old qs c (parents_kept start old qs r) (entry_kept old c n)
 
 module _ (B N : ℕ → List ℕ → Type 0) where
   -- the latest open entry

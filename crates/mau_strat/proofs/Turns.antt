@@ -8,8 +8,8 @@ use Rattle.mau_strat.specs.declared.walk.Went.{Went}
 use Rattle.mau_strat.specs.declared.walk.Went.TheVariants.{Done, Again, Entered}
 use Rattle.mau_strat.specs.Steps.{EnterIs, TurnIs}
 use Rattle.mau_evaluation.specs.Reach.{At, IsClosedAt, ClosedBehind, IsClosed, IsNextEntry, IsAsked, Reached, begun, entered}
-use Rattle.mau_strat.specs.Walks.{IsGiven, ClosedFrom, AreOpen, IsRun}
-use Rattle.mau_strat.proofs.Opens.{at_index, closed_grows, given_grows, from_grows, open_grows, reached_kept, open_last, open_push, open_close, behind_from, closed_all, given_next, all_more, length_more}
+use Rattle.mau_strat.specs.Walks.{IsGiven, ClosedFrom, AreOpen, AreParents, no_parents, one_more, IsRun}
+use Rattle.mau_strat.proofs.Opens.{at_index, closed_grows, given_grows, from_grows, open_grows, reached_kept, entry_kept, parents_kept, open_last, open_push, open_close, behind_from, closed_all, given_next, all_more, length_more}
 
 abbrev pub Lists : Type 1
 Lists = ℕ → List ℕ → Type 0
@@ -40,17 +40,19 @@ top_is stack items o e h = split_last stack o (subst (λ xs. Some o ≡ slice_ge
 -- ---- a run as its successors are known better
 
 module _ (B N B' N' : Lists) (kb : (e : ℕ) (cs : List ℕ) → B e cs → B' e cs) (kn : (e : ℕ) (cs : List ℕ) → N e cs → N' e cs) where
-  pub run_kept : (seen : List ℕ) (stack : List Open) → IsRun B N seen stack → IsRun B' N' seen stack
-  run_kept seen stack r = record {
+  pub run_kept : (seen ps : List ℕ) (stack : List Open) → IsRun B N seen ps stack → IsRun B' N' seen ps stack
+  run_kept seen ps stack r = record {
     reached = reached_kept B N B' N' kb kn (get_or seen 0 0) seen r.reached;
+    are_parents = parents_kept B N B' N' kb kn (get_or seen 0 0) seen ps r.are_parents;
     are_open = subst (λ z. AreOpen B' N' z 0 stack (length seen)) (append-nil seen) (open_grows B N B' N' kb kn seen [] 0 stack (length seen) (omega arith) r.are_open);
   }
 
 -- ---- a run that begins
 
-pub begin_run : (B N : Lists) (start : ℕ) → B start [] → IsRun B N (start ∷ []) (record { entry = 0; at = 0 } ∷ [])
+pub begin_run : (B N : Lists) (start : ℕ) → B start [] → IsRun B N (start ∷ []) [] (record { entry = 0; at = 0 } ∷ [])
 begin_run B N start none = record {
   reached = begun;
+  are_parents = no_parents;
   are_open = (
     (λ i d a b t. absurd (no_place i b)),
     record { stands = omega arith; given = []; begins = none; count = refl; listed = All-nil (Contains (start ∷ [])) },
@@ -70,7 +72,7 @@ begin_run B N start none = record {
 abbrev pub Gives : Lists → Lists → Lists → List ℕ → Open → Option ℕ → Type 0
 Gives B B' N' seen o answer = (given : List ℕ) → B (get_or seen o.entry 0) given → length given ≡ o.at → MatchOption answer (N' (get_or seen o.entry 0) given) (λ c. B' (get_or seen o.entry 0) (given ++ c ∷ []))
 
-module _ (B N : Lists) (seen : List ℕ) (stack : List Open) (o : Open) (e : stack ≡ front stack ++ o ∷ []) (r : IsRun B N seen stack) where
+module _ (B N : Lists) (seen ps : List ℕ) (stack : List Open) (o : Open) (e : stack ≡ front stack ++ o ∷ []) (r : IsRun B N seen ps stack) where
   abbrev os : List Open
   os = front stack
 
@@ -90,7 +92,7 @@ module _ (B N : Lists) (seen : List ℕ) (stack : List Open) (o : Open) (e : sta
   top_listed = (o.entry, (at_index seen o.entry top_entry).0, (at_index seen o.entry top_entry).1)
 
   module _ (B' N' : Lists) (kb : (e : ℕ) (cs : List ℕ) → B e cs → B' e cs) (kn : (e : ℕ) (cs : List ℕ) → N e cs → N' e cs) where
-    behind_now : ClosedBehind B' N' seen o.entry
+    pub behind_now : ClosedBehind B' N' seen o.entry
     behind_now i d l a = let k = top_behind i d l a in (k.0, kn d k.0 k.1, k.2)
 
     asked : IsAsked B' N' seen o.entry (get_or seen o.entry 0) top.1.given
@@ -112,9 +114,10 @@ module _ (B N : Lists) (seen : List ℕ) (stack : List Open) (o : Open) (e : sta
     from_now i d a b t = let k = top.2 i d a b t in (k.0, kn d k.0 k.1, k.2)
 
     -- it has no more successors
-    pub run_none : Gives B B' N' seen o None → IsRun B' N' seen os
+    pub run_none : Gives B B' N' seen o None → IsRun B' N' seen ps os
     run_none h = let g = top.1 in record {
       reached = reached_kept B N B' N' kb kn (get_or seen 0 0) seen r.reached;
+      are_parents = parents_kept B N B' N' kb kn (get_or seen 0 0) seen ps r.are_parents;
       are_open = open_close B' N' seen 0 os o.entry (length seen) opens_now (g.given, h g.given g.begins g.count, g.listed) from_now;
     }
 
@@ -130,13 +133,14 @@ module _ (B N : Lists) (seen : List ℕ) (stack : List Open) (o : Open) (e : sta
       given_one = let g = top.1 in (g.given, h g.given g.begins g.count)
 
       -- the next one is listed already
-      run_known : Contains seen c → IsRun B' N' seen (os ++ further ∷ [])
+      run_known : Contains seen c → IsRun B' N' seen ps (os ++ further ∷ [])
       run_known i = let k = top.1 in record {
         reached = reached_kept B N B' N' kb kn (get_or seen 0 0) seen r.reached;
+        are_parents = parents_kept B N B' N' kb kn (get_or seen 0 0) seen ps r.are_parents;
         are_open = open_push B' N' seen 0 os further (length seen) opens_now (given_next B N B' N' kb kn seen seen o.entry o.at k c k.stands refl k.listed (h k.given k.begins k.count) i) from_now;
       }
 
-      pub next_entry : (Contains seen c → ⊥) → IsNextEntry B' N' seen c
+      abbrev pub next_entry : (Contains seen c → ⊥) → IsNextEntry B' N' seen c
       next_entry f = let k = top.1 in record {
         from = o.entry;
         entry = get_or seen o.entry 0;
@@ -149,9 +153,10 @@ module _ (B N : Lists) (seen : List ℕ) (stack : List Open) (o : Open) (e : sta
       }
 
       -- it is new
-      run_new : (Contains seen c → ⊥) → B' c [] → IsRun B' N' (seen ++ c ∷ []) ((os ++ further ∷ []) ++ newest ∷ [])
+      run_new : (Contains seen c → ⊥) → B' c [] → IsRun B' N' (seen ++ c ∷ []) (ps ++ o.entry ∷ []) ((os ++ further ∷ []) ++ newest ∷ [])
       run_new f none = let k = top.1 in record {
         reached = subst (λ x. Reached B' N' x all) (sym (get_or_append_left seen (c ∷ []) 0 0 (some k.stands))) (entered seen c (reached_kept B N B' N' kb kn (get_or seen 0 0) seen r.reached) (next_entry f));
+        are_parents = subst (λ x. AreParents B' N' x all (ps ++ o.entry ∷ [])) (sym (get_or_append_left seen (c ∷ []) 0 0 (some k.stands))) (one_more seen ps c (parents_kept B N B' N' kb kn (get_or seen 0 0) seen ps r.are_parents) (next_entry f));
         are_open = open_push B' N' all 0 (os ++ further ∷ []) newest (length all)
             (open_push B' N' all 0 os further (length seen) (open_grows B' N' B' N' (λ e cs b. b) (λ e cs n. n) seen (c ∷ []) 0 os o.entry (below k.stands) opens_now)
             (given_next B N B' N' kb kn seen all o.entry o.at k c (within k.stands) (get_or_append_left seen (c ∷ []) 0 o.entry k.stands) (all_more seen (c ∷ []) k.given k.listed) (h k.given k.begins k.count) (Contains-push seen c))
@@ -178,25 +183,28 @@ module _ (B N : Lists) (seen : List ℕ) (stack : List Open) (o : Open) (e : sta
           between : (i : ℕ) → suc (length seen) ≤ i → i < length (seen ++ c ∷ []) → ⊥
           between i a b = let e : length (seen ++ c ∷ []) ≡ length seen + 1 = length-append seen (c ∷ []) in omega arith
 
-      -- what became of the successor
-      pub entered_run : (w : Went) (seen' : List ℕ) (stack' : List Open) → EnterIs seen os o c seen' stack' w → B' c [] → IsRun B' N' seen' stack'
-      entered_run Done seen' stack' h none = absurd h
-      entered_run Again seen' stack' h none = subst (λ z. IsRun B' N' z stack') (sym h.1) (subst (λ z. IsRun B' N' seen z) (sym h.2) (run_known h.0))
-      entered_run (Entered d) seen' stack' h none = subst (λ z. IsRun B' N' z stack') (sym h.2) (subst (λ z. IsRun B' N' (seen ++ c ∷ []) z) (sym h.3) (run_new h.1 none))
+      moved : (seen' ps' : List ℕ) (stack' : List Open) (xs qs : List ℕ) (ss : List Open) → seen' ≡ xs → ps' ≡ qs → stack' ≡ ss → IsRun B' N' xs qs ss → IsRun B' N' seen' ps' stack'
+      moved seen' ps' stack' xs qs ss a b d h = subst (λ z. IsRun B' N' z ps' stack') (sym a) (subst (λ z. IsRun B' N' xs z stack') (sym b) (subst (IsRun B' N' xs qs) (sym d) h))
 
-      pub entered_turn : (w : Went) (seen' : List ℕ) (stack' : List Open) → EnterIs seen os o c seen' stack' w → TurnIs B' N' seen seen' w
-      entered_turn Done seen' stack' h = absurd h
-      entered_turn Again seen' stack' h = h.1
-      entered_turn (Entered d) seen' stack' h = h.2 ∙ ap (λ z. seen ++ z ∷ []) (sym h.0)
+      -- what became of the successor
+      pub entered_run : (w : Went) (seen' ps' : List ℕ) (stack' : List Open) → EnterIs seen ps os o c seen' ps' stack' w → B' c [] → IsRun B' N' seen' ps' stack'
+      entered_run Done seen' ps' stack' h none = absurd h
+      entered_run Again seen' ps' stack' h none = moved seen' ps' stack' seen ps (os ++ further ∷ []) h.1 h.2 h.3 (run_known h.0)
+      entered_run (Entered d) seen' ps' stack' h none = moved seen' ps' stack' (seen ++ c ∷ []) (ps ++ o.entry ∷ []) ((os ++ further ∷ []) ++ newest ∷ []) h.2 h.3 h.4 (run_new h.1 none)
+
+      pub entered_turn : (w : Went) (seen' ps' : List ℕ) (stack' : List Open) → EnterIs seen ps os o c seen' ps' stack' w → TurnIs B' N' seen seen' w
+      entered_turn Done seen' ps' stack' h = absurd h
+      entered_turn Again seen' ps' stack' h = h.1
+      entered_turn (Entered d) seen' ps' stack' h = h.2 ∙ ap (λ z. seen ++ z ∷ []) (sym h.0)
 
       -- what is kept of the listed ones stays so, where it does as a successor is listed
       pub entered_ready : (ready : List ℕ → Type 0) → ready seen → (Contains seen (get_or seen o.entry 0) → (given : List ℕ) → B' (get_or seen o.entry 0) (given ++ c ∷ []) → ready (seen ++ c ∷ [])) →
-          (w : Went) (seen' : List ℕ) (stack' : List Open) → EnterIs seen os o c seen' stack' w → ready seen'
-      entered_ready ready k more Done seen' stack' h = absurd h
-      entered_ready ready k more Again seen' stack' h = subst ready (sym h.1) k
-      entered_ready ready k more (Entered d) seen' stack' h = let g = given_one in subst ready (sym h.2) (more top_listed g.0 g.1)
+          (w : Went) (seen' ps' : List ℕ) (stack' : List Open) → EnterIs seen ps os o c seen' ps' stack' w → ready seen'
+      entered_ready ready k more Done seen' ps' stack' h = absurd h
+      entered_ready ready k more Again seen' ps' stack' h = subst ready (sym h.1) k
+      entered_ready ready k more (Entered d) seen' ps' stack' h = let g = given_one in subst ready (sym h.2) (more top_listed g.0 g.1)
 
 -- ---- no entry is open
 
-pub all_closed : (B N : Lists) (seen : List ℕ) (stack : List Open) → stack ≡ [] → IsRun B N seen stack → IsClosed B N seen
-all_closed B N seen stack e r = closed_all B N seen (subst (λ z. AreOpen B N seen 0 z (length seen)) e r.are_open)
+pub all_closed : (B N : Lists) (seen ps : List ℕ) (stack : List Open) → stack ≡ [] → IsRun B N seen ps stack → IsClosed B N seen
+all_closed B N seen ps stack e r = closed_all B N seen (subst (λ z. AreOpen B N seen 0 z (length seen)) e r.are_open)

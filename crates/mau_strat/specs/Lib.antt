@@ -1,6 +1,7 @@
 -- Runs of strategies: what a user has to read, in this order. What a run reaches is said in mau_evaluation.
 
--- the state of a run, and its answers
+-- from which entry each one was entered; the state of a run, and its answers
+pub mod Traces
 pub mod Walks
 -- values and lists by numbers
 pub mod Sharing

@@ -20,11 +20,11 @@ IfTooMany TooMany p = p
 IfTooMany NoMemory p = Unit {0}
 
 -- what becomes of a successor that was given
-abbrev pub EnterIs : List ℕ → List Open → Open → ℕ → List ℕ → List Open → Went → Type 0
-EnterIs seen os o c seen' os' Done = ⊥
-EnterIs seen os o c seen' os' Again = Contains seen c × (seen' ≡ seen) × (os' ≡ os ++ record { entry = o.entry; at = o.at + 1 } ∷ [])
-EnterIs seen os o c seen' os' (Entered d) =
-    (d ≡ c) × (Contains seen c → ⊥) × (seen' ≡ seen ++ c ∷ []) × (os' ≡ (os ++ record { entry = o.entry; at = o.at + 1 } ∷ []) ++ record { entry = length seen; at = 0 } ∷ [])
+abbrev pub EnterIs : List ℕ → List ℕ → List Open → Open → ℕ → List ℕ → List ℕ → List Open → Went → Type 0
+EnterIs seen ps os o c seen' ps' os' Done = ⊥
+EnterIs seen ps os o c seen' ps' os' Again = Contains seen c × (seen' ≡ seen) × (ps' ≡ ps) × (os' ≡ os ++ record { entry = o.entry; at = o.at + 1 } ∷ [])
+EnterIs seen ps os o c seen' ps' os' (Entered d) =
+    (d ≡ c) × (Contains seen c → ⊥) × (seen' ≡ seen ++ c ∷ []) × (ps' ≡ ps ++ o.entry ∷ []) × (os' ≡ (os ++ record { entry = o.entry; at = o.at + 1 } ∷ []) ++ record { entry = length seen; at = 0 } ∷ [])
 
 module _ (Begins Next : ℕ → List ℕ → Type 0) where
   -- done: all entries have their successors listed; entered: one entry more

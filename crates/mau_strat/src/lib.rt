@@ -9,10 +9,12 @@ mod listed;
 mod lists;
 mod numbered;
 mod successors;
+mod trace;
 mod walk;
 
 pub use configs::{BindingId, Bound, Config, Frame, FramesId, Interner, StrategyId, Todo, TodosId};
 pub use forms::{Form, Forms, LeafId};
 pub use listed::Listed;
 pub use successors::Successors;
+pub use trace::Trace;
 pub use walk::{Open, StartError, Walk, WalkEnd};

@@ -1,10 +1,11 @@
 //! A run depth first.
 ghost use Rattle.std.specs.Prelude.{◌≡◌, ℕ, ◌+◌, ◌-◌, ◌^◌, ◌<◌, ◌≤◌, List, [], ◌∷◌, ◌++◌, length, Contains, IfOk, IfErr, OnOk, OnErr};
-ghost use Rattle.mau_strat.specs.Walks.{IsRun, AnswerIs, EndIs, EndAfter};
+ghost use Rattle.mau_strat.specs.Walks.{IsRun, AnswerIs, EndIs, EndAfter, WayIs};
 ghost use Rattle.mau_strat.specs.Steps.{EnterIs, TurnIs, IfTooMany, IfOverLimit};
 
 use crate::listed::Listed;
 use crate::successors::Successors;
+use crate::trace::Trace;
 use mau_terms::NoMemory;
 use std::alloc::{AllocFailed, Global};
 
@@ -15,11 +16,12 @@ pub struct Open {
     pub at: usize,
 }
 
-/// A run: what it has listed, and its open entries, the latest last.
+/// A run: what it has listed, its open entries, the latest last, and from which entry each one was entered.
 #[derive(Drop)]
 pub struct Walk {
     pub listed: Listed,
     pub stack: Vec<Open>,
+    pub trace: Trace,
 }
 
 /// Why a run does not begin.
@@ -67,16 +69,6 @@ enum Refusal {
     NoMemory,
 }
 
-impl<T: Drop> From<AllocFailed<T>> for Refusal {
-    ghost use Rattle.mau_strat.specs.declared.walk.Refusal.{Refusal};
-
-    ghost from_gives = { λ _ e. e ≡ Refusal.NoMemory };
-
-    fn from(_failed: AllocFailed<T>) -> Refusal {
-        Refusal::NoMemory
-    }
-}
-
 /// A step of a run.
 #[derive(Clone, Copy)]
 enum Went {
@@ -95,7 +87,8 @@ impl Walk {
     ) -> Result<Walk, StartError>
         requires { S.ready engine.now (config ∷ []) }
         ensures listed { IfOk result (λ walk. walk.listed ≡ config ∷ []) }
-        ensures run { IfOk result (λ walk. IsRun (S.begins engine.now) (S.next engine.now) walk.listed walk.stack.items) }
+        ensures run { IfOk result (λ walk. IsRun (S.begins engine.now) (S.next engine.now) walk.listed walk.trace.parents walk.stack.items) }
+        ensures way { IfOk result (λ walk. walk.trace.way ≡ []) }
         ensures over_limit { IfErr result (λ e. IfOverLimit e (limit ≡ 0)) }
         ensures within { OnOk result (1 ≤ limit) }
     {
@@ -107,30 +100,38 @@ impl Walk {
         listed.add(config)?;
         let mut stack = Vec::new(alloc);
         stack.push(Open { entry: 0, at: 0 })?;
-        Ok(Walk { listed, stack })
+        let trace = Trace::new(alloc)?;
+        Ok(Walk {
+            listed,
+            stack,
+            trace,
+        })
     }
 
     /// The next solution: the run goes on until it has listed one. `None` where all that can be reached is listed. Whatever the
-    /// answer, it can go on from there.
+    /// answer, it can go on from there. The way to the solution is kept until the next call.
     pub fn next<S: Successors>(
         &mut self,
         engine: &mut S,
         limit: usize,
     ) -> Result<Option<usize>, WalkEnd<S::Cause>>
-        requires run { IsRun (S.begins engine.old) (S.next engine.old) self.old.listed self.old.stack.items }
+        requires run { IsRun (S.begins engine.old) (S.next engine.old) self.old.listed self.old.trace.parents self.old.stack.items }
         requires ready { S.ready engine.old self.old.listed }
-        ensures run { IsRun (S.begins engine.new) (S.next engine.new) self.new.listed self.new.stack.items }
+        ensures run { IsRun (S.begins engine.new) (S.next engine.new) self.new.listed self.new.trace.parents self.new.stack.items }
         ensures ready { S.ready engine.new self.new.listed }
         ensures within { length self.old.listed ≤ limit → length self.new.listed ≤ limit }
         ensures answer { IfOk result (AnswerIs (S.begins engine.new) (S.next engine.new) (S.solves engine.new) self.old.listed self.new.listed) }
         ensures end { IfErr result (EndAfter (S.begins engine.new) (S.next engine.new) (S.due engine.new) (S.solves engine.new) limit self.old.listed self.new.listed) }
+        ensures way { WayIs (S.begins engine.new) (S.next engine.new) self.new.listed self.new.trace.parents self.new.trace.way result }
     {
+        self.trace.clear();
         for _ in 0..u64::MAX {
             match self.turn(engine, limit)? {
                 Went::Done => return Ok(None),
                 Went::Again => {}
                 Went::Entered(config) => {
                     if engine.is_solution(config) {
+                        self.trace.show(&self.listed);
                         return Ok(Some(config));
                     }
                 }
@@ -145,14 +146,15 @@ impl Walk {
         engine: &mut S,
         limit: usize,
     ) -> Result<Went, WalkEnd<S::Cause>>
-        requires run { IsRun (S.begins engine.old) (S.next engine.old) self.old.listed self.old.stack.items }
+        requires run { IsRun (S.begins engine.old) (S.next engine.old) self.old.listed self.old.trace.parents self.old.stack.items }
         requires ready { S.ready engine.old self.old.listed }
-        ensures run { IsRun (S.begins engine.new) (S.next engine.new) self.new.listed self.new.stack.items }
+        ensures run { IsRun (S.begins engine.new) (S.next engine.new) self.new.listed self.new.trace.parents self.new.stack.items }
         ensures ready { S.ready engine.new self.new.listed }
         ensures within { length self.old.listed ≤ limit → length self.new.listed ≤ limit }
         ensures turn { IfOk result (TurnIs (S.begins engine.new) (S.next engine.new) self.old.listed self.new.listed) }
         ensures end { IfErr result (EndIs (S.begins engine.new) (S.next engine.new) (S.due engine.new) limit self.new.listed) }
         ensures unchanged { OnErr result (self.new.listed ≡ self.old.listed) }
+        ensures way { self.old.trace.way ≡ [] → self.new.trace.way ≡ [] }
         ensures kept_solves { (c : ℕ) → Contains self.old.listed c → S.solves engine.new c ≡ S.solves engine.old c }
     {
         let Some(latest) = self.stack.last() else {
@@ -183,11 +185,13 @@ impl Walk {
         requires open { 0 < length self.old.stack.items }
         requires at { latest.at < 2 ^ 64 - 1 }
         ensures went { (before : List Open) → self.old.stack.items ≡ before ++ latest ∷ [] →
-            IfOk result (EnterIs self.old.listed before latest config self.new.listed self.new.stack.items) }
+            IfOk result (EnterIs self.old.listed self.old.trace.parents before latest config self.new.listed self.new.trace.parents self.new.stack.items) }
         ensures refused { IfErr result (λ e. IfTooMany e ((Contains self.old.listed config → ⊥) × (limit ≤ length self.old.listed))) }
         ensures within { OnOk result (length self.old.listed ≤ limit → length self.new.listed ≤ limit) }
         ensures listed_stays { OnErr result (self.new.listed ≡ self.old.listed) }
         ensures open_stays { OnErr result (self.new.stack.items ≡ self.old.stack.items) }
+        ensures parents_stay { OnErr result (self.new.trace.parents ≡ self.old.trace.parents) }
+        ensures way { self.old.trace.way ≡ [] → self.new.trace.way ≡ [] }
     {
         let further = Open {
             entry: latest.entry,
@@ -202,12 +206,20 @@ impl Walk {
         if place >= limit {
             return Err(Refusal::TooMany);
         }
-        self.stack.push(Open {
+        let newest = Open {
             entry: place,
             at: 0,
-        })?;
+        };
+        if self.trace.enter(latest.entry).is_err() {
+            return Err(Refusal::NoMemory);
+        }
+        if self.stack.push(newest).is_err() {
+            self.trace.leave();
+            return Err(Refusal::NoMemory);
+        }
         if self.listed.add(config).is_err() {
             self.stack.pop();
+            self.trace.leave();
             return Err(Refusal::NoMemory);
         }
         self.stack[last] = further;

@@ -14,7 +14,7 @@ use Rattle.mau_stratrun.specs.declared.leaves.LeafEnd.{LeafEnd}
 use Rattle.mau_stratrun.specs.declared.leaves.LeafEnd.TheVariants.{NoMemory}
 use Rattle.mau_stratrun.specs.declared.cursor.Kept.{Kept}
 use Rattle.mau_stratrun.specs.Settings.{Fixed}
-use Rattle.mau_stratrun.specs.Yields.{after, BeginsBy, NextBy, IsEnd}
+use Rattle.mau_stratrun.specs.Yields.{Yield, after, BeginsBy, NextBy, IsEnd}
 use Rattle.mau_stratrun.specs.Worlds.{World, LeavesGrow, IsWorld, yield_of}
 use Rattle.mau_stratrun.specs.States.{State, config_in, IsConfig, IsState, Larger}
 use Rattle.mau_stratrun.specs.Courses.{state_in, HasFacts, GivenOn, IsKept, config_of, given_of, IsAsked, IsSettled, IsGiven}
@@ -28,12 +28,24 @@ mapped f [] = refl
 mapped f (x ∷ xs) = omega (arith, mapped f xs)
 
 module _ {C : Type 0} (w : World C) (forms : List Form) (i : Interned) (k : Kept C) (a : IsKept w forms i k) where
+  abbrev HasYielded : Type 0
+  HasYielded = (d : Todo) × (t : Tree) × (ys : List Yield) × w.yields k.cursor d t ys
+
   begins_on : (t : Tree) (ds : List Todo) (xs : List Frame) (gs : List Config) (o : Option Yielded) → GivenOn w forms i t ds xs gs o k.cursor → BeginsBy w.setting.fixed (on t ds xs) gs
   begins_on t [] xs gs o m = absurd m
   begins_on t (d ∷ ds) xs gs None m = subst (BeginsBy w.setting.fixed (on t (d ∷ ds) xs)) (sym m.1) (m.2.1 ds xs)
   begins_on t (d ∷ ds) xs gs (Some y) m =
       fewer_begins w.setting.fixed (on t (d ∷ ds) xs) (map (after ds xs) (m.0 ++ yield_of w.setting t y ∷ [])) gs (m.2.1 ds xs)
       (map (after ds xs) (yield_of w.setting t y ∷ []), map-append (after ds xs) m.0 (yield_of w.setting t y ∷ []) ∙ ap (λ z. z ++ map (after ds xs) (yield_of w.setting t y ∷ [])) (sym m.1))
+
+  has_yielded_on : (t : Tree) (ds : List Todo) (xs : List Frame) (gs : List Config) (o : Option Yielded) → GivenOn w forms i t ds xs gs o k.cursor → HasYielded
+  has_yielded_on t [] xs gs o m = absurd m
+  has_yielded_on t (d ∷ ds) xs gs None m = (d, t, m.0, m.2.0)
+  has_yielded_on t (d ∷ ds) xs gs (Some y) m = (d, t, m.0 ++ yield_of w.setting t y ∷ [], m.2.0)
+
+  -- the cursor has yielded something
+  pub has_yielded : HasYielded
+  has_yielded = has_yielded_on (config_of w forms i k).term (config_of w forms i k).todo (config_of w forms i k).frames (given_of w forms i k) k.pending a.yielding
 
   pub kept_begins : BeginsBy w.setting.fixed (config_of w forms i k) (given_of w forms i k)
   kept_begins = begins_on (config_of w forms i k).term (config_of w forms i k).todo (config_of w forms i k).frames (given_of w forms i k) k.pending a.yielding

@@ -18,6 +18,7 @@ pub mod Keepable
 pub mod Leading
 pub mod Placing
 pub mod Running
+pub mod Pathing
 pub mod Beginning
 pub mod Yielding
 pub mod Stepping

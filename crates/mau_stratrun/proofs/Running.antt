@@ -23,7 +23,7 @@ use Rattle.mau_stratrun.specs.Courses.{IsListed, is_solution_on, is_solution}
 use Rattle.mau_stratrun.specs.Runs.{Began, IsSolutionOf, IsNew, IsWhole, IsCaused, IsRunEnd, IsEndOf}
 use Rattle.mau_stratrun.proofs.Runs.{apart, from_map, reached, contains_map, all_closed, next_entry, asked}
 
-solution_on : (t : Tree) (ds : List Todo) (xs : List Frame) → is_solution_on ds xs ≡ true → on t ds xs ≡ on t [] []
+pub solution_on : (t : Tree) (ds : List Todo) (xs : List Frame) → is_solution_on ds xs ≡ true → on t ds xs ≡ on t [] []
 solution_on t [] [] e = refl
 solution_on t [] (x ∷ xs) e = absurd (cc)
 solution_on t (d ∷ ds) xs e = absurd (cc)

@@ -1,5 +1,5 @@
 -- A run of a strategy: what holds of it, and what it answers.
-use Rattle.std.specs.Prelude.{◌≡◌, ◌⊎◌, ℕ, ◌≤◌, List, [], ◌∷◌, length, map, slice_index, Contains, Option, Some, None, Result, Ok, Err}
+use Rattle.std.specs.Prelude.{◌≡◌, ◌⊎◌, ℕ, ◌≤◌, List, [], ◌∷◌, ◌++◌, length, map, slice_index, All, Contains, Option, Some, None, Result, Ok, Err}
 use Rattle.mau_terms.specs.Tree.{Tree}
 use Rattle.mau_terms.specs.declared.ids.TermId.{TermId}
 use Rattle.mau_evaluation.specs.Engine.{engine_of}
@@ -15,20 +15,22 @@ use Rattle.mau_strat.specs.declared.walk.WalkEnd.TheVariants.{TooMany, Ended, No
 use Rattle.mau_strat.specs.declared.forms.Form.{Form}
 use Rattle.mau_strat.specs.Forms.{strategy_at}
 use Rattle.mau_strat.specs.Interned.{Interned}
+use Rattle.mau_strat.specs.Traces.{IsWay}
 use Rattle.mau_strat.specs.Walks.{IsRun}
 use Rattle.mau_stratrun.specs.declared.leaves.LeafEnd.{LeafEnd}
 use Rattle.mau_stratrun.specs.declared.leaves.LeafEnd.TheVariants.{Stopped, TooDeep, Overflow, CallDepth, NoMemory}
 use Rattle.mau_stratrun.specs.declared.cursor.Kept.{Kept}
+use Rattle.mau_stratrun.specs.Settings.{Fixed}
 use Rattle.mau_stratrun.specs.Yields.{BeginsBy, NextBy, IsEnd}
 use Rattle.mau_stratrun.specs.Worlds.{World}
-use Rattle.mau_stratrun.specs.States.{State, config_in, begins_in, next_in}
+use Rattle.mau_stratrun.specs.States.{State, config_in, IsConfig, begins_in, next_in}
 use Rattle.mau_stratrun.specs.Courses.{state_in, IsCourse, IsListed}
 
 -- what is kept is right, and what is listed is a list that the run reaches
-pub record IsRunning {C : Type 0} (w : World C) (forms : List Form) (bodies : List StrategyId) (i : Interned) (kept : List (Kept C)) (seen : List ℕ) (stack : List Open) : Type 0 where
+pub record IsRunning {C : Type 0} (w : World C) (forms : List Form) (bodies : List StrategyId) (i : Interned) (kept : List (Kept C)) (seen parents : List ℕ) (stack : List Open) : Type 0 where
   pub course : IsCourse w forms bodies i kept
   pub listed : IsListed (state_in w forms i) seen
-  pub run : IsRun (begins_in (state_in w forms i)) (next_in (state_in w forms i)) seen stack
+  pub run : IsRun (begins_in (state_in w forms i)) (next_in (state_in w forms i)) seen parents stack
 
 -- ---- what a run answers, where it began with the strategy d on t
 
@@ -44,6 +46,29 @@ IsSolutionOf s seen n = (t : Tree) (d : Todo) → Began s seen t d →
 -- no solution with this term is listed
 abbrev pub IsNew : State → List ℕ → ℕ → Type 0
 IsNew s seen n = Contains (map (config_in s) seen) (on (s.setting.tree n) [] []) → ⊥
+
+-- d is the successor of c behind some others, for all limits from some on
+abbrev pub IsSuccessorBy : Fixed → Config → Config → Type 0
+IsSuccessorBy f c d = (given : List Config) × BeginsBy f c (given ++ d ∷ [])
+
+-- each is a successor of the one before, from c on, and the last one is d
+abbrev pub IsPathBy : Fixed → Config → List Config → Config → Type 0
+IsPathBy f c [] d = c ≡ d
+IsPathBy f c (x ∷ xs) d = IsSuccessorBy f c x × IsPathBy f x xs d
+
+-- the way of a run to the solution with this term: from the start on, each was entered from the one before, so it is a successor of it
+pub record IsPathTo (s : State) (seen parents way : List ℕ) (n : ℕ) : Type 0 where
+  pub entered : IsWay seen parents 0 way
+  pub configs : All (IsConfig s) way
+  pub rest : List ℕ
+  pub is : way ≡ slice_index seen 0 ∷ rest
+  pub path : IsPathBy s.setting.fixed (config_in s (slice_index seen 0)) (map (config_in s) rest) (on (s.setting.tree n) [] [])
+
+-- the way to the solution that was given, and none where none was given
+abbrev pub PathIs : State → List ℕ → List ℕ → List ℕ → Result (Option TermId) LeafEnd → Type 0
+PathIs s seen parents way (Ok (Some n)) = IsPathTo s seen parents way n.0
+PathIs s seen parents way (Ok None) = way ≡ []
+PathIs s seen parents way (Err e) = way ≡ []
 
 -- of the solutions that are listed just the one that was given is new; none is where none was given
 abbrev pub AddsJust : State → List ℕ → List ℕ → Result (Option TermId) LeafEnd → Type 0

@@ -1,12 +1,12 @@
 //! A cursor for an entry whose successors are what its first strategy yields.
 ghost use Rattle.std.specs.Prelude.{◌≡◌, ◌<◌, ℕ, ◌∷◌, ◌++◌, [], List, length, map, slice_get, Some, None, IsSome, All, IfOk, true};
 ghost use Rattle.mau_terms.specs.Tree.{Tree};
-ghost use Rattle.mau_evaluation.specs.Configs.{Config as Configuration};
+ghost use Rattle.mau_evaluation.specs.Configs.{Todo as Doing};
 ghost use Rattle.mau_strat.specs.declared.forms.Form.{Form};
 ghost use Rattle.mau_strat.specs.Sharing.{list_at};
 ghost use Rattle.mau_strat.specs.Interned.{Interned, Grows};
 ghost use Rattle.mau_stratrun.specs.Settings.{Setting};
-ghost use Rattle.mau_stratrun.specs.Yields.{after};
+ghost use Rattle.mau_stratrun.specs.Yields.{Yield, after};
 ghost use Rattle.mau_stratrun.specs.Worlds.{World, LeavesGrow, yield_of};
 ghost use Rattle.mau_stratrun.specs.States.{State, IsState, IsConfig, config_in, todos_in, frames_in};
 ghost use Rattle.mau_stratrun.specs.Moves.{state_of, made_in, GoesTo};
@@ -116,6 +116,7 @@ fn enter_yield(
 /// Asks for one more, if none is pending. Whether there is one.
 fn ask<X: Leaves>(leaves: &mut X, kept: &mut Kept<X::Cursor>) -> Result<bool, LeafEnd>
     requires ready { X.is_ready leaves.old }
+    requires yields { (d : Doing) × (t : Tree) × (ys : List Yield) × (X.world leaves.old).yields kept.old.cursor d t ys }
     ensures asked { (forms : List Form) (i : Interned) → IsState (state_of (X.world leaves.old).setting forms i) →
         IsKept (X.world leaves.old) forms i kept.old →
         IsAsked (X.world leaves.new) forms i kept.old kept.new result }

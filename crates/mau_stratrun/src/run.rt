@@ -1,9 +1,10 @@
 //! Runs of strategies.
-ghost use Rattle.std.specs.Prelude.{◌≡◌, ◌<◌, ◌≤◌, length, None, Ok, All, IfOk, IfErr, IfSome};
+ghost use Rattle.std.specs.Prelude.{◌≡◌, ◌<◌, ◌≤◌, [], length, map, None, Ok, All, IfOk, IfErr, IfSome};
 ghost use Rattle.mau_strat.specs.Forms.{LeafIn};
+ghost use Rattle.mau_stratrun.specs.States.{IsConfig, config_in};
 ghost use Rattle.mau_stratrun.specs.Courses.{state_in, HasBodies};
 ghost use Rattle.mau_strat.specs.Interned.{nothing};
-ghost use Rattle.mau_stratrun.specs.Runs.{IsRunning, Began, begun_with, IsSolutionOf, IsNew, AddsJust, IsWhole, IsRunEnd, IsEndOf};
+ghost use Rattle.mau_stratrun.specs.Runs.{IsRunning, Began, begun_with, IsSolutionOf, IsNew, AddsJust, PathIs, IsWhole, IsRunEnd, IsEndOf};
 
 use crate::ahead::{First, enter};
 use crate::course::Course;
@@ -11,7 +12,7 @@ use crate::leaves::{LeafEnd, Leaves};
 use mau_strat::{
     BindingId, Forms, FramesId, Interner, StartError, StrategyId, Todo, TodosId, Walk, WalkEnd,
 };
-use mau_terms::TermId;
+use mau_terms::{NoMemory, TermId};
 use std::alloc::Global;
 
 /// A run of a strategy from a term: what it has listed, and how it goes on. Entries are at most `limit`.
@@ -52,10 +53,11 @@ impl<X: Leaves + Drop> StratRun<X> {
         requires bodies { HasBodies bodies.items (state_in (X.world leaves) forms nothing) }
         ensures ready { IfOk result (λ run. X.is_ready run.course.leaves) }
         ensures run { IfOk result (λ run. IsRunning (X.world run.course.leaves) run.course.forms run.course.bodies.items
-            run.course.interner run.course.kept.items run.walk.listed run.walk.stack.items) }
+            run.course.interner run.course.kept.items run.walk.listed run.walk.trace.parents run.walk.stack.items) }
         ensures began { IfOk result (λ run. Began (state_in (X.world run.course.leaves) run.course.forms run.course.interner)
             run.walk.listed
             ((X.world leaves).setting.tree term.0) (begun_with (X.world leaves).setting.fixed.leaf forms strategy.0 calls)) }
+        ensures way { IfOk result (λ run. run.walk.trace.way ≡ []) }
         ensures limit { IfOk result (λ run. run.limit ≡ limit) }
     {
         let _ = forms.len();
@@ -95,16 +97,16 @@ impl<X: Leaves + Drop> StratRun<X> {
     }
 
     /// The next solution: a term that satisfies the strategy, each once. `None` where there are no more. Whatever the answer, the run
-    /// can go on from there.
+    /// can go on from there. The way to the solution is kept until the next call.
     pub fn next(&mut self) -> Result<Option<TermId>, LeafEnd>
         requires ready { X.is_ready self.old.course.leaves }
         requires run { IsRunning (X.world self.old.course.leaves) self.old.course.forms self.old.course.bodies.items
             self.old.course.interner self.old.course.kept.items
-            self.old.walk.listed self.old.walk.stack.items }
+            self.old.walk.listed self.old.walk.trace.parents self.old.walk.stack.items }
         ensures ready { X.is_ready self.new.course.leaves }
         ensures run { IsRunning (X.world self.new.course.leaves) self.new.course.forms self.new.course.bodies.items
             self.new.course.interner self.new.course.kept.items
-            self.new.walk.listed self.new.walk.stack.items }
+            self.new.walk.listed self.new.walk.trace.parents self.new.walk.stack.items }
         ensures satisfies { IfOk result (λ o. IfSome o (λ id.
             IsSolutionOf (state_in (X.world self.new.course.leaves) self.new.course.forms self.new.course.interner)
             self.new.walk.listed id.0)) }
@@ -112,6 +114,8 @@ impl<X: Leaves + Drop> StratRun<X> {
             IsNew (state_in (X.world self.new.course.leaves) self.new.course.forms self.new.course.interner) self.old.walk.listed id.0)) }
         ensures adds { AddsJust (state_in (X.world self.new.course.leaves) self.new.course.forms self.new.course.interner)
             self.old.walk.listed self.new.walk.listed result }
+        ensures path { PathIs (state_in (X.world self.new.course.leaves) self.new.course.forms self.new.course.interner)
+            self.new.walk.listed self.new.walk.trace.parents self.new.walk.trace.way result }
         ensures whole { result ≡ Ok None → IsWhole (state_in (X.world self.new.course.leaves) self.new.course.forms
             self.new.course.interner) self.new.walk.listed }
         ensures end { IfErr result (IsRunEnd (state_in (X.world self.new.course.leaves) self.new.course.forms self.new.course.interner)
@@ -127,5 +131,27 @@ impl<X: Leaves + Drop> StratRun<X> {
             Ok(None) => Ok(None),
             Err(end) => Err(end_of(end)),
         }
+    }
+
+    /// The numbers of the configurations on the way to the solution that `next` gave, the start first; none where it gave none.
+    pub fn way(&self) -> &[usize]
+        ensures { result.now ≡ self.now.walk.trace.way }
+    {
+        self.walk.trace.way()
+    }
+
+    /// The terms of the configurations on this way, the start first and the solution last.
+    pub fn path(&self, alloc: Global) -> Result<Vec<TermId>, NoMemory>
+        requires { All (IsConfig (state_in (X.world self.now.course.leaves) self.now.course.forms self.now.course.interner)) self.now.walk.trace.way }
+        ensures { IfOk result (λ path. map (λ t. (X.world self.now.course.leaves).setting.tree t.0) path.items ≡
+            map (λ c. (config_in (state_in (X.world self.now.course.leaves) self.now.course.forms self.now.course.interner) c).term) self.now.walk.trace.way) }
+    {
+        let way = self.walk.trace.way();
+        let mut path = Vec::with_capacity(alloc, way.len())?;
+        for number in way {
+            let config = self.course.interner.config(*number);
+            path.push(config.term)?;
+        }
+        Ok(path)
     }
 }

@@ -13,7 +13,7 @@ use Rattle.mau_leaves.specs.Searches.{found_in, last_in}
 use Rattle.mau_leaves.specs.Calls.{left_standing, IsShownFor, IsStanding}
 use Rattle.mau_leaves.specs.declared.uses.Standing.TheVariants.{Behind}
 use Rattle.mau_leaves.proofs.Bound.{shown_as, solution_as, behind_references, then_of, if_some}
-use Rattle.mau_leaves.proofs.Bodies.{found_body, no_body, body_due, begun_within, condition_here, shown_here, stands_within, standing_grown, still_standing}
+use Rattle.mau_leaves.proofs.Definitions.{found_body, no_body, body_due, begun_within, condition_here, shown_here, stands_within, standing_grown, still_standing}
 use Rattle.mau_leaves.proofs.bodies.ask_on.Goals as goal
 
 pub bounds-definitions-number : goal.bounds-definitions-number

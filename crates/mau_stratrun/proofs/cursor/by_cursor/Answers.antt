@@ -1,13 +1,16 @@
 use Rattle.std.proofs.Common.{◌≡◌, ◌<◌, length, Ok, ap, ◌∙◌, subst, arith}
 use Rattle.mau_stratrun.specs.Courses.{IsAsked, IsSettled}
 use Rattle.mau_stratrun.proofs.Coursing.{leaves_facts}
-use Rattle.mau_stratrun.proofs.Cursoring.{given_at, given_none, given_end, given_settled, given_unsettled}
+use Rattle.mau_stratrun.proofs.Cursoring.{has_yielded, given_at, given_none, given_end, given_settled, given_unsettled}
 use Rattle.mau_stratrun.proofs.cursor.by_cursor.Goals as goal
 
 pub returns-then-at-known-clause-answer : goal.returns-then-at-known-clause-answer
 returns-then-at-known-clause-answer g c forms h k =
     let within : c.args.at < length c.args.kept.now.given.items = omega arith in
     given_at (g.X.Leaves.world c.args.leaves.now) forms c.args.interner.now c.args.kept.now k c.args.bodies.now h c.args.at c.index.result.now c.index.ensures within
+
+pub ask-requires-clause-yields : goal.ask-requires-clause-yields
+ask-requires-clause-yields g c = has_yielded (g.X.Leaves.world c.args.leaves.now) c.requires.facts.0 c.args.interner.now c.args.kept.now c.requires.facts.2
 
 pub settle-requires-clause-facts : goal.settle-requires-clause-facts
 settle-requires-clause-facts g c =

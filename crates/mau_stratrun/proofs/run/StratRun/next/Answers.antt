@@ -1,10 +1,11 @@
-use Rattle.std.proofs.Common.{◌++◌, Contains, sym, subst}
+use Rattle.std.proofs.Common.{◌++◌, Contains, Ok, ap, ◌∙◌, sym, subst}
 use Rattle.std.proofs.lemmas.List.Elements.{Contains-push}
-use Rattle.mau_strat.specs.Walks.{AnswerIs}
+use Rattle.mau_strat.specs.Walks.{AnswerIs, WayIs}
 use Rattle.mau_stratrun.specs.States.{config_in, begins_in, next_in}
 use Rattle.mau_stratrun.specs.Courses.{state_in, is_solution}
 use Rattle.mau_stratrun.proofs.Adding.{config_is}
 use Rattle.mau_stratrun.proofs.Running.{solved, new_one, whole_run, run_end, adds_none, adds_one}
+use Rattle.mau_stratrun.proofs.Pathing.{path_to}
 use Rattle.mau_stratrun.proofs.run.StratRun.next.Goals as goal
 
 pub next-requires-clause-run : goal.next-requires-clause-run
@@ -26,6 +27,13 @@ returns-in-Ok-Some-clause-once g c =
     let answer = subst (AnswerIs (begins_in s) (next_in s) (λ n. is_solution (config_in s n)) c.args.self.now.walk.listed c.next.new.self.listed) c.in-Ok-Some.field-0-is c.in-Ok-Some.ensures.answer in
     let listed = subst (λ xs. Contains xs c.in-Ok-Some.number) (sym answer.1) (Contains-push (c.args.self.now.walk.listed ++ answer.0) c.in-Ok-Some.number) in
     new_one s c.next.ensures.ready.1.facts.state c.next.new.self.listed c.next.ensures.ready.2 c.next.ensures.run.reached c.args.self.now.walk.listed answer.0 c.in-Ok-Some.number c.config-config.result answer.1 listed (config_is s c.in-Ok-Some.number c.config-config.result c.config-config.ensures.config) answer.3
+
+pub returns-in-Ok-Some-clause-path : goal.returns-in-Ok-Some-clause-path
+returns-in-Ok-Some-clause-path g c =
+    let s = (state_in (g.X.Leaves.world c.next.new.engine.leaves) c.next.new.engine.forms c.next.new.engine.interner) in
+    let answer = subst (AnswerIs (begins_in s) (next_in s) (λ n. is_solution (config_in s n)) c.args.self.now.walk.listed c.next.new.self.listed) c.in-Ok-Some.field-0-is c.in-Ok-Some.ensures.answer in
+    let way = subst (WayIs (begins_in s) (next_in s) c.next.new.self.listed c.next.new.self.trace.parents c.next.new.self.trace.way) (c.in-Ok-Some.is ∙ ap Ok c.in-Ok-Some.field-0-is) c.next.ensures.way in
+    path_to s c.next.new.self.listed c.next.new.self.trace.parents c.next.new.self.trace.way c.next.ensures.ready.2 c.in-Ok-Some.number way c.config-config.result (config_is s c.in-Ok-Some.number c.config-config.result c.config-config.ensures.config) answer.3
 
 pub returns-in-Ok-None-clause-whole : goal.returns-in-Ok-None-clause-whole
 returns-in-Ok-None-clause-whole g c e =

@@ -52,7 +52,7 @@ use Rattle.mau_leaves.specs.declared.uses.Standing.TheVariants.{Behind}
 use Rattle.mau_leaves.specs.declared.testing.TestCursor.{TestCursor}
 use Rattle.mau_leaves.proofs.Engines.{AsksRightly, without_right}
 use Rattle.mau_leaves.proofs.Behind.{all_of_them}
-use Rattle.mau_leaves.proofs.Bodies.{fragments_of}
+use Rattle.mau_leaves.proofs.Definitions.{fragments_of}
 use Rattle.mau_leaves.proofs.Searching.{term_grown, settled_later, search_grown, left_same}
 use Rattle.mau_leaves.proofs.Steps.{always_so, through_as, through_always, due_as}
 use Rattle.mau_leaves.proofs.Throughs.{rightly}
