@@ -18,7 +18,7 @@ module _ {K : Type 0} (asked : K → Asked) (given : K → Option Listed.Solutio
   pub is_world : (budget : ℕ) (nodes : List Node) (table : Table) → IsReady c p m leaves budget nodes → IsWorld (world_of asked given is_for c p m leaves nodes table)
   is_world budget nodes table r = record {
     fixed = record { apart = r.apart; kinds = r.kinds; asks = λ k B b. (askings_are_right (program_over p m.hooks) r.runnable.reducible.lawful k B b).0 };
-    apart = λ j k i l e. (one_number_where_one_tree nodes r.nodes j k i l).1 e;
+    apart = λ j k i l e. (one_number_where_one_tree nodes r.are_nodes j k i l).1 e;
     terms = λ n h. h.0.within.there;
     values = λ b h. h.term.within.there;
   }

@@ -109,7 +109,7 @@ pub record IsReady (c : Bool) (p : Typed.Program) (m : Meanings) (leaves : List 
   pub runnable : IsRunnable p
   pub goes_by : GoesBy p m
   pub limit : budget ≡ m.limit
-  pub nodes : AreNodes nodes
+  pub are_nodes : AreNodes nodes
   pub apart : TellsApart (leaf_at leaves) (length leaves)
   pub kinds : (l : ℕ) → l < length leaves → IsLeaf (leaf_at leaves l)
   pub lawful : All (IsLawfulLeaf p.sig) leaves
