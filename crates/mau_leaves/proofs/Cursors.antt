@@ -1,5 +1,5 @@
 -- Who gives the results of leaves is as runs need it, and cursors have yielded the same as there are more terms.
-use Rattle.std.proofs.Common.{◌≡◌, ℕ, ◌≤◌, List, [], ◌∷◌, ◌++◌, map, length, slice_get, zero, suc, Bool, Option, Some, None, IfSome, Result, Ok, Err, IfOk, inl, refl, sym, ap, ◌∙◌, subst, arith, length-append}
+use Rattle.std.proofs.Common.{◌≡◌, ℕ, ◌≤◌, List, [], ◌∷◌, ◌++◌, map, length, All, slice_get, zero, suc, Bool, Option, Some, None, IfSome, Result, Ok, Err, IfOk, inl, refl, sym, ap, ◌∙◌, subst, arith, length-append}
 use Rattle.std.proofs.lemmas.List.{map-append}
 use Rattle.mau_terms.specs.Tree.{Tree}
 use Rattle.mau_terms.specs.declared.ids.TermId.{TermId}
@@ -34,9 +34,11 @@ use Rattle.mau_stratrun.proofs.Yielding.{leaves_yield}
 use Rattle.mau_leaves.specs.Uses.{is_chosen}
 use Rattle.mau_leaves.specs.Top.{left_of_top, IsTop}
 use Rattle.mau_leaves.specs.Follows.{IsLeafDue, IsNextGiven, IsTopOf}
-use Rattle.mau_evaluation.specs.Strategy.{idle}
+use Rattle.mau_evaluation.specs.Strategy.{idle, label, top_only, call}
+use Rattle.mau_reduce.proofs.Numbered.{is_among}
+use Rattle.mau_rules.proofs.Shown.{all_in}
 use Rattle.mau_leaves.specs.Meanings.{meaning_of}
-use Rattle.mau_leaves.specs.Cursors.{leaf_at, fixed_of, leaf_end, yielded_by, chosen_by, IsTopCursor, IsTestCursor, yields_in, world_of, world_of_calls}
+use Rattle.mau_leaves.specs.Cursors.{leaf_at, label_by, label_of_one, label_in, call_by, call_of_one, call_in, IsLawfulLeaf, fixed_of, leaf_end, yielded_by, chosen_by, IsTopCursor, IsTestCursor, yields_in, world_of, world_of_calls}
 use Rattle.mau_leaves.specs.declared.cursor.CallCursor.{CallCursor}
 use Rattle.mau_leaves.specs.declared.top.TopResults.{TopResults}
 use Rattle.mau_leaves.specs.declared.cursor.LeafCursor.{LeafCursor}
@@ -67,7 +69,7 @@ module _ {K : Type 0} (asked : K → Asked) (given : K → Option Listed.Solutio
           h.rest (still_top asked given is_for c p run m old before s h.top new after extends kept over (is_chosen (chosen_by leaves label)));
     }
 
-    test_cursor_grown : (s : TestCursor K) (d : Todo) (t : Tree) (ys : List Yield) → IsTestCursor asked given is_for c p m old before s d t ys → IsTestCursor asked given is_for c p m new after s d t ys
+    test_cursor_grown : (s : TestCursor K) (d : Todo) (t : Tree) (ys : List Yield) → IsTestCursor asked given is_for c p m leaves old before s d t ys → IsTestCursor asked given is_for c p m leaves new after s d t ys
     test_cursor_grown s d t ys h = record {
       results = h.results;
       yielded = h.yielded;
@@ -155,3 +157,35 @@ pub leaf_there : (leaves : List Written.StrategyOf) (i : ℕ) (s : Written.Strat
 leaf_there [] i s e = cc
 leaf_there (x ∷ leaves) zero s e = ap (λ (z : Option Written.StrategyOf). elim z [ None ↦ idle | Some y ↦ meaning_of y ]) e
 leaf_there (x ∷ leaves) (suc i) s e = leaf_there leaves i s e
+
+-- a leaf that has a label, and one that is a call
+module _ (leaves : List Written.StrategyOf) (i : ℕ) (n : List ℕ) where
+  labelled_form : (s : Written.StrategyOf) → label_by s ≡ Some n → meaning_of s ≡ label n []
+  labelled_form (Written.label k []) e = ap (λ (o : Option (List ℕ)). elim o [ None ↦ idle | Some j ↦ label j [] ]) e
+  labelled_form (Written.label k (x ∷ xs)) e = cc
+  labelled_form _ e = cc
+
+  called_form : (s : Written.StrategyOf) → call_by s ≡ Some n → meaning_of s ≡ call n []
+  called_form (Written.call k []) e = ap (λ (o : Option (List ℕ)). elim o [ None ↦ idle | Some j ↦ call j [] ]) e
+  called_form (Written.call k (x ∷ xs)) e = cc
+  called_form _ e = cc
+
+  pub labelled_leaf : label_in leaves i ≡ Some n → leaf_at leaves i ≡ label n []
+  labelled_leaf e = by (slice_get leaves i) refl e
+    where
+      by : (o : Option Written.StrategyOf) → slice_get leaves i ≡ o → label_of_one o ≡ Some n → leaf_at leaves i ≡ label n []
+      by None h e = cc
+      by (Some s) h e = leaf_there leaves i s h ∙ labelled_form s e
+
+  pub called_leaf : call_in leaves i ≡ Some n → leaf_at leaves i ≡ call n []
+  called_leaf e = by (slice_get leaves i) refl e
+    where
+      by : (o : Option Written.StrategyOf) → slice_get leaves i ≡ o → call_of_one o ≡ Some n → leaf_at leaves i ≡ call n []
+      by None h e = cc
+      by (Some s) h e = leaf_there leaves i s h ∙ called_form s e
+
+pub top_of_label : (leaves : List Written.StrategyOf) (l : LeafId) (n : List ℕ) → label_in leaves l.0 ≡ Some n → IsTopOf (chosen_by leaves (Some l)) (top_only (leaf_at leaves l.0))
+top_of_label leaves l n e = subst (λ o. IsTopOf o (top_only (leaf_at leaves l.0))) (sym e) (ap top_only (labelled_leaf leaves l.0 n e))
+
+pub lawful_leaf : (s : SignatureOf) (leaves : List Written.StrategyOf) (i : ℕ) (x : Written.StrategyOf) → slice_get leaves i ≡ Some x → All (IsLawfulLeaf s) leaves → IsLawfulLeaf s x
+lawful_leaf s leaves i x e h = all_in (IsLawfulLeaf s) leaves x h (is_among leaves i x e)

@@ -170,7 +170,7 @@ module _ (p : Typed.Program) (hooks : List Operator) (k : ℕ) (n : List ℕ) wh
       stands_at Before h nodes' = ap (left_of_one p hooks k n nodes' i Before) (sym at)
       stands_at (Within found) h nodes' = ap (left_of_one p hooks k n nodes' i (Within found)) (sym at)
 
-      pub found_body : (s : Standing) → (s ≡ Behind → ⊥) → (found : _) → ComesTo Q (λ L. condition_from Q L (last_in nodes s) (definition_of d).cond []) (Some (binding_in new found.items)) →
+      pub found_body : (s : Standing) → (s ≡ Behind → ⊥) → (found : Vec (VarId × TermId) Global) → ComesTo Q (λ L. condition_from Q L (last_in nodes s) (definition_of d).cond []) (Some (binding_in new found.items)) →
           (x : Todo) × (body_with k new (Within found) (slice_get p.strategies i) ≡ Some x) ×
           Throughout (engine_of (program_over p hooks)) (left_standing p hooks k n nodes i s) (λ L. Gives (left_standing p hooks k n nodes i s L) x (left_standing p hooks k n new i (Within found) L))
       found_body s h found comes = (

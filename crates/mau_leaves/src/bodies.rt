@@ -1,9 +1,10 @@
 //! The bodies of a call without arguments, one after another: the definitions of its name in module order, and for each the solutions of its
 //! condition.
-ghost use Rattle.std.specs.Prelude.{◌≡◌, ℕ, List, map, All};
+ghost use Rattle.std.specs.Prelude.{◌≡◌, ℕ, List, [], map, All, true, false};
 ghost use Rattle.mau_formula.specs.Operator.{Operator};
 ghost use Rattle.mau_store.specs.Node.{Node, Extends};
 ghost use Rattle.mau_sorts.specs.Table.{Table, KeepsEntries};
+ghost use Rattle.mau_evaluation.specs.Satisfies.{same_name};
 ghost use Rattle.mau_evaluation.specs.Rules as Defined;
 ghost use Rattle.mau_api.specs.Programs.{fragment_of, program_over};
 ghost use Rattle.mau_api.specs.Meanings.{Meanings};
@@ -15,7 +16,7 @@ ghost use Rattle.mau_leaves.specs.declared.uses.Standing.TheVariants as At;
 
 use crate::turn::Turn;
 use crate::uses::{Standing, ask, last_of};
-use mau_api::{EvalEnd, Evaluator, Fragment, Program};
+use mau_api::{EvalEnd, Evaluator, Fragment, Program, StratDef};
 use mau_store::Store;
 
 /// A search for the bodies of a call: the number of a definition, counted from 0, and where the search stands among the solutions of its
@@ -91,6 +92,24 @@ fn ask_on<E: Evaluator>(
     }
 }
 
+/// Whether a definition has a name.
+fn is_named(definition: &StratDef, name: &str) -> bool
+    ensures { result ≡ same_name definition.now.name name.now }
+{
+    definition.name.as_str() == name
+}
+
+/// Whether a definition has no arguments.
+fn takes_none(definition: &StratDef) -> bool
+    ensures none { result ≡ true → definition.now.args ≡ [] }
+    ensures some { result ≡ false → definition.now.args ≡ [] → ⊥ }
+{
+    match definition.args.items() {
+        [] => true,
+        [_, ..] => false,
+    }
+}
+
 /// Begins the next definition, where it has the name and no arguments; else it is passed over. One whose condition has a rewriting fragment
 /// is not begun yet: the search gives up.
 fn begin_definition(program: &Program, name: &str, bodies: &mut CallBodies) -> Result<Turn, EvalEnd>
@@ -108,11 +127,11 @@ fn begin_definition(program: &Program, name: &str, bodies: &mut CallBodies) -> R
         return Ok(Turn::Over);
     }
     let definition = &definitions[number];
-    if definition.name.as_str() != name {
+    if !is_named(definition, name) {
         bodies.number = number + 1;
         return Ok(Turn::Passed);
     }
-    if !definition.args.items().is_empty() {
+    if !takes_none(definition) {
         bodies.number = number + 1;
         return Ok(Turn::Passed);
     }

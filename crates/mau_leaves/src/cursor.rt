@@ -317,17 +317,15 @@ fn start_leaf<E: Evaluator, L: Lister + Drop>(
         (record { form = leaf_at leaves.now leaf.0; calls = calls; values = values_of (tree_at store.now) values.now })
         (tree_at store.now term.0) []) }
 {
+    match name_of(leaves, leaf) {
+        Some(_) => return Ok(LeafCursor::Bodies(call_cursor(leaf, calls))),
+        None => (),
+    }
     let strategy = match leaves.get(leaf.0) {
         Some(strategy) => strategy,
         None => return Ok(LeafCursor::Unsearched),
     };
     match strategy.form() {
-        StrategyForm::Call(_, args) => {
-            if !args.items().is_empty() {
-                return Ok(LeafCursor::Unsearched);
-            }
-            Ok(LeafCursor::Bodies(call_cursor(leaf, calls)))
-        }
         StrategyForm::Test(kind, pattern, cond) => {
             if !values.is_empty() {
                 return Ok(LeafCursor::Unsearched);

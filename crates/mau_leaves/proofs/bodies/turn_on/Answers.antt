@@ -27,4 +27,4 @@ not_behind s (inl e) h = cc
 not_behind s (inr (x, e)) h = cc
 
 pub ask_on-requires-clause-within : goal.ask_on-requires-clause-within
-ask_on-requires-clause-within g c = not_behind c.args.bodies.now.standing c.in-Before.is
+ask_on-requires-clause-within g c = not_behind _ c.in-Before.is
