@@ -34,7 +34,7 @@ use Rattle.mau_stratrun.proofs.Yielding.{leaves_yield}
 use Rattle.mau_leaves.specs.Uses.{is_chosen}
 use Rattle.mau_leaves.specs.Top.{left_of_top, IsTop}
 use Rattle.mau_leaves.specs.Follows.{IsLeafDue, IsNextGiven, IsTopOf}
-use Rattle.mau_evaluation.specs.Strategy.{idle, label, top_only, call}
+use Rattle.mau_evaluation.specs.Strategy.{idle, label as by_label, top_only, call}
 use Rattle.mau_reduce.proofs.Numbered.{is_among}
 use Rattle.mau_rules.proofs.Shown.{all_in}
 use Rattle.mau_leaves.specs.Meanings.{meaning_of}
@@ -160,8 +160,8 @@ leaf_there (x ∷ leaves) (suc i) s e = leaf_there leaves i s e
 
 -- a leaf that has a label, and one that is a call
 module _ (leaves : List Written.StrategyOf) (i : ℕ) (n : List ℕ) where
-  labelled_form : (s : Written.StrategyOf) → label_by s ≡ Some n → meaning_of s ≡ label n []
-  labelled_form (Written.label k []) e = ap (λ (o : Option (List ℕ)). elim o [ None ↦ idle | Some j ↦ label j [] ]) e
+  labelled_form : (s : Written.StrategyOf) → label_by s ≡ Some n → meaning_of s ≡ by_label n []
+  labelled_form (Written.label k []) e = ap (λ (o : Option (List ℕ)). elim o [ None ↦ idle | Some j ↦ by_label j [] ]) e
   labelled_form (Written.label k (x ∷ xs)) e = cc
   labelled_form _ e = cc
 
@@ -170,10 +170,10 @@ module _ (leaves : List Written.StrategyOf) (i : ℕ) (n : List ℕ) where
   called_form (Written.call k (x ∷ xs)) e = cc
   called_form _ e = cc
 
-  pub labelled_leaf : label_in leaves i ≡ Some n → leaf_at leaves i ≡ label n []
+  pub labelled_leaf : label_in leaves i ≡ Some n → leaf_at leaves i ≡ by_label n []
   labelled_leaf e = by (slice_get leaves i) refl e
     where
-      by : (o : Option Written.StrategyOf) → slice_get leaves i ≡ o → label_of_one o ≡ Some n → leaf_at leaves i ≡ label n []
+      by : (o : Option Written.StrategyOf) → slice_get leaves i ≡ o → label_of_one o ≡ Some n → leaf_at leaves i ≡ by_label n []
       by None h e = cc
       by (Some s) h e = leaf_there leaves i s h ∙ labelled_form s e
 

@@ -142,6 +142,18 @@ fn begin_definition(program: &Program, name: &str, bodies: &mut CallBodies) -> R
     Ok(Turn::Passed)
 }
 
+/// Whether a search stands at a definition.
+fn is_begun(standing: &Standing) -> bool
+    ensures begun { result ≡ true → standing.now ≡ At.Behind → ⊥ }
+    ensures idle { result ≡ false → standing.now ≡ At.Behind }
+{
+    match standing {
+        Standing::Behind => false,
+        Standing::Before => true,
+        Standing::Within(_) => true,
+    }
+}
+
 /// One turn of a search.
 fn turn_on<E: Evaluator>(
     program: &Program,
@@ -167,10 +179,10 @@ fn turn_on<E: Evaluator>(
     ensures kept { KeepsEntries (E.table evaluator.old) (E.table evaluator.new) }
     ensures meanings { E.meanings evaluator.new ≡ E.meanings evaluator.old }
 {
-    match &bodies.standing {
-        Standing::Behind => begin_definition(program, name, bodies),
-        Standing::Before | Standing::Within(_) => ask_on(program, store, evaluator, bodies, limit),
+    if is_begun(&bodies.standing) {
+        return ask_on(program, store, evaluator, bodies, limit);
     }
+    begin_definition(program, name, bodies)
 }
 
 /// The next body of a call: where there is one, the search stands at it.

@@ -1,5 +1,5 @@
 //! Who gives the results of leaves and the bodies of calls, by any evaluator and any listing with contexts.
-ghost use Rattle.std.specs.Prelude.{◌≡◌, ℕ, List, [], map, All, true, false, IsSome, IfOk};
+ghost use Rattle.std.specs.Prelude.{◌≡◌, ℕ, List, [], map, slice_get, All, true, false, IsSome, IfOk};
 ghost use Rattle.std.specs.Option.{option_map};
 ghost use Rattle.mau_terms.specs.Tree.{Tree};
 ghost use Rattle.mau_store.specs.Node.{Extends};
@@ -295,6 +295,23 @@ fn call_cursor(leaf: LeafId, calls: usize) -> CallCursor
     }
 }
 
+/// The leaf with a number.
+fn leaf_by(leaves: &[Strategy], leaf: LeafId) -> Option<&Strategy>
+    ensures { option_map (λ x. x.now) result ≡ slice_get leaves.now leaf.0 }
+{
+    leaves.get(leaf.0)
+}
+
+/// Whether no variable has a value.
+fn have_none(values: &[Bound]) -> bool
+    ensures { result ≡ true → values.now ≡ [] }
+{
+    match values {
+        [] => true,
+        [_, ..] => false,
+    }
+}
+
 /// The cursor of a leaf on a term, which has yielded nothing. Tests whose variables may have values before are not searched for yet.
 fn start_leaf<E: Evaluator, L: Lister + Drop>(
     program: &Program,
@@ -321,13 +338,13 @@ fn start_leaf<E: Evaluator, L: Lister + Drop>(
         Some(_) => return Ok(LeafCursor::Bodies(call_cursor(leaf, calls))),
         None => (),
     }
-    let strategy = match leaves.get(leaf.0) {
+    let strategy = match leaf_by(leaves, leaf) {
         Some(strategy) => strategy,
         None => return Ok(LeafCursor::Unsearched),
     };
     match strategy.form() {
         StrategyForm::Test(kind, pattern, cond) => {
-            if !values.is_empty() {
+            if !have_none(values) {
                 return Ok(LeafCursor::Unsearched);
             }
             match start_test(program, store, evaluator, *kind, pattern, cond, term)? {
