@@ -1,13 +1,11 @@
 -- The bodies of a call, one after another, as a run has them.
-use Rattle.std.proofs.Common.{◌≡◌, ℕ, zero, suc, ◌<◌, List, [], ◌∷◌, ◌++◌, length, map, drop, All, Bool, true, false, Option, Some, None, IsSome, Result, Ok, Err, slice_get, inr, refl, sym, ap, ◌∙◌, subst, arith}
+use Rattle.std.proofs.Common.{◌≡◌, ℕ, zero, suc, List, [], ◌∷◌, ◌++◌, map, drop, All, Bool, true, false, Option, Some, None, IsSome, Result, Ok, Err, slice_get, inr, refl, sym, ap, ◌∙◌, subst, arith}
 use Rattle.std.proofs.lemmas.List.{map-append, length-map}
 use Rattle.std.proofs.lemmas.List.Elements.{All-nil, All-cons, All-head, All-tail}
 use Rattle.std.proofs.lemmas.Option.{slice_get_within}
-use Rattle.std.specs.List.{slice_index_or}
 use Rattle.mau_terms.specs.Tree.{Tree}
 use Rattle.mau_terms.specs.declared.ids.TermId.{TermId}
 use Rattle.mau_terms.specs.declared.ids.VarId.{VarId}
-use Rattle.mau_signature.specs.Signature.{SignatureOf}
 use Rattle.mau_store.specs.Node.{Node, Extends}
 use Rattle.mau_store.specs.Trees.{tree_at}
 use Rattle.mau_sorts.specs.Table.{Table, KeepsEntries}
@@ -17,10 +15,10 @@ use Rattle.mau_program.specs.Trees as Written
 use Rattle.mau_evaluation.specs.Program.{Program}
 use Rattle.mau_evaluation.specs.Engine.{Engine, Engines, engine_of}
 use Rattle.mau_evaluation.specs.Eventually.{Eventually}
-use Rattle.mau_evaluation.specs.Strategy.{Strategy, idle, call, StratDef}
+use Rattle.mau_evaluation.specs.Strategy.{idle, call, StratDef}
 use Rattle.mau_evaluation.specs.Configs.{Todo}
 use Rattle.mau_evaluation.specs.Entries.{BodyFront, BodyFrontWith}
-use Rattle.mau_evaluation.specs.Answers.{Answers, no_more, answer, answers_of, before, for_each}
+use Rattle.mau_evaluation.specs.Answers.{Answers, answers_of, before}
 use Rattle.mau_evaluation.specs.OrderedLists.{bodies_for, bodies_by, BodyList, BodyListWith}
 use Rattle.mau_api.specs.Programs.{program_over}
 use Rattle.mau_api.specs.Meanings.{Meanings}
@@ -32,25 +30,25 @@ use Rattle.mau_stratrun.specs.declared.leaves.Body.{Body}
 use Rattle.mau_stratrun.specs.declared.leaves.Yielded.{Yielded}
 use Rattle.mau_stratrun.specs.declared.leaves.Yielded.TheVariants.{Term, Body as BodyOf}
 use Rattle.mau_stratrun.specs.declared.leaves.LeafEnd.{LeafEnd}
-use Rattle.mau_stratrun.specs.declared.leaves.LeafEnd.TheVariants.{NoMemory, CallDepth}
+use Rattle.mau_stratrun.specs.declared.leaves.LeafEnd.TheVariants.{CallDepth}
 use Rattle.mau_stratrun.specs.Settings.{Fixed}
 use Rattle.mau_stratrun.specs.Yields.{Yield, body_on, IsCall, YieldsFirst, YieldsAll, IsCause}
 use Rattle.mau_stratrun.specs.Worlds.{values_of, body_at, yield_of, IsYielded, IsNextYield}
 use Rattle.mau_stratrun.proofs.Yielding.{calls_yield}
 use Rattle.mau_leaves.specs.Meanings.{definition_of}
-use Rattle.mau_leaves.specs.Steps.{Gives, IsOver, Passes, EndsNow, Throughout}
+use Rattle.mau_leaves.specs.Steps.{Gives, IsOver, Passes, Throughout}
 use Rattle.mau_leaves.specs.Answers.{IsDueBy}
 use Rattle.mau_leaves.specs.Searches.{IsNextOne, found_in}
-use Rattle.mau_leaves.specs.Follows.{Given, HasGivenBodies}
-use Rattle.mau_leaves.specs.Calls.{bodies_from, left_standing, left_of_call, body_with, body_found, IsBegun, IsStanding, IsCallSearch}
+use Rattle.mau_leaves.specs.Follows.{HasGivenBodies}
+use Rattle.mau_leaves.specs.Calls.{bodies_from, left_standing, left_of_call, body_with, body_found, IsStanding, IsCallSearch}
 use Rattle.mau_leaves.specs.Cursors.{fixed_of, leaf_end, call_in, left_due, left_of_cursor, IsCallCursor, world_of_calls, bound_by, IsBodyOf, IsGivenBody}
 use Rattle.mau_leaves.specs.declared.uses.Standing.{Standing}
 use Rattle.mau_leaves.specs.declared.uses.Standing.TheVariants.{Behind, Before, Within}
 use Rattle.mau_leaves.specs.declared.bodies.CallBodies.{CallBodies}
 use Rattle.mau_leaves.specs.declared.cursor.CallCursor.{CallCursor}
-use Rattle.mau_leaves.proofs.Definitions.{standing_grown, still_standing, standing_same, found_same}
+use Rattle.mau_leaves.proofs.Definitions.{standing_grown, standing_same, found_same}
 use Rattle.mau_leaves.proofs.Rewrites.{those_none}
-use Rattle.mau_leaves.proofs.Steps.{so, through_as, through_always, due_as}
+use Rattle.mau_leaves.proofs.Steps.{so, through_as, through_always}
 use Rattle.mau_leaves.proofs.Follows.{begins, passes, gives, front, whole, needs}
 
 -- ---- what is due comes first

@@ -1,11 +1,8 @@
 -- Tests: their results by the uses of a rule, and the search for these.
-use Rattle.std.proofs.Common.{◌≡◌, ◌⊎◌, inl, ℕ, List, [], ◌∷◌, ◌++◌, map, All, Bool, true, false, Option, Some, None, Ok, Err, refl, sym, ap, ◌∙◌, subst, append-nil}
+use Rattle.std.proofs.Common.{◌≡◌, ◌⊎◌, inl, ℕ, List, [], ◌∷◌, map, All, Bool, true, false, Option, Some, None, Ok, Err, refl, sym, ap, ◌∙◌, subst, append-nil}
 use Rattle.mau_terms.specs.Tree.{Tree}
 use Rattle.mau_terms.specs.Bare.{IsBare, IsBareIn, IsLawful}
-use Rattle.mau_terms.specs.Norm.{norm}
-use Rattle.mau_terms.specs.Solution.{assoc_top}
 use Rattle.mau_terms.specs.Subst.{variables}
-use Rattle.mau_terms.specs.View.{tree_of}
 use Rattle.mau_terms.specs.declared.ids.TermId.{TermId}
 use Rattle.mau_terms.proofs.Variables.{distinct}
 use Rattle.mau_signature.specs.Signature.{SignatureOf, theory_at, terms_over}
@@ -15,27 +12,27 @@ use Rattle.mau_store.specs.Trees.{tree_at}
 use Rattle.mau_sorts.specs.Table.{Table, KeepsEntries, AreOver}
 use Rattle.mau_listing.specs.Asked.{Asked}
 use Rattle.mau_listing.specs.declared.solution.Solution as Listed
-use Rattle.mau_program.specs.LawfulStatements.{IsLawfulFragment, AreOfOneKind}
+use Rattle.mau_program.specs.LawfulStatements.{IsLawfulFragment}
 use Rattle.mau_program.specs.declared.program.Program as Typed
 use Rattle.mau_program.specs.declared.statements.Fragment as WrittenFragment
 use Rattle.mau_program.specs.declared.statements.Rule as Written
 use Rattle.mau_program.specs.declared.strategies.TestKind as WrittenKind
 use Rattle.mau_program.specs.declared.strategies.TestKind.TheVariants as Kind
 use Rattle.mau_evaluation.specs.Run.{End, Outcome, done, ended}
-use Rattle.mau_evaluation.specs.Program.{Fragment, Rule, Program}
+use Rattle.mau_evaluation.specs.Program.{Rule, Program}
 use Rattle.mau_evaluation.specs.Listing.{Solution, keep, makes_bare, fitting, within_under, compare, solutions, solutions_within}
-use Rattle.mau_evaluation.specs.Evaluation.{Binding, extend, agree, have_sorts}
+use Rattle.mau_evaluation.specs.Evaluation.{Binding, agree, have_sorts}
 use Rattle.mau_evaluation.specs.Engine.{Engine, engine_of}
-use Rattle.mau_evaluation.specs.Strategy.{TestKind, test}
+use Rattle.mau_evaluation.specs.Strategy.{test}
 use Rattle.mau_evaluation.specs.Satisfies.{candidates_for}
 use Rattle.mau_evaluation.specs.Configs.{Todo}
 use Rattle.mau_evaluation.specs.Rules.{bound_by}
 use Rattle.mau_evaluation.specs.Questions.{without}
-use Rattle.mau_evaluation.specs.Answers.{Answers, no_more, ends_by, answer, and_those, for_each, from_outcome, when, FirstBy}
+use Rattle.mau_evaluation.specs.Answers.{Answers, no_more, answer, and_those, for_each, from_outcome, when, FirstBy}
 use Rattle.mau_evaluation.specs.OrderedLists.{shown, asked_from, or_next, holding, first_holding, results_of, results}
 use Rattle.mau_api.specs.Programs.{fragment_of, rule_of, program_over}
 use Rattle.mau_api.specs.Meanings.{Meanings}
-use Rattle.mau_api.specs.Answers.{IsAskable, AreSettled, levels_of_condition}
+use Rattle.mau_api.specs.Answers.{IsAskable, levels_of_condition}
 use Rattle.mau_api.specs.declared.results.EvalEnd.{EvalEnd}
 use Rattle.mau_api.specs.declared.results.EvalEnd.TheVariants as Ended
 use Rattle.mau_reduce.proofs.KindsKept.{tree_kept}
@@ -44,11 +41,9 @@ use Rattle.mau_leaves.specs.Steps.{Gives, IsOver, Passes, EndsNow, Throughout}
 use Rattle.mau_leaves.specs.Uses.{Use, behind, use_by, uses_among, uses_by, IsLeft}
 use Rattle.mau_leaves.specs.Answers.{IsDueBy}
 use Rattle.mau_leaves.specs.Searches.{stand_of, left_in, IsUsable, IsSearch, IsNextOne}
-use Rattle.mau_leaves.specs.Top.{IsNextResult}
-use Rattle.mau_leaves.specs.Follows.{Given, HasGiven}
+use Rattle.mau_leaves.specs.Follows.{HasGiven}
 use Rattle.mau_leaves.specs.Tests.{first_only, WithinIsWhole, MayAsk, IsTestOf, left_over, left_of_test, IsTest, IsBegunTest}
 use Rattle.mau_leaves.specs.declared.uses.RuleUses.{RuleUses}
-use Rattle.mau_leaves.specs.declared.uses.Standing.TheVariants.{Behind}
 use Rattle.mau_leaves.specs.declared.testing.TestCursor.{TestCursor}
 use Rattle.mau_leaves.proofs.Engines.{AsksRightly, without_right}
 use Rattle.mau_leaves.proofs.Behind.{all_of_them}

@@ -35,7 +35,7 @@ use Rattle.mau_stratrun.specs.declared.leaves.Yielded.TheVariants.{Term, Body as
 use Rattle.mau_stratrun.specs.declared.leaves.Body.{Body}
 use Rattle.mau_stratrun.specs.declared.leaves.LeafEnd.{LeafEnd}
 use Rattle.mau_stratrun.specs.declared.leaves.LeafEnd.TheVariants.{Stopped, TooDeep, Overflow, NoMemory}
-use Rattle.mau_stratrun.specs.Settings.{Fixed, Setting}
+use Rattle.mau_stratrun.specs.Settings.{Fixed}
 use Rattle.mau_stratrun.specs.Yields.{Yield, result_of, body_on}
 use Rattle.mau_stratrun.specs.Worlds.{World}
 use Rattle.mau_leaves.specs.Meanings.{meaning_of, definition_of}

@@ -1,5 +1,5 @@
 -- Strategies of a program, and their definitions, as the definitions of evaluation see them: by the trees of their terms.
-use Rattle.std.specs.Prelude.{ℕ, List, map}
+use Rattle.std.specs.Prelude.{map}
 use Rattle.mau_terms.specs.View.{tree_of, variable_of}
 use Rattle.mau_program.specs.declared.strategies.TestKind as WrittenKind
 use Rattle.mau_program.specs.declared.strategies.TestKind.TheVariants as Kind

@@ -1,5 +1,5 @@
 -- Tests: their results by the uses of a rule, and searches for these by the numbers of a store.
-use Rattle.std.specs.Prelude.{◌≡◌, ℕ, List, [], map, Bool, true, false, Option, None}
+use Rattle.std.specs.Prelude.{◌≡◌, List, map, Bool, true, false, Option, None}
 use Rattle.mau_terms.specs.Tree.{Tree}
 use Rattle.mau_terms.specs.Norm.{norm}
 use Rattle.mau_terms.specs.Solution.{assoc_top}

@@ -1,16 +1,16 @@
-use Rattle.std.proofs.Common.{◌≡◌, ◌<◌, List, [], length, map, All, Vec, Global, Option, Some, None, IfSome, Ok, Err, refl, sym, ap, ◌∙◌, subst, arith, add-one}
+use Rattle.std.proofs.Common.{◌<◌, List, [], length, map, All, Vec, Global, Option, Some, None, IfSome, Ok, Err, refl, sym, ap, subst, arith, add-one}
 use Rattle.std.specs.Option.{option_map}
 use Rattle.mau_terms.specs.declared.ids.TermId.{TermId}
 use Rattle.mau_terms.specs.declared.ids.VarId.{VarId}
 use Rattle.mau_program.specs.declared.definitions.StratDef as Written
 use Rattle.mau_evaluation.specs.Engine.{engine_of}
 use Rattle.mau_api.specs.Programs.{fragment_of, program_over}
-use Rattle.mau_api.specs.Answers.{IsAskable, IsValueOf, IsSolutionOf, binding_in, mapped}
+use Rattle.mau_api.specs.Answers.{IsAskable, IsValueOf, IsSolutionOf, binding_in}
 use Rattle.mau_reduce.proofs.Numbered.{at_index}
 use Rattle.mau_leaves.specs.Steps.{Passes, Throughout}
 use Rattle.mau_leaves.specs.Answers.{IsNextShown}
 use Rattle.mau_leaves.specs.Searches.{found_in, last_in}
-use Rattle.mau_leaves.specs.Calls.{left_standing, IsShownFor, IsStanding}
+use Rattle.mau_leaves.specs.Calls.{left_standing, IsShownFor}
 use Rattle.mau_leaves.specs.declared.uses.Standing.TheVariants.{Behind}
 use Rattle.mau_leaves.proofs.Bound.{shown_as, solution_as, behind_references, then_of, if_some}
 use Rattle.mau_leaves.proofs.Definitions.{found_body, no_body, body_due, begun_within, condition_here, shown_here, stands_within, standing_grown, still_standing}

@@ -1,4 +1,4 @@
-use Rattle.std.proofs.Common.{◌≡◌, ◌+◌, ◌<◌, ◌≤◌, ℕ, List, [], length, map, true, false, refl, sym, ap, ◌∙◌, subst, add-one}
+use Rattle.std.proofs.Common.{◌≡◌, ◌+◌, ◌<◌, ◌≤◌, List, length, map, false, sym, ap, ◌∙◌, subst, add-one}
 use Rattle.mau_program.specs.LawfulStrategies.{IsLawfulDefinition}
 use Rattle.mau_program.specs.declared.definitions.StratDef as Written
 use Rattle.mau_evaluation.specs.Engine.{engine_of}
@@ -7,7 +7,7 @@ use Rattle.mau_api.specs.Programs.{fragment_of, program_over}
 use Rattle.mau_reduce.proofs.Numbered.{at_index, is_among}
 use Rattle.mau_rules.proofs.Shown.{all_in}
 use Rattle.mau_leaves.specs.Steps.{Passes, IsOver, Throughout}
-use Rattle.mau_leaves.specs.Calls.{left_standing, left_of_call, IsStanding}
+use Rattle.mau_leaves.specs.Calls.{left_standing, left_of_call}
 use Rattle.mau_leaves.specs.declared.uses.Standing.{Standing}
 use Rattle.mau_leaves.specs.declared.uses.Standing.TheVariants.{Behind, Before}
 use Rattle.mau_leaves.proofs.Definitions.{passes_name, passes_arguments, over_definitions, begins_definition, definition_askable}

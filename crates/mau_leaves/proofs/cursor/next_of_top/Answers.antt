@@ -1,5 +1,4 @@
-use Rattle.std.proofs.Common.{List, Option, Result, refl, sym, ap, ◌∙◌, subst}
-use Rattle.std.specs.Option.{option_map}
+use Rattle.std.proofs.Common.{List, Option, Result, sym, subst}
 use Rattle.mau_evaluation.specs.Engine.{engine_of}
 use Rattle.mau_api.specs.Programs.{program_over}
 use Rattle.mau_stratrun.specs.declared.leaves.Yielded.{Yielded}

@@ -1,10 +1,9 @@
-use Rattle.std.proofs.Common.{◌≡◌, List, [], map, Option, Some, IfSome, refl, sym, ap, ◌∙◌, subst, slice_get}
+use Rattle.std.proofs.Common.{◌≡◌, [], map, Option, Some, IfSome, refl, sym, ap, ◌∙◌, subst, slice_get}
 use Rattle.std.specs.Option.{option_map}
 use Rattle.mau_terms.specs.View.{tree_of}
 use Rattle.mau_store.specs.Trees.{tree_at}
 use Rattle.mau_strat.specs.declared.forms.LeafId.{LeafId}
 use Rattle.mau_program.specs.Strategies.{strategy_of}
-use Rattle.mau_program.specs.Trees as Written
 use Rattle.mau_evaluation.specs.Strategy.{test}
 use Rattle.mau_evaluation.specs.OrderedLists.{IsLeaf}
 use Rattle.mau_api.specs.Programs.{fragment_of}

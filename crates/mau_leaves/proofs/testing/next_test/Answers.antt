@@ -1,4 +1,4 @@
-use Rattle.std.proofs.Common.{true, false, Ok, Err, subst}
+use Rattle.std.proofs.Common.{true, Ok, subst}
 use Rattle.mau_api.specs.Programs.{program_over}
 use Rattle.mau_leaves.specs.Searches.{left_in, use_in, IsNextOne}
 use Rattle.mau_leaves.proofs.Tables.{over_of}
