@@ -1,5 +1,5 @@
 -- Who gives the results of leaves is as runs need it, and cursors have yielded the same as there are more terms.
-use Rattle.std.proofs.Common.{◌≡◌, ℕ, ◌≤◌, List, [], ◌∷◌, ◌++◌, map, length, All, slice_get, zero, suc, Bool, Option, Some, None, IfSome, Result, Ok, Err, IfOk, inl, refl, sym, ap, ◌∙◌, subst, arith, length-append}
+use Rattle.std.proofs.Common.{◌≡◌, ℕ, ◌≤◌, List, [], ◌∷◌, ◌++◌, map, length, slice_get, zero, suc, Bool, Option, Some, None, IfSome, Result, Ok, Err, IfOk, inl, refl, sym, ap, ◌∙◌, subst, arith, length-append}
 use Rattle.std.proofs.lemmas.List.{map-append}
 use Rattle.mau_terms.specs.Tree.{Tree}
 use Rattle.mau_terms.specs.declared.ids.TermId.{TermId}
@@ -35,10 +35,8 @@ use Rattle.mau_leaves.specs.Uses.{is_chosen}
 use Rattle.mau_leaves.specs.Top.{left_of_top, IsTop}
 use Rattle.mau_leaves.specs.Follows.{IsLeafDue, IsNextGiven, IsTopOf}
 use Rattle.mau_evaluation.specs.Strategy.{idle, label as by_label, top_only, call}
-use Rattle.mau_reduce.proofs.Numbered.{is_among}
-use Rattle.mau_rules.proofs.Shown.{all_in}
 use Rattle.mau_leaves.specs.Meanings.{meaning_of}
-use Rattle.mau_leaves.specs.Cursors.{leaf_at, label_by, label_of_one, label_in, call_by, call_of_one, call_in, IsLawfulLeaf, fixed_of, leaf_end, yielded_by, chosen_by, IsTopCursor, IsTestCursor, yields_in, world_of, world_of_calls}
+use Rattle.mau_leaves.specs.Cursors.{leaf_at, label_by, label_of_one, label_in, call_by, call_of_one, call_in, fixed_of, leaf_end, yielded_by, chosen_by, IsTopCursor, IsTestCursor, yields_in, world_of, world_of_calls}
 use Rattle.mau_leaves.specs.declared.cursor.CallCursor.{CallCursor}
 use Rattle.mau_leaves.specs.declared.top.TopResults.{TopResults}
 use Rattle.mau_leaves.specs.declared.cursor.LeafCursor.{LeafCursor}
@@ -186,6 +184,3 @@ module _ (leaves : List Written.StrategyOf) (i : ℕ) (n : List ℕ) where
 
 pub top_of_label : (leaves : List Written.StrategyOf) (l : LeafId) (n : List ℕ) → label_in leaves l.0 ≡ Some n → IsTopOf (chosen_by leaves (Some l)) (top_only (leaf_at leaves l.0))
 top_of_label leaves l n e = subst (λ o. IsTopOf o (top_only (leaf_at leaves l.0))) (sym e) (ap top_only (labelled_leaf leaves l.0 n e))
-
-pub lawful_leaf : (s : SignatureOf) (leaves : List Written.StrategyOf) (i : ℕ) (x : Written.StrategyOf) → slice_get leaves i ≡ Some x → All (IsLawfulLeaf s) leaves → IsLawfulLeaf s x
-lawful_leaf s leaves i x e h = all_in (IsLawfulLeaf s) leaves x h (is_among leaves i x e)

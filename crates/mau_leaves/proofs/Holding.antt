@@ -1,7 +1,7 @@
 -- Tests: their results by the uses of a rule, and the search for these.
-use Rattle.std.proofs.Common.{◌≡◌, ◌⊎◌, inl, ℕ, List, [], ◌∷◌, map, All, Bool, true, false, Option, Some, None, Ok, Err, refl, sym, ap, ◌∙◌, subst, append-nil}
+use Rattle.std.proofs.Common.{◌≡◌, ◌⊎◌, inl, ℕ, List, [], ◌∷◌, map, Bool, true, false, Option, Some, None, Ok, Err, refl, sym, ap, ◌∙◌, subst, append-nil}
 use Rattle.mau_terms.specs.Tree.{Tree}
-use Rattle.mau_terms.specs.Bare.{IsBare, IsBareIn, IsLawful}
+use Rattle.mau_terms.specs.Bare.{IsBareIn, IsLawful}
 use Rattle.mau_terms.specs.Subst.{variables}
 use Rattle.mau_terms.specs.declared.ids.TermId.{TermId}
 use Rattle.mau_terms.proofs.Variables.{distinct}
@@ -12,7 +12,6 @@ use Rattle.mau_store.specs.Trees.{tree_at}
 use Rattle.mau_sorts.specs.Table.{Table, KeepsEntries, AreOver}
 use Rattle.mau_listing.specs.Asked.{Asked}
 use Rattle.mau_listing.specs.declared.solution.Solution as Listed
-use Rattle.mau_program.specs.LawfulStatements.{IsLawfulFragment}
 use Rattle.mau_program.specs.declared.program.Program as Typed
 use Rattle.mau_program.specs.declared.statements.Fragment as WrittenFragment
 use Rattle.mau_program.specs.declared.statements.Rule as Written
@@ -47,7 +46,6 @@ use Rattle.mau_leaves.specs.declared.uses.RuleUses.{RuleUses}
 use Rattle.mau_leaves.specs.declared.testing.TestCursor.{TestCursor}
 use Rattle.mau_leaves.proofs.Engines.{AsksRightly, without_right}
 use Rattle.mau_leaves.proofs.Behind.{all_of_them}
-use Rattle.mau_leaves.proofs.Definitions.{fragments_of}
 use Rattle.mau_leaves.proofs.Searching.{term_grown, settled_later, search_grown, left_same}
 use Rattle.mau_leaves.proofs.Steps.{always_so, through_as, through_always, due_as}
 use Rattle.mau_leaves.proofs.Throughs.{rightly}
@@ -152,13 +150,15 @@ module _ {K : Type 0} (asked : K → Asked) (given : K → Option Listed.Solutio
       (λ L right z e. (uses_by Q L rule [] u, sym (ap (uses_among Q L rule []) (all_of_them (compare Q.sign.theory rule.left) (solutions_within Q.sign rule.left u))), e ∙ test_results L right d form values))))
 
 -- its rule can be used
-pub test_usable : (s : SignatureOf) (pattern : Tree) (cond : List WrittenFragment.Fragment) → IsBare (terms_over s) pattern → All (IsLawfulFragment s) cond → MayAsk pattern cond → (q : Written.Rule) → IsTestOf pattern cond q → IsUsable s q
-test_usable s pattern cond bare lawful may q is = record {
-  sides = record { kind = bare.0; first = subst (λ t. IsBareIn (terms_over s) t bare.0) (sym is.left) bare.1; second = subst (λ t. IsBareIn (terms_over s) t bare.0) (sym is.right) bare.1 };
-  condition =
-      subst (λ t. IsAskable s (variables t) q.cond) (sym is.left)
-      (subst (λ (cs : List WrittenFragment.Fragment). IsAskable s (variables pattern) cs) (sym is.condition) (record { fragments = fragments_of s cond lawful may.plain; bound = may.bound; apart = distinct pattern [] tt }));
-}
+pub test_usable : (s : SignatureOf) (pattern : Tree) (cond : List WrittenFragment.Fragment) → MayAsk s pattern cond → (q : Written.Rule) → IsTestOf pattern cond q → IsUsable s q
+test_usable s pattern cond may q is =
+    let bare = may.pattern in
+    record {
+      sides = record { kind = bare.0; first = subst (λ t. IsBareIn (terms_over s) t bare.0) (sym is.left) bare.1; second = subst (λ t. IsBareIn (terms_over s) t bare.0) (sym is.right) bare.1 };
+      condition =
+          subst (λ t. IsAskable s (variables t) q.cond) (sym is.left)
+          (subst (λ (cs : List WrittenFragment.Fragment). IsAskable s (variables pattern) cs) (sym is.condition) (record { fragments = may.fragments; bound = may.bound; apart = distinct pattern [] tt }));
+    }
 
 -- ---- steps
 

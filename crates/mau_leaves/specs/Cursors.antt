@@ -2,7 +2,6 @@
 use Rattle.std.specs.Prelude.{◌≡◌, ℕ, suc, ◌<◌, List, [], map, length, slice_get, All, Bool, true, false, Option, Some, None, IsSome, Result, Ok, Err}
 use Rattle.std.specs.List.{slice_index_or}
 use Rattle.mau_terms.specs.Tree.{Tree}
-use Rattle.mau_terms.specs.Subst.{Variable}
 use Rattle.mau_terms.specs.declared.ids.TermId.{TermId}
 use Rattle.mau_terms.specs.declared.ids.VarId.{VarId}
 use Rattle.mau_signature.specs.Signature.{SignatureOf}
@@ -13,7 +12,7 @@ use Rattle.mau_listing.specs.Asked.{Asked}
 use Rattle.mau_listing.specs.declared.solution.Solution as Listed
 use Rattle.mau_program.specs.declared.program.Program as Typed
 use Rattle.mau_program.specs.Trees as Written
-use Rattle.mau_program.specs.LawfulStrategies.{IsLawfulStrategy, IsLawfulDefinition}
+use Rattle.mau_program.specs.LawfulStrategies.{IsLawfulDefinition}
 use Rattle.mau_evaluation.specs.Strategy.{Strategy, idle, call}
 use Rattle.mau_evaluation.specs.Engine.{Engine, engine_of}
 use Rattle.mau_evaluation.specs.Answers.{Answers, no_more, answer}
@@ -98,11 +97,6 @@ fixed_of p m leaves = record {
   budget = m.limit;
 }
 
--- a leaf is lawful where some variables have values
-pub record IsLawfulLeaf (s : SignatureOf) (leaf : Written.StrategyOf) : Type 0 where
-  pub variables : List Variable
-  pub lawful : IsLawfulStrategy s variables leaf
-
 -- no leaf has two numbers, what has a number is a leaf, and terms may be evaluated by the meanings and with the budget of an item; listings have contexts
 pub record IsReady (c : Bool) (p : Typed.Program) (m : Meanings) (leaves : List Written.StrategyOf) (budget : ℕ) (nodes : List Node) : Type 0 where
   pub contexts : c ≡ true
@@ -112,7 +106,6 @@ pub record IsReady (c : Bool) (p : Typed.Program) (m : Meanings) (leaves : List 
   pub are_nodes : AreNodes nodes
   pub apart : TellsApart (leaf_at leaves) (length leaves)
   pub kinds : (l : ℕ) → l < length leaves → IsLeaf (leaf_at leaves l)
-  pub lawful : All (IsLawfulLeaf p.sig) leaves
   pub definitions : All (IsLawfulDefinition p.sig) p.strategies
 
 -- an end of an evaluation as one of a leaf

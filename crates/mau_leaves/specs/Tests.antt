@@ -1,12 +1,13 @@
 -- Tests: their results by the uses of a rule, and searches for these by the numbers of a store.
-use Rattle.std.specs.Prelude.{◌≡◌, List, map, Bool, true, false, Option, None}
+use Rattle.std.specs.Prelude.{◌≡◌, List, All, Bool, true, false, Option, None}
 use Rattle.mau_terms.specs.Tree.{Tree}
 use Rattle.mau_terms.specs.Norm.{norm}
+use Rattle.mau_terms.specs.Bare.{IsBare}
 use Rattle.mau_terms.specs.Solution.{assoc_top}
 use Rattle.mau_terms.specs.Subst.{variables}
 use Rattle.mau_terms.specs.View.{tree_of}
 use Rattle.mau_terms.specs.declared.ids.TermId.{TermId}
-use Rattle.mau_signature.specs.Signature.{SignatureOf, theory_at}
+use Rattle.mau_signature.specs.Signature.{SignatureOf, theory_at, terms_over}
 use Rattle.mau_formula.specs.Operator.{Operator}
 use Rattle.mau_store.specs.Node.{Node}
 use Rattle.mau_store.specs.Trees.{tree_at}
@@ -20,12 +21,10 @@ use Rattle.mau_program.specs.declared.statements.Rule as Written
 use Rattle.mau_program.specs.declared.strategies.TestKind as WrittenKind
 use Rattle.mau_program.specs.declared.strategies.TestKind.TheVariants as Kind
 use Rattle.mau_evaluation.specs.Engine.{Engine}
-use Rattle.mau_evaluation.specs.Rules.{has_reach}
 use Rattle.mau_evaluation.specs.Answers.{Answers, no_more, ends_by, answer}
-use Rattle.mau_api.specs.Programs.{fragment_of}
 use Rattle.mau_api.specs.Meanings.{Meanings}
 use Rattle.mau_api.specs.Terms.{IsTerm}
-use Rattle.mau_api.specs.Answers.{AreSettled}
+use Rattle.mau_api.specs.Answers.{IsFragment, AreSettled}
 use Rattle.mau_leaves.specs.Uses.{Use}
 use Rattle.mau_leaves.specs.Searches.{left_in, IsUsable, IsSearch}
 use Rattle.mau_leaves.specs.declared.uses.Standing.TheVariants.{Behind}
@@ -43,9 +42,10 @@ WithinIsWhole s Kind.Xmatch p = Unit {0}
 WithinIsWhole s Kind.Match p = assoc_top (theory_at s) (norm (theory_at s) p) ≡ None
 WithinIsWhole s Kind.Amatch p = ⊥
 
--- no fragment rewrites, and the variables are bound in order
-pub record MayAsk (p : Tree) (cond : List WrittenFragment.Fragment) : Type 0 where
-  pub plain : has_reach (map fragment_of cond) ≡ false
+-- a pattern and a condition over a signature, no fragment of which rewrites, and whose variables are bound in order
+pub record MayAsk (s : SignatureOf) (p : Tree) (cond : List WrittenFragment.Fragment) : Type 0 where
+  pub pattern : IsBare (terms_over s) p
+  pub fragments : All (IsFragment s) cond
   pub bound : are_bound (variables p) cond ≡ true
 
 -- the rule of a test

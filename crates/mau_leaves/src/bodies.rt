@@ -28,7 +28,7 @@ pub struct CallBodies {
 }
 
 /// Whether a condition has a rewriting fragment.
-pub(crate) fn has_reach(cond: &[Fragment]) -> bool
+fn has_reach(cond: &[Fragment]) -> bool
     ensures { result ≡ Defined.has_reach (map fragment_of cond.now) }
 {
     match cond {

@@ -13,7 +13,7 @@ ghost use Rattle.mau_stratrun.specs.Yields.{Yield};
 ghost use Rattle.mau_stratrun.specs.Worlds.{values_of, IsNextYield};
 ghost use Rattle.mau_rules.specs.Runnable.{IsRunnable, GoesBy};
 ghost use Rattle.mau_leaves.specs.Searches.{found_in};
-ghost use Rattle.mau_leaves.specs.Cursors.{leaf_at, label_in, chosen_by, call_in, IsLawfulLeaf, leaf_end, yielded_by, bound_by, IsTopCursor, IsTestCursor, IsCallCursor, IsGivenBody, yields_in, world_of, world_of_calls};
+ghost use Rattle.mau_leaves.specs.Cursors.{leaf_at, label_in, chosen_by, call_in, leaf_end, yielded_by, bound_by, IsTopCursor, IsTestCursor, IsCallCursor, IsGivenBody, yields_in, world_of, world_of_calls};
 ghost use Rattle.mau_leaves.specs.declared.uses.Standing.TheVariants.{Behind};
 ghost use Rattle.mau_leaves.specs.declared.cursor.LeafCursor.TheVariants as At;
 
@@ -326,7 +326,6 @@ fn start_leaf<E: Evaluator, L: Lister + Drop>(
     requires runnable { IsRunnable program.now }
     requires goes_by { GoesBy program.now (E.meanings evaluator.now) }
     requires fits { E.fits evaluator.now store.now }
-    requires lawful { All (IsLawfulLeaf program.now.sig) leaves.now }
     requires term { IsTerm program.now.sig store.now term.0 }
     requires settled { AreSettled program.now.sig store.now (E.table evaluator.now) (tree_at store.now term.0) }
     ensures yields { IfOk result (λ k. yields_in L.asked L.given L.is_for L.with_context program.now (E.meanings evaluator.now)

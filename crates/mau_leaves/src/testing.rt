@@ -7,20 +7,18 @@ ghost use Rattle.mau_terms.specs.View.{tree_of};
 ghost use Rattle.mau_store.specs.Node.{Extends};
 ghost use Rattle.mau_store.specs.Trees.{tree_at};
 ghost use Rattle.mau_sorts.specs.Table.{KeepsEntries};
-ghost use Rattle.mau_program.specs.LawfulStatements.{IsLawfulFragment};
 ghost use Rattle.mau_api.specs.Programs.{program_over};
 ghost use Rattle.mau_api.specs.Terms.{IsTerm};
-ghost use Rattle.mau_api.specs.Answers.{AreSettled};
+ghost use Rattle.mau_api.specs.Answers.{IsFragment, AreSettled};
 ghost use Rattle.mau_rules.specs.Runnable.{IsRunnable, GoesBy};
 ghost use Rattle.mau_leaves.specs.Top.{IsNextResult};
 ghost use Rattle.mau_leaves.specs.Tests.{left_of_test, IsTest, IsTestOf, IsBegunTest, MayAsk, WithinIsWhole};
 
-use crate::bodies::has_reach;
 use crate::uses::{RuleUses, next_use, start_uses};
 use mau_api::{EvalEnd, Evaluator, Fragment, Lister, Program, TestKind};
 use mau_canon::assoc_top;
 use mau_program::Rule;
-use mau_signature::Signature;
+use mau_signature::{Signature, is_bare};
 use mau_statement::{add_variables, are_bound};
 use mau_store::Store;
 use mau_terms::{Bare, Duplicate, NoMemory, Seq, TermId, Vars};
@@ -53,11 +51,41 @@ fn is_within(
     }
 }
 
-/// Whether a condition may be asked where the variables of a pattern have values.
-fn is_askable(alloc: Global, pattern: &Bare, cond: &[Fragment]) -> Result<bool, NoMemory>
-    ensures { IfOk result (λ b. b ≡ true → MayAsk (tree_of pattern.now) cond.now) }
+/// Whether a fragment is over a signature, and does not rewrite.
+fn is_fragment(sig: &Signature, fragment: &Fragment) -> bool
+    ensures { result ≡ true → IsFragment sig.now fragment.now }
 {
-    if has_reach(cond) {
+    match fragment {
+        Fragment::Equal(term, other) => is_bare(sig, term) && is_bare(sig, other),
+        Fragment::Match(pattern, subject) => is_bare(sig, pattern) && is_bare(sig, subject),
+        Fragment::Sort(term, sort) => is_bare(sig, term) && *sort < sig.poset().sorts(),
+        Fragment::Reach(_, _) => false,
+    }
+}
+
+/// Whether all fragments are.
+fn are_fragments(sig: &Signature, cond: &[Fragment]) -> bool
+    ensures { result ≡ true → All (IsFragment sig.now) cond.now }
+{
+    match cond {
+        [] => true,
+        [first, rest @ ..] => is_fragment(sig, first) && are_fragments(sig, rest),
+    }
+}
+
+/// Whether a condition may be asked where the variables of a pattern have values.
+fn is_askable(
+    alloc: Global,
+    sig: &Signature,
+    pattern: &Bare,
+    cond: &[Fragment],
+) -> Result<bool, NoMemory>
+    ensures { IfOk result (λ b. b ≡ true → MayAsk sig.now (tree_of pattern.now) cond.now) }
+{
+    if !is_bare(sig, pattern) {
+        return Ok(false);
+    }
+    if !are_fragments(sig, cond) {
         return Ok(false);
     }
     let mut variables = Vec::new(alloc);
@@ -92,18 +120,16 @@ pub(crate) fn start_test<E: Evaluator, L: Lister + Drop>(
     requires runnable { IsRunnable program.now }
     requires goes_by { GoesBy program.now (E.meanings evaluator.now) }
     requires fits { E.fits evaluator.now store.now }
-    requires pattern { IsBare (terms_over program.now.sig) (tree_of pattern.now) }
-    requires condition { All (IsLawfulFragment program.now.sig) cond.now }
     requires term { IsTerm program.now.sig store.now term.0 }
     requires settled { AreSettled program.now.sig store.now (E.table evaluator.now) (tree_at store.now term.0) }
     ensures begun { IfOk result (λ o. IfSome o (IsBegunTest L.asked L.given L.is_for L.with_context program.now
         (E.meanings evaluator.now) store.now (E.table evaluator.now) kind (tree_of pattern.now) cond.now term)) }
 {
     let alloc = store.allocator();
-    if !is_within(alloc, &program.sig, kind, pattern)? {
+    if !is_askable(alloc, &program.sig, pattern, cond.items())? {
         return Ok(None);
     }
-    if !is_askable(alloc, pattern, cond.items())? {
+    if !is_within(alloc, &program.sig, kind, pattern)? {
         return Ok(None);
     }
     let rule = rule_for(alloc, pattern, cond)?;
