@@ -1,5 +1,5 @@
 //! Who gives the results of leaves and the bodies of calls, by any evaluator and any listing with contexts.
-ghost use Rattle.std.specs.Prelude.{◌≡◌, ℕ, List, [], map, slice_get, All, true, false, IsSome, IfOk};
+ghost use Rattle.std.specs.Prelude.{◌≡◌, ◌<◌, ℕ, List, [], length, map, slice_get, All, true, false, IsSome, IfOk};
 ghost use Rattle.std.specs.Option.{option_map};
 ghost use Rattle.mau_terms.specs.Tree.{Tree};
 ghost use Rattle.mau_store.specs.Node.{Extends};
@@ -9,11 +9,13 @@ ghost use Rattle.mau_api.specs.Answers.{AreSettled};
 ghost use Rattle.mau_sorts.specs.Table.{KeepsEntries};
 ghost use Rattle.mau_program.specs.LawfulStrategies.{IsLawfulDefinition};
 ghost use Rattle.mau_evaluation.specs.Configs.{Todo};
+ghost use Rattle.mau_strat.specs.Configurations.{TellsApart};
+ghost use Rattle.mau_strat.specs.Forms.{IsLeaf};
 ghost use Rattle.mau_stratrun.specs.Yields.{Yield};
 ghost use Rattle.mau_stratrun.specs.Worlds.{values_of, IsNextYield};
 ghost use Rattle.mau_rules.specs.Runnable.{IsRunnable, GoesBy};
 ghost use Rattle.mau_leaves.specs.Searches.{found_in};
-ghost use Rattle.mau_leaves.specs.Cursors.{leaf_at, label_in, chosen_by, call_in, leaf_end, yielded_by, bound_by, IsTopCursor, IsTestCursor, IsCallCursor, IsGivenBody, yields_in, world_of, world_of_calls};
+ghost use Rattle.mau_leaves.specs.Cursors.{leaf_at, label_in, chosen_by, call_in, leaf_end, yielded_by, bound_by, IsTopCursor, IsTestCursor, IsCallCursor, IsGivenBody, IsReady, yields_in, world_of, world_of_calls};
 ghost use Rattle.mau_leaves.specs.declared.uses.Standing.TheVariants.{Behind};
 ghost use Rattle.mau_leaves.specs.declared.cursor.LeafCursor.TheVariants as At;
 
@@ -393,8 +395,41 @@ fn next_of<E: Evaluator, L: Lister + Drop>(
     }
 }
 
+impl<'a, E: Evaluator + Drop, L: Lister + Drop> RunLeaves<'a, E, L> {
+    /// Over a table of leaves, in which each has one number, with what an evaluator and a store have by now.
+    pub fn new(
+        program: &'a Program,
+        leaves: &'a [Strategy],
+        store: Store,
+        evaluator: E,
+        limit: u64,
+    ) -> RunLeaves<'a, E, L>
+        requires contexts { L.with_context ≡ true }
+        requires runnable { IsRunnable program.now }
+        requires definitions { All (IsLawfulDefinition program.now.sig) program.now.strategies }
+        requires goes_by { GoesBy program.now (E.meanings evaluator) }
+        requires fits { E.fits evaluator store }
+        requires limit { limit ≡ (E.meanings evaluator).limit }
+        requires apart { TellsApart (leaf_at leaves.now) (length leaves.now) }
+        requires kinds { (l : ℕ) → l < length leaves.now → IsLeaf (leaf_at leaves.now l) }
+        ensures ready { IsReady L.with_context result.program.now (E.meanings result.evaluator) result.leaves.now result.limit result.store }
+        ensures fits { E.fits result.evaluator result.store }
+        ensures parts { (result.program.now ≡ program.now) × (result.leaves.now ≡ leaves.now) × (result.store ≡ store) }
+        ensures evaluator { (result.evaluator ≡ evaluator) × (result.limit ≡ limit) }
+    {
+        let _ = store.len();
+        RunLeaves {
+            program,
+            leaves,
+            store,
+            evaluator,
+            limit,
+            listing: PhantomData,
+        }
+    }
+}
+
 impl<'a, E: Evaluator + Drop, L: Lister + Drop> Leaves for RunLeaves<'a, E, L> {
-    ghost use Rattle.mau_leaves.specs.Cursors.{IsReady, world_of};
     ghost use Rattle.mau_leaves.specs.CursorLaws.{is_world};
 
     type Cursor = LeafCursor<L>;
