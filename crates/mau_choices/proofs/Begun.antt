@@ -18,9 +18,9 @@ use Rattle.mau_evaluation.specs.Listing.{Solution, keep, compare}
 use Rattle.mau_evaluation.specs.Evaluation.{Binding, Level, levels}
 use Rattle.mau_api.specs.Terms.{IsTerm}
 use Rattle.mau_api.specs.Answers.{AreSettled, IsValueOf}
-use Rattle.mau_machine.specs.Words.{Rules, rest_of, pattern_in, choose_from}
+use Rattle.mau_machine.specs.Words.{Rules, rest_of, pattern_in, choose_from, choose_after}
 use Rattle.mau_cond.proofs.Grown.{each}
-use Rattle.mau_choices.specs.Choosing.{solution_gives, agreeing, left_of_choices}
+use Rattle.mau_choices.specs.Choosing.{solution_gives, agreeing, left_of_choices, behind_own}
 
 -- ---- all that is left
 
@@ -36,6 +36,11 @@ begun_is P l p c σ v = ap (first_of (solution_gives P l p c σ)) (all_kept P p 
 pub unchosen_begun : (R : Rules) (k e i : ℕ) (σ : Binding) (v : Tree) →
     left_of_choices R.program (levels R.program R.limit k) (pattern_in (rest_of R e i)) (rest_of R e (suc i)) σ v None ≡ choose_from R k e i σ v
 unchosen_begun R k e i σ v = begun_is R.program (levels R.program R.limit k) (pattern_in (rest_of R e i)) (rest_of R e (suc i)) σ v
+
+-- and behind a solution of the condition
+pub own_begun : (R : Rules) (last : Binding) (k e i : ℕ) (σ : Binding) (v : Tree) (b : ℕ) →
+    behind_own R.program (levels R.program R.limit k) (pattern_in (rest_of R e i)) (rest_of R e (suc i)) last σ v b ≡ choose_after R last k e i σ v b
+own_begun R last k e i σ v b = refl
 
 -- ---- a listing
 

@@ -8,7 +8,7 @@ use Rattle.mau_signature.specs.Signature.{SignatureOf, theory_at}
 use Rattle.mau_store.specs.Node.{Node, Extends}
 use Rattle.mau_store.specs.Trees.{tree_at}
 use Rattle.mau_sorts.specs.Table.{Table, KeepsEntries, AreOver}
-use Rattle.mau_listing.specs.Asked.{Asked, last_after, IsGiven, CanGoOn}
+use Rattle.mau_listing.specs.Asked.{Asked, asks, last_after, IsGiven, CanGoOn}
 use Rattle.mau_listing.specs.declared.solution.Solution as Given
 use Rattle.mau_listing.proofs.Growth.{listings_go_on, last_found_same, given_is_last}
 use Rattle.mau_evaluation.specs.Program.{Fragment, Program}
@@ -73,4 +73,24 @@ module _ (s : SignatureOf) (old new : List Node) (before after : Table) (p : Tre
         settled = choosing_grown.ready.settled;
         over = choosing_grown.ready.over;
         given = given_is_last false s new after a x (subst (λ z. IsGiven z s new after a x) w h);
+      }
+
+  -- and behind a solution that is given
+  pub choosing_own : (x : Given.Solution) → IsGiven false s new after (asks p bound v) x → (b : Asked) → b ≡ asks p bound v → (more : Option Given.Solution) → more ≡ Some x → (still : Type 0) → still →
+      IsChoosing s new after p bound v b more still
+  choosing_own x given b e more m still for =
+      let base : CanGoOn false s new after (asks p bound v) last = subst (λ z. CanGoOn false s new after z last) is.asked choosing_grown.ready in
+      record {
+        asked = e;
+        signature = for;
+        ready = subst (λ z. CanGoOn false s new after z more) (sym e) (subst (CanGoOn false s new after (asks p bound v)) (sym m) (record {
+          askable = base.askable;
+          settled = base.settled;
+          over = base.over;
+          given = given_is_last false s new after (asks p bound v) x given;
+        }));
+        values = choosing_grown.values;
+        apart = is.apart;
+        value = choosing_grown.value;
+        settled = choosing_grown.settled;
       }

@@ -4,6 +4,10 @@ pub mod Agreeing
 pub mod Extending
 -- their variables
 pub mod Added
+-- the solution that another binding has
+pub mod Owned
+-- and its values, as they are tested
+pub mod Tested
 -- the next solution, from what a listing gives
 pub mod Next
 -- the same by numbers of a store

@@ -29,10 +29,10 @@ use Rattle.mau_program.specs.declared.program.Program as Typed
 use Rattle.mau_evaluation.specs.Run.{Outcome, done, ended, Run, gives, counted_if, or_go_on, or_else, where_true}
 use Rattle.mau_evaluation.specs.Program.{Fragment, Program}
 use Rattle.mau_evaluation.specs.Listing.{Solution, plain, keep, compare, solutions, solutions_within, IsAscending}
-use Rattle.mau_evaluation.specs.Evaluation.{Binding, levels, look_up, extend, agree, solve}
+use Rattle.mau_evaluation.specs.Evaluation.{Binding, levels, look_up, extend, agree, solve, solve_after}
 use Rattle.mau_evaluation.proofs.BareTerms.{norm-reading-is}
 use Rattle.mau_evaluation.proofs.Inside.{in_list, from_list}
-use Rattle.mau_evaluation.proofs.Listed.{compare_total, from_keep}
+use Rattle.mau_evaluation.proofs.Listed.{compare_total, in_keep, from_keep}
 use Rattle.mau_evaluation.proofs.Solved.{kept_ascend, solutions_are_listed}
 use Rattle.mau_api.specs.Programs.{program_over}
 use Rattle.mau_api.specs.Remaining.{as_matcher, IsAccepted, AreLeftOf, first_left, is_whole}
@@ -47,14 +47,15 @@ use Rattle.mau_reduce.specs.Bindings.{HaveKinds}
 use Rattle.mau_reduce.proofs.Bound.{instance_read}
 use Rattle.mau_reduce.specs.Comes.{ComesTo}
 use Rattle.mau_reduce.specs.Tables.{IsSortTable}
-use Rattle.mau_reduce.proofs.Comes.{comes_as, comes_through, comes_or, comes_try}
+use Rattle.mau_reduce.proofs.Comes.{comes_from, comes_as, comes_through, comes_or, comes_try}
 use Rattle.mau_reduce.proofs.SortKinds.{have_kinds_by}
 use Rattle.mau_reduce.proofs.Valued.{value_test, test_tells, test_comes}
 use Rattle.mau_reduce.proofs.Leftover.{head, first_passed, none_passes, one_passes, left_behind}
 use Rattle.mau_reduce.proofs.Candidates.{same_option, sorts_of_bare}
-use Rattle.mau_choices.specs.Choosing.{solution_gives, agreeing, left_of_choices}
+use Rattle.mau_choices.specs.Choosing.{solution_gives, agreeing, left_of_choices, solution_gives_behind, behind_own, AreValuesIn}
 use Rattle.mau_choices.proofs.Agreeing.{bound_variables, HaveNorms, agrees, agreed, entry_of}
 use Rattle.mau_choices.proofs.Extending.{Suit}
+use Rattle.mau_choices.proofs.Owned.{found_agree, agree_found, own_is}
 
 -- a failure counts nothing already
 zero_tried : {A : Type 0} (k : Run (Option A)) (o : Outcome (Option A)) → or_go_on k (counted_if 0 o) ≡ or_go_on k o
@@ -195,6 +196,45 @@ module _ (p : Typed.Program) (red : IsReducible p) (hooks : List Operator) (pat 
           let one = one_passes (compare th pat) (compare_total th pat) test P f last ys x ascends fails (next_first last (Some x) is) in
           comes_as (comes_through one.rest (comes_or (λ k. left_of_choices P (levels P B k) pat c σ t (Some x)) (passes x one.there one.tested)))
           (λ k b. zero_tried (left_of_choices P (levels P B k) pat c σ t (Some x)) (asks_for k x b))
+
+      -- ---- behind a binding
+
+      module _ (last : Binding) where
+        abbrev g : ℕ → Solution → Run (Option Binding)
+        g k = solution_gives_behind (program_over p hooks) (levels (program_over p hooks) B k) pat c last σ
+
+        abbrev asks_behind : ℕ → Solution → Run (Option Binding)
+        asks_behind k x = solve_after (program_over p hooks) (levels (program_over p hooks) B k) last c (extend σ (variables pat) x.values)
+
+        abbrev its_own : Solution → Bool
+        its_own x = agree (theory_at p.sig) last (variables pat) x.values
+
+        own_passes : (x : Solution) → IsIn x ys → test x ≡ true → ComesTo P (λ k. g k x) (λ k b. counted_if 0 (asks_behind k x b))
+        own_passes x i h =
+            comes_as (comes_try (λ k ok. where_true ok (asks_behind k x)) (test_comes p red hooks B nodes table derived t normal bare settled pat x (within x (from_keep agreeable x all i).0)))
+            (λ k b. ap (λ w. counted_if 0 (where_true w (asks_behind k x) b)) h)
+
+        -- no other one has the same values
+        sole : (x : Solution) → IsIn x all → AreValuesIn last (variables pat) x.values → (z : Solution) → IsIn z ys → its_own z ≡ true → z ≡ x
+        sole x i found z j e =
+            let l = listed x i in
+            let k = (from_keep agreeable z all j).0 in
+            let m = listed z k in
+            let same : z.values ≡ x.values = agree_found (theory_at p.sig) last (variables pat) x.values z.values found l.2 (one_each z k) e in
+            let lefts : z.left ≡ x.left = m.0 ∙ sym l.0 in
+            let rights : z.right ≡ x.right = m.1 ∙ sym l.1 in
+            λ i. record { left = lefts i; right = rights i; values = same i }
+
+        pub own_left : (x : Solution) → IsIn x all → agreeable x ≡ true → HaveSorts (BySort p.sig derived.known) (variables pat) x.values → AreValuesIn last (variables pat) x.values →
+            ComesTo P (λ k. behind_own P (levels P B k) pat c last σ t)
+            (λ k. or_else (solve_after P (levels P B k) last c (extend σ (variables pat) x.values)) (left_of_choices P (levels P B k) pat c σ t (Some x)))
+        own_left x i e sorts found =
+            let j : IsIn x ys = in_keep agreeable x all i e in
+            let h : test x ≡ true = (test_tells p red hooks B nodes table derived t normal bare settled pat x (within x i)).1 sorts in
+            let o : its_own x ≡ true = found_agree (theory_at p.sig) last (variables pat) x.values found (listed x i).2 in
+            comes_from (λ k b. own_is (compare th pat) (compare_total th pat) P (levels P B k) its_own (g k) (f k) x o ys ascends j (sole x i found) b)
+            (comes_as (comes_or (λ k. left_of_choices P (levels P B k) pat c σ t (Some x)) (own_passes x j h))
+            (λ k b. zero_tried (left_of_choices P (levels P B k) pat c σ t (Some x)) (asks_behind k x b)))
 
   -- what a listing gives is one of the solutions, which agrees, and whose values have their sorts
   pub is_listed : (known : Known) (x : Solution) → IsSolution false p.sig (BySort p.sig known) (record { pattern = pat; bound = σ; subject = t }) (as_matcher x) →

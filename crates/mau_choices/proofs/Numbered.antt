@@ -22,16 +22,17 @@ use Rattle.mau_store.specs.View.{numbers}
 use Rattle.mau_canon.specs.Standing.{StandsWithin, StandWithin}
 use Rattle.mau_sorts.specs.HasSort.{Known}
 use Rattle.mau_sorts.specs.Table.{Table, KeepsEntries}
+use Rattle.mau_sorts.proofs.Settling.{kept_same}
 use Rattle.mau_listing.specs.Question.{OfNorm, IsWhole, IsSolution}
 use Rattle.mau_listing.specs.Next.{matcher_cmp, IsNext}
-use Rattle.mau_listing.specs.Asked.{Asked, asks, question_in, matcher_in, last_after, BySort, HasEntry, IsTableOf, IsGiven}
+use Rattle.mau_listing.specs.Asked.{Asked, asks, IsAskable, question_in, matcher_in, last_after, BySort, HasEntry, IsTableOf, IsGiven}
 use Rattle.mau_listing.specs.declared.solution.Solution as Given
-use Rattle.mau_listing.proofs.Growth.{trees_long}
+use Rattle.mau_listing.proofs.Growth.{IsSolution-then, trees_long, found_same, given_kept, given_of_store}
 use Rattle.mau_program.specs.declared.program.Program as Typed
 use Rattle.mau_evaluation.specs.Run.{gives, or_go_on, or_else}
 use Rattle.mau_evaluation.specs.Program.{Fragment}
 use Rattle.mau_evaluation.specs.Listing.{Solution, solutions}
-use Rattle.mau_evaluation.specs.Evaluation.{Binding, levels, look_up, binds, extend, agree, solve}
+use Rattle.mau_evaluation.specs.Evaluation.{Binding, levels, look_up, binds, extend, agree, solve, solve_after}
 use Rattle.mau_api.specs.Terms.{IsTerm}
 use Rattle.mau_api.specs.Programs.{program_over}
 use Rattle.mau_api.specs.Remaining.{as_matcher}
@@ -49,11 +50,11 @@ use Rattle.mau_reduce.specs.Comes.{ComesTo}
 use Rattle.mau_reduce.specs.Tables.{IsSortTable}
 use Rattle.mau_reduce.proofs.Comes.{comes_as}
 use Rattle.mau_reduce.proofs.Candidates.{matchers_of, sorts_of_bare}
-use Rattle.mau_choices.specs.Choosing.{left_of_choices}
+use Rattle.mau_choices.specs.Choosing.{left_of_choices, behind_own, AreValuesIn}
 use Rattle.mau_choices.proofs.Agreeing.{bound_variables, HaveNorms}
 use Rattle.mau_choices.proofs.Added.{variables_extended}
 use Rattle.mau_choices.proofs.Extending.{extension_keeps, extension_has, apart_extended}
-use Rattle.mau_choices.proofs.Next.{none_left, one_left, is_listed, one_each, values_of_kinds, suits, value_bare, instance_is}
+use Rattle.mau_choices.proofs.Next.{none_left, one_left, own_left, is_listed, one_each, values_of_kinds, suits, value_bare, instance_is}
 
 -- ---- bindings by numbers
 
@@ -141,13 +142,21 @@ module _ (p : Typed.Program) (red : IsReducible p) (pat : Tree) (bare_pat : IsBa
       ComesTo (program_over p hooks) (λ k. left_of_choices (program_over p hooks) (levels (program_over p hooks) B k) pat f σ t (option_map (solution_in old) last)) (λ k. gives None)
   none_is hooks B derived is f = none_left p red hooks pat bare_pat t term.within.normal term.bare old before settled σ norms apart_so B derived f (option_map (solution_in old) last) (next_so derived.known None is)
 
-  -- what is known of the next one
-  module _ (sorts : IsSortTable p.sig old before) (x : Given.Solution) (every : (k : Known) → IsTableOf p.sig k old before → Next k (Some x)) where
+  -- a solution, by what is known of sorts
+  abbrev Whole : Known → Given.Solution → Type 0
+  Whole k x = IsSolution false p.sig (BySort p.sig k) (record { pattern = pat; bound = binding_in old bound; subject = tree_at old v.0 }) (as_matcher (solution_in new x))
+
+  -- what is known of it
+  module _ (sorts : IsSortTable p.sig old before) (x : Given.Solution) (whole : (k : Known) → IsTableOf p.sig k old before → Whole k x) where
     abbrev y : Solution
     y = solution_in new x
 
+    listed_by : (k : Known) → IsTableOf p.sig k old before →
+        IsIn y (solutions (terms_over p.sig) pat t) × (agree (theory_at p.sig) σ (variables pat) y.values ≡ true) × HaveSorts (BySort p.sig k) (variables pat) y.values
+    listed_by k table = is_listed p red [] pat bare_pat t term.within.normal term.bare old before settled σ norms apart_so k y (whole k table)
+
     abbrev known : IsIn y (solutions (terms_over p.sig) pat t) × (agree (theory_at p.sig) σ (variables pat) y.values ≡ true) × HaveSorts (BySort p.sig sorts.known) (variables pat) y.values
-    known = is_listed p red [] pat bare_pat t term.within.normal term.bare old before settled σ norms apart_so sorts.known y (next_so sorts.known (Some x) (every sorts.known sorts.declared)).is_one
+    known = listed_by sorts.known sorts.declared
 
     pub as_many : length (trees_at new (numbers x.values)) ≡ length (variables pat)
     as_many = one_each p red [] pat bare_pat t term.within.normal term.bare old before settled σ norms apart_so y known.0
@@ -161,14 +170,25 @@ module _ (p : Typed.Program) (red : IsReducible p) (pat : Tree) (bare_pat : IsBa
           ∙ (ap (extend (binding_in new bound) (variables pat)) (trees_told new told ∙ ap (λ ids. trees_at new (numbers ids)) numbered)
           ∙ ap (λ z. extend z (variables pat) y.values) (bound_grown p.sig old new before after extends kept bound values))))
 
-      pub some_is : (hooks : List Operator) (B : ℕ) → IsDerivedTable (meanings_by p hooks B false) old before → (f : List Fragment) →
+      pub some_is : ((k : Known) → IsTableOf p.sig k old before → Next k (Some x)) → (hooks : List Operator) (B : ℕ) → IsDerivedTable (meanings_by p hooks B false) old before → (f : List Fragment) →
           ComesTo (program_over p hooks) (λ k. left_of_choices (program_over p hooks) (levels (program_over p hooks) B k) pat f σ t (option_map (solution_in old) last))
           (λ k. or_else (solve (program_over p hooks) (levels (program_over p hooks) B k) f (binding_in new τ))
           (left_of_choices (program_over p hooks) (levels (program_over p hooks) B k) pat f σ t (Some (solution_in new x))))
-      some_is hooks B derived f =
+      some_is every hooks B derived f =
           let P = program_over p hooks in
           comes_as (one_left p red hooks pat bare_pat t term.within.normal term.bare old before settled σ norms apart_so B derived f (option_map (solution_in old) last) y (next_so derived.known (Some x) (every derived.known derived.declared)))
           (λ k b. ap (λ z. or_go_on (left_of_choices P (levels P B k) pat f σ t (Some (solution_in new x))) (solve P (levels P B k) f z b)) (sym binding_is))
+
+      -- behind a binding that has its values
+      pub own_is : (lst : Binding) → AreValuesIn lst (variables pat) y.values → (hooks : List Operator) (B : ℕ) → IsDerivedTable (meanings_by p hooks B false) old before → (f : List Fragment) →
+          ComesTo (program_over p hooks) (λ k. behind_own (program_over p hooks) (levels (program_over p hooks) B k) pat f lst σ t)
+          (λ k. or_else (solve_after (program_over p hooks) (levels (program_over p hooks) B k) lst f (binding_in new τ))
+          (left_of_choices (program_over p hooks) (levels (program_over p hooks) B k) pat f σ t (Some (solution_in new x))))
+      own_is lst found hooks B derived f =
+          let P = program_over p hooks in
+          let l = listed_by derived.known derived.declared in
+          comes_as (own_left p red hooks pat bare_pat t term.within.normal term.bare old before settled σ norms apart_so B derived f lst y l.0 l.1 l.2 found)
+          (λ k b. ap (λ z. or_go_on (left_of_choices P (levels P B k) pat f σ t (Some (solution_in new x))) (solve_after P (levels P B k) lst f z b)) (sym binding_is))
 
       moved : (H : List Variable → List Tree → Type 0) → H (variables pat) y.values → H (map (λ b. variable_of b.0) told) (trees_at new (numbers (map (λ b. b.1) told)))
       moved H h =
@@ -223,11 +243,11 @@ module _ (p : Typed.Program) (red : IsReducible p) (pat : Tree) (bare_pat : IsBa
           (λ z o. let h = has_each z (has_occurring z pat o) in let m = more z h.0 in m.1 ∙ h.1))
           ∙ instance_is p red [] pat bare_pat t term.within.normal term.bare old before settled σ norms apart_so y known.0
 
-      pub choice_is : IsGiven c p.sig new after a x → (more : Option Given.Solution) → more ≡ Some x → IsChoice p pat old new before after bound v last more τ
-      choice_is given more m = record {
+      pub choice_is : ((k : Known) → IsTableOf p.sig k old before → Next k (Some x)) → IsGiven c p.sig new after a x → (more : Option Given.Solution) → more ≡ Some x → IsChoice p pat old new before after bound v last more τ
+      choice_is every given more m = record {
         some = λ hooks B derived f.
             let P = program_over p hooks in
-            comes_as (some_is hooks B derived f)
+            comes_as (some_is every hooks B derived f)
             (λ k b. ap (λ o. or_go_on (left_of_choices P (levels P B k) pat f σ t (option_map (solution_in new) o)) (solve P (levels P B k) f (binding_in new τ) b)) (sym m));
         values = values_are given;
         apart = apart_still;
@@ -248,11 +268,74 @@ module _ (p : Typed.Program) (red : IsReducible p) (pat : Tree) (bare_pat : IsBa
       every : (k : Known) → IsTableOf p.sig k old before → Next k (Some x)
       every k table = subst (Next k) e (is k table)
 
+      whole_so : (k : Known) → IsTableOf p.sig k old before → Whole k x
+      whole_so k table = (next_so k (Some x) (every k table)).is_one
+
       pub values_long : length x.values ≡ length (variables pat)
-      values_long = sym (trees_long new x.values) ∙ as_many sorts x every
+      values_long = sym (trees_long new x.values) ∙ as_many sorts x whole_so
 
       pub choice_of : IfSome answer (IsGiven c p.sig new after a) → (more : Option Given.Solution) → more ≡ last_after last answer →
           (told τ : List (VarId × TermId)) → map (λ b. variable_of b.0) told ≡ variables pat → map (λ b. b.1) told ≡ x.values → τ ≡ extended bound told →
           IsChoice p pat old new before after bound v last more τ
       choice_of given more m told τ names numbered more_bound =
-          choice_is sorts x every told τ names numbered more_bound (subst (λ o. IfSome o (IsGiven c p.sig new after a)) e given) more (m ∙ ap (last_after last) e)
+          choice_is sorts x whole_so told τ names numbered more_bound every (subst (λ o. IfSome o (IsGiven c p.sig new after a)) e given) more (m ∙ ap (last_after last) e)
+
+-- ---- the solution that another binding has
+
+-- τ is the binding by it: what it says of what is left behind that binding, where `more` is the last one afterwards, and of τ
+pub record IsOwn (p : Typed.Program) (pat : Tree) (old new : List Node) (before after : Table) (bound : List (VarId × TermId)) (v : TermId) (last : Binding) (more : Option Given.Solution) (τ : List (VarId × TermId)) : Type 0 where
+  pub own : (hooks : List Operator) (B : ℕ) → IsDerivedTable (meanings_by p hooks B false) old before → (f : List Fragment) →
+      ComesTo (program_over p hooks) (λ k. behind_own (program_over p hooks) (levels (program_over p hooks) B k) pat f last (binding_in old bound) (tree_at old v.0))
+      (λ k. or_else (solve_after (program_over p hooks) (levels (program_over p hooks) B k) last f (binding_in new τ))
+      (left_of_choices (program_over p hooks) (levels (program_over p hooks) B k) pat f (binding_in old bound) (tree_at old v.0) (option_map (solution_in new) more)))
+  pub values : All (IsValueOf p.sig new after) τ
+  pub apart : AreApart (map (λ b. variable_of b.0) τ)
+  pub named : map (λ b. variable_of b.0) τ ≡ add_variables (map (λ b. variable_of b.0) bound) pat
+  pub extension : IsExtension (binding_in old bound) (binding_in new τ)
+  pub each_bound : (z : Variable) → has_variable (variables pat) z ≡ true → binds (binding_in new τ) z ≡ true
+  pub solves : (υ : Binding) → IsExtension (binding_in new τ) υ → norm (theory_at p.sig) (instance (look_up υ) pat) ≡ tree_at old v.0
+
+-- the sort of an entry is one by what is known
+entry_known : (s : SignatureOf) (known : Known) (nodes : List Node) (table : Table) → IsTableOf s known nodes table → (r : ℕ) (t : Tree) → HasEntry s nodes table r t → BySort s known r t
+entry_known s known nodes table is r t h = subst (BySort s known r) h.tree (((is.entries h.number h.entry h.at).1.exact r).0 h.has)
+
+module _ (p : Typed.Program) (red : IsReducible p) (pat : Tree) (bare_pat : IsBare (terms_over p.sig) pat) (old new : List Node) (table : Table) (extends : Extends old new)
+    (bound : List (VarId × TermId)) (values : All (IsValueOf p.sig old table) bound) (apart : AreApart (map (λ b. variable_of b.0) bound)) (v : TermId) (term : IsTerm p.sig old v.0)
+    (settled : AreSettled p.sig old table (tree_at old v.0)) (askable : IsAskable p.sig old (asks pat bound v)) (sorts : IsSortTable p.sig old table) (x : Given.Solution) (given : IsGiven false p.sig old table (asks pat bound v) x) where
+  kept : KeepsEntries table table
+  kept = kept_same table
+
+  same_values : matcher_in new x ≡ matcher_in old x
+  same_values = let of_store = given_of_store false p.sig old table (asks pat bound v) x given in found_same old new extends x of_store.left of_store.right of_store.values
+
+  whole : (k : Known) → IsTableOf p.sig k old table → IsSolution false p.sig (BySort p.sig k) (record { pattern = pat; bound = binding_in old bound; subject = tree_at old v.0 }) (as_matcher (solution_in new x))
+  whole k is =
+      subst (IsSolution false p.sig (BySort p.sig k) (question_in old (asks pat bound v))) (sym same_values)
+      (IsSolution-then false p.sig (HasEntry p.sig old table) (BySort p.sig k) (entry_known p.sig k old table is) (question_in old (asks pat bound v)) (matcher_in old x) given.solves)
+
+  trees_same : trees_at new (numbers x.values) ≡ trees_at old (numbers x.values)
+  trees_same = ap (λ m. m.values) same_values
+
+  pub own_long : length x.values ≡ length (variables pat)
+  own_long =
+      sym (trees_long new x.values)
+      ∙ as_many p red pat bare_pat old new table table extends kept bound values apart v term settled (asks pat bound v) refl false refl None sorts x whole
+
+  pub own_of : (last : Binding) → AreValuesIn last (variables pat) (trees_at old (numbers x.values)) →
+      (told τ : List (VarId × TermId)) → map (λ b. variable_of b.0) told ≡ variables pat → map (λ b. b.1) told ≡ x.values → τ ≡ extended bound told →
+      (more : Option Given.Solution) → more ≡ Some x → IsOwn p pat old new table table bound v last more τ
+  own_of last found told τ names numbered e more m = record {
+    own = λ hooks B derived f.
+        let P = program_over p hooks in
+        comes_as
+        (own_is p red pat bare_pat old new table table extends kept bound values apart v term settled (asks pat bound v) refl false refl None sorts x whole told τ names numbered e
+        last (subst (AreValuesIn last (variables pat)) (sym trees_same) found) hooks B derived f)
+        (λ k b. ap (λ o. or_go_on (left_of_choices P (levels P B k) pat f (binding_in old bound) (tree_at old v.0) (option_map (solution_in new) o)) (solve_after P (levels P B k) last f (binding_in new τ) b)) (sym m));
+    values = values_are p red pat bare_pat old new table table extends kept bound values apart v term settled (asks pat bound v) refl false refl None sorts x whole told τ names numbered e
+        (given_kept old new extends table table kept false p.sig (asks pat bound v) askable x given);
+    apart = apart_still p red pat bare_pat old new table table extends kept bound values apart v term settled (asks pat bound v) refl false refl None sorts x whole told τ names numbered e;
+    named = variables_are p red pat bare_pat old new table table extends kept bound values apart v term settled (asks pat bound v) refl false refl None sorts x whole told τ names numbered e;
+    extension = extension_is p red pat bare_pat old new table table extends kept bound values apart v term settled (asks pat bound v) refl false refl None sorts x whole told τ names numbered e;
+    each_bound = binds_each p red pat bare_pat old new table table extends kept bound values apart v term settled (asks pat bound v) refl false refl None sorts x whole told τ names numbered e;
+    solves = pattern_is p red pat bare_pat old new table table extends kept bound values apart v term settled (asks pat bound v) refl false refl None sorts x whole told τ names numbered e;
+  }

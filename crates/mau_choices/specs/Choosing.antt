@@ -1,7 +1,7 @@
 -- The solutions of a fragment p := u of a condition, where u has a value: those of p in the value that agree with the binding so far, one after another.
-use Rattle.std.specs.Prelude.{◌≡◌, List, map, All, Option, false}
+use Rattle.std.specs.Prelude.{◌≡◌, List, [], ◌∷◌, map, All, Option, true, false}
 use Rattle.mau_terms.specs.Tree.{Tree}
-use Rattle.mau_terms.specs.Subst.{variables}
+use Rattle.mau_terms.specs.Subst.{Variable, variables}
 use Rattle.mau_terms.specs.View.{variable_of}
 use Rattle.mau_terms.specs.declared.ids.VarId.{VarId}
 use Rattle.mau_terms.specs.declared.ids.TermId.{TermId}
@@ -15,7 +15,7 @@ use Rattle.mau_listing.specs.declared.solution.Solution as Given
 use Rattle.mau_evaluation.specs.Run.{Run, and_try, first_of, where_true}
 use Rattle.mau_evaluation.specs.Program.{Fragment, Program}
 use Rattle.mau_evaluation.specs.Listing.{Solution, keep, compare, solutions}
-use Rattle.mau_evaluation.specs.Evaluation.{Binding, Level, extend, agree, have_sorts, solve}
+use Rattle.mau_evaluation.specs.Evaluation.{Binding, Level, look_up, binds, extend, agree, have_sorts, solve, own_and_after, solve_after}
 use Rattle.mau_api.specs.Terms.{IsTerm}
 use Rattle.mau_api.specs.Answers.{AreSettled, IsValueOf, AreApart}
 
@@ -31,6 +31,22 @@ agreeing P p σ v = keep (λ x. agree P.sign.theory σ (variables p) x.values) (
 -- what those behind the last one give
 abbrev pub left_of_choices : Program → Level → Tree → List Fragment → Binding → Tree → Option Solution → Run (Option Binding)
 left_of_choices P l p c σ v last = first_of (solution_gives P l p c σ) (keep (comes_behind (compare P.sign.theory p) last) (agreeing P p σ v))
+
+-- what a solution x of p gives behind the binding `last`: the fragments c are solved behind that
+abbrev pub solution_gives_behind : Program → Level → Tree → List Fragment → Binding → Binding → Solution → Run (Option Binding)
+solution_gives_behind P l p c last σ x = and_try (have_sorts l.sorts (variables p) x.values) λ ok. where_true ok (solve_after P l last c (extend σ (variables p) x.values))
+
+-- what they give behind `last`: the one that has the values of `last`, and then those behind it
+abbrev pub behind_own : Program → Level → Tree → List Fragment → Binding → Binding → Tree → Run (Option Binding)
+behind_own P l p c last σ v =
+    own_and_after P l (λ x. agree P.sign.theory last (variables p) x.values) (solution_gives_behind P l p c last σ) (solution_gives P l p c σ) (agreeing P p σ v)
+
+-- these are the values of the variables xs in τ
+abbrev pub AreValuesIn : Binding → List Variable → List Tree → Type 0
+AreValuesIn τ [] [] = Unit {0}
+AreValuesIn τ [] (v ∷ vs) = ⊥
+AreValuesIn τ (x ∷ xs) [] = ⊥
+AreValuesIn τ (x ∷ xs) (v ∷ vs) = ((binds τ x ≡ true) × (look_up τ x ≡ v)) × AreValuesIn τ xs vs
 
 -- The solutions of p in a value under a binding are listed without contexts, and the listing can go on behind the last one.
 pub record IsChoosing (s : SignatureOf) (nodes : List Node) (table : Table) (p : Tree) (bound : List (VarId × TermId)) (v : TermId) (asks_for : Asked) (last : Option Given.Solution) (is_for : Type 0) : Type 0 where

@@ -2,6 +2,8 @@
 #![tactic(auto)]
 
 mod choices;
+mod own;
 mod told;
 
 pub use choices::{Choices, begin_choices, next_choice};
+pub use own::own_choice;

@@ -35,7 +35,7 @@ use Rattle.mau_stratrun.specs.Settings.{Fixed}
 use Rattle.mau_stratrun.specs.Yields.{Yield, body_on, IsCall, YieldsFirst, YieldsAll, IsCause}
 use Rattle.mau_stratrun.specs.Worlds.{values_of, body_at, yield_of, IsYielded, IsNextYield}
 use Rattle.mau_stratrun.proofs.Yielding.{calls_yield}
-use Rattle.mau_leaves.specs.Meanings.{definition_of}
+use Rattle.mau_stratforms.specs.Meanings.{definition_of}
 use Rattle.mau_leaves.specs.Steps.{Gives, IsOver, Passes, Throughout}
 use Rattle.mau_leaves.specs.Answers.{IsDueBy}
 use Rattle.mau_leaves.specs.Searches.{IsNextOne, found_in}

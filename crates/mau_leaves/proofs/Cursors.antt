@@ -35,7 +35,7 @@ use Rattle.mau_leaves.specs.Uses.{is_chosen}
 use Rattle.mau_leaves.specs.Top.{left_of_top, IsTop}
 use Rattle.mau_leaves.specs.Follows.{IsLeafDue, IsNextGiven, IsTopOf}
 use Rattle.mau_evaluation.specs.Strategy.{idle, label as by_label, top_only, call}
-use Rattle.mau_leaves.specs.Meanings.{meaning_of}
+use Rattle.mau_stratforms.specs.Meanings.{meaning_of}
 use Rattle.mau_leaves.specs.Cursors.{leaf_at, label_by, label_of_one, label_in, call_by, call_of_one, call_in, fixed_of, leaf_end, yielded_by, chosen_by, IsTopCursor, IsTestCursor, yields_in, world_of, world_of_calls}
 use Rattle.mau_leaves.specs.declared.cursor.CallCursor.{CallCursor}
 use Rattle.mau_leaves.specs.declared.top.TopResults.{TopResults}

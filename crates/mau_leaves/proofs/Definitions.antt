@@ -33,7 +33,7 @@ use Rattle.mau_api.specs.Programs.{fragment_of, program_over}
 use Rattle.mau_api.specs.Meanings.{Meanings}
 use Rattle.mau_api.specs.Answers.{binding_in, IsFragment, IsAskable, IsValueOf, IsSolutionOf}
 use Rattle.mau_api.specs.declared.results.EvalEnd.{EvalEnd}
-use Rattle.mau_leaves.specs.Meanings.{definition_of}
+use Rattle.mau_stratforms.specs.Meanings.{definition_of}
 use Rattle.mau_leaves.specs.Steps.{Gives, IsOver, Passes, EndsNow, Throughout}
 use Rattle.mau_leaves.specs.Uses.{condition_from, question_from}
 use Rattle.mau_leaves.specs.Answers.{ComesTo, QuestionEnds, IsDueBy}

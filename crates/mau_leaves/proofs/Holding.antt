@@ -35,7 +35,7 @@ use Rattle.mau_api.specs.Answers.{IsAskable, levels_of_condition}
 use Rattle.mau_api.specs.declared.results.EvalEnd.{EvalEnd}
 use Rattle.mau_api.specs.declared.results.EvalEnd.TheVariants as Ended
 use Rattle.mau_reduce.proofs.KindsKept.{tree_kept}
-use Rattle.mau_leaves.specs.Meanings.{kind_of}
+use Rattle.mau_stratforms.specs.Meanings.{kind_of}
 use Rattle.mau_leaves.specs.Steps.{Gives, IsOver, Passes, EndsNow, Throughout}
 use Rattle.mau_leaves.specs.Uses.{Use, behind, use_by, uses_among, uses_by, IsLeft}
 use Rattle.mau_leaves.specs.Answers.{IsDueBy}

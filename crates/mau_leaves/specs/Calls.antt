@@ -18,7 +18,7 @@ use Rattle.mau_evaluation.specs.OrderedLists.{body_for, bodies_in}
 use Rattle.mau_api.specs.Programs.{fragment_of, program_over}
 use Rattle.mau_api.specs.Meanings.{Meanings}
 use Rattle.mau_api.specs.Answers.{binding_in, IsAskable, IsValueOf, IsSolutionOf}
-use Rattle.mau_leaves.specs.Meanings.{definition_of}
+use Rattle.mau_stratforms.specs.Meanings.{definition_of}
 use Rattle.mau_leaves.specs.Uses.{IsAskedFrom}
 use Rattle.mau_leaves.specs.Searches.{found_in, last_in}
 use Rattle.mau_leaves.specs.declared.uses.Standing.{Standing}

@@ -37,7 +37,7 @@ use Rattle.mau_stratrun.specs.declared.leaves.LeafEnd.TheVariants.{Stopped, TooD
 use Rattle.mau_stratrun.specs.Settings.{Fixed}
 use Rattle.mau_stratrun.specs.Yields.{Yield, result_of, body_on}
 use Rattle.mau_stratrun.specs.Worlds.{World}
-use Rattle.mau_leaves.specs.Meanings.{meaning_of, definition_of}
+use Rattle.mau_stratforms.specs.Meanings.{meaning_of, definition_of}
 use Rattle.mau_leaves.specs.Uses.{is_chosen}
 use Rattle.mau_leaves.specs.Top.{left_of_top, IsTop}
 use Rattle.mau_leaves.specs.Tests.{left_of_test, IsTest}

@@ -20,8 +20,6 @@ pub mod Top
 pub mod Follows
 -- the variables that a fragment of a condition matches
 pub mod Matched
--- strategies of a program, as evaluation sees them
-pub mod Meanings
 -- searches for the bodies of a call without arguments
 pub mod Calls
 -- tests: their results by the uses of a rule

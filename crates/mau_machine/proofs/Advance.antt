@@ -302,6 +302,15 @@ module _ {A C S D : Type 0} (w : Words A C S D) (nodes : List Node) (table : Tab
     refl,
   )
 
+  -- the solution of a fragment that a solution of the condition has, and the next one, are told alike
+  pub own_as_choice : (J : Job) (x : Choosing C) (l : _) (es : List Event) → TellsTask w nodes table J (Next.Own x l) es → TellsTask w nodes table J (Next.Choose x) es
+  own_as_choice (evaluating t0) x l es h = absurd h
+  own_as_choice (solving e i σ) x l es h = h
+
+  pub choice_as_own : (J : Job) (x : Choosing C) (l : _) (es : List Event) → TellsTask w nodes table J (Next.Choose x) es → TellsTask w nodes table J (Next.Own x l) es
+  choice_as_own (evaluating t0) x l es h = absurd h
+  choice_as_own (solving e i σ) x l es h = h
+
   pub solved_told : (J : Job) (c : Condition S) (es : List Event) → Asks w.rules c.condition c.at Goals.Nothing → TellsTask w nodes table J (Next.Solve c) es → TellsTask w nodes table J (Next.Held c.condition c.binding) es
   solved_told (evaluating t0) c es g h = absurd h
   solved_told (solving e i σ) c es g h =

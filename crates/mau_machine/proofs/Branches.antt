@@ -10,13 +10,13 @@ use Rattle.mau_terms.specs.declared.ids.TermId.{TermId}
 use Rattle.mau_canon.specs.Within.{IsWithin}
 use Rattle.mau_evaluation.specs.Run.{End, Outcome, done, ended, Run, stopped, too_deep, counted, counted_if, go_on, and_then, and_try, try_on, or_go_on, gives, spend, where_true, first_of}
 use Rattle.mau_evaluation.specs.Program.{Fragment, equals, matches, has_sort, reaches, Program}
-use Rattle.mau_evaluation.specs.Listing.{same_tree, keep, solutions}
-use Rattle.mau_evaluation.specs.Evaluation.{Binding, Level, levels, solve, go_from, at_top, on_normal, admit, admitted, within_limits, in_places, put_value, order_of, top_changed, at, put, has_number, look_up, extend, agree, have_sorts}
+use Rattle.mau_evaluation.specs.Listing.{Solution, same_tree, keep, solutions}
+use Rattle.mau_evaluation.specs.Evaluation.{Binding, Level, levels, own_and_after, go_from, at_top, on_normal, admit, admitted, within_limits, in_places, put_value, order_of, top_changed, at, put, has_number, look_up, extend, agree, have_sorts}
 use Rattle.mau_evaluation.proofs.Falls.{evaluation_goes_on}
 use Rattle.mau_api.specs.declared.results.EvalEnd.{EvalEnd}
 use Rattle.mau_api.specs.declared.results.EvalEnd.TheVariants.{Stopped, TooDeep, Overflow, NoMemory}
-use Rattle.mau_machine.specs.Words.{greatest_count, capped, IsEnd, IsKnownBy, EndsWhere, ComesToEnd, Rules, Words, trees, IsLeaf, rest_of, eval_on, sorts_on, solve_on, settle_on, applied_on, choose_from, side_of, side_by, sort_in, pattern_in, goal_of, Asks}
-use Rattle.mau_machine.specs.Machine.{argument, again, left_side, right_side, sorting, matching, choice, settling, trying, Reply, gave, held, failed, as_value, as_answer, from_built, on_arguments, on_attempts, after, goes_on}
+use Rattle.mau_machine.specs.Words.{greatest_count, capped, IsEnd, IsKnownBy, EndsWhere, ComesToEnd, Rules, Words, trees, IsLeaf, rest_of, eval_on, sorts_on, solve_on, solved_from, solve_from, settle_on, applied_on, side_of, side_by, sort_in, pattern_in, goal_of, Asks}
+use Rattle.mau_machine.specs.Machine.{argument, again, left_side, right_side, sorting, matching, choice, settling, trying, Reply, gave, held, failed, as_value, as_answer, from_built, on_arguments, on_attempts, choose_behind, after, goes_on}
 use Rattle.mau_machine.specs.declared.goal.Goal.TheVariants as Goals
 use Rattle.mau_machine.specs.Steps.{IsAlike, Follows}
 use Rattle.mau_machine.proofs.Counts.{zero_more, counted_zero, counted_twice, go_on_counted, answer_zero, answer_twice, min_twice}
@@ -251,188 +251,232 @@ module _ (R : Rules) where
   asked_by K K' h r (done v q b) = answer_twice r q (K v b) ∙ ap (λ z. as_answer (counted_if (r + q) z)) (h v b)
   asked_by K K' h r (ended e) = refl
 
-  abbrev left_of : (k e i : ℕ) (σ : Binding) → Tree → Run (Option Binding)
-  left_of k e i σ v = and_try (eval_on R k (side_of R e i true σ)) (λ u. where_true (same_tree v u) (solve_on R k e (suc i) σ))
+  abbrev left_of : (last : Option Binding) (k e i : ℕ) (σ : Binding) → Tree → Run (Option Binding)
+  left_of last k e i σ v = and_try (eval_on R k (side_of R e i true σ)) (λ u. where_true (same_tree v u) (solve_from R last k e (suc i) σ))
 
-  left_waits : (k e i : ℕ) (σ : Binding) (o : Outcome Reply) → reply_of (left_of k e i σ) o ≡ goes_on R (left_side k e i σ) o
-  left_waits k e i σ (done (gave v) r b) = refl
-  left_waits k e i σ (done (held τ) r b) = refl
-  left_waits k e i σ (done failed r b) = refl
-  left_waits k e i σ (ended d) = refl
+  left_waits : (last : Option Binding) (k e i : ℕ) (σ : Binding) (o : Outcome Reply) → reply_of (left_of last k e i σ) o ≡ goes_on R (left_side last k e i σ) o
+  left_waits last k e i σ (done (gave v) r b) = refl
+  left_waits last k e i σ (done (held τ) r b) = refl
+  left_waits last k e i σ (done failed r b) = refl
+  left_waits last k e i σ (ended d) = refl
 
-  abbrev right_of : (k e i : ℕ) (σ : Binding) → Tree → Tree → Run (Option Binding)
-  right_of k e i σ u v = where_true (same_tree u v) (solve_on R k e (suc i) σ)
+  abbrev right_of : (last : Option Binding) (k e i : ℕ) (σ : Binding) → Tree → Tree → Run (Option Binding)
+  right_of last k e i σ u v = where_true (same_tree u v) (solve_from R last k e (suc i) σ)
 
-  right_waits : (k e i : ℕ) (σ : Binding) (u : Tree) (o : Outcome Reply) → reply_of (right_of k e i σ u) o ≡ goes_on R (right_side k e i σ u) o
-  right_waits k e i σ u (done (gave v) r b) = refl
-  right_waits k e i σ u (done (held τ) r b) = refl
-  right_waits k e i σ u (done failed r b) = refl
-  right_waits k e i σ u (ended d) = refl
+  right_waits : (last : Option Binding) (k e i : ℕ) (σ : Binding) (u : Tree) (o : Outcome Reply) → reply_of (right_of last k e i σ u) o ≡ goes_on R (right_side last k e i σ u) o
+  right_waits last k e i σ u (done (gave v) r b) = refl
+  right_waits last k e i σ u (done (held τ) r b) = refl
+  right_waits last k e i σ u (done failed r b) = refl
+  right_waits last k e i σ u (ended d) = refl
 
-  abbrev sorting_of : (k e i : ℕ) (σ : Binding) → Tree → Run (Option Binding)
-  sorting_of k e i σ v = and_try (sorts_on R k v) (λ ss. where_true (has_number ss (sort_in (rest_of R e i))) (solve_on R k e (suc i) σ))
+  abbrev sorting_of : (last : Option Binding) (k e i : ℕ) (σ : Binding) → Tree → Run (Option Binding)
+  sorting_of last k e i σ v = and_try (sorts_on R k v) (λ ss. where_true (has_number ss (sort_in (rest_of R e i))) (solve_from R last k e (suc i) σ))
 
-  sorting_waits : (k e i : ℕ) (σ : Binding) (o : Outcome Reply) → reply_of (sorting_of k e i σ) o ≡ goes_on R (sorting k e i σ) o
-  sorting_waits k e i σ (done (gave v) r b) = refl
-  sorting_waits k e i σ (done (held τ) r b) = refl
-  sorting_waits k e i σ (done failed r b) = refl
-  sorting_waits k e i σ (ended d) = refl
+  sorting_waits : (last : Option Binding) (k e i : ℕ) (σ : Binding) (o : Outcome Reply) → reply_of (sorting_of last k e i σ) o ≡ goes_on R (sorting last k e i σ) o
+  sorting_waits last k e i σ (done (gave v) r b) = refl
+  sorting_waits last k e i σ (done (held τ) r b) = refl
+  sorting_waits last k e i σ (done failed r b) = refl
+  sorting_waits last k e i σ (ended d) = refl
 
-  matching_waits : (k e i : ℕ) (σ : Binding) (o : Outcome Reply) → reply_of (choose_from R k e i σ) o ≡ goes_on R (matching k e i σ) o
-  matching_waits k e i σ (done (gave v) r b) = refl
-  matching_waits k e i σ (done (held τ) r b) = refl
-  matching_waits k e i σ (done failed r b) = refl
-  matching_waits k e i σ (ended d) = refl
+  matching_waits : (last : Option Binding) (k e i : ℕ) (σ : Binding) (o : Outcome Reply) → reply_of (choose_behind R last k e i σ) o ≡ goes_on R (matching last k e i σ) o
+  matching_waits last k e i σ (done (gave v) r b) = refl
+  matching_waits last k e i σ (done (held τ) r b) = refl
+  matching_waits last k e i σ (done failed r b) = refl
+  matching_waits last k e i σ (ended d) = refl
 
-  abbrev choose_by : ℕ → Binding → Tree → List Fragment → Tree → Run (Option Binding)
-  choose_by k σ p cs v =
-      first_of (λ x. and_try (have_sorts (sorts_on R k) (variables p) x.values) λ ok. where_true ok (solve P (l k) cs (extend σ (variables p) x.values)))
+  -- one solution, for which the fragments cs are solved
+  abbrev one_by_last : Option Binding → ℕ → Binding → Tree → List Fragment → Solution → Run (Option Binding)
+  one_by_last last k σ p cs x = and_try (have_sorts (sorts_on R k) (variables p) x.values) λ ok. where_true ok (solved_from R last k cs (extend σ (variables p) x.values))
+
+  abbrev choose_by : Option Binding → ℕ → Binding → Tree → List Fragment → Tree → Run (Option Binding)
+  choose_by None k σ p cs v = first_of (one_by_last None k σ p cs) (keep (λ x. agree P.sign.theory σ (variables p) x.values) (solutions P.sign p v))
+  choose_by (Some last) k σ p cs v =
+      own_and_after P (l k) (λ x. agree P.sign.theory last (variables p) x.values) (one_by_last (Some last) k σ p cs) (one_by_last None k σ p cs)
       (keep (λ x. agree P.sign.theory σ (variables p) x.values) (solutions P.sign p v))
 
+  -- fragments, by the definition
+  equals_is : (last : Option Binding) (k : ℕ) (t u : Tree) (cs : List Fragment) (σ : Binding) (b : ℕ) → solved_from R last k (equals t u ∷ cs) σ b
+      ≡ try_on (λ v. and_try (eval_on R k (instance (look_up σ) u)) (λ z. where_true (same_tree v z) (solved_from R last k cs σ))) (eval_on R k (instance (look_up σ) t) b)
+  equals_is None k t u cs σ b = refl
+  equals_is (Some last) k t u cs σ b = refl
+
+  has_sort_is : (last : Option Binding) (k : ℕ) (t : Tree) (s : ℕ) (cs : List Fragment) (σ : Binding) (b : ℕ) → solved_from R last k (has_sort t s ∷ cs) σ b
+      ≡ try_on (λ v. and_try (sorts_on R k v) (λ ss. where_true (has_number ss s) (solved_from R last k cs σ))) (eval_on R k (instance (look_up σ) t) b)
+  has_sort_is None k t s cs σ b = refl
+  has_sort_is (Some last) k t s cs σ b = refl
+
+  matches_is : (last : Option Binding) (k : ℕ) (t u : Tree) (cs : List Fragment) (σ : Binding) (b : ℕ) → solved_from R last k (matches t u ∷ cs) σ b ≡ try_on (λ v. choose_by last k σ t cs v) (eval_on R k (instance (look_up σ) u) b)
+  matches_is None k t u cs σ b = refl
+  matches_is (Some last) k t u cs σ b = refl
+
+  reaches_is : (last : Option Binding) (k : ℕ) (t u : Tree) (cs : List Fragment) (σ : Binding) (b : ℕ) → solved_from R last k (reaches t u ∷ cs) σ b ≡ done None 0 b
+  reaches_is None k t u cs σ b = refl
+  reaches_is (Some last) k t u cs σ b = refl
+
+  -- what a fragment p := u gives
+  chosen_is : (last : Option Binding) (k e i : ℕ) (σ : Binding) (v : Tree) (c : ℕ) → choose_by last k σ (pattern_in (rest_of R e i)) (rest_of R e (suc i)) v c ≡ choose_behind R last k e i σ v c
+  chosen_is None k e i σ v c = refl
+  chosen_is (Some last) k e i σ v c = refl
+
+  -- what is shown where nothing is left to solve: a solution is not shown again behind itself
+  abbrev pub at_end : Option Binding → Binding → ℕ → ℕ → Outcome Reply
+  at_end None σ r b = done (held σ) r b
+  at_end (Some last) σ r b = done failed 0 b
+
+  nothing_is : (last : Option Binding) (k : ℕ) (σ : Binding) (r b : ℕ) → as_answer (counted_if r (solved_from R last k [] σ b)) ≡ at_end last σ r b
+  nothing_is None k σ r b = ap (λ n. done (held σ) n b) (zero_more r)
+  nothing_is (Some last) k σ r b = refl
+
   -- nothing is left to solve
-  pub nothing_left : (k e i : ℕ) (σ : Binding) → Asks R e i Goals.Nothing → (r b : ℕ) → as_answer (counted_if r (solve_on R k e i σ b)) ≡ done (held σ) r b
-  nothing_left k e i σ g r b = by (rest_of R e i) refl g
+  pub nothing_left : (last : Option Binding) (k e i : ℕ) (σ : Binding) → Asks R e i Goals.Nothing → (r b : ℕ) → as_answer (counted_if r (solve_from R last k e i σ b)) ≡ at_end last σ r b
+  nothing_left last k e i σ g r b = by (rest_of R e i) refl g
     where
-      by : (F : List Fragment) → rest_of R e i ≡ F → Goals.Nothing ≡ goal_of F → as_answer (counted_if r (solve_on R k e i σ b)) ≡ done (held σ) r b
-      by [] d g = ap (λ F. as_answer (counted_if r (solve P (l k) F σ b))) d ∙ ap (λ n. done (held σ) n b) (zero_more r)
+      by : (F : List Fragment) → rest_of R e i ≡ F → Goals.Nothing ≡ goal_of F → as_answer (counted_if r (solve_from R last k e i σ b)) ≡ at_end last σ r b
+      by [] d g = ap (λ F. as_answer (counted_if r (solved_from R last k F σ b))) d ∙ nothing_is last k σ r b
       by (equals t u ∷ cs) d g = cc
       by (has_sort t s ∷ cs) d g = cc
       by (matches t u ∷ cs) d g = cc
       by (reaches t u ∷ cs) d g = cc
 
   -- or what is solved by rules alone
-  pub reaching_fails : (k e i : ℕ) (σ : Binding) → Asks R e i Goals.Reaching → (r b : ℕ) → as_answer (counted_if r (solve_on R k e i σ b)) ≡ done failed 0 b
-  reaching_fails k e i σ g r b = by (rest_of R e i) refl g
+  pub reaching_fails : (last : Option Binding) (k e i : ℕ) (σ : Binding) → Asks R e i Goals.Reaching → (r b : ℕ) → as_answer (counted_if r (solve_from R last k e i σ b)) ≡ done failed 0 b
+  reaching_fails last k e i σ g r b = by (rest_of R e i) refl g
     where
-      by : (F : List Fragment) → rest_of R e i ≡ F → Goals.Reaching ≡ goal_of F → as_answer (counted_if r (solve_on R k e i σ b)) ≡ done failed 0 b
+      by : (F : List Fragment) → rest_of R e i ≡ F → Goals.Reaching ≡ goal_of F → as_answer (counted_if r (solve_from R last k e i σ b)) ≡ done failed 0 b
       by [] d g = cc
       by (equals t u ∷ cs) d g = cc
       by (has_sort t s ∷ cs) d g = cc
       by (matches t u ∷ cs) d g = cc
-      by (reaches t u ∷ cs) d g = ap (λ F. as_answer (counted_if r (solve P (l k) F σ b))) d
+      by (reaches t u ∷ cs) d g = ap (λ F. as_answer (counted_if r (solved_from R last k F σ b))) d ∙ ap (λ o. as_answer (counted_if r o)) (reaches_is last k t u cs σ b)
 
   -- the left side of an equality is evaluated
-  pub equality : (k e i : ℕ) (σ : Binding) → Asks R e i Goals.Equality → (x : Tree) (b : ℕ) → eval_on R k (side_of R e i false σ) b ≡ eval_on R k x b → (r : ℕ) →
-      as_answer (counted_if r (solve_on R k e i σ b)) ≡ goes_on R (left_side k e i σ) (as_value (counted r (eval_on R k x b)))
-  equality k e i σ g x b h r = by (rest_of R e i) refl g
+  pub equality : (last : Option Binding) (k e i : ℕ) (σ : Binding) → Asks R e i Goals.Equality → (x : Tree) (b : ℕ) → eval_on R k (side_of R e i false σ) b ≡ eval_on R k x b → (r : ℕ) →
+      as_answer (counted_if r (solve_from R last k e i σ b)) ≡ goes_on R (left_side last k e i σ) (as_value (counted r (eval_on R k x b)))
+  equality last k e i σ g x b h r = by (rest_of R e i) refl g
     where
       by : (F : List Fragment) → rest_of R e i ≡ F → Goals.Equality ≡ goal_of F →
-          as_answer (counted_if r (solve_on R k e i σ b)) ≡ goes_on R (left_side k e i σ) (as_value (counted r (eval_on R k x b)))
+          as_answer (counted_if r (solve_from R last k e i σ b)) ≡ goes_on R (left_side last k e i σ) (as_value (counted r (eval_on R k x b)))
       by [] d g = cc
       by (equals t u ∷ cs) d g =
           let q : rest_of R e (suc i) ≡ cs = drop_next (R.cond e) i (equals t u) cs d in
-          let K : Tree → Run (Option Binding) = λ v. and_try (eval_on R k (instance (look_up σ) u)) (λ z. where_true (same_tree v z) (solve P (l k) cs σ)) in
-          ap (λ F. as_answer (counted_if r (solve P (l k) F σ b))) d
+          let K : Tree → Run (Option Binding) = λ v. and_try (eval_on R k (instance (look_up σ) u)) (λ z. where_true (same_tree v z) (solved_from R last k cs σ)) in
+          ap (λ F. as_answer (counted_if r (solved_from R last k F σ b))) d
+          ∙ (ap (λ o. as_answer (counted_if r o)) (equals_is last k t u cs σ b)
           ∙ (ap (λ o. as_answer (counted_if r (try_on K o))) (ap (λ F. eval_on R k (instance (look_up σ) (side_by false F)) b) (sym d) ∙ h)
-          ∙ (asked_by K (left_of k e i σ) (λ v c. ap (λ F. and_try (eval_on R k (instance (look_up σ) (side_by true F))) (λ z. where_true (same_tree v z) (solve P (l k) cs σ)) c) (sym d)
-          ∙ ap (λ D. and_try (eval_on R k (side_of R e i true σ)) (λ z. where_true (same_tree v z) (solve P (l k) D σ)) c) (sym q)) r (eval_on R k x b)
-          ∙ left_waits k e i σ (as_value (counted r (eval_on R k x b)))))
+          ∙ (asked_by K (left_of last k e i σ) (λ v c. ap (λ F. and_try (eval_on R k (instance (look_up σ) (side_by true F))) (λ z. where_true (same_tree v z) (solved_from R last k cs σ)) c) (sym d)
+          ∙ ap (λ D. and_try (eval_on R k (side_of R e i true σ)) (λ z. where_true (same_tree v z) (solved_from R last k D σ)) c) (sym q)) r (eval_on R k x b)
+          ∙ left_waits last k e i σ (as_value (counted r (eval_on R k x b))))))
       by (has_sort t s ∷ cs) d g = cc
       by (matches t u ∷ cs) d g = cc
       by (reaches t u ∷ cs) d g = cc
 
   -- the term of a test of sorts is evaluated
-  pub sort_test : (k e i : ℕ) (σ : Binding) → Asks R e i Goals.Sort → (x : Tree) (b : ℕ) → eval_on R k (side_of R e i false σ) b ≡ eval_on R k x b → (r : ℕ) →
-      as_answer (counted_if r (solve_on R k e i σ b)) ≡ goes_on R (sorting k e i σ) (as_value (counted r (eval_on R k x b)))
-  sort_test k e i σ g x b h r = by (rest_of R e i) refl g
+  pub sort_test : (last : Option Binding) (k e i : ℕ) (σ : Binding) → Asks R e i Goals.Sort → (x : Tree) (b : ℕ) → eval_on R k (side_of R e i false σ) b ≡ eval_on R k x b → (r : ℕ) →
+      as_answer (counted_if r (solve_from R last k e i σ b)) ≡ goes_on R (sorting last k e i σ) (as_value (counted r (eval_on R k x b)))
+  sort_test last k e i σ g x b h r = by (rest_of R e i) refl g
     where
       by : (F : List Fragment) → rest_of R e i ≡ F → Goals.Sort ≡ goal_of F →
-          as_answer (counted_if r (solve_on R k e i σ b)) ≡ goes_on R (sorting k e i σ) (as_value (counted r (eval_on R k x b)))
+          as_answer (counted_if r (solve_from R last k e i σ b)) ≡ goes_on R (sorting last k e i σ) (as_value (counted r (eval_on R k x b)))
       by [] d g = cc
       by (equals t u ∷ cs) d g = cc
       by (has_sort t s ∷ cs) d g =
           let q : rest_of R e (suc i) ≡ cs = drop_next (R.cond e) i (has_sort t s) cs d in
-          let K : Tree → Run (Option Binding) = λ v. and_try (sorts_on R k v) (λ ss. where_true (has_number ss s) (solve P (l k) cs σ)) in
-          ap (λ F. as_answer (counted_if r (solve P (l k) F σ b))) d
+          let K : Tree → Run (Option Binding) = λ v. and_try (sorts_on R k v) (λ ss. where_true (has_number ss s) (solved_from R last k cs σ)) in
+          ap (λ F. as_answer (counted_if r (solved_from R last k F σ b))) d
+          ∙ (ap (λ o. as_answer (counted_if r o)) (has_sort_is last k t s cs σ b)
           ∙ (ap (λ o. as_answer (counted_if r (try_on K o))) (ap (λ F. eval_on R k (instance (look_up σ) (side_by false F)) b) (sym d) ∙ h)
-          ∙ (asked_by K (sorting_of k e i σ) (λ v c. ap (λ F. and_try (sorts_on R k v) (λ ss. where_true (has_number ss (sort_in F)) (solve P (l k) cs σ)) c) (sym d)
-          ∙ ap (λ D. and_try (sorts_on R k v) (λ ss. where_true (has_number ss (sort_in (rest_of R e i))) (solve P (l k) D σ)) c) (sym q)) r (eval_on R k x b)
-          ∙ sorting_waits k e i σ (as_value (counted r (eval_on R k x b)))))
+          ∙ (asked_by K (sorting_of last k e i σ) (λ v c. ap (λ F. and_try (sorts_on R k v) (λ ss. where_true (has_number ss (sort_in F)) (solved_from R last k cs σ)) c) (sym d)
+          ∙ ap (λ D. and_try (sorts_on R k v) (λ ss. where_true (has_number ss (sort_in (rest_of R e i))) (solved_from R last k D σ)) c) (sym q)) r (eval_on R k x b)
+          ∙ sorting_waits last k e i σ (as_value (counted r (eval_on R k x b))))))
       by (matches t u ∷ cs) d g = cc
       by (reaches t u ∷ cs) d g = cc
 
   -- the right side of a match is evaluated
-  pub match : (k e i : ℕ) (σ : Binding) → Asks R e i Goals.Matching → (x : Tree) (b : ℕ) → eval_on R k (side_of R e i true σ) b ≡ eval_on R k x b → (r : ℕ) →
-      as_answer (counted_if r (solve_on R k e i σ b)) ≡ goes_on R (matching k e i σ) (as_value (counted r (eval_on R k x b)))
-  match k e i σ g x b h r = by (rest_of R e i) refl g
+  pub match : (last : Option Binding) (k e i : ℕ) (σ : Binding) → Asks R e i Goals.Matching → (x : Tree) (b : ℕ) → eval_on R k (side_of R e i true σ) b ≡ eval_on R k x b → (r : ℕ) →
+      as_answer (counted_if r (solve_from R last k e i σ b)) ≡ goes_on R (matching last k e i σ) (as_value (counted r (eval_on R k x b)))
+  match last k e i σ g x b h r = by (rest_of R e i) refl g
     where
       by : (F : List Fragment) → rest_of R e i ≡ F → Goals.Matching ≡ goal_of F →
-          as_answer (counted_if r (solve_on R k e i σ b)) ≡ goes_on R (matching k e i σ) (as_value (counted r (eval_on R k x b)))
+          as_answer (counted_if r (solve_from R last k e i σ b)) ≡ goes_on R (matching last k e i σ) (as_value (counted r (eval_on R k x b)))
       by [] d g = cc
       by (equals t u ∷ cs) d g = cc
       by (has_sort t s ∷ cs) d g = cc
       by (matches t u ∷ cs) d g =
           let q : rest_of R e (suc i) ≡ cs = drop_next (R.cond e) i (matches t u) cs d in
-          let K : Tree → Run (Option Binding) = λ v. choose_by k σ t cs v in
-          ap (λ F. as_answer (counted_if r (solve P (l k) F σ b))) d
+          let K : Tree → Run (Option Binding) = λ v. choose_by last k σ t cs v in
+          ap (λ F. as_answer (counted_if r (solved_from R last k F σ b))) d
+          ∙ (ap (λ o. as_answer (counted_if r o)) (matches_is last k t u cs σ b)
           ∙ (ap (λ o. as_answer (counted_if r (try_on K o))) (ap (λ F. eval_on R k (instance (look_up σ) (side_by true F)) b) (sym d) ∙ h)
-          ∙ (asked_by K (choose_from R k e i σ) (λ v c. ap (λ F. choose_by k σ (pattern_in F) cs v c) (sym d) ∙ ap (λ D. choose_by k σ (pattern_in (rest_of R e i)) D v c) (sym q)) r (eval_on R k x b)
-          ∙ matching_waits k e i σ (as_value (counted r (eval_on R k x b)))))
+          ∙ (asked_by K (choose_behind R last k e i σ) (λ v c. ap (λ F. choose_by last k σ (pattern_in F) cs v c) (sym d) ∙ (ap (λ D. choose_by last k σ (pattern_in (rest_of R e i)) D v c) (sym q) ∙ chosen_is last k e i σ v c)) r (eval_on R k x b)
+          ∙ matching_waits last k e i σ (as_value (counted r (eval_on R k x b))))))
       by (reaches t u ∷ cs) d g = cc
 
   -- ---- ends of conditions: that of the side is that of the condition
 
-  pub equality_ends : (k e i : ℕ) (σ : Binding) → Asks R e i Goals.Equality → (r b : ℕ) (d : End) → eval_on R k (side_of R e i false σ) b ≡ ended d → as_answer (counted_if r (solve_on R k e i σ b)) ≡ ended d
-  equality_ends k e i σ g r b d h = by (rest_of R e i) refl g
+  pub equality_ends : (last : Option Binding) (k e i : ℕ) (σ : Binding) → Asks R e i Goals.Equality → (r b : ℕ) (d : End) → eval_on R k (side_of R e i false σ) b ≡ ended d → as_answer (counted_if r (solve_from R last k e i σ b)) ≡ ended d
+  equality_ends last k e i σ g r b d h = by (rest_of R e i) refl g
     where
-      by : (F : List Fragment) → rest_of R e i ≡ F → Goals.Equality ≡ goal_of F → as_answer (counted_if r (solve_on R k e i σ b)) ≡ ended d
+      by : (F : List Fragment) → rest_of R e i ≡ F → Goals.Equality ≡ goal_of F → as_answer (counted_if r (solve_from R last k e i σ b)) ≡ ended d
       by [] q g = cc
       by (equals t u ∷ cs) q g =
-          let K : Tree → Run (Option Binding) = λ v. and_try (eval_on R k (instance (look_up σ) u)) (λ z. where_true (same_tree v z) (solve P (l k) cs σ)) in
-          ap (λ F. as_answer (counted_if r (solve P (l k) F σ b))) q
-          ∙ ap (λ o. as_answer (counted_if r (try_on K o))) (ap (λ F. eval_on R k (instance (look_up σ) (side_by false F)) b) (sym q) ∙ h)
+          let K : Tree → Run (Option Binding) = λ v. and_try (eval_on R k (instance (look_up σ) u)) (λ z. where_true (same_tree v z) (solved_from R last k cs σ)) in
+          ap (λ F. as_answer (counted_if r (solved_from R last k F σ b))) q
+          ∙ (ap (λ o. as_answer (counted_if r o)) (equals_is last k t u cs σ b)
+          ∙ ap (λ o. as_answer (counted_if r (try_on K o))) (ap (λ F. eval_on R k (instance (look_up σ) (side_by false F)) b) (sym q) ∙ h))
       by (has_sort t s ∷ cs) q g = cc
       by (matches t u ∷ cs) q g = cc
       by (reaches t u ∷ cs) q g = cc
 
-  pub sort_test_ends : (k e i : ℕ) (σ : Binding) → Asks R e i Goals.Sort → (r b : ℕ) (d : End) → eval_on R k (side_of R e i false σ) b ≡ ended d → as_answer (counted_if r (solve_on R k e i σ b)) ≡ ended d
-  sort_test_ends k e i σ g r b d h = by (rest_of R e i) refl g
+  pub sort_test_ends : (last : Option Binding) (k e i : ℕ) (σ : Binding) → Asks R e i Goals.Sort → (r b : ℕ) (d : End) → eval_on R k (side_of R e i false σ) b ≡ ended d → as_answer (counted_if r (solve_from R last k e i σ b)) ≡ ended d
+  sort_test_ends last k e i σ g r b d h = by (rest_of R e i) refl g
     where
-      by : (F : List Fragment) → rest_of R e i ≡ F → Goals.Sort ≡ goal_of F → as_answer (counted_if r (solve_on R k e i σ b)) ≡ ended d
+      by : (F : List Fragment) → rest_of R e i ≡ F → Goals.Sort ≡ goal_of F → as_answer (counted_if r (solve_from R last k e i σ b)) ≡ ended d
       by [] q g = cc
       by (equals t u ∷ cs) q g = cc
       by (has_sort t s ∷ cs) q g =
-          let K : Tree → Run (Option Binding) = λ v. and_try (sorts_on R k v) (λ ss. where_true (has_number ss s) (solve P (l k) cs σ)) in
-          ap (λ F. as_answer (counted_if r (solve P (l k) F σ b))) q
-          ∙ ap (λ o. as_answer (counted_if r (try_on K o))) (ap (λ F. eval_on R k (instance (look_up σ) (side_by false F)) b) (sym q) ∙ h)
+          let K : Tree → Run (Option Binding) = λ v. and_try (sorts_on R k v) (λ ss. where_true (has_number ss s) (solved_from R last k cs σ)) in
+          ap (λ F. as_answer (counted_if r (solved_from R last k F σ b))) q
+          ∙ (ap (λ o. as_answer (counted_if r o)) (has_sort_is last k t s cs σ b)
+          ∙ ap (λ o. as_answer (counted_if r (try_on K o))) (ap (λ F. eval_on R k (instance (look_up σ) (side_by false F)) b) (sym q) ∙ h))
       by (matches t u ∷ cs) q g = cc
       by (reaches t u ∷ cs) q g = cc
 
-  pub match_ends : (k e i : ℕ) (σ : Binding) → Asks R e i Goals.Matching → (r b : ℕ) (d : End) → eval_on R k (side_of R e i true σ) b ≡ ended d → as_answer (counted_if r (solve_on R k e i σ b)) ≡ ended d
-  match_ends k e i σ g r b d h = by (rest_of R e i) refl g
+  pub match_ends : (last : Option Binding) (k e i : ℕ) (σ : Binding) → Asks R e i Goals.Matching → (r b : ℕ) (d : End) → eval_on R k (side_of R e i true σ) b ≡ ended d → as_answer (counted_if r (solve_from R last k e i σ b)) ≡ ended d
+  match_ends last k e i σ g r b d h = by (rest_of R e i) refl g
     where
-      by : (F : List Fragment) → rest_of R e i ≡ F → Goals.Matching ≡ goal_of F → as_answer (counted_if r (solve_on R k e i σ b)) ≡ ended d
+      by : (F : List Fragment) → rest_of R e i ≡ F → Goals.Matching ≡ goal_of F → as_answer (counted_if r (solve_from R last k e i σ b)) ≡ ended d
       by [] q g = cc
       by (equals t u ∷ cs) q g = cc
       by (has_sort t s ∷ cs) q g = cc
       by (matches t u ∷ cs) q g =
-          let K : Tree → Run (Option Binding) = λ v. choose_by k σ t cs v in
-          ap (λ F. as_answer (counted_if r (solve P (l k) F σ b))) q
-          ∙ ap (λ o. as_answer (counted_if r (try_on K o))) (ap (λ F. eval_on R k (instance (look_up σ) (side_by true F)) b) (sym q) ∙ h)
+          let K : Tree → Run (Option Binding) = λ v. choose_by last k σ t cs v in
+          ap (λ F. as_answer (counted_if r (solved_from R last k F σ b))) q
+          ∙ (ap (λ o. as_answer (counted_if r o)) (matches_is last k t u cs σ b)
+          ∙ ap (λ o. as_answer (counted_if r (try_on K o))) (ap (λ F. eval_on R k (instance (look_up σ) (side_by true F)) b) (sym q) ∙ h))
       by (reaches t u ∷ cs) q g = cc
 
   -- the right side of an equality is evaluated
-  pub second_side : (k e i : ℕ) (σ : Binding) (v x : Tree) (r b : ℕ) → eval_on R k (side_of R e i true σ) b ≡ eval_on R k x b →
-      after R (left_side k e i σ) (gave v) r b ≡ goes_on R (right_side k e i σ v) (as_value (counted r (eval_on R k x b)))
-  second_side k e i σ v x r b h =
-      ap (λ o. as_answer (counted_if r (try_on (right_of k e i σ v) o))) h
-      ∙ (asked_by (right_of k e i σ v) (right_of k e i σ v) (λ u c. refl) r (eval_on R k x b) ∙ right_waits k e i σ v (as_value (counted r (eval_on R k x b))))
+  pub second_side : (last : Option Binding) (k e i : ℕ) (σ : Binding) (v x : Tree) (r b : ℕ) → eval_on R k (side_of R e i true σ) b ≡ eval_on R k x b →
+      after R (left_side last k e i σ) (gave v) r b ≡ goes_on R (right_side last k e i σ v) (as_value (counted r (eval_on R k x b)))
+  second_side last k e i σ v x r b h =
+      ap (λ o. as_answer (counted_if r (try_on (right_of last k e i σ v) o))) h
+      ∙ (asked_by (right_of last k e i σ v) (right_of last k e i σ v) (λ u c. refl) r (eval_on R k x b) ∙ right_waits last k e i σ v (as_value (counted r (eval_on R k x b))))
 
-  pub second_side_ends : (k e i : ℕ) (σ : Binding) (v : Tree) (r b : ℕ) (d : End) → eval_on R k (side_of R e i true σ) b ≡ ended d → after R (left_side k e i σ) (gave v) r b ≡ ended d
-  second_side_ends k e i σ v r b d h = ap (λ o. as_answer (counted_if r (try_on (right_of k e i σ v) o))) h
+  pub second_side_ends : (last : Option Binding) (k e i : ℕ) (σ : Binding) (v : Tree) (r b : ℕ) (d : End) → eval_on R k (side_of R e i true σ) b ≡ ended d → after R (left_side last k e i σ) (gave v) r b ≡ ended d
+  second_side_ends last k e i σ v r b d h = ap (λ o. as_answer (counted_if r (try_on (right_of last k e i σ v) o))) h
 
   -- a test of sorts is decided, where the sorts are known
-  pub sorts_tested : (k e i : ℕ) (σ : Binding) (v : Tree) (ss : List ℕ) (holds : Bool) (r b : ℕ) → has_number ss (sort_in (rest_of R e i)) ≡ holds → sorts_on R k v b ≡ done ss 0 b →
-      after R (sorting k e i σ) (gave v) r b ≡ as_answer (counted_if r (where_true holds (solve_on R k e (suc i) σ) b))
-  sorts_tested k e i σ v ss holds r b h known =
-      let K : List ℕ → Run (Option Binding) = λ ss. where_true (has_number ss (sort_in (rest_of R e i))) (solve_on R k e (suc i) σ) in
+  pub sorts_tested : (last : Option Binding) (k e i : ℕ) (σ : Binding) (v : Tree) (ss : List ℕ) (holds : Bool) (r b : ℕ) → has_number ss (sort_in (rest_of R e i)) ≡ holds → sorts_on R k v b ≡ done ss 0 b →
+      after R (sorting last k e i σ) (gave v) r b ≡ as_answer (counted_if r (where_true holds (solve_from R last k e (suc i) σ) b))
+  sorts_tested last k e i σ v ss holds r b h known =
+      let K : List ℕ → Run (Option Binding) = λ ss. where_true (has_number ss (sort_in (rest_of R e i))) (solve_from R last k e (suc i) σ) in
       ap (λ o. as_answer (counted_if r (try_on K o))) known
       ∙ (answer_twice r 0 (K ss b)
       ∙ (ap (λ n. as_answer (counted_if n (K ss b))) (zero_more r)
-      ∙ ap (λ y. as_answer (counted_if r (where_true y (solve_on R k e (suc i) σ) b))) h))
+      ∙ ap (λ y. as_answer (counted_if r (where_true y (solve_from R last k e (suc i) σ) b))) h))
 
-  pub sorts_end : (k e i : ℕ) (σ : Binding) (v : Tree) (r b : ℕ) (d : End) → sorts_on R k v b ≡ ended d → after R (sorting k e i σ) (gave v) r b ≡ ended d
-  sorts_end k e i σ v r b d h = ap (λ o. as_answer (counted_if r (try_on (λ ss. where_true (has_number ss (sort_in (rest_of R e i))) (solve_on R k e (suc i) σ)) o))) h
+  pub sorts_end : (last : Option Binding) (k e i : ℕ) (σ : Binding) (v : Tree) (r b : ℕ) (d : End) → sorts_on R k v b ≡ ended d → after R (sorting last k e i σ) (gave v) r b ≡ ended d
+  sorts_end last k e i σ v r b d h = ap (λ o. as_answer (counted_if r (try_on (λ ss. where_true (has_number ss (sort_in (rest_of R e i))) (solve_from R last k e (suc i) σ)) o))) h
 
   -- ---- levels
 

@@ -4,10 +4,12 @@ use Rattle.mau_terms.specs.Tree.{Tree}
 use Rattle.mau_evaluation.specs.Run.{End, Outcome, done, ended, Run, stopped, too_deep, overflowed, counted, counted_if, IsLeft}
 use Rattle.mau_evaluation.specs.Program.{Program}
 use Rattle.mau_evaluation.specs.Evaluation.{Binding}
-use Rattle.mau_evaluation.proofs.Falls.{budgets_fall}
+use Rattle.mau_evaluation.specs.Engine.{engine_of}
+use Rattle.mau_evaluation.proofs.Falls.{budgets_fall, levels_fall}
+use Rattle.mau_evaluation.proofs.After.{solve_after_falls}
 use Rattle.mau_api.specs.declared.results.EvalEnd.{EvalEnd}
 use Rattle.mau_api.specs.declared.results.EvalEnd.TheVariants.{Stopped, TooDeep, Overflow, NoMemory}
-use Rattle.mau_machine.specs.Words.{greatest_count, capped, IsEnd, LeadsTo, EndsBy, EndsWhere, Comes, ComesToEnd, IsAnswered, Rules, Words, Keeps, rest_of, eval_on, solve_on}
+use Rattle.mau_machine.specs.Words.{greatest_count, capped, IsEnd, LeadsTo, EndsBy, EndsWhere, Comes, ComesToEnd, IsAnswered, Rules, Words, Keeps, rest_of, eval_on, solve_on, solve_from}
 use Rattle.mau_machine.specs.Machine.{Reply, gave, held, failed, as_value, as_answer, from_built, goes_on, comes, waits_in, task_in, through, whole}
 use Rattle.mau_machine.specs.Known.{IsKnownNext, AreKnown}
 use Rattle.mau_machine.specs.Steps.{IsAlike, Follows, AreAnswered, Goes, IsSettledOn}
@@ -229,8 +231,9 @@ comes_lower P f x r b c h falls = by (h.comes h.enough)
 pub evaluations_fall : (R : Rules) (k : ℕ) (t : Tree) (b n : ℕ) → IsLeft b (eval_on R (k + n) t b)
 evaluations_fall R k t b n = budgets_fall.0 R.program (k + n) R.limit t b
 
-pub solutions_fall : (R : Rules) (k e i : ℕ) (σ : Binding) (b n : ℕ) → IsLeft b (solve_on R (k + n) e i σ b)
-solutions_fall R k e i σ b n = budgets_fall.1 R.program (k + n) R.limit (rest_of R e i) σ b
+pub solutions_fall : (R : Rules) (last : Option Binding) (k e i : ℕ) (σ : Binding) (b n : ℕ) → IsLeft b (solve_from R last (k + n) e i σ b)
+solutions_fall R None k e i σ b n = budgets_fall.1 R.program (k + n) R.limit (rest_of R e i) σ b
+solutions_fall R (Some last) k e i σ b n = solve_after_falls R.program (engine_of R.program (k + n) R.limit 0) (levels_fall R.program R.limit (k + n)) last (rest_of R e i) σ b
 
 pub uncounted_falls : (b : ℕ) (o : Outcome (Option Binding)) → IsLeft b o → IsLeft b (counted_if 0 o)
 uncounted_falls b (done (Some σ) q c) h = omega (arith, h)

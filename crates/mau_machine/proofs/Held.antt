@@ -1,13 +1,16 @@
 -- Frames and tasks of which all is known, in states that come of one another.
-use Rattle.std.proofs.Common.{◌≡◌, ℕ, zero, suc, ◌+◌, ◌<◌, List, [], ◌∷◌, ◌++◌, length, Some, refl, sym, ◌∙◌, ap, subst, arith, get_or, Result, Ok, Err, IfOk}
+use Rattle.std.proofs.Common.{◌≡◌, ℕ, zero, suc, ◌+◌, ◌<◌, List, [], ◌∷◌, ◌++◌, length, Option, Some, None, refl, sym, ◌∙◌, ap, subst, arith, get_or, Result, Ok, Err, IfOk}
+use Rattle.std.specs.Prelude.{IfSome}
+use Rattle.std.specs.Option.{option_map}
 use Rattle.mau_terms.specs.declared.ids.TermId.{TermId}
 use Rattle.mau_evaluation.specs.Run.{Outcome}
 use Rattle.mau_evaluation.specs.Listing.{kind_at}
-use Rattle.mau_machine.specs.Words.{Words, Keeps, kind_of, trees, Asks, IsSolution}
-use Rattle.mau_machine.specs.Machine.{argument, left_side, right_side, sorting, matching, choice, settling, trying, evaluates, arguments, looks_at_top, attempts, solves, chooses, has_value, holds, Reply, goes_on, comes, waits_in, task_in, through, whole}
-use Rattle.mau_machine.specs.Known.{Due, value_of, Suits, kind_under, kind_in, asks, yields, comes_to, AreChained, IsKnown, IsKnownNext, AreKnown, HoldsIn}
+use Rattle.mau_machine.specs.Words.{Rules, Words, Keeps, kind_of, trees, Asks, IsSolution, choose_after}
+use Rattle.mau_machine.specs.Machine.{argument, left_side, right_side, sorting, matching, choice, settling, trying, evaluates, arguments, looks_at_top, attempts, solves, chooses, has_value, holds, Reply, goes_on, comes, last_in, waits_in, task_in, through, whole}
+use Rattle.mau_machine.specs.Known.{Due, value_of, Suits, kind_under, kind_in, asks, yields, comes_to, AreChained, KnowsLast, IsKnown, IsKnownNext, AreKnown, HoldsIn}
 use Rattle.mau_api.specs.declared.results.EvalEnd.{EvalEnd}
 use Rattle.mau_machine.specs.Steps.{StayKnown, IsSettledOn}
+use Rattle.mau_machine.specs.declared.frame.Condition.{Condition}
 use Rattle.mau_machine.specs.declared.frame.Settled.{Settled}
 use Rattle.mau_machine.specs.declared.goal.Goal.{Goal}
 use Rattle.mau_machine.specs.declared.goal.Goal.TheVariants as Goals
@@ -85,16 +88,30 @@ module _ {A C S D : Type 0} (w w' : Words A C S D) (k : Keeps w w') where
   pub asks_on : (e i : ℕ) (g : Goal) → Asks w.rules e i g → Asks w'.rules e i g
   asks_on e i g h = subst (λ R. Asks R e i g) (sym k.rules) h
 
+  known_lasts : {X : Type 0} (value : X → S) (o : Option X) → IfSome o (λ x. w.knows_last (value x)) → IfSome o (λ x. w'.knows_last (value x))
+  known_lasts value None h = tt
+  known_lasts value (Some x) h = (k.lasts (value x) h).0
+
+  same_lasts : {X : Type 0} (value : X → S) (o : Option X) → IfSome o (λ x. w.knows_last (value x)) → option_map (λ x. w'.bound (value x)) o ≡ option_map (λ x. w.bound (value x)) o
+  same_lasts value None h = refl
+  same_lasts value (Some x) h = ap Some (k.lasts (value x) h).1
+
+  pub known_last_on : (c : Condition S) → KnowsLast w c → KnowsLast w' c
+  known_last_on c h = known_lasts (λ x. x.value) c.behind h
+
+  same_last : (c : Condition S) → KnowsLast w c → last_in w' c ≡ last_in w c
+  same_last c h = same_lasts (λ x. x.value) c.behind h
+
   pub solution_on : (e : ℕ) (σ : S) → IsSolution w e σ → IsSolution w' e σ
   solution_on e σ h = (h.0, (k.bindings e h.0 σ h.1).0, asks_on e h.0 Goals.Nothing h.2)
 
   known_on : (f : Frame A C S D) → IsKnown w f → IsKnown w' f
   known_on (Waiting.Argument a i) h = (k.operands a.op.0 a.args.items h).0
   known_on (Waiting.Again t) h = (k.terms t.0 h).0
-  known_on (Waiting.Left c) h = ((k.bindings c.condition c.at c.binding h.0).0, asks_on c.condition c.at _ h.1)
-  known_on (Waiting.Right c t) h = ((k.bindings c.condition c.at c.binding h.0).0, asks_on c.condition c.at _ h.1, (k.values t.0 h.2).0)
-  known_on (Waiting.Sorting c) h = ((k.bindings c.condition c.at c.binding h.0).0, asks_on c.condition c.at _ h.1)
-  known_on (Waiting.Matching c) h = ((k.bindings c.condition c.at c.binding h.0).0, asks_on c.condition c.at _ h.1)
+  known_on (Waiting.Left c) h = ((k.bindings c.condition c.at c.binding h.0).0, asks_on c.condition c.at _ h.1, known_last_on c h.2)
+  known_on (Waiting.Right c t) h = ((k.bindings c.condition c.at c.binding h.0).0, asks_on c.condition c.at _ h.1, (k.values t.0 h.2).0, known_last_on c h.3)
+  known_on (Waiting.Sorting c) h = ((k.bindings c.condition c.at c.binding h.0).0, asks_on c.condition c.at _ h.1, known_last_on c h.2)
+  known_on (Waiting.Matching c) h = ((k.bindings c.condition c.at c.binding h.0).0, asks_on c.condition c.at _ h.1, known_last_on c h.2)
   known_on (Waiting.Choice c mark) h = (k.choices c.condition c.at c.choices h).0
   known_on (Waiting.Deriving x mark) h = (k.terms x.term.0 h).0
   known_on (Waiting.Trying x n mark) h = ((k.values x.term.0 h.0).0, (k.attempts x.term.0 x.attempts h.1).0, (k.candidates x.term.0 x.condition x.attempts h.2).0)
@@ -106,8 +123,9 @@ module _ {A C S D : Type 0} (w w' : Words A C S D) (k : Keeps w w') where
   next_on (Next.Settle n t d) h = ((k.terms t.0 h.0).0, k.settlings t.0 d h.1)
   next_on (Next.Ready n t) h = (k.values t.0 h).0
   next_on (Next.Attempt x) h = ((k.values x.term.0 h.0).0, (k.attempts x.term.0 x.attempts h.1).0)
-  next_on (Next.Solve c) h = (k.bindings c.condition c.at c.binding h).0
+  next_on (Next.Solve c) h = ((k.bindings c.condition c.at c.binding h.0).0, known_last_on c h.1)
   next_on (Next.Choose c) h = (k.choices c.condition c.at c.choices h).0
+  next_on (Next.Own c x) h = ((k.choices c.condition c.at c.choices h.0).0, (k.lasts x.value h.1).0)
   next_on (Next.Value t) h = (k.values t.0 h).0
   next_on (Next.Held e σ) h = solution_on e σ h
   next_on (Next.Failed e) h = tt
@@ -148,6 +166,7 @@ module _ {A C S D : Type 0} (w w' : Words A C S D) (k : Keeps w w') where
   same_comes (Next.Attempt x) h = ap value_of (same_value_kind x.term.0 h.0)
   same_comes (Next.Solve c) h = refl
   same_comes (Next.Choose c) h = refl
+  same_comes (Next.Own c x) h = refl
   same_comes (Next.Value t) h = ap value_of (same_value_kind t.0 h)
   same_comes (Next.Held e σ) h = refl
   same_comes (Next.Failed e) h = refl
@@ -169,11 +188,16 @@ module _ {A C S D : Type 0} (w w' : Words A C S D) (k : Keeps w w') where
   same_waits : (m : ℕ) (f : Frame A C S D) → IsKnown w f → waits_in w' m f ≡ waits_in w m f
   same_waits m (Waiting.Argument a i) h = ap (λ ts. argument (a.level + m) a.op.0 ts a.order.items a.next i) (k.operands a.op.0 a.args.items h).1
   same_waits m (Waiting.Again t) h = refl
-  same_waits m (Waiting.Left c) h = ap (left_side (c.level + m) c.condition c.at) (k.bindings c.condition c.at c.binding h.0).1
+  same_waits m (Waiting.Left c) h =
+      ap (λ l. left_side l (c.level + m) c.condition c.at (w'.bound c.binding)) (same_last c h.2) ∙ ap (left_side (last_in w c) (c.level + m) c.condition c.at) (k.bindings c.condition c.at c.binding h.0).1
   same_waits m (Waiting.Right c t) h =
-      ap (λ σ. right_side (c.level + m) c.condition c.at σ (w'.tree t.0)) (k.bindings c.condition c.at c.binding h.0).1 ∙ ap (right_side (c.level + m) c.condition c.at (w.bound c.binding)) (k.values t.0 h.2).1
-  same_waits m (Waiting.Sorting c) h = ap (sorting (c.level + m) c.condition c.at) (k.bindings c.condition c.at c.binding h.0).1
-  same_waits m (Waiting.Matching c) h = ap (matching (c.level + m) c.condition c.at) (k.bindings c.condition c.at c.binding h.0).1
+      ap (λ l. right_side l (c.level + m) c.condition c.at (w'.bound c.binding) (w'.tree t.0)) (same_last c h.3)
+      ∙ (ap (λ σ. right_side (last_in w c) (c.level + m) c.condition c.at σ (w'.tree t.0)) (k.bindings c.condition c.at c.binding h.0).1
+      ∙ ap (right_side (last_in w c) (c.level + m) c.condition c.at (w.bound c.binding)) (k.values t.0 h.2).1)
+  same_waits m (Waiting.Sorting c) h =
+      ap (λ l. sorting l (c.level + m) c.condition c.at (w'.bound c.binding)) (same_last c h.2) ∙ ap (sorting (last_in w c) (c.level + m) c.condition c.at) (k.bindings c.condition c.at c.binding h.0).1
+  same_waits m (Waiting.Matching c) h =
+      ap (λ l. matching l (c.level + m) c.condition c.at (w'.bound c.binding)) (same_last c h.2) ∙ ap (matching (last_in w c) (c.level + m) c.condition c.at) (k.bindings c.condition c.at c.binding h.0).1
   same_waits m (Waiting.Choice c mark) h = ap (λ u. choice u c.before) (λ i b. (k.choices c.condition c.at c.choices h).1 (c.level + m) b i)
   same_waits m (Waiting.Trying x n mark) h =
       ap (λ t. trying (x.level + m) t (w'.untried x.attempts (x.level + m)) (w'.makes x.attempts) n) (k.values x.term.0 h.0).1
@@ -190,8 +214,15 @@ module _ {A C S D : Type 0} (w w' : Words A C S D) (k : Keeps w w') where
   same_task m (Next.Attempt x) h =
       ap (λ t. attempts (x.level + m) t (w'.untried x.attempts (x.level + m))) (k.values x.term.0 h.0).1
       ∙ ap (attempts (x.level + m) (w.tree x.term.0)) (λ i b. (k.attempts x.term.0 x.attempts h.1).1 (x.level + m) b i)
-  same_task m (Next.Solve c) h = ap (solves (c.level + m) c.condition c.at) (k.bindings c.condition c.at c.binding h).1
+  same_task m (Next.Solve c) h =
+      ap (λ l. solves l (c.level + m) c.condition c.at (w'.bound c.binding)) (same_last c h.1) ∙ ap (solves (last_in w c) (c.level + m) c.condition c.at) (k.bindings c.condition c.at c.binding h.0).1
   same_task m (Next.Choose c) h = ap (λ u. chooses u c.before) (λ i b. (k.choices c.condition c.at c.choices h).1 (c.level + m) b i)
+  same_task m (Next.Own c x) h =
+      let z = k.chosen c.condition c.at c.choices h.0 in
+      ap (λ (R : Rules). chooses (choose_after R (w'.bound x.value) (c.level + m) c.condition c.at (w'.chosen_from c.choices) (w'.chosen_value c.choices)) c.before) k.rules
+      ∙ (ap (λ l. chooses (choose_after w.rules l (c.level + m) c.condition c.at (w'.chosen_from c.choices) (w'.chosen_value c.choices)) c.before) (k.lasts x.value h.1).1
+      ∙ (ap (λ σ. chooses (choose_after w.rules (w.bound x.value) (c.level + m) c.condition c.at σ (w'.chosen_value c.choices)) c.before) z.0
+      ∙ ap (λ v. chooses (choose_after w.rules (w.bound x.value) (c.level + m) c.condition c.at (w.chosen_from c.choices) v) c.before) z.1))
   same_task m (Next.Value t) h = ap has_value (k.values t.0 h).1
   same_task m (Next.Held e σ) h = ap holds (k.bindings e h.0 σ h.1).1
   same_task m (Next.Failed e) h = refl
@@ -227,6 +258,7 @@ same_state w = record {
   values = λ t h. (h, refl);
   operands = λ f ts h. (h, refl);
   bindings = λ e i σ h. (h, refl);
+  lasts = λ σ h. (h, refl);
   settlings = λ t d h. h;
   askings = λ t e σ d h. h;
   attempts = λ t a h. (h, λ k b. refl);

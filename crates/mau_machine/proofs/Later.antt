@@ -130,13 +130,21 @@ module _ {A C S D : Type 0} (w w' : Words A C S D) (k : Keeps w w') (old new : L
   task_on (evaluating t0) (Next.Value t) es q h =
       subst (λ R. Runs R new after t0 es (w'.tree t.0)) (sym k.rules) (subst (Runs w.rules new after t0 es) (sym (k.values t.0 q).1) (runs_later w.rules old new x before after kept t0 es (w.tree t.0) h))
   task_on (solving e i σ) (Next.Solve c) es q h =
-      let b = sym (k.bindings c.condition c.at c.binding q).1 in (
+      let b = sym (k.bindings c.condition c.at c.binding q.0).1 in (
         h.0,
         subst (IsExtension σ) b h.1,
         subst (λ R. IsShown R new after e i c.at (w'.bound c.binding) es) (sym k.rules) (subst (λ τ. IsShown w.rules new after e i c.at τ es) b (shown_later w.rules old new x before after kept e i c.at (w.bound c.binding) es h.2)),
       )
   task_on (solving e i σ) (Next.Choose c) es q h =
       let b = k.chosen c.condition c.at c.choices q in (
+        h.0,
+        subst (IsExtension σ) (sym b.0) h.1,
+        subst (λ R. IsMatched R new after e i c.at (w'.chosen_from c.choices) (w'.chosen_value c.choices) es) (sym k.rules)
+            (subst (λ τ. IsMatched w.rules new after e i c.at τ (w'.chosen_value c.choices) es) (sym b.0)
+            (subst (λ v. IsMatched w.rules new after e i c.at (w.chosen_from c.choices) v es) (sym b.1) (matched_later w.rules old new x before after kept e i c.at (w.chosen_from c.choices) (w.chosen_value c.choices) es h.2))),
+      )
+  task_on (solving e i σ) (Next.Own c y) es q h =
+      let b = k.chosen c.condition c.at c.choices q.0 in (
         h.0,
         subst (IsExtension σ) (sym b.0) h.1,
         subst (λ R. IsMatched R new after e i c.at (w'.chosen_from c.choices) (w'.chosen_value c.choices) es) (sym k.rules)

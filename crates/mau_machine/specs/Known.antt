@@ -1,10 +1,11 @@
 -- What is known of all handles in frames and in what is done next, and that each frame is given what it waits for.
-use Rattle.std.specs.Prelude.{◌≡◌, ℕ, zero, suc, List, [], ◌∷◌, Option, Some, None}
+use Rattle.std.specs.Prelude.{◌≡◌, ℕ, zero, suc, List, [], ◌∷◌, Option, Some, None, IfSome}
 use Rattle.mau_terms.specs.Tree.{Tree}
 use Rattle.mau_terms.specs.Bare.{TermSignature}
 use Rattle.mau_evaluation.specs.Listing.{kind_at}
 use Rattle.mau_machine.specs.Words.{Words, Asks, kind_of, trees, IsSolution}
 use Rattle.mau_machine.specs.declared.goal.Goal.TheVariants as Goals
+use Rattle.mau_machine.specs.declared.frame.Condition.{Condition}
 use Rattle.mau_machine.specs.declared.frame.Frame.{Frame}
 use Rattle.mau_machine.specs.declared.frame.Frame.TheVariants as Waiting
 use Rattle.mau_machine.specs.declared.frame.Control.{Control}
@@ -75,6 +76,7 @@ module _ {A C S D : Type 0} (w : Words A C S D) where
   comes_to (Next.Attempt x) = value_of (kind_of w x.term.0)
   comes_to (Next.Solve c) = answer_to c.condition
   comes_to (Next.Choose c) = answer_to c.condition
+  comes_to (Next.Own c x) = answer_to c.condition
   comes_to (Next.Value t) = value_of (kind_of w t.0)
   comes_to (Next.Held e σ) = answer_to e
   comes_to (Next.Failed e) = answer_to e
@@ -84,14 +86,18 @@ module _ {A C S D : Type 0} (w : Words A C S D) where
   AreChained asked [] due = Suits asked due
   AreChained asked (f ∷ fs) due = Suits asked (yields f) × AreChained (asks f) fs due
 
+  -- the solution behind which a condition is solved is known
+  abbrev pub KnowsLast : Condition S → Type 0
+  KnowsLast c = IfSome c.behind (λ x. w.knows_last x.value)
+
   -- what a frame holds is known
   abbrev pub IsKnown : Frame A C S D → Type 0
   IsKnown (Waiting.Argument a i) = w.knows_operands a.op.0 a.args.items
   IsKnown (Waiting.Again t) = w.knows_term t.0
-  IsKnown (Waiting.Left c) = w.knows_binding c.condition c.at c.binding × Asks w.rules c.condition c.at Goals.Equality
-  IsKnown (Waiting.Right c t) = w.knows_binding c.condition c.at c.binding × Asks w.rules c.condition c.at Goals.Equality × w.knows_value t.0
-  IsKnown (Waiting.Sorting c) = w.knows_binding c.condition c.at c.binding × Asks w.rules c.condition c.at Goals.Sort
-  IsKnown (Waiting.Matching c) = w.knows_binding c.condition c.at c.binding × Asks w.rules c.condition c.at Goals.Matching
+  IsKnown (Waiting.Left c) = w.knows_binding c.condition c.at c.binding × Asks w.rules c.condition c.at Goals.Equality × KnowsLast c
+  IsKnown (Waiting.Right c t) = w.knows_binding c.condition c.at c.binding × Asks w.rules c.condition c.at Goals.Equality × w.knows_value t.0 × KnowsLast c
+  IsKnown (Waiting.Sorting c) = w.knows_binding c.condition c.at c.binding × Asks w.rules c.condition c.at Goals.Sort × KnowsLast c
+  IsKnown (Waiting.Matching c) = w.knows_binding c.condition c.at c.binding × Asks w.rules c.condition c.at Goals.Matching × KnowsLast c
   IsKnown (Waiting.Choice c mark) = w.knows_choices c.condition c.at c.choices
   IsKnown (Waiting.Trying x before mark) = w.knows_value x.term.0 × w.knows_attempts x.term.0 x.attempts × w.knows_candidate x.term.0 x.condition x.attempts
   IsKnown (Waiting.Deriving x mark) = w.knows_term x.term.0
@@ -104,8 +110,9 @@ module _ {A C S D : Type 0} (w : Words A C S D) where
   IsKnownNext (Next.Settle k t d) = w.knows_term t.0 × w.knows_settling t.0 d
   IsKnownNext (Next.Ready k t) = w.knows_value t.0
   IsKnownNext (Next.Attempt x) = w.knows_value x.term.0 × w.knows_attempts x.term.0 x.attempts
-  IsKnownNext (Next.Solve c) = w.knows_binding c.condition c.at c.binding
+  IsKnownNext (Next.Solve c) = w.knows_binding c.condition c.at c.binding × KnowsLast c
   IsKnownNext (Next.Choose c) = w.knows_choices c.condition c.at c.choices
+  IsKnownNext (Next.Own c x) = w.knows_choices c.condition c.at c.choices × w.knows_last x.value
   IsKnownNext (Next.Value t) = w.knows_value t.0
   IsKnownNext (Next.Held e σ) = IsSolution w e σ
   IsKnownNext (Next.Failed e) = Unit {0}

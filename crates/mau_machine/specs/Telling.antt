@@ -110,6 +110,7 @@ module _ {A C S D : Type 0} where
   abbrev pub Counts : Control A C S D → (r steps : ℕ) → Type 0
   Counts (Next.Failed d) r n = Unit {0}
   Counts (Next.Choose c) r n = c.before ≡ shown_count n
+  Counts (Next.Own c x) r n = c.before ≡ shown_count n
   Counts c r n = r ≡ shown_count n
 
   -- a frame that counts apart begins to count anew
@@ -131,6 +132,7 @@ module _ {A C S D : Type 0} (w : Words A C S D) (nodes : List Node) (table : Tab
   TellsTask (evaluating t0) (Next.Value t) es = Runs w.rules nodes table t0 es (w.tree t.0)
   TellsTask (solving e i σ) (Next.Solve c) es = (c.condition ≡ e) × IsExtension σ (w.bound c.binding) × IsShown w.rules nodes table e i c.at (w.bound c.binding) es
   TellsTask (solving e i σ) (Next.Choose c) es = (c.condition ≡ e) × IsExtension σ (w.chosen_from c.choices) × IsMatched w.rules nodes table e i c.at (w.chosen_from c.choices) (w.chosen_value c.choices) es
+  TellsTask (solving e i σ) (Next.Own c x) es = (c.condition ≡ e) × IsExtension σ (w.chosen_from c.choices) × IsMatched w.rules nodes table e i c.at (w.chosen_from c.choices) (w.chosen_value c.choices) es
   TellsTask (solving e i σ) (Next.Held d τ) es = (d ≡ e) × IsExtension σ (w.bound τ) × ((υ : Binding) → IsExtension (w.bound τ) υ → Shows w.rules nodes table (look_up υ) i (drop i (w.rules.fragments e)) es)
   TellsTask J (Next.Failed d) es = Unit {0}
   -- never

@@ -1,5 +1,5 @@
 -- What a world's handles stand for, and what its calls say of them.
-use Rattle.std.specs.Prelude.{◌≡◌, ℕ, suc, ◌^◌, ◌-◌, ◌⊎◌, ◌<◌, min, List, [], ◌∷◌, map, drop, Bool, true, false, Option, is_some, if◌then◌else◌}
+use Rattle.std.specs.Prelude.{◌≡◌, ℕ, suc, ◌^◌, ◌-◌, ◌⊎◌, ◌<◌, min, List, [], ◌∷◌, map, drop, Bool, true, false, Option, Some, None, is_some, if◌then◌else◌}
 use Rattle.mau_terms.specs.Tree.{Tree, variable, numeral, apply}
 use Rattle.mau_terms.specs.Norm.{norm}
 use Rattle.mau_terms.specs.Subst.{Variable, variables, instance}
@@ -8,7 +8,7 @@ use Rattle.mau_terms.specs.declared.ids.TermId.{TermId}
 use Rattle.mau_evaluation.specs.Run.{End, Outcome, done, ended, Run, stopped, too_deep, overflowed, gives, ends, and_try, first_of, where_true}
 use Rattle.mau_evaluation.specs.Program.{Fragment, equals, matches, has_sort, reaches, Membership, Program}
 use Rattle.mau_evaluation.specs.Listing.{keep, solutions, kind_at}
-use Rattle.mau_evaluation.specs.Evaluation.{Binding, look_up, binds, extend, agree, has_number, have_sorts, levels, eval, solve, settle, applied}
+use Rattle.mau_evaluation.specs.Evaluation.{Binding, look_up, binds, extend, agree, has_number, have_sorts, levels, eval, solve, own_and_after, solve_after, settle, applied}
 use Rattle.mau_signature.specs.Signature.{theory_at}
 use Rattle.mau_formula.specs.Operator.{Operator}
 use Rattle.mau_program.specs.declared.program.Program as Written
@@ -112,6 +112,8 @@ pub record Words (A C S D : Type 0) : Type 1 where
   pub bound : S → Binding
   -- σ is a binding for the condition e, from its fragment i on
   pub knows_binding : (e i : ℕ) → S → Type 0
+  -- σ has values of variables: a condition may be solved behind it, where it is a solution of that
+  pub knows_last : S → Type 0
   -- the sorts of the term t are being settled
   pub knows_settling : (t : ℕ) → D → Type 0
   -- and the condition e has to be solved next, where σ has the values of its variables
@@ -138,6 +140,7 @@ pub record Keeps {A C S D : Type 0} (w w' : Words A C S D) : Type 0 where
   pub values : (t : ℕ) → w.knows_value t → w'.knows_value t × (w'.tree t ≡ w.tree t)
   pub operands : (f : ℕ) (ts : List TermId) → w.knows_operands f ts → w'.knows_operands f ts × (map (λ t. w'.tree t.0) ts ≡ map (λ t. w.tree t.0) ts)
   pub bindings : (e i : ℕ) (σ : S) → w.knows_binding e i σ → w'.knows_binding e i σ × (w'.bound σ ≡ w.bound σ)
+  pub lasts : (σ : S) → w.knows_last σ → w'.knows_last σ × (w'.bound σ ≡ w.bound σ)
   pub settlings : (t : ℕ) (d : D) → w.knows_settling t d → w'.knows_settling t d
   pub askings : (t e : ℕ) (σ : Binding) (d : D) → w.knows_asking t e σ d → w'.knows_asking t e σ d
   pub attempts : (t : ℕ) (a : A) → w.knows_attempts t a → w'.knows_attempts t a × ((k b : ℕ) → w'.untried a k b ≡ w.untried a k b)
@@ -207,6 +210,15 @@ module _ (R : Rules) where
   abbrev pub solve_on : ℕ → ℕ → ℕ → Binding → Run (Option Binding)
   solve_on k e i σ = solve R.program (levels R.program R.limit k) (rest_of e i) σ
 
+  -- the fragments c by k levels: their first solution, or the first one behind another
+  abbrev pub solved_from : Option Binding → ℕ → List Fragment → Binding → Run (Option Binding)
+  solved_from None k c σ = solve R.program (levels R.program R.limit k) c σ
+  solved_from (Some last) k c σ = solve_after R.program (levels R.program R.limit k) last c σ
+
+  -- those of the condition e from its fragment i on
+  abbrev pub solve_from : Option Binding → ℕ → ℕ → ℕ → Binding → Run (Option Binding)
+  solve_from last k e i σ = solved_from last k (rest_of e i) σ
+
   abbrev pub settle_on : ℕ → Tree → Run (List ℕ)
   settle_on k t = settle R.program (levels R.program R.limit k) (sorts_on (suc k)) t
 
@@ -218,6 +230,15 @@ module _ (R : Rules) where
   choose_from k e i σ v =
       let p = pattern_in (rest_of e i) in
       first_of (λ x. and_try (have_sorts (sorts_on k) (variables p) x.values) λ ok. where_true ok (solve_on k e (suc i) (extend σ (variables p) x.values)))
+      (keep (λ x. agree R.program.sign.theory σ (variables p) x.values) (solutions R.program.sign p v))
+
+  -- the same behind the solution `last`
+  abbrev pub choose_after : Binding → ℕ → ℕ → ℕ → Binding → Tree → Run (Option Binding)
+  choose_after last k e i σ v =
+      let p = pattern_in (rest_of e i) in
+      own_and_after R.program (levels R.program R.limit k) (λ x. agree R.program.sign.theory last (variables p) x.values)
+      (λ x. and_try (have_sorts (sorts_on k) (variables p) x.values) λ ok. where_true ok (solve_from (Some last) k e (suc i) (extend σ (variables p) x.values)))
+      (λ x. and_try (have_sorts (sorts_on k) (variables p) x.values) λ ok. where_true ok (solve_on k e (suc i) (extend σ (variables p) x.values)))
       (keep (λ x. agree R.program.sign.theory σ (variables p) x.values) (solutions R.program.sign p v))
 
   -- the fragment at i asks this

@@ -34,13 +34,15 @@ pub struct Settled<D> {
     pub before: u64,
 }
 
-/// A condition, from its fragment `at` on, under a binding.
+/// A condition, from its fragment `at` on, under a binding: its first solution, or the first one behind another solution, which is boxed
+/// so that frames are small.
 #[derive(Drop)]
 pub struct Condition<S> {
     pub level: u32,
     pub condition: usize,
     pub at: usize,
     pub binding: S,
+    pub behind: Option<Box<S>>,
 }
 
 /// The solutions of a fragment `p := u` that are not yet tried; what led there was counted before.
@@ -95,6 +97,8 @@ pub enum Control<A, C, S, D> {
     Solve(Condition<S>),
     /// The next solution of a fragment is tried.
     Choose(Choosing<C>),
+    /// The solution of a fragment is tried that a solution of the condition has there, and what is asked is behind that one.
+    Own(Choosing<C>, Box<S>),
     /// The term is the value.
     Value(TermId),
     /// The condition with this number holds for a binding.

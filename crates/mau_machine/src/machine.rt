@@ -1,7 +1,8 @@
 //! The loop.
 ghost use Rattle.std.specs.Prelude.{◌≡◌, ◌≤◌, ◌+◌, ◌++◌, ◌∷◌, [], ℕ, true, false, Some, None, IfOk, IfErr, IfSome, IfNone, OnOk};
+ghost use Rattle.std.specs.Option.{option_map};
 ghost use Rattle.mau_evaluation.specs.Run.{done, counted_if};
-ghost use Rattle.mau_machine.specs.Words.{Comes, ComesToEnd, greatest_count, eval_on, solve_on, settle_on, kind_of, IsSolution};
+ghost use Rattle.mau_machine.specs.Words.{Comes, ComesToEnd, greatest_count, eval_on, solve_from, kind_of, IsSolution};
 ghost use Rattle.mau_machine.specs.Machine.{whole};
 ghost use Rattle.mau_machine.specs.Known.{Due, value_of, answer_to, HoldsIn};
 ghost use Rattle.mau_evaluation.specs.Evaluation.{look_up};
@@ -109,28 +110,32 @@ pub fn evaluate<W: World, T: StepWatcher>(
     }
 }
 
-/// The first solution of a condition by `level` levels, or by more where sorts were derived before, and how many applications led to it.
-/// After an end the budget is what it was.
+/// The first solution of a condition, or the first one behind another one, by `level` levels, or by more where sorts were derived before,
+/// and how many applications led to it. After an end the budget is what it was.
 pub fn solve<W: World, T: StepWatcher>(
     alloc: Global,
     world: &mut W,
     store: &mut Store,
     condition: usize,
     binding: W::Binding,
+    behind: Option<Box<W::Binding>>,
     level: u32,
     budget: &mut u64,
     watcher: &mut T,
 ) -> Result<Option<(W::Binding, u64)>, EvalEnd>
     requires ready { W.ready world.old store.old }
     requires binding { (W.words world.old store.old).knows_binding condition 0 binding }
+    requires behind { IfSome behind (λ x. (W.words world.old store.old).knows_last x.value) }
     ensures some { IfOk result (λ o. IfSome o (λ x. Comes (W.words world.old store.old).rules.program
-        (λ n. solve_on (W.words world.old store.old).rules (level + n) condition 0 ((W.words world.old store.old).bound binding) budget.old)
+        (λ n. solve_from (W.words world.old store.old).rules (option_map (λ x. (W.words world.old store.old).bound x.value) behind)
+        (level + n) condition 0 ((W.words world.old store.old).bound binding) budget.old)
         (done (Some ((W.words world.new store.new).bound x.0)) x.1 budget.new))) }
     ensures none { IfOk result (λ o. IfNone o (Comes (W.words world.old store.old).rules.program
-        (λ n. counted_if 0 (solve_on (W.words world.old store.old).rules (level + n) condition 0
-        ((W.words world.old store.old).bound binding) budget.old)) (done None 0 budget.new))) }
+        (λ n. counted_if 0 (solve_from (W.words world.old store.old).rules (option_map (λ x. (W.words world.old store.old).bound x.value) behind)
+        (level + n) condition 0 ((W.words world.old store.old).bound binding) budget.old)) (done None 0 budget.new))) }
     ensures ends { IfErr result (ComesToEnd (W.words world.old store.old).rules.program
-        (λ n. solve_on (W.words world.old store.old).rules (level + n) condition 0 ((W.words world.old store.old).bound binding) budget.old)) }
+        (λ n. solve_from (W.words world.old store.old).rules (option_map (λ x. (W.words world.old store.old).bound x.value) behind)
+        (level + n) condition 0 ((W.words world.old store.old).bound binding) budget.old)) }
     ensures known { IfOk result (λ o. IfSome o (λ x. IsSolution (W.words world.new store.new) condition x.0)) }
     ensures falls { budget.new ≤ budget.old }
     ensures grows { W.grows world.old store.old world.new store.new }
@@ -149,6 +154,7 @@ pub fn solve<W: World, T: StepWatcher>(
         condition,
         at: 0,
         binding,
+        behind,
     });
     let mark = mark(watcher);
     let mut left = *budget;

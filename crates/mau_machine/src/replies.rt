@@ -1,14 +1,15 @@
 //! What the last frame does with a value, or with what became of a condition.
-ghost use Rattle.std.specs.Prelude.{◌≡◌, ◌≤◌, ◌+◌, ℕ, suc, List, length, take, Bool, true, IfOk, IfErr, OnErr};
+ghost use Rattle.std.specs.Prelude.{◌≡◌, ◌≤◌, ◌+◌, ℕ, suc, List, length, take, Bool, true, IfOk, IfErr, IfSome, OnErr};
+ghost use Rattle.std.specs.Option.{option_map};
 ghost use Rattle.mau_evaluation.specs.Run.{Outcome, counted_if, where_true};
-ghost use Rattle.mau_machine.specs.Words.{IsEnd, ComesToEnd, solve_on, PassesOn, IsExtension, IsAnswered};
-ghost use Rattle.mau_machine.specs.Machine.{Reply, as_answer, comes, task_in, whole};
-ghost use Rattle.mau_machine.specs.Known.{Due, answer_to, IsKnownNext, comes_to};
+ghost use Rattle.mau_machine.specs.Words.{IsEnd, ComesToEnd, solve_from, PassesOn, IsUnchosen, IsExtension, IsAnswered};
+ghost use Rattle.mau_machine.specs.Machine.{Reply, as_answer, last_in, choose_behind, comes, task_in, whole};
+ghost use Rattle.mau_machine.specs.Known.{Due, answer_to, KnowsLast, IsKnownNext, comes_to};
 ghost use Rattle.mau_evaluation.specs.Evaluation.{Binding};
 ghost use Rattle.mau_api.specs.Events.{Event};
 ghost use Rattle.mau_api.specs.Told.{TellsMore, shown_count};
 ghost use Rattle.mau_machine.specs.Telling.{solving, IsShown, TellsTask, Counts};
-ghost use Rattle.mau_machine.specs.Steps.{AreAnswered, Goes, IsSettledOn, StayKnown, AreHeld, StayTold, AreTold, IsWatched};
+ghost use Rattle.mau_machine.specs.Steps.{AreAnswered, Goes, IsSettledOn, StayKnown, AreHeld, StayTold, AreTold, TaskStays, IsWatched};
 
 use crate::machine::Machine;
 use crate::steps::side;
@@ -90,17 +91,46 @@ pub fn give<W: World, T: StepWatcher>(
             condition.binding,
             value,
         ) {
-            Ok(choices) => Ok(Control::Choose(Choosing {
-                level: condition.level,
-                condition: condition.condition,
-                at: condition.at,
-                choices,
-                before: machine.rewrites,
-            })),
+            Ok(choices) => {
+                let choosing = Choosing {
+                    level: condition.level,
+                    condition: condition.condition,
+                    at: condition.at,
+                    choices,
+                    before: machine.rewrites,
+                };
+                Ok(chosen::<W>(world, store, choosing, condition.behind))
+            }
             Err(_) => Err(EvalEnd::NoMemory),
         },
         // Never: the last frame is given what it waits for.
         _ => Err(EvalEnd::NoMemory),
+    }
+}
+
+/// The first solution of a fragment is tried next, or that which a solution of the condition has there.
+fn chosen<W: World>(
+    world: &W,
+    store: &Store,
+    choosing: Choosing<W::Choices>,
+    behind: Option<Box<W::Binding>>,
+) -> Control<W::Attempts, W::Choices, W::Binding, W::Settling>
+    requires choices { (W.words world.now store.now).knows_choices choosing.condition choosing.at choosing.choices }
+    requires last { IfSome behind (λ x. (W.words world.now store.now).knows_last x.value) }
+    requires unchosen { IsUnchosen (W.words world.now store.now) choosing.condition choosing.at
+        ((W.words world.now store.now).chosen_from choosing.choices) ((W.words world.now store.now).chosen_value choosing.choices)
+        choosing.choices }
+    ensures goes { (r b n : ℕ) → as_answer (counted_if choosing.before (choose_behind (W.words world.now store.now).rules
+        (option_map (λ x. (W.words world.now store.now).bound x.value) behind) (choosing.level + n) choosing.condition choosing.at
+        ((W.words world.now store.now).chosen_from choosing.choices) ((W.words world.now store.now).chosen_value choosing.choices) b))
+        ≡ comes (W.words world.now store.now).rules (task_in (W.words world.now store.now) n result) r b }
+    ensures known { IsKnownNext (W.words world.now store.now) result
+        × (comes_to (W.words world.now store.now) result ≡ answer_to choosing.condition) }
+    ensures told { TaskStays (W.words world.now store.now) store.now (W.table world.now) (Control.Choose choosing) result }
+{
+    match behind {
+        None => Control::Choose(choosing),
+        Some(last) => Control::Own(choosing, last),
     }
 }
 
@@ -112,9 +142,10 @@ fn proceed<W: World>(
     holds: bool,
 ) -> Result<Control<W::Attempts, W::Choices, W::Binding, W::Settling>, EvalEnd>
     requires binding { (W.words world.now store.now).knows_binding condition.condition condition.at condition.binding }
+    requires last { KnowsLast (W.words world.now store.now) condition }
     requires passes { PassesOn (W.words world.now store.now).rules condition.condition condition.at }
     ensures goes { (r b n : ℕ) → IfOk result (λ next. as_answer (counted_if r (where_true holds
-        (solve_on (W.words world.now store.now).rules (condition.level + n) condition.condition (suc condition.at)
+        (solve_from (W.words world.now store.now).rules (last_in (W.words world.now store.now) condition) (condition.level + n) condition.condition (suc condition.at)
         ((W.words world.now store.now).bound condition.binding)) b))
         ≡ comes (W.words world.now store.now).rules (task_in (W.words world.now store.now) n next) r b) }
     ensures ends { (o : Outcome Reply) → IfErr result (IsEnd o) }
@@ -135,6 +166,7 @@ fn proceed<W: World>(
             condition: condition.condition,
             at,
             binding: condition.binding,
+            behind: condition.behind,
         })),
         None => Err(EvalEnd::NoMemory),
     }

@@ -67,6 +67,7 @@ fn settle_further<W: World>(
                 store,
                 condition,
                 binding,
+                None,
                 level,
                 &mut budget,
                 &mut unwatched,

@@ -2,9 +2,10 @@
 ghost use Rattle.std.specs.Prelude.{◌≡◌, ◌≤◌, ◌+◌, ℕ, true, length, IfOk, IfErr, OnErr};
 ghost use Rattle.mau_evaluation.specs.Run.{Outcome};
 ghost use Rattle.mau_terms.specs.Norm.{norm};
-ghost use Rattle.mau_machine.specs.Words.{IsEnd, ComesToEnd, eval_on, kind_of, side_of, HasSide};
+ghost use Rattle.mau_machine.specs.Words.{IsEnd, ComesToEnd, eval_on, kind_of, side_of, Asks, HasSide};
+ghost use Rattle.mau_machine.specs.declared.goal.Goal.{Goal};
 ghost use Rattle.mau_machine.specs.Machine.{Reply, comes, task_in, whole};
-ghost use Rattle.mau_machine.specs.Known.{value_of, IsKnownNext, comes_to};
+ghost use Rattle.mau_machine.specs.Known.{value_of, answer_to, KnowsLast, IsKnownNext, comes_to};
 ghost use Rattle.mau_api.specs.Told.{TellsMore};
 ghost use Rattle.mau_machine.specs.Steps.{
   Follows,
@@ -66,6 +67,9 @@ pub fn step<W: World, T: StepWatcher>(
         Control::Attempt(trial) => attempt::<W, T>(world, store, machine, trial, watcher),
         Control::Solve(condition) => solve::<W, T>(world, store, machine, condition, watcher),
         Control::Choose(choosing) => choose::<W, T>(world, store, machine, choosing, watcher),
+        Control::Own(choosing, last) => {
+            own::<W, T>(world, store, machine, choosing, last, watcher)
+        }
         Control::Value(value) => give::<W, T>(world, store, machine, value, watcher),
         Control::Held(condition, binding) => hold::<W, T>(
             world, store, machine, condition, binding, budget, watcher,
@@ -266,6 +270,7 @@ fn derive<W: World, T: StepWatcher>(
                 condition,
                 at: 0,
                 binding,
+                behind: None,
             }))
         }
         Err(_) => Err(EvalEnd::NoMemory),
@@ -341,6 +346,7 @@ fn attempt<W: World, T: StepWatcher>(
                 condition,
                 at: 0,
                 binding,
+                behind: None,
             }))
         }
         Err(end) => Err(end),
@@ -357,6 +363,7 @@ fn solve<W: World, T: StepWatcher>(
 ) -> Result<Control<W::Attempts, W::Choices, W::Binding, W::Settling>, EvalEnd>
     requires ready { W.ready world.old store.old }
     requires binding { (W.words world.old store.old).knows_binding condition.condition condition.at condition.binding }
+    requires last { KnowsLast (W.words world.old store.old) condition }
     ensures goes { (b : ℕ) → IfOk result (λ next. Goes (W.words world.new store.new) machine.old.frames.items
         (Control.Solve condition) machine.old.rewrites b machine.new.frames.items next machine.new.rewrites b) }
     ensures ends { (b : ℕ) → IfErr result (ComesToEnd (W.words world.new store.new).rules.program
@@ -373,7 +380,7 @@ fn solve<W: World, T: StepWatcher>(
 {
     let level = condition.level;
     match world.goal(condition.condition, condition.at) {
-        Goal::Nothing => Ok(Control::Held(condition.condition, condition.binding)),
+        Goal::Nothing => Ok(solved::<W>(world, store, condition)),
         Goal::Reaching => Ok(Control::Failed(condition.condition)),
         Goal::Equality => match side::<W>(world, store, &condition, false) {
             Ok(term) => {
@@ -399,6 +406,26 @@ fn solve<W: World, T: StepWatcher>(
             }
             Err(end) => Err(end),
         },
+    }
+}
+
+/// What becomes of a condition of which all fragments are solved. A solution is not given again behind itself.
+fn solved<W: World>(
+    world: &W,
+    store: &Store,
+    condition: Condition<W::Binding>,
+) -> Control<W::Attempts, W::Choices, W::Binding, W::Settling>
+    requires asks { Asks (W.words world.now store.now).rules condition.condition condition.at Goal.Nothing }
+    requires binding { (W.words world.now store.now).knows_binding condition.condition condition.at condition.binding }
+    ensures goes { (r b n : ℕ) → comes (W.words world.now store.now).rules (task_in (W.words world.now store.now) n (Control.Solve condition)) r b
+        ≡ comes (W.words world.now store.now).rules (task_in (W.words world.now store.now) n result) r b }
+    ensures known { IsKnownNext (W.words world.now store.now) result
+        × (comes_to (W.words world.now store.now) result ≡ answer_to condition.condition) }
+    ensures told { TaskStays (W.words world.now store.now) store.now (W.table world.now) (Control.Solve condition) result }
+{
+    match condition.behind {
+        None => Control::Held(condition.condition, condition.binding),
+        Some(_) => Control::Failed(condition.condition),
     }
 }
 
@@ -483,6 +510,64 @@ fn choose<W: World, T: StepWatcher>(
                         condition,
                         at,
                         binding,
+                        behind: None,
+                    }))
+                }
+                None => Err(EvalEnd::NoMemory),
+            }
+        }
+        Err(_) => Err(EvalEnd::NoMemory),
+    }
+}
+
+/// The fragments behind `p := u` are solved behind a solution, for the solution that it has of this fragment. What stands in front of that
+/// one is passed over.
+fn own<W: World, T: StepWatcher>(
+    world: &mut W,
+    store: &mut Store,
+    machine: &mut Machine<W::Attempts, W::Choices, W::Binding, W::Settling>,
+    choosing: Choosing<W::Choices>,
+    last: Box<W::Binding>,
+    watcher: &mut T,
+) -> Result<Control<W::Attempts, W::Choices, W::Binding, W::Settling>, EvalEnd>
+    requires ready { W.ready world.old store.old }
+    requires choices { (W.words world.old store.old).knows_choices choosing.condition choosing.at choosing.choices }
+    requires last { (W.words world.old store.old).knows_last last.value }
+    ensures goes { (b : ℕ) → IfOk result (λ next. Goes (W.words world.new store.new) machine.old.frames.items
+        (Control.Own choosing last) machine.old.rewrites b machine.new.frames.items next machine.new.rewrites b) }
+    ensures ends { (o : Outcome Reply) → IfErr result (IsEnd o) }
+    ensures known { IfOk result (StayKnown (W.words world.old store.old) (W.words world.new store.new) machine.old.frames.items
+        (Control.Own choosing last) machine.new.frames.items) }
+    ensures grows { W.grows world.old store.old world.new store.new }
+    ensures told { T.wanted watcher.old ≡ true → IfOk result (λ next. StayTold (W.words world.old store.old)
+        (W.words world.new store.new) store.old store.new (W.table world.old) (W.table world.new)
+        machine.old.frames.items (Control.Own choosing last) machine.old.rewrites
+        (T.told watcher.old) machine.new.frames.items next machine.new.rewrites (T.told watcher.new)) }
+    ensures more { OnErr result (TellsMore (T.told watcher.old) (T.told watcher.new)) }
+    ensures watched { IsWatched (T.wanted watcher.old) (T.wanted watcher.new) (T.told watcher.old) (T.told watcher.new) }
+{
+    let mut choosing = choosing;
+    match world.own(
+        store,
+        choosing.condition,
+        choosing.at,
+        &mut choosing.choices,
+        &*last,
+    ) {
+        Ok(binding) => {
+            let level = choosing.level;
+            let condition = choosing.condition;
+            match choosing.at.checked_add(1) {
+                Some(at) => {
+                    let mark = mark(watcher);
+                    machine.wait(Frame::Choice(choosing, mark))?;
+                    machine.rewrites = 0;
+                    Ok(Control::Solve(Condition {
+                        level,
+                        condition,
+                        at,
+                        binding,
+                        behind: Some(last),
                     }))
                 }
                 None => Err(EvalEnd::NoMemory),

@@ -50,6 +50,8 @@ ghost use Rattle.mau_machine.specs.Words.{
   EndsWhere,
   eval_on,
   solve_on,
+  solve_from,
+  choose_after,
   settle_on,
   Asks,
   HasSide,
@@ -368,6 +370,33 @@ pub trait World {
             × ((words self.new store.new).chosen_value choices.new ≡ (words self.new store.new).chosen_value choices.old))) }
         ensures solves { IfOk result (λ o. IfSome o (λ σ. IsChoiceOf (words self.new store.new) condition at choices.old
             ((words self.new store.new).bound σ))) }
+        ensures grows { grows self.old store.old self.new store.new };
+
+    /// Goes on behind the solution that `last` has of the fragment, and gives the binding by that one, for the fragments behind.
+    fn own(
+        &mut self,
+        store: &mut Store,
+        condition: usize,
+        at: usize,
+        choices: &mut Self::Choices,
+        last: &Self::Binding,
+    ) -> Result<Self::Binding, NoMemory>
+        requires ready { ready self.old store.old }
+        requires choices { (words self.old store.old).knows_choices condition at choices.old }
+        requires last { (words self.old store.old).knows_last last.now }
+        ensures own { IfOk result (λ σ. LeadsTo (words self.new store.new).rules.program
+            (λ k. choose_after (words self.new store.new).rules ((words self.new store.new).bound last.now) k condition at
+            ((words self.new store.new).chosen_from choices.old) ((words self.new store.new).chosen_value choices.old))
+            (λ k b. or_go_on ((words self.new store.new).unchosen choices.new k condition at)
+            (solve_from (words self.new store.new).rules (Some ((words self.new store.new).bound last.now)) k condition (suc at)
+            ((words self.new store.new).bound σ) b))) }
+        ensures known { IfOk result (λ σ. (words self.new store.new).knows_choices condition at choices.new
+            × (words self.new store.new).knows_binding condition (suc at) σ) }
+        ensures begun { IfOk result (λ σ. ((words self.new store.new).chosen_from choices.new
+            ≡ (words self.new store.new).chosen_from choices.old)
+            × ((words self.new store.new).chosen_value choices.new ≡ (words self.new store.new).chosen_value choices.old)) }
+        ensures solves { IfOk result (λ σ. IsChoiceOf (words self.new store.new) condition at choices.old
+            ((words self.new store.new).bound σ)) }
         ensures grows { grows self.old store.old self.new store.new };
 
     // ---- laws

@@ -1,12 +1,18 @@
 -- A condition that is asked: what is known of it, and what the loop computes of it.
 use Rattle.std.proofs.Common.{◌≡◌, ◌==◌, ◌+◌, ℕ, suc, List, All, Bool, true, if◌then◌else◌, Option, Some, None, IfSome, IfNone, Ok, Err, IfOk, IfErr, map, length, slice_get, eq-eqb, refl, sym, ap, ap₂, ◌∙◌, subst, arith}
+use Rattle.std.specs.Borrow.{Bor}
 use Rattle.std.specs.List.{zip}
+use Rattle.std.specs.Option.{option_map}
 use Rattle.std.proofs.lemmas.Option.{slice_get_past}
 use Rattle.mau_terms.specs.Subst.{Variable}
 use Rattle.mau_terms.specs.View.{variable_of}
 use Rattle.mau_terms.specs.declared.ids.VarId.{VarId}
 use Rattle.mau_terms.specs.declared.ids.TermId.{TermId}
+use Rattle.mau_signature.specs.Signature.{theory_at}
 use Rattle.mau_store.specs.Node.{Node}
+use Rattle.mau_store.specs.View.{numbers}
+use Rattle.mau_canon.specs.Standing.{StandWithin}
+use Rattle.mau_canon.proofs.Standing.{stand_within_extended}
 use Rattle.mau_sorts.specs.Table.{Table, KeepsEntries}
 use Rattle.mau_sorts.proofs.Settling.{kept_on}
 use Rattle.mau_program.specs.declared.statements.Fragment.{Fragment}
@@ -14,14 +20,15 @@ use Rattle.mau_program.specs.declared.statements.Equation.{Equation}
 use Rattle.mau_program.specs.Binding.{are_bound}
 use Rattle.mau_evaluation.specs.Run.{Outcome, done, Run, counted_if}
 use Rattle.mau_evaluation.specs.Program.{Program}
-use Rattle.mau_evaluation.specs.Evaluation.{Binding, look_up, levels, solve}
+use Rattle.mau_evaluation.specs.Evaluation.{Binding, look_up, levels, solve, solve_after}
 use Rattle.mau_api.specs.Programs.{program_over, fragment_of}
 use Rattle.mau_api.specs.Events.{Event}
 use Rattle.mau_api.specs.Told.{TellsCondition}
-use Rattle.mau_api.specs.Answers.{IsAskable, IsValueOf, binding_in}
+use Rattle.mau_api.specs.Answers.{IsAskable, IsValueOf, binding_in, solving_from}
 use Rattle.mau_reduce.specs.declared.binding.Binding.{Binding as Kept}
 use Rattle.mau_reduce.specs.Bindings.{bound_in}
-use Rattle.mau_machine.specs.Words.{Comes, ComesToEnd, solve_on, Asks}
+use Rattle.mau_reduce.proofs.LaterStores.{bound_grown}
+use Rattle.mau_machine.specs.Words.{Comes, ComesToEnd, solve_from, Asks}
 use Rattle.mau_reducer.proofs.Reached.{comes_along, end_along}
 use Rattle.mau_machine.specs.declared.goal.Goal.TheVariants.{Nothing}
 use Rattle.mau_reducer.specs.Basis.{Basis, asking}
@@ -29,11 +36,15 @@ use Rattle.mau_reducer.specs.Handles.{written_in, membership_numbered, cond_of, 
 use Rattle.mau_reducer.specs.States.{IsFit, ComesOf}
 use Rattle.mau_reducer.specs.LaterStates.{binding_later}
 use Rattle.mau_reducer.specs.Meant.{meanings_of}
-use Rattle.mau_reducer.specs.MeantLaws.{solving_is}
+use Rattle.mau_reducer.specs.MeantLaws.{solving_is, solving_after_is}
 use Rattle.mau_reducer.specs.Solutions.{IsPaired}
-use Rattle.mau_reducer.proofs.Choosing.{one_value_each, all_values}
+use Rattle.mau_reducer.proofs.Choosing.{pairs_of, one_value_each, all_values}
 use Rattle.mau_reducer.proofs.WhatIsSolved.{Answer, Paired, IsLoopAnswer, of_pairs}
 use Rattle.mau_reducer.proofs.Pairs.{pairs_bound, variables_paired, paired_within, paired_kinds, paired_sorts}
+
+-- a solution that may be given, as a binding
+abbrev pub bindings_of : List Node → Option (Bor (List (VarId × TermId))) → Option Binding
+bindings_of nodes o = option_map (λ (x : Bor (List (VarId × TermId))). binding_in nodes x.now) o
 
 -- all of the condition with this number is solved
 abbrev pub IsSolved : Basis → List Node → Table → ℕ → Kept → Type 0
@@ -135,18 +146,55 @@ module _ (b : Basis) (fs : List Fragment) (bound : List (VarId × TermId)) (aska
     pub written_is : written_at d n ≡ fs
     written_is = ap₂ (λ (x : Basis) (i : ℕ). written_at x i) basis_is number_is ∙ written_asked b fs (variables_of bound)
 
-    -- what the loop computes is what is meant
-    pub outcome_is : (k B : ℕ) → solve_on (rules_of d) k n 0 (bound_in mid σ) B ≡ (meanings_of b).solving k b.limit (map fragment_of fs) (binding_in old bound) B
-    outcome_is k B =
-        ap (λ (x : Basis). solve_on (rules_of x) k n 0 (bound_in mid σ) B) basis_is
-        ∙ (ap (λ (i : ℕ). solve_on (rules_of asked) k i 0 (bound_in mid σ) B) number_is
-        ∙ (ap (λ (τ : Binding). solve_on (rules_of asked) k e 0 τ B) (later.1 ∙ (sym (pairs_bound old σ.variables.items σ.values.items) ∙ ap (binding_in old) pairs))
-        ∙ by_fragments))
-      where
-        by_fragments : solve_on (rules_of asked) k e 0 (binding_in old bound) B ≡ (meanings_of b).solving k b.limit (map fragment_of fs) (binding_in old bound) B
-        by_fragments =
-            ap (λ (cs : List Fragment). solve (program_over b.program b.hooks) (levels (program_over b.program b.hooks) b.limit k) (map fragment_of cs) (binding_in old bound) B) (written_asked b fs (variables_of bound))
-            ∙ sym (ap (λ (r : Run (Option Binding)). r B) (solving_is (program_over b.program b.hooks) k b.limit (map fragment_of fs) (binding_in old bound)))
+    -- ---- the solution behind which it is asked, if there is one
+
+    module _ {X Y : Type 0} (value : X → Kept) (last : Option X) (now : Y → List (VarId × TermId)) (given : Option Y) (same_last : option_map (λ x. pairs_of (value x)) last ≡ option_map now given)
+        (each : IfSome last (λ x. length (value x).variables.items ≡ length (value x).values.items)) (last_values : IfSome given (λ y. All (IsValueOf b.program.sig old before) (now y))) where
+      stands : (x : X) (y : Y) → pairs_of (value x) ≡ now y → length (value x).variables.items ≡ length (value x).values.items → All (IsValueOf b.program.sig old before) (now y) →
+          StandWithin (theory_at b.program.sig) old (numbers (value x).values.items)
+      stands x y q l all = paired_within b.program.sig old before (value x).variables.items (value x).values.items l (subst (All (IsValueOf b.program.sig old before)) (sym q) all)
+
+      last_is : (o : Option X) (g : Option Y) → option_map (λ x. pairs_of (value x)) o ≡ option_map now g → IfSome o (λ x. length (value x).variables.items ≡ length (value x).values.items) →
+          IfSome g (λ y. All (IsValueOf b.program.sig old before) (now y)) → option_map (λ x. bound_in mid (value x)) o ≡ option_map (λ y. binding_in old (now y)) g
+      last_is None None q l all = refl
+      last_is None (Some y) q l all = absurd (cc q)
+      last_is (Some x) None q l all = absurd (cc q)
+      last_is (Some x) (Some y) q l all =
+          let p : pairs_of (value x) ≡ now y = cc in
+          ap Some (bound_grown b.program old mid comes.extends (value x) (stands x y p l all) ∙ (sym (pairs_bound old (value x).variables.items (value x).values.items) ∙ ap (binding_in old) p))
+
+      last_stands : (o : Option X) (g : Option Y) → option_map (λ x. pairs_of (value x)) o ≡ option_map now g → IfSome o (λ x. length (value x).variables.items ≡ length (value x).values.items) →
+          IfSome g (λ y. All (IsValueOf b.program.sig old before) (now y)) → IfSome o (λ x. StandWithin (theory_at d.program.sig) mid (numbers (value x).values.items))
+      last_stands None g q l all = tt
+      last_stands (Some x) None q l all = absurd (cc q)
+      last_stands (Some x) (Some y) q l all =
+          let p : pairs_of (value x) ≡ now y = cc in
+          subst (λ (z : Basis). StandWithin (theory_at z.program.sig) mid (numbers (value x).values.items)) (sym basis_is)
+          (stand_within_extended (theory_at b.program.sig) old mid (numbers (value x).values.items) comes.extends (stands x y p l all))
+
+      pub last_known : IfSome last (λ x. StandWithin (theory_at d.program.sig) mid (numbers (value x).values.items))
+      last_known = last_stands last given same_last each last_values
+
+      abbrev known : Option Binding
+      known = option_map (λ y. binding_in old (now y)) given
+
+      -- what the loop computes is what is meant
+      pub outcome_is : (k B : ℕ) → solve_from (rules_of d) (option_map (λ x. bound_in mid (value x)) last) k n 0 (bound_in mid σ) B
+          ≡ solving_from (meanings_of b) (option_map (λ y. binding_in old (now y)) given) (map fragment_of fs) (binding_in old bound) k b.limit B
+      outcome_is k B =
+          ap (λ (o : Option Binding). solve_from (rules_of d) o k n 0 (bound_in mid σ) B) (last_is last given same_last each last_values)
+          ∙ (ap (λ (x : Basis). solve_from (rules_of x) known k n 0 (bound_in mid σ) B) basis_is
+          ∙ (ap (λ (i : ℕ). solve_from (rules_of asked) known k i 0 (bound_in mid σ) B) number_is
+          ∙ (ap (λ (τ : Binding). solve_from (rules_of asked) known k e 0 τ B) (later.1 ∙ (sym (pairs_bound old σ.variables.items σ.values.items) ∙ ap (binding_in old) pairs))
+          ∙ by_fragments known)))
+        where
+          by_fragments : (o : Option Binding) → solve_from (rules_of asked) o k e 0 (binding_in old bound) B ≡ solving_from (meanings_of b) o (map fragment_of fs) (binding_in old bound) k b.limit B
+          by_fragments None =
+              ap (λ (cs : List Fragment). solve (program_over b.program b.hooks) (levels (program_over b.program b.hooks) b.limit k) (map fragment_of cs) (binding_in old bound) B) (written_asked b fs (variables_of bound))
+              ∙ sym (ap (λ (r : Run (Option Binding)). r B) (solving_is (program_over b.program b.hooks) k b.limit (map fragment_of fs) (binding_in old bound)))
+          by_fragments (Some x) =
+              ap (λ (cs : List Fragment). solve_after (program_over b.program b.hooks) (levels (program_over b.program b.hooks) b.limit k) x (map fragment_of cs) (binding_in old bound) B) (written_asked b fs (variables_of bound))
+              ∙ sym (ap (λ (r : Run (Option Binding)). r B) (solving_after_is (program_over b.program b.hooks) k b.limit x (map fragment_of fs) (binding_in old bound)))
 
     -- ---- what is known behind the loop, in a state that comes of that one
 
@@ -191,32 +239,35 @@ module _ (b : Basis) (fs : List Fragment) (bound : List (VarId × TermId)) (aska
         tells_paired r s p h = of_pairs (λ bs k. TellsCondition b.program b.hooks new last told told' (look_up (binding_in new bs)) fs k) r s p (tells_of r h)
 
       -- what the loop answers, as it is meant
-      module _ (k B left : ℕ) where
-        abbrev asks_by : ℕ → Outcome (Option Binding)
-        asks_by j = (meanings_of b).solving j b.limit (map fragment_of fs) (binding_in old bound) B
-
+      module _ {X Y : Type 0} (value : X → Kept) (behind : Option X) (now : Y → List (VarId × TermId)) (given : Option Y) (same_last : option_map (λ x. pairs_of (value x)) behind ≡ option_map now given)
+          (each : IfSome behind (λ x. length (value x).variables.items ≡ length (value x).values.items)) (last_values : IfSome given (λ y. All (IsValueOf b.program.sig old before) (now y))) (k B left : ℕ) where
         same_program : program_over d.program d.hooks ≡ program_over b.program b.hooks
         same_program = ap (λ (x : Basis). program_over x.program x.hooks) basis_is
 
         abbrev solves : ℕ → Outcome (Option Binding)
-        solves j = solve_on (rules_of d) (k + j) n 0 (bound_in mid σ) B
+        solves j = solve_from (rules_of d) (option_map (λ x. bound_in mid (value x)) behind) (k + j) n 0 (bound_in mid σ) B
+
+        abbrev meant : ℕ → Outcome (Option Binding)
+        meant j = solving_from (meanings_of b) (option_map (λ y. binding_in old (now y)) given) (map fragment_of fs) (binding_in old bound) j b.limit B
+
+        is_meant : (j : ℕ) → solves j ≡ meant (k + j)
+        is_meant j = outcome_is value behind now given same_last each last_values (k + j) B
 
         pub loop_answer : (r : Answer) → IfOk r (λ a. IfSome a (λ x. Comes (program_over d.program d.hooks) solves (done (Some (bound_in new x.0)) x.1 left))) →
             IfOk r (λ a. IfNone a (Comes (program_over d.program d.hooks) (λ j. counted_if 0 (solves j)) (done None 0 left))) →
-            IfErr r (ComesToEnd (program_over d.program d.hooks) solves) →
-            IsLoopAnswer (program_over b.program b.hooks) new (λ j. (meanings_of b).solving j b.limit (map fragment_of fs) (binding_in old bound) B) k r left
+            IfErr r (ComesToEnd (program_over d.program d.hooks) solves) → IsLoopAnswer (program_over b.program b.hooks) new meant k r left
         loop_answer (Ok (Some x)) some none ends = record {
-          some = comes_along (λ j. outcome_is (k + j) B) (subst (λ (P : Program). Comes P solves (done (Some (bound_in new x.0)) x.1 left)) same_program some);
+          some = comes_along is_meant (subst (λ (P : Program). Comes P solves (done (Some (bound_in new x.0)) x.1 left)) same_program some);
           none = tt;
           ends = tt;
         }
         loop_answer (Ok None) some none ends = record {
           some = tt;
-          none = comes_along (λ j. ap (counted_if 0) (outcome_is (k + j) B)) (subst (λ (P : Program). Comes P (λ j. counted_if 0 (solves j)) (done None 0 left)) same_program none);
+          none = comes_along (λ j. ap (counted_if 0) (is_meant j)) (subst (λ (P : Program). Comes P (λ j. counted_if 0 (solves j)) (done None 0 left)) same_program none);
           ends = tt;
         }
         loop_answer (Err e') some none ends = record {
           some = tt;
           none = tt;
-          ends = end_along (program_over b.program b.hooks) (λ j. outcome_is (k + j) B) e' (subst (λ (P : Program). ComesToEnd P solves e') same_program ends);
+          ends = end_along (program_over b.program b.hooks) is_meant e' (subst (λ (P : Program). ComesToEnd P solves e') same_program ends);
         }

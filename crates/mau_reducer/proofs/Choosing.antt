@@ -26,21 +26,21 @@ use Rattle.mau_program.specs.Binding.{bound_behind}
 use Rattle.mau_evaluation.specs.Run.{Run, gives, or_go_on, or_else}
 use Rattle.mau_evaluation.specs.Program as Evaluated
 use Rattle.mau_evaluation.specs.Program.{Program}
-use Rattle.mau_evaluation.specs.Evaluation.{Binding, levels, look_up, solve}
+use Rattle.mau_evaluation.specs.Evaluation.{Binding, levels, look_up, solve, solve_after}
 use Rattle.mau_api.specs.Programs.{program_over}
 use Rattle.mau_api.specs.Answers.{IsValueOf, binding_in, AreApart}
 use Rattle.mau_reduce.specs.declared.binding.Binding.{Binding as Kept}
 use Rattle.mau_reduce.specs.Bindings.{bound_in}
 use Rattle.mau_reduce.specs.Trying.{solution_in}
 use Rattle.mau_machine.specs.declared.goal.Goal.TheVariants as Goals
-use Rattle.mau_machine.specs.Words.{Words, LeadsTo, IsKnownBy, rest_of, pattern_in, solve_on, Asks, IsUnchosen, IsExtension, IsChoiceOf}
+use Rattle.mau_machine.specs.Words.{Words, LeadsTo, IsKnownBy, rest_of, pattern_in, solve_on, solve_from, choose_after, Asks, IsUnchosen, IsExtension, IsChoiceOf}
 use Rattle.mau_choices.specs.declared.choices.Choices.{Choices}
 use Rattle.mau_reduce.specs.Comes.{ComesTo}
 use Rattle.mau_reduce.proofs.Comes.{comes_from, comes_as}
 use Rattle.mau_settling.specs.declared.settling.Settling.{Settling}
 use Rattle.mau_reducer.proofs.Leading.{leads_of}
-use Rattle.mau_choices.specs.Choosing.{left_of_choices, IsChoosing}
-use Rattle.mau_choices.proofs.Begun.{unchosen_begun}
+use Rattle.mau_choices.specs.Choosing.{left_of_choices, behind_own, IsChoosing}
+use Rattle.mau_choices.proofs.Begun.{unchosen_begun, own_begun}
 use Rattle.mau_choices.proofs.Later.{value_same, binding_same, left_same}
 use Rattle.mau_reducer.specs.declared.reducer.Candidates.{Candidates}
 use Rattle.mau_reducer.specs.Basis.{Basis}
@@ -228,7 +228,7 @@ module _ {L M : Type 0} (c : Bool) (asked : L → Asked) (given : L → Option S
   from_now (Some σ) = (ap (binding_in new) same_binding, ap (λ (t : TermId). tree_at new t.0) same_value)
 
   -- by it the pattern has the value
-  choice_one : (σ : Kept) (τ : List (VarId × TermId)) → pairs_of σ ≡ τ → IsExtension (binding_in old x.binding) (binding_in new τ) →
+  pub choice_one : (σ : Kept) (τ : List (VarId × TermId)) → pairs_of σ ≡ τ → IsExtension (binding_in old x.binding) (binding_in new τ) →
       ((υ : Binding) → IsExtension (binding_in new τ) υ → norm (theory_at b.program.sig) (instance (look_up υ) (tree_of p)) ≡ tree_at old x.value.0) → IsChoiceOf words_now e i x (bound_in new σ)
   choice_one σ τ q more solves =
       let same = bound_pairs new σ τ q in (
@@ -245,8 +245,30 @@ module _ {L M : Type 0} (c : Bool) (asked : L → Asked) (given : L → Option S
   choice_next None (Some σ) q more solves = absurd (cc q)
   choice_next (Some τ) (Some σ) q more solves = let same : pairs_of σ ≡ τ = cc in choice_one σ τ same more solves
 
+  -- ---- behind a solution of the condition
+
+  own_was : (last : Binding) (k n : ℕ) → choose_after (rules_of b) last k e i (words_now.chosen_from x) (words_now.chosen_value x) n
+      ≡ behind_own Q (levels Q b.limit k) (tree_of p) behind_it last (binding_in old x.binding) (tree_at old x.value.0) n
+  own_was last k n =
+      sym (own_begun (rules_of b) last k e i (binding_in new x.binding) (tree_at new x.value.0) n)
+      ∙ (ap (λ t. behind_own Q (levels Q b.limit k) t behind_it last (binding_in new x.binding) (tree_at new x.value.0) n) pattern_so
+      ∙ (ap (λ σ. behind_own Q (levels Q b.limit k) (tree_of p) behind_it last σ (tree_at new x.value.0) n) binding_so
+      ∙ ap (λ t. behind_own Q (levels Q b.limit k) (tree_of p) behind_it last (binding_in old x.binding) t n) value_so))
+
+  pub own_next : (l now : Binding) → now ≡ l → (σ : Kept) (τ : List (VarId × TermId)) → pairs_of σ ≡ τ →
+      ComesTo Q (λ k. behind_own Q (levels Q b.limit k) (tree_of p) behind_it l (binding_in old x.binding) (tree_at old x.value.0))
+      (λ k. or_else (solve_after Q (levels Q b.limit k) l behind_it (binding_in new τ)) (left_in k new (given_whole x'.listing))) →
+      LeadsTo Q (λ k. choose_after (rules_of b) now k e i (words_now.chosen_from x) (words_now.chosen_value x))
+      (λ k n. or_go_on (words_now.unchosen x' k e i) (solve_from (rules_of b) (Some now) k e (suc i) (bound_in new σ) n))
+  own_next l now same σ τ q f =
+      subst (λ z. LeadsTo Q (λ k. choose_after (rules_of b) z k e i (words_now.chosen_from x) (words_now.chosen_value x))
+      (λ k n. or_go_on (words_now.unchosen x' k e i) (solve_from (rules_of b) (Some z) k e (suc i) (bound_in new σ) n))) (sym same)
+      (leads_of (comes_from (own_was l) (comes_as f (λ k n.
+      ap (λ r. or_go_on r (solve_after Q (levels Q b.limit k) l behind_it (binding_in new τ) n)) (sym (unchosen_now k))
+      ∙ ap (λ ρ. or_go_on (words_now.unchosen x' k e i) (solve_after Q (levels Q b.limit k) l behind_it ρ n)) (sym (bound_pairs new σ τ q))))))
+
   -- what is known then
-  known_one : (σ : Kept) (τ : List (VarId × TermId)) → pairs_of σ ≡ τ → length σ.variables.items ≡ length σ.values.items → All (IsValueOf b.program.sig new after) τ →
+  pub known_one : (σ : Kept) (τ : List (VarId × TermId)) → pairs_of σ ≡ τ → length σ.variables.items ≡ length σ.values.items → All (IsValueOf b.program.sig new after) τ →
       map (λ (y : VarId × TermId). variable_of y.0) τ ≡ add_variables (map (λ (y : VarId × TermId). variable_of y.0) x.binding) (tree_of p) → IsKnownBinding b new after e (suc i) σ
   known_one σ τ q n values added =
       let all : All (IsValueOf b.program.sig new after) (pairs_of σ) = subst (All (IsValueOf b.program.sig new after)) (sym q) values in
@@ -267,7 +289,7 @@ module _ {L M : Type 0} (c : Bool) (asked : L → Asked) (given : L → Option S
         bound = (bound_on b e i (Match p u) (drop (suc i) (written_at b e)) from is.bound).1;
       }
 
-  choices_still : IsChoosing b.program.sig new after (tree_of p) x.binding x.value (asked_whole x'.listing) (given_whole x'.listing) (is_for_whole x'.listing b.program.sig) →
+  pub choices_still : IsChoosing b.program.sig new after (tree_of p) x.binding x.value (asked_whole x'.listing) (given_whole x'.listing) (is_for_whole x'.listing b.program.sig) →
       AreKnownChoices c asked given is_for asked_whole given_whole is_for_whole b new after e i x'
   choices_still choosing = record {
     asks = is.asks;

@@ -36,7 +36,5 @@ pub mod Sides
 -- conditions that are asked, and their answers
 pub mod WhatIsSolved
 pub mod Asked
--- conditions without fragments
-pub mod EmptyConditions
 -- tables that are kept
 pub mod TablesKept

@@ -1,5 +1,6 @@
 -- The answers of a condition that is asked.
 use Rattle.std.proofs.Common.{◌≡◌, ◌+◌, ℕ, List, Option, Some, None, IfSome, IfNone, Result, Ok, Err, IfOk, IfErr, OnOk, refl, sym, ap, ◌∙◌, subst, arith}
+use Rattle.std.specs.Prelude.{IsErrAnd}
 use Rattle.std.specs.List.{zip}
 use Rattle.std.specs.Option.{option_map}
 use Rattle.mau_terms.specs.declared.ids.VarId.{VarId}
@@ -149,3 +150,8 @@ module _ {A : Type 0} (items : A → List (VarId × TermId)) where
   ok_in T (Ok None) h = h
   ok_in T (Ok (Some x)) h = h
   ok_in T (Err e) h = tt
+
+  -- where memory is wanted nothing is said
+  pub wants_memory : (o : Outcome (Option Binding)) (nodes : List Node) (b : ℕ) (r : Result (Option (A × ℕ)) EvalEnd) → IsErrAnd r (λ e. e ≡ NoMemory) → IsSolved o nodes (pairs_in r) b
+  wants_memory o nodes b (Ok x) h = absurd h
+  wants_memory o nodes b (Err e) h = subst (λ (d : EvalEnd). IsSolved o nodes (Err d) b) (sym h) tt

@@ -7,10 +7,11 @@ use Rattle.mau_terms.specs.Subst.{Variable, variables}
 use Rattle.mau_terms.specs.declared.bare.Bare.{Bare}
 use Rattle.mau_terms.specs.declared.ids.VarId.{VarId}
 use Rattle.mau_terms.specs.View.{tree_of, variable_of}
-use Rattle.mau_signature.specs.Signature.{SignatureOf, terms_over}
+use Rattle.mau_signature.specs.Signature.{SignatureOf, theory_at, terms_over}
 use Rattle.mau_store.specs.Node.{Node}
 use Rattle.mau_store.specs.Trees.{tree_at, trees_at}
 use Rattle.mau_store.specs.View.{numbers}
+use Rattle.mau_canon.specs.Standing.{StandWithin}
 use Rattle.mau_sorts.specs.Table.{Table}
 use Rattle.mau_terms.specs.declared.ids.TermId.{TermId}
 use Rattle.mau_listing.specs.Asked.{Asked, HasEntry}
@@ -221,6 +222,7 @@ module _ {L M : Type 0} (c : Bool) (asked : L → Asked) (given : L → Option S
     knows_operands = AreKnownOperands b.program.sig nodes;
     bound = bound_in nodes;
     knows_binding = IsKnownBinding b nodes table;
+    knows_last = λ σ. StandWithin (theory_at b.program.sig) nodes (numbers σ.values.items);
     knows_settling = IsKnownSettling b nodes table;
     knows_asking = IsKnownAsking b nodes table;
     untried = λ a k. untried_by (program_over b.program b.hooks) b.limit k nodes (tree_at nodes a.term.0) a.attempts.value.given

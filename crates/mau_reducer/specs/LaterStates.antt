@@ -18,6 +18,7 @@ use Rattle.mau_store.specs.Node.{Node, Extends}
 use Rattle.mau_store.specs.Trees.{tree_at, trees_at}
 use Rattle.mau_store.specs.View.{numbers}
 use Rattle.mau_store.proofs.Growth.{extension_is_preorder}
+use Rattle.mau_canon.proofs.Standing.{stand_within_extended}
 use Rattle.mau_sorts.specs.Table.{Table, KeepsEntries}
 use Rattle.mau_sorts.proofs.Settling.{kept_same, kept_on}
 use Rattle.mau_listing.specs.Asked.{Asked, HasEntry}
@@ -240,6 +241,7 @@ module _ {L M : Type 0} (c : Bool) (asked : L → Asked) (given : L → Option S
     values = value_later b.program.sig old new h.extends before after h.kept;
     operands = operands_later b.program.sig old new h.extends;
     bindings = binding_later b old new before after begun h;
+    lasts = λ σ k. (stand_within_extended (theory_at b.program.sig) old new (numbers σ.values.items) h.extends k, bound_grown b.program old new h.extends σ k);
     settlings = settling_known;
     askings = asking_known;
     attempts = λ t a k. (candidates_known t a k, untried_same t a k);

@@ -39,6 +39,23 @@ pub(crate) fn values_of(alloc: Global, bound: &[(VarId, TermId)]) -> Result<Bind
     Ok(Binding { variables, values })
 }
 
+/// The solution behind which a condition is solved, with its variables and their values in two lists.
+pub(crate) fn last_of(
+    alloc: Global,
+    last: Option<&[(VarId, TermId)]>,
+) -> Result<Option<Box<Binding>>, NoMemory>
+    ensures pairs { IfOk result (λ o. option_map (λ b. zip b.value.variables.items b.value.values.items) o ≡ option_map (λ l. l.now) last.entry) }
+    ensures one_each { IfOk result (λ o. IfSome o (λ b. length b.value.variables.items ≡ length b.value.values.items)) }
+{
+    match last {
+        Some(last) => {
+            let values = values_of(alloc, last)?;
+            Ok(Some(Box::new(alloc, values)?))
+        }
+        None => Ok(None),
+    }
+}
+
 /// What becomes of a condition, with the values in pairs.
 pub(crate) fn as_pairs(
     alloc: Global,

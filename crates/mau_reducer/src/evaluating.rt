@@ -2,7 +2,7 @@
 ghost use Rattle.std.specs.Prelude.{◌≡◌};
 ghost use Rattle.mau_api.specs.Answers.{levels_of_item, levels_of_condition};
 
-use crate::asking::as_pairs;
+use crate::asking::{as_pairs, last_of};
 use crate::reducer::Reducer;
 use mau_api::{EvalEnd, Evaluator, Fragment, Lister, Reduced, Solution, StepWatcher};
 use mau_listing::{WholeLister, has_nodes};
@@ -68,32 +68,25 @@ impl<'a, L: Lister + Drop, M: WholeLister + Drop, N: Natives + Drop> Evaluator
         budget: &mut u64,
         watcher: &mut W,
     ) -> Result<Option<(Vec<(VarId, TermId)>, u64)>, EvalEnd> {
-        match last {
-            Some(_) => {
-                if !cond.is_empty() {
-                    // What comes behind a solution of a condition with fragments is not solved yet.
-                    return Err(EvalEnd::NoMemory);
-                }
-                Ok(None)
+        let behind = last_of(store.allocator(), last)?;
+        match self.ask(store.allocator(), cond, bound) {
+            Ok(binding) => {
+                let condition = self.program.equations.items().len() + 1;
+                let levels = levels_of_condition();
+                let solved = mau_machine::solve(
+                    store.allocator(),
+                    self,
+                    store,
+                    condition,
+                    binding,
+                    behind,
+                    levels,
+                    budget,
+                    watcher,
+                );
+                as_pairs(store.allocator(), solved)
             }
-            None => match self.ask(store.allocator(), cond, bound) {
-                Ok(binding) => {
-                    let condition = self.program.equations.items().len() + 1;
-                    let levels = levels_of_condition();
-                    let solved = mau_machine::solve(
-                        store.allocator(),
-                        self,
-                        store,
-                        condition,
-                        binding,
-                        levels,
-                        budget,
-                        watcher,
-                    );
-                    as_pairs(store.allocator(), solved)
-                }
-                Err(NoMemory) => Err(EvalEnd::NoMemory),
-            },
+            Err(NoMemory) => Err(EvalEnd::NoMemory),
         }
     }
 

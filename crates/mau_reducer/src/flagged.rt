@@ -5,7 +5,7 @@ ghost use Rattle.mau_program.specs.LawfulPrograms.{IsLawfulProgram};
 ghost use Rattle.mau_api.specs.Meanings.{meanings_by};
 ghost use Rattle.mau_built_ins.specs.NativeNumerals.{GivesNumerals};
 
-use crate::asking::as_pairs;
+use crate::asking::{as_pairs, last_of};
 use crate::evaluating::{levels_of_condition, levels_of_item};
 use crate::reducer::Reducer;
 use mau_api::{EvalEnd, Evaluator, Fragment, Lister, Program, Reduced, Solution, StepWatcher};
@@ -96,29 +96,25 @@ impl<'a, L: Lister + Drop, M: WholeLister + Drop, N: Natives + Drop> Evaluator
         budget: &mut u64,
         watcher: &mut W,
     ) -> Result<Option<(Vec<(VarId, TermId)>, u64)>, EvalEnd> {
-        match last {
-            Some(_) => self
-                .world
-                .world
-                .solve(store, cond, bound, last, budget, watcher),
-            None => match self.world.world.ask(store.allocator(), cond, bound) {
-                Ok(binding) => {
-                    let condition = self.world.world.program.equations.items().len() + 1;
-                    let levels = levels_of_condition();
-                    let solved = mau_resting::solve(
-                        store.allocator(),
-                        &mut self.world,
-                        store,
-                        condition,
-                        binding,
-                        levels,
-                        budget,
-                        watcher,
-                    );
-                    as_pairs(store.allocator(), solved)
-                }
-                Err(NoMemory) => Err(EvalEnd::NoMemory),
-            },
+        let behind = last_of(store.allocator(), last)?;
+        match self.world.world.ask(store.allocator(), cond, bound) {
+            Ok(binding) => {
+                let condition = self.world.world.program.equations.items().len() + 1;
+                let levels = levels_of_condition();
+                let solved = mau_resting::solve(
+                    store.allocator(),
+                    &mut self.world,
+                    store,
+                    condition,
+                    binding,
+                    behind,
+                    levels,
+                    budget,
+                    watcher,
+                );
+                as_pairs(store.allocator(), solved)
+            }
+            Err(NoMemory) => Err(EvalEnd::NoMemory),
         }
     }
 

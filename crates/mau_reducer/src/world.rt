@@ -8,7 +8,7 @@ use crate::asking::values_of;
 use crate::fragments::{fragment_at, number_of_member, pattern_at, side_at, sort_at};
 use crate::reducer::{Candidates, Reducer};
 use mau_api::{EvalEnd, Fragment, Lister, Step};
-use mau_choices::{Choices, begin_choices, next_choice};
+use mau_choices::{Choices, begin_choices, next_choice, own_choice};
 use mau_cond::Bound;
 use mau_listing::{WholeLister, has_nodes};
 use mau_machine::{Goal, World};
@@ -272,6 +272,27 @@ impl<'a, L: Lister + Drop, M: WholeLister + Drop, N: Natives + Drop> World
         match pattern_at(program, &self.asked, condition, at) {
             Some(pattern) => match next_choice(store, program, &mut self.table, pattern, choices) {
                 Ok(next) => Ok(parted(next)),
+                Err(end) => Err(end),
+            },
+            None => unreachable!(),
+        }
+    }
+
+    fn own(
+        &mut self,
+        store: &mut Store,
+        condition: usize,
+        at: usize,
+        choices: &mut Choices<M>,
+        last: &Binding,
+    ) -> Result<Binding, NoMemory> {
+        let program = self.program;
+        match pattern_at(program, &self.asked, condition, at) {
+            Some(pattern) => match own_choice(store, program, &self.table, pattern, choices, last) {
+                Ok(bound) => {
+                    let (variables, values) = bound.into_parts();
+                    Ok(Binding { variables, values })
+                }
                 Err(end) => Err(end),
             },
             None => unreachable!(),

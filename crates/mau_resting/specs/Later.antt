@@ -27,6 +27,7 @@ module _ {A C S D : Type 0} (w w' : Words A C S D) (keeps : Keeps w w') where
     values = keeps.values;
     operands = keeps.operands;
     bindings = keeps.bindings;
+    lasts = keeps.lasts;
     settlings = keeps.settlings;
     askings = keeps.askings;
     attempts = λ t a k.

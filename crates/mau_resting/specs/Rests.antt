@@ -27,6 +27,7 @@ words_over w = record {
   knows_operands = w.knows_operands;
   bound = w.bound;
   knows_binding = w.knows_binding;
+  knows_last = w.knows_last;
   knows_settling = w.knows_settling;
   knows_asking = w.knows_asking;
   untried = λ a. w.untried a.attempts;

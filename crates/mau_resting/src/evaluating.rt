@@ -1,9 +1,10 @@
 //! The loop over a world that remembers which terms are their own values.
 ghost use Rattle.std.specs.Prelude.{◌≡◌, ◌≤◌, ◌+◌, ℕ, true, false, Some, None, IfOk, IfErr, IfSome, IfNone, OnOk};
+ghost use Rattle.std.specs.Option.{option_map};
 ghost use Rattle.mau_evaluation.specs.Run.{done, counted_if};
 ghost use Rattle.mau_evaluation.specs.Evaluation.{look_up};
 ghost use Rattle.mau_api.specs.Told.{TellsEvaluation, TellsCondition, TellsMore};
-ghost use Rattle.mau_machine.specs.Words.{Comes, ComesToEnd, eval_on, solve_on, settle_on, kind_of, IsSolution};
+ghost use Rattle.mau_machine.specs.Words.{Comes, ComesToEnd, eval_on, solve_from, settle_on, kind_of, IsSolution};
 ghost use Rattle.mau_resting.specs.Rests.{AreResting};
 
 use crate::Resting;
@@ -49,13 +50,14 @@ pub fn evaluate<W: World + Drop, T: StepWatcher>(
     mau_machine::evaluate(alloc, resting, store, term, level, budget, watcher)
 }
 
-/// The first solution of a condition by `level` levels, in the same way.
+/// The first solution of a condition, or the first one behind another one, by `level` levels, in the same way.
 pub fn solve<W: World + Drop, T: StepWatcher>(
     alloc: Global,
     resting: &mut Resting<W>,
     store: &mut Store,
     condition: usize,
     binding: W::Binding,
+    behind: Option<Box<W::Binding>>,
     level: u32,
     budget: &mut u64,
     watcher: &mut T,
@@ -63,15 +65,19 @@ pub fn solve<W: World + Drop, T: StepWatcher>(
     requires ready { W.ready resting.old.world store.old }
     requires resting { AreResting (W.words resting.old.world store.old) resting.old.levels.items }
     requires binding { (W.words resting.old.world store.old).knows_binding condition 0 binding }
+    requires behind { IfSome behind (λ x. (W.words resting.old.world store.old).knows_last x.value) }
     ensures some { IfOk result (λ o. IfSome o (λ x. Comes (W.words resting.old.world store.old).rules.program
-        (λ n. solve_on (W.words resting.old.world store.old).rules (level + n) condition 0
+        (λ n. solve_from (W.words resting.old.world store.old).rules
+        (option_map (λ x. (W.words resting.old.world store.old).bound x.value) behind) (level + n) condition 0
         ((W.words resting.old.world store.old).bound binding) budget.old)
         (done (Some ((W.words resting.new.world store.new).bound x.0)) x.1 budget.new))) }
     ensures none { IfOk result (λ o. IfNone o (Comes (W.words resting.old.world store.old).rules.program
-        (λ n. counted_if 0 (solve_on (W.words resting.old.world store.old).rules (level + n) condition 0
+        (λ n. counted_if 0 (solve_from (W.words resting.old.world store.old).rules
+        (option_map (λ x. (W.words resting.old.world store.old).bound x.value) behind) (level + n) condition 0
         ((W.words resting.old.world store.old).bound binding) budget.old)) (done None 0 budget.new))) }
     ensures ends { IfErr result (ComesToEnd (W.words resting.old.world store.old).rules.program
-        (λ n. solve_on (W.words resting.old.world store.old).rules (level + n) condition 0
+        (λ n. solve_from (W.words resting.old.world store.old).rules
+        (option_map (λ x. (W.words resting.old.world store.old).bound x.value) behind) (level + n) condition 0
         ((W.words resting.old.world store.old).bound binding) budget.old)) }
     ensures known { IfOk result (λ o. IfSome o (λ x. IsSolution (W.words resting.new.world store.new) condition x.0)) }
     ensures falls { budget.new ≤ budget.old }
@@ -88,7 +94,7 @@ pub fn solve<W: World + Drop, T: StepWatcher>(
     ensures wanted { T.wanted watcher.new ≡ T.wanted watcher.old }
 {
     mau_machine::solve(
-        alloc, resting, store, condition, binding, level, budget, watcher,
+        alloc, resting, store, condition, binding, behind, level, budget, watcher,
     )
 }
 

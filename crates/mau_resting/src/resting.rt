@@ -220,6 +220,17 @@ impl<W: World + Drop> World for Resting<W> {
         self.world.choose(store, condition, at, choices)
     }
 
+    fn own(
+        &mut self,
+        store: &mut Store,
+        condition: usize,
+        at: usize,
+        choices: &mut W::Choices,
+        last: &W::Binding,
+    ) -> Result<W::Binding, NoMemory> {
+        self.world.own(store, condition, at, choices, last)
+    }
+
     // ---- laws
 
     ghost normal = { λ r nodes t h. W.normal r.world nodes t h };

@@ -1,10 +1,10 @@
 -- Numbers of configurations are one where the configurations are.
-use Rattle.std.proofs.Common.{◌≡◌, ℕ, ◌<◌, List, [], ◌∷◌, length, map, get_or, slice_get, Some, All, refl, ap, sym, ◌∙◌}
+use Rattle.std.proofs.Common.{◌≡◌, ℕ, ◌<◌, List, [], ◌∷◌, length, map, get_or, Some, All, refl, ap, ◌∙◌}
 use Rattle.std.proofs.lemmas.List.Elements.{All-head, All-tail}
 use Rattle.std.proofs.lemmas.Option.{slice_get-get_or}
 use Rattle.mau_terms.specs.Tree.{Tree}
 use Rattle.mau_evaluation.specs.Strategy.{Strategy}
-use Rattle.mau_evaluation.specs.Configs.{Todo, Frame, test_frame, Config}
+use Rattle.mau_evaluation.specs.Configs.{Todo, Config}
 use Rattle.mau_strat.specs.declared.configs.Bound.{Bound}
 use Rattle.mau_strat.specs.declared.configs.Todo.{Todo as StoredTodo}
 use Rattle.mau_strat.specs.declared.configs.Frame.{Frame as StoredFrame}

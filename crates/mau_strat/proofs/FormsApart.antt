@@ -1,5 +1,5 @@
 -- Numbers of strategies, and the strategies that they stand for.
-use Rattle.std.proofs.Common.{◌≡◌, ℕ, zero, suc, ◌+◌, ◌<◌, ◌≤◌, ◌⊎◌, inl, inr, List, [], ◌∷◌, ◌++◌, fold, length, take, get_or, slice_get, Some, All, refl, ap, ap₂, sym, ◌∙◌, arith, subst, length-append}
+use Rattle.std.proofs.Common.{◌≡◌, ℕ, zero, suc, ◌+◌, ◌<◌, ◌⊎◌, inl, inr, List, [], ◌∷◌, ◌++◌, fold, length, take, slice_get, Some, All, refl, ap, ap₂, sym, ◌∙◌, arith, subst, length-append}
 use Rattle.std.proofs.lemmas.List.Sums.{fold-append}
 use Rattle.std.proofs.lemmas.List.Elements.{All-head, All-tail}
 use Rattle.std.proofs.Math.ListN.{get_or-append}
@@ -9,7 +9,7 @@ use Rattle.mau_evaluation.specs.Strategy.{Strategy, idle, fail, every_rule, labe
 use Rattle.mau_strat.specs.declared.configs.StrategyId.{StrategyId}
 use Rattle.mau_strat.specs.declared.forms.Form.{Form}
 use Rattle.mau_strat.specs.declared.forms.Form.TheVariants.{Leaf, Idle, Fail, All as AllRules, Top, Star, Plus, Normal, Then, Or, OrElse, If, Not, Try, TestOf}
-use Rattle.mau_strat.specs.Sharing.{EachOnce, Extends}
+use Rattle.mau_strat.specs.Sharing.{EachOnce}
 use Rattle.mau_strat.specs.Configurations.{TellsApart}
 use Rattle.mau_strat.specs.Forms.{parts, AreBelow, AreForms, strategy_over, strategy_or, add_strategy, strategies_of, strategy_at, IsLeaf, LeafIn, StrategyOfForm, OneNumberWhereOneStrategy, NumbersKeepStrategies}
 use Rattle.mau_strat.proofs.Linked.{cut}

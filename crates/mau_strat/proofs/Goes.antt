@@ -1,10 +1,9 @@
 -- What a run keeps from step to step.
-use Rattle.std.proofs.Common.{◌≡◌, ℕ, List, [], ◌∷◌, ◌++◌, get_or, All, Contains, Bool, true, false, Option, Some, None, refl, sym, ◌∙◌, ap, subst, append_assoc, append-nil}
+use Rattle.std.proofs.Common.{◌≡◌, ℕ, List, [], ◌∷◌, ◌++◌, get_or, All, Contains, Bool, true, false, Some, None, sym, ◌∙◌, ap, subst, append_assoc, append-nil}
 use Rattle.std.proofs.lemmas.List.Elements.{All-push, All-nil, Contains-get_or, Contains-append_right}
-use Rattle.mau_strat.specs.declared.walk.Open.{Open}
 use Rattle.mau_strat.specs.declared.walk.WalkEnd.{WalkEnd}
 use Rattle.mau_evaluation.specs.Reach.{IsClosed}
-use Rattle.mau_strat.specs.Walks.{IsRun, AllNot, AnswerIs, EndIs, EndAfter}
+use Rattle.mau_strat.specs.Walks.{AnswerIs, EndIs, EndAfter}
 use Rattle.mau_strat.proofs.Turns.{Lists}
 
 -- from what was listed at first, so far no solution is new

@@ -1,11 +1,10 @@
 -- Numbers keep their configurations as more are interned.
-use Rattle.std.proofs.Common.{◌≡◌, ℕ, ◌<◌, List, [], ◌∷◌, ◌++◌, length, map, get_or, All, refl, ap, ap₂, sym, ◌∙◌}
+use Rattle.std.proofs.Common.{◌≡◌, ℕ, ◌<◌, List, [], ◌∷◌, length, map, get_or, All, refl, ap, ap₂, ◌∙◌}
 use Rattle.std.proofs.lemmas.List.{get_or_append_left}
 use Rattle.std.proofs.lemmas.List.Elements.{All-head, All-tail}
 use Rattle.mau_terms.specs.Tree.{Tree}
 use Rattle.mau_evaluation.specs.Strategy.{Strategy}
-use Rattle.mau_evaluation.specs.Configs.{Todo, test_frame}
-use Rattle.mau_strat.specs.declared.configs.Bound.{Bound}
+use Rattle.mau_evaluation.specs.Configs.{test_frame}
 use Rattle.mau_strat.specs.declared.configs.Todo.{Todo as StoredTodo}
 use Rattle.mau_strat.specs.declared.configs.Frame.{Frame as StoredFrame}
 use Rattle.mau_strat.specs.declared.configs.Config.{Config as StoredConfig}

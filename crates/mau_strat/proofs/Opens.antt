@@ -1,7 +1,6 @@
 -- The open entries of a run, as it goes on.
 use Rattle.std.proofs.Common.{◌≡◌, ℕ, zero, suc, ◌+◌, ◌<◌, ◌≤◌, List, [], ◌∷◌, ◌++◌, length, get_or, All, Contains, inl, inr, refl, sym, ◌∙◌, ap, subst, ◌⊎◌, arith}
 use Rattle.std.proofs.lemmas.List.{get_or_default, get_or_append_left}
-use Rattle.std.proofs.Math.Seq.{get_or-append_seam}
 use Rattle.std.proofs.lemmas.List.Elements.{Contains-append_left, All-push}
 use Rattle.std.proofs.Common.{length-append}
 use Rattle.mau_strat.specs.declared.walk.Open.{Open}

@@ -1,5 +1,5 @@
 -- The last open entry of a run is put in its place, further on.
-use Rattle.std.proofs.Common.{◌≡◌, ℕ, ◌-◌, List, [], ◌∷◌, ◌++◌, length, set, refl, sym, ◌∙◌, ap, ap₂, arith, length-append, append_assoc}
+use Rattle.std.proofs.Common.{◌≡◌, ℕ, ◌-◌, List, [], ◌∷◌, ◌++◌, length, set, sym, ◌∙◌, ap, ap₂, arith, length-append, append_assoc}
 use Rattle.std.proofs.Math.Seq.{set-append_seam}
 
 module _ {A : Type 0} (stack before : List A) (o x : A) (e : stack ≡ before ++ o ∷ []) where

@@ -1,5 +1,5 @@
 -- What a step of a run keeps.
-use Rattle.std.proofs.Common.{◌≡◌, ℕ, zero, suc, ◌+◌, ◌-◌, ◌<◌, ◌≤◌, List, [], ◌∷◌, ◌++◌, length, take, get_or, slice_get, All, Contains, Result, Ok, Err, Option, Some, None, IfOk, IfErr, OnOk, MatchOption, inl, inr, refl, sym, ◌∙◌, ap, subst, ◌⊎◌, arith, length-append, append-nil}
+use Rattle.std.proofs.Common.{◌≡◌, ℕ, zero, suc, ◌+◌, ◌-◌, ◌<◌, ◌≤◌, List, [], ◌∷◌, ◌++◌, length, take, get_or, slice_get, All, Contains, Option, Some, None, MatchOption, refl, sym, ◌∙◌, ap, subst, arith, length-append, append-nil}
 use Rattle.std.proofs.lemmas.List.Elements.{Contains-push, All-nil}
 use Rattle.std.proofs.lemmas.List.{get_or_append_left}
 use Rattle.std.proofs.Math.Seq.{get_or-append_seam}
@@ -7,9 +7,9 @@ use Rattle.mau_strat.specs.declared.walk.Open.{Open}
 use Rattle.mau_strat.specs.declared.walk.Went.{Went}
 use Rattle.mau_strat.specs.declared.walk.Went.TheVariants.{Done, Again, Entered}
 use Rattle.mau_strat.specs.Steps.{EnterIs, TurnIs}
-use Rattle.mau_evaluation.specs.Reach.{At, IsClosedAt, ClosedBehind, IsClosed, IsNextEntry, IsAsked, Reached, begun, entered}
+use Rattle.mau_evaluation.specs.Reach.{ClosedBehind, IsClosed, IsNextEntry, IsAsked, Reached, begun, entered}
 use Rattle.mau_strat.specs.Walks.{IsGiven, ClosedFrom, AreOpen, AreParents, no_parents, one_more, IsRun}
-use Rattle.mau_strat.proofs.Opens.{at_index, closed_grows, given_grows, from_grows, open_grows, reached_kept, entry_kept, parents_kept, open_last, open_push, open_close, behind_from, closed_all, given_next, all_more, length_more}
+use Rattle.mau_strat.proofs.Opens.{at_index, from_grows, open_grows, reached_kept, parents_kept, open_last, open_push, open_close, behind_from, closed_all, given_next, all_more, length_more}
 
 abbrev pub Lists : Type 1
 Lists = ℕ → List ℕ → Type 0

@@ -1,7 +1,6 @@
 -- The way to an entry: each is a successor of the one from which it was entered.
-use Rattle.std.proofs.Common.{◌≡◌, ℕ, zero, suc, ◌+◌, ◌-◌, ◌<◌, ◌≤◌, List, [], ◌∷◌, ◌++◌, length, drop, get_or, slice_get, Some, inl, inr, refl, sym, ◌∙◌, ap, ap₂, subst, ◌⊎◌, arith, length-append}
+use Rattle.std.proofs.Common.{◌≡◌, ℕ, zero, suc, ◌+◌, ◌-◌, ◌<◌, ◌≤◌, List, [], ◌∷◌, ◌++◌, length, get_or, slice_get, Some, inl, inr, refl, sym, ◌∙◌, ap, ap₂, subst, ◌⊎◌, arith, length-append}
 use Rattle.std.proofs.lemmas.List.{get_or_append_left, get_or_default}
-use Rattle.std.proofs.lemmas.Option.{slice_get_within}
 use Rattle.std.proofs.Math.Seq.{get_or-append_seam}
 use Rattle.mau_evaluation.specs.Reach.{IsNextEntry}
 use Rattle.mau_strat.specs.Traces.{IsWay, arrived, goes_on}

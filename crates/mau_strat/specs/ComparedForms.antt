@@ -1,11 +1,10 @@
 -- The derived `==` of forms says whether two are one.
-use Rattle.std.specs.Prelude.{◌≡◌, ℕ, Bool, true, ◌&&◌}
+use Rattle.std.specs.Prelude.{◌≡◌, ℕ, true, ◌&&◌}
 use Rattle.std.specs.Bool.{Decides}
-use Rattle.std.proofs.Common.{eqb, refl, ap, ap₂, sym, ◌∙◌, subst, false}
+use Rattle.std.proofs.Common.{eqb, refl, ap, ap₂}
 use Rattle.std.specs.Cmp.Derive.{both_true}
 use Rattle.std.proofs.lemmas.Bool.Decides.{Decides-eqb}
 use Rattle.mau_strat.specs.declared.configs.StrategyId.{StrategyId}
-use Rattle.mau_strat.specs.declared.forms.LeafId.{LeafId}
 use Rattle.mau_strat.specs.declared.forms.Form.{Form}
 use Rattle.mau_strat.specs.declared.forms.Form.TheVariants.{Leaf, Idle, Fail, All, Top, Star, Plus, Normal, Then, Or, OrElse, If, Not, Try, TestOf}
 use Rattle.mau_strat.specs.contracts.forms.FormPartialEq.TheImpl.{eq-value}

@@ -1,5 +1,5 @@
 -- The configurations that numbers stand for, over any store and any strategies: `tree n` is the term with the number n, and `strategy n` the strategy.
-use Rattle.std.specs.Prelude.{◌≡◌, ◌↔◌, ℕ, ◌<◌, List, [], ◌∷◌, map, length, slice_index_or}
+use Rattle.std.specs.Prelude.{◌≡◌, ◌↔◌, ℕ, ◌<◌, List, map, length, slice_index_or}
 use Rattle.mau_terms.specs.Tree.{Tree}
 use Rattle.mau_terms.specs.Subst.{Variable}
 use Rattle.mau_evaluation.specs.Evaluation.{Binding}

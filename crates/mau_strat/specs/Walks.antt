@@ -1,5 +1,5 @@
 -- A run depth first over any successors: its state, and what it answers. `begins s e` and `next s e` are the first and all successors of e.
-use Rattle.std.specs.Prelude.{◌≡◌, ℕ, zero, suc, ◌<◌, ◌≤◌, List, [], ◌∷◌, ◌++◌, length, All, Contains, Bool, true, false, Option, Some, None, Result, Ok, Err, slice_index}
+use Rattle.std.specs.Prelude.{◌≡◌, ℕ, suc, ◌<◌, ◌≤◌, List, [], ◌∷◌, ◌++◌, length, All, Contains, Bool, true, false, Option, Some, None, Result, Ok, Err, slice_index}
 use Rattle.mau_strat.specs.declared.walk.Open.{Open}
 use Rattle.mau_strat.specs.declared.walk.WalkEnd.{WalkEnd}
 use Rattle.mau_strat.specs.declared.walk.WalkEnd.TheVariants.{TooMany, Ended, NoMemory}

@@ -1,9 +1,8 @@
 -- The way of a run to a solution, by the configurations that its numbers stand for.
-use Rattle.std.proofs.Common.{◌≡◌, ℕ, ◌+◌, ◌<◌, List, [], ◌∷◌, ◌++◌, length, map, take, slice_get, get_or, All, Some, true, refl, ap, ap₂, sym, ◌∙◌, subst, arith}
+use Rattle.std.proofs.Common.{◌≡◌, ℕ, ◌+◌, ◌<◌, List, [], ◌∷◌, ◌++◌, length, map, take, get_or, All, true, ap, ap₂, sym, ◌∙◌, subst}
 use Rattle.std.proofs.lemmas.List.{map-append, take_more}
 use Rattle.std.proofs.lemmas.List.Elements.{All-nil, All-cons, All-head, All-tail}
-use Rattle.mau_terms.specs.declared.ids.TermId.{TermId}
-use Rattle.mau_evaluation.specs.Configs.{Config, on}
+use Rattle.mau_evaluation.specs.Configs.{on}
 use Rattle.mau_strat.specs.declared.configs.Config.{Config as StoredConfig}
 use Rattle.mau_strat.specs.Walks.{IsPath, IsWayTo}
 use Rattle.mau_stratrun.specs.Yields.{BeginsBy}

@@ -65,7 +65,7 @@ contains_more xs ys c k = (k.0, omega (arith, k.1, length-append xs ys), get_or_
 
 module _ (s : State) (h : IsState s) (seen : List ℕ) (l : IsListed s seen) where
   module _ (r : Reached (begins_in s) (next_in s) (get_or seen 0 0) seen) where
-    runs_to : (t : Tree) (d : Todo) → Began s seen t d → RunsTo s.setting.fixed.program (engine_of s.setting.fixed.program) s.setting.fixed.definitions t d (map (config_in s) seen)
+    pub runs_to : (t : Tree) (d : Todo) → Began s seen t d → RunsTo s.setting.fixed.program (engine_of s.setting.fixed.program) s.setting.fixed.definitions t d (map (config_in s) seen)
     runs_to t d b = subst (λ c. Reached (BeginsBy s.setting.fixed) (NextBy s.setting.fixed) c (map (config_in s) seen)) b (reached s h (get_or seen 0 0) seen l.configs r)
 
     pub solved : (n : ℕ) (c : StoredConfig) → Contains seen n → config_in s n ≡ made_in s c → is_solution (config_in s n) ≡ true → IsSolutionOf s seen c.term.0
@@ -87,6 +87,12 @@ module _ (s : State) (h : IsState s) (seen : List ℕ) (l : IsListed s seen) whe
 
     pub whole_run : IsClosed (begins_in s) (next_in s) seen → IsWhole s seen
     whole_run c t d b = ended_runs_are_whole s.setting.fixed.program (engine_of s.setting.fixed.program) s.setting.fixed.definitions h.fixed.asks t d (map (config_in s) seen) (runs_to t d b) (all_closed s h seen c)
+
+  -- what is given is a solution, and nothing else
+  pub given_is : (n : ℕ) (c : StoredConfig) → config_in s n ≡ made_in s c → is_solution (config_in s n) ≡ true → config_in s n ≡ on (s.setting.tree c.term.0) [] []
+  given_is n c same e =
+      let k = made_in s c in
+      same ∙ solution_on (s.setting.tree c.term.0) k.todo k.frames (ap is_solution (sym same) ∙ e)
 
   caused : (e : LeafEnd) → ((j : ℕ) × (x : ℕ) × (given : List ℕ) × IsAsked (begins_in s) (next_in s) seen j x given × IsEnd s.setting.fixed (config_in s x) (map (config_in s) given) e) → IsCaused s seen e
   caused e k = (k.0, config_in s k.1, map (config_in s) k.2, asked s h seen k.0 k.1 k.2 k.3, k.4)

@@ -1,12 +1,12 @@
 -- A run of a strategy: what holds of it, and what it answers.
-use Rattle.std.specs.Prelude.{◌≡◌, ◌⊎◌, ℕ, ◌≤◌, List, [], ◌∷◌, ◌++◌, length, map, slice_index, All, Contains, Option, Some, None, Result, Ok, Err}
+use Rattle.std.specs.Prelude.{◌≡◌, ◌⊎◌, ℕ, ◌≤◌, List, [], ◌∷◌, ◌++◌, length, map, slice_index, All, Contains, false, Option, Some, None, Result, Ok, Err}
 use Rattle.mau_terms.specs.Tree.{Tree}
 use Rattle.mau_terms.specs.declared.ids.TermId.{TermId}
 use Rattle.mau_evaluation.specs.Engine.{engine_of}
 use Rattle.mau_evaluation.specs.Strategy.{Strategy}
 use Rattle.mau_evaluation.specs.Satisfies.{Sat, Cut}
 use Rattle.mau_evaluation.specs.Configs.{Todo, Config, on}
-use Rattle.mau_evaluation.specs.Reach.{IsNextEntry, IsAsked}
+use Rattle.mau_evaluation.specs.Reach.{IsClosed, IsNextEntry, IsAsked}
 use Rattle.mau_evaluation.specs.Eventually.{Eventually}
 use Rattle.mau_strat.specs.declared.configs.StrategyId.{StrategyId}
 use Rattle.mau_strat.specs.declared.walk.Open.{Open}
@@ -24,7 +24,7 @@ use Rattle.mau_stratrun.specs.Settings.{Fixed}
 use Rattle.mau_stratrun.specs.Yields.{BeginsBy, NextBy, IsEnd}
 use Rattle.mau_stratrun.specs.Worlds.{World}
 use Rattle.mau_stratrun.specs.States.{State, config_in, IsConfig, begins_in, next_in}
-use Rattle.mau_stratrun.specs.Courses.{state_in, IsCourse, IsListed}
+use Rattle.mau_stratrun.specs.Courses.{state_in, IsCourse, IsListed, is_solution}
 
 -- what is kept is right, and what is listed is a list that the run reaches
 pub record IsRunning {C : Type 0} (w : World C) (forms : List Form) (bodies : List StrategyId) (i : Interned) (kept : List (Kept C)) (seen parents : List ℕ) (stack : List Open) : Type 0 where
@@ -75,6 +75,17 @@ abbrev pub AddsJust : State → List ℕ → List ℕ → Result (Option TermId)
 AddsJust s old new (Ok (Some n)) = (u : Tree) → Contains (map (config_in s) new) (on u [] []) → Contains (map (config_in s) old) (on u [] []) ⊎ (u ≡ s.setting.tree n.0)
 AddsJust s old new (Ok None) = (u : Tree) → Contains (map (config_in s) new) (on u [] []) → Contains (map (config_in s) old) (on u [] [])
 AddsJust s old new (Err e) = (u : Tree) → Contains (map (config_in s) new) (on u [] []) → Contains (map (config_in s) old) (on u [] [])
+
+-- none of these is a solution
+abbrev pub NoneSolves : State → List ℕ → Type 0
+NoneSolves s more = All (λ n. is_solution (config_in s n) ≡ false) more
+
+-- How the list goes on: by entries that are no solutions, and then by the one with the term that was given. Where there is none, all successors of all entries are
+-- listed.
+abbrev pub GoesOn : State → List ℕ → List ℕ → Result (Option TermId) LeafEnd → Type 0
+GoesOn s old new (Ok (Some n)) = (more : List ℕ) × (c : ℕ) × (new ≡ (old ++ more) ++ c ∷ []) × NoneSolves s more × (config_in s c ≡ on (s.setting.tree n.0) [] [])
+GoesOn s old new (Ok None) = (more : List ℕ) × (new ≡ old ++ more) × NoneSolves s more × IsClosed (begins_in s) (next_in s) new
+GoesOn s old new (Err e) = (more : List ℕ) × (new ≡ old ++ more) × NoneSolves s more
 
 -- each term that satisfies it is the term of a solution that is listed, and it is not cut, for all limits from some on
 abbrev pub IsWhole : State → List ℕ → Type 0

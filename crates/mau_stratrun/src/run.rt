@@ -4,7 +4,8 @@ ghost use Rattle.mau_strat.specs.Forms.{LeafIn};
 ghost use Rattle.mau_stratrun.specs.States.{IsConfig, config_in};
 ghost use Rattle.mau_stratrun.specs.Courses.{state_in, HasBodies};
 ghost use Rattle.mau_strat.specs.Interned.{nothing};
-ghost use Rattle.mau_stratrun.specs.Runs.{IsRunning, Began, begun_with, IsSolutionOf, IsNew, AddsJust, PathIs, IsWhole, IsRunEnd, IsEndOf};
+ghost use Rattle.mau_strat.specs.Steps.{IfOverLimit};
+ghost use Rattle.mau_stratrun.specs.Runs.{IsRunning, Began, begun_with, IsSolutionOf, IsNew, AddsJust, GoesOn, PathIs, IsWhole, IsRunEnd, IsEndOf};
 
 use crate::ahead::{First, enter};
 use crate::course::Course;
@@ -57,8 +58,11 @@ impl<X: Leaves + Drop> StratRun<X> {
         ensures began { IfOk result (λ run. Began (state_in (X.world run.course.leaves) run.course.forms run.course.interner)
             run.walk.listed
             ((X.world leaves).setting.tree term.0) (begun_with (X.world leaves).setting.fixed.leaf forms strategy.0 calls)) }
+        ensures alone { IfOk result (λ run. length run.walk.listed ≡ 1) }
+        ensures leaves { IfOk result (λ run. run.course.leaves ≡ leaves) }
         ensures way { IfOk result (λ run. run.walk.trace.way ≡ []) }
         ensures limit { IfOk result (λ run. run.limit ≡ limit) }
+        ensures over_limit { IfErr result (λ e. IfOverLimit e (limit ≡ 0)) }
     {
         let _ = forms.len();
         let mut interner = Interner::new(alloc);
@@ -107,12 +111,15 @@ impl<X: Leaves + Drop> StratRun<X> {
         ensures run { IsRunning (X.world self.new.course.leaves) self.new.course.forms self.new.course.bodies.items
             self.new.course.interner self.new.course.kept.items
             self.new.walk.listed self.new.walk.trace.parents self.new.walk.stack.items }
+        ensures term { IfOk result (λ o. IfSome o (λ id. (X.world self.new.course.leaves).is_term id.0)) }
         ensures satisfies { IfOk result (λ o. IfSome o (λ id.
             IsSolutionOf (state_in (X.world self.new.course.leaves) self.new.course.forms self.new.course.interner)
             self.new.walk.listed id.0)) }
         ensures once { IfOk result (λ o. IfSome o (λ id.
             IsNew (state_in (X.world self.new.course.leaves) self.new.course.forms self.new.course.interner) self.old.walk.listed id.0)) }
         ensures adds { AddsJust (state_in (X.world self.new.course.leaves) self.new.course.forms self.new.course.interner)
+            self.old.walk.listed self.new.walk.listed result }
+        ensures goes_on { GoesOn (state_in (X.world self.new.course.leaves) self.new.course.forms self.new.course.interner)
             self.old.walk.listed self.new.walk.listed result }
         ensures path { PathIs (state_in (X.world self.new.course.leaves) self.new.course.forms self.new.course.interner)
             self.new.walk.listed self.new.walk.trace.parents self.new.walk.trace.way result }

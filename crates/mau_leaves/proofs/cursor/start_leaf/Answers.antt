@@ -8,7 +8,7 @@ use Rattle.mau_evaluation.specs.Strategy.{test}
 use Rattle.mau_evaluation.specs.OrderedLists.{IsLeaf}
 use Rattle.mau_api.specs.Programs.{fragment_of}
 use Rattle.mau_stratrun.specs.Worlds.{values_of}
-use Rattle.mau_leaves.specs.Meanings.{kind_of, meaning_of}
+use Rattle.mau_stratforms.specs.Meanings.{kind_of, meaning_of}
 use Rattle.mau_leaves.specs.Tests.{IsBegunTest}
 use Rattle.mau_leaves.specs.Cursors.{leaf_at, call_in}
 use Rattle.mau_leaves.specs.declared.testing.TestCursor.{TestCursor}

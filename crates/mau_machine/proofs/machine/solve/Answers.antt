@@ -1,9 +1,10 @@
 use Rattle.std.proofs.Common.{◌≡◌, ℕ, ◌+◌, ◌≤◌, Option, Some, None, [], length, refl, sym, ◌∙◌, ap, subst, arith, take, length-append}
+use Rattle.std.specs.Option.{option_map}
 use Rattle.std.proofs.Math.Seq.{take-append_seam}
 use Rattle.mau_machine.specs.Telling.{solving, IsTelling}
 use Rattle.mau_evaluation.specs.Run.{Outcome, done, counted_if}
 use Rattle.mau_evaluation.specs.Evaluation.{Binding}
-use Rattle.mau_machine.specs.Words.{solve_on, IsSolution}
+use Rattle.mau_machine.specs.Words.{solve_from, IsSolution}
 use Rattle.mau_machine.specs.Machine.{held, failed, as_answer, comes, task_in, whole}
 use Rattle.mau_machine.specs.Steps.{AreAnswered}
 use Rattle.mau_machine.specs.Known.{answer_to, HoldsIn}
@@ -18,18 +19,18 @@ use Rattle.mau_machine.proofs.machine.solve.Goals as goal
 pub run-requires-clause-held : goal.run-requires-clause-held
 run-requires-clause-held g c =
     let w = (g.W.World.words c.args.world.now c.args.store.now) in
-    let s : Condition g.row.W-Binding.Denot = record { level = c.args.level; condition = c.args.condition; at = 0; binding = c.args.binding } in
-    (answer_to c.args.condition, held_first w (answer_to c.args.condition) c.new-machine.result.frames.items (Next.Solve s) c.new-machine.ensures.frames c.requires.binding refl)
+    let s : Condition g.row.W-Binding.Denot = record { level = c.args.level; condition = c.args.condition; at = 0; binding = c.args.binding; behind = c.args.behind } in
+    (answer_to c.args.condition, held_first w (answer_to c.args.condition) c.new-machine.result.frames.items (Next.Solve s) c.new-machine.ensures.frames (c.requires.binding, c.requires.behind) refl)
 
 pub returns-in-Ok-Held-clause-some : goal.returns-in-Ok-Held-clause-some
 returns-in-Ok-Held-clause-some g c =
     let w = (g.W.World.words c.args.world.now c.args.store.now) in
     let w' = (g.W.World.words c.run.new.world c.run.new.store) in
-    let s : Condition g.row.W-Binding.Denot = record { level = c.args.level; condition = c.args.condition; at = 0; binding = c.args.binding } in
+    let s : Condition g.row.W-Binding.Denot = record { level = c.args.level; condition = c.args.condition; at = 0; binding = c.args.binding; behind = c.args.behind } in
     let t = Next.Solve s in
     let fs = c.new-machine.result.frames.items in
     let b = c.args.budget.now in
-    let f : ℕ → Outcome (Option Binding) = λ n. solve_on w.rules (c.args.level + n) c.args.condition 0 (w.bound c.args.binding) b in
+    let f : ℕ → Outcome (Option Binding) = λ n. solve_from w.rules (option_map (λ x. w.bound x.value) c.args.behind) (c.args.level + n) c.args.condition 0 (w.bound c.args.binding) b in
     solution_comes w.rules.program f (w'.bound c.in-Ok-Held.solution) c.run.new.machine.rewrites c.run.new.budget c.in-Ok-Held.ensures.small
     (follows_as w.rules.program (λ n. whole w n fs t c.new-machine.result.rewrites b) _ (λ n. as_answer (counted_if 0 (f n))) (λ n. done (held (w'.bound c.in-Ok-Held.solution)) c.run.new.machine.rewrites c.run.new.budget)
     (λ n. start_is w fs t c.new-machine.result.rewrites b c.new-machine.ensures.frames c.new-machine.ensures.rewrites n) (λ n. ap (λ z. comes w'.rules (task_in w' n z) c.run.new.machine.rewrites c.run.new.budget) (sym c.in-Ok-Held.field-0-is)) c.in-Ok-Held.ensures.goes)
@@ -38,37 +39,37 @@ pub returns-in-Ok-Held-clause-falls : goal.returns-in-Ok-Held-clause-falls
 returns-in-Ok-Held-clause-falls g c =
     let w = (g.W.World.words c.args.world.now c.args.store.now) in
     let w' = (g.W.World.words c.run.new.world c.run.new.store) in
-    let s : Condition g.row.W-Binding.Denot = record { level = c.args.level; condition = c.args.condition; at = 0; binding = c.args.binding } in
+    let s : Condition g.row.W-Binding.Denot = record { level = c.args.level; condition = c.args.condition; at = 0; binding = c.args.binding; behind = c.args.behind } in
     let t = Next.Solve s in
     let fs = c.new-machine.result.frames.items in
     let b = c.args.budget.now in
-    let f : ℕ → Outcome (Option Binding) = λ n. solve_on w.rules (c.args.level + n) c.args.condition 0 (w.bound c.args.binding) b in
+    let f : ℕ → Outcome (Option Binding) = λ n. solve_from w.rules (option_map (λ x. w.bound x.value) c.args.behind) (c.args.level + n) c.args.condition 0 (w.bound c.args.binding) b in
     comes_lower w.rules.program f (Some (w'.bound c.in-Ok-Held.solution)) c.run.new.machine.rewrites c.run.new.budget b
     (solution_comes w.rules.program f (w'.bound c.in-Ok-Held.solution) c.run.new.machine.rewrites c.run.new.budget c.in-Ok-Held.ensures.small
     (follows_as w.rules.program (λ n. whole w n fs t c.new-machine.result.rewrites b) _ (λ n. as_answer (counted_if 0 (f n))) (λ n. done (held (w'.bound c.in-Ok-Held.solution)) c.run.new.machine.rewrites c.run.new.budget)
     (λ n. start_is w fs t c.new-machine.result.rewrites b c.new-machine.ensures.frames c.new-machine.ensures.rewrites n) (λ n. ap (λ z. comes w'.rules (task_in w' n z) c.run.new.machine.rewrites c.run.new.budget) (sym c.in-Ok-Held.field-0-is)) c.in-Ok-Held.ensures.goes))
-    (λ n. solutions_fall w.rules c.args.level c.args.condition 0 (w.bound c.args.binding) b n)
+    (λ n. solutions_fall w.rules (option_map (λ x. w.bound x.value) c.args.behind) c.args.level c.args.condition 0 (w.bound c.args.binding) b n)
 
 pub returns-in-Ok-Held-clause-known : goal.returns-in-Ok-Held-clause-known
 returns-in-Ok-Held-clause-known g c =
     let w = (g.W.World.words c.args.world.now c.args.store.now) in
     let w' = (g.W.World.words c.run.new.world c.run.new.store) in
-    let s : Condition g.row.W-Binding.Denot = record { level = c.args.level; condition = c.args.condition; at = 0; binding = c.args.binding } in
+    let s : Condition g.row.W-Binding.Denot = record { level = c.args.level; condition = c.args.condition; at = 0; binding = c.args.binding; behind = c.args.behind } in
     let t = Next.Solve s in
     let fs = c.new-machine.result.frames.items in
     let H = subst (λ z. HoldsIn w' (answer_to c.args.condition) [] z) c.in-Ok-Held.field-0-is
-    (c.in-Ok-Held.ensures.known (answer_to c.args.condition) (held_first w (answer_to c.args.condition) fs t c.new-machine.ensures.frames c.requires.binding refl)) in
+    (c.in-Ok-Held.ensures.known (answer_to c.args.condition) (held_first w (answer_to c.args.condition) fs t c.new-machine.ensures.frames (c.requires.binding, c.requires.behind) refl)) in
     subst (λ e. IsSolution w' e c.in-Ok-Held.solution) H.chained H.next
 
 pub returns-in-Ok-Failed-clause-none : goal.returns-in-Ok-Failed-clause-none
 returns-in-Ok-Failed-clause-none g c =
     let w = (g.W.World.words c.args.world.now c.args.store.now) in
     let w' = (g.W.World.words c.run.new.world c.run.new.store) in
-    let s : Condition g.row.W-Binding.Denot = record { level = c.args.level; condition = c.args.condition; at = 0; binding = c.args.binding } in
+    let s : Condition g.row.W-Binding.Denot = record { level = c.args.level; condition = c.args.condition; at = 0; binding = c.args.binding; behind = c.args.behind } in
     let t = Next.Solve s in
     let fs = c.new-machine.result.frames.items in
     let b = c.args.budget.now in
-    let f : ℕ → Outcome (Option Binding) = λ n. solve_on w.rules (c.args.level + n) c.args.condition 0 (w.bound c.args.binding) b in
+    let f : ℕ → Outcome (Option Binding) = λ n. solve_from w.rules (option_map (λ x. w.bound x.value) c.args.behind) (c.args.level + n) c.args.condition 0 (w.bound c.args.binding) b in
     none_comes w.rules.program f c.run.new.budget
     (follows_as w.rules.program (λ n. whole w n fs t c.new-machine.result.rewrites b) _ (λ n. as_answer (counted_if 0 (f n))) (λ n. done failed 0 c.run.new.budget)
     (λ n. start_is w fs t c.new-machine.result.rewrites b c.new-machine.ensures.frames c.new-machine.ensures.rewrites n) (λ n. ap (λ z. comes w'.rules (task_in w' n z) c.run.new.machine.rewrites c.run.new.budget) (sym c.in-Ok-Failed.field-0-is)) c.in-Ok-Failed.ensures.goes)
@@ -77,25 +78,25 @@ pub returns-in-Ok-Failed-clause-falls : goal.returns-in-Ok-Failed-clause-falls
 returns-in-Ok-Failed-clause-falls g c =
     let w = (g.W.World.words c.args.world.now c.args.store.now) in
     let w' = (g.W.World.words c.run.new.world c.run.new.store) in
-    let s : Condition g.row.W-Binding.Denot = record { level = c.args.level; condition = c.args.condition; at = 0; binding = c.args.binding } in
+    let s : Condition g.row.W-Binding.Denot = record { level = c.args.level; condition = c.args.condition; at = 0; binding = c.args.binding; behind = c.args.behind } in
     let t = Next.Solve s in
     let fs = c.new-machine.result.frames.items in
     let b = c.args.budget.now in
-    let f : ℕ → Outcome (Option Binding) = λ n. solve_on w.rules (c.args.level + n) c.args.condition 0 (w.bound c.args.binding) b in
+    let f : ℕ → Outcome (Option Binding) = λ n. solve_from w.rules (option_map (λ x. w.bound x.value) c.args.behind) (c.args.level + n) c.args.condition 0 (w.bound c.args.binding) b in
     comes_lower w.rules.program (λ n. counted_if 0 (f n)) None 0 c.run.new.budget b
     (none_comes w.rules.program f c.run.new.budget
     (follows_as w.rules.program (λ n. whole w n fs t c.new-machine.result.rewrites b) _ (λ n. as_answer (counted_if 0 (f n))) (λ n. done failed 0 c.run.new.budget)
     (λ n. start_is w fs t c.new-machine.result.rewrites b c.new-machine.ensures.frames c.new-machine.ensures.rewrites n) (λ n. ap (λ z. comes w'.rules (task_in w' n z) c.run.new.machine.rewrites c.run.new.budget) (sym c.in-Ok-Failed.field-0-is)) c.in-Ok-Failed.ensures.goes))
-    (λ n. uncounted_falls b (f n) (solutions_fall w.rules c.args.level c.args.condition 0 (w.bound c.args.binding) b n))
+    (λ n. uncounted_falls b (f n) (solutions_fall w.rules (option_map (λ x. w.bound x.value) c.args.behind) c.args.level c.args.condition 0 (w.bound c.args.binding) b n))
 
 pub returns-clause-ends : goal.returns-clause-ends
 returns-clause-ends g c =
     let w = (g.W.World.words c.args.world.now c.args.store.now) in
-    let s : Condition g.row.W-Binding.Denot = record { level = c.args.level; condition = c.args.condition; at = 0; binding = c.args.binding } in
+    let s : Condition g.row.W-Binding.Denot = record { level = c.args.level; condition = c.args.condition; at = 0; binding = c.args.binding; behind = c.args.behind } in
     let t = Next.Solve s in
     let fs = c.new-machine.result.frames.items in
     let b = c.args.budget.now in
-    let f : ℕ → Outcome (Option Binding) = λ n. solve_on w.rules (c.args.level + n) c.args.condition 0 (w.bound c.args.binding) b in
+    let f : ℕ → Outcome (Option Binding) = λ n. solve_from w.rules (option_map (λ x. w.bound x.value) c.args.behind) (c.args.level + n) c.args.condition 0 (w.bound c.args.binding) b in
     answer_comes_to_end w.rules.program f c.in-Err.end
     (ends_on w.rules.program (λ n. whole w n fs t c.new-machine.result.rewrites b) (λ n. as_answer (counted_if 0 (f n))) c.in-Err.end
     (λ n d q. start_is w fs t c.new-machine.result.rewrites b c.new-machine.ensures.frames c.new-machine.ensures.rewrites n ∙ q) c.in-Err.ensures.ends)
@@ -103,13 +104,13 @@ returns-clause-ends g c =
 pub run-requires-clause-answered : goal.run-requires-clause-answered
 run-requires-clause-answered g c =
     let w = (g.W.World.words c.args.world.now c.args.store.now) in
-    let s : Condition g.row.W-Binding.Denot = record { level = c.args.level; condition = c.args.condition; at = 0; binding = c.args.binding } in
+    let s : Condition g.row.W-Binding.Denot = record { level = c.args.level; condition = c.args.condition; at = 0; binding = c.args.binding; behind = c.args.behind } in
     subst (λ fs. AreAnswered w fs (Next.Solve s) c.new-machine.result.rewrites c.args.budget.now) (sym c.new-machine.ensures.frames) tt
 
 pub run-requires-clause-told : goal.run-requires-clause-told
 run-requires-clause-told g c =
     let w = (g.W.World.words c.args.world.now c.args.store.now) in
-    let s : Condition g.row.W-Binding.Denot = record { level = c.args.level; condition = c.args.condition; at = 0; binding = c.args.binding } in
+    let s : Condition g.row.W-Binding.Denot = record { level = c.args.level; condition = c.args.condition; at = 0; binding = c.args.binding; behind = c.args.behind } in
     λ wants. (
       (g.T.StepWatcher.told c.args.watcher.now),
       solving c.args.condition 0 (w.bound c.args.binding),
@@ -121,13 +122,13 @@ pub returns-in-Ok-Held-clause-told : goal.returns-in-Ok-Held-clause-told
 returns-in-Ok-Held-clause-told g c =
     let w = (g.W.World.words c.args.world.now c.args.store.now) in
     let w' = (g.W.World.words c.run.new.world c.run.new.store) in
-    let s : Condition g.row.W-Binding.Denot = record { level = c.args.level; condition = c.args.condition; at = 0; binding = c.args.binding } in
+    let s : Condition g.row.W-Binding.Denot = record { level = c.args.level; condition = c.args.condition; at = 0; binding = c.args.binding; behind = c.args.behind } in
     let t = Next.Solve s in
     let fs = c.new-machine.result.frames.items in
     let J = solving c.args.condition 0 (w.bound c.args.binding) in
     let begun = telling_starts w c.args.store.now (g.W.World.table c.args.world.now) J fs t c.new-machine.result.rewrites (g.T.StepWatcher.told c.args.watcher.now) c.new-machine.ensures.frames c.new-machine.ensures.rewrites
     (refl, same_extends (w.bound c.args.binding), none_shown w.rules c.args.store.now (g.W.World.table c.args.world.now) c.args.condition 0 (w.bound c.args.binding)) refl in
-    let H = held_first w (answer_to c.args.condition) fs t c.new-machine.ensures.frames c.requires.binding refl in
+    let H = held_first w (answer_to c.args.condition) fs t c.new-machine.ensures.frames (c.requires.binding, c.requires.behind) refl in
     λ wants. let L = subst (λ z. IsTelling w' c.run.new.store (g.W.World.table c.run.new.world) (g.T.StepWatcher.told c.args.watcher.now) J [] z c.run.new.machine.rewrites (g.T.StepWatcher.told c.run.new.watcher)) c.in-Ok-Held.field-0-is
     (c.in-Ok-Held.ensures.told wants (g.T.StepWatcher.told c.args.watcher.now) J (answer_to c.args.condition) H begun) in
     let q = L.tells.0.2 (w'.bound c.in-Ok-Held.solution) (same_extends (w'.bound c.in-Ok-Held.solution)) in
@@ -137,26 +138,26 @@ pub returns-in-Ok-Held-clause-before : goal.returns-in-Ok-Held-clause-before
 returns-in-Ok-Held-clause-before g c =
     let w = (g.W.World.words c.args.world.now c.args.store.now) in
     let w' = (g.W.World.words c.run.new.world c.run.new.store) in
-    let s : Condition g.row.W-Binding.Denot = record { level = c.args.level; condition = c.args.condition; at = 0; binding = c.args.binding } in
+    let s : Condition g.row.W-Binding.Denot = record { level = c.args.level; condition = c.args.condition; at = 0; binding = c.args.binding; behind = c.args.behind } in
     let t = Next.Solve s in
     let fs = c.new-machine.result.frames.items in
     let J = solving c.args.condition 0 (w.bound c.args.binding) in
     let begun = telling_starts w c.args.store.now (g.W.World.table c.args.world.now) J fs t c.new-machine.result.rewrites (g.T.StepWatcher.told c.args.watcher.now) c.new-machine.ensures.frames c.new-machine.ensures.rewrites
     (refl, same_extends (w.bound c.args.binding), none_shown w.rules c.args.store.now (g.W.World.table c.args.world.now) c.args.condition 0 (w.bound c.args.binding)) refl in
-    let H = held_first w (answer_to c.args.condition) fs t c.new-machine.ensures.frames c.requires.binding refl in
+    let H = held_first w (answer_to c.args.condition) fs t c.new-machine.ensures.frames (c.requires.binding, c.requires.behind) refl in
     λ wants. c.in-Ok-Held.ensures.front wants (g.T.StepWatcher.told c.args.watcher.now) J begun
 
 pub back-requires : goal.back-requires
 back-requires g c =
     let w = (g.W.World.words c.args.world.now c.args.store.now) in
     let w' = (g.W.World.words c.run.new.world c.run.new.store) in
-    let s : Condition g.row.W-Binding.Denot = record { level = c.args.level; condition = c.args.condition; at = 0; binding = c.args.binding } in
+    let s : Condition g.row.W-Binding.Denot = record { level = c.args.level; condition = c.args.condition; at = 0; binding = c.args.binding; behind = c.args.behind } in
     let t = Next.Solve s in
     let fs = c.new-machine.result.frames.items in
     let J = solving c.args.condition 0 (w.bound c.args.binding) in
     let begun = telling_starts w c.args.store.now (g.W.World.table c.args.world.now) J fs t c.new-machine.result.rewrites (g.T.StepWatcher.told c.args.watcher.now) c.new-machine.ensures.frames c.new-machine.ensures.rewrites
     (refl, same_extends (w.bound c.args.binding), none_shown w.rules c.args.store.now (g.W.World.table c.args.world.now) c.args.condition 0 (w.bound c.args.binding)) refl in
-    let H = held_first w (answer_to c.args.condition) fs t c.new-machine.ensures.frames c.requires.binding refl in
+    let H = held_first w (answer_to c.args.condition) fs t c.new-machine.ensures.frames (c.requires.binding, c.requires.behind) refl in
     λ q. let wants = sym c.in-Ok-Failed.ensures.watched.0 ∙ q in
     let L = c.in-Ok-Failed.ensures.told wants (g.T.StepWatcher.told c.args.watcher.now) J (answer_to c.args.condition) H begun in
     fits c.mark-mark.result (length (g.T.StepWatcher.told c.args.watcher.now)) (length L.events) (length (g.T.StepWatcher.told c.run.new.watcher)) (c.mark-mark.ensures wants) (ap length L.is ∙ length-append (g.T.StepWatcher.told c.args.watcher.now) L.events)
@@ -168,13 +169,13 @@ pub returns-in-Ok-Failed-clause-untold : goal.returns-in-Ok-Failed-clause-untold
 returns-in-Ok-Failed-clause-untold g c =
     let w = (g.W.World.words c.args.world.now c.args.store.now) in
     let w' = (g.W.World.words c.run.new.world c.run.new.store) in
-    let s : Condition g.row.W-Binding.Denot = record { level = c.args.level; condition = c.args.condition; at = 0; binding = c.args.binding } in
+    let s : Condition g.row.W-Binding.Denot = record { level = c.args.level; condition = c.args.condition; at = 0; binding = c.args.binding; behind = c.args.behind } in
     let t = Next.Solve s in
     let fs = c.new-machine.result.frames.items in
     let J = solving c.args.condition 0 (w.bound c.args.binding) in
     let begun = telling_starts w c.args.store.now (g.W.World.table c.args.world.now) J fs t c.new-machine.result.rewrites (g.T.StepWatcher.told c.args.watcher.now) c.new-machine.ensures.frames c.new-machine.ensures.rewrites
     (refl, same_extends (w.bound c.args.binding), none_shown w.rules c.args.store.now (g.W.World.table c.args.world.now) c.args.condition 0 (w.bound c.args.binding)) refl in
-    let H = held_first w (answer_to c.args.condition) fs t c.new-machine.ensures.frames c.requires.binding refl in
+    let H = held_first w (answer_to c.args.condition) fs t c.new-machine.ensures.frames (c.requires.binding, c.requires.behind) refl in
     λ wants.
     let L = c.in-Ok-Failed.ensures.told wants (g.T.StepWatcher.told c.args.watcher.now) J (answer_to c.args.condition) H begun in
     c.back.ensures.told (c.in-Ok-Failed.ensures.watched.0 ∙ wants) ∙ (ap (λ n. take n (g.T.StepWatcher.told c.run.new.watcher)) (c.mark-mark.ensures wants) ∙ (ap (take (length (g.T.StepWatcher.told c.args.watcher.now))) L.is ∙ take-append_seam (g.T.StepWatcher.told c.args.watcher.now) L.events))
@@ -183,13 +184,13 @@ pub returns-in-Ok-Failed-clause-before : goal.returns-in-Ok-Failed-clause-before
 returns-in-Ok-Failed-clause-before g c =
     let w = (g.W.World.words c.args.world.now c.args.store.now) in
     let w' = (g.W.World.words c.run.new.world c.run.new.store) in
-    let s : Condition g.row.W-Binding.Denot = record { level = c.args.level; condition = c.args.condition; at = 0; binding = c.args.binding } in
+    let s : Condition g.row.W-Binding.Denot = record { level = c.args.level; condition = c.args.condition; at = 0; binding = c.args.binding; behind = c.args.behind } in
     let t = Next.Solve s in
     let fs = c.new-machine.result.frames.items in
     let J = solving c.args.condition 0 (w.bound c.args.binding) in
     let begun = telling_starts w c.args.store.now (g.W.World.table c.args.world.now) J fs t c.new-machine.result.rewrites (g.T.StepWatcher.told c.args.watcher.now) c.new-machine.ensures.frames c.new-machine.ensures.rewrites
     (refl, same_extends (w.bound c.args.binding), none_shown w.rules c.args.store.now (g.W.World.table c.args.world.now) c.args.condition 0 (w.bound c.args.binding)) refl in
-    let H = held_first w (answer_to c.args.condition) fs t c.new-machine.ensures.frames c.requires.binding refl in
+    let H = held_first w (answer_to c.args.condition) fs t c.new-machine.ensures.frames (c.requires.binding, c.requires.behind) refl in
     λ wants.
     let L = c.in-Ok-Failed.ensures.told wants (g.T.StepWatcher.told c.args.watcher.now) J (answer_to c.args.condition) H begun in
     no_more (g.T.StepWatcher.told c.args.watcher.now) (g.T.StepWatcher.told c.back.new.watcher) (c.back.ensures.told (c.in-Ok-Failed.ensures.watched.0 ∙ wants) ∙ (ap (λ n. take n (g.T.StepWatcher.told c.run.new.watcher)) (c.mark-mark.ensures wants) ∙ (ap (take (length (g.T.StepWatcher.told c.args.watcher.now))) L.is ∙ take-append_seam (g.T.StepWatcher.told c.args.watcher.now) L.events)))
@@ -198,13 +199,13 @@ pub returns-in-Ok : goal.returns-in-Ok
 returns-in-Ok g c =
     let w = (g.W.World.words c.args.world.now c.args.store.now) in
     let w' = (g.W.World.words c.run.new.world c.run.new.store) in
-    let s : Condition g.row.W-Binding.Denot = record { level = c.args.level; condition = c.args.condition; at = 0; binding = c.args.binding } in
+    let s : Condition g.row.W-Binding.Denot = record { level = c.args.level; condition = c.args.condition; at = 0; binding = c.args.binding; behind = c.args.behind } in
     let t = Next.Solve s in
     let fs = c.new-machine.result.frames.items in
     let J = solving c.args.condition 0 (w.bound c.args.binding) in
     let begun = telling_starts w c.args.store.now (g.W.World.table c.args.world.now) J fs t c.new-machine.result.rewrites (g.T.StepWatcher.told c.args.watcher.now) c.new-machine.ensures.frames c.new-machine.ensures.rewrites
     (refl, same_extends (w.bound c.args.binding), none_shown w.rules c.args.store.now (g.W.World.table c.args.world.now) c.args.condition 0 (w.bound c.args.binding)) refl in
-    let H = held_first w (answer_to c.args.condition) fs t c.new-machine.ensures.frames c.requires.binding refl in
+    let H = held_first w (answer_to c.args.condition) fs t c.new-machine.ensures.frames (c.requires.binding, c.requires.behind) refl in
     record {
       some = tt;
       none = tt;
@@ -223,11 +224,11 @@ pub returns-clause-before : goal.returns-clause-before
 returns-clause-before g c =
     let w = (g.W.World.words c.args.world.now c.args.store.now) in
     let w' = (g.W.World.words c.run.new.world c.run.new.store) in
-    let s : Condition g.row.W-Binding.Denot = record { level = c.args.level; condition = c.args.condition; at = 0; binding = c.args.binding } in
+    let s : Condition g.row.W-Binding.Denot = record { level = c.args.level; condition = c.args.condition; at = 0; binding = c.args.binding; behind = c.args.behind } in
     let t = Next.Solve s in
     let fs = c.new-machine.result.frames.items in
     let J = solving c.args.condition 0 (w.bound c.args.binding) in
     let begun = telling_starts w c.args.store.now (g.W.World.table c.args.world.now) J fs t c.new-machine.result.rewrites (g.T.StepWatcher.told c.args.watcher.now) c.new-machine.ensures.frames c.new-machine.ensures.rewrites
     (refl, same_extends (w.bound c.args.binding), none_shown w.rules c.args.store.now (g.W.World.table c.args.world.now) c.args.condition 0 (w.bound c.args.binding)) refl in
-    let H = held_first w (answer_to c.args.condition) fs t c.new-machine.ensures.frames c.requires.binding refl in
+    let H = held_first w (answer_to c.args.condition) fs t c.new-machine.ensures.frames (c.requires.binding, c.requires.behind) refl in
     λ wants. c.in-Err.ensures.front wants (g.T.StepWatcher.told c.args.watcher.now) J begun

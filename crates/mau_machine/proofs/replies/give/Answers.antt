@@ -5,11 +5,11 @@ use Rattle.mau_terms.specs.Norm.{norm}
 use Rattle.mau_evaluation.proofs.Reduced.{same_tree_true}
 use Rattle.mau_api.specs.declared.step.Place.TheVariants.{Fragment as OfFragment}
 use Rattle.mau_api.specs.Events.{entered, left}
-use Rattle.mau_api.specs.Told.{TellsMore}
+use Rattle.mau_api.specs.Told.{TellsMore, steps_in}
 use Rattle.mau_machine.specs.Telling.{IsSide}
 use Rattle.mau_evaluation.specs.Run.{too_deep, counted, counted_if, gives, where_true}
-use Rattle.mau_machine.specs.Words.{capped, eval_on, sorts_on, solve_on, side_of, HasSideBy}
-use Rattle.mau_machine.specs.Machine.{as_value, as_answer, on_arguments, goes_on, comes, waits_in, task_in}
+use Rattle.mau_machine.specs.Words.{IsUnchosen, capped, eval_on, sorts_on, solve_from, side_of, HasSideBy}
+use Rattle.mau_machine.specs.Machine.{as_value, as_answer, on_arguments, goes_on, comes, last_in, choose_behind, waits_in, task_in}
 use Rattle.mau_machine.specs.Known.{value_of}
 use Rattle.mau_machine.specs.declared.goal.Goal.TheVariants as Goals
 use Rattle.mau_machine.specs.declared.frame.Choosing.{Choosing}
@@ -19,7 +19,7 @@ use Rattle.mau_machine.proofs.Through.{last_is}
 use Rattle.mau_machine.proofs.Following.{exactly, leads_on, ends_on, any_end, ends_popped, went_popped, went_swapped, popped_result}
 use Rattle.mau_machine.proofs.Branches.{put_trees, put_none, second_side, second_side_ends, sorts_tested, sorts_end}
 use Rattle.mau_machine.proofs.Advance.{stays_popped, stays_swapped, argument_given, argument_missing, again_given, left_given, right_given, sorting_given, matching_given, Proceeds, popped_proceeds, more_on, more_by, on_err}
-use Rattle.mau_machine.proofs.Held.{held_popped, held_swapped, last_known, held_later, popped_known, same_state, kind_at_get, asks_on}
+use Rattle.mau_machine.proofs.Held.{held_popped, held_swapped, last_known, held_later, popped_known, same_state, kind_at_get, asks_on, known_last_on}
 use Rattle.mau_machine.proofs.replies.give.Goals as goal
 
 pub returns-then-place-len-clause-goes : goal.returns-then-place-len-clause-goes
@@ -102,7 +102,7 @@ returns-in-Ok-clause-goes g c =
     let t = c.in-Ok.term in
     let q = Waiting.Right x c.args.value in
     λ b. went_swapped w' c.args.machine.now.frames.items c.pop.new.self.items c.begin.new.machine.frames.items f q (Next.Value c.args.value) (Next.Eval x.level t) c.args.machine.now.rewrites c.begin.new.machine.rewrites b b p c.in_ok-begin-in-Ok.ensures.frames tt
-    (exactly w'.rules.program _ _ (λ n. ap capped (second_side w'.rules (x.level + n) x.condition x.at (w'.bound x.binding) (w'.tree c.args.value.0) (w'.tree t.0) c.args.machine.now.rewrites b (c.in-Ok.ensures.value n b))
+    (exactly w'.rules.program _ _ (λ n. ap capped (second_side w'.rules (last_in w' x) (x.level + n) x.condition x.at (w'.bound x.binding) (w'.tree c.args.value.0) (w'.tree t.0) c.args.machine.now.rewrites b (c.in-Ok.ensures.value n b))
     ∙ ap (λ m. capped (goes_on w'.rules (waits_in w' n q) (as_value (counted m (eval_on w'.rules (x.level + n) (w'.tree t.0) b))))) (sym c.in_ok-begin-in-Ok.ensures.rewrites)))
 
 pub returns-in-Ok-clause-known : goal.returns-in-Ok-clause-known
@@ -117,7 +117,7 @@ returns-in-Ok-clause-known g c =
     let q = Waiting.Right x c.args.value in
     λ asked h. let H = held_later w w' k asked c.args.machine.now.frames.items (Next.Value c.args.value) h in
     let L = (last_known w' asked c.args.machine.now.frames.items c.pop.new.self.items (Next.Value c.args.value) f p H).0 in
-    held_swapped w' asked c.args.machine.now.frames.items c.pop.new.self.items c.begin.new.machine.frames.items (Next.Value c.args.value) (Next.Eval x.level t) f q p c.in_ok-begin-in-Ok.ensures.frames H (L.0, L.1, H.next) c.in-Ok.ensures.known refl tt
+    held_swapped w' asked c.args.machine.now.frames.items c.pop.new.self.items c.begin.new.machine.frames.items (Next.Value c.args.value) (Next.Eval x.level t) f q p c.in_ok-begin-in-Ok.ensures.frames H (L.0, L.1, H.next, L.2) c.in-Ok.ensures.known refl tt
 
 pub returns-in-Some-Left-clause-ends : goal.returns-in-Some-Left-clause-ends
 returns-in-Some-Left-clause-ends g c =
@@ -129,7 +129,7 @@ returns-in-Some-Left-clause-ends g c =
     let x = c.in-Some-Left.condition in
     λ b. ends_popped w' c.args.machine.now.frames.items c.pop.new.self.items f (λ n. comes w'.rules (task_in w' n (Next.Value c.args.value)) c.args.machine.now.rewrites b) c.in-Err.end p
     (ends_on w'.rules.program (λ n. eval_on w'.rules (x.level + n) (side_of w'.rules x.condition x.at true (w'.bound x.binding)) b) _ c.in-Err.end
-    (λ n d h. second_side_ends w'.rules (x.level + n) x.condition x.at (w'.bound x.binding) (w'.tree c.args.value.0) c.args.machine.now.rewrites b d h) (c.in-Err.ensures.ends b))
+    (λ n d h. second_side_ends w'.rules (last_in w' x) (x.level + n) x.condition x.at (w'.bound x.binding) (w'.tree c.args.value.0) c.args.machine.now.rewrites b d h) (c.in-Err.ensures.ends b))
 
 pub same-holds-requires-clause-left : goal.same-holds-requires-clause-left
 same-holds-requires-clause-left g c =
@@ -147,6 +147,14 @@ proceed-requires-clause-binding g c =
     let L = last_known w c.requires.held.0 c.args.machine.now.frames.items c.pop.new.self.items (Next.Value c.args.value) f p c.requires.held.1 in
     L.0.0
 
+pub proceed-requires-clause-last : goal.proceed-requires-clause-last
+proceed-requires-clause-last g c =
+    let w = (g.W.World.words c.args.world.now c.args.store.now) in
+    let f = Waiting.Right c.in-Some-Right.condition c.in-Some-Right.left in
+    let p = last_is w c.args.machine.now.frames.items c.pop.new.self.items f _ c.in-Some-Right.ensures.items c.in-Some-Right.field-0-is in
+    let L = last_known w c.requires.held.0 c.args.machine.now.frames.items c.pop.new.self.items (Next.Value c.args.value) f p c.requires.held.1 in
+    L.0.3
+
 pub proceed-requires-clause-passes : goal.proceed-requires-clause-passes
 proceed-requires-clause-passes g c =
     let w = (g.W.World.words c.args.world.now c.args.store.now) in
@@ -161,8 +169,8 @@ returns-in-Some-Right-clause-goes g c =
     let f = Waiting.Right c.in-Some-Right.condition c.in-Some-Right.left in
     let p = last_is w c.args.machine.now.frames.items c.pop.new.self.items f _ c.in-Some-Right.ensures.items c.in-Some-Right.field-0-is in
     let x = c.in-Some-Right.condition in
-    λ b. popped_result w c.args.machine.now.frames.items c.pop.new.self.items f (Next.Value c.args.value) c.args.machine.now.rewrites b (λ n. as_answer (counted_if c.args.machine.now.rewrites (where_true c.same-holds.result (solve_on w.rules (x.level + n) x.condition (suc x.at) (w.bound x.binding)) b))) c.proceed.result p
-    (exactly w.rules.program _ _ (λ n. ap (λ y. capped (as_answer (counted_if c.args.machine.now.rewrites (where_true y (solve_on w.rules (x.level + n) x.condition (suc x.at) (w.bound x.binding)) b)))) (sym c.same-holds.ensures))) (c.proceed.ensures.goes c.args.machine.now.rewrites b)
+    λ b. popped_result w c.args.machine.now.frames.items c.pop.new.self.items f (Next.Value c.args.value) c.args.machine.now.rewrites b (λ n. as_answer (counted_if c.args.machine.now.rewrites (where_true c.same-holds.result (solve_from w.rules (last_in w x) (x.level + n) x.condition (suc x.at) (w.bound x.binding)) b))) c.proceed.result p
+    (exactly w.rules.program _ _ (λ n. ap (λ y. capped (as_answer (counted_if c.args.machine.now.rewrites (where_true y (solve_from w.rules (last_in w x) (x.level + n) x.condition (suc x.at) (w.bound x.binding)) b)))) (sym c.same-holds.ensures))) (c.proceed.ensures.goes c.args.machine.now.rewrites b)
 
 pub returns-in-Some-Right-clause-ends : goal.returns-in-Some-Right-clause-ends
 returns-in-Some-Right-clause-ends g c =
@@ -193,6 +201,16 @@ proceed-requires-in-Ok-sorted-clause-binding g c =
     let L = last_known w c.requires.held.0 c.args.machine.now.frames.items c.pop.new.self.items (Next.Value c.args.value) f p c.requires.held.1 in
     (k.bindings c.in-Some-Sorting.condition.condition c.in-Some-Sorting.condition.at c.in-Some-Sorting.condition.binding L.0.0).0
 
+pub proceed-requires-in-Ok-sorted-clause-last : goal.proceed-requires-in-Ok-sorted-clause-last
+proceed-requires-in-Ok-sorted-clause-last g c =
+    let w = (g.W.World.words c.args.world.now c.args.store.now) in
+    let w' = (g.W.World.words c.sorted.new.self c.sorted.new.store) in
+    let k = (g.met.W.World.keeps c.args.world.now c.sorted.new.self c.args.store.now c.sorted.new.store c.sorted.ensures.grows) in
+    let f = Waiting.Sorting c.in-Some-Sorting.condition in
+    let p = last_is w c.args.machine.now.frames.items c.pop.new.self.items f _ c.in-Some-Sorting.ensures.items c.in-Some-Sorting.field-0-is in
+    let L = last_known w c.requires.held.0 c.args.machine.now.frames.items c.pop.new.self.items (Next.Value c.args.value) f p c.requires.held.1 in
+    known_last_on w w' k c.in-Some-Sorting.condition L.0.2
+
 pub proceed-requires-in-Ok-sorted-clause-passes : goal.proceed-requires-in-Ok-sorted-clause-passes
 proceed-requires-in-Ok-sorted-clause-passes g c =
     let w = (g.W.World.words c.args.world.now c.args.store.now) in
@@ -213,9 +231,9 @@ returns-in-Ok-sorted-clause-goes g c =
     let x = c.in-Some-Sorting.condition in
     let v = w'.tree c.args.value.0 in
     let h = c.in-Ok-sorted.ensures.value in
-    λ b. popped_result w' c.args.machine.now.frames.items c.pop.new.self.items f (Next.Value c.args.value) c.args.machine.now.rewrites b (λ n. as_answer (counted_if c.args.machine.now.rewrites (where_true c.in-Ok-sorted.holds (solve_on w'.rules (x.level + n) x.condition (suc x.at) (w'.bound x.binding)) b))) c.proceed-in-Ok-sorted.result p
+    λ b. popped_result w' c.args.machine.now.frames.items c.pop.new.self.items f (Next.Value c.args.value) c.args.machine.now.rewrites b (λ n. as_answer (counted_if c.args.machine.now.rewrites (where_true c.in-Ok-sorted.holds (solve_from w'.rules (last_in w' x) (x.level + n) x.condition (suc x.at) (w'.bound x.binding)) b))) c.proceed-in-Ok-sorted.result p
     (leads_on w'.rules.program (λ k. sorts_on w'.rules k v) (λ k. gives h.0) h.1 x.level b _ _
-    (λ n e. ap capped (sorts_tested w'.rules (x.level + n) x.condition x.at (w'.bound x.binding) v h.0 c.in-Ok-sorted.holds c.args.machine.now.rewrites b h.2 e)) (λ n e. sorts_end w'.rules (x.level + n) x.condition x.at (w'.bound x.binding) v c.args.machine.now.rewrites b too_deep e))
+    (λ n e. ap capped (sorts_tested w'.rules (last_in w' x) (x.level + n) x.condition x.at (w'.bound x.binding) v h.0 c.in-Ok-sorted.holds c.args.machine.now.rewrites b h.2 e)) (λ n e. sorts_end w'.rules (last_in w' x) (x.level + n) x.condition x.at (w'.bound x.binding) v c.args.machine.now.rewrites b too_deep e))
     (c.proceed-in-Ok-sorted.ensures.goes c.args.machine.now.rewrites b)
 
 pub returns-in-Ok-sorted-clause-ends : goal.returns-in-Ok-sorted-clause-ends
@@ -247,6 +265,24 @@ choices-requires-clause-binding g c =
     let L = last_known w c.requires.held.0 c.args.machine.now.frames.items c.pop.new.self.items (Next.Value c.args.value) f p c.requires.held.1 in
     L.0.0
 
+pub chosen-requires-clause-last : goal.chosen-requires-clause-last
+chosen-requires-clause-last g c =
+    let w = (g.W.World.words c.args.world.now c.args.store.now) in
+    let w' = (g.W.World.words c.choices.new.self c.choices.new.store) in
+    let k = (g.met.W.World.keeps c.args.world.now c.choices.new.self c.args.store.now c.choices.new.store c.choices.ensures.grows) in
+    let f = Waiting.Matching c.in-Some-Matching.condition in
+    let p = last_is w c.args.machine.now.frames.items c.pop.new.self.items f _ c.in-Some-Matching.ensures.items c.in-Some-Matching.field-0-is in
+    let L = last_known w c.requires.held.0 c.args.machine.now.frames.items c.pop.new.self.items (Next.Value c.args.value) f p c.requires.held.1 in
+    known_last_on w w' k c.in-Some-Matching.condition L.0.2
+
+pub chosen-requires-clause-unchosen : goal.chosen-requires-clause-unchosen
+chosen-requires-clause-unchosen g c =
+    let w' = (g.W.World.words c.choices.new.self c.choices.new.store) in
+    let x = c.in-Some-Matching.condition in
+    let y = c.in-Ok-choices.choices in
+    let B = c.in-Ok-choices.ensures.begun in
+    subst (λ σ. IsUnchosen w' x.condition x.at σ (w'.chosen_value y) y) (sym B.0) (subst (λ v. IsUnchosen w' x.condition x.at (w'.bound x.binding) v y) (sym B.1) c.in-Ok-choices.ensures.value)
+
 pub returns-in-Ok-choices-clause-goes : goal.returns-in-Ok-choices-clause-goes
 returns-in-Ok-choices-clause-goes g c =
     let w = (g.W.World.words c.args.world.now c.args.store.now) in
@@ -255,7 +291,13 @@ returns-in-Ok-choices-clause-goes g c =
     let f = Waiting.Matching c.in-Some-Matching.condition in
     let p = last_is w' c.args.machine.now.frames.items c.pop.new.self.items f _ c.in-Some-Matching.ensures.items c.in-Some-Matching.field-0-is in
     let x = c.in-Some-Matching.condition in
-    λ b. went_popped w' c.args.machine.now.frames.items c.pop.new.self.items f (Next.Value c.args.value) _ c.args.machine.now.rewrites c.args.machine.now.rewrites b b p (exactly w'.rules.program _ _ (λ n. ap (λ z. capped (as_answer (counted_if c.args.machine.now.rewrites z))) (sym (c.in-Ok-choices.ensures.value (x.level + n) b))))
+    let r = c.args.machine.now.rewrites in
+    let y = c.in-Ok-choices.choices in
+    let B = c.in-Ok-choices.ensures.begun in
+    λ b. went_popped w' c.args.machine.now.frames.items c.pop.new.self.items f (Next.Value c.args.value) c.chosen.result r r b b p
+    (exactly w'.rules.program _ _ (λ n. ap capped (ap (λ σ. as_answer (counted_if r (choose_behind w'.rules (last_in w' x) (x.level + n) x.condition x.at σ (w'.tree c.args.value.0) b))) (sym B.0)
+    ∙ (ap (λ v. as_answer (counted_if r (choose_behind w'.rules (last_in w' x) (x.level + n) x.condition x.at (w'.chosen_from y) v b))) (sym B.1)
+    ∙ c.chosen.ensures.goes r b n))))
 
 pub returns-in-Ok-choices-clause-known : goal.returns-in-Ok-choices-clause-known
 returns-in-Ok-choices-clause-known g c =
@@ -264,9 +306,7 @@ returns-in-Ok-choices-clause-known g c =
     let k = (g.met.W.World.keeps c.args.world.now c.choices.new.self c.args.store.now c.choices.new.store c.choices.ensures.grows) in
     let f = Waiting.Matching c.in-Some-Matching.condition in
     let p = last_is w' c.args.machine.now.frames.items c.pop.new.self.items f _ c.in-Some-Matching.ensures.items c.in-Some-Matching.field-0-is in
-    let x = c.in-Some-Matching.condition in
-    let y : Choosing g.row.W-Choices.Denot = record { level = x.level; condition = x.condition; at = x.at; choices = c.in-Ok-choices.choices; before = c.args.machine.now.rewrites } in
-    λ asked h. held_popped w' asked c.args.machine.now.frames.items c.pop.new.self.items (Next.Value c.args.value) (Next.Choose y) f p (held_later w w' k asked c.args.machine.now.frames.items (Next.Value c.args.value) h) c.in-Ok-choices.ensures.known refl
+    λ asked h. held_popped w' asked c.args.machine.now.frames.items c.pop.new.self.items (Next.Value c.args.value) c.chosen.result f p (held_later w w' k asked c.args.machine.now.frames.items (Next.Value c.args.value) h) c.chosen.ensures.known.0 c.chosen.ensures.known.1
 
 pub returns-then-place-len-clause-told : goal.returns-then-place-len-clause-told
 returns-then-place-len-clause-told g c =
@@ -368,6 +408,6 @@ returns-in-Ok-choices-clause-told g c =
     let x = c.in-Some-Matching.condition in
     let y : Choosing g.row.W-Choices.Denot = record { level = x.level; condition = x.condition; at = x.at; choices = c.in-Ok-choices.choices; before = c.args.machine.now.rewrites } in
     let L = last_known w c.requires.held.0 c.args.machine.now.frames.items c.pop.new.self.items (Next.Value c.args.value) f (last_is w c.args.machine.now.frames.items c.pop.new.self.items f _ c.in-Some-Matching.ensures.items c.in-Some-Matching.field-0-is) c.requires.held.1 in
-    λ wants. stays_popped w w' k c.args.store.now c.choices.new.store X.0 (g.W.World.table c.args.world.now) (g.W.World.table c.choices.new.self) X.1 c.args.machine.now.frames.items c.pop.new.self.items f (Next.Value c.args.value) (Next.Choose y) c.args.machine.now.rewrites c.args.machine.now.rewrites (g.T.StepWatcher.told c.args.watcher.now) (g.T.StepWatcher.told c.leave.new.watcher) (left c.args.value ∷ []) p (c.in_ok-leave.ensures.told wants)
-    (λ n m J K xs ys a h i. matching_given w' c.choices.new.store (g.W.World.table c.choices.new.self) n m c.args.machine.now.rewrites 0 J K x y c.args.value xs ys (asks_on w w' k x.condition x.at Goals.Matching L.0.1) refl refl c.in-Ok-choices.ensures.begun.0 c.in-Ok-choices.ensures.begun.1 refl
-    (let z = g.met.W.World.stands c.choices.new.self c.choices.new.store c.args.value.0 (g.met.W.World.settled c.choices.new.self c.choices.new.store c.args.value.0 (k.values c.args.value.0 c.requires.held.1.next).0) in (z.0, sym z.1)) a h i)
+    λ wants. stays_popped w w' k c.args.store.now c.choices.new.store X.0 (g.W.World.table c.args.world.now) (g.W.World.table c.choices.new.self) X.1 c.args.machine.now.frames.items c.pop.new.self.items f (Next.Value c.args.value) c.chosen.result c.args.machine.now.rewrites c.args.machine.now.rewrites (g.T.StepWatcher.told c.args.watcher.now) (g.T.StepWatcher.told c.leave.new.watcher) (left c.args.value ∷ []) p (c.in_ok-leave.ensures.told wants)
+    (λ n m J K xs ys a h i. c.chosen.ensures.told J c.args.machine.now.rewrites (m + steps_in ((xs ++ ys) ++ left c.args.value ∷ [])) ((xs ++ ys) ++ left c.args.value ∷ []) (matching_given w' c.choices.new.store (g.W.World.table c.choices.new.self) n m c.args.machine.now.rewrites 0 J K x y c.args.value xs ys (asks_on w w' k x.condition x.at Goals.Matching L.0.1) refl refl c.in-Ok-choices.ensures.begun.0 c.in-Ok-choices.ensures.begun.1 refl
+    (let z = g.met.W.World.stands c.choices.new.self c.choices.new.store c.args.value.0 (g.met.W.World.settled c.choices.new.self c.choices.new.store c.args.value.0 (k.values c.args.value.0 c.requires.held.1.next).0) in (z.0, sym z.1)) a h i))

@@ -25,7 +25,7 @@ returns-in_ok-wait-in-Ok-Some-clause-goes g c =
     let w' = (g.W.World.words c.attempt.new.self c.attempt.new.store) in
     let k = (g.met.W.World.keeps c.args.world.now c.attempt.new.self c.args.store.now c.attempt.new.store c.attempt.ensures.grows) in
     let x = (record c.args.trial { condition = c.in-Ok-Some.condition; attempts = c.attempt.new.attempts }) in
-    let s : Condition g.row.W-Binding.Denot = (record { level = c.args.trial.level; condition = c.in-Ok-Some.condition; at = 0; binding = c.in-Ok-Some.binding }) in
+    let s : Condition g.row.W-Binding.Denot = (record { level = c.args.trial.level; condition = c.in-Ok-Some.condition; at = 0; binding = c.in-Ok-Some.binding; behind = None }) in
     let f = Waiting.Trying x c.args.machine.now.rewrites c.mark-mark.result in
     let P = w'.rules.program in
     let h = subst (λ o. IfSome o (λ y. LeadsTo P (w'.untried c.args.trial.attempts) (λ k b. or_go_on (w'.untried x.attempts k) (try_on (λ σ. gives (option_map (w'.makes x.attempts) σ)) (solve_on w'.rules k y.0 0 (w'.bound y.1) b)))))
@@ -52,11 +52,11 @@ returns-in_ok-wait-in-Ok-Some-clause-known g c =
     let w' = (g.W.World.words c.attempt.new.self c.attempt.new.store) in
     let k = (g.met.W.World.keeps c.args.world.now c.attempt.new.self c.args.store.now c.attempt.new.store c.attempt.ensures.grows) in
     let x = (record c.args.trial { condition = c.in-Ok-Some.condition; attempts = c.attempt.new.attempts }) in
-    let s : Condition g.row.W-Binding.Denot = (record { level = c.args.trial.level; condition = c.in-Ok-Some.condition; at = 0; binding = c.in-Ok-Some.binding }) in
+    let s : Condition g.row.W-Binding.Denot = (record { level = c.args.trial.level; condition = c.in-Ok-Some.condition; at = 0; binding = c.in-Ok-Some.binding; behind = None }) in
     let f = Waiting.Trying x c.args.machine.now.rewrites c.mark-mark.result in
     let q = subst (λ o. IfSome o (λ y. w'.knows_attempts x.term.0 x.attempts × w'.knows_candidate x.term.0 y.0 x.attempts × w'.knows_binding y.0 0 y.1)) c.in-Ok-Some.field-0-is c.in-Ok-Some.ensures.known in
     λ asked h. held_pushed w' asked c.args.machine.now.frames.items c.wait.new.self.frames.items (Next.Attempt c.args.trial) (Next.Solve s) f c.in_ok-wait-in-Ok-Some.ensures.frames (held_later w w' k asked c.args.machine.now.frames.items (Next.Attempt c.args.trial) h)
-    ((k.values c.args.trial.term.0 c.requires.value).0, q.0, q.1) q.2 refl refl
+    ((k.values c.args.trial.term.0 c.requires.value).0, q.0, q.1) (q.2, tt) refl refl
 
 pub returns-in-Err-clause-ends : goal.returns-in-Err-clause-ends
 returns-in-Err-clause-ends g c =
@@ -82,7 +82,7 @@ returns-in_ok-wait-in-Ok-Some-clause-told g c =
     let k = (g.met.W.World.keeps c.args.world.now c.attempt.new.self c.args.store.now c.attempt.new.store c.attempt.ensures.grows) in
     let X = g.met.W.World.extends c.args.world.now c.attempt.new.self c.args.store.now c.attempt.new.store c.attempt.ensures.grows in
     let x = (record c.args.trial { condition = c.in-Ok-Some.condition; attempts = c.attempt.new.attempts }) in
-    let s : Condition g.row.W-Binding.Denot = (record { level = c.args.trial.level; condition = c.in-Ok-Some.condition; at = 0; binding = c.in-Ok-Some.binding }) in
+    let s : Condition g.row.W-Binding.Denot = (record { level = c.args.trial.level; condition = c.in-Ok-Some.condition; at = 0; binding = c.in-Ok-Some.binding; behind = None }) in
     let f = Waiting.Trying x c.args.machine.now.rewrites c.mark-mark.result in
     λ wants. stays_marked w w' k c.args.store.now c.attempt.new.store X.0 (g.W.World.table c.args.world.now) (g.W.World.table c.attempt.new.self) X.1 c.args.machine.now.frames.items c.wait.new.self.frames.items f (Next.Attempt c.args.trial) (Next.Solve s) c.args.machine.now.rewrites 0 c.mark-mark.result (g.T.StepWatcher.told c.args.watcher.now) c.in_ok-wait-in-Ok-Some.ensures.frames (c.mark-mark.ensures wants)
     (λ n m J ys l h q. trying_told w' c.attempt.new.store (g.W.World.table c.attempt.new.self) n m c.mark-mark.result c.args.machine.now.rewrites J c.args.trial x s ys refl refl refl l h q)

@@ -25,7 +25,7 @@ returns-in_ok-wait-in-Some-clause-goes g c =
     let w' = (g.W.World.words c.choose.new.self c.choose.new.store) in
     let k = (g.met.W.World.keeps c.args.world.now c.choose.new.self c.args.store.now c.choose.new.store c.choose.ensures.grows) in
     let x = (record c.args.choosing { choices = c.choose.new.choices }) in
-    let s : Condition g.row.W-Binding.Denot = (record { level = x.level; condition = x.condition; at = c.in-Some.at; binding = c.in-Ok-Some.binding }) in
+    let s : Condition g.row.W-Binding.Denot = (record { level = x.level; condition = x.condition; at = c.in-Some.at; binding = c.in-Ok-Some.binding; behind = None }) in
     let f = Waiting.Choice x c.mark-mark.result in
     let next : suc x.at ≡ c.in-Some.at = one x.at ∙ sym c.in-Some.ensures.1 in
     let P = w'.rules.program in
@@ -52,12 +52,12 @@ returns-in_ok-wait-in-Some-clause-known g c =
     let w' = (g.W.World.words c.choose.new.self c.choose.new.store) in
     let k = (g.met.W.World.keeps c.args.world.now c.choose.new.self c.args.store.now c.choose.new.store c.choose.ensures.grows) in
     let x = (record c.args.choosing { choices = c.choose.new.choices }) in
-    let s : Condition g.row.W-Binding.Denot = (record { level = x.level; condition = x.condition; at = c.in-Some.at; binding = c.in-Ok-Some.binding }) in
+    let s : Condition g.row.W-Binding.Denot = (record { level = x.level; condition = x.condition; at = c.in-Some.at; binding = c.in-Ok-Some.binding; behind = None }) in
     let f = Waiting.Choice x c.mark-mark.result in
     let next : suc x.at ≡ c.in-Some.at = one x.at ∙ sym c.in-Some.ensures.1 in
     let q = subst (λ o. IfSome o (λ σ. w'.knows_choices x.condition x.at x.choices × w'.knows_binding x.condition (suc x.at) σ)) c.in-Ok-Some.field-0-is c.in-Ok-Some.ensures.known in
     λ asked h. held_pushed w' asked c.args.machine.now.frames.items c.wait.new.self.frames.items (Next.Choose c.args.choosing) (Next.Solve s) f c.in_ok-wait-in-Some.ensures.frames (held_later w w' k asked c.args.machine.now.frames.items (Next.Choose c.args.choosing) h)
-    q.0 (subst (λ n. w'.knows_binding x.condition n s.binding) next q.1) refl refl
+    q.0 (subst (λ n. w'.knows_binding x.condition n s.binding) next q.1, tt) refl refl
 
 pub returns-in-Ok-None-clause-told : goal.returns-in-Ok-None-clause-told
 returns-in-Ok-None-clause-told g c =
@@ -74,7 +74,7 @@ returns-in_ok-wait-in-Some-clause-told g c =
     let k = (g.met.W.World.keeps c.args.world.now c.choose.new.self c.args.store.now c.choose.new.store c.choose.ensures.grows) in
     let X = g.met.W.World.extends c.args.world.now c.choose.new.self c.args.store.now c.choose.new.store c.choose.ensures.grows in
     let x = (record c.args.choosing { choices = c.choose.new.choices }) in
-    let s : Condition g.row.W-Binding.Denot = (record { level = x.level; condition = x.condition; at = c.in-Some.at; binding = c.in-Ok-Some.binding }) in
+    let s : Condition g.row.W-Binding.Denot = (record { level = x.level; condition = x.condition; at = c.in-Some.at; binding = c.in-Ok-Some.binding; behind = None }) in
     let f = Waiting.Choice x c.mark-mark.result in
     let next : suc x.at ≡ c.in-Some.at = one x.at ∙ sym c.in-Some.ensures.1 in
     let b = subst (λ o. IfSome o (λ σ. (w'.chosen_from x.choices ≡ w'.chosen_from c.args.choosing.choices) × (w'.chosen_value x.choices ≡ w'.chosen_value c.args.choosing.choices))) c.in-Ok-Some.field-0-is c.in-Ok-Some.ensures.begun in

@@ -1,4 +1,4 @@
-use Rattle.std.proofs.Common.{refl, sym, subst}
+use Rattle.std.proofs.Common.{None, refl, sym, subst}
 use Rattle.std.specs.Prelude.{IfSome, IfNone}
 use Rattle.mau_machine.specs.Words.{EndsWhere, settle_on, solve_on}
 use Rattle.mau_machine.specs.Steps.{Goes}
@@ -43,7 +43,7 @@ returns-in_ok-wait-in-Ok-Some-clause-goes g c =
     let e = c.in-Ok-Some.condition in
     let σ = w'.bound c.in-Ok-Some.binding in
     let x : Settled g.row.W-Settling.Denot = record { level = c.args.level; term = c.args.term; condition = e; settling = c.settle.new.settling; budget = c.args.budget.now; before = c.args.machine.now.rewrites } in
-    let s : Condition g.row.W-Binding.Denot = record { level = c.args.level; condition = e; at = 0; binding = c.in-Ok-Some.binding } in
+    let s : Condition g.row.W-Binding.Denot = record { level = c.args.level; condition = e; at = 0; binding = c.in-Ok-Some.binding; behind = None } in
     let f = Waiting.Deriving x c.mark-mark.result in
     let asking = subst (λ o. IfSome o (λ y. w'.knows_asking c.args.term.0 y.0 (w'.bound y.1) c.settle.new.settling)) c.in-Ok-Some.field-0-is c.in-Ok-Some.ensures.asking in
     let h = subst (λ o. IfSome o (λ y. EndsWhere R.program (λ k. settle_on R k (w'.tree c.args.term.0)) (λ k. solve_on R k y.0 0 (w'.bound y.1) R.limit))) c.in-Ok-Some.field-0-is c.in-Ok-Some.ensures.ends in
@@ -57,11 +57,11 @@ returns-in_ok-wait-in-Ok-Some-clause-known g c =
     let w' = (g.W.World.words c.settle.new.self c.settle.new.store) in
     let k = (g.met.W.World.keeps c.args.world.now c.settle.new.self c.args.store.now c.settle.new.store c.settle.ensures.grows) in
     let x : Settled g.row.W-Settling.Denot = record { level = c.args.level; term = c.args.term; condition = c.in-Ok-Some.condition; settling = c.settle.new.settling; budget = c.args.budget.now; before = c.args.machine.now.rewrites } in
-    let s : Condition g.row.W-Binding.Denot = record { level = c.args.level; condition = c.in-Ok-Some.condition; at = 0; binding = c.in-Ok-Some.binding } in
+    let s : Condition g.row.W-Binding.Denot = record { level = c.args.level; condition = c.in-Ok-Some.condition; at = 0; binding = c.in-Ok-Some.binding; behind = None } in
     let t = Next.Settle c.args.level c.args.term c.args.settling in
     let bound = subst (λ o. IfSome o (λ y. w'.knows_binding y.0 0 y.1)) c.in-Ok-Some.field-0-is c.in-Ok-Some.ensures.binding in
     λ asked h. held_pushed w' asked c.args.machine.now.frames.items c.wait.new.self.frames.items t (Next.Solve s) (Waiting.Deriving x c.mark-mark.result) c.in_ok-wait-in-Ok-Some.ensures.frames (held_later w w' k asked c.args.machine.now.frames.items t h)
-    (k.terms c.args.term.0 c.requires.term).0 bound refl refl
+    (k.terms c.args.term.0 c.requires.term).0 (bound, tt) refl refl
 
 pub returns-in_ok-wait-in-Ok-Some-clause-told : goal.returns-in_ok-wait-in-Ok-Some-clause-told
 returns-in_ok-wait-in-Ok-Some-clause-told g c =
@@ -70,6 +70,6 @@ returns-in_ok-wait-in-Ok-Some-clause-told g c =
     let k = (g.met.W.World.keeps c.args.world.now c.settle.new.self c.args.store.now c.settle.new.store c.settle.ensures.grows) in
     let X = g.met.W.World.extends c.args.world.now c.settle.new.self c.args.store.now c.settle.new.store c.settle.ensures.grows in
     let x : Settled g.row.W-Settling.Denot = record { level = c.args.level; term = c.args.term; condition = c.in-Ok-Some.condition; settling = c.settle.new.settling; budget = c.args.budget.now; before = c.args.machine.now.rewrites } in
-    let s : Condition g.row.W-Binding.Denot = record { level = c.args.level; condition = c.in-Ok-Some.condition; at = 0; binding = c.in-Ok-Some.binding } in
+    let s : Condition g.row.W-Binding.Denot = record { level = c.args.level; condition = c.in-Ok-Some.condition; at = 0; binding = c.in-Ok-Some.binding; behind = None } in
     λ wants. stays_marked w w' k c.args.store.now c.settle.new.store X.0 (g.W.World.table c.args.world.now) (g.W.World.table c.settle.new.self) X.1 c.args.machine.now.frames.items c.wait.new.self.frames.items (Waiting.Deriving x c.mark-mark.result) (Next.Settle c.args.level c.args.term c.args.settling) (Next.Solve s) c.args.machine.now.rewrites 0 c.mark-mark.result (g.T.StepWatcher.told c.args.watcher.now) c.in_ok-wait-in-Ok-Some.ensures.frames (c.mark-mark.ensures wants)
     (λ n m J ys l h q. deriving_told w' c.settle.new.store (g.W.World.table c.settle.new.self) n m c.mark-mark.result c.args.level c.args.machine.now.rewrites J x c.args.settling s ys refl refl refl l h q)

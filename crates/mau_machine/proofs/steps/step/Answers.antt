@@ -92,10 +92,19 @@ returns-in-Choose-clause-goes g c =
     let w' = (g.W.World.words c.choose.new.world c.choose.new.store) in
     subst (λ z. IfOk c.choose.result (λ next. Goes w' c.args.machine.now.frames.items z c.args.machine.now.rewrites c.args.budget.now c.choose.new.machine.frames.items next c.choose.new.machine.rewrites c.args.budget.now)) (sym c.in-Choose.is) (c.choose.ensures.goes c.args.budget.now)
 
+pub returns-in-Own-clause-goes : goal.returns-in-Own-clause-goes
+returns-in-Own-clause-goes g c =
+    let w' = (g.W.World.words c.own.new.world c.own.new.store) in
+    subst (λ z. IfOk c.own.result (λ next. Goes w' c.args.machine.now.frames.items z c.args.machine.now.rewrites c.args.budget.now c.own.new.machine.frames.items next c.own.new.machine.rewrites c.args.budget.now)) (sym c.in-Own.is) (c.own.ensures.goes c.args.budget.now)
+
 pub returns-in-Choose-clause-ends : goal.returns-in-Choose-clause-ends
 returns-in-Choose-clause-ends g c =
     let w' = (g.W.World.words c.choose.new.world c.choose.new.store) in
     subst (λ z. IfErr c.choose.result (ComesToEnd w'.rules.program (λ n. whole w' n c.args.machine.now.frames.items z c.args.machine.now.rewrites c.args.budget.now))) (sym c.in-Choose.is) (c.choose.ensures.ends c.args.budget.now)
+
+pub returns-in-Own-clause-ends : goal.returns-in-Own-clause-ends
+returns-in-Own-clause-ends g c =
+    any_end _ _ c.own.result c.own.ensures.ends
 
 pub returns-in-Value-clause-goes : goal.returns-in-Value-clause-goes
 returns-in-Value-clause-goes g c =
@@ -199,6 +208,11 @@ pub returns-in-Choose-clause-told : goal.returns-in-Choose-clause-told
 returns-in-Choose-clause-told g c =
     let w = (g.W.World.words c.args.world.now c.args.store.now) in
     λ wants. subst (λ z. IfOk c.choose.result (λ next. StayTold w (g.W.World.words c.choose.new.world c.choose.new.store) c.args.store.now c.choose.new.store (g.W.World.table c.args.world.now) (g.W.World.table c.choose.new.world) c.args.machine.now.frames.items z c.args.machine.now.rewrites (g.T.StepWatcher.told c.args.watcher.now) c.choose.new.machine.frames.items next c.choose.new.machine.rewrites (g.T.StepWatcher.told c.choose.new.watcher))) (sym c.in-Choose.is) (c.choose.ensures.told wants)
+
+pub returns-in-Own-clause-told : goal.returns-in-Own-clause-told
+returns-in-Own-clause-told g c =
+    let w = (g.W.World.words c.args.world.now c.args.store.now) in
+    λ wants. subst (λ z. IfOk c.own.result (λ next. StayTold w (g.W.World.words c.own.new.world c.own.new.store) c.args.store.now c.own.new.store (g.W.World.table c.args.world.now) (g.W.World.table c.own.new.world) c.args.machine.now.frames.items z c.args.machine.now.rewrites (g.T.StepWatcher.told c.args.watcher.now) c.own.new.machine.frames.items next c.own.new.machine.rewrites (g.T.StepWatcher.told c.own.new.watcher))) (sym c.in-Own.is) (c.own.ensures.told wants)
 
 pub returns-in-Value-clause-told : goal.returns-in-Value-clause-told
 returns-in-Value-clause-told g c =

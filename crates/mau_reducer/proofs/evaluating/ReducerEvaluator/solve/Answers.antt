@@ -1,17 +1,15 @@
-use Rattle.std.proofs.Common.{◌≡◌, ◌+◌, List, All, Vec, Global, Option, OnOk, map, length, refl, sym, ◌∙◌, subst, arith}
-use Rattle.std.specs.Borrow.{Bor}
+use Rattle.std.proofs.Common.{◌≡◌, ◌+◌, All, Vec, Global, map, length, refl, arith}
 use Rattle.mau_terms.specs.declared.ids.VarId.{VarId}
 use Rattle.mau_terms.specs.declared.ids.TermId.{TermId}
 use Rattle.mau_evaluation.specs.Evaluation.{look_up}
 use Rattle.mau_api.specs.Programs.{fragment_of}
 use Rattle.mau_api.specs.Told.{TellsCondition}
-use Rattle.mau_api.specs.Answers.{levels_of_condition, LeavesEnough, binding_in, IsValueOf, solving_from, MaySolve, IsSolvedExactly}
+use Rattle.mau_api.specs.Answers.{levels_of_condition, LeavesEnough, binding_in, IsValueOf, solving_from}
 use Rattle.mau_reducer.specs.Worlds.{basis_of}
 use Rattle.mau_reducer.specs.Meant.{meanings_of}
 use Rattle.mau_reducer.specs.LaterStates.{same_state, fit_later}
-use Rattle.mau_reducer.proofs.WhatIsSolved.{may_solve, solves_exactly, left_enough, none_of, pairs_in, from_pairs, none_in, ok_in}
-use Rattle.mau_reducer.proofs.Asked.{number_counted, binding_known, asked_ready, kept_before, means_alike, one_each_of, values_paired, tells_paired, loop_answer}
-use Rattle.mau_reducer.proofs.EmptyConditions.{is_nothing, bindings_of, some_bound, may_end, ends_there, ends_leaves}
+use Rattle.mau_reducer.proofs.WhatIsSolved.{may_solve, solves_exactly, left_enough, none_of, pairs_in, from_pairs, none_in, ok_in, wants_memory}
+use Rattle.mau_reducer.proofs.Asked.{number_counted, binding_known, asked_ready, kept_before, means_alike, one_each_of, values_paired, tells_paired, bindings_of, last_known, loop_answer}
 use Rattle.mau_reducer.proofs.evaluating.ReducerEvaluator.solve.Goals as goal
 
 pub solve-solved-requires-clause-ready : goal.solve-solved-requires-clause-ready
@@ -26,6 +24,12 @@ solve-solved-requires-clause-binding g c =
     binding_known (basis_of g.N.Natives.operators c.args.self.now) c.args.cond.now c.args.bound.now c.requires.condition c.in-Ok.binding c.in-Ok.ensures.pairs c.in-Ok.ensures.one_each
     (basis_of g.N.Natives.operators c.args.self.now) (basis_of g.N.Natives.operators c.ask.new.self) c.args.store.now c.args.store.now c.args.self.now.table c.args.self.now.table c.args.self.now.begun (same_state (basis_of g.N.Natives.operators c.args.self.now) c.args.store.now c.args.self.now.table c.args.self.now.begun c.requires.fits.0) c.in-Ok.ensures.asks c.requires.bound c.ask.new.self.table c.ask.ensures.table (length c.items.result.now + 1) (number_counted c.items.result.now c.ask.new.self.program.now.equations c.items.ensures)
 
+pub solve-solved-requires-clause-behind : goal.solve-solved-requires-clause-behind
+solve-solved-requires-clause-behind g c =
+    last_known (basis_of g.N.Natives.operators c.args.self.now) c.args.cond.now c.args.bound.now c.requires.condition c.in-Ok.binding c.in-Ok.ensures.pairs c.in-Ok.ensures.one_each
+    (basis_of g.N.Natives.operators c.args.self.now) (basis_of g.N.Natives.operators c.ask.new.self) c.args.store.now c.args.store.now c.args.self.now.table c.args.self.now.table c.args.self.now.begun (same_state (basis_of g.N.Natives.operators c.args.self.now) c.args.store.now c.args.self.now.table c.args.self.now.begun c.requires.fits.0) c.in-Ok.ensures.asks c.requires.bound c.ask.new.self.table c.ask.ensures.table (length c.items.result.now + 1) (number_counted c.items.result.now c.ask.new.self.program.now.equations c.items.ensures)
+    (λ x. x.value) c.in_ok-behind.behind (λ x. x.now) c.args.last c.in_ok-behind.ensures.pairs c.in_ok-behind.ensures.one_each c.requires.last
+
 pub as_pairs-requires : goal.as_pairs-requires
 as_pairs-requires g c =
     one_each_of (basis_of g.N.Natives.operators c.args.self.now) c.args.cond.now c.args.bound.now c.requires.condition c.in-Ok.binding c.in-Ok.ensures.pairs c.in-Ok.ensures.one_each
@@ -34,34 +38,34 @@ as_pairs-requires g c =
 
 pub returns-in-Ok-clause-allowed : goal.returns-in-Ok-clause-allowed
 returns-in-Ok-clause-allowed g c =
-    subst (λ (o : Option (Bor (List (VarId × TermId)))). MaySolve (meanings_of (basis_of g.N.Natives.operators c.args.self.now)) (solving_from (meanings_of (basis_of g.N.Natives.operators c.args.self.now)) (bindings_of c.args.store.now o) (map fragment_of c.args.cond.now) (binding_in c.args.store.now c.args.bound.now)) c.args.budget.now c.solve-solved.new.store (pairs_in (λ (v : Vec (VarId × TermId) Global). v.items) c.as_pairs.result)) (sym c.in-None.is)
-    (may_solve (meanings_of (basis_of g.N.Natives.operators c.args.self.now)) c.levels_of_condition-levels.result c.levels_of_condition-levels.ensures (λ k B. (meanings_of (basis_of g.N.Natives.operators c.args.self.now)).solving k B (map fragment_of c.args.cond.now) (binding_in c.args.store.now c.args.bound.now))
+    may_solve (meanings_of (basis_of g.N.Natives.operators c.args.self.now)) c.levels_of_condition-levels.result c.levels_of_condition-levels.ensures (solving_from (meanings_of (basis_of g.N.Natives.operators c.args.self.now)) (bindings_of c.args.store.now c.args.last) (map fragment_of c.args.cond.now) (binding_in c.args.store.now c.args.bound.now))
     c.args.budget.now c.solve-solved.new.store c.solve-solved.new.budget c.solve-solved.result
     (loop_answer (basis_of g.N.Natives.operators c.args.self.now) c.args.cond.now c.args.bound.now c.requires.condition c.in-Ok.binding c.in-Ok.ensures.pairs c.in-Ok.ensures.one_each
     (basis_of g.N.Natives.operators c.args.self.now) (basis_of g.N.Natives.operators c.ask.new.self) c.args.store.now c.args.store.now c.args.self.now.table c.args.self.now.table c.args.self.now.begun (same_state (basis_of g.N.Natives.operators c.args.self.now) c.args.store.now c.args.self.now.table c.args.self.now.begun c.requires.fits.0) c.in-Ok.ensures.asks c.requires.bound c.ask.new.self.table c.ask.ensures.table (length c.items.result.now + 1) (number_counted c.items.result.now c.ask.new.self.program.now.equations c.items.ensures)
-    (basis_of g.N.Natives.operators c.solve-solved.new.world) c.solve-solved.new.store c.solve-solved.new.world.table c.solve-solved.new.world.begun c.solve-solved.ensures.grows c.levels_of_condition-levels.result c.args.budget.now c.solve-solved.new.budget c.solve-solved.result c.solve-solved.ensures.some c.solve-solved.ensures.none c.solve-solved.ensures.ends)
-    (pairs_in (λ (v : Vec (VarId × TermId) Global). v.items) c.as_pairs.result) c.as_pairs.ensures)
+    (basis_of g.N.Natives.operators c.solve-solved.new.world) c.solve-solved.new.store c.solve-solved.new.world.table c.solve-solved.new.world.begun c.solve-solved.ensures.grows
+    (λ x. x.value) c.in_ok-behind.behind (λ x. x.now) c.args.last c.in_ok-behind.ensures.pairs c.in_ok-behind.ensures.one_each c.requires.last c.levels_of_condition-levels.result c.args.budget.now c.solve-solved.new.budget c.solve-solved.result c.solve-solved.ensures.some c.solve-solved.ensures.none c.solve-solved.ensures.ends)
+    (pairs_in (λ (v : Vec (VarId × TermId) Global). v.items) c.as_pairs.result) c.as_pairs.ensures
 
 pub returns-in-Ok-clause-exact : goal.returns-in-Ok-clause-exact
 returns-in-Ok-clause-exact g c =
-    λ e.
-    subst (λ (o : Option (Bor (List (VarId × TermId)))). IsSolvedExactly (meanings_of (basis_of g.N.Natives.operators c.args.self.now)) (solving_from (meanings_of (basis_of g.N.Natives.operators c.args.self.now)) (bindings_of c.args.store.now o) (map fragment_of c.args.cond.now) (binding_in c.args.store.now c.args.bound.now)) c.args.budget.now c.solve-solved.new.store (pairs_in (λ (v : Vec (VarId × TermId) Global). v.items) c.as_pairs.result) c.solve-solved.new.budget) (sym c.in-None.is)
-    (solves_exactly (meanings_of (basis_of g.N.Natives.operators c.args.self.now)) c.levels_of_condition-levels.result c.levels_of_condition-levels.ensures (λ k B. (meanings_of (basis_of g.N.Natives.operators c.args.self.now)).solving k B (map fragment_of c.args.cond.now) (binding_in c.args.store.now c.args.bound.now))
+    λ e. solves_exactly (meanings_of (basis_of g.N.Natives.operators c.args.self.now)) c.levels_of_condition-levels.result c.levels_of_condition-levels.ensures (solving_from (meanings_of (basis_of g.N.Natives.operators c.args.self.now)) (bindings_of c.args.store.now c.args.last) (map fragment_of c.args.cond.now) (binding_in c.args.store.now c.args.bound.now))
     c.args.budget.now c.solve-solved.new.store c.solve-solved.new.budget c.solve-solved.result
     (loop_answer (basis_of g.N.Natives.operators c.args.self.now) c.args.cond.now c.args.bound.now c.requires.condition c.in-Ok.binding c.in-Ok.ensures.pairs c.in-Ok.ensures.one_each
     (basis_of g.N.Natives.operators c.args.self.now) (basis_of g.N.Natives.operators c.ask.new.self) c.args.store.now c.args.store.now c.args.self.now.table c.args.self.now.table c.args.self.now.begun (same_state (basis_of g.N.Natives.operators c.args.self.now) c.args.store.now c.args.self.now.table c.args.self.now.begun c.requires.fits.0) c.in-Ok.ensures.asks c.requires.bound c.ask.new.self.table c.ask.ensures.table (length c.items.result.now + 1) (number_counted c.items.result.now c.ask.new.self.program.now.equations c.items.ensures)
-    (basis_of g.N.Natives.operators c.solve-solved.new.world) c.solve-solved.new.store c.solve-solved.new.world.table c.solve-solved.new.world.begun c.solve-solved.ensures.grows c.levels_of_condition-levels.result c.args.budget.now c.solve-solved.new.budget c.solve-solved.result c.solve-solved.ensures.some c.solve-solved.ensures.none c.solve-solved.ensures.ends)
-    (pairs_in (λ (v : Vec (VarId × TermId) Global). v.items) c.as_pairs.result) c.as_pairs.ensures)
+    (basis_of g.N.Natives.operators c.solve-solved.new.world) c.solve-solved.new.store c.solve-solved.new.world.table c.solve-solved.new.world.begun c.solve-solved.ensures.grows
+    (λ x. x.value) c.in_ok-behind.behind (λ x. x.now) c.args.last c.in_ok-behind.ensures.pairs c.in_ok-behind.ensures.one_each c.requires.last c.levels_of_condition-levels.result c.args.budget.now c.solve-solved.new.budget c.solve-solved.result c.solve-solved.ensures.some c.solve-solved.ensures.none c.solve-solved.ensures.ends)
+    (pairs_in (λ (v : Vec (VarId × TermId) Global). v.items) c.as_pairs.result) c.as_pairs.ensures
 
 pub returns-in-Ok-clause-left : goal.returns-in-Ok-clause-left
 returns-in-Ok-clause-left g c =
-    subst (λ (o : Option (Bor (List (VarId × TermId)))). OnOk c.as_pairs.result (LeavesEnough (solving_from (meanings_of (basis_of g.N.Natives.operators c.args.self.now)) (bindings_of c.args.store.now o) (map fragment_of c.args.cond.now) (binding_in c.args.store.now c.args.bound.now) levels_of_condition c.args.self.now.limit c.args.budget.now) c.solve-solved.new.budget)) (sym c.in-None.is)
-    (ok_in (λ (v : Vec (VarId × TermId) Global). v.items) (LeavesEnough ((meanings_of (basis_of g.N.Natives.operators c.args.self.now)).solving levels_of_condition c.args.self.now.limit (map fragment_of c.args.cond.now) (binding_in c.args.store.now c.args.bound.now) c.args.budget.now) c.solve-solved.new.budget) c.as_pairs.result (left_enough (meanings_of (basis_of g.N.Natives.operators c.args.self.now)) c.levels_of_condition-levels.result c.levels_of_condition-levels.ensures (λ k B. (meanings_of (basis_of g.N.Natives.operators c.args.self.now)).solving k B (map fragment_of c.args.cond.now) (binding_in c.args.store.now c.args.bound.now))
+    ok_in (λ (v : Vec (VarId × TermId) Global). v.items) (LeavesEnough ((solving_from (meanings_of (basis_of g.N.Natives.operators c.args.self.now)) (bindings_of c.args.store.now c.args.last) (map fragment_of c.args.cond.now) (binding_in c.args.store.now c.args.bound.now)) levels_of_condition c.args.self.now.limit c.args.budget.now) c.solve-solved.new.budget) c.as_pairs.result
+    (left_enough (meanings_of (basis_of g.N.Natives.operators c.args.self.now)) c.levels_of_condition-levels.result c.levels_of_condition-levels.ensures (solving_from (meanings_of (basis_of g.N.Natives.operators c.args.self.now)) (bindings_of c.args.store.now c.args.last) (map fragment_of c.args.cond.now) (binding_in c.args.store.now c.args.bound.now))
     c.args.budget.now c.solve-solved.new.store c.solve-solved.new.budget c.solve-solved.result
     (loop_answer (basis_of g.N.Natives.operators c.args.self.now) c.args.cond.now c.args.bound.now c.requires.condition c.in-Ok.binding c.in-Ok.ensures.pairs c.in-Ok.ensures.one_each
     (basis_of g.N.Natives.operators c.args.self.now) (basis_of g.N.Natives.operators c.ask.new.self) c.args.store.now c.args.store.now c.args.self.now.table c.args.self.now.table c.args.self.now.begun (same_state (basis_of g.N.Natives.operators c.args.self.now) c.args.store.now c.args.self.now.table c.args.self.now.begun c.requires.fits.0) c.in-Ok.ensures.asks c.requires.bound c.ask.new.self.table c.ask.ensures.table (length c.items.result.now + 1) (number_counted c.items.result.now c.ask.new.self.program.now.equations c.items.ensures)
-    (basis_of g.N.Natives.operators c.solve-solved.new.world) c.solve-solved.new.store c.solve-solved.new.world.table c.solve-solved.new.world.begun c.solve-solved.ensures.grows c.levels_of_condition-levels.result c.args.budget.now c.solve-solved.new.budget c.solve-solved.result c.solve-solved.ensures.some c.solve-solved.ensures.none c.solve-solved.ensures.ends)
-    (pairs_in (λ (v : Vec (VarId × TermId) Global). v.items) c.as_pairs.result) c.as_pairs.ensures))
+    (basis_of g.N.Natives.operators c.solve-solved.new.world) c.solve-solved.new.store c.solve-solved.new.world.table c.solve-solved.new.world.begun c.solve-solved.ensures.grows
+    (λ x. x.value) c.in_ok-behind.behind (λ x. x.now) c.args.last c.in_ok-behind.ensures.pairs c.in_ok-behind.ensures.one_each c.requires.last c.levels_of_condition-levels.result c.args.budget.now c.solve-solved.new.budget c.solve-solved.result c.solve-solved.ensures.some c.solve-solved.ensures.none c.solve-solved.ensures.ends)
+    (pairs_in (λ (v : Vec (VarId × TermId) Global). v.items) c.as_pairs.result) c.as_pairs.ensures)
 
 pub returns-in-Ok-clause-values : goal.returns-in-Ok-clause-values
 returns-in-Ok-clause-values g c =
@@ -105,26 +109,5 @@ returns-in-Ok-clause-meanings g c =
 pub returns-in-Err-clause-exact : goal.returns-in-Err-clause-exact
 returns-in-Err-clause-exact g c = λ e. record { levels = levels_of_condition; enough = omega arith; just = λ d. refl; is = tt }
 
-pub returns-then-not-is_empty-clause-exact : goal.returns-then-not-is_empty-clause-exact
-returns-then-not-is_empty-clause-exact g c = λ e. record { levels = levels_of_condition; enough = omega arith; just = λ d. refl; is = tt }
-
-pub returns-else-not-is_empty-clause-allowed : goal.returns-else-not-is_empty-clause-allowed
-returns-else-not-is_empty-clause-allowed g c =
-    may_end (basis_of g.N.Natives.operators c.args.self.now) c.args.store.now c.args.cond.now (is_nothing c.args.cond.now (sym c.is_empty.ensures ∙ c.if-not-is_empty.false))
-    (bindings_of c.args.store.now c.args.last) c.args.bound.now
-    (binding_in c.args.store.now c.in-Some.field-0.now) (some_bound c.args.store.now c.args.last c.in-Some.field-0 c.in-Some.is)
-    c.args.budget.now
-
-pub returns-else-not-is_empty-clause-exact : goal.returns-else-not-is_empty-clause-exact
-returns-else-not-is_empty-clause-exact g c = λ e.
-    ends_there (basis_of g.N.Natives.operators c.args.self.now) c.args.store.now c.args.cond.now (is_nothing c.args.cond.now (sym c.is_empty.ensures ∙ c.if-not-is_empty.false))
-    (bindings_of c.args.store.now c.args.last) c.args.bound.now
-    (binding_in c.args.store.now c.in-Some.field-0.now) (some_bound c.args.store.now c.args.last c.in-Some.field-0 c.in-Some.is)
-    c.args.budget.now
-
-pub returns-else-not-is_empty-clause-left : goal.returns-else-not-is_empty-clause-left
-returns-else-not-is_empty-clause-left g c =
-    ends_leaves (basis_of g.N.Natives.operators c.args.self.now) c.args.store.now c.args.cond.now (is_nothing c.args.cond.now (sym c.is_empty.ensures ∙ c.if-not-is_empty.false))
-    (bindings_of c.args.store.now c.args.last) c.args.bound.now
-    (binding_in c.args.store.now c.in-Some.field-0.now) (some_bound c.args.store.now c.args.last c.in-Some.field-0 c.in-Some.is)
-    c.args.budget.now
+pub returns-in_err-behind-clause-exact : goal.returns-in_err-behind-clause-exact
+returns-in_err-behind-clause-exact g c = λ e. record { levels = levels_of_condition; enough = omega arith; just = λ d. refl; is = wants_memory (λ (v : Vec (VarId × TermId) Global). v.items) _ c.args.store.now c.args.budget.now c.from_residual.result c.from_residual.ensures.1 }

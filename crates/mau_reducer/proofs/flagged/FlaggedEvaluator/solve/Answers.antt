@@ -1,5 +1,4 @@
-use Rattle.std.proofs.Common.{◌≡◌, ◌+◌, List, All, Vec, Global, Option, OnOk, map, length, refl, sym, ap, subst, arith}
-use Rattle.std.specs.Borrow.{Bor}
+use Rattle.std.proofs.Common.{◌≡◌, ◌+◌, All, Vec, Global, map, length, refl, sym, ap, subst, arith}
 use Rattle.mau_terms.specs.declared.ids.VarId.{VarId}
 use Rattle.mau_terms.specs.declared.ids.TermId.{TermId}
 use Rattle.mau_store.proofs.Growth.{extension_is_preorder}
@@ -8,15 +7,14 @@ use Rattle.mau_sorts.specs.Table.{Table, KeepsEntries}
 use Rattle.mau_evaluation.specs.Evaluation.{look_up}
 use Rattle.mau_api.specs.Programs.{fragment_of}
 use Rattle.mau_api.specs.Told.{TellsCondition}
-use Rattle.mau_api.specs.Answers.{levels_of_condition, LeavesEnough, binding_in, IsValueOf, solving_from, MaySolve, IsSolvedExactly}
+use Rattle.mau_api.specs.Answers.{levels_of_condition, LeavesEnough, binding_in, IsValueOf, solving_from}
 use Rattle.mau_reducer.specs.Worlds.{basis_of}
 use Rattle.mau_reducer.specs.Meant.{meanings_of}
 use Rattle.mau_reducer.specs.LaterStates.{same_state, fit_later}
 use Rattle.mau_reducer.specs.Flags.{flags_by}
 use Rattle.mau_reducer.proofs.Asked.{fit_unchanged, meant_alike}
-use Rattle.mau_reducer.proofs.WhatIsSolved.{may_solve, solves_exactly, left_enough, none_of, pairs_in, from_pairs, none_in, ok_in}
-use Rattle.mau_reducer.proofs.Asked.{number_counted, binding_known, asked_ready, kept_before, means_alike, one_each_of, values_paired, tells_paired, loop_answer}
-use Rattle.mau_reducer.proofs.EmptyConditions.{bindings_of}
+use Rattle.mau_reducer.proofs.WhatIsSolved.{may_solve, solves_exactly, left_enough, none_of, pairs_in, from_pairs, none_in, ok_in, wants_memory}
+use Rattle.mau_reducer.proofs.Asked.{number_counted, binding_known, asked_ready, kept_before, means_alike, one_each_of, values_paired, tells_paired, bindings_of, last_known, loop_answer}
 use Rattle.mau_reducer.proofs.flagged.FlaggedEvaluator.solve.Goals as goal
 
 pub solve-solved-requires-clause-ready : goal.solve-solved-requires-clause-ready
@@ -31,6 +29,12 @@ solve-solved-requires-clause-binding g c =
     binding_known (basis_of g.N.Natives.operators c.args.self.now.world.world) c.args.cond.now c.args.bound.now c.requires.condition c.in-Ok.binding c.in-Ok.ensures.pairs c.in-Ok.ensures.one_each
     (basis_of g.N.Natives.operators c.args.self.now.world.world) (basis_of g.N.Natives.operators c.ask.new.self) c.args.store.now c.args.store.now c.args.self.now.world.world.table c.args.self.now.world.world.table c.args.self.now.world.world.begun (same_state (basis_of g.N.Natives.operators c.args.self.now.world.world) c.args.store.now c.args.self.now.world.world.table c.args.self.now.world.world.begun c.requires.fits.0) c.in-Ok.ensures.asks c.requires.bound c.ask.new.self.table c.ask.ensures.table (length c.items.result.now + 1) (number_counted c.items.result.now c.ask.new.self.program.now.equations c.items.ensures)
 
+pub solve-solved-requires-clause-behind : goal.solve-solved-requires-clause-behind
+solve-solved-requires-clause-behind g c =
+    last_known (basis_of g.N.Natives.operators c.args.self.now.world.world) c.args.cond.now c.args.bound.now c.requires.condition c.in-Ok.binding c.in-Ok.ensures.pairs c.in-Ok.ensures.one_each
+    (basis_of g.N.Natives.operators c.args.self.now.world.world) (basis_of g.N.Natives.operators c.ask.new.self) c.args.store.now c.args.store.now c.args.self.now.world.world.table c.args.self.now.world.world.table c.args.self.now.world.world.begun (same_state (basis_of g.N.Natives.operators c.args.self.now.world.world) c.args.store.now c.args.self.now.world.world.table c.args.self.now.world.world.begun c.requires.fits.0) c.in-Ok.ensures.asks c.requires.bound c.ask.new.self.table c.ask.ensures.table (length c.items.result.now + 1) (number_counted c.items.result.now c.ask.new.self.program.now.equations c.items.ensures)
+    (λ x. x.value) c.in_ok-behind.behind (λ x. x.now) c.args.last c.in_ok-behind.ensures.pairs c.in_ok-behind.ensures.one_each c.requires.last
+
 pub as_pairs-requires : goal.as_pairs-requires
 as_pairs-requires g c =
     one_each_of (basis_of g.N.Natives.operators c.args.self.now.world.world) c.args.cond.now c.args.bound.now c.requires.condition c.in-Ok.binding c.in-Ok.ensures.pairs c.in-Ok.ensures.one_each
@@ -39,34 +43,34 @@ as_pairs-requires g c =
 
 pub returns-in-Ok-clause-allowed : goal.returns-in-Ok-clause-allowed
 returns-in-Ok-clause-allowed g c =
-    subst (λ (o : Option (Bor (List (VarId × TermId)))). MaySolve (meanings_of (basis_of g.N.Natives.operators c.args.self.now.world.world)) (solving_from (meanings_of (basis_of g.N.Natives.operators c.args.self.now.world.world)) (bindings_of c.args.store.now o) (map fragment_of c.args.cond.now) (binding_in c.args.store.now c.args.bound.now)) c.args.budget.now c.solve-solved.new.store (pairs_in (λ (v : Vec (VarId × TermId) Global). v.items) c.as_pairs.result)) (sym c.in-None.is)
-    (may_solve (meanings_of (basis_of g.N.Natives.operators c.args.self.now.world.world)) c.levels_of_condition-levels.result c.levels_of_condition-levels.ensures (λ k B. (meanings_of (basis_of g.N.Natives.operators c.args.self.now.world.world)).solving k B (map fragment_of c.args.cond.now) (binding_in c.args.store.now c.args.bound.now))
+    may_solve (meanings_of (basis_of g.N.Natives.operators c.args.self.now.world.world)) c.levels_of_condition-levels.result c.levels_of_condition-levels.ensures (solving_from (meanings_of (basis_of g.N.Natives.operators c.args.self.now.world.world)) (bindings_of c.args.store.now c.args.last) (map fragment_of c.args.cond.now) (binding_in c.args.store.now c.args.bound.now))
     c.args.budget.now c.solve-solved.new.store c.solve-solved.new.budget c.solve-solved.result
     (loop_answer (basis_of g.N.Natives.operators c.args.self.now.world.world) c.args.cond.now c.args.bound.now c.requires.condition c.in-Ok.binding c.in-Ok.ensures.pairs c.in-Ok.ensures.one_each
     (basis_of g.N.Natives.operators c.args.self.now.world.world) (basis_of g.N.Natives.operators c.ask.new.self) c.args.store.now c.args.store.now c.args.self.now.world.world.table c.args.self.now.world.world.table c.args.self.now.world.world.begun (same_state (basis_of g.N.Natives.operators c.args.self.now.world.world) c.args.store.now c.args.self.now.world.world.table c.args.self.now.world.world.begun c.requires.fits.0) c.in-Ok.ensures.asks c.requires.bound c.ask.new.self.table c.ask.ensures.table (length c.items.result.now + 1) (number_counted c.items.result.now c.ask.new.self.program.now.equations c.items.ensures)
-    (basis_of g.N.Natives.operators c.solve-solved.new.resting.world) c.solve-solved.new.store c.solve-solved.new.resting.world.table c.solve-solved.new.resting.world.begun c.solve-solved.ensures.grows c.levels_of_condition-levels.result c.args.budget.now c.solve-solved.new.budget c.solve-solved.result c.solve-solved.ensures.some c.solve-solved.ensures.none c.solve-solved.ensures.ends)
-    (pairs_in (λ (v : Vec (VarId × TermId) Global). v.items) c.as_pairs.result) c.as_pairs.ensures)
+    (basis_of g.N.Natives.operators c.solve-solved.new.resting.world) c.solve-solved.new.store c.solve-solved.new.resting.world.table c.solve-solved.new.resting.world.begun c.solve-solved.ensures.grows
+    (λ x. x.value) c.in_ok-behind.behind (λ x. x.now) c.args.last c.in_ok-behind.ensures.pairs c.in_ok-behind.ensures.one_each c.requires.last c.levels_of_condition-levels.result c.args.budget.now c.solve-solved.new.budget c.solve-solved.result c.solve-solved.ensures.some c.solve-solved.ensures.none c.solve-solved.ensures.ends)
+    (pairs_in (λ (v : Vec (VarId × TermId) Global). v.items) c.as_pairs.result) c.as_pairs.ensures
 
 pub returns-in-Ok-clause-exact : goal.returns-in-Ok-clause-exact
 returns-in-Ok-clause-exact g c =
-    λ e.
-    subst (λ (o : Option (Bor (List (VarId × TermId)))). IsSolvedExactly (meanings_of (basis_of g.N.Natives.operators c.args.self.now.world.world)) (solving_from (meanings_of (basis_of g.N.Natives.operators c.args.self.now.world.world)) (bindings_of c.args.store.now o) (map fragment_of c.args.cond.now) (binding_in c.args.store.now c.args.bound.now)) c.args.budget.now c.solve-solved.new.store (pairs_in (λ (v : Vec (VarId × TermId) Global). v.items) c.as_pairs.result) c.solve-solved.new.budget) (sym c.in-None.is)
-    (solves_exactly (meanings_of (basis_of g.N.Natives.operators c.args.self.now.world.world)) c.levels_of_condition-levels.result c.levels_of_condition-levels.ensures (λ k B. (meanings_of (basis_of g.N.Natives.operators c.args.self.now.world.world)).solving k B (map fragment_of c.args.cond.now) (binding_in c.args.store.now c.args.bound.now))
+    λ e. solves_exactly (meanings_of (basis_of g.N.Natives.operators c.args.self.now.world.world)) c.levels_of_condition-levels.result c.levels_of_condition-levels.ensures (solving_from (meanings_of (basis_of g.N.Natives.operators c.args.self.now.world.world)) (bindings_of c.args.store.now c.args.last) (map fragment_of c.args.cond.now) (binding_in c.args.store.now c.args.bound.now))
     c.args.budget.now c.solve-solved.new.store c.solve-solved.new.budget c.solve-solved.result
     (loop_answer (basis_of g.N.Natives.operators c.args.self.now.world.world) c.args.cond.now c.args.bound.now c.requires.condition c.in-Ok.binding c.in-Ok.ensures.pairs c.in-Ok.ensures.one_each
     (basis_of g.N.Natives.operators c.args.self.now.world.world) (basis_of g.N.Natives.operators c.ask.new.self) c.args.store.now c.args.store.now c.args.self.now.world.world.table c.args.self.now.world.world.table c.args.self.now.world.world.begun (same_state (basis_of g.N.Natives.operators c.args.self.now.world.world) c.args.store.now c.args.self.now.world.world.table c.args.self.now.world.world.begun c.requires.fits.0) c.in-Ok.ensures.asks c.requires.bound c.ask.new.self.table c.ask.ensures.table (length c.items.result.now + 1) (number_counted c.items.result.now c.ask.new.self.program.now.equations c.items.ensures)
-    (basis_of g.N.Natives.operators c.solve-solved.new.resting.world) c.solve-solved.new.store c.solve-solved.new.resting.world.table c.solve-solved.new.resting.world.begun c.solve-solved.ensures.grows c.levels_of_condition-levels.result c.args.budget.now c.solve-solved.new.budget c.solve-solved.result c.solve-solved.ensures.some c.solve-solved.ensures.none c.solve-solved.ensures.ends)
-    (pairs_in (λ (v : Vec (VarId × TermId) Global). v.items) c.as_pairs.result) c.as_pairs.ensures)
+    (basis_of g.N.Natives.operators c.solve-solved.new.resting.world) c.solve-solved.new.store c.solve-solved.new.resting.world.table c.solve-solved.new.resting.world.begun c.solve-solved.ensures.grows
+    (λ x. x.value) c.in_ok-behind.behind (λ x. x.now) c.args.last c.in_ok-behind.ensures.pairs c.in_ok-behind.ensures.one_each c.requires.last c.levels_of_condition-levels.result c.args.budget.now c.solve-solved.new.budget c.solve-solved.result c.solve-solved.ensures.some c.solve-solved.ensures.none c.solve-solved.ensures.ends)
+    (pairs_in (λ (v : Vec (VarId × TermId) Global). v.items) c.as_pairs.result) c.as_pairs.ensures
 
 pub returns-in-Ok-clause-left : goal.returns-in-Ok-clause-left
 returns-in-Ok-clause-left g c =
-    subst (λ (o : Option (Bor (List (VarId × TermId)))). OnOk c.as_pairs.result (LeavesEnough (solving_from (meanings_of (basis_of g.N.Natives.operators c.args.self.now.world.world)) (bindings_of c.args.store.now o) (map fragment_of c.args.cond.now) (binding_in c.args.store.now c.args.bound.now) levels_of_condition c.args.self.now.world.world.limit c.args.budget.now) c.solve-solved.new.budget)) (sym c.in-None.is)
-    (ok_in (λ (v : Vec (VarId × TermId) Global). v.items) (LeavesEnough ((meanings_of (basis_of g.N.Natives.operators c.args.self.now.world.world)).solving levels_of_condition c.args.self.now.world.world.limit (map fragment_of c.args.cond.now) (binding_in c.args.store.now c.args.bound.now) c.args.budget.now) c.solve-solved.new.budget) c.as_pairs.result (left_enough (meanings_of (basis_of g.N.Natives.operators c.args.self.now.world.world)) c.levels_of_condition-levels.result c.levels_of_condition-levels.ensures (λ k B. (meanings_of (basis_of g.N.Natives.operators c.args.self.now.world.world)).solving k B (map fragment_of c.args.cond.now) (binding_in c.args.store.now c.args.bound.now))
+    ok_in (λ (v : Vec (VarId × TermId) Global). v.items) (LeavesEnough ((solving_from (meanings_of (basis_of g.N.Natives.operators c.args.self.now.world.world)) (bindings_of c.args.store.now c.args.last) (map fragment_of c.args.cond.now) (binding_in c.args.store.now c.args.bound.now)) levels_of_condition c.args.self.now.world.world.limit c.args.budget.now) c.solve-solved.new.budget) c.as_pairs.result
+    (left_enough (meanings_of (basis_of g.N.Natives.operators c.args.self.now.world.world)) c.levels_of_condition-levels.result c.levels_of_condition-levels.ensures (solving_from (meanings_of (basis_of g.N.Natives.operators c.args.self.now.world.world)) (bindings_of c.args.store.now c.args.last) (map fragment_of c.args.cond.now) (binding_in c.args.store.now c.args.bound.now))
     c.args.budget.now c.solve-solved.new.store c.solve-solved.new.budget c.solve-solved.result
     (loop_answer (basis_of g.N.Natives.operators c.args.self.now.world.world) c.args.cond.now c.args.bound.now c.requires.condition c.in-Ok.binding c.in-Ok.ensures.pairs c.in-Ok.ensures.one_each
     (basis_of g.N.Natives.operators c.args.self.now.world.world) (basis_of g.N.Natives.operators c.ask.new.self) c.args.store.now c.args.store.now c.args.self.now.world.world.table c.args.self.now.world.world.table c.args.self.now.world.world.begun (same_state (basis_of g.N.Natives.operators c.args.self.now.world.world) c.args.store.now c.args.self.now.world.world.table c.args.self.now.world.world.begun c.requires.fits.0) c.in-Ok.ensures.asks c.requires.bound c.ask.new.self.table c.ask.ensures.table (length c.items.result.now + 1) (number_counted c.items.result.now c.ask.new.self.program.now.equations c.items.ensures)
-    (basis_of g.N.Natives.operators c.solve-solved.new.resting.world) c.solve-solved.new.store c.solve-solved.new.resting.world.table c.solve-solved.new.resting.world.begun c.solve-solved.ensures.grows c.levels_of_condition-levels.result c.args.budget.now c.solve-solved.new.budget c.solve-solved.result c.solve-solved.ensures.some c.solve-solved.ensures.none c.solve-solved.ensures.ends)
-    (pairs_in (λ (v : Vec (VarId × TermId) Global). v.items) c.as_pairs.result) c.as_pairs.ensures))
+    (basis_of g.N.Natives.operators c.solve-solved.new.resting.world) c.solve-solved.new.store c.solve-solved.new.resting.world.table c.solve-solved.new.resting.world.begun c.solve-solved.ensures.grows
+    (λ x. x.value) c.in_ok-behind.behind (λ x. x.now) c.args.last c.in_ok-behind.ensures.pairs c.in_ok-behind.ensures.one_each c.requires.last c.levels_of_condition-levels.result c.args.budget.now c.solve-solved.new.budget c.solve-solved.result c.solve-solved.ensures.some c.solve-solved.ensures.none c.solve-solved.ensures.ends)
+    (pairs_in (λ (v : Vec (VarId × TermId) Global). v.items) c.as_pairs.result) c.as_pairs.ensures)
 
 pub returns-in-Ok-clause-values : goal.returns-in-Ok-clause-values
 returns-in-Ok-clause-values g c =
@@ -138,12 +142,5 @@ returns-in-Err-clause-fits g c =
           c.args.self.now.world.levels.items c.requires.fits.2,
     )
 
-pub returns-in-Some-clause-fits : goal.returns-in-Some-clause-fits
-returns-in-Some-clause-fits g c =
-    let e = c.solve.ensures in (
-      e.fits.0,
-      e.fits.1,
-      flags_by g.L.Lister.with_context g.L.Lister.asked g.L.Lister.given g.L.Lister.is_for g.M.Lister.asked g.M.Lister.given g.M.Lister.is_for
-          (basis_of g.N.Natives.operators c.args.self.now.world.world) (basis_of g.N.Natives.operators c.solve.new.self) e.meanings c.args.store.now c.solve.new.store
-          c.args.self.now.world.world.table c.solve.new.self.table c.solve.new.self.begun e.extends e.kept e.fits.0.derived e.fits.0.identities c.args.self.now.world.levels.items c.requires.fits.2,
-    )
+pub returns-in_err-behind-clause-exact : goal.returns-in_err-behind-clause-exact
+returns-in_err-behind-clause-exact g c = λ e. record { levels = levels_of_condition; enough = omega arith; just = λ d. refl; is = wants_memory (λ (v : Vec (VarId × TermId) Global). v.items) _ c.args.store.now c.args.budget.now c.from_residual.result c.from_residual.ensures.1 }

@@ -1,7 +1,4 @@
-use Rattle.std.proofs.Common.{◌∷◌}
-use Rattle.mau_strat.specs.Interned.{Interned}
-use Rattle.mau_strat.specs.Sharing.{list_at}
-use Rattle.mau_strat.proofs.Interning.{bound_adds, bound_grows, bound_in, bound_within}
+use Rattle.mau_strat.proofs.Interning.{bound_adds, bound_within}
 use Rattle.mau_strat.proofs.configs.Interner.add_bound.Goals as goal
 
 pub returns-clause-within : goal.returns-clause-within

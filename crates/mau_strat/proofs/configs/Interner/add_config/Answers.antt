@@ -1,6 +1,3 @@
-use Rattle.std.proofs.Common.{◌∷◌}
-use Rattle.mau_strat.specs.Interned.{Interned}
-use Rattle.mau_strat.specs.Sharing.{list_at}
 use Rattle.mau_strat.proofs.Interning.{config_adds, config_grows, config_in, config_within}
 use Rattle.mau_strat.proofs.configs.Interner.add_config.Goals as goal
 

@@ -1,7 +1,4 @@
-use Rattle.std.proofs.Common.{◌∷◌}
-use Rattle.mau_strat.specs.Interned.{Interned}
-use Rattle.mau_strat.specs.Sharing.{list_at}
-use Rattle.mau_strat.proofs.Interning.{todo_adds, todo_grows, todo_in, todo_within}
+use Rattle.mau_strat.proofs.Interning.{todo_adds, todo_within}
 use Rattle.mau_strat.proofs.configs.Interner.add_todo.Goals as goal
 
 pub returns-clause-within : goal.returns-clause-within

@@ -1,5 +1,5 @@
-use Rattle.std.proofs.Common.{◌≡◌, List, [], ◌∷◌, sym, subst}
-use Rattle.mau_strat.specs.Interned.{Interned, nothing, IsInterned}
+use Rattle.std.proofs.Common.{sym, subst}
+use Rattle.mau_strat.specs.Interned.{IsInterned}
 use Rattle.mau_strat.proofs.Interning.{nothing_is}
 use Rattle.mau_strat.proofs.configs.Interner.new.Goals as goal
 

@@ -1,4 +1,4 @@
-use Rattle.std.proofs.Common.{◌≡◌, ℕ, List, Contains, IsTrue, ◌↔◌, sym, subst}
+use Rattle.std.proofs.Common.{Contains, IsTrue, ◌↔◌, sym, subst}
 use Rattle.std.specs.Cmp.{nat_eq_equiv}
 use Rattle.std.proofs.lemmas.Map.Views.{hash_set_contains_iff, exact_unsigned_eq}
 use Rattle.mau_strat.proofs.listed.Listed.contains.Goals as goal

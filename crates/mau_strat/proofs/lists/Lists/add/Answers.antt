@@ -1,6 +1,5 @@
-use Rattle.std.proofs.Common.{◌≡◌, ◌⊎◌, ℕ, suc, ◌+◌, ◌<◌, ◌≤◌, List, [], ◌∷◌, ◌++◌, length, slice_get, Some, if◌then◌else◌, add-one, subst, sym, ◌∙◌, ap, arith}
-use Rattle.mau_strat.specs.declared.lists.Link.{Link}
-use Rattle.mau_strat.specs.Sharing.{EachOnce, list_at, lists_of, AreLinks}
+use Rattle.std.proofs.Common.{◌≡◌, ◌⊎◌, suc, [], ◌∷◌, ◌++◌, slice_get, Some, add-one, subst, sym}
+use Rattle.mau_strat.specs.Sharing.{EachOnce, list_at, lists_of}
 use Rattle.mau_strat.proofs.Inserted.{IsInserted, inserted_key, placed}
 use Rattle.mau_strat.proofs.Linked.{link_eq, Decides-link, links_inserted, list_added, list_inserted, lists_once, rest_within}
 use Rattle.mau_strat.proofs.lists.Lists.add.Goals as goal

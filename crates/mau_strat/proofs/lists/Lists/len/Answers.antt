@@ -1,4 +1,4 @@
-use Rattle.std.proofs.Common.{◌≡◌, ℕ, ◌+◌, length, ap, arith}
+use Rattle.std.proofs.Common.{length, ap, arith}
 use Rattle.mau_strat.proofs.Linked.{length-lists_of}
 use Rattle.mau_strat.proofs.lists.Lists.len.Goals as goal
 

@@ -1,6 +1,6 @@
-use Rattle.std.proofs.Common.{◌≡◌, ℕ, ◌-◌, ◌<◌, ◌≤◌, List, [], ◌∷◌, length, get_or, slice_get, Some, subst, sym, ◌∙◌, ap, arith}
+use Rattle.std.proofs.Common.{◌≡◌, ◌-◌, length, get_or, slice_get, Some, subst, sym, ◌∙◌, ap, arith}
 use Rattle.std.proofs.lemmas.Option.{slice_get-get_or}
-use Rattle.mau_strat.specs.Sharing.{EachOnce, list_at, lists_of}
+use Rattle.mau_strat.specs.Sharing.{EachOnce}
 use Rattle.mau_strat.proofs.Linked.{lists_once, rest_within, first_empty, parts_of}
 use Rattle.mau_strat.proofs.lists.Lists.parts.Goals as goal
 

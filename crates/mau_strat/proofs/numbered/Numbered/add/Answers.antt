@@ -1,4 +1,4 @@
-use Rattle.std.proofs.Common.{◌≡◌, ◌⊎◌, ℕ, List, [], ◌∷◌, ◌++◌, slice_get, Some, if◌then◌else◌, subst, sym, ◌∙◌, ap}
+use Rattle.std.proofs.Common.{◌≡◌, ◌⊎◌, [], ◌∷◌, ◌++◌, subst, sym}
 use Rattle.mau_strat.specs.Sharing.{EachOnce}
 use Rattle.mau_strat.proofs.Inserted.{IsInserted, inserted_key, once_inserted, added, placed}
 use Rattle.mau_strat.proofs.numbered.Numbered.add.Goals as goal

@@ -1,4 +1,4 @@
-use Rattle.std.proofs.Common.{◌≡◌, ℕ, ◌+◌, ◌-◌, List, [], ◌∷◌, ◌++◌, length, vec_len, Contains, refl, ◌∙◌, ap, rules}
+use Rattle.std.proofs.Common.{◌≡◌, ◌+◌, ◌-◌, [], ◌∷◌, ◌++◌, length, vec_len, Contains, refl, ◌∙◌, ap, rules}
 use Rattle.mau_strat.proofs.Stacks.{set_last, set_below}
 use Rattle.mau_strat.proofs.walk.Walk.enter.Goals as goal
 

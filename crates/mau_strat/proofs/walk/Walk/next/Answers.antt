@@ -1,11 +1,10 @@
-use Rattle.std.proofs.Common.{◌≡◌, ℕ, ◌<◌, ◌≤◌, List, [], ◌∷◌, ◌++◌, length, get_or, Contains, Bool, true, false, sym, ◌∙◌, subst}
+use Rattle.std.proofs.Common.{◌≤◌, length, get_or, Contains, sym, ◌∙◌, subst}
 use Rattle.std.proofs.lemmas.Result.{err_from_is_err_and}
 use Rattle.std.proofs.lemmas.List.Elements.{Contains-push}
-use Rattle.mau_strat.specs.declared.walk.Went.TheVariants.{Done, Again, Entered}
 use Rattle.mau_strat.specs.Walks.{IsWayTo}
 use Rattle.mau_strat.specs.Steps.{TurnIs}
 use Rattle.mau_strat.proofs.Ways.{parents_count, parents_earlier, way_to}
-use Rattle.mau_strat.proofs.Goes.{none_yet, on_done, on_solved, on_end, on_again, on_entered}
+use Rattle.mau_strat.proofs.Goes.{on_done, on_solved, on_end, on_again, on_entered}
 use Rattle.mau_strat.proofs.walk.Walk.next.Goals as goal
 use Rattle.mau_strat.proofs.walk.Walk.next.Goals.{in-Again, in-Entered+else-is_solution}
 

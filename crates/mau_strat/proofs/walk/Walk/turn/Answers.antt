@@ -1,9 +1,9 @@
-use Rattle.std.proofs.Common.{◌≡◌, ℕ, ◌-◌, ◌<◌, ◌≤◌, List, [], ◌∷◌, ◌++◌, length, take, Contains, Option, Some, None, sym, ◌∙◌, ap, subst}
+use Rattle.std.proofs.Common.{ℕ, ◌-◌, ◌≤◌, [], ◌∷◌, ◌++◌, length, take, Contains, sym, ◌∙◌, ap, subst}
 use Rattle.std.proofs.lemmas.List.Elements.{Contains-push}
 use Rattle.mau_evaluation.specs.Reach.{IsNextEntry}
 use Rattle.mau_strat.specs.Walks.{IsRun}
 use Rattle.mau_strat.specs.Steps.{IfTooMany}
-use Rattle.mau_strat.proofs.Turns.{Gives, front, top_is, run_kept, top_entry, top_behind, top_given, top_listed, ended, run_none, given_one, next_entry, entered_run, entered_turn, entered_ready, all_closed}
+use Rattle.mau_strat.proofs.Turns.{Gives, front, top_is, run_kept, top_entry, top_behind, top_given, top_listed, ended, run_none, given_one, next_entry, entered_run, entered_turn, entered_ready}
 use Rattle.mau_strat.proofs.walk.Walk.turn.Goals as goal
 
 pub successor-requires-clause-entry : goal.successor-requires-clause-entry

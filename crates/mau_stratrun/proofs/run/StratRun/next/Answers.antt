@@ -1,10 +1,12 @@
 use Rattle.std.proofs.Common.{◌++◌, Contains, Ok, ap, ◌∙◌, sym, subst}
 use Rattle.std.proofs.lemmas.List.Elements.{Contains-push}
+use Rattle.mau_strat.specs.declared.configs.Config.{Config as StoredConfig}
 use Rattle.mau_strat.specs.Walks.{AnswerIs, WayIs}
 use Rattle.mau_stratrun.specs.States.{config_in, begins_in, next_in}
 use Rattle.mau_stratrun.specs.Courses.{state_in, is_solution}
+use Rattle.mau_stratrun.proofs.FormKinds.{in_all}
 use Rattle.mau_stratrun.proofs.Adding.{config_is}
-use Rattle.mau_stratrun.proofs.Running.{solved, new_one, whole_run, run_end, adds_none, adds_one}
+use Rattle.mau_stratrun.proofs.Running.{solved, new_one, given_is, whole_run, run_end, adds_none, adds_one}
 use Rattle.mau_stratrun.proofs.Pathing.{path_to}
 use Rattle.mau_stratrun.proofs.run.StratRun.next.Goals as goal
 
@@ -63,3 +65,24 @@ returns-in-Err-clause-adds g c =
     let s = (state_in (g.X.Leaves.world c.next.new.engine.leaves) c.next.new.engine.forms c.next.new.engine.interner) in
     let end = c.in-Err.ensures.end in
     adds_none s c.args.self.now.walk.listed end.0 end.2 c.next.new.self.listed end.1
+
+pub returns-in-Ok-Some-clause-goes_on : goal.returns-in-Ok-Some-clause-goes_on
+returns-in-Ok-Some-clause-goes_on g c =
+    let s = (state_in (g.X.Leaves.world c.next.new.engine.leaves) c.next.new.engine.forms c.next.new.engine.interner) in
+    let answer = subst (AnswerIs (begins_in s) (next_in s) (λ n. is_solution (config_in s n)) c.args.self.now.walk.listed c.next.new.self.listed) c.in-Ok-Some.field-0-is c.in-Ok-Some.ensures.answer in
+    (answer.0, c.in-Ok-Some.number, answer.1, answer.2, given_is s c.next.ensures.ready.1.facts.state c.next.new.self.listed c.next.ensures.ready.2 c.in-Ok-Some.number c.config-config.result (config_is s c.in-Ok-Some.number c.config-config.result c.config-config.ensures.config) answer.3)
+
+pub returns-in-Ok-None-clause-goes_on : goal.returns-in-Ok-None-clause-goes_on
+returns-in-Ok-None-clause-goes_on g c =
+    let s = (state_in (g.X.Leaves.world c.next.new.engine.leaves) c.next.new.engine.forms c.next.new.engine.interner) in
+    let answer = subst (AnswerIs (begins_in s) (next_in s) (λ n. is_solution (config_in s n)) c.args.self.now.walk.listed c.next.new.self.listed) c.in-Ok-None.field-0-is c.in-Ok-None.ensures.answer in
+    (answer.0, answer.1, answer.2, answer.3)
+
+pub returns-in-Err-clause-goes_on : goal.returns-in-Err-clause-goes_on
+returns-in-Err-clause-goes_on g c =
+    let end = c.in-Err.ensures.end in
+    (end.0, end.1, end.2)
+
+pub returns-in-Ok-Some-clause-term : goal.returns-in-Ok-Some-clause-term
+returns-in-Ok-Some-clause-term g c =
+    in_all (λ (x : StoredConfig). (g.X.Leaves.world c.next.new.engine.leaves).is_term x.term.0) c.next.new.engine.interner.configs c.in-Ok-Some.number c.config-config.result c.next.ensures.ready.1.facts.terms c.config-config.ensures.config

@@ -60,3 +60,6 @@ returns-in-Ok-start-clause-began g c =
     (map (todo_by (state_in (g.X.Leaves.world c.args.leaves) c.args.forms i) own) (c.args.strategy.0 ∷ []) ++ todos_in (state_in (g.X.Leaves.world c.args.leaves) c.args.forms i) 0) (frames_in (state_in (g.X.Leaves.world c.args.leaves) c.args.forms i) 0))
     c.new-interner.ensures (c.in-Ok.ensures.config (g.X.Leaves.world c.args.leaves).setting c.args.forms begun named) in
     ap (λ xs. config_in (state_in (g.X.Leaves.world c.args.leaves) c.args.forms c.enter.new.interner) (slice_index xs 0)) c.in-Ok-start.ensures.listed ∙ config
+
+pub returns-in-Ok-start-clause-alone : goal.returns-in-Ok-start-clause-alone
+returns-in-Ok-start-clause-alone g c = ap length c.in-Ok-start.ensures.listed

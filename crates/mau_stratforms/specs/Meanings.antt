@@ -1,5 +1,5 @@
 -- Strategies of a program, and their definitions, as the definitions of evaluation see them: by the trees of their terms.
-use Rattle.std.specs.Prelude.{map}
+use Rattle.std.specs.Prelude.{List, map}
 use Rattle.mau_terms.specs.View.{tree_of, variable_of}
 use Rattle.mau_program.specs.declared.strategies.TestKind as WrittenKind
 use Rattle.mau_program.specs.declared.strategies.TestKind.TheVariants as Kind
@@ -46,6 +46,10 @@ abbrev mutual
   pub parts_of : Written.Uses → PartUses
   parts_of Written.no_uses = no_parts
   parts_of (Written.use_of v s us) = part_use (variable_of v) (meaning_of s) (parts_of us)
+
+-- what strategies mean, one by one
+abbrev pub meant : List Written.StrategyOf → List Strategy
+meant ss = map meaning_of ss
 
 abbrev pub definition_of : WrittenDef.StratDef → StratDef
 definition_of d = record { name = d.name; args = d.args; body = meaning_of d.body; cond = map fragment_of d.cond }

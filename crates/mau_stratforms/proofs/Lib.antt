@@ -1,0 +1,4 @@
+pub mod Making
+pub mod Bodies
+pub mod Sames
+pub mod Leaves
