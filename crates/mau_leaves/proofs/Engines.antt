@@ -3,7 +3,7 @@ use Rattle.std.proofs.Common.{◌≡◌, ◌⊎◌, inl, inr, ℕ, List, [], ◌
 use Rattle.mau_terms.specs.Tree.{Tree}
 use Rattle.mau_terms.specs.Subst.{Variable, same_variable, variables, instance}
 use Rattle.mau_terms.proofs.Variables.{same_itself}
-use Rattle.mau_evaluation.specs.Run.{End, ended, Run}
+use Rattle.mau_evaluation.specs.Run.{End, Outcome, done, ended, Run, gives, counted, go_on, choose}
 use Rattle.mau_evaluation.specs.Program.{Fragment, equals, matches, has_sort, reaches, Program}
 use Rattle.mau_evaluation.specs.Listing.{same_tree, keep, solutions}
 use Rattle.mau_evaluation.specs.Evaluation.{Binding, Level, look_up, extend, agree, has_number, have_sorts}
@@ -27,6 +27,38 @@ but_by {A = A} t n e m b = by (t && (b == n))
 but_there : {A : Type 0} (t : Bool) (n : ℕ) (e : End) (m : Run A) → t ≡ true → but_ends t n e m n ≡ ended e
 but_there t n e m h = ap (λ c. if c then ended e else m n) (and_so t (n == n) h (eq-eqb n n refl))
 
+-- ---- computations that may end instead, in a row
+
+counted_or : {B : Type 0} (r : ℕ) (e : End) (m n : Outcome B) → (m ≡ n) ⊎ (m ≡ ended e) → (counted r m ≡ counted r n) ⊎ (counted r m ≡ ended e)
+counted_or r e m n (inl h) = inl (ap (counted r) h)
+counted_or r e m n (inr h) = inr (ap (counted r) h)
+
+module _ {A B : Type 0} (k m : A → Run B) (e : End) (h : (x : A) (c : ℕ) → (k x c ≡ m x c) ⊎ (k x c ≡ ended e)) where
+  same_or : (o : Outcome A) → (go_on k o ≡ go_on m o) ⊎ (go_on k o ≡ ended e)
+  same_or (done x r c) = counted_or r e (k x c) (m x c) (h x c)
+  same_or (ended f) = inl refl
+
+  step_or : (o p : Outcome A) → (o ≡ p) ⊎ (o ≡ ended e) → (go_on k o ≡ go_on m p) ⊎ (go_on k o ≡ ended e)
+  step_or o p (inl z) = by (same_or p)
+    where
+      by : (go_on k p ≡ go_on m p) ⊎ (go_on k p ≡ ended e) → (go_on k o ≡ go_on m p) ⊎ (go_on k o ≡ ended e)
+      by (inl w) = inl (ap (go_on k) z ∙ w)
+      by (inr w) = inr (ap (go_on k) z ∙ w)
+  step_or o p (inr z) = inr (ap (go_on k) z)
+
+module _ (f g : Tree → Run (List ℕ)) (e : End) (h : (v : Tree) (b : ℕ) → (f v b ≡ g v b) ⊎ (f v b ≡ ended e)) where
+  chosen_or : (xs : List Variable) (vs : List Tree) → ((c : ℕ) → (have_sorts f xs vs c ≡ have_sorts g xs vs c) ⊎ (have_sorts f xs vs c ≡ ended e)) → (t : Bool) (c : ℕ) →
+      (choose t (have_sorts f xs vs) (gives false) c ≡ choose t (have_sorts g xs vs) (gives false) c) ⊎ (choose t (have_sorts f xs vs) (gives false) c ≡ ended e)
+  chosen_or xs vs rest true c = rest c
+  chosen_or xs vs rest false c = inl refl
+
+  have_or : (xs : List Variable) (vs : List Tree) (b : ℕ) → (have_sorts f xs vs b ≡ have_sorts g xs vs b) ⊎ (have_sorts f xs vs b ≡ ended e)
+  have_or [] vs b = inl refl
+  have_or (x ∷ xs) [] b = inl refl
+  have_or (x ∷ xs) (v ∷ vs) b =
+      step_or (λ ss. choose (has_number ss x.1) (have_sorts f xs vs) (gives false)) (λ ss. choose (has_number ss x.1) (have_sorts g xs vs) (gives false)) e
+      (λ ss c. chosen_or xs vs (have_or xs vs) (has_number ss x.1) c) (f v b) (g v b) (h v b)
+
 module _ (L : Engine) (q : Question) (e : End) where
   pub eval_or : (t : Tree) → ((without L q e).level.eval t (without L q e).budget ≡ L.level.eval t L.budget) ⊎ ((without L q e).level.eval t (without L q e).budget ≡ ended e)
   eval_or t = elim q as (λ q. ((without L q e).level.eval t (without L q e).budget ≡ L.level.eval t L.budget) ⊎ ((without L q e).level.eval t (without L q e).budget ≡ ended e)) [
@@ -36,14 +68,18 @@ module _ (L : Engine) (q : Question) (e : End) where
     | asks_after last c σ ↦ inl refl
   ]
 
-  -- sorts, which leave the budget as it is
-  pub sorts_or : (v : Tree) → ((without L q e).level.sorts v (without L q e).budget ≡ L.level.sorts v L.budget) ⊎ ((without L q e).level.sorts v (without L q e).budget ≡ ended e)
-  sorts_or v = elim q as (λ q. ((without L q e).level.sorts v (without L q e).budget ≡ L.level.sorts v L.budget) ⊎ ((without L q e).level.sorts v (without L q e).budget ≡ ended e)) [
+  sorts_or : (v : Tree) (b : ℕ) → ((without L q e).level.sorts v b ≡ L.level.sorts v b) ⊎ ((without L q e).level.sorts v b ≡ ended e)
+  sorts_or v b = elim q as (λ q. ((without L q e).level.sorts v b ≡ L.level.sorts v b) ⊎ ((without L q e).level.sorts v b ≡ ended e)) [
     | evaluates u ↦ inl refl
-    | takes_sorts u ↦ but_by (same_tree v u) L.budget e (L.level.sorts v) L.budget
+    | takes_sorts u ↦ but_by (same_tree v u) L.budget e (L.level.sorts v) b
     | asks c σ ↦ inl refl
     | asks_after last c σ ↦ inl refl
   ]
+
+  -- whether values have the sorts of variables
+  pub having_or : (xs : List Variable) (vs : List Tree) (b : ℕ) →
+      (have_sorts (without L q e).level.sorts xs vs b ≡ have_sorts L.level.sorts xs vs b) ⊎ (have_sorts (without L q e).level.sorts xs vs b ≡ ended e)
+  having_or = have_or (without L q e).level.sorts L.level.sorts e sorts_or
 
   ask_or : (c : List Fragment) (σ : Binding) → ((without L q e).ask c σ (without L q e).budget ≡ L.ask c σ L.budget) ⊎ ((without L q e).ask c σ (without L q e).budget ≡ ended e)
   ask_or c σ = elim q as (λ q. ((without L q e).ask c σ (without L q e).budget ≡ L.ask c σ L.budget) ⊎ ((without L q e).ask c σ (without L q e).budget ≡ ended e)) [

@@ -14,9 +14,6 @@ pub mod Limits
 pub mod Throughs
 -- a search in a store that has grown
 pub mod Searching
--- which solutions of a left side have the sorts of its variables, and what is known of one that is listed
-pub mod PlainTrying
-pub mod PlainValues
 -- the next solution of a rule's left side, as a listing gives it
 pub mod Listings
 -- tables of an evaluator
@@ -45,3 +42,11 @@ pub mod TopSteps
 pub mod Follows
 -- a variable that no pattern of a rule has is not determined
 pub mod NotDetermined
+-- the bodies of a call, definition after definition
+pub mod Definitions
+-- the bodies of a call as a run has them
+pub mod Calling
+-- tests
+pub mod Holding
+-- the cursors of who gives the results of leaves, as there are more terms
+pub mod Cursors

@@ -1,15 +1,18 @@
 -- What is left of the uses of a rule, with one engine, as its solutions are gone through and their conditions are asked.
-use Rattle.std.proofs.Common.{◌≡◌, ◌⊎◌, inl, inr, ℕ, List, [], ◌∷◌, ◌++◌, Bool, true, false, ◌&&◌, if◌then◌else◌, Option, Some, None, refl, sym, ap, ◌∙◌}
+use Rattle.std.proofs.Common.{◌≡◌, ◌⊎◌, inl, inr, ℕ, List, [], ◌∷◌, ◌++◌, Bool, true, false, ◌&&◌, Option, Some, None, refl, sym, ap, ◌∙◌, subst}
 use Rattle.mau_terms.specs.Tree.{Tree}
-use Rattle.mau_terms.specs.Subst.{Variable, variables}
-use Rattle.mau_evaluation.specs.Run.{End, done, ended, Run, gives, counted, go_on, choose}
+use Rattle.mau_terms.specs.Finite.{IsIn}
+use Rattle.mau_terms.specs.Subst.{variables}
+use Rattle.mau_listing.specs.Finite.{comes_behind}
+use Rattle.mau_evaluation.specs.Run.{End, done, ended}
 use Rattle.mau_evaluation.specs.Program.{Rule, Program}
-use Rattle.mau_evaluation.specs.Listing.{Solution}
-use Rattle.mau_evaluation.specs.Evaluation.{Binding, agree, has_number, have_sorts}
+use Rattle.mau_evaluation.specs.Listing.{Solution, compare, solutions_within}
+use Rattle.mau_evaluation.specs.Evaluation.{Binding, agree, have_sorts}
 use Rattle.mau_evaluation.specs.Engine.{Engine}
 use Rattle.mau_evaluation.specs.Rules.{bound_by}
 use Rattle.mau_evaluation.specs.Answers.{Answers, no_more, ends_by, and_those, for_each, asking, from_outcome, when}
 use Rattle.mau_evaluation.specs.OrderedLists.{asked}
+use Rattle.mau_evaluation.proofs.Listed.{from_keep}
 use Rattle.mau_leaves.specs.Steps.{Gives, IsOver, Passes, EndsNow}
 use Rattle.mau_leaves.specs.Uses.{Use, behind, at_one, solutions_behind, use_by, condition_from, uses_for, uses_at, uses_among, IsLeft}
 use Rattle.mau_rules.proofs.Passing.{AllFail, no_more_fail, one_fails}
@@ -37,42 +40,26 @@ module _ (P : Program) (L : Engine) (right : AsksRightly P L) (q : Rule) (σ : B
   pub use_ends : (f : End) → condition_from P L o q.cond (bound_by P L q σ x) L.budget ≡ ended f → EndsNow (IsLeft P L q σ t (at_one x o)) f
   use_ends f e p (rest, n, h) = h ∙ ap (λ z. and_those (for_each (use_by q x) z) tail) (asked_ends P L right q.cond (bound_by P L q σ x) o f e rest n)
 
--- ---- sorts of values, where each may end instead
+-- ---- lists in two parts
 
-module _ (L : Engine) (X : Type 0) (e : End) (plain : Tree → List ℕ) (sorts : (v : Tree) → (L.level.sorts v L.budget ≡ done (plain v) 0 L.budget) ⊎ (X × (L.level.sorts v L.budget ≡ ended e)))
-    (having : List Variable → List Tree → Bool) (none : (vs : List Tree) → having [] vs ≡ true) (few : (x : Variable) (xs : List Variable) → having (x ∷ xs) [] ≡ false)
-    (more : (x : Variable) (xs : List Variable) (v : Tree) (vs : List Tree) → having (x ∷ xs) (v ∷ vs) ≡ (if has_number (plain v) x.1 then having xs vs else false)) where
-  abbrev rest_of : Variable → List Variable → List Tree → List ℕ → Run Bool
-  rest_of x xs vs ss = choose (has_number ss x.1) (have_sorts L.level.sorts xs vs) (gives false)
+in_first : {A : Type 0} (xs ys : List A) (x : A) → IsIn x xs → IsIn x (xs ++ ys)
+in_first [] ys x i = absurd i
+in_first (z ∷ xs) ys x (inl e) = inl e
+in_first (z ∷ xs) ys x (inr i) = inr (in_first xs ys x i)
 
-  pub have_or : (xs : List Variable) (vs : List Tree) → (have_sorts L.level.sorts xs vs L.budget ≡ done (having xs vs) 0 L.budget) ⊎ (X × (have_sorts L.level.sorts xs vs L.budget ≡ ended e))
-  have_or [] vs = inl (ap (λ b. done b 0 L.budget) (sym (none vs)))
-  have_or (x ∷ xs) [] = inl (ap (λ b. done b 0 L.budget) (sym (few x xs)))
-  have_or (x ∷ xs) (v ∷ vs) = first (have_or xs vs) (sorts v)
-    where
-      then_those : (b : Bool) → (have_sorts L.level.sorts xs vs L.budget ≡ done (having xs vs) 0 L.budget) ⊎ (X × (have_sorts L.level.sorts xs vs L.budget ≡ ended e)) →
-          (counted 0 (choose b (have_sorts L.level.sorts xs vs) (gives false) L.budget) ≡ done (if b then having xs vs else false) 0 L.budget)
-          ⊎ (X × (counted 0 (choose b (have_sorts L.level.sorts xs vs) (gives false) L.budget) ≡ ended e))
-      then_those true (inl h) = inl (ap (counted 0) h)
-      then_those true (inr h) = inr (h.0, ap (counted 0) h.1)
-      then_those false h = inl refl
+in_last : {A : Type 0} (xs : List A) (x : A) → IsIn x (xs ++ x ∷ [])
+in_last [] x = inl refl
+in_last (z ∷ xs) x = inr (in_last xs x)
 
-      at : (counted 0 (rest_of x xs vs (plain v) L.budget) ≡ done (if has_number (plain v) x.1 then having xs vs else false) 0 L.budget) ⊎ (X × (counted 0 (rest_of x xs vs (plain v) L.budget) ≡ ended e)) →
-          L.level.sorts v L.budget ≡ done (plain v) 0 L.budget →
-          (have_sorts L.level.sorts (x ∷ xs) (v ∷ vs) L.budget ≡ done (having (x ∷ xs) (v ∷ vs)) 0 L.budget) ⊎ (X × (have_sorts L.level.sorts (x ∷ xs) (v ∷ vs) L.budget ≡ ended e))
-      at (inl h) k = inl (ap (go_on (rest_of x xs vs)) k ∙ (h ∙ ap (λ b. done b 0 L.budget) (sym (more x xs v vs))))
-      at (inr h) k = inr (h.0, ap (go_on (rest_of x xs vs)) k ∙ h.1)
-
-      first : (have_sorts L.level.sorts xs vs L.budget ≡ done (having xs vs) 0 L.budget) ⊎ (X × (have_sorts L.level.sorts xs vs L.budget ≡ ended e)) →
-          (L.level.sorts v L.budget ≡ done (plain v) 0 L.budget) ⊎ (X × (L.level.sorts v L.budget ≡ ended e)) →
-          (have_sorts L.level.sorts (x ∷ xs) (v ∷ vs) L.budget ≡ done (having (x ∷ xs) (v ∷ vs)) 0 L.budget) ⊎ (X × (have_sorts L.level.sorts (x ∷ xs) (v ∷ vs) L.budget ≡ ended e))
-      first h (inl k) = at (then_those (has_number (plain v) x.1) h) k
-      first h (inr k) = inr (k.0, ap (go_on (rest_of x xs vs)) k.1)
+in_two : {A : Type 0} (xs ys : List A) (x : A) → (xs ++ x ∷ []) ++ ys ≡ xs ++ (x ∷ ys)
+in_two [] ys x = refl
+in_two (z ∷ xs) ys x = ap (λ zs. z ∷ zs) (in_two xs ys x)
 
 -- ---- solutions are gone through
 
 module _ (P : Program) (L : Engine) (q : Rule) (σ : Binding) (t : Tree) (X : Type 0) (e : End) (test : Solution → Bool)
-    (sorted : (y : Solution) → (have_sorts L.level.sorts (variables q.left) y.values L.budget ≡ done (test y) 0 L.budget) ⊎ (X × (have_sorts L.level.sorts (variables q.left) y.values L.budget ≡ ended e))) where
+    (sorted : (y : Solution) → IsIn y (solutions_within P.sign q.left t) →
+    (have_sorts L.level.sorts (variables q.left) y.values L.budget ≡ done (test y) 0 L.budget) ⊎ (X × (have_sorts L.level.sorts (variables q.left) y.values L.budget ≡ ended e))) where
   -- the values agree with what is bound, and have their sorts
   abbrev pub accepted : Solution → Bool
   accepted y = agree P.sign.theory σ (variables q.left) y.values && test y
@@ -80,9 +67,12 @@ module _ (P : Program) (L : Engine) (q : Rule) (σ : Binding) (t : Tree) (X : Ty
   abbrev asks_at : Solution → Answers Use
   asks_at y = asking L.budget (have_sorts L.level.sorts (variables q.left) y.values) (λ ok. when ok (uses_for P L q σ y))
 
-  at_sorts : (y : Solution) → (asking L.budget (have_sorts L.level.sorts (variables q.left) y.values) (λ ok. when ok (uses_for P L q σ y)) ≡ when (test y) (uses_for P L q σ y))
+  abbrev IsListed : Solution → Type 0
+  IsListed y = IsIn y (solutions_within P.sign q.left t)
+
+  at_sorts : (y : Solution) → IsListed y → (asking L.budget (have_sorts L.level.sorts (variables q.left) y.values) (λ ok. when ok (uses_for P L q σ y)) ≡ when (test y) (uses_for P L q σ y))
       ⊎ (X × (asking L.budget (have_sorts L.level.sorts (variables q.left) y.values) (λ ok. when ok (uses_for P L q σ y)) ≡ ends_by e))
-  at_sorts y = by (sorted y)
+  at_sorts y listed = by (sorted y listed)
     where
       by : (have_sorts L.level.sorts (variables q.left) y.values L.budget ≡ done (test y) 0 L.budget) ⊎ (X × (have_sorts L.level.sorts (variables q.left) y.values L.budget ≡ ended e)) →
           (asking L.budget (have_sorts L.level.sorts (variables q.left) y.values) (λ ok. when ok (uses_for P L q σ y)) ≡ when (test y) (uses_for P L q σ y))
@@ -90,17 +80,17 @@ module _ (P : Program) (L : Engine) (q : Rule) (σ : Binding) (t : Tree) (X : Ty
       by (inl h) = inl (ap (from_outcome (λ ok. when ok (uses_for P L q σ y))) h)
       by (inr h) = inr (h.0, ap (from_outcome (λ ok. when ok (uses_for P L q σ y))) h.1)
 
-  one_by : (y : Solution) → (uses_at P L q σ y ≡ when (accepted y) (uses_for P L q σ y)) ⊎ (X × (uses_at P L q σ y ≡ ends_by e))
-  one_by y = by (agree P.sign.theory σ (variables q.left) y.values) (at_sorts y)
+  one_by : (y : Solution) → IsListed y → (uses_at P L q σ y ≡ when (accepted y) (uses_for P L q σ y)) ⊎ (X × (uses_at P L q σ y ≡ ends_by e))
+  one_by y listed = by (agree P.sign.theory σ (variables q.left) y.values) (at_sorts y listed)
     where
       by : (b : Bool) → (asks_at y ≡ when (test y) (uses_for P L q σ y)) ⊎ (X × (asks_at y ≡ ends_by e)) → (when b (asks_at y) ≡ when (b && test y) (uses_for P L q σ y)) ⊎ (X × (when b (asks_at y) ≡ ends_by e))
       by true h = h
       by false h = inl refl
 
   -- those that are not accepted give nothing
-  over_all : (failed rest : List Solution) → AllFail accepted failed → (uses_among P L q σ (failed ++ rest) ≡ uses_among P L q σ rest) ⊎ (X × (uses_among P L q σ (failed ++ rest) ≡ ends_by e))
-  over_all [] rest no_more_fail = inl refl
-  over_all (y ∷ ys) rest (one_fails h hs) = by (one_by y) (over_all ys rest hs)
+  over_all : (failed rest : List Solution) → ((y : Solution) → IsIn y failed → IsListed y) → AllFail accepted failed → (uses_among P L q σ (failed ++ rest) ≡ uses_among P L q σ rest) ⊎ (X × (uses_among P L q σ (failed ++ rest) ≡ ends_by e))
+  over_all [] rest listed no_more_fail = inl refl
+  over_all (y ∷ ys) rest listed (one_fails h hs) = by (one_by y (listed y (inl refl))) (over_all ys rest (λ z i. listed z (inr i)) hs)
     where
       by : (uses_at P L q σ y ≡ when (accepted y) (uses_for P L q σ y)) ⊎ (X × (uses_at P L q σ y ≡ ends_by e)) →
           (uses_among P L q σ (ys ++ rest) ≡ uses_among P L q σ rest) ⊎ (X × (uses_among P L q σ (ys ++ rest) ≡ ends_by e)) →
@@ -110,10 +100,15 @@ module _ (P : Program) (L : Engine) (q : Rule) (σ : Binding) (t : Tree) (X : Ty
       by (inr k) m = inr (k.0, ap (λ z. and_those z (uses_among P L q σ (ys ++ rest))) k.1)
 
   module _ (last : Option Solution) where
+    -- those behind the last one are listed
+    among : (failed ys : List Solution) → solutions_behind P q t last ≡ failed ++ ys → (y : Solution) → IsIn y failed → IsListed y
+    among failed ys parts y i =
+        (from_keep (comes_behind (compare P.sign.theory q.left) last) y (solutions_within P.sign q.left t) (subst (IsIn y) (sym parts) (in_first failed ys y i))).0
+
     -- the next one that is accepted
     pub next_one : (failed ys : List Solution) (x : Solution) → solutions_behind P q t last ≡ failed ++ (x ∷ ys) → AllFail accepted failed → accepted x ≡ true → solutions_behind P q t (Some x) ≡ ys →
         Passes (IsLeft P L q σ t (behind last)) (IsLeft P L q σ t (at_one x None)) ⊎ (X × EndsNow (IsLeft P L q σ t (behind last)) e)
-    next_one failed ys x parts fails passes rest = by (over_all failed (x ∷ ys) fails) (one_by x)
+    next_one failed ys x parts fails passes rest = by (over_all failed (x ∷ ys) (among failed (x ∷ ys) parts) fails) (one_by x (among (failed ++ x ∷ []) ys (parts ∙ sym (in_two failed ys x)) x (in_last failed x)))
       where
         by : (uses_among P L q σ (failed ++ (x ∷ ys)) ≡ uses_among P L q σ (x ∷ ys)) ⊎ (X × (uses_among P L q σ (failed ++ (x ∷ ys)) ≡ ends_by e)) → (uses_at P L q σ x ≡ when (accepted x) (uses_for P L q σ x)) ⊎ (X × (uses_at P L q σ x ≡ ends_by e)) →
             Passes (IsLeft P L q σ t (behind last)) (IsLeft P L q σ t (at_one x None)) ⊎ (X × EndsNow (IsLeft P L q σ t (behind last)) e)
@@ -128,7 +123,7 @@ module _ (P : Program) (L : Engine) (q : Rule) (σ : Binding) (t : Tree) (X : Ty
 
     -- no other one is accepted
     pub no_other : (failed : List Solution) → solutions_behind P q t last ≡ failed ++ [] → AllFail accepted failed → IsOver (IsLeft P L q σ t (behind last)) ⊎ (X × EndsNow (IsLeft P L q σ t (behind last)) e)
-    no_other failed parts fails = by (over_all failed [] fails)
+    no_other failed parts fails = by (over_all failed [] (among failed [] parts) fails)
       where
         by : (uses_among P L q σ (failed ++ []) ≡ no_more) ⊎ (X × (uses_among P L q σ (failed ++ []) ≡ ends_by e)) → IsOver (IsLeft P L q σ t (behind last)) ⊎ (X × EndsNow (IsLeft P L q σ t (behind last)) e)
         by (inl h) = inl (λ p n. n ∙ (ap (uses_among P L q σ) parts ∙ h))

@@ -26,7 +26,7 @@ use Rattle.mau_evaluation.specs.OrderedLists.{may_use}
 use Rattle.mau_api.specs.Programs.{rule_of, program_over}
 use Rattle.mau_api.specs.declared.results.EvalEnd.{EvalEnd}
 use Rattle.mau_reduce.proofs.Numbered.{is_among}
-use Rattle.mau_leaves.specs.Plain.{IsPlain}
+use Rattle.mau_rules.specs.Runnable.{IsRunnable}
 use Rattle.mau_rules.proofs.Shown.{lawful_rule, fragments_here}
 use Rattle.mau_leaves.specs.Steps.{Gives, IsOver, Passes, Before, Throughout}
 use Rattle.mau_leaves.specs.Uses.{Use, behind, uses_among, uses_by, IsLeft, uses_if_chosen, uses_of_all}
@@ -40,13 +40,13 @@ use Rattle.mau_leaves.proofs.Behind.{all_of_them}
 use Rattle.mau_leaves.proofs.Steps.{through_always, first_gives, first_passes, first_over, first_due}
 
 -- an executable rule can be used
-pub exec_usable : (p : Typed.Program) → IsPlain p → (i : ℕ) (rule : Written.Rule) → slice_get p.rules i ≡ Some rule → rule.exec ≡ true → IsUsable p.sig rule
+pub exec_usable : (p : Typed.Program) → IsRunnable p → (i : ℕ) (rule : Written.Rule) → slice_get p.rules i ≡ Some rule → rule.exec ≡ true → IsUsable p.sig rule
 exec_usable p run i rule at exec =
-    let lawful = lawful_rule p run.runnable i rule at in
+    let lawful = lawful_rule p run i rule at in
     record {
       sides = lawful.parts.sides;
       condition = record {
-        fragments = fragments_here p run.runnable i rule at exec;
+        fragments = fragments_here p run i rule at exec;
         bound = (and_parts (are_bound (variables (tree_of rule.left)) rule.cond) _ (lawful.bound exec)).0;
         apart = distinct (tree_of rule.left) [] tt;
       };
@@ -107,7 +107,7 @@ module _ (p : Typed.Program) (hooks : List Operator) (chosen : Rule → Bool) (t
       through_always (engine_of P) (λ L q. q ≡ All_from L n) {H = λ L. IsOver (λ q. q ≡ All_from L n)} (λ L q e. e ∙ ap (λ rs. uses_of_all P L chosen t (map rule_of rs)) (drop_none p.rules n h))
 
   -- an executable rule that is chosen is begun
-  pub begins : (run : IsPlain p) (n : ℕ) (rule : Written.Rule) → slice_get p.rules n ≡ Some rule → chosen (rule_of rule) ≡ true → rule.exec ≡ true →
+  pub begins : (run : IsRunnable p) (n : ℕ) (rule : Written.Rule) → slice_get p.rules n ≡ Some rule → chosen (rule_of rule) ≡ true → rule.exec ≡ true →
       Throughout (engine_of (program_over p hooks)) (λ L q. q ≡ uses_of_all (program_over p hooks) L chosen t (map rule_of (drop n p.rules)))
       (λ L. Passes (λ q. q ≡ uses_of_all (program_over p hooks) L chosen t (map rule_of (drop n p.rules)))
       (Before (uses_of_all (program_over p hooks) L chosen t (map rule_of (drop (suc n) p.rules))) (IsLeft (program_over p hooks) L (rule_of rule) [] t (behind None))))
@@ -120,7 +120,7 @@ module _ (p : Typed.Program) (hooks : List Operator) (chosen : Rule → Bool) (t
       ))
     where
       no_reach : has_reach (rule_of rule).cond ≡ false
-      no_reach = run.runnable.no_reach (rule_of rule) (in_mapped rule_of p.rules rule (is_among p.rules n rule at)) exec
+      no_reach = run.no_reach (rule_of rule) (in_mapped rule_of p.rules rule (is_among p.rules n rule at)) exec
 
       all : (L : Engine) → uses_if_chosen P L chosen t (rule_of rule) ≡ uses_by P L (rule_of rule) [] t
       all L =
@@ -181,7 +181,7 @@ module _ {K : Type 0} (asked : K → Asked) (given : K → Option Listed.Solutio
 
 -- ---- as a rule that is begun has them
 
-pub as_begun : {K : Type 0} (asked : K → Asked) (given : K → Option Listed.Solution) (p : Typed.Program) (hooks : List Operator) (chosen : Rule → Bool) → IsPlain p → (nodes : List Node) (term n : ℕ) (rule : Written.Rule) →
+pub as_begun : {K : Type 0} (asked : K → Asked) (given : K → Option Listed.Solution) (p : Typed.Program) (hooks : List Operator) (chosen : Rule → Bool) → IsRunnable p → (nodes : List Node) (term n : ℕ) (rule : Written.Rule) →
     slice_get p.rules n ≡ Some rule → chosen (rule_of rule) ≡ true → rule.exec ≡ true → (u : RuleUses K) → given u.listing ≡ None → u.standing ≡ Behind → (asked u.listing).subject.0 ≡ term →
     Throughout (engine_of (program_over p hooks)) (left_behind asked given p hooks chosen (tree_at nodes term) nodes n None) (λ L.
     Passes (left_behind asked given p hooks chosen (tree_at nodes term) nodes n None L) (left_behind asked given p hooks chosen (tree_at nodes term) nodes n (Some u) L))

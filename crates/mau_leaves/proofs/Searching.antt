@@ -1,11 +1,14 @@
 -- A search in a store that has grown.
-use Rattle.std.proofs.Common.{◌≡◌, List, [], Bool, Option, Some, None, IfSome, refl, sym, ap, ◌∙◌, subst}
+use Rattle.std.proofs.Common.{◌≡◌, ℕ, List, [], Bool, Option, Some, None, IfSome, refl, sym, ap, ◌∙◌, subst}
 use Rattle.std.specs.List.{zip}
 use Rattle.mau_terms.specs.Tree.{Tree}
+use Rattle.mau_terms.specs.Bare.{IsBare}
+use Rattle.mau_terms.specs.Reading.{reading}
 use Rattle.mau_terms.specs.View.{tree_of}
 use Rattle.mau_terms.specs.declared.ids.TermId.{TermId}
 use Rattle.mau_terms.specs.declared.ids.VarId.{VarId}
-use Rattle.mau_signature.specs.Signature.{theory_at}
+use Rattle.mau_signature.specs.Signature.{theory_at, terms_over}
+use Rattle.mau_canon.proofs.Standing.{stands_within_extended}
 use Rattle.mau_store.specs.Node.{Node, Extends}
 use Rattle.mau_store.specs.Trees.{tree_at, trees_at}
 use Rattle.mau_store.specs.View.{numbers}
@@ -21,6 +24,7 @@ use Rattle.mau_evaluation.specs.Evaluation.{binding_of}
 use Rattle.mau_cond.proofs.Grown.{each, value_grown, bound_grown}
 use Rattle.mau_api.specs.Programs.{rule_of, program_over}
 use Rattle.mau_api.specs.Meanings.{Meanings}
+use Rattle.mau_api.specs.Terms.{IsTerm}
 use Rattle.mau_api.specs.Answers.{binding_in, IsValueOf, IsSolutionOf, AreSettled}
 use Rattle.mau_reduce.specs.Trying.{solution_in}
 use Rattle.mau_reduce.proofs.KindsKept.{tree_kept}
@@ -51,6 +55,17 @@ module _ (p : Typed.Program) (old new : List Node) (before after : Table) (exten
   at_grown rule t u same x is =
       subst (λ (v : Tree). IsAtSolution p.sig rule v new after x) (sym same)
       (record { valued = valued_grown (tree_of rule.left) x is.valued; contexts = contexts_grown p old new extends t (numbers x.left) (numbers x.right) is.contexts; kind = is.kind })
+
+  -- so is a term whose sorts are settled
+  pub term_grown : (n : ℕ) → IsTerm p.sig old n → IsTerm p.sig new n
+  term_grown n is = record {
+    within = stands_within_extended (theory_at p.sig) old new extends n is.within;
+    bare = subst (λ (t : Tree). IsBare (terms_over p.sig) (reading (theory_at p.sig) t)) (sym (tree_kept (theory_at p.sig) old new n extends is.within)) is.bare;
+  }
+
+  pub settled_later : (n : ℕ) → IsTerm p.sig old n → AreSettled p.sig old before (tree_at old n) → AreSettled p.sig new after (tree_at new n)
+  settled_later n is settled =
+      subst (AreSettled p.sig new after) (sym (tree_kept (theory_at p.sig) old new n extends is.within)) (settled_grown p.sig old new before after (tree_at old n) extends kept settled)
 
   module _ (m : Meanings) (rule : Written.Rule) where
     shown_grown : (x : Listed.Solution) → AreOfStore old x → (found : List (VarId × TermId)) → IsShownFor m p.sig rule old before x found → IsShownFor m p.sig rule new after x found

@@ -1,12 +1,13 @@
 -- Steps throughout, by what an evaluator answered.
-use Rattle.std.proofs.Common.{◌≡◌, ◌⊎◌, inl, inr, ℕ, List, [], ◌∷◌, ◌++◌, Bool, true, false, ◌&&◌, if◌then◌else◌, Option, Some, None, sym, ap, ◌∙◌}
+use Rattle.std.proofs.Common.{◌≡◌, ◌⊎◌, inl, inr, ℕ, List, [], ◌∷◌, ◌++◌, Bool, true, ◌&&◌, Option, Some, None, sym, ap, ◌∙◌}
 use Rattle.mau_terms.specs.Tree.{Tree}
 use Rattle.mau_terms.specs.Bare.{IsLawful}
-use Rattle.mau_terms.specs.Subst.{Variable, variables}
+use Rattle.mau_terms.specs.Finite.{IsIn}
+use Rattle.mau_terms.specs.Subst.{variables}
 use Rattle.mau_evaluation.specs.Run.{End, stopped, done, ended}
 use Rattle.mau_evaluation.specs.Program.{Fragment, Rule, Program}
-use Rattle.mau_evaluation.specs.Listing.{Solution}
-use Rattle.mau_evaluation.specs.Evaluation.{Binding, extend, agree, has_number, have_sorts}
+use Rattle.mau_evaluation.specs.Listing.{Solution, solutions_within}
+use Rattle.mau_evaluation.specs.Evaluation.{Binding, extend, agree, have_sorts}
 use Rattle.mau_evaluation.specs.Engine.{Engine, engine_of}
 use Rattle.mau_evaluation.specs.Answers.{Answers}
 use Rattle.mau_evaluation.specs.Eventually.{Eventually}
@@ -18,9 +19,9 @@ use Rattle.mau_leaves.specs.Steps.{Gives, IsOver, Passes, EndsNow, Throughout}
 use Rattle.mau_leaves.specs.Uses.{Use, behind, at_one, solutions_behind, question_from, condition_from, IsLeft}
 use Rattle.mau_leaves.specs.Answers.{ComesTo, QuestionEnds, IsDueBy}
 use Rattle.mau_rules.proofs.Passing.{AllFail}
-use Rattle.mau_leaves.proofs.Engines.{AsksRightly, without_right, budget_same, eval_or, sorts_or, condition_or, condition_there, eval_there}
+use Rattle.mau_leaves.proofs.Engines.{AsksRightly, without_right, budget_same, having_or, eval_or, condition_or, condition_there, eval_there}
 use Rattle.mau_leaves.proofs.Steps.{both_so, so, always_so}
-use Rattle.mau_leaves.proofs.Moves.{use_given, use_passed, use_ends, have_or, next_one, no_other}
+use Rattle.mau_leaves.proofs.Moves.{use_given, use_passed, use_ends, next_one, no_other}
 
 -- an end of a question without which an end is left
 pub due_by : {A : Type 0} (P : Program) (b : ℕ) (now : Engine → Answers A → Type 0) (q : Question) (e : EvalEnd) → QuestionEnds P b q e → ((f : End) → Eventually (engine_of P) (λ L. EndsNow (now (without L q f)) f)) → IsDueBy P b now e
@@ -30,7 +31,7 @@ due_by P b now q Overflow h n = record { question = q; ends = h; needs = n }
 due_by P b now q NoMemory h n = tt
 
 module _ (P : Program) (lawful : IsLawful P.sign) where
-  rightly : (k B b : ℕ) → AsksRightly P (engine_of P k B b)
+  pub rightly : (k B b : ℕ) → AsksRightly P (engine_of P k B b)
   rightly k B b = let h = askings_are_right P lawful k B b in record { first = h.0; next = h.1 }
 
   -- ---- the next solution of a condition
@@ -105,33 +106,30 @@ module _ (P : Program) (lawful : IsLawful P.sign) where
 
 -- ---- the uses of a rule, as its solutions are gone through
 
-module _ (P : Program) (plain : Tree → List ℕ) (sorts : (k B b : ℕ) (v : Tree) → (engine_of P k B b).level.sorts v b ≡ done (plain v) 0 b)
-    (having : List Variable → List Tree → Bool) (none : (vs : List Tree) → having [] vs ≡ true) (few : (x : Variable) (xs : List Variable) → having (x ∷ xs) [] ≡ false)
-    (more : (x : Variable) (xs : List Variable) (v : Tree) (vs : List Tree) → having (x ∷ xs) (v ∷ vs) ≡ (if has_number (plain v) x.1 then having xs vs else false))
-    (q : Rule) (σ : Binding) (t : Tree) where
-  abbrev test : Solution → Bool
-  test y = having (variables q.left) y.values
-
+module _ (P : Program) (q : Rule) (σ : Binding) (t : Tree) (test : Solution → Bool)
+    (sorted : Eventually (engine_of P) (λ L. (y : Solution) → IsIn y (solutions_within P.sign q.left t) → have_sorts L.level.sorts (variables q.left) y.values L.budget ≡ done (test y) 0 L.budget)) where
   abbrev Sorted : Engine → Type 0 → End → Type 0
-  Sorted L X e = (y : Solution) → (have_sorts L.level.sorts (variables q.left) y.values L.budget ≡ done (test y) 0 L.budget) ⊎ (X × (have_sorts L.level.sorts (variables q.left) y.values L.budget ≡ ended e))
+  Sorted L X e = (y : Solution) → IsIn y (solutions_within P.sign q.left t) →
+      (have_sorts L.level.sorts (variables q.left) y.values L.budget ≡ done (test y) 0 L.budget) ⊎ (X × (have_sorts L.level.sorts (variables q.left) y.values L.budget ≡ ended e))
 
-  sorted_at : (k B b : ℕ) → Sorted (engine_of P k B b) ⊥ stopped
-  sorted_at k B b y = have_or (engine_of P k B b) ⊥ stopped plain (λ v. inl (sorts k B b v)) having none few more (variables q.left) y.values
+  abbrev Told : Engine → Type 0
+  Told L = (y : Solution) → IsIn y (solutions_within P.sign q.left t) → have_sorts L.level.sorts (variables q.left) y.values L.budget ≡ done (test y) 0 L.budget
 
-  sorted_without : (k B b : ℕ) (u : Question) (e : End) → Sorted (without (engine_of P k B b) u e) (Unit {0}) e
-  sorted_without k B b u e y = have_or (without (engine_of P k B b) u e) (Unit {0}) e plain (λ v. by v (sorts_or (engine_of P k B b) u e v)) having none few more (variables q.left) y.values
+  sorted_without : (L : Engine) (u : Question) (e : End) → Told L → Sorted (without L u e) (Unit {0}) e
+  sorted_without L u e told y listed = by (having_or L u e (variables q.left) y.values (without L u e).budget)
     where
-      by : (v : Tree) → ((without (engine_of P k B b) u e).level.sorts v (without (engine_of P k B b) u e).budget ≡ (engine_of P k B b).level.sorts v b) ⊎ ((without (engine_of P k B b) u e).level.sorts v (without (engine_of P k B b) u e).budget ≡ ended e) →
-          ((without (engine_of P k B b) u e).level.sorts v (without (engine_of P k B b) u e).budget ≡ done (plain v) 0 (without (engine_of P k B b) u e).budget)
-          ⊎ (Unit {0} × ((without (engine_of P k B b) u e).level.sorts v (without (engine_of P k B b) u e).budget ≡ ended e))
-      by v (inl h) = inl (h ∙ (sorts k B b v ∙ ap (done (plain v) 0) (sym (budget_same (engine_of P k B b) u e))))
-      by v (inr h) = inr (tt, h)
+      by : (have_sorts (without L u e).level.sorts (variables q.left) y.values (without L u e).budget ≡ have_sorts L.level.sorts (variables q.left) y.values (without L u e).budget)
+          ⊎ (have_sorts (without L u e).level.sorts (variables q.left) y.values (without L u e).budget ≡ ended e) →
+          (have_sorts (without L u e).level.sorts (variables q.left) y.values (without L u e).budget ≡ done (test y) 0 (without L u e).budget)
+          ⊎ (Unit {0} × (have_sorts (without L u e).level.sorts (variables q.left) y.values (without L u e).budget ≡ ended e))
+      by (inl h) = inl (h ∙ (ap (have_sorts L.level.sorts (variables q.left) y.values) (budget_same L u e) ∙ (told y listed ∙ ap (done (test y) 0) (sym (budget_same L u e)))))
+      by (inr h) = inr (tt, h)
 
   -- what holds of each engine, where sorts are given or end
   through : (now : Engine → Answers Use → Type 0) (H : Engine → Type 0) → ((L : Engine) (X : Type 0) (e : End) → Sorted L X e → H L ⊎ (X × EndsNow (now L) e)) → Throughout (engine_of P) now H
   through now H f = record {
-    always = always_so (engine_of P) {A = H} (λ k B b. here (engine_of P k B b) (f (engine_of P k B b) ⊥ stopped (sorted_at k B b)));
-    without_one = λ u e. always_so (engine_of P) {A = λ L. H (without L u e) ⊎ EndsNow (now (without L u e)) e} (λ k B b. there (without (engine_of P k B b) u e) e (f (without (engine_of P k B b) u e) (Unit {0}) e (sorted_without k B b u e)));
+    always = so (engine_of P) {A = Told} {B = H} (λ L told. here L (f L ⊥ stopped (λ y listed. inl (told y listed)))) sorted;
+    without_one = λ u e. so (engine_of P) {A = Told} {B = λ L. H (without L u e) ⊎ EndsNow (now (without L u e)) e} (λ L told. there (without L u e) e (f (without L u e) (Unit {0}) e (sorted_without L u e told))) sorted;
   }
     where
       here : (L : Engine) → H L ⊎ (⊥ × EndsNow (now L) stopped) → H L

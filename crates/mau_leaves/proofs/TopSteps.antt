@@ -16,7 +16,7 @@ use Rattle.mau_evaluation.specs.Answers.{Answers}
 use Rattle.mau_api.specs.Programs.{program_over}
 use Rattle.mau_api.specs.Meanings.{Meanings}
 use Rattle.mau_api.specs.declared.results.EvalEnd.{EvalEnd}
-use Rattle.mau_leaves.specs.Plain.{IsPlain}
+use Rattle.mau_rules.specs.Runnable.{IsRunnable}
 use Rattle.mau_leaves.specs.Steps.{Gives, IsOver, Passes, Throughout}
 use Rattle.mau_leaves.specs.Uses.{Use, value_at}
 use Rattle.mau_leaves.specs.Answers.{GivesValue, IsDueBy}
@@ -35,7 +35,7 @@ top_with place due = record { place = place; due = due }
 never_due : (d : Bool) → d ≡ false → {X : Type 0} → d ≡ true → X
 never_due d e h = cc
 
-module _ {K : Type 0} (asked : K → Asked) (given : K → Option Listed.Solution) (is_for : K → SignatureOf → Type 0) (c : Bool) (p : Typed.Program) (run : IsPlain p) (m : Meanings) (old : List Node) (before : Table) (top : TopResults K)
+module _ {K : Type 0} (asked : K → Asked) (given : K → Option Listed.Solution) (is_for : K → SignatureOf → Type 0) (c : Bool) (p : Typed.Program) (run : IsRunnable p) (m : Meanings) (old : List Node) (before : Table) (top : TopResults K)
     (is : IsTop asked given is_for c p m old before top) where
   abbrev P : Program
   P = program_over p m.hooks
@@ -96,11 +96,11 @@ module _ {K : Type 0} (asked : K → Asked) (given : K → Option Listed.Solutio
           subst (λ (f : Engine → Answers Tree → Type 0). Throughout (engine_of P) f (λ L. Gives (f L) (tree_at new id.0) (Left chosen new (top_with top.place false) L))) was_due
           (subst (λ (g : Engine → Answers Tree → Type 0). Throughout (engine_of P) (λ L. values_left (value_at P L (root_at t)) (now L) (Some u) true)
           (λ L. Gives (values_left (value_at P L (root_at t)) (now L) (Some u) true) (tree_at new id.0) (g L))) is_given
-          (value_result P run.runnable.reducible.lawful (root_at t) now u w (λ L. refl) (tree_at new id.0) (use_at asked given p new top.place) comes))
+          (value_result P run.reducible.lawful (root_at t) now u w (λ L. refl) (tree_at new id.0) (use_at asked given p new top.place) comes))
 
       pub value_ends : (b : ℕ) (e : EvalEnd) → GivesValue (program_over p m.hooks) b (rewritten (program_over p m.hooks) (engine_of (program_over p m.hooks) 0 0 0) u.rule (root_at (tree_at old top.place.term.0)) u.solution u.values) new (Err e) →
           IsDueBy (program_over p m.hooks) b (left_of_top asked given p m.hooks chosen old top) e
-      value_ends b e h = subst (λ (f : Engine → Answers Tree → Type 0). IsDueBy P b f e) was_due (value_due P run.runnable.reducible.lawful (root_at t) now u w (λ L. refl) b e h)
+      value_ends b e h = subst (λ (f : Engine → Answers Tree → Type 0). IsDueBy P b f e) was_due (value_due P run.reducible.lawful (root_at t) now u w (λ L. refl) b e h)
 
   -- ---- the next use
 

@@ -3,10 +3,13 @@ use Rattle.std.proofs.Common.{◌≡◌, ℕ, List, [], All, Vec, Global, Bool, 
 use Rattle.std.specs.Option.{option_map}
 use Rattle.mau_terms.specs.Tree.{Tree}
 use Rattle.mau_terms.specs.Norm.{norm}
+use Rattle.mau_terms.specs.Finite.{IsIn}
+use Rattle.mau_terms.specs.Subst.{variables}
+use Rattle.mau_terms.specs.Solution.{HaveSorts}
 use Rattle.mau_terms.specs.View.{tree_of}
 use Rattle.mau_terms.specs.declared.ids.TermId.{TermId}
 use Rattle.mau_terms.specs.declared.ids.VarId.{VarId}
-use Rattle.mau_signature.specs.Signature.{SignatureOf, theory_at}
+use Rattle.mau_signature.specs.Signature.{SignatureOf, theory_at, terms_over}
 use Rattle.mau_store.specs.Node.{Node, Extends}
 use Rattle.mau_store.specs.Trees.{tree_at}
 use Rattle.mau_sorts.specs.HasSort.{Known}
@@ -20,7 +23,7 @@ use Rattle.mau_listing.proofs.Growth.{given_is_last}
 use Rattle.mau_program.specs.declared.program.Program as Typed
 use Rattle.mau_program.specs.declared.statements.Rule as Written
 use Rattle.mau_evaluation.specs.Program.{Program}
-use Rattle.mau_evaluation.specs.Listing.{Solution}
+use Rattle.mau_evaluation.specs.Listing.{Solution, solutions_within}
 use Rattle.mau_evaluation.specs.Evaluation.{binding_of}
 use Rattle.mau_evaluation.specs.Engine.{Engine, engine_of}
 use Rattle.mau_evaluation.specs.Answers.{Answers}
@@ -29,14 +32,15 @@ use Rattle.mau_api.specs.Remaining.{as_matcher}
 use Rattle.mau_api.specs.Meanings.{Meanings, meanings_by}
 use Rattle.mau_api.specs.Answers.{binding_in, IsValueOf, IsSolutionOf, IsDerivedTable}
 use Rattle.mau_api.specs.declared.results.EvalEnd.{EvalEnd}
+use Rattle.mau_reduce.specs.Tables.{IsSortTable}
 use Rattle.mau_reduce.specs.Trying.{solution_in}
 use Rattle.mau_reduce.proofs.KindsKept.{tree_kept}
-use Rattle.mau_reduce.proofs.Candidates.{matchers_of}
-use Rattle.mau_rules.specs.Runnable.{GoesBy}
-use Rattle.mau_leaves.specs.Plain.{IsPlain}
+use Rattle.mau_reduce.proofs.Candidates.{matchers_of, part_listed}
+use Rattle.mau_reduce.proofs.DerivedKinds.{sort_table}
+use Rattle.mau_rules.specs.Runnable.{IsRunnable, GoesBy}
 use Rattle.mau_rules.specs.Found.{IsValued}
 use Rattle.mau_rules.proofs.Answered.{derived_as, next_as}
-use Rattle.mau_leaves.proofs.PlainValues.{listed_valued, listed_contexts, listed_of_kind}
+use Rattle.mau_rules.proofs.Valued.{listed_valued, listed_contexts, listed_of_kind}
 use Rattle.mau_leaves.specs.Steps.{Gives, IsOver, Passes, Throughout}
 use Rattle.mau_leaves.specs.Uses.{Use, behind, at_one, IsLeft}
 use Rattle.mau_leaves.specs.Answers.{IsNextShown, IsDueBy}
@@ -47,7 +51,7 @@ use Rattle.mau_leaves.specs.declared.uses.Standing.TheVariants.{Behind, Before, 
 use Rattle.mau_leaves.proofs.Steps.{through_always}
 use Rattle.mau_leaves.proofs.Throughs.{given_through, passed_through, due_through}
 use Rattle.mau_leaves.proofs.Searching.{solution_same, of_store, search_grown, left_same}
-use Rattle.mau_leaves.proofs.Listings.{none_next, one_next, IsNextOf}
+use Rattle.mau_leaves.proofs.Listings.{none_next, one_next, GoesAt}
 
 stand_at : (nodes : List Node) (x : Listed.Solution) (s : Standing) → (s ≡ Behind → ⊥) → stand_of nodes (Some x) s ≡ at_one (solution_in nodes x) (last_in nodes s)
 stand_at nodes x Behind h = absurd (h refl)
@@ -67,7 +71,7 @@ never_none m s rule nodes table given e k stands at = by k (subst (λ (o : Optio
     by Before h at = h
     by (Within found) h at = h
 
-module _ (p : Typed.Program) (run : IsPlain p) (m : Meanings) (goes : GoesBy p m) (rule : Written.Rule) (old new : List Node) (before after : Table) (extends : Extends old new) (kept : KeepsEntries before after)
+module _ (p : Typed.Program) (run : IsRunnable p) (m : Meanings) (goes : GoesBy p m) (rule : Written.Rule) (old new : List Node) (before after : Table) (extends : Extends old new) (kept : KeepsEntries before after)
     (c : Bool) (a : Asked) where
   abbrev Left : List Node → Option Listed.Solution → Standing → Engine → Answers Use → Type 0
   Left nodes given s = left_in p m.hooks rule nodes a given s
@@ -111,7 +115,7 @@ module _ (p : Typed.Program) (run : IsPlain p) (m : Meanings) (goes : GoesBy p m
         Throughout (engine_of (program_over p m.hooks)) (left_in p m.hooks rule old a (Some x) s) (λ L. Gives (left_in p m.hooks rule old a (Some x) s L) u (left_in p m.hooks rule new a (Some x) (Within found) L))
     found_turn b found comes =
         let u : Use = record { rule = rule_of rule; solution = y; values = binding_in new found.items } in
-        let h = given_through P run.runnable.reducible.lawful (rule_of rule) [] t y (last_in old s) (binding_in new found.items) comes in (
+        let h = given_through P run.reducible.lawful (rule_of rule) [] t y (last_in old s) (binding_in new found.items) comes in (
           u,
           (λ i. Some (record { rule = rule_of rule; solution = same_y i; values = binding_in new found.items })),
           subst (λ (f : Engine → Answers Use → Type 0). Throughout (engine_of P) f (λ L. Gives (f L) u (Left new (Some x) (Within found) L))) now_is
@@ -123,11 +127,11 @@ module _ (p : Typed.Program) (run : IsPlain p) (m : Meanings) (goes : GoesBy p m
     passed_turn b comes =
         subst (λ (f : Engine → Answers Use → Type 0). Throughout (engine_of P) f (λ L. Passes (f L) (Left new (Some x) Behind L))) now_is
         (subst (λ (g : Engine → Answers Use → Type 0). Throughout (engine_of P) (λ L. IsLeft P L (rule_of rule) [] t (at_one y (last_in old s))) (λ L. Passes (IsLeft P L (rule_of rule) [] t (at_one y (last_in old s))) (g L))) then_behind
-        (passed_through P run.runnable.reducible.lawful (rule_of rule) [] t y (last_in old s) comes))
+        (passed_through P run.reducible.lawful (rule_of rule) [] t y (last_in old s) comes))
 
     pub due_turn : (b : ℕ) (e : EvalEnd) → IsNextShown (program_over p m.hooks) b (last_in old s) (rule_of rule).cond (binding_of (tree_of rule.left) (solution_in old x)) new (Err e) →
         IsDueBy (program_over p m.hooks) b (left_in p m.hooks rule old a (Some x) s) e
-    due_turn b e h = subst (λ (f : Engine → Answers Use → Type 0). IsDueBy P b f e) now_is (due_through P run.runnable.reducible.lawful (rule_of rule) [] t y (last_in old s) b e h)
+    due_turn b e h = subst (λ (f : Engine → Answers Use → Type 0). IsDueBy P b f e) now_is (due_through P run.reducible.lawful (rule_of rule) [] t y (last_in old s) b e h)
 
     -- what is known then
     pub found_search : AreOver p.sig.hierarchy after → (found : Vec (VarId × TermId) Global) → All (IsValueOf p.sig new after) found.items →
@@ -216,8 +220,17 @@ module _ (p : Typed.Program) (run : IsPlain p) (m : Meanings) (goes : GoesBy p m
         (none_next p run m.hooks (rule_of rule) u normal is.ready.askable.bare m.limit m.remembers old before d is.settled (option_map (solution_in old) given) (next_so None h))
 
     module _ (x : Listed.Solution) (h : NextOf (Some x)) where
-      one : IsNextOf p run m.hooks (rule_of rule) u normal is.ready.askable.bare m.limit m.remembers old before d is.settled (option_map (solution_in old) given) (solution_in new x)
+      one : GoesAt p run m.hooks (rule_of rule) u normal is.ready.askable.bare m.limit m.remembers old before d is.settled (option_map (solution_in old) given) (solution_in new x)
       one = one_next p run m.hooks (rule_of rule) u normal is.ready.askable.bare m.limit m.remembers old before d is.settled (option_map (solution_in old) given) (solution_in new x) (next_so (Some x) h)
+
+      -- the sorts of values are of their terms' kinds
+      table_now : IsSortTable p.sig old before
+      table_now = sort_table p run.reducible m.hooks m.limit m.remembers old before d
+
+      listed : IsIn (solution_in new x) (solutions_within (terms_over p.sig) (tree_of rule.left) u) × HaveSorts (BySort p.sig table_now.known) (variables (tree_of rule.left)) (solution_in new x).values
+      listed =
+          part_listed p.sig run.reducible.lawful table_now.known (tree_of rule.left) u normal is.ready.askable.bare (solution_in new x)
+          (next_as p z same c w a (tree_of rule.left) a.subject is.asked old new u refl given (Some x) table_now.known (h table_now.known (subst (λ (y : SignatureOf). IsTableOf y table_now.known old before) (sym same) table_now.declared))).is_one
 
       to_before : (λ (L : Engine). IsLeft P L (rule_of rule) [] u (at_one (solution_in new x) None)) ≡ Left new (Some x) Before
       to_before = λ i L. IsLeft P L (rule_of rule) [] (sym subject_same i) (at_one (solution_in new x) None)
@@ -226,7 +239,7 @@ module _ (p : Typed.Program) (run : IsPlain p) (m : Meanings) (goes : GoesBy p m
       listed_turn =
           subst (λ (f : Engine → Answers Use → Type 0). Throughout (engine_of P) f (λ L. Passes (f L) (Left new (Some x) Before L))) from_behind
           (subst (λ (g : Engine → Answers Use → Type 0). Throughout (engine_of P) (λ L. IsLeft P L (rule_of rule) [] u (behind (option_map (solution_in old) given)))
-          (λ L. Passes (IsLeft P L (rule_of rule) [] u (behind (option_map (solution_in old) given))) (g L))) to_before one.goes)
+          (λ L. Passes (IsLeft P L (rule_of rule) [] u (behind (option_map (solution_in old) given))) (g L))) to_before one)
 
       pub listed_search : AreOver p.sig.hierarchy after → IsGiven c z new after a x → IsSearch c p m rule new after a (Some x) Before
       listed_search over solves =
@@ -239,9 +252,9 @@ module _ (p : Typed.Program) (run : IsPlain p) (m : Meanings) (goes : GoesBy p m
             settled = g.settled;
             ready = record { askable = g.ready.askable; settled = g.ready.settled; over = g.ready.over; given = given_is_last c p.sig new after a x here };
             at = subst (λ (v : Tree). IsAtSolution p.sig rule v new after x) (sym subject_same) (record {
-              valued = listed_valued p run m.hooks (rule_of rule) u normal is.ready.askable.bare old new before after is.settled x a.subject subject_same one.listed one.passes own;
-              contexts = listed_contexts p run m.hooks (rule_of rule) u normal is.ready.askable.bare old new before after is.settled x a.subject subject_same one.listed one.passes own;
-              kind = listed_of_kind p run m.hooks (rule_of rule) u normal is.ready.askable.bare old new before after is.settled x a.subject subject_same one.listed one.passes own;
+              valued = listed_valued p run (rule_of rule) u normal is.ready.askable.bare old new before after is.settled x a.subject subject_same listed.0 table_now listed.1 own;
+              contexts = listed_contexts p run (rule_of rule) u normal is.ready.askable.bare old new before after is.settled x a.subject subject_same listed.0 table_now listed.1 own;
+              kind = listed_of_kind p run (rule_of rule) u normal is.ready.askable.bare old new before after is.settled x a.subject subject_same listed.0 table_now listed.1 own;
             });
             stands = tt;
           }

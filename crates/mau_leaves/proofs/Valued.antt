@@ -16,17 +16,17 @@ use Rattle.mau_api.specs.Answers.{levels_of_condition}
 use Rattle.mau_api.specs.declared.results.EvalEnd.{EvalEnd}
 use Rattle.mau_api.specs.declared.results.EvalEnd.TheVariants.{Stopped, TooDeep, Overflow, NoMemory}
 use Rattle.mau_reduce.specs.Ends.{IsEnd}
-use Rattle.mau_leaves.specs.Plain.{IsPlain}
+use Rattle.mau_rules.specs.Runnable.{IsRunnable}
 use Rattle.mau_rules.specs.Found.{item_of}
 use Rattle.mau_rules.proofs.Uses.{ends_so}
 use Rattle.mau_leaves.specs.Answers.{GivesValue}
 
-module _ (p : Typed.Program) (run : IsPlain p) (m : Meanings) (t u : Tree) (normal : u ≡ norm (theory_at p.sig) t) where
+module _ (p : Typed.Program) (run : IsRunnable p) (m : Meanings) (t u : Tree) (normal : u ≡ norm (theory_at p.sig) t) where
   abbrev P : Program
   P = program_over p m.hooks
 
   same : (k B b : ℕ) → eval P k B u b ≡ eval P k B t b
-  same k B b = ap (λ v. eval P k B v b) normal ∙ norm_evaluates P run.runnable.reducible.lawful.theories t k B b
+  same k B b = ap (λ v. eval P k B v b) normal ∙ norm_evaluates P run.reducible.lawful.theories t k B b
 
   pub value_as : (b : ℕ) (nodes : List Node) (r : Result TermId EvalEnd) → GivesValue (program_over p m.hooks) b u nodes r → GivesValue (program_over p m.hooks) b t nodes r
   value_as b nodes (Ok id) h = record {

@@ -10,7 +10,7 @@ use Rattle.mau_evaluation.specs.Engine.{Engine, Engines, engine_of}
 use Rattle.mau_evaluation.specs.Strategy.{Strategy, every_rule, label, top_only, StratDef}
 use Rattle.mau_evaluation.specs.Configs.{Todo}
 use Rattle.mau_evaluation.specs.Answers.{Answers, before}
-use Rattle.mau_evaluation.specs.OrderedLists.{results, LeafList}
+use Rattle.mau_evaluation.specs.OrderedLists.{results, bodies_for, LeafList}
 use Rattle.mau_evaluation.specs.Entries.{LeafFront}
 use Rattle.mau_evaluation.specs.Eventually.{Eventually}
 use Rattle.mau_evaluation.specs.Questions.{Question, without, EndsWithin, EndsUnder, NeedsLeaf}
@@ -18,13 +18,20 @@ use Rattle.mau_api.specs.Answers.{levels_of_condition}
 use Rattle.mau_api.specs.declared.results.EvalEnd.{EvalEnd}
 use Rattle.mau_api.specs.declared.results.EvalEnd.TheVariants.{Stopped, TooDeep, Overflow, NoMemory}
 
-module _ (P : Program) (E : Engines) (d : Todo) (t : Tree) where
-  -- these were given, and `now` says what is left behind them: from some limits on; and with engines that have no answer to a question it is so too, or the
-  -- results end within those that were given
-  pub record HasGiven (us : List Tree) (now : Engine → Answers Tree → Type 0) : Type 0 where
-    pub always : Eventually E (λ L. (q : Answers Tree) × (results P L d t ≡ before us q) × now L q)
-    pub without_one : (u : Question) (e : End) → Eventually E (λ L.
-        ((q : Answers Tree) × (results P (without L u e) d t ≡ before us q) × now (without L u e) q) ⊎ EndsWithin e us (results P (without L u e) d t))
+-- Of a list these were given, and `now` says what is left behind them: from some limits on; and with engines that have no answer to a question it is so too, or the
+-- list ends within those that were given.
+pub record Given {A : Type 0} (E : Engines) (list : Engine → Answers A) (us : List A) (now : Engine → Answers A → Type 0) : Type 0 where
+  pub always : Eventually E (λ L. (q : Answers A) × (list L ≡ before us q) × now L q)
+  pub without_one : (u : Question) (e : End) → Eventually E (λ L.
+      ((q : Answers A) × (list (without L u e) ≡ before us q) × now (without L u e) q) ⊎ EndsWithin e us (list (without L u e)))
+
+-- of the results of d on t these were given
+abbrev pub HasGiven : Program → Engines → Todo → Tree → List Tree → (Engine → Answers Tree → Type 0) → Type 0
+HasGiven P E d t us now = Given E (λ L. results P L d t) us now
+
+-- of the bodies of the call d, which have k calls left
+abbrev pub HasGivenBodies : Program → Engines → List StratDef → ℕ → Todo → List Todo → (Engine → Answers Todo → Type 0) → Type 0
+HasGivenBodies P E defs k d bs now = Given E (λ L. bodies_for P L defs k d.values d.form) bs now
 
 -- an end has its cause: by the limits of an item, b being its budget, a question so ends without which the leaf has no results behind these
 abbrev pub IsLeafDue : Program → ℕ → List StratDef → Todo → Tree → List Tree → EvalEnd → Type 0

@@ -1,7 +1,5 @@
 -- The results of leaves, one after another.
 
--- programs in which uses are searched for
-pub mod Plain
 -- what is left of answers, as steps are taken
 pub mod Steps
 -- the uses of rules at a term, and what is left of them
@@ -22,3 +20,11 @@ pub mod Top
 pub mod Follows
 -- the variables that a fragment of a condition matches
 pub mod Matched
+-- searches for the bodies of a call without arguments
+pub mod Calls
+-- tests: their results by the uses of a rule
+pub mod Tests
+-- who gives the results of leaves: what cursors have yielded
+pub mod Cursors
+-- so it is as runs need it
+pub mod CursorLaws

@@ -1,14 +1,20 @@
 //! The results of leaves of strategies, one after another, by any evaluator and any listing with contexts.
 #![tactic(auto)]
 
+mod bodies;
+mod cursor;
 mod determined;
 pub mod laws;
 mod place;
+mod testing;
 mod top;
 mod turn;
 mod uses;
 mod value;
 
+pub use bodies::CallBodies;
+pub use cursor::{CallCursor, LeafCursor, RunLeaves};
 pub use place::{PlaceUses, next_at, start_place};
+pub use testing::TestCursor;
 pub use top::{TopResults, next_top, start_top};
 pub use uses::{RuleUses, Standing, next_use, start_uses};

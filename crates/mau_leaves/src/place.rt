@@ -5,8 +5,7 @@ ghost use Rattle.mau_store.specs.Node.{Extends};
 ghost use Rattle.mau_sorts.specs.Table.{KeepsEntries};
 ghost use Rattle.mau_evaluation.specs.Program as Defined;
 ghost use Rattle.mau_api.specs.Programs.{rule_of, program_over};
-ghost use Rattle.mau_rules.specs.Runnable.{GoesBy};
-ghost use Rattle.mau_leaves.specs.Plain.{IsPlain};
+ghost use Rattle.mau_rules.specs.Runnable.{IsRunnable, GoesBy};
 ghost use Rattle.mau_leaves.specs.Uses.{is_chosen};
 ghost use Rattle.mau_leaves.specs.Searches.{IsTurn, IsNextOne};
 ghost use Rattle.mau_leaves.specs.AtPlace.{left_at, use_at, IsAtPlace};
@@ -62,7 +61,7 @@ fn go_through<E: Evaluator, L: Lister + Drop>(
     limit: u64,
 ) -> Result<Turn, EvalEnd>
     requires contexts { L.with_context ≡ true }
-    requires runnable { IsPlain program.now }
+    requires runnable { IsRunnable program.now }
     requires goes_by { GoesBy program.now (E.meanings evaluator.old) }
     requires fits { E.fits evaluator.old store.old }
     requires limit { limit ≡ (E.meanings evaluator.old).limit }
@@ -108,7 +107,7 @@ fn begin_rule<E: Evaluator, L: Lister + Drop>(
     evaluator: &E,
     place: &mut PlaceUses<L>,
 ) -> Result<Turn, EvalEnd>
-    requires runnable { IsPlain program.now }
+    requires runnable { IsRunnable program.now }
     requires goes_by { GoesBy program.now (E.meanings evaluator.now) }
     requires fits { E.fits evaluator.now store.now }
     requires place { IsAtPlace L.asked L.given L.is_for L.with_context program.now (E.meanings evaluator.now)
@@ -163,7 +162,7 @@ fn turn_at<E: Evaluator, L: Lister + Drop>(
     limit: u64,
 ) -> Result<Turn, EvalEnd>
     requires contexts { L.with_context ≡ true }
-    requires runnable { IsPlain program.now }
+    requires runnable { IsRunnable program.now }
     requires goes_by { GoesBy program.now (E.meanings evaluator.old) }
     requires fits { E.fits evaluator.old store.old }
     requires limit { limit ≡ (E.meanings evaluator.old).limit }
@@ -199,7 +198,7 @@ pub fn next_at<E: Evaluator, L: Lister + Drop>(
     limit: u64,
 ) -> Result<bool, EvalEnd>
     requires contexts { L.with_context ≡ true }
-    requires runnable { IsPlain program.now }
+    requires runnable { IsRunnable program.now }
     requires goes_by { GoesBy program.now (E.meanings evaluator.old) }
     requires fits { E.fits evaluator.old store.old }
     requires limit { limit ≡ (E.meanings evaluator.old).limit }

@@ -17,8 +17,7 @@ ghost use Rattle.mau_api.specs.Programs.{program_over};
 ghost use Rattle.mau_api.specs.Meanings.{Meanings};
 ghost use Rattle.mau_api.specs.Terms.{IsTerm};
 ghost use Rattle.mau_api.specs.Answers.{AreSettled};
-ghost use Rattle.mau_rules.specs.Runnable.{GoesBy};
-ghost use Rattle.mau_leaves.specs.Plain.{IsPlain};
+ghost use Rattle.mau_rules.specs.Runnable.{IsRunnable, GoesBy};
 ghost use Rattle.mau_leaves.specs.Uses.{Use, is_chosen};
 ghost use Rattle.mau_leaves.specs.Answers.{GivesValue};
 ghost use Rattle.mau_leaves.specs.AtPlace.{use_at, IsAtPlace};
@@ -69,7 +68,7 @@ fn use_value<E: Evaluator, L: Lister + Drop>(
     place: &PlaceUses<L>,
     limit: u64,
 ) -> Result<TermId, EvalEnd>
-    requires runnable { IsPlain program.now }
+    requires runnable { IsRunnable program.now }
     requires goes_by { GoesBy program.now (E.meanings evaluator.old) }
     requires fits { E.fits evaluator.old store.old }
     requires limit { limit ≡ (E.meanings evaluator.old).limit }
@@ -117,7 +116,7 @@ fn give<E: Evaluator, L: Lister + Drop>(
     top: &mut TopResults<L>,
     limit: u64,
 ) -> Result<Option<TermId>, EvalEnd>
-    requires runnable { IsPlain program.now }
+    requires runnable { IsRunnable program.now }
     requires goes_by { GoesBy program.now (E.meanings evaluator.old) }
     requires fits { E.fits evaluator.old store.old }
     requires limit { limit ≡ (E.meanings evaluator.old).limit }
@@ -157,7 +156,7 @@ fn next_result<E: Evaluator, L: Lister + Drop>(
     limit: u64,
 ) -> Result<Option<TermId>, EvalEnd>
     requires contexts { L.with_context ≡ true }
-    requires runnable { IsPlain program.now }
+    requires runnable { IsRunnable program.now }
     requires goes_by { GoesBy program.now (E.meanings evaluator.old) }
     requires fits { E.fits evaluator.old store.old }
     requires limit { limit ≡ (E.meanings evaluator.old).limit }
@@ -202,7 +201,7 @@ pub fn next_top<E: Evaluator, L: Lister + Drop>(
     limit: u64,
 ) -> Result<Option<TermId>, EvalEnd>
     requires contexts { L.with_context ≡ true }
-    requires runnable { IsPlain program.now }
+    requires runnable { IsRunnable program.now }
     requires goes_by { GoesBy program.now (E.meanings evaluator.old) }
     requires fits { E.fits evaluator.old store.old }
     requires limit { limit ≡ (E.meanings evaluator.old).limit }

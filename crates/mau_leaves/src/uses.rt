@@ -10,8 +10,7 @@ ghost use Rattle.mau_api.specs.Terms.{IsTerm};
 ghost use Rattle.mau_api.specs.Programs.{fragment_of, rule_of, program_over};
 ghost use Rattle.mau_api.specs.Answers.{binding_in, IsAskable, IsValueOf, IsSolutionOf, AreSettled, mapped};
 ghost use Rattle.mau_reduce.specs.Trying.{solution_in};
-ghost use Rattle.mau_rules.specs.Runnable.{GoesBy};
-ghost use Rattle.mau_leaves.specs.Plain.{IsPlain};
+ghost use Rattle.mau_rules.specs.Runnable.{IsRunnable, GoesBy};
 ghost use Rattle.mau_rules.specs.Found.{IsValued};
 ghost use Rattle.mau_leaves.specs.Answers.{IsNextShown};
 ghost use Rattle.mau_leaves.specs.Searches.{IsUsable, IsShownBehind, IsSearch, left_in, use_in, found_in, last_in};
@@ -44,7 +43,7 @@ pub struct RuleUses<L> {
 }
 
 /// The next solution of a condition behind one, or the first, asked with the whole budget of an item.
-fn ask<E: Evaluator>(
+pub(crate) fn ask<E: Evaluator>(
     program: &Program,
     store: &mut Store,
     evaluator: &mut E,
@@ -81,7 +80,7 @@ fn ask<E: Evaluator>(
 }
 
 /// The solution of the condition behind which a search stands.
-fn last_of(standing: &Standing) -> Option<&[(VarId, TermId)]>
+pub(crate) fn last_of(standing: &Standing) -> Option<&[(VarId, TermId)]>
     ensures { option_map (λ x. x.now) result ≡ found_in standing.now }
 {
     match standing {
@@ -149,7 +148,7 @@ fn asked_on<E: Evaluator, L: Lister + Drop>(
     uses: &mut RuleUses<L>,
     limit: u64,
 ) -> Result<Turn, EvalEnd>
-    requires runnable { IsPlain program.now }
+    requires runnable { IsRunnable program.now }
     requires goes_by { GoesBy program.now (E.meanings evaluator.old) }
     requires fits { E.fits evaluator.old store.old }
     requires limit { limit ≡ (E.meanings evaluator.old).limit }
@@ -205,7 +204,7 @@ fn listed_on<E: Evaluator, L: Lister + Drop>(
     uses: &mut RuleUses<L>,
 ) -> Result<Turn, EvalEnd>
     requires contexts { L.with_context ≡ true }
-    requires runnable { IsPlain program.now }
+    requires runnable { IsRunnable program.now }
     requires goes_by { GoesBy program.now (E.meanings evaluator.old) }
     requires fits { E.fits evaluator.old store.old }
     requires usable { IsUsable program.now.sig rule.now }
@@ -248,7 +247,7 @@ fn turn<E: Evaluator, L: Lister + Drop>(
     limit: u64,
 ) -> Result<Turn, EvalEnd>
     requires contexts { L.with_context ≡ true }
-    requires runnable { IsPlain program.now }
+    requires runnable { IsRunnable program.now }
     requires goes_by { GoesBy program.now (E.meanings evaluator.old) }
     requires fits { E.fits evaluator.old store.old }
     requires limit { limit ≡ (E.meanings evaluator.old).limit }
@@ -318,7 +317,7 @@ pub fn next_use<E: Evaluator, L: Lister + Drop>(
     limit: u64,
 ) -> Result<bool, EvalEnd>
     requires contexts { L.with_context ≡ true }
-    requires runnable { IsPlain program.now }
+    requires runnable { IsRunnable program.now }
     requires goes_by { GoesBy program.now (E.meanings evaluator.old) }
     requires fits { E.fits evaluator.old store.old }
     requires limit { limit ≡ (E.meanings evaluator.old).limit }

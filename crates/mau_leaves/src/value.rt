@@ -15,8 +15,7 @@ ghost use Rattle.mau_api.specs.Answers.{binding_in, IsValueOf, AreSettled};
 ghost use Rattle.mau_reduce.specs.Bindings.{bound_in, AreValues};
 ghost use Rattle.mau_reduce.specs.Contexts.{AreContexts};
 ghost use Rattle.mau_reduce.specs.Ends.{IsEnd};
-ghost use Rattle.mau_rules.specs.Runnable.{GoesBy};
-ghost use Rattle.mau_leaves.specs.Plain.{IsPlain};
+ghost use Rattle.mau_rules.specs.Runnable.{IsRunnable, GoesBy};
 ghost use Rattle.mau_leaves.specs.Answers.{GivesValue};
 ghost use Rattle.mau_leaves.specs.Searches.{IsUsable};
 ghost use Rattle.mau_leaves.specs.Values.{made_by};
@@ -85,7 +84,7 @@ pub(crate) fn value_of<E: Evaluator>(
     bound: &[(VarId, TermId)],
     limit: u64,
 ) -> Result<TermId, EvalEnd>
-    requires runnable { IsPlain program.now }
+    requires runnable { IsRunnable program.now }
     requires goes_by { GoesBy program.now (E.meanings evaluator.old) }
     requires fits { E.fits evaluator.old store.old }
     requires limit { limit ≡ (E.meanings evaluator.old).limit }

@@ -71,6 +71,14 @@ impl LeafTable {
         &self.leaves[id.0]
     }
 
+    /// All leaves, each at its number.
+    pub fn items(&self) -> &[Strategy]
+        ensures leaves { result.now ≡ self.now }
+        ensures table { IsTable (meant self.now) }
+    {
+        self.leaves.as_slice()
+    }
+
     /// The number of a leaf, if it has one.
     fn find(&self, leaf: &Strategy) -> Option<usize>
         ensures { MatchOption result ((l : ℕ) → slice_get (meant self.now) l ≡ Some (meaning_of leaf.now) → ⊥)

@@ -56,7 +56,7 @@ returns-in-Err-evaluate-clause-valued g c =
     (value_as p c.requires.runnable m w u c.in-Ok.ensures.value m.limit c.evaluate.new.store (mapped (λ x. x.term) r) given)
 
 pub made-requires-clause-lawful : goal.made-requires-clause-lawful
-made-requires-clause-lawful g c = c.requires.runnable.runnable.reducible.lawful
+made-requires-clause-lawful g c = c.requires.runnable.reducible.lawful
 
 pub returns-in-Ok-evaluate-clause-extends : goal.returns-in-Ok-evaluate-clause-extends
 returns-in-Ok-evaluate-clause-extends g c = extension_is_preorder.transitive c.args.store.now c.made.new.store c.evaluate.new.store c.in-Ok.ensures.extends c.evaluate.ensures.extends

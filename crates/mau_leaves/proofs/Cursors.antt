@@ -1,0 +1,186 @@
+-- Who gives the results of leaves is as runs need it, and cursors have yielded the same as there are more terms.
+use Rattle.std.proofs.Common.{◌≡◌, ℕ, ◌≤◌, List, [], ◌∷◌, ◌++◌, map, length, slice_get, zero, suc, Bool, Option, Some, None, IfSome, Result, Ok, Err, IfOk, inl, refl, sym, ap, ◌∙◌, subst, arith, length-append}
+use Rattle.std.proofs.lemmas.List.{map-append}
+use Rattle.mau_terms.specs.Tree.{Tree}
+use Rattle.mau_terms.specs.declared.ids.TermId.{TermId}
+use Rattle.mau_signature.specs.Signature.{SignatureOf}
+use Rattle.mau_store.specs.Node.{Node, Extends}
+use Rattle.mau_store.specs.Trees.{tree_at}
+use Rattle.mau_store.proofs.Growth.{extension_keeps_terms, extension_is_preorder}
+use Rattle.mau_sorts.specs.Table.{Table, KeepsEntries, AreOver}
+use Rattle.mau_listing.specs.Asked.{Asked}
+use Rattle.mau_listing.specs.declared.solution.Solution as Listed
+use Rattle.mau_program.specs.declared.program.Program as Typed
+use Rattle.mau_program.specs.Trees as Written
+use Rattle.mau_evaluation.specs.Engine.{engine_of}
+use Rattle.mau_evaluation.specs.Configs.{Todo}
+use Rattle.mau_evaluation.specs.OrderedLists.{IsLeaf, results}
+use Rattle.mau_cond.proofs.Grown.{value_grown}
+use Rattle.mau_api.specs.Terms.{IsTerm}
+use Rattle.mau_api.specs.Programs.{program_over}
+use Rattle.mau_api.specs.Meanings.{Meanings}
+use Rattle.mau_api.specs.Answers.{AreSettled}
+use Rattle.mau_api.specs.declared.results.EvalEnd.{EvalEnd}
+use Rattle.mau_api.specs.declared.results.EvalEnd.TheVariants as Ended
+use Rattle.mau_rules.specs.Runnable.{IsRunnable}
+use Rattle.mau_strat.specs.declared.forms.LeafId.{LeafId}
+use Rattle.mau_stratrun.specs.declared.leaves.Yielded.{Yielded}
+use Rattle.mau_stratrun.specs.declared.leaves.Yielded.TheVariants.{Term, Body as BodyOf}
+use Rattle.mau_stratrun.specs.declared.leaves.LeafEnd.{LeafEnd}
+use Rattle.mau_stratrun.specs.Settings.{Fixed}
+use Rattle.mau_stratrun.specs.Yields.{Yield, result_of, YieldsFirst, YieldsAll, IsCause}
+use Rattle.mau_stratrun.specs.Worlds.{World, LeavesGrow, IsNextYield}
+use Rattle.mau_stratrun.proofs.Yielding.{leaves_yield}
+use Rattle.mau_leaves.specs.Uses.{is_chosen}
+use Rattle.mau_leaves.specs.Top.{left_of_top, IsTop}
+use Rattle.mau_leaves.specs.Follows.{IsLeafDue, IsNextGiven, IsTopOf}
+use Rattle.mau_evaluation.specs.Strategy.{idle, label as by_label, top_only, call}
+use Rattle.mau_stratforms.specs.Meanings.{meaning_of}
+use Rattle.mau_leaves.specs.Cursors.{leaf_at, label_by, label_of_one, label_in, call_by, call_of_one, call_in, fixed_of, leaf_end, yielded_by, chosen_by, IsTopCursor, IsTestCursor, yields_in, world_of, world_of_calls}
+use Rattle.mau_leaves.specs.declared.cursor.CallCursor.{CallCursor}
+use Rattle.mau_leaves.specs.declared.top.TopResults.{TopResults}
+use Rattle.mau_leaves.specs.declared.cursor.LeafCursor.{LeafCursor}
+use Rattle.mau_leaves.specs.declared.cursor.LeafCursor.TheVariants.{Top, Bodies, Test, Unsearched}
+use Rattle.mau_leaves.specs.declared.testing.TestCursor.{TestCursor}
+use Rattle.mau_leaves.specs.Tests.{left_of_test, IsTest}
+use Rattle.mau_leaves.proofs.Searching.{term_grown, settled_later}
+use Rattle.mau_leaves.proofs.TopSteps.{top_grown, still_top}
+use Rattle.mau_leaves.proofs.Holding.{test_grown, still_test}
+use Rattle.mau_leaves.proofs.Follows.{passes}
+use Rattle.mau_leaves.proofs.Calling.{call_cursor_grown}
+
+longer : (old new : List Node) → Extends old new → length old ≤ length new
+longer old new (more, e) = omega (arith, ap length e, length-append old more)
+
+module _ {K : Type 0} (asked : K → Asked) (given : K → Option Listed.Solution) (is_for : K → SignatureOf → Type 0) (c : Bool) (p : Typed.Program) (m : Meanings) (leaves : List Written.StrategyOf) where
+  -- ---- further terms
+
+  module _ (run : IsRunnable p) (old new : List Node) (before after : Table) (extends : Extends old new) (kept : KeepsEntries before after) (over : AreOver p.sig.hierarchy after) where
+    top_cursor_grown : (label : Option LeafId) (s : TopResults K) (d : Todo) (t : Tree) (ys : List Yield) → IsTopCursor asked given is_for c p m leaves old before label s d t ys → IsTopCursor asked given is_for c p m leaves new after label s d t ys
+    top_cursor_grown label s d t ys h = record {
+      results = h.results;
+      yielded = h.yielded;
+      form = h.form;
+      top = top_grown asked given is_for c p run m old before s h.top new after extends kept over;
+      rest =
+          passes (engine_of (program_over p m.hooks)) (λ L. results (program_over p m.hooks) L d t) h.results (left_of_top asked given p m.hooks (is_chosen (chosen_by leaves label)) old s) (left_of_top asked given p m.hooks (is_chosen (chosen_by leaves label)) new s)
+          h.rest (still_top asked given is_for c p run m old before s h.top new after extends kept over (is_chosen (chosen_by leaves label)));
+    }
+
+    test_cursor_grown : (s : TestCursor K) (d : Todo) (t : Tree) (ys : List Yield) → IsTestCursor asked given is_for c p m leaves old before s d t ys → IsTestCursor asked given is_for c p m leaves new after s d t ys
+    test_cursor_grown s d t ys h = record {
+      results = h.results;
+      yielded = h.yielded;
+      form = h.form;
+      test = test_grown asked given is_for c p m old new before after extends kept over s h.test;
+      rest =
+          passes (engine_of (program_over p m.hooks)) (λ L. results (program_over p m.hooks) L d t) h.results (left_of_test asked given p m.hooks old s) (left_of_test asked given p m.hooks new s) h.rest
+          (still_test asked given is_for c p m old new before after extends kept over s h.test);
+    }
+
+    cursor_grown : (k : LeafCursor K) (d : Todo) (t : Tree) (ys : List Yield) → yields_in asked given is_for c p m leaves old before k d t ys → yields_in asked given is_for c p m leaves new after k d t ys
+    cursor_grown (Top label s) d t ys h = top_cursor_grown label s d t ys h
+    cursor_grown (Bodies s) d t ys h = call_cursor_grown p m leaves old new before after extends kept s d t ys h
+    cursor_grown (Test s) d t ys h = test_cursor_grown s d t ys h
+    cursor_grown Unsearched d t ys h = h
+
+    pub world_grown : LeavesGrow (world_of asked given is_for c p m leaves old before) (world_of asked given is_for c p m leaves new after)
+    world_grown = record {
+      fixed = refl;
+      terms = longer old new extends;
+      trees = λ j i. (extension_keeps_terms old new extends j i).tree;
+      is_term = λ n h. (term_grown p old new before after extends kept n h.0, settled_later p old new before after extends kept n h.0 h.1);
+      is_bound = λ b h. value_grown p.sig old new before after extends kept (b.variable, b.value) h;
+      yields = cursor_grown;
+    }
+
+  -- nothing changes
+  pub world_same : (nodes : List Node) (table : Table) → LeavesGrow (world_of asked given is_for c p m leaves nodes table) (world_of asked given is_for c p m leaves nodes table)
+  world_same nodes table = record { fixed = refl; terms = longer nodes nodes (extension_is_preorder.reflexive nodes); trees = λ j i. refl; is_term = λ n h. h; is_bound = λ b h. h; yields = λ k d t ys h. h }
+
+  -- ---- the next result of rules at the root
+
+  module _ (nodes : List Node) (table : Table) (label : Option LeafId) (d : Todo) (t : Tree) (us : List Tree) (ys : List Yield) (yielded : ys ≡ map result_of us) where
+    abbrev W : World (LeafCursor K)
+    W = world_of asked given is_for c p m leaves nodes table
+
+    abbrev f : Fixed
+    f = fixed_of p m leaves
+
+    more_yielded : (u : Tree) → ys ++ result_of u ∷ [] ≡ map result_of (us ++ u ∷ [])
+    more_yielded u = ap (λ zs. zs ++ result_of u ∷ []) yielded ∙ sym (map-append result_of us (u ∷ []))
+
+    cause : (e : EvalEnd) → IsLeafDue (program_over p m.hooks) m.limit f.definitions d t us e → IsCause f d t ys (leaf_end e)
+    cause Ended.Stopped h = (h.0, h.1, inl (us, yielded, h.2))
+    cause Ended.TooDeep h = (h.0, h.1, inl (us, yielded, h.2))
+    cause Ended.Overflow h = (h.0, h.1, inl (us, yielded, h.2))
+    cause Ended.NoMemory h = tt
+
+    pub top_yields : (s : TopResults K) → IsTopOf (chosen_by leaves label) d.form → IsTop asked given is_for c p m nodes table s → (r : Result (Option TermId) EvalEnd) →
+        IfOk r (λ o. IfSome o (λ id. IsTerm p.sig nodes id.0)) → IfOk r (λ o. IfSome o (λ id. AreSettled p.sig nodes table (tree_at nodes id.0))) →
+        IsNextGiven (program_over p m.hooks) m.limit (fixed_of p m leaves).definitions d t us (left_of_top asked given p m.hooks (is_chosen (chosen_by leaves label)) nodes s) nodes r →
+        IsNextYield (world_of asked given is_for c p m leaves nodes table) (Top label s) d t ys (yielded_by r)
+    top_yields s form top (Ok (Some id)) term settled n = (
+      record { results = us ++ tree_at nodes id.0 ∷ []; yielded = more_yielded (tree_at nodes id.0); form = form; top = top; rest = n.0 },
+      subst (YieldsFirst f d t) (sym (more_yielded (tree_at nodes id.0))) ((leaves_yield f d t (us ++ tree_at nodes id.0 ∷ [])).0 n.1),
+      (term, settled),
+    )
+    top_yields s form top (Ok None) term settled n = subst (YieldsAll f d t) (sym yielded) ((leaves_yield f d t us).1 n)
+    top_yields s form top (Err e) term settled n = (record { results = us; yielded = yielded; form = form; top = top; rest = n.0 }, cause e n.1)
+
+    -- the same of a test
+    pub test_yields : (s : TestCursor K) → IsLeaf d.form → IsTest asked given is_for c p m nodes table s → (r : Result (Option TermId) EvalEnd) → IfOk r (λ o. IfSome o (λ id. id ≡ s.term)) →
+        IsNextGiven (program_over p m.hooks) m.limit (fixed_of p m leaves).definitions d t us (left_of_test asked given p m.hooks nodes s) nodes r →
+        IsNextYield (world_of asked given is_for c p m leaves nodes table) (Test s) d t ys (yielded_by r)
+    test_yields s form test (Ok (Some id)) itself n = (
+      record { results = us ++ tree_at nodes id.0 ∷ []; yielded = more_yielded (tree_at nodes id.0); form = form; test = test; rest = n.0 },
+      subst (YieldsFirst f d t) (sym (more_yielded (tree_at nodes id.0))) ((leaves_yield f d t (us ++ tree_at nodes id.0 ∷ [])).0 n.1),
+      subst (λ (i : TermId). IsTerm p.sig nodes i.0 × AreSettled p.sig nodes table (tree_at nodes i.0)) (sym itself) (test.term, test.settled),
+    )
+    test_yields s form test (Ok None) itself n = subst (YieldsAll f d t) (sym yielded) ((leaves_yield f d t us).1 n)
+    test_yields s form test (Err e) itself n = (record { results = us; yielded = yielded; form = form; test = test; rest = n.0 }, cause e n.1)
+
+  -- ---- the next body of a call
+
+  pub call_yields : (nodes : List Node) (table : Table) (s : CallCursor) (d : Todo) (t : Tree) (ys : List Yield) (r : Result (Option Yielded) LeafEnd) → IsNextYield (world_of_calls p m leaves nodes table) s d t ys r →
+      IsNextYield (world_of asked given is_for c p m leaves nodes table) (Bodies s) d t ys r
+  call_yields nodes table s d t ys (Ok (Some (Term u))) h = h
+  call_yields nodes table s d t ys (Ok (Some (BodyOf b))) h = h
+  call_yields nodes table s d t ys (Ok None) h = h
+  call_yields nodes table s d t ys (Err e) h = h
+
+-- ---- leaves by their forms
+
+pub leaf_there : (leaves : List Written.StrategyOf) (i : ℕ) (s : Written.StrategyOf) → slice_get leaves i ≡ Some s → leaf_at leaves i ≡ meaning_of s
+leaf_there [] i s e = cc
+leaf_there (x ∷ leaves) zero s e = ap (λ (z : Option Written.StrategyOf). elim z [ None ↦ idle | Some y ↦ meaning_of y ]) e
+leaf_there (x ∷ leaves) (suc i) s e = leaf_there leaves i s e
+
+-- a leaf that has a label, and one that is a call
+module _ (leaves : List Written.StrategyOf) (i : ℕ) (n : List ℕ) where
+  labelled_form : (s : Written.StrategyOf) → label_by s ≡ Some n → meaning_of s ≡ by_label n []
+  labelled_form (Written.label k []) e = ap (λ (o : Option (List ℕ)). elim o [ None ↦ idle | Some j ↦ by_label j [] ]) e
+  labelled_form (Written.label k (x ∷ xs)) e = cc
+  labelled_form _ e = cc
+
+  called_form : (s : Written.StrategyOf) → call_by s ≡ Some n → meaning_of s ≡ call n []
+  called_form (Written.call k []) e = ap (λ (o : Option (List ℕ)). elim o [ None ↦ idle | Some j ↦ call j [] ]) e
+  called_form (Written.call k (x ∷ xs)) e = cc
+  called_form _ e = cc
+
+  pub labelled_leaf : label_in leaves i ≡ Some n → leaf_at leaves i ≡ by_label n []
+  labelled_leaf e = by (slice_get leaves i) refl e
+    where
+      by : (o : Option Written.StrategyOf) → slice_get leaves i ≡ o → label_of_one o ≡ Some n → leaf_at leaves i ≡ by_label n []
+      by None h e = cc
+      by (Some s) h e = leaf_there leaves i s h ∙ labelled_form s e
+
+  pub called_leaf : call_in leaves i ≡ Some n → leaf_at leaves i ≡ call n []
+  called_leaf e = by (slice_get leaves i) refl e
+    where
+      by : (o : Option Written.StrategyOf) → slice_get leaves i ≡ o → call_of_one o ≡ Some n → leaf_at leaves i ≡ call n []
+      by None h e = cc
+      by (Some s) h e = leaf_there leaves i s h ∙ called_form s e
+
+pub top_of_label : (leaves : List Written.StrategyOf) (l : LeafId) (n : List ℕ) → label_in leaves l.0 ≡ Some n → IsTopOf (chosen_by leaves (Some l)) (top_only (leaf_at leaves l.0))
+top_of_label leaves l n e = subst (λ o. IsTopOf o (top_only (leaf_at leaves l.0))) (sym e) (ap top_only (labelled_leaf leaves l.0 n e))

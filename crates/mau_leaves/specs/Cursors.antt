@@ -1,0 +1,207 @@
+-- Who gives the results of leaves: what stays the same, and what the cursors have yielded, by the numbers of a store.
+use Rattle.std.specs.Prelude.{◌≡◌, ℕ, suc, ◌<◌, List, [], map, length, slice_get, All, Bool, true, false, Option, Some, None, IsSome, Result, Ok, Err}
+use Rattle.std.specs.List.{slice_index_or}
+use Rattle.mau_terms.specs.Tree.{Tree}
+use Rattle.mau_terms.specs.declared.ids.TermId.{TermId}
+use Rattle.mau_terms.specs.declared.ids.VarId.{VarId}
+use Rattle.mau_signature.specs.Signature.{SignatureOf}
+use Rattle.mau_store.specs.Node.{Node, AreNodes}
+use Rattle.mau_store.specs.Trees.{tree_at}
+use Rattle.mau_sorts.specs.Table.{Table}
+use Rattle.mau_listing.specs.Asked.{Asked}
+use Rattle.mau_listing.specs.declared.solution.Solution as Listed
+use Rattle.mau_program.specs.declared.program.Program as Typed
+use Rattle.mau_program.specs.Trees as Written
+use Rattle.mau_program.specs.LawfulStrategies.{IsLawfulDefinition}
+use Rattle.mau_evaluation.specs.Strategy.{Strategy, idle, call}
+use Rattle.mau_evaluation.specs.Engine.{Engine, engine_of}
+use Rattle.mau_evaluation.specs.Answers.{Answers, no_more, answer}
+use Rattle.mau_evaluation.specs.Configs.{Todo}
+use Rattle.mau_evaluation.specs.OrderedLists.{IsLeaf as IsLeafForm}
+use Rattle.mau_api.specs.Terms.{IsTerm}
+use Rattle.mau_api.specs.Programs.{program_over}
+use Rattle.mau_api.specs.Meanings.{Meanings}
+use Rattle.mau_api.specs.Answers.{IsValueOf, AreSettled, levels_of_condition}
+use Rattle.mau_api.specs.declared.results.EvalEnd.{EvalEnd}
+use Rattle.mau_api.specs.declared.results.EvalEnd.TheVariants as Ended
+use Rattle.mau_rules.specs.Runnable.{IsRunnable, GoesBy}
+use Rattle.mau_strat.specs.declared.configs.Bound.{Bound}
+use Rattle.mau_strat.specs.declared.forms.LeafId.{LeafId}
+use Rattle.mau_strat.specs.Configurations.{TellsApart}
+use Rattle.mau_strat.specs.Forms.{IsLeaf}
+use Rattle.mau_stratrun.specs.declared.leaves.Yielded.{Yielded}
+use Rattle.mau_stratrun.specs.declared.leaves.Yielded.TheVariants.{Term, Body as BodyOf}
+use Rattle.mau_stratrun.specs.declared.leaves.Body.{Body}
+use Rattle.mau_stratrun.specs.declared.leaves.LeafEnd.{LeafEnd}
+use Rattle.mau_stratrun.specs.declared.leaves.LeafEnd.TheVariants.{Stopped, TooDeep, Overflow, NoMemory}
+use Rattle.mau_stratrun.specs.Settings.{Fixed}
+use Rattle.mau_stratrun.specs.Yields.{Yield, result_of, body_on}
+use Rattle.mau_stratrun.specs.Worlds.{World}
+use Rattle.mau_stratforms.specs.Meanings.{meaning_of, definition_of}
+use Rattle.mau_leaves.specs.Uses.{is_chosen}
+use Rattle.mau_leaves.specs.Top.{left_of_top, IsTop}
+use Rattle.mau_leaves.specs.Tests.{left_of_test, IsTest}
+use Rattle.mau_leaves.specs.Searches.{found_in}
+use Rattle.mau_leaves.specs.Calls.{left_of_call, body_found, IsCallSearch}
+use Rattle.mau_leaves.specs.Follows.{HasGiven, HasGivenBodies, IsTopOf}
+use Rattle.mau_leaves.specs.declared.top.TopResults.{TopResults}
+use Rattle.mau_leaves.specs.declared.cursor.LeafCursor.{LeafCursor}
+use Rattle.mau_leaves.specs.declared.cursor.LeafCursor.TheVariants.{Top, Bodies, Test, Unsearched}
+use Rattle.mau_leaves.specs.declared.testing.TestCursor.{TestCursor}
+use Rattle.mau_leaves.specs.declared.cursor.CallCursor.{CallCursor}
+
+-- ---- leaves by numbers
+
+-- the strategy with a number; past their end idle, which is never meant
+abbrev pub leaf_at : List Written.StrategyOf → ℕ → Strategy
+leaf_at leaves l = slice_index_or (map meaning_of leaves) l idle
+
+-- the label of a leaf that assigns nothing
+abbrev pub label_by : Written.StrategyOf → Option (List ℕ)
+label_by (Written.label n []) = Some n
+label_by _ = None
+
+abbrev pub label_of_one : Option Written.StrategyOf → Option (List ℕ)
+label_of_one None = None
+label_of_one (Some s) = label_by s
+
+abbrev pub label_in : List Written.StrategyOf → ℕ → Option (List ℕ)
+label_in leaves l = label_of_one (slice_get leaves l)
+
+-- the name of a leaf that is a call without arguments
+abbrev pub call_by : Written.StrategyOf → Option (List ℕ)
+call_by (Written.call n []) = Some n
+call_by _ = None
+
+abbrev pub call_of_one : Option Written.StrategyOf → Option (List ℕ)
+call_of_one None = None
+call_of_one (Some s) = call_by s
+
+abbrev pub call_in : List Written.StrategyOf → ℕ → Option (List ℕ)
+call_in leaves l = call_of_one (slice_get leaves l)
+
+-- all rules, or those with the label of a leaf
+abbrev pub chosen_by : List Written.StrategyOf → Option LeafId → Option (List ℕ)
+chosen_by leaves None = None
+chosen_by leaves (Some l) = label_in leaves l.0
+
+-- ---- what stays the same
+
+abbrev pub fixed_of : Typed.Program → Meanings → List Written.StrategyOf → Fixed
+fixed_of p m leaves = record {
+  program = program_over p m.hooks;
+  definitions = map definition_of p.strategies;
+  leaf = leaf_at leaves;
+  leaves = length leaves;
+  levels = levels_of_condition;
+  budget = m.limit;
+}
+
+-- no leaf has two numbers, what has a number is a leaf, and terms may be evaluated by the meanings and with the budget of an item; listings have contexts
+pub record IsReady (c : Bool) (p : Typed.Program) (m : Meanings) (leaves : List Written.StrategyOf) (budget : ℕ) (nodes : List Node) : Type 0 where
+  pub contexts : c ≡ true
+  pub runnable : IsRunnable p
+  pub goes_by : GoesBy p m
+  pub limit : budget ≡ m.limit
+  pub are_nodes : AreNodes nodes
+  pub apart : TellsApart (leaf_at leaves) (length leaves)
+  pub kinds : (l : ℕ) → l < length leaves → IsLeaf (leaf_at leaves l)
+  pub definitions : All (IsLawfulDefinition p.sig) p.strategies
+
+-- an end of an evaluation as one of a leaf
+abbrev pub leaf_end : EvalEnd → LeafEnd
+leaf_end Ended.Stopped = Stopped
+leaf_end Ended.TooDeep = TooDeep
+leaf_end Ended.Overflow = Overflow
+leaf_end Ended.NoMemory = NoMemory
+
+-- what comes of the search for a result
+abbrev pub yielded_by : Result (Option TermId) EvalEnd → Result (Option Yielded) LeafEnd
+yielded_by (Ok (Some id)) = Ok (Some (Term id))
+yielded_by (Ok None) = Ok None
+yielded_by (Err e) = Err (leaf_end e)
+
+-- ---- calls without arguments
+
+-- what is left where the last one that was found may be due
+abbrev pub left_due : {A : Type 0} → Bool → Option A → (Answers A → Type 0) → Answers A → Type 0
+left_due false o now q = now q
+left_due true None now q = q ≡ no_more
+left_due {A = A} true (Some x) now q = (r : Answers A) × now r × (q ≡ answer x r)
+
+module _ (p : Typed.Program) (m : Meanings) (leaves : List Written.StrategyOf) (nodes : List Node) (table : Table) where
+  abbrev pub left_of_cursor : ℕ → List ℕ → CallCursor → Engine → Answers Todo → Type 0
+  left_of_cursor k n s L = left_due s.due (body_found p k nodes s.bodies) (left_of_call p m.hooks k n nodes s.bodies L)
+
+  -- bodies of a call, which are searched for where calls are left
+  pub record IsCallCursor (s : CallCursor) (d : Todo) (t : Tree) (ys : List Yield) : Type 0 where
+    pub name : List ℕ
+    pub named : call_in leaves s.leaf.0 ≡ Some name
+    pub form : d.form ≡ call name []
+    pub calls : d.calls ≡ s.calls
+    pub bodies : List Todo
+    pub yielded : ys ≡ map (body_on t) bodies
+    pub search : IsCallSearch p m nodes table s.bodies
+    pub stands : s.due ≡ true → IsSome (found_in s.bodies.standing)
+    pub rest : (k : ℕ) → d.calls ≡ suc k → HasGivenBodies (program_over p m.hooks) (engine_of (program_over p m.hooks)) (map definition_of p.strategies) k d bodies (left_of_cursor k name s)
+
+  -- what runs may ask where all cursors are those of calls
+  abbrev pub world_of_calls : World CallCursor
+  world_of_calls = record {
+    setting = record { fixed = fixed_of p m leaves; terms = length nodes; tree = tree_at nodes };
+    is_term = λ n. IsTerm p.sig nodes n × AreSettled p.sig nodes table (tree_at nodes n);
+    is_bound = λ b. IsValueOf p.sig nodes table (b.variable, b.value);
+    yields = IsCallCursor;
+  }
+
+abbrev pub bound_by : VarId × TermId → Bound
+bound_by b = record { variable = b.0; value = b.1 }
+
+-- the body that was found last, with so many calls
+pub record IsBodyOf (s : CallCursor) (calls : ℕ) (b : Body) : Type 0 where
+  pub found : List (VarId × TermId)
+  pub at : found_in s.bodies.standing ≡ Some found
+  pub definition : b.definition ≡ s.bodies.number
+  pub calls_left : b.calls ≡ calls
+  pub values : b.values.items ≡ map bound_by found
+
+-- it is due no more, or memory is wanting
+abbrev pub IsGivenBody : CallCursor → CallCursor → ℕ → Result (Option Yielded) LeafEnd → Type 0
+IsGivenBody old new calls (Ok (Some (BodyOf b))) = IsBodyOf old calls b × (new ≡ record { leaf = old.leaf; calls = old.calls; bodies = old.bodies; due = false })
+IsGivenBody old new calls (Ok (Some (Term u))) = ⊥
+IsGivenBody old new calls (Ok None) = ⊥
+IsGivenBody old new calls (Err e) = (e ≡ NoMemory) × (new ≡ old)
+
+-- ---- what cursors have yielded
+
+module _ {K : Type 0} (asked : K → Asked) (given : K → Option Listed.Solution) (is_for : K → SignatureOf → Type 0) (c : Bool) (p : Typed.Program) (m : Meanings) (leaves : List Written.StrategyOf) (nodes : List Node) (table : Table) where
+  -- results of rules at the root, of all or of those with a label
+  pub record IsTopCursor (label : Option LeafId) (s : TopResults K) (d : Todo) (t : Tree) (ys : List Yield) : Type 0 where
+    pub results : List Tree
+    pub yielded : ys ≡ map result_of results
+    pub form : IsTopOf (chosen_by leaves label) d.form
+    pub top : IsTop asked given is_for c p m nodes table s
+    pub rest : HasGiven (program_over p m.hooks) (engine_of (program_over p m.hooks)) d t results (left_of_top asked given p m.hooks (is_chosen (chosen_by leaves label)) nodes s)
+
+  -- the result of a test
+  pub record IsTestCursor (s : TestCursor K) (d : Todo) (t : Tree) (ys : List Yield) : Type 0 where
+    pub results : List Tree
+    pub yielded : ys ≡ map result_of results
+    pub form : IsLeafForm d.form
+    pub test : IsTest asked given is_for c p m nodes table s
+    pub rest : HasGiven (program_over p m.hooks) (engine_of (program_over p m.hooks)) d t results (left_of_test asked given p m.hooks nodes s)
+
+  abbrev pub yields_in : LeafCursor K → Todo → Tree → List Yield → Type 0
+  yields_in (Top label s) d t ys = IsTopCursor label s d t ys
+  yields_in (Bodies s) d t ys = IsCallCursor p m leaves nodes table s d t ys
+  yields_in (Test s) d t ys = IsTestCursor s d t ys
+  yields_in Unsearched d t ys = ys ≡ []
+
+  -- terms are evaluated, values have the sorts of their variables
+  abbrev pub world_of : World (LeafCursor K)
+  world_of = record {
+    setting = record { fixed = fixed_of p m leaves; terms = length nodes; tree = tree_at nodes };
+    is_term = λ n. IsTerm p.sig nodes n × AreSettled p.sig nodes table (tree_at nodes n);
+    is_bound = λ b. IsValueOf p.sig nodes table (b.variable, b.value);
+    yields = yields_in;
+  }

@@ -1,0 +1,482 @@
+//! Who gives the results of leaves and the bodies of calls, by any evaluator and any listing with contexts.
+ghost use Rattle.std.specs.Prelude.{◌≡◌, ◌<◌, ℕ, List, [], length, map, slice_get, All, true, false, IsSome, IfOk};
+ghost use Rattle.std.specs.Option.{option_map};
+ghost use Rattle.mau_terms.specs.Tree.{Tree};
+ghost use Rattle.mau_store.specs.Node.{Extends};
+ghost use Rattle.mau_store.specs.Trees.{tree_at};
+ghost use Rattle.mau_api.specs.Terms.{IsTerm};
+ghost use Rattle.mau_api.specs.Answers.{AreSettled};
+ghost use Rattle.mau_sorts.specs.Table.{KeepsEntries};
+ghost use Rattle.mau_program.specs.LawfulStrategies.{IsLawfulDefinition};
+ghost use Rattle.mau_evaluation.specs.Configs.{Todo};
+ghost use Rattle.mau_strat.specs.Configurations.{TellsApart};
+ghost use Rattle.mau_strat.specs.Forms.{IsLeaf};
+ghost use Rattle.mau_stratrun.specs.Yields.{Yield};
+ghost use Rattle.mau_stratrun.specs.Worlds.{values_of, IsNextYield};
+ghost use Rattle.mau_rules.specs.Runnable.{IsRunnable, GoesBy};
+ghost use Rattle.mau_leaves.specs.Searches.{found_in};
+ghost use Rattle.mau_leaves.specs.Cursors.{leaf_at, label_in, chosen_by, call_in, leaf_end, yielded_by, bound_by, IsTopCursor, IsTestCursor, IsCallCursor, IsGivenBody, IsReady, yields_in, world_of, world_of_calls};
+ghost use Rattle.mau_leaves.specs.declared.uses.Standing.TheVariants.{Behind};
+ghost use Rattle.mau_leaves.specs.declared.cursor.LeafCursor.TheVariants as At;
+
+use crate::bodies::{CallBodies, next_body};
+use crate::testing::{TestCursor, next_test, start_test};
+use crate::top::{TopResults, next_top, start_top};
+use crate::uses::{Standing, last_of};
+use mau_api::{EvalEnd, Evaluator, Lister, Program, Strategy, StrategyForm};
+use mau_store::Store;
+use mau_strat::{Bound, LeafId};
+use mau_stratrun::{Body, Lead, LeafEnd, Leaves, Yielded};
+use mau_terms::{NoMemory, TermId, VarId};
+use std::alloc::Global;
+use std::marker::PhantomData;
+
+/// A call without arguments, by the number of its leaf, with the calls that are left to it; the search for its bodies; and whether the body
+/// that was found last is due.
+#[derive(Drop)]
+pub struct CallCursor {
+    pub leaf: LeafId,
+    pub calls: usize,
+    pub bodies: CallBodies,
+    pub due: bool,
+}
+
+/// Where the search for what a strategy yields on a term stands.
+#[derive(Drop)]
+pub enum LeafCursor<L> {
+    /// `top(all)`, or `top(l)` by the number of the leaf `l`.
+    Top(Option<LeafId>, TopResults<L>),
+    /// A call without arguments.
+    Bodies(CallCursor),
+    /// A test.
+    Test(TestCursor<L>),
+    /// Nothing is searched for yet: who asks is told that memory is wanting.
+    Unsearched,
+}
+
+/// Gives the results of the leaves of a table, by a program, an evaluator and a store, with the budget of an item for each evaluation.
+#[derive(Drop)]
+pub struct RunLeaves<'a, E, L> {
+    pub program: &'a Program,
+    pub leaves: &'a [Strategy],
+    pub store: Store,
+    pub evaluator: E,
+    pub limit: u64,
+    pub listing: PhantomData<L>,
+}
+
+/// The label of a leaf that assigns nothing.
+fn label_of(leaves: &[Strategy], leaf: LeafId) -> Option<&str>
+    ensures { option_map (λ x. x.now) result ≡ label_in leaves.now leaf.0 }
+{
+    match leaves.get(leaf.0) {
+        Some(strategy) => match strategy.form() {
+            StrategyForm::Label(name, assigns) => {
+                if !assigns.items().is_empty() {
+                    return None;
+                }
+                Some(name.as_str())
+            }
+            _ => None,
+        },
+        None => None,
+    }
+}
+
+/// The label of a leaf, where there is one.
+fn label_by(leaves: &[Strategy], leaf: Option<LeafId>) -> Option<&str>
+    ensures { option_map (λ x. x.now) result ≡ chosen_by leaves.now leaf }
+{
+    match leaf {
+        Some(leaf) => label_of(leaves, leaf),
+        None => None,
+    }
+}
+
+/// The name of a leaf that is a call without arguments.
+fn name_of(leaves: &[Strategy], leaf: LeafId) -> Option<&str>
+    ensures { option_map (λ x. x.now) result ≡ call_in leaves.now leaf.0 }
+{
+    match leaves.get(leaf.0) {
+        Some(strategy) => match strategy.form() {
+            StrategyForm::Call(name, args) => {
+                if !args.items().is_empty() {
+                    return None;
+                }
+                Some(name.as_str())
+            }
+            _ => None,
+        },
+        None => None,
+    }
+}
+
+/// The end of an evaluation as one of a leaf.
+fn end_of(end: EvalEnd) -> LeafEnd
+    ensures { result ≡ leaf_end end }
+{
+    match end {
+        EvalEnd::Stopped => LeafEnd::Stopped,
+        EvalEnd::TooDeep => LeafEnd::TooDeep,
+        EvalEnd::Overflow => LeafEnd::Overflow,
+        EvalEnd::NoMemory => LeafEnd::NoMemory,
+    }
+}
+
+/// What comes of the search for a result, as what is yielded.
+fn yielded(found: Result<Option<TermId>, EvalEnd>) -> Result<Option<Yielded>, LeafEnd>
+    ensures { result ≡ yielded_by found }
+{
+    match found {
+        Ok(Some(term)) => Ok(Some(Yielded::Term(term))),
+        Ok(None) => Ok(None),
+        Err(end) => Err(end_of(end)),
+    }
+}
+
+/// The next result of rules at the root.
+fn next_of_top<E: Evaluator, L: Lister + Drop>(
+    program: &Program,
+    leaves: &[Strategy],
+    store: &mut Store,
+    evaluator: &mut E,
+    leaf: Option<LeafId>,
+    results: &mut TopResults<L>,
+    limit: u64,
+) -> Result<Option<Yielded>, LeafEnd>
+    requires contexts { L.with_context ≡ true }
+    requires runnable { IsRunnable program.now }
+    requires goes_by { GoesBy program.now (E.meanings evaluator.old) }
+    requires fits { E.fits evaluator.old store.old }
+    requires limit { limit ≡ (E.meanings evaluator.old).limit }
+    requires yields { (d : Todo) × (t : Tree) × (ys : List Yield) × IsTopCursor L.asked L.given L.is_for L.with_context program.now
+        (E.meanings evaluator.old) leaves.now store.old (E.table evaluator.old) leaf results.old d t ys }
+    ensures next { (d : Todo) (t : Tree) (ys : List Yield) → IsTopCursor L.asked L.given L.is_for L.with_context program.now
+        (E.meanings evaluator.old) leaves.now store.old (E.table evaluator.old) leaf results.old d t ys →
+        IsNextYield (world_of L.asked L.given L.is_for L.with_context program.now (E.meanings evaluator.old) leaves.now
+        store.new (E.table evaluator.new)) (At.Top leaf results.new) d t ys result }
+    ensures extends { Extends store.old store.new }
+    ensures fits { E.fits evaluator.new store.new }
+    ensures kept { KeepsEntries (E.table evaluator.old) (E.table evaluator.new) }
+    ensures meanings { E.meanings evaluator.new ≡ E.meanings evaluator.old }
+{
+    let label = label_by(leaves, leaf);
+    let found = next_top(program, label, store, evaluator, results, limit);
+    yielded(found)
+}
+
+/// The result of a test.
+fn next_of_test<E: Evaluator, L: Lister + Drop>(
+    program: &Program,
+    leaves: &[Strategy],
+    store: &mut Store,
+    evaluator: &mut E,
+    test: &mut TestCursor<L>,
+    limit: u64,
+) -> Result<Option<Yielded>, LeafEnd>
+    requires contexts { L.with_context ≡ true }
+    requires runnable { IsRunnable program.now }
+    requires goes_by { GoesBy program.now (E.meanings evaluator.old) }
+    requires fits { E.fits evaluator.old store.old }
+    requires limit { limit ≡ (E.meanings evaluator.old).limit }
+    requires yields { (d : Todo) × (t : Tree) × (ys : List Yield) × IsTestCursor L.asked L.given L.is_for L.with_context program.now
+        (E.meanings evaluator.old) leaves.now store.old (E.table evaluator.old) test.old d t ys }
+    ensures next { (d : Todo) (t : Tree) (ys : List Yield) → IsTestCursor L.asked L.given L.is_for L.with_context program.now
+        (E.meanings evaluator.old) leaves.now store.old (E.table evaluator.old) test.old d t ys →
+        IsNextYield (world_of L.asked L.given L.is_for L.with_context program.now (E.meanings evaluator.old) leaves.now
+        store.new (E.table evaluator.new)) (At.Test test.new) d t ys result }
+    ensures extends { Extends store.old store.new }
+    ensures fits { E.fits evaluator.new store.new }
+    ensures kept { KeepsEntries (E.table evaluator.old) (E.table evaluator.new) }
+    ensures meanings { E.meanings evaluator.new ≡ E.meanings evaluator.old }
+{
+    let _ = leaves;
+    let found = next_test(program, store, evaluator, test, limit);
+    yielded(found)
+}
+
+/// Variables with their values.
+fn bounds(alloc: Global, found: &[(VarId, TermId)]) -> Result<Vec<Bound>, NoMemory>
+    ensures { IfOk result (λ values. values.items ≡ map bound_by found.now) }
+{
+    let mut values = Vec::new(alloc);
+    for (variable, value) in found {
+        values.push(Bound {
+            variable: *variable,
+            value: *value,
+        })?;
+    }
+    Ok(values)
+}
+
+/// The body that is due.
+fn give_body(
+    alloc: Global,
+    cursor: &mut CallCursor,
+    calls: usize,
+) -> Result<Option<Yielded>, LeafEnd>
+    requires due { cursor.old.due ≡ true }
+    requires found { IsSome (found_in cursor.old.bodies.standing) }
+    ensures given { IsGivenBody cursor.old cursor.new calls result }
+{
+    let found = match last_of(&cursor.bodies.standing) {
+        Some(found) => found,
+        None => unreachable!(),
+    };
+    match bounds(alloc, found) {
+        Ok(values) => {
+            cursor.due = false;
+            Ok(Some(Yielded::Body(Body {
+                definition: cursor.bodies.number,
+                calls,
+                values,
+            })))
+        }
+        Err(_) => Err(LeafEnd::NoMemory),
+    }
+}
+
+/// The next body of a call.
+fn next_of_call<E: Evaluator>(
+    program: &Program,
+    leaves: &[Strategy],
+    store: &mut Store,
+    evaluator: &mut E,
+    cursor: &mut CallCursor,
+    limit: u64,
+) -> Result<Option<Yielded>, LeafEnd>
+    requires runnable { IsRunnable program.now }
+    requires definitions { All (IsLawfulDefinition program.now.sig) program.now.strategies }
+    requires goes_by { GoesBy program.now (E.meanings evaluator.old) }
+    requires fits { E.fits evaluator.old store.old }
+    requires limit { limit ≡ (E.meanings evaluator.old).limit }
+    requires yields { (d : Todo) × (t : Tree) × (ys : List Yield) × IsCallCursor program.now
+        (E.meanings evaluator.old) leaves.now store.old (E.table evaluator.old) cursor.old d t ys }
+    ensures next { (d : Todo) (t : Tree) (ys : List Yield) → IsCallCursor program.now
+        (E.meanings evaluator.old) leaves.now store.old (E.table evaluator.old) cursor.old d t ys →
+        IsNextYield (world_of_calls program.now (E.meanings evaluator.old) leaves.now store.new (E.table evaluator.new)) cursor.new d t ys result }
+    ensures extends { Extends store.old store.new }
+    ensures fits { E.fits evaluator.new store.new }
+    ensures kept { KeepsEntries (E.table evaluator.old) (E.table evaluator.new) }
+    ensures meanings { E.meanings evaluator.new ≡ E.meanings evaluator.old }
+{
+    if cursor.calls == 0 {
+        return Err(LeafEnd::CallDepth);
+    }
+    let calls = cursor.calls - 1;
+    if cursor.due {
+        return give_body(store.allocator(), cursor, calls);
+    }
+    let name = match name_of(leaves, cursor.leaf) {
+        Some(name) => name,
+        None => unreachable!(),
+    };
+    match next_body(program, name, store, evaluator, &mut cursor.bodies, limit) {
+        Ok(true) => (),
+        Ok(false) => return Ok(None),
+        Err(end) => return Err(end_of(end)),
+    }
+    cursor.due = true;
+    give_body(store.allocator(), cursor, calls)
+}
+
+/// The cursor of a call without arguments, which has yielded nothing.
+fn call_cursor(leaf: LeafId, calls: usize) -> CallCursor
+    ensures leaf { result.leaf ≡ leaf }
+    ensures calls { result.calls ≡ calls }
+    ensures begun { (result.bodies.number ≡ 0) × (result.bodies.standing ≡ Behind) × (result.due ≡ false) }
+{
+    CallCursor {
+        leaf,
+        calls,
+        bodies: CallBodies {
+            number: 0,
+            standing: Standing::Behind,
+        },
+        due: false,
+    }
+}
+
+/// The leaf with a number.
+fn leaf_by(leaves: &[Strategy], leaf: LeafId) -> Option<&Strategy>
+    ensures { option_map (λ x. x.now) result ≡ slice_get leaves.now leaf.0 }
+{
+    leaves.get(leaf.0)
+}
+
+/// Whether no variable has a value.
+fn have_none(values: &[Bound]) -> bool
+    ensures { result ≡ true → values.now ≡ [] }
+{
+    match values {
+        [] => true,
+        [_, ..] => false,
+    }
+}
+
+/// The cursor of a leaf on a term, which has yielded nothing. Tests whose variables may have values before are not searched for yet.
+fn start_leaf<E: Evaluator, L: Lister + Drop>(
+    program: &Program,
+    leaves: &[Strategy],
+    store: &Store,
+    evaluator: &E,
+    leaf: LeafId,
+    calls: usize,
+    values: &[Bound],
+    term: TermId,
+) -> Result<LeafCursor<L>, NoMemory>
+    requires runnable { IsRunnable program.now }
+    requires goes_by { GoesBy program.now (E.meanings evaluator.now) }
+    requires fits { E.fits evaluator.now store.now }
+    requires term { IsTerm program.now.sig store.now term.0 }
+    requires settled { AreSettled program.now.sig store.now (E.table evaluator.now) (tree_at store.now term.0) }
+    ensures yields { IfOk result (λ k. yields_in L.asked L.given L.is_for L.with_context program.now (E.meanings evaluator.now)
+        leaves.now store.now (E.table evaluator.now) k
+        (record { form = leaf_at leaves.now leaf.0; calls = calls; values = values_of (tree_at store.now) values.now })
+        (tree_at store.now term.0) []) }
+{
+    match name_of(leaves, leaf) {
+        Some(_) => return Ok(LeafCursor::Bodies(call_cursor(leaf, calls))),
+        None => (),
+    }
+    let strategy = match leaf_by(leaves, leaf) {
+        Some(strategy) => strategy,
+        None => return Ok(LeafCursor::Unsearched),
+    };
+    match strategy.form() {
+        StrategyForm::Test(kind, pattern, cond) => {
+            if !have_none(values) {
+                return Ok(LeafCursor::Unsearched);
+            }
+            match start_test(program, store, evaluator, *kind, pattern, cond, term)? {
+                Some(test) => Ok(LeafCursor::Test(test)),
+                None => Ok(LeafCursor::Unsearched),
+            }
+        }
+        _ => Ok(LeafCursor::Unsearched),
+    }
+}
+
+/// What comes behind that which a cursor has yielded.
+fn next_of<E: Evaluator, L: Lister + Drop>(
+    program: &Program,
+    leaves: &[Strategy],
+    store: &mut Store,
+    evaluator: &mut E,
+    cursor: &mut LeafCursor<L>,
+    limit: u64,
+) -> Result<Option<Yielded>, LeafEnd>
+    requires contexts { L.with_context ≡ true }
+    requires runnable { IsRunnable program.now }
+    requires definitions { All (IsLawfulDefinition program.now.sig) program.now.strategies }
+    requires goes_by { GoesBy program.now (E.meanings evaluator.old) }
+    requires fits { E.fits evaluator.old store.old }
+    requires limit { limit ≡ (E.meanings evaluator.old).limit }
+    requires yields { (d : Todo) × (t : Tree) × (ys : List Yield) × yields_in L.asked L.given L.is_for L.with_context program.now
+        (E.meanings evaluator.old) leaves.now store.old (E.table evaluator.old) cursor.old d t ys }
+    ensures next { (d : Todo) (t : Tree) (ys : List Yield) → yields_in L.asked L.given L.is_for L.with_context program.now
+        (E.meanings evaluator.old) leaves.now store.old (E.table evaluator.old) cursor.old d t ys →
+        IsNextYield (world_of L.asked L.given L.is_for L.with_context program.now (E.meanings evaluator.old) leaves.now
+        store.new (E.table evaluator.new)) cursor.new d t ys result }
+    ensures extends { Extends store.old store.new }
+    ensures fits { E.fits evaluator.new store.new }
+    ensures kept { KeepsEntries (E.table evaluator.old) (E.table evaluator.new) }
+    ensures meanings { E.meanings evaluator.new ≡ E.meanings evaluator.old }
+{
+    match cursor {
+        LeafCursor::Top(leaf, results) => next_of_top(
+            program, leaves, store, evaluator, *leaf, results, limit,
+        ),
+        LeafCursor::Bodies(bodies) => next_of_call(
+            program, leaves, store, evaluator, bodies, limit,
+        ),
+        LeafCursor::Test(test) => next_of_test(program, leaves, store, evaluator, test, limit),
+        LeafCursor::Unsearched => Err(LeafEnd::NoMemory),
+    }
+}
+
+impl<'a, E: Evaluator + Drop, L: Lister + Drop> RunLeaves<'a, E, L> {
+    /// Over a table of leaves, in which each has one number, with what an evaluator and a store have by now.
+    pub fn new(
+        program: &'a Program,
+        leaves: &'a [Strategy],
+        store: Store,
+        evaluator: E,
+        limit: u64,
+    ) -> RunLeaves<'a, E, L>
+        requires contexts { L.with_context ≡ true }
+        requires runnable { IsRunnable program.now }
+        requires definitions { All (IsLawfulDefinition program.now.sig) program.now.strategies }
+        requires goes_by { GoesBy program.now (E.meanings evaluator) }
+        requires fits { E.fits evaluator store }
+        requires limit { limit ≡ (E.meanings evaluator).limit }
+        requires apart { TellsApart (leaf_at leaves.now) (length leaves.now) }
+        requires kinds { (l : ℕ) → l < length leaves.now → IsLeaf (leaf_at leaves.now l) }
+        ensures ready { IsReady L.with_context result.program.now (E.meanings result.evaluator) result.leaves.now result.limit result.store }
+        ensures fits { E.fits result.evaluator result.store }
+        ensures parts { (result.program.now ≡ program.now) × (result.leaves.now ≡ leaves.now) × (result.store ≡ store) }
+        ensures evaluator { (result.evaluator ≡ evaluator) × (result.limit ≡ limit) }
+    {
+        let _ = store.len();
+        RunLeaves {
+            program,
+            leaves,
+            store,
+            evaluator,
+            limit,
+            listing: PhantomData,
+        }
+    }
+}
+
+impl<'a, E: Evaluator + Drop, L: Lister + Drop> Leaves for RunLeaves<'a, E, L> {
+    ghost use Rattle.mau_leaves.specs.CursorLaws.{is_world};
+
+    type Cursor = LeafCursor<L>;
+
+    ghost world = { λ r. world_of L.asked L.given L.is_for L.with_context r.program.now (E.meanings r.evaluator) r.leaves.now r.store (E.table r.evaluator) };
+
+    ghost is_ready = { λ r. IsReady L.with_context r.program.now (E.meanings r.evaluator) r.leaves.now r.limit r.store × E.fits r.evaluator r.store };
+
+    fn start(
+        &mut self,
+        lead: Lead,
+        calls: usize,
+        values: &[Bound],
+        term: TermId,
+    ) -> Result<LeafCursor<L>, NoMemory> {
+        match lead {
+            Lead::TopOfAll => Ok(LeafCursor::Top(None, start_top(term))),
+            Lead::TopOf(leaf) => match label_of(self.leaves, leaf) {
+                Some(_) => Ok(LeafCursor::Top(Some(leaf), start_top(term))),
+                None => Ok(LeafCursor::Unsearched),
+            },
+            Lead::Leaf(leaf) => start_leaf(
+                self.program,
+                self.leaves,
+                &self.store,
+                &self.evaluator,
+                leaf,
+                calls,
+                values,
+                term,
+            ),
+            Lead::All => Ok(LeafCursor::Unsearched),
+        }
+    }
+
+    fn next(&mut self, cursor: &mut LeafCursor<L>) -> Result<Option<Yielded>, LeafEnd> {
+        let found = next_of(
+            self.program,
+            self.leaves,
+            &mut self.store,
+            &mut self.evaluator,
+            cursor,
+            self.limit,
+        );
+        let _ = self.store.len();
+        found
+    }
+
+    ghost laws = { λ r ready. is_world L.asked L.given L.is_for L.with_context r.program.now (E.meanings r.evaluator) r.leaves.now r.limit r.store (E.table r.evaluator) ready.0 };
+}
