@@ -168,28 +168,32 @@ fn shown_at(alloc: Global, program: &Program, number: usize, limit: u64) -> Resu
     }
 }
 
-/// What is shown of the condition of an equation of the module of a text.
-fn shown_row(alloc: Global, text: &str, number: usize, limit: u64) -> Result<String, Fail>
+/// What is shown of the condition of an equation of the module of a text, counted from the last one back, which is 1.
+fn shown_row(alloc: Global, text: &str, back: usize, limit: u64) -> Result<String, Fail>
     requires { length text.now ≤ 16777216 }
 {
     let read = module_of(alloc, text)?;
-    shown_at(alloc, read.program(), number, limit)
+    let program = read.program();
+    match program.equations.items().len().checked_sub(back) {
+        Some(number) => shown_at(alloc, program, number, limit),
+        None => Err("there is none".into()),
+    }
 }
 
-/// Each row: the module, the number of the equation, the budget, and what is shown.
+/// Each row: the module, the number of the equation from the last one back, the budget, and what is shown.
 const ROWS: [(&str, usize, u64, &str); 7] = [
-    (PARTS, 3, 9, "ListAList+ ABC+ ListCList+ ."),
-    (PARTS, 4, 9, "ListAListBC+ ABCListC+ ."),
+    (PARTS, 4, 9, "ListAList+ ABC+ ListCList+ ."),
+    (PARTS, 3, 9, "ListAListBC+ ABCListC+ ."),
     (
         PARTS,
-        5,
+        2,
         9,
         "ListListListAList+ ListListABC+ ListListListCList+ AListListBC+ AListBCList+ ListCListCList+ .",
     ),
-    (PARTS, 6, 9, "ABC++ ListCList++ ."),
-    (PARTS, 6, 1, "!"),
-    (PARTS, 6, 2, "ABC++ !"),
-    (PARTS, 6, 3, "ABC++ ListCList++ ."),
+    (PARTS, 1, 9, "ABC++ ListCList++ ."),
+    (PARTS, 1, 1, "!"),
+    (PARTS, 1, 2, "ABC++ !"),
+    (PARTS, 1, 3, "ABC++ ListCList++ ."),
 ];
 
 #[test]
