@@ -61,10 +61,10 @@ module _ {K : Type 0} (asked : K → Asked) (given : K → Option Listed.Solutio
       results = h.results;
       yielded = h.yielded;
       form = h.form;
-      top = top_grown asked given is_for c p run m old before s h.top new after extends kept over;
+      top = top_grown asked given is_for c p run m old before s h.top (λ v. v) new after extends kept over;
       rest =
           passes (engine_of (program_over p m.hooks)) (λ L. results (program_over p m.hooks) L d t) h.results (left_of_top asked given p m.hooks (is_chosen (chosen_by leaves label)) old s) (left_of_top asked given p m.hooks (is_chosen (chosen_by leaves label)) new s)
-          h.rest (still_top asked given is_for c p run m old before s h.top new after extends kept over (is_chosen (chosen_by leaves label)));
+          h.rest (still_top asked given is_for c p run m old before s h.top (λ v. v) new after extends kept over (is_chosen (chosen_by leaves label)));
     }
 
     test_cursor_grown : (s : TestCursor K) (d : Todo) (t : Tree) (ys : List Yield) → IsTestCursor asked given is_for c p m leaves old before s d t ys → IsTestCursor asked given is_for c p m leaves new after s d t ys

@@ -148,7 +148,7 @@ module _ (P : Program) (L : Engine) (d : Todo) (t : Tree) where
       ap (λ e. results_of P L d.values e t) h
       ∙ (those_none (and_those (labelled_place P L n [] [] (root_at t)) no_more) ∙ (those_none (labelled_place P L n [] [] (root_at t)) ∙ sym ((uses_lead_to_results P L (root_at t)).2 n)))
 
-drop_zero : {A : Type 0} (xs : List A) → drop 0 xs ≡ xs
+pub drop_zero : {A : Type 0} (xs : List A) → drop 0 xs ≡ xs
 drop_zero [] = refl
 drop_zero (x ∷ xs) = refl
 
