@@ -7,7 +7,7 @@ use Rattle.mau_signature.specs.Signature.{SignatureOf, theory_at, terms_over}
 use Rattle.mau_formula.specs.Operator.{Operator}
 use Rattle.mau_store.specs.Node.{Node, AreNodes, Extends}
 use Rattle.mau_store.specs.Trees.{tree_at}
-use Rattle.mau_sorts.specs.Table.{Table, KeepsEntries}
+use Rattle.mau_sorts.specs.Table.{Table, KeepsEntries, AreOver}
 use Rattle.mau_listing.specs.Asked.{Asked}
 use Rattle.mau_listing.specs.declared.solution.Solution as Listed
 use Rattle.mau_program.specs.declared.program.Program as Typed
@@ -30,10 +30,12 @@ use Rattle.mau_leaves.specs.Steps.{Gives, IsOver, Passes, Throughout}
 use Rattle.mau_leaves.specs.Uses.{uses_of_all, is_chosen}
 use Rattle.mau_leaves.specs.Answers.{IsDueBy}
 use Rattle.mau_leaves.specs.Top.{place_in, left_around, IsTop}
-use Rattle.mau_leaves.specs.Everywhere.{results_at, results_at_all, around_way, places_after, left_then, left_of_places, start_at, IsEverywhereOf}
+use Rattle.mau_leaves.specs.Everywhere.{results_at, results_at_all, around_way, places_after, left_then, left_of_places, start_at, IsEverywhere, IsEverywhereOf}
 use Rattle.mau_leaves.specs.Follows.{HasGiven}
 use Rattle.mau_leaves.specs.declared.everywhere.PlacesResults.{PlacesResults}
 use Rattle.mau_leaves.specs.declared.top.TopResults.{TopResults}
+use Rattle.mau_rules.specs.Runnable.{IsRunnable}
+use Rattle.mau_leaves.proofs.TopSteps.{top_grown, still_top}
 use Rattle.mau_leaves.proofs.Steps.{through_as, through_always, first_gives, first_passes, first_over, first_due}
 use Rattle.mau_leaves.proofs.Follows.{begins, drop_zero}
 use Rattle.mau_leaves.proofs.Rewrites.{those_none, each_same, uses_lead_to_results}
@@ -184,3 +186,39 @@ module _ {K : Type 0} (asked : K → Asked) (given : K → Option Listed.Solutio
         starts_there asked given p hooks (is_chosen o) (λ v. v) nodes (start_at term) term refl L,
         e ∙ (place_results P L d t o form ∙ ap (results_at_all P L (is_chosen o)) all_places),
       ))))
+
+-- ---- such a search in a store that has grown
+
+module _ {K : Type 0} (asked : K → Asked) (given : K → Option Listed.Solution) (is_for : K → SignatureOf → Type 0) (c : Bool) (p : Typed.Program) (run : IsRunnable p) (m : Meanings) (old : List Node) (before : Table) (s : PlacesResults K)
+    (is : IsEverywhere asked given is_for c p m old before s) (new : List Node) (after : Table) (extends : Extends old new) (kept : KeepsEntries before after) (over : AreOver p.sig.hierarchy after) where
+  within_same : tree_at new s.at.place.term.0 ≡ tree_at old s.at.place.term.0
+  within_same = tree_kept (theory_at p.sig) old new s.at.place.term.0 extends is.at.place.term.within
+
+  pub everywhere_grown : IsEverywhere asked given is_for c p m new after s
+  everywhere_grown = record {
+    at = top_grown asked given is_for c p run m old before s.at is.at (λ v. v) new after extends kept over;
+    walk = λ g. let w = is.walk g in walk_on p old new extends w.0 s.way.items s.at.place.term w.1 within_same s.at.place.term refl before after kept w.2;
+  }
+
+  module _ (chosen : Rule → Bool) where
+    abbrev Q : Program
+    Q = program_over p m.hooks
+
+    abbrev Around : (Tree → Tree) → List Node → Engine → Answers Tree → Type 0
+    Around a nodes = left_around asked given p m.hooks chosen a nodes s.at
+
+    still_there : s.gone ≡ false → Throughout (engine_of Q) (left_of_places asked given p m.hooks chosen old s) (λ L. Passes (left_of_places asked given p m.hooks chosen old s L) (left_of_places asked given p m.hooks chosen new s L))
+    still_there g =
+        let w = is.walk g in
+        let step = subst (λ (a : Tree → Tree). Throughout (engine_of Q) (Around (around_way old s.way.items) old) (λ L. Passes (Around (around_way old s.way.items) old L) (Around a new L)))
+        (sym (around_same p old new extends w.0 s.way.items s.at.place.term w.1 within_same s.at.place.term refl))
+        (still_top asked given is_for c p run m old before s.at is.at (around_way old s.way.items) new after extends kept over chosen) in
+        passed_on Q 0 chosen (places_after p.sig old s.way.items s.at.place.term.0) (places_after p.sig new s.way.items s.at.place.term.0)
+        (places_same p old new extends w.0 s.way.items s.at.place.term w.1 within_same s.at.place.term refl) (Around (around_way old s.way.items) old) (Around (around_way new s.way.items) new) s.gone s.gone g g step
+
+    pub still_everywhere : Throughout (engine_of (program_over p m.hooks)) (left_of_places asked given p m.hooks chosen old s) (λ L. Passes (left_of_places asked given p m.hooks chosen old s L) (left_of_places asked given p m.hooks chosen new s L))
+    still_everywhere = by s.gone refl
+      where
+        by : (b : Bool) → s.gone ≡ b → Throughout (engine_of Q) (left_of_places asked given p m.hooks chosen old s) (λ L. Passes (left_of_places asked given p m.hooks chosen old s L) (left_of_places asked given p m.hooks chosen new s L))
+        by false g = still_there g
+        by true g = gone_on Q chosen (left_of_places asked given p m.hooks chosen old s) (places_after p.sig new s.way.items s.at.place.term.0) s.gone g (Around (around_way new s.way.items) new)

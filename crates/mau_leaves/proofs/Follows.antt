@@ -26,6 +26,7 @@ use Rattle.mau_leaves.specs.Steps.{Gives, IsOver, Passes, EndsNow, Throughout, I
 use Rattle.mau_leaves.specs.Uses.{uses_of_all, value_at, is_chosen}
 use Rattle.mau_leaves.specs.Answers.{IsDueBy}
 use Rattle.mau_leaves.specs.Top.{root_at, left_of_top, IsNextResult}
+use Rattle.mau_leaves.specs.Everywhere.{IsEverywhereOf}
 use Rattle.mau_leaves.specs.Follows.{Given, HasGiven, IsLeafDue, IsNextGiven, IsTopOf}
 use Rattle.mau_leaves.proofs.Rewrites.{those_none, uses_lead_to_results}
 use Rattle.mau_leaves.proofs.Steps.{both_so, so, through_always}
@@ -139,6 +140,10 @@ module _ (P : Program) (b : ℕ) (defs : List StratDef) (d : Todo) (leaf : IsLea
 pub top_leaf : (o : Option (List ℕ)) (e : Strategy) → IsTopOf o e → IsLeaf e
 top_leaf None e h = subst IsLeaf (sym h) tt
 top_leaf (Some n) e h = subst IsLeaf (sym h) tt
+
+pub everywhere_leaf : (o : Option (List ℕ)) (e : Strategy) → IsEverywhereOf o e → IsLeaf e
+everywhere_leaf None e h = subst IsLeaf (sym h) tt
+everywhere_leaf (Some n) e h = subst IsLeaf (sym h) tt
 
 module _ (P : Program) (L : Engine) (d : Todo) (t : Tree) where
   -- the results are the values that the uses of the rules lead to
