@@ -36,15 +36,18 @@ use Rattle.mau_leaves.specs.Top.{left_of_top, IsTop}
 use Rattle.mau_leaves.specs.Follows.{IsLeafDue, IsNextGiven, IsTopOf}
 use Rattle.mau_evaluation.specs.Strategy.{idle, label as by_label, top_only, call}
 use Rattle.mau_stratforms.specs.Meanings.{meaning_of}
-use Rattle.mau_leaves.specs.Cursors.{leaf_at, label_by, label_of_one, label_in, call_by, call_of_one, call_in, fixed_of, leaf_end, yielded_by, chosen_by, IsTopCursor, IsTestCursor, yields_in, world_of, world_of_calls}
+use Rattle.mau_leaves.specs.Cursors.{leaf_at, label_by, label_of_one, label_in, call_by, call_of_one, call_in, fixed_of, leaf_end, yielded_by, chosen_by, IsTopCursor, IsEverywhereCursor, IsTestCursor, yields_in, world_of, world_of_calls}
 use Rattle.mau_leaves.specs.declared.cursor.CallCursor.{CallCursor}
 use Rattle.mau_leaves.specs.declared.top.TopResults.{TopResults}
 use Rattle.mau_leaves.specs.declared.cursor.LeafCursor.{LeafCursor}
-use Rattle.mau_leaves.specs.declared.cursor.LeafCursor.TheVariants.{Top, Bodies, Test, Unsearched}
+use Rattle.mau_leaves.specs.declared.cursor.LeafCursor.TheVariants.{Top, Everywhere, Bodies, Test, Unsearched}
 use Rattle.mau_leaves.specs.declared.testing.TestCursor.{TestCursor}
 use Rattle.mau_leaves.specs.Tests.{left_of_test, IsTest}
 use Rattle.mau_leaves.proofs.Searching.{term_grown, settled_later}
 use Rattle.mau_leaves.proofs.TopSteps.{top_grown, still_top}
+use Rattle.mau_leaves.proofs.AllPlaces.{everywhere_grown, still_everywhere}
+use Rattle.mau_leaves.specs.Everywhere.{left_of_places, IsEverywhere, IsEverywhereOf}
+use Rattle.mau_leaves.specs.declared.everywhere.PlacesResults.{PlacesResults}
 use Rattle.mau_leaves.proofs.Holding.{test_grown, still_test}
 use Rattle.mau_leaves.proofs.Follows.{passes}
 use Rattle.mau_leaves.proofs.Calling.{call_cursor_grown}
@@ -61,10 +64,21 @@ module _ {K : Type 0} (asked : K → Asked) (given : K → Option Listed.Solutio
       results = h.results;
       yielded = h.yielded;
       form = h.form;
-      top = top_grown asked given is_for c p run m old before s h.top new after extends kept over;
+      top = top_grown asked given is_for c p run m old before s h.top (λ v. v) new after extends kept over;
       rest =
           passes (engine_of (program_over p m.hooks)) (λ L. results (program_over p m.hooks) L d t) h.results (left_of_top asked given p m.hooks (is_chosen (chosen_by leaves label)) old s) (left_of_top asked given p m.hooks (is_chosen (chosen_by leaves label)) new s)
-          h.rest (still_top asked given is_for c p run m old before s h.top new after extends kept over (is_chosen (chosen_by leaves label)));
+          h.rest (still_top asked given is_for c p run m old before s h.top (λ v. v) new after extends kept over (is_chosen (chosen_by leaves label)));
+    }
+
+    everywhere_cursor_grown : (label : Option LeafId) (s : PlacesResults K) (d : Todo) (t : Tree) (ys : List Yield) → IsEverywhereCursor asked given is_for c p m leaves old before label s d t ys → IsEverywhereCursor asked given is_for c p m leaves new after label s d t ys
+    everywhere_cursor_grown label s d t ys h = record {
+      results = h.results;
+      yielded = h.yielded;
+      form = h.form;
+      search = everywhere_grown asked given is_for c p run m old before s h.search new after extends kept over;
+      rest =
+          passes (engine_of (program_over p m.hooks)) (λ L. results (program_over p m.hooks) L d t) h.results (left_of_places asked given p m.hooks (is_chosen (chosen_by leaves label)) old s) (left_of_places asked given p m.hooks (is_chosen (chosen_by leaves label)) new s)
+          h.rest (still_everywhere asked given is_for c p run m old before s h.search new after extends kept over (is_chosen (chosen_by leaves label)));
     }
 
     test_cursor_grown : (s : TestCursor K) (d : Todo) (t : Tree) (ys : List Yield) → IsTestCursor asked given is_for c p m leaves old before s d t ys → IsTestCursor asked given is_for c p m leaves new after s d t ys
@@ -80,6 +94,7 @@ module _ {K : Type 0} (asked : K → Asked) (given : K → Option Listed.Solutio
 
     cursor_grown : (k : LeafCursor K) (d : Todo) (t : Tree) (ys : List Yield) → yields_in asked given is_for c p m leaves old before k d t ys → yields_in asked given is_for c p m leaves new after k d t ys
     cursor_grown (Top label s) d t ys h = top_cursor_grown label s d t ys h
+    cursor_grown (Everywhere label s) d t ys h = everywhere_cursor_grown label s d t ys h
     cursor_grown (Bodies s) d t ys h = call_cursor_grown p m leaves old new before after extends kept s d t ys h
     cursor_grown (Test s) d t ys h = test_cursor_grown s d t ys h
     cursor_grown Unsearched d t ys h = h
@@ -127,6 +142,19 @@ module _ {K : Type 0} (asked : K → Asked) (given : K → Option Listed.Solutio
     )
     top_yields s form top (Ok None) term settled n = subst (YieldsAll f d t) (sym yielded) ((leaves_yield f d t us).1 n)
     top_yields s form top (Err e) term settled n = (record { results = us; yielded = yielded; form = form; top = top; rest = n.0 }, cause e n.1)
+
+    -- the same of rules at all places
+    pub everywhere_yields : (s : PlacesResults K) → IsEverywhereOf (chosen_by leaves label) d.form → IsEverywhere asked given is_for c p m nodes table s → (r : Result (Option TermId) EvalEnd) →
+        IfOk r (λ o. IfSome o (λ id. IsTerm p.sig nodes id.0)) → IfOk r (λ o. IfSome o (λ id. AreSettled p.sig nodes table (tree_at nodes id.0))) →
+        IsNextGiven (program_over p m.hooks) m.limit (fixed_of p m leaves).definitions d t us (left_of_places asked given p m.hooks (is_chosen (chosen_by leaves label)) nodes s) nodes r →
+        IsNextYield (world_of asked given is_for c p m leaves nodes table) (Everywhere label s) d t ys (yielded_by r)
+    everywhere_yields s form search (Ok (Some id)) term settled n = (
+      record { results = us ++ tree_at nodes id.0 ∷ []; yielded = more_yielded (tree_at nodes id.0); form = form; search = search; rest = n.0 },
+      subst (YieldsFirst f d t) (sym (more_yielded (tree_at nodes id.0))) ((leaves_yield f d t (us ++ tree_at nodes id.0 ∷ [])).0 n.1),
+      (term, settled),
+    )
+    everywhere_yields s form search (Ok None) term settled n = subst (YieldsAll f d t) (sym yielded) ((leaves_yield f d t us).1 n)
+    everywhere_yields s form search (Err e) term settled n = (record { results = us; yielded = yielded; form = form; search = search; rest = n.0 }, cause e n.1)
 
     -- the same of a test
     pub test_yields : (s : TestCursor K) → IsLeaf d.form → IsTest asked given is_for c p m nodes table s → (r : Result (Option TermId) EvalEnd) → IfOk r (λ o. IfSome o (λ id. id ≡ s.term)) →
@@ -184,3 +212,6 @@ module _ (leaves : List Written.StrategyOf) (i : ℕ) (n : List ℕ) where
 
 pub top_of_label : (leaves : List Written.StrategyOf) (l : LeafId) (n : List ℕ) → label_in leaves l.0 ≡ Some n → IsTopOf (chosen_by leaves (Some l)) (top_only (leaf_at leaves l.0))
 top_of_label leaves l n e = subst (λ o. IsTopOf o (top_only (leaf_at leaves l.0))) (sym e) (ap top_only (labelled_leaf leaves l.0 n e))
+
+pub everywhere_of_label : (leaves : List Written.StrategyOf) (l : LeafId) (n : List ℕ) → label_in leaves l.0 ≡ Some n → IsEverywhereOf (chosen_by leaves (Some l)) (leaf_at leaves l.0)
+everywhere_of_label leaves l n e = subst (λ o. IsEverywhereOf o (leaf_at leaves l.0)) (sym e) (labelled_leaf leaves l.0 n e)

@@ -26,6 +26,7 @@ use Rattle.mau_leaves.specs.Steps.{Gives, IsOver, Passes, EndsNow, Throughout, I
 use Rattle.mau_leaves.specs.Uses.{uses_of_all, value_at, is_chosen}
 use Rattle.mau_leaves.specs.Answers.{IsDueBy}
 use Rattle.mau_leaves.specs.Top.{root_at, left_of_top, IsNextResult}
+use Rattle.mau_leaves.specs.Everywhere.{IsEverywhereOf}
 use Rattle.mau_leaves.specs.Follows.{Given, HasGiven, IsLeafDue, IsNextGiven, IsTopOf}
 use Rattle.mau_leaves.proofs.Rewrites.{those_none, uses_lead_to_results}
 use Rattle.mau_leaves.proofs.Steps.{both_so, so, through_always}
@@ -140,6 +141,10 @@ pub top_leaf : (o : Option (List ℕ)) (e : Strategy) → IsTopOf o e → IsLeaf
 top_leaf None e h = subst IsLeaf (sym h) tt
 top_leaf (Some n) e h = subst IsLeaf (sym h) tt
 
+pub everywhere_leaf : (o : Option (List ℕ)) (e : Strategy) → IsEverywhereOf o e → IsLeaf e
+everywhere_leaf None e h = subst IsLeaf (sym h) tt
+everywhere_leaf (Some n) e h = subst IsLeaf (sym h) tt
+
 module _ (P : Program) (L : Engine) (d : Todo) (t : Tree) where
   -- the results are the values that the uses of the rules lead to
   pub root_results : (o : Option (List ℕ)) → IsTopOf o d.form → results P L d t ≡ for_each (value_at P L (root_at t)) (uses_of_all P L (is_chosen o) t P.rules)
@@ -148,7 +153,7 @@ module _ (P : Program) (L : Engine) (d : Todo) (t : Tree) where
       ap (λ e. results_of P L d.values e t) h
       ∙ (those_none (and_those (labelled_place P L n [] [] (root_at t)) no_more) ∙ (those_none (labelled_place P L n [] [] (root_at t)) ∙ sym ((uses_lead_to_results P L (root_at t)).2 n)))
 
-drop_zero : {A : Type 0} (xs : List A) → drop 0 xs ≡ xs
+pub drop_zero : {A : Type 0} (xs : List A) → drop 0 xs ≡ xs
 drop_zero [] = refl
 drop_zero (x ∷ xs) = refl
 

@@ -50,3 +50,5 @@ pub mod Calling
 pub mod Holding
 -- the cursors of who gives the results of leaves, as there are more terms
 pub mod Cursors
+-- searches at all places of a term
+pub mod AllPlaces

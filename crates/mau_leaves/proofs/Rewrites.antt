@@ -35,7 +35,7 @@ each_each f g no_more = refl
 each_each f g (ends_by e) = refl
 each_each f g (answer x p) = each_those f (g x) (for_each g p) ∙ ap (and_those (for_each f (g x))) (each_each f g p)
 
-each_same : {A B : Type 0} (f g : A → Answers B) → ((x : A) → f x ≡ g x) → (p : Answers A) → for_each f p ≡ for_each g p
+pub each_same : {A B : Type 0} (f g : A → Answers B) → ((x : A) → f x ≡ g x) → (p : Answers A) → for_each f p ≡ for_each g p
 each_same f g h p = λ i. for_each (λ x. h x i) p
 
 each_when : {A B : Type 0} (f : A → Answers B) (b : Bool) (p : Answers A) → for_each f (when b p) ≡ when b (for_each f p)

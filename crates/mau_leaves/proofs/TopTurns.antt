@@ -33,7 +33,7 @@ use Rattle.mau_leaves.specs.Answers.{GivesValue}
 use Rattle.mau_leaves.specs.Searches.{use_in, IsAtSolution, IsShownFor, StandsAt, IsSearch}
 use Rattle.mau_leaves.specs.AtPlace.{left_of_one, left_behind, left_at, use_of_one, use_behind, use_at, IsOpenAt, IsAtPlace}
 use Rattle.mau_leaves.specs.Values.{made_by}
-use Rattle.mau_leaves.specs.Top.{root_at, IsNextResult}
+use Rattle.mau_leaves.specs.Top.{place_in, IsNextResult}
 use Rattle.mau_leaves.specs.declared.uses.RuleUses.{RuleUses}
 use Rattle.mau_leaves.specs.declared.uses.Standing.{Standing}
 use Rattle.mau_leaves.specs.declared.uses.Standing.TheVariants.{Behind, Before, Within}
@@ -104,10 +104,10 @@ module _ {K : Type 0} (asked : K → Asked) (given : K → Option Listed.Solutio
         use_there = use_is rule at ∙ (ap (λ y. use_in rule old y u.standing) gave ∙ ap (use_in rule old (Some x)) standing)
 
         -- the value of the term that is made is that of the use
-        pub valued_there : (b : ℕ) (nodes : List Node) (r : Result TermId EvalEnd) → GivesValue (program_over p m.hooks) b (made_by p.sig old rule s.term.0 x found.items) nodes r → (v : Use) (M : Engine) →
-            use_at asked given p old s ≡ Some v → GivesValue (program_over p m.hooks) b (rewritten (program_over p m.hooks) M v.rule (root_at (tree_at old s.term.0)) v.solution v.values) nodes r
-        valued_there b nodes r h v M e =
-            subst (λ (y : Use). GivesValue (program_over p m.hooks) b (rewritten (program_over p m.hooks) M y.rule (root_at (tree_at old s.term.0)) y.solution y.values) nodes r) (same (sym use_there ∙ e)) h
+        pub valued_there : (around : Tree → Tree) (b : ℕ) (nodes : List Node) (r : Result TermId EvalEnd) → GivesValue (program_over p m.hooks) b (around (made_by p.sig old rule s.term.0 x found.items)) nodes r → (v : Use) (M : Engine) →
+            use_at asked given p old s ≡ Some v → GivesValue (program_over p m.hooks) b (rewritten (program_over p m.hooks) M v.rule (place_in around (tree_at old s.term.0)) v.solution v.values) nodes r
+        valued_there around b nodes r h v M e =
+            subst (λ (y : Use). GivesValue (program_over p m.hooks) b (rewritten (program_over p m.hooks) M y.rule (place_in around (tree_at old s.term.0)) y.solution y.values) nodes r) (same (sym use_there ∙ e)) h
           where
             same : {a b : Use} → Some a ≡ Some b → a ≡ b
             same k = cc

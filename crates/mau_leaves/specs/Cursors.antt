@@ -40,13 +40,15 @@ use Rattle.mau_stratrun.specs.Worlds.{World}
 use Rattle.mau_stratforms.specs.Meanings.{meaning_of, definition_of}
 use Rattle.mau_leaves.specs.Uses.{is_chosen}
 use Rattle.mau_leaves.specs.Top.{left_of_top, IsTop}
+use Rattle.mau_leaves.specs.Everywhere.{left_of_places, IsEverywhere, IsEverywhereOf}
+use Rattle.mau_leaves.specs.declared.everywhere.PlacesResults.{PlacesResults}
 use Rattle.mau_leaves.specs.Tests.{left_of_test, IsTest}
 use Rattle.mau_leaves.specs.Searches.{found_in}
 use Rattle.mau_leaves.specs.Calls.{left_of_call, body_found, IsCallSearch}
 use Rattle.mau_leaves.specs.Follows.{HasGiven, HasGivenBodies, IsTopOf}
 use Rattle.mau_leaves.specs.declared.top.TopResults.{TopResults}
 use Rattle.mau_leaves.specs.declared.cursor.LeafCursor.{LeafCursor}
-use Rattle.mau_leaves.specs.declared.cursor.LeafCursor.TheVariants.{Top, Bodies, Test, Unsearched}
+use Rattle.mau_leaves.specs.declared.cursor.LeafCursor.TheVariants.{Top, Everywhere, Bodies, Test, Unsearched}
 use Rattle.mau_leaves.specs.declared.testing.TestCursor.{TestCursor}
 use Rattle.mau_leaves.specs.declared.cursor.CallCursor.{CallCursor}
 
@@ -183,6 +185,14 @@ module _ {K : Type 0} (asked : K → Asked) (given : K → Option Listed.Solutio
     pub top : IsTop asked given is_for c p m nodes table s
     pub rest : HasGiven (program_over p m.hooks) (engine_of (program_over p m.hooks)) d t results (left_of_top asked given p m.hooks (is_chosen (chosen_by leaves label)) nodes s)
 
+  -- results of rules at all places, of all or of those with a label
+  pub record IsEverywhereCursor (label : Option LeafId) (s : PlacesResults K) (d : Todo) (t : Tree) (ys : List Yield) : Type 0 where
+    pub results : List Tree
+    pub yielded : ys ≡ map result_of results
+    pub form : IsEverywhereOf (chosen_by leaves label) d.form
+    pub search : IsEverywhere asked given is_for c p m nodes table s
+    pub rest : HasGiven (program_over p m.hooks) (engine_of (program_over p m.hooks)) d t results (left_of_places asked given p m.hooks (is_chosen (chosen_by leaves label)) nodes s)
+
   -- the result of a test
   pub record IsTestCursor (s : TestCursor K) (d : Todo) (t : Tree) (ys : List Yield) : Type 0 where
     pub results : List Tree
@@ -193,6 +203,7 @@ module _ {K : Type 0} (asked : K → Asked) (given : K → Option Listed.Solutio
 
   abbrev pub yields_in : LeafCursor K → Todo → Tree → List Yield → Type 0
   yields_in (Top label s) d t ys = IsTopCursor label s d t ys
+  yields_in (Everywhere label s) d t ys = IsEverywhereCursor label s d t ys
   yields_in (Bodies s) d t ys = IsCallCursor p m leaves nodes table s d t ys
   yields_in (Test s) d t ys = IsTestCursor s d t ys
   yields_in Unsearched d t ys = ys ≡ []

@@ -16,6 +16,8 @@ pub mod Laws
 pub mod Values
 -- searches for the results of rules at the root of a term
 pub mod Top
+-- searches for the results of rules at all places of a term
+pub mod Everywhere
 -- what was given of the results of a leaf, and what is left
 pub mod Follows
 -- the variables that a fragment of a condition matches

@@ -23,9 +23,12 @@ use Rattle.mau_leaves.specs.Answers.{IsDueBy}
 use Rattle.mau_leaves.specs.AtPlace.{left_at, use_at, IsAtPlace}
 use Rattle.mau_leaves.specs.declared.top.TopResults.{TopResults}
 
--- the root of a term
+-- the root of a term, and a term with something around it
 abbrev pub root_at : Tree → Place
 root_at t = record { term = t; around = λ v. v }
+
+abbrev pub place_in : (Tree → Tree) → Tree → Place
+place_in around t = record { term = t; around = around }
 
 -- what is left of the values that uses lead to, where `now` says what is left of the uses: the value of the last use comes first where it is due
 abbrev pub values_left : (Use → Answers Tree) → (Answers Use → Type 0) → Option Use → Bool → Answers Tree → Type 0
@@ -34,9 +37,13 @@ values_left V now None true q = q ≡ no_more
 values_left V now (Some u) true q = (r : Answers Use) × now r × (q ≡ and_those (V u) (for_each V r))
 
 module _ {K : Type 0} (asked : K → Asked) (given : K → Option Listed.Solution) where
+  -- what is left of the results at a place, by what stands around it
+  abbrev pub left_around : Typed.Program → List Operator → (Rule → Bool) → (Tree → Tree) → List Node → TopResults K → Engine → Answers Tree → Type 0
+  left_around p hooks chosen around nodes s = λ L.
+      values_left (value_at (program_over p hooks) L (place_in around (tree_at nodes s.place.term.0))) (left_at asked given p hooks chosen nodes s.place L) (use_at asked given p nodes s.place) s.due
+
   abbrev pub left_of_top : Typed.Program → List Operator → (Rule → Bool) → List Node → TopResults K → Engine → Answers Tree → Type 0
-  left_of_top p hooks chosen nodes s = λ L.
-      values_left (value_at (program_over p hooks) L (root_at (tree_at nodes s.place.term.0))) (left_at asked given p hooks chosen nodes s.place L) (use_at asked given p nodes s.place) s.due
+  left_of_top p hooks chosen nodes s = left_around p hooks chosen (λ v. v) nodes s
 
   pub record IsTop (is_for : K → SignatureOf → Type 0) (c : Bool) (p : Typed.Program) (m : Meanings) (nodes : List Node) (table : Table) (s : TopResults K) : Type 0 where
     pub place : IsAtPlace asked given is_for c p m nodes table s.place

@@ -15,11 +15,12 @@ ghost use Rattle.mau_stratrun.specs.Yields.{Yield};
 ghost use Rattle.mau_stratrun.specs.Worlds.{values_of, IsNextYield};
 ghost use Rattle.mau_rules.specs.Runnable.{IsRunnable, GoesBy};
 ghost use Rattle.mau_leaves.specs.Searches.{found_in};
-ghost use Rattle.mau_leaves.specs.Cursors.{leaf_at, label_in, chosen_by, call_in, leaf_end, yielded_by, bound_by, IsTopCursor, IsTestCursor, IsCallCursor, IsGivenBody, IsReady, yields_in, world_of, world_of_calls};
+ghost use Rattle.mau_leaves.specs.Cursors.{leaf_at, label_in, chosen_by, call_in, leaf_end, yielded_by, bound_by, IsTopCursor, IsEverywhereCursor, IsTestCursor, IsCallCursor, IsGivenBody, IsReady, yields_in, world_of, world_of_calls};
 ghost use Rattle.mau_leaves.specs.declared.uses.Standing.TheVariants.{Behind};
 ghost use Rattle.mau_leaves.specs.declared.cursor.LeafCursor.TheVariants as At;
 
 use crate::bodies::{CallBodies, next_body};
+use crate::everywhere::{PlacesResults, next_everywhere, start_everywhere};
 use crate::testing::{TestCursor, next_test, start_test};
 use crate::top::{TopResults, next_top, start_top};
 use crate::uses::{Standing, last_of};
@@ -46,6 +47,8 @@ pub struct CallCursor {
 pub enum LeafCursor<L> {
     /// `top(all)`, or `top(l)` by the number of the leaf `l`.
     Top(Option<LeafId>, TopResults<L>),
+    /// `all`, or a label by the number of its leaf.
+    Everywhere(Option<LeafId>, PlacesResults<L>),
     /// A call without arguments.
     Bodies(CallCursor),
     /// A test.
@@ -162,6 +165,37 @@ fn next_of_top<E: Evaluator, L: Lister + Drop>(
 {
     let label = label_by(leaves, leaf);
     let found = next_top(program, label, store, evaluator, results, limit);
+    yielded(found)
+}
+
+/// The next result of rules at all places.
+fn next_of_everywhere<E: Evaluator, L: Lister + Drop>(
+    program: &Program,
+    leaves: &[Strategy],
+    store: &mut Store,
+    evaluator: &mut E,
+    leaf: Option<LeafId>,
+    results: &mut PlacesResults<L>,
+    limit: u64,
+) -> Result<Option<Yielded>, LeafEnd>
+    requires contexts { L.with_context ≡ true }
+    requires runnable { IsRunnable program.now }
+    requires goes_by { GoesBy program.now (E.meanings evaluator.old) }
+    requires fits { E.fits evaluator.old store.old }
+    requires limit { limit ≡ (E.meanings evaluator.old).limit }
+    requires yields { (d : Todo) × (t : Tree) × (ys : List Yield) × IsEverywhereCursor L.asked L.given L.is_for L.with_context program.now
+        (E.meanings evaluator.old) leaves.now store.old (E.table evaluator.old) leaf results.old d t ys }
+    ensures next { (d : Todo) (t : Tree) (ys : List Yield) → IsEverywhereCursor L.asked L.given L.is_for L.with_context program.now
+        (E.meanings evaluator.old) leaves.now store.old (E.table evaluator.old) leaf results.old d t ys →
+        IsNextYield (world_of L.asked L.given L.is_for L.with_context program.now (E.meanings evaluator.old) leaves.now
+        store.new (E.table evaluator.new)) (At.Everywhere leaf results.new) d t ys result }
+    ensures extends { Extends store.old store.new }
+    ensures fits { E.fits evaluator.new store.new }
+    ensures kept { KeepsEntries (E.table evaluator.old) (E.table evaluator.new) }
+    ensures meanings { E.meanings evaluator.new ≡ E.meanings evaluator.old }
+{
+    let label = label_by(leaves, leaf);
+    let found = next_everywhere(program, label, store, evaluator, results, limit);
     yielded(found)
 }
 
@@ -357,6 +391,36 @@ fn start_leaf<E: Evaluator, L: Lister + Drop>(
     }
 }
 
+/// The cursor of a leaf on a term, which has yielded nothing: a label that assigns nothing, or another leaf.
+fn start_labelled<E: Evaluator, L: Lister + Drop>(
+    program: &Program,
+    leaves: &[Strategy],
+    store: &Store,
+    evaluator: &E,
+    leaf: LeafId,
+    calls: usize,
+    values: &[Bound],
+    term: TermId,
+) -> Result<LeafCursor<L>, NoMemory>
+    requires runnable { IsRunnable program.now }
+    requires goes_by { GoesBy program.now (E.meanings evaluator.now) }
+    requires fits { E.fits evaluator.now store.now }
+    requires term { IsTerm program.now.sig store.now term.0 }
+    requires settled { AreSettled program.now.sig store.now (E.table evaluator.now) (tree_at store.now term.0) }
+    ensures yields { IfOk result (λ k. yields_in L.asked L.given L.is_for L.with_context program.now (E.meanings evaluator.now)
+        leaves.now store.now (E.table evaluator.now) k
+        (record { form = leaf_at leaves.now leaf.0; calls = calls; values = values_of (tree_at store.now) values.now })
+        (tree_at store.now term.0) []) }
+{
+    match label_of(leaves, leaf) {
+        Some(_) => Ok(LeafCursor::Everywhere(
+            Some(leaf),
+            start_everywhere(store.allocator(), term),
+        )),
+        None => start_leaf(program, leaves, store, evaluator, leaf, calls, values, term),
+    }
+}
+
 /// What comes behind that which a cursor has yielded.
 fn next_of<E: Evaluator, L: Lister + Drop>(
     program: &Program,
@@ -385,6 +449,9 @@ fn next_of<E: Evaluator, L: Lister + Drop>(
 {
     match cursor {
         LeafCursor::Top(leaf, results) => next_of_top(
+            program, leaves, store, evaluator, *leaf, results, limit,
+        ),
+        LeafCursor::Everywhere(leaf, results) => next_of_everywhere(
             program, leaves, store, evaluator, *leaf, results, limit,
         ),
         LeafCursor::Bodies(bodies) => next_of_call(
@@ -451,7 +518,7 @@ impl<'a, E: Evaluator + Drop, L: Lister + Drop> Leaves for RunLeaves<'a, E, L> {
                 Some(_) => Ok(LeafCursor::Top(Some(leaf), start_top(term))),
                 None => Ok(LeafCursor::Unsearched),
             },
-            Lead::Leaf(leaf) => start_leaf(
+            Lead::Leaf(leaf) => start_labelled(
                 self.program,
                 self.leaves,
                 &self.store,
@@ -461,7 +528,10 @@ impl<'a, E: Evaluator + Drop, L: Lister + Drop> Leaves for RunLeaves<'a, E, L> {
                 values,
                 term,
             ),
-            Lead::All => Ok(LeafCursor::Unsearched),
+            Lead::All => Ok(LeafCursor::Everywhere(
+                None,
+                start_everywhere(self.store.allocator(), term),
+            )),
         }
     }
 

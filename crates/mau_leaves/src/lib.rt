@@ -4,6 +4,7 @@
 mod bodies;
 mod cursor;
 mod determined;
+mod everywhere;
 pub mod laws;
 mod place;
 mod testing;
@@ -14,6 +15,7 @@ mod value;
 
 pub use bodies::CallBodies;
 pub use cursor::{CallCursor, LeafCursor, RunLeaves};
+pub use everywhere::{PlacesResults, next_everywhere, start_everywhere};
 pub use place::{PlaceUses, next_at, start_place};
 pub use testing::TestCursor;
 pub use top::{TopResults, next_top, start_top};

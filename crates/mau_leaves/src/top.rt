@@ -1,5 +1,5 @@
 //! The results of rules at the root of a term, one after another.
-ghost use Rattle.std.specs.Prelude.{ℕ, ◌≡◌, List, [], Bool, true, false, Option, None, Some, IsSome, IfOk, IfSome};
+ghost use Rattle.std.specs.Prelude.{ℕ, ◌≡◌, List, [], map, Bool, true, false, Option, None, Some, IsSome, IfOk, IfSome};
 ghost use Rattle.std.specs.Option.{option_map};
 ghost use Rattle.mau_terms.specs.Tree.{Tree};
 ghost use Rattle.mau_formula.specs.Operator.{Operator};
@@ -18,16 +18,19 @@ ghost use Rattle.mau_api.specs.Meanings.{Meanings};
 ghost use Rattle.mau_api.specs.Terms.{IsTerm};
 ghost use Rattle.mau_api.specs.Answers.{AreSettled};
 ghost use Rattle.mau_rules.specs.Runnable.{IsRunnable, GoesBy};
+ghost use Rattle.mau_rules.specs.Walk.{opened, around_all, IsWalk};
 ghost use Rattle.mau_leaves.specs.Uses.{Use, is_chosen};
 ghost use Rattle.mau_leaves.specs.Answers.{GivesValue};
 ghost use Rattle.mau_leaves.specs.AtPlace.{use_at, IsAtPlace};
 ghost use Rattle.mau_leaves.specs.Follows.{HasGiven, IsNextGiven, IsTopOf};
-ghost use Rattle.mau_leaves.specs.Top.{root_at, left_of_top, IsTop, IsNextResult};
+ghost use Rattle.mau_leaves.specs.Everywhere.{start_at};
+ghost use Rattle.mau_leaves.specs.Top.{place_in, left_around, left_of_top, IsTop, IsNextResult};
 
 use crate::place::{PlaceUses, next_at};
 use crate::uses::Standing;
 use crate::value::value_of;
 use mau_api::{EvalEnd, Evaluator, Lister, Program};
+use mau_rules::Open;
 use mau_store::Store;
 use mau_terms::TermId;
 
@@ -41,8 +44,7 @@ pub struct TopResults<L> {
 
 /// The search for the results of rules at the root of a term, which stands before all.
 pub fn start_top<L: Lister + Drop>(term: TermId) -> TopResults<L>
-    ensures term { result.place.term ≡ term }
-    ensures stands { (result.place.uses ≡ None) × (result.due ≡ false) }
+    ensures stands { result ≡ start_at term }
     ensures top { (c : Bool) (p : Typed.Program) (m : Meanings) (nodes : List Node) (table : Table) → IsTerm p.sig nodes term.0 →
         AreSettled p.sig nodes table (tree_at nodes term.0) → IsTop L.asked L.given L.is_for c p m nodes table result }
     ensures begins { (p : Typed.Program) (hooks : List Operator) (nodes : List Node) (chosen : Option (List ℕ)) (d : Todo) →
@@ -60,11 +62,12 @@ pub fn start_top<L: Lister + Drop>(term: TermId) -> TopResults<L>
     }
 }
 
-/// The value that the last use leads to.
+/// The value that the last use leads to, at a place that was reached through some open terms.
 fn use_value<E: Evaluator, L: Lister + Drop>(
     program: &Program,
     store: &mut Store,
     evaluator: &mut E,
+    way: &[Open],
     place: &PlaceUses<L>,
     limit: u64,
 ) -> Result<TermId, EvalEnd>
@@ -74,11 +77,12 @@ fn use_value<E: Evaluator, L: Lister + Drop>(
     requires limit { limit ≡ (E.meanings evaluator.old).limit }
     requires place { IsAtPlace L.asked L.given L.is_for L.with_context program.now (E.meanings evaluator.old)
         store.old (E.table evaluator.old) place.now }
+    requires walk { (root : ℕ) × IsWalk program.now.sig store.old root way.now place.now.term.0 }
     requires found { IsSome (use_at L.asked L.given program.now store.old place.now) }
     ensures valued { (u : Use) (M : Engine) → use_at L.asked L.given program.now store.old place.now ≡ Some u →
         GivesValue (program_over program.now (E.meanings evaluator.old).hooks) limit
         (rewritten (program_over program.now (E.meanings evaluator.old).hooks) M u.rule
-        (root_at (tree_at store.old place.now.term.0)) u.solution u.values)
+        (place_in (around_all (λ v. v) (map (opened store.old) way.now)) (tree_at store.old place.now.term.0)) u.solution u.values)
         store.new result }
     ensures term { IfOk result (λ id. IsTerm program.now.sig store.new id.0) }
     ensures settled { IfOk result (λ id. AreSettled program.now.sig store.new (E.table evaluator.new) (tree_at store.new id.0)) }
@@ -104,7 +108,7 @@ fn use_value<E: Evaluator, L: Lister + Drop>(
     };
     let rule = &rules[number];
     value_of(
-        program, rule, store, evaluator, place.term, solution, found, limit,
+        program, rule, store, evaluator, way, place.term, solution, found, limit,
     )
 }
 
@@ -113,6 +117,7 @@ fn give<E: Evaluator, L: Lister + Drop>(
     program: &Program,
     store: &mut Store,
     evaluator: &mut E,
+    way: &[Open],
     top: &mut TopResults<L>,
     limit: u64,
 ) -> Result<Option<TermId>, EvalEnd>
@@ -122,10 +127,13 @@ fn give<E: Evaluator, L: Lister + Drop>(
     requires limit { limit ≡ (E.meanings evaluator.old).limit }
     requires top { IsTop L.asked L.given L.is_for L.with_context program.now (E.meanings evaluator.old)
         store.old (E.table evaluator.old) top.old }
+    requires walk { (root : ℕ) × IsWalk program.now.sig store.old root way.now top.old.place.term.0 }
     requires due { top.old.due ≡ true }
     ensures next { (chosen : Defined.Rule → Bool) → IsNextResult (program_over program.now (E.meanings evaluator.old).hooks) limit
-        (left_of_top L.asked L.given program.now (E.meanings evaluator.old).hooks chosen store.old top.old)
-        (left_of_top L.asked L.given program.now (E.meanings evaluator.old).hooks chosen store.new top.new) store.new result }
+        (left_around L.asked L.given program.now (E.meanings evaluator.old).hooks chosen
+        (around_all (λ v. v) (map (opened store.old) way.now)) store.old top.old)
+        (left_around L.asked L.given program.now (E.meanings evaluator.old).hooks chosen
+        (around_all (λ v. v) (map (opened store.new) way.now)) store.new top.new) store.new result }
     ensures top { IsTop L.asked L.given L.is_for L.with_context program.now (E.meanings evaluator.old)
         store.new (E.table evaluator.new) top.new }
     ensures term { IfOk result (λ o. IfSome o (λ id. IsTerm program.now.sig store.new id.0)) }
@@ -137,7 +145,7 @@ fn give<E: Evaluator, L: Lister + Drop>(
     ensures kept { KeepsEntries (E.table evaluator.old) (E.table evaluator.new) }
     ensures meanings { E.meanings evaluator.new ≡ E.meanings evaluator.old }
 {
-    match use_value(program, store, evaluator, &top.place, limit) {
+    match use_value(program, store, evaluator, way, &top.place, limit) {
         Ok(value) => {
             top.due = false;
             Ok(Some(value))
@@ -146,12 +154,13 @@ fn give<E: Evaluator, L: Lister + Drop>(
     }
 }
 
-/// The next result of the rules at the root of a term, of all or of those with a label.
-fn next_result<E: Evaluator, L: Lister + Drop>(
+/// The next result of the rules at a place that was reached through some open terms, of all or of those with a label.
+pub(crate) fn next_result<E: Evaluator, L: Lister + Drop>(
     program: &Program,
     label: Option<&str>,
     store: &mut Store,
     evaluator: &mut E,
+    way: &[Open],
     top: &mut TopResults<L>,
     limit: u64,
 ) -> Result<Option<TermId>, EvalEnd>
@@ -162,11 +171,12 @@ fn next_result<E: Evaluator, L: Lister + Drop>(
     requires limit { limit ≡ (E.meanings evaluator.old).limit }
     requires top { IsTop L.asked L.given L.is_for L.with_context program.now (E.meanings evaluator.old)
         store.old (E.table evaluator.old) top.old }
+    requires walk { (root : ℕ) × IsWalk program.now.sig store.old root way.now top.old.place.term.0 }
     ensures next { IsNextResult (program_over program.now (E.meanings evaluator.old).hooks) limit
-        (left_of_top L.asked L.given program.now (E.meanings evaluator.old).hooks
-        (is_chosen (option_map (λ x. x.now) label.entry)) store.old top.old)
-        (left_of_top L.asked L.given program.now (E.meanings evaluator.old).hooks
-        (is_chosen (option_map (λ x. x.now) label.entry)) store.new top.new)
+        (left_around L.asked L.given program.now (E.meanings evaluator.old).hooks
+        (is_chosen (option_map (λ x. x.now) label.entry)) (around_all (λ v. v) (map (opened store.old) way.now)) store.old top.old)
+        (left_around L.asked L.given program.now (E.meanings evaluator.old).hooks
+        (is_chosen (option_map (λ x. x.now) label.entry)) (around_all (λ v. v) (map (opened store.new) way.now)) store.new top.new)
         store.new result }
     ensures top { IsTop L.asked L.given L.is_for L.with_context program.now (E.meanings evaluator.old)
         store.new (E.table evaluator.new) top.new }
@@ -180,7 +190,7 @@ fn next_result<E: Evaluator, L: Lister + Drop>(
     ensures meanings { E.meanings evaluator.new ≡ E.meanings evaluator.old }
 {
     if top.due {
-        return give(program, store, evaluator, top, limit);
+        return give(program, store, evaluator, way, top, limit);
     }
     match next_at(program, label, store, evaluator, &mut top.place, limit) {
         Ok(true) => (),
@@ -188,7 +198,7 @@ fn next_result<E: Evaluator, L: Lister + Drop>(
         Err(end) => return Err(end),
     }
     top.due = true;
-    give(program, store, evaluator, top, limit)
+    give(program, store, evaluator, way, top, limit)
 }
 
 /// The next result of `top(all)`, or of `top(l)` where a label is given, from the root of a term.
@@ -226,5 +236,5 @@ pub fn next_top<E: Evaluator, L: Lister + Drop>(
     ensures kept { KeepsEntries (E.table evaluator.old) (E.table evaluator.new) }
     ensures meanings { E.meanings evaluator.new ≡ E.meanings evaluator.old }
 {
-    next_result(program, label, store, evaluator, top, limit)
+    next_result(program, label, store, evaluator, &[], top, limit)
 }

@@ -17,3 +17,5 @@ mod whole;
 pub use attempt::{Found, by_rule};
 pub use run::{RuleEnd, RuleRun};
 pub use search::at_place;
+pub use walk::{Open, next_place};
+pub use whole::{end_around, put_back};

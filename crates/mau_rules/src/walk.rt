@@ -15,9 +15,9 @@ use mau_terms::{NoMemory, OpId, TermId};
 
 /// A term on the way to a place, and how many of its arguments are behind the walk.
 #[derive(Clone, Copy, Debug)]
-pub(crate) struct Open {
-    pub(crate) term: TermId,
-    pub(crate) next: usize,
+pub struct Open {
+    pub term: TermId,
+    pub next: usize,
 }
 
 /// Whether a list names an argument, counted from 1.
@@ -111,7 +111,7 @@ fn next_from(
 
 /// The place behind a term that is reached through some open ones: below it, if what is below is not left out, or else beside it or
 /// beside one of these. None where the walk is at its end.
-pub(crate) fn next_place(
+pub fn next_place(
     store: &Store,
     sig: &Signature,
     way: &mut Vec<Open>,

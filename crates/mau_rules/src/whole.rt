@@ -59,7 +59,7 @@ fn put_one(store: &mut Store, sig: &Signature, last: Open, term: TermId) -> Resu
 
 /// How a whole term ends of which a part does, or which is this part. One that is too deep makes the whole too deep. Where a part holds
 /// the successor of the greatest numeral, the whole may be too deep besides; it is given up.
-pub(crate) fn end_around(whole: bool, end: EvalEnd) -> EvalEnd
+pub fn end_around(whole: bool, end: EvalEnd) -> EvalEnd
     ensures whole { whole ≡ true → result ≡ end }
     ensures part { whole ≡ false → ((result ≡ EvalEnd.TooDeep) × (end ≡ EvalEnd.TooDeep)) ⊎ (result ≡ EvalEnd.NoMemory) }
 {
@@ -73,7 +73,7 @@ pub(crate) fn end_around(whole: bool, end: EvalEnd) -> EvalEnd
 }
 
 /// The whole term through whose open terms a place was reached, with a term in that place.
-fn put_back(
+pub fn put_back(
     store: &mut Store,
     sig: &Signature,
     way: &[Open],

@@ -1,3 +1,4 @@
+use Rattle.std.proofs.Common.{refl}
 use Rattle.std.specs.Option.{option_map}
 use Rattle.mau_api.specs.Programs.{program_over}
 use Rattle.mau_leaves.specs.Uses.{is_chosen}
@@ -11,3 +12,6 @@ returns-clause-next g c = λ defs d t us leaf given.
     let p = c.args.program.now in
     let left = left_of_top g.L.Lister.asked g.L.Lister.given p m.hooks (is_chosen (option_map (λ x. x.now) c.args.label)) in
     follow (program_over p m.hooks) c.args.limit defs d leaf t us (left c.args.store.now c.args.top.now) (left c.next_result.new.store c.next_result.new.top) given c.next_result.new.store c.next_result.result c.next_result.ensures.next
+
+pub next_result-requires-clause-walk : goal.next_result-requires-clause-walk
+next_result-requires-clause-walk g c = (c.args.top.now.place.term.0, record { begins = c.requires.top.place.term; path = refl })

@@ -1,4 +1,4 @@
-use Rattle.std.proofs.Common.{◌≡◌, ◌<◌, List, length, All, Some, None, sym, ap, ◌∙◌, subst, arith}
+use Rattle.std.proofs.Common.{◌≡◌, ◌<◌, List, map, length, All, Some, None, sym, ap, ◌∙◌, subst, arith}
 use Rattle.std.specs.Option.{option_copied}
 use Rattle.mau_terms.specs.declared.ids.TermId.{TermId}
 use Rattle.mau_terms.specs.declared.ids.VarId.{VarId}
@@ -6,6 +6,7 @@ use Rattle.mau_program.specs.declared.statements.Rule as Written
 use Rattle.mau_api.specs.Programs.{program_over}
 use Rattle.mau_api.specs.Answers.{IsValueOf}
 use Rattle.mau_reduce.proofs.Numbered.{at_index}
+use Rattle.mau_rules.specs.Walk.{opened, around_all}
 use Rattle.mau_leaves.specs.Answers.{GivesValue}
 use Rattle.mau_leaves.specs.Values.{made_by}
 use Rattle.mau_leaves.proofs.PlaceTurns.{within, usable_here}
@@ -145,5 +146,5 @@ returns-clause-valued g c = λ v M e.
     let rule = c.index-rules-number.result in
     let at = at_index p.rules c.items-rules.result.now s.number rule c.items-rules.ensures (within g.L.Lister.asked g.L.Lister.given g.L.Lister.is_for g.L.Lister.with_context p m old before s c.requires.place u c.in-Some.is) c.index-rules-number.is in
     let x = c.in-Some-last.solution.now in
-    valued_there g.L.Lister.asked g.L.Lister.given g.L.Lister.is_for g.L.Lister.with_context p m old before s c.requires.place u c.in-Some.is rule at x gave c.in-Within.found c.in-Within.is c.args.limit c.value_of.new.store c.value_of.result
-    (subst (λ (bs : List (VarId × TermId)). GivesValue (program_over p m.hooks) c.args.limit (made_by p.sig old rule s.term.0 x bs) c.value_of.new.store c.value_of.result) c.deref.ensures.value c.value_of.ensures.valued) v M e
+    valued_there g.L.Lister.asked g.L.Lister.given g.L.Lister.is_for g.L.Lister.with_context p m old before s c.requires.place u c.in-Some.is rule at x gave c.in-Within.found c.in-Within.is (around_all (λ v. v) (map (opened old) c.args.way.now)) c.args.limit c.value_of.new.store c.value_of.result
+    (subst (λ (bs : List (VarId × TermId)). GivesValue (program_over p m.hooks) c.args.limit (around_all (λ v. v) (map (opened old) c.args.way.now) (made_by p.sig old rule s.term.0 x bs)) c.value_of.new.store c.value_of.result) c.deref.ensures.value c.value_of.ensures.valued) v M e

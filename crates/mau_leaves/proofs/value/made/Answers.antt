@@ -9,7 +9,8 @@ use Rattle.mau_store.specs.View.{numbers}
 use Rattle.mau_evaluation.specs.Evaluation.{Binding, look_up, in_context, admit}
 use Rattle.mau_reduce.specs.Ends.{IsEnd}
 use Rattle.mau_reduce.specs.Kinds.{IsTermIn}
-use Rattle.mau_leaves.proofs.MadeTerms.{term_of_kind}
+use Rattle.mau_reduce.proofs.KindsKept.{term_kept}
+use Rattle.mau_leaves.proofs.MadeTerms.{replaces_there}
 use Rattle.mau_leaves.proofs.value.made.Goals as goal
 
 pub replace-requires-clause-bare : goal.replace-requires-clause-bare
@@ -34,8 +35,8 @@ returns-clause-ends c = λ b.
     subst (λ (σ : Binding). IfErr c.replace.result (IsEnd (admit (theory_at s) (in_context (theory_at s) (tree_at nodes c.args.term.0) (trees_at nodes (numbers x.left)) (trees_at nodes (numbers x.right))
     (instance (look_up σ) (tree_of c.args.rule.now.right))) b))) (c.in-Ok.ensures.bound nodes) (c.replace.ensures.ends b)
 
-pub returns-clause-term : goal.returns-clause-term
-returns-clause-term c =
+pub returns-clause-kind : goal.returns-clause-kind
+returns-clause-kind c =
     let s = c.requires.usable.sides in
     let is : IsTermIn c.args.sig.now c.args.store.now s.kind c.args.term.0 = record { within = c.requires.term.within; bare = c.requires.kind s.kind s.first } in
-    term_of_kind c.args.sig.now c.replace.new.store s.kind c.replace.result (c.replace.ensures.kind s.kind is s.second)
+    replaces_there c.args.sig.now c.replace.new.store s.kind c.args.term.0 (term_kept c.args.sig.now c.args.store.now c.replace.new.store s.kind c.args.term.0 c.replace.ensures.extends is) c.replace.result (c.replace.ensures.kind s.kind is s.second)

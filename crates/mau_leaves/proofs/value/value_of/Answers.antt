@@ -1,4 +1,4 @@
-use Rattle.std.proofs.Common.{false, Result, Ok, Err, sym, subst}
+use Rattle.std.proofs.Common.{map, false, Result, Ok, Err, sym, subst}
 use Rattle.mau_store.specs.Trees.{tree_at}
 use Rattle.mau_store.proofs.Growth.{extension_is_preorder}
 use Rattle.mau_sorts.proofs.Settling.{kept_same}
@@ -8,6 +8,7 @@ use Rattle.mau_api.specs.Terms.{IsTerm}
 use Rattle.mau_api.specs.Answers.{uses_results, AreSettled, IsAllowed, mapped}
 use Rattle.mau_api.specs.declared.results.EvalEnd.{EvalEnd}
 use Rattle.mau_api.specs.declared.results.Reduced.{Reduced}
+use Rattle.mau_rules.specs.Walk.{opened, around_all}
 use Rattle.mau_leaves.specs.Answers.{GivesValue}
 use Rattle.mau_leaves.specs.Values.{made_by}
 use Rattle.mau_leaves.proofs.Limits.{value_known}
@@ -17,10 +18,10 @@ use Rattle.mau_leaves.proofs.value.value_of.Goals as goal
 pub returns-in-Err-clause-valued : goal.returns-in-Err-clause-valued
 returns-in-Err-clause-valued g c =
     let p = c.args.program.now in
-    never_built p (g.E.Evaluator.meanings c.args.evaluator.now) (made_by p.sig c.args.store.now c.args.rule.now c.args.term.0 c.args.solution.now c.args.bound.now) c.args.limit c.made.new.store c.in-Err.end c.in-Err.ensures.ends
+    never_built p (g.E.Evaluator.meanings c.args.evaluator.now) (around_all (λ v. v) (map (opened c.args.store.now) c.args.way.now) (made_by p.sig c.args.store.now c.args.rule.now c.args.term.0 c.args.solution.now c.args.bound.now)) c.args.limit c.placed.new.store c.in-Err.end c.in-Err.ensures.ends
 
 pub evaluate-requires-clause-term : goal.evaluate-requires-clause-term
-evaluate-requires-clause-term g c = subst (λ (p : Program). IsTerm p.sig c.made.new.store c.in-Ok.whole.0) (sym c.requires.goes_by.program) c.in-Ok.ensures.term
+evaluate-requires-clause-term g c = subst (λ (p : Program). IsTerm p.sig c.placed.new.store c.in-Ok.whole.0) (sym c.requires.goes_by.program) c.in-Ok.ensures.term
 
 pub returns-in-Ok-evaluate-clause-term : goal.returns-in-Ok-evaluate-clause-term
 returns-in-Ok-evaluate-clause-term g c = subst (λ (p : Program). IsTerm p.sig c.evaluate.new.store c.in-Ok-evaluate.value.term.0) c.requires.goes_by.program c.in-Ok-evaluate.ensures.term
@@ -33,8 +34,8 @@ pub returns-in-Ok-evaluate-clause-valued : goal.returns-in-Ok-evaluate-clause-va
 returns-in-Ok-evaluate-clause-valued g c =
     let p = c.args.program.now in
     let m = g.E.Evaluator.meanings c.args.evaluator.now in
-    let u = tree_at c.made.new.store c.in-Ok.whole.0 in
-    let w = made_by p.sig c.args.store.now c.args.rule.now c.args.term.0 c.args.solution.now c.args.bound.now in
+    let u = tree_at c.placed.new.store c.in-Ok.whole.0 in
+    let w = around_all (λ v. v) (map (opened c.args.store.now) c.args.way.now) (made_by p.sig c.args.store.now c.args.rule.now c.args.term.0 c.args.solution.now c.args.bound.now) in
     let r : Result Reduced EvalEnd = Ok c.in-Ok-evaluate.value in
     let given : GivesValue (program_over p m.hooks) m.limit u c.evaluate.new.store (mapped (λ x. x.term) r) =
     value_known p m c.requires.goes_by.program c.requires.goes_by.defined (g.met.E.Evaluator.laws c.args.evaluator.now) u c.evaluate.new.store r (uses_results m false)
@@ -46,8 +47,8 @@ pub returns-in-Err-evaluate-clause-valued : goal.returns-in-Err-evaluate-clause-
 returns-in-Err-evaluate-clause-valued g c =
     let p = c.args.program.now in
     let m = g.E.Evaluator.meanings c.args.evaluator.now in
-    let u = tree_at c.made.new.store c.in-Ok.whole.0 in
-    let w = made_by p.sig c.args.store.now c.args.rule.now c.args.term.0 c.args.solution.now c.args.bound.now in
+    let u = tree_at c.placed.new.store c.in-Ok.whole.0 in
+    let w = around_all (λ v. v) (map (opened c.args.store.now) c.args.way.now) (made_by p.sig c.args.store.now c.args.rule.now c.args.term.0 c.args.solution.now c.args.bound.now) in
     let r : Result Reduced EvalEnd = Err c.in-Err-evaluate.end in
     let given : GivesValue (program_over p m.hooks) m.limit u c.evaluate.new.store (mapped (λ x. x.term) r) =
     value_known p m c.requires.goes_by.program c.requires.goes_by.defined (g.met.E.Evaluator.laws c.args.evaluator.now) u c.evaluate.new.store r (uses_results m false)
@@ -55,20 +56,20 @@ returns-in-Err-evaluate-clause-valued g c =
     subst (λ b. GivesValue (program_over p m.hooks) b w c.evaluate.new.store (mapped (λ x. x.term) r)) (sym c.requires.limit)
     (value_as p c.requires.runnable m w u c.in-Ok.ensures.value m.limit c.evaluate.new.store (mapped (λ x. x.term) r) given)
 
-pub made-requires-clause-lawful : goal.made-requires-clause-lawful
-made-requires-clause-lawful g c = c.requires.runnable.reducible.lawful
+pub placed-requires-clause-lawful : goal.placed-requires-clause-lawful
+placed-requires-clause-lawful g c = c.requires.runnable.reducible.lawful
 
 pub returns-in-Ok-evaluate-clause-extends : goal.returns-in-Ok-evaluate-clause-extends
-returns-in-Ok-evaluate-clause-extends g c = extension_is_preorder.transitive c.args.store.now c.made.new.store c.evaluate.new.store c.in-Ok.ensures.extends c.evaluate.ensures.extends
+returns-in-Ok-evaluate-clause-extends g c = extension_is_preorder.transitive c.args.store.now c.placed.new.store c.evaluate.new.store c.in-Ok.ensures.extends c.evaluate.ensures.extends
 
 pub returns-in-Err-evaluate-clause-extends : goal.returns-in-Err-evaluate-clause-extends
-returns-in-Err-evaluate-clause-extends g c = extension_is_preorder.transitive c.args.store.now c.made.new.store c.evaluate.new.store c.in-Ok.ensures.extends c.evaluate.ensures.extends
+returns-in-Err-evaluate-clause-extends g c = extension_is_preorder.transitive c.args.store.now c.placed.new.store c.evaluate.new.store c.in-Ok.ensures.extends c.evaluate.ensures.extends
 
 pub returns-in-Err-clause-fits : goal.returns-in-Err-clause-fits
-returns-in-Err-clause-fits g c = g.met.E.Evaluator.grows c.args.evaluator.now c.args.store.now c.made.new.store c.in-Err.ensures.extends c.requires.fits
+returns-in-Err-clause-fits g c = g.met.E.Evaluator.grows c.args.evaluator.now c.args.store.now c.placed.new.store c.in-Err.ensures.extends c.requires.fits
 
 pub evaluate-requires-clause-fits : goal.evaluate-requires-clause-fits
-evaluate-requires-clause-fits g c = g.met.E.Evaluator.grows c.args.evaluator.now c.args.store.now c.made.new.store c.in-Ok.ensures.extends c.requires.fits
+evaluate-requires-clause-fits g c = g.met.E.Evaluator.grows c.args.evaluator.now c.args.store.now c.placed.new.store c.in-Ok.ensures.extends c.requires.fits
 
 pub returns-in-Err-clause-kept : goal.returns-in-Err-clause-kept
 returns-in-Err-clause-kept g c = kept_same (g.E.Evaluator.table c.args.evaluator.now)

@@ -3,6 +3,7 @@ use Rattle.std.specs.Option.{option_map}
 use Rattle.mau_stratrun.specs.declared.leaves.Lead.{Lead}
 use Rattle.mau_stratrun.specs.Settings.{strategy_of}
 use Rattle.mau_stratrun.specs.Worlds.{begun_by}
+use Rattle.mau_leaves.specs.Everywhere.{IsEverywhereOf}
 use Rattle.mau_leaves.specs.Follows.{IsTopOf}
 use Rattle.mau_leaves.specs.Cursors.{leaf_at, label_in, fixed_of}
 use Rattle.mau_store.specs.Trees.{tree_at}
@@ -42,4 +43,20 @@ returns-in-Some-clause-yields g c =
       form = form;
       top = c.start_top-in-Some.ensures.top g.L.Lister.with_context p m nodes (g.E.Evaluator.table r.evaluator) c.requires.term.0 c.requires.term.1;
       rest = c.start_top-in-Some.ensures.begins p m.hooks nodes (label_in leaves l.0) (begun_by (record { fixed = fixed_of p m leaves; terms = length nodes; tree = tree_at nodes }) c.args.lead c.args.calls c.args.values.now) form;
+    }
+
+pub returns-in-All-clause-yields : goal.returns-in-All-clause-yields
+returns-in-All-clause-yields g c =
+    let r = c.args.self.now in
+    let p = r.program.now in
+    let m = g.E.Evaluator.meanings r.evaluator in
+    let leaves = r.leaves.now in
+    let nodes = r.store in
+    let form = subst (λ (l : Lead). IsEverywhereOf None (strategy_of (leaf_at leaves) l)) (sym c.in-All.is) refl in
+    record {
+      results = [];
+      yielded = refl;
+      form = form;
+      search = c.start_everywhere.ensures.everywhere g.L.Lister.with_context p m nodes (g.E.Evaluator.table r.evaluator) c.requires.term.0 c.requires.term.1;
+      rest = c.start_everywhere.ensures.begins p m.hooks nodes None (begun_by (record { fixed = fixed_of p m leaves; terms = length nodes; tree = tree_at nodes }) c.args.lead c.args.calls c.args.values.now) form;
     }
