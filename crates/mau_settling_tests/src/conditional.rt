@@ -25,10 +25,12 @@ use std::process::Abort;
 use std::test::Fail;
 
 /// The greater of two numerals.
-const BIG: &str = "fmod K is protecting NAT . op big : Nat Nat -> Nat . vars X Y : Nat . ceq big(X, Y) = X if Y <= X . eq big(X, Y) = Y [owise] . endfm ";
+const BIG: &str =
+    "fmod K is protecting NAT . op big : Nat Nat -> Nat . vars X Y : Nat . ceq big(X, Y) = X if Y <= X . eq big(X, Y) = Y [owise] . endfm ";
 
 /// The last element of a list.
-const LAST: &str = "fmod LST is sorts Elt Lst . subsort Elt < Lst . ops a b : -> Elt . op __ : Lst Lst -> Lst [assoc] .
+const LAST: &str =
+    "fmod LST is sorts Elt Lst . subsort Elt < Lst . ops a b : -> Elt . op __ : Lst Lst -> Lst [assoc] .
 op last : Lst -> Elt . vars L M : Lst . var E : Elt . eq last(E) = E . ceq last(L) = E if M E := L . endfm ";
 
 /// A condition that fails behind an application.
