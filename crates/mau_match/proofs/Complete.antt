@@ -79,7 +79,7 @@ reading_at th lawful (x ∷ xs) (v ∷ vs) n y = by (reading_at th lawful xs vs 
 
 module _ (th : ℕ → Theory) (g h : Variable → Tree) where
   mutual
-    fair_by_norms : ((x : Variable) → norm th (g x) ≡ norm th (h x)) → (p : Tree) → IsFair th g p → IsFair th h p
+    pub fair_by_norms : ((x : Variable) → norm th (g x) ≡ norm th (h x)) → (p : Tree) → IsFair th g p → IsFair th h p
     fair_by_norms e (variable i s) f = tt
     fair_by_norms e (numeral n) f = tt
     fair_by_norms e (apply f ps) a = (subst (IsFairAt th f) (all_instances_by_norms th g h e ps) a.0, all_fair_by_norms e ps a.1)

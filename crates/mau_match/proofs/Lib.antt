@@ -26,6 +26,7 @@ pub mod Uneven
 pub mod PartsOver
 pub mod GivenFor
 pub mod NextVariable
+pub mod Leading
 pub mod Singles
 pub mod LeastValues
 pub mod Left
@@ -36,3 +37,5 @@ pub mod Behind
 pub mod Searching
 pub mod Listed
 pub mod Skipping
+pub mod GoingOn
+pub mod DeadFronts

@@ -32,3 +32,7 @@ pub mod Sums
 pub mod Skipped
 -- the search over a store that grows
 pub mod Searched
+-- variables that few values are left for
+pub mod Led
+-- values that begin alike
+pub mod Fronts

@@ -1,5 +1,5 @@
 //! What the value of the next variable may be: the parts of the subject that it is of, and the values of these in order.
-ghost use Rattle.std.specs.Prelude.{◌≡◌, ◌⊎◌, true, false, Some, ◌++◌, ◌∷◌, ◌+◌, ◌<◌, List, All, Contains, length, map, IfOk, IfSome, IfNone, OnOk};
+ghost use Rattle.std.specs.Prelude.{◌≡◌, ◌⊎◌, true, false, Some, ◌++◌, ◌∷◌, ◌+◌, ◌<◌, ◌≤◌, List, All, Contains, length, map, take, IfOk, IfSome, IfNone, OnOk};
 ghost use Rattle.mau_terms.specs.Tree.{Tree};
 ghost use Rattle.mau_terms.specs.View.{tree_of};
 ghost use Rattle.mau_terms.specs.declared.ids.VarId.{VarId};
@@ -22,16 +22,20 @@ ghost use Rattle.mau_match.specs.Limited.{IsLimitOf};
 ghost use Rattle.mau_match.specs.Listing.{place_at};
 ghost use Rattle.mau_match.specs.Searched.{AnswerIn, order_of};
 ghost use Rattle.mau_match.specs.Skipped.{IsAsLong};
+ghost use Rattle.mau_match.specs.Fronts.{NoneGoesOn, IsPassedFront};
 
 use crate::choices::push;
+use crate::front::{greatest_item, other_limits, term_over, with_front};
 use crate::hide::{fresh, hide};
+use crate::lead::{Choice, may_lead_with};
+use crate::lists::copy_of;
 use crate::may_match::may_match;
 use crate::single::by_sort;
-use crate::skip::{only_items, passed};
-use crate::variables::occurs;
+use crate::skip::{joined, only_items, passed, value_over};
+use crate::variables::{has_variable, occurs};
 use crate::walk::parts_for;
 use crate::{Given, Limit};
-use mau_canon::BuildFault;
+use mau_canon::{BuildFault, list_of};
 use mau_domains::{Part, Reach, next_value};
 use mau_listing::{Place, compare_lists, is_lawful, value_key_of};
 use mau_signature::Signature;
@@ -40,6 +44,7 @@ use mau_terms::{NoMemory, OpId, Seq, TermId, VarId};
 use mau_trial::Trial;
 use std::alloc::Global;
 use std::cmp::Ordering;
+use std::slice;
 
 /// The value that a variable has beforehand, if it has one.
 fn bound_value(bound: &[(VarId, TermId)], variable: VarId) -> Option<TermId>
@@ -311,22 +316,170 @@ fn shortest(
     least_length(trial, places, store, sig, limits, chosen, op)
 }
 
-/// How far a value that leads to no answer may be passed over, where the next value has so many elements in each answer.
-pub fn skipped(
+// ---- values that begin alike
+
+/// How many values are tried, all together, before a front may lead to an answer.
+const TRIES: usize = 256;
+
+/// Whether an answer may begin with the chosen values and one that has these elements first under an operator, and goes on.
+fn may_go_on(
     trial: &Trial,
     places: &[Place],
     store: &mut Store,
     sig: &Signature,
+    limits: &[Limit],
     chosen: &[TermId],
+    op: OpId,
+    list: &[TermId],
+) -> Result<bool, NoMemory>
+    requires askable { IsAskable sig.now store.old (asked_in trial.now) }
+    requires places { ArePlacesOf sig.now (tree_of trial.now.pattern) places.now }
+    requires chosen { StandWithin (theory_at sig.now) store.old (numbers chosen.now) }
+    requires room { length chosen.now < length places.now }
+    requires operator { IsListOperator sig.now op.0 }
+    requires list { StandWithin (theory_at sig.now) store.old (numbers list.now) }
+    requires some { 1 ≤ length list.now }
+    ensures refused { IfOk result (λ b. b ≡ false → NoneGoesOn sig.now limits.now store.old trial.now places.now chosen.now op.0 (trees_at store.old (numbers list.now))) }
+    ensures extends { Extends store.old store.new }
+{
+    is_lawful(sig);
+    let target = places[chosen.len()].variable;
+    let own = other_limits(store.allocator(), limits, op, target)?;
+    let depth = own.len();
+    let front = &places[..chosen.len()];
+    let given = given_for(store.allocator(), &trial.bound, front, chosen, target, own)?;
+    if has_variable(given.variables.items(), target) {
+        return Ok(true);
+    }
+    if sig.poset().kind_of(target.sort) != sig.result_kind(op) {
+        return Ok(true);
+    }
+    let Some(other) = fresh(&trial.pattern, given.variables.items(), target.sort) else {
+        return Ok(true);
+    };
+    let Some(value) = term_over(store, sig, op, list)? else {
+        return Ok(true);
+    };
+    let pattern = with_front(store.allocator(), &trial.pattern, op, target, other)?;
+    let choice = Choice {
+        variable: other,
+        values: copy_of(store.allocator(), slice::from_ref(&value))?,
+    };
+    let mut tries = TRIES;
+    may_lead_with(
+        store,
+        sig,
+        &given,
+        op,
+        &pattern,
+        trial.subject,
+        depth,
+        &mut tries,
+        &choice,
+    )
+}
+
+/// How many of the first elements of a list are those that no answer goes on with: as few as can be told, if that can be told of all.
+fn dead_front(
+    trial: &Trial,
+    places: &[Place],
+    store: &mut Store,
+    sig: &Signature,
+    limits: &[Limit],
+    chosen: &[TermId],
+    op: OpId,
+    list: &[TermId],
+) -> Result<Option<usize>, NoMemory>
+    requires askable { IsAskable sig.now store.old (asked_in trial.now) }
+    requires places { ArePlacesOf sig.now (tree_of trial.now.pattern) places.now }
+    requires chosen { StandWithin (theory_at sig.now) store.old (numbers chosen.now) }
+    requires room { length chosen.now < length places.now }
+    requires operator { IsListOperator sig.now op.0 }
+    requires list { StandWithin (theory_at sig.now) store.old (numbers list.now) }
+    requires some { 1 ≤ length list.now }
+    ensures dead { IfOk result (λ o. IfSome o (λ n. NoneGoesOn sig.now limits.now store.old trial.now places.now chosen.now op.0 (trees_at store.old (numbers (take n list.now))))) }
+    ensures room { IfOk result (λ o. IfSome o (λ n. n ≤ length list.now)) }
+    ensures extends { Extends store.old store.new }
+{
+    if may_go_on(trial, places, store, sig, limits, chosen, op, list)? {
+        return Ok(None);
+    }
+    let mut low: usize = 0;
+    let mut high = list.len();
+    for _ in 0..64 {
+        let middle = low + (high - low) / 2;
+        if middle == low {
+            return Ok(Some(high));
+        }
+        if may_go_on(trial, places, store, sig, limits, chosen, op, &list[..middle])? {
+            low = middle;
+        } else {
+            high = middle;
+        }
+    }
+    Ok(Some(high))
+}
+
+/// How far a value may be passed over under a commutative operator, where no answer's value goes on with its first elements.
+fn passed_front(
+    trial: &Trial,
+    places: &[Place],
+    store: &mut Store,
+    sig: &Signature,
+    limits: &[Limit],
+    chosen: &[TermId],
+    op: OpId,
     parts: &[Part],
-    least: usize,
     value: TermId,
 ) -> Result<TermId, NoMemory>
+    requires askable { IsAskable sig.now store.old (asked_in trial.now) }
     requires places { ArePlacesOf sig.now (tree_of trial.now.pattern) places.now }
+    requires chosen { StandWithin (theory_at sig.now) store.old (numbers chosen.now) }
+    requires room { length chosen.now < length places.now }
+    requires operator { IsListOperator sig.now op.0 }
+    requires parts { All (IsPartOver sig.now store.old) parts.now }
+    requires value { StandsWithin (theory_at sig.now) store.old value.0 }
+    ensures passed { IfOk result (λ id. IsPassedFront sig.now limits.now store.old trial.now places.now chosen.now op.0 (tree_at store.old value.0) (tree_at store.new id.0)) }
+    ensures within { IfOk result (λ id. StandsWithin (theory_at sig.now) store.new id.0) }
+    ensures extends { Extends store.old store.new }
+{
+    let Some(last) = greatest_item(store, sig, op, parts) else {
+        return Ok(value);
+    };
+    let list = copy_of(store.allocator(), list_of(store, sig, op, &value))?;
+    if list.is_empty() {
+        return Ok(value);
+    }
+    match dead_front(trial, places, store, sig, limits, chosen, op, &list)? {
+        Some(count) => {
+            let far = joined(store.allocator(), &list[..count], slice::from_ref(&last))?;
+            value_over(store, sig, op, &far, value)
+        }
+        None => Ok(value),
+    }
+}
+
+/// The same of a value under any operator or none, behind so many others that led to no answer: the first one is looked at, and then
+/// ever fewer of them.
+fn passed_on(
+    trial: &Trial,
+    places: &[Place],
+    store: &mut Store,
+    sig: &Signature,
+    limits: &[Limit],
+    chosen: &[TermId],
+    parts: &[Part],
+    value: TermId,
+    count: usize,
+) -> Result<TermId, NoMemory>
+    requires askable { IsAskable sig.now store.old (asked_in trial.now) }
+    requires places { ArePlacesOf sig.now (tree_of trial.now.pattern) places.now }
+    requires chosen { StandWithin (theory_at sig.now) store.old (numbers chosen.now) }
     requires room { length chosen.now < length places.now }
     requires parts { All (IsPartOver sig.now store.old) parts.now }
     requires value { StandsWithin (theory_at sig.now) store.old value.0 }
-    ensures onward { (u : Tree) → IsAsLong (theory_at sig.now) (place_at (under_all places.now) (length chosen.now)) least u → IsValueOfAny (theory_at sig.now) (parts_in store.old parts.now) u →
+    ensures onward { (known : Known) (u : Tree) (us : List Tree) → All (IsLimitOf sig.now known (variables_in places.now)) limits.now →
+        AnswerIn sig.now known store.old trial.now (trees_at store.old (numbers chosen.now) ++ u ∷ us) →
         IsValueBehind (order_of sig.now places.now) (length chosen.now) (Some (tree_at store.old value.0)) u →
         IfOk result (λ id. IsValueBehind (order_of sig.now places.now) (length chosen.now) (Some (tree_at store.new id.0)) u) }
     ensures back { (u : Tree) → IfOk result (λ id. IsValueBehind (order_of sig.now places.now) (length chosen.now) (Some (tree_at store.new id.0)) u →
@@ -334,7 +487,57 @@ pub fn skipped(
     ensures within { IfOk result (λ id. StandsWithin (theory_at sig.now) store.new id.0) }
     ensures extends { Extends store.old store.new }
 {
-    passed(store, sig, places[chosen.len()].under, parts, least, value)
+    let under = places[chosen.len()].under;
+    let Some(op) = under else {
+        return Ok(value);
+    };
+    if !count.is_power_of_two() || !sig.theory(op).comm {
+        return Ok(value);
+    }
+    passed_front(trial, places, store, sig, limits, chosen, op, parts, value)
+}
+
+/// How far a value that leads to no answer may be passed over, where the next value has so many elements in each answer, and so many
+/// values led to none since one was passed over.
+pub fn skipped(
+    trial: &Trial,
+    places: &[Place],
+    store: &mut Store,
+    sig: &Signature,
+    limits: &[Limit],
+    chosen: &[TermId],
+    parts: &[Part],
+    least: usize,
+    value: TermId,
+    count: usize,
+) -> Result<TermId, NoMemory>
+    requires askable { IsAskable sig.now store.old (asked_in trial.now) }
+    requires places { ArePlacesOf sig.now (tree_of trial.now.pattern) places.now }
+    requires chosen { StandWithin (theory_at sig.now) store.old (numbers chosen.now) }
+    requires room { length chosen.now < length places.now }
+    requires parts { All (IsPartOver sig.now store.old) parts.now }
+    requires value { StandsWithin (theory_at sig.now) store.old value.0 }
+    ensures onward { (known : Known) (u : Tree) (us : List Tree) → All (IsLimitOf sig.now known (variables_in places.now)) limits.now →
+        AnswerIn sig.now known store.old trial.now (trees_at store.old (numbers chosen.now) ++ u ∷ us) →
+        IsAsLong (theory_at sig.now) (place_at (under_all places.now) (length chosen.now)) least u → IsValueOfAny (theory_at sig.now) (parts_in store.old parts.now) u →
+        IsValueBehind (order_of sig.now places.now) (length chosen.now) (Some (tree_at store.old value.0)) u →
+        IfOk result (λ id. IsValueBehind (order_of sig.now places.now) (length chosen.now) (Some (tree_at store.new id.0)) u) }
+    ensures back { (u : Tree) → IfOk result (λ id. IsValueBehind (order_of sig.now places.now) (length chosen.now) (Some (tree_at store.new id.0)) u →
+        IsValueBehind (order_of sig.now places.now) (length chosen.now) (Some (tree_at store.old value.0)) u) }
+    ensures within { IfOk result (λ id. StandsWithin (theory_at sig.now) store.new id.0) }
+    ensures extends { Extends store.old store.new }
+{
+    let far = passed(store, sig, places[chosen.len()].under, parts, least, value)?;
+    passed_on(trial, places, store, sig, limits, chosen, parts, far, count)
+}
+
+/// How many values led to no answer since one was passed over, behind one more.
+pub fn missed(count: usize, passed: bool) -> usize {
+    if passed {
+        1
+    } else {
+        count.saturating_add(1)
+    }
 }
 
 /// About how many values some parts have.

@@ -59,7 +59,7 @@ fn rest_from(store: &Store, items: &[TermId], list: &[TermId]) -> Option<usize>
 }
 
 /// A list, and some items behind it.
-fn joined(alloc: Global, list: &[TermId], more: &[TermId]) -> Result<Vec<TermId>, NoMemory>
+pub fn joined(alloc: Global, list: &[TermId], more: &[TermId]) -> Result<Vec<TermId>, NoMemory>
     ensures { IfOk result (λ out. out.items ≡ list.now ++ more.now) }
 {
     let mut out = copy_of(alloc, list)?;
@@ -199,7 +199,7 @@ fn is_further(
 }
 
 /// The operator over a list, where it is compared as that list and stands behind a value; else that value.
-fn value_over(
+pub fn value_over(
     store: &mut Store,
     sig: &Signature,
     op: OpId,

@@ -1,0 +1,48 @@
+use Rattle.std.proofs.Common.{[], take, sym, subst}
+use Rattle.std.proofs.lemmas.List.{take_all}
+use Rattle.mau_store.proofs.Growth.{extension_is_preorder}
+use Rattle.mau_match.specs.Led.{GainsValues, GathersValues}
+use Rattle.mau_match.specs.Walked.{IsPartWithin}
+use Rattle.mau_match.proofs.Adding.{part_stays, part_within_stays}
+use Rattle.mau_match.proofs.Leading.{gathers_none, gathers_more}
+use Rattle.mau_match.proofs.lead.gathered.Goals as goal
+
+pub loop-part-init : goal.loop-part-init
+loop-part-init c = record {
+  extends = extension_is_preorder.reflexive c.args.store.now;
+  few = subst (GathersValues c.args.sig.now c.args.limits.now c.args.variable c.args.store.now c.args.store.now []) (sym c.new-out.ensures.items) (gathers_none c.args.sig.now c.args.limits.now c.args.variable c.args.store.now);
+}
+
+pub push_few-requires-clause-part : goal.push_few-requires-clause-part
+push_few-requires-clause-part c =
+    let s = c.args.sig.now in
+    let old = c.args.store.now in
+    let x = c.part-item.result in
+    part_within_stays s old c.loop-part.store c.loop-part.invariant.extends x (subst (IsPartWithin s old) (sym c.part-item.is) (c.requires.parts c.loop-part.part-index x c.loop-part-test.true))
+
+pub push_few-requires-clause-out : goal.push_few-requires-clause-out
+push_few-requires-clause-out c = c.loop-part.invariant.few.within
+
+pub loop-part-preserved : goal.loop-part-preserved
+loop-part-preserved c =
+    let s = c.args.sig.now in
+    let old = c.args.store.now in
+    let mid = c.loop-part.store in
+    let new = c.push_few.new.store in
+    let ls = c.args.limits.now in
+    let v = c.args.variable in
+    let parts = c.args.parts.now in
+    let i = c.loop-part.part-index in
+    let x = c.part-item.result in
+    let inv = c.loop-part.invariant in
+    record {
+      extends = extension_is_preorder.transitive old mid new inv.extends c.push_few.ensures.extends;
+      few =
+          gathers_more s ls v old mid new parts i x c.loop-part-test.true (part_stays s old mid inv.extends _ (c.requires.parts i x c.loop-part-test.true)) c.loop-part.out.items c.push_few.new.out.items inv.few
+          (subst (λ q. GainsValues s ls v mid new q c.loop-part.out.items c.push_few.new.out.items) c.part-item.is (c.in_ok-push_few.ensures.few c.if-not-branch.false));
+    }
+
+pub returns-clause-few : goal.returns-clause-few
+returns-clause-few c =
+    let old = c.args.store.now in
+    subst (λ qs. GathersValues c.args.sig.now c.args.limits.now c.args.variable old c.loop-part.store qs c.loop-part.out.items) (take_all c.loop-part.part-index c.args.parts.now c.loop-part-test.false) c.loop-part.invariant.few
