@@ -61,11 +61,11 @@ record IsSplit (ys : List Variable) (x : Variable) : Type 0 where
 
 split_has : (ys : List Variable) (x : Variable) → has_variable ys x ≡ true → IsSplit ys x
 split_has [] x h = cc
-split_has (y ∷ ys) x h = by (same_variable y x) refl h
+split_has (y ∷ ys) x h = by (split_has ys x) (same_variable y x) refl h
   where
-    by : (b : Bool) → same_variable y x ≡ b → (b || has_variable ys x) ≡ true → IsSplit (y ∷ ys) x
-    by true e h = record { before = []; after = ys; whole = ap (λ z. z ∷ ys) (same-is y x e) }
-    by false e h = let k = split_has ys x h in record { before = y ∷ k.before; after = k.after; whole = ap (λ z. y ∷ z) k.whole }
+    by : (has_variable ys x ≡ true → IsSplit ys x) → (b : Bool) → same_variable y x ≡ b → (b || has_variable ys x) ≡ true → IsSplit (y ∷ ys) x
+    by ih true e h = record { before = []; after = ys; whole = ap (λ z. z ∷ ys) (same-is y x e) }
+    by ih false e h = let k = ih h in record { before = y ∷ k.before; after = k.after; whole = ap (λ z. y ∷ z) k.whole }
 
 -- a variable of a pattern is not one that does not occur in it
 other_than : (p : Tree) (y z : Variable) → occurs y p ≡ false → has_variable (variables p) z ≡ true → same_variable z y ≡ false
@@ -90,7 +90,7 @@ module _ (s : SignatureOf) (lawful : IsLawful (terms_over s)) (old : List Node) 
     (g : Given) (ev : g.variables ≡ map {B = VarId} (λ b. b.0) t.bound.items ++ variables_in (take (length chosen) ps)) (el : g.values ≡ map {B = TermId} (λ b. b.1) t.bound.items ++ chosen) (ls : List Limit) (op : OpId) (is_list : IsListOperator s op.0)
     (limits : All (IsOtherLimit ls op (get_or ps (length chosen) no_place).variable) g.limits) (unbound : has_variable (bound_of g) (variable_of (get_or ps (length chosen) no_place).variable) ≡ false)
     (y : VarId) (unused : occurs (variable_of y) (tree_of t.pattern) ≡ false) (unknown : has_variable (bound_of g) (variable_of y) ≡ false)
-    (a : Tree) (na : norm (theory_at s) a ≡ a) (xs : List Tree) (some : 1 ≤ length xs) (la : list_under (theory_at s op.0) op.0 a ≡ xs) where
+    (a : Tree) (na : norm (theory_at s) a ≡ a) (xs : List Tree) (some : (theory_at s op.0).id ≡ None → 1 ≤ length xs) (la : list_under (theory_at s op.0) op.0 a ≡ xs) where
   abbrev x : Variable
   x = variable_of (get_or ps (length chosen) no_place).variable
 
@@ -207,6 +207,10 @@ module _ (s : SignatureOf) (lawful : IsLawful (terms_over s)) (old : List Node) 
         (subst (λ b. Agrees (theory_at s) b (values_of old g) gg) (sym (given_names s old t (take (length chosen) ps) chosen g ev el))
         (subst (λ v. Agrees (theory_at s) (given_variables (question_in old (asked_in t)) (names (take (length chosen) ps))) v gg) (sym (given_is s old t (take (length chosen) ps) chosen g ev el)) ag)))
         (parts_fair gg same fair) (parts_whole gg same whole) (inl (front_is gg same)))
+
+-- the limits of what is given are those of the others
+pub other_limits_of : (ls : List Limit) (op : OpId) (x : VarId) (own given : List Limit) → given ≡ own → All (IsOtherLimit ls op x) own → All (IsOtherLimit ls op x) given
+other_limits_of ls op x own given e h = subst (All (IsOtherLimit ls op x)) (sym e) h
 
 -- ---- a store that grows, and values that are passed over
 

@@ -34,13 +34,13 @@ module _ (f : ℕ) (x y : Variable) (a b : Tree) (gg : Variable → Tree) where
   abbrev pub with_both : Variable → Tree
   with_both z = if same_variable z x then apply f (tree a (tree b no_trees)) else gg z
 
-  first_part : with_parts (y.0, y.1) ≡ a
+  pub first_part : with_parts (y.0, y.1) ≡ a
   first_part = ap (λ d. if d then a else (if same_variable (y.0, y.1) x then b else gg (y.0, y.1))) (same_itself y)
 
-  second_part : (i s : ℕ) → same_variable (i, s) y ≡ false → same_variable (i, s) x ≡ true → with_parts (i, s) ≡ b
+  pub second_part : (i s : ℕ) → same_variable (i, s) y ≡ false → same_variable (i, s) x ≡ true → with_parts (i, s) ≡ b
   second_part i s n e = ap (λ d. if d then a else (if same_variable (i, s) x then b else gg (i, s))) n ∙ ap (λ d. if d then b else gg (i, s)) e
 
-  other_part : (z : Variable) → same_variable z y ≡ false → same_variable z x ≡ false → with_parts z ≡ gg z
+  pub other_part : (z : Variable) → same_variable z y ≡ false → same_variable z x ≡ false → with_parts z ≡ gg z
   other_part z n e = ap (λ d. if d then a else (if same_variable z x then b else gg z)) n ∙ ap (λ d. if d then b else gg z) e
 
   mutual
@@ -89,9 +89,9 @@ module _ (s : TermSignature) (lawful : IsLawful s) (f : ℕ) (is : s.has_operato
             let own : s.kind_of r ≡ s.result f = ap s.kind_of same ∙ kind in
             let at : s.kind_of y.1 ≡ s.result f = ap s.kind_of sort ∙ kind in
             let has : s.has_sort y.1 ≡ true = ap s.has_sort (sort ∙ sym same) ∙ b.1 in
-            (is, (sym own ∙ b.2, subst (AreBareIn s (tree (variable y.0 y.1) (tree (variable i r) no_trees))) (sym (lawful.assoc_kinds f assoc)) ((small, (has, at)), ((b.0, (b.1, own)), tt))))
+            (is, sym own ∙ b.2, subst (AreBareIn s (tree (variable y.0 y.1) (tree (variable i r) no_trees))) (sym (lawful.assoc_kinds f assoc)) ((small, has, at), ((b.0, b.1, own), tt)))
     split_bare (numeral n) k b = b
-    split_bare (apply h ts) k b = (b.0, (b.1, split_bares ts (s.arguments h) b.2))
+    split_bare (apply h ts) k b = (b.0, b.1, split_bares ts (s.arguments h) b.2)
 
     pub split_bares : (ps : Trees) (ks : List ℕ) → AreBareIn s ps ks → AreBareIn s (instances (split_at f x y) ps) ks
     split_bares no_trees [] b = tt
@@ -141,17 +141,17 @@ module _ (th : ℕ → Theory) (lawful : AreLawful th) (f : ℕ) (a : (th f).ass
   not_none : (ts : List Tree) → 1 ≤ length ts → ts ≡ [] → ⊥
   not_none ts h e = absurd (omega (arith, h, ap length e))
 
-  pub both_fair : (t : Tree) → norm th t ≡ t → list_under (th f) f t ≡ xs → 1 ≤ length xs → IsFairAt th f (norm th t ∷ norm th rest_value ∷ [])
+  pub both_fair : (t : Tree) → norm th t ≡ t → list_under (th f) f t ≡ xs → ((th f).id ≡ None → 1 ≤ length xs) → IsFairAt th f (norm th t ∷ norm th rest_value ∷ [])
   both_fair t m e some = record {
     two_by_unit = λ i k. refl;
     two_by_assoc = λ k. refl;
-    filled = λ k none. full;
+    filled = λ k none. full none;
   }
     where
-      full : (z : Tree) → IsIn z (norm th t ∷ norm th rest_value ∷ []) → list_under (th f) f z ≡ [] → ⊥
-      full z (inl k) q = not_none xs some (sym e ∙ ap (list_under (th f) f) (sym m ∙ sym k) ∙ q)
-      full z (inr (inl k)) q = not_none (list_under (th f) f rest_value) rest_some (ap (list_under (th f) f) (sym rest_normal ∙ sym k) ∙ q)
-      full z (inr (inr k)) q = absurd k
+      full : (th f).id ≡ None → (z : Tree) → IsIn z (norm th t ∷ norm th rest_value ∷ []) → list_under (th f) f z ≡ [] → ⊥
+      full none z (inl k) q = not_none xs (some none) (sym e ∙ ap (list_under (th f) f) (sym m ∙ sym k) ∙ q)
+      full none z (inr (inl k)) q = not_none (list_under (th f) f rest_value) rest_some (ap (list_under (th f) f) (sym rest_normal ∙ sym k) ∙ q)
+      full none z (inr (inr k)) q = absurd k
 
 -- ---- lists behind all that begin alike
 

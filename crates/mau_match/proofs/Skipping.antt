@@ -193,7 +193,7 @@ past_more (y ∷ ys) a x (w ∷ xs) (c ∷ cs) rest e h (inr k) l =
     by first later false s e = later e (sub_behind c y cs ys (λ i. other x y s (k.0 ∙ i)) h)
 
 -- what is past a list stands behind it with anything at its end
-past_below : (xs t : List Tree) (z : Tree) → IsPast xs t → IsBelow IsBefore (xs ++ z ∷ []) t
+pub past_below : (xs t : List Tree) (z : Tree) → IsPast xs t → IsBelow IsBefore (xs ++ z ∷ []) t
 past_below [] t z h = absurd h
 past_below (x ∷ xs) [] z h = absurd h
 past_below (x ∷ xs) (c ∷ cs) z (inl h) = inl h
@@ -238,7 +238,7 @@ module _ (nodes : List Node) (list items : List TermId) (k i : ℕ) where
 -- ---- lists that are made
 
 module _ (nodes : List Node) where
-  terms_take : (n : ℕ) (ids : List TermId) → terms nodes (take n ids) ≡ take n (terms nodes ids)
+  pub terms_take : (n : ℕ) (ids : List TermId) → terms nodes (take n ids) ≡ take n (terms nodes ids)
   terms_take n ids = sym (take-map (tree_at nodes) n (numbers ids) ∙ ap (map (tree_at nodes)) (take-map (λ (id : TermId). id.0) n ids))
 
   module _ (items list : List TermId) (sorted : AreSorted nodes (numbers items)) (from least : ℕ) (rest : rest_of (terms nodes list) (terms nodes items) ≡ Some (terms nodes (drop from items))) (room : from ≤ length items) where

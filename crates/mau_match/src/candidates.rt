@@ -1,5 +1,5 @@
 //! What the value of the next variable may be: the parts of the subject that it is of, and the values of these in order.
-ghost use Rattle.std.specs.Prelude.{◌≡◌, ◌⊎◌, true, false, Some, ◌++◌, ◌∷◌, ◌+◌, ◌<◌, ◌≤◌, List, All, Contains, length, map, take, IfOk, IfSome, IfNone, OnOk};
+ghost use Rattle.std.specs.Prelude.{◌≡◌, ◌⊎◌, true, false, Some, None, ◌++◌, ◌∷◌, ◌+◌, ◌<◌, ◌≤◌, List, All, Contains, length, map, take, IfOk, IfSome, IfNone, OnOk};
 ghost use Rattle.mau_terms.specs.Tree.{Tree};
 ghost use Rattle.mau_terms.specs.View.{tree_of};
 ghost use Rattle.mau_terms.specs.declared.ids.VarId.{VarId};
@@ -25,7 +25,7 @@ ghost use Rattle.mau_match.specs.Skipped.{IsAsLong};
 ghost use Rattle.mau_match.specs.Fronts.{NoneGoesOn, IsPassedFront};
 
 use crate::choices::push;
-use crate::front::{greatest_item, other_limits, term_over, with_front};
+use crate::front::{greatest_item, is_blank, other_limits, term_over, with_front};
 use crate::hide::{fresh, hide};
 use crate::lead::{Choice, may_lead_with};
 use crate::lists::copy_of;
@@ -338,7 +338,7 @@ fn may_go_on(
     requires room { length chosen.now < length places.now }
     requires operator { IsListOperator sig.now op.0 }
     requires list { StandWithin (theory_at sig.now) store.old (numbers list.now) }
-    requires some { 1 ≤ length list.now }
+    requires some { (theory_at sig.now op.0).id ≡ None → 1 ≤ length list.now }
     ensures refused { IfOk result (λ b. b ≡ false → NoneGoesOn sig.now limits.now store.old trial.now places.now chosen.now op.0 (trees_at store.old (numbers list.now))) }
     ensures extends { Extends store.old store.new }
 {
@@ -396,26 +396,40 @@ fn dead_front(
     requires room { length chosen.now < length places.now }
     requires operator { IsListOperator sig.now op.0 }
     requires list { StandWithin (theory_at sig.now) store.old (numbers list.now) }
-    requires some { 1 ≤ length list.now }
     ensures dead { IfOk result (λ o. IfSome o (λ n. NoneGoesOn sig.now limits.now store.old trial.now places.now chosen.now op.0 (trees_at store.old (numbers (take n list.now))))) }
     ensures room { IfOk result (λ o. IfSome o (λ n. n ≤ length list.now)) }
     ensures extends { Extends store.old store.new }
 {
+    if is_blank(sig, op, list) {
+        return Ok(None);
+    }
     if may_go_on(trial, places, store, sig, limits, chosen, op, list)? {
         return Ok(None);
     }
     let mut low: usize = 0;
     let mut high = list.len();
+    if high == 0 {
+        return Ok(Some(high));
+    }
     for _ in 0..64 {
         let middle = low + (high - low) / 2;
         if middle == low {
             return Ok(Some(high));
         }
-        if may_go_on(trial, places, store, sig, limits, chosen, op, &list[..middle])? {
+        if may_go_on(
+            trial,
+            places,
+            store,
+            sig,
+            limits,
+            chosen,
+            op,
+            &list[..middle],
+        )? {
             low = middle;
-        } else {
-            high = middle;
+            continue;
         }
+        high = middle;
     }
     Ok(Some(high))
 }
@@ -447,9 +461,6 @@ fn passed_front(
         return Ok(value);
     };
     let list = copy_of(store.allocator(), list_of(store, sig, op, &value))?;
-    if list.is_empty() {
-        return Ok(value);
-    }
     match dead_front(trial, places, store, sig, limits, chosen, op, &list)? {
         Some(count) => {
             let far = joined(store.allocator(), &list[..count], slice::from_ref(&last))?;
@@ -533,11 +544,7 @@ pub fn skipped(
 
 /// How many values led to no answer since one was passed over, behind one more.
 pub fn missed(count: usize, passed: bool) -> usize {
-    if passed {
-        1
-    } else {
-        count.saturating_add(1)
-    }
+    if passed { 1 } else { count.saturating_add(1) }
 }
 
 /// About how many values some parts have.

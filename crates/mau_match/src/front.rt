@@ -1,12 +1,12 @@
 //! Lists that begin with elements that are known: patterns with these in place of a variable, and the lists that stand behind all of them.
-ghost use Rattle.std.specs.Prelude.{◌≡◌, ◌++◌, List, map, false, All, Contains, IfOk, IfSome, OnOk};
+ghost use Rattle.std.specs.Prelude.{◌≡◌, ◌⊎◌, ◌≤◌, ◌++◌, ◌∷◌, [], List, length, map, None, false, All, IfOk, IfSome, OnOk};
 ghost use Rattle.mau_terms.specs.Tree.{apply, no_trees, tree, trees_of, variable};
 ghost use Rattle.mau_terms.specs.Subst.{instance, instances, same_variable};
 ghost use Rattle.mau_terms.specs.Solution.{list_under};
 ghost use Rattle.mau_terms.specs.View.{tree_of, variable_of};
 ghost use Rattle.mau_terms.specs.declared.bare.Bare.{Bare as BareOf};
 ghost use Rattle.mau_signature.specs.Signature.{theory_at};
-ghost use Rattle.mau_store.specs.Node.{Node, Extends};
+ghost use Rattle.mau_store.specs.Node.{Extends};
 ghost use Rattle.mau_store.specs.Trees.{tree_at, trees_at};
 ghost use Rattle.mau_store.specs.View.{numbers};
 ghost use Rattle.mau_canon.specs.Standing.{StandsWithin, StandWithin};
@@ -16,7 +16,7 @@ ghost use Rattle.mau_match.specs.Fronts.{split_at, IsOtherLimit};
 use crate::Limit;
 use mau_canon::{BuildFault, from_list, list_of};
 use mau_domains::Part;
-use mau_listing::{compare_lists, is_lawful};
+use mau_listing::compare_lists;
 use mau_signature::Signature;
 use mau_store::Store;
 use mau_terms::{Args, Bare, NoMemory, OpId, TermId, VarId};
@@ -112,30 +112,71 @@ pub fn term_over(
     }
 }
 
-/// The greater of two terms, as far as there are two.
-fn greater(store: &Store, best: Option<TermId>, id: TermId) -> TermId
-    ensures { (nodes : List Node) (s : _) → IfSome best (λ b. StandsWithin s nodes b.0) → StandsWithin s nodes id.0 → StandsWithin s nodes result.0 }
+/// Whether a list has no element, and no term has such a list.
+pub fn is_blank(sig: &Signature, op: OpId, list: &[TermId]) -> bool
+    requires operator { IsListOperator sig.now op.0 }
+    ensures { result ≡ false → (theory_at sig.now op.0).id ≡ None → 1 ≤ length list.now }
 {
-    match best {
-        Some(other) => {
-            if store.compare(other, id).is_gt() {
-                return other;
-            }
-            id
-        }
-        None => id,
+    if list.is_empty() {
+        return sig.theory(op).id.is_none();
     }
+    false
+}
+
+/// The greater of two terms, as far as there are two.
+fn greater(store: &Store, sig: &Signature, best: Option<TermId>, id: TermId) -> TermId
+    requires best { IfSome best (λ b. StandsWithin (theory_at sig.now) store.now b.0) }
+    requires id { StandsWithin (theory_at sig.now) store.now id.0 }
+    ensures { StandsWithin (theory_at sig.now) store.now result.0 }
+{
+    let Some(other) = best else {
+        return id;
+    };
+    if store.compare(other, id).is_gt() {
+        return other;
+    }
+    id
 }
 
 /// The greatest of some terms and another one, if there is one.
-fn greatest_of(store: &Store, items: &[TermId], best: Option<TermId>) -> Option<TermId>
-    ensures { (nodes : List Node) (s : _) → IfSome best (λ b. StandsWithin s nodes b.0) → StandWithin s nodes (numbers items.now) → IfSome result (λ b. StandsWithin s nodes b.0) }
+fn greatest_of(
+    store: &Store,
+    sig: &Signature,
+    items: &[TermId],
+    best: Option<TermId>,
+) -> Option<TermId>
+    requires best { IfSome best (λ b. StandsWithin (theory_at sig.now) store.now b.0) }
+    requires items { StandWithin (theory_at sig.now) store.now (numbers items.now) }
+    ensures { IfSome result (λ b. StandsWithin (theory_at sig.now) store.now b.0) }
 {
     let mut found = best;
     for id in items {
-        found = Some(greater(store, found, *id));
+        found = Some(greater(store, sig, found, *id));
     }
     found
+}
+
+/// The same with the items of a part, if that is a list of an operator.
+fn greatest_with(
+    store: &Store,
+    sig: &Signature,
+    op: OpId,
+    part: &Part,
+    best: Option<TermId>,
+) -> Option<TermId>
+    requires part { IsPartOver sig.now store.now part.now }
+    requires best { IfSome best (λ b. StandsWithin (theory_at sig.now) store.now b.0) }
+    ensures { IfSome result (λ b. StandsWithin (theory_at sig.now) store.now b.0) }
+{
+    match part {
+        Part::One(_) => best,
+        Part::ListOf(_, top, items) => {
+            if *top == op {
+                return greatest_of(store, sig, items.items(), best);
+            }
+            best
+        }
+    }
 }
 
 /// The greatest item of those parts that are lists of an operator, if there is one.
@@ -145,16 +186,23 @@ pub fn greatest_item(store: &Store, sig: &Signature, op: OpId, parts: &[Part]) -
 {
     let mut found = None;
     for part in parts {
-        if let Part::ListOf(_, top, items) = part {
-            if *top == op {
-                found = greatest_of(store, items.items(), found);
-            }
-        }
+        found = greatest_with(store, sig, op, part, found);
     }
     found
 }
 
 // ---- limits
+
+/// Adds a limit, unless it is one of a variable.
+fn push_other(target: VarId, limit: Limit, out: &mut Vec<Limit>) -> Result<(), NoMemory>
+    ensures { OnOk result ((out.new.items ≡ out.old.items) ⊎ ((out.new.items ≡ out.old.items ++ limit ∷ []) × (same_variable (variable_of limit.variable) (variable_of target) ≡ false))) }
+{
+    if limit.variable == target {
+        return Ok(());
+    }
+    out.push(limit)?;
+    Ok(())
+}
 
 /// The limits of other variables than this one, and that this one has an element at least.
 pub fn other_limits(
@@ -173,9 +221,7 @@ pub fn other_limits(
         most: None,
     })?;
     for limit in limits {
-        if limit.variable != target {
-            out.push(*limit)?;
-        }
+        push_other(target, *limit, &mut out)?;
     }
     Ok(out)
 }

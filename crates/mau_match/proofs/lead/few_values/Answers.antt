@@ -1,15 +1,9 @@
-use Rattle.std.proofs.Common.{◌≡◌, true, Option, Some, None, IfSome, sym, ap, ◌∙◌, subst}
+use Rattle.std.proofs.Common.{◌≡◌, All, true, Option, Some, None, IfSome, sym, ap, ◌∙◌, subst}
 use Rattle.std.proofs.lemmas.Result.{IfOk-weaker}
-use Rattle.mau_terms.specs.Norm.{norm}
-use Rattle.mau_terms.specs.Finite.{IsIn}
 use Rattle.mau_terms.specs.View.{tree_of, variable_of}
-use Rattle.mau_signature.specs.Signature.{theory_at}
 use Rattle.mau_store.specs.Trees.{tree_at, trees_at}
-use Rattle.mau_store.specs.View.{numbers}
-use Rattle.mau_domains.specs.Parts.{just}
 use Rattle.mau_match.specs.Parts.{AnyOf, occurs}
-use Rattle.mau_match.specs.Limited.{AreLimited}
-use Rattle.mau_match.specs.Walked.{parts_in, bound_of, values_of, target_of}
+use Rattle.mau_match.specs.Walked.{IsPartWithin}
 use Rattle.mau_match.proofs.Leading.{same_given, walked_values, gathered_within}
 use Rattle.mau_match.proofs.lead.few_values.Goals as goal
 
@@ -19,8 +13,8 @@ parts_for-requires-clause-values c = same_given c.args.sig.now c.args.store.now 
 pub parts_for-requires-clause-occurs : goal.parts_for-requires-clause-occurs
 parts_for-requires-clause-occurs c = ap (λ x. occurs (variable_of x) (tree_of c.args.pattern.now)) c.in_ok-aim.ensures.target ∙ c.requires.occurs
 
-pub gathered-requires-clause-parts : goal.gathered-requires-clause-parts
-gathered-requires-clause-parts c = rw (sym c.deref.ensures.value) at c.in-Ok.ensures.ok.within
+pub gathered-requires : goal.gathered-requires
+gathered-requires c = record { parts = subst (All (IsPartWithin c.args.sig.now c.parts_for.new.store)) (sym c.deref.ensures.value) c.in-Ok.ensures.ok.within }
 
 pub returns-in-Ok-clause-within : goal.returns-in-Ok-clause-within
 returns-in-Ok-clause-within c = IfOk-weaker c.gathered.result _ _ (λ o h. gathered_within _ _ _ _ _ _ o h) c.gathered.ensures.few

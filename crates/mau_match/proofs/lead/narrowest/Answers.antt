@@ -29,5 +29,5 @@ loop-limit-preserved c =
     let same = tree_at-extends old mid c.args.subject.0 e c.requires.subject.there in
     record {
       extends = extension_is_preorder.transitive old mid new e more;
-      choice = narrower_is s c.args.given.now (tree_of c.args.pattern.now) old mid new e more c.requires.values (tree_at mid c.args.subject.0) (tree_at old c.args.subject.0) same c.loop-limit.best c.in_ok-found.found _ c.narrower.ensures c.loop-limit.invariant.choice c.in_ok-found.ensures.choice;
+      choice = narrower_is s c.args.given.now (tree_of c.args.pattern.now) old mid new e more c.requires.values (tree_at mid c.args.subject.0) (tree_at old c.args.subject.0) same c.loop-limit.best c.in_ok-found.found _ c.narrower-best.ensures c.loop-limit.invariant.choice c.in_ok-found.ensures.choice;
     }
