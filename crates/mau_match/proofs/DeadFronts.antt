@@ -1,10 +1,10 @@
 -- Values whose list goes on with a front behind which nothing leads to an answer: no answer has one.
-use Rattle.std.proofs.Common.{◌≡◌, ◌⊎◌, ◌+◌, ◌≤◌, ◌<◌, ℕ, suc, List, [], ◌∷◌, ◌++◌, ◌||◌, length, map, take, drop, get_or, Bool, true, false, Option, Some, None, IfSome, if◌then◌else◌, All, Contains, inl, inr, refl, sym, ◌∙◌, ap, ap₂, subst, arith}
+use Rattle.std.proofs.Common.{◌≡◌, ◌≤◌, ◌<◌, ℕ, suc, List, [], ◌∷◌, ◌++◌, ◌||◌, length, map, take, drop, get_or, Bool, true, false, Some, None, IfSome, if◌then◌else◌, All, inl, inr, refl, sym, ◌∙◌, ap, ap₂, subst, arith}
 use Rattle.std.proofs.lemmas.List.Elements.{All-contains, All-weaker}
 use Rattle.mau_lists.specs.Lists.{IsBelow}
 use Rattle.mau_lists.specs.Terms.{IsBefore}
 use Rattle.mau_terms.specs.Tree.{Tree, apply, no_trees, tree}
-use Rattle.mau_terms.specs.Norm.{norm, norms, build}
+use Rattle.mau_terms.specs.Norm.{norm, build}
 use Rattle.mau_terms.specs.Bare.{IsLawful}
 use Rattle.mau_terms.specs.Subst.{Variable, same_variable, has_variable, instance, variables, value_at}
 use Rattle.mau_terms.specs.Solution.{list_under, value_key}
@@ -18,9 +18,7 @@ use Rattle.mau_signature.specs.Signature.{SignatureOf, terms_over, theory_at}
 use Rattle.mau_store.specs.Node.{Node, Extends}
 use Rattle.mau_store.specs.Trees.{tree_at, trees_at}
 use Rattle.mau_store.specs.View.{numbers}
-use Rattle.mau_store.proofs.Growth.{trees_at-extends}
-use Rattle.mau_canon.specs.Standing.{StandsWithin, StandWithin}
-use Rattle.mau_canon.proofs.Standing.{stand_there}
+use Rattle.mau_canon.specs.Standing.{StandWithin}
 use Rattle.mau_sorts.specs.HasSort.{Known}
 use Rattle.mau_lists.proofs.Fewer.{below_cmp, cmp_below}
 use Rattle.mau_listing.specs.declared.places.Place.{Place}
@@ -29,14 +27,11 @@ use Rattle.mau_listing.specs.Question.{Question}
 use Rattle.mau_listing.specs.Asked.{IsAskable, BySort, question_in}
 use Rattle.mau_trial.specs.Tried.{ArePlacesOf, asked_in}
 use Rattle.mau_trial.specs.declared.tried.Trial.{Trial}
-use Rattle.mau_domains.specs.Parts.{just}
-use Rattle.mau_domains.specs.Search.{IsValueBehind}
-use Rattle.mau_domains.specs.Values.{by_key}
 use Rattle.mau_domains.specs.Stored.{IsListOperator}
 use Rattle.mau_domains.proofs.Keys.{key_total}
 use Rattle.mau_match.specs.Parts.{occurs, IsFairAt, IsFair}
-use Rattle.mau_match.specs.Given.{given_variables, given_at}
-use Rattle.mau_match.specs.Limited.{IsLimitOf, AreLimited, IsWithinLimit, long_at}
+use Rattle.mau_match.specs.Given.{given_variables}
+use Rattle.mau_match.specs.Limited.{IsLimitOf, IsWithinLimit, long_at}
 use Rattle.mau_match.specs.Possible.{Agrees, AgreesIn}
 use Rattle.mau_match.specs.Searched.{AnswerIn}
 use Rattle.mau_match.specs.Skipped.{IsFurther}
@@ -50,7 +45,7 @@ use Rattle.mau_match.proofs.Complete.{not_impossible, fair_by_norms}
 use Rattle.mau_match.proofs.GivenFor.{names, given_names, given_is}
 use Rattle.mau_match.proofs.Limited.{contains_has, has_middle, limit_holds}
 use Rattle.mau_match.proofs.NextVariable.{no_place, answer_grown, names_are, as_many}
-use Rattle.mau_match.proofs.GoingOn.{with_parts, with_both, first_part, other_part, second_part, split_instance, split_fair, rest_value, rest_normal, rest_some, both_is, both_fair, behind_front_and}
+use Rattle.mau_match.proofs.GoingOn.{with_parts, with_both, first_part, other_part, second_part, split_instance, split_fair, rest_normal, rest_some, both_is, both_fair, behind_front_and}
 
 -- ---- a variable among some
 

@@ -1,14 +1,13 @@
 -- A pattern with known elements in front of a variable: it is the pattern itself, where the variable's list begins with these and goes on.
-use Rattle.std.proofs.Common.{◌≡◌, ◌<◌, ◌^◌, ◌≤◌, ℕ, zero, suc, List, [], ◌∷◌, ◌++◌, length, take, Bool, true, false, Option, Some, None, if◌then◌else◌, inl, inr, refl, sym, ◌∙◌, ap, ap₂, subst, arith, append-nil}
+use Rattle.std.proofs.Common.{◌≡◌, ◌<◌, ◌^◌, ◌≤◌, ℕ, zero, suc, List, [], ◌∷◌, ◌++◌, length, take, Bool, true, false, None, if◌then◌else◌, inl, inr, refl, sym, ◌∙◌, ap, ap₂, subst, arith, append-nil}
 use Rattle.std.proofs.lemmas.Bool.{or_parts}
 use Rattle.mau_terms.specs.Tree.{Tree, variable, numeral, apply, Trees, no_trees, tree}
-use Rattle.mau_terms.specs.Norm.{norm, norms, build, pieces, all_pieces, arrange, finish}
+use Rattle.mau_terms.specs.Norm.{norm, norms, build, arrange, finish}
 use Rattle.mau_terms.specs.Lawful.{AreLawful}
 use Rattle.mau_terms.specs.Bare.{TermSignature, IsBareIn, AreBareIn, IsLawful}
-use Rattle.mau_terms.specs.Subst.{Variable, same_variable, has_variable, instance, instances}
-use Rattle.mau_terms.specs.Solution.{list_under, over_list, value_key}
+use Rattle.mau_terms.specs.Subst.{Variable, same_variable, instance, instances}
+use Rattle.mau_terms.specs.Solution.{list_under}
 use Rattle.mau_terms.specs.Finite.{IsIn}
-use Rattle.mau_terms.specs.declared.theory.Identity.{Identity}
 use Rattle.mau_terms.specs.declared.theory.Theory.{Theory}
 use Rattle.mau_terms.proofs.Finite.{length-arrange, over_its_list}
 use Rattle.mau_terms.proofs.Normal.{IsNormal, whole_pieces, normal_pieces, pieces_all, build_normal, normal_fixed}

@@ -1,9 +1,9 @@
 -- Variables that few values are left for: what their values are, and that a variable with a value is given.
-use Rattle.std.proofs.Common.{◌≡◌, ◌⊎◌, ℕ, ◌+◌, ◌≤◌, ◌<◌, List, [], ◌∷◌, ◌++◌, ◌||◌, map, length, take, get_or, Bool, true, false, Option, Some, None, Vec, Global, IfSome, All, inl, inr, if◌then◌else◌, refl, sym, ◌∙◌, ap, ap₂, subst, arith}
+use Rattle.std.proofs.Common.{◌≡◌, ◌⊎◌, ℕ, ◌+◌, ◌≤◌, ◌<◌, List, [], ◌∷◌, ◌++◌, ◌||◌, map, length, take, get_or, Bool, true, false, Option, Some, None, Vec, Global, IfSome, inl, inr, if◌then◌else◌, refl, sym, ◌∙◌, ap, ap₂, subst, arith}
 use Rattle.std.proofs.lemmas.List.{take_more, map-append}
 use Rattle.std.proofs.lemmas.List.Elements.{All-nil, All-cons}
 use Rattle.mau_terms.specs.Tree.{Tree}
-use Rattle.mau_terms.specs.Norm.{norm, unit_tree, finish, arrange}
+use Rattle.mau_terms.specs.Norm.{norm, finish}
 use Rattle.mau_terms.specs.Lawful.{AreLawful}
 use Rattle.mau_terms.specs.Subst.{Variable, same_variable, has_variable, instance}
 use Rattle.mau_terms.specs.Solution.{list_under, over_list}
@@ -39,7 +39,7 @@ use Rattle.mau_match.specs.Parts.{AnyOf, IsFair, alone_in, occurs}
 use Rattle.mau_match.specs.Limited.{AreLimited, long_at}
 use Rattle.mau_match.specs.Possible.{Agrees, AgreesIn}
 use Rattle.mau_match.specs.Led.{AreAllValues, AreNeverWith, GainsValues, GathersValues, IsChoice}
-use Rattle.mau_match.specs.Walked.{parts_in, bound_of, values_of, target_of, AreGivenWithin, IsPartWithin, AddsParts, walked}
+use Rattle.mau_match.specs.Walked.{parts_in, bound_of, values_of, target_of, AreGivenWithin, AddsParts, walked}
 use Rattle.mau_match.specs.declared.lead.Choice.{Choice}
 use Rattle.mau_match.specs.declared.part.Given.{Given}
 use Rattle.mau_match.specs.declared.part.Limit.{Limit}

@@ -1,5 +1,5 @@
 -- How long the values of variables are in an answer, by the sorts of the variables.
-use Rattle.std.proofs.Common.{◌≡◌, ◌⊎◌, ℕ, zero, suc, ◌≤◌, List, [], ◌∷◌, ◌++◌, Bool, true, false, ◌||◌, Option, Some, None, Contains, All, IfSome, map, length, get_or, inl, inr, refl, sym, ◌∙◌, ap, ap₂, subst, arith}
+use Rattle.std.proofs.Common.{◌≡◌, ◌⊎◌, ℕ, zero, suc, ◌≤◌, List, [], ◌∷◌, ◌++◌, Bool, true, false, ◌||◌, Option, Some, None, Contains, All, IfSome, map, length, inl, inr, refl, sym, ◌∙◌, ap, ap₂, subst, arith}
 use Rattle.std.proofs.lemmas.Bool.{or_left, or_right}
 use Rattle.std.proofs.lemmas.List.Elements.{All-weaker}
 use Rattle.mau_terms.specs.Tree.{Tree, node, apply, Trees, no_trees, tree, trees_of, list_of}
@@ -11,7 +11,6 @@ use Rattle.mau_terms.specs.Solution.{HaveSorts, list_under, over_list}
 use Rattle.mau_terms.specs.View.{variable_of}
 use Rattle.mau_terms.specs.declared.ids.VarId.{VarId}
 use Rattle.mau_terms.specs.declared.theory.Identity.{Identity}
-use Rattle.mau_terms.specs.declared.theory.Theory.{Theory}
 use Rattle.mau_terms.proofs.Variables.{same-is, same_itself}
 use Rattle.mau_terms.proofs.Pieces.{Split, unit, many, one, split}
 use Rattle.mau_terms.proofs.Finite.{over_its_list}

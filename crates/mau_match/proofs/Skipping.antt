@@ -1,9 +1,8 @@
 -- Lists that are passed over: those behind a list and up to another one are too short.
-use Rattle.std.proofs.Common.{◌≡◌, ◌⊎◌, ℕ, zero, suc, ◌+◌, ◌-◌, ◌≤◌, ◌<◌, List, [], ◌∷◌, ◌++◌, length, take, drop, get_or, slice_index_or, Bool, true, false, Option, Some, None, if◌then◌else◌, inl, inr, refl, sym, ◌∙◌, ap, subst, append_assoc, append-nil, length-append, length-drop, map, All, Contains, arith}
+use Rattle.std.proofs.Common.{◌≡◌, ◌⊎◌, ℕ, zero, suc, ◌+◌, ◌-◌, ◌≤◌, ◌<◌, List, [], ◌∷◌, ◌++◌, length, take, drop, get_or, slice_index_or, Bool, true, false, Some, None, if◌then◌else◌, inl, inr, refl, sym, ◌∙◌, ap, subst, append_assoc, append-nil, length-append, length-drop, map, Contains, arith}
 use Rattle.std.specs.Ordering.{is_eq}
 use Rattle.std.proofs.lemmas.List.{drop_more, drop_all, take-map, map-append}
 use Rattle.std.proofs.lemmas.List.Elements.{All-append, All-cons, All-nil, All-take, All-drop, All-contains_itself}
-use Rattle.std.specs.declared.cmp.Ordering.TheVariants.{Less, Equal, Greater}
 use Rattle.mau_terms.specs.Tree.{Tree}
 use Rattle.mau_terms.specs.Order.{tree_cmp}
 use Rattle.mau_lists.specs.Lists.{IsSubList, IsBelow, IsAscending, AreFrom}
@@ -17,7 +16,7 @@ use Rattle.mau_store.specs.Node.{Node}
 use Rattle.mau_lists.specs.Terms.{by_tree, no_term}
 use Rattle.mau_match.proofs.Places.{terms, terms_joined}
 use Rattle.mau_store.specs.View.{numbers}
-use Rattle.mau_store.specs.Trees.{tree_at, trees_at}
+use Rattle.mau_store.specs.Trees.{tree_at}
 use Rattle.mau_lists.specs.Terms.{AreSorted}
 use Rattle.mau_lists.proofs.Trees.{ascending_sorted}
 use Rattle.mau_canon.specs.Standing.{StandsWithin, StandWithin}

@@ -1,21 +1,18 @@
 -- Elements whose number is no sum of the numbers of times that variables are arguments.
-use Rattle.std.proofs.Common.{◌≡◌, ◌⊎◌, ℕ, zero, suc, ◌+◌, ◌-◌, ◌*◌, ◌≤◌, ◌<◌, ◌==◌, List, [], ◌∷◌, ◌++◌, length, Bool, true, false, not, ◌&&◌, ◌||◌, if◌then◌else◌, inl, inr, refl, sym, ◌∙◌, ap, ap₂, subst, arith, length-append}
+use Rattle.std.proofs.Common.{◌≡◌, ℕ, zero, suc, ◌+◌, ◌-◌, ◌*◌, ◌≤◌, ◌<◌, ◌==◌, List, [], ◌∷◌, ◌++◌, length, Bool, true, false, not, ◌&&◌, ◌||◌, if◌then◌else◌, refl, sym, ◌∙◌, ap, ap₂, subst, arith}
 use Rattle.std.proofs.lemmas.Bool.{and_parts}
 use Rattle.mau_terms.specs.Tree.{Tree, variable, numeral, apply, Trees, no_trees, tree}
 use Rattle.mau_terms.specs.Norm.{norm}
-use Rattle.mau_terms.specs.Lawful.{AreLawful}
 use Rattle.mau_terms.specs.Solution.{list_under}
 use Rattle.mau_terms.specs.Subst.{Variable, same_variable, has_variable, instance}
 use Rattle.mau_terms.specs.declared.theory.Theory.{Theory}
 use Rattle.mau_terms.proofs.Variables.{same-is, same_itself}
 use Rattle.mau_domains.specs.Parts.{Reach, whole, Reaches}
-use Rattle.mau_match.specs.Parts.{same_tree, how_many, is_bound, are_bound, copies, copies_in, IsFair, AreFair}
+use Rattle.mau_match.specs.Parts.{same_tree, how_many, is_bound, are_bound, copies, copies_in}
 use Rattle.mau_match.specs.Possible.{free, frees}
 use Rattle.mau_match.specs.Sums.{IsSum, IsBeside, AreBeside, AreAsMany, apart, besides_of, besides, AreShared}
 use Rattle.mau_match.proofs.Limited.{has_middle}
-use Rattle.mau_match.proofs.Refusing.{plain_there}
 use Rattle.mau_match.proofs.Removal.{same_is}
-use Rattle.mau_match.proofs.Removal.{same_itself as same_tree_itself}
 use Rattle.mau_match.proofs.Shares.{many-append, many_same}
 
 -- ---- sums

@@ -1,5 +1,5 @@
 -- Values of variables that few values are left for, whatever their order.
-use Rattle.std.specs.Prelude.{◌≡◌, List, true}
+use Rattle.std.specs.Prelude.{◌≡◌, List}
 use Rattle.mau_terms.specs.Tree.{Tree}
 use Rattle.mau_terms.specs.Norm.{norm}
 use Rattle.mau_terms.specs.Subst.{Variable, instance}

@@ -1,7 +1,5 @@
-use Rattle.std.proofs.Common.{◌≡◌, ◌+◌, ◌-◌, ◌/◌, ◌≤◌, ◌<◌, take, length, Contains, sym, ap, ◌∙◌, subst, arith}
-use Rattle.std.proofs.lemmas.List.{take_all}
+use Rattle.std.proofs.Common.{◌+◌, ◌-◌, ◌/◌, take, Contains, arith}
 use Rattle.std.proofs.lemmas.List.Elements.{All-take, All-contains_itself}
-use Rattle.mau_terms.specs.declared.ids.TermId.{TermId}
 use Rattle.mau_signature.specs.Signature.{theory_at}
 use Rattle.mau_store.specs.Trees.{trees_at}
 use Rattle.mau_store.specs.View.{numbers}
@@ -10,7 +8,6 @@ use Rattle.mau_canon.specs.Standing.{StandWithin}
 use Rattle.mau_canon.proofs.Standing.{stand_within_extended, stand_there, stand_among}
 use Rattle.mau_listing.proofs.Growth.{askable_extended}
 use Rattle.mau_trial.specs.Tried.{asked_in}
-use Rattle.mau_match.specs.Fronts.{NoneGoesOn}
 use Rattle.mau_match.proofs.DeadFronts.{none_before}
 use Rattle.mau_match.proofs.candidates.dead_front.Goals as goal
 

@@ -10,7 +10,7 @@ use Rattle.mau_store.proofs.Growth.{trees_at-extends}
 use Rattle.mau_store.proofs.Standing.{tree_at-extends}
 use Rattle.mau_canon.specs.Standing.{StandsWithin, StandWithin}
 use Rattle.mau_canon.proofs.Standing.{stand_there, stand_among, stand_within_extended, stands_within_extended}
-use Rattle.mau_match.specs.Fronts.{NoneGoesOn, IsPassedFront}
+use Rattle.mau_match.specs.Fronts.{NoneGoesOn}
 use Rattle.mau_match.specs.Skipped.{IsFurther}
 use Rattle.mau_match.proofs.DeadFronts.{passed_none, passed_to}
 use Rattle.mau_match.proofs.Skipping.{stand_joined, terms_take}

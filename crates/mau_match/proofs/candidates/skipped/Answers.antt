@@ -1,11 +1,9 @@
-use Rattle.std.proofs.Common.{◌≡◌, Some, length, sym, ◌∙◌, ap, subst}
+use Rattle.std.proofs.Common.{length, sym, ◌∙◌, ap, subst}
 use Rattle.std.proofs.lemmas.Result.{IfOk-weaker}
 use Rattle.mau_terms.specs.Solution.{list_cmp, value_key}
 use Rattle.mau_terms.specs.View.{tree_of}
 use Rattle.mau_signature.specs.Signature.{theory_at}
 use Rattle.mau_store.specs.Trees.{tree_at}
-use Rattle.mau_listing.specs.Places.{operator_number, under_all}
-use Rattle.mau_match.specs.Listing.{place_at}
 use Rattle.mau_match.specs.Skipped.{IsAsLong}
 use Rattle.mau_match.proofs.NextVariable.{no_place, answer_grown}
 use Rattle.mau_match.proofs.Searching.{under_is, place_at_is}

@@ -1,4 +1,4 @@
-use Rattle.std.proofs.Common.{◌≡◌, ◌<◌, ◌≤◌, length, ◌+◌, ◌∷◌, [], ◌++◌, take, get_or, List, IfSome, Some, sym, ap, ◌∙◌, subst, arith}
+use Rattle.std.proofs.Common.{◌<◌, ◌≤◌, length, ◌∷◌, take, get_or, List, sym, ap, ◌∙◌, subst, arith}
 use Rattle.std.proofs.lemmas.List.{take_all}
 use Rattle.std.proofs.lemmas.Result.{IfOk-weaker}
 use Rattle.mau_terms.specs.View.{tree_of, variable_of}
@@ -8,7 +8,6 @@ use Rattle.mau_store.specs.Trees.{tree_at, trees_at}
 use Rattle.mau_store.specs.View.{numbers}
 use Rattle.mau_store.proofs.Growth.{extension_is_preorder}
 use Rattle.mau_store.proofs.Standing.{tree_at-extends}
-use Rattle.mau_canon.specs.Standing.{StandsWithin}
 use Rattle.mau_canon.proofs.Standing.{stands_within_extended, stand_at, stand_within_extended}
 use Rattle.mau_match.specs.Led.{AreNeverWith, IsChoice}
 use Rattle.mau_match.proofs.Leading.{agrees_with, given_with, never_no_value, never_more}

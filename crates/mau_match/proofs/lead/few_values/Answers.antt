@@ -1,8 +1,8 @@
-use Rattle.std.proofs.Common.{◌≡◌, All, true, Option, Some, None, IfSome, sym, ap, ◌∙◌, subst}
+use Rattle.std.proofs.Common.{All, sym, ap, ◌∙◌, subst}
 use Rattle.std.proofs.lemmas.Result.{IfOk-weaker}
 use Rattle.mau_terms.specs.View.{tree_of, variable_of}
-use Rattle.mau_store.specs.Trees.{tree_at, trees_at}
-use Rattle.mau_match.specs.Parts.{AnyOf, occurs}
+use Rattle.mau_store.specs.Trees.{tree_at}
+use Rattle.mau_match.specs.Parts.{occurs}
 use Rattle.mau_match.specs.Walked.{IsPartWithin}
 use Rattle.mau_match.proofs.Leading.{same_given, walked_values, gathered_within}
 use Rattle.mau_match.proofs.lead.few_values.Goals as goal

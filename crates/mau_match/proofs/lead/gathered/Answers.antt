@@ -1,4 +1,4 @@
-use Rattle.std.proofs.Common.{[], take, sym, subst}
+use Rattle.std.proofs.Common.{[], sym, subst}
 use Rattle.std.proofs.lemmas.List.{take_all}
 use Rattle.mau_store.proofs.Growth.{extension_is_preorder}
 use Rattle.mau_match.specs.Led.{GainsValues, GathersValues}

@@ -1,13 +1,9 @@
-use Rattle.std.proofs.Common.{◌≡◌, ◌≤◌, ◌<◌, ◌++◌, ℕ, List, true, false, None, is_some, not, length, sym, ap, ◌∙◌, subst, arith}
-use Rattle.mau_terms.specs.Tree.{Tree}
-use Rattle.mau_terms.specs.Subst.{Variable}
-use Rattle.mau_terms.specs.View.{variable_of}
+use Rattle.std.proofs.Common.{◌≡◌, ◌++◌, true, false, is_some, not, length, sym, ap, ◌∙◌, subst, arith}
 use Rattle.mau_signature.specs.Signature.{theory_at}
 use Rattle.mau_store.specs.View.{numbers}
 use Rattle.mau_canon.specs.Standing.{StandWithin}
 use Rattle.mau_domains.specs.Stored.{part_in, AddsTerms}
 use Rattle.mau_match.specs.Parts.{alone_in}
-use Rattle.mau_match.specs.Limited.{AreLimited, long_at}
 use Rattle.mau_match.specs.Led.{GainsValues}
 use Rattle.mau_match.specs.Walked.{IsPartWithin}
 use Rattle.mau_match.proofs.Leading.{gains_one, gains_none, gains_items, gains_alone}

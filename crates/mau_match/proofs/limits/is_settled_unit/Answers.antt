@@ -4,7 +4,6 @@ use Rattle.mau_sorts.specs.Table.{entry_at}
 use Rattle.mau_sorts.specs.Derived.{set_or_none}
 use Rattle.mau_sorts.proofs.Entries.{settled_entry}
 use Rattle.mau_store.specs.Trees.{tree_at}
-use Rattle.mau_terms.specs.Norm.{unit_tree}
 use Rattle.mau_match.proofs.limits.is_settled_unit.Goals as goal
 
 no_true : (b : Bool) → not b ≡ true → b ≡ true → ⊥

@@ -29,7 +29,7 @@ use Rattle.mau_match.specs.Walked.{bound_of, values_of, target_of, span_in, unit
 use Rattle.mau_match.proofs.Lengths.{reach_length}
 use Rattle.mau_match.proofs.Adding.{bare_arguments, bare_first, bare_rest, first_and_rest, trees_more}
 use Rattle.mau_match.proofs.Taking.{stand_cut, only_these}
-use Rattle.mau_match.proofs.Refusing.{never_before, joined_before, span_stays, spans_more, in_more, never_at_placed, placed_pair, placed_stand, placed_other, united_before, never_alone, never_sorted, never_rest, never_rest_among, are_before, among_before, ids_split, two_ids, never_listed, never_few, never_joined, never_there, never_left, never_all, left_before, free_other}
+use Rattle.mau_match.proofs.Refusing.{never_before, joined_before, span_stays, spans_more, in_more, never_at_placed, placed_pair, placed_stand, united_before, never_alone, never_sorted, never_rest, never_rest_among, are_before, among_before, ids_split, two_ids, never_listed, never_few, never_joined, never_there, never_left, never_all, left_before, free_other}
 use Rattle.mau_match.proofs.Uneven.{as_many}
 use Rattle.mau_match.proofs.may_match.+may.Goals as goal
 

@@ -1,12 +1,7 @@
-use Rattle.std.proofs.Common.{◌≡◌, map, false, refl, sym, ap, ◌∙◌, arith}
-use Rattle.mau_terms.specs.Tree.{trees_of}
-use Rattle.mau_terms.specs.View.{tree_of, variable_of}
+use Rattle.std.proofs.Common.{arith}
 use Rattle.mau_terms.proofs.Sizes.{size_of_node, size_of_rest}
-use Rattle.mau_signature.specs.Signature.{theory_at, terms_over}
-use Rattle.mau_match.specs.Parts.{is_bound}
-use Rattle.mau_match.specs.Walked.{bound_of}
+use Rattle.mau_signature.specs.Signature.{terms_over}
 use Rattle.mau_match.proofs.Adding.{bare_arguments, bare_rest}
-use Rattle.mau_match.proofs.Refusing.{plain_there}
 use Rattle.mau_match.proofs.may_match.+most.Goals as goal
 
 pub most_beside-most_beside_all-requires : goal.most_beside-most_beside_all-requires

@@ -1,6 +1,6 @@
-use Rattle.std.proofs.Common.{◌≡◌, ◌-◌, Some, length, take, drop, sym, ◌∙◌, ap, subst, arith}
+use Rattle.std.proofs.Common.{◌≡◌, Some, take, drop, sym, ◌∙◌, ap, arith}
 use Rattle.std.specs.Option.{option_map}
-use Rattle.mau_match.specs.Skipped.{rest_of, IsCut}
+use Rattle.mau_match.specs.Skipped.{rest_of}
 use Rattle.mau_match.proofs.Places.{terms}
 use Rattle.mau_match.proofs.Skipping.{cut_first, cut_less}
 use Rattle.mau_match.proofs.skip.cut_of.Goals as goal

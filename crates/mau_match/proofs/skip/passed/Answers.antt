@@ -1,4 +1,4 @@
-use Rattle.std.proofs.Common.{Some, sym, subst}
+use Rattle.std.proofs.Common.{sym, subst}
 use Rattle.std.proofs.lemmas.Result.{IfOk-weaker}
 use Rattle.mau_terms.specs.Order.{sort_trees}
 use Rattle.mau_signature.specs.Signature.{theory_at}

@@ -1,4 +1,4 @@
-use Rattle.std.proofs.Common.{◌≡◌, ◌⊎◌, List, inl, inr, IfSome, Some, sym, ◌∙◌, ap, subst}
+use Rattle.std.proofs.Common.{◌≡◌, List, inl, inr, IfSome, Some, sym, ◌∙◌, ap, subst}
 use Rattle.std.proofs.lemmas.Result.{IfOk-weaker}
 use Rattle.mau_terms.specs.Order.{sort_trees}
 use Rattle.mau_terms.specs.Solution.{list_under, value_key}
@@ -10,7 +10,7 @@ use Rattle.mau_store.specs.View.{numbers}
 use Rattle.mau_store.proofs.Standing.{tree_at-extends}
 use Rattle.mau_canon.specs.Standing.{StandsWithin, StandWithin}
 use Rattle.mau_domains.proofs.ReachIds.{all_permuted}
-use Rattle.mau_match.specs.Skipped.{IsFar, IsFurther, IsPassedBy}
+use Rattle.mau_match.specs.Skipped.{IsFar, IsFurther}
 use Rattle.mau_match.proofs.Skipping.{passed_same, passed_by}
 use Rattle.mau_match.proofs.skip.passed_list.Goals as goal
 

@@ -1,5 +1,4 @@
-use Rattle.std.proofs.Common.{◌≡◌, inr, sym, ◌∙◌, subst}
-use Rattle.mau_terms.specs.Solution.{value_key}
+use Rattle.std.proofs.Common.{inr, subst}
 use Rattle.mau_signature.specs.Signature.{theory_at}
 use Rattle.mau_store.specs.Trees.{tree_at, trees_at}
 use Rattle.mau_store.specs.View.{numbers}

@@ -1,5 +1,4 @@
-use Rattle.std.proofs.Common.{◌≡◌, ◌∷◌, arith}
-use Rattle.mau_match.specs.Sums.{IsSum}
+use Rattle.std.proofs.Common.{arith}
 use Rattle.mau_match.proofs.Uneven.{sum_less, sum_few}
 use Rattle.mau_match.proofs.sums.+sum.Goals as goal
 

@@ -1,6 +1,5 @@
-use Rattle.std.proofs.Common.{◌≡◌, ℕ, ◌+◌, ◌≤◌, [], List, map, length, ltb-true, sym, subst, arith}
+use Rattle.std.proofs.Common.{ℕ, ◌≤◌, [], List, map, length, ltb-true, sym, subst, arith}
 use Rattle.mau_terms.specs.Tree.{trees_of}
-use Rattle.mau_terms.specs.Subst.{Variable}
 use Rattle.mau_terms.specs.View.{tree_of, variable_of}
 use Rattle.mau_terms.specs.declared.ids.VarId.{VarId}
 use Rattle.mau_signature.specs.Signature.{theory_at}

@@ -1,7 +1,7 @@
-use Rattle.std.proofs.Common.{◌≡◌, List, [], ◌∷◌, ◌++◌, map, sym, ◌∙◌, ap, ap₂, subst, false, arith}
+use Rattle.std.proofs.Common.{◌≡◌, List, [], ◌∷◌, ◌++◌, map, sym, ◌∙◌, ap, subst, arith}
 use Rattle.std.proofs.lemmas.List.{map-append}
 use Rattle.mau_terms.specs.Tree.{trees_of}
-use Rattle.mau_terms.specs.Subst.{Variable, has_variable}
+use Rattle.mau_terms.specs.Subst.{has_variable}
 use Rattle.mau_terms.specs.declared.ids.VarId.{VarId}
 use Rattle.mau_terms.specs.View.{tree_of, variable_of}
 use Rattle.mau_match.specs.Parts.{copies_in}
