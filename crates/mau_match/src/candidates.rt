@@ -539,7 +539,13 @@ pub fn skipped(
     ensures extends { Extends store.old store.new }
 {
     let far = passed(store, sig, places[chosen.len()].under, parts, least, value)?;
-    passed_on(trial, places, store, sig, limits, chosen, parts, far, count)
+    let left = only_if(count, far == value);
+    passed_on(trial, places, store, sig, limits, chosen, parts, far, left)
+}
+
+/// A number where that is so, and else none.
+fn only_if(count: usize, same: bool) -> usize {
+    if same { count } else { 0 }
 }
 
 /// How many values led to no answer since one was passed over, behind one more.
