@@ -6,3 +6,5 @@ pub mod Kept
 pub mod Shown
 -- what only inner contracts and proofs cite
 pub mod Rest
+pub mod RestLaws
+pub mod Asked

@@ -10,11 +10,17 @@ ghost use Rattle.mau_solutions.specs.Listings.{reached_first};
 ghost use Rattle.mau_stratitems.specs.Kept.{reached_by, CanRun};
 
 use crate::kept::KeptRun;
-use mau_api::{Evaluator, Lister, Program};
-use mau_program::Strategy;
+use crate::rest::AtRest;
+use mau_api::{Evaluator, Lister, Program, Strategy};
+use mau_leaves::RunLeaves;
+use mau_solutions::begin as begin_solutions;
 use mau_store::Store;
+use mau_stratforms::{ProgramForms, forms_of};
+use mau_stratforms::laws::tables_tell_apart;
+use mau_stratrun::{Course, StratRun};
 use mau_terms::{NoMemory, TermId};
 use std::alloc::Global;
+use std::marker::PhantomData;
 
 /// A run of a strategy from a term that is settled, with the budget of an item, which has reached its start; and the evaluator as it was.
 pub fn begin<E: Evaluator + Drop, L: Lister + Drop>(
@@ -39,5 +45,57 @@ pub fn begin<E: Evaluator + Drop, L: Lister + Drop>(
     ensures store { IfOk result (λ r. r.0.store ≡ store) }
     ensures evaluator { IfOk result (λ r. r.1 ≡ evaluator) }
 {
-    unreachable!()
+    let made = forms_of(alloc, program, strategy)?;
+    let ProgramForms {
+        forms,
+        leaves,
+        bodies,
+        strategy,
+    } = made;
+    tables_tell_apart();
+    let giver: RunLeaves<E, L> = RunLeaves::new(program, leaves.items(), store, evaluator, limit);
+    // With the budget 0 the start is listed all the same, and nothing behind it.
+    let entries = limit as usize;
+    let room = if entries == 0 { 1 } else { entries };
+    match begin_solutions(alloc, giver, forms, bodies, strategy, term, room) {
+        Ok(begun) => {
+            let StratRun {
+                walk,
+                course,
+                limit: _,
+            } = begun;
+            let Course {
+                alloc,
+                leaves: giver,
+                forms,
+                bodies,
+                interner,
+                kept,
+            } = course;
+            let RunLeaves {
+                program: _,
+                leaves: _,
+                store,
+                evaluator,
+                limit: _,
+                listing: _,
+            } = giver;
+            let run = StratRun {
+                walk,
+                course: Course {
+                    alloc,
+                    leaves: AtRest {
+                        listing: PhantomData,
+                    },
+                    forms,
+                    bodies,
+                    interner,
+                    kept,
+                },
+                limit: entries,
+            };
+            Ok((KeptRun { run, leaves, store }, evaluator))
+        }
+        Err(_) => Err(NoMemory),
+    }
 }
