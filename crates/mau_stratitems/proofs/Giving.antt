@@ -1,5 +1,5 @@
 -- What comes of asking, with the sort that is shown for a solution.
-use Rattle.std.proofs.Common.{◌≡◌, ℕ, List, Some, sym, ap, ◌∙◌, subst}
+use Rattle.std.proofs.Common.{◌≡◌, ℕ, List, Some, sym, subst}
 use Rattle.std.specs.Option.{option_map}
 use Rattle.mau_poset.specs.Order.{IsPoset}
 use Rattle.mau_store.specs.Node.{Node}
@@ -10,12 +10,11 @@ use Rattle.mau_program.specs.declared.program.Program as Typed
 use Rattle.mau_api.specs.Meanings.{Meanings}
 use Rattle.mau_api.specs.Terms.{IsTerm}
 use Rattle.mau_api.specs.Answers.{IsDerivedTable}
-use Rattle.mau_evaluation.specs.Configs.{Config}
 use Rattle.mau_results.specs.Results.{HasShownSort}
 use Rattle.mau_results.proofs.ShownSorts.{shown_settled}
-use Rattle.mau_solutions.specs.Listings.{ReachedOf, StrategyEnd, HasStrategyEnd, IsNextSolution}
+use Rattle.mau_solutions.specs.Listings.{ReachedOf, StrategyEnd, HasStrategyEnd}
 use Rattle.mau_solutions.specs.Standing.{WentOn}
-use Rattle.mau_stratitems.specs.Shown.{definitions_of, GivesSolution, GivesEnd}
+use Rattle.mau_stratitems.specs.Shown.{definitions_of, GivesEnd}
 
 -- the sort that is found is shown
 pub sort_shown : (p : Typed.Program) (m m' : Meanings) → m' ≡ m → m'.program ≡ p → (nodes : List Node) (table : Table) → IsDerivedTable m' nodes table → IsPoset p.sig.hierarchy →

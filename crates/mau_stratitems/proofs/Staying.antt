@@ -1,5 +1,5 @@
 -- What stays as the store grows, over the same program, meanings and leaves.
-use Rattle.std.proofs.Common.{◌≡◌, List, ◌++◌, [], refl, sym, ap, ◌∙◌, subst, append_assoc, append-nil}
+use Rattle.std.proofs.Common.{◌≡◌, List, ◌++◌, [], sym, ap, ◌∙◌, subst, append_assoc, append-nil}
 use Rattle.mau_store.specs.Node.{Node, Extends}
 use Rattle.mau_program.specs.declared.program.Program as Typed
 use Rattle.mau_program.specs.Trees.{StrategyOf}

@@ -1,5 +1,5 @@
 -- What there is of terms and cursors where nobody gives results: one term, and cursors that have yielded nothing.
-use Rattle.std.specs.Prelude.{◌≡◌, ℕ, [], false, None}
+use Rattle.std.specs.Prelude.{◌≡◌, [], false, None}
 use Rattle.mau_terms.specs.Tree.{numeral}
 use Rattle.mau_terms.specs.Bare.{TermSignature}
 use Rattle.mau_evaluation.specs.Program.{Program}

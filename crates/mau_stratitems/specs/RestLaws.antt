@@ -19,7 +19,7 @@ no_signature_is_lawful = record {
   succ_kinds = λ f e. absurd (cc);
 }
 
-pub rest_is_world : {C : Type 0} → IsWorld (rest {C})
+pub rest_is_world : {C : Type 0} → IsWorld (rest {C = C})
 rest_is_world = record {
   fixed = record {
     apart = λ j k h i e. absurd (omega (arith, h));

@@ -60,7 +60,7 @@ fn ask<E: Evaluator + Drop, L: Lister + Drop>(
 }
 
 /// What came of asking, with the sort that is shown for a solution.
-fn shown<E: Evaluator>(
+fn with_sort<E: Evaluator>(
     program: &Program,
     store: &Store,
     evaluator: &E,
@@ -103,7 +103,7 @@ pub fn next_shown<E: Evaluator + Drop, L: Lister + Drop>(
     let (run, evaluator, next) = ask(program, evaluator, run);
     match next {
         Ok(next) => {
-            let next = shown(program, &run.store, &evaluator, next);
+            let next = with_sort(program, &run.store, &evaluator, next);
             Ok(Shown {
                 next,
                 run,

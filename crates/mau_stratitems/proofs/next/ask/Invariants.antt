@@ -1,4 +1,3 @@
-use Rattle.mau_store.specs.Node.{Extends}
 use Rattle.mau_stratitems.proofs.Staying.{extends_on}
 use Rattle.mau_stratitems.proofs.Standing.{IsOver}
 use Rattle.mau_stratitems.proofs.next.ask.Given as goal
