@@ -12,7 +12,8 @@ ghost use Rattle.mau_evaluation.specs.Configs.{Todo};
 ghost use Rattle.mau_strat.specs.Configurations.{TellsApart};
 ghost use Rattle.mau_strat.specs.Forms.{IsLeaf};
 ghost use Rattle.mau_stratrun.specs.Yields.{Yield};
-ghost use Rattle.mau_stratrun.specs.Worlds.{values_of, IsNextYield};
+ghost use Rattle.mau_stratrun.specs.Settings.{IsLeadIn};
+ghost use Rattle.mau_stratrun.specs.Worlds.{LeavesGrow, begun_by, values_of, IsNextYield};
 ghost use Rattle.mau_rules.specs.Runnable.{IsRunnable, GoesBy};
 ghost use Rattle.mau_leaves.specs.Searches.{found_in};
 ghost use Rattle.mau_leaves.specs.Cursors.{leaf_at, label_in, chosen_by, call_in, leaf_end, yielded_by, bound_by, IsTopCursor, IsEverywhereCursor, IsTestCursor, IsCallCursor, IsGivenBody, IsReady, yields_in, world_of, world_of_calls};
@@ -511,7 +512,29 @@ impl<'a, E: Evaluator + Drop, L: Lister + Drop> Leaves for RunLeaves<'a, E, L> {
         calls: usize,
         values: &[Bound],
         term: TermId,
-    ) -> Result<LeafCursor<L>, NoMemory> {
+    ) -> Result<LeafCursor<L>, NoMemory>
+        requires ready { IsReady L.with_context self.old.program.now (E.meanings self.old.evaluator) self.old.leaves.now self.old.limit self.old.store
+            × E.fits self.old.evaluator self.old.store }
+        requires lead { IsLeadIn (length self.old.leaves.now) lead }
+        requires values { All (world_of L.asked L.given L.is_for L.with_context self.old.program.now (E.meanings self.old.evaluator)
+            self.old.leaves.now self.old.store (E.table self.old.evaluator)).is_bound values.now }
+        requires term { (world_of L.asked L.given L.is_for L.with_context self.old.program.now (E.meanings self.old.evaluator)
+            self.old.leaves.now self.old.store (E.table self.old.evaluator)).is_term term.0 }
+        ensures yields { IfOk result (λ c. (world_of L.asked L.given L.is_for L.with_context self.new.program.now (E.meanings self.new.evaluator)
+            self.new.leaves.now self.new.store (E.table self.new.evaluator)).yields c
+            (begun_by (world_of L.asked L.given L.is_for L.with_context self.old.program.now (E.meanings self.old.evaluator)
+            self.old.leaves.now self.old.store (E.table self.old.evaluator)).setting lead calls values.now) (tree_at self.old.store term.0) []) }
+        ensures ready { IsReady L.with_context self.new.program.now (E.meanings self.new.evaluator) self.new.leaves.now self.new.limit self.new.store
+            × E.fits self.new.evaluator self.new.store }
+        ensures grows { LeavesGrow (world_of L.asked L.given L.is_for L.with_context self.old.program.now (E.meanings self.old.evaluator)
+            self.old.leaves.now self.old.store (E.table self.old.evaluator))
+            (world_of L.asked L.given L.is_for L.with_context self.new.program.now (E.meanings self.new.evaluator)
+            self.new.leaves.now self.new.store (E.table self.new.evaluator)) }
+        ensures program { self.new.program.now ≡ self.old.program.now }
+        ensures leaves { self.new.leaves.now ≡ self.old.leaves.now }
+        ensures meanings { E.meanings self.new.evaluator ≡ E.meanings self.old.evaluator }
+        ensures extends { Extends self.old.store self.new.store }
+    {
         match lead {
             Lead::TopOfAll => Ok(LeafCursor::Top(None, start_top(term))),
             Lead::TopOf(leaf) => match label_of(self.leaves, leaf) {
@@ -535,7 +558,26 @@ impl<'a, E: Evaluator + Drop, L: Lister + Drop> Leaves for RunLeaves<'a, E, L> {
         }
     }
 
-    fn next(&mut self, cursor: &mut LeafCursor<L>) -> Result<Option<Yielded>, LeafEnd> {
+    fn next(&mut self, cursor: &mut LeafCursor<L>) -> Result<Option<Yielded>, LeafEnd>
+        requires ready { IsReady L.with_context self.old.program.now (E.meanings self.old.evaluator) self.old.leaves.now self.old.limit self.old.store
+            × E.fits self.old.evaluator self.old.store }
+        requires yields { (d : Todo) × (t : Tree) × (ys : List Yield) × (world_of L.asked L.given L.is_for L.with_context self.old.program.now (E.meanings self.old.evaluator)
+            self.old.leaves.now self.old.store (E.table self.old.evaluator)).yields cursor.old d t ys }
+        ensures next { (d : Todo) (t : Tree) (ys : List Yield) → (world_of L.asked L.given L.is_for L.with_context self.old.program.now (E.meanings self.old.evaluator)
+            self.old.leaves.now self.old.store (E.table self.old.evaluator)).yields cursor.old d t ys →
+            IsNextYield (world_of L.asked L.given L.is_for L.with_context self.new.program.now (E.meanings self.new.evaluator)
+            self.new.leaves.now self.new.store (E.table self.new.evaluator)) cursor.new d t ys result }
+        ensures ready { IsReady L.with_context self.new.program.now (E.meanings self.new.evaluator) self.new.leaves.now self.new.limit self.new.store
+            × E.fits self.new.evaluator self.new.store }
+        ensures grows { LeavesGrow (world_of L.asked L.given L.is_for L.with_context self.old.program.now (E.meanings self.old.evaluator)
+            self.old.leaves.now self.old.store (E.table self.old.evaluator))
+            (world_of L.asked L.given L.is_for L.with_context self.new.program.now (E.meanings self.new.evaluator)
+            self.new.leaves.now self.new.store (E.table self.new.evaluator)) }
+        ensures program { self.new.program.now ≡ self.old.program.now }
+        ensures leaves { self.new.leaves.now ≡ self.old.leaves.now }
+        ensures meanings { E.meanings self.new.evaluator ≡ E.meanings self.old.evaluator }
+        ensures extends { Extends self.old.store self.new.store }
+    {
         let found = next_of(
             self.program,
             self.leaves,

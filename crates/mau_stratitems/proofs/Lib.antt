@@ -1,0 +1,4 @@
+pub mod Staying
+pub mod Standing
+pub mod Giving
+pub mod Beginning
