@@ -46,6 +46,10 @@ pub mod NotDetermined
 pub mod Definitions
 -- the bodies of a call as a run has them
 pub mod Calling
+-- the subterms of a term, and what is left of them
+pub mod Subtrees
+-- searches at all subterms of a term: one turn
+pub mod SubtermTurns
 -- tests
 pub mod Holding
 -- the cursors of who gives the results of leaves, as there are more terms

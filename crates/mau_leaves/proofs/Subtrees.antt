@@ -14,7 +14,6 @@ use Rattle.mau_store.specs.Trees.{tree_at}
 use Rattle.mau_sorts.specs.Table.{Table, KeepsEntries}
 use Rattle.mau_program.specs.declared.program.Program as Typed
 use Rattle.mau_evaluation.specs.Program.{Rule, Program}
-use Rattle.mau_evaluation.specs.Listing.{solutions_within}
 use Rattle.mau_evaluation.specs.Evaluation.{Binding}
 use Rattle.mau_evaluation.specs.Engine.{Engine}
 use Rattle.mau_evaluation.specs.Rules.{places, places_in}
@@ -23,7 +22,7 @@ use Rattle.mau_reduce.proofs.KindsKept.{tree_kept}
 use Rattle.mau_rules.specs.declared.walk.Open.{Open}
 use Rattle.mau_rules.specs.Walk.{Opened, opened, IsStep}
 use Rattle.mau_rules.proofs.Paths.{path_term, path_settled}
-use Rattle.mau_leaves.specs.Uses.{uses_at, uses_among, uses_by}
+use Rattle.mau_leaves.specs.Uses.{solutions_as, uses_at, uses_among, uses_by}
 use Rattle.mau_leaves.specs.Subterms.{subterms, subterms_in, subterms_from, subterms_left, terms_after, uses_in, IsSubject, IsOpenSubject}
 use Rattle.mau_leaves.proofs.Rewrites.{each_those}
 use Rattle.mau_leaves.proofs.Searching.{term_grown, settled_later}
@@ -102,12 +101,12 @@ answers_append [] ys = refl
 answers_append (x ∷ xs) ys = ap (λ p. and_those (answers_of (x ∷ [])) p) (answers_append xs ys)
 
 -- the uses by all solutions in some terms are those in each
-pub among_each : (P : Program) (L : Engine) (q : Rule) (σ : Binding) (ts : List Tree) → uses_among P L q σ (each_of (λ t. solutions_within P.sign q.left t) ts) ≡ uses_in P L q σ ts
-among_each P L q σ [] = refl
-among_each P L q σ (t ∷ ts) =
-    let xs = solutions_within P.sign q.left t in
-    let ys = each_of (λ u. solutions_within P.sign q.left u) ts in
-    ap (for_each (uses_at P L q σ)) (answers_append xs ys) ∙ (each_those (uses_at P L q σ) (answers_of xs) (answers_of ys) ∙ ap (and_those (uses_by P L q σ t)) (among_each P L q σ ts))
+pub among_each : (P : Program) (L : Engine) (w : Bool) (q : Rule) (σ : Binding) (ts : List Tree) → uses_among P L q σ (each_of (solutions_as P w q) ts) ≡ uses_in P L w q σ ts
+among_each P L w q σ [] = refl
+among_each P L w q σ (t ∷ ts) =
+    let xs = solutions_as P w q t in
+    let ys = each_of (solutions_as P w q) ts in
+    ap (for_each (uses_at P L q σ)) (answers_append xs ys) ∙ (each_those (uses_at P L q σ) (answers_of xs) (answers_of ys) ∙ ap (and_those (uses_by P L w q σ t)) (among_each P L w q σ ts))
 
 -- ---- by the numbers of a store
 

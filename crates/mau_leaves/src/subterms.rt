@@ -22,7 +22,7 @@ use mau_api::{EvalEnd, Evaluator, Lister, Program};
 use mau_program::Rule;
 use mau_rules::Open;
 use mau_store::{NodeView, Store};
-use mau_terms::TermId;
+use mau_terms::{TermId, VarId};
 use std::alloc::Global;
 
 /// Where a search at the subterms of a term stands.
@@ -36,10 +36,12 @@ pub enum Spot<L> {
     Behind(Open),
 }
 
-/// A search for the uses of a rule at a term, and at all that is below it, where this is looked at: the open terms on the way to where it
-/// stands.
+/// A search for the uses of a rule at a term, and at all that is below it, where this is looked at, under the values that some variables have
+/// before: the open terms on the way to where it stands. Where it is `whole`, the solutions alone are gone through whose contexts are empty.
 #[derive(Drop)]
 pub struct SubtermUses<L> {
+    pub bound: Vec<(VarId, TermId)>,
+    pub whole: bool,
     pub below: bool,
     pub way: Vec<Open>,
     pub spot: Spot<L>,
@@ -68,14 +70,20 @@ fn next_argument(store: &Store, at: Open) -> Option<(usize, TermId)>
 /// The search for the uses of a rule at a term, or at all its subterms, which stands before all.
 pub(crate) fn start_subterms<L: Lister + Drop>(
     alloc: Global,
+    bound: Vec<(VarId, TermId)>,
+    whole: bool,
     below: bool,
     term: TermId,
 ) -> SubtermUses<L>
+    ensures bound { result.bound ≡ bound }
+    ensures whole { result.whole ≡ whole }
     ensures below { result.below ≡ below }
     ensures way { result.way.items ≡ [] }
     ensures spot { result.spot ≡ Spots.Before term }
 {
     SubtermUses {
+        bound,
+        whole,
         below,
         way: Vec::new(alloc),
         spot: Spot::Before(term),
@@ -103,7 +111,19 @@ fn begin_spot<E: Evaluator, L: Lister + Drop>(
     ensures subterms { IsSubtermSearch L.asked L.given L.is_for L.with_context program.now (E.meanings evaluator.now) rule.now
         store.now (E.table evaluator.now) search.new }
 {
-    match start_uses(program, rule, store, evaluator, term) {
+    let bound = match Vec::from_slice(store.allocator(), &search.bound) {
+        Ok(bound) => bound,
+        Err(_) => return Err(EvalEnd::NoMemory),
+    };
+    match start_uses(
+        program,
+        rule,
+        store,
+        evaluator,
+        bound,
+        search.whole,
+        term,
+    ) {
         Ok(uses) => {
             search.spot = Spot::At(term, uses);
             Ok(Turn::Passed)
