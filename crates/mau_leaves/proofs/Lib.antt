@@ -46,6 +46,8 @@ pub mod NotDetermined
 pub mod Definitions
 -- the bodies of a call as a run has them
 pub mod Calling
+-- values that variables have before
+pub mod Givens
 -- the subterms of a term, and what is left of them
 pub mod Subtrees
 -- searches at all subterms of a term: one turn

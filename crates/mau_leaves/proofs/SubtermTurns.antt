@@ -192,7 +192,7 @@ module _ {K : Type 0} (asked : K → Asked) (given : K → Option Listed.Solutio
     left_spot_same (At id u) h =
         let ts = after_same p old new before after extends kept below way ways id.0 h.term 0 in
         let vs = values_same bound values in
-        let us = left_same p old new before after extends kept m rule u.whole u.bound.items c (asked u.listing) (given u.listing) u.standing h.search in
+        let us = left_same p old new before after extends kept m rule u.bound.items c (asked u.listing) u.whole (given u.listing) u.standing h.search in
         λ i L. First (uses_in (program_over p m.hooks) L v (rule_of rule) (vs i) (ts i)) (us i L)
     left_spot_same (Behind o) h =
         let ts = after_same p old new before after extends kept below way ways o.term.0 h o.next in
