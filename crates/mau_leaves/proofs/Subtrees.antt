@@ -4,7 +4,8 @@ use Rattle.std.proofs.Math.ListN.{drop_of_length-le}
 use Rattle.std.proofs.Math.Seq.{drop-cons}
 use Rattle.std.proofs.lemmas.List.{map-append}
 use Rattle.std.proofs.lemmas.List.Elements.{All-head, All-tail}
-use Rattle.std.proofs.lemmas.Option.{slice_get_within, get_or_from_slice_get}
+use Rattle.std.specs.Option.{option_map}
+use Rattle.std.proofs.lemmas.Option.{slice_get-map, slice_get_within, get_or_from_slice_get}
 use Rattle.mau_terms.specs.Tree.{Tree, variable, numeral, apply, Trees, no_trees, tree, node, list_of}
 use Rattle.mau_terms.specs.Finite.{each_of, arguments_of}
 use Rattle.mau_terms.specs.Bare.{IsLawful}
@@ -66,6 +67,10 @@ from_next t n u at =
 -- behind all arguments nothing is left
 pub from_none : (t : Tree) (n : ℕ) → length (arguments_of t) ≤ n → subterms_from t n ≡ []
 from_none t n h = ap (each_of subterms) (drop_of_length-le (arguments_of t) h)
+
+-- the tree of an argument
+pub tree_there : (nodes : List Node) (ids : List ℕ) (n child : ℕ) → slice_get ids n ≡ Some child → slice_get (map (tree_at nodes) ids) n ≡ Some (tree_at nodes child)
+tree_there nodes ids n child at = slice_get-map (tree_at nodes) ids n ∙ ap (option_map (tree_at nodes)) at
 
 -- what is left, where one more term is open
 left_more : (os : List Opened) (t : Tree) (n : ℕ) → subterms_left (os ++ (t, n) ∷ []) ≡ subterms_from t n ++ subterms_left os

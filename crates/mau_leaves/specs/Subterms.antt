@@ -72,6 +72,12 @@ pub record IsSubject (s : SignatureOf) (nodes : List Node) (table : Table) (n : 
 abbrev pub IsOpenSubject : SignatureOf → List Node → Table → Open → Type 0
 IsOpenSubject s nodes table o = IsSubject s nodes table o.term.0
 
+-- the subterm at which a search stands, or of whose arguments some are behind it
+abbrev pub place_at : {K : Type 0} → Spot K → TermId
+place_at (Before id) = id
+place_at (At id u) = id
+place_at (Behind o) = o.term
+
 -- at a subterm whose uses are gone through
 abbrev pub IsAtOne : {K : Type 0} → Spot K → Type 0
 IsAtOne (Before id) = ⊥

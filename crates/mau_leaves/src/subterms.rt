@@ -13,7 +13,7 @@ ghost use Rattle.mau_api.specs.Meanings.{Meanings};
 ghost use Rattle.mau_rules.specs.Runnable.{IsRunnable, GoesBy};
 ghost use Rattle.mau_rules.specs.Walk.{IsStep};
 ghost use Rattle.mau_leaves.specs.Searches.{IsTurn, IsNextOne};
-ghost use Rattle.mau_leaves.specs.Subterms.{subterms, subterms_from, left_of_subterms, use_at_spot, IsAtOne, IsSubtermSearch};
+ghost use Rattle.mau_leaves.specs.Subterms.{subterms, subterms_from, left_of_subterms, use_at_spot, place_at, IsAtOne, IsSubtermSearch};
 ghost use Rattle.mau_leaves.specs.declared.subterms.Spot.TheVariants as Spots;
 
 use crate::turn::Turn;
@@ -132,6 +132,17 @@ fn begin_spot<E: Evaluator, L: Lister + Drop>(
     }
 }
 
+/// The subterm at which a search stands, or of whose arguments some are behind it.
+fn place_of<L>(spot: &Spot<L>) -> TermId
+    ensures { result ≡ place_at spot.now }
+{
+    match spot {
+        Spot::Before(term) => *term,
+        Spot::At(term, _) => *term,
+        Spot::Behind(open) => open.term,
+    }
+}
+
 /// The next use at a subterm.
 fn go_through_spot<E: Evaluator, L: Lister + Drop>(
     program: &Program,
@@ -160,9 +171,10 @@ fn go_through_spot<E: Evaluator, L: Lister + Drop>(
     ensures kept { KeepsEntries (E.table evaluator.old) (E.table evaluator.new) }
     ensures meanings { E.meanings evaluator.new ≡ E.meanings evaluator.old }
 {
-    let (term, uses) = match &mut search.spot {
-        Spot::At(term, uses) => (*term, uses),
-        Spot::Before(_) | Spot::Behind(_) => unreachable!(),
+    let term = place_of(&search.spot);
+    let uses = match &mut search.spot {
+        Spot::At(_, uses) => uses,
+        _ => unreachable!(),
     };
     match next_use(program, rule, store, evaluator, uses, limit) {
         Ok(true) => Ok(Turn::Found),
@@ -177,11 +189,11 @@ fn go_through_spot<E: Evaluator, L: Lister + Drop>(
 /// Goes on to the next argument of an open term, or back to the term around it.
 fn go_on<L: Lister + Drop>(
     store: &Store,
-    open: Open,
+    from: Open,
     search: &mut SubtermUses<L>,
 ) -> Result<Turn, EvalEnd>
-    requires there { IsOf store.now open.term.0 }
-    requires at { search.old.spot ≡ Spots.Behind open }
+    requires there { IsOf store.now from.term.0 }
+    requires at { search.old.spot ≡ Spots.Behind from }
     ensures turn { (p : Typed.Program) (hooks : List Operator) (rule : Written.Rule) (b : ℕ) → IsTurn (program_over p hooks) b
         (left_of_subterms L.asked L.given p hooks rule store.now search.old)
         (left_of_subterms L.asked L.given p hooks rule store.now search.new)
@@ -193,8 +205,11 @@ fn go_on<L: Lister + Drop>(
     if !search.below {
         return Ok(Turn::Over);
     }
-    match next_argument(store, open) {
-        Some((next, child)) => match search.way.push(Open { term: open.term, next }) {
+    match next_argument(store, from) {
+        Some((next, child)) => match search.way.push(Open {
+            term: from.term,
+            next,
+        }) {
             Ok(_) => {
                 search.spot = Spot::Before(child);
                 Ok(Turn::Passed)
@@ -244,9 +259,9 @@ fn turn_below<E: Evaluator, L: Lister + Drop>(
             begin_spot(program, rule, store, evaluator, term, search)
         }
         Spot::At(_, _) => go_through_spot(program, rule, store, evaluator, search, limit),
-        Spot::Behind(open) => {
-            let open = *open;
-            go_on(store, open, search)
+        Spot::Behind(from) => {
+            let from = *from;
+            go_on(store, from, search)
         }
     }
 }
