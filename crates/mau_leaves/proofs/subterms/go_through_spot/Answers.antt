@@ -1,19 +1,26 @@
-use Rattle.std.proofs.Common.{◌≡◌, List, Bool, Ok, sym, ap, ◌∙◌, subst}
+use Rattle.std.proofs.Common.{◌≡◌, List, Bool, Ok, refl, sym, ap, ◌∙◌, subst}
 use Rattle.mau_terms.specs.declared.ids.TermId.{TermId}
 use Rattle.mau_terms.specs.declared.ids.VarId.{VarId}
 use Rattle.mau_evaluation.specs.Engine.{engine_of}
 use Rattle.mau_api.specs.Programs.{program_over}
 use Rattle.mau_leaves.specs.Steps.{Passes, Throughout}
 use Rattle.mau_leaves.specs.Searches.{use_in, variables_in, IsUsable, IsNextOne}
-use Rattle.mau_leaves.specs.Subterms.{place_at, left_of_uses, left_of_spot, IsSubject, IsSpot}
-use Rattle.mau_leaves.specs.declared.subterms.Spot.TheVariants.{Behind}
+use Rattle.mau_leaves.specs.Subterms.{place_at, left_of_uses, left_of_spot, IsSubject, IsAtOne, IsSpot}
+use Rattle.mau_leaves.specs.declared.uses.RuleUses.{RuleUses}
+use Rattle.mau_leaves.specs.declared.subterms.Spot.{Spot}
+use Rattle.mau_leaves.specs.declared.subterms.Spot.TheVariants.{Before, At, Behind}
 use Rattle.mau_leaves.proofs.Tables.{over_of}
 use Rattle.mau_leaves.proofs.Subtrees.{subject_grown, after_same}
 use Rattle.mau_leaves.proofs.SubtermTurns.{found_spot, over_spot, ends_spot, uses_then, way_then, values_then, values_same}
 use Rattle.mau_leaves.proofs.subterms.go_through_spot.Goals as goal
 
+some_at : {K : Type 0} (k : Spot K) → IsAtOne k → ((id : TermId) (u : RuleUses K) → k ≡ At id u → ⊥) → ⊥
+some_at (Before id) h f = h
+some_at (At id u) h f = f id u refl
+some_at (Behind o) h f = h
+
 pub unreachable-requires : goal.unreachable-requires
-unreachable-requires g c = ?
+unreachable-requires g c = some_at c.args.search.now.spot c.requires.at c.in_default.not-At
 
 pub next_use-requires-clause-usable : goal.next_use-requires-clause-usable
 next_use-requires-clause-usable g c =
