@@ -115,15 +115,7 @@ fn begin_spot<E: Evaluator, L: Lister + Drop>(
         Ok(bound) => bound,
         Err(_) => return Err(EvalEnd::NoMemory),
     };
-    match start_uses(
-        program,
-        rule,
-        store,
-        evaluator,
-        bound,
-        search.whole,
-        term,
-    ) {
+    match start_uses(program, rule, store, evaluator, bound, search.whole, term) {
         Ok(uses) => {
             search.spot = Spot::At(term, uses);
             Ok(Turn::Passed)

@@ -78,10 +78,7 @@ fn are_fragments(sig: &Signature, cond: &[Fragment]) -> bool
 }
 
 /// The variables that have values.
-fn variables_of(
-    alloc: Global,
-    bound: &[(VarId, TermId)],
-) -> Result<Vec<VarId>, NoMemory>
+fn variables_of(alloc: Global, bound: &[(VarId, TermId)]) -> Result<Vec<VarId>, NoMemory>
     ensures { IfOk result (λ variables. map variable_of variables.items ≡ variables_in bound.now) }
 {
     let mut variables = Vec::new(alloc);

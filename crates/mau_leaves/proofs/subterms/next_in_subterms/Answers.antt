@@ -106,7 +106,6 @@ returns-in-Ok-Found-clause-subterms g c =
     let rule = c.args.rule.now in
     subst (λ (z : Meanings). IsSubtermSearch g.L.Lister.asked g.L.Lister.given g.L.Lister.is_for g.L.Lister.with_context p z rule c.turn_below.new.store (g.E.Evaluator.table c.turn_below.new.evaluator) c.turn_below.new.search) i.meanings c.turn_below.ensures.subterms
 
-
 pub returns-in-Ok-Found-clause-kept : goal.returns-in-Ok-Found-clause-kept
 returns-in-Ok-Found-clause-kept g c = kept_on (g.E.Evaluator.table c.args.evaluator.now) (g.E.Evaluator.table c.loop.evaluator) (g.E.Evaluator.table c.turn_below.new.evaluator) c.loop.invariant.kept c.turn_below.ensures.kept
 
@@ -124,7 +123,6 @@ returns-in-Ok-Over-clause-subterms g c =
     let rule = c.args.rule.now in
     subst (λ (z : Meanings). IsSubtermSearch g.L.Lister.asked g.L.Lister.given g.L.Lister.is_for g.L.Lister.with_context p z rule c.turn_below.new.store (g.E.Evaluator.table c.turn_below.new.evaluator) c.turn_below.new.search) i.meanings c.turn_below.ensures.subterms
 
-
 pub returns-in-Ok-Over-clause-kept : goal.returns-in-Ok-Over-clause-kept
 returns-in-Ok-Over-clause-kept g c = kept_on (g.E.Evaluator.table c.args.evaluator.now) (g.E.Evaluator.table c.loop.evaluator) (g.E.Evaluator.table c.turn_below.new.evaluator) c.loop.invariant.kept c.turn_below.ensures.kept
 
@@ -141,7 +139,6 @@ returns-in-Err-clause-subterms g c =
     let p = c.args.program.now in
     let rule = c.args.rule.now in
     subst (λ (z : Meanings). IsSubtermSearch g.L.Lister.asked g.L.Lister.given g.L.Lister.is_for g.L.Lister.with_context p z rule c.turn_below.new.store (g.E.Evaluator.table c.turn_below.new.evaluator) c.turn_below.new.search) i.meanings c.turn_below.ensures.subterms
-
 
 pub returns-in-Err-clause-kept : goal.returns-in-Err-clause-kept
 returns-in-Err-clause-kept g c = kept_on (g.E.Evaluator.table c.args.evaluator.now) (g.E.Evaluator.table c.loop.evaluator) (g.E.Evaluator.table c.turn_below.new.evaluator) c.loop.invariant.kept c.turn_below.ensures.kept
