@@ -7,8 +7,7 @@ use Rattle.mau_terms.specs.Finite.{each_of}
 use Rattle.mau_terms.specs.declared.ids.TermId.{TermId}
 use Rattle.mau_terms.specs.declared.ids.VarId.{VarId}
 use Rattle.mau_terms.proofs.Variables.{distinct}
-use Rattle.mau_signature.specs.Signature.{SignatureOf, theory_at, terms_over}
-use Rattle.mau_formula.specs.Operator.{Operator}
+use Rattle.mau_signature.specs.Signature.{SignatureOf, terms_over}
 use Rattle.mau_store.specs.Node.{Node, Extends}
 use Rattle.mau_store.specs.Trees.{tree_at}
 use Rattle.mau_sorts.specs.Table.{Table, KeepsEntries, AreOver}

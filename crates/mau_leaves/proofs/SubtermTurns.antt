@@ -1,5 +1,5 @@
 -- Searches for the uses of one rule at all subterms of a term: one turn, from what the search at a term did.
-use Rattle.std.proofs.Common.{◌≡◌, ℕ, List, [], ◌∷◌, Bool, true, false, Option, Some, None, Ok, Err, All, Vec, Global, refl, sym, ap, ◌∙◌, subst}
+use Rattle.std.proofs.Common.{◌≡◌, ℕ, List, [], ◌∷◌, Bool, true, false, Option, None, Ok, Err, All, Vec, Global, sym, ap, ◌∙◌, subst}
 use Rattle.mau_terms.specs.Tree.{Tree}
 use Rattle.mau_terms.specs.declared.ids.TermId.{TermId}
 use Rattle.mau_terms.specs.declared.ids.VarId.{VarId}
@@ -27,10 +27,9 @@ use Rattle.mau_leaves.specs.Steps.{Gives, IsOver, Passes, Before as First, Throu
 use Rattle.mau_leaves.specs.Uses.{Use, behind, solutions_as, uses_among, uses_by, IsLeft}
 use Rattle.mau_leaves.specs.Answers.{IsDueBy}
 use Rattle.mau_leaves.specs.Searches.{stand_of, IsSearch, IsTurn, IsNextOne}
-use Rattle.mau_leaves.specs.Subterms.{terms_after, uses_in, IsSubject, IsOpenSubject, left_of_terms, left_of_uses, left_of_spot, left_of_subterms, IsAtUses, IsSpot, IsSubtermSearch}
+use Rattle.mau_leaves.specs.Subterms.{terms_after, uses_in, IsOpenSubject, left_of_terms, left_of_uses, left_of_spot, left_of_subterms, IsAtUses, IsSpot, IsSubtermSearch}
 use Rattle.mau_leaves.specs.declared.turn.Turn.TheVariants.{Found}
 use Rattle.mau_leaves.specs.declared.uses.RuleUses.{RuleUses}
-use Rattle.mau_leaves.specs.declared.uses.Standing.TheVariants as Stands
 use Rattle.mau_leaves.specs.declared.subterms.Spot.{Spot}
 use Rattle.mau_leaves.specs.declared.subterms.Spot.TheVariants.{Before, At, Behind}
 use Rattle.mau_leaves.specs.declared.subterms.SubtermUses.{SubtermUses}

@@ -1,5 +1,5 @@
 -- Searches for the uses of one rule at a term, or at all its subterms, by the numbers of a store.
-use Rattle.std.specs.Prelude.{◌≡◌, ℕ, Bool, true, false, List, [], ◌∷◌, ◌++◌, map, drop, All, Option, Some, None}
+use Rattle.std.specs.Prelude.{◌≡◌, ℕ, Bool, true, false, List, [], ◌∷◌, ◌++◌, map, drop, All, Option, None}
 use Rattle.mau_terms.specs.Tree.{Tree, variable, numeral, apply, Trees, no_trees, tree}
 use Rattle.mau_terms.specs.Finite.{each_of, arguments_of}
 use Rattle.mau_terms.specs.declared.ids.TermId.{TermId}

@@ -5,7 +5,7 @@ use Rattle.mau_terms.specs.declared.ids.VarId.{VarId}
 use Rattle.mau_listing.specs.Asked.{asks}
 use Rattle.mau_api.specs.Answers.{IsValueOf}
 use Rattle.mau_leaves.specs.Searches.{variables_in, IsUsable}
-use Rattle.mau_leaves.specs.Subterms.{IsSubject, IsSpot}
+use Rattle.mau_leaves.specs.Subterms.{IsSpot}
 use Rattle.mau_leaves.proofs.SubtermTurns.{begins_spot}
 use Rattle.mau_leaves.proofs.subterms.begin_spot.Goals as goal
 

@@ -1,12 +1,10 @@
-use Rattle.std.proofs.Common.{◌≡◌, List, map, All, Vec, Global, refl, sym, ap, ◌∙◌, subst}
+use Rattle.std.proofs.Common.{◌≡◌, List, All, Vec, Global, refl, sym, ap, ◌∙◌, subst}
 use Rattle.std.proofs.lemmas.List.Elements.{All-nil}
 use Rattle.mau_terms.specs.View.{tree_of}
 use Rattle.mau_terms.specs.declared.ids.TermId.{TermId}
 use Rattle.mau_terms.specs.declared.ids.VarId.{VarId}
 use Rattle.mau_program.specs.declared.statements.Fragment.{Fragment}
 use Rattle.mau_api.specs.Answers.{IsValueOf}
-use Rattle.mau_rules.specs.declared.walk.Open.{Open}
-use Rattle.mau_leaves.specs.Given.{pair_by}
 use Rattle.mau_leaves.specs.Searches.{variables_in, IsUsable}
 use Rattle.mau_leaves.specs.Subterms.{IsOpenSubject, IsSpot}
 use Rattle.mau_leaves.specs.Tests.{MayAsk}
