@@ -14,6 +14,8 @@ pub mod Limits
 pub mod Throughs
 -- a search in a store that has grown
 pub mod Searching
+-- agreement with what is bound
+pub mod Agreeing
 -- the next solution of a rule's left side, as a listing gives it
 pub mod Listings
 -- tables of an evaluator
@@ -22,6 +24,8 @@ pub mod Tables
 pub mod Turns
 -- the condition of a rule, asked for the values of a solution
 pub mod Bound
+-- what is bound before, and then the values of a solution
+pub mod Extended
 -- rules at a term, one after another
 pub mod Places
 -- one turn of a search at a term
@@ -46,6 +50,12 @@ pub mod NotDetermined
 pub mod Definitions
 -- the bodies of a call as a run has them
 pub mod Calling
+-- values that variables have before
+pub mod Givens
+-- the subterms of a term, and what is left of them
+pub mod Subtrees
+-- searches at all subterms of a term: one turn
+pub mod SubtermTurns
 -- tests
 pub mod Holding
 -- the cursors of who gives the results of leaves, as there are more terms

@@ -24,6 +24,10 @@ pub mod Follows
 pub mod Matched
 -- searches for the bodies of a call without arguments
 pub mod Calls
+-- values that variables have before
+pub mod Given
+-- searches for the uses of one rule at all subterms of a term
+pub mod Subterms
 -- tests: their results by the uses of a rule
 pub mod Tests
 -- who gives the results of leaves: what cursors have yielded

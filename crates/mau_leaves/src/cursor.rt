@@ -5,10 +5,11 @@ ghost use Rattle.mau_terms.specs.Tree.{Tree};
 ghost use Rattle.mau_store.specs.Node.{Extends};
 ghost use Rattle.mau_store.specs.Trees.{tree_at};
 ghost use Rattle.mau_api.specs.Terms.{IsTerm};
-ghost use Rattle.mau_api.specs.Answers.{AreSettled};
+ghost use Rattle.mau_api.specs.Answers.{IsValueOf, AreSettled};
 ghost use Rattle.mau_sorts.specs.Table.{KeepsEntries};
 ghost use Rattle.mau_program.specs.LawfulStrategies.{IsLawfulDefinition};
 ghost use Rattle.mau_evaluation.specs.Configs.{Todo};
+ghost use Rattle.mau_strat.specs.declared.configs.Bound.{Bound as GivenValue};
 ghost use Rattle.mau_strat.specs.Configurations.{TellsApart};
 ghost use Rattle.mau_strat.specs.Forms.{IsLeaf};
 ghost use Rattle.mau_stratrun.specs.Yields.{Yield};
@@ -339,17 +340,7 @@ fn leaf_by(leaves: &[Strategy], leaf: LeafId) -> Option<&Strategy>
     leaves.get(leaf.0)
 }
 
-/// Whether no variable has a value.
-fn have_none(values: &[Bound]) -> bool
-    ensures { result ≡ true → values.now ≡ [] }
-{
-    match values {
-        [] => true,
-        [_, ..] => false,
-    }
-}
-
-/// The cursor of a leaf on a term, which has yielded nothing. Tests whose variables may have values before are not searched for yet.
+/// The cursor of a leaf on a term, which has yielded nothing.
 fn start_leaf<E: Evaluator, L: Lister + Drop>(
     program: &Program,
     leaves: &[Strategy],
@@ -363,6 +354,7 @@ fn start_leaf<E: Evaluator, L: Lister + Drop>(
     requires runnable { IsRunnable program.now }
     requires goes_by { GoesBy program.now (E.meanings evaluator.now) }
     requires fits { E.fits evaluator.now store.now }
+    requires values { All (λ (b : GivenValue). IsValueOf program.now.sig store.now (E.table evaluator.now) (b.variable, b.value)) values.now }
     requires term { IsTerm program.now.sig store.now term.0 }
     requires settled { AreSettled program.now.sig store.now (E.table evaluator.now) (tree_at store.now term.0) }
     ensures yields { IfOk result (λ k. yields_in L.asked L.given L.is_for L.with_context program.now (E.meanings evaluator.now)
@@ -380,10 +372,7 @@ fn start_leaf<E: Evaluator, L: Lister + Drop>(
     };
     match strategy.form() {
         StrategyForm::Test(kind, pattern, cond) => {
-            if !have_none(values) {
-                return Ok(LeafCursor::Unsearched);
-            }
-            match start_test(program, store, evaluator, *kind, pattern, cond, term)? {
+            match start_test(program, store, values, *kind, pattern, cond, term)? {
                 Some(test) => Ok(LeafCursor::Test(test)),
                 None => Ok(LeafCursor::Unsearched),
             }
@@ -406,6 +395,7 @@ fn start_labelled<E: Evaluator, L: Lister + Drop>(
     requires runnable { IsRunnable program.now }
     requires goes_by { GoesBy program.now (E.meanings evaluator.now) }
     requires fits { E.fits evaluator.now store.now }
+    requires values { All (λ (b : GivenValue). IsValueOf program.now.sig store.now (E.table evaluator.now) (b.variable, b.value)) values.now }
     requires term { IsTerm program.now.sig store.now term.0 }
     requires settled { AreSettled program.now.sig store.now (E.table evaluator.now) (tree_at store.now term.0) }
     ensures yields { IfOk result (λ k. yields_in L.asked L.given L.is_for L.with_context program.now (E.meanings evaluator.now)
