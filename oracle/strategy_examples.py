@@ -180,16 +180,16 @@ def frogs():
 
 
 def rows(*ns):
-    return "none" if not ns else str(ns[0]) if len(ns) == 1 else f"_&_({ns[0]}, {rows(*ns[1:])})"
+    return "none" if not ns else str(ns[0]) if len(ns) == 1 else f"__({ns[0]}, {rows(*ns[1:])})"
 
 
 def queens():
     show(Strategies("QUEENS", "Rows Queens Board", "Nat<Rows", [
-        op("none", "", "Rows"), op("_&_", "Rows Rows", "Rows", assoc=1, comm=1, id=(("none", ()), ()), prec=40), op("nil", "", "Queens"),
+        op("none", "", "Rows"), op("__", "Rows Rows", "Rows", assoc=1, comm=1, id=(("none", ()), ()), prec=40), op("nil", "", "Queens"),
         op("_;_", "Nat Queens", "Queens", prec=45, gather="eE"), op("_free:_", "Rows Queens", "Board", prec=50), op("safe", "Nat Nat Queens", "Bool")], [
         "safe(N:Nat, D:Nat, nil) = true",
         "safe(N:Nat, D:Nat, _;_(M:Nat, L:Queens)) = if_then_else_fi(_==_(sd(N:Nat, M:Nat), D:Nat), false, safe(N:Nat, s_(D:Nat), L:Queens))"], [
-        "put : _free:_(_&_(N:Nat, R:Rows), L:Queens) => _free:_(R:Rows, _;_(N:Nat, L:Queens)) if safe(N:Nat, 1, L:Queens)"], [
+        "put : _free:_(__(N:Nat, R:Rows), L:Queens) => _free:_(R:Rows, _;_(N:Nat, L:Queens)) if safe(N:Nat, 1, L:Queens)"], [
         "solve := match _free:_(none, L:Queens) ? idle : (put ; solve)", "first(N:Nat) := put[N:Nat <- N:Nat] ; solve"]), [
         (None, f"_free:_({rows(1, 2, 3, 4)}, nil)", "solve"), (None, f"_free:_({rows(1, 2, 3)}, nil)", "solve"), (1, f"_free:_({rows(1, 2, 3, 4, 5)}, nil)", "put ! ; match _free:_(none, L:Queens)"),
         2, (None, f"_free:_({rows(1, 2, 3, 4, 5)}, nil)", "first(3)"), (None, f"_free:_({rows(1, 2, 3, 4)}, nil)", "first(1)"), (None, f"_free:_({rows(1, 2, 3)}, nil)", "put !")])
