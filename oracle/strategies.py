@@ -1,12 +1,13 @@
 #!/usr/bin/env python3
 """Compares `dsrewrite` and `continue` on random system modules and strategies with a plain reading of the specification, written apart from the code.
 
-usage: oracle/strategies.py PROGRAM FIRST LAST [conditions [plain]]
+usage: oracle/strategies.py PROGRAM FIRST LAST [conditions [plain]] [simple]
 
 For each number from FIRST on and below LAST it makes a module with random equations, labelled rules and definitions of strategies, and runs random strategies
-on random terms in it, with small bounds and small budgets; with the word `conditions` statements have conditions, and there are memberships, but not with the word
-`plain` too. What is compared is the solutions in their order, how each listing ends, and what goes on with it. Of a listing that is at its end it is also seen here that
-it has just the terms that satisfy the strategy by its text.
+on random terms in it, with small bounds and small budgets. With the word `conditions` statements have conditions, and there are memberships, but not with the word
+`plain` too. With the word `simple` no strategy has terms but those of tests, none of which is `amatch`, or `match` of an associative operator. What is compared is
+the solutions in their order, how each listing ends, and what goes on with it. Of a listing that is at its end it is also seen here that it has just the terms that
+satisfy the strategy by its text.
 """
 import random
 import sys
@@ -19,9 +20,10 @@ from prelude import bool_equations, signature_with_truth
 from reduce import random_fragments, random_statement, text_of, with_strategies
 from runs import with_frozen
 from signature import module_text, numbered
-from statements_of import is_variable, kind_of, pairs_of
+from statements_of import is_variable, kind_of, pairs_of, top_of
 from walks import TRUE, Definition, Walk, condition_text, numbered_strategy, source, text_of_strategy
 
+IS_SIMPLE = "simple" in sys.argv[4:]
 LABELS = ["go", "turn", "end"]
 LEAVES = ["idle", "fail", "all", "label", "label", "label", "top", "match", "match", "call", "call"]
 FORMS = ["seq", "seq", "seq", "or", "or", "star", "star", "if", "orelse", "not", "try", "test", "plus", "normal"]
@@ -42,7 +44,7 @@ class World:
         r, (label, rule) = self.r, self.r.choice(self.rules)
         pairs, assigns = list(Statement(*rule[:3]).variables), []
         # (a variable that only a rule without a condition of being executable has to be given is given mostly)
-        for pair in pairs if r.random() < (0.8 if rule[4] else 0.25) else []:
+        for pair in pairs if r.random() < (0 if IS_SIMPLE else 0.8 if rule[4] else 0.25) else []:
             if r.random() < 0.7:
                 kind = self.sig.kind.get(pair[1], pair[1])
                 term = self.term(kind if r.random() < 0.95 else r.choice(self.kinds), bound)
@@ -57,7 +59,9 @@ class World:
         if pattern is None:
             return ("idle",)
         found = random_fragments(self.sig, r, pool, set(bound) | pairs_of(pattern)) if r.random() < 0.5 else ([], None)
-        return r.choice(["match", "xmatch", "amatch"]), pattern, tuple(found[0] if found else ())
+        top = top_of(self.sig, pattern)
+        is_list = isinstance(top, tuple) and top[0] != "v" and "assoc" in self.sig.op(top).attrs
+        return r.choice((["xmatch"] if is_list else ["match", "xmatch"]) if IS_SIMPLE else ["match", "xmatch", "amatch"]), pattern, tuple(found[0] if found else ())
 
     def call(self, bound):
         if not self.declared:
@@ -85,7 +89,7 @@ class World:
         if None in args:
             return None
         bound = {pair for it in args for pair in pairs_of(it)}
-        found = random_fragments(self.sig, r, pool, bound) if r.random() < 0.3 else ([], bound)
+        found = random_fragments(self.sig, r, pool, bound) if r.random() < (0 if IS_SIMPLE else 0.3) else ([], bound)
         if found is None:
             return None
         body = self.strategy(r.choice([0, 1, 2]), found[1])
@@ -130,7 +134,7 @@ def random_world(r, module):
     labels = ["go", *(r.choice(LABELS) for _ in of_rules[1:])]
     kinds = sorted({sig.kind[a] for a in sig.sorts if a != "Bool"})
     declared = [(name, tuple(r.choice(kinds) for _ in range(count)))
-                for name, count in r.choice([[], [("plan", 0)], [("plan", 1)], [("plan", 0), ("other", 1)], [("plan", 2), ("plan", 1), ("turn", 0)]])]
+                for name, count in r.choice([[], [("plan", 0)], [("plan", 1)], [("plan", 0), ("other", 1)], [("plan", 2), ("plan", 1), ("turn", 0)]]) if not (IS_SIMPLE and count)]
     hidden = {name for name, _ in declared}
     world = World(sig, r, [(label, it) for label, it in zip(labels, of_rules) if label not in hidden], declared)
     definitions = [it for name, kinds in declared for it in [world.definition(name, kinds) for _ in range(r.choice([0, 1, 1, 2]))] if it]

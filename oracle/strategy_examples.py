@@ -149,7 +149,6 @@ def show(module, commands, first=2):
     print(f"[{first - 1}] module {module.name}")
     for number, lines in enumerate(module.lists(commands), first):
         print(f"[{number}] {lines[0]}", *lines[1:], sep="\n")
-    return first + len(commands) + 1
 
 
 PLACE = op("__", "Place Place", "Place", assoc=1, comm=1)
@@ -159,14 +158,18 @@ SALES = ["buy-c : $ => c", "buy-a : $ => __(a, q)", "change : __(q, __(q, __(q, 
 
 def machine():
     two = "__($, $)"
-    item = show(Strategies("VENDING", *COINS, [], SALES, with_nat=False), [
+    show(Strategies("VENDING", *COINS, [], SALES, with_nat=False), [
         (None, two, "buy-c ; buy-a"), (None, two, "fail"), (None, two, "idle *"), (None, "$", "(change | buy-c) ? idle : buy-a"), (None, two, "all !"),
         (1, two, "all *"), 2, None, (None, two, "buy-a ; xmatch __(a, $) ; buy-c"), (None, "__(q, __(q, __(q, __(q, $))))", "change ; test(change) or-else buy-c +")])
+
+
+def shopping():
+    two = "__($, $)"
     show(Strategies("SHOPPING", *COINS, [], SALES, [
         "spend := all !", "apples := try(buy-a or-else change) ; (amatch $ ? apples : idle)", "get(X:Item) := all * ; amatch X:Item", "twice(X:Item) := get(X:Item) ; get(X:Item)",
         "loop := loop"], with_nat=False), [
         (None, two, "spend"), (None, two, "apples"), (None, "$", "get(c)"), (2, two, "twice(a)"), (None, "$", "get(a) ; not(get(c))"), (None, "$", "loop"),
-        (None, "$", "idle | loop")], item)
+        (None, "$", "idle | loop")])
 
 
 def frogs():
@@ -174,7 +177,7 @@ def frogs():
     show(Strategies("FROGS", "Leaf", "", [op(x, "", "Leaf") for x in ("f", "t", "o")] + [op("__", "Leaf Leaf", "Leaf", assoc=1)], [], [
         f"hop : {row('f', 'o')} => {row('o', 'f')}", f"leap : {row('f', 't', 'o')} => {row('o', 't', 'f')}", f"hop : {row('o', 't')} => {row('t', 'o')}",
         f"leap : {row('o', 'f', 't')} => {row('t', 'f', 'o')}"], [
-        f"solved := match {row('t', 't', 'o', 'f', 'f')}", "cross := leap * ; (match X:Leaf ; solved or-else (hop ; cross))"], with_nat=False), [
+        f"solved := xmatch {row('t', 't', 'o', 'f', 'f')}", "cross := leap * ; (match X:Leaf ; solved or-else (hop ; cross))"], with_nat=False), [
         (None, row("f", "f", "o", "t", "t"), "all !"), (1, row("f", "f", "o", "t", "t"), "all * ; solved"), None, (None, row("f", "o", "t"), "all *"),
         (None, row("f", "f", "o", "t", "t"), "hop ; leap ; not(solved)"), (None, row("f", "f", "o", "t", "t"), "cross"), (None, row("f", "f", "o", "t", "t"), "leap or-else hop")])
 
@@ -183,16 +186,26 @@ def rows(*ns):
     return "none" if not ns else str(ns[0]) if len(ns) == 1 else f"__({ns[0]}, {rows(*ns[1:])})"
 
 
-def queens():
-    show(Strategies("QUEENS", "Rows Queens Board", "Nat<Rows", [
+def board(definitions):
+    return Strategies("QUEENS", "Rows Queens Board", "Nat<Rows", [
         op("none", "", "Rows"), op("__", "Rows Rows", "Rows", assoc=1, comm=1, id=(("none", ()), ()), prec=40), op("nil", "", "Queens"),
         op("_;_", "Nat Queens", "Queens", prec=45, gather="eE"), op("_free:_", "Rows Queens", "Board", prec=50), op("safe", "Nat Nat Queens", "Bool")], [
         "safe(N:Nat, D:Nat, nil) = true",
         "safe(N:Nat, D:Nat, _;_(M:Nat, L:Queens)) = if_then_else_fi(_==_(sd(N:Nat, M:Nat), D:Nat), false, safe(N:Nat, s_(D:Nat), L:Queens))"], [
         "put : _free:_(__(N:Nat, R:Rows), L:Queens) => _free:_(R:Rows, _;_(N:Nat, L:Queens)) if safe(N:Nat, 1, L:Queens)"], [
-        "solve := match _free:_(none, L:Queens) ? idle : (put ; solve)", "first(N:Nat) := put[N:Nat <- N:Nat] ; solve"]), [
-        (None, f"_free:_({rows(1, 2, 3, 4)}, nil)", "solve"), (None, f"_free:_({rows(1, 2, 3)}, nil)", "solve"), (1, f"_free:_({rows(1, 2, 3, 4, 5)}, nil)", "put ! ; match _free:_(none, L:Queens)"),
-        2, (None, f"_free:_({rows(1, 2, 3, 4, 5)}, nil)", "first(3)"), (None, f"_free:_({rows(1, 2, 3, 4)}, nil)", "first(1)"), (None, f"_free:_({rows(1, 2, 3)}, nil)", "put !")])
+        "solve := match _free:_(none, L:Queens) ? idle : (put ; solve)", *definitions])
+
+
+def queens():
+    show(board([]), [
+        (None, f"_free:_({rows(1, 2, 3, 4)}, nil)", "solve"), (None, f"_free:_({rows(1, 2, 3)}, nil)", "solve"),
+        (1, f"_free:_({rows(1, 2, 3, 4, 5)}, nil)", "put ! ; match _free:_(none, L:Queens)"), 2, (None, f"_free:_({rows(1, 2, 3)}, nil)", "put !")])
+
+
+def placed():
+    show(board(["first(N:Nat) := put[N:Nat <- N:Nat] ; solve", "all-first(0) := fail", "all-first(s_(N:Nat)) := first(s_(N:Nat)) or-else all-first(N:Nat)"]), [
+        (None, f"_free:_({rows(1, 2, 3, 4, 5)}, nil)", "first(3)"), (None, f"_free:_({rows(1, 2, 3, 4)}, nil)", "first(1)"), (None, f"_free:_({rows(1, 2, 3, 4)}, nil)", "all-first(4)"),
+        (None, f"_free:_({rows(1, 2, 3, 4)}, nil)", "put[N:Nat <- 1] ; put ; not(put)"), (None, f"_free:_({rows(1, 2, 3)}, nil)", "all-first(3)")])
 
 
 def nim():
@@ -200,9 +213,9 @@ def nim():
     put = lambda *xs: xs[0] if len(xs) == 1 else f"__({xs[0]}, {put(*xs[1:])})"
     show(Strategies("NIM", "Heaps", "", [op("empty", "", "Heaps"), op("heap", "Nat", "Heaps"), op("__", "Heaps Heaps", "Heaps", assoc=1, comm=1, id=(("empty", ()), ()))], [
         "heap(0) = empty"], ["take : heap(s_(N:Nat)) => heap(N:Nat)", "take : heap(s_(s_(N:Nat))) => heap(N:Nat)", "take : heap(s_(s_(s_(N:Nat)))) => heap(N:Nat)"], [
-        "win := take ; not(win)", "game := win ; (match empty or-else (take ; game))", "rounds(0) := idle", "rounds(s_(N:Nat)) := win ; take ; rounds(N:Nat)"]), [
+        "win := take ; not(win)", "game := win ; (match empty or-else (take ; game))", "round := win ; take"]), [
         (None, "heap(5)", "win"), (None, "heap(4)", "win"), (None, put(one, two, three), "win"), (None, put(one, one, three), "win"), (None, put(two, three), "win"),
-        (None, put(one, three), "game"), (None, "heap(4)", "test(win) ? fail : idle"), (None, put(two, three), "rounds(1)"), (1, put(one, two, three), "take ; win"), None])
+        (None, put(one, three), "game"), (None, "heap(4)", "test(win) ? fail : idle"), (None, put(two, three), "round"), (1, put(one, two, three), "take ; win"), None])
 
 
 def river():
@@ -220,7 +233,7 @@ def river():
         (None, start, "wolf ; eaten ? idle : fail")])
 
 
-EXAMPLES = {it.__name__: it for it in (machine, frogs, queens, nim, river)}
+EXAMPLES = {it.__name__: it for it in (machine, shopping, frogs, queens, placed, nim, river)}
 
 if __name__ == "__main__":
     sys.setrecursionlimit(30_000)
