@@ -3,11 +3,11 @@
 
 usage: oracle/strategies.py PROGRAM FIRST LAST [conditions [plain]] [simple]
 
-For each number from FIRST on and below LAST it makes a module with random equations, labelled rules and definitions of strategies, and runs random strategies
-on random terms in it, with small bounds and small budgets. With the word `conditions` statements have conditions, and there are memberships, but not with the word
-`plain` too. With the word `simple` no strategy has terms but those of tests, none of which is `amatch`, or `match` of an associative operator. What is compared is
-the solutions in their order, how each listing ends, and what goes on with it. Of a listing that is at its end it is also seen here that it has just the terms that
-satisfy the strategy by its text.
+For each number from FIRST on and below LAST it makes a module with random equations, labelled rules and definitions of strategies, and runs random
+strategies on random terms in it, with small bounds and small budgets. With the word `conditions` statements have conditions, and there are memberships, but
+not with the word `plain` too. With the word `simple` no strategy has terms but those of tests, none of which is `amatch`, or `match` of an associative
+operator. What is compared is the solutions in their order, how each listing ends, and what goes on with it. Of a listing that is at its end it is also seen
+here that it has just the terms that satisfy the strategy by its text.
 """
 import random
 import sys
@@ -61,7 +61,8 @@ class World:
         found = random_fragments(self.sig, r, pool, set(bound) | pairs_of(pattern)) if r.random() < 0.5 else ([], None)
         top = top_of(self.sig, pattern)
         is_list = isinstance(top, tuple) and top[0] != "v" and "assoc" in self.sig.op(top).attrs
-        return r.choice((["xmatch"] if is_list else ["match", "xmatch"]) if IS_SIMPLE else ["match", "xmatch", "amatch"]), pattern, tuple(found[0] if found else ())
+        kinds = ["match", "xmatch", "amatch"] if not IS_SIMPLE else ["xmatch"] if is_list else ["match", "xmatch"]
+        return r.choice(kinds), pattern, tuple(found[0] if found else ())
 
     def call(self, bound):
         if not self.declared:
@@ -114,88 +115,93 @@ def simple_rule(sig, r):
     return None if right is None else (left, right, [], False, False)
 
 
-def random_world(r, module):
-    """A random module with rules and strategies: its text, what is in it, and what makes runs in it. Nothing where it isn't suited."""
-    own, pairs, declarations, with_nat = module
-    sig = signature_with_truth(module)
-    if not suits(sig) or sig.refusal():
-        return None
-    of_equations = [it for it in (random_statement(sig, r) for _ in range(r.choice([0, 0, 1, 2]))) if it]
-    of_rules = []
+def random_rules(sig, r):
+    """Rules, some with a rewriting fragment, some with a variable that has to be given."""
+    out = []
     for it in (r.choice([random_statement, simple_rule, simple_rule])(sig, r) for _ in range(r.choice([3, 5, 7]))):
         if it and not isinstance(it[1], str):
             nonexec = r.random() < 0.12
-            # (a variable of the right side alone, which has to be given)
             right = random_term(sig, r, kind_of(sig, it[0]), 1, [("N", r.choice(sig.sorts))], 0.7) if nonexec and r.random() < 0.7 else it[1]
             reach = [("=>", it[0], it[0])] if r.random() < 0.03 else []
-            of_rules.append((it[0], it[1] if right is None else right, it[2] + reach, False, nonexec))
+            out.append((it[0], it[1] if right is None else right, it[2] + reach, False, nonexec))
+    return out
+
+
+def made(it):
+    return Statement(it[0], it[1], [("=", one, TRUE) if sign == "Bool" else (sign, one, other) for sign, one, other in it[2]], it[3], it[4])
+
+
+def random_world(r, module):
+    """A random module with rules and strategies: its text, what is in it, and what makes runs in it. Nothing where it isn't suited."""
+    sig = signature_with_truth(module)
+    if not suits(sig) or sig.refusal():
+        return None
+    statements = [it for it in (random_statement(sig, r) for _ in range(r.choice([0, 0, 1, 2]))) if it]
+    of_rules = random_rules(sig, r)
     if not of_rules:
         return None
-    labels = ["go", *(r.choice(LABELS) for _ in of_rules[1:])]
-    kinds = sorted({sig.kind[a] for a in sig.sorts if a != "Bool"})
-    declared = [(name, tuple(r.choice(kinds) for _ in range(count)))
-                for name, count in r.choice([[], [("plan", 0)], [("plan", 1)], [("plan", 0), ("other", 1)], [("plan", 2), ("plan", 1), ("turn", 0)]]) if not (IS_SIMPLE and count)]
+    labels, kinds = ["go", *(r.choice(LABELS) for _ in of_rules[1:])], sorted({sig.kind[a] for a in sig.sorts if a != "Bool"})
+    names = r.choice([[], [("plan", 0)], [("plan", 1)], [("plan", 0), ("other", 1)], [("plan", 2), ("plan", 1), ("turn", 0)]])
+    declared = [(name, tuple(r.choice(kinds) for _ in range(count))) for name, count in names if not (IS_SIMPLE and count)]
     hidden = {name for name, _ in declared}
     world = World(sig, r, [(label, it) for label, it in zip(labels, of_rules) if label not in hidden], declared)
     definitions = [it for name, kinds in declared for it in [world.definition(name, kinds) for _ in range(r.choice([0, 1, 1, 2]))] if it]
-    text = module_text(*module)[: -len("endfm\n")].replace("fmod", "smod" if declared else "mod", 1) + "".join(text_of(sig, it) for it in of_equations)
+    text = module_text(*module)[: -len("endfm\n")].replace("fmod", "smod" if declared else "mod", 1) + "".join(text_of(sig, it) for it in statements)
     text += "".join(text_of(sig, it, "rl").replace("rl ", f"rl [{label}] : ", 1) for it, label in zip(of_rules, labels))
     for name, kinds in declared:
-        text += f"strat {name}{' :' if kinds else ''} {' '.join(kind[1:] for kind in kinds)} @ {r.choice(own)} .\n"
+        text += f"strat {name}{' :' if kinds else ''} {' '.join(kind[1:] for kind in kinds)} @ {r.choice(module[0])} .\n"
     text += "".join(definition_text(sig, *it) for it in definitions) + ("endsm\n" if declared else "endm\n")
-    make = lambda it: Statement(it[0], it[1], [("=", one, TRUE) if sign == "Bool" else (sign, one, other) for sign, one, other in it[2]], it[3], it[4])
-    made, rules = [make(it) for it in of_equations], [make(it) for it in of_rules]
+    rules = [made(it) for it in of_rules]
     for rule, label in zip(rules, labels):
         rule.label = label
-    equations = bool_equations(sig) + [it for it in made if not isinstance(it.right, str)]
-    memberships = [it for it in made if isinstance(it.right, str)]
-    start = lambda limit: Walk(sig, equations, memberships, rules, [Definition(name, args, body, fragments) for name, args, body, fragments in definitions], limit, 400_000)
-    return text, world, start
+    equations = bool_equations(sig) + [made(it) for it in statements if not isinstance(it[1], str)]
+    memberships = [made(it) for it in statements if isinstance(it[1], str)]
+    return text, world, lambda limit: Walk(sig, equations, memberships, rules, [Definition(*it) for it in definitions], limit, 400_000)
+
+
+def answers(r, world, walk):
+    """The text, the long name and the lines of a random command, and of what goes on with it."""
+    sig, pool = world.sig, [("N", r.choice(world.sig.sorts))] if r.random() < 0.3 else []
+    term = random_term(sig, r, r.choice(world.kinds), r.choice([1, 2, 2]), pool, 0.2)
+    written = world.strategy(r.choice([1, 2, 3]), set(pool))
+    using = text_of_strategy(sig, written)
+    if term is None or len(using) > 1500:
+        return
+    variables, most = [], r.choice([None, None, 1, 2])
+    term = numbered(term, variables)
+    command = f"{r.choice(['dsrewrite', 'dsrew'])}{f' [{most}]' if most else ''} {sig.source(term, variables)} using {using} .\n"
+    lines, solutions, goes_on = walk.listing(term, numbered_strategy(written, variables), variables, most)
+    yield command, "dsrewrite", lines
+    while goes_on and r.random() < 0.8:
+        most = r.choice([None, 1, 1, 2, 3])
+        lines, goes_on = walk.lines(solutions, most)
+        yield f"continue{f' {most}' if most else ''} .\n", "continue", lines
+    if not goes_on and r.random() < 0.1:
+        yield "continue .\n", "", ["refused: NothingToContinue"]
 
 
 def compare(number, program):
     r = random.Random(number)
     own, pairs, declarations, with_nat = random_module(r)
-    made = random_world(r, (own, pairs, with_frozen(r, with_strategies(r, declarations)), with_nat))
-    if not made:
+    found = random_world(r, (own, pairs, with_frozen(r, with_strategies(r, declarations)), with_nat))
+    if not found:
         return ["unsuited"], None
-    (text, world, start), sig = made, made[1].sig
-    limit = r.choice([15, 60, 60, 60, 150, 450])
+    (text, world, start), limit = found, r.choice([15, 60, 60, 60, 150, 450])
     wanted, item, had = ["[1] module M"], 1, {"modules": 1}
     for _ in range(5):
-        pool = [("N", r.choice(sig.sorts))] if r.random() < 0.3 else []
-        term = random_term(sig, r, r.choice(world.kinds), r.choice([1, 2, 2]), pool, 0.2)
-        if term is None:
-            continue
-        written = world.strategy(r.choice([1, 2, 3]), set(pool))
-        if len(text_of_strategy(sig, written)) > 1500:
-            continue
-        variables, most = [], r.choice([None, None, 1, 2])
-        term = numbered(term, variables)
-        first = sig.source(term, variables)
-        strategy, walk = numbered_strategy(written, variables), start(limit)
-        command, word = f"{r.choice(['dsrewrite', 'dsrew'])}{f' [{most}]' if most else ''} {first} using {text_of_strategy(sig, written)} .\n", "dsrewrite"
+        walk = start(limit)
         try:
-            lines, solutions, goes_on = walk.listing(term, strategy, variables, most)
-            while True:
+            for command, word, lines in answers(r, world, walk):
                 if lines[-1] in ("No solution.", "No more solutions.") and not walk.all_found():
                     raise AssertionError(f"text {number}: what was listed isn't what satisfies the strategy\n{text}{command}")
                 item += 1
                 text += command
-                wanted += [f"[{item}] {word} in M", *lines]
+                head = [f"{word} in M"] if word else []
+                wanted += [f"[{item}] {(head + lines)[0]}", *(head + lines)[1:]]
                 had["solutions"] = had.get("solutions", 0) + sum(it.startswith("Solution") for it in lines)
                 had[lines[-1].split(":")[0]] = had.get(lines[-1].split(":")[0], 0) + 1
-                if not goes_on or r.random() < 0.2:
-                    break
-                more, word = r.choice([None, 1, 1, 2, 3]), "continue"
-                command = f"continue{f' {more}' if more else ''} .\n"
-                lines, goes_on = walk.lines(solutions, more)
         except TooMuch:
             continue
-        if not goes_on and r.random() < 0.1:
-            item += 1
-            text += "continue .\n"
-            wanted.append(f"[{item}] refused: NothingToContinue")
     return had, difference(program, text, wanted, ["--limit", str(limit)])
 
 

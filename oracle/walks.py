@@ -6,9 +6,9 @@ from signature import numbered
 CALLS = 200
 TRUE = (("true", ()), ())
 
-# ---- strategies: ("idle",), ("fail",), ("all",), ("label", name, assigns), ("top", strategy), ("call", name, terms), (a kind of test, pattern, fragments), and
-# those over strategies. An assign is a pair, a name and a sort, and a term; a fragment is a sign and two terms, `Bool` being that of a single one. Variables are
-# pairs in what is written, and numbers in what is run, where a test also has the sorts of its variables by number.
+# ---- strategies: ("idle",), ("fail",), ("all",), ("label", name, assigns), ("top", strategy), ("call", name, terms), (a kind of test, pattern, fragments),
+# and those over strategies. An assign is a pair, a name and a sort, and a term; a fragment is a sign and two terms, `Bool` being that of a single one.
+# Variables are pairs in what is written, and numbers in what is run, where a test also has the sorts of its variables by number.
 
 TESTS = "match", "xmatch", "amatch"
 IDLE, FAIL = ("idle",), ("fail",)
@@ -110,8 +110,8 @@ class Definition:
 
 
 class Walk(Runner):
-    """A run of a strategy, depth first over configurations: a term, what is left to do, and the enclosing tests, the innermost first. What is left to do is a list
-    of strategies, each with the calls that are left to it and the values of its variables. `tries` bounds what satisfies a strategy too."""
+    """A run of a strategy, depth first over configurations: a term, what is left to do, and the enclosing tests, the innermost first. What is left to do is
+    a list of strategies, each with the calls that are left to it and the values of its variables. `tries` bounds what satisfies a strategy too."""
 
     def __init__(self, sig, equations, memberships, rules, definitions, limit, tries):
         super().__init__(sig, equations, memberships, rules, limit, tries)
