@@ -25,7 +25,7 @@ from walks import TRUE, Definition, Walk, condition_text, numbered_strategy, sou
 
 IS_SIMPLE = "simple" in sys.argv[4:]
 LABELS = ["go", "turn", "end"]
-LEAVES = ["idle", "fail", "all", "label", "label", "label", "top", "match", "match", "call", "call"]
+LEAVES = ["idle", "fail", "all", "all", "label", "label", "label", "label", "top", "match", "match", "call", "call"]
 FORMS = ["seq", "seq", "seq", "or", "or", "star", "star", "if", "orelse", "not", "try", "test", "plus", "normal"]
 
 
@@ -108,7 +108,7 @@ def definition_text(sig, name, args, body, fragments):
 def simple_rule(sig, r):
     """A rule that often applies, over few and small terms; or nothing."""
     kind = r.choice(sorted({sig.kind[a] for a in sig.sorts if a != "Bool"}))
-    left = random_term(sig, r, kind, r.choice([0, 0, 1]), [("X", r.choice(sig.sorts)), ("Y", r.choice(sig.sorts))], 0.5)
+    left = random_term(sig, r, kind, r.choice([0, 0, 0, 1]), [("X", r.choice(sig.sorts)), ("Y", r.choice(sig.sorts))], 0.5)
     if left is None or is_variable(sig, left):
         return None
     right = random_term(sig, r, kind, r.choice([0, 0, 0, 1]), sorted(pairs_of(left)), 0.7)
@@ -118,7 +118,7 @@ def simple_rule(sig, r):
 def random_rules(sig, r):
     """Rules, some with a rewriting fragment, some with a variable that has to be given."""
     out = []
-    for it in (r.choice([random_statement, simple_rule, simple_rule])(sig, r) for _ in range(r.choice([3, 5, 7]))):
+    for it in (r.choice([random_statement, simple_rule, simple_rule, simple_rule])(sig, r) for _ in range(r.choice([4, 6, 8]))):
         if it and not isinstance(it[1], str):
             nonexec = r.random() < 0.12
             right = random_term(sig, r, kind_of(sig, it[0]), 1, [("N", r.choice(sig.sorts))], 0.7) if nonexec and r.random() < 0.7 else it[1]
@@ -164,6 +164,8 @@ def answers(r, world, walk):
     sig, pool = world.sig, [("N", r.choice(world.sig.sorts))] if r.random() < 0.3 else []
     term = random_term(sig, r, r.choice(world.kinds), r.choice([1, 2, 2]), pool, 0.2)
     written = world.strategy(r.choice([1, 2, 3]), set(pool))
+    if r.random() < 0.3:
+        written = r.choice(["star", "plus"]), ("or", *r.sample([("all",), written], 2))
     using = text_of_strategy(sig, written)
     if term is None or len(using) > 1500:
         return
