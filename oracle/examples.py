@@ -38,7 +38,7 @@ def term_of(sig, text):
             return ("v", tuple(word.split(":")))
         term = over(sig, word, *args)
         while len(args) > 2 and term[0] not in sig.operators:
-            args = [args[0], over(sig, word, *args[1:])] if len(args) == 3 else args
+            args = [*args[:-2], over(sig, word, *args[-2:])]
             term = over(sig, word, *args)
         return term
 

@@ -1,252 +1,212 @@
 #!/usr/bin/env python3
 """Compares `dsrewrite` and `continue` on random system modules and strategies with a plain reading of the specification, written apart from the code.
 
-usage: oracle/strategies.py PROGRAM FIRST LAST [conditions]
+usage: oracle/strategies.py PROGRAM FIRST LAST [conditions [plain]] [simple]
 
-For each number from FIRST on and below LAST it makes a module with random equations and labelled rules, and runs random strategies without calls on random
-terms in it. What is compared is the solutions in their order, how the listing ends, and what goes on with it. Strategies are written with all parentheses.
+For each number from FIRST on and below LAST it makes a module with random equations, labelled rules and definitions of strategies, and runs random
+strategies on random terms in it, with small bounds and small budgets. With the word `conditions` statements have conditions, and there are memberships, but
+not with the word `plain` too. With the word `simple` no strategy has terms but those of tests, none of which is `amatch`, or `match` of an associative
+operator. What is compared is the solutions in their order, how each listing ends, and what goes on with it. Of a listing that is at its end it is also seen
+here that it has just the terms that satisfy the strategy by its text.
 """
 import random
 import sys
 
 sys.dont_write_bytecode = True
 from comparing import compare_texts, difference
-from evaluation import End, Statement, TooMuch
+from evaluation import Statement, TooMuch
 from modules import random_module, random_term, suits
 from prelude import bool_equations, signature_with_truth
-from reduce import random_statement, text_of, with_strategies
-from runs import Runner, with_frozen
+from reduce import random_fragments, random_statement, text_of, with_strategies
+from runs import with_frozen
 from signature import module_text, numbered
+from statements_of import is_variable, kind_of, pairs_of, top_of
+from walks import TRUE, Definition, Walk, condition_text, numbered_strategy, source, text_of_strategy
 
-LIMIT = 150
-
-
-class Walk(Runner):
-    """A run of a strategy, depth first over configurations: a term, what is left to do, and the enclosing tests, the innermost first."""
-
-    def begin(self, term, strategy, variables):
-        self.variables, self.known, self.entered, self.shown = variables, {}, set(), 0
-        self.budget, self.count = self.limit, 0
-        self.stack = [self.entry((self.value(term), (strategy,), ()))]
-        self.is_new = True
-
-    def entry(self, config):
-        if len(self.entered) >= self.limit:
-            raise End(f"Stopped: {self.limit}.")
-        self.entered.add(config)
-        return config, self.successors(config)
-
-    def solutions_from(self):
-        """The terms of the solutions, in order."""
-        while self.stack:
-            config, rest = self.stack[-1]
-            if self.is_new:
-                self.is_new = False
-                if config[1] == () == config[2]:
-                    yield config[0]
-            following = next(rest, None)
-            if following is None:
-                self.stack.pop()
-            elif following not in self.entered:
-                self.stack.append(self.entry(following))
-                self.is_new = True
-
-    def successors(self, config):
-        term, todo, frames = config
-        if not todo:
-            if frames:
-                after, _, _, behind = frames[0]
-                yield term, (after, *behind), frames[1:]
-            return
-        (form, *parts), behind = todo[0], todo[1:]
-        if form == "seq":
-            yield term, (*parts, *behind), frames
-        elif form == "or":
-            yield term, (parts[0], *behind), frames
-            yield term, (parts[1], *behind), frames
-        elif form == "star":
-            yield term, behind, frames
-            yield term, (parts[0], todo[0], *behind), frames
-        elif form == "if":
-            yield term, (parts[0],), ((parts[1], todo[0], term, behind), *frames)
-            if not self.has_result(term, parts[0]):
-                yield term, (parts[2], *behind), frames
-        elif form in DEFINED:
-            yield term, (DEFINED[form](*parts), *behind), frames
-        else:
-            for result in self.results(form, parts, term):
-                yield result, behind, frames
-
-    def has_result(self, term, strategy):
-        """Whether the strategy has a result on the term, by all that can be reached."""
-        seen, waiting = set(), [(term, (strategy,), ())]
-        while waiting:
-            config = waiting.pop()
-            if config[1] == () == config[2]:
-                return True
-            if config in seen:
-                continue
-            seen.add(config)
-            if len(seen) > 2000:
-                raise TooMuch
-            waiting += list(self.successors(config))
-        return False
-
-    def results(self, form, parts, term):
-        if form == "idle":
-            yield term
-        elif form == "match":
-            kind, pattern, variables = parts
-            places = [x for x, _ in self.all_places(term)] if kind == "amatch" else [term]
-            if any(True for x in places for _ in self.solutions(variables, pattern, x, 1, kind != "match")):
-                yield term
-        elif form in ("all", "label", "top"):
-            label = parts[0] if parts else None
-            for x, around in [(term, lambda it: it)] if form == "top" else list(self.places(term)):
-                for rule in self.rules:
-                    if label is None or rule.label == label:
-                        yield from self.by_rule(rule, x, around)
-
-    def all_places(self, term):
-        yield term, None
-        if isinstance(term, tuple) and term[0] != "v":
-            for x in term[1]:
-                yield from self.all_places(x)
-
-    def by_rule(self, rule, term, around):
-        if rule.nonexec and not rule.is_determined:
-            return
-        for left, right, values in self.solutions(rule.variables, rule.left, term, 1, True):
-            for answer in self.solve_all(rule.variables, rule.fragments, values, 2):
-                made = self.sig.norm(rule.right, answer)
-                self.budget = self.limit
-                yield self.value(around(self.sig.over(term[0], [*left, made, *right]) if left or right else made))
-
-    def solve_all(self, variables, fragments, values, level):
-        """All solutions of a condition in order, each asking with the whole budget."""
-        self.budget = self.limit
-        if not fragments:
-            yield values
-            return
-        (sign, one, other), rest = fragments[0], fragments[1:]
-        if sign == ":=":
-            value, _ = self.evaluate(other, level, values)
-            for _, _, found in self.solutions(variables, one, value, level, False, values):
-                yield from self.solve_all(variables, rest, {**values, **found}, level)
-            return
-        value, _ = self.evaluate(one, level, values)
-        holds = other in self.sorts(value, level) if sign == ":" else value == self.evaluate(other, level, values)[0]
-        if holds:
-            yield from self.solve_all(variables, rest, values, level)
-
-    def lines(self, found, most):
-        """The lines of at most so many further solutions, and whether one may go on."""
-        out = []
-        while most is None or len(out) < 2 * most:
-            try:
-                term = next(found, None)
-            except End as end:
-                return out + [str(end)], False
-            if term is None:
-                return out + ["No more solutions." if self.shown else "No solution."], False
-            self.shown += 1
-            out += [f"Solution {self.shown}", f"result {self.shown_sort(term)}: {self.sig.shown(term, self.variables)[0]}"]
-        return out + ["Bound reached."], True
+IS_SIMPLE = "simple" in sys.argv[4:]
+LABELS = ["go", "turn", "end"]
+LEAVES = ["idle", "fail", "all", "all", "label", "label", "label", "label", "top", "match", "match", "call", "call"]
+FORMS = ["seq", "seq", "seq", "or", "or", "star", "star", "if", "orelse", "not", "try", "test", "plus", "normal"]
 
 
-IDLE, FAIL = ("idle",), ("fail",)
-DEFINED = {
-    "plus": lambda e: ("seq", e, ("star", e)), "normal": lambda e: ("seq", ("star", e), ("not", e)), "orelse": lambda e, f: ("if", e, IDLE, f),
-    "not": lambda e: ("if", e, FAIL, IDLE), "try": lambda e: ("if", e, IDLE, IDLE), "test": lambda e: ("if", ("not", e), FAIL, IDLE),
-}
+class World:
+    """What random strategies name: a signature, rules with their labels, and strategies with the kinds of their arguments."""
+
+    def __init__(self, sig, r, rules, declared):
+        self.sig, self.r, self.rules, self.declared = sig, r, rules, declared
+        self.kinds = sorted({sig.kind[a] for a in sig.sorts if a != "Bool"})
+
+    def term(self, kind, pairs, depth=1):
+        return random_term(self.sig, self.r, kind, self.r.choice([0, 0, depth]), sorted(pairs), 0.5)
+
+    def label(self, bound):
+        """A label form, some with values for variables of a rule of this label, or for others."""
+        r, (label, rule) = self.r, self.r.choice(self.rules)
+        pairs, assigns = list(Statement(*rule[:3]).variables), []
+        # (a variable that only a rule without a condition of being executable has to be given is given mostly)
+        for pair in pairs if r.random() < (0 if IS_SIMPLE else 0.8 if rule[4] else 0.25) else []:
+            if r.random() < 0.7:
+                kind = self.sig.kind.get(pair[1], pair[1])
+                term = self.term(kind if r.random() < 0.95 else r.choice(self.kinds), bound)
+                if term is not None:
+                    assigns.append((pair if r.random() < 0.95 else ("X", r.choice(self.sig.sorts)), term))
+        return "label", label, tuple(assigns)
+
+    def test(self, bound):
+        r = self.r
+        pool = set(bound) | {(name, r.choice(self.sig.sorts)) for name in r.sample("UVW", 2)}
+        pattern = random_term(self.sig, r, r.choice(self.kinds), r.choice([0, 1, 1]), sorted(pool), 0.5)
+        if pattern is None:
+            return ("idle",)
+        found = random_fragments(self.sig, r, pool, set(bound) | pairs_of(pattern)) if r.random() < 0.5 else ([], None)
+        top = top_of(self.sig, pattern)
+        is_list = isinstance(top, tuple) and top[0] != "v" and "assoc" in self.sig.op(top).attrs
+        kinds = ["match", "xmatch", "amatch"] if not IS_SIMPLE else ["xmatch"] if is_list else ["match", "xmatch"]
+        return r.choice(kinds), pattern, tuple(found[0] if found else ())
+
+    def call(self, bound):
+        if not self.declared:
+            return ("all",)
+        name, kinds = self.r.choice(self.declared)
+        terms = tuple(self.term(kind, bound, 2) for kind in kinds)
+        return ("all",) if None in terms else ("call", name, terms)
+
+    def strategy(self, depth, bound):
+        """A random strategy over variables that are bound outside."""
+        r = self.r
+        if depth == 0 or r.random() < 0.15:
+            form = r.choice(LEAVES)
+            if form == "top":
+                return form, self.label(bound) if r.random() < 0.6 else ("all",)
+            return getattr(self, "test" if form == "match" else form)(bound) if form in ("label", "match", "call") else (form,)
+        form = r.choice(FORMS)
+        return (form, *(self.strategy(depth - 1, bound) for _ in range(3 if form == "if" else 2 if form in ("seq", "or", "orelse") else 1)))
+
+    def definition(self, name, kinds):
+        """A random definition as it is written: its arguments, its fragments and its body; or nothing."""
+        r = self.r
+        pool = {(name, r.choice(self.sig.sorts)) for name in r.sample("PQR", 2)}
+        args = tuple(self.term(kind, pool) for kind in kinds)
+        if None in args:
+            return None
+        bound = {pair for it in args for pair in pairs_of(it)}
+        found = random_fragments(self.sig, r, pool, bound) if r.random() < (0 if IS_SIMPLE else 0.3) else ([], bound)
+        if found is None:
+            return None
+        body = self.strategy(r.choice([0, 1, 2]), found[1])
+        if r.random() < 0.3:
+            body = ("orelse" if r.random() < 0.2 else r.choice(["seq", "or"]), body, self.call(found[1]))
+        return name, args, body, tuple(found[0])
 
 
-def random_strategy(sig, r, depth, labels):
-    """A strategy and its text."""
-    one = lambda: random_strategy(sig, r, depth - 1, labels)
-    if depth == 0 or r.random() < 0.15:
-        form = r.choice(["idle", "fail", "all", "label", "label", "label", "top", "match"])
-        if form == "label":
-            label = r.choice(labels)
-            return ("label", label), label
-        if form == "top":
-            label = r.choice([None, *labels])
-            return ("top", label) if label else ("top",), f"top({label or 'all'})"
-        if form == "match":
-            kinds = sorted({sig.kind[a] for a in sig.sorts if a != "Bool"})
-            pattern = random_term(sig, r, r.choice(kinds), r.choice([0, 1, 1]), [("Y", r.choice(sig.sorts))], 0.5)
-            if pattern is None:
-                return IDLE, "idle"
-            variables, kind = [], r.choice(["match", "xmatch", "amatch"])
-            pattern = numbered(pattern, variables)
-            return ("match", kind, pattern, tuple(variables)), f"({kind} {sig.source(pattern, variables)})"
-        return (form,), form
-    form = r.choice(["seq", "seq", "or", "star", "if", "orelse", "not", "try", "test", "plus", "normal"])
-    (e, text), (f, other), (g, third) = one(), one(), one()
-    if form in ("not", "try", "test"):
-        return (form, e), f"{form}({text})"
-    if form in ("star", "plus", "normal"):
-        return (form, e), f"(({text}) {dict(star='*', plus='+', normal='!')[form]})"
-    if form == "if":
-        return (form, e, f, g), f"(({text}) ? ({other}) : ({third}))"
-    return (form, e, f), f"(({text}) {dict(seq=';', orelse='or-else').get(form, '|')} ({other}))"
+def definition_text(sig, name, args, body, fragments):
+    left = f"{name}({', '.join(source(sig, it) for it in args)})" if args else name
+    condition = f" if {condition_text(sig, fragments, False)}" if fragments else ""
+    return f"{'c' if fragments else ''}sd {left} := {text_of_strategy(sig, body)}{condition} .\n"
+
+
+def simple_rule(sig, r):
+    """A rule that often applies, over few and small terms; or nothing."""
+    kind = r.choice(sorted({sig.kind[a] for a in sig.sorts if a != "Bool"}))
+    left = random_term(sig, r, kind, r.choice([0, 0, 0, 1]), [("X", r.choice(sig.sorts)), ("Y", r.choice(sig.sorts))], 0.5)
+    if left is None or is_variable(sig, left):
+        return None
+    right = random_term(sig, r, kind, r.choice([0, 0, 0, 1]), sorted(pairs_of(left)), 0.7)
+    return None if right is None else (left, right, [], False, False)
+
+
+def random_rules(sig, r):
+    """Rules, some with a rewriting fragment, some with a variable that has to be given."""
+    out = []
+    for it in (r.choice([random_statement, simple_rule, simple_rule, simple_rule])(sig, r) for _ in range(r.choice([4, 6, 8]))):
+        if it and not isinstance(it[1], str):
+            nonexec = r.random() < 0.12
+            right = random_term(sig, r, kind_of(sig, it[0]), 1, [("N", r.choice(sig.sorts))], 0.7) if nonexec and r.random() < 0.7 else it[1]
+            reach = [("=>", it[0], it[0])] if r.random() < 0.03 else []
+            out.append((it[0], it[1] if right is None else right, it[2] + reach, False, nonexec))
+    return out
+
+
+def made(it):
+    return Statement(it[0], it[1], [("=", one, TRUE) if sign == "Bool" else (sign, one, other) for sign, one, other in it[2]], it[3], it[4])
+
+
+def random_world(r, module):
+    """A random module with rules and strategies: its text, what is in it, and what makes runs in it. Nothing where it isn't suited."""
+    sig = signature_with_truth(module)
+    if not suits(sig) or sig.refusal():
+        return None
+    statements = [it for it in (random_statement(sig, r) for _ in range(r.choice([0, 0, 1, 2]))) if it]
+    of_rules = random_rules(sig, r)
+    if not of_rules:
+        return None
+    labels, kinds = ["go", *(r.choice(LABELS) for _ in of_rules[1:])], sorted({sig.kind[a] for a in sig.sorts if a != "Bool"})
+    names = r.choice([[], [("plan", 0)], [("plan", 1)], [("plan", 0), ("other", 1)], [("plan", 2), ("plan", 1), ("turn", 0)]])
+    declared = [(name, tuple(r.choice(kinds) for _ in range(count))) for name, count in names if not (IS_SIMPLE and count)]
+    hidden = {name for name, _ in declared}
+    world = World(sig, r, [(label, it) for label, it in zip(labels, of_rules) if label not in hidden], declared)
+    definitions = [it for name, kinds in declared for it in [world.definition(name, kinds) for _ in range(r.choice([0, 1, 1, 2]))] if it]
+    text = module_text(*module)[: -len("endfm\n")].replace("fmod", "smod" if declared else "mod", 1) + "".join(text_of(sig, it) for it in statements)
+    text += "".join(text_of(sig, it, "rl").replace("rl ", f"rl [{label}] : ", 1) for it, label in zip(of_rules, labels))
+    for name, kinds in declared:
+        text += f"strat {name}{' :' if kinds else ''} {' '.join(kind[1:] for kind in kinds)} @ {r.choice(module[0])} .\n"
+    text += "".join(definition_text(sig, *it) for it in definitions) + ("endsm\n" if declared else "endm\n")
+    rules = [made(it) for it in of_rules]
+    for rule, label in zip(rules, labels):
+        rule.label = label
+    equations = bool_equations(sig) + [made(it) for it in statements if not isinstance(it[1], str)]
+    memberships = [made(it) for it in statements if isinstance(it[1], str)]
+    return text, world, lambda limit: Walk(sig, equations, memberships, rules, [Definition(*it) for it in definitions], limit, 400_000)
+
+
+def answers(r, world, walk):
+    """The text, the long name and the lines of a random command, and of what goes on with it."""
+    sig, pool = world.sig, [("N", r.choice(world.sig.sorts))] if r.random() < 0.3 else []
+    term = random_term(sig, r, r.choice(world.kinds), r.choice([1, 2, 2]), pool, 0.2)
+    written = world.strategy(r.choice([1, 2, 3]), set(pool))
+    if r.random() < 0.3:
+        written = r.choice(["star", "plus"]), ("or", *r.sample([("all",), written], 2))
+    using = text_of_strategy(sig, written)
+    if term is None or len(using) > 1500:
+        return
+    variables, most = [], r.choice([None, None, 1, 2])
+    term = numbered(term, variables)
+    command = f"{r.choice(['dsrewrite', 'dsrew'])}{f' [{most}]' if most else ''} {sig.source(term, variables)} using {using} .\n"
+    lines, solutions, goes_on = walk.listing(term, numbered_strategy(written, variables), variables, most)
+    yield command, "dsrewrite", lines
+    while goes_on and r.random() < 0.8:
+        most = r.choice([None, 1, 1, 2, 3])
+        lines, goes_on = walk.lines(solutions, most)
+        yield f"continue{f' {most}' if most else ''} .\n", "continue", lines
+    if not goes_on and r.random() < 0.1:
+        yield "continue .\n", "", ["refused: NothingToContinue"]
 
 
 def compare(number, program):
     r = random.Random(number)
     own, pairs, declarations, with_nat = random_module(r)
-    module = own, pairs, with_frozen(r, with_strategies(r, declarations)), with_nat
-    sig = signature_with_truth(module)
-    if not suits(sig) or sig.refusal():
+    found = random_world(r, (own, pairs, with_frozen(r, with_strategies(r, declarations)), with_nat))
+    if not found:
         return ["unsuited"], None
-    of_equations = [it for it in (random_statement(sig, r) for _ in range(r.choice([0, 0, 1, 2]))) if it and not it[2]]
-    of_rules = [(*it[:3], False, False) for it in (random_statement(sig, r) for _ in range(r.choice([2, 4, 6]))) if it and not isinstance(it[1], str)]
-    if not of_rules:
-        return ["unsuited"], None
-    labels = [r.choice(["go", "turn", "end"]) for _ in of_rules]
-    text = module_text(*module)[: -len("endfm\n")].replace("fmod", "mod", 1) + "".join(text_of(sig, it) for it in of_equations)
-    text += "".join(text_of(sig, it, "rl").replace("rl ", f"rl [{label}] : ", 1) for it, label in zip(of_rules, labels)) + "endm\n"
-    true = (("true", ()), ())
-    make = lambda it: Statement(it[0], it[1], [("=", one, true) if sign == "Bool" else (sign, one, other) for sign, one, other in it[2]], it[3], it[4])
-    made, rules = [make(it) for it in of_equations], [make(it) for it in of_rules]
-    for rule, label in zip(rules, labels):
-        rule.label, rule.is_determined = label, True
-    equations = bool_equations(sig) + [it for it in made if not isinstance(it.right, str)]
+    (text, world, start), limit = found, r.choice([15, 60, 60, 60, 150, 450])
     wanted, item, had = ["[1] module M"], 1, {"modules": 1}
-    for _ in range(4):
-        term = random_term(sig, r, r.choice(sorted({sig.kind[a] for a in sig.sorts if a != "Bool"})), r.choice([1, 2, 2]), [], 0)
-        if term is None:
+    for _ in range(5):
+        walk = start(limit)
+        try:
+            for command, word, lines in answers(r, world, walk):
+                if lines[-1] in ("No solution.", "No more solutions.") and not walk.all_found():
+                    raise AssertionError(f"text {number}: what was listed isn't what satisfies the strategy\n{text}{command}")
+                item += 1
+                text += command
+                head = [f"{word} in M"] if word else []
+                wanted += [f"[{item}] {(head + lines)[0]}", *(head + lines)[1:]]
+                had["solutions"] = had.get("solutions", 0) + sum(it.startswith("Solution") for it in lines)
+                had[lines[-1].split(":")[0]] = had.get(lines[-1].split(":")[0], 0) + 1
+        except TooMuch:
             continue
-        strategy, source = random_strategy(sig, r, r.choice([1, 2, 3]), sorted(set(labels)))
-        variables, most = [], r.choice([None, None, 1, 2])
-        term = numbered(term, variables)
-        walk = Walk(sig, equations, [it for it in made if isinstance(it.right, str)], rules, LIMIT, 600_000)
-        command, first = f"dsrewrite{f' [{most}]' if most else ''} {sig.source(term, variables)} using {source} .\n", True
-        found = None
-        while True:
-            try:
-                if found is None:
-                    try:
-                        walk.begin(term, strategy, variables)
-                        found = walk.solutions_from()
-                        lines, goes_on = walk.lines(found, most)
-                    except End as end:
-                        lines, goes_on = [str(end)], False
-                else:
-                    lines, goes_on = walk.lines(found, most)
-            except TooMuch:
-                break
-            item += 1
-            text += command
-            wanted += [f"[{item}] {'dsrewrite' if first else 'continue'} in M", *lines]
-            had["solutions"] = had.get("solutions", 0) + sum(it.startswith("Solution") for it in lines)
-            had[lines[-1].split(":")[0]] = had.get(lines[-1].split(":")[0], 0) + 1
-            if not goes_on or r.random() < 0.3:
-                break
-            most, first = r.choice([1, 2, 3]), False
-            command = f"continue {most} .\n"
-    return had, difference(program, text, wanted, ["--limit", str(LIMIT)])
+    return had, difference(program, text, wanted, ["--limit", str(limit)])
 
 
 if __name__ == "__main__":
+    sys.setrecursionlimit(30_000)
     compare_texts(compare)
