@@ -60,12 +60,7 @@ fn ask<E: Evaluator + Drop, L: Lister + Drop>(
 }
 
 /// What came of asking, with the sort that is shown for a solution.
-fn with_sort<E: Evaluator>(
-    program: &Program,
-    store: &Store,
-    evaluator: &E,
-    next: Next,
-) -> NextShown
+fn with_sort<E: Evaluator>(program: &Program, store: &Store, evaluator: &E, next: Next) -> NextShown
     requires program { (E.meanings evaluator.now).program ≡ program.now }
     requires fits { E.fits evaluator.now store.now }
     requires term { IsValue program.now store.now (E.table evaluator.now) next }

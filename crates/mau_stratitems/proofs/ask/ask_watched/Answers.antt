@@ -15,7 +15,7 @@ next_solution-next-requires-clause-run g c =
     let m = g.E.Evaluator.meanings c.args.evaluator in
     let table = g.E.Evaluator.table c.args.evaluator in
     let run : CanRunOver g.L.Lister.asked g.L.Lister.given g.L.Lister.is_for g.L.Lister.with_context c.args.program.now m c.items.result.now table c.args.run =
-        subst (λ (l : List StrategyOf). CanRunOver g.L.Lister.asked g.L.Lister.given g.L.Lister.is_for g.L.Lister.with_context c.args.program.now m l table c.args.run) (sym c.items.ensures.leaves) c.requires.run in
+    subst (λ (l : List StrategyOf). CanRunOver g.L.Lister.asked g.L.Lister.given g.L.Lister.is_for g.L.Lister.with_context c.args.program.now m l table c.args.run) (sym c.items.ensures.leaves) c.requires.run in
     run.running
 
 pub returns-clause-asked : goal.returns-clause-asked

@@ -57,7 +57,7 @@ returns-in-Ok-clause-reached g c =
     } in
     let parts = c.new-giver.ensures.parts in
     let made_in = made_of c.args.program.now.strategies c.args.program.now.strategies c.args.strategy.now made.forms made.leaves x.leaves.now made.bodies.items made.strategy.0
-        refl (parts.1 ∙ c.items.ensures.leaves) c.in_ok-made.ensures in
+    refl (parts.1 ∙ c.items.ensures.leaves) c.in_ok-made.ensures in
     begins_at k b.course.leaves.leaves.now (ap (λ (r : RunLeaves g.row.E.Denot g.row.L.Denot). r.leaves.now) c.in-Ok.ensures.leaves ∙ (parts.1 ∙ c.items.ensures.leaves))
     (strategy_at (leaf_at x.leaves.now) made.forms made.strategy.0) (meaning_of c.args.strategy.now) (tree_at x.store c.args.term.0) (tree_at c.args.store c.args.term.0)
     c.in-Ok.ensures.reached made_in.strategy.1 (ap (λ (ns : List Node). tree_at ns c.args.term.0) parts.2)
