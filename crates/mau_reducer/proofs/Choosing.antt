@@ -37,7 +37,7 @@ use Rattle.mau_machine.specs.Words.{Words, LeadsTo, IsKnownBy, rest_of, pattern_
 use Rattle.mau_choices.specs.declared.choices.Choices.{Choices}
 use Rattle.mau_reduce.specs.Comes.{ComesTo}
 use Rattle.mau_reduce.proofs.Comes.{comes_from, comes_as}
-use Rattle.mau_settling.specs.declared.settling.Settling.{Settling}
+use Rattle.mau_reducer.specs.declared.at_once.Sorting.{Sorting}
 use Rattle.mau_reducer.proofs.Leading.{leads_of}
 use Rattle.mau_choices.specs.Choosing.{left_of_choices, behind_own, IsChoosing}
 use Rattle.mau_choices.proofs.Begun.{unchosen_begun, own_begun}
@@ -100,7 +100,7 @@ all_apart b d nodes table e i σ h = subst AreApart (sym (all_variables b nodes 
 module _ {L M : Type 0} (c : Bool) (asked : L → Asked) (given : L → Option Solution) (is_for : L → SignatureOf → Type 0)
     (asked_whole : M → Asked) (given_whole : M → Option Solution) (is_for_whole : M → SignatureOf → Type 0) (b : Basis) (nodes : List Node) (table : Table)
     (e i : ℕ) (σ : Kept) (h : IsKnownBinding b nodes table e i σ) (v : TermId) where
-  abbrev words : Words (Candidates L) (Choices M) Kept Settling
+  abbrev words : Words (Candidates L) (Choices M) Kept Sorting
   words = words_of c asked given is_for asked_whole given_whole is_for_whole b nodes table
 
   abbrev P : Program
@@ -155,7 +155,7 @@ module _ {L M : Type 0} (c : Bool) (asked : L → Asked) (given : L → Option S
     (asked_whole : M → Asked) (given_whole : M → Option Solution) (is_for_whole : M → SignatureOf → Type 0) (b : Basis) (old new : List Node) (before after : Table)
     (begun : Bool) (h : ComesOf b b old new before after begun) (e i : ℕ) (p u : Bare) (at : slice_get (written_at b e) i ≡ Some (Match p u)) (x x' : Choices M)
     (is : AreKnownChoices c asked given is_for asked_whole given_whole is_for_whole b old before e i x) (same_binding : x'.binding ≡ x.binding) (same_value : x'.value ≡ x.value) where
-  abbrev words_now : Words (Candidates L) (Choices M) Kept Settling
+  abbrev words_now : Words (Candidates L) (Choices M) Kept Sorting
   words_now = words_of c asked given is_for asked_whole given_whole is_for_whole b new after
 
   abbrev Q : Program

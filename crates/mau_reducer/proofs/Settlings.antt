@@ -19,12 +19,13 @@ use Rattle.mau_terms.proofs.Chains.{first_bare}
 use Rattle.mau_terms.proofs.Instances.{values_bare}
 use Rattle.mau_terms.proofs.Variables.{variables_occur, values_of_variables}
 use Rattle.mau_signature.specs.Signature.{SignatureOf, theory_at, terms_over}
-use Rattle.mau_store.specs.Node.{Node, AreNodes}
+use Rattle.mau_store.specs.Node.{Node, IsOf, AreNodes}
 use Rattle.mau_store.specs.Trees.{tree_at, trees_at}
 use Rattle.mau_store.specs.View.{numbers}
 use Rattle.mau_canon.specs.Standing.{StandsWithin, StandWithin}
-use Rattle.mau_sorts.specs.Table.{Table}
-use Rattle.mau_listing.specs.Asked.{HasEntry}
+use Rattle.mau_sorts.specs.Table.{Table, IsSettled as IsEntered}
+use Rattle.mau_listing.specs.Asked.{HasEntry, IsClosedTable}
+use Rattle.mau_listing.proofs.Closed.{closed_below}
 use Rattle.mau_listing.proofs.Growth.{trees_long}
 use Rattle.mau_program.specs.declared.program.Program as Typed
 use Rattle.mau_program.specs.declared.statements.Membership.{Membership as Written}
@@ -48,6 +49,7 @@ use Rattle.mau_deriving.specs.Asking.{Stands, Derives}
 use Rattle.mau_deriving.specs.Derivations.{head_binding, AreQuestions, AreOpen}
 use Rattle.mau_deriving.specs.declared.derivation.Deriving.{Deriving}
 use Rattle.mau_deriving.proofs.Lawful.{heads, lawful_one, mapped_at, at_in}
+use Rattle.mau_settling.specs.Beginning.{AreIdentitiesSettled}
 use Rattle.mau_settling.specs.Settlings.{IsSettling, IsDerivingIn, Asks, IsAskingOf, CanEnd, left_of}
 use Rattle.mau_settling.specs.declared.settling.Settling.{Settling}
 use Rattle.mau_settling.proofs.Ended.{conditions_end, settled_is_known}
@@ -73,6 +75,16 @@ module _ (b : Basis) (nodes : List Node) (table : Table) (t : TermId) where
   pub begun : (r : Result Settling Failed) → IfOk r (IsSettling b.program nodes table) → IfOk r (λ d. d.current ≡ None) → IfOk r (λ d. d.term ≡ t) → IfOk r (IsKnownSettling b nodes table t.0)
   begun (Ok d) is none own = record { own = ap (λ (x : TermId). x.0) own; settling = is; derives = current_is (Derives b.program b.hooks b.limit nodes) d.current none }
   begun (Err e) is none own = tt
+
+-- ---- what is settled at once
+
+pub settled_at_once : (s : SignatureOf) (nodes : List Node) → AreNodes nodes → (table : Table) → IsClosedTable nodes table → AreIdentitiesSettled s nodes table → (t : ℕ) → IsOf nodes t → IsEntered table t →
+    AreSettled s nodes table (tree_at nodes t)
+settled_at_once s nodes are table closed identities t there settled = record {
+  identities = identities;
+  below = λ u b. closed_below nodes are table closed t settled u b;
+  itself = record { number = t; there = there; tree = refl; settled = settled };
+}
 
 -- ---- the values of the variables of a head
 

@@ -39,6 +39,7 @@ use Rattle.mau_machine.specs.declared.goal.Goal.{Goal}
 use Rattle.mau_machine.specs.declared.goal.Goal.TheVariants.{Nothing, Equality, Sort as OfSort, Matching, Reaching}
 use Rattle.mau_machine.specs.Words.{Rules, Words, Asks, rest_of, pattern_in}
 use Rattle.mau_reducer.specs.declared.reducer.Candidates.{Candidates}
+use Rattle.mau_reducer.specs.declared.at_once.Sorting.{Sorting}
 use Rattle.mau_choices.specs.declared.choices.Choices.{Choices}
 use Rattle.mau_settling.specs.Settlings.{IsSettling, DerivesCurrent}
 use Rattle.mau_settling.specs.Settlings as Asking
@@ -186,6 +187,21 @@ pub record IsKnownAsking (b : Basis) (nodes : List Node) (table : Table) (t e : 
   pub number : e ≡ suc (suc (length b.program.equations)) + place
   pub values : σ ≡ binding_in nodes question
 
+-- ---- how sorts are settled
+
+abbrev pub way_of : Sorting → Option Settling
+way_of d = option_map (λ x. x.value) d.way
+
+-- the sorts of the term t are settled, or are being settled
+abbrev pub IsKnownWay : Basis → List Node → Table → ℕ → Option Settling → Type 0
+IsKnownWay b nodes table t None = IsKnownValue b.program.sig nodes table t
+IsKnownWay b nodes table t (Some d) = IsKnownSettling b nodes table t d
+
+-- they are being settled, and the condition e has to be solved next
+abbrev pub IsAskingWay : Basis → List Node → Table → ℕ → ℕ → Bound → Option Settling → Type 0
+IsAskingWay b nodes table t e σ None = ⊥
+IsAskingWay b nodes table t e σ (Some d) = IsKnownAsking b nodes table t e σ d
+
 -- c says whether the listings of equations have contexts; those of fragments have none
 module _ {L M : Type 0} (c : Bool) (asked : L → Asked) (given : L → Option Solution) (is_for : L → SignatureOf → Type 0)
     (asked_whole : M → Asked) (given_whole : M → Option Solution) (is_for_whole : M → SignatureOf → Type 0) (b : Basis) (nodes : List Node) (table : Table) where
@@ -213,7 +229,7 @@ module _ {L M : Type 0} (c : Bool) (asked : L → Asked) (given : L → Option S
     pub variables : map (λ y. variable_of y.0) x.binding ≡ bound_before b e i
     pub bound : AreBoundFrom b e i
 
-  abbrev pub words_of : Words (Candidates L) (Choices M) Binding Settling
+  abbrev pub words_of : Words (Candidates L) (Choices M) Binding Sorting
   words_of = record {
     rules = rules_of b;
     tree = tree_at nodes;
@@ -223,8 +239,8 @@ module _ {L M : Type 0} (c : Bool) (asked : L → Asked) (given : L → Option S
     bound = bound_in nodes;
     knows_binding = IsKnownBinding b nodes table;
     knows_last = λ σ. StandWithin (theory_at b.program.sig) nodes (numbers σ.values.items);
-    knows_settling = IsKnownSettling b nodes table;
-    knows_asking = IsKnownAsking b nodes table;
+    knows_settling = λ t d. IsKnownWay b nodes table t (way_of d);
+    knows_asking = λ t e σ d. IsAskingWay b nodes table t e σ (way_of d);
     untried = λ a k. untried_by (program_over b.program b.hooks) b.limit k nodes (tree_at nodes a.term.0) a.attempts.value.given
         (option_map (λ x. (x.number, given x.listing)) a.attempts.value.tried) (drop a.attempts.value.next (order_for b.program (tree_at nodes a.term.0)));
     knows_attempts = AreKnownCandidates;

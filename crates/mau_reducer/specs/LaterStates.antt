@@ -44,7 +44,7 @@ use Rattle.mau_reducer.specs.declared.reducer.Candidates.{Candidates}
 use Rattle.mau_choices.specs.declared.choices.Choices.{Choices}
 use Rattle.mau_choices.proofs.Later.{value_same, binding_same, choosing_grown, left_same}
 use Rattle.mau_reducer.specs.Basis.{Basis}
-use Rattle.mau_reducer.specs.Handles.{rules_of, as_id, IsKnownTerm, IsKnownValue, AreKnownOperands, IsKnownBinding, IsKnownSettling, IsKnownAsking, AreKnownCandidates, IsKnownCandidate, AreKnownChoices, words_of}
+use Rattle.mau_reducer.specs.Handles.{rules_of, as_id, IsKnownTerm, IsKnownValue, AreKnownOperands, IsKnownBinding, IsKnownSettling, IsKnownAsking, way_of, IsKnownWay, IsAskingWay, AreKnownCandidates, IsKnownCandidate, AreKnownChoices, words_of}
 use Rattle.mau_reducer.specs.States.{IsOwnTable, IsFit, ComesOf}
 
 -- ---- they are an order
@@ -234,6 +234,14 @@ module _ {L M : Type 0} (c : Bool) (asked : L → Asked) (given : L → Option S
         values = k.values ∙ sym (sorted_same b.program.sig old new before after h.extends h.kept (tree_of k.membership.left) k.question sorted);
       }
 
+  way_known : (t : ℕ) (o : Option Settling) → IsKnownWay b old before t o → IsKnownWay b new after t o
+  way_known t None k = (value_later b.program.sig old new h.extends before after h.kept t k).0
+  way_known t (Some d) k = settling_known t d k
+
+  asking_way_known : (t e : ℕ) (σ : Binding) (o : Option Settling) → IsAskingWay b old before t e σ o → IsAskingWay b new after t e σ o
+  asking_way_known t e σ None k = k
+  asking_way_known t e σ (Some d) k = asking_known t e σ d k
+
   words_stay : Keeps (words_of c asked given is_for asked_whole given_whole is_for_whole b old before) (words_of c asked given is_for asked_whole given_whole is_for_whole b new after)
   words_stay = record {
     rules = refl;
@@ -242,8 +250,8 @@ module _ {L M : Type 0} (c : Bool) (asked : L → Asked) (given : L → Option S
     operands = operands_later b.program.sig old new h.extends;
     bindings = binding_later b old new before after begun h;
     lasts = λ σ k. (stand_within_extended (theory_at b.program.sig) old new (numbers σ.values.items) h.extends k, bound_grown b.program old new h.extends σ k);
-    settlings = settling_known;
-    askings = asking_known;
+    settlings = λ t d. way_known t (way_of d);
+    askings = λ t e σ d. asking_way_known t e σ (way_of d);
     attempts = λ t a k. (candidates_known t a k, untried_same t a k);
     candidates = λ t e a k. (candidate_known t e a k, makes_same t e a k);
     choices = λ e i x k. (choices_known e i x k, choices_same e i x k);

@@ -2,15 +2,18 @@
 #![tactic(auto)]
 
 mod asking;
+mod at_once;
 mod evaluating;
 mod flagged;
 mod fragments;
 mod keeping;
 pub mod laws;
 mod reducer;
+mod settling;
 mod tests_of_programs;
 mod world;
 
+pub use at_once::Sorting;
 pub use flagged::Flagged;
 pub use reducer::{Candidates, Reducer};
 pub use tests_of_programs::derives_nothing;

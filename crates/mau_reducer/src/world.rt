@@ -5,7 +5,8 @@ ghost use Rattle.std.specs.Option.{option_copied, option_map};
 ghost use Rattle.mau_reducer.specs.Handles.{goal_in};
 
 use crate::asking::values_of;
-use crate::fragments::{fragment_at, number_of_member, pattern_at, side_at, sort_at};
+use crate::at_once::Sorting;
+use crate::fragments::{fragment_at, pattern_at, side_at, sort_at};
 use crate::reducer::{Candidates, Reducer};
 use mau_api::{EvalEnd, Fragment, Lister, Step};
 use mau_choices::{Choices, begin_choices, next_choice, own_choice};
@@ -15,7 +16,6 @@ use mau_machine::{Goal, World};
 use mau_reduce::{
     Binding, Natives, begin_attempts, instance, make, next_attempt, open, rebuild, step,
 };
-use mau_settling::{Settling, begin_settling, settle_term};
 use mau_store::Store;
 use mau_terms::{NoMemory, OpId, TermId};
 
@@ -62,7 +62,7 @@ impl<'a, L: Lister + Drop, M: WholeLister + Drop, N: Natives + Drop> World
 
     type Binding = Binding;
 
-    type Settling = Settling;
+    type Settling = Sorting;
 
     ghost words = { λ w nodes. words_of L.with_context L.asked L.given L.is_for M.asked M.given M.is_for
         (basis_of N.operators w) nodes w.table };
@@ -106,36 +106,26 @@ impl<'a, L: Lister + Drop, M: WholeLister + Drop, N: Natives + Drop> World
         self.limit
     }
 
-    fn settling(&mut self, store: &mut Store, term: TermId) -> Result<Settling, NoMemory> {
-        if self.begun {
-            return settle_term(store, self.program, term);
-        }
-        begin_settling(store, self.program, term)
+    fn settling(&mut self, store: &mut Store, term: TermId) -> Result<Sorting, NoMemory> {
+        self.begin_sorting(store, term)
     }
 
     fn settle(
         &mut self,
         store: &mut Store,
-        _: TermId,
-        settling: &mut Settling,
+        term: TermId,
+        settling: &mut Sorting,
     ) -> Result<Option<(usize, Binding)>, NoMemory> {
-        let asks = settling.advance::<M>(store, self.program, &mut self.table)?;
-        has_nodes(store);
-        if asks {
-            return match settling.question() {
-                Some((at, question)) => {
-                    let binding = values_of(store.allocator(), question.items())?;
-                    Ok(Some((number_of_member(self.program, at), binding)))
-                }
-                None => unreachable!(),
-            };
+        match &mut settling.way {
+            Some(way) => self.derive(store, term, &mut **way),
+            None => Ok(None),
         }
-        self.begun = true;
-        Ok(None)
     }
 
-    fn told(&self, _: &Store, _: TermId, _: usize, holds: bool, settling: &mut Settling) {
-        settling.told(holds);
+    fn told(&self, _: &Store, _: TermId, _: usize, holds: bool, settling: &mut Sorting) {
+        if let Some(way) = &mut settling.way {
+            way.told(holds);
+        }
     }
 
     fn attempts(&mut self, store: &mut Store, term: TermId) -> Result<Candidates<L>, NoMemory> {
