@@ -14,6 +14,8 @@ pub mod AtPlace
 pub mod Laws
 -- the term that a use of a rule leads to
 pub mod Values
+-- terms that are evaluated in turn
+pub mod InTurn
 -- searches for the results of rules at the root of a term
 pub mod Top
 -- searches for the results of rules at all places of a term

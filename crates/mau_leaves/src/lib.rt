@@ -12,6 +12,7 @@ mod top;
 mod turn;
 mod uses;
 mod value;
+mod values;
 
 pub use bodies::CallBodies;
 pub use cursor::{CallCursor, LeafCursor, RunLeaves};
