@@ -19,7 +19,7 @@ use Rattle.mau_api.specs.Meanings.{Meanings}
 use Rattle.mau_api.specs.Answers.{AreSettled}
 use Rattle.mau_leaves.specs.Steps.{Before}
 use Rattle.mau_leaves.specs.Uses.{Use, uses_of_all}
-use Rattle.mau_leaves.specs.Searches.{left_in, use_in, IsUsable, IsSearch}
+use Rattle.mau_leaves.specs.Searches.{left_in, use_in, variables_in, IsUsable, IsSearch}
 use Rattle.mau_leaves.specs.declared.uses.RuleUses.{RuleUses}
 use Rattle.mau_leaves.specs.declared.place.PlaceUses.{PlaceUses}
 
@@ -28,7 +28,7 @@ module _ {K : Type 0} (asked : K → Asked) (given : K → Option Listed.Solutio
   -- what is left of the uses of one rule, if there is one
   abbrev pub left_of_one : Typed.Program → List Operator → Option Written.Rule → List Node → RuleUses K → Engine → Answers Use → Type 0
   left_of_one p hooks None nodes u = λ L q. q ≡ no_more
-  left_of_one p hooks (Some rule) nodes u = left_in p hooks rule nodes (asked u.listing) (given u.listing) u.standing
+  left_of_one p hooks (Some rule) nodes u = left_in p hooks rule u.whole u.bound.items nodes (asked u.listing) (given u.listing) u.standing
 
   -- what is left where the rules from one on are left, or the uses of a rule and then the rules behind it
   abbrev pub left_behind : Typed.Program → List Operator → (Rule → Bool) → Tree → List Node → ℕ → Option (RuleUses K) → Engine → Answers Use → Type 0
@@ -56,8 +56,8 @@ module _ {K : Type 0} (asked : K → Asked) (given : K → Option Listed.Solutio
   pub record IsOpenAt (is_for : K → SignatureOf → Type 0) (c : Bool) (p : Typed.Program) (m : Meanings) (nodes : List Node) (table : Table) (term n : ℕ) (u : RuleUses K) : Type 0 where
     pub rule : Written.Rule
     pub at : slice_get p.rules n ≡ Some rule
-    pub usable : IsUsable p.sig rule
-    pub search : IsSearch c p m rule nodes table (asked u.listing) (given u.listing) u.standing
+    pub usable : IsUsable p.sig (variables_in u.bound.items) rule
+    pub search : IsSearch c p m rule u.bound.items nodes table (asked u.listing) (given u.listing) u.standing
     pub subject : (asked u.listing).subject.0 ≡ term
     pub signature : is_for u.listing p.sig
 

@@ -1,5 +1,5 @@
 -- The uses of rules are what the results of leaves are made of.
-use Rattle.std.specs.Prelude.{◌≡◌, ℕ, List, [], Some, None}
+use Rattle.std.specs.Prelude.{◌≡◌, ℕ, List, [], false, Some, None}
 use Rattle.mau_evaluation.specs.Program.{Rule, Program}
 use Rattle.mau_evaluation.specs.Evaluation.{Binding}
 use Rattle.mau_evaluation.specs.Engine.{Engine}
@@ -12,6 +12,6 @@ use Rattle.mau_leaves.specs.Uses.{uses_by, uses_of_all, is_chosen, value_at}
 -- assigned
 abbrev pub UsesLeadToResults : Type 0
 UsesLeadToResults = (P : Program) (L : Engine) (s : Place) →
-    ((q : Rule) (σ : Binding) → for_each (value_at P L s) (uses_by P L q σ s.term) ≡ rewrites_by P L q σ s) ×
+    ((q : Rule) (σ : Binding) → for_each (value_at P L s) (uses_by P L false q σ s.term) ≡ rewrites_by P L q σ s) ×
     (for_each (value_at P L s) (uses_of_all P L (is_chosen None) s.term P.rules) ≡ any_place P L s) ×
     ((n : List ℕ) → for_each (value_at P L s) (uses_of_all P L (is_chosen (Some n)) s.term P.rules) ≡ labelled_place P L n [] [] s)

@@ -1,11 +1,11 @@
 -- Searches for the uses of one rule by the numbers of a store: where they stand, and what is left.
-use Rattle.std.specs.Prelude.{◌≡◌, ℕ, List, [], All, Bool, true, false, Option, Some, None, IfSome, Result, Ok, Err}
+use Rattle.std.specs.Prelude.{◌≡◌, ℕ, List, [], map, All, Bool, true, false, Option, Some, None, IfSome, Result, Ok, Err}
 use Rattle.std.specs.Option.{option_map}
 use Rattle.mau_terms.specs.Tree.{Tree}
 use Rattle.mau_terms.specs.Bare.{IsBareIn}
 use Rattle.mau_terms.specs.Reading.{reading}
-use Rattle.mau_terms.specs.Subst.{variables}
-use Rattle.mau_terms.specs.View.{tree_of}
+use Rattle.mau_terms.specs.Subst.{Variable, variables, add_variables}
+use Rattle.mau_terms.specs.View.{tree_of, variable_of}
 use Rattle.mau_terms.specs.declared.ids.TermId.{TermId}
 use Rattle.mau_terms.specs.declared.ids.VarId.{VarId}
 use Rattle.mau_signature.specs.Signature.{SignatureOf, theory_at, terms_over}
@@ -20,12 +20,14 @@ use Rattle.mau_program.specs.LawfulStatements.{AreOfOneKind}
 use Rattle.mau_program.specs.declared.program.Program as Typed
 use Rattle.mau_program.specs.declared.statements.Rule as Written
 use Rattle.mau_evaluation.specs.Program.{Program}
-use Rattle.mau_evaluation.specs.Evaluation.{Binding, binding_of}
+use Rattle.mau_evaluation.specs.Listing.{Solution}
+use Rattle.mau_evaluation.specs.Evaluation.{Binding, extend}
 use Rattle.mau_evaluation.specs.Engine.{Engine, engine_of}
 use Rattle.mau_evaluation.specs.Answers.{Answers}
 use Rattle.mau_api.specs.Programs.{rule_of, program_over}
+use Rattle.mau_api.specs.Remaining.{is_whole}
 use Rattle.mau_api.specs.Meanings.{Meanings}
-use Rattle.mau_api.specs.Answers.{binding_in, IsValueOf, IsAskable, IsSolutionOf, AreSettled}
+use Rattle.mau_api.specs.Answers.{binding_in, IsValueOf, IsAskable, AreApart, IsSolutionOf, AreSettled}
 use Rattle.mau_api.specs.declared.results.EvalEnd.{EvalEnd}
 use Rattle.mau_reduce.specs.Contexts.{AreContexts}
 use Rattle.mau_reduce.specs.Trying.{solution_in}
@@ -38,6 +40,11 @@ use Rattle.mau_leaves.specs.declared.turn.Turn.TheVariants.{Found, Passed, Over}
 use Rattle.mau_leaves.specs.declared.uses.Standing.{Standing}
 use Rattle.mau_leaves.specs.declared.uses.Standing.TheVariants.{Behind, Before, Within}
 
+-- whether a solution is gone through: all are, or those whose contexts are empty
+abbrev pub takes : Bool → Solution → Bool
+takes true x = is_whole x
+takes false x = true
+
 -- ---- where a search stands
 
 -- by the last solution of the left side that its listing gave
@@ -47,9 +54,9 @@ stand_of nodes (Some x) Behind = behind (Some (solution_in nodes x))
 stand_of nodes (Some x) Before = at_one (solution_in nodes x) None
 stand_of nodes (Some x) (Within found) = at_one (solution_in nodes x) (Some (binding_in nodes found.items))
 
--- what is left of the uses of a rule at the subject of the listing
-abbrev pub left_in : Typed.Program → List Operator → Written.Rule → List Node → Asked → Option Listed.Solution → Standing → Engine → Answers Use → Type 0
-left_in p hooks rule nodes a given s = λ L. IsLeft (program_over p hooks) L (rule_of rule) [] (tree_at nodes a.subject.0) (stand_of nodes given s)
+-- what is left of the uses of a rule at the subject of the listing, under what is bound: by the solutions without contexts, or by all
+abbrev pub left_in : Typed.Program → List Operator → Written.Rule → Bool → List (VarId × TermId) → List Node → Asked → Option Listed.Solution → Standing → Engine → Answers Use → Type 0
+left_in p hooks rule w bound nodes a given s = λ L. IsLeft (program_over p hooks) L w (rule_of rule) (binding_in nodes bound) (tree_at nodes a.subject.0) (stand_of nodes given s)
 
 -- the use that was found last
 abbrev pub use_in : Written.Rule → List Node → Option Listed.Solution → Standing → Option Use
@@ -67,10 +74,16 @@ last_in nodes s = option_map (binding_in nodes) (found_in s)
 
 -- ---- what is known where it stands
 
--- a rule that can be used: its sides are of one kind, and its condition may be asked where the variables of its left side have values
-pub record IsUsable (s : SignatureOf) (rule : Written.Rule) : Type 0 where
+-- the variables that have values before
+abbrev pub variables_in : List (VarId × TermId) → List Variable
+variables_in bound = map (λ b. variable_of b.0) bound
+
+-- a rule that can be used where some variables, each once, have values before: its sides are of one kind, and its condition may be asked where these and the
+-- variables of its left side have values
+pub record IsUsable (s : SignatureOf) (xs : List Variable) (rule : Written.Rule) : Type 0 where
   pub sides : AreOfOneKind (terms_over s) rule.left rule.right
-  pub condition : IsAskable s (variables (tree_of rule.left)) rule.cond
+  pub condition : IsAskable s (add_variables xs (tree_of rule.left)) rule.cond
+  pub apart : AreApart xs
 
 -- x is a solution of the rule's left side in t, with contexts around a part of it, and values that have their sorts
 pub record IsAtSolution (s : SignatureOf) (rule : Written.Rule) (t : Tree) (nodes : List Node) (table : Table) (x : Listed.Solution) : Type 0 where
@@ -78,27 +91,33 @@ pub record IsAtSolution (s : SignatureOf) (rule : Written.Rule) (t : Tree) (node
   pub contexts : AreContexts s nodes t (numbers x.left) (numbers x.right)
   pub kind : (k : ℕ) → IsBareIn (terms_over s) (tree_of rule.left) k → IsBareIn (terms_over s) (reading (theory_at s) t) k
 
--- these are values of a solution of the rule's condition for x
-pub record IsShownFor (m : Meanings) (s : SignatureOf) (rule : Written.Rule) (nodes : List Node) (table : Table) (x : Listed.Solution) (found : List (VarId × TermId)) : Type 0 where
-  pub values : All (IsValueOf s nodes table) found
-  pub solution : IsSolutionOf m (rule_of rule).cond (binding_of (tree_of rule.left) (solution_in nodes x)) (binding_in nodes found)
+-- what is bound, and the values of the rule's other variables in x
+abbrev pub bound_at : List Node → Written.Rule → List (VarId × TermId) → Listed.Solution → Binding
+bound_at nodes rule bound x = extend (binding_in nodes bound) (variables (tree_of rule.left)) (solution_in nodes x).values
 
-abbrev pub IsShownBehind : Meanings → SignatureOf → Written.Rule → List Node → Table → Listed.Solution → Standing → Type 0
-IsShownBehind m s rule nodes table x k = IfSome (found_in k) (IsShownFor m s rule nodes table x)
+-- these are values of a solution of the rule's condition for x
+pub record IsShownFor (m : Meanings) (s : SignatureOf) (rule : Written.Rule) (bound : List (VarId × TermId)) (nodes : List Node) (table : Table) (x : Listed.Solution) (found : List (VarId × TermId)) : Type 0 where
+  pub values : All (IsValueOf s nodes table) found
+  pub solution : IsSolutionOf m (rule_of rule).cond (bound_at nodes rule bound x) (binding_in nodes found)
+
+abbrev pub IsShownBehind : Meanings → SignatureOf → Written.Rule → List (VarId × TermId) → List Node → Table → Listed.Solution → Standing → Type 0
+IsShownBehind m s rule bound nodes table x k = IfSome (found_in k) (IsShownFor m s rule bound nodes table x)
 
 -- at a solution there is one
-abbrev pub StandsAt : Meanings → SignatureOf → Written.Rule → List Node → Table → Option Listed.Solution → Standing → Type 0
-StandsAt m s rule nodes table None Behind = Unit {0}
-StandsAt m s rule nodes table None Before = ⊥
-StandsAt m s rule nodes table None (Within found) = ⊥
-StandsAt m s rule nodes table (Some x) k = IsShownBehind m s rule nodes table x k
+abbrev pub StandsAt : Meanings → SignatureOf → Written.Rule → List (VarId × TermId) → List Node → Table → Option Listed.Solution → Standing → Type 0
+StandsAt m s rule bound nodes table None Behind = Unit {0}
+StandsAt m s rule bound nodes table None Before = ⊥
+StandsAt m s rule bound nodes table None (Within found) = ⊥
+StandsAt m s rule bound nodes table (Some x) k = IsShownBehind m s rule bound nodes table x k
 
-pub record IsSearch (c : Bool) (p : Typed.Program) (m : Meanings) (rule : Written.Rule) (nodes : List Node) (table : Table) (a : Asked) (given : Option Listed.Solution) (s : Standing) : Type 0 where
-  pub asked : a ≡ asks (tree_of rule.left) [] a.subject
+-- a search for the uses of a rule that can be used, under what is bound
+pub record IsSearch (c : Bool) (p : Typed.Program) (m : Meanings) (rule : Written.Rule) (bound : List (VarId × TermId)) (nodes : List Node) (table : Table) (a : Asked) (given : Option Listed.Solution) (s : Standing) : Type 0 where
+  pub asked : a ≡ asks (tree_of rule.left) bound a.subject
+  pub values : All (IsValueOf p.sig nodes table) bound
   pub settled : AreSettled p.sig nodes table (tree_at nodes a.subject.0)
   pub ready : CanGoOn c p.sig nodes table a given
   pub at : IfSome given (IsAtSolution p.sig rule (tree_at nodes a.subject.0) nodes table)
-  pub stands : StandsAt m p.sig rule nodes table given s
+  pub stands : StandsAt m p.sig rule bound nodes table given s
 
 -- ---- what a turn does, where `old` and `new` say what is left before it and behind it
 

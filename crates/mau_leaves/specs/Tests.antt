@@ -1,5 +1,5 @@
 -- Tests: their results by the uses of a rule, and searches for these by the numbers of a store.
-use Rattle.std.specs.Prelude.{◌≡◌, List, All, Bool, true, false, Option, None}
+use Rattle.std.specs.Prelude.{◌≡◌, List, [], All, Bool, true, false, Option, None}
 use Rattle.mau_terms.specs.Tree.{Tree}
 use Rattle.mau_terms.specs.Norm.{norm}
 use Rattle.mau_terms.specs.Bare.{IsBare}
@@ -26,7 +26,7 @@ use Rattle.mau_api.specs.Meanings.{Meanings}
 use Rattle.mau_api.specs.Terms.{IsTerm}
 use Rattle.mau_api.specs.Answers.{IsFragment, AreSettled}
 use Rattle.mau_leaves.specs.Uses.{Use}
-use Rattle.mau_leaves.specs.Searches.{left_in, IsUsable, IsSearch}
+use Rattle.mau_leaves.specs.Searches.{left_in, variables_in, IsUsable, IsSearch}
 use Rattle.mau_leaves.specs.declared.uses.Standing.TheVariants.{Behind}
 use Rattle.mau_leaves.specs.declared.testing.TestCursor.{TestCursor}
 
@@ -59,7 +59,7 @@ module _ {K : Type 0} (asked : K → Asked) (given : K → Option Listed.Solutio
   abbrev pub left_over : Bool → Typed.Program → List Operator → List Node → TestCursor K → Engine → Answers Tree → Type 0
   left_over true p hooks nodes s = λ L q. q ≡ no_more
   left_over false p hooks nodes s = λ L q.
-      (r : Answers Use) × left_in p hooks s.rule nodes (asked s.uses.listing) (given s.uses.listing) s.uses.standing L r × (q ≡ first_only (tree_at nodes s.term.0) r)
+      (r : Answers Use) × left_in p hooks s.rule s.uses.whole s.uses.bound.items nodes (asked s.uses.listing) (given s.uses.listing) s.uses.standing L r × (q ≡ first_only (tree_at nodes s.term.0) r)
 
   abbrev pub left_of_test : Typed.Program → List Operator → List Node → TestCursor K → Engine → Answers Tree → Type 0
   left_of_test p hooks nodes s = left_over s.over p hooks nodes s
@@ -67,8 +67,8 @@ module _ {K : Type 0} (asked : K → Asked) (given : K → Option Listed.Solutio
   pub record IsTest (is_for : K → SignatureOf → Type 0) (c : Bool) (p : Typed.Program) (m : Meanings) (nodes : List Node) (table : Table) (s : TestCursor K) : Type 0 where
     pub term : IsTerm p.sig nodes s.term.0
     pub settled : AreSettled p.sig nodes table (tree_at nodes s.term.0)
-    pub usable : IsUsable p.sig s.rule
-    pub search : IsSearch c p m s.rule nodes table (asked s.uses.listing) (given s.uses.listing) s.uses.standing
+    pub usable : IsUsable p.sig (variables_in s.uses.bound.items) s.rule
+    pub search : IsSearch c p m s.rule s.uses.bound.items nodes table (asked s.uses.listing) (given s.uses.listing) s.uses.standing
     pub signature : is_for s.uses.listing p.sig
 
   -- the search for the result of a test, which stands before all
@@ -80,3 +80,4 @@ module _ {K : Type 0} (asked : K → Asked) (given : K → Option Listed.Solutio
     pub subject : s.term ≡ term
     pub asked_of : (asked s.uses.listing).subject ≡ term
     pub begun : (given s.uses.listing ≡ None) × (s.uses.standing ≡ Behind) × (s.over ≡ false)
+    pub unbound : (s.uses.bound.items ≡ []) × (s.uses.whole ≡ false)

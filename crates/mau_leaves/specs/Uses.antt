@@ -5,7 +5,7 @@ use Rattle.mau_terms.specs.Subst.{variables}
 use Rattle.mau_listing.specs.Finite.{comes_behind}
 use Rattle.mau_evaluation.specs.Run.{Run}
 use Rattle.mau_evaluation.specs.Program.{Fragment, Rule, Program}
-use Rattle.mau_evaluation.specs.Listing.{Solution, keep, compare, solutions_within}
+use Rattle.mau_evaluation.specs.Listing.{Solution, keep, compare, solutions, solutions_within}
 use Rattle.mau_evaluation.specs.Evaluation.{Binding, agree, have_sorts}
 use Rattle.mau_evaluation.specs.Engine.{Engine}
 use Rattle.mau_evaluation.specs.Rules.{Place, bound_by, has_reach}
@@ -24,9 +24,14 @@ pub data Stand : Type 0 where
   behind : Option Solution → Stand
   at_one : Solution → Option Binding → Stand
 
--- the solutions of a rule's left side in t behind one, or all
-abbrev pub solutions_behind : Program → Rule → Tree → Option Solution → List Solution
-solutions_behind P q t last = keep (comes_behind (compare P.sign.theory q.left) last) (solutions_within P.sign q.left t)
+-- the solutions of a rule's left side in t: those without contexts, or all
+abbrev pub solutions_as : Program → Bool → Rule → Tree → List Solution
+solutions_as P true q t = solutions P.sign q.left t
+solutions_as P false q t = solutions_within P.sign q.left t
+
+-- those behind one, or all
+abbrev pub solutions_behind : Program → Bool → Rule → Tree → Option Solution → List Solution
+solutions_behind P w q t last = keep (comes_behind (compare P.sign.theory q.left) last) (solutions_as P w q t)
 
 abbrev pub use_by : Rule → Solution → Binding → Answers Use
 use_by q x σ' = answer (record { rule = q; solution = x; values = σ' }) no_more
@@ -67,22 +72,22 @@ module _ (P : Program) (L : Engine) where
   abbrev pub uses_among : Rule → Binding → List Solution → Answers Use
   uses_among q σ xs = for_each (uses_at q σ) (answers_of xs)
 
-  -- all uses of a rule at the term t, under what is bound, in order
-  abbrev pub uses_by : Rule → Binding → Tree → Answers Use
-  uses_by q σ t = uses_among q σ (solutions_within P.sign q.left t)
+  -- all uses of a rule at the term t, under what is bound, in order: by the solutions without contexts, or by all
+  abbrev pub uses_by : Bool → Rule → Binding → Tree → Answers Use
+  uses_by w q σ t = uses_among q σ (solutions_as P w q t)
 
   -- what is left of them where the search stands
-  abbrev pub IsLeft : Rule → Binding → Tree → Stand → Answers Use → Type 0
-  IsLeft q σ t (behind last) p = p ≡ uses_among q σ (solutions_behind P q t last)
-  IsLeft q σ t (at_one x last) p =
+  abbrev pub IsLeft : Bool → Rule → Binding → Tree → Stand → Answers Use → Type 0
+  IsLeft w q σ t (behind last) p = p ≡ uses_among q σ (solutions_behind P w q t last)
+  IsLeft w q σ t (at_one x last) p =
       (rest : Answers Binding) × IsAskedFrom last q.cond (bound_by P L q σ x) rest ×
-      (p ≡ and_those (for_each (use_by q x) rest) (uses_among q σ (solutions_behind P q t (Some x))))
+      (p ≡ and_those (for_each (use_by q x) rest) (uses_among q σ (solutions_behind P w q t (Some x))))
 
   -- ---- several rules
 
   -- the uses of a rule, where it is chosen and may be used with nothing assigned
   abbrev pub uses_if_chosen : (Rule → Bool) → Tree → Rule → Answers Use
-  uses_if_chosen chosen t q = when (chosen q) (when (not (has_reach q.cond)) (when (may_use q []) (uses_by q [] t)))
+  uses_if_chosen chosen t q = when (chosen q) (when (not (has_reach q.cond)) (when (may_use q []) (uses_by false q [] t)))
 
   -- those of each of some rules, one after another
   abbrev pub uses_of_all : (Rule → Bool) → Tree → List Rule → Answers Use

@@ -143,7 +143,10 @@ fn begin_rule<E: Evaluator, L: Lister + Drop>(
             Err(_) => Err(EvalEnd::NoMemory),
         };
     }
-    match start_uses(program, rule, store, evaluator, place.term) {
+    let bound = Vec::new(store.allocator());
+    match start_uses(
+        program, rule, store, evaluator, bound, false, place.term,
+    ) {
         Ok(uses) => {
             place.uses = Some(uses);
             Ok(Turn::Passed)

@@ -133,7 +133,8 @@ pub(crate) fn start_test<E: Evaluator, L: Lister + Drop>(
         return Ok(None);
     }
     let rule = rule_for(alloc, pattern, cond)?;
-    let uses = start_uses(program, &rule, store, evaluator, term)?;
+    let bound = Vec::new(alloc);
+    let uses = start_uses(program, &rule, store, evaluator, bound, false, term)?;
     Ok(Some(TestCursor {
         term,
         rule,

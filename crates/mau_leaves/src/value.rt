@@ -18,7 +18,7 @@ ghost use Rattle.mau_reduce.specs.Ends.{IsEnd};
 ghost use Rattle.mau_rules.specs.Runnable.{IsRunnable, GoesBy};
 ghost use Rattle.mau_rules.specs.Walk.{opened, around_all, IsWalk, MayReplace};
 ghost use Rattle.mau_leaves.specs.Answers.{GivesValue};
-ghost use Rattle.mau_leaves.specs.Searches.{IsUsable};
+ghost use Rattle.mau_program.specs.LawfulStatements.{AreOfOneKind};
 ghost use Rattle.mau_leaves.specs.Values.{made_by};
 
 use mau_api::{EvalEnd, Evaluator, Program, Solution, Unwatched};
@@ -55,7 +55,7 @@ fn made(
     bound: &[(VarId, TermId)],
 ) -> Result<TermId, EvalEnd>
     requires lawful { IsLawful (terms_over sig.now) }
-    requires usable { IsUsable sig.now rule.now }
+    requires sides { AreOfOneKind (terms_over sig.now) rule.now.left rule.now.right }
     requires term { IsTerm sig.now store.old term.0 }
     requires contexts { AreContexts sig.now store.old (tree_at store.old term.0) (numbers solution.now.left) (numbers solution.now.right) }
     requires kind { (k : ℕ) → IsBareIn (terms_over sig.now) (tree_of rule.now.left) k →
@@ -86,7 +86,7 @@ fn placed(
     bound: &[(VarId, TermId)],
 ) -> Result<TermId, EvalEnd>
     requires lawful { IsLawful (terms_over sig.now) }
-    requires usable { IsUsable sig.now rule.now }
+    requires sides { AreOfOneKind (terms_over sig.now) rule.now.left rule.now.right }
     requires term { IsTerm sig.now store.old term.0 }
     requires walk { (root : ℕ) × IsWalk sig.now store.old root way.now term.0 }
     requires contexts { AreContexts sig.now store.old (tree_at store.old term.0) (numbers solution.now.left) (numbers solution.now.right) }
@@ -122,7 +122,7 @@ pub(crate) fn value_of<E: Evaluator>(
     requires goes_by { GoesBy program.now (E.meanings evaluator.old) }
     requires fits { E.fits evaluator.old store.old }
     requires limit { limit ≡ (E.meanings evaluator.old).limit }
-    requires usable { IsUsable program.now.sig rule.now }
+    requires sides { AreOfOneKind (terms_over program.now.sig) rule.now.left rule.now.right }
     requires term { IsTerm program.now.sig store.old term.0 }
     requires walk { (root : ℕ) × IsWalk program.now.sig store.old root way.now term.0 }
     requires contexts { AreContexts program.now.sig store.old (tree_at store.old term.0)
