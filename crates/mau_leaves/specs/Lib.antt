@@ -24,7 +24,9 @@ pub mod Everywhere
 pub mod Follows
 -- the variables that a fragment of a condition matches
 pub mod Matched
--- searches for the bodies of a call without arguments
+-- searches for the solutions of argument patterns
+pub mod Arguments
+-- searches for the bodies of a call
 pub mod Calls
 -- tests: their results by the uses of a rule
 pub mod Tests
