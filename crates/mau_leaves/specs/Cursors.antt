@@ -39,7 +39,7 @@ use Rattle.mau_stratrun.specs.declared.leaves.Body.{Body}
 use Rattle.mau_stratrun.specs.declared.leaves.LeafEnd.{LeafEnd}
 use Rattle.mau_stratrun.specs.declared.leaves.LeafEnd.TheVariants.{Stopped, TooDeep, Overflow, NoMemory}
 use Rattle.mau_stratrun.specs.Settings.{Fixed}
-use Rattle.mau_stratrun.specs.Yields.{Yield, result_of, body_on}
+use Rattle.mau_stratrun.specs.Yields.{Yield, result_of, body_on, YieldsAll, IsCause}
 use Rattle.mau_stratrun.specs.Worlds.{World}
 use Rattle.mau_stratforms.specs.Meanings.{meaning_of, definition_of}
 use Rattle.mau_leaves.specs.Uses.{is_chosen}
@@ -183,8 +183,26 @@ module _ {K : Type 0} (asked : K → Asked) (given : K → Option Listed.Solutio
 abbrev pub bound_by : VarId × TermId → Bound
 bound_by b = record { variable = b.0; value = b.1 }
 
-abbrev pub pair_by : Bound → VarId × TermId
-pair_by b = (b.variable, b.value)
+-- ---- what comes of one step of a call
+
+module _ {K : Type 0} (asked : K → Asked) (given : K → Option Listed.Solution) (is_for : K → SignatureOf → Type 0) (c : Bool) (p : Typed.Program) (m : Meanings) (leaves : List Written.StrategyOf) (nodes : List Node) (table : Table)
+    (s : CallCursor K) (d : Todo) (t : Tree) (ys : List Yield) where
+  abbrev pub IsStill : Type 0
+  IsStill = IsCallCursor asked given is_for c p m leaves nodes table s d t ys
+
+  abbrev pub CausedBy : EvalEnd → Type 0
+  CausedBy e = (k : ℕ) → d.calls ≡ suc k → IsCause (fixed_of p m leaves) d t ys (leaf_end e)
+
+  -- the arguments have their values, or an end has its cause
+  abbrev pub HasTaken : {A : Type 0} → Result A EvalEnd → Type 0
+  HasTaken (Ok x) = IsStill
+  HasTaken (Err e) = IsStill × CausedBy e
+
+  -- a body is due, or the call has no others, or an end has its cause
+  abbrev pub HasFound : Result Bool EvalEnd → Type 0
+  HasFound (Ok true) = IsStill
+  HasFound (Ok false) = (k : ℕ) → d.calls ≡ suc k → YieldsAll (fixed_of p m leaves) d t ys
+  HasFound (Err e) = IsStill × CausedBy e
 
 -- the body that was found last, with so many calls
 pub record IsBodyOf {K : Type 0} (s : CallBodies K) (calls : ℕ) (b : Body) : Type 0 where

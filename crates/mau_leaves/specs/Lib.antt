@@ -28,6 +28,8 @@ pub mod Matched
 pub mod Arguments
 -- searches for the bodies of a call
 pub mod Calls
+-- values that variables have before
+pub mod Given
 -- tests: their results by the uses of a rule
 pub mod Tests
 -- who gives the results of leaves: what cursors have yielded

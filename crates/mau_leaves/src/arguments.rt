@@ -6,6 +6,7 @@ ghost use Rattle.mau_terms.specs.Tree.{Tree};
 ghost use Rattle.mau_terms.specs.Bare.{IsBare};
 ghost use Rattle.mau_terms.specs.Subst.{Variable};
 ghost use Rattle.mau_terms.specs.View.{tree_of};
+ghost use Rattle.mau_terms.specs.declared.ids.TermId as Ids;
 ghost use Rattle.mau_signature.specs.Signature.{terms_over};
 ghost use Rattle.mau_store.specs.Node.{Extends};
 ghost use Rattle.mau_store.specs.Trees.{trees_at};
@@ -94,13 +95,13 @@ fn next_match<E: Evaluator, L: Lister + Drop>(
     requires goes_by { GoesBy program.now (E.meanings evaluator.old) }
     requires fits { E.fits evaluator.old store.old }
     requires limit { limit ≡ (E.meanings evaluator.old).limit }
-    requires search { (xs : List Variable) × (q : Tree) × (v : TermId) × IsPatternSearch L.asked L.given L.is_for L.with_context program.now
+    requires search { (xs : List Variable) × (q : Tree) × (v : Ids.TermId) × IsPatternSearch L.asked L.given L.is_for L.with_context program.now
         (E.meanings evaluator.old) store.old (E.table evaluator.old) xs q v search.old }
     ensures next { IsNextOne (program_over program.now (E.meanings evaluator.old).hooks) limit
         (just (matched_left L.asked L.given program.now (E.meanings evaluator.old).hooks store.old search.old))
         (just (matched_left L.asked L.given program.now (E.meanings evaluator.old).hooks store.new search.new))
         (last_in store.new search.new.uses.standing) result }
-    ensures search { (xs : List Variable) (q : Tree) (v : TermId) → IsPatternSearch L.asked L.given L.is_for L.with_context program.now
+    ensures search { (xs : List Variable) (q : Tree) (v : Ids.TermId) → IsPatternSearch L.asked L.given L.is_for L.with_context program.now
         (E.meanings evaluator.old) store.old (E.table evaluator.old) xs q v search.old → IsPatternSearch L.asked L.given L.is_for L.with_context
         program.now (E.meanings evaluator.old) store.new (E.table evaluator.new) xs q v search.new }
     ensures extends { Extends store.old store.new }
@@ -196,21 +197,25 @@ fn go_into<E: Evaluator, L: Lister + Drop>(
     ensures all { result ≡ Ok Found → length search.new.searches.items ≡ length patterns.now }
 {
     let depth = search.searches.len();
-    if depth < patterns.len() && depth < values.len() {
-        return match go_deeper(
-            program,
-            &patterns[depth],
-            values[depth],
-            store,
-            evaluator,
-            search,
-        ) {
-            Ok(()) => Ok(Turn::Passed),
-            Err(_) => Err(EvalEnd::NoMemory),
-        };
+    if depth < patterns.len() {
+        if depth < values.len() {
+            return match go_deeper(
+                program,
+                &patterns[depth],
+                values[depth],
+                store,
+                evaluator,
+                search,
+            ) {
+                Ok(()) => Ok(Turn::Passed),
+                Err(_) => Err(EvalEnd::NoMemory),
+            };
+        }
+        search.due = false;
+        return Ok(Turn::Passed);
     }
     search.due = false;
-    if depth < patterns.len() || depth < values.len() {
+    if depth < values.len() {
         return Ok(Turn::Passed);
     }
     Ok(Turn::Found)
@@ -242,16 +247,16 @@ fn go_on<E: Evaluator, L: Lister + Drop>(
     requires goes_by { GoesBy program.now (E.meanings evaluator.old) }
     requires fits { E.fits evaluator.old store.old }
     requires limit { limit ≡ (E.meanings evaluator.old).limit }
-    requires search { (ps : List Tree) × (vs : List TermId) × IsArgumentSearch L.asked L.given L.is_for L.with_context program.now
+    requires search { (ps : List Tree) × (vs : List Ids.TermId) × IsArgumentSearch L.asked L.given L.is_for L.with_context program.now
         (E.meanings evaluator.old) store.old (E.table evaluator.old) ps vs search.old }
     requires idle { search.old.due ≡ false }
-    ensures turn { (ps : List Tree) (vs : List TermId) → IsArgumentSearch L.asked L.given L.is_for L.with_context program.now
+    ensures turn { (ps : List Tree) (vs : List Ids.TermId) → IsArgumentSearch L.asked L.given L.is_for L.with_context program.now
         (E.meanings evaluator.old) store.old (E.table evaluator.old) ps vs search.old →
         IsTurn (program_over program.now (E.meanings evaluator.old).hooks) limit
         (just (left_of_arguments L.asked L.given program.now (E.meanings evaluator.old).hooks store.old ps (trees_at store.old (numbers vs)) search.old))
         (just (left_of_arguments L.asked L.given program.now (E.meanings evaluator.old).hooks store.new ps (trees_at store.old (numbers vs)) search.new))
         (option_map (binding_in store.new) (last_found search.new.searches.items)) result }
-    ensures search { (ps : List Tree) (vs : List TermId) → IsArgumentSearch L.asked L.given L.is_for L.with_context program.now
+    ensures search { (ps : List Tree) (vs : List Ids.TermId) → IsArgumentSearch L.asked L.given L.is_for L.with_context program.now
         (E.meanings evaluator.old) store.old (E.table evaluator.old) ps vs search.old →
         IsArgumentSearch L.asked L.given L.is_for L.with_context program.now (E.meanings evaluator.old) store.new (E.table evaluator.new) ps vs search.new }
     ensures passes { result ≡ Ok Found → ⊥ }

@@ -1,34 +1,40 @@
 //! Who gives the results of leaves and the bodies of calls, by any evaluator and any listing with contexts.
-ghost use Rattle.std.specs.Prelude.{◌≡◌, ◌<◌, ℕ, List, [], length, map, slice_get, All, true, false, IsSome, IfOk};
+ghost use Rattle.std.specs.Prelude.{◌≡◌, ◌<◌, ℕ, List, [], length, map, slice_get, All, true, false, None, Some, IsSome, IfOk, OnOk};
 ghost use Rattle.std.specs.Option.{option_map};
 ghost use Rattle.mau_terms.specs.Tree.{Tree};
+ghost use Rattle.mau_terms.specs.Bare.{IsBare};
+ghost use Rattle.mau_terms.specs.View.{tree_of};
+ghost use Rattle.mau_signature.specs.Signature.{terms_over};
 ghost use Rattle.mau_store.specs.Node.{Extends};
 ghost use Rattle.mau_store.specs.Trees.{tree_at};
 ghost use Rattle.mau_api.specs.Terms.{IsTerm};
-ghost use Rattle.mau_api.specs.Answers.{AreSettled};
+ghost use Rattle.mau_api.specs.Answers.{IsValueOf, AreSettled};
 ghost use Rattle.mau_sorts.specs.Table.{KeepsEntries};
 ghost use Rattle.mau_program.specs.LawfulStrategies.{IsLawfulDefinition};
 ghost use Rattle.mau_evaluation.specs.Configs.{Todo};
+ghost use Rattle.mau_strat.specs.declared.configs.Bound.{Bound as GivenValue};
 ghost use Rattle.mau_strat.specs.Configurations.{TellsApart};
 ghost use Rattle.mau_strat.specs.Forms.{IsLeaf};
 ghost use Rattle.mau_stratrun.specs.Yields.{Yield};
 ghost use Rattle.mau_stratrun.specs.Worlds.{values_of, IsNextYield};
 ghost use Rattle.mau_rules.specs.Runnable.{IsRunnable, GoesBy};
 ghost use Rattle.mau_leaves.specs.Searches.{found_in};
-ghost use Rattle.mau_leaves.specs.Cursors.{leaf_at, label_in, chosen_by, call_in, leaf_end, yielded_by, bound_by, IsTopCursor, IsEverywhereCursor, IsTestCursor, IsCallCursor, IsGivenBody, IsReady, yields_in, world_of, world_of_calls};
-ghost use Rattle.mau_leaves.specs.declared.uses.Standing.TheVariants.{Behind};
+ghost use Rattle.mau_leaves.specs.Cursors.{leaf_at, label_in, chosen_by, call_in, leaf_end, yielded_by, bound_by, IsTopCursor, IsEverywhereCursor, IsTestCursor, found_by, IsCallCursor, HasTaken, HasFound, IsBodyOf, IsGivenBody, IsReady, yields_in, world_of, world_of_calls};
 ghost use Rattle.mau_leaves.specs.declared.cursor.LeafCursor.TheVariants as At;
 
 use crate::bodies::{CallBodies, next_body};
 use crate::everywhere::{PlacesResults, next_everywhere, start_everywhere};
+use crate::given::pairs_of;
 use crate::testing::{TestCursor, next_test, start_test};
 use crate::top::{TopResults, next_top, start_top};
 use crate::uses::{Standing, last_of};
+use crate::values::next_values;
 use mau_api::{EvalEnd, Evaluator, Lister, Program, Strategy, StrategyForm};
+use mau_signature::{Signature, is_bare};
 use mau_store::Store;
 use mau_strat::{Bound, LeafId};
 use mau_stratrun::{Body, Lead, LeafEnd, Leaves, Yielded};
-use mau_terms::{NoMemory, TermId, VarId};
+use mau_terms::{Args, Bare, NoMemory, TermId, VarId};
 use std::alloc::Global;
 use std::marker::PhantomData;
 
@@ -449,17 +455,6 @@ fn next_of_call<E: Evaluator, L: Lister + Drop>(
     give_body(store.allocator(), cursor, calls)
 }
 
-/// Variables with the values that a run knows.
-fn pairs_of(alloc: Global, values: &[Bound]) -> Result<Vec<(VarId, TermId)>, NoMemory>
-    ensures { IfOk result (λ bound. bound.items ≡ map pair_by values.now) }
-{
-    let mut bound = Vec::new(alloc);
-    for value in values {
-        bound.push((value.variable, value.value))?;
-    }
-    Ok(bound)
-}
-
 /// Whether all terms are over a signature.
 fn are_bare(sig: &Signature, terms: &[Bare]) -> bool
     ensures { result ≡ true → All (IsBare (terms_over sig.now)) (map tree_of terms.now) }
@@ -477,8 +472,8 @@ fn call_cursor<L: Lister + Drop>(
     calls: usize,
     bound: Vec<(VarId, TermId)>,
 ) -> CallCursor<L>
-    ensures { result ≡ record { leaf = leaf; calls = calls; bound = bound; values = result.values; bodies = None; due = false } }
-    ensures none { result.values.items ≡ [] }
+    ensures parts { (result.leaf ≡ leaf) × (result.calls ≡ calls) × (result.bound ≡ bound) }
+    ensures begun { (result.values.items ≡ []) × (result.bodies ≡ None) × (result.due ≡ false) }
 {
     CallCursor {
         leaf,
@@ -490,22 +485,38 @@ fn call_cursor<L: Lister + Drop>(
     }
 }
 
-/// The cursor of a call on a term, which has yielded nothing, where its arguments are over the signature.
-fn start_call<L: Lister + Drop>(
-    alloc: Global,
+/// The cursor of a call on a term, which has yielded nothing. Calls whose arguments are not over the signature are not searched for.
+fn start_call<E: Evaluator, L: Lister + Drop>(
     program: &Program,
+    leaves: &[Strategy],
+    store: &Store,
+    evaluator: &E,
     leaf: LeafId,
     args: &Args,
     calls: usize,
     values: &[Bound],
+    term: TermId,
 ) -> Result<LeafCursor<L>, NoMemory>
-    ensures call { IfOk result (IsStartedCall program.now.sig leaf args.now calls values.now) }
+    requires called { option_map (λ x. x.1) (call_in leaves.now leaf.0) ≡ Some args.now }
+    requires values { All (λ (b : GivenValue). IsValueOf program.now.sig store.now (E.table evaluator.now) (b.variable, b.value)) values.now }
+    ensures yields { IfOk result (λ k. yields_in L.asked L.given L.is_for L.with_context program.now (E.meanings evaluator.now)
+        leaves.now store.now (E.table evaluator.now) k
+        (record { form = leaf_at leaves.now leaf.0; calls = calls; values = values_of (tree_at store.now) values.now })
+        (tree_at store.now term.0) []) }
 {
+    let _ = evaluator.sorts();
+    let _ = leaves;
+    let _ = term;
     if !are_bare(&program.sig, args.items()) {
         return Ok(LeafCursor::Unsearched);
     }
-    let bound = pairs_of(alloc, values)?;
-    Ok(LeafCursor::Bodies(call_cursor(alloc, leaf, calls, bound)))
+    let bound = pairs_of(store.allocator(), values)?;
+    Ok(LeafCursor::Bodies(call_cursor(
+        store.allocator(),
+        leaf,
+        calls,
+        bound,
+    )))
 }
 
 /// The leaf with a number.
@@ -539,9 +550,9 @@ fn start_leaf<E: Evaluator, L: Lister + Drop>(
     requires runnable { IsRunnable program.now }
     requires goes_by { GoesBy program.now (E.meanings evaluator.now) }
     requires fits { E.fits evaluator.now store.now }
+    requires values { All (λ (b : GivenValue). IsValueOf program.now.sig store.now (E.table evaluator.now) (b.variable, b.value)) values.now }
     requires term { IsTerm program.now.sig store.now term.0 }
     requires settled { AreSettled program.now.sig store.now (E.table evaluator.now) (tree_at store.now term.0) }
-    requires values { All (λ b. IsValueOf program.now.sig store.now (E.table evaluator.now) (b.variable, b.value)) values.now }
     ensures yields { IfOk result (λ k. yields_in L.asked L.given L.is_for L.with_context program.now (E.meanings evaluator.now)
         leaves.now store.now (E.table evaluator.now) k
         (record { form = leaf_at leaves.now leaf.0; calls = calls; values = values_of (tree_at store.now) values.now })
@@ -550,12 +561,7 @@ fn start_leaf<E: Evaluator, L: Lister + Drop>(
     match args_of(leaves, leaf) {
         Some(args) => {
             return start_call(
-                store.allocator(),
-                program,
-                leaf,
-                args,
-                calls,
-                values,
+                program, leaves, store, evaluator, leaf, args, calls, values, term,
             );
         }
         None => (),
@@ -592,9 +598,9 @@ fn start_labelled<E: Evaluator, L: Lister + Drop>(
     requires runnable { IsRunnable program.now }
     requires goes_by { GoesBy program.now (E.meanings evaluator.now) }
     requires fits { E.fits evaluator.now store.now }
+    requires values { All (λ (b : GivenValue). IsValueOf program.now.sig store.now (E.table evaluator.now) (b.variable, b.value)) values.now }
     requires term { IsTerm program.now.sig store.now term.0 }
     requires settled { AreSettled program.now.sig store.now (E.table evaluator.now) (tree_at store.now term.0) }
-    requires values { All (λ b. IsValueOf program.now.sig store.now (E.table evaluator.now) (b.variable, b.value)) values.now }
     ensures yields { IfOk result (λ k. yields_in L.asked L.given L.is_for L.with_context program.now (E.meanings evaluator.now)
         leaves.now store.now (E.table evaluator.now) k
         (record { form = leaf_at leaves.now leaf.0; calls = calls; values = values_of (tree_at store.now) values.now })

@@ -6,6 +6,7 @@ mod bodies;
 mod cursor;
 mod determined;
 mod everywhere;
+mod given;
 pub mod laws;
 mod place;
 mod testing;
