@@ -127,3 +127,13 @@ module _ {K : Type 0} (asked : K → Asked) (given : K → Option Listed.Solutio
       let stand = stand_same p old new before after extends kept m w.rule w.uses.bound.items c (asked w.uses.listing) (given w.uses.listing)
           (of_store p old new before after extends kept m w.rule w.uses.bound.items c (asked w.uses.listing) (given w.uses.listing) is.search.ready) w.uses.standing is.search.stands in
       λ i L. left_matched (program_over p m.hooks) L (rule_of w.rule) (bound i) (subject i) (stand i)
+
+  -- what it found is the same
+  pub last_same : last_in new w.uses.standing ≡ last_in old w.uses.standing
+  last_same = by (given w.uses.listing) w.uses.standing is.search.stands
+    where
+      by : (o : Option Listed.Solution) (k : Standing) → StandsAt m p.sig w.rule w.uses.bound.items old before o k → last_in new k ≡ last_in old k
+      by o Behind h = refl
+      by o Before h = refl
+      by None (Within f) h = absurd h
+      by (Some x) (Within f) h = ap Some (bound_grown p.sig old new before after extends kept f.items h.values)

@@ -28,11 +28,12 @@ use Rattle.mau_api.specs.Meanings.{Meanings}
 use Rattle.mau_api.specs.Answers.{binding_in, IsValueOf, AreApart}
 use Rattle.mau_rules.specs.Runnable.{GoesBy}
 use Rattle.mau_leaves.specs.Searches.{found_in, last_in, variables_in}
-use Rattle.mau_leaves.specs.Arguments.{due_under, found_behind, last_found, AreBound, matched_left, left_behind_all, IsPatternSearch, AreSearches}
+use Rattle.mau_leaves.specs.Arguments.{due_under, found_behind, last_found, AreBound, matched_left, left_behind_all, left_of_arguments, IsPatternSearch, AreSearches, IsArgumentSearch}
 use Rattle.mau_leaves.specs.declared.uses.Standing.{Standing}
 use Rattle.mau_leaves.specs.declared.uses.Standing.TheVariants.{Behind, Before, Within}
 use Rattle.mau_leaves.specs.declared.arguments.PatternSearch.{PatternSearch}
-use Rattle.mau_leaves.proofs.Patterns.{found_by, found_variables, pattern_grown, matched_same}
+use Rattle.mau_leaves.specs.declared.arguments.ArgumentSearch.{ArgumentSearch}
+use Rattle.mau_leaves.proofs.Patterns.{found_by, found_variables, pattern_grown, matched_same, last_same}
 
 -- ---- behind as many
 
@@ -244,3 +245,23 @@ module _ {K : Type 0} (asked : K → Asked) (given : K → Option Listed.Solutio
         let one = matched_same asked given is_for c p m old new before after extends kept xs q id w h.0 in
         let rest = around_same vs (add_variables xs q) ps ids ws h.1 a in
         λ i L. and_those (rest i L) (for_each (argument_solutions (program_over p m.hooks) L ps vs) (one i L))
+
+    left_same_behind : (due : Bool) (vs : List Tree) (o o' : Option Binding) → o' ≡ o → (xs : List Variable) (ps : List Tree) (ids : List TermId) (ws : List (PatternSearch K)) → AreSearches asked given is_for c p m old before xs ps ids ws →
+        left_behind_all asked given p m.hooks new due ps vs o' ws ≡ left_behind_all asked given p m.hooks old due ps vs o ws
+    left_same_behind due vs o o' e xs ps ids [] h = λ i L. due_under (program_over p m.hooks) L due (e i) ps vs
+    left_same_behind due vs o o' e xs [] ids (w ∷ ws) h = refl
+    left_same_behind due [] o o' e xs (q ∷ ps) ids (w ∷ ws) h = refl
+    left_same_behind due (v ∷ vs) o o' e xs (q ∷ ps) [] (w ∷ ws) h = absurd h
+    left_same_behind due (v ∷ vs) o o' e xs (q ∷ ps) (id ∷ ids) (w ∷ ws) h =
+        let one = matched_same asked given is_for c p m old new before after extends kept xs q id w h.0 in
+        let last = last_same asked given is_for c p m old new before after extends kept xs q id w h.0 in
+        let rest = left_same_behind due vs (last_in old w.uses.standing) (last_in new w.uses.standing) last (add_variables xs q) ps ids ws h.1 in
+        λ i L. and_those (rest i L) (for_each (argument_solutions (program_over p m.hooks) L ps vs) (one i L))
+
+    -- what is left is the same
+    pub arguments_same : (ps vs : List Tree) (ids : List TermId) (s : ArgumentSearch K) → IsArgumentSearch asked given is_for c p m old before ps ids s →
+        left_of_arguments asked given p m.hooks new ps vs s ≡ left_of_arguments asked given p m.hooks old ps vs s
+    arguments_same ps vs ids s h = left_same_behind s.due vs (Some []) (Some []) refl [] ps ids s.searches.items h.searches
+
+    pub arguments_grown : AreOver p.sig.hierarchy after → (ps : List Tree) (ids : List TermId) (s : ArgumentSearch K) → IsArgumentSearch asked given is_for c p m old before ps ids s → IsArgumentSearch asked given is_for c p m new after ps ids s
+    arguments_grown over ps ids s h = record { searches = searches_grown over [] ps ids s.searches.items h.searches; stands = h.stands }
