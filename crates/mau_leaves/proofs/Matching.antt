@@ -31,9 +31,9 @@ use Rattle.mau_leaves.proofs.Steps.{both_so, always_so}
 
 -- ---- engines whose askings of no condition give what is bound
 
-record AsksPlainly (L : Engine) : Type 0 where
-  first : (τ : Binding) → (r : ℕ) × (l : ℕ) × (L.ask [] τ L.budget ≡ done (Some τ) r l)
-  next : (last τ : Binding) → (r : ℕ) × (l : ℕ) × (L.ask_after last [] τ L.budget ≡ done None r l)
+pub record AsksPlainly (L : Engine) : Type 0 where
+  pub first : (τ : Binding) → (r : ℕ) × (l : ℕ) × (L.ask [] τ L.budget ≡ done (Some τ) r l)
+  pub next : (last τ : Binding) → (r : ℕ) × (l : ℕ) × (L.ask_after last [] τ L.budget ≡ done None r l)
 
 engines_plainly : (P : Program) (k B b : ℕ) → AsksPlainly (engine_of P k B b)
 engines_plainly P k B b = record { first = λ τ. (0, b, refl); next = λ last τ. (0, b, refl) }
@@ -135,7 +135,7 @@ module _ (P : Program) (L : Engine) (plain : AsksPlainly L) where
           ∙ among (solutions_behind P true q t (Some x))
 
       -- what was found is the binding of the solution
-      abbrev IsOwn : Stand → Type 0
+      abbrev pub IsOwn : Stand → Type 0
       IsOwn (behind last) = Unit {0}
       IsOwn (at_one x None) = Unit {0}
       IsOwn (at_one x (Some last)) = last ≡ extend σ (variables q.left) x.values

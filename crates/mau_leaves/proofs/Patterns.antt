@@ -1,5 +1,6 @@
 -- The search for the solutions of one argument pattern: what it found, and the same in a store that has grown.
-use Rattle.std.proofs.Common.{◌≡◌, ◌≤◌, ℕ, suc, List, [], ◌∷◌, length, map, All, Bool, Option, Some, None, IfSome, refl, sym, ap, ◌∙◌, subst, arith}
+use Rattle.std.proofs.Common.{◌≡◌, ◌≤◌, ℕ, suc, List, [], ◌∷◌, length, map, All, Vec, Global, Bool, true, Option, Some, None, IfSome, Result, refl, sym, ap, ◌∙◌, subst, arith}
+use Rattle.std.proofs.lemmas.List.Elements.{All-nil}
 use Rattle.std.specs.Option.{option_map}
 use Rattle.std.proofs.lemmas.List.{length-map}
 use Rattle.mau_terms.specs.Tree.{Tree}
@@ -7,7 +8,9 @@ use Rattle.mau_terms.specs.Subst.{Variable, variables, add_variables}
 use Rattle.mau_terms.specs.View.{tree_of, variable_of}
 use Rattle.mau_terms.specs.declared.ids.TermId.{TermId}
 use Rattle.mau_terms.specs.declared.ids.VarId.{VarId}
-use Rattle.mau_signature.specs.Signature.{SignatureOf, theory_at}
+use Rattle.mau_terms.specs.Bare.{IsBare, IsBareIn}
+use Rattle.mau_terms.proofs.Variables.{distinct}
+use Rattle.mau_signature.specs.Signature.{SignatureOf, theory_at, terms_over}
 use Rattle.mau_store.specs.Node.{Node, Extends}
 use Rattle.mau_store.specs.Trees.{tree_at, trees_at}
 use Rattle.mau_store.specs.View.{numbers}
@@ -16,6 +19,7 @@ use Rattle.mau_listing.specs.Asked.{Asked}
 use Rattle.mau_listing.specs.declared.solution.Solution as Listed
 use Rattle.mau_program.specs.declared.program.Program as Typed
 use Rattle.mau_program.specs.declared.statements.Rule as Written
+use Rattle.mau_evaluation.specs.Program.{Program}
 use Rattle.mau_evaluation.specs.Evaluation.{Binding, extend}
 use Rattle.mau_evaluation.specs.Engine.{Engine}
 use Rattle.mau_evaluation.specs.Answers.{Answers}
@@ -25,16 +29,20 @@ use Rattle.mau_choices.proofs.Numbered.{variables_bound}
 use Rattle.mau_cond.proofs.Grown.{bound_grown}
 use Rattle.mau_api.specs.Programs.{rule_of, fragment_of, program_over}
 use Rattle.mau_api.specs.Meanings.{Meanings}
-use Rattle.mau_api.specs.Answers.{binding_in, IsValueOf}
+use Rattle.mau_api.specs.Answers.{binding_in, IsValueOf, IsFragment, AreApart, IsAskable}
+use Rattle.mau_api.specs.declared.results.EvalEnd.{EvalEnd}
 use Rattle.mau_reduce.specs.Trying.{solution_in}
 use Rattle.mau_reduce.proofs.KindsKept.{tree_kept}
 use Rattle.mau_rules.specs.Runnable.{GoesBy}
-use Rattle.mau_leaves.specs.Searches.{stand_of, found_in, last_in, variables_in, bound_at, IsAtSolution, IsShownFor, StandsAt, IsSearch}
-use Rattle.mau_leaves.specs.Arguments.{left_matched, matched_left, IsPatternSearch}
+use Rattle.mau_leaves.specs.Uses.{Use}
+use Rattle.mau_leaves.specs.Searches.{stand_of, left_in, use_in, found_in, last_in, variables_in, bound_at, IsUsable, IsAtSolution, IsShownFor, StandsAt, IsSearch, IsNextOne}
+use Rattle.mau_leaves.specs.InTurn.{just}
+use Rattle.mau_leaves.specs.declared.uses.RuleUses.{RuleUses}
+use Rattle.mau_leaves.specs.Arguments.{left_matched, matched_left, IsPatternRule, IsPatternSearch}
 use Rattle.mau_leaves.specs.declared.uses.Standing.{Standing}
 use Rattle.mau_leaves.specs.declared.uses.Standing.TheVariants.{Behind, Before, Within}
 use Rattle.mau_leaves.specs.declared.arguments.PatternSearch.{PatternSearch}
-use Rattle.mau_leaves.proofs.Matching.{solved_plainly}
+use Rattle.mau_leaves.proofs.Matching.{AsksPlainly, IsOwn, solved_plainly, next_matched}
 use Rattle.mau_leaves.proofs.Searching.{search_grown, stand_same, of_store}
 
 module _ {K : Type 0} (asked : K → Asked) (given : K → Option Listed.Solution) (is_for : K → SignatureOf → Type 0) (c : Bool) (p : Typed.Program) (m : Meanings) where
@@ -105,6 +113,17 @@ module _ {K : Type 0} (asked : K → Asked) (given : K → Option Listed.Solutio
         one : (y : Listed.Solution) → Some y ≡ Some x → y ≡ x
         one y k = cc
 
+    -- where it stands is at a solution with its own binding
+    pub own_stand : (L : Engine) (plain : AsksPlainly L) → IsOwn (program_over p m.hooks) L plain (rule_of w.rule) (nothing_asked nodes table xs q v w is) (binding_in nodes w.uses.bound.items) (stand_of nodes (given w.uses.listing) w.uses.standing)
+    own_stand L plain = by (given w.uses.listing) refl w.uses.standing refl
+      where
+        by : (o : Option Listed.Solution) → given w.uses.listing ≡ o → (k : Standing) → w.uses.standing ≡ k →
+            IsOwn (program_over p m.hooks) L plain (rule_of w.rule) (nothing_asked nodes table xs q v w is) (binding_in nodes w.uses.bound.items) (stand_of nodes o k)
+        by None e k h = tt
+        by (Some x) e Behind h = tt
+        by (Some x) e Before h = tt
+        by (Some x) e (Within f) h = found_own x e f.items (ap found_in h)
+
 -- ---- in a store that has grown
 
 module _ {K : Type 0} (asked : K → Asked) (given : K → Option Listed.Solution) (is_for : K → SignatureOf → Type 0) (c : Bool) (p : Typed.Program) (m : Meanings) (old new : List Node) (before after : Table) (extends : Extends old new)
@@ -137,3 +156,51 @@ module _ {K : Type 0} (asked : K → Asked) (given : K → Option Listed.Solutio
       by o Before h = refl
       by None (Within f) h = absurd h
       by (Some x) (Within f) h = ap Some (bound_grown p.sig old new before after extends kept f.items h.values)
+
+-- ---- the next solution
+
+pub last_used : (rule : Written.Rule) (nodes : List Node) (o : Option Listed.Solution) (k : Standing) (u : Use) → use_in rule nodes o k ≡ Some u → last_in nodes k ≡ Some u.values
+last_used rule nodes None k u e = cc
+last_used rule nodes (Some x) Behind u e = cc
+last_used rule nodes (Some x) Before u e = cc
+last_used rule nodes (Some x) (Within f) u e = ap (option_map (λ (z : Use). z.values)) e
+
+module _ {K : Type 0} (asked : K → Asked) (given : K → Option Listed.Solution) (is_for : K → SignatureOf → Type 0) (c : Bool) (p : Typed.Program) (m : Meanings) (goes : GoesBy p m) (old new : List Node) (before after : Table)
+    (w : PatternSearch K) (u : RuleUses K) where
+  abbrev P : Program
+  P = program_over p m.hooks
+
+  module _ (xs : List Variable) (q : Tree) (v : TermId) (is : IsPatternSearch asked given is_for c p m old before xs q v w) where
+    pub next_pattern : (b : ℕ) (r : Result Bool EvalEnd) → u.whole ≡ true →
+        IsNextOne (program_over p m.hooks) b (left_in p m.hooks w.rule w.uses.whole w.uses.bound.items old (asked w.uses.listing) (given w.uses.listing) w.uses.standing)
+        (left_in p m.hooks w.rule u.whole u.bound.items new (asked u.listing) (given u.listing) u.standing) (use_in w.rule new (given u.listing) u.standing) r →
+        IsNextOne (program_over p m.hooks) b (just (matched_left asked given p m.hooks old w)) (just (matched_left asked given p m.hooks new (record { rule = w.rule; uses = u }))) (last_in new u.standing) r
+    next_pattern b r whole h =
+        next_matched P (rule_of w.rule) (nothing_asked asked given is_for c p m old before xs q v w is) (binding_in old w.uses.bound.items) (tree_at old (asked w.uses.listing).subject.0) (stand_of old (given w.uses.listing) w.uses.standing)
+        (own_stand asked given is_for c p m goes old before xs q v w is) (binding_in new u.bound.items) (tree_at new (asked u.listing).subject.0) (stand_of new (given u.listing) u.standing) b (use_in w.rule new (given u.listing) u.standing)
+        (last_in new u.standing) (last_used w.rule new (given u.listing) u.standing) r
+        (subst (λ z. IsNextOne P b (left_in p m.hooks w.rule true w.uses.bound.items old (asked w.uses.listing) (given w.uses.listing) w.uses.standing) (left_in p m.hooks w.rule z u.bound.items new (asked u.listing) (given u.listing) u.standing)
+        (use_in w.rule new (given u.listing) u.standing) r) whole
+        (subst (λ z. IsNextOne P b (left_in p m.hooks w.rule z w.uses.bound.items old (asked w.uses.listing) (given w.uses.listing) w.uses.standing) (left_in p m.hooks w.rule u.whole u.bound.items new (asked u.listing) (given u.listing) u.standing)
+        (use_in w.rule new (given u.listing) u.standing) r) is.whole h))
+
+    pub pattern_then : u.bound ≡ w.uses.bound → u.whole ≡ w.uses.whole → asked u.listing ≡ asked w.uses.listing → IsSearch c p m w.rule u.bound.items new after (asked u.listing) (given u.listing) u.standing → is_for u.listing p.sig →
+        IsPatternSearch asked given is_for c p m new after xs q v (record { rule = w.rule; uses = u })
+    pattern_then bound whole same search signature = record {
+      rule = is.rule;
+      bound = ap (λ (bs : Vec (VarId × TermId) Global). variables_in bs.items) bound ∙ is.bound;
+      usable = is.usable;
+      whole = whole ∙ is.whole;
+      subject = ap (λ (a : Asked). a.subject) same ∙ is.subject;
+      search = search;
+      signature = signature;
+    }
+
+-- ---- the beginning
+
+pub pattern_usable : (s : SignatureOf) (xs : List Variable) → AreApart xs → (q : Tree) → IsBare (terms_over s) q → (rule : Written.Rule) → IsPatternRule q rule → IsUsable s xs rule
+pattern_usable s xs apart q bare rule is = record {
+  sides = record { kind = bare.0; first = subst (λ t. IsBareIn (terms_over s) t bare.0) (sym is.left) bare.1; second = subst (λ t. IsBareIn (terms_over s) t bare.0) (sym is.right) bare.1 };
+  condition = subst (IsAskable s (add_variables xs (tree_of rule.left))) (sym is.plain) (record { fragments = All-nil (IsFragment s); bound = refl; apart = distinct (tree_of rule.left) xs apart });
+  apart = apart;
+}
