@@ -38,7 +38,9 @@ use Rattle.mau_api.specs.Programs.{fragment_of, program_over}
 use Rattle.mau_api.specs.Meanings.{Meanings}
 use Rattle.mau_api.specs.Answers.{binding_in, IsFragment, IsAskable, IsValueOf, IsSolutionOf}
 use Rattle.mau_api.specs.declared.results.EvalEnd.{EvalEnd}
+use Rattle.mau_reduce.proofs.Numbered.{is_among}
 use Rattle.mau_rules.specs.Runnable.{GoesBy}
+use Rattle.mau_rules.proofs.Shown.{all_in}
 use Rattle.mau_stratforms.specs.Meanings.{definition_of}
 use Rattle.mau_leaves.specs.Steps.{Gives, IsOver, Passes, EndsNow, Throughout}
 use Rattle.mau_leaves.specs.Uses.{condition_from, question_from}
@@ -310,6 +312,36 @@ module _ {K : Type 0} (asked_of : K → Asked) (given : K → Option Listed.Solu
 
       pub values_there : GoesBy p m → (bound : List (VarId × TermId)) → last_found a.searches.items ≡ Some bound → All (IsValueOf p.sig nodes table) bound
       values_there goes bound at = (reached asked_of given is_for c p m nodes table goes is.definition.args vs a.searches.items is.arguments.searches bound at).values
+
+  -- ---- where its condition is asked on
+
+  module _ (goes : GoesBy p m) (lawful : All (IsLawfulDefinition p.sig) p.strategies) (nodes : List Node) (table : Table) (i : ℕ) where
+    pub record IsAskedAt (vs : List TermId) (a : ArgumentSearch K) (s : Standing) : Type 0 where
+      pub begun : IsBegun asked_of given is_for c p m nodes table vs i a s
+      pub within : i < length p.strategies
+      pub bound : List (VarId × TermId)
+      pub found : last_found a.searches.items ≡ Some bound
+      pub all : length a.searches.items ≡ length begun.definition.args
+      pub askable : IsAskable p.sig (variables_in bound) begun.definition.cond
+      pub values : All (IsValueOf p.sig nodes table) bound
+      pub shown : IfSome (found_in s) (IsShownFor m p.sig begun.definition bound nodes table)
+
+    asked_by : (vs : List TermId) (a : ArgumentSearch K) (s : Standing) → (s ≡ Behind → ⊥) → IsBegun asked_of given is_for c p m nodes table vs i a s → IsAskedAt vs a s
+    asked_by vs a s h is =
+        let k = asked_there nodes table vs i a s is h in
+        record {
+          begun = is;
+          within = begun_within nodes table vs i a s is;
+          bound = k.bound;
+          found = k.at;
+          all = k.all;
+          askable = askable_there nodes table vs i a s is goes (all_in (IsLawfulDefinition p.sig) p.strategies is.definition lawful (is_among p.strategies i is.definition is.at)) k.bound k.at k.all;
+          values = values_there nodes table vs i a s is goes k.bound k.at;
+          shown = k.shown;
+        }
+
+    pub asked_at : (vs : List TermId) (o : Option (ArgumentSearch K)) (s : Standing) → (s ≡ Behind → ⊥) → IsStanding asked_of given is_for c p m nodes table vs i o s → (a : ArgumentSearch K) → o ≡ Some a → IsAskedAt vs a s
+    asked_at vs o s h is a e = asked_by vs a s h (subst (λ (o : Option (ArgumentSearch K)). IsStanding asked_of given is_for c p m nodes table vs i o s) e is)
 
   -- ---- in a store that has grown
 

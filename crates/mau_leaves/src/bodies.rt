@@ -90,7 +90,8 @@ fn ask_on<E: Evaluator, L: Lister + Drop>(
         Some(bound) => bound,
         None => unreachable!(),
     };
-    let definition = &definitions[bodies.number];
+    let number = bodies.number;
+    let definition = &definitions[number];
     let last = last_of(&bodies.standing);
     match ask(
         program,
