@@ -1,11 +1,13 @@
 -- Terms that are evaluated in turn, one after another; and what f gives for what is left.
-use Rattle.std.proofs.Common.{◌≡◌, ◌+◌, ℕ, zero, suc, List, [], ◌∷◌, ◌++◌, length, map, drop, All, refl, sym, ap, ◌∙◌, subst, arith, append-nil}
-use Rattle.std.proofs.lemmas.List.{length-append}
+use Rattle.std.proofs.Common.{◌≡◌, ◌+◌, ◌≤◌, ℕ, zero, suc, List, [], ◌∷◌, ◌++◌, length, map, drop, All, Some, slice_get, refl, sym, ap, ◌∙◌, subst, arith, append-nil}
+use Rattle.std.specs.Option.{option_map}
+use Rattle.std.proofs.lemmas.List.{length-append, length-map}
 use Rattle.std.proofs.lemmas.List.Elements.{All-nil, All-cons, All-head, All-tail}
 use Rattle.mau_terms.specs.Tree.{Tree}
 use Rattle.mau_terms.specs.Bare.{IsLawful}
 use Rattle.mau_terms.specs.declared.ids.TermId.{TermId}
 use Rattle.mau_signature.specs.Signature.{theory_at}
+use Rattle.mau_formula.specs.Operator.{Operator}
 use Rattle.mau_store.specs.Node.{Node, Extends}
 use Rattle.mau_store.specs.Trees.{tree_at, trees_at}
 use Rattle.mau_store.specs.View.{numbers}
@@ -19,11 +21,13 @@ use Rattle.mau_evaluation.specs.OrderedLists.{put_first, values_of}
 use Rattle.mau_evaluation.specs.Questions.{evaluates}
 use Rattle.mau_cond.proofs.Grown.{each}
 use Rattle.mau_reduce.proofs.KindsKept.{tree_kept}
+use Rattle.mau_api.specs.Programs.{program_over}
+use Rattle.mau_rules.specs.Runnable.{IsRunnable}
 use Rattle.mau_api.specs.declared.results.EvalEnd.{EvalEnd}
 use Rattle.mau_leaves.specs.Steps.{Gives, IsOver, Passes, EndsNow, Throughout}
 use Rattle.mau_leaves.specs.Answers.{ComesTo, QuestionEnds, IsDueBy}
 use Rattle.mau_leaves.specs.InTurn.{just, IsEvaluated, and_then_those, values_behind, left_of_values, only_one, AreNextValues}
-use Rattle.mau_leaves.proofs.Steps.{through_always}
+use Rattle.mau_leaves.proofs.Steps.{through_always, none_passed, then_pass}
 use Rattle.mau_leaves.proofs.Searching.{term_grown, settled_later}
 use Rattle.mau_leaves.proofs.Throughs.{valued_through, valued_due}
 
@@ -116,3 +120,74 @@ more_values nodes (x ∷ ids) id = ap (λ ts. tree_at nodes x.0 ∷ ts) (more_va
 pub as_many : (nodes : List Node) (ids : List TermId) → length (trees_at nodes (numbers ids)) ≡ length ids
 as_many nodes [] = refl
 as_many nodes (x ∷ ids) = ap suc (as_many nodes ids)
+
+-- ---- the term that is next
+
+slice_mapped : {A B : Type 0} (f : A → B) (xs : List A) (i : ℕ) (x : A) → slice_get xs i ≡ Some x → slice_get (map f xs) i ≡ Some (f x)
+slice_mapped f [] i x e = cc
+slice_mapped f (y ∷ xs) zero x e = ap (option_map f) e
+slice_mapped f (y ∷ xs) (suc i) x e = slice_mapped f xs i x e
+
+drop_at : {A : Type 0} (xs : List A) (i : ℕ) (x : A) → slice_get xs i ≡ Some x → (ys : List A) × (drop i xs ≡ x ∷ ys)
+drop_at [] i x e = cc
+drop_at (y ∷ xs) zero x e = (xs, ap (λ z. z ∷ xs) (one y x e))
+  where
+    one : {A : Type 0} (y x : A) → Some y ≡ Some x → y ≡ x
+    one y x k = cc
+drop_at (y ∷ xs) (suc i) x e = drop_at xs i x e
+
+drop_all : {A : Type 0} (xs : List A) (i : ℕ) → length xs ≤ i → drop i xs ≡ []
+drop_all [] zero h = refl
+drop_all [] (suc i) h = refl
+drop_all (x ∷ xs) zero h = absurd (omega (arith, h))
+drop_all (x ∷ xs) (suc i) h = drop_all xs i (omega (arith, h))
+
+-- one step of the loop over the terms xs of some kind, the values of whose first are at hand
+module _ {X : Type 0} (tree : X → Tree) (p : Typed.Program) (run : IsRunnable p) (hooks : List Operator) (g : Tree → Tree) (xs : List X) (nodes new : List Node) (before after : Table) (extends : Extends nodes new) (kept : KeepsEntries before after)
+    (ids : List TermId) (evaluated : All (IsEvaluated p.sig nodes before) ids) (x : X) (at : slice_get xs (length ids) ≡ Some x) where
+  abbrev Q : Program
+  Q = program_over p hooks
+
+  abbrev ts : List Tree
+  ts = map g (map tree xs)
+
+  abbrev us : List Tree
+  us = trees_at nodes (numbers ids)
+
+  next_term : (rest : List Tree) × (drop (length us) ts ≡ g (tree x) ∷ rest)
+  next_term =
+      subst (λ n. (rest : List Tree) × (drop n ts ≡ g (tree x) ∷ rest)) (sym (as_many nodes ids))
+      (drop_at ts (length ids) (g (tree x)) (slice_mapped g (map tree xs) (length ids) (tree x) (slice_mapped tree xs (length ids) x at)))
+
+  new_values : (id : TermId) → trees_at new (numbers (ids ++ id ∷ [])) ≡ us ++ tree_at new id.0 ∷ []
+  new_values id = more_values new ids id ∙ ap (λ (vs : List Tree). vs ++ tree_at new id.0 ∷ []) (values_kept p nodes new before after extends kept ids evaluated)
+
+  pub one_valued : (id : TermId) → ComesTo (program_over p hooks) (λ L. L.level.eval (g (tree x))) (tree_at new id.0) →
+      Throughout (engine_of (program_over p hooks)) (left_of_values (program_over p hooks) (map g (map tree xs)) (trees_at nodes (numbers ids))) (λ L.
+      Passes (left_of_values (program_over p hooks) (map g (map tree xs)) (trees_at nodes (numbers ids)) L) (left_of_values (program_over p hooks) (map g (map tree xs)) (trees_at new (numbers (ids ++ id ∷ []))) L))
+  one_valued id comes =
+      subst (λ (vs : List Tree). Throughout (engine_of Q) (left_of_values Q ts us) (λ L. Passes (left_of_values Q ts us L) (left_of_values Q ts vs L))) (sym (new_values id))
+      (value_passes Q run.reducible.lawful ts us (g (tree x)) next_term.0 next_term.1 (tree_at new id.0) comes)
+
+  -- memory is wanting, or an end
+  pub none_valued : Throughout (engine_of (program_over p hooks)) (left_of_values (program_over p hooks) (map g (map tree xs)) (trees_at nodes (numbers ids))) (λ L.
+      Passes (left_of_values (program_over p hooks) (map g (map tree xs)) (trees_at nodes (numbers ids)) L) (left_of_values (program_over p hooks) (map g (map tree xs)) (trees_at new (numbers ids)) L))
+  none_valued =
+      subst (λ (vs : List Tree). Throughout (engine_of Q) (left_of_values Q ts us) (λ L. Passes (left_of_values Q ts us L) (left_of_values Q ts vs L))) (sym (values_kept p nodes new before after extends kept ids evaluated))
+      (none_passed Q (left_of_values Q ts us))
+
+  pub one_due : (b : ℕ) (e : EvalEnd) → QuestionEnds (program_over p hooks) b (evaluates (g (tree x))) e → IsDueBy (program_over p hooks) b (left_of_values (program_over p hooks) (map g (map tree xs)) (trees_at nodes (numbers ids))) e
+  one_due b e h = value_due Q run.reducible.lawful ts us (g (tree x)) next_term.0 next_term.1 b e h
+
+-- all have their values
+pub none_behind : {X : Type 0} (tree : X → Tree) (P : Program) (g : Tree → Tree) (xs : List X) (nodes : List Node) (ids : List TermId) → length xs ≤ length ids →
+    Throughout (engine_of P) (left_of_values P (map g (map tree xs)) (trees_at nodes (numbers ids))) (λ L.
+    Passes (left_of_values P (map g (map tree xs)) (trees_at nodes (numbers ids)) L) (only_one (trees_at nodes (numbers ids)) L))
+none_behind tree P g xs nodes ids h =
+    values_all P (map g (map tree xs)) (trees_at nodes (numbers ids))
+    (drop_all (map g (map tree xs)) (length (trees_at nodes (numbers ids))) (let a = length-map (map tree xs) g in let b = length-map xs tree in let n = as_many nodes ids in omega (arith, a, b, n, h)))
+
+-- steps in a row
+pub values_then : (P : Program) (old now new : Engine → Answers (List Tree) → Type 0) → Throughout (engine_of P) old (λ L. Passes (old L) (now L)) → Throughout (engine_of P) now (λ L. Passes (now L) (new L)) →
+    Throughout (engine_of P) old (λ L. Passes (old L) (new L))
+values_then P old now new h k = then_pass (engine_of P) old now h new k

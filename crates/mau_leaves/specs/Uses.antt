@@ -1,5 +1,5 @@
 -- The uses of rules at a term, one after another: what they are, and what is left of them.
-use Rattle.std.specs.Prelude.{◌≡◌, ℕ, List, [], Bool, true, not, Option, Some, None}
+use Rattle.std.specs.Prelude.{◌≡◌, ℕ, List, [], Bool, true, false, not, Option, Some, None}
 use Rattle.mau_terms.specs.Tree.{Tree}
 use Rattle.mau_terms.specs.Subst.{variables}
 use Rattle.mau_listing.specs.Finite.{comes_behind}

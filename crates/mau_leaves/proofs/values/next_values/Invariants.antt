@@ -21,6 +21,7 @@ invariant-loop-index g l =
           Passes (left_of_values (program_over p m.hooks) ts (trees_at l.fn.store (numbers l.fn.done.items)) L) (left_of_values (program_over p m.hooks) ts (trees_at l.store (numbers l.done.items)) L));
       done : All (IsEvaluated p.sig l.store (g.E.Evaluator.table l.evaluator)) l.done.items;
       count : length l.done.items ≡ l.index;
+      within : l.index ≤ length l.fn.terms;
       meanings : g.E.Evaluator.meanings l.evaluator ≡ m;
       fits : g.E.Evaluator.fits l.evaluator l.store;
       extends : Extends l.fn.store l.store;
