@@ -19,18 +19,6 @@ use Rattle.mau_api.specs.declared.results.EvalEnd.{EvalEnd}
 use Rattle.mau_leaves.specs.Answers.{IsNextShown}
 use Rattle.mau_leaves.specs.Searches.{IsUsable}
 
-zip_variables : (xs : List VarId) (ids : List TermId) → length ids ≡ length xs → map (λ (b : VarId × TermId). variable_of b.0) (zip xs ids) ≡ map variable_of xs
-zip_variables [] ids e = refl
-zip_variables (x ∷ xs) [] e = absurd (omega (arith, e))
-zip_variables (x ∷ xs) (i ∷ ids) e = ap (λ ys. variable_of x ∷ ys) (zip_variables xs ids (omega (arith, e)))
-
-pub askable_for : (s : SignatureOf) (rule : WrittenRule.Rule) → IsUsable s rule → (xs : List VarId) (ids : List TermId) → map variable_of xs ≡ variables (tree_of rule.left) → length ids ≡ length (variables (tree_of rule.left)) →
-    (bound : List (VarId × TermId)) → bound ≡ zip xs ids → (cond : List Written.Fragment) → cond ≡ rule.cond → IsAskable s (map (λ (b : VarId × TermId). variable_of b.0) bound) cond
-askable_for s rule usable xs ids e many bound zipped cond same =
-    let own : map (λ (b : VarId × TermId). variable_of b.0) (zip xs ids) ≡ variables (tree_of rule.left) = zip_variables xs ids (many ∙ (ap length (sym e) ∙ length-map xs variable_of)) ∙ e in
-    subst (λ (bs : List (VarId × TermId)). IsAskable s (map (λ (b : VarId × TermId). variable_of b.0) bs) cond) (sym zipped)
-    (subst (λ (cs : List Written.Fragment). IsAskable s (map (λ (b : VarId × TermId). variable_of b.0) (zip xs ids)) cs) (sym same) (subst (λ ys. IsAskable s ys rule.cond) (sym own) usable.condition))
-
 -- the same asked with other words
 pub shown_as : (P : Program) (b : ℕ) (nodes : List Node) (r : Result (Option (List (VarId × TermId))) EvalEnd) (last last' : Option Binding) → last ≡ last' → (c c' : List Fragment) → c ≡ c' → (σ σ' : Binding) → σ ≡ σ' →
     IsNextShown P b last c σ nodes r → IsNextShown P b last' c' σ' nodes r

@@ -1,9 +1,10 @@
 -- Tests: their results by the uses of a rule, and the search for these.
-use Rattle.std.proofs.Common.{◌≡◌, ◌⊎◌, inl, ℕ, List, [], ◌∷◌, map, Bool, true, false, Option, Some, None, Ok, Err, refl, sym, ap, ◌∙◌, subst, append-nil}
+use Rattle.std.proofs.Common.{◌≡◌, ◌⊎◌, inl, ℕ, List, [], ◌∷◌, map, Vec, Global, Bool, true, false, Option, Some, None, Ok, Err, refl, sym, ap, ◌∙◌, subst, append-nil}
 use Rattle.mau_terms.specs.Tree.{Tree}
 use Rattle.mau_terms.specs.Bare.{IsBareIn, IsLawful}
 use Rattle.mau_terms.specs.Subst.{variables}
 use Rattle.mau_terms.specs.declared.ids.TermId.{TermId}
+use Rattle.mau_terms.specs.declared.ids.VarId.{VarId}
 use Rattle.mau_terms.proofs.Variables.{distinct}
 use Rattle.mau_signature.specs.Signature.{SignatureOf, theory_at, terms_over}
 use Rattle.mau_formula.specs.Operator.{Operator}
@@ -31,7 +32,7 @@ use Rattle.mau_evaluation.specs.Answers.{Answers, no_more, answer, and_those, fo
 use Rattle.mau_evaluation.specs.OrderedLists.{shown, asked_from, or_next, holding, first_holding, results_of, results}
 use Rattle.mau_api.specs.Programs.{fragment_of, rule_of, program_over}
 use Rattle.mau_api.specs.Meanings.{Meanings}
-use Rattle.mau_api.specs.Answers.{IsAskable, levels_of_condition}
+use Rattle.mau_api.specs.Answers.{binding_in, IsAskable, levels_of_condition}
 use Rattle.mau_api.specs.declared.results.EvalEnd.{EvalEnd}
 use Rattle.mau_api.specs.declared.results.EvalEnd.TheVariants as Ended
 use Rattle.mau_reduce.proofs.KindsKept.{tree_kept}
@@ -39,7 +40,7 @@ use Rattle.mau_stratforms.specs.Meanings.{kind_of}
 use Rattle.mau_leaves.specs.Steps.{Gives, IsOver, Passes, EndsNow, Throughout}
 use Rattle.mau_leaves.specs.Uses.{Use, behind, use_by, uses_among, uses_by, IsLeft}
 use Rattle.mau_leaves.specs.Answers.{IsDueBy}
-use Rattle.mau_leaves.specs.Searches.{stand_of, left_in, IsUsable, IsSearch, IsNextOne}
+use Rattle.mau_leaves.specs.Searches.{stand_of, left_in, variables_in, IsUsable, IsSearch, IsNextOne}
 use Rattle.mau_leaves.specs.Follows.{HasGiven}
 use Rattle.mau_leaves.specs.Tests.{first_only, WithinIsWhole, MayAsk, IsTestOf, left_over, left_of_test, IsTest, IsBegunTest}
 use Rattle.mau_leaves.specs.declared.uses.RuleUses.{RuleUses}
@@ -126,14 +127,14 @@ module _ {K : Type 0} (asked : K → Asked) (given : K → Option Listed.Solutio
   rule = rule_of s.rule
 
   abbrev Start : Engine → Answers Tree → Type 0
-  Start L z = (r : Answers Use) × IsLeft Q L rule [] u (behind None) r × (z ≡ first_only u r)
+  Start L z = (r : Answers Use) × IsLeft Q L false rule [] u (behind None) r × (z ≡ first_only u r)
 
   start_is : Start ≡ left_of_test asked given p m.hooks nodes s
   start_is =
-      (λ i L z. (r : Answers Use) × IsLeft Q L rule [] (tree_at nodes (sym h.asked_of i).0) (stand_of nodes (sym h.begun.0 i) s.uses.standing) r × (z ≡ first_only (tree_at nodes (sym h.subject i).0) r))
+      (λ i L z. (r : Answers Use) × IsLeft Q L (sym h.unbound.1 i) rule (binding_in nodes (sym h.unbound.0 i)) (tree_at nodes (sym h.asked_of i).0) (stand_of nodes (sym h.begun.0 i) s.uses.standing) r × (z ≡ first_only (tree_at nodes (sym h.subject i).0) r))
       ∙ ap (λ b. left_over asked given b p m.hooks nodes s) (sym h.begun.2)
 
-  test_results : (L : Engine) → AsksRightly Q L → (d : Todo) → d.form ≡ test (kind_of kind) pattern (map fragment_of cond) → d.values ≡ [] → results Q L d u ≡ first_only u (uses_by Q L rule [] u)
+  test_results : (L : Engine) → AsksRightly Q L → (d : Todo) → d.form ≡ test (kind_of kind) pattern (map fragment_of cond) → d.values ≡ [] → results Q L d u ≡ first_only u (uses_by Q L false rule [] u)
   test_results L right d form values =
       ap (λ σ. results_of Q L σ d.form u) values
       ∙ (ap (λ e. results_of Q L [] e u) form
@@ -147,10 +148,10 @@ module _ {K : Type 0} (asked : K → Asked) (given : K → Option Listed.Solutio
       begins (engine_of Q) (λ L. results Q L d u) (left_of_test asked given p m.hooks nodes s)
       (subst (λ (f : Engine → Answers Tree → Type 0). Throughout (engine_of Q) (λ L z. z ≡ results Q L d u) (λ L. Passes (λ z. z ≡ results Q L d u) (f L))) start_is
       (through_right Q lawful (λ L z. z ≡ results Q L d u) {H = λ L. Passes (λ z. z ≡ results Q L d u) (Start L)}
-      (λ L right z e. (uses_by Q L rule [] u, sym (ap (uses_among Q L rule []) (all_of_them (compare Q.sign.theory rule.left) (solutions_within Q.sign rule.left u))), e ∙ test_results L right d form values))))
+      (λ L right z e. (uses_by Q L false rule [] u, sym (ap (uses_among Q L rule []) (all_of_them (compare Q.sign.theory rule.left) (solutions_within Q.sign rule.left u))), e ∙ test_results L right d form values))))
 
 -- its rule can be used
-pub test_usable : (s : SignatureOf) (pattern : Tree) (cond : List WrittenFragment.Fragment) → MayAsk s pattern cond → (q : Written.Rule) → IsTestOf pattern cond q → IsUsable s q
+pub test_usable : (s : SignatureOf) (pattern : Tree) (cond : List WrittenFragment.Fragment) → MayAsk s pattern cond → (q : Written.Rule) → IsTestOf pattern cond q → IsUsable s [] q
 test_usable s pattern cond may q is =
     let bare = may.pattern in
     record {
@@ -158,6 +159,7 @@ test_usable s pattern cond may q is =
       condition =
           subst (λ t. IsAskable s (variables t) q.cond) (sym is.left)
           (subst (λ (cs : List WrittenFragment.Fragment). IsAskable s (variables pattern) cs) (sym is.condition) (record { fragments = may.fragments; bound = may.bound; apart = distinct pattern [] tt }));
+      apart = tt;
     }
 
 -- ---- steps
@@ -168,17 +170,17 @@ module _ {K : Type 0} (asked : K → Asked) (given : K → Option Listed.Solutio
   R = program_over p m.hooks
 
   abbrev uses_left : List Node → RuleUses K → Engine → Answers Use → Type 0
-  uses_left nodes w = left_in p m.hooks s.rule nodes (asked w.listing) (given w.listing) w.standing
+  uses_left nodes w = left_in p m.hooks s.rule w.whole w.bound.items nodes (asked w.listing) (given w.listing) w.standing
 
   same : tree_at new s.term.0 ≡ tree_at old s.term.0
   same = tree_kept (theory_at p.sig) old new s.term.0 extends is.term.within
 
-  pub test_then : (w : RuleUses K) (b : Bool) → IsSearch c p m s.rule new after (asked w.listing) (given w.listing) w.standing → is_for w.listing p.sig →
+  pub test_then : (w : RuleUses K) (b : Bool) → w.bound ≡ s.uses.bound → IsSearch c p m s.rule w.bound.items new after (asked w.listing) (given w.listing) w.standing → is_for w.listing p.sig →
       IsTest asked given is_for c p m new after (record { term = s.term; rule = s.rule; uses = w; over = b })
-  test_then w b search signature = record {
+  test_then w b bound search signature = record {
     term = term_grown p old new before after extends kept s.term.0 is.term;
     settled = settled_later p old new before after extends kept s.term.0 is.term is.settled;
-    usable = is.usable;
+    usable = subst (λ (v : Vec (VarId × TermId) Global). IsUsable p.sig (variables_in v.items) s.rule) (sym bound) is.usable;
     search = search;
     signature = signature;
   }
@@ -188,7 +190,7 @@ module _ {K : Type 0} (asked : K → Asked) (given : K → Option Listed.Solutio
     term = term_grown p old new before after extends kept s.term.0 is.term;
     settled = settled_later p old new before after extends kept s.term.0 is.term is.settled;
     usable = is.usable;
-    search = search_grown p old new before after extends kept m s.rule c (asked s.uses.listing) (given s.uses.listing) s.uses.standing over is.search;
+    search = search_grown p old new before after extends kept m s.rule s.uses.bound.items c (asked s.uses.listing) (given s.uses.listing) s.uses.standing over is.search;
     signature = is.signature;
   }
 
@@ -200,7 +202,7 @@ module _ {K : Type 0} (asked : K → Asked) (given : K → Option Listed.Solutio
       by : (b : Bool) → left_over asked given b p m.hooks old s ≡ left_over asked given b p m.hooks new s
       by true = refl
       by false =
-          let left = left_same p old new before after extends kept m s.rule c (asked s.uses.listing) (given s.uses.listing) s.uses.standing is.search in
+          let left = left_same p old new before after extends kept m s.rule s.uses.bound.items c (asked s.uses.listing) s.uses.whole (given s.uses.listing) s.uses.standing is.search in
           λ i L q. (r : Answers Use) × sym left i L r × (q ≡ first_only (sym same i) r)
 
   -- nothing is left where the search is over

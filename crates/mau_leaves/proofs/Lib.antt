@@ -18,6 +18,8 @@ pub mod Within
 pub mod Searching
 -- terms that are evaluated in turn
 pub mod InTurns
+-- agreement with what is bound
+pub mod Agreeing
 -- the next solution of a rule's left side, as a listing gives it
 pub mod Listings
 -- tables of an evaluator
@@ -26,6 +28,8 @@ pub mod Tables
 pub mod Turns
 -- the condition of a rule, asked for the values of a solution
 pub mod Bound
+-- what is bound before, and then the values of a solution
+pub mod Extended
 -- rules at a term, one after another
 pub mod Places
 -- one turn of a search at a term

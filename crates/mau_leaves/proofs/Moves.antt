@@ -6,7 +6,7 @@ use Rattle.mau_terms.specs.Subst.{variables}
 use Rattle.mau_listing.specs.Finite.{comes_behind}
 use Rattle.mau_evaluation.specs.Run.{End, done, ended}
 use Rattle.mau_evaluation.specs.Program.{Rule, Program}
-use Rattle.mau_evaluation.specs.Listing.{Solution, compare, solutions_within}
+use Rattle.mau_evaluation.specs.Listing.{Solution, compare}
 use Rattle.mau_evaluation.specs.Evaluation.{Binding, agree, have_sorts}
 use Rattle.mau_evaluation.specs.Engine.{Engine}
 use Rattle.mau_evaluation.specs.Rules.{bound_by}
@@ -14,19 +14,19 @@ use Rattle.mau_evaluation.specs.Answers.{Answers, no_more, ends_by, and_those, f
 use Rattle.mau_evaluation.specs.OrderedLists.{asked}
 use Rattle.mau_evaluation.proofs.Listed.{from_keep}
 use Rattle.mau_leaves.specs.Steps.{Gives, IsOver, Passes, EndsNow}
-use Rattle.mau_leaves.specs.Uses.{Use, behind, at_one, solutions_behind, use_by, condition_from, uses_for, uses_at, uses_among, IsLeft}
+use Rattle.mau_leaves.specs.Uses.{Use, behind, at_one, solutions_as, solutions_behind, use_by, condition_from, uses_for, uses_at, uses_among, IsLeft}
 use Rattle.mau_rules.proofs.Passing.{AllFail, no_more_fail, one_fails}
 use Rattle.mau_leaves.proofs.Engines.{AsksRightly}
 use Rattle.mau_leaves.proofs.Askings.{asked_gives, asked_over, asked_ends}
 
 -- ---- a condition is asked on
 
-module _ (P : Program) (L : Engine) (right : AsksRightly P L) (q : Rule) (σ : Binding) (t : Tree) (x : Solution) (o : Option Binding) where
+module _ (P : Program) (L : Engine) (right : AsksRightly P L) (w : Bool) (q : Rule) (σ : Binding) (t : Tree) (x : Solution) (o : Option Binding) where
   abbrev tail : Answers Use
-  tail = uses_among P L q σ (solutions_behind P q t (Some x))
+  tail = uses_among P L q σ (solutions_behind P w q t (Some x))
 
   pub use_given : (s : Binding) (r l : ℕ) → condition_from P L o q.cond (bound_by P L q σ x) L.budget ≡ done (Some s) r l →
-      Gives (IsLeft P L q σ t (at_one x o)) (record { rule = q; solution = x; values = s }) (IsLeft P L q σ t (at_one x (Some s)))
+      Gives (IsLeft P L w q σ t (at_one x o)) (record { rule = q; solution = x; values = s }) (IsLeft P L w q σ t (at_one x (Some s)))
   use_given s r l e p (rest, n, h) =
       let g = asked_gives P L right q.cond (bound_by P L q σ x) o s r l e rest n in (
         and_those (for_each (use_by q x) g.0) tail,
@@ -34,10 +34,10 @@ module _ (P : Program) (L : Engine) (right : AsksRightly P L) (q : Rule) (σ : B
         (g.0, g.2, refl),
       )
 
-  pub use_passed : (r l : ℕ) → condition_from P L o q.cond (bound_by P L q σ x) L.budget ≡ done None r l → Passes (IsLeft P L q σ t (at_one x o)) (IsLeft P L q σ t (behind (Some x)))
+  pub use_passed : (r l : ℕ) → condition_from P L o q.cond (bound_by P L q σ x) L.budget ≡ done None r l → Passes (IsLeft P L w q σ t (at_one x o)) (IsLeft P L w q σ t (behind (Some x)))
   use_passed r l e p (rest, n, h) = h ∙ ap (λ z. and_those (for_each (use_by q x) z) tail) (asked_over P L right q.cond (bound_by P L q σ x) o r l e rest n)
 
-  pub use_ends : (f : End) → condition_from P L o q.cond (bound_by P L q σ x) L.budget ≡ ended f → EndsNow (IsLeft P L q σ t (at_one x o)) f
+  pub use_ends : (f : End) → condition_from P L o q.cond (bound_by P L q σ x) L.budget ≡ ended f → EndsNow (IsLeft P L w q σ t (at_one x o)) f
   use_ends f e p (rest, n, h) = h ∙ ap (λ z. and_those (for_each (use_by q x) z) tail) (asked_ends P L right q.cond (bound_by P L q σ x) o f e rest n)
 
 -- ---- lists in two parts
@@ -57,8 +57,8 @@ in_two (z ∷ xs) ys x = ap (λ zs. z ∷ zs) (in_two xs ys x)
 
 -- ---- solutions are gone through
 
-module _ (P : Program) (L : Engine) (q : Rule) (σ : Binding) (t : Tree) (X : Type 0) (e : End) (test : Solution → Bool)
-    (sorted : (y : Solution) → IsIn y (solutions_within P.sign q.left t) →
+module _ (P : Program) (L : Engine) (w : Bool) (q : Rule) (σ : Binding) (t : Tree) (X : Type 0) (e : End) (test : Solution → Bool)
+    (sorted : (y : Solution) → IsIn y (solutions_as P w q t) →
     (have_sorts L.level.sorts (variables q.left) y.values L.budget ≡ done (test y) 0 L.budget) ⊎ (X × (have_sorts L.level.sorts (variables q.left) y.values L.budget ≡ ended e))) where
   -- the values agree with what is bound, and have their sorts
   abbrev pub accepted : Solution → Bool
@@ -68,7 +68,7 @@ module _ (P : Program) (L : Engine) (q : Rule) (σ : Binding) (t : Tree) (X : Ty
   asks_at y = asking L.budget (have_sorts L.level.sorts (variables q.left) y.values) (λ ok. when ok (uses_for P L q σ y))
 
   abbrev IsListed : Solution → Type 0
-  IsListed y = IsIn y (solutions_within P.sign q.left t)
+  IsListed y = IsIn y (solutions_as P w q t)
 
   at_sorts : (y : Solution) → IsListed y → (asking L.budget (have_sorts L.level.sorts (variables q.left) y.values) (λ ok. when ok (uses_for P L q σ y)) ≡ when (test y) (uses_for P L q σ y))
       ⊎ (X × (asking L.budget (have_sorts L.level.sorts (variables q.left) y.values) (λ ok. when ok (uses_for P L q σ y)) ≡ ends_by e))
@@ -101,17 +101,17 @@ module _ (P : Program) (L : Engine) (q : Rule) (σ : Binding) (t : Tree) (X : Ty
 
   module _ (last : Option Solution) where
     -- those behind the last one are listed
-    among : (failed ys : List Solution) → solutions_behind P q t last ≡ failed ++ ys → (y : Solution) → IsIn y failed → IsListed y
+    among : (failed ys : List Solution) → solutions_behind P w q t last ≡ failed ++ ys → (y : Solution) → IsIn y failed → IsListed y
     among failed ys parts y i =
-        (from_keep (comes_behind (compare P.sign.theory q.left) last) y (solutions_within P.sign q.left t) (subst (IsIn y) (sym parts) (in_first failed ys y i))).0
+        (from_keep (comes_behind (compare P.sign.theory q.left) last) y (solutions_as P w q t) (subst (IsIn y) (sym parts) (in_first failed ys y i))).0
 
     -- the next one that is accepted
-    pub next_one : (failed ys : List Solution) (x : Solution) → solutions_behind P q t last ≡ failed ++ (x ∷ ys) → AllFail accepted failed → accepted x ≡ true → solutions_behind P q t (Some x) ≡ ys →
-        Passes (IsLeft P L q σ t (behind last)) (IsLeft P L q σ t (at_one x None)) ⊎ (X × EndsNow (IsLeft P L q σ t (behind last)) e)
+    pub next_one : (failed ys : List Solution) (x : Solution) → solutions_behind P w q t last ≡ failed ++ (x ∷ ys) → AllFail accepted failed → accepted x ≡ true → solutions_behind P w q t (Some x) ≡ ys →
+        Passes (IsLeft P L w q σ t (behind last)) (IsLeft P L w q σ t (at_one x None)) ⊎ (X × EndsNow (IsLeft P L w q σ t (behind last)) e)
     next_one failed ys x parts fails passes rest = by (over_all failed (x ∷ ys) (among failed (x ∷ ys) parts) fails) (one_by x (among (failed ++ x ∷ []) ys (parts ∙ sym (in_two failed ys x)) x (in_last failed x)))
       where
         by : (uses_among P L q σ (failed ++ (x ∷ ys)) ≡ uses_among P L q σ (x ∷ ys)) ⊎ (X × (uses_among P L q σ (failed ++ (x ∷ ys)) ≡ ends_by e)) → (uses_at P L q σ x ≡ when (accepted x) (uses_for P L q σ x)) ⊎ (X × (uses_at P L q σ x ≡ ends_by e)) →
-            Passes (IsLeft P L q σ t (behind last)) (IsLeft P L q σ t (at_one x None)) ⊎ (X × EndsNow (IsLeft P L q σ t (behind last)) e)
+            Passes (IsLeft P L w q σ t (behind last)) (IsLeft P L w q σ t (at_one x None)) ⊎ (X × EndsNow (IsLeft P L w q σ t (behind last)) e)
         by (inl h) (inl k) = inl (λ p n. (
           asked P L q.cond (bound_by P L q σ x),
           refl,
@@ -122,9 +122,19 @@ module _ (P : Program) (L : Engine) (q : Rule) (σ : Binding) (t : Tree) (X : Ty
         by (inr h) k = inr (h.0, λ p n. n ∙ (ap (uses_among P L q σ) parts ∙ h.1))
 
     -- no other one is accepted
-    pub no_other : (failed : List Solution) → solutions_behind P q t last ≡ failed ++ [] → AllFail accepted failed → IsOver (IsLeft P L q σ t (behind last)) ⊎ (X × EndsNow (IsLeft P L q σ t (behind last)) e)
+    pub no_other : (failed : List Solution) → solutions_behind P w q t last ≡ failed ++ [] → AllFail accepted failed → IsOver (IsLeft P L w q σ t (behind last)) ⊎ (X × EndsNow (IsLeft P L w q σ t (behind last)) e)
     no_other failed parts fails = by (over_all failed [] (among failed [] parts) fails)
       where
-        by : (uses_among P L q σ (failed ++ []) ≡ no_more) ⊎ (X × (uses_among P L q σ (failed ++ []) ≡ ends_by e)) → IsOver (IsLeft P L q σ t (behind last)) ⊎ (X × EndsNow (IsLeft P L q σ t (behind last)) e)
+        by : (uses_among P L q σ (failed ++ []) ≡ no_more) ⊎ (X × (uses_among P L q σ (failed ++ []) ≡ ends_by e)) → IsOver (IsLeft P L w q σ t (behind last)) ⊎ (X × EndsNow (IsLeft P L w q σ t (behind last)) e)
         by (inl h) = inl (λ p n. n ∙ (ap (uses_among P L q σ) parts ∙ h))
+        by (inr h) = inr (h.0, λ p n. n ∙ (ap (uses_among P L q σ) parts ∙ h.1))
+
+    -- one that is not gone through, behind some that are not accepted
+    pub skip_one : (failed ys : List Solution) (x : Solution) → solutions_behind P w q t last ≡ failed ++ ys → AllFail accepted failed → solutions_behind P w q t (Some x) ≡ ys →
+        Passes (IsLeft P L w q σ t (behind last)) (IsLeft P L w q σ t (behind (Some x))) ⊎ (X × EndsNow (IsLeft P L w q σ t (behind last)) e)
+    skip_one failed ys x parts fails rest = by (over_all failed ys (among failed ys parts) fails)
+      where
+        by : (uses_among P L q σ (failed ++ ys) ≡ uses_among P L q σ ys) ⊎ (X × (uses_among P L q σ (failed ++ ys) ≡ ends_by e)) →
+            Passes (IsLeft P L w q σ t (behind last)) (IsLeft P L w q σ t (behind (Some x))) ⊎ (X × EndsNow (IsLeft P L w q σ t (behind last)) e)
+        by (inl h) = inl (λ p n. n ∙ (ap (uses_among P L q σ) parts ∙ (h ∙ ap (uses_among P L q σ) (sym rest))))
         by (inr h) = inr (h.0, λ p n. n ∙ (ap (uses_among P L q σ) parts ∙ h.1))

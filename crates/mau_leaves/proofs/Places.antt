@@ -24,6 +24,7 @@ use Rattle.mau_evaluation.specs.Answers.{Answers, no_more, and_those, when}
 use Rattle.mau_evaluation.specs.Satisfies.{binds_all, determined}
 use Rattle.mau_evaluation.specs.OrderedLists.{may_use}
 use Rattle.mau_api.specs.Programs.{rule_of, program_over}
+use Rattle.mau_api.specs.Answers.{binding_in}
 use Rattle.mau_api.specs.declared.results.EvalEnd.{EvalEnd}
 use Rattle.mau_reduce.proofs.Numbered.{is_among}
 use Rattle.mau_rules.specs.Runnable.{IsRunnable}
@@ -40,7 +41,7 @@ use Rattle.mau_leaves.proofs.Behind.{all_of_them}
 use Rattle.mau_leaves.proofs.Steps.{through_always, first_gives, first_passes, first_over, first_due}
 
 -- an executable rule can be used
-pub exec_usable : (p : Typed.Program) → IsRunnable p → (i : ℕ) (rule : Written.Rule) → slice_get p.rules i ≡ Some rule → rule.exec ≡ true → IsUsable p.sig rule
+pub exec_usable : (p : Typed.Program) → IsRunnable p → (i : ℕ) (rule : Written.Rule) → slice_get p.rules i ≡ Some rule → rule.exec ≡ true → IsUsable p.sig [] rule
 exec_usable p run i rule at exec =
     let lawful = lawful_rule p run i rule at in
     record {
@@ -50,6 +51,7 @@ exec_usable p run i rule at exec =
         bound = (and_parts (are_bound (variables (tree_of rule.left)) rule.cond) _ (lawful.bound exec)).0;
         apart = distinct (tree_of rule.left) [] tt;
       };
+      apart = tt;
     }
 
 in_mapped : {A B : Type 0} (f : A → B) (xs : List A) (x : A) → IsIn x xs → IsIn (f x) (map f xs)
@@ -85,7 +87,7 @@ module _ (p : Typed.Program) (hooks : List Operator) (chosen : Rule → Bool) (t
       (λ L. Passes (λ q. q ≡ uses_of_all (program_over p hooks) L chosen t (map rule_of (drop n p.rules))) (λ q. q ≡ uses_of_all (program_over p hooks) L chosen t (map rule_of (drop (suc n) p.rules))))
   passes_over n rule at unchosen =
       through_always (engine_of P) (λ L q. q ≡ All_from L n) {H = λ L. Passes (λ q. q ≡ All_from L n) (λ q. q ≡ All_from L (suc n))}
-      (λ L q e. e ∙ (from_one L n rule at ∙ ap (λ b. and_those (when b (when (not (has_reach (rule_of rule).cond)) (when (may_use (rule_of rule) []) (uses_by P L (rule_of rule) [] t)))) (All_from L (suc n))) unchosen))
+      (λ L q e. e ∙ (from_one L n rule at ∙ ap (λ b. and_those (when b (when (not (has_reach (rule_of rule).cond)) (when (may_use (rule_of rule) []) (uses_by P L false (rule_of rule) [] t)))) (All_from L (suc n))) unchosen))
 
   pub passes_unusable : (n : ℕ) (rule : Written.Rule) → slice_get p.rules n ≡ Some rule → may_use (rule_of rule) [] ≡ false →
       Throughout (engine_of (program_over p hooks)) (λ L q. q ≡ uses_of_all (program_over p hooks) L chosen t (map rule_of (drop n p.rules)))
@@ -93,7 +95,7 @@ module _ (p : Typed.Program) (hooks : List Operator) (chosen : Rule → Bool) (t
   passes_unusable n rule at unusable =
       through_always (engine_of P) (λ L q. q ≡ All_from L n) {H = λ L. Passes (λ q. q ≡ All_from L n) (λ q. q ≡ All_from L (suc n))}
       (λ L q e. e ∙ (from_one L n rule at
-      ∙ (ap (λ b. and_those (when (chosen (rule_of rule)) (when (not (has_reach (rule_of rule).cond)) (when b (uses_by P L (rule_of rule) [] t)))) (All_from L (suc n))) unusable
+      ∙ (ap (λ b. and_those (when (chosen (rule_of rule)) (when (not (has_reach (rule_of rule).cond)) (when b (uses_by P L false (rule_of rule) [] t)))) (All_from L (suc n))) unusable
       ∙ ap (λ z. and_those z (All_from L (suc n))) (none_when (chosen (rule_of rule)) (not (has_reach (rule_of rule).cond))))))
     where
       none_when : (b c : Bool) → when {A = Use} b (when c no_more) ≡ no_more
@@ -110,11 +112,11 @@ module _ (p : Typed.Program) (hooks : List Operator) (chosen : Rule → Bool) (t
   pub begins : (run : IsRunnable p) (n : ℕ) (rule : Written.Rule) → slice_get p.rules n ≡ Some rule → chosen (rule_of rule) ≡ true → rule.exec ≡ true →
       Throughout (engine_of (program_over p hooks)) (λ L q. q ≡ uses_of_all (program_over p hooks) L chosen t (map rule_of (drop n p.rules)))
       (λ L. Passes (λ q. q ≡ uses_of_all (program_over p hooks) L chosen t (map rule_of (drop n p.rules)))
-      (Before (uses_of_all (program_over p hooks) L chosen t (map rule_of (drop (suc n) p.rules))) (IsLeft (program_over p hooks) L (rule_of rule) [] t (behind None))))
+      (Before (uses_of_all (program_over p hooks) L chosen t (map rule_of (drop (suc n) p.rules))) (IsLeft (program_over p hooks) L false (rule_of rule) [] t (behind None))))
   begins run n rule at is_one exec =
-      through_always (engine_of P) (λ L q. q ≡ All_from L n) {H = λ L. Passes (λ q. q ≡ All_from L n) (Before (All_from L (suc n)) (IsLeft P L (rule_of rule) [] t (behind None)))}
+      through_always (engine_of P) (λ L q. q ≡ All_from L n) {H = λ L. Passes (λ q. q ≡ All_from L n) (Before (All_from L (suc n)) (IsLeft P L false (rule_of rule) [] t (behind None)))}
       (λ L q e. (
-        uses_by P L (rule_of rule) [] t,
+        uses_by P L false (rule_of rule) [] t,
         sym (ap (uses_among P L (rule_of rule) []) (all_of_them (compare P.sign.theory (tree_of rule.left)) (solutions_within P.sign (tree_of rule.left) t))),
         e ∙ (from_one L n rule at ∙ ap (λ z. and_those z (All_from L (suc n))) (all L)),
       ))
@@ -122,11 +124,11 @@ module _ (p : Typed.Program) (hooks : List Operator) (chosen : Rule → Bool) (t
       no_reach : has_reach (rule_of rule).cond ≡ false
       no_reach = run.no_reach (rule_of rule) (in_mapped rule_of p.rules rule (is_among p.rules n rule at)) exec
 
-      all : (L : Engine) → uses_if_chosen P L chosen t (rule_of rule) ≡ uses_by P L (rule_of rule) [] t
+      all : (L : Engine) → uses_if_chosen P L chosen t (rule_of rule) ≡ uses_by P L false (rule_of rule) [] t
       all L =
-          ap (λ b. when b (when (not (has_reach (rule_of rule).cond)) (when (may_use (rule_of rule) []) (uses_by P L (rule_of rule) [] t)))) is_one
-          ∙ (ap (λ b. when (not b) (when (may_use (rule_of rule) []) (uses_by P L (rule_of rule) [] t))) no_reach
-          ∙ ap (λ b. when (b || binds_all (determined (rule_of rule) []) (rule_of rule).vars 0) (uses_by P L (rule_of rule) [] t)) exec)
+          ap (λ b. when b (when (not (has_reach (rule_of rule).cond)) (when (may_use (rule_of rule) []) (uses_by P L false (rule_of rule) [] t)))) is_one
+          ∙ (ap (λ b. when (not b) (when (may_use (rule_of rule) []) (uses_by P L false (rule_of rule) [] t))) no_reach
+          ∙ ap (λ b. when (b || binds_all (determined (rule_of rule) []) (rule_of rule).vars 0) (uses_by P L false (rule_of rule) [] t)) exec)
 
 -- ---- as the rule that is gone through has them
 
@@ -139,7 +141,7 @@ module _ {K : Type 0} (asked : K → Asked) (given : K → Option Listed.Solutio
   rest L = uses_of_all Q L chosen t (map rule_of (drop (suc n) p.rules))
 
   abbrev own : List Node → RuleUses K → Engine → Answers Use → Type 0
-  own nodes x = left_in p hooks rule nodes (asked x.listing) (given x.listing) x.standing
+  own nodes x = left_in p hooks rule x.whole x.bound.items nodes (asked x.listing) (given x.listing) x.standing
 
   was : (λ (L : Engine). Before (rest L) (own old u L)) ≡ left_behind asked given p hooks chosen t old n (Some u)
   was = λ i L. Before (rest L) (left_of_one asked given p hooks (sym at i) old u L)
@@ -150,7 +152,7 @@ module _ {K : Type 0} (asked : K → Asked) (given : K → Option Listed.Solutio
   then : (λ (L : Engine) (q : Answers Use). q ≡ rest L) ≡ left_behind asked given p hooks chosen v new (suc n) None
   then = λ i L q. q ≡ uses_of_all Q L chosen (sym same i) (map rule_of (drop (suc n) p.rules))
 
-  pub found_there : IsNextOne (program_over p hooks) b (left_in p hooks rule old (asked u.listing) (given u.listing) u.standing) (left_in p hooks rule new (asked w.listing) (given w.listing) w.standing)
+  pub found_there : IsNextOne (program_over p hooks) b (left_in p hooks rule u.whole u.bound.items old (asked u.listing) (given u.listing) u.standing) (left_in p hooks rule w.whole w.bound.items new (asked w.listing) (given w.listing) w.standing)
       (use_in rule new (given w.listing) w.standing) (Ok true) →
       IsTurn (program_over p hooks) b (left_behind asked given p hooks chosen t old n (Some u)) (left_behind asked given p hooks chosen v new n (Some w)) (use_behind asked given p new n (Some w)) (Ok Found)
   found_there (x, e, h) = (
@@ -161,7 +163,7 @@ module _ {K : Type 0} (asked : K → Asked) (given : K → Option Listed.Solutio
         (first_gives (engine_of Q) rest (own old u) (own new w) x h)),
   )
 
-  pub over_there : IsNextOne (program_over p hooks) b (left_in p hooks rule old (asked u.listing) (given u.listing) u.standing) (left_in p hooks rule new (asked w.listing) (given w.listing) w.standing)
+  pub over_there : IsNextOne (program_over p hooks) b (left_in p hooks rule u.whole u.bound.items old (asked u.listing) (given u.listing) u.standing) (left_in p hooks rule w.whole w.bound.items new (asked w.listing) (given w.listing) w.standing)
       (use_in rule new (given w.listing) w.standing) (Ok false) →
       Throughout (engine_of (program_over p hooks)) (left_behind asked given p hooks chosen t old n (Some u)) (λ L. Passes (left_behind asked given p hooks chosen t old n (Some u) L) (left_behind asked given p hooks chosen v new (suc n) None L))
   over_there h =
@@ -169,7 +171,7 @@ module _ {K : Type 0} (asked : K → Asked) (given : K → Option Listed.Solutio
       (subst (λ (f : Engine → Answers Use → Type 0). Throughout (engine_of Q) (λ L. Before (rest L) (own old u L)) (λ L. Passes (Before (rest L) (own old u L)) (f L))) then
       (first_over (engine_of Q) rest (own old u) (own old u) h))
 
-  pub ends_there : (e : EvalEnd) → IsNextOne (program_over p hooks) b (left_in p hooks rule old (asked u.listing) (given u.listing) u.standing) (left_in p hooks rule new (asked w.listing) (given w.listing) w.standing)
+  pub ends_there : (e : EvalEnd) → IsNextOne (program_over p hooks) b (left_in p hooks rule u.whole u.bound.items old (asked u.listing) (given u.listing) u.standing) (left_in p hooks rule w.whole w.bound.items new (asked w.listing) (given w.listing) w.standing)
       (use_in rule new (given w.listing) w.standing) (Err e) →
       IsTurn (program_over p hooks) b (left_behind asked given p hooks chosen t old n (Some u)) (left_behind asked given p hooks chosen v new n (Some w)) (use_behind asked given p new n (Some w)) (Err e)
   ends_there e (h, d) = (
@@ -182,16 +184,16 @@ module _ {K : Type 0} (asked : K → Asked) (given : K → Option Listed.Solutio
 -- ---- as a rule that is begun has them
 
 pub as_begun : {K : Type 0} (asked : K → Asked) (given : K → Option Listed.Solution) (p : Typed.Program) (hooks : List Operator) (chosen : Rule → Bool) → IsRunnable p → (nodes : List Node) (term n : ℕ) (rule : Written.Rule) →
-    slice_get p.rules n ≡ Some rule → chosen (rule_of rule) ≡ true → rule.exec ≡ true → (u : RuleUses K) → given u.listing ≡ None → u.standing ≡ Behind → (asked u.listing).subject.0 ≡ term →
+    slice_get p.rules n ≡ Some rule → chosen (rule_of rule) ≡ true → rule.exec ≡ true → (u : RuleUses K) → u.bound.items ≡ [] → u.whole ≡ false → given u.listing ≡ None → u.standing ≡ Behind → (asked u.listing).subject.0 ≡ term →
     Throughout (engine_of (program_over p hooks)) (left_behind asked given p hooks chosen (tree_at nodes term) nodes n None) (λ L.
     Passes (left_behind asked given p hooks chosen (tree_at nodes term) nodes n None L) (left_behind asked given p hooks chosen (tree_at nodes term) nodes n (Some u) L))
-as_begun asked given p hooks chosen run nodes term n rule at is_one exec u none at_start subject =
+as_begun asked given p hooks chosen run nodes term n rule at is_one exec u unbound part none at_start subject =
     subst (λ (f : Engine → Answers Use → Type 0). Throughout (engine_of (program_over p hooks)) (left_behind asked given p hooks chosen (tree_at nodes term) nodes n None) (λ L.
     Passes (left_behind asked given p hooks chosen (tree_at nodes term) nodes n None L) (Before (uses_of_all (program_over p hooks) L chosen (tree_at nodes term) (map rule_of (drop (suc n) p.rules))) (f L)))) same
     (begins p hooks chosen (tree_at nodes term) run n rule at is_one exec)
   where
-    same : (λ (L : Engine). IsLeft (program_over p hooks) L (rule_of rule) [] (tree_at nodes term) (behind None)) ≡ left_of_one asked given p hooks (slice_get p.rules n) nodes u
+    same : (λ (L : Engine). IsLeft (program_over p hooks) L false (rule_of rule) [] (tree_at nodes term) (behind None)) ≡ left_of_one asked given p hooks (slice_get p.rules n) nodes u
     same =
-        (λ i L. IsLeft (program_over p hooks) L (rule_of rule) [] (tree_at nodes (sym subject i)) (behind None))
-        ∙ ((λ i L. IsLeft (program_over p hooks) L (rule_of rule) [] (tree_at nodes (asked u.listing).subject.0) (stand_of nodes (sym none i) u.standing))
+        (λ i L. IsLeft (program_over p hooks) L (sym part i) (rule_of rule) (binding_in nodes (sym unbound i)) (tree_at nodes (sym subject i)) (behind None))
+        ∙ ((λ i L. IsLeft (program_over p hooks) L u.whole (rule_of rule) (binding_in nodes u.bound.items) (tree_at nodes (asked u.listing).subject.0) (stand_of nodes (sym none i) u.standing))
         ∙ sym (ap (λ o. left_of_one asked given p hooks o nodes u) at))

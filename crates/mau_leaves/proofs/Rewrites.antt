@@ -70,16 +70,16 @@ module _ (P : Program) (L : Engine) (s : Place) where
       ok_so : (ok : Bool) → for_each V (when ok (uses_for P L q σ x)) ≡ when ok (rewrites_for P L q σ s x)
       ok_so ok = each_when V ok (uses_for P L q σ x) ∙ ap (when ok) (for_one q σ x)
 
-  by_rule : (q : Rule) (σ : Binding) → for_each V (uses_by P L q σ s.term) ≡ rewrites_by P L q σ s
+  by_rule : (q : Rule) (σ : Binding) → for_each V (uses_by P L false q σ s.term) ≡ rewrites_by P L q σ s
   by_rule q σ =
       each_each V (uses_at P L q σ) (answers_of (solutions_within P.sign q.left s.term))
       ∙ each_same (λ x. for_each V (uses_at P L q σ x)) (rewrites_at P L q σ s) (at_one_use q σ) (answers_of (solutions_within P.sign q.left s.term))
 
   if_chosen : (chosen : Rule → Bool) (q : Rule) → for_each V (uses_if_chosen P L chosen s.term q) ≡ when (chosen q) (when (not (has_reach q.cond)) (if_used P L q s []))
   if_chosen chosen q =
-      each_when V (chosen q) (when (not (has_reach q.cond)) (when (may_use q []) (uses_by P L q [] s.term)))
-      ∙ ap (when (chosen q)) (each_when V (not (has_reach q.cond)) (when (may_use q []) (uses_by P L q [] s.term))
-      ∙ ap (when (not (has_reach q.cond))) (each_when V (may_use q []) (uses_by P L q [] s.term) ∙ ap (when (may_use q [])) (by_rule q [])))
+      each_when V (chosen q) (when (not (has_reach q.cond)) (when (may_use q []) (uses_by P L false q [] s.term)))
+      ∙ ap (when (chosen q)) (each_when V (not (has_reach q.cond)) (when (may_use q []) (uses_by P L false q [] s.term))
+      ∙ ap (when (not (has_reach q.cond))) (each_when V (may_use q []) (uses_by P L false q [] s.term) ∙ ap (when (may_use q [])) (by_rule q [])))
 
   of_all : (chosen : Rule → Bool) (f : Rule → Answers Tree) → ((q : Rule) → for_each V (uses_if_chosen P L chosen s.term q) ≡ f q) → for_each V (uses_of_all P L chosen s.term P.rules) ≡ for_each f (answers_of P.rules)
   of_all chosen f h = each_each V (uses_if_chosen P L chosen s.term) (answers_of P.rules) ∙ each_same (λ q. for_each V (uses_if_chosen P L chosen s.term q)) f h (answers_of P.rules)

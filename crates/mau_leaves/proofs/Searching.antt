@@ -1,9 +1,10 @@
 -- A search in a store that has grown.
-use Rattle.std.proofs.Common.{◌≡◌, ℕ, List, [], Bool, Option, Some, None, IfSome, refl, sym, ap, ◌∙◌, subst}
+use Rattle.std.proofs.Common.{◌≡◌, ℕ, List, All, Bool, Option, Some, None, IfSome, refl, sym, ap, ap₂, ◌∙◌, subst}
 use Rattle.std.specs.List.{zip}
 use Rattle.mau_terms.specs.Tree.{Tree}
 use Rattle.mau_terms.specs.Bare.{IsBare}
 use Rattle.mau_terms.specs.Reading.{reading}
+use Rattle.mau_terms.specs.Subst.{variables}
 use Rattle.mau_terms.specs.View.{tree_of}
 use Rattle.mau_terms.specs.declared.ids.TermId.{TermId}
 use Rattle.mau_terms.specs.declared.ids.VarId.{VarId}
@@ -20,7 +21,7 @@ use Rattle.mau_listing.proofs.Growth.{listings_go_on, last_of_store, AreOfStore}
 use Rattle.mau_program.specs.declared.program.Program as Typed
 use Rattle.mau_program.specs.declared.statements.Rule as Written
 use Rattle.mau_evaluation.specs.Listing.{Solution}
-use Rattle.mau_evaluation.specs.Evaluation.{binding_of}
+use Rattle.mau_evaluation.specs.Evaluation.{Binding, extend}
 use Rattle.mau_cond.proofs.Grown.{each, value_grown, bound_grown}
 use Rattle.mau_api.specs.Programs.{rule_of, program_over}
 use Rattle.mau_api.specs.Meanings.{Meanings}
@@ -32,7 +33,7 @@ use Rattle.mau_reduce.proofs.LaterStores.{contexts_grown}
 use Rattle.mau_reduce.proofs.PlainTables.{settled_grown}
 use Rattle.mau_rules.specs.Found.{IsValued}
 use Rattle.mau_leaves.specs.Uses.{behind, at_one, IsLeft}
-use Rattle.mau_leaves.specs.Searches.{stand_of, left_in, IsAtSolution, IsShownFor, IsShownBehind, StandsAt, IsSearch}
+use Rattle.mau_leaves.specs.Searches.{stand_of, left_in, bound_at, IsAtSolution, IsShownFor, IsShownBehind, StandsAt, IsSearch}
 use Rattle.mau_leaves.specs.declared.uses.Standing.{Standing}
 use Rattle.mau_leaves.specs.declared.uses.Standing.TheVariants.{Behind, Before, Within}
 
@@ -67,61 +68,73 @@ module _ (p : Typed.Program) (old new : List Node) (before after : Table) (exten
   settled_later n is settled =
       subst (AreSettled p.sig new after) (sym (tree_kept (theory_at p.sig) old new n extends is.within)) (settled_grown p.sig old new before after (tree_at old n) extends kept settled)
 
-  module _ (m : Meanings) (rule : Written.Rule) where
-    shown_grown : (x : Listed.Solution) → AreOfStore old x → (found : List (VarId × TermId)) → IsShownFor m p.sig rule old before x found → IsShownFor m p.sig rule new after x found
+  module _ (m : Meanings) (rule : Written.Rule) (bound : List (VarId × TermId)) (values : All (IsValueOf p.sig old before) bound) where
+    pub values_grown : All (IsValueOf p.sig new after) bound
+    values_grown = each (IsValueOf p.sig old before) (IsValueOf p.sig new after) (value_grown p.sig old new before after extends kept) bound values
+
+    pub bound_same : binding_in new bound ≡ binding_in old bound
+    bound_same = bound_grown p.sig old new before after extends kept bound values
+
+    pub bound_at_same : (x : Listed.Solution) → AreOfStore old x → bound_at new rule bound x ≡ bound_at old rule bound x
+    bound_at_same x of =
+        ap₂ (λ (σ : Binding) (y : Solution). extend σ (variables (tree_of rule.left)) y.values) bound_same (solution_same old new extends x of)
+
+    shown_grown : (x : Listed.Solution) → AreOfStore old x → (found : List (VarId × TermId)) → IsShownFor m p.sig rule bound old before x found → IsShownFor m p.sig rule bound new after x found
     shown_grown x of found is = record {
       values = each (IsValueOf p.sig old before) (IsValueOf p.sig new after) (value_grown p.sig old new before after extends kept) found is.values;
       solution =
-          subst (λ (y : Solution). IsSolutionOf m (rule_of rule).cond (binding_of (tree_of rule.left) y) (binding_in new found)) (sym (solution_same old new extends x of))
-          (subst (IsSolutionOf m (rule_of rule).cond (binding_of (tree_of rule.left) (solution_in old x))) (sym (bound_grown p.sig old new before after extends kept found is.values)) is.solution);
+          subst (λ (σ : Binding). IsSolutionOf m (rule_of rule).cond σ (binding_in new found)) (sym (bound_at_same x of))
+          (subst (IsSolutionOf m (rule_of rule).cond (bound_at old rule bound x)) (sym (bound_grown p.sig old new before after extends kept found is.values)) is.solution);
     }
 
-    shown_behind_grown : (x : Listed.Solution) → AreOfStore old x → (s : Standing) → IsShownBehind m p.sig rule old before x s → IsShownBehind m p.sig rule new after x s
+    shown_behind_grown : (x : Listed.Solution) → AreOfStore old x → (s : Standing) → IsShownBehind m p.sig rule bound old before x s → IsShownBehind m p.sig rule bound new after x s
     shown_behind_grown x of Behind is = tt
     shown_behind_grown x of Before is = tt
     shown_behind_grown x of (Within found) is = shown_grown x of found.items is
 
-    stands_grown : (given : Option Listed.Solution) → IfSome given (AreOfStore old) → (s : Standing) → StandsAt m p.sig rule old before given s → StandsAt m p.sig rule new after given s
+    stands_grown : (given : Option Listed.Solution) → IfSome given (AreOfStore old) → (s : Standing) → StandsAt m p.sig rule bound old before given s → StandsAt m p.sig rule bound new after given s
     stands_grown None of Behind is = tt
     stands_grown None of Before is = is
     stands_grown None of (Within found) is = is
     stands_grown (Some x) of s is = shown_behind_grown x of s is
 
-    module _ (c : Bool) (a : Asked) where
-      pub of_store : (given : Option Listed.Solution) → CanGoOn c p.sig old before a given → IfSome given (AreOfStore old)
-      of_store None can = tt
-      of_store (Some x) can = last_of_store c p.sig old before a x can.given
+  module _ (m : Meanings) (rule : Written.Rule) (bound : List (VarId × TermId)) (c : Bool) (a : Asked) where
+    pub of_store : (given : Option Listed.Solution) → CanGoOn c p.sig old before a given → IfSome given (AreOfStore old)
+    of_store None can = tt
+    of_store (Some x) can = last_of_store c p.sig old before a x can.given
 
-      subject_same : (given : Option Listed.Solution) → CanGoOn c p.sig old before a given → tree_at new a.subject.0 ≡ tree_at old a.subject.0
-      subject_same given can = tree_kept (theory_at p.sig) old new a.subject.0 extends can.askable.subject
+    subject_same : (given : Option Listed.Solution) → CanGoOn c p.sig old before a given → tree_at new a.subject.0 ≡ tree_at old a.subject.0
+    subject_same given can = tree_kept (theory_at p.sig) old new a.subject.0 extends can.askable.subject
 
-      pub search_grown : (given : Option Listed.Solution) (s : Standing) → AreOver p.sig.hierarchy after → IsSearch c p m rule old before a given s → IsSearch c p m rule new after a given s
-      search_grown given s over is =
-          let same = subject_same given is.ready in
-          record {
-            asked = is.asked;
-            settled = subst (AreSettled p.sig new after) (sym same) (settled_grown p.sig old new before after (tree_at old a.subject.0) extends kept is.settled);
-            ready = listings_go_on c p.sig old new before after extends kept over a given is.ready;
-            at = by given same is.at;
-            stands = stands_grown given (of_store given is.ready) s is.stands;
-          }
-        where
-          by : (given : Option Listed.Solution) → tree_at new a.subject.0 ≡ tree_at old a.subject.0 → IfSome given (IsAtSolution p.sig rule (tree_at old a.subject.0) old before) →
-              IfSome given (IsAtSolution p.sig rule (tree_at new a.subject.0) new after)
-          by None same h = tt
-          by (Some x) same h = at_grown rule (tree_at old a.subject.0) (tree_at new a.subject.0) same x h
+    pub search_grown : (given : Option Listed.Solution) (s : Standing) → AreOver p.sig.hierarchy after → IsSearch c p m rule bound old before a given s → IsSearch c p m rule bound new after a given s
+    search_grown given s over is =
+        let same = subject_same given is.ready in
+        record {
+          asked = is.asked;
+          values = values_grown m rule bound is.values;
+          settled = subst (AreSettled p.sig new after) (sym same) (settled_grown p.sig old new before after (tree_at old a.subject.0) extends kept is.settled);
+          ready = listings_go_on c p.sig old new before after extends kept over a given is.ready;
+          at = by given same is.at;
+          stands = stands_grown m rule bound is.values given (of_store given is.ready) s is.stands;
+        }
+      where
+        by : (given : Option Listed.Solution) → tree_at new a.subject.0 ≡ tree_at old a.subject.0 → IfSome given (IsAtSolution p.sig rule (tree_at old a.subject.0) old before) →
+            IfSome given (IsAtSolution p.sig rule (tree_at new a.subject.0) new after)
+        by None same h = tt
+        by (Some x) same h = at_grown rule (tree_at old a.subject.0) (tree_at new a.subject.0) same x h
 
-      -- where it stands, and so what is left, is the same
-      pub stand_same : (given : Option Listed.Solution) → IfSome given (AreOfStore old) → (s : Standing) → StandsAt m p.sig rule old before given s → stand_of new given s ≡ stand_of old given s
-      stand_same None of s is = refl
-      stand_same (Some x) of Behind is = ap (λ y. behind (Some y)) (solution_same old new extends x of)
-      stand_same (Some x) of Before is = ap (λ y. at_one y None) (solution_same old new extends x of)
-      stand_same (Some x) of (Within found) is =
-          ap (λ y. at_one y (Some (binding_in new found.items))) (solution_same old new extends x of)
-          ∙ ap (λ b. at_one (solution_in old x) (Some b)) (bound_grown p.sig old new before after extends kept found.items is.values)
+    -- where it stands, and so what is left, is the same
+    pub stand_same : (given : Option Listed.Solution) → IfSome given (AreOfStore old) → (s : Standing) → StandsAt m p.sig rule bound old before given s → stand_of new given s ≡ stand_of old given s
+    stand_same None of s is = refl
+    stand_same (Some x) of Behind is = ap (λ y. behind (Some y)) (solution_same old new extends x of)
+    stand_same (Some x) of Before is = ap (λ y. at_one y None) (solution_same old new extends x of)
+    stand_same (Some x) of (Within found) is =
+        ap (λ y. at_one y (Some (binding_in new found.items))) (solution_same old new extends x of)
+        ∙ ap (λ b. at_one (solution_in old x) (Some b)) (bound_grown p.sig old new before after extends kept found.items is.values)
 
-      pub left_same : (given : Option Listed.Solution) (s : Standing) → IsSearch c p m rule old before a given s → left_in p m.hooks rule new a given s ≡ left_in p m.hooks rule old a given s
-      left_same given s is =
-          let same = subject_same given is.ready in
-          let stand = stand_same given (of_store given is.ready) s is.stands in
-          λ i L. IsLeft (program_over p m.hooks) L (rule_of rule) [] (same i) (stand i)
+    pub left_same : (w : Bool) (given : Option Listed.Solution) (s : Standing) → IsSearch c p m rule bound old before a given s → left_in p m.hooks rule w bound new a given s ≡ left_in p m.hooks rule w bound old a given s
+    left_same w given s is =
+        let same = subject_same given is.ready in
+        let stand = stand_same given (of_store given is.ready) s is.stands in
+        let σ = bound_same m rule bound is.values in
+        λ i L. IsLeft (program_over p m.hooks) L w (rule_of rule) (σ i) (same i) (stand i)

@@ -6,7 +6,7 @@ use Rattle.mau_terms.specs.Finite.{IsIn}
 use Rattle.mau_terms.specs.Subst.{variables}
 use Rattle.mau_evaluation.specs.Run.{End, stopped, done, ended}
 use Rattle.mau_evaluation.specs.Program.{Fragment, Rule, Program}
-use Rattle.mau_evaluation.specs.Listing.{Solution, solutions_within}
+use Rattle.mau_evaluation.specs.Listing.{Solution}
 use Rattle.mau_evaluation.specs.Evaluation.{Binding, extend, agree, have_sorts}
 use Rattle.mau_evaluation.specs.Engine.{Engine, engine_of}
 use Rattle.mau_evaluation.specs.Answers.{Answers}
@@ -16,12 +16,12 @@ use Rattle.mau_evaluation.proofs.After.{askings_are_right}
 use Rattle.mau_api.specs.declared.results.EvalEnd.{EvalEnd}
 use Rattle.mau_api.specs.declared.results.EvalEnd.TheVariants.{Stopped, TooDeep, Overflow, NoMemory}
 use Rattle.mau_leaves.specs.Steps.{Gives, IsOver, Passes, EndsNow, Throughout}
-use Rattle.mau_leaves.specs.Uses.{Use, behind, at_one, solutions_behind, question_from, condition_from, IsLeft}
+use Rattle.mau_leaves.specs.Uses.{Use, behind, at_one, solutions_as, solutions_behind, question_from, condition_from, IsLeft}
 use Rattle.mau_leaves.specs.Answers.{ComesTo, QuestionEnds, IsDueBy}
 use Rattle.mau_rules.proofs.Passing.{AllFail}
 use Rattle.mau_leaves.proofs.Engines.{AsksRightly, without_right, budget_same, having_or, eval_or, condition_or, condition_there, eval_there}
 use Rattle.mau_leaves.proofs.Steps.{both_so, so, always_so}
-use Rattle.mau_leaves.proofs.Moves.{use_given, use_passed, use_ends, next_one, no_other}
+use Rattle.mau_leaves.proofs.Moves.{use_given, use_passed, use_ends, next_one, no_other, skip_one}
 
 -- an end of a question without which an end is left
 pub due_by : {A : Type 0} (P : Program) (b : ℕ) (now : Engine → Answers A → Type 0) (q : Question) (e : EvalEnd) → QuestionEnds P b q e → ((f : End) → Eventually (engine_of P) (λ L. EndsNow (now (without L q f)) f)) → IsDueBy P b now e
@@ -83,9 +83,9 @@ module _ (P : Program) (lawful : IsLawful P.sign) where
 
   -- ---- the uses of a rule, as its condition is asked on
 
-  module _ (q : Rule) (σ : Binding) (t : Tree) (x : Solution) (o : Option Binding) where
+  module _ (w : Bool) (q : Rule) (σ : Binding) (t : Tree) (x : Solution) (o : Option Binding) where
     abbrev now_at : Option Binding → Engine → Answers Use → Type 0
-    now_at last L = IsLeft P L q σ t (at_one x last)
+    now_at last L = IsLeft P L w q σ t (at_one x last)
 
     abbrev own : Binding
     own = extend σ (variables q.left) x.values
@@ -93,27 +93,27 @@ module _ (P : Program) (lawful : IsLawful P.sign) where
     pub given_through : (s : Binding) → ComesTo P (λ L. condition_from P L o q.cond own) (Some s) →
         Throughout (engine_of P) (now_at o) (λ L. Gives (now_at o L) (record { rule = q; solution = x; values = s }) (now_at (Some s) L))
     given_through s comes =
-        asked_through (now_at o) o q.cond own (λ L right f h. use_ends P L right q σ t x o f h) (Some s) (λ L. Gives (now_at o L) (record { rule = q; solution = x; values = s }) (now_at (Some s) L))
-        (λ L right r l h. use_given P L right q σ t x o s r l h) comes
+        asked_through (now_at o) o q.cond own (λ L right f h. use_ends P L right w q σ t x o f h) (Some s) (λ L. Gives (now_at o L) (record { rule = q; solution = x; values = s }) (now_at (Some s) L))
+        (λ L right r l h. use_given P L right w q σ t x o s r l h) comes
 
-    pub passed_through : ComesTo P (λ L. condition_from P L o q.cond own) None → Throughout (engine_of P) (now_at o) (λ L. Passes (now_at o L) (IsLeft P L q σ t (behind (Some x))))
+    pub passed_through : ComesTo P (λ L. condition_from P L o q.cond own) None → Throughout (engine_of P) (now_at o) (λ L. Passes (now_at o L) (IsLeft P L w q σ t (behind (Some x))))
     passed_through comes =
-        asked_through (now_at o) o q.cond own (λ L right f h. use_ends P L right q σ t x o f h) None (λ L. Passes (now_at o L) (IsLeft P L q σ t (behind (Some x))))
-        (λ L right r l h. use_passed P L right q σ t x o r l h) comes
+        asked_through (now_at o) o q.cond own (λ L right f h. use_ends P L right w q σ t x o f h) None (λ L. Passes (now_at o L) (IsLeft P L w q σ t (behind (Some x))))
+        (λ L right r l h. use_passed P L right w q σ t x o r l h) comes
 
     pub due_through : (b : ℕ) (e : EvalEnd) → QuestionEnds P b (question_from o q.cond own) e → IsDueBy P b (now_at o) e
-    due_through b e h = asked_due (now_at o) o q.cond own (λ L right f h. use_ends P L right q σ t x o f h) b e h
+    due_through b e h = asked_due (now_at o) o q.cond own (λ L right f h. use_ends P L right w q σ t x o f h) b e h
 
 -- ---- the uses of a rule, as its solutions are gone through
 
-module _ (P : Program) (q : Rule) (σ : Binding) (t : Tree) (test : Solution → Bool)
-    (sorted : Eventually (engine_of P) (λ L. (y : Solution) → IsIn y (solutions_within P.sign q.left t) → have_sorts L.level.sorts (variables q.left) y.values L.budget ≡ done (test y) 0 L.budget)) where
+module _ (P : Program) (w : Bool) (q : Rule) (σ : Binding) (t : Tree) (test : Solution → Bool)
+    (sorted : Eventually (engine_of P) (λ L. (y : Solution) → IsIn y (solutions_as P w q t) → have_sorts L.level.sorts (variables q.left) y.values L.budget ≡ done (test y) 0 L.budget)) where
   abbrev Sorted : Engine → Type 0 → End → Type 0
-  Sorted L X e = (y : Solution) → IsIn y (solutions_within P.sign q.left t) →
+  Sorted L X e = (y : Solution) → IsIn y (solutions_as P w q t) →
       (have_sorts L.level.sorts (variables q.left) y.values L.budget ≡ done (test y) 0 L.budget) ⊎ (X × (have_sorts L.level.sorts (variables q.left) y.values L.budget ≡ ended e))
 
   abbrev Told : Engine → Type 0
-  Told L = (y : Solution) → IsIn y (solutions_within P.sign q.left t) → have_sorts L.level.sorts (variables q.left) y.values L.budget ≡ done (test y) 0 L.budget
+  Told L = (y : Solution) → IsIn y (solutions_as P w q t) → have_sorts L.level.sorts (variables q.left) y.values L.budget ≡ done (test y) 0 L.budget
 
   sorted_without : (L : Engine) (u : Question) (e : End) → Told L → Sorted (without L u e) (Unit {0}) e
   sorted_without L u e told y listed = by (having_or L u e (variables q.left) y.values (without L u e).budget)
@@ -141,14 +141,20 @@ module _ (P : Program) (q : Rule) (σ : Binding) (t : Tree) (test : Solution →
       there L e (inr h) = inr h.1
 
   module _ (last : Option Solution) where
-    pub next_through : (failed ys : List Solution) (x : Solution) → solutions_behind P q t last ≡ failed ++ (x ∷ ys) → AllFail (λ y. agree P.sign.theory σ (variables q.left) y.values && test y) failed →
-        (agree P.sign.theory σ (variables q.left) x.values && test x) ≡ true → solutions_behind P q t (Some x) ≡ ys →
-        Throughout (engine_of P) (λ L. IsLeft P L q σ t (behind last)) (λ L. Passes (IsLeft P L q σ t (behind last)) (IsLeft P L q σ t (at_one x None)))
+    pub next_through : (failed ys : List Solution) (x : Solution) → solutions_behind P w q t last ≡ failed ++ (x ∷ ys) → AllFail (λ y. agree P.sign.theory σ (variables q.left) y.values && test y) failed →
+        (agree P.sign.theory σ (variables q.left) x.values && test x) ≡ true → solutions_behind P w q t (Some x) ≡ ys →
+        Throughout (engine_of P) (λ L. IsLeft P L w q σ t (behind last)) (λ L. Passes (IsLeft P L w q σ t (behind last)) (IsLeft P L w q σ t (at_one x None)))
     next_through failed ys x parts fails passes rest =
-        through (λ L. IsLeft P L q σ t (behind last)) (λ L. Passes (IsLeft P L q σ t (behind last)) (IsLeft P L q σ t (at_one x None)))
-        (λ L X e sorted. next_one P L q σ t X e test sorted last failed ys x parts fails passes rest)
+        through (λ L. IsLeft P L w q σ t (behind last)) (λ L. Passes (IsLeft P L w q σ t (behind last)) (IsLeft P L w q σ t (at_one x None)))
+        (λ L X e sorted. next_one P L w q σ t X e test sorted last failed ys x parts fails passes rest)
 
-    pub none_through : (failed : List Solution) → solutions_behind P q t last ≡ failed ++ [] → AllFail (λ y. agree P.sign.theory σ (variables q.left) y.values && test y) failed →
-        Throughout (engine_of P) (λ L. IsLeft P L q σ t (behind last)) (λ L. IsOver (IsLeft P L q σ t (behind last)))
+    pub none_through : (failed : List Solution) → solutions_behind P w q t last ≡ failed ++ [] → AllFail (λ y. agree P.sign.theory σ (variables q.left) y.values && test y) failed →
+        Throughout (engine_of P) (λ L. IsLeft P L w q σ t (behind last)) (λ L. IsOver (IsLeft P L w q σ t (behind last)))
     none_through failed parts fails =
-        through (λ L. IsLeft P L q σ t (behind last)) (λ L. IsOver (IsLeft P L q σ t (behind last))) (λ L X e sorted. no_other P L q σ t X e test sorted last failed parts fails)
+        through (λ L. IsLeft P L w q σ t (behind last)) (λ L. IsOver (IsLeft P L w q σ t (behind last))) (λ L X e sorted. no_other P L w q σ t X e test sorted last failed parts fails)
+
+    pub skip_through : (failed ys : List Solution) (x : Solution) → solutions_behind P w q t last ≡ failed ++ ys → AllFail (λ y. agree P.sign.theory σ (variables q.left) y.values && test y) failed →
+        solutions_behind P w q t (Some x) ≡ ys → Throughout (engine_of P) (λ L. IsLeft P L w q σ t (behind last)) (λ L. Passes (IsLeft P L w q σ t (behind last)) (IsLeft P L w q σ t (behind (Some x))))
+    skip_through failed ys x parts fails rest =
+        through (λ L. IsLeft P L w q σ t (behind last)) (λ L. Passes (IsLeft P L w q σ t (behind last)) (IsLeft P L w q σ t (behind (Some x))))
+        (λ L X e sorted. skip_one P L w q σ t X e test sorted last failed ys x parts fails rest)

@@ -88,7 +88,7 @@ module _ {K : Type 0} (asked : K → Asked) (given : K → Option Listed.Solutio
     not_behind e h = no_use (use_at asked given p old s) (use_is o.rule o.at ∙ use_elsewhere o.rule old (given u.listing) u.standing Behind e refl (λ x. refl)) h
 
     module _ (rule : Written.Rule) (at : slice_get p.rules s.number ≡ Some rule) (x : Listed.Solution) (gave : given u.listing ≡ Some x) where
-      abbrev search : IsSearch c p m rule old before (asked u.listing) (given u.listing) u.standing
+      abbrev search : IsSearch c p m rule u.bound.items old before (asked u.listing) (given u.listing) u.standing
       search = search_here asked given is_for c p m old before s is u uses rule at
 
       pub at_there : IsAtSolution p.sig rule (tree_at old s.term.0) old before x
@@ -97,8 +97,8 @@ module _ {K : Type 0} (asked : K → Asked) (given : K → Option Listed.Solutio
           (subst (λ (y : Option Listed.Solution). IfSome y (IsAtSolution p.sig rule (tree_at old (asked u.listing).subject.0) old before)) gave search.at)
 
       module _ (found : Vec (VarId × TermId) Global) (standing : u.standing ≡ Within found) where
-        pub shown_there : IsShownFor m p.sig rule old before x found.items
-        shown_there = subst (λ (k : Standing). StandsAt m p.sig rule old before (Some x) k) standing (subst (λ (y : Option Listed.Solution). StandsAt m p.sig rule old before y u.standing) gave search.stands)
+        pub shown_there : IsShownFor m p.sig rule u.bound.items old before x found.items
+        shown_there = subst (λ (k : Standing). StandsAt m p.sig rule u.bound.items old before (Some x) k) standing (subst (λ (y : Option Listed.Solution). StandsAt m p.sig rule u.bound.items old before y u.standing) gave search.stands)
 
         pub use_there : use_at asked given p old s ≡ Some (record { rule = rule_of rule; solution = solution_in old x; values = binding_in old found.items })
         use_there = use_is rule at ∙ (ap (λ y. use_in rule old y u.standing) gave ∙ ap (use_in rule old (Some x)) standing)
@@ -123,7 +123,7 @@ module _ {K : Type 0} (asked : K → Asked) (given : K → Option Listed.Solutio
       rule = h.rule;
       at = h.at;
       usable = h.usable;
-      search = search_grown p old new before after extends kept m h.rule c (asked u.listing) (given u.listing) u.standing over h.search;
+      search = search_grown p old new before after extends kept m h.rule u.bound.items c (asked u.listing) (given u.listing) u.standing over h.search;
       subject = h.subject;
       signature = h.signature;
     }
@@ -145,7 +145,7 @@ module _ {K : Type 0} (asked : K → Asked) (given : K → Option Listed.Solutio
     one_same : (u : RuleUses K) → IsOpenAt asked given is_for c p m old before s.term.0 s.number u → left_of_one asked given p m.hooks (slice_get p.rules s.number) new u ≡ left_of_one asked given p m.hooks (slice_get p.rules s.number) old u
     one_same u h =
         ap (λ r. left_of_one asked given p m.hooks r new u) h.at
-        ∙ (left_same p old new before after extends kept m h.rule c (asked u.listing) (given u.listing) u.standing h.search ∙ sym (ap (λ r. left_of_one asked given p m.hooks r old u) h.at))
+        ∙ (left_same p old new before after extends kept m h.rule u.bound.items c (asked u.listing) u.whole (given u.listing) u.standing h.search ∙ sym (ap (λ r. left_of_one asked given p m.hooks r old u) h.at))
 
     pub place_left_same : (chosen : Rule → Bool) → left_at asked given p m.hooks chosen new s ≡ left_at asked given p m.hooks chosen old s
     place_left_same chosen = by s.uses is.uses
@@ -157,13 +157,13 @@ module _ {K : Type 0} (asked : K → Asked) (given : K → Option Listed.Solutio
             let one = one_same u h in
             λ i L. InFront (uses_of_all (program_over p m.hooks) L chosen (root_same i) (map rule_of (drop (suc s.number) p.rules))) (one i L)
 
-    in_same : (rule : Written.Rule) (x : Option Listed.Solution) → IfSome x (AreOfStore old) → (k : Standing) → StandsAt m p.sig rule old before x k → use_in rule new x k ≡ use_in rule old x k
-    in_same rule None of Behind h = refl
-    in_same rule None of Before h = refl
-    in_same rule None of (Within found) h = refl
-    in_same rule (Some x) of Behind h = refl
-    in_same rule (Some x) of Before h = refl
-    in_same rule (Some x) of (Within found) h =
+    in_same : (rule : Written.Rule) (bound : List (VarId × TermId)) (x : Option Listed.Solution) → IfSome x (AreOfStore old) → (k : Standing) → StandsAt m p.sig rule bound old before x k → use_in rule new x k ≡ use_in rule old x k
+    in_same rule bound None of Behind h = refl
+    in_same rule bound None of Before h = refl
+    in_same rule bound None of (Within found) h = refl
+    in_same rule bound (Some x) of Behind h = refl
+    in_same rule bound (Some x) of Before h = refl
+    in_same rule bound (Some x) of (Within found) h =
         let y = solution_same old new extends x of in
         let b = bound_grown p.sig old new before after extends kept found.items h.values in
         λ i. Some (record { rule = rule_of rule; solution = y i; values = b i })
@@ -175,7 +175,7 @@ module _ {K : Type 0} (asked : K → Asked) (given : K → Option Listed.Solutio
         by None h = refl
         by (Some u) h =
             ap (λ r. use_of_one asked given r new u) h.at
-            ∙ (in_same h.rule (given u.listing) (of_store p old new before after extends kept m h.rule c (asked u.listing) (given u.listing) h.search.ready) u.standing h.search.stands
+            ∙ (in_same h.rule u.bound.items (given u.listing) (of_store p old new before after extends kept m h.rule u.bound.items c (asked u.listing) (given u.listing) h.search.ready) u.standing h.search.stands
             ∙ sym (ap (λ r. use_of_one asked given r old u) h.at))
 
 -- ---- a step, and then the next result

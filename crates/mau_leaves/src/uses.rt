@@ -268,9 +268,10 @@ fn listed_on<E: Evaluator, L: Lister + Drop>(
 {
     match evaluator.list(store, &mut uses.listing) {
         Ok(Some(solution)) => {
-            if is_taken(uses.whole, &solution) {
-                uses.standing = Standing::Before;
+            if !is_taken(uses.whole, &solution) {
+                return Ok(Turn::Passed);
             }
+            uses.standing = Standing::Before;
             Ok(Turn::Passed)
         }
         Ok(None) => Ok(Turn::Over),

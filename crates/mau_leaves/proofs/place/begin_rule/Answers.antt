@@ -1,12 +1,16 @@
-use Rattle.std.proofs.Common.{◌≡◌, ◌+◌, ◌<◌, ◌≤◌, List, [], length, true, false, Option, Some, None, IfSome, sym, ap, ◌∙◌, subst, add-one}
+use Rattle.std.proofs.Common.{◌≡◌, ◌+◌, ◌<◌, ◌≤◌, List, [], length, Vec, Global, true, false, Option, Some, None, IfSome, sym, ap, ◌∙◌, subst, add-one}
 use Rattle.std.specs.Option.{option_map}
+use Rattle.mau_terms.specs.declared.ids.TermId.{TermId}
+use Rattle.mau_terms.specs.declared.ids.VarId.{VarId}
 use Rattle.mau_store.specs.Trees.{tree_at}
+use Rattle.mau_listing.specs.Asked.{Asked}
 use Rattle.mau_program.specs.declared.statements.Rule as Written
 use Rattle.mau_evaluation.specs.Engine.{engine_of}
 use Rattle.mau_evaluation.specs.OrderedLists.{may_use}
 use Rattle.mau_api.specs.Programs.{rule_of, program_over}
 use Rattle.mau_leaves.specs.Steps.{Passes, IsOver, Throughout}
 use Rattle.mau_leaves.specs.Uses.{is_chosen}
+use Rattle.mau_leaves.specs.Searches.{variables_in, IsUsable}
 use Rattle.mau_leaves.specs.AtPlace.{left_behind, left_at, IsOpenAt}
 use Rattle.mau_leaves.specs.declared.uses.RuleUses.{RuleUses}
 use Rattle.mau_reduce.proofs.Numbered.{at_index}
@@ -26,7 +30,7 @@ start_uses-requires-clause-usable g c =
     let rule = c.index-rules-number.result in
     let within : n < length p.rules = subst (λ (rs : List Written.Rule). n < length rs) c.items-rules.ensures c.if-number-rules.false in
     let at = at_index p.rules c.items-rules.result.now n rule c.items-rules.ensures within c.index-rules-number.is in
-    exec_usable p c.requires.runnable n rule at c.if-not-rule.false
+    subst (λ (bs : List (VarId × TermId)). IsUsable p.sig (variables_in bs) rule) (sym c.new-bound.ensures.items) (exec_usable p c.requires.runnable n rule at c.if-not-rule.false)
 
 pub returns-then-number-rules-clause-turn : goal.returns-then-number-rules-clause-turn
 returns-then-number-rules-clause-turn g c = λ b.
@@ -101,7 +105,8 @@ returns-in-Ok-clause-turn g c = λ b.
     let chosen : is_chosen label (rule_of rule) ≡ true = sym c.is_asked.ensures ∙ c.if-not-is_asked.false in
     let stands = c.in-Ok.ensures.stands in
     subst (λ (o : Option (RuleUses _)). Throughout (engine_of (program_over p m.hooks)) (left_behind g.L.Lister.asked g.L.Lister.given p m.hooks (is_chosen label) t nodes n o) (λ L. Passes (left_behind g.L.Lister.asked g.L.Lister.given p m.hooks (is_chosen label) t nodes n o L) (left_behind g.L.Lister.asked g.L.Lister.given p m.hooks (is_chosen label) t nodes n (Some c.in-Ok.uses) L))) (sym c.requires.idle)
-    (as_begun g.L.Lister.asked g.L.Lister.given p m.hooks (is_chosen label) c.requires.runnable nodes s.term.0 n rule at chosen c.if-not-rule.false c.in-Ok.uses stands.0 stands.1 (ap (λ z. z.0) c.in-Ok.ensures.subject))
+    (as_begun g.L.Lister.asked g.L.Lister.given p m.hooks (is_chosen label) c.requires.runnable nodes s.term.0 n rule at chosen c.if-not-rule.false c.in-Ok.uses
+    (ap (λ (v : Vec (VarId × TermId) Global). v.items) c.in-Ok.ensures.bound.0 ∙ c.new-bound.ensures.items) c.in-Ok.ensures.bound.1 stands.0 stands.1 (ap (λ (a : Asked). a.subject.0) c.in-Ok.ensures.asked))
 
 pub returns-in-Ok-clause-place : goal.returns-in-Ok-clause-place
 returns-in-Ok-clause-place g c =
@@ -121,9 +126,11 @@ returns-in-Ok-clause-place g c =
       uses = record {
         rule = rule;
         at = at;
-        usable = exec_usable p c.requires.runnable n rule at c.if-not-rule.false;
+        usable =
+            subst (λ (bs : List (VarId × TermId)). IsUsable p.sig (variables_in bs) rule) (sym (ap (λ (v : Vec (VarId × TermId) Global). v.items) c.in-Ok.ensures.bound.0 ∙ c.new-bound.ensures.items))
+            (exec_usable p c.requires.runnable n rule at c.if-not-rule.false);
         search = c.in-Ok.ensures.search;
-        subject = ap (λ z. z.0) c.in-Ok.ensures.subject;
+        subject = ap (λ (a : Asked). a.subject.0) c.in-Ok.ensures.asked;
         signature = c.in-Ok.ensures.signature;
       };
     }

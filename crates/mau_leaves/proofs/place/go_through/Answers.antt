@@ -93,8 +93,8 @@ returns-in-Ok-true-clause-turn g c = λ chosen.
     let after = g.E.Evaluator.table c.next_use.new.evaluator in
     let w = c.next_use.new.uses in
     found_now g.L.Lister.asked g.L.Lister.given g.L.Lister.is_for g.L.Lister.with_context p m old before s c.requires.place u c.in-Some.is rule at new after c.next_use.ensures.extends c.next_use.ensures.kept w chosen c.args.limit
-    (subst (λ (t : Bool). IsNextOne (program_over p m.hooks) c.args.limit (left_in p m.hooks rule old (g.L.Lister.asked u.listing) (g.L.Lister.given u.listing) u.standing)
-    (left_in p m.hooks rule new (g.L.Lister.asked w.listing) (g.L.Lister.given w.listing) w.standing) (use_in rule new (g.L.Lister.given w.listing) w.standing) (Ok t)) c.in-Ok-true.field-0-test c.in-Ok-true.ensures.next)
+    (subst (λ (t : Bool). IsNextOne (program_over p m.hooks) c.args.limit (left_in p m.hooks rule u.whole u.bound.items old (g.L.Lister.asked u.listing) (g.L.Lister.given u.listing) u.standing)
+    (left_in p m.hooks rule w.whole w.bound.items new (g.L.Lister.asked w.listing) (g.L.Lister.given w.listing) w.standing) (use_in rule new (g.L.Lister.given w.listing) w.standing) (Ok t)) c.in-Ok-true.field-0-test c.in-Ok-true.ensures.next)
 
 pub returns-in-Ok-true-clause-place : goal.returns-in-Ok-true-clause-place
 returns-in-Ok-true-clause-place g c =
@@ -112,7 +112,7 @@ returns-in-Ok-true-clause-place g c =
     record {
       term = term_then g.L.Lister.asked g.L.Lister.given g.L.Lister.is_for g.L.Lister.with_context p m old before s c.requires.place u c.in-Some.is rule at new after c.next_use.ensures.extends c.next_use.ensures.kept w;
       settled = settled_then g.L.Lister.asked g.L.Lister.given g.L.Lister.is_for g.L.Lister.with_context p m old before s c.requires.place u c.in-Some.is rule at new after c.next_use.ensures.extends c.next_use.ensures.kept w;
-      uses = open_then g.L.Lister.asked g.L.Lister.given g.L.Lister.is_for g.L.Lister.with_context p m old before s c.requires.place u c.in-Some.is rule at new after c.next_use.ensures.extends c.next_use.ensures.kept w c.next_use.ensures.search c.next_use.ensures.asked c.next_use.ensures.signature;
+      uses = open_then g.L.Lister.asked g.L.Lister.given g.L.Lister.is_for g.L.Lister.with_context p m old before s c.requires.place u c.in-Some.is rule at new after c.next_use.ensures.extends c.next_use.ensures.kept w c.next_use.ensures.search c.next_use.ensures.asked c.next_use.ensures.bound c.next_use.ensures.signature;
     }
 
 pub returns-in-Ok-false-clause-turn : goal.returns-in-Ok-false-clause-turn
@@ -129,8 +129,8 @@ returns-in-Ok-false-clause-turn g c = λ chosen.
     let after = g.E.Evaluator.table c.next_use.new.evaluator in
     let w = c.next_use.new.uses in
     over_now g.L.Lister.asked g.L.Lister.given g.L.Lister.is_for g.L.Lister.with_context p m old before s c.requires.place u c.in-Some.is rule at new after c.next_use.ensures.extends c.next_use.ensures.kept w chosen c.args.limit
-    (subst (λ (t : Bool). IsNextOne (program_over p m.hooks) c.args.limit (left_in p m.hooks rule old (g.L.Lister.asked u.listing) (g.L.Lister.given u.listing) u.standing)
-    (left_in p m.hooks rule new (g.L.Lister.asked w.listing) (g.L.Lister.given w.listing) w.standing) (use_in rule new (g.L.Lister.given w.listing) w.standing) (Ok t)) c.in-Ok-false.field-0-test c.in-Ok-false.ensures.next)
+    (subst (λ (t : Bool). IsNextOne (program_over p m.hooks) c.args.limit (left_in p m.hooks rule u.whole u.bound.items old (g.L.Lister.asked u.listing) (g.L.Lister.given u.listing) u.standing)
+    (left_in p m.hooks rule w.whole w.bound.items new (g.L.Lister.asked w.listing) (g.L.Lister.given w.listing) w.standing) (use_in rule new (g.L.Lister.given w.listing) w.standing) (Ok t)) c.in-Ok-false.field-0-test c.in-Ok-false.ensures.next)
     (s.number + 1) (add-one s.number)
 
 pub returns-in-Ok-false-clause-place : goal.returns-in-Ok-false-clause-place
@@ -179,5 +179,5 @@ returns-in-Err-clause-place g c =
     record {
       term = term_then g.L.Lister.asked g.L.Lister.given g.L.Lister.is_for g.L.Lister.with_context p m old before s c.requires.place u c.in-Some.is rule at new after c.next_use.ensures.extends c.next_use.ensures.kept w;
       settled = settled_then g.L.Lister.asked g.L.Lister.given g.L.Lister.is_for g.L.Lister.with_context p m old before s c.requires.place u c.in-Some.is rule at new after c.next_use.ensures.extends c.next_use.ensures.kept w;
-      uses = open_then g.L.Lister.asked g.L.Lister.given g.L.Lister.is_for g.L.Lister.with_context p m old before s c.requires.place u c.in-Some.is rule at new after c.next_use.ensures.extends c.next_use.ensures.kept w c.next_use.ensures.search c.next_use.ensures.asked c.next_use.ensures.signature;
+      uses = open_then g.L.Lister.asked g.L.Lister.given g.L.Lister.is_for g.L.Lister.with_context p m old before s c.requires.place u c.in-Some.is rule at new after c.next_use.ensures.extends c.next_use.ensures.kept w c.next_use.ensures.search c.next_use.ensures.asked c.next_use.ensures.bound c.next_use.ensures.signature;
     }

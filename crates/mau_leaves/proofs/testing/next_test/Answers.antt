@@ -17,8 +17,8 @@ returns-in-Ok-true-clause-next g c =
     let w = c.next_use.new.uses in
     let over = over_of p m (g.E.Evaluator.meanings c.next_use.new.evaluator) c.next_use.ensures.meanings c.requires.goes_by.program new after (g.met.E.Evaluator.derived c.next_use.new.evaluator new c.next_use.ensures.fits) in
     let o = use_in s.rule new (g.L.Lister.given w.listing) w.standing in
-    let one = subst (λ b. IsNextOne (program_over p m.hooks) c.args.limit (left_in p m.hooks s.rule old (g.L.Lister.asked s.uses.listing) (g.L.Lister.given s.uses.listing) s.uses.standing)
-    (left_in p m.hooks s.rule new (g.L.Lister.asked w.listing) (g.L.Lister.given w.listing) w.standing) o (Ok b)) c.in-Ok-true.field-0-test c.in-Ok-true.ensures.next in
+    let one = subst (λ b. IsNextOne (program_over p m.hooks) c.args.limit (left_in p m.hooks s.rule s.uses.whole s.uses.bound.items old (g.L.Lister.asked s.uses.listing) (g.L.Lister.given s.uses.listing) s.uses.standing)
+    (left_in p m.hooks s.rule w.whole w.bound.items new (g.L.Lister.asked w.listing) (g.L.Lister.given w.listing) w.standing) o (Ok b)) c.in-Ok-true.field-0-test c.in-Ok-true.ensures.next in
     found_test g.L.Lister.asked g.L.Lister.given g.L.Lister.is_for g.L.Lister.with_context p m old new before after c.next_use.ensures.extends c.next_use.ensures.kept over s c.requires.test c.if-test.false w c.args.limit o one
 
 pub returns-in-Ok-true-clause-test : goal.returns-in-Ok-true-clause-test
@@ -32,7 +32,7 @@ returns-in-Ok-true-clause-test g c =
     let s = c.args.test.now in
     let w = c.next_use.new.uses in
     let over = over_of p m (g.E.Evaluator.meanings c.next_use.new.evaluator) c.next_use.ensures.meanings c.requires.goes_by.program new after (g.met.E.Evaluator.derived c.next_use.new.evaluator new c.next_use.ensures.fits) in
-    test_then g.L.Lister.asked g.L.Lister.given g.L.Lister.is_for g.L.Lister.with_context p m old new before after c.next_use.ensures.extends c.next_use.ensures.kept over s c.requires.test w true c.next_use.ensures.search c.next_use.ensures.signature
+    test_then g.L.Lister.asked g.L.Lister.given g.L.Lister.is_for g.L.Lister.with_context p m old new before after c.next_use.ensures.extends c.next_use.ensures.kept over s c.requires.test w true c.next_use.ensures.bound c.next_use.ensures.search c.next_use.ensures.signature
 
 pub returns-in-Ok-false-clause-next : goal.returns-in-Ok-false-clause-next
 returns-in-Ok-false-clause-next g c =
@@ -46,8 +46,8 @@ returns-in-Ok-false-clause-next g c =
     let w = c.next_use.new.uses in
     let over = over_of p m (g.E.Evaluator.meanings c.next_use.new.evaluator) c.next_use.ensures.meanings c.requires.goes_by.program new after (g.met.E.Evaluator.derived c.next_use.new.evaluator new c.next_use.ensures.fits) in
     let o = use_in s.rule new (g.L.Lister.given w.listing) w.standing in
-    let one = subst (λ b. IsNextOne (program_over p m.hooks) c.args.limit (left_in p m.hooks s.rule old (g.L.Lister.asked s.uses.listing) (g.L.Lister.given s.uses.listing) s.uses.standing)
-    (left_in p m.hooks s.rule new (g.L.Lister.asked w.listing) (g.L.Lister.given w.listing) w.standing) o (Ok b)) c.in-Ok-false.field-0-test c.in-Ok-false.ensures.next in
+    let one = subst (λ b. IsNextOne (program_over p m.hooks) c.args.limit (left_in p m.hooks s.rule s.uses.whole s.uses.bound.items old (g.L.Lister.asked s.uses.listing) (g.L.Lister.given s.uses.listing) s.uses.standing)
+    (left_in p m.hooks s.rule w.whole w.bound.items new (g.L.Lister.asked w.listing) (g.L.Lister.given w.listing) w.standing) o (Ok b)) c.in-Ok-false.field-0-test c.in-Ok-false.ensures.next in
     none_test g.L.Lister.asked g.L.Lister.given g.L.Lister.is_for g.L.Lister.with_context p m old new before after c.next_use.ensures.extends c.next_use.ensures.kept over s c.requires.test c.if-test.false w c.args.limit o one
 
 pub returns-in-Ok-false-clause-test : goal.returns-in-Ok-false-clause-test
@@ -61,7 +61,7 @@ returns-in-Ok-false-clause-test g c =
     let s = c.args.test.now in
     let w = c.next_use.new.uses in
     let over = over_of p m (g.E.Evaluator.meanings c.next_use.new.evaluator) c.next_use.ensures.meanings c.requires.goes_by.program new after (g.met.E.Evaluator.derived c.next_use.new.evaluator new c.next_use.ensures.fits) in
-    test_then g.L.Lister.asked g.L.Lister.given g.L.Lister.is_for g.L.Lister.with_context p m old new before after c.next_use.ensures.extends c.next_use.ensures.kept over s c.requires.test w s.over c.next_use.ensures.search c.next_use.ensures.signature
+    test_then g.L.Lister.asked g.L.Lister.given g.L.Lister.is_for g.L.Lister.with_context p m old new before after c.next_use.ensures.extends c.next_use.ensures.kept over s c.requires.test w s.over c.next_use.ensures.bound c.next_use.ensures.search c.next_use.ensures.signature
 
 pub returns-in-Err-clause-next : goal.returns-in-Err-clause-next
 returns-in-Err-clause-next g c =
@@ -87,4 +87,4 @@ returns-in-Err-clause-test g c =
     let s = c.args.test.now in
     let w = c.next_use.new.uses in
     let over = over_of p m (g.E.Evaluator.meanings c.next_use.new.evaluator) c.next_use.ensures.meanings c.requires.goes_by.program new after (g.met.E.Evaluator.derived c.next_use.new.evaluator new c.next_use.ensures.fits) in
-    test_then g.L.Lister.asked g.L.Lister.given g.L.Lister.is_for g.L.Lister.with_context p m old new before after c.next_use.ensures.extends c.next_use.ensures.kept over s c.requires.test w s.over c.next_use.ensures.search c.next_use.ensures.signature
+    test_then g.L.Lister.asked g.L.Lister.given g.L.Lister.is_for g.L.Lister.with_context p m old new before after c.next_use.ensures.extends c.next_use.ensures.kept over s c.requires.test w s.over c.next_use.ensures.bound c.next_use.ensures.search c.next_use.ensures.signature

@@ -74,8 +74,8 @@ offset_bounds-rules-number g c =
     let h : s.number < length c.items-rules.result.now = subst (λ (rs : List Written.Rule). s.number < length rs) (sym c.items-rules.ensures) (within g.L.Lister.asked g.L.Lister.given g.L.Lister.is_for g.L.Lister.with_context p m old before s c.requires.place u c.in-Some.is) in
     omega (arith, h, c.items-rules.type_inv.1)
 
-pub value_of-requires-clause-usable : goal.value_of-requires-clause-usable
-value_of-requires-clause-usable g c =
+pub value_of-requires-clause-sides : goal.value_of-requires-clause-sides
+value_of-requires-clause-sides g c =
     let m = g.E.Evaluator.meanings c.args.evaluator.now in
     let p = c.args.program.now in
     let old = c.args.store.now in
@@ -86,7 +86,7 @@ value_of-requires-clause-usable g c =
     let rule = c.index-rules-number.result in
     let at = at_index p.rules c.items-rules.result.now s.number rule c.items-rules.ensures (within g.L.Lister.asked g.L.Lister.given g.L.Lister.is_for g.L.Lister.with_context p m old before s c.requires.place u c.in-Some.is) c.index-rules-number.is in
     let x = c.in-Some-last.solution.now in
-    usable_here g.L.Lister.asked g.L.Lister.given g.L.Lister.is_for g.L.Lister.with_context p m old before s c.requires.place u c.in-Some.is rule at
+    (usable_here g.L.Lister.asked g.L.Lister.given g.L.Lister.is_for g.L.Lister.with_context p m old before s c.requires.place u c.in-Some.is rule at).sides
 
 pub value_of-requires-clause-term : goal.value_of-requires-clause-term
 value_of-requires-clause-term g c = c.requires.place.term

@@ -11,11 +11,13 @@ abbrev pub invariant-loop : goal.invariant-loop
 invariant-loop g l =
     let m = g.E.Evaluator.meanings l.fn.evaluator in
     let p = l.fn.program in
-    let old = left_in p m.hooks l.fn.rule l.fn.store (g.L.Lister.asked l.fn.uses.listing) (g.L.Lister.given l.fn.uses.listing) l.fn.uses.standing in
-    let now = left_in p m.hooks l.fn.rule l.store (g.L.Lister.asked l.uses.listing) (g.L.Lister.given l.uses.listing) l.uses.standing in record {
+    let old = left_in p m.hooks l.fn.rule l.fn.uses.whole l.fn.uses.bound.items l.fn.store (g.L.Lister.asked l.fn.uses.listing) (g.L.Lister.given l.fn.uses.listing) l.fn.uses.standing in
+    let now = left_in p m.hooks l.fn.rule l.uses.whole l.uses.bound.items l.store (g.L.Lister.asked l.uses.listing) (g.L.Lister.given l.uses.listing) l.uses.standing in record {
       passed : Throughout (engine_of (program_over p m.hooks)) old (λ L. Passes (old L) (now L));
-      search : IsSearch g.L.Lister.with_context p m l.fn.rule l.store (g.E.Evaluator.table l.evaluator) (g.L.Lister.asked l.uses.listing) (g.L.Lister.given l.uses.listing) l.uses.standing;
+      search : IsSearch g.L.Lister.with_context p m l.fn.rule l.uses.bound.items l.store (g.E.Evaluator.table l.evaluator) (g.L.Lister.asked l.uses.listing) (g.L.Lister.given l.uses.listing) l.uses.standing;
       asked : g.L.Lister.asked l.uses.listing ≡ g.L.Lister.asked l.fn.uses.listing;
+      bound : l.uses.bound ≡ l.fn.uses.bound;
+      whole : l.uses.whole ≡ l.fn.uses.whole;
       signature : g.L.Lister.is_for l.uses.listing p.sig;
       meanings : g.E.Evaluator.meanings l.evaluator ≡ m;
       fits : g.E.Evaluator.fits l.evaluator l.store;

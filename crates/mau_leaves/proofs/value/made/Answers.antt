@@ -14,7 +14,7 @@ use Rattle.mau_leaves.proofs.MadeTerms.{replaces_there}
 use Rattle.mau_leaves.proofs.value.made.Goals as goal
 
 pub replace-requires-clause-bare : goal.replace-requires-clause-bare
-replace-requires-clause-bare c = let s = c.requires.usable.sides in (s.kind, s.second)
+replace-requires-clause-bare c = let s = c.requires.sides in (s.kind, s.second)
 
 pub replace-requires-clause-values : goal.replace-requires-clause-values
 replace-requires-clause-values c = c.in-Ok.ensures.values c.args.sig.now c.args.store.now c.requires.values.0 c.requires.values.1
@@ -37,6 +37,6 @@ returns-clause-ends c = λ b.
 
 pub returns-clause-kind : goal.returns-clause-kind
 returns-clause-kind c =
-    let s = c.requires.usable.sides in
+    let s = c.requires.sides in
     let is : IsTermIn c.args.sig.now c.args.store.now s.kind c.args.term.0 = record { within = c.requires.term.within; bare = c.requires.kind s.kind s.first } in
     replaces_there c.args.sig.now c.replace.new.store s.kind c.args.term.0 (term_kept c.args.sig.now c.args.store.now c.replace.new.store s.kind c.args.term.0 c.replace.ensures.extends is) c.replace.result (c.replace.ensures.kind s.kind is s.second)
