@@ -1,5 +1,5 @@
 -- The bodies of a call, definition after definition.
-use Rattle.std.proofs.Common.{◌≡◌, ℕ, suc, ◌<◌, ◌≤◌, List, [], ◌∷◌, length, map, drop, fold, All, Vec, Global, Bool, true, false, Option, Some, None, IfSome, Result, Ok, Err, slice_get, refl, sym, ap, ◌∙◌, subst, arith, length-drop}
+use Rattle.std.proofs.Common.{◌≡◌, ℕ, suc, ◌<◌, ◌≤◌, List, [], ◌∷◌, length, map, drop, fold, All, Vec, Global, Bool, true, false, Option, Some, None, IsSome, IfSome, Result, Ok, Err, slice_get, refl, sym, ap, ◌∙◌, subst, arith, length-drop}
 use Rattle.std.specs.Option.{option_map}
 use Rattle.std.proofs.Math.Seq.{drop-cons}
 use Rattle.std.proofs.lemmas.Option.{slice_get_within, get_or_from_slice_get}
@@ -13,6 +13,8 @@ use Rattle.mau_signature.specs.Faults.{IsSort}
 use Rattle.mau_signature.specs.Signature.{SignatureOf}
 use Rattle.mau_formula.specs.Operator.{Operator}
 use Rattle.mau_store.specs.Node.{Node, Extends}
+use Rattle.mau_store.specs.Trees.{trees_at}
+use Rattle.mau_store.specs.View.{numbers}
 use Rattle.mau_sorts.specs.Table.{Table, KeepsEntries, AreOver}
 use Rattle.mau_listing.specs.Asked.{Asked}
 use Rattle.mau_listing.specs.declared.solution.Solution as Listed
@@ -47,13 +49,15 @@ use Rattle.mau_leaves.specs.Uses.{condition_from, question_from}
 use Rattle.mau_leaves.specs.Answers.{ComesTo, QuestionEnds, IsDueBy}
 use Rattle.mau_leaves.specs.Searches.{found_in, last_in, variables_in, IsTurn}
 use Rattle.mau_leaves.specs.InTurn.{just}
-use Rattle.mau_leaves.specs.Arguments.{last_found, left_behind_all, left_of_arguments, IsArgumentSearch}
+use Rattle.mau_leaves.specs.Arguments.{last_found, left_behind_all, left_of_arguments, AreSearches, IsArgumentSearch}
 use Rattle.mau_leaves.specs.Calls.{IsLeftOf, bodies_from, bodies_left, left_begun, left_of_one, left_standing, body_with, IsShownFor, IsAskedOn, StandsAt, IsBegun, IsStanding}
 use Rattle.mau_leaves.specs.declared.turn.Turn.{Turn}
 use Rattle.mau_leaves.specs.declared.turn.Turn.TheVariants.{Found, Passed, Over}
 use Rattle.mau_leaves.specs.declared.uses.Standing.{Standing}
 use Rattle.mau_leaves.specs.declared.uses.Standing.TheVariants.{Behind, Before, Within}
+use Rattle.mau_leaves.specs.declared.arguments.PatternSearch.{PatternSearch}
 use Rattle.mau_leaves.specs.declared.arguments.ArgumentSearch.{ArgumentSearch}
+use Rattle.mau_leaves.specs.declared.bodies.CallBodies.{CallBodies}
 use Rattle.mau_leaves.proofs.Engines.{AsksRightly}
 use Rattle.mau_leaves.proofs.Askings.{asked_gives, asked_over, asked_ends}
 use Rattle.mau_leaves.proofs.Rewrites.{those_none, those_assoc}
@@ -151,6 +155,14 @@ module _ {K : Type 0} (asked_of : K → Asked) (given : K → Option Listed.Solu
         from_one L i d at
         ∙ (ap (λ b. and_those (when b (for_each (bodies_at Q L k (definition_of d)) (argument_solutions Q L d.args vs []))) (From (suc i) L)) e
         ∙ (λ j. and_those (for_each (bodies_at Q L k (definition_of d)) (left_behind_all asked_of given p hooks nodes (sym due j) d.args vs (Some []) (sym none j) L)) (From (suc i) L)))))
+
+    -- the same where nothing was begun
+    pub begun_standing : (i : ℕ) (d : Written.StratDef) → slice_get p.strategies i ≡ Some d → same_name d.name n ≡ true → (a : ArgumentSearch K) → a.searches.items ≡ [] → a.due ≡ true → (o : Option (ArgumentSearch K)) → o ≡ None → (s : Standing) → s ≡ Behind →
+        Throughout (engine_of (program_over p hooks)) (left_standing asked_of given p hooks k n vs nodes i o s) (λ L.
+        Passes (left_standing asked_of given p hooks k n vs nodes i o s L) (left_standing asked_of given p hooks k n vs nodes i (Some a) s L))
+    begun_standing i d at e a none due o idle s behind =
+        subst (λ (z : Option (ArgumentSearch K)). Throughout (engine_of Q) (Standing_ nodes i z s) (λ L. Passes (Standing_ nodes i z s L) (Standing_ nodes i (Some a) s L))) (sym idle)
+        (subst (λ (z : Standing). Throughout (engine_of Q) (just (From i)) (λ L. Passes (just (From i) L) (Standing_ nodes i (Some a) z L))) (sym behind) (begins_definition i d at e a none due))
 
   -- ---- solutions of its argument patterns are searched for
 
@@ -429,6 +441,120 @@ module _ {K : Type 0} (asked_of : K → Asked) (given : K → Option Listed.Solu
       found_same k (Some a) (Within f) h =
           ap (body_with k new (Within f)) h.at
           ∙ (ap (λ σ. Some (record { form = (definition_of h.definition).body; calls = k; values = σ })) (bound_grown p.sig old new before after extends kept f.items h.stands.shown.values) ∙ sym (ap (body_with k old (Within f)) h.at))
+
+-- what is known of a definition that was begun just now
+pub idle_standing : {K : Type 0} (asked_of : K → Asked) (given : K → Option Listed.Solution) (is_for : K → SignatureOf → Type 0) (c : Bool) (p : Typed.Program) (m : Meanings) (nodes : List Node) (table : Table) (vs : List TermId) (i : ℕ)
+    (d : Written.StratDef) → slice_get p.strategies i ≡ Some d → All (IsFragment p.sig) d.cond → (a : ArgumentSearch K) → a.searches.items ≡ [] → (s : Standing) → s ≡ Behind → IsStanding asked_of given is_for c p m nodes table vs i (Some a) s
+idle_standing asked_of given is_for c p m nodes table vs i d at fragments a none s behind = record {
+  definition = d;
+  at = at;
+  fragments = fragments;
+  arguments = record {
+    searches = subst (AreSearches asked_of given is_for c p m nodes table [] d.args vs) (sym none) tt;
+    stands = λ e. subst (λ (ws : List (PatternSearch _)). IsSome (last_found ws)) (sym none) refl;
+  };
+  stands = subst (StandsAt asked_of given is_for c p m nodes table d a) (sym behind) tt;
+}
+
+-- ---- the next solution of a condition that is asked on
+
+pub none_found_yet : {K : Type 0} (ws : List (PatternSearch K)) (f : List (VarId × TermId)) → last_found ws ≡ Some f → last_found ws ≡ None → ⊥
+none_found_yet ws f e h = clash (sym e ∙ h)
+  where
+    clash : Some f ≡ None → ⊥
+    clash k = cc
+
+pub same_found : {K : Type 0} (ws : List (PatternSearch K)) (f : List (VarId × TermId)) → last_found ws ≡ Some f → (b : List (VarId × TermId)) → last_found ws ≡ Some b → f ≡ b
+same_found ws f e b h = one (sym e ∙ h)
+  where
+    one : Some f ≡ Some b → f ≡ b
+    one k = cc
+
+pub none_begun : {K : Type 0} (asked_of : K → Asked) (given : K → Option Listed.Solution) (is_for : K → SignatureOf → Type 0) (c : Bool) (p : Typed.Program) (m : Meanings) (nodes : List Node) (table : Table) (vs : List TermId) (i : ℕ)
+    (o : Option (ArgumentSearch K)) (s : Standing) → (s ≡ Behind → ⊥) → IsStanding asked_of given is_for c p m nodes table vs i o s → o ≡ None → ⊥
+none_begun asked_of given is_for c p m nodes table vs i None s h is e = h is
+none_begun asked_of given is_for c p m nodes table vs i (Some a) s h is e = cc
+
+module _ {K : Type 0} (asked_of : K → Asked) (given : K → Option Listed.Solution) (is_for : K → SignatureOf → Type 0) (c : Bool) (p : Typed.Program) (m : Meanings) (sound : IsLawful (program_over p m.hooks).sign) (goes : GoesBy p m)
+    (lawful : All (IsLawfulDefinition p.sig) p.strategies) (old new : List Node) (before after : Table) (extends : Extends old new) (kept : KeepsEntries before after) (over : AreOver p.sig.hierarchy after) (i : ℕ) (vs : List TermId) where
+  abbrev Asked_ : ArgumentSearch K → Standing → Type 0
+  Asked_ a s = IsAskedAt asked_of given is_for c p m goes lawful old before i vs a s
+
+  bound_kept : (a : ArgumentSearch K) (st : Standing) (k : Asked_ a st) → binding_in new k.bound ≡ binding_in old k.bound
+  bound_kept a st k = bound_grown p.sig old new before after extends kept k.bound k.values
+
+  args_kept : (a : ArgumentSearch K) (st : Standing) (k : Asked_ a st) (ts : List Tree) → left_of_arguments asked_of given p m.hooks new k.begun.definition.args ts a ≡ left_of_arguments asked_of given p m.hooks old k.begun.definition.args ts a
+  args_kept a st k ts = arguments_same asked_of given is_for c p m old new before after extends kept k.begun.definition.args ts vs a k.begun.arguments
+
+  module _ (k : ℕ) (n : List ℕ) (s : CallBodies K) (a : ArgumentSearch K) (held : s.arguments ≡ Some a) (is : IsAskedAt asked_of given is_for c p m goes lawful old before i vs a s.standing) (within : s.standing ≡ Behind → ⊥) where
+    abbrev ts : List Tree
+    ts = trees_at old (numbers vs)
+
+    abbrev Was : Engine → Answers Todo → Type 0
+    Was = left_standing asked_of given p m.hooks k n ts old i s.arguments s.standing
+
+    abbrev Now : Option (ArgumentSearch K) → Standing → Engine → Answers Todo → Type 0
+    Now o st = left_standing asked_of given p m.hooks k n ts new i o st
+
+    was : left_standing asked_of given p m.hooks k n ts old i (Some a) s.standing ≡ Was
+    was = ap (λ (o : Option (ArgumentSearch K)). left_standing asked_of given p m.hooks k n ts old i o s.standing) (sym held)
+
+    now : (st : Standing) → Now (Some a) st ≡ Now s.arguments st
+    now st = ap (λ (o : Option (ArgumentSearch K)). Now o st) (sym held)
+
+    pub found_turn : (f : Vec (VarId × TermId) Global) → ComesTo (program_over p m.hooks) (λ L. condition_from (program_over p m.hooks) L (last_in old s.standing) (map fragment_of is.begun.definition.cond) (binding_in old is.bound)) (Some (binding_in new f.items)) →
+        (x : Todo) × (body_with k new (Within f) (slice_get p.strategies i) ≡ Some x) ×
+        Throughout (engine_of (program_over p m.hooks)) (left_standing asked_of given p m.hooks k n (trees_at old (numbers vs)) old i s.arguments s.standing) (λ L.
+        Gives (left_standing asked_of given p m.hooks k n (trees_at old (numbers vs)) old i s.arguments s.standing L) x (left_standing asked_of given p m.hooks k n (trees_at old (numbers vs)) new i s.arguments (Within f) L))
+    found_turn f comes =
+        let h = found_body asked_of given p m.hooks k n ts sound old new i is.begun.definition is.begun.at a is.bound is.found (bound_kept a s.standing is) (args_kept a s.standing is ts) s.standing within f comes in (
+          h.0,
+          h.1,
+          subst (λ (g : Engine → Answers Todo → Type 0). Throughout (engine_of (program_over p m.hooks)) g (λ L. Gives (g L) h.0 (Now s.arguments (Within f) L))) was
+              (subst (λ (g : Engine → Answers Todo → Type 0). Throughout (engine_of (program_over p m.hooks)) (left_standing asked_of given p m.hooks k n ts old i (Some a) s.standing) (λ L.
+              Gives (left_standing asked_of given p m.hooks k n ts old i (Some a) s.standing L) h.0 (g L))) (now (Within f)) h.2),
+        )
+
+    pub none_turn : ComesTo (program_over p m.hooks) (λ L. condition_from (program_over p m.hooks) L (last_in old s.standing) (map fragment_of is.begun.definition.cond) (binding_in old is.bound)) None →
+        Throughout (engine_of (program_over p m.hooks)) (left_standing asked_of given p m.hooks k n (trees_at old (numbers vs)) old i s.arguments s.standing) (λ L.
+        Passes (left_standing asked_of given p m.hooks k n (trees_at old (numbers vs)) old i s.arguments s.standing L) (left_standing asked_of given p m.hooks k n (trees_at old (numbers vs)) new i s.arguments Behind L))
+    none_turn comes =
+        let h = no_body asked_of given p m.hooks k n ts sound old new i is.begun.definition is.begun.at a is.bound is.found (bound_kept a s.standing is) (args_kept a s.standing is ts) s.standing within comes in
+        subst (λ (g : Engine → Answers Todo → Type 0). Throughout (engine_of (program_over p m.hooks)) g (λ L. Passes (g L) (Now s.arguments Behind L))) was
+        (subst (λ (g : Engine → Answers Todo → Type 0). Throughout (engine_of (program_over p m.hooks)) (left_standing asked_of given p m.hooks k n ts old i (Some a) s.standing) (λ L.
+        Passes (left_standing asked_of given p m.hooks k n ts old i (Some a) s.standing L) (g L))) (now Behind) h)
+
+    pub due_turn : (b : ℕ) (e : EvalEnd) → QuestionEnds (program_over p m.hooks) b (question_from (last_in old s.standing) (map fragment_of is.begun.definition.cond) (binding_in old is.bound)) e →
+        IsDueBy (program_over p m.hooks) b (left_standing asked_of given p m.hooks k n (trees_at old (numbers vs)) old i s.arguments s.standing) e
+    due_turn b e ends =
+        subst (λ (g : Engine → Answers Todo → Type 0). IsDueBy (program_over p m.hooks) b g e) was
+        (body_due asked_of given p m.hooks k n ts sound old new i is.begun.definition is.begun.at a is.bound is.found (bound_kept a s.standing is) (args_kept a s.standing is ts) s.standing within b e ends)
+
+  module _ (s : CallBodies K) (a : ArgumentSearch K) (held : s.arguments ≡ Some a) (is : IsAskedAt asked_of given is_for c p m goes lawful old before i vs a s.standing) (within : s.standing ≡ Behind → ⊥) where
+    then_standing : (st : Standing) → StandsAt asked_of given is_for c p m new after is.begun.definition a st → IsStanding asked_of given is_for c p m new after vs i s.arguments st
+    then_standing st h =
+        subst (λ (o : Option (ArgumentSearch K)). IsStanding asked_of given is_for c p m new after vs i o st) (sym held)
+        (record {
+          definition = is.begun.definition;
+          at = is.begun.at;
+          fragments = is.begun.fragments;
+          arguments = arguments_grown asked_of given is_for c p m old new before after extends kept over is.begun.definition.args vs a is.begun.arguments;
+          stands = h;
+        })
+
+    pub stands_within : (f : Vec (VarId × TermId) Global) → All (IsValueOf p.sig new after) f.items → IsSolutionOf m (map fragment_of is.begun.definition.cond) (binding_in old is.bound) (binding_in new f.items) →
+        IsStanding asked_of given is_for c p m new after vs i s.arguments (Within f)
+    stands_within f values solution =
+        then_standing (Within f)
+        (record {
+          bound = is.bound;
+          at = is.found;
+          all = is.all;
+          shown = record { values = values; solution = subst (λ σ. IsSolutionOf m (map fragment_of is.begun.definition.cond) σ (binding_in new f.items)) (sym (bound_kept a s.standing is)) solution };
+        })
+
+    pub stands_behind : IsStanding asked_of given is_for c p m new after vs i s.arguments Behind
+    stands_behind = then_standing Behind tt
 
 -- ---- the fragments of a lawful definition, no one of which rewrites
 

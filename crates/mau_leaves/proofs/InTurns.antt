@@ -48,15 +48,20 @@ behind_none no_more = refl
 behind_none (ends_by e) = refl
 behind_none (answer ws p) = ap (answer ws) (behind_none p)
 
+drop_none_more : {A : Type 0} (xs : List A) → drop 0 xs ≡ xs
+drop_none_more [] = refl
+drop_none_more (x ∷ xs) = refl
+
 drop_more : {A : Type 0} (xs : List A) (n : ℕ) (x : A) (ys : List A) → drop n xs ≡ x ∷ ys → drop (suc n) xs ≡ ys
-drop_more [] n x ys e = cc
-drop_more (z ∷ xs) zero x ys e = by e
+drop_more [] zero x ys e = cc
+drop_more [] (suc n) x ys e = cc
+drop_more (z ∷ xs) zero x ys e = drop_none_more xs ∙ by e
   where
     by : z ∷ xs ≡ x ∷ ys → xs ≡ ys
     by k = cc
 drop_more (z ∷ xs) (suc n) x ys e = drop_more xs n x ys e
 
-one_more : {A : Type 0} (xs : List A) (x : A) → length (xs ++ x ∷ []) ≡ suc (length xs)
+pub one_more : {A : Type 0} (xs : List A) (x : A) → length (xs ++ x ∷ []) ≡ suc (length xs)
 one_more xs x = length-append xs (x ∷ []) ∙ sum (length xs)
   where
     sum : (n : ℕ) → n + 1 ≡ suc n
@@ -123,7 +128,7 @@ as_many nodes (x ∷ ids) = ap suc (as_many nodes ids)
 
 -- ---- the term that is next
 
-slice_mapped : {A B : Type 0} (f : A → B) (xs : List A) (i : ℕ) (x : A) → slice_get xs i ≡ Some x → slice_get (map f xs) i ≡ Some (f x)
+pub slice_mapped : {A B : Type 0} (f : A → B) (xs : List A) (i : ℕ) (x : A) → slice_get xs i ≡ Some x → slice_get (map f xs) i ≡ Some (f x)
 slice_mapped f [] i x e = cc
 slice_mapped f (y ∷ xs) zero x e = ap (option_map f) e
 slice_mapped f (y ∷ xs) (suc i) x e = slice_mapped f xs i x e
@@ -191,3 +196,7 @@ none_behind tree P g xs nodes ids h =
 pub values_then : (P : Program) (old now new : Engine → Answers (List Tree) → Type 0) → Throughout (engine_of P) old (λ L. Passes (old L) (now L)) → Throughout (engine_of P) now (λ L. Passes (now L) (new L)) →
     Throughout (engine_of P) old (λ L. Passes (old L) (new L))
 values_then P old now new h k = then_pass (engine_of P) old now h new k
+
+pub and_one : {A : Type 0} (Q : A → Type 0) (xs : List A) (x : A) → All Q xs → Q x → All Q (xs ++ x ∷ [])
+and_one Q [] x h k = All-cons Q x [] k (All-nil Q)
+and_one Q (y ∷ xs) x h k = All-cons Q y (xs ++ x ∷ []) (All-head Q y xs h) (and_one Q xs x (All-tail Q y xs h) k)

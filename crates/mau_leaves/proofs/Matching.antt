@@ -142,12 +142,14 @@ module _ (P : Program) (L : Engine) (plain : AsksPlainly L) where
 
       there : (t : Tree) (s : Stand) → IsOwn s → (p : Answers Use) × IsLeft P L true q σ t s p
       there t (behind last) h = (uses_among P L q σ (solutions_behind P true q t last), refl)
-      there t (at_one x None) h = (_, asked P L q.cond (own x), refl, refl)
+      there t (at_one x None) h = (_, (asked P L q.cond (own x), refl, refl))
       there t (at_one x (Some last)) h = (
         _,
-        asked_from P L q.cond (own x) (L.ask_after last q.cond (own x) L.budget) no_more,
-        record { given = []; more = no_more; listed = ap (λ c. shown P L c (own x)) none ∙ ap (λ τ. answer τ no_more) (sym h); rest_is = refl },
-        refl,
+        (
+          asked_from P L q.cond (own x) (L.ask_after last q.cond (own x) L.budget) no_more,
+          record { given = []; more = no_more; listed = ap (λ c. shown P L c (own x)) none ∙ ap (λ τ. answer τ no_more) (sym h); rest_is = refl },
+          refl,
+        ),
       )
 
     -- ---- one step
@@ -285,8 +287,8 @@ solved_plainly p m goes c none σ x h = by x (subst (λ d. IsSolutionOf m d σ x
     none_done y b r l e = cc
 
     by : (y : Binding) → IsSolutionOf m [] σ y → y ≡ σ
-    by y (first_one y k B b r l e) = of_done y b r l (sym (ap (λ (n : Meanings). n.solving k B [] σ b) goes.defined) ∙ e)
-    by y (one_behind last y k B b r l i e) = none_done y b r l (sym (ap (λ (n : Meanings). n.solving_after k B last [] σ b) goes.defined) ∙ e)
+    by y (first_one _ k B b r l e) = of_done y b r l (sym (ap (λ (n : Meanings). n.solving k B [] σ b) goes.defined) ∙ e)
+    by y (one_behind last _ k B b r l i e) = none_done y b r l (sym (ap (λ (n : Meanings). n.solving_after k B last [] σ b) goes.defined) ∙ e)
 
 -- ---- all solutions of one pattern, and then of the others
 

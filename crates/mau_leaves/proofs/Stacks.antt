@@ -1,5 +1,5 @@
 -- Searches for the solutions of argument patterns: the first of them and those behind, and the same in a store that has grown.
-use Rattle.std.proofs.Common.{◌≡◌, ◌<◌, ◌≤◌, ℕ, zero, suc, List, [], ◌∷◌, ◌++◌, length, map, fold, All, Bool, true, false, Option, Some, None, IsSome, slice_get, refl, sym, ap, ap₂, ◌∙◌, subst, arith}
+use Rattle.std.proofs.Common.{◌≡◌, ◌<◌, ◌≤◌, ◌-◌, ℕ, zero, suc, List, [], ◌∷◌, ◌++◌, length, map, fold, All, Bool, true, false, Option, Some, None, IsSome, slice_get, refl, sym, ap, ap₂, ◌∙◌, subst, arith}
 use Rattle.std.specs.Option.{option_map}
 use Rattle.std.proofs.lemmas.List.Elements.{All-nil}
 use Rattle.mau_terms.specs.Tree.{Tree}
@@ -91,6 +91,32 @@ after_apart xs (q ∷ ps) (w ∷ ws) h = after_apart (add_variables xs q) ps ws 
 pub found_last : {K : Type 0} (o : Option (List (VarId × TermId))) (ws : List (PatternSearch K)) (w : PatternSearch K) → found_behind o (ws ++ w ∷ []) ≡ found_in w.uses.standing
 found_last o [] w = refl
 found_last o (x ∷ ws) w = found_last (found_in x.uses.standing) ws w
+
+-- by the number of the last one
+one_less : (n : ℕ) → suc n - 1 ≡ n
+one_less n = omega arith
+
+at_last : {A : Type 0} (x y : A) (ws : List A) (o : Option A) → slice_get (x ∷ y ∷ ws) (length (x ∷ y ∷ ws) - 1) ≡ o → slice_get (y ∷ ws) (length (y ∷ ws) - 1) ≡ o
+at_last x y ws o e = ap (slice_get (y ∷ ws)) (one_less (length ws)) ∙ (ap (slice_get (x ∷ y ∷ ws)) (sym (one_less (suc (length ws)))) ∙ e)
+
+last_behind : {K : Type 0} (o : Option (List (VarId × TermId))) (ws : List (PatternSearch K)) (w : PatternSearch K) → slice_get ws (length ws - 1) ≡ Some w → found_behind o ws ≡ found_in w.uses.standing
+last_behind o [] w e = cc
+last_behind {K = K} o (x ∷ []) w e = ap (λ (z : PatternSearch K). found_in z.uses.standing) (one e)
+  where
+    one : Some x ≡ Some w → x ≡ w
+    one k = cc
+last_behind o (x ∷ y ∷ ws) w e = last_behind (found_in x.uses.standing) (y ∷ ws) w (at_last x y ws (Some w) e)
+
+pub last_is : {K : Type 0} (ws : List (PatternSearch K)) (w : PatternSearch K) → slice_get ws (length ws - 1) ≡ Some w → last_found ws ≡ found_in w.uses.standing
+last_is ws w e = last_behind (Some []) ws w e
+
+never_none : {A : Type 0} (x : A) (ws : List A) → slice_get (x ∷ ws) (length (x ∷ ws) - 1) ≡ None → ⊥
+never_none x [] e = cc
+never_none x (y ∷ ws) e = never_none y ws (at_last x y ws None e)
+
+pub last_none : {K : Type 0} (ws : List (PatternSearch K)) → slice_get ws (length ws - 1) ≡ None → last_found ws ≡ Some []
+last_none [] e = refl
+last_none (x ∷ ws) e = absurd (never_none x ws e)
 
 module _ {K : Type 0} (asked : K → Asked) (given : K → Option Listed.Solution) (p : Typed.Program) (hooks : List Operator) (nodes : List Node) where
   abbrev P : Program

@@ -123,9 +123,9 @@ fn next_match<E: Evaluator, L: Lister + Drop>(
 pub(crate) fn values_found<L: Lister + Drop>(searches: &[PatternSearch<L>]) -> Option<&[(VarId, TermId)]>
     ensures { option_map (λ x. x.now) result ≡ last_found searches.now }
 {
-    match searches {
-        [] => Some(&[]),
-        [.., last] => last_of(&last.uses.standing),
+    match searches.last() {
+        Some(last) => last_of(&last.uses.standing),
+        None => Some(&[]),
     }
 }
 
@@ -157,7 +157,7 @@ fn go_deeper<E: Evaluator, L: Lister + Drop>(
     requires found { IfSome (last_found search.old.searches.items) (AreBound program.now.sig store.now (E.table evaluator.now)) }
     ensures deeper { OnOk result (IsDeeper L.asked L.given L.is_for L.with_context program.now (E.meanings evaluator.now) store.now
         (E.table evaluator.now) (tree_of pattern.now) value search.old search.new) }
-    ensures unchanged { OnErr result (search.new ≡ search.old) }
+    ensures unchanged { OnErr result ((search.new.searches.items ≡ search.old.searches.items) × (search.new.due ≡ search.old.due)) }
 {
     let found = match values_found(&search.searches) {
         Some(found) => found,
