@@ -78,6 +78,17 @@ module _ {A : Type 0} (E : Engines) (now after : Engine → Answers A → Type 0
   due_given : (x : A) → Throughout E (λ L. left_due true (Some x) (now L)) (λ L. Gives (left_due true (Some x) (now L)) x (now L))
   due_given x = through_always E (λ L. left_due true (Some x) (now L)) {H = λ L. Gives (left_due true (Some x) (now L)) x (now L)} (λ L q n. (n.0, n.2, n.1))
 
+-- the call that has these arguments
+pub called_there : (leaves : List Written.StrategyOf) (l : ℕ) (us : List Tree) → option_map (λ (z : List ℕ × List Tree). z.1) (call_in leaves l) ≡ Some us → (n : List ℕ) × (call_in leaves l ≡ Some (n, us))
+called_there leaves l us e = by (call_in leaves l) e
+  where
+    by : (o : Option (List ℕ × List Tree)) → option_map (λ (z : List ℕ × List Tree). z.1) o ≡ Some us → (n : List ℕ) × (o ≡ Some (n, us))
+    by None k = cc
+    by (Some z) k = (z.0, ap (λ ts. Some (z.0, ts)) (one k))
+      where
+        one : Some z.1 ≡ Some us → z.1 ≡ us
+        one k = cc
+
 -- ---- the beginning
 
 drop_zero : {A : Type 0} (xs : List A) → drop 0 xs ≡ xs
@@ -141,6 +152,32 @@ module _ {K : Type 0} (asked : K → Asked) (given : K → Option Listed.Solutio
         all_bodies k L =
             (λ i. bodies_for P L defs k (values i) (form i))
             ∙ ap (for_each (bodies_by P L defs k n)) (all_values L (map (instance (look_up (binding_in nodes s.bound.items))) ts))
+
+    -- the name and the arguments of the leaf
+    module _ (s : CallCursor K) (d : Todo) (t : Tree) (ys : List Yield) (h : IsCallCursor asked given is_for c p m leaves nodes table s d t ys) where
+      pub args_named : (us : List Tree) → option_map (λ (z : List ℕ × List Tree). z.1) (call_in leaves s.leaf.0) ≡ Some us → us ≡ h.args
+      args_named us e = one (sym e ∙ ap (option_map (λ (z : List ℕ × List Tree). z.1)) h.named)
+        where
+          one : Some us ≡ Some h.args → us ≡ h.args
+          one k = cc
+
+      pub args_missing : option_map (λ (z : List ℕ × List Tree). z.1) (call_in leaves s.leaf.0) ≡ None → ⊥
+      args_missing e = clash (sym e ∙ ap (option_map (λ (z : List ℕ × List Tree). z.1)) h.named)
+        where
+          clash : None ≡ Some h.args → ⊥
+          clash k = cc
+
+      pub name_named : (n : List ℕ) → option_map (λ (z : List ℕ × List Tree). z.0) (call_in leaves s.leaf.0) ≡ Some n → n ≡ h.name
+      name_named n e = one (sym e ∙ ap (option_map (λ (z : List ℕ × List Tree). z.0)) h.named)
+        where
+          one : Some n ≡ Some h.name → n ≡ h.name
+          one k = cc
+
+      pub name_missing : option_map (λ (z : List ℕ × List Tree). z.0) (call_in leaves s.leaf.0) ≡ None → ⊥
+      name_missing e = clash (sym e ∙ ap (option_map (λ (z : List ℕ × List Tree). z.0)) h.named)
+        where
+          clash : None ≡ Some h.name → ⊥
+          clash k = cc
 
     -- ---- none is left, or an end
 

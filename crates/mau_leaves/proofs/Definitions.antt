@@ -256,8 +256,8 @@ module _ {K : Type 0} (asked_of : K → Asked) (given : K → Option Listed.Solu
         (λ j L. IsLeftOf Q L k (definition_of d) (Some (sym bound_same j)) (Some (binding_in new f.items)) (sym rest_same j L))
         ∙ ((λ j L. IsLeftOf Q L k (definition_of d) (option_map (binding_in new) (sym found j)) (Some (binding_in new f.items)) (bodies_left asked_of given p hooks k n vs new i d a L)) ∙ begun_new (Within f))
 
-    stands_behind : just rest ≡ Standing_ new i (Some a) Behind
-    stands_behind = (λ j. just (sym rest_same j)) ∙ begun_new Behind
+    stands_next : just rest ≡ Standing_ new i (Some a) Behind
+    stands_next = (λ j. just (sym rest_same j)) ∙ begun_new Behind
 
     pub found_body : (s : Standing) → (s ≡ Behind → ⊥) → (f : Vec (VarId × TermId) Global) → ComesTo Q (λ L. condition_from Q L (last_in old s) (definition_of d).cond σ) (Some (binding_in new f.items)) →
         (x : Todo) × (body_with k new (Within f) (slice_get p.strategies i) ≡ Some x) ×
@@ -276,7 +276,7 @@ module _ {K : Type 0} (asked_of : K → Asked) (given : K → Option Listed.Solu
         Passes (left_standing asked_of given p hooks k n vs old i (Some a) s L) (left_standing asked_of given p hooks k n vs new i (Some a) Behind L))
     no_body s h comes =
         subst (λ (g : Engine → Answers Todo → Type 0). Throughout (engine_of Q) g (λ L. Passes (g L) (Standing_ new i (Some a) Behind L))) (stands_at s h)
-        (subst (λ (g : Engine → Answers Todo → Type 0). Throughout (engine_of Q) (Own (last_in old s)) (λ L. Passes (Own (last_in old s) L) (g L))) stands_behind
+        (subst (λ (g : Engine → Answers Todo → Type 0). Throughout (engine_of Q) (Own (last_in old s)) (λ L. Passes (Own (last_in old s) L) (g L))) stands_next
         (passed_body Q lawful k (definition_of d) σ (last_in old s) rest comes))
 
     pub body_due : (s : Standing) → (s ≡ Behind → ⊥) → (b : ℕ) (e : EvalEnd) → QuestionEnds Q b (question_from (last_in old s) (definition_of d).cond σ) e →
@@ -496,11 +496,11 @@ module _ {K : Type 0} (asked_of : K → Asked) (given : K → Option Listed.Solu
     abbrev Now : Option (ArgumentSearch K) → Standing → Engine → Answers Todo → Type 0
     Now o st = left_standing asked_of given p m.hooks k n ts new i o st
 
-    was : left_standing asked_of given p m.hooks k n ts old i (Some a) s.standing ≡ Was
-    was = ap (λ (o : Option (ArgumentSearch K)). left_standing asked_of given p m.hooks k n ts old i o s.standing) (sym held)
+    held_was : left_standing asked_of given p m.hooks k n ts old i (Some a) s.standing ≡ Was
+    held_was = ap (λ (o : Option (ArgumentSearch K)). left_standing asked_of given p m.hooks k n ts old i o s.standing) (sym held)
 
-    now : (st : Standing) → Now (Some a) st ≡ Now s.arguments st
-    now st = ap (λ (o : Option (ArgumentSearch K)). Now o st) (sym held)
+    held_now : (st : Standing) → Now (Some a) st ≡ Now s.arguments st
+    held_now st = ap (λ (o : Option (ArgumentSearch K)). Now o st) (sym held)
 
     pub found_turn : (f : Vec (VarId × TermId) Global) → ComesTo (program_over p m.hooks) (λ L. condition_from (program_over p m.hooks) L (last_in old s.standing) (map fragment_of is.begun.definition.cond) (binding_in old is.bound)) (Some (binding_in new f.items)) →
         (x : Todo) × (body_with k new (Within f) (slice_get p.strategies i) ≡ Some x) ×
@@ -510,9 +510,9 @@ module _ {K : Type 0} (asked_of : K → Asked) (given : K → Option Listed.Solu
         let h = found_body asked_of given p m.hooks k n ts sound old new i is.begun.definition is.begun.at a is.bound is.found (bound_kept a s.standing is) (args_kept a s.standing is ts) s.standing within f comes in (
           h.0,
           h.1,
-          subst (λ (g : Engine → Answers Todo → Type 0). Throughout (engine_of (program_over p m.hooks)) g (λ L. Gives (g L) h.0 (Now s.arguments (Within f) L))) was
+          subst (λ (g : Engine → Answers Todo → Type 0). Throughout (engine_of (program_over p m.hooks)) g (λ L. Gives (g L) h.0 (Now s.arguments (Within f) L))) held_was
               (subst (λ (g : Engine → Answers Todo → Type 0). Throughout (engine_of (program_over p m.hooks)) (left_standing asked_of given p m.hooks k n ts old i (Some a) s.standing) (λ L.
-              Gives (left_standing asked_of given p m.hooks k n ts old i (Some a) s.standing L) h.0 (g L))) (now (Within f)) h.2),
+              Gives (left_standing asked_of given p m.hooks k n ts old i (Some a) s.standing L) h.0 (g L))) (held_now (Within f)) h.2),
         )
 
     pub none_turn : ComesTo (program_over p m.hooks) (λ L. condition_from (program_over p m.hooks) L (last_in old s.standing) (map fragment_of is.begun.definition.cond) (binding_in old is.bound)) None →
@@ -520,14 +520,14 @@ module _ {K : Type 0} (asked_of : K → Asked) (given : K → Option Listed.Solu
         Passes (left_standing asked_of given p m.hooks k n (trees_at old (numbers vs)) old i s.arguments s.standing L) (left_standing asked_of given p m.hooks k n (trees_at old (numbers vs)) new i s.arguments Behind L))
     none_turn comes =
         let h = no_body asked_of given p m.hooks k n ts sound old new i is.begun.definition is.begun.at a is.bound is.found (bound_kept a s.standing is) (args_kept a s.standing is ts) s.standing within comes in
-        subst (λ (g : Engine → Answers Todo → Type 0). Throughout (engine_of (program_over p m.hooks)) g (λ L. Passes (g L) (Now s.arguments Behind L))) was
+        subst (λ (g : Engine → Answers Todo → Type 0). Throughout (engine_of (program_over p m.hooks)) g (λ L. Passes (g L) (Now s.arguments Behind L))) held_was
         (subst (λ (g : Engine → Answers Todo → Type 0). Throughout (engine_of (program_over p m.hooks)) (left_standing asked_of given p m.hooks k n ts old i (Some a) s.standing) (λ L.
-        Passes (left_standing asked_of given p m.hooks k n ts old i (Some a) s.standing L) (g L))) (now Behind) h)
+        Passes (left_standing asked_of given p m.hooks k n ts old i (Some a) s.standing L) (g L))) (held_now Behind) h)
 
     pub due_turn : (b : ℕ) (e : EvalEnd) → QuestionEnds (program_over p m.hooks) b (question_from (last_in old s.standing) (map fragment_of is.begun.definition.cond) (binding_in old is.bound)) e →
         IsDueBy (program_over p m.hooks) b (left_standing asked_of given p m.hooks k n (trees_at old (numbers vs)) old i s.arguments s.standing) e
     due_turn b e ends =
-        subst (λ (g : Engine → Answers Todo → Type 0). IsDueBy (program_over p m.hooks) b g e) was
+        subst (λ (g : Engine → Answers Todo → Type 0). IsDueBy (program_over p m.hooks) b g e) held_was
         (body_due asked_of given p m.hooks k n ts sound old new i is.begun.definition is.begun.at a is.bound is.found (bound_kept a s.standing is) (args_kept a s.standing is ts) s.standing within b e ends)
 
   module _ (s : CallBodies K) (a : ArgumentSearch K) (held : s.arguments ≡ Some a) (is : IsAskedAt asked_of given is_for c p m goes lawful old before i vs a s.standing) (within : s.standing ≡ Behind → ⊥) where
@@ -555,6 +555,66 @@ module _ {K : Type 0} (asked_of : K → Asked) (given : K → Option Listed.Solu
 
     pub stands_behind : IsStanding asked_of given is_for c p m new after vs i s.arguments Behind
     stands_behind = then_standing Behind tt
+
+-- ---- one turn of the search for the solutions of the argument patterns
+
+module _ {K : Type 0} (asked_of : K → Asked) (given : K → Option Listed.Solution) (is_for : K → SignatureOf → Type 0) (c : Bool) (p : Typed.Program) (m : Meanings) (old new : List Node) (before after : Table) (i : ℕ) (vs : List TermId)
+    (s : CallBodies K) (a a' : ArgumentSearch K) (held : s.arguments ≡ Some a) (idle : s.standing ≡ Behind) (is : IsBegun asked_of given is_for c p m old before vs i a s.standing) where
+  abbrev E : Program
+  E = program_over p m.hooks
+
+  abbrev values : List Tree
+  values = trees_at old (numbers vs)
+
+  abbrev LeftIn : List Node → ArgumentSearch K → Engine → Answers Binding
+  LeftIn nodes b = left_of_arguments asked_of given p m.hooks nodes is.definition.args values b
+
+  module _ (k : ℕ) (n : List ℕ) where
+    abbrev Stand : List Node → ℕ → Option (ArgumentSearch K) → Standing → Engine → Answers Todo → Type 0
+    Stand nodes j o st = left_standing asked_of given p m.hooks k n values nodes j o st
+
+    stood : Stand old i (Some a) Behind ≡ Stand old i s.arguments s.standing
+    stood = λ j. Stand old i (sym held j) (sym idle j)
+
+    abbrev GoesTo : ℕ → Option (ArgumentSearch K) → Standing → Type 0
+    GoesTo j o st =
+        Throughout (engine_of (program_over p m.hooks)) (left_standing asked_of given p m.hooks k n (trees_at old (numbers vs)) old i s.arguments s.standing) (λ L.
+        Passes (left_standing asked_of given p m.hooks k n (trees_at old (numbers vs)) old i s.arguments s.standing L) (left_standing asked_of given p m.hooks k n (trees_at old (numbers vs)) new j o st L))
+
+    goes_from : (g : Engine → Answers Todo → Type 0) → Throughout (engine_of E) (Stand old i (Some a) Behind) (λ L. Passes (Stand old i (Some a) Behind L) (g L)) →
+        Throughout (engine_of E) (Stand old i s.arguments s.standing) (λ L. Passes (Stand old i s.arguments s.standing L) (g L))
+    goes_from g h = subst (λ (f : Engine → Answers Todo → Type 0). Throughout (engine_of E) f (λ L. Passes (f L) (g L))) stood h
+
+    pub matched_found : (b : ℕ) → IsTurn (program_over p m.hooks) b (just (LeftIn old a)) (just (LeftIn new a')) (option_map (binding_in new) (last_found a'.searches.items)) (Ok Found) → GoesTo i (Some a') Before
+    matched_found b (σ, found, h) = goes_from (Stand new i (Some a') Before) (match_found asked_of given p m.hooks k n values old new i is.definition is.at a a' σ found h)
+
+    pub matched_passed : (b : ℕ) → IsTurn (program_over p m.hooks) b (just (LeftIn old a)) (just (LeftIn new a')) (option_map (binding_in new) (last_found a'.searches.items)) (Ok Passed) → GoesTo i (Some a') s.standing
+    matched_passed b h =
+        subst (λ (st : Standing). GoesTo i (Some a') st) (sym idle) (goes_from (Stand new i (Some a') Behind) (match_passed asked_of given p m.hooks k n values old new i is.definition is.at a a' h))
+
+    pub matched_over : (b : ℕ) → IsTurn (program_over p m.hooks) b (just (LeftIn old a)) (just (LeftIn new a')) (option_map (binding_in new) (last_found a'.searches.items)) (Ok Over) → GoesTo (suc i) None s.standing
+    matched_over b h = goes_from (Stand new (suc i) None s.standing) (match_over asked_of given p m.hooks k n values old new i is.definition is.at a h)
+
+    pub matched_ends : (b : ℕ) (e : EvalEnd) → IsTurn (program_over p m.hooks) b (just (LeftIn old a)) (just (LeftIn new a')) (option_map (binding_in new) (last_found a'.searches.items)) (Err e) →
+        GoesTo i (Some a') s.standing × IsDueBy (program_over p m.hooks) b (left_standing asked_of given p m.hooks k n (trees_at old (numbers vs)) old i s.arguments s.standing) e
+    matched_ends b e (h, d) = (
+      matched_passed b h,
+      subst (λ (f : Engine → Answers Todo → Type 0). IsDueBy E b f e) stood (match_due asked_of given p m.hooks k n values old new i is.definition is.at a b e d),
+    )
+
+  pub standing_found : IsArgumentSearch asked_of given is_for c p m new after is.definition.args vs a' → length a'.searches.items ≡ length is.definition.args → (σ : Binding) → option_map (binding_in new) (last_found a'.searches.items) ≡ Some σ →
+      IsStanding asked_of given is_for c p m new after vs i (Some a') Before
+  standing_found known all σ found =
+      let f = got (last_found a'.searches.items) found in
+      record { definition = is.definition; at = is.at; fragments = is.fragments; arguments = known; stands = record { bound = f.0; at = f.1; all = all; shown = tt } }
+    where
+      got : (o : Option (List (VarId × TermId))) → option_map (binding_in new) o ≡ Some σ → (f : List (VarId × TermId)) × (o ≡ Some f)
+      got None e = cc
+      got (Some f) e = (f, refl)
+
+  pub standing_matched : IsArgumentSearch asked_of given is_for c p m new after is.definition.args vs a' → IsStanding asked_of given is_for c p m new after vs i (Some a') s.standing
+  standing_matched known =
+      record { definition = is.definition; at = is.at; fragments = is.fragments; arguments = known; stands = subst (StandsAt asked_of given is_for c p m new after is.definition a') (sym idle) tt }
 
 -- ---- the fragments of a lawful definition, no one of which rewrites
 

@@ -335,7 +335,7 @@ fn take_values<E: Evaluator, L: Lister + Drop>(
         Some(args) => args,
         None => unreachable!(),
     };
-    next_values(
+    match next_values(
         program,
         store,
         evaluator,
@@ -343,13 +343,53 @@ fn take_values<E: Evaluator, L: Lister + Drop>(
         &cursor.bound,
         &mut cursor.values,
         limit,
-    )?;
-    cursor.bodies = Some(CallBodies {
-        number: 0,
-        arguments: None,
-        standing: Standing::Behind,
-    });
-    Ok(())
+    ) {
+        Ok(()) => {
+            cursor.bodies = Some(CallBodies {
+                number: 0,
+                arguments: None,
+                standing: Standing::Behind,
+            });
+            Ok(())
+        }
+        Err(end) => Err(end),
+    }
+}
+
+/// The values of the arguments of a call, where they are not there yet.
+fn have_values<E: Evaluator, L: Lister + Drop>(
+    program: &Program,
+    leaves: &[Strategy],
+    store: &mut Store,
+    evaluator: &mut E,
+    cursor: &mut CallCursor<L>,
+    limit: u64,
+) -> Result<(), EvalEnd>
+    requires runnable { IsRunnable program.now }
+    requires goes_by { GoesBy program.now (E.meanings evaluator.old) }
+    requires fits { E.fits evaluator.old store.old }
+    requires limit { limit ≡ (E.meanings evaluator.old).limit }
+    requires yields { (d : Todo) × (t : Tree) × (ys : List Yield) × IsCallCursor L.asked L.given L.is_for L.with_context program.now
+        (E.meanings evaluator.old) leaves.now store.old (E.table evaluator.old) cursor.old d t ys }
+    ensures taken { (d : Todo) (t : Tree) (ys : List Yield) → IsCallCursor L.asked L.given L.is_for L.with_context program.now
+        (E.meanings evaluator.old) leaves.now store.old (E.table evaluator.old) cursor.old d t ys →
+        HasTaken L.asked L.given L.is_for L.with_context program.now (E.meanings evaluator.old) leaves.now
+        store.new (E.table evaluator.new) cursor.new d t ys result }
+    ensures due { cursor.new.due ≡ cursor.old.due }
+    ensures calls { cursor.new.calls ≡ cursor.old.calls }
+    ensures begun { OnOk result (IsSome cursor.new.bodies) }
+    ensures extends { Extends store.old store.new }
+    ensures fits { E.fits evaluator.new store.new }
+    ensures kept { KeepsEntries (E.table evaluator.old) (E.table evaluator.new) }
+    ensures meanings { E.meanings evaluator.new ≡ E.meanings evaluator.old }
+{
+    match &cursor.bodies {
+        Some(_) => {
+            let _ = store.len();
+            Ok(())
+        }
+        None => take_values(program, leaves, store, evaluator, cursor, limit),
+    }
 }
 
 /// The next body of a call whose arguments have their values: where there is one, it is due.
@@ -382,12 +422,13 @@ fn find_body<E: Evaluator, L: Lister + Drop>(
     ensures kept { KeepsEntries (E.table evaluator.old) (E.table evaluator.new) }
     ensures meanings { E.meanings evaluator.new ≡ E.meanings evaluator.old }
 {
-    let name = match name_of(leaves, cursor.leaf) {
-        Some(name) => name,
-        None => unreachable!(),
-    };
+    let leaf = cursor.leaf;
     let bodies = match &mut cursor.bodies {
         Some(bodies) => bodies,
+        None => unreachable!(),
+    };
+    let name = match name_of(leaves, leaf) {
+        Some(name) => name,
         None => unreachable!(),
     };
     match next_body(
@@ -441,11 +482,9 @@ fn next_of_call<E: Evaluator, L: Lister + Drop>(
     if cursor.due {
         return give_body(store.allocator(), cursor, calls);
     }
-    if cursor.bodies.is_none() {
-        match take_values(program, leaves, store, evaluator, cursor, limit) {
-            Ok(()) => (),
-            Err(end) => return Err(end_of(end)),
-        }
+    match have_values(program, leaves, store, evaluator, cursor, limit) {
+        Ok(()) => (),
+        Err(end) => return Err(end_of(end)),
     }
     match find_body(program, leaves, store, evaluator, cursor, limit) {
         Ok(true) => (),

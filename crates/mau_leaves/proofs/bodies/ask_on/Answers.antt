@@ -14,6 +14,7 @@ use Rattle.mau_cond.proofs.Grown.{bound_grown}
 use Rattle.mau_reduce.proofs.Numbered.{at_index}
 use Rattle.mau_leaves.specs.Answers.{IsNextShown}
 use Rattle.mau_leaves.specs.Searches.{found_in, last_in, variables_in}
+use Rattle.mau_leaves.specs.Arguments.{last_found}
 use Rattle.mau_leaves.specs.Calls.{IsShownFor}
 use Rattle.mau_leaves.proofs.Tables.{over_of}
 use Rattle.mau_leaves.proofs.Bound.{shown_as, solution_as, behind_references, then_of, if_some}
@@ -40,7 +41,7 @@ unreachable-requires-in-None-values_found g c =
     let search = c.requires.search in
     let a = c.in-Some.arguments in
     let k = asked_at g.L.Lister.asked g.L.Lister.given g.L.Lister.is_for g.L.Lister.with_context p m c.requires.goes_by c.requires.definitions old before s.number search.0 s.arguments s.standing c.requires.within search.1 a c.in-Some.is in
-    none_found_yet a.searches.items k.bound k.found (sym c.values_found.ensures ∙ ap (option_map (λ z. z.now)) c.in-None-values_found.is)
+    none_found_yet a.searches.items k.bound k.found (ap last_found (sym c.deref.ensures.value) ∙ (sym c.values_found.ensures ∙ ap (option_map (λ z. z.now)) c.in-None-values_found.is))
 
 pub bounds-definitions-number : goal.bounds-definitions-number
 bounds-definitions-number g c = 
@@ -83,7 +84,7 @@ ask-requires-clause-condition g c =
     let at = at_index p.strategies c.items-definitions.result.now s.number d c.items-definitions.ensures low c.index-definitions-number.is in
     let one : k.begun.definition ≡ d = one_definition g.L.Lister.asked g.L.Lister.given g.L.Lister.is_for g.L.Lister.with_context p m old before search.0 s.number a s.standing k.begun d at in
     let b = c.in-Some-values_found.bound.now in
-    let bound : k.bound ≡ b = same_found a.searches.items k.bound k.found b (sym c.values_found.ensures ∙ ap (option_map (λ z. z.now)) c.in-Some-values_found.is) in
+    let bound : k.bound ≡ b = same_found a.searches.items k.bound k.found b (ap last_found (sym c.deref.ensures.value) ∙ (sym c.values_found.ensures ∙ ap (option_map (λ z. z.now)) c.in-Some-values_found.is)) in
     subst (λ cs. IsAskable p.sig (variables_in b) cs) (sym c.items.ensures)
     (subst (λ (x : Written.StratDef). IsAskable p.sig (variables_in b) x.cond) one (subst (λ (f : List (VarId × TermId)). IsAskable p.sig (variables_in f) k.begun.definition.cond) bound k.askable))
 
@@ -102,7 +103,7 @@ ask-requires-clause-bound g c =
     let at = at_index p.strategies c.items-definitions.result.now s.number d c.items-definitions.ensures low c.index-definitions-number.is in
     let one : k.begun.definition ≡ d = one_definition g.L.Lister.asked g.L.Lister.given g.L.Lister.is_for g.L.Lister.with_context p m old before search.0 s.number a s.standing k.begun d at in
     let b = c.in-Some-values_found.bound.now in
-    let bound : k.bound ≡ b = same_found a.searches.items k.bound k.found b (sym c.values_found.ensures ∙ ap (option_map (λ z. z.now)) c.in-Some-values_found.is) in
+    let bound : k.bound ≡ b = same_found a.searches.items k.bound k.found b (ap last_found (sym c.deref.ensures.value) ∙ (sym c.values_found.ensures ∙ ap (option_map (λ z. z.now)) c.in-Some-values_found.is)) in
     subst (All (IsValueOf p.sig old before)) bound k.values
 
 pub ask-requires-clause-last : goal.ask-requires-clause-last
@@ -120,7 +121,7 @@ ask-requires-clause-last g c =
     let at = at_index p.strategies c.items-definitions.result.now s.number d c.items-definitions.ensures low c.index-definitions-number.is in
     let one : k.begun.definition ≡ d = one_definition g.L.Lister.asked g.L.Lister.given g.L.Lister.is_for g.L.Lister.with_context p m old before search.0 s.number a s.standing k.begun d at in
     let b = c.in-Some-values_found.bound.now in
-    let bound : k.bound ≡ b = same_found a.searches.items k.bound k.found b (sym c.values_found.ensures ∙ ap (option_map (λ z. z.now)) c.in-Some-values_found.is) in
+    let bound : k.bound ≡ b = same_found a.searches.items k.bound k.found b (ap last_found (sym c.deref.ensures.value) ∙ (sym c.values_found.ensures ∙ ap (option_map (λ z. z.now)) c.in-Some-values_found.is)) in
     let shown = subst (λ (x : Written.StratDef). IfSome (found_in s.standing) (IsShownFor m p.sig x b old before)) one
     (subst (λ (f : List (VarId × TermId)). IfSome (found_in s.standing) (IsShownFor m p.sig k.begun.definition f old before)) bound k.shown) in
     behind_references (All (IsValueOf p.sig old before)) c.last_of-last.result (found_in s.standing) c.last_of-last.ensures
@@ -141,7 +142,7 @@ ask-requires-clause-solution g c =
     let at = at_index p.strategies c.items-definitions.result.now s.number d c.items-definitions.ensures low c.index-definitions-number.is in
     let one : k.begun.definition ≡ d = one_definition g.L.Lister.asked g.L.Lister.given g.L.Lister.is_for g.L.Lister.with_context p m old before search.0 s.number a s.standing k.begun d at in
     let b = c.in-Some-values_found.bound.now in
-    let bound : k.bound ≡ b = same_found a.searches.items k.bound k.found b (sym c.values_found.ensures ∙ ap (option_map (λ z. z.now)) c.in-Some-values_found.is) in
+    let bound : k.bound ≡ b = same_found a.searches.items k.bound k.found b (ap last_found (sym c.deref.ensures.value) ∙ (sym c.values_found.ensures ∙ ap (option_map (λ z. z.now)) c.in-Some-values_found.is)) in
     let shown = subst (λ (x : Written.StratDef). IfSome (found_in s.standing) (IsShownFor m p.sig x b old before)) one
     (subst (λ (f : List (VarId × TermId)). IfSome (found_in s.standing) (IsShownFor m p.sig k.begun.definition f old before)) bound k.shown) in
     behind_references (λ (f : List (VarId × TermId)). IsSolutionOf m (map fragment_of c.items.result.now) (binding_in old b) (binding_in old f)) c.last_of-last.result (found_in s.standing) c.last_of-last.ensures
@@ -163,7 +164,7 @@ returns-in-Ok-Some-clause-turn g c = λ k' n vs is.
     let at = at_index p.strategies c.items-definitions.result.now s.number d c.items-definitions.ensures low c.index-definitions-number.is in
     let one : k.begun.definition ≡ d = one_definition g.L.Lister.asked g.L.Lister.given g.L.Lister.is_for g.L.Lister.with_context p m old before vs s.number a s.standing k.begun d at in
     let b = c.in-Some-values_found.bound.now in
-    let bound : k.bound ≡ b = same_found a.searches.items k.bound k.found b (sym c.values_found.ensures ∙ ap (option_map (λ z. z.now)) c.in-Some-values_found.is) in
+    let bound : k.bound ≡ b = same_found a.searches.items k.bound k.found b (ap last_found (sym c.deref.ensures.value) ∙ (sym c.values_found.ensures ∙ ap (option_map (λ z. z.now)) c.in-Some-values_found.is)) in
     let new = c.ask.new.store in
     let after = g.E.Evaluator.table c.ask.new.evaluator in
     let over = over_of p m (g.E.Evaluator.meanings c.ask.new.evaluator) c.ask.ensures.meanings c.requires.goes_by.program new after (g.met.E.Evaluator.derived c.ask.new.evaluator new c.ask.ensures.fits) in
@@ -188,7 +189,7 @@ returns-in-Ok-Some-clause-search g c = λ vs is.
     let at = at_index p.strategies c.items-definitions.result.now s.number d c.items-definitions.ensures low c.index-definitions-number.is in
     let one : k.begun.definition ≡ d = one_definition g.L.Lister.asked g.L.Lister.given g.L.Lister.is_for g.L.Lister.with_context p m old before vs s.number a s.standing k.begun d at in
     let b = c.in-Some-values_found.bound.now in
-    let bound : k.bound ≡ b = same_found a.searches.items k.bound k.found b (sym c.values_found.ensures ∙ ap (option_map (λ z. z.now)) c.in-Some-values_found.is) in
+    let bound : k.bound ≡ b = same_found a.searches.items k.bound k.found b (ap last_found (sym c.deref.ensures.value) ∙ (sym c.values_found.ensures ∙ ap (option_map (λ z. z.now)) c.in-Some-values_found.is)) in
     let new = c.ask.new.store in
     let after = g.E.Evaluator.table c.ask.new.evaluator in
     let over = over_of p m (g.E.Evaluator.meanings c.ask.new.evaluator) c.ask.ensures.meanings c.requires.goes_by.program new after (g.met.E.Evaluator.derived c.ask.new.evaluator new c.ask.ensures.fits) in
@@ -213,7 +214,7 @@ returns-in-Ok-None-clause-turn g c = λ k' n vs is.
     let at = at_index p.strategies c.items-definitions.result.now s.number d c.items-definitions.ensures low c.index-definitions-number.is in
     let one : k.begun.definition ≡ d = one_definition g.L.Lister.asked g.L.Lister.given g.L.Lister.is_for g.L.Lister.with_context p m old before vs s.number a s.standing k.begun d at in
     let b = c.in-Some-values_found.bound.now in
-    let bound : k.bound ≡ b = same_found a.searches.items k.bound k.found b (sym c.values_found.ensures ∙ ap (option_map (λ z. z.now)) c.in-Some-values_found.is) in
+    let bound : k.bound ≡ b = same_found a.searches.items k.bound k.found b (ap last_found (sym c.deref.ensures.value) ∙ (sym c.values_found.ensures ∙ ap (option_map (λ z. z.now)) c.in-Some-values_found.is)) in
     let new = c.ask.new.store in
     let after = g.E.Evaluator.table c.ask.new.evaluator in
     let over = over_of p m (g.E.Evaluator.meanings c.ask.new.evaluator) c.ask.ensures.meanings c.requires.goes_by.program new after (g.met.E.Evaluator.derived c.ask.new.evaluator new c.ask.ensures.fits) in
@@ -253,7 +254,7 @@ returns-in-Err-clause-turn g c = λ k' n vs is.
     let at = at_index p.strategies c.items-definitions.result.now s.number d c.items-definitions.ensures low c.index-definitions-number.is in
     let one : k.begun.definition ≡ d = one_definition g.L.Lister.asked g.L.Lister.given g.L.Lister.is_for g.L.Lister.with_context p m old before vs s.number a s.standing k.begun d at in
     let b = c.in-Some-values_found.bound.now in
-    let bound : k.bound ≡ b = same_found a.searches.items k.bound k.found b (sym c.values_found.ensures ∙ ap (option_map (λ z. z.now)) c.in-Some-values_found.is) in
+    let bound : k.bound ≡ b = same_found a.searches.items k.bound k.found b (ap last_found (sym c.deref.ensures.value) ∙ (sym c.values_found.ensures ∙ ap (option_map (λ z. z.now)) c.in-Some-values_found.is)) in
     let new = c.ask.new.store in
     let after = g.E.Evaluator.table c.ask.new.evaluator in
     let over = over_of p m (g.E.Evaluator.meanings c.ask.new.evaluator) c.ask.ensures.meanings c.requires.goes_by.program new after (g.met.E.Evaluator.derived c.ask.new.evaluator new c.ask.ensures.fits) in

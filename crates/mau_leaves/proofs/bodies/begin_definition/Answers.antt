@@ -53,7 +53,7 @@ returns-clause-turn g c = λ b k hooks nodes vs.
     let d = c.index-definitions-number.result in
     let low : n < length p.strategies = subst (λ (ds : List Written.StratDef). n < length ds) c.items-definitions.ensures c.if-number-definitions.false in
     let at = at_index p.strategies c.items-definitions.result.now n d c.items-definitions.ensures low c.index-definitions-number.is in
-    let a = record { searches = c.new.result; due = true } in
+    let a : ArgumentSearch g.row.L.Denot = record { searches = c.new.result; due = true } in
     begun_standing g.L.Lister.asked g.L.Lister.given p hooks k name vs nodes n d at (sym c.is_named.ensures ∙ c.if-not-is_named.false) a c.new.ensures.items refl s.arguments c.requires.idle.0 s.standing c.requires.idle.1
 
 pub returns-clause-search : goal.returns-clause-search
@@ -67,6 +67,6 @@ returns-clause-search g c = λ m nodes table vs.
     let at = at_index p.strategies c.items-definitions.result.now n d c.items-definitions.ensures low c.index-definitions-number.is in
     let plain : has_reach (map fragment_of d.cond) ≡ false = sym (ap (λ cs. has_reach (map fragment_of cs)) c.items.ensures) ∙ (sym c.has_reach.ensures ∙ c.if-has_reach.false) in
     let lawful = all_in (IsLawfulDefinition p.sig) p.strategies d c.requires.definitions (is_among p.strategies n d at) in
-    let a = record { searches = c.new.result; due = true } in
+    let a : ArgumentSearch g.row.L.Denot = record { searches = c.new.result; due = true } in
     idle_standing g.L.Lister.asked g.L.Lister.given g.L.Lister.is_for g.L.Lister.with_context p m nodes table vs n d at (fragments_of p.sig d.cond lawful.condition plain) a c.new.ensures.items s.standing c.requires.idle.1
 

@@ -18,3 +18,8 @@ returns-then-is_begun-clause-turn g c = λ k. c.ask_on.ensures.turn k c.args.nam
 pub returns-then-is_begun-clause-search : goal.returns-then-is_begun-clause-search
 returns-then-is_begun-clause-search g c = c.ask_on.ensures.search c.args.values.now c.requires.search
 
+pub returns-in-Some-clause-turn : goal.returns-in-Some-clause-turn
+returns-in-Some-clause-turn g c = λ k. c.match_on.ensures.turn k c.args.name.now
+
+pub returns-in-None-clause-turn : goal.returns-in-None-clause-turn
+returns-in-None-clause-turn g c = λ k. c.begin_definition.ensures.turn c.args.limit k (g.E.Evaluator.meanings c.args.evaluator.now).hooks c.args.store.now (trees_at c.args.store.now (numbers c.args.values.now))
