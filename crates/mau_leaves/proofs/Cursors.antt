@@ -163,7 +163,7 @@ module _ {K : Type 0} (asked : K → Asked) (given : K → Option Listed.Solutio
     test_yields s form test (Ok (Some id)) itself n = (
       record { results = us ++ tree_at nodes id.0 ∷ []; yielded = more_yielded (tree_at nodes id.0); form = form; test = test; rest = n.0 },
       subst (YieldsFirst f d t) (sym (more_yielded (tree_at nodes id.0))) ((leaves_yield f d t (us ++ tree_at nodes id.0 ∷ [])).0 n.1),
-      subst (λ (i : TermId). IsTerm p.sig nodes i.0 × AreSettled p.sig nodes table (tree_at nodes i.0)) (sym itself) (test.term, test.settled),
+      subst (λ (i : TermId). IsTerm p.sig nodes i.0 × AreSettled p.sig nodes table (tree_at nodes i.0)) (sym itself) (test.subject.term, test.subject.settled),
     )
     test_yields s form test (Ok None) itself n = subst (YieldsAll f d t) (sym yielded) ((leaves_yield f d t us).1 n)
     test_yields s form test (Err e) itself n = (record { results = us; yielded = yielded; form = form; test = test; rest = n.0 }, cause e n.1)

@@ -1,13 +1,13 @@
 -- Tests: their results by the uses of a rule, and the search for these.
-use Rattle.std.proofs.Common.{◌≡◌, ◌⊎◌, inl, ℕ, List, [], ◌∷◌, map, Vec, Global, Bool, true, false, Option, Some, None, Ok, Err, refl, sym, ap, ◌∙◌, subst, append-nil}
+use Rattle.std.proofs.Common.{◌≡◌, ◌⊎◌, inl, ℕ, List, [], ◌∷◌, map, Bool, true, false, Option, Some, None, Ok, Err, refl, sym, ap, ◌∙◌, subst, append-nil}
 use Rattle.mau_terms.specs.Tree.{Tree}
 use Rattle.mau_terms.specs.Bare.{IsBareIn, IsLawful}
-use Rattle.mau_terms.specs.Subst.{variables}
+use Rattle.mau_terms.specs.Subst.{Variable, variables, add_variables}
+use Rattle.mau_terms.specs.Finite.{each_of}
 use Rattle.mau_terms.specs.declared.ids.TermId.{TermId}
 use Rattle.mau_terms.specs.declared.ids.VarId.{VarId}
 use Rattle.mau_terms.proofs.Variables.{distinct}
-use Rattle.mau_signature.specs.Signature.{SignatureOf, theory_at, terms_over}
-use Rattle.mau_formula.specs.Operator.{Operator}
+use Rattle.mau_signature.specs.Signature.{SignatureOf, terms_over}
 use Rattle.mau_store.specs.Node.{Node, Extends}
 use Rattle.mau_store.specs.Trees.{tree_at}
 use Rattle.mau_sorts.specs.Table.{Table, KeepsEntries, AreOver}
@@ -20,7 +20,7 @@ use Rattle.mau_program.specs.declared.strategies.TestKind as WrittenKind
 use Rattle.mau_program.specs.declared.strategies.TestKind.TheVariants as Kind
 use Rattle.mau_evaluation.specs.Run.{End, Outcome, done, ended}
 use Rattle.mau_evaluation.specs.Program.{Rule, Program}
-use Rattle.mau_evaluation.specs.Listing.{Solution, keep, makes_bare, fitting, within_under, compare, solutions, solutions_within}
+use Rattle.mau_evaluation.specs.Listing.{Solution, solutions_within}
 use Rattle.mau_evaluation.specs.Evaluation.{Binding, agree, have_sorts}
 use Rattle.mau_evaluation.specs.Engine.{Engine, engine_of}
 use Rattle.mau_evaluation.specs.Strategy.{test}
@@ -35,47 +35,47 @@ use Rattle.mau_api.specs.Meanings.{Meanings}
 use Rattle.mau_api.specs.Answers.{binding_in, IsAskable, levels_of_condition}
 use Rattle.mau_api.specs.declared.results.EvalEnd.{EvalEnd}
 use Rattle.mau_api.specs.declared.results.EvalEnd.TheVariants as Ended
-use Rattle.mau_reduce.proofs.KindsKept.{tree_kept}
 use Rattle.mau_stratforms.specs.Meanings.{kind_of}
 use Rattle.mau_leaves.specs.Steps.{Gives, IsOver, Passes, EndsNow, Throughout}
-use Rattle.mau_leaves.specs.Uses.{Use, behind, use_by, uses_among, uses_by, IsLeft}
+use Rattle.mau_leaves.specs.Uses.{Use, solutions_as, use_by, uses_among}
 use Rattle.mau_leaves.specs.Answers.{IsDueBy}
-use Rattle.mau_leaves.specs.Searches.{stand_of, left_in, variables_in, IsUsable, IsSearch, IsNextOne}
+use Rattle.mau_leaves.specs.Searches.{IsUsable, IsNextOne}
+use Rattle.mau_leaves.specs.Subterms.{subterms_from, terms_after, uses_in, left_of_spot, left_of_subterms, IsSubtermSearch}
 use Rattle.mau_leaves.specs.Follows.{HasGiven}
-use Rattle.mau_leaves.specs.Tests.{first_only, WithinIsWhole, MayAsk, IsTestOf, left_over, left_of_test, IsTest, IsBegunTest}
-use Rattle.mau_leaves.specs.declared.uses.RuleUses.{RuleUses}
+use Rattle.mau_leaves.specs.Tests.{first_only, looks_below, looks_whole, MayAsk, IsTestOf, left_over, left_of_test, IsTest, IsBegunTest}
+use Rattle.mau_leaves.specs.declared.subterms.SubtermUses.{SubtermUses}
 use Rattle.mau_leaves.specs.declared.testing.TestCursor.{TestCursor}
 use Rattle.mau_leaves.proofs.Engines.{AsksRightly, without_right}
-use Rattle.mau_leaves.proofs.Behind.{all_of_them}
-use Rattle.mau_leaves.proofs.Searching.{term_grown, settled_later, search_grown, left_same}
+use Rattle.mau_leaves.proofs.Subtrees.{itself_first, at_places, among_each, subject_grown, subject_same}
+use Rattle.mau_leaves.proofs.SubtermTurns.{subterms_grown, left_subterms_same}
 use Rattle.mau_leaves.proofs.Steps.{always_so, through_as, through_always, due_as}
 use Rattle.mau_leaves.proofs.Throughs.{rightly}
 use Rattle.mau_leaves.proofs.Follows.{begins}
 
 -- ---- the first use, with one engine
 
-module _ (P : Program) (L : Engine) (right : AsksRightly P L) (q : Rule) (t : Tree) where
+module _ (P : Program) (L : Engine) (right : AsksRightly P L) (q : Rule) (σ : Binding) (t : Tree) where
   abbrev Rest : List Solution → Answers Use
-  Rest xs = uses_among P L q [] xs
+  Rest xs = uses_among P L q σ xs
 
   -- a condition that is asked
   asked_first : (x : Solution) (p : Answers Tree) (r : Answers Use) → p ≡ first_only t r → (o : Outcome (Option Binding)) (s : Answers Binding) → FirstBy o s →
-      from_outcome (holding t p) o ≡ first_only t (and_those (for_each (use_by q x) (asked_from P L q.cond (bound_by P L q [] x) o s)) r)
+      from_outcome (holding t p) o ≡ first_only t (and_those (for_each (use_by q x) (asked_from P L q.cond (bound_by P L q σ x) o s)) r)
   asked_first x p r e (ended f) s h = refl
-  asked_first x p r e (done None c l) s h = e ∙ sym (ap (λ z. first_only t (and_those (for_each (use_by q x) (asked_from P L q.cond (bound_by P L q [] x) (done None c l) z)) r)) h)
-  asked_first x p r e (done (Some σ) c l) s h = sym (ap (λ z. first_only t (and_those (for_each (use_by q x) (asked_from P L q.cond (bound_by P L q [] x) (done (Some σ) c l) z)) r)) h.1)
+  asked_first x p r e (done None c l) s h = e ∙ sym (ap (λ z. first_only t (and_those (for_each (use_by q x) (asked_from P L q.cond (bound_by P L q σ x) (done None c l) z)) r)) h)
+  asked_first x p r e (done (Some τ) c l) s h = sym (ap (λ z. first_only t (and_those (for_each (use_by q x) (asked_from P L q.cond (bound_by P L q σ x) (done (Some τ) c l) z)) r)) h.1)
 
   abbrev asks_of : Solution → Answers Tree → Answers Tree
-  asks_of x p = from_outcome (holding t p) (L.ask q.cond (bound_by P L q [] x) L.budget)
+  asks_of x p = from_outcome (holding t p) (L.ask q.cond (bound_by P L q σ x) L.budget)
 
   abbrev uses_of : Solution → Answers Use
-  uses_of x = for_each (use_by q x) (asked_from P L q.cond (bound_by P L q [] x) (L.ask q.cond (bound_by P L q [] x) L.budget) (shown P L q.cond (bound_by P L q [] x)))
+  uses_of x = for_each (use_by q x) (asked_from P L q.cond (bound_by P L q σ x) (L.ask q.cond (bound_by P L q σ x) L.budget) (shown P L q.cond (bound_by P L q σ x)))
 
   sorted_first : (x : Solution) (p : Answers Tree) (r : Answers Use) → p ≡ first_only t r → (o : Outcome Bool) →
       from_outcome (λ ok. or_next ok p (asks_of x p)) o ≡ first_only t (and_those (from_outcome (λ ok. when ok (uses_of x)) o) r)
   sorted_first x p r e (ended f) = refl
   sorted_first x p r e (done true c l) =
-      asked_first x p r e (L.ask q.cond (bound_by P L q [] x) L.budget) (shown P L q.cond (bound_by P L q [] x)) (right.first q.cond (bound_by P L q [] x))
+      asked_first x p r e (L.ask q.cond (bound_by P L q σ x) L.budget) (shown P L q.cond (bound_by P L q σ x)) (right.first q.cond (bound_by P L q σ x))
   sorted_first x p r e (done false c l) = e
 
   agreed_first : (x : Solution) (p : Answers Tree) (r : Answers Use) → p ≡ first_only t r → (b : Bool) →
@@ -84,22 +84,17 @@ module _ (P : Program) (L : Engine) (right : AsksRightly P L) (q : Rule) (t : Tr
   agreed_first x p r e true = sorted_first x p r e (have_sorts L.level.sorts (variables q.left) x.values L.budget)
   agreed_first x p r e false = e
 
-  pub holds_first : (xs : List Solution) → first_holding P L q.left q.cond [] t xs ≡ first_only t (uses_among P L q [] xs)
+  pub holds_first : (xs : List Solution) → first_holding P L q.left q.cond σ t xs ≡ first_only t (uses_among P L q σ xs)
   holds_first [] = refl
-  holds_first (x ∷ xs) = agreed_first x (first_holding P L q.left q.cond [] t xs) (Rest xs) (holds_first xs) (agree P.sign.theory [] (variables q.left) x.values)
+  holds_first (x ∷ xs) = agreed_first x (first_holding P L q.left q.cond σ t xs) (Rest xs) (holds_first xs) (agree P.sign.theory σ (variables q.left) x.values)
 
 -- ---- which solutions a test looks at
 
-module _ (p : Typed.Program) (hooks : List Operator) (pattern t : Tree) where
-  abbrev P : Program
-  P = program_over p hooks
-
-  pub whole_candidates : (k : WrittenKind.TestKind) → WithinIsWhole p.sig k pattern → candidates_for (program_over p hooks) (kind_of k) pattern t ≡ solutions_within (program_over p hooks).sign pattern t
-  whole_candidates Kind.Xmatch h = append-nil (solutions_within P.sign pattern t)
-  whole_candidates Kind.Match h =
-      append-nil (solutions P.sign pattern t)
-      ∙ sym (ap (λ (o : Option ℕ). keep (makes_bare P.sign pattern) (elim o [ Some f ↦ within_under P.sign.theory f pattern t | None ↦ fitting P.sign.theory pattern t ])) h)
-  whole_candidates Kind.Amatch h = absurd h
+module _ (P : Program) (nodes : List Node) (q : Rule) (t : Tree) where
+  pub candidates_are : (k : WrittenKind.TestKind) → candidates_for P (kind_of k) q.left t ≡ each_of (solutions_as P (looks_whole k) q) (t ∷ terms_after (looks_below k) nodes [] t 0)
+  candidates_are Kind.Match = refl
+  candidates_are Kind.Xmatch = refl
+  candidates_are Kind.Amatch = at_places (solutions_within P.sign q.left) (λ v. v) t ∙ ap (each_of (solutions_within P.sign q.left)) (itself_first t ∙ ap (λ ts. t ∷ ts) (sym (append-nil (subterms_from t 0))))
 
 -- ---- throughout
 
@@ -115,8 +110,8 @@ module _ (P : Program) (lawful : IsLawful P.sign) {A : Type 0} (a : Engine → A
 
 -- ---- the beginning
 
-module _ {K : Type 0} (asked : K → Asked) (given : K → Option Listed.Solution) (is_for : K → SignatureOf → Type 0) (c : Bool) (p : Typed.Program) (m : Meanings) (nodes : List Node) (table : Table)
-    (kind : WrittenKind.TestKind) (pattern : Tree) (cond : List WrittenFragment.Fragment) (term : TermId) (s : TestCursor K) (h : IsBegunTest asked given is_for c p m nodes table kind pattern cond term s) where
+module _ {K : Type 0} (asked : K → Asked) (given : K → Option Listed.Solution) (is_for : K → SignatureOf → Type 0) (c : Bool) (p : Typed.Program) (m : Meanings) (nodes : List Node) (table : Table) (bound : List (VarId × TermId))
+    (kind : WrittenKind.TestKind) (pattern : Tree) (cond : List WrittenFragment.Fragment) (term : TermId) (s : TestCursor K) (h : IsBegunTest asked given is_for c p m nodes table bound kind pattern cond term s) where
   abbrev Q : Program
   Q = program_over p m.hooks
 
@@ -126,40 +121,47 @@ module _ {K : Type 0} (asked : K → Asked) (given : K → Option Listed.Solutio
   abbrev rule : Rule
   rule = rule_of s.rule
 
+  abbrev σ : Binding
+  σ = binding_in nodes bound
+
+  abbrev terms : List Tree
+  terms = u ∷ terms_after (looks_below kind) nodes [] u 0
+
   abbrev Start : Engine → Answers Tree → Type 0
-  Start L z = (r : Answers Use) × IsLeft Q L false rule [] u (behind None) r × (z ≡ first_only u r)
+  Start L z = (r : Answers Use) × (r ≡ uses_in Q L (looks_whole kind) rule σ terms) × (z ≡ first_only u r)
 
   start_is : Start ≡ left_of_test asked given p m.hooks nodes s
   start_is =
-      (λ i L z. (r : Answers Use) × IsLeft Q L (sym h.unbound.1 i) rule (binding_in nodes (sym h.unbound.0 i)) (tree_at nodes (sym h.asked_of i).0) (stand_of nodes (sym h.begun.0 i) s.uses.standing) r × (z ≡ first_only (tree_at nodes (sym h.subject i).0) r))
+      (λ i L z. (r : Answers Use) × left_of_spot asked given p m.hooks s.rule (sym h.looks.1 i) (sym h.looks.0 i) nodes (sym h.looks.2 i) (sym h.begun.0 i) (sym h.begun.1 i) L r × (z ≡ first_only (tree_at nodes (sym h.subject i).0) r))
       ∙ ap (λ b. left_over asked given b p m.hooks nodes s) (sym h.begun.2)
 
-  test_results : (L : Engine) → AsksRightly Q L → (d : Todo) → d.form ≡ test (kind_of kind) pattern (map fragment_of cond) → d.values ≡ [] → results Q L d u ≡ first_only u (uses_by Q L false rule [] u)
+  test_results : (L : Engine) → AsksRightly Q L → (d : Todo) → d.form ≡ test (kind_of kind) pattern (map fragment_of cond) → d.values ≡ binding_in nodes bound → results Q L d u ≡ first_only u (uses_in Q L (looks_whole kind) rule σ terms)
   test_results L right d form values =
-      ap (λ σ. results_of Q L σ d.form u) values
-      ∙ (ap (λ e. results_of Q L [] e u) form
-      ∙ (ap (first_holding Q L pattern (map fragment_of cond) [] u) (whole_candidates p m.hooks pattern u kind h.within)
-      ∙ (ap (λ l. first_holding Q L l (map fragment_of cond) [] u (solutions_within Q.sign l u)) (sym h.rule.left)
-      ∙ (ap (λ cs. first_holding Q L rule.left (map fragment_of cs) [] u (solutions_within Q.sign rule.left u)) (sym h.rule.condition) ∙ holds_first Q L right rule u (solutions_within Q.sign rule.left u)))))
+      ap (λ τ. results_of Q L τ d.form u) values
+      ∙ (ap (λ e. results_of Q L σ e u) form
+      ∙ (ap (λ l. first_holding Q L l (map fragment_of cond) σ u (candidates_for Q (kind_of kind) l u)) (sym h.rule.left)
+      ∙ (ap (λ cs. first_holding Q L rule.left (map fragment_of cs) σ u (candidates_for Q (kind_of kind) rule.left u)) (sym h.rule.condition)
+      ∙ (ap (first_holding Q L rule.left rule.cond σ u) (candidates_are Q nodes rule u kind)
+      ∙ (holds_first Q L right rule σ u (each_of (solutions_as Q (looks_whole kind) rule) terms) ∙ ap (first_only u) (among_each Q L (looks_whole kind) rule σ terms))))))
 
-  pub begins_test : IsLawful (program_over p m.hooks).sign → (d : Todo) → d.form ≡ test (kind_of kind) pattern (map fragment_of cond) → d.values ≡ [] →
+  pub begins_test : IsLawful (program_over p m.hooks).sign → (d : Todo) → d.form ≡ test (kind_of kind) pattern (map fragment_of cond) → d.values ≡ binding_in nodes bound →
       HasGiven (program_over p m.hooks) (engine_of (program_over p m.hooks)) d (tree_at nodes term.0) [] (left_of_test asked given p m.hooks nodes s)
   begins_test lawful d form values =
       begins (engine_of Q) (λ L. results Q L d u) (left_of_test asked given p m.hooks nodes s)
       (subst (λ (f : Engine → Answers Tree → Type 0). Throughout (engine_of Q) (λ L z. z ≡ results Q L d u) (λ L. Passes (λ z. z ≡ results Q L d u) (f L))) start_is
       (through_right Q lawful (λ L z. z ≡ results Q L d u) {H = λ L. Passes (λ z. z ≡ results Q L d u) (Start L)}
-      (λ L right z e. (uses_by Q L false rule [] u, sym (ap (uses_among Q L rule []) (all_of_them (compare Q.sign.theory rule.left) (solutions_within Q.sign rule.left u))), e ∙ test_results L right d form values))))
+      (λ L right z e. (uses_in Q L (looks_whole kind) rule σ terms, refl, e ∙ test_results L right d form values))))
 
 -- its rule can be used
-pub test_usable : (s : SignatureOf) (pattern : Tree) (cond : List WrittenFragment.Fragment) → MayAsk s pattern cond → (q : Written.Rule) → IsTestOf pattern cond q → IsUsable s [] q
-test_usable s pattern cond may q is =
+pub test_usable : (s : SignatureOf) (xs : List Variable) (pattern : Tree) (cond : List WrittenFragment.Fragment) → MayAsk s xs pattern cond → (q : Written.Rule) → IsTestOf pattern cond q → IsUsable s xs q
+test_usable s xs pattern cond may q is =
     let bare = may.pattern in
     record {
       sides = record { kind = bare.0; first = subst (λ t. IsBareIn (terms_over s) t bare.0) (sym is.left) bare.1; second = subst (λ t. IsBareIn (terms_over s) t bare.0) (sym is.right) bare.1 };
       condition =
-          subst (λ t. IsAskable s (variables t) q.cond) (sym is.left)
-          (subst (λ (cs : List WrittenFragment.Fragment). IsAskable s (variables pattern) cs) (sym is.condition) (record { fragments = may.fragments; bound = may.bound; apart = distinct pattern [] tt }));
-      apart = tt;
+          subst (λ t. IsAskable s (add_variables xs t) q.cond) (sym is.left)
+          (subst (λ (cs : List WrittenFragment.Fragment). IsAskable s (add_variables xs pattern) cs) (sym is.condition) (record { fragments = may.fragments; bound = may.bound; apart = distinct pattern xs may.apart }));
+      apart = may.apart;
     }
 
 -- ---- steps
@@ -169,30 +171,17 @@ module _ {K : Type 0} (asked : K → Asked) (given : K → Option Listed.Solutio
   abbrev R : Program
   R = program_over p m.hooks
 
-  abbrev uses_left : List Node → RuleUses K → Engine → Answers Use → Type 0
-  uses_left nodes w = left_in p m.hooks s.rule w.whole w.bound.items nodes (asked w.listing) (given w.listing) w.standing
+  abbrev uses_left : List Node → SubtermUses K → Engine → Answers Use → Type 0
+  uses_left nodes w = left_of_subterms asked given p m.hooks s.rule nodes w
 
   same : tree_at new s.term.0 ≡ tree_at old s.term.0
-  same = tree_kept (theory_at p.sig) old new s.term.0 extends is.term.within
+  same = subject_same p old new before after extends kept s.term.0 is.subject
 
-  pub test_then : (w : RuleUses K) (b : Bool) → w.bound ≡ s.uses.bound → IsSearch c p m s.rule w.bound.items new after (asked w.listing) (given w.listing) w.standing → is_for w.listing p.sig →
-      IsTest asked given is_for c p m new after (record { term = s.term; rule = s.rule; uses = w; over = b })
-  test_then w b bound search signature = record {
-    term = term_grown p old new before after extends kept s.term.0 is.term;
-    settled = settled_later p old new before after extends kept s.term.0 is.term is.settled;
-    usable = subst (λ (v : Vec (VarId × TermId) Global). IsUsable p.sig (variables_in v.items) s.rule) (sym bound) is.usable;
-    search = search;
-    signature = signature;
-  }
+  pub test_then : (w : SubtermUses K) (b : Bool) → IsSubtermSearch asked given is_for c p m s.rule new after w → IsTest asked given is_for c p m new after (record { term = s.term; rule = s.rule; uses = w; over = b })
+  test_then w b search = record { subject = subject_grown p old new before after extends kept s.term.0 is.subject; search = search }
 
   pub test_grown : IsTest asked given is_for c p m new after s
-  test_grown = record {
-    term = term_grown p old new before after extends kept s.term.0 is.term;
-    settled = settled_later p old new before after extends kept s.term.0 is.term is.settled;
-    usable = is.usable;
-    search = search_grown p old new before after extends kept m s.rule s.uses.bound.items c (asked s.uses.listing) (given s.uses.listing) s.uses.standing over is.search;
-    signature = is.signature;
-  }
+  test_grown = record { subject = subject_grown p old new before after extends kept s.term.0 is.subject; search = subterms_grown asked given is_for c p m s.rule old new before after extends kept over s.uses is.search }
 
   pub still_test : Throughout (engine_of (program_over p m.hooks)) (left_of_test asked given p m.hooks old s) (λ L. Passes (left_of_test asked given p m.hooks old s L) (left_of_test asked given p m.hooks new s L))
   still_test =
@@ -202,7 +191,7 @@ module _ {K : Type 0} (asked : K → Asked) (given : K → Option Listed.Solutio
       by : (b : Bool) → left_over asked given b p m.hooks old s ≡ left_over asked given b p m.hooks new s
       by true = refl
       by false =
-          let left = left_same p old new before after extends kept m s.rule s.uses.bound.items c (asked s.uses.listing) s.uses.whole (given s.uses.listing) s.uses.standing is.search in
+          let left = left_subterms_same asked given is_for c p m s.rule old new before after extends kept over s.uses is.search in
           λ i L q. (r : Answers Use) × sym left i L r × (q ≡ first_only (sym same i) r)
 
   -- nothing is left where the search is over
@@ -211,7 +200,7 @@ module _ {K : Type 0} (asked : K → Asked) (given : K → Option Listed.Solutio
       subst (λ (f : Engine → Answers Tree → Type 0). Throughout (engine_of R) f (λ L. IsOver (f L))) (ap (λ b. left_over asked given b p m.hooks old s) (sym e))
       (through_always (engine_of R) (λ L q. q ≡ no_more) {H = λ L. IsOver (λ q. q ≡ no_more)} (λ L q n. n))
 
-  module _ (going : s.over ≡ false) (w : RuleUses K) (b : ℕ) (o : Option Use) where
+  module _ (going : s.over ≡ false) (w : SubtermUses K) (b : ℕ) (o : Option Use) where
     abbrev Now : Engine → Answers Tree → Type 0
     Now = left_over asked given false p m.hooks old s
 

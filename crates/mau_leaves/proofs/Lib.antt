@@ -64,6 +64,10 @@ pub mod Definitions
 pub mod Calling
 -- values that variables have before
 pub mod Givens
+-- the subterms of a term, and what is left of them
+pub mod Subtrees
+-- searches at all subterms of a term: one turn
+pub mod SubtermTurns
 -- tests
 pub mod Holding
 -- the cursors of who gives the results of leaves, as there are more terms

@@ -30,6 +30,8 @@ pub mod Arguments
 pub mod Calls
 -- values that variables have before
 pub mod Given
+-- searches for the uses of one rule at all subterms of a term
+pub mod Subterms
 -- tests: their results by the uses of a rule
 pub mod Tests
 -- who gives the results of leaves: what cursors have yielded

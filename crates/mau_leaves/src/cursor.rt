@@ -565,17 +565,7 @@ fn leaf_by(leaves: &[Strategy], leaf: LeafId) -> Option<&Strategy>
     leaves.get(leaf.0)
 }
 
-/// Whether no variable has a value.
-fn have_none(values: &[Bound]) -> bool
-    ensures { result ≡ true → values.now ≡ [] }
-{
-    match values {
-        [] => true,
-        [_, ..] => false,
-    }
-}
-
-/// The cursor of a leaf on a term, which has yielded nothing. Tests whose variables may have values before are not searched for yet.
+/// The cursor of a leaf on a term, which has yielded nothing.
 fn start_leaf<E: Evaluator, L: Lister + Drop>(
     program: &Program,
     leaves: &[Strategy],
@@ -611,10 +601,7 @@ fn start_leaf<E: Evaluator, L: Lister + Drop>(
     };
     match strategy.form() {
         StrategyForm::Test(kind, pattern, cond) => {
-            if !have_none(values) {
-                return Ok(LeafCursor::Unsearched);
-            }
-            match start_test(program, store, evaluator, *kind, pattern, cond, term)? {
+            match start_test(program, store, values, *kind, pattern, cond, term)? {
                 Some(test) => Ok(LeafCursor::Test(test)),
                 None => Ok(LeafCursor::Unsearched),
             }

@@ -11,10 +11,7 @@ use mau_terms::{NoMemory, TermId, VarId};
 use std::alloc::Global;
 
 /// Variables and their values in pairs.
-pub(crate) fn pairs_of(
-    alloc: Global,
-    values: &[Bound],
-) -> Result<Vec<(VarId, TermId)>, NoMemory>
+pub(crate) fn pairs_of(alloc: Global, values: &[Bound]) -> Result<Vec<(VarId, TermId)>, NoMemory>
     ensures { IfOk result (λ pairs. pairs.items ≡ map pair_by values.now) }
 {
     let mut pairs = Vec::new(alloc);

@@ -144,9 +144,7 @@ fn begin_rule<E: Evaluator, L: Lister + Drop>(
         };
     }
     let bound = Vec::new(store.allocator());
-    match start_uses(
-        program, rule, store, evaluator, bound, false, place.term,
-    ) {
+    match start_uses(program, rule, store, evaluator, bound, false, place.term) {
         Ok(uses) => {
             place.uses = Some(uses);
             Ok(Turn::Passed)

@@ -1,27 +1,29 @@
-//! The result of a test: the term itself, where a solution of the pattern is found for which the condition holds. The search is that for the first
-//! use of a rule with the pattern for its left side and this condition.
-ghost use Rattle.std.specs.Prelude.{◌≡◌, true, All, IfOk, IfSome};
-ghost use Rattle.mau_signature.specs.Signature.{terms_over};
-ghost use Rattle.mau_terms.specs.Bare.{IsBare};
-ghost use Rattle.mau_terms.specs.View.{tree_of};
+//! The result of a test: the term itself, where a solution of the pattern is found for which the condition holds, at the root or at any subterm.
+//! The search is that for the first use of a rule with the pattern for its left side and this condition.
+ghost use Rattle.std.specs.Prelude.{◌≡◌, map, true, Bool, All, IfOk, IfSome};
+ghost use Rattle.mau_terms.specs.View.{tree_of, variable_of};
 ghost use Rattle.mau_store.specs.Node.{Extends};
-ghost use Rattle.mau_store.specs.Trees.{tree_at};
-ghost use Rattle.mau_sorts.specs.Table.{KeepsEntries};
+ghost use Rattle.mau_sorts.specs.Table.{Table, KeepsEntries};
 ghost use Rattle.mau_api.specs.Programs.{program_over};
-ghost use Rattle.mau_api.specs.Terms.{IsTerm};
-ghost use Rattle.mau_api.specs.Answers.{IsFragment, AreSettled};
+ghost use Rattle.mau_api.specs.Meanings.{Meanings};
+ghost use Rattle.mau_api.specs.Answers.{IsFragment, IsValueOf};
 ghost use Rattle.mau_rules.specs.Runnable.{IsRunnable, GoesBy};
+ghost use Rattle.mau_strat.specs.declared.configs.Bound.{Bound as GivenValue};
+ghost use Rattle.mau_leaves.specs.Given.{pair_by};
+ghost use Rattle.mau_leaves.specs.Searches.{variables_in};
+ghost use Rattle.mau_leaves.specs.Subterms.{IsSubject};
 ghost use Rattle.mau_leaves.specs.Top.{IsNextResult};
-ghost use Rattle.mau_leaves.specs.Tests.{left_of_test, IsTest, IsTestOf, IsBegunTest, MayAsk, WithinIsWhole};
+ghost use Rattle.mau_leaves.specs.Tests.{looks_below, looks_whole, left_of_test, IsTest, IsTestOf, IsBegunTest, MayAsk};
 
-use crate::uses::{RuleUses, next_use, start_uses};
+use crate::given::{are_apart, pairs_of};
+use crate::subterms::{SubtermUses, next_in_subterms, start_subterms};
 use mau_api::{EvalEnd, Evaluator, Fragment, Lister, Program, TestKind};
-use mau_canon::assoc_top;
 use mau_program::Rule;
 use mau_signature::{Signature, is_bare};
 use mau_statement::{add_variables, are_bound};
 use mau_store::Store;
-use mau_terms::{Bare, Duplicate, NoMemory, Seq, TermId, Vars};
+use mau_strat::Bound;
+use mau_terms::{Bare, Duplicate, NoMemory, Seq, TermId, VarId, Vars};
 use std::alloc::Global;
 
 /// A test on a term: the rule whose first use is searched for, the search, and whether it is over.
@@ -29,25 +31,27 @@ use std::alloc::Global;
 pub struct TestCursor<L> {
     pub term: TermId,
     pub rule: Rule,
-    pub uses: RuleUses<L>,
+    pub uses: SubtermUses<L>,
     pub over: bool,
 }
 
-/// Whether a test of this kind looks at the solutions with contexts, as far as it is known: those of a pattern without an associative top have
-/// none.
-fn is_within(
-    alloc: Global,
-    sig: &Signature,
-    kind: TestKind,
-    pattern: &Bare,
-) -> Result<bool, NoMemory>
-    requires { IsBare (terms_over sig.now) (tree_of pattern.now) }
-    ensures { IfOk result (λ b. b ≡ true → WithinIsWhole sig.now kind (tree_of pattern.now)) }
+/// Whether a test of this kind looks at what is below the root, in frozen arguments too.
+fn is_deep(kind: TestKind) -> bool
+    ensures { result ≡ looks_below kind }
 {
     match kind {
-        TestKind::Xmatch => Ok(true),
-        TestKind::Match => Ok(assoc_top(alloc, sig, pattern)?.is_none()),
-        TestKind::Amatch => Ok(false),
+        TestKind::Amatch => true,
+        TestKind::Match | TestKind::Xmatch => false,
+    }
+}
+
+/// Whether a test of this kind looks at the solutions without contexts alone.
+fn is_whole(kind: TestKind) -> bool
+    ensures { result ≡ looks_whole kind }
+{
+    match kind {
+        TestKind::Match => true,
+        TestKind::Xmatch | TestKind::Amatch => false,
     }
 }
 
@@ -73,14 +77,26 @@ fn are_fragments(sig: &Signature, cond: &[Fragment]) -> bool
     }
 }
 
-/// Whether a condition may be asked where the variables of a pattern have values.
+/// The variables that have values.
+fn variables_of(alloc: Global, bound: &[(VarId, TermId)]) -> Result<Vec<VarId>, NoMemory>
+    ensures { IfOk result (λ variables. map variable_of variables.items ≡ variables_in bound.now) }
+{
+    let mut variables = Vec::new(alloc);
+    for (variable, _) in bound {
+        variables.push(*variable)?;
+    }
+    Ok(variables)
+}
+
+/// Whether a condition may be asked where the variables of a pattern, and others before, have values.
 fn is_askable(
     alloc: Global,
     sig: &Signature,
+    bound: &[(VarId, TermId)],
     pattern: &Bare,
     cond: &[Fragment],
 ) -> Result<bool, NoMemory>
-    ensures { IfOk result (λ b. b ≡ true → MayAsk sig.now (tree_of pattern.now) cond.now) }
+    ensures { IfOk result (λ b. b ≡ true → MayAsk sig.now (variables_in bound.now) (tree_of pattern.now) cond.now) }
 {
     if !is_bare(sig, pattern) {
         return Ok(false);
@@ -88,7 +104,10 @@ fn is_askable(
     if !are_fragments(sig, cond) {
         return Ok(false);
     }
-    let mut variables = Vec::new(alloc);
+    if !are_apart(bound) {
+        return Ok(false);
+    }
+    let mut variables = variables_of(alloc, bound)?;
     add_variables(&mut variables, pattern)?;
     are_bound(&mut variables, cond)
 }
@@ -107,38 +126,32 @@ fn rule_for(alloc: Global, pattern: &Bare, cond: &Seq<Fragment>) -> Result<Rule,
     })
 }
 
-/// The search for the result of a test on a term, or none where tests of this form are not searched for yet.
-pub(crate) fn start_test<E: Evaluator, L: Lister + Drop>(
+/// The search for the result of a test on a term, under the values that variables have before, or none where tests of this form are not
+/// searched for.
+pub(crate) fn start_test<L: Lister + Drop>(
     program: &Program,
     store: &Store,
-    evaluator: &E,
+    values: &[Bound],
     kind: TestKind,
     pattern: &Bare,
     cond: &Seq<Fragment>,
     term: TermId,
 ) -> Result<Option<TestCursor<L>>, NoMemory>
-    requires runnable { IsRunnable program.now }
-    requires goes_by { GoesBy program.now (E.meanings evaluator.now) }
-    requires fits { E.fits evaluator.now store.now }
-    requires term { IsTerm program.now.sig store.now term.0 }
-    requires settled { AreSettled program.now.sig store.now (E.table evaluator.now) (tree_at store.now term.0) }
-    ensures begun { IfOk result (λ o. IfSome o (IsBegunTest L.asked L.given L.is_for L.with_context program.now
-        (E.meanings evaluator.now) store.now (E.table evaluator.now) kind (tree_of pattern.now) cond.now term)) }
+    ensures begun { (c : Bool) (m : Meanings) (table : Table) → IsSubject program.now.sig store.now table term.0 →
+        All (λ (b : GivenValue). IsValueOf program.now.sig store.now table (b.variable, b.value)) values.now →
+        IfOk result (λ o. IfSome o (IsBegunTest L.asked L.given L.is_for c program.now m store.now table
+        (map pair_by values.now) kind (tree_of pattern.now) cond.now term)) }
 {
     let alloc = store.allocator();
-    if !is_askable(alloc, &program.sig, pattern, cond.items())? {
-        return Ok(None);
-    }
-    if !is_within(alloc, &program.sig, kind, pattern)? {
+    let bound = pairs_of(alloc, values)?;
+    if !is_askable(alloc, &program.sig, &bound, pattern, cond.items())? {
         return Ok(None);
     }
     let rule = rule_for(alloc, pattern, cond)?;
-    let bound = Vec::new(alloc);
-    let uses = start_uses(program, &rule, store, evaluator, bound, false, term)?;
     Ok(Some(TestCursor {
         term,
         rule,
-        uses,
+        uses: start_subterms(alloc, bound, is_whole(kind), is_deep(kind), term),
         over: false,
     }))
 }
@@ -172,7 +185,7 @@ pub(crate) fn next_test<E: Evaluator, L: Lister + Drop>(
     if test.over {
         return Ok(None);
     }
-    match next_use(program, &test.rule, store, evaluator, &mut test.uses, limit) {
+    match next_in_subterms(program, &test.rule, store, evaluator, &mut test.uses, limit) {
         Ok(true) => {
             test.over = true;
             Ok(Some(test.term))

@@ -347,13 +347,7 @@ pub fn start_uses<E: Evaluator, L: Lister + Drop>(
     ensures signature { IfOk result (λ uses. L.is_for uses.listing program.now.sig) }
 {
     let _ = evaluator.sorts();
-    match L::start(
-        store.allocator(),
-        &program.sig,
-        &rule.left,
-        &bound,
-        term,
-    ) {
+    match L::start(store.allocator(), &program.sig, &rule.left, &bound, term) {
         Ok(listing) => Ok(RuleUses {
             listing,
             standing: Standing::Behind,
