@@ -53,7 +53,7 @@ use Rattle.mau_leaves.specs.Searches.{IsNextOne, found_in}
 use Rattle.mau_leaves.specs.Follows.{HasGivenBodies}
 use Rattle.mau_leaves.specs.InTurn.{just, values_behind, left_of_values, only_one, IsEvaluated, AreNextValues}
 use Rattle.mau_leaves.specs.Calls.{bodies_from, left_standing, left_of_call, body_with, body_found, IsBegun, IsStanding, IsCallSearch}
-use Rattle.mau_leaves.specs.Cursors.{fixed_of, leaf_end, call_in, left_due, found_by, left_of_stage, left_of_cursor, IsCallCursor, world_of_calls, bound_by, CausedBy, IsBodyOf, cursor_with, IsGivenBody}
+use Rattle.mau_leaves.specs.Cursors.{fixed_of, leaf_end, call_in, left_due, found_by, left_of_stage, left_of_cursor, IsCallCursor, world_of_calls, bound_by, CausedBy, IsBodyOf, IsGivenBody}
 use Rattle.mau_leaves.specs.declared.arguments.ArgumentSearch.{ArgumentSearch}
 use Rattle.mau_leaves.specs.declared.uses.Standing.{Standing}
 use Rattle.mau_leaves.specs.declared.uses.Standing.TheVariants.{Behind, Before, Within}
@@ -89,6 +89,10 @@ called_there leaves l us e = by (call_in leaves l) e
         one : Some z.1 ≡ Some us → z.1 ≡ us
         one k = cc
 
+-- the same cursor, with other values, another search or nothing due
+abbrev pub cursor_with : {K : Type 0} → CallCursor K → Vec TermId Global → Option (CallBodies K) → Bool → CallCursor K
+cursor_with s values bodies due = record { leaf = s.leaf; calls = s.calls; bound = s.bound; values = values; bodies = bodies; due = due }
+
 -- ---- the beginning
 
 drop_zero : {A : Type 0} (xs : List A) → drop 0 xs ≡ xs
@@ -115,6 +119,9 @@ module _ {K : Type 0} (asked : K → Asked) (given : K → Option Listed.Solutio
     abbrev Is : CallCursor K → Todo → Tree → List Yield → Type 0
     Is s d t ys = IsCallCursor asked given is_for c p m leaves nodes table s d t ys
 
+    abbrev First : ℕ → List ℕ → List Tree → CallCursor K → Engine → Answers Todo
+    First k n ts s L = for_each (bodies_by P L defs k n) (values_behind P L (map (instance (look_up (binding_in nodes s.bound.items))) ts) (trees_at nodes (numbers s.values.items)))
+
     pub call_begins : (s : CallCursor K) → s.due ≡ false → s.bodies ≡ None → s.values.items ≡ [] → (d : Todo) (t : Tree) (n : List ℕ) (ts : List Tree) → call_in leaves s.leaf.0 ≡ Some (n, ts) → d.form ≡ call n ts → d.calls ≡ s.calls →
         d.values ≡ binding_in nodes s.bound.items → All (IsValueOf p.sig nodes table) s.bound.items → All (IsBare (terms_over p.sig)) ts → IsCallCursor asked given is_for c p m leaves nodes table s d t []
     call_begins s due bodies none d t n ts named form calls values bound bare = record {
@@ -134,21 +141,18 @@ module _ {K : Type 0} (asked : K → Asked) (given : K → Option Listed.Solutio
       stands = λ e. clash s.due due e;
       rest = λ k e. begins (engine_of P) (bodies_list k d) (Left k n ts s)
           (subst (λ (g : Engine → Answers Todo → Type 0). Throughout (engine_of P) (just (bodies_list k d)) (λ L. Passes (just (bodies_list k d) L) (g L))) (ap (left_of_stage asked given is_for c p m leaves nodes table k n ts s) (sym bodies))
-          (just_same (engine_of P) (bodies_list k d) (first k) (all_bodies k)));
+          (just_same (engine_of P) (bodies_list k d) (First k n ts s) (all_bodies k)));
     }
       where
         clash : (b : Bool) → b ≡ false → b ≡ true → {X : Type 0} → X
         clash b e h = cc
-
-        abbrev first : ℕ → Engine → Answers Todo
-        first k L = for_each (bodies_by P L defs k n) (values_behind P L (map (instance (look_up (binding_in nodes s.bound.items))) ts) (trees_at nodes (numbers s.values.items)))
 
         all_values : (L : Engine) (us : List Tree) → values_in_turn P L us ≡ values_behind P L us (trees_at nodes (numbers s.values.items))
         all_values L us =
             ap (values_in_turn P L) (sym (drop_zero us))
             ∙ (sym (behind_none (values_in_turn P L (drop 0 us))) ∙ (λ i. values_behind P L us (trees_at nodes (numbers (sym none i)))))
 
-        all_bodies : (k : ℕ) (L : Engine) → bodies_list k d L ≡ first k L
+        all_bodies : (k : ℕ) (L : Engine) → bodies_list k d L ≡ First k n ts s L
         all_bodies k L =
             (λ i. bodies_for P L defs k (values i) (form i))
             ∙ ap (for_each (bodies_by P L defs k n)) (all_values L (map (instance (look_up (binding_in nodes s.bound.items))) ts))
@@ -424,20 +428,17 @@ module _ {K : Type 0} (asked : K → Asked) (given : K → Option Listed.Solutio
             grown_with values (Some b) s.due evaluated count (subst (λ (o : Option (ArgumentSearch K)). IsStanding asked given is_for c p m new after values.items b.number o b.standing) (sym arguments) standing)
             (λ e. clash s.due idle_due e)
             (λ k. subst (λ (a : Engine → Answers Todo → Type 0). Throughout (engine_of P) a (λ L. Passes (a L) (Then k h.name h.args (cursor_with s values (Some b) s.due) L))) (was_stage k)
-            (step_inside V (T k) (λ L e. refl) (engine_of P) {H = λ L. Passes (just V L) (only_one ws L)} {K = λ L. Passes (just (λ L. T k L (V L)) L) (Then k h.name h.args (cursor_with s values (Some b) s.due) L)}
-            (λ L z q n. subst (λ (a : Engine → Answers Todo → Type 0). a L q) (now k) (n ∙ (ap (T k L) (z (V L) refl) ∙ (those_none (bodies_by P L defs k h.name ws) ∙ sym (from_first k L))))) g))
+            (step_inside V (T k) (λ L e. refl) (engine_of P) {H = λ L. Passes (just V L) (only_one (trees_at new (numbers values.items)) L)} {K = λ L. Passes (just (λ L. T k L (V L)) L) (Then k h.name h.args (cursor_with s values (Some b) s.due) L)}
+            (λ L z q n. subst (λ (a : Engine → Answers Todo → Type 0). a L q) (now k) (n ∙ (ap (T k L) (z (V L) refl) ∙ (those_none (bodies_by P L defs k h.name (trees_at new (numbers values.items))) ∙ sym (from_first k L))))) g))
           where
             clash : (b : Bool) → b ≡ false → b ≡ true → {X : Type 0} → X
             clash b e k = cc
 
-            abbrev ws : List Tree
-            ws = trees_at new (numbers values.items)
+            from_first : (k : ℕ) (L : Engine) → bodies_from asked given p m.hooks k h.name (trees_at new (numbers values.items)) 0 L ≡ bodies_by P L defs k h.name (trees_at new (numbers values.items))
+            from_first k L = ap (λ ds. bodies_by P L (map definition_of ds) k h.name (trees_at new (numbers values.items))) (drop_zero p.strategies)
 
-            from_first : (k : ℕ) (L : Engine) → bodies_from asked given p m.hooks k h.name ws 0 L ≡ bodies_by P L defs k h.name ws
-            from_first k L = ap (λ ds. bodies_by P L (map definition_of ds) k h.name ws) (drop_zero p.strategies)
-
-            now : (k : ℕ) → just (bodies_from asked given p m.hooks k h.name ws 0) ≡ Then k h.name h.args (cursor_with s values (Some b) s.due)
-            now k = λ i L. left_due (sym idle_due i) (body_found p k new b) (left_standing asked given p m.hooks k h.name ws new (sym number i) (sym arguments i) b.standing L)
+            now : (k : ℕ) → just (bodies_from asked given p m.hooks k h.name (trees_at new (numbers values.items)) 0) ≡ Then k h.name h.args (cursor_with s values (Some b) s.due)
+            now k = λ i L. left_due (sym idle_due i) (body_found p k new b) (left_standing asked given p m.hooks k h.name (trees_at new (numbers values.items)) new (sym number i) (sym arguments i) b.standing L)
 
         -- an end
         pub still_taking : (values : Vec TermId Global) → All (IsEvaluated p.sig new after) values.items → length values.items ≤ length h.args →
@@ -446,15 +447,12 @@ module _ {K : Type 0} (asked : K → Asked) (given : K → Option Listed.Solutio
         still_taking values evaluated count g =
             grown_with values s.bodies s.due evaluated count (subst (λ (o : Option (CallBodies K)). IfSome o (IsCallSearch asked given is_for c p m new after values.items)) (sym none) tt) h.stands
             (λ k. subst (λ (a : Engine → Answers Todo → Type 0). Throughout (engine_of P) a (λ L. Passes (a L) (Then k h.name h.args (cursor_with s values s.bodies s.due) L))) (was_stage k)
-            (step_inside V (T k) (λ L e. refl) (engine_of P) {H = λ L. Passes (just V L) (left_of_values P (ts old) ws L)} {K = λ L. Passes (just (λ L. T k L (V L)) L) (Then k h.name h.args (cursor_with s values s.bodies s.due) L)}
+            (step_inside V (T k) (λ L e. refl) (engine_of P) {H = λ L. Passes (just V L) (left_of_values P (ts old) (trees_at new (numbers values.items)) L)} {K = λ L. Passes (just (λ L. T k L (V L)) L) (Then k h.name h.args (cursor_with s values s.bodies s.due) L)}
             (λ L z q n. subst (λ (a : Engine → Answers Todo → Type 0). a L q) (now k) (n ∙ ap (T k L) (z (V L) refl))) g))
           where
-            abbrev ws : List Tree
-            ws = trees_at new (numbers values.items)
-
-            now : (k : ℕ) → just (λ L. T k L (values_behind P L (ts old) ws)) ≡ Then k h.name h.args (cursor_with s values s.bodies s.due)
+            now : (k : ℕ) → just (λ L. T k L (values_behind P L (ts old) (trees_at new (numbers values.items)))) ≡ Then k h.name h.args (cursor_with s values s.bodies s.due)
             now k =
-                (λ i. just (λ L. T k L (values_behind P L (sym ts_same i) ws)))
+                (λ i. just (λ L. T k L (values_behind P L (sym ts_same i) (trees_at new (numbers values.items)))))
                 ∙ ap (left_of_stage asked given is_for c p m leaves new after k h.name h.args (cursor_with s values s.bodies s.due)) (sym none)
 
         pub taking_cause : (e : EvalEnd) → IsDueBy (program_over p m.hooks) m.limit (left_of_values P (ts old) vs) e → (k : ℕ) → d.calls ≡ suc k → IsCause (fixed_of p m leaves) d t ys (leaf_end e)

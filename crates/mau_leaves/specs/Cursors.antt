@@ -1,5 +1,5 @@
 -- Who gives the results of leaves: what stays the same, and what the cursors have yielded, by the numbers of a store.
-use Rattle.std.specs.Prelude.{◌≡◌, ℕ, suc, ◌<◌, ◌≤◌, List, [], map, length, slice_get, All, Vec, Global, Bool, true, false, Option, Some, None, IsSome, IfSome, Result, Ok, Err}
+use Rattle.std.specs.Prelude.{◌≡◌, ℕ, suc, ◌<◌, ◌≤◌, List, [], map, length, slice_get, All, Bool, true, false, Option, Some, None, IsSome, IfSome, Result, Ok, Err}
 use Rattle.std.specs.List.{slice_index_or}
 use Rattle.mau_terms.specs.Tree.{Tree}
 use Rattle.mau_terms.specs.Bare.{IsBare}
@@ -212,13 +212,10 @@ pub record IsBodyOf {K : Type 0} (s : CallBodies K) (calls : ℕ) (b : Body) : T
   pub calls_left : b.calls ≡ calls
   pub values : b.values.items ≡ map bound_by found
 
--- the same cursor, with other values, another search or nothing due
-abbrev pub cursor_with : {K : Type 0} → CallCursor K → Vec TermId Global → Option (CallBodies K) → Bool → CallCursor K
-cursor_with s values bodies due = record { leaf = s.leaf; calls = s.calls; bound = s.bound; values = values; bodies = bodies; due = due }
-
 -- it is due no more, or memory is wanting
 abbrev pub IsGivenBody : {K : Type 0} → CallCursor K → CallCursor K → ℕ → Result (Option Yielded) LeafEnd → Type 0
-IsGivenBody {K = K} old new calls (Ok (Some (BodyOf b))) = (s : CallBodies K) × (old.bodies ≡ Some s) × IsBodyOf s calls b × (new ≡ cursor_with old old.values old.bodies false)
+IsGivenBody {K = K} old new calls (Ok (Some (BodyOf b))) = (s : CallBodies K) × (old.bodies ≡ Some s) × IsBodyOf s calls b ×
+    (new ≡ record { leaf = old.leaf; calls = old.calls; bound = old.bound; values = old.values; bodies = old.bodies; due = false })
 IsGivenBody old new calls (Ok (Some (Term u))) = ⊥
 IsGivenBody old new calls (Ok None) = ⊥
 IsGivenBody old new calls (Err e) = (e ≡ NoMemory) × (new ≡ old)

@@ -496,7 +496,7 @@ fn next_of_call<E: Evaluator, L: Lister + Drop>(
 
 /// Whether all terms are over a signature.
 fn are_bare(sig: &Signature, terms: &[Bare]) -> bool
-    ensures { result ≡ true → All (IsBare (terms_over sig.now)) (map tree_of terms.now) }
+    ensures { result ≡ true → All (λ t. IsBare (terms_over sig.now) (tree_of t)) terms.now }
 {
     match terms {
         [] => true,

@@ -1,5 +1,6 @@
 use Rattle.std.proofs.Common.{◌≡◌, List, [], map, All, Option, Some, None, refl, sym, ap, ◌∙◌, subst}
 use Rattle.std.specs.Option.{option_map}
+use Rattle.std.proofs.lemmas.List.Elements.{All-map}
 use Rattle.mau_terms.specs.Tree.{Tree}
 use Rattle.mau_terms.specs.Bare.{IsBare}
 use Rattle.mau_terms.specs.View.{tree_of}
@@ -36,4 +37,4 @@ returns-clause-yields g c =
     (ap (λ (l : LeafId). call_in leaves l.0) parts.0 ∙ call.1) (called_leaf leaves c.args.leaf.0 call.0 c.args.args.now call.1) (sym parts.1)
     (sym (pairs_are nodes bs) ∙ ap (binding_in nodes) (sym bound))
     (subst (All (IsValueOf p.sig nodes table)) (sym bound) (pairs_have p.sig nodes table bs c.requires.values))
-    (subst (All (IsBare (terms_over p.sig))) c.items.ensures (c.are_bare.ensures c.if-not-are_bare.false))
+    (subst (All (IsBare (terms_over p.sig))) c.items.ensures (All-map (IsBare (terms_over p.sig)) tree_of c.items.result.now (c.are_bare.ensures c.if-not-are_bare.false)))
