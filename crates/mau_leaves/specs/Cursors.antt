@@ -4,6 +4,8 @@ use Rattle.std.specs.List.{slice_index_or}
 use Rattle.mau_terms.specs.Tree.{Tree}
 use Rattle.mau_terms.specs.Bare.{IsBare}
 use Rattle.mau_terms.specs.Subst.{instance}
+use Rattle.mau_terms.specs.View.{tree_of}
+use Rattle.mau_terms.specs.declared.bare.Bare.{Bare}
 use Rattle.mau_terms.specs.declared.ids.TermId.{TermId}
 use Rattle.mau_terms.specs.declared.ids.VarId.{VarId}
 use Rattle.mau_signature.specs.Signature.{SignatureOf, terms_over}
@@ -136,6 +138,10 @@ abbrev pub left_due : {A : Type 0} → Bool → Option A → (Answers A → Type
 left_due false o now q = now q
 left_due true None now q = q ≡ no_more
 left_due {A = A} true (Some x) now q = (r : Answers A) × now r × (q ≡ answer x r)
+
+-- a term over a signature
+pub record IsOver (s : SignatureOf) (t : Bare) : Type 0 where
+  pub bare : IsBare (terms_over s) (tree_of t)
 
 -- the last solution of a condition, where bodies are searched for
 abbrev pub found_by : {K : Type 0} → Option (CallBodies K) → Option (List (VarId × TermId))

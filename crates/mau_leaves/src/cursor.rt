@@ -2,9 +2,6 @@
 ghost use Rattle.std.specs.Prelude.{◌≡◌, ◌<◌, ℕ, List, [], length, map, slice_get, All, true, false, None, Some, IsSome, IfOk, OnOk};
 ghost use Rattle.std.specs.Option.{option_map};
 ghost use Rattle.mau_terms.specs.Tree.{Tree};
-ghost use Rattle.mau_terms.specs.Bare.{IsBare};
-ghost use Rattle.mau_terms.specs.View.{tree_of};
-ghost use Rattle.mau_signature.specs.Signature.{terms_over};
 ghost use Rattle.mau_store.specs.Node.{Extends};
 ghost use Rattle.mau_store.specs.Trees.{tree_at};
 ghost use Rattle.mau_api.specs.Terms.{IsTerm};
@@ -19,7 +16,7 @@ ghost use Rattle.mau_stratrun.specs.Yields.{Yield};
 ghost use Rattle.mau_stratrun.specs.Worlds.{values_of, IsNextYield};
 ghost use Rattle.mau_rules.specs.Runnable.{IsRunnable, GoesBy};
 ghost use Rattle.mau_leaves.specs.Searches.{found_in};
-ghost use Rattle.mau_leaves.specs.Cursors.{leaf_at, label_in, chosen_by, call_in, leaf_end, yielded_by, bound_by, IsTopCursor, IsEverywhereCursor, IsTestCursor, found_by, IsCallCursor, HasTaken, HasFound, IsBodyOf, IsGivenBody, IsReady, yields_in, world_of, world_of_calls};
+ghost use Rattle.mau_leaves.specs.Cursors.{leaf_at, label_in, chosen_by, call_in, leaf_end, yielded_by, bound_by, IsTopCursor, IsEverywhereCursor, IsTestCursor, IsOver, found_by, IsCallCursor, HasTaken, HasFound, IsBodyOf, IsGivenBody, IsReady, yields_in, world_of, world_of_calls};
 ghost use Rattle.mau_leaves.specs.declared.cursor.LeafCursor.TheVariants as At;
 
 use crate::bodies::{CallBodies, next_body};
@@ -494,13 +491,20 @@ fn next_of_call<E: Evaluator, L: Lister + Drop>(
     give_body(store.allocator(), cursor, calls)
 }
 
+/// Whether a term is over a signature.
+fn is_over(sig: &Signature, term: &Bare) -> bool
+    ensures { result ≡ true → IsOver sig.now term.now }
+{
+    is_bare(sig, term)
+}
+
 /// Whether all terms are over a signature.
 fn are_bare(sig: &Signature, terms: &[Bare]) -> bool
-    ensures { result ≡ true → All (λ t. IsBare (terms_over sig.now) (tree_of t)) terms.now }
+    ensures { result ≡ true → All (IsOver sig.now) terms.now }
 {
     match terms {
         [] => true,
-        [first, rest @ ..] => is_bare(sig, first) && are_bare(sig, rest),
+        [first, rest @ ..] => is_over(sig, first) && are_bare(sig, rest),
     }
 }
 

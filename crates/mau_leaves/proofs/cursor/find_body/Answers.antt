@@ -1,4 +1,4 @@
-use Rattle.std.proofs.Common.{◌≡◌, ◌-◌, ℕ, zero, suc, List, Bool, true, false, Option, Some, None, IsSome, IfSome, Result, Ok, Err, refl, sym, ap, ◌∙◌, subst, arith}
+use Rattle.std.proofs.Common.{◌≡◌, ◌-◌, ℕ, zero, suc, List, All, Bool, true, false, Option, Some, None, IsSome, IfSome, Result, Ok, Err, refl, sym, ap, ◌∙◌, subst, arith}
 use Rattle.std.specs.Option.{option_map}
 use Rattle.mau_terms.specs.Tree.{Tree}
 use Rattle.mau_terms.specs.declared.ids.TermId.{TermId}
@@ -12,6 +12,7 @@ use Rattle.mau_rules.specs.Runnable.{GoesBy}
 use Rattle.mau_stratrun.specs.Yields.{Yield, IsCause}
 use Rattle.mau_stratrun.specs.Worlds.{IsNextYield}
 use Rattle.mau_leaves.specs.Searches.{IsNextOne}
+use Rattle.mau_leaves.specs.InTurn.{IsEvaluated}
 use Rattle.mau_leaves.specs.Calls.{left_of_call, body_found, IsCallSearch}
 use Rattle.mau_leaves.specs.Cursors.{fixed_of, IsCallCursor, HasTaken, HasFound, world_of_calls}
 use Rattle.mau_leaves.specs.declared.bodies.CallBodies.{CallBodies}
@@ -38,7 +39,7 @@ next_body-requires-clause-values g c =
     let old = c.args.store.now in
     let before = g.E.Evaluator.table c.args.evaluator.now in
     let s = c.args.cursor.now in
-    c.requires.yields.3.evaluated
+    subst (λ (ids : List TermId). All (IsEvaluated p.sig old before) ids) (sym c.deref.ensures.value) c.requires.yields.3.evaluated
 
 pub next_body-requires-clause-search : goal.next_body-requires-clause-search
 next_body-requires-clause-search g c = 
@@ -48,7 +49,8 @@ next_body-requires-clause-search g c =
     let old = c.args.store.now in
     let before = g.E.Evaluator.table c.args.evaluator.now in
     let s = c.args.cursor.now in
-    subst (λ (o : Option (CallBodies _)). IfSome o (IsCallSearch g.L.Lister.asked g.L.Lister.given g.L.Lister.is_for g.L.Lister.with_context p m old before s.values.items)) c.in-Some.is c.requires.yields.3.search
+    subst (λ (ids : List TermId). IsCallSearch g.L.Lister.asked g.L.Lister.given g.L.Lister.is_for g.L.Lister.with_context p m old before ids c.in-Some.bodies) (sym c.deref.ensures.value)
+    (subst (λ (o : Option (CallBodies _)). IfSome o (IsCallSearch g.L.Lister.asked g.L.Lister.given g.L.Lister.is_for g.L.Lister.with_context p m old before s.values.items)) c.in-Some.is c.requires.yields.3.search)
 
 pub returns-in-Ok-true-clause-found : goal.returns-in-Ok-true-clause-found
 returns-in-Ok-true-clause-found g c = λ d t ys h.
@@ -69,8 +71,10 @@ returns-in-Ok-true-clause-found g c = λ d t ys h.
     let left = left_of_call g.L.Lister.asked g.L.Lister.given p m.hooks in
     let vs = trees_at old (numbers s.values.items) in
     let one = λ (k : ℕ). subst (λ n. IsNextOne (program_over p m.hooks) n (left k name vs old b) (left k name vs new b') (body_found p k new b') (Ok true)) c.requires.limit
-    (subst (λ t. IsNextOne (program_over p m.hooks) c.args.limit (left k name vs old b) (left k name vs new b') (body_found p k new b') (Ok t)) c.in-Ok-true.field-0-test (c.in-Ok-true.ensures.next k)) in
-    found_due g.L.Lister.asked g.L.Lister.given g.L.Lister.is_for g.L.Lister.with_context p m leaves c.requires.goes_by old new before after e.extends e.kept over s d t ys h b c.in-Some.is c.requires.idle name same b' e.search one
+    (subst (λ t. IsNextOne (program_over p m.hooks) c.args.limit (left k name vs old b) (left k name vs new b') (body_found p k new b') (Ok t)) c.in-Ok-true.field-0-test
+    (subst (λ (ids : List TermId). IsNextOne (program_over p m.hooks) c.args.limit (left k name (trees_at old (numbers ids)) old b) (left k name (trees_at old (numbers ids)) new b') (body_found p k new b') (Ok c.in-Ok-true.field-0)) c.deref.ensures.value
+    (c.in-Ok-true.ensures.next k))) in
+    found_due g.L.Lister.asked g.L.Lister.given g.L.Lister.is_for g.L.Lister.with_context p m leaves c.requires.goes_by old new before after e.extends e.kept over s d t ys h b c.in-Some.is c.requires.idle name same b' (subst (λ (ids : List TermId). IsCallSearch g.L.Lister.asked g.L.Lister.given g.L.Lister.is_for g.L.Lister.with_context p m new after ids b') c.deref.ensures.value e.search) one
 
 pub returns-in-Ok-true-clause-due : goal.returns-in-Ok-true-clause-due
 returns-in-Ok-true-clause-due g c = λ z.
@@ -95,8 +99,10 @@ returns-in-Ok-true-clause-due g c = λ z.
     let left = left_of_call g.L.Lister.asked g.L.Lister.given p m.hooks in
     let vs = trees_at old (numbers s.values.items) in
     let one = λ (k : ℕ). subst (λ n. IsNextOne (program_over p m.hooks) n (left k name vs old b) (left k name vs new b') (body_found p k new b') (Ok true)) c.requires.limit
-    (subst (λ t. IsNextOne (program_over p m.hooks) c.args.limit (left k name vs old b) (left k name vs new b') (body_found p k new b') (Ok t)) c.in-Ok-true.field-0-test (c.in-Ok-true.ensures.next k)) in
-    (refl, found_some g.L.Lister.asked g.L.Lister.given g.L.Lister.is_for g.L.Lister.with_context p m leaves c.requires.goes_by old new before after e.extends e.kept over s d t ys h b c.in-Some.is c.requires.idle name same b' e.search 0 (one 0))
+    (subst (λ t. IsNextOne (program_over p m.hooks) c.args.limit (left k name vs old b) (left k name vs new b') (body_found p k new b') (Ok t)) c.in-Ok-true.field-0-test
+    (subst (λ (ids : List TermId). IsNextOne (program_over p m.hooks) c.args.limit (left k name (trees_at old (numbers ids)) old b) (left k name (trees_at old (numbers ids)) new b') (body_found p k new b') (Ok c.in-Ok-true.field-0)) c.deref.ensures.value
+    (c.in-Ok-true.ensures.next k))) in
+    (refl, found_some g.L.Lister.asked g.L.Lister.given g.L.Lister.is_for g.L.Lister.with_context p m leaves c.requires.goes_by old new before after e.extends e.kept over s d t ys h b c.in-Some.is c.requires.idle name same b' (subst (λ (ids : List TermId). IsCallSearch g.L.Lister.asked g.L.Lister.given g.L.Lister.is_for g.L.Lister.with_context p m new after ids b') c.deref.ensures.value e.search) 0 (one 0))
 
 pub returns-in-Ok-false-clause-found : goal.returns-in-Ok-false-clause-found
 returns-in-Ok-false-clause-found g c = λ d t ys h.
@@ -117,8 +123,10 @@ returns-in-Ok-false-clause-found g c = λ d t ys h.
     let left = left_of_call g.L.Lister.asked g.L.Lister.given p m.hooks in
     let vs = trees_at old (numbers s.values.items) in
     let one = λ (k : ℕ). subst (λ n. IsNextOne (program_over p m.hooks) n (left k name vs old b) (left k name vs new b') (body_found p k new b') (Ok false)) c.requires.limit
-    (subst (λ t. IsNextOne (program_over p m.hooks) c.args.limit (left k name vs old b) (left k name vs new b') (body_found p k new b') (Ok t)) c.in-Ok-false.field-0-test (c.in-Ok-false.ensures.next k)) in
-    λ k more. none_found g.L.Lister.asked g.L.Lister.given g.L.Lister.is_for g.L.Lister.with_context p m leaves c.requires.goes_by old new before after e.extends e.kept over s d t ys h b c.in-Some.is c.requires.idle name same b' e.search k more (one k)
+    (subst (λ t. IsNextOne (program_over p m.hooks) c.args.limit (left k name vs old b) (left k name vs new b') (body_found p k new b') (Ok t)) c.in-Ok-false.field-0-test
+    (subst (λ (ids : List TermId). IsNextOne (program_over p m.hooks) c.args.limit (left k name (trees_at old (numbers ids)) old b) (left k name (trees_at old (numbers ids)) new b') (body_found p k new b') (Ok c.in-Ok-false.field-0)) c.deref.ensures.value
+    (c.in-Ok-false.ensures.next k))) in
+    λ k more. none_found g.L.Lister.asked g.L.Lister.given g.L.Lister.is_for g.L.Lister.with_context p m leaves c.requires.goes_by old new before after e.extends e.kept over s d t ys h b c.in-Some.is c.requires.idle name same b' (subst (λ (ids : List TermId). IsCallSearch g.L.Lister.asked g.L.Lister.given g.L.Lister.is_for g.L.Lister.with_context p m new after ids b') c.deref.ensures.value e.search) k more (one k)
 
 pub returns-in-Err-clause-found : goal.returns-in-Err-clause-found
 returns-in-Err-clause-found g c = λ d t ys h.
@@ -139,6 +147,7 @@ returns-in-Err-clause-found g c = λ d t ys h.
     let left = left_of_call g.L.Lister.asked g.L.Lister.given p m.hooks in
     let vs = trees_at old (numbers s.values.items) in
     let failed : Result Bool EvalEnd = Err c.in-Err.end in
-    let one = λ (k : ℕ). subst (λ n. IsNextOne (program_over p m.hooks) n (left k name vs old b) (left k name vs new b') (body_found p k new b') failed) c.requires.limit (c.in-Err.ensures.next k) in
-    (search_still g.L.Lister.asked g.L.Lister.given g.L.Lister.is_for g.L.Lister.with_context p m leaves c.requires.goes_by old new before after e.extends e.kept over s d t ys h b c.in-Some.is c.requires.idle name same b' e.search c.in-Err.end one, search_cause g.L.Lister.asked g.L.Lister.given g.L.Lister.is_for g.L.Lister.with_context p m leaves c.requires.goes_by old new before after e.extends e.kept over s d t ys h b c.in-Some.is c.requires.idle name same b' e.search c.in-Err.end one)
+    let one = λ (k : ℕ). subst (λ n. IsNextOne (program_over p m.hooks) n (left k name vs old b) (left k name vs new b') (body_found p k new b') failed) c.requires.limit
+    (subst (λ (ids : List TermId). IsNextOne (program_over p m.hooks) c.args.limit (left k name (trees_at old (numbers ids)) old b) (left k name (trees_at old (numbers ids)) new b') (body_found p k new b') failed) c.deref.ensures.value (c.in-Err.ensures.next k)) in
+    (search_still g.L.Lister.asked g.L.Lister.given g.L.Lister.is_for g.L.Lister.with_context p m leaves c.requires.goes_by old new before after e.extends e.kept over s d t ys h b c.in-Some.is c.requires.idle name same b' (subst (λ (ids : List TermId). IsCallSearch g.L.Lister.asked g.L.Lister.given g.L.Lister.is_for g.L.Lister.with_context p m new after ids b') c.deref.ensures.value e.search) c.in-Err.end one, search_cause g.L.Lister.asked g.L.Lister.given g.L.Lister.is_for g.L.Lister.with_context p m leaves c.requires.goes_by old new before after e.extends e.kept over s d t ys h b c.in-Some.is c.requires.idle name same b' (subst (λ (ids : List TermId). IsCallSearch g.L.Lister.asked g.L.Lister.given g.L.Lister.is_for g.L.Lister.with_context p m new after ids b') c.deref.ensures.value e.search) c.in-Err.end one)
 

@@ -4,6 +4,7 @@ use Rattle.mau_terms.specs.Tree.{Tree}
 use Rattle.mau_terms.specs.declared.ids.TermId.{TermId}
 use Rattle.mau_store.specs.Trees.{trees_at}
 use Rattle.mau_store.specs.View.{numbers}
+use Rattle.mau_sorts.proofs.Settling.{kept_on}
 use Rattle.mau_evaluation.specs.Configs.{Todo}
 use Rattle.mau_api.specs.Programs.{program_over}
 use Rattle.mau_api.specs.Meanings.{Meanings}
@@ -148,3 +149,14 @@ returns-clause-next g c = λ d t ys h.
     (subst (λ b. (d : Todo) (t : Tree) (ys : List Yield) → IsCallCursor g.L.Lister.asked g.L.Lister.given g.L.Lister.is_for g.L.Lister.with_context p m' leaves mid between s' d t ys → HasFound g.L.Lister.asked g.L.Lister.given g.L.Lister.is_for g.L.Lister.with_context p m' leaves new after s'' d t ys (Ok b)) c.in-Ok-true.field-0-test c.in-Ok-true.ensures.found) d t ys (c.in-Ok.ensures.taken d t ys h) in
     body_yields g.L.Lister.asked g.L.Lister.given g.L.Lister.is_for g.L.Lister.with_context p m leaves new after s'' d t ys found k more (c.in-Ok-true.ensures.due c.in-Ok-true.field-0-test).0 c.give_body-2.new.cursor c.give_body-2.result c.give_body-2.ensures.given
 
+pub returns-in-Ok-false-clause-kept : goal.returns-in-Ok-false-clause-kept
+returns-in-Ok-false-clause-kept g c =
+    kept_on (g.E.Evaluator.table c.args.evaluator.now) (g.E.Evaluator.table c.have_values.new.evaluator) (g.E.Evaluator.table c.find_body.new.evaluator) c.have_values.ensures.kept c.find_body.ensures.kept
+
+pub returns-in-Err-find_body-clause-kept : goal.returns-in-Err-find_body-clause-kept
+returns-in-Err-find_body-clause-kept g c =
+    kept_on (g.E.Evaluator.table c.args.evaluator.now) (g.E.Evaluator.table c.have_values.new.evaluator) (g.E.Evaluator.table c.find_body.new.evaluator) c.have_values.ensures.kept c.find_body.ensures.kept
+
+pub returns-clause-kept : goal.returns-clause-kept
+returns-clause-kept g c =
+    kept_on (g.E.Evaluator.table c.args.evaluator.now) (g.E.Evaluator.table c.have_values.new.evaluator) (g.E.Evaluator.table c.find_body.new.evaluator) c.have_values.ensures.kept c.find_body.ensures.kept
