@@ -22,7 +22,7 @@ use Rattle.mau_api.specs.Meanings.{Meanings}
 use Rattle.mau_api.specs.Answers.{AreSettled}
 use Rattle.mau_api.specs.declared.results.EvalEnd.{EvalEnd}
 use Rattle.mau_api.specs.declared.results.EvalEnd.TheVariants as Ended
-use Rattle.mau_rules.specs.Runnable.{IsRunnable}
+use Rattle.mau_rules.specs.Runnable.{IsRunnable, GoesBy}
 use Rattle.mau_strat.specs.declared.forms.LeafId.{LeafId}
 use Rattle.mau_stratrun.specs.declared.leaves.Yielded.{Yielded}
 use Rattle.mau_stratrun.specs.declared.leaves.Yielded.TheVariants.{Term, Body as BodyOf}
@@ -58,7 +58,7 @@ longer old new (more, e) = omega (arith, ap length e, length-append old more)
 module _ {K : Type 0} (asked : K → Asked) (given : K → Option Listed.Solution) (is_for : K → SignatureOf → Type 0) (c : Bool) (p : Typed.Program) (m : Meanings) (leaves : List Written.StrategyOf) where
   -- ---- further terms
 
-  module _ (run : IsRunnable p) (old new : List Node) (before after : Table) (extends : Extends old new) (kept : KeepsEntries before after) (over : AreOver p.sig.hierarchy after) where
+  module _ (run : IsRunnable p) (goes : GoesBy p m) (old new : List Node) (before after : Table) (extends : Extends old new) (kept : KeepsEntries before after) (over : AreOver p.sig.hierarchy after) where
     top_cursor_grown : (label : Option LeafId) (s : TopResults K) (d : Todo) (t : Tree) (ys : List Yield) → IsTopCursor asked given is_for c p m leaves old before label s d t ys → IsTopCursor asked given is_for c p m leaves new after label s d t ys
     top_cursor_grown label s d t ys h = record {
       results = h.results;
@@ -95,7 +95,7 @@ module _ {K : Type 0} (asked : K → Asked) (given : K → Option Listed.Solutio
     cursor_grown : (k : LeafCursor K) (d : Todo) (t : Tree) (ys : List Yield) → yields_in asked given is_for c p m leaves old before k d t ys → yields_in asked given is_for c p m leaves new after k d t ys
     cursor_grown (Top label s) d t ys h = top_cursor_grown label s d t ys h
     cursor_grown (Everywhere label s) d t ys h = everywhere_cursor_grown label s d t ys h
-    cursor_grown (Bodies s) d t ys h = call_cursor_grown p m leaves old new before after extends kept s d t ys h
+    cursor_grown (Bodies s) d t ys h = call_cursor_grown asked given is_for c p m leaves goes old new before after extends kept over s d t ys h
     cursor_grown (Test s) d t ys h = test_cursor_grown s d t ys h
     cursor_grown Unsearched d t ys h = h
 
@@ -170,8 +170,8 @@ module _ {K : Type 0} (asked : K → Asked) (given : K → Option Listed.Solutio
 
   -- ---- the next body of a call
 
-  pub call_yields : (nodes : List Node) (table : Table) (s : CallCursor) (d : Todo) (t : Tree) (ys : List Yield) (r : Result (Option Yielded) LeafEnd) → IsNextYield (world_of_calls p m leaves nodes table) s d t ys r →
-      IsNextYield (world_of asked given is_for c p m leaves nodes table) (Bodies s) d t ys r
+  pub call_yields : (nodes : List Node) (table : Table) (s : CallCursor K) (d : Todo) (t : Tree) (ys : List Yield) (r : Result (Option Yielded) LeafEnd) →
+      IsNextYield (world_of_calls asked given is_for c p m leaves nodes table) s d t ys r → IsNextYield (world_of asked given is_for c p m leaves nodes table) (Bodies s) d t ys r
   call_yields nodes table s d t ys (Ok (Some (Term u))) h = h
   call_yields nodes table s d t ys (Ok (Some (BodyOf b))) h = h
   call_yields nodes table s d t ys (Ok None) h = h
@@ -184,17 +184,12 @@ leaf_there [] i s e = cc
 leaf_there (x ∷ leaves) zero s e = ap (λ (z : Option Written.StrategyOf). elim z [ None ↦ idle | Some y ↦ meaning_of y ]) e
 leaf_there (x ∷ leaves) (suc i) s e = leaf_there leaves i s e
 
--- a leaf that has a label, and one that is a call
+-- a leaf that has a label
 module _ (leaves : List Written.StrategyOf) (i : ℕ) (n : List ℕ) where
   labelled_form : (s : Written.StrategyOf) → label_by s ≡ Some n → meaning_of s ≡ by_label n []
   labelled_form (Written.label k []) e = ap (λ (o : Option (List ℕ)). elim o [ None ↦ idle | Some j ↦ by_label j [] ]) e
   labelled_form (Written.label k (x ∷ xs)) e = cc
   labelled_form _ e = cc
-
-  called_form : (s : Written.StrategyOf) → call_by s ≡ Some n → meaning_of s ≡ call n []
-  called_form (Written.call k []) e = ap (λ (o : Option (List ℕ)). elim o [ None ↦ idle | Some j ↦ call j [] ]) e
-  called_form (Written.call k (x ∷ xs)) e = cc
-  called_form _ e = cc
 
   pub labelled_leaf : label_in leaves i ≡ Some n → leaf_at leaves i ≡ by_label n []
   labelled_leaf e = by (slice_get leaves i) refl e
@@ -203,10 +198,16 @@ module _ (leaves : List Written.StrategyOf) (i : ℕ) (n : List ℕ) where
       by None h e = cc
       by (Some s) h e = leaf_there leaves i s h ∙ labelled_form s e
 
-  pub called_leaf : call_in leaves i ≡ Some n → leaf_at leaves i ≡ call n []
+-- one that is a call
+module _ (leaves : List Written.StrategyOf) (i : ℕ) (n : List ℕ) (ts : List Tree) where
+  called_form : (s : Written.StrategyOf) → call_by s ≡ Some (n, ts) → meaning_of s ≡ call n ts
+  called_form (Written.call k us) e = ap (λ (o : Option (List ℕ × List Tree)). elim o [ None ↦ idle | Some j ↦ call j.0 j.1 ]) e
+  called_form _ e = cc
+
+  pub called_leaf : call_in leaves i ≡ Some (n, ts) → leaf_at leaves i ≡ call n ts
   called_leaf e = by (slice_get leaves i) refl e
     where
-      by : (o : Option Written.StrategyOf) → slice_get leaves i ≡ o → call_of_one o ≡ Some n → leaf_at leaves i ≡ call n []
+      by : (o : Option Written.StrategyOf) → slice_get leaves i ≡ o → call_of_one o ≡ Some (n, ts) → leaf_at leaves i ≡ call n ts
       by None h e = cc
       by (Some s) h e = leaf_there leaves i s h ∙ called_form s e
 

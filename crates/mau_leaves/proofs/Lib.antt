@@ -12,8 +12,12 @@ pub mod Moves
 pub mod Limits
 -- steps throughout, by what an evaluator answered
 pub mod Throughs
+-- what is left within something else
+pub mod Within
 -- a search in a store that has grown
 pub mod Searching
+-- terms that are evaluated in turn
+pub mod InTurns
 -- agreement with what is bound
 pub mod Agreeing
 -- the next solution of a rule's left side, as a listing gives it
@@ -46,6 +50,14 @@ pub mod TopSteps
 pub mod Follows
 -- a variable that no pattern of a rule has is not determined
 pub mod NotDetermined
+-- the solutions of a pattern as the uses of a rule without a condition
+pub mod Matching
+-- the search for the solutions of one argument pattern
+pub mod Patterns
+-- searches for the solutions of argument patterns
+pub mod Stacks
+-- one turn of such a search
+pub mod StackTurns
 -- the bodies of a call, definition after definition
 pub mod Definitions
 -- the bodies of a call as a run has them

@@ -1,12 +1,17 @@
 -- Who gives the results of leaves: what stays the same, and what the cursors have yielded, by the numbers of a store.
-use Rattle.std.specs.Prelude.{◌≡◌, ℕ, suc, ◌<◌, List, [], map, length, slice_get, All, Bool, true, false, Option, Some, None, IsSome, Result, Ok, Err}
+use Rattle.std.specs.Prelude.{◌≡◌, ℕ, suc, ◌<◌, ◌≤◌, List, [], map, length, slice_get, All, Bool, true, false, Option, Some, None, IsSome, IfSome, Result, Ok, Err}
 use Rattle.std.specs.List.{slice_index_or}
 use Rattle.mau_terms.specs.Tree.{Tree}
+use Rattle.mau_terms.specs.Bare.{IsBare}
+use Rattle.mau_terms.specs.Subst.{instance}
+use Rattle.mau_terms.specs.View.{tree_of}
+use Rattle.mau_terms.specs.declared.bare.Bare.{Bare}
 use Rattle.mau_terms.specs.declared.ids.TermId.{TermId}
 use Rattle.mau_terms.specs.declared.ids.VarId.{VarId}
-use Rattle.mau_signature.specs.Signature.{SignatureOf}
+use Rattle.mau_signature.specs.Signature.{SignatureOf, terms_over}
 use Rattle.mau_store.specs.Node.{Node, AreNodes}
-use Rattle.mau_store.specs.Trees.{tree_at}
+use Rattle.mau_store.specs.Trees.{tree_at, trees_at}
+use Rattle.mau_store.specs.View.{numbers}
 use Rattle.mau_sorts.specs.Table.{Table}
 use Rattle.mau_listing.specs.Asked.{Asked}
 use Rattle.mau_listing.specs.declared.solution.Solution as Listed
@@ -15,13 +20,14 @@ use Rattle.mau_program.specs.Trees as Written
 use Rattle.mau_program.specs.LawfulStrategies.{IsLawfulDefinition}
 use Rattle.mau_evaluation.specs.Strategy.{Strategy, idle, call}
 use Rattle.mau_evaluation.specs.Engine.{Engine, engine_of}
-use Rattle.mau_evaluation.specs.Answers.{Answers, no_more, answer}
+use Rattle.mau_evaluation.specs.Evaluation.{look_up}
+use Rattle.mau_evaluation.specs.Answers.{Answers, no_more, answer, for_each}
 use Rattle.mau_evaluation.specs.Configs.{Todo}
-use Rattle.mau_evaluation.specs.OrderedLists.{IsLeaf as IsLeafForm}
+use Rattle.mau_evaluation.specs.OrderedLists.{IsLeaf as IsLeafForm, bodies_by}
 use Rattle.mau_api.specs.Terms.{IsTerm}
 use Rattle.mau_api.specs.Programs.{program_over}
 use Rattle.mau_api.specs.Meanings.{Meanings}
-use Rattle.mau_api.specs.Answers.{IsValueOf, AreSettled, levels_of_condition}
+use Rattle.mau_api.specs.Answers.{binding_in, IsValueOf, AreSettled, levels_of_condition}
 use Rattle.mau_api.specs.declared.results.EvalEnd.{EvalEnd}
 use Rattle.mau_api.specs.declared.results.EvalEnd.TheVariants as Ended
 use Rattle.mau_rules.specs.Runnable.{IsRunnable, GoesBy}
@@ -35,7 +41,7 @@ use Rattle.mau_stratrun.specs.declared.leaves.Body.{Body}
 use Rattle.mau_stratrun.specs.declared.leaves.LeafEnd.{LeafEnd}
 use Rattle.mau_stratrun.specs.declared.leaves.LeafEnd.TheVariants.{Stopped, TooDeep, Overflow, NoMemory}
 use Rattle.mau_stratrun.specs.Settings.{Fixed}
-use Rattle.mau_stratrun.specs.Yields.{Yield, result_of, body_on}
+use Rattle.mau_stratrun.specs.Yields.{Yield, result_of, body_on, YieldsAll, IsCause}
 use Rattle.mau_stratrun.specs.Worlds.{World}
 use Rattle.mau_stratforms.specs.Meanings.{meaning_of, definition_of}
 use Rattle.mau_leaves.specs.Uses.{is_chosen}
@@ -44,6 +50,8 @@ use Rattle.mau_leaves.specs.Everywhere.{left_of_places, IsEverywhere, IsEverywhe
 use Rattle.mau_leaves.specs.declared.everywhere.PlacesResults.{PlacesResults}
 use Rattle.mau_leaves.specs.Tests.{left_of_test, IsTest}
 use Rattle.mau_leaves.specs.Searches.{found_in}
+use Rattle.mau_leaves.specs.InTurn.{just, values_behind, IsEvaluated}
+use Rattle.mau_leaves.specs.declared.bodies.CallBodies.{CallBodies}
 use Rattle.mau_leaves.specs.Calls.{left_of_call, body_found, IsCallSearch}
 use Rattle.mau_leaves.specs.Follows.{HasGiven, HasGivenBodies, IsTopOf}
 use Rattle.mau_leaves.specs.declared.top.TopResults.{TopResults}
@@ -70,16 +78,16 @@ label_of_one (Some s) = label_by s
 abbrev pub label_in : List Written.StrategyOf → ℕ → Option (List ℕ)
 label_in leaves l = label_of_one (slice_get leaves l)
 
--- the name of a leaf that is a call without arguments
-abbrev pub call_by : Written.StrategyOf → Option (List ℕ)
-call_by (Written.call n []) = Some n
+-- the name of a leaf that is a call, and its arguments
+abbrev pub call_by : Written.StrategyOf → Option (List ℕ × List Tree)
+call_by (Written.call n ts) = Some (n, ts)
 call_by _ = None
 
-abbrev pub call_of_one : Option Written.StrategyOf → Option (List ℕ)
+abbrev pub call_of_one : Option Written.StrategyOf → Option (List ℕ × List Tree)
 call_of_one None = None
 call_of_one (Some s) = call_by s
 
-abbrev pub call_in : List Written.StrategyOf → ℕ → Option (List ℕ)
+abbrev pub call_in : List Written.StrategyOf → ℕ → Option (List ℕ × List Tree)
 call_in leaves l = call_of_one (slice_get leaves l)
 
 -- all rules, or those with the label of a leaf
@@ -123,7 +131,7 @@ yielded_by (Ok (Some id)) = Ok (Some (Term id))
 yielded_by (Ok None) = Ok None
 yielded_by (Err e) = Err (leaf_end e)
 
--- ---- calls without arguments
+-- ---- calls
 
 -- what is left where the last one that was found may be due
 abbrev pub left_due : {A : Type 0} → Bool → Option A → (Answers A → Type 0) → Answers A → Type 0
@@ -131,24 +139,46 @@ left_due false o now q = now q
 left_due true None now q = q ≡ no_more
 left_due {A = A} true (Some x) now q = (r : Answers A) × now r × (q ≡ answer x r)
 
-module _ (p : Typed.Program) (m : Meanings) (leaves : List Written.StrategyOf) (nodes : List Node) (table : Table) where
-  abbrev pub left_of_cursor : ℕ → List ℕ → CallCursor → Engine → Answers Todo → Type 0
-  left_of_cursor k n s L = left_due s.due (body_found p k nodes s.bodies) (left_of_call p m.hooks k n nodes s.bodies L)
+-- a term over a signature
+pub record IsOver (s : SignatureOf) (t : Bare) : Type 0 where
+  pub bare : IsBare (terms_over s) (tree_of t)
+
+-- the last solution of a condition, where bodies are searched for
+abbrev pub found_by : {K : Type 0} → Option (CallBodies K) → Option (List (VarId × TermId))
+found_by None = None
+found_by (Some b) = found_in b.standing
+
+module _ {K : Type 0} (asked : K → Asked) (given : K → Option Listed.Solution) (is_for : K → SignatureOf → Type 0) (c : Bool) (p : Typed.Program) (m : Meanings) (leaves : List Written.StrategyOf) (nodes : List Node) (table : Table) where
+  -- what is left of the bodies of a call, by its name and its arguments: the arguments are evaluated first
+  abbrev pub left_of_stage : ℕ → List ℕ → List Tree → CallCursor K → Option (CallBodies K) → Engine → Answers Todo → Type 0
+  left_of_stage k n ts s None = just (λ L.
+      for_each (bodies_by (program_over p m.hooks) L (map definition_of p.strategies) k n)
+      (values_behind (program_over p m.hooks) L (map (instance (look_up (binding_in nodes s.bound.items))) ts) (trees_at nodes (numbers s.values.items))))
+  left_of_stage k n ts s (Some b) = λ L. left_due s.due (body_found p k nodes b) (left_of_call asked given p m.hooks k n (trees_at nodes (numbers s.values.items)) nodes b L)
+
+  abbrev pub left_of_cursor : ℕ → List ℕ → List Tree → CallCursor K → Engine → Answers Todo → Type 0
+  left_of_cursor k n ts s = left_of_stage k n ts s s.bodies
 
   -- bodies of a call, which are searched for where calls are left
-  pub record IsCallCursor (s : CallCursor) (d : Todo) (t : Tree) (ys : List Yield) : Type 0 where
+  pub record IsCallCursor (s : CallCursor K) (d : Todo) (t : Tree) (ys : List Yield) : Type 0 where
     pub name : List ℕ
-    pub named : call_in leaves s.leaf.0 ≡ Some name
-    pub form : d.form ≡ call name []
+    pub args : List Tree
+    pub named : call_in leaves s.leaf.0 ≡ Some (name, args)
+    pub form : d.form ≡ call name args
     pub calls : d.calls ≡ s.calls
+    pub values : d.values ≡ binding_in nodes s.bound.items
+    pub bound : All (IsValueOf p.sig nodes table) s.bound.items
+    pub bare : All (IsBare (terms_over p.sig)) args
+    pub evaluated : All (IsEvaluated p.sig nodes table) s.values.items
+    pub count : length s.values.items ≤ length args
     pub bodies : List Todo
     pub yielded : ys ≡ map (body_on t) bodies
-    pub search : IsCallSearch p m nodes table s.bodies
-    pub stands : s.due ≡ true → IsSome (found_in s.bodies.standing)
-    pub rest : (k : ℕ) → d.calls ≡ suc k → HasGivenBodies (program_over p m.hooks) (engine_of (program_over p m.hooks)) (map definition_of p.strategies) k d bodies (left_of_cursor k name s)
+    pub search : IfSome s.bodies (IsCallSearch asked given is_for c p m nodes table s.values.items)
+    pub stands : s.due ≡ true → IsSome (found_by s.bodies)
+    pub rest : (k : ℕ) → d.calls ≡ suc k → HasGivenBodies (program_over p m.hooks) (engine_of (program_over p m.hooks)) (map definition_of p.strategies) k d bodies (left_of_cursor k name args s)
 
   -- what runs may ask where all cursors are those of calls
-  abbrev pub world_of_calls : World CallCursor
+  abbrev pub world_of_calls : World (CallCursor K)
   world_of_calls = record {
     setting = record { fixed = fixed_of p m leaves; terms = length nodes; tree = tree_at nodes };
     is_term = λ n. IsTerm p.sig nodes n × AreSettled p.sig nodes table (tree_at nodes n);
@@ -159,17 +189,39 @@ module _ (p : Typed.Program) (m : Meanings) (leaves : List Written.StrategyOf) (
 abbrev pub bound_by : VarId × TermId → Bound
 bound_by b = record { variable = b.0; value = b.1 }
 
+-- ---- what comes of one step of a call
+
+module _ {K : Type 0} (asked : K → Asked) (given : K → Option Listed.Solution) (is_for : K → SignatureOf → Type 0) (c : Bool) (p : Typed.Program) (m : Meanings) (leaves : List Written.StrategyOf) (nodes : List Node) (table : Table)
+    (s : CallCursor K) (d : Todo) (t : Tree) (ys : List Yield) where
+  abbrev pub IsStill : Type 0
+  IsStill = IsCallCursor asked given is_for c p m leaves nodes table s d t ys
+
+  abbrev pub CausedBy : EvalEnd → Type 0
+  CausedBy e = (k : ℕ) → d.calls ≡ suc k → IsCause (fixed_of p m leaves) d t ys (leaf_end e)
+
+  -- the arguments have their values, or an end has its cause
+  abbrev pub HasTaken : {A : Type 0} → Result A EvalEnd → Type 0
+  HasTaken (Ok x) = IsStill
+  HasTaken (Err e) = IsStill × CausedBy e
+
+  -- a body is due, or the call has no others, or an end has its cause
+  abbrev pub HasFound : Result Bool EvalEnd → Type 0
+  HasFound (Ok true) = IsStill
+  HasFound (Ok false) = (k : ℕ) → d.calls ≡ suc k → YieldsAll (fixed_of p m leaves) d t ys
+  HasFound (Err e) = IsStill × CausedBy e
+
 -- the body that was found last, with so many calls
-pub record IsBodyOf (s : CallCursor) (calls : ℕ) (b : Body) : Type 0 where
+pub record IsBodyOf {K : Type 0} (s : CallBodies K) (calls : ℕ) (b : Body) : Type 0 where
   pub found : List (VarId × TermId)
-  pub at : found_in s.bodies.standing ≡ Some found
-  pub definition : b.definition ≡ s.bodies.number
+  pub at : found_in s.standing ≡ Some found
+  pub definition : b.definition ≡ s.number
   pub calls_left : b.calls ≡ calls
   pub values : b.values.items ≡ map bound_by found
 
 -- it is due no more, or memory is wanting
-abbrev pub IsGivenBody : CallCursor → CallCursor → ℕ → Result (Option Yielded) LeafEnd → Type 0
-IsGivenBody old new calls (Ok (Some (BodyOf b))) = IsBodyOf old calls b × (new ≡ record { leaf = old.leaf; calls = old.calls; bodies = old.bodies; due = false })
+abbrev pub IsGivenBody : {K : Type 0} → CallCursor K → CallCursor K → ℕ → Result (Option Yielded) LeafEnd → Type 0
+IsGivenBody {K = K} old new calls (Ok (Some (BodyOf b))) = (s : CallBodies K) × (old.bodies ≡ Some s) × IsBodyOf s calls b ×
+    (new ≡ record { leaf = old.leaf; calls = old.calls; bound = old.bound; values = old.values; bodies = old.bodies; due = false })
 IsGivenBody old new calls (Ok (Some (Term u))) = ⊥
 IsGivenBody old new calls (Ok None) = ⊥
 IsGivenBody old new calls (Err e) = (e ≡ NoMemory) × (new ≡ old)
@@ -204,7 +256,7 @@ module _ {K : Type 0} (asked : K → Asked) (given : K → Option Listed.Solutio
   abbrev pub yields_in : LeafCursor K → Todo → Tree → List Yield → Type 0
   yields_in (Top label s) d t ys = IsTopCursor label s d t ys
   yields_in (Everywhere label s) d t ys = IsEverywhereCursor label s d t ys
-  yields_in (Bodies s) d t ys = IsCallCursor p m leaves nodes table s d t ys
+  yields_in (Bodies s) d t ys = IsCallCursor asked given is_for c p m leaves nodes table s d t ys
   yields_in (Test s) d t ys = IsTestCursor s d t ys
   yields_in Unsearched d t ys = ys ≡ []
 

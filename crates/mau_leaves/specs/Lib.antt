@@ -14,6 +14,8 @@ pub mod AtPlace
 pub mod Laws
 -- the term that a use of a rule leads to
 pub mod Values
+-- terms that are evaluated in turn
+pub mod InTurn
 -- searches for the results of rules at the root of a term
 pub mod Top
 -- searches for the results of rules at all places of a term
@@ -22,7 +24,9 @@ pub mod Everywhere
 pub mod Follows
 -- the variables that a fragment of a condition matches
 pub mod Matched
--- searches for the bodies of a call without arguments
+-- searches for the solutions of argument patterns
+pub mod Arguments
+-- searches for the bodies of a call
 pub mod Calls
 -- values that variables have before
 pub mod Given

@@ -1,5 +1,5 @@
 //! Who gives the results of leaves and the bodies of calls, by any evaluator and any listing with contexts.
-ghost use Rattle.std.specs.Prelude.{◌≡◌, ◌<◌, ℕ, List, [], length, map, slice_get, All, true, false, IsSome, IfOk};
+ghost use Rattle.std.specs.Prelude.{◌≡◌, ◌<◌, ℕ, List, [], length, map, slice_get, All, true, false, None, Some, IsSome, IfOk, OnOk};
 ghost use Rattle.std.specs.Option.{option_map};
 ghost use Rattle.mau_terms.specs.Tree.{Tree};
 ghost use Rattle.mau_store.specs.Node.{Extends};
@@ -17,30 +17,34 @@ ghost use Rattle.mau_stratrun.specs.Settings.{IsLeadIn};
 ghost use Rattle.mau_stratrun.specs.Worlds.{LeavesGrow, begun_by, values_of, IsNextYield};
 ghost use Rattle.mau_rules.specs.Runnable.{IsRunnable, GoesBy};
 ghost use Rattle.mau_leaves.specs.Searches.{found_in};
-ghost use Rattle.mau_leaves.specs.Cursors.{leaf_at, label_in, chosen_by, call_in, leaf_end, yielded_by, bound_by, IsTopCursor, IsEverywhereCursor, IsTestCursor, IsCallCursor, IsGivenBody, IsReady, yields_in, world_of, world_of_calls};
-ghost use Rattle.mau_leaves.specs.declared.uses.Standing.TheVariants.{Behind};
+ghost use Rattle.mau_leaves.specs.Cursors.{leaf_at, label_in, chosen_by, call_in, leaf_end, yielded_by, bound_by, IsTopCursor, IsEverywhereCursor, IsTestCursor, IsOver, found_by, IsCallCursor, HasTaken, HasFound, IsBodyOf, IsGivenBody, IsReady, yields_in, world_of, world_of_calls};
 ghost use Rattle.mau_leaves.specs.declared.cursor.LeafCursor.TheVariants as At;
 
 use crate::bodies::{CallBodies, next_body};
 use crate::everywhere::{PlacesResults, next_everywhere, start_everywhere};
+use crate::given::pairs_of;
 use crate::testing::{TestCursor, next_test, start_test};
 use crate::top::{TopResults, next_top, start_top};
 use crate::uses::{Standing, last_of};
+use crate::values::next_values;
 use mau_api::{EvalEnd, Evaluator, Lister, Program, Strategy, StrategyForm};
+use mau_signature::{Signature, is_bare};
 use mau_store::Store;
 use mau_strat::{Bound, LeafId};
 use mau_stratrun::{Body, Lead, LeafEnd, Leaves, Yielded};
-use mau_terms::{NoMemory, TermId, VarId};
+use mau_terms::{Args, Bare, NoMemory, TermId, VarId};
 use std::alloc::Global;
 use std::marker::PhantomData;
 
-/// A call without arguments, by the number of its leaf, with the calls that are left to it; the search for its bodies; and whether the body
-/// that was found last is due.
+/// A call, by the number of its leaf, with the calls that are left to it and the values that variables have; the values of the first of its
+/// arguments; the search for its bodies, which begins where all arguments have theirs; and whether the body that was found last is due.
 #[derive(Drop)]
-pub struct CallCursor {
+pub struct CallCursor<L> {
     pub leaf: LeafId,
     pub calls: usize,
-    pub bodies: CallBodies,
+    pub bound: Vec<(VarId, TermId)>,
+    pub values: Vec<TermId>,
+    pub bodies: Option<CallBodies<L>>,
     pub due: bool,
 }
 
@@ -51,8 +55,8 @@ pub enum LeafCursor<L> {
     Top(Option<LeafId>, TopResults<L>),
     /// `all`, or a label by the number of its leaf.
     Everywhere(Option<LeafId>, PlacesResults<L>),
-    /// A call without arguments.
-    Bodies(CallCursor),
+    /// A call.
+    Bodies(CallCursor<L>),
     /// A test.
     Test(TestCursor<L>),
     /// Nothing is searched for yet: who asks is told that memory is wanting.
@@ -98,18 +102,26 @@ fn label_by(leaves: &[Strategy], leaf: Option<LeafId>) -> Option<&str>
     }
 }
 
-/// The name of a leaf that is a call without arguments.
+/// The name of a leaf that is a call.
 fn name_of(leaves: &[Strategy], leaf: LeafId) -> Option<&str>
-    ensures { option_map (λ x. x.now) result ≡ call_in leaves.now leaf.0 }
+    ensures { option_map (λ x. x.now) result ≡ option_map (λ x. x.0) (call_in leaves.now leaf.0) }
 {
     match leaves.get(leaf.0) {
         Some(strategy) => match strategy.form() {
-            StrategyForm::Call(name, args) => {
-                if !args.items().is_empty() {
-                    return None;
-                }
-                Some(name.as_str())
-            }
+            StrategyForm::Call(name, _) => Some(name.as_str()),
+            _ => None,
+        },
+        None => None,
+    }
+}
+
+/// The arguments of a leaf that is a call.
+fn args_of(leaves: &[Strategy], leaf: LeafId) -> Option<&Args>
+    ensures { option_map (λ x. x.now) result ≡ option_map (λ x. x.1) (call_in leaves.now leaf.0) }
+{
+    match leaves.get(leaf.0) {
+        Some(strategy) => match strategy.form() {
+            StrategyForm::Call(_, args) => Some(args),
             _ => None,
         },
         None => None,
@@ -245,52 +257,217 @@ fn bounds(alloc: Global, found: &[(VarId, TermId)]) -> Result<Vec<Bound>, NoMemo
     Ok(values)
 }
 
-/// The body that is due.
-fn give_body(
+/// The body that a search found last.
+fn body_of<L: Lister + Drop>(
     alloc: Global,
-    cursor: &mut CallCursor,
+    bodies: &CallBodies<L>,
     calls: usize,
-) -> Result<Option<Yielded>, LeafEnd>
-    requires due { cursor.old.due ≡ true }
-    requires found { IsSome (found_in cursor.old.bodies.standing) }
-    ensures given { IsGivenBody cursor.old cursor.new calls result }
+) -> Result<Body, NoMemory>
+    requires found { IsSome (found_in bodies.now.standing) }
+    ensures body { IfOk result (IsBodyOf bodies.now calls) }
 {
-    let found = match last_of(&cursor.bodies.standing) {
+    let found = match last_of(&bodies.standing) {
         Some(found) => found,
         None => unreachable!(),
     };
-    match bounds(alloc, found) {
-        Ok(values) => {
+    let values = bounds(alloc, found)?;
+    Ok(Body {
+        definition: bodies.number,
+        calls,
+        values,
+    })
+}
+
+/// The body that is due.
+fn give_body<L: Lister + Drop>(
+    alloc: Global,
+    cursor: &mut CallCursor<L>,
+    calls: usize,
+) -> Result<Option<Yielded>, LeafEnd>
+    requires due { cursor.old.due ≡ true }
+    requires found { IsSome (found_by cursor.old.bodies) }
+    ensures given { IsGivenBody cursor.old cursor.new calls result }
+{
+    let bodies = match &cursor.bodies {
+        Some(bodies) => bodies,
+        None => unreachable!(),
+    };
+    match body_of(alloc, bodies, calls) {
+        Ok(body) => {
             cursor.due = false;
-            Ok(Some(Yielded::Body(Body {
-                definition: cursor.bodies.number,
-                calls,
-                values,
-            })))
+            Ok(Some(Yielded::Body(body)))
         }
         Err(_) => Err(LeafEnd::NoMemory),
     }
 }
 
-/// The next body of a call.
-fn next_of_call<E: Evaluator>(
+/// The values of the arguments of a call, behind which the search for its bodies begins.
+fn take_values<E: Evaluator, L: Lister + Drop>(
     program: &Program,
     leaves: &[Strategy],
     store: &mut Store,
     evaluator: &mut E,
-    cursor: &mut CallCursor,
+    cursor: &mut CallCursor<L>,
     limit: u64,
-) -> Result<Option<Yielded>, LeafEnd>
+) -> Result<(), EvalEnd>
+    requires runnable { IsRunnable program.now }
+    requires goes_by { GoesBy program.now (E.meanings evaluator.old) }
+    requires fits { E.fits evaluator.old store.old }
+    requires limit { limit ≡ (E.meanings evaluator.old).limit }
+    requires yields { (d : Todo) × (t : Tree) × (ys : List Yield) × IsCallCursor L.asked L.given L.is_for L.with_context program.now
+        (E.meanings evaluator.old) leaves.now store.old (E.table evaluator.old) cursor.old d t ys }
+    requires idle { cursor.old.bodies ≡ None }
+    ensures taken { (d : Todo) (t : Tree) (ys : List Yield) → IsCallCursor L.asked L.given L.is_for L.with_context program.now
+        (E.meanings evaluator.old) leaves.now store.old (E.table evaluator.old) cursor.old d t ys →
+        HasTaken L.asked L.given L.is_for L.with_context program.now (E.meanings evaluator.old) leaves.now
+        store.new (E.table evaluator.new) cursor.new d t ys result }
+    ensures due { cursor.new.due ≡ cursor.old.due }
+    ensures calls { cursor.new.calls ≡ cursor.old.calls }
+    ensures begun { OnOk result (IsSome cursor.new.bodies) }
+    ensures extends { Extends store.old store.new }
+    ensures fits { E.fits evaluator.new store.new }
+    ensures kept { KeepsEntries (E.table evaluator.old) (E.table evaluator.new) }
+    ensures meanings { E.meanings evaluator.new ≡ E.meanings evaluator.old }
+{
+    let args = match args_of(leaves, cursor.leaf) {
+        Some(args) => args,
+        None => unreachable!(),
+    };
+    match next_values(
+        program,
+        store,
+        evaluator,
+        args.items(),
+        &cursor.bound,
+        &mut cursor.values,
+        limit,
+    ) {
+        Ok(()) => {
+            cursor.bodies = Some(CallBodies {
+                number: 0,
+                arguments: None,
+                standing: Standing::Behind,
+            });
+            Ok(())
+        }
+        Err(end) => Err(end),
+    }
+}
+
+/// The values of the arguments of a call, where they are not there yet.
+fn have_values<E: Evaluator, L: Lister + Drop>(
+    program: &Program,
+    leaves: &[Strategy],
+    store: &mut Store,
+    evaluator: &mut E,
+    cursor: &mut CallCursor<L>,
+    limit: u64,
+) -> Result<(), EvalEnd>
+    requires runnable { IsRunnable program.now }
+    requires goes_by { GoesBy program.now (E.meanings evaluator.old) }
+    requires fits { E.fits evaluator.old store.old }
+    requires limit { limit ≡ (E.meanings evaluator.old).limit }
+    requires yields { (d : Todo) × (t : Tree) × (ys : List Yield) × IsCallCursor L.asked L.given L.is_for L.with_context program.now
+        (E.meanings evaluator.old) leaves.now store.old (E.table evaluator.old) cursor.old d t ys }
+    ensures taken { (d : Todo) (t : Tree) (ys : List Yield) → IsCallCursor L.asked L.given L.is_for L.with_context program.now
+        (E.meanings evaluator.old) leaves.now store.old (E.table evaluator.old) cursor.old d t ys →
+        HasTaken L.asked L.given L.is_for L.with_context program.now (E.meanings evaluator.old) leaves.now
+        store.new (E.table evaluator.new) cursor.new d t ys result }
+    ensures due { cursor.new.due ≡ cursor.old.due }
+    ensures calls { cursor.new.calls ≡ cursor.old.calls }
+    ensures begun { OnOk result (IsSome cursor.new.bodies) }
+    ensures extends { Extends store.old store.new }
+    ensures fits { E.fits evaluator.new store.new }
+    ensures kept { KeepsEntries (E.table evaluator.old) (E.table evaluator.new) }
+    ensures meanings { E.meanings evaluator.new ≡ E.meanings evaluator.old }
+{
+    match &cursor.bodies {
+        Some(_) => {
+            let _ = store.len();
+            Ok(())
+        }
+        None => take_values(program, leaves, store, evaluator, cursor, limit),
+    }
+}
+
+/// The next body of a call whose arguments have their values: where there is one, it is due.
+fn find_body<E: Evaluator, L: Lister + Drop>(
+    program: &Program,
+    leaves: &[Strategy],
+    store: &mut Store,
+    evaluator: &mut E,
+    cursor: &mut CallCursor<L>,
+    limit: u64,
+) -> Result<bool, EvalEnd>
+    requires contexts { L.with_context ≡ true }
     requires runnable { IsRunnable program.now }
     requires definitions { All (IsLawfulDefinition program.now.sig) program.now.strategies }
     requires goes_by { GoesBy program.now (E.meanings evaluator.old) }
     requires fits { E.fits evaluator.old store.old }
     requires limit { limit ≡ (E.meanings evaluator.old).limit }
-    requires yields { (d : Todo) × (t : Tree) × (ys : List Yield) × IsCallCursor program.now
+    requires yields { (d : Todo) × (t : Tree) × (ys : List Yield) × IsCallCursor L.asked L.given L.is_for L.with_context program.now
         (E.meanings evaluator.old) leaves.now store.old (E.table evaluator.old) cursor.old d t ys }
-    ensures next { (d : Todo) (t : Tree) (ys : List Yield) → IsCallCursor program.now
+    requires begun { IsSome cursor.old.bodies }
+    requires idle { cursor.old.due ≡ false }
+    ensures found { (d : Todo) (t : Tree) (ys : List Yield) → IsCallCursor L.asked L.given L.is_for L.with_context program.now
         (E.meanings evaluator.old) leaves.now store.old (E.table evaluator.old) cursor.old d t ys →
-        IsNextYield (world_of_calls program.now (E.meanings evaluator.old) leaves.now store.new (E.table evaluator.new)) cursor.new d t ys result }
+        HasFound L.asked L.given L.is_for L.with_context program.now (E.meanings evaluator.old) leaves.now
+        store.new (E.table evaluator.new) cursor.new d t ys result }
+    ensures calls { cursor.new.calls ≡ cursor.old.calls }
+    ensures due { IfOk result (λ some. some ≡ true → (cursor.new.due ≡ true) × IsSome (found_by cursor.new.bodies)) }
+    ensures extends { Extends store.old store.new }
+    ensures fits { E.fits evaluator.new store.new }
+    ensures kept { KeepsEntries (E.table evaluator.old) (E.table evaluator.new) }
+    ensures meanings { E.meanings evaluator.new ≡ E.meanings evaluator.old }
+{
+    let leaf = cursor.leaf;
+    let bodies = match &mut cursor.bodies {
+        Some(bodies) => bodies,
+        None => unreachable!(),
+    };
+    let name = match name_of(leaves, leaf) {
+        Some(name) => name,
+        None => unreachable!(),
+    };
+    match next_body(
+        program,
+        name,
+        &cursor.values,
+        store,
+        evaluator,
+        bodies,
+        limit,
+    ) {
+        Ok(true) => {
+            cursor.due = true;
+            Ok(true)
+        }
+        Ok(false) => Ok(false),
+        Err(end) => Err(end),
+    }
+}
+
+/// The next body of a call.
+fn next_of_call<E: Evaluator, L: Lister + Drop>(
+    program: &Program,
+    leaves: &[Strategy],
+    store: &mut Store,
+    evaluator: &mut E,
+    cursor: &mut CallCursor<L>,
+    limit: u64,
+) -> Result<Option<Yielded>, LeafEnd>
+    requires contexts { L.with_context ≡ true }
+    requires runnable { IsRunnable program.now }
+    requires definitions { All (IsLawfulDefinition program.now.sig) program.now.strategies }
+    requires goes_by { GoesBy program.now (E.meanings evaluator.old) }
+    requires fits { E.fits evaluator.old store.old }
+    requires limit { limit ≡ (E.meanings evaluator.old).limit }
+    requires yields { (d : Todo) × (t : Tree) × (ys : List Yield) × IsCallCursor L.asked L.given L.is_for L.with_context program.now
+        (E.meanings evaluator.old) leaves.now store.old (E.table evaluator.old) cursor.old d t ys }
+    ensures next { (d : Todo) (t : Tree) (ys : List Yield) → IsCallCursor L.asked L.given L.is_for L.with_context program.now
+        (E.meanings evaluator.old) leaves.now store.old (E.table evaluator.old) cursor.old d t ys →
+        IsNextYield (world_of_calls L.asked L.given L.is_for L.with_context program.now (E.meanings evaluator.old) leaves.now
+        store.new (E.table evaluator.new)) cursor.new d t ys result }
     ensures extends { Extends store.old store.new }
     ensures fits { E.fits evaluator.new store.new }
     ensures kept { KeepsEntries (E.table evaluator.old) (E.table evaluator.new) }
@@ -303,34 +480,87 @@ fn next_of_call<E: Evaluator>(
     if cursor.due {
         return give_body(store.allocator(), cursor, calls);
     }
-    let name = match name_of(leaves, cursor.leaf) {
-        Some(name) => name,
-        None => unreachable!(),
-    };
-    match next_body(program, name, store, evaluator, &mut cursor.bodies, limit) {
+    match have_values(program, leaves, store, evaluator, cursor, limit) {
+        Ok(()) => (),
+        Err(end) => return Err(end_of(end)),
+    }
+    match find_body(program, leaves, store, evaluator, cursor, limit) {
         Ok(true) => (),
         Ok(false) => return Ok(None),
         Err(end) => return Err(end_of(end)),
     }
-    cursor.due = true;
     give_body(store.allocator(), cursor, calls)
 }
 
-/// The cursor of a call without arguments, which has yielded nothing.
-fn call_cursor(leaf: LeafId, calls: usize) -> CallCursor
-    ensures leaf { result.leaf ≡ leaf }
-    ensures calls { result.calls ≡ calls }
-    ensures begun { (result.bodies.number ≡ 0) × (result.bodies.standing ≡ Behind) × (result.due ≡ false) }
+/// Whether a term is over a signature.
+fn is_over(sig: &Signature, term: &Bare) -> bool
+    ensures { result ≡ true → IsOver sig.now term.now }
+{
+    is_bare(sig, term)
+}
+
+/// Whether all terms are over a signature.
+fn are_bare(sig: &Signature, terms: &[Bare]) -> bool
+    ensures { result ≡ true → All (IsOver sig.now) terms.now }
+{
+    match terms {
+        [] => true,
+        [first, rest @ ..] => is_over(sig, first) && are_bare(sig, rest),
+    }
+}
+
+/// The cursor of a call, which has yielded nothing.
+fn call_cursor<L: Lister + Drop>(
+    alloc: Global,
+    leaf: LeafId,
+    calls: usize,
+    bound: Vec<(VarId, TermId)>,
+) -> CallCursor<L>
+    ensures parts { (result.leaf ≡ leaf) × (result.calls ≡ calls) × (result.bound ≡ bound) }
+    ensures begun { (result.values.items ≡ []) × (result.bodies ≡ None) × (result.due ≡ false) }
 {
     CallCursor {
         leaf,
         calls,
-        bodies: CallBodies {
-            number: 0,
-            standing: Standing::Behind,
-        },
+        bound,
+        values: Vec::new(alloc),
+        bodies: None,
         due: false,
     }
+}
+
+/// The cursor of a call on a term, which has yielded nothing. Calls whose arguments are not over the signature are not searched for.
+fn start_call<E: Evaluator, L: Lister + Drop>(
+    program: &Program,
+    leaves: &[Strategy],
+    store: &Store,
+    evaluator: &E,
+    leaf: LeafId,
+    args: &Args,
+    calls: usize,
+    values: &[Bound],
+    term: TermId,
+) -> Result<LeafCursor<L>, NoMemory>
+    requires called { option_map (λ x. x.1) (call_in leaves.now leaf.0) ≡ Some args.now }
+    requires values { All (λ (b : GivenValue). IsValueOf program.now.sig store.now (E.table evaluator.now) (b.variable, b.value)) values.now }
+    ensures yields { IfOk result (λ k. yields_in L.asked L.given L.is_for L.with_context program.now (E.meanings evaluator.now)
+        leaves.now store.now (E.table evaluator.now) k
+        (record { form = leaf_at leaves.now leaf.0; calls = calls; values = values_of (tree_at store.now) values.now })
+        (tree_at store.now term.0) []) }
+{
+    let _ = evaluator.sorts();
+    let _ = leaves;
+    let _ = term;
+    if !are_bare(&program.sig, args.items()) {
+        return Ok(LeafCursor::Unsearched);
+    }
+    let bound = pairs_of(store.allocator(), values)?;
+    Ok(LeafCursor::Bodies(call_cursor(
+        store.allocator(),
+        leaf,
+        calls,
+        bound,
+    )))
 }
 
 /// The leaf with a number.
@@ -362,8 +592,12 @@ fn start_leaf<E: Evaluator, L: Lister + Drop>(
         (record { form = leaf_at leaves.now leaf.0; calls = calls; values = values_of (tree_at store.now) values.now })
         (tree_at store.now term.0) []) }
 {
-    match name_of(leaves, leaf) {
-        Some(_) => return Ok(LeafCursor::Bodies(call_cursor(leaf, calls))),
+    match args_of(leaves, leaf) {
+        Some(args) => {
+            return start_call(
+                program, leaves, store, evaluator, leaf, args, calls, values, term,
+            );
+        }
         None => (),
     }
     let strategy = match leaf_by(leaves, leaf) {

@@ -1,6 +1,7 @@
 //! The results of leaves of strategies, one after another, by any evaluator and any listing with contexts.
 #![tactic(auto)]
 
+mod arguments;
 mod bodies;
 mod cursor;
 mod determined;
@@ -14,7 +15,9 @@ mod top;
 mod turn;
 mod uses;
 mod value;
+mod values;
 
+pub use arguments::{ArgumentSearch, PatternSearch};
 pub use bodies::CallBodies;
 pub use cursor::{CallCursor, LeafCursor, RunLeaves};
 pub use everywhere::{PlacesResults, next_everywhere, start_everywhere};

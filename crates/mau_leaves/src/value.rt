@@ -31,7 +31,7 @@ use mau_terms::{NoMemory, TermId, VarId};
 use std::alloc::Global;
 
 /// Variables with their values, in two lists.
-fn parted(alloc: Global, bound: &[(VarId, TermId)]) -> Result<Binding, NoMemory>
+pub(crate) fn parted(alloc: Global, bound: &[(VarId, TermId)]) -> Result<Binding, NoMemory>
     ensures bound { (nodes : List Node) → IfOk result (λ kept. bound_in nodes kept ≡ binding_in nodes bound.now) }
     ensures values { (s : SignatureOf) (nodes : List Node) (table : Table) → All (IsValueOf s nodes table) bound.now →
         IfOk result (AreValues s nodes) }

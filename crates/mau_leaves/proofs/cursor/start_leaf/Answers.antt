@@ -2,7 +2,6 @@ use Rattle.std.proofs.Common.{◌≡◌, [], map, Option, Some, IfSome, refl, sy
 use Rattle.std.specs.Option.{option_map}
 use Rattle.mau_terms.specs.View.{tree_of}
 use Rattle.mau_store.specs.Trees.{tree_at}
-use Rattle.mau_strat.specs.declared.forms.LeafId.{LeafId}
 use Rattle.mau_program.specs.Strategies.{strategy_of}
 use Rattle.mau_evaluation.specs.Strategy.{test}
 use Rattle.mau_evaluation.specs.OrderedLists.{IsLeaf}
@@ -12,26 +11,15 @@ use Rattle.mau_stratrun.specs.Worlds.{values_of}
 use Rattle.mau_stratforms.specs.Meanings.{kind_of, meaning_of}
 use Rattle.mau_leaves.specs.Given.{pair_by}
 use Rattle.mau_leaves.specs.Tests.{IsBegunTest}
-use Rattle.mau_leaves.specs.Cursors.{leaf_at, call_in}
+use Rattle.mau_leaves.specs.Cursors.{leaf_at}
 use Rattle.mau_leaves.specs.declared.testing.TestCursor.{TestCursor}
-use Rattle.mau_leaves.proofs.Calling.{call_begins}
 use Rattle.mau_leaves.proofs.Givens.{pairs_are}
 use Rattle.mau_leaves.proofs.Holding.{begins_test}
-use Rattle.mau_leaves.proofs.Cursors.{leaf_there, called_leaf}
+use Rattle.mau_leaves.proofs.Cursors.{leaf_there}
 use Rattle.mau_leaves.proofs.cursor.start_leaf.Goals as goal
 
-pub returns-in-Some : goal.returns-in-Some
-returns-in-Some g c =
-    let leaves = c.args.leaves.now in
-    let n = c.in-Some.field-0.now in
-    let s = c.call_cursor.result in
-    let named : call_in leaves c.args.leaf.0 ≡ Some n = sym c.name_of.ensures ∙ ap (option_map (λ x. x.now)) c.in-Some.is in
-    let begun = c.call_cursor.ensures.begun in
-    record {
-      yields = call_begins c.args.program.now (g.E.Evaluator.meanings c.args.evaluator.now) leaves c.args.store.now (g.E.Evaluator.table c.args.evaluator.now) s begun.2 begun.0 begun.1
-          (record { form = leaf_at leaves c.args.leaf.0; calls = c.args.calls; values = values_of (tree_at c.args.store.now) c.args.values.now }) (tree_at c.args.store.now c.args.term.0) n
-          (ap (λ (l : LeafId). call_in leaves l.0) c.call_cursor.ensures.leaf ∙ named) (called_leaf leaves c.args.leaf.0 n named) (sym c.call_cursor.ensures.calls);
-    }
+pub start_call-requires-clause-called : goal.start_call-requires-clause-called
+start_call-requires-clause-called g c = sym c.args_of.ensures ∙ ap (option_map (λ x. x.now)) c.in-Some.is
 
 pub returns-in-Some-2 : goal.returns-in-Some-2
 returns-in-Some-2 g c =

@@ -23,5 +23,5 @@ returns-clause-grows g c =
     let over = over_of p m (g.E.Evaluator.meanings n.evaluator) c.next_of-found.ensures.meanings ready.goes_by.program n.store (g.E.Evaluator.table n.evaluator) (g.met.E.Evaluator.derived n.evaluator n.store c.next_of-found.ensures.fits) in
     subst (λ (k : Meanings). LeavesGrow (world_of g.L.Lister.asked g.L.Lister.given g.L.Lister.is_for g.L.Lister.with_context p m r.leaves.now r.store (g.E.Evaluator.table r.evaluator))
     (world_of g.L.Lister.asked g.L.Lister.given g.L.Lister.is_for g.L.Lister.with_context p k r.leaves.now n.store (g.E.Evaluator.table n.evaluator))) (sym c.next_of-found.ensures.meanings)
-    (world_grown g.L.Lister.asked g.L.Lister.given g.L.Lister.is_for g.L.Lister.with_context p m r.leaves.now ready.runnable r.store n.store (g.E.Evaluator.table r.evaluator) (g.E.Evaluator.table n.evaluator) c.next_of-found.ensures.extends
+    (world_grown g.L.Lister.asked g.L.Lister.given g.L.Lister.is_for g.L.Lister.with_context p m r.leaves.now ready.runnable ready.goes_by r.store n.store (g.E.Evaluator.table r.evaluator) (g.E.Evaluator.table n.evaluator) c.next_of-found.ensures.extends
     c.next_of-found.ensures.kept over)
