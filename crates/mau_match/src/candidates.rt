@@ -318,8 +318,22 @@ fn shortest(
 
 // ---- values that begin alike
 
-/// How many values are tried, all together, before a front may lead to an answer.
+/// How many values are tried, all together, before a front may lead to an answer: so many, and so many more for each item of the parts.
 const TRIES: usize = 256;
+
+const TRIES_PER_ITEM: usize = 16;
+
+/// How many values are tried for some parts.
+fn tries_for(parts: &[Part]) -> usize {
+    let mut tries = TRIES;
+    for part in parts {
+        if let Part::ListOf(_, _, items) = part {
+            let more = items.items().len().saturating_mul(TRIES_PER_ITEM);
+            tries = tries.saturating_add(more);
+        }
+    }
+    tries
+}
 
 /// Whether an answer may begin with the chosen values and one that has these elements first under an operator, and goes on.
 fn may_go_on(
@@ -331,6 +345,7 @@ fn may_go_on(
     chosen: &[TermId],
     op: OpId,
     list: &[TermId],
+    tries: usize,
 ) -> Result<bool, NoMemory>
     requires askable { IsAskable sig.now store.old (asked_in trial.now) }
     requires places { ArePlacesOf sig.now (tree_of trial.now.pattern) places.now }
@@ -365,7 +380,7 @@ fn may_go_on(
         variable: other,
         values: copy_of(store.allocator(), slice::from_ref(&value))?,
     };
-    let mut tries = TRIES;
+    let mut left = tries;
     may_lead_with(
         store,
         sig,
@@ -374,7 +389,7 @@ fn may_go_on(
         &pattern,
         trial.subject,
         depth,
-        &mut tries,
+        &mut left,
         &choice,
     )
 }
@@ -389,6 +404,7 @@ fn dead_front(
     chosen: &[TermId],
     op: OpId,
     list: &[TermId],
+    tries: usize,
 ) -> Result<Option<usize>, NoMemory>
     requires askable { IsAskable sig.now store.old (asked_in trial.now) }
     requires places { ArePlacesOf sig.now (tree_of trial.now.pattern) places.now }
@@ -403,7 +419,7 @@ fn dead_front(
     if is_blank(sig, op, list) {
         return Ok(None);
     }
-    if may_go_on(trial, places, store, sig, limits, chosen, op, list)? {
+    if may_go_on(trial, places, store, sig, limits, chosen, op, list, tries)? {
         return Ok(None);
     }
     let mut low: usize = 0;
@@ -425,6 +441,7 @@ fn dead_front(
             chosen,
             op,
             &list[..middle],
+            tries,
         )? {
             low = middle;
             continue;
@@ -461,7 +478,17 @@ fn passed_front(
         return Ok(value);
     };
     let list = copy_of(store.allocator(), list_of(store, sig, op, &value))?;
-    match dead_front(trial, places, store, sig, limits, chosen, op, &list)? {
+    match dead_front(
+        trial,
+        places,
+        store,
+        sig,
+        limits,
+        chosen,
+        op,
+        &list,
+        tries_for(parts),
+    )? {
         Some(count) => {
             let far = joined(store.allocator(), &list[..count], slice::from_ref(&last))?;
             value_over(store, sig, op, &far, value)
