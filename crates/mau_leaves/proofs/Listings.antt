@@ -49,7 +49,7 @@ use Rattle.mau_rules.proofs.Trying.{head, IsTest, a_test, has_sorts}
 use Rattle.mau_leaves.specs.Steps.{IsOver, Passes, Throughout}
 use Rattle.mau_leaves.specs.Uses.{Use, behind, at_one, solutions_as, solutions_behind, IsLeft}
 use Rattle.mau_leaves.specs.Searches.{takes}
-use Rattle.mau_leaves.proofs.Agreeing.{bound_variables, HaveNorms, agrees, agreed}
+use Rattle.mau_choices.proofs.Agreeing.{bound_variables, HaveNorms, agrees, agreed}
 use Rattle.mau_leaves.proofs.Behind.{behind_one}
 use Rattle.mau_leaves.proofs.Steps.{always_so, both_so}
 use Rattle.mau_leaves.proofs.Throughs.{next_through, none_through, skip_through}

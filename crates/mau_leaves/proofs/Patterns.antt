@@ -144,7 +144,7 @@ module _ {K : Type 0} (asked : K → Asked) (given : K → Option Listed.Solutio
       let subject : tree_at new (asked w.uses.listing).subject.0 ≡ tree_at old (asked w.uses.listing).subject.0 = tree_kept (theory_at p.sig) old new (asked w.uses.listing).subject.0 extends is.search.ready.askable.subject in
       let bound : binding_in new w.uses.bound.items ≡ binding_in old w.uses.bound.items = bound_grown p.sig old new before after extends kept w.uses.bound.items is.search.values in
       let stand = stand_same p old new before after extends kept m w.rule w.uses.bound.items c (asked w.uses.listing) (given w.uses.listing)
-          (of_store p old new before after extends kept m w.rule w.uses.bound.items c (asked w.uses.listing) (given w.uses.listing) is.search.ready) w.uses.standing is.search.stands in
+      (of_store p old new before after extends kept m w.rule w.uses.bound.items c (asked w.uses.listing) (given w.uses.listing) is.search.ready) w.uses.standing is.search.stands in
       λ i L. left_matched (program_over p m.hooks) L (rule_of w.rule) (bound i) (subject i) (stand i)
 
   -- what it found is the same

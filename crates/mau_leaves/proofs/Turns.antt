@@ -51,7 +51,8 @@ use Rattle.mau_leaves.specs.declared.uses.Standing.TheVariants.{Behind, Before, 
 use Rattle.mau_leaves.proofs.Steps.{through_always}
 use Rattle.mau_leaves.proofs.Throughs.{given_through, passed_through, due_through}
 use Rattle.mau_leaves.proofs.Searching.{solution_same, bound_same, bound_at_same, of_store, search_grown, left_same}
-use Rattle.mau_leaves.proofs.Agreeing.{bound_variables, HaveNorms, bound_norms, bound_apart}
+use Rattle.mau_choices.proofs.Agreeing.{bound_variables, HaveNorms}
+use Rattle.mau_leaves.proofs.Agreeing.{bound_norms, bound_apart}
 use Rattle.mau_leaves.proofs.Listings.{none_next, one_next, one_skipped}
 
 stand_at : (nodes : List Node) (x : Listed.Solution) (s : Standing) → (s ≡ Behind → ⊥) → stand_of nodes (Some x) s ≡ at_one (solution_in nodes x) (last_in nodes s)

@@ -120,7 +120,9 @@ fn next_match<E: Evaluator, L: Lister + Drop>(
 }
 
 /// The values that the last one of some searches found; where there is none, nothing is bound.
-pub(crate) fn values_found<L: Lister + Drop>(searches: &[PatternSearch<L>]) -> Option<&[(VarId, TermId)]>
+pub(crate) fn values_found<L: Lister + Drop>(
+    searches: &[PatternSearch<L>],
+) -> Option<&[(VarId, TermId)]>
     ensures { option_map (λ x. x.now) result ≡ last_found searches.now }
 {
     match searches.last() {

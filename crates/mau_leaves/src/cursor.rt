@@ -555,12 +555,7 @@ fn start_call<E: Evaluator, L: Lister + Drop>(
         return Ok(LeafCursor::Unsearched);
     }
     let bound = pairs_of(store.allocator(), values)?;
-    Ok(LeafCursor::Bodies(call_cursor(
-        store.allocator(),
-        leaf,
-        calls,
-        bound,
-    )))
+    Ok(LeafCursor::Bodies(call_cursor(store.allocator(), leaf, calls, bound)))
 }
 
 /// The leaf with a number.

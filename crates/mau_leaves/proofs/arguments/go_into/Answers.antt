@@ -10,7 +10,7 @@ use Rattle.mau_leaves.proofs.StackTurns.{bound_got, deeper_on, deeper_known, mor
 use Rattle.mau_leaves.proofs.arguments.go_into.Goals as goal
 
 pub go_deeper-requires-clause-pattern : goal.go_deeper-requires-clause-pattern
-go_deeper-requires-clause-pattern g c = 
+go_deeper-requires-clause-pattern g c =
     let m = g.E.Evaluator.meanings c.args.evaluator.now in
     let p = c.args.program.now in
     let nodes = c.args.store.now in
@@ -27,7 +27,7 @@ go_deeper-requires-clause-pattern g c =
     all_in bare ps (tree_of x) c.requires.patterns (is_among ps (length s.searches.items) (tree_of x) pattern)
 
 pub go_deeper-requires-clause-found : goal.go_deeper-requires-clause-found
-go_deeper-requires-clause-found g c = 
+go_deeper-requires-clause-found g c =
     let m = g.E.Evaluator.meanings c.args.evaluator.now in
     let p = c.args.program.now in
     let nodes = c.args.store.now in
@@ -58,7 +58,7 @@ returns-in-Ok-clause-turn g c = λ b.
     deeper_on g.L.Lister.asked g.L.Lister.given g.L.Lister.is_for g.L.Lister.with_context p m c.requires.goes_by nodes table ps ids s c.requires.due c.requires.search (tree_of x) _ pattern value c.go_deeper.new.search c.in-Ok.ensures.deeper
 
 pub returns-in-Ok-clause-search : goal.returns-in-Ok-clause-search
-returns-in-Ok-clause-search g c = 
+returns-in-Ok-clause-search g c =
     let m = g.E.Evaluator.meanings c.args.evaluator.now in
     let p = c.args.program.now in
     let nodes = c.args.store.now in
@@ -89,7 +89,7 @@ returns-in-Err-clause-turn g c = λ b.
     (unchanged_on g.L.Lister.asked g.L.Lister.given g.L.Lister.is_for g.L.Lister.with_context p m nodes table ps ids s c.go_deeper.new.search c.in-Err.ensures.unchanged.0 c.in-Err.ensures.unchanged.1, tt)
 
 pub returns-in-Err-clause-search : goal.returns-in-Err-clause-search
-returns-in-Err-clause-search g c = 
+returns-in-Err-clause-search g c =
     let m = g.E.Evaluator.meanings c.args.evaluator.now in
     let p = c.args.program.now in
     let nodes = c.args.store.now in
@@ -166,4 +166,3 @@ returns-clause-all g c = λ z.
     let many : length ps ≡ length patterns = length-map patterns tree_of in
     let past = c.if-depth-patterns.false in
     all_gone g.L.Lister.asked g.L.Lister.given g.L.Lister.is_for g.L.Lister.with_context p m c.requires.goes_by nodes table ps ids s c.requires.due c.requires.search (record { searches = s.searches; due = false }) refl refl (omega (arith, depth, many, past)) ∙ many
-

@@ -17,7 +17,6 @@ next_match-requires-clause-search g c =
     let k = known_last g.L.Lister.asked g.L.Lister.given g.L.Lister.is_for g.L.Lister.with_context p m old before r.0 r.1 c.args.search.now c.pop.new.self.items c.in-Some.last c.in-Some.ensures.items r.2 in
     (_, k.pattern, k.value, k.known)
 
-
 pub returns-in-Ok-true-clause-turn : goal.returns-in-Ok-true-clause-turn
 returns-in-Ok-true-clause-turn g c = λ ps vs is.
     let m = g.E.Evaluator.meanings c.args.evaluator.now in

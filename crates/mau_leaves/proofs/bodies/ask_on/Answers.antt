@@ -22,7 +22,7 @@ use Rattle.mau_leaves.proofs.Definitions.{asked_at, one_definition, same_found, 
 use Rattle.mau_leaves.proofs.bodies.ask_on.Goals as goal
 
 pub unreachable-requires : goal.unreachable-requires
-unreachable-requires g c = 
+unreachable-requires g c =
     let m = g.E.Evaluator.meanings c.args.evaluator.now in
     let p = c.args.program.now in
     let old = c.args.store.now in
@@ -32,7 +32,7 @@ unreachable-requires g c =
     none_begun g.L.Lister.asked g.L.Lister.given g.L.Lister.is_for g.L.Lister.with_context p m old before search.0 s.number s.arguments s.standing c.requires.within search.1 c.in-None.is
 
 pub unreachable-requires-in-None-values_found : goal.unreachable-requires-in-None-values_found
-unreachable-requires-in-None-values_found g c = 
+unreachable-requires-in-None-values_found g c =
     let m = g.E.Evaluator.meanings c.args.evaluator.now in
     let p = c.args.program.now in
     let old = c.args.store.now in
@@ -44,7 +44,7 @@ unreachable-requires-in-None-values_found g c =
     none_found_yet a.searches.items k.bound k.found (ap last_found (sym c.deref.ensures.value) ∙ (sym c.values_found.ensures ∙ ap (option_map (λ z. z.now)) c.in-None-values_found.is))
 
 pub bounds-definitions-number : goal.bounds-definitions-number
-bounds-definitions-number g c = 
+bounds-definitions-number g c =
     let m = g.E.Evaluator.meanings c.args.evaluator.now in
     let p = c.args.program.now in
     let old = c.args.store.now in
@@ -57,7 +57,7 @@ bounds-definitions-number g c =
     h
 
 pub offset_bounds-definitions-number : goal.offset_bounds-definitions-number
-offset_bounds-definitions-number g c = 
+offset_bounds-definitions-number g c =
     let m = g.E.Evaluator.meanings c.args.evaluator.now in
     let p = c.args.program.now in
     let old = c.args.store.now in
@@ -70,7 +70,7 @@ offset_bounds-definitions-number g c =
     omega (arith, h, c.items-definitions.type_inv.1)
 
 pub ask-requires-clause-condition : goal.ask-requires-clause-condition
-ask-requires-clause-condition g c = 
+ask-requires-clause-condition g c =
     let m = g.E.Evaluator.meanings c.args.evaluator.now in
     let p = c.args.program.now in
     let old = c.args.store.now in
@@ -89,7 +89,7 @@ ask-requires-clause-condition g c =
     (subst (λ (x : Written.StratDef). IsAskable p.sig (variables_in b) x.cond) one (subst (λ (f : List (VarId × TermId)). IsAskable p.sig (variables_in f) k.begun.definition.cond) bound k.askable))
 
 pub ask-requires-clause-bound : goal.ask-requires-clause-bound
-ask-requires-clause-bound g c = 
+ask-requires-clause-bound g c =
     let m = g.E.Evaluator.meanings c.args.evaluator.now in
     let p = c.args.program.now in
     let old = c.args.store.now in
@@ -107,7 +107,7 @@ ask-requires-clause-bound g c =
     subst (All (IsValueOf p.sig old before)) bound k.values
 
 pub ask-requires-clause-last : goal.ask-requires-clause-last
-ask-requires-clause-last g c = 
+ask-requires-clause-last g c =
     let m = g.E.Evaluator.meanings c.args.evaluator.now in
     let p = c.args.program.now in
     let old = c.args.store.now in
@@ -128,7 +128,7 @@ ask-requires-clause-last g c =
     (if_some (IsShownFor m p.sig d b old before) (All (IsValueOf p.sig old before)) (λ x h. h.values) (found_in s.standing) shown)
 
 pub ask-requires-clause-solution : goal.ask-requires-clause-solution
-ask-requires-clause-solution g c = 
+ask-requires-clause-solution g c =
     let m = g.E.Evaluator.meanings c.args.evaluator.now in
     let p = c.args.program.now in
     let old = c.args.store.now in
@@ -261,8 +261,7 @@ returns-in-Err-clause-turn g c = λ k' n vs is.
     let told = shown_as (program_over p m.hooks) c.args.limit new (Err c.in-Err.end) (option_map (λ z. binding_in old z.now) c.last_of-last.result) (last_in old s.standing)
     (then_of (binding_in old) c.last_of-last.result (found_in s.standing) c.last_of-last.ensures) (map fragment_of c.items.result.now) (map fragment_of k.begun.definition.cond) (ap (map fragment_of) c.items.ensures ∙ ap (λ (x : Written.StratDef). map fragment_of x.cond) (sym one))
     (binding_in old b) (binding_in old k.bound) (ap (binding_in old) (sym bound))
-    c.in-Err.ensures.shown in
-    (
+    c.in-Err.ensures.shown in (
       still_standing g.L.Lister.asked g.L.Lister.given g.L.Lister.is_for g.L.Lister.with_context p m old new before after c.ask.ensures.extends c.ask.ensures.kept c.requires.goes_by over vs s.number k' n (trees_at old (numbers vs)) s.arguments s.standing is,
       due_turn g.L.Lister.asked g.L.Lister.given g.L.Lister.is_for g.L.Lister.with_context p m c.requires.runnable.reducible.lawful c.requires.goes_by c.requires.definitions old new before after c.ask.ensures.extends c.ask.ensures.kept over s.number vs k' n s a c.in-Some.is k c.requires.within c.args.limit c.in-Err.end told,
     )
@@ -279,4 +278,3 @@ returns-in-Err-clause-search g c = λ vs is.
     let after = g.E.Evaluator.table c.ask.new.evaluator in
     let over = over_of p m (g.E.Evaluator.meanings c.ask.new.evaluator) c.ask.ensures.meanings c.requires.goes_by.program new after (g.met.E.Evaluator.derived c.ask.new.evaluator new c.ask.ensures.fits) in
     standing_grown g.L.Lister.asked g.L.Lister.given g.L.Lister.is_for g.L.Lister.with_context p m old new before after c.ask.ensures.extends c.ask.ensures.kept c.requires.goes_by over vs s.number s.arguments s.standing is
-

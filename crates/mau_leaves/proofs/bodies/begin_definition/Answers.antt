@@ -69,4 +69,3 @@ returns-clause-search g c = λ m nodes table vs.
     let lawful = all_in (IsLawfulDefinition p.sig) p.strategies d c.requires.definitions (is_among p.strategies n d at) in
     let a : ArgumentSearch g.row.L.Denot = record { searches = c.new.result; due = true } in
     idle_standing g.L.Lister.asked g.L.Lister.given g.L.Lister.is_for g.L.Lister.with_context p m nodes table vs n d at (fragments_of p.sig d.cond lawful.condition plain) a c.new.ensures.items s.standing c.requires.idle.1
-

@@ -31,7 +31,7 @@ some_of None h = cc
 some_of (Some x) h = (x, refl)
 
 pub overflow_add-bodies : goal.overflow_add-bodies
-overflow_add-bodies g c = 
+overflow_add-bodies g c =
     let m = g.E.Evaluator.meanings c.args.evaluator.now in
     let p = c.args.program.now in
     let old = c.args.store.now in
@@ -44,7 +44,7 @@ overflow_add-bodies g c =
     omega (arith, h, c.items-definitions.type_inv.0)
 
 pub turn_in-requires-clause-patterns : goal.turn_in-requires-clause-patterns
-turn_in-requires-clause-patterns g c = 
+turn_in-requires-clause-patterns g c =
     let m = g.E.Evaluator.meanings c.args.evaluator.now in
     let p = c.args.program.now in
     let old = c.args.store.now in
@@ -62,7 +62,7 @@ turn_in-requires-clause-patterns g c =
     subst (All (IsBare (terms_over p.sig))) (sym c.items-patterns.ensures) lawful.args
 
 pub turn_in-requires-clause-search : goal.turn_in-requires-clause-search
-turn_in-requires-clause-search g c = 
+turn_in-requires-clause-search g c =
     let m = g.E.Evaluator.meanings c.args.evaluator.now in
     let p = c.args.program.now in
     let old = c.args.store.now in
@@ -103,7 +103,7 @@ returns-in-Ok-Found-clause-turn g c = λ k n.
     matched_found g.L.Lister.asked g.L.Lister.given g.L.Lister.is_for g.L.Lister.with_context p m old new before after s.number vs s a a' c.in-Some.is c.requires.idle is k n c.args.limit told
 
 pub returns-in-Ok-Found-clause-search : goal.returns-in-Ok-Found-clause-search
-returns-in-Ok-Found-clause-search g c = 
+returns-in-Ok-Found-clause-search g c =
     let m = g.E.Evaluator.meanings c.args.evaluator.now in
     let p = c.args.program.now in
     let old = c.args.store.now in
@@ -178,7 +178,7 @@ returns-in-Ok-Passed-clause-turn g c = λ k n.
     matched_passed g.L.Lister.asked g.L.Lister.given g.L.Lister.is_for g.L.Lister.with_context p m old new before after s.number vs s a a' c.in-Some.is c.requires.idle is k n c.args.limit told
 
 pub returns-in-Ok-Passed-clause-search : goal.returns-in-Ok-Passed-clause-search
-returns-in-Ok-Passed-clause-search g c = 
+returns-in-Ok-Passed-clause-search g c =
     let m = g.E.Evaluator.meanings c.args.evaluator.now in
     let p = c.args.program.now in
     let old = c.args.store.now in
@@ -222,7 +222,7 @@ returns-in-Err-clause-turn g c = λ k n.
     matched_ends g.L.Lister.asked g.L.Lister.given g.L.Lister.is_for g.L.Lister.with_context p m old new before after s.number vs s a a' c.in-Some.is c.requires.idle is k n c.args.limit c.in-Err.end told
 
 pub returns-in-Err-clause-search : goal.returns-in-Err-clause-search
-returns-in-Err-clause-search g c = 
+returns-in-Err-clause-search g c =
     let m = g.E.Evaluator.meanings c.args.evaluator.now in
     let p = c.args.program.now in
     let old = c.args.store.now in
@@ -241,4 +241,3 @@ returns-in-Err-clause-search g c =
     let a' = c.turn_in.new.search in
     let known = subst (λ (ps : List Tree). IsArgumentSearch g.L.Lister.asked g.L.Lister.given g.L.Lister.is_for g.L.Lister.with_context p m new after ps vs a') own c.turn_in.ensures.search in
     standing_matched g.L.Lister.asked g.L.Lister.given g.L.Lister.is_for g.L.Lister.with_context p m old new before after s.number vs s a a' c.in-Some.is c.requires.idle is known
-

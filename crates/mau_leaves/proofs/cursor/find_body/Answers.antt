@@ -22,7 +22,7 @@ use Rattle.mau_leaves.proofs.Calling.{name_named, name_missing, found_due, found
 use Rattle.mau_leaves.proofs.cursor.find_body.Goals as goal
 
 pub unreachable-requires-in-None-name_of : goal.unreachable-requires-in-None-name_of
-unreachable-requires-in-None-name_of g c = 
+unreachable-requires-in-None-name_of g c =
     let m = g.E.Evaluator.meanings c.args.evaluator.now in
     let p = c.args.program.now in
     let leaves = c.args.leaves.now in
@@ -32,7 +32,7 @@ unreachable-requires-in-None-name_of g c =
     name_missing g.L.Lister.asked g.L.Lister.given g.L.Lister.is_for g.L.Lister.with_context p m leaves old before s c.requires.yields.0 c.requires.yields.1 c.requires.yields.2 c.requires.yields.3 (sym c.name_of.ensures ∙ ap (option_map (λ x. x.now)) c.in-None-name_of.is)
 
 pub next_body-requires-clause-values : goal.next_body-requires-clause-values
-next_body-requires-clause-values g c = 
+next_body-requires-clause-values g c =
     let m = g.E.Evaluator.meanings c.args.evaluator.now in
     let p = c.args.program.now in
     let leaves = c.args.leaves.now in
@@ -42,7 +42,7 @@ next_body-requires-clause-values g c =
     subst (λ (ids : List TermId). All (IsEvaluated p.sig old before) ids) (sym c.deref.ensures.value) c.requires.yields.3.evaluated
 
 pub next_body-requires-clause-search : goal.next_body-requires-clause-search
-next_body-requires-clause-search g c = 
+next_body-requires-clause-search g c =
     let m = g.E.Evaluator.meanings c.args.evaluator.now in
     let p = c.args.program.now in
     let leaves = c.args.leaves.now in
@@ -150,4 +150,3 @@ returns-in-Err-clause-found g c = λ d t ys h.
     let one = λ (k : ℕ). subst (λ n. IsNextOne (program_over p m.hooks) n (left k name vs old b) (left k name vs new b') (body_found p k new b') failed) c.requires.limit
     (subst (λ (ids : List TermId). IsNextOne (program_over p m.hooks) c.args.limit (left k name (trees_at old (numbers ids)) old b) (left k name (trees_at old (numbers ids)) new b') (body_found p k new b') failed) c.deref.ensures.value (c.in-Err.ensures.next k)) in
     (search_still g.L.Lister.asked g.L.Lister.given g.L.Lister.is_for g.L.Lister.with_context p m leaves c.requires.goes_by old new before after e.extends e.kept over s d t ys h b c.in-Some.is c.requires.idle name same b' (subst (λ (ids : List TermId). IsCallSearch g.L.Lister.asked g.L.Lister.given g.L.Lister.is_for g.L.Lister.with_context p m new after ids b') c.deref.ensures.value e.search) c.in-Err.end one, search_cause g.L.Lister.asked g.L.Lister.given g.L.Lister.is_for g.L.Lister.with_context p m leaves c.requires.goes_by old new before after e.extends e.kept over s d t ys h b c.in-Some.is c.requires.idle name same b' (subst (λ (ids : List TermId). IsCallSearch g.L.Lister.asked g.L.Lister.given g.L.Lister.is_for g.L.Lister.with_context p m new after ids b') c.deref.ensures.value e.search) c.in-Err.end one)
-

@@ -50,15 +50,15 @@ returns-in-Err-clause-next g c = λ d t ys h.
     let z = c.in-Err.ensures.taken d t ys h in (z.0, subst (IsCause (fixed_of p m leaves) d t ys) (sym c.end_of.ensures) (z.1 k more))
 
 pub find_body-requires-clause-goes_by : goal.find_body-requires-clause-goes_by
-find_body-requires-clause-goes_by g c = 
+find_body-requires-clause-goes_by g c =
     subst (GoesBy c.args.program.now) (sym c.have_values.ensures.meanings) c.requires.goes_by
 
 pub find_body-requires-clause-limit : goal.find_body-requires-clause-limit
-find_body-requires-clause-limit g c = 
+find_body-requires-clause-limit g c =
     c.requires.limit ∙ ap (λ (m : Meanings). m.limit) (sym c.have_values.ensures.meanings)
 
 pub find_body-requires-clause-yields : goal.find_body-requires-clause-yields
-find_body-requires-clause-yields g c = 
+find_body-requires-clause-yields g c =
     let m = g.E.Evaluator.meanings c.args.evaluator.now in
     let p = c.args.program.now in
     let leaves = c.args.leaves.now in
@@ -120,11 +120,11 @@ returns-in-Err-find_body-clause-next g c = λ d t ys h.
     (found.0, subst (IsCause (fixed_of p m leaves) d t ys) (sym c.end_of-in-Err-find_body.ensures) (found.1 k more))
 
 pub give_body-requires-2-clause-due : goal.give_body-requires-2-clause-due
-give_body-requires-2-clause-due g c = 
+give_body-requires-2-clause-due g c =
     (c.in-Ok-true.ensures.due c.in-Ok-true.field-0-test).0
 
 pub give_body-requires-2-clause-found : goal.give_body-requires-2-clause-found
-give_body-requires-2-clause-found g c = 
+give_body-requires-2-clause-found g c =
     (c.in-Ok-true.ensures.due c.in-Ok-true.field-0-test).1
 
 pub returns-clause-next : goal.returns-clause-next

@@ -1,4 +1,4 @@
-use Rattle.std.proofs.Common.{◌≡◌, List, [], map, All, Option, Some, None, refl, sym, ap, ◌∙◌, subst}
+use Rattle.std.proofs.Common.{◌≡◌, List, [], map, All, Vec, Global, Option, Some, None, refl, sym, ap, ◌∙◌, subst}
 use Rattle.std.specs.Option.{option_map}
 use Rattle.std.proofs.lemmas.List.Elements.{All-map}
 use Rattle.mau_terms.specs.Tree.{Tree}
@@ -33,13 +33,13 @@ returns g c =
     let parts = c.call_cursor.ensures.parts in
     let begun = c.call_cursor.ensures.begun in
     let own = c.in_ok-bound.ensures in
-    let bound = ap (λ (v : _). v.items) parts.2 ∙ own in
+    let bound = ap (λ (v : Vec (VarId × TermId) Global). v.items) parts.2 ∙ own in
     record {
       yields = call_begins g.L.Lister.asked g.L.Lister.given g.L.Lister.is_for g.L.Lister.with_context p m leaves nodes table s begun.2 begun.1 begun.0
-    (record { form = leaf_at leaves c.args.leaf.0; calls = c.args.calls; values = values_of (tree_at nodes) bs }) (tree_at nodes c.args.term.0) call.0 c.args.args.now
-    (ap (λ (l : LeafId). call_in leaves l.0) parts.0 ∙ call.1) (called_leaf leaves c.args.leaf.0 call.0 c.args.args.now call.1) (sym parts.1)
-    (sym (pairs_are nodes bs) ∙ ap (binding_in nodes) (sym bound))
-    (subst (All (IsValueOf p.sig nodes table)) (sym bound) (pairs_have p.sig nodes table bs c.requires.values))
-    (subst (All (IsBare (terms_over p.sig))) c.items.ensures (All-map (IsBare (terms_over p.sig)) tree_of c.items.result.now
-    (each (IsOver p.sig) (λ (t : Bare). IsBare (terms_over p.sig) (tree_of t)) (λ t h. h.bare) c.items.result.now (c.are_bare.ensures c.if-not-are_bare.false))));
+          (record { form = leaf_at leaves c.args.leaf.0; calls = c.args.calls; values = values_of (tree_at nodes) bs }) (tree_at nodes c.args.term.0) call.0 c.args.args.now
+          (ap (λ (l : LeafId). call_in leaves l.0) parts.0 ∙ call.1) (called_leaf leaves c.args.leaf.0 call.0 c.args.args.now call.1) (sym parts.1)
+          (sym (pairs_are nodes bs) ∙ ap (binding_in nodes) (sym bound))
+          (subst (All (IsValueOf p.sig nodes table)) (sym bound) (pairs_have p.sig nodes table bs c.requires.values))
+          (subst (All (IsBare (terms_over p.sig))) c.items.ensures (All-map (IsBare (terms_over p.sig)) tree_of c.items.result.now
+          (each (IsOver p.sig) (λ (t : Bare). IsBare (terms_over p.sig) (tree_of t)) (λ t h. h.bare) c.items.result.now (c.are_bare.ensures c.if-not-are_bare.false))));
     }

@@ -26,7 +26,7 @@ use Rattle.mau_leaves.proofs.Calling.{args_named, args_missing, begun_bodies, st
 use Rattle.mau_leaves.proofs.cursor.take_values.Goals as goal
 
 pub unreachable-requires : goal.unreachable-requires
-unreachable-requires g c = 
+unreachable-requires g c =
     let m = g.E.Evaluator.meanings c.args.evaluator.now in
     let p = c.args.program.now in
     let leaves = c.args.leaves.now in
@@ -36,7 +36,7 @@ unreachable-requires g c =
     args_missing g.L.Lister.asked g.L.Lister.given g.L.Lister.is_for g.L.Lister.with_context p m leaves old before s c.requires.yields.0 c.requires.yields.1 c.requires.yields.2 c.requires.yields.3 (sym c.args_of.ensures ∙ ap (option_map (λ x. x.now)) c.in-None.is)
 
 pub next_values-requires-clause-terms : goal.next_values-requires-clause-terms
-next_values-requires-clause-terms g c = 
+next_values-requires-clause-terms g c =
     let m = g.E.Evaluator.meanings c.args.evaluator.now in
     let p = c.args.program.now in
     let leaves = c.args.leaves.now in
@@ -51,7 +51,7 @@ next_values-requires-clause-terms g c =
     subst (All (IsBare (terms_over p.sig))) (sym trees) h.bare
 
 pub next_values-requires-clause-bound : goal.next_values-requires-clause-bound
-next_values-requires-clause-bound g c = 
+next_values-requires-clause-bound g c =
     let m = g.E.Evaluator.meanings c.args.evaluator.now in
     let p = c.args.program.now in
     let leaves = c.args.leaves.now in
@@ -65,7 +65,7 @@ next_values-requires-clause-bound g c =
     subst (All (IsValueOf p.sig old before)) (sym c.deref.ensures.value) h.bound
 
 pub next_values-requires-clause-done : goal.next_values-requires-clause-done
-next_values-requires-clause-done g c = 
+next_values-requires-clause-done g c =
     let m = g.E.Evaluator.meanings c.args.evaluator.now in
     let p = c.args.program.now in
     let leaves = c.args.leaves.now in
@@ -79,7 +79,7 @@ next_values-requires-clause-done g c =
     h.evaluated
 
 pub next_values-requires-clause-count : goal.next_values-requires-clause-count
-next_values-requires-clause-count g c = 
+next_values-requires-clause-count g c =
     let m = g.E.Evaluator.meanings c.args.evaluator.now in
     let p = c.args.program.now in
     let leaves = c.args.leaves.now in
@@ -145,4 +145,3 @@ returns-in-Err-clause-taken g c = λ d t ys h.
       still_taking g.L.Lister.asked g.L.Lister.given g.L.Lister.is_for g.L.Lister.with_context p m leaves c.requires.goes_by old new before after e.extends e.kept over s d t ys h c.requires.idle values e.done count told,
       taking_cause g.L.Lister.asked g.L.Lister.given g.L.Lister.is_for g.L.Lister.with_context p m leaves c.requires.goes_by old new before after e.extends e.kept over s d t ys h c.requires.idle c.in-Err.end due,
     )
-
