@@ -4,8 +4,8 @@ use Rattle.std.specs.Prelude.{All, Contains, IsTrue, is_some}
 use Rattle.std.specs.List.{AllZip, filter_map, cons_option, list_any}
 use Rattle.std.proofs.lemmas.Bool.{eqb-true}
 use Rattle.std.proofs.lemmas.List.Elements.{All-nil, All-cons, Contains-append_left, Contains-append_right, Contains-append_cases}
-use Rattle.mau_poset.specs.Order.{Hierarchy, kind_of}
-use Rattle.mau_terms.specs.Tree.{Tree}
+use Rattle.mau_poset.specs.Order.{Hierarchy, kind_of, IsAtOrBelow}
+use Rattle.mau_terms.specs.Tree.{Tree, variable, numeral, apply}
 use Rattle.mau_terms.specs.Norm.{norm}
 use Rattle.mau_terms.specs.Bare.{IsBare, IsBareIn, IsLawful}
 use Rattle.mau_terms.specs.Solution.{HaveSorts}
@@ -19,7 +19,7 @@ use Rattle.mau_store.specs.Trees.{tree_at}
 use Rattle.mau_store.proofs.Numbers.{node_there, one_number}
 use Rattle.mau_store.proofs.Standing.{tree_of_node}
 use Rattle.mau_sorts.specs.SortSets.{SortsOf, IsIn, AreSorts}
-use Rattle.mau_sorts.specs.HasSort.{Known, HasSort}
+use Rattle.mau_sorts.specs.HasSort.{Known, IsKnown, HasSort}
 use Rattle.mau_sorts.specs.Table.{Table, entry_at, IsSettled, IsReady, AreEntries, IsKnownOf}
 use Rattle.mau_sorts.proofs.Settling.{argument_over, is_ready}
 use Rattle.mau_built_ins.proofs.NormalTerms.{read_bare}
@@ -238,6 +238,17 @@ ends_as_sort s nodes known i r e a b has x q t n h = subst (λ z. IsTrue has ↔
 
 pub sort_more : (s : SignatureOf) (us : List Says) (t : Tree) (r : ℕ) → HasSort s [] t r → HasSort s (known_by s us) t r
 sort_more s us t r h = has_more s [] (known_by s us) (λ x c. absurd (none x c)) t r h
+
+-- what is known of a term is a sort of it
+by_known : (s : SignatureOf) (known : Known) (t : Tree) (r : ℕ) → IsKnown s.hierarchy known t r → HasSort s known t r
+by_known s known (variable i p) r h = inr h
+by_known s known (numeral n) r h = inr h
+by_known s known (apply f ts) r h = inr h
+
+-- and so is what facts tell of it, and what is above that
+pub told_above : (s : SignatureOf) (nodes : List Node) → AreNodes nodes → (i : ℕ) → IsOf nodes i → (xs : List Said) (us : List Says) → AreSaid s nodes xs us → (q r : ℕ) → Contains (filter_map (told_of i) xs) q → IsAtOrBelow s.hierarchy q r
+    → HasSort s (known_by s us) (tree_at nodes i) r
+told_above s nodes are i there xs us h q r c below = by_known s (known_by s us) (tree_at nodes i) r (q, (known_told s nodes are i there xs us h q).1 c, below)
 
 pub values_more : (s : SignatureOf) (us : List Says) (xs : List Variable) (vs : List Tree) → HaveSorts (HasSortBy s []) xs vs → HaveSorts (HasSortBy s us) xs vs
 values_more s us [] vs h = tt

@@ -174,6 +174,80 @@ fn has_sort(
     }
 }
 
+/// Whether facts tell that a term has a sort, or one below it.
+fn is_told(
+    sig: &Signature,
+    store: &Store,
+    uses: &[Said],
+    id: TermId,
+    sort: u32,
+) -> Result<bool, NoMemory>
+    requires term { IsOf store.now id.0 }
+    requires sort { IsSort sig.now.hierarchy sort }
+    ensures { IfOk result (λ yes. IsTrue yes → (us : List Says) → AreSaid sig.now store.now uses.now us → HasSort sig.now (known_by sig.now us) (tree_at store.now id.0) sort) }
+{
+    let _ = store.len();
+    let poset = sig.poset();
+    let told = sorts_told(store.allocator(), uses, id)?;
+    for lower in &told {
+        if *lower < poset.sorts() && poset.leq(*lower, sort) {
+            return Ok(true);
+        }
+    }
+    Ok(false)
+}
+
+/// Whether a term has a sort by declarations alone, or by just what facts tell of it.
+fn is_shown(
+    sig: &Signature,
+    store: &Store,
+    plain: &mut SortTable,
+    uses: &[Said],
+    id: TermId,
+    sort: u32,
+) -> Result<bool, NoMemory>
+    requires term { IsOf store.now id.0 }
+    requires tree { IsTreeOver sig.now (tree_at store.now id.0) }
+    requires sort { IsSort sig.now.hierarchy sort }
+    requires plain { IsPlainTable sig.now store.now plain.old }
+    ensures plain { IsPlainTable sig.now store.now plain.new }
+    ensures shown { IfOk result (λ yes. IsTrue yes → (us : List Says) → AreSaid sig.now store.now uses.now us → HasSort sig.now (known_by sig.now us) (tree_at store.now id.0) sort) }
+{
+    let nothing = None;
+    let plainly = has_sort(sig, store, plain, &nothing, id, sort)?;
+    if plainly {
+        return Ok(true);
+    }
+    is_told(sig, store, uses, id, sort)
+}
+
+/// Whether each value has its variable's sort by declarations alone, or by just what facts tell of it.
+fn all_shown(
+    sig: &Signature,
+    store: &Store,
+    plain: &mut SortTable,
+    uses: &[Said],
+    variables: &[VarId],
+    values: &[Kept],
+) -> Result<bool, NoMemory>
+    requires sorts { AreOfSorts sig.now variables.now }
+    requires many { length values.now ≡ length variables.now }
+    requires values { (vs : List Tree) × AreKeptFor sig.now store.now values.now vs }
+    requires plain { IsPlainTable sig.now store.now plain.old }
+    ensures plain { IsPlainTable sig.now store.now plain.new }
+    ensures have { IfOk result (λ yes. IsTrue yes → (us : List Says) (vs : List Tree) → AreSaid sig.now store.now uses.now us → AreKeptFor sig.now store.now values.now vs →
+        HaveSorts (HasSortBy sig.now us) (variables_in variables.now) vs) }
+{
+    let _ = sig.operators();
+    for i in 0..variables.len() {
+        let shown = is_shown(sig, store, plain, uses, values[i].id, variables[i].sort)?;
+        if !shown {
+            return Ok(false);
+        }
+    }
+    Ok(true)
+}
+
 /// Whether each value has its variable's sort, where facts tell the sorts of a table.
 fn all_sorted(
     sig: &Signature,
@@ -220,9 +294,8 @@ pub fn have_sorts(
     ensures have { IfOk result (λ yes. (us : List Says) (vs : List Tree) → AreSaid sig.now store.now uses.now us → AreKeptFor sig.now store.now values.now vs →
         IsTrue yes ↔ HaveSorts (HasSortBy sig.now us) (variables_in variables.now) vs) }
 {
-    let nothing = None;
-    let plainly = all_sorted(sig, store, plain, &nothing, variables, values)?;
-    if plainly {
+    let shown = all_shown(sig, store, plain, uses, variables, values)?;
+    if shown {
         return Ok(true);
     }
     let told = told_by(store.allocator(), sig, store, uses)?;
@@ -285,6 +358,59 @@ fn some_ends_in_sort(
     Ok(false)
 }
 
+/// Whether a fact leads by equations from a term to one of a sort, by declarations alone or by just what facts tell of it.
+fn ends_shown(
+    sig: &Signature,
+    store: &Store,
+    plain: &mut SortTable,
+    uses: &[Said],
+    said: Said,
+    from: TermId,
+    sort: u32,
+) -> Result<bool, NoMemory>
+    requires said { (y : Says) × IsSaid sig.now store.now said y }
+    requires sort { IsSort sig.now.hierarchy sort }
+    requires plain { IsPlainTable sig.now store.now plain.old }
+    ensures plain { IsPlainTable sig.now store.now plain.new }
+    ensures shown { IfOk result (λ yes. IsTrue yes → (us : List Says) → AreSaid sig.now store.now uses.now us → EndsInSort sig.now store.now (known_by sig.now us) from.0 sort said) }
+{
+    let _ = sig.operators();
+    match said {
+        Said::Leads(equations, start, end) => {
+            if !equations || start.id.0 != from.0 {
+                return Ok(false);
+            }
+            is_shown(sig, store, plain, uses, end.id, sort)
+        }
+        Said::Sorted(_, _) => Ok(false),
+    }
+}
+
+/// Whether one of some facts does.
+fn some_ends_shown(
+    sig: &Signature,
+    store: &Store,
+    plain: &mut SortTable,
+    uses: &[Said],
+    from: TermId,
+    sort: u32,
+) -> Result<bool, NoMemory>
+    requires uses { (us : List Says) × AreSaid sig.now store.now uses.now us }
+    requires sort { IsSort sig.now.hierarchy sort }
+    requires plain { IsPlainTable sig.now store.now plain.old }
+    ensures plain { IsPlainTable sig.now store.now plain.new }
+    ensures end { IfOk result (λ yes. IsTrue yes → (us : List Says) → AreSaid sig.now store.now uses.now us →
+        SomeSaid (EndsInSort sig.now store.now (known_by sig.now us) from.0 sort) uses.now) }
+{
+    for said in uses {
+        let ends = ends_shown(sig, store, plain, uses, *said, from, sort)?;
+        if ends {
+            return Ok(true);
+        }
+    }
+    Ok(false)
+}
+
 /// The same by declarations and by what facts tell.
 pub fn end_in_sort(
     sig: &Signature,
@@ -301,9 +427,8 @@ pub fn end_in_sort(
     ensures end { IfOk result (λ yes. (us : List Says) → AreSaid sig.now store.now uses.now us →
         IsTrue yes ↔ SomeSaid (EndsInSort sig.now store.now (known_by sig.now us) from.0 sort) uses.now) }
 {
-    let nothing = None;
-    let plainly = some_ends_in_sort(sig, store, plain, &nothing, uses, from, sort)?;
-    if plainly {
+    let shown = some_ends_shown(sig, store, plain, uses, from, sort)?;
+    if shown {
         return Ok(true);
     }
     let told = told_by(store.allocator(), sig, store, uses)?;
