@@ -28,7 +28,7 @@ SENTENCES = {
     "Unsupported": "`{0}` is a form of Maude that mrew does not have.",
     "UnknownModule": "No module of this name was accepted before.",
     "BadBound": "A bound is a numeral from 1 to 1,000,000,000,000.",
-    "NothingToContinue": "There is no listing and no run of rules to go on with: none was begun, or the last one has ended.",
+    "NothingToContinue": "There is no listing and no run of rules or of a strategy to go on with: none was begun, or the last one has ended.",
     "RewritingCondition": "The condition of the rule {0} has a fragment `t => u`, and terms are not rewritten in a module with such a rule.",
     "UnknownSort": "No sort of this name is declared in the module or in one that it imports.",
     "Cycle": "By the subsort declarations `{0}` is below itself.",
@@ -143,9 +143,14 @@ def forms(element):
     return found
 
 
+def is_of_strategy(name, number, item):
+    """Whether an Arity is that of a strategy, in a definition or in a command, which has its place; else it is that of an operator."""
+    return name == "Arity" and bool(number or item and item[0][0] not in MODULES)
+
+
 def place(name, fields, number, item):
     """The place in the text that a refusal of this item is about."""
-    if name in PLACED.split() or name == "Arity" and number:
+    if name in PLACED.split() or is_of_strategy(name, number, item):
         return int(fields[-1])
     words, wanted = [token for token, _ in item], fields[0].encode() if fields else b""
     is_module = words[0] in MODULES
@@ -201,7 +206,9 @@ def explained(text, line):
     if name in ("NotPreregular", "NotAssociativeSorts"):
         fields = [fields[0], " ".join(fields[1:])]
     sentence = SENTENCES[name].format(*fields) if name in SENTENCES else in_the_language(name)
-    if name == "Arity" and number:
+    if name == "NotBuilt" and fields[0].startswith("dsrew"):
+        sentence = "Its strategy, or one of the module's, isn't searched for yet, or a condition in the module rewrites. docs/LANGUAGE.md says which strategies these are."
+    if is_of_strategy(name, number, item):
         sentence = "No strategy with this name is declared that takes so many arguments."
     if not number and name in ("LhsVariable", "MembershipHead") and fields[0] == "0":
         sentence += " It is one that the module includes, and is judged by the operators of this module."

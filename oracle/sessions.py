@@ -4,7 +4,7 @@
 usage: oracle/sessions.py PROGRAM FIRST LAST
 
 For each number from FIRST on and below LAST it makes a text of small modules, some at fault and some of an earlier name, which include
-each other, of listings with and without bounds, and of continue, select and settings. What matters is the state: the accepted modules,
+each other, of listings and strategies with and without bounds, and of continue, select and settings. What matters is the state: the accepted modules,
 the current one, what continue goes on with, and the exit status.
 """
 import random
@@ -62,15 +62,22 @@ class Session:
         self.answer(text + "endfm\n", [f"refused: {fault}" if fault else f"module {name}"])
 
     def match(self, r):
+        self.list(r, "match")
+
+    def strategy(self, r):
+        self.list(r, "dsrewrite")
+
+    def list(self, r, word):
+        """All cuts of a list in two, or one result of a strategy, with or without a bound."""
         named, bound = r.choice([None, None, None, None, None, None, *self.modules, *NAMES, "D"]), r.choice(BOUNDS)
-        name = named or self.current
-        head = f"match{'' if bound is None else f' [{bound}]'}{f' in {named} :' if named else ''} "
+        name, is_match = named or self.current, word == "match"
+        head = f"{word}{'' if bound is None else f' [{bound}]'}{f' in {named} :' if named else ''} "
         module = self.modules.get(name)
         # (a constant that was never there has no reading)
         constants = r.sample(module.constants, min(len(module.constants), r.choice([1, 2, 3]))) if module else []
         goal = constants or ["none"]
-        pattern, subject = "X:S Y:S", " ".join(goal)
-        text = f"{head}{pattern} <=? {subject} .\n"
+        subject, show = " ".join(goal), lambda items: " ".join(items) or "nil"
+        text = f"{head}{f'X:S Y:S <=? {subject}' if is_match else f'{subject} using idle'} .\n"
         if not module:
             lines = [f"refused: UnknownModule {name}"]
         elif bound is not None and not 1 <= bound <= 10**12:
@@ -78,23 +85,18 @@ class Session:
         elif not constants:
             lines = [f"refused: NoParse {len((self.text + head).encode())}"]
         else:
-            self.listing = [module.name, goal, 0]
-            lines = [f"match in {module.name}", *self.listed(bound)]
+            cuts = [[f"Matcher {at + 1}", f"X:S --> {show(goal[:at])}", f"Y:S --> {show(goal[at:])}"] for at in range(len(goal) + 1)]
+            self.listing = [module.name, cuts if is_match else [["Solution 1", f"result S: {subject}"]], f"No more {'matches' if is_match else 'solutions'}."]
+            lines = [f"{word} in {module.name}", *self.listed(bound)]
         self.answer(text, lines)
 
     def listed(self, bound):
-        """The next solutions of a list as two lists, by the length of the first."""
-        _, goal, at = self.listing
-        show = lambda items: " ".join(items) or "nil"
-        out, begin = [], at
-        while at <= len(goal) and at - begin != bound:
-            out += [f"Matcher {at + 1}", f"X:S --> {show(goal[:at])}", f"Y:S --> {show(goal[at:])}"]
-            at += 1
-        self.listing = [*self.listing[:2], at]
-        if at - begin == bound:
-            return out + ["Bound reached."]
-        self.listing = None
-        return out + ["No more matches."]
+        """The next answers of a listing, and how it is left."""
+        name, answers, end = self.listing
+        out, self.listing = answers[:bound], None
+        if len(out) == bound:
+            self.listing, end = [name, answers[bound:], end], "Bound reached."
+        return [line for lines in out for line in lines] + [end]
 
     def go_on(self, r):
         bound = r.choice(BOUNDS)
@@ -116,17 +118,15 @@ class Session:
     def other(self, r):
         at = len(self.text.encode())
         text, line = r.choice([("set show stats off", "ok"), ("set print mixfix on", "ok"), ("set trace off", "ok"), ("foo", f"refused: Unexpected {at}"),
-                               ("show modules", f"refused: Unsupported show {at}"), ("dsrewrite in D : a using idle", None)])
-        if line is None:
-            line = f"refused: NotBuilt dsrewrite {at}" if "D" in self.modules else "refused: UnknownModule D"
+                               ("show modules", f"refused: Unsupported show {at}"), ("dsrewrite in D : a using idle", "refused: UnknownModule D")])
         self.answer(text + " .\n", [line])
 
 
 def compare(number, program):
     r, session = random.Random(number), Session()
     for version in range(r.randrange(4, 30)):
-        usual = ["go_on"] * 6 if session.listing else ["match"] * 5
-        step = "module" if version < 3 else r.choice(["module", "match", "go_on", "select", "other", *usual])
+        usual = ["go_on"] * 6 if session.listing else ["match", "match", "match", "strategy", "strategy"]
+        step = "module" if version < 3 else r.choice(["module", "match", "strategy", "go_on", "select", "other", *usual])
         if step == "module":
             session.module(r, version)
         else:

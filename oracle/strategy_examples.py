@@ -3,7 +3,8 @@
 
 usage: oracle/strategy_examples.py [NAME]
 
-A module is given by its sorts, pairs, declarations and statements, with terms in prefix form; examples/strategies/NAME.maude has the same module as a user writes it.
+A module is given by its sorts, pairs, declarations and statements, with terms in prefix form; examples/NAME.maude, or examples/strategies/NAME.maude, has the same module
+as a user writes it.
 """
 import re
 import sys
@@ -145,9 +146,10 @@ class Strategies(Module):
             yield [f"{'dsrewrite' if isinstance(command, tuple) else 'continue'} in {self.name}", *lines]
 
 
-def show(module, commands, first=2):
-    print(f"[{first - 1}] module {module.name}")
-    for number, lines in enumerate(module.lists(commands), first):
+def show(module, commands, before=()):
+    for number, name in enumerate([*before, module.name], 1):
+        print(f"[{number}] module {name}")
+    for number, lines in enumerate(module.lists(commands), len(before) + 2):
         print(f"[{number}] {lines[0]}", *lines[1:], sep="\n")
 
 
@@ -179,7 +181,8 @@ def frogs():
         f"leap : {row('o', 'f', 't')} => {row('t', 'f', 'o')}"], [
         f"solved := xmatch {row('t', 't', 'o', 'f', 'f')}", "cross := leap * ; (match X:Leaf ; solved or-else (hop ; cross))"], with_nat=False), [
         (None, row("f", "f", "o", "t", "t"), "all !"), (1, row("f", "f", "o", "t", "t"), "all * ; solved"), None, (None, row("f", "o", "t"), "all *"),
-        (None, row("f", "f", "o", "t", "t"), "hop ; leap ; not(solved)"), (None, row("f", "f", "o", "t", "t"), "cross"), (None, row("f", "f", "o", "t", "t"), "leap or-else hop")])
+        (None, row("f", "f", "o", "t", "t"), "hop ; leap ; not(solved)"), (None, row("f", "f", "o", "t", "t"), "cross"),
+        (None, row("f", "f", "o", "t", "t"), "leap or-else hop")], ["FROGS-RULES"])
 
 
 def rows(*ns):

@@ -99,6 +99,11 @@ def numbered_strategy(strategy, variables):
     return (form, *(numbered_strategy(it, variables) for it in parts))
 
 
+def cost_of(term):
+    """About how long it takes to match a term: the arguments of one operator are tried in all their parts."""
+    return 2 ** len(term[1]) + sum(map(cost_of, term[1])) if isinstance(term, tuple) and term[0] != "v" else 1
+
+
 class Definition:
     """`sd NAME(ARGUMENTS) := BODY`, or `csd` with fragments."""
 
@@ -111,7 +116,7 @@ class Definition:
 
 class Walk(Runner):
     """A run of a strategy, depth first over configurations: a term, what is left to do, and the enclosing tests, the innermost first. What is left to do is
-    a list of strategies, each with the calls that are left to it and the values of its variables. `tries` bounds what satisfies a strategy too."""
+    a list of strategies, each with the calls that are left to it and the values of its variables. `tries` bounds all matching, and what satisfies a strategy too."""
 
     def __init__(self, sig, equations, memberships, rules, definitions, limit, tries):
         super().__init__(sig, equations, memberships, rules, limit, tries)
@@ -201,6 +206,12 @@ class Walk(Runner):
         if form == "call":
             return [u for body in self.bodies(*parts, *setting) for u in self.satisfying(body, term)]
         return list(self.results(form, parts, dict((v[0], x) for v, x in setting[1]), term))
+
+    def solutions(self, variables, pattern, subject, *rest):
+        self.tries -= cost_of(subject)
+        if self.tries < 0:
+            raise TooMuch
+        return super().solutions(variables, pattern, subject, *rest)
 
     # ---- leaves and calls, one result after the other
 

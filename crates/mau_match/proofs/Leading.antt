@@ -1,7 +1,7 @@
 -- Variables that few values are left for: what their values are, and that a variable with a value is given.
-use Rattle.std.proofs.Common.{◌≡◌, ◌⊎◌, ℕ, ◌+◌, ◌≤◌, ◌<◌, List, [], ◌∷◌, ◌++◌, ◌||◌, map, length, take, get_or, Bool, true, false, Option, Some, None, Vec, Global, IfSome, inl, inr, if◌then◌else◌, refl, sym, ◌∙◌, ap, ap₂, subst, arith}
+use Rattle.std.proofs.Common.{◌≡◌, ◌⊎◌, ℕ, ◌+◌, ◌≤◌, ◌<◌, List, [], ◌∷◌, ◌++◌, ◌||◌, map, length, take, All, Contains, get_or, Bool, true, false, Option, Some, None, Vec, Global, IfSome, inl, inr, if◌then◌else◌, refl, sym, ◌∙◌, ap, ap₂, subst, arith}
 use Rattle.std.proofs.lemmas.List.{take_more, map-append}
-use Rattle.std.proofs.lemmas.List.Elements.{All-nil, All-cons}
+use Rattle.std.proofs.lemmas.List.Elements.{All-nil, All-cons, All-push}
 use Rattle.mau_terms.specs.Tree.{Tree}
 use Rattle.mau_terms.specs.Norm.{norm, finish}
 use Rattle.mau_terms.specs.Lawful.{AreLawful}
@@ -38,11 +38,12 @@ use Rattle.mau_domains.specs.Parts.{Reaches}
 use Rattle.mau_match.specs.Parts.{AnyOf, IsFair, alone_in, occurs}
 use Rattle.mau_match.specs.Limited.{AreLimited, long_at}
 use Rattle.mau_match.specs.Possible.{Agrees, AgreesIn}
-use Rattle.mau_match.specs.Led.{AreAllValues, AreNeverWith, GainsValues, GathersValues, IsChoice}
+use Rattle.mau_match.specs.Led.{IsAdded, AreAllValues, AreNeverWith, GainsValues, GathersValues, IsChoice}
 use Rattle.mau_match.specs.Walked.{parts_in, bound_of, values_of, target_of, AreGivenWithin, AddsParts, walked}
 use Rattle.mau_match.specs.declared.lead.Choice.{Choice}
 use Rattle.mau_match.specs.declared.part.Given.{Given}
 use Rattle.mau_match.specs.declared.part.Limit.{Limit}
+use Rattle.mau_match.proofs.Adding.{trees_more}
 use Rattle.mau_match.proofs.Lengths.{reach_length}
 use Rattle.mau_match.proofs.NothingMissed.{walk}
 use Rattle.mau_match.proofs.Refusing.{agrees_stay, in_more}
@@ -176,6 +177,36 @@ gathers_more s ls x old mid new qs i d h same before after g k = record {
     by gg limited (inl o) = k.kept (norm (theory_at s) (gg (variable_of x))) (g.values gg limited o)
     by gg limited (inr (inl o)) = k.values gg limited (subst (λ q. IsOf (theory_at s) q (norm (theory_at s) (gg (variable_of x)))) (sym same) o)
     by gg limited (inr (inr o)) = absurd o
+
+-- ---- each term once
+
+pub added_keeps : (nodes : List Node) (before : Option TermId) (id : TermId) (old new : List TermId) → IsAdded before id old new → (v : Tree) → IsIn v (trees_at nodes (numbers old)) → IsIn v (trees_at nodes (numbers new))
+added_keeps nodes before id old new (inl e) v i = subst (λ l. IsIn v (trees_at nodes (numbers l))) (sym e.0) i
+added_keeps nodes before id old new (inr e) v i =
+    subst (λ l. IsIn v (trees_at nodes (numbers l))) (sym e)
+    (subst (IsIn v) (sym (trees_at-append nodes old (id ∷ []))) (in_left v (trees_at nodes (numbers old)) (trees_at nodes (numbers (id ∷ []))) i))
+
+-- the term itself is there, if the one before it is
+pub added_there : (nodes : List Node) (before : Option TermId) (id : TermId) (old new : List TermId) → IsAdded before id old new → IfSome before (λ b. IsIn (tree_at nodes b.0) (trees_at nodes (numbers old))) → IsIn (tree_at nodes id.0) (trees_at nodes (numbers new))
+added_there nodes before id old new (inl e) b =
+    subst (λ l. IsIn (tree_at nodes id.0) (trees_at nodes (numbers l))) (sym e.0) (subst (λ o. IfSome o (λ b. IsIn (tree_at nodes b.0) (trees_at nodes (numbers old)))) e.1 b)
+added_there nodes before id old new (inr e) b =
+    subst (λ l. IsIn (tree_at nodes id.0) (trees_at nodes (numbers l))) (sym e)
+    (subst (IsIn (tree_at nodes id.0)) (sym (trees_at-append nodes old (id ∷ []))) (in_right (tree_at nodes id.0) (trees_at nodes (numbers old)) (trees_at nodes (numbers (id ∷ []))) (inl refl)))
+
+pub added_among : (before : Option TermId) (id : TermId) (old new ids : List TermId) → IsAdded before id old new → All (Contains ids) old → Contains ids id → All (Contains ids) new
+added_among before id old new ids (inl e) all one = subst (All (Contains ids)) (sym e.0) all
+added_among before id old new ids (inr e) all one = subst (All (Contains ids)) (sym e) (All-push (Contains ids) old id all one)
+
+-- one term more
+pub added_more : (nodes : List Node) (ids : List TermId) (i : ℕ) (d : TermId) → i < length ids → (before : Option TermId) (old new : List TermId) → IsAdded before (get_or ids i d) old new
+    → IfSome before (λ b. IsIn (tree_at nodes b.0) (trees_at nodes (numbers old))) → ((v : Tree) → IsIn v (trees_at nodes (numbers (take i ids))) → IsIn v (trees_at nodes (numbers old)))
+    → (v : Tree) → IsIn v (trees_at nodes (numbers (take (i + 1) ids))) → IsIn v (trees_at nodes (numbers new))
+added_more nodes ids i d lt before old new h b kept v k = by (in_more (trees_at nodes (numbers (take i ids))) (tree_at nodes (get_or ids i d).0) v (subst (IsIn v) (trees_more nodes ids i d lt) k))
+  where
+    by : IsIn v (trees_at nodes (numbers (take i ids))) ⊎ (v ≡ tree_at nodes (get_or ids i d).0) → IsIn v (trees_at nodes (numbers new))
+    by (inl o) = added_keeps nodes before (get_or ids i d) old new h v (kept v o)
+    by (inr e) = subst (λ w. IsIn w (trees_at nodes (numbers new))) (sym e) (added_there nodes before (get_or ids i d) old new h b)
 
 -- ---- a variable with a value is given
 

@@ -1,5 +1,5 @@
 -- Values of variables that few values are left for, whatever their order.
-use Rattle.std.specs.Prelude.{◌≡◌, List}
+use Rattle.std.specs.Prelude.{◌≡◌, ◌⊎◌, ◌++◌, ◌∷◌, [], List, Option, Some}
 use Rattle.mau_terms.specs.Tree.{Tree}
 use Rattle.mau_terms.specs.Norm.{norm}
 use Rattle.mau_terms.specs.Subst.{Variable, instance}
@@ -32,6 +32,10 @@ AreAllValues s nodes g p t x vs =
 abbrev pub AreNeverWith : SignatureOf → List Node → Given → Tree → Tree → Variable → List Tree → Type 0
 AreNeverWith s nodes g p t x vs =
     (gg : Variable → Tree) → AgreesIn s nodes g gg → IsFair (theory_at s) gg p → norm (theory_at s) (instance gg p) ≡ t → IsIn (norm (theory_at s) (gg x)) vs → ⊥
+
+-- a term is added, or it is the one before it, and nothing is added
+abbrev pub IsAdded : Option TermId → TermId → List TermId → List TermId → Type 0
+IsAdded before id old new = ((new ≡ old) × (before ≡ Some id)) ⊎ (new ≡ old ++ id ∷ [])
 
 -- these values are those that were there, and all that x may have of the part within the limits
 pub record GainsValues (s : SignatureOf) (ls : List Limit) (x : VarId) (old new : List Node) (q : PartOfCode) (before after : List TermId) : Type 0 where

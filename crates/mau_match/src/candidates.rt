@@ -39,7 +39,7 @@ use mau_canon::{BuildFault, list_of};
 use mau_domains::{Part, Reach, next_value};
 use mau_listing::{Place, compare_lists, is_lawful, value_key_of};
 use mau_signature::Signature;
-use mau_store::Store;
+use mau_store::{NodeView, Store};
 use mau_terms::{NoMemory, OpId, Seq, TermId, VarId};
 use mau_trial::Trial;
 use std::alloc::Global;
@@ -250,8 +250,8 @@ fn further(step: usize, growing: bool) -> usize {
     }
 }
 
-/// So many elements as the next value has in each answer that begins with the chosen values.
-fn least_length(
+/// A guess, where the next value has so many elements in each answer that begins with the chosen values, and else nothing.
+fn guessed_length(
     trial: &Trial,
     places: &[Place],
     store: &mut Store,
@@ -259,6 +259,7 @@ fn least_length(
     limits: &[Limit],
     chosen: &[TermId],
     op: OpId,
+    guess: usize,
 ) -> Result<usize, NoMemory>
     requires askable { IsAskable sig.now store.old (asked_in trial.now) }
     requires places { ArePlacesOf sig.now (tree_of trial.now.pattern) places.now }
@@ -268,7 +269,36 @@ fn least_length(
         AnswerIn sig.now known store.old trial.now (trees_at store.old (numbers chosen.now) ++ u ∷ us) → IfOk result (λ n. IsAsLong (theory_at sig.now) (Some op.0) n u) }
     ensures extends { Extends store.old store.new }
 {
-    let mut low: usize = 0;
+    if guess == 0 {
+        return Ok(0);
+    }
+    let most = guess - 1;
+    if may_be_short(trial, places, store, sig, limits, chosen, op, most)? {
+        return Ok(0);
+    }
+    Ok(most + 1)
+}
+
+/// So many elements as the next value has in each answer that begins with the chosen values; a guess is tried first.
+fn least_length(
+    trial: &Trial,
+    places: &[Place],
+    store: &mut Store,
+    sig: &Signature,
+    limits: &[Limit],
+    chosen: &[TermId],
+    op: OpId,
+    guess: usize,
+) -> Result<usize, NoMemory>
+    requires askable { IsAskable sig.now store.old (asked_in trial.now) }
+    requires places { ArePlacesOf sig.now (tree_of trial.now.pattern) places.now }
+    requires chosen { StandWithin (theory_at sig.now) store.old (numbers chosen.now) }
+    requires room { length chosen.now < length places.now }
+    ensures least { (known : Known) (u : Tree) (us : List Tree) → All (IsLimitOf sig.now known (variables_in places.now)) limits.now →
+        AnswerIn sig.now known store.old trial.now (trees_at store.old (numbers chosen.now) ++ u ∷ us) → IfOk result (λ n. IsAsLong (theory_at sig.now) (Some op.0) n u) }
+    ensures extends { Extends store.old store.new }
+{
+    let mut low = guessed_length(trial, places, store, sig, limits, chosen, op, guess)?;
     let mut step: usize = 1;
     let mut growing = true;
     for _ in 0..128 {
@@ -287,7 +317,34 @@ fn least_length(
     Ok(low)
 }
 
-/// So many elements as the next value has in each answer that begins with the chosen values, where values of these parts may be passed over.
+/// How many values are tried one after the other: where there are no more, no other place is looked for, and no length.
+const FEW: usize = 64;
+
+/// About how many values some parts have.
+fn weight_of(parts: &[Part]) -> usize {
+    let mut weight: usize = 0;
+    for part in parts {
+        match part {
+            Part::ListOf(reach, _, items) => {
+                let count = items.items().len();
+                if *reach == Reach::Whole {
+                    weight = weight.saturating_add(1);
+                } else {
+                    weight = weight.saturating_add(
+                        count.saturating_mul(count).saturating_mul(count),
+                    );
+                }
+            }
+            Part::One(_) => {
+                weight = weight.saturating_add(1);
+            }
+        }
+    }
+    weight
+}
+
+/// So many elements as the next value has in each answer that begins with the chosen values, where many values of these parts may be passed
+/// over; a guess is tried first.
 fn shortest(
     trial: &Trial,
     places: &[Place],
@@ -296,6 +353,7 @@ fn shortest(
     limits: &[Limit],
     chosen: &[TermId],
     parts: &[Part],
+    guess: usize,
 ) -> Result<usize, NoMemory>
     requires askable { IsAskable sig.now store.old (asked_in trial.now) }
     requires places { ArePlacesOf sig.now (tree_of trial.now.pattern) places.now }
@@ -306,6 +364,9 @@ fn shortest(
         IfOk result (λ n. IsAsLong (theory_at sig.now) (place_at (under_all places.now) (length chosen.now)) n u) }
     ensures extends { Extends store.old store.new }
 {
+    if weight_of(parts) <= FEW {
+        return Ok(0);
+    }
     let under = places[chosen.len()].under;
     let Some(op) = under else {
         return Ok(0);
@@ -313,7 +374,7 @@ fn shortest(
     if only_items(sig, op, parts).is_none() {
         return Ok(0);
     }
-    least_length(trial, places, store, sig, limits, chosen, op)
+    least_length(trial, places, store, sig, limits, chosen, op, guess)
 }
 
 // ---- values that begin alike
@@ -575,32 +636,27 @@ fn only_if(count: usize, same: bool) -> usize {
     if same { count } else { 0 }
 }
 
+/// How many values led to no answer before the first one: that one counts, unless it stands behind a value that led to an answer.
+pub fn first_missed(after: Option<TermId>) -> usize {
+    if after.is_some() { 0 } else { 1 }
+}
+
+/// How many elements a value has at least, as a guess: as many as the value before it has arguments.
+pub fn guess_behind(store: &Store, sig: &Signature, after: Option<TermId>) -> usize
+    requires after { IfSome after (λ id. StandsWithin (theory_at sig.now) store.now id.0) }
+{
+    let Some(id) = after else {
+        return 0;
+    };
+    match store.view(id) {
+        NodeView::App(_, args) => args.len(),
+        _ => 0,
+    }
+}
+
 /// How many values led to no answer since one was passed over, behind one more.
 pub fn missed(count: usize, passed: bool) -> usize {
     if passed { 1 } else { count.saturating_add(1) }
-}
-
-/// About how many values some parts have.
-fn weight_of(parts: &[Part]) -> usize {
-    let mut weight: usize = 0;
-    for part in parts {
-        match part {
-            Part::ListOf(reach, _, items) => {
-                let count = items.items().len();
-                if *reach == Reach::Whole {
-                    weight = weight.saturating_add(1);
-                } else {
-                    weight = weight.saturating_add(
-                        count.saturating_mul(count).saturating_mul(count),
-                    );
-                }
-            }
-            Part::One(_) => {
-                weight = weight.saturating_add(1);
-            }
-        }
-    }
-    weight
 }
 
 /// The parts that the value of the next variable may be of by the walk to a later place, with so many before it, if the variable has one.
@@ -684,9 +740,6 @@ fn fewer(
     }
 }
 
-/// How many values need no other place to be looked for.
-const FEW: usize = 64;
-
 /// How many places of a variable are looked at.
 const PLACES: usize = 4;
 
@@ -728,7 +781,8 @@ pub struct Domain {
     pub least: usize,
 }
 
-/// What the value of the next variable may be, and nothing where no answer begins with the chosen values.
+/// What the value of the next variable may be, and nothing where no answer begins with the chosen values. How many elements it has at least is
+/// guessed first.
 pub fn candidates(
     trial: &Trial,
     places: &[Place],
@@ -736,6 +790,7 @@ pub fn candidates(
     sig: &Signature,
     limits: &[Limit],
     chosen: &[TermId],
+    guess: usize,
 ) -> Result<Option<Domain>, NoMemory>
     requires askable { IsAskable sig.now store.old (asked_in trial.now) }
     requires places { ArePlacesOf sig.now (tree_of trial.now.pattern) places.now }
@@ -762,7 +817,7 @@ pub fn candidates(
             let sort = places[chosen.len()].variable.sort;
             let found = by_sort(store, sig, limits, sort, parts)?;
             let best = fewest(trial, places, store, sig, limits, chosen, found)?;
-            let least = shortest(trial, places, store, sig, limits, chosen, &best)?;
+            let least = shortest(trial, places, store, sig, limits, chosen, &best, guess)?;
             Ok(Some(Domain { parts: best, least }))
         }
         None => Ok(None),

@@ -1,13 +1,14 @@
 //! Whether values may lead to an answer: the variables that have few values are tried first, whatever their order, until none is left or
 //! what was tried is much.
-ghost use Rattle.std.specs.Prelude.{◌≡◌, ◌⊎◌, ◌∷◌, ◌≤◌, ℕ, List, All, true, false, Some, IfOk, IfSome, OnOk};
+ghost use Rattle.std.specs.Prelude.{◌≡◌, ◌⊎◌, ◌∷◌, ◌≤◌, ℕ, List, All, Contains, true, false, Some, IfOk, IfSome, OnOk};
 ghost use Rattle.mau_terms.specs.Tree.{Tree};
 ghost use Rattle.mau_terms.specs.Bare.{IsBare};
+ghost use Rattle.mau_terms.specs.Finite.{IsIn};
 ghost use Rattle.mau_terms.specs.Subst.{Variable};
 ghost use Rattle.mau_terms.specs.View.{tree_of, variable_of};
 ghost use Rattle.mau_terms.specs.declared.theory.Theory.{Theory as TheoryOf};
 ghost use Rattle.mau_signature.specs.Signature.{theory_at, terms_over};
-ghost use Rattle.mau_store.specs.Node.{Extends};
+ghost use Rattle.mau_store.specs.Node.{Node, Extends};
 ghost use Rattle.mau_store.specs.Trees.{tree_at, trees_at};
 ghost use Rattle.mau_store.specs.View.{numbers};
 ghost use Rattle.mau_canon.specs.Standing.{StandsWithin, StandWithin};
@@ -15,7 +16,7 @@ ghost use Rattle.mau_domains.specs.Parts.{just};
 ghost use Rattle.mau_match.specs.Parts.{occurs};
 ghost use Rattle.mau_match.specs.Limited.{AreLimited, long_at};
 ghost use Rattle.mau_match.specs.Possible.{IsNever};
-ghost use Rattle.mau_match.specs.Led.{AreNeverWith, AreAllValues, GainsValues, GathersValues, IsChoice};
+ghost use Rattle.mau_match.specs.Led.{IsAdded, AreNeverWith, AreAllValues, GainsValues, GathersValues, IsChoice};
 ghost use Rattle.mau_match.specs.Walked.{IsPartWithin, AreGivenWithin};
 
 use crate::choices::push_alone;
@@ -139,6 +140,33 @@ fn push_few(
     }
 }
 
+/// Adds a term, unless it is the one before it.
+fn push_new(before: Option<TermId>, id: TermId, out: &mut Vec<TermId>) -> Result<(), NoMemory>
+    ensures { OnOk result (IsAdded before id out.old.items out.new.items) }
+{
+    if let Some(last) = before {
+        if last == id {
+            return Ok(());
+        }
+    }
+    out.push(id)?;
+    Ok(())
+}
+
+/// Some terms, of those that stand side by side and are the same one only the first.
+fn distinct(alloc: Global, ids: &[TermId]) -> Result<Vec<TermId>, NoMemory>
+    ensures kept { IfOk result (λ out. (nodes : List Node) (v : Tree) → IsIn v (trees_at nodes (numbers ids.now)) → IsIn v (trees_at nodes (numbers out.items))) }
+    ensures among { IfOk result (λ out. All (Contains ids.now) out.items) }
+{
+    let mut out = Vec::new(alloc);
+    let mut before = None;
+    for id in ids {
+        push_new(before, *id, &mut out)?;
+        before = Some(*id);
+    }
+    Ok(out)
+}
+
 /// The values that a variable may have of some parts, if these are few.
 fn gathered(
     store: &mut Store,
@@ -157,7 +185,8 @@ fn gathered(
             return Ok(None);
         }
     }
-    Ok(Some(out))
+    let few = distinct(store.allocator(), &out)?;
+    Ok(Some(few))
 }
 
 /// The values that a variable of a pattern may have, by the walk to its first place, if these are few.

@@ -88,28 +88,28 @@ fn is_unit(store: &Store, id: TermId, identity: &Identity) -> bool
     }
 }
 
-/// Whether a term is an identity that is settled without a sort.
-fn is_settled_unit(
+/// Where a term is an identity that is settled: whether it is without a sort.
+fn lacks_sort(
     store: &Store,
     sig: &Signature,
     sorts: &SortTable,
     identity: &Identity,
     sort: u32,
     id: TermId,
-) -> bool
+) -> Option<bool>
     requires sort { IsSort sig.now.hierarchy sort }
     requires over { AreOver sig.now.hierarchy sorts.now }
-    ensures { result ≡ true → (known : Known) → IsTableOf sig.now known store.now sorts.now → HasSort sig.now known (unit_tree identity.now) sort → ⊥ }
+    ensures { IfSome result (λ lacks. lacks ≡ true → (known : Known) → IsTableOf sig.now known store.now sorts.now → HasSort sig.now known (unit_tree identity.now) sort → ⊥) }
 {
     if id.0 >= store.len() {
-        return false;
+        return None;
     }
     if !is_unit(store, id, identity) {
-        return false;
+        return None;
     }
     match sorts.has(sig, id, sort) {
-        Some(has) => !has,
-        None => false,
+        Some(has) => Some(!has),
+        None => None,
     }
 }
 
@@ -127,8 +127,8 @@ fn is_other_sort(
 {
     let settled = sorts.settled();
     for id in settled {
-        if is_settled_unit(store, sig, sorts, identity, sort, *id) {
-            return true;
+        if let Some(lacks) = lacks_sort(store, sig, sorts, identity, sort, *id) {
+            return lacks;
         }
     }
     false

@@ -68,13 +68,13 @@ fn is_settled_list(
     if id.0 >= store.len() {
         return false;
     }
-    if !is_headed(store, op, id) {
+    let Some(has) = sorts.has(sig, id, sort) else {
+        return false;
+    };
+    if !has {
         return false;
     }
-    match sorts.has(sig, id, sort) {
-        Some(has) => has,
-        None => false,
-    }
+    is_headed(store, op, id)
 }
 
 /// Whether no settled term that has an operator for its top has a sort.

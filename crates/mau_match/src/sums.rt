@@ -98,14 +98,22 @@ fn lack_of(store: &Store, counts: &[usize], items: &[TermId], term: TermId) -> u
     }
 }
 
-/// How many elements stand at least beside those whose numbers are sums of some numbers.
-fn least_beside(store: &Store, counts: &[usize], items: &[TermId]) -> Result<usize, NoMemory>
+/// How many elements stand at least beside those whose numbers are sums of some numbers, counted until there are more than enough.
+fn least_beside(
+    store: &Store,
+    counts: &[usize],
+    items: &[TermId],
+    enough: usize,
+) -> Result<usize, NoMemory>
     ensures { IfOk result (λ n. (beside : List Tree) → AreBeside counts.now (trees_at store.now (numbers items.now)) beside → n ≤ length beside) }
 {
     let mut rest = copy_of(store.allocator(), items)?;
     let mut lacking: usize = 0;
     for _ in 0..items.len() {
         if rest.is_empty() {
+            return Ok(lacking);
+        }
+        if lacking > enough {
             return Ok(lacking);
         }
         let term = rest[0];
@@ -296,7 +304,7 @@ fn are_uneven_whole(
     let Some(most) = all_most_apart(sig, given, op, &hidden, patterns, 0) else {
         return Ok(false);
     };
-    let least = least_beside(store, &counts, items)?;
+    let least = least_beside(store, &counts, items, most)?;
     Ok(most < least)
 }
 

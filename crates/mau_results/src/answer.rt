@@ -1,5 +1,5 @@
 //! The answer of an evaluation.
-ghost use Rattle.std.specs.Prelude.{◌≡◌, IfOk, Some};
+ghost use Rattle.std.specs.Prelude.{◌≡◌, true, false, IfOk, Some};
 ghost use Rattle.std.specs.Option.{option_map};
 ghost use Rattle.mau_poset.specs.Order.{IsPoset};
 ghost use Rattle.mau_terms.specs.Bare.{IsBare};
@@ -12,8 +12,9 @@ ghost use Rattle.mau_sorts.specs.Table.{entry_at};
 ghost use Rattle.mau_listing.specs.Asked.{IsTreeSettled};
 ghost use Rattle.mau_api.specs.Terms.{IsTerm};
 ghost use Rattle.mau_api.specs.Answers.{uses_results};
+ghost use Rattle.mau_api.specs.Told.{TellsMore};
 ghost use Rattle.mau_results.specs.Results.{MayAnswer};
-ghost use Rattle.mau_results.specs.Kept.{answer_in, IsThere, AreByDefinition};
+ghost use Rattle.mau_results.specs.Kept.{answer_in, IsThere, IsSettledAnswer, TellsAnswer, TellsRead, AreByDefinition};
 
 use mau_api::{EvalEnd, Evaluator, StepWatcher};
 use mau_canon::{BuildFault, build_bare};
@@ -57,7 +58,8 @@ pub fn shown_sort(sig: &Signature, store: &Store, sorts: &SortTable, term: TermI
     }
 }
 
-/// Evaluates a term with the budget of an item.
+/// Evaluates a term with the budget of an item. Where the watcher wants steps, it is told of the evaluation where there is a value; else
+/// what was told before stays in front.
 pub fn evaluate_item<E: Evaluator, W: StepWatcher>(
     evaluator: &mut E,
     sig: &Signature,
@@ -73,9 +75,14 @@ pub fn evaluate_item<E: Evaluator, W: StepWatcher>(
     ensures allowed { IfOk result (λ a. MayAnswer (E.meanings evaluator.old) (uses_results (E.meanings evaluator.old) (W.wanted watcher.old))
         (tree_at store.old term.0) (answer_in store.new a)) }
     ensures there { IfOk result (IsThere store.new) }
+    ensures settled { IfOk result (IsSettledAnswer (E.meanings evaluator.old).program.sig store.new (E.table evaluator.new)) }
     ensures extends { Extends store.old store.new }
     ensures fits { E.fits evaluator.new store.new }
     ensures meanings { E.meanings evaluator.new ≡ E.meanings evaluator.old }
+    ensures told { W.wanted watcher.old ≡ true → IfOk result (TellsAnswer (E.meanings evaluator.old).program (E.meanings evaluator.old).hooks store.new
+        (E.table evaluator.new) (W.told watcher.old) (W.told watcher.new) term) }
+    ensures before { W.wanted watcher.old ≡ true → TellsMore (W.told watcher.old) (W.told watcher.new) }
+    ensures silent { W.wanted watcher.old ≡ false → W.told watcher.new ≡ W.told watcher.old }
 {
     let mut budget = limit;
     match evaluator.evaluate(store, term, &mut budget, watcher) {
@@ -111,6 +118,14 @@ pub fn evaluate_bare<E: Evaluator, W: StepWatcher>(
     ensures allowed { IfOk result (λ a. MayAnswer (E.meanings evaluator.old) (uses_results (E.meanings evaluator.old) (W.wanted watcher.old))
         (tree_of term.now) (answer_in store.new a)) }
     ensures there { IfOk result (IsThere store.new) }
+    ensures settled { IfOk result (IsSettledAnswer (E.meanings evaluator.old).program.sig store.new (E.table evaluator.new)) }
+    ensures extends { Extends store.old store.new }
+    ensures fits { E.fits evaluator.new store.new }
+    ensures meanings { E.meanings evaluator.new ≡ E.meanings evaluator.old }
+    ensures told { W.wanted watcher.old ≡ true → IfOk result (TellsRead (E.meanings evaluator.old).program (E.meanings evaluator.old).hooks store.new
+        (E.table evaluator.new) (W.told watcher.old) (W.told watcher.new) (tree_of term.now)) }
+    ensures before { W.wanted watcher.old ≡ true → TellsMore (W.told watcher.old) (W.told watcher.new) }
+    ensures silent { W.wanted watcher.old ≡ false → W.told watcher.new ≡ W.told watcher.old }
 {
     let _ = sig.operators();
     match build_bare(store, sig, term) {

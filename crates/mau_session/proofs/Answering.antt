@@ -9,7 +9,7 @@ use Rattle.mau_modtext.specs.declared.raw.RawItem.{RawItem}
 use Rattle.mau_modtext.specs.declared.raw.RawBody.{RawBody}
 use Rattle.mau_modtext.specs.declared.raw.TextFault.{TextFault}
 use Rattle.mau_declare.specs.Words.{index_at}
-use Rattle.mau_session.specs.Built.{has_context, fault_answer}
+use Rattle.mau_session.specs.Built.{has_context}
 use Rattle.mau_modtext.specs.declared.raw.RawCommand.{RawCommand}
 use Rattle.mau_terms.specs.View.{tree_of}
 use Rattle.mau_terms.specs.declared.bare.Bare.{Bare}
@@ -28,7 +28,7 @@ use Rattle.mau_session.specs.Where.{left_where, where_lines, IsConditionOf, Wher
 use Rattle.mau_session.specs.Transcript.{TermsRead, TermsAnswer, too_deep, overflows, sorts_end, listed, asks_where, MatchAnswer, bound_refused, command_answered, ContinueAnswer, continued, continued_where, term_answered, BodyAnswer, item_faulty, item_answered, ItemsAnswer, item_first}
 use Rattle.mau_session.specs.Gains.{GainsListing, GainsListed, gains_solutions, gains_sorts_end, gains_too_deep, gains_overflow, GainsWhere, GainsListedWhere, gains_solutions_where, gains_sorts_end_where, gains_too_deep_where, gains_overflow_where, GainsTerms, ChosenAnswer, chosen_refused, chosen_answered, GainsChosen, GainsMatch, GainsOn, GainsOnWhere, GainsContinue, GainsAnswer, GainsTerm, GainsBody, GainsItem}
 use Rattle.mau_session.specs.Lines.{too_deep_line, overflow_line, end_line, answer_lines}
-use Rattle.mau_session.specs.Answers.{listing_lines, match_head, continue_head, reduce_head}
+use Rattle.mau_session.specs.Answers.{text_fault_line, listing_lines, match_head, continue_head, reduce_head}
 
 -- what was written answers an item, where it is known whether that is a refusal
 pub answered_with : {E A : Type 0} (v : Bool) (P : Bool → Type 0) (r : Result Bool E) → OnOk r A → IfOk r (λ b. b ≡ v) → (A → P v) → IfOk r P
@@ -79,8 +79,8 @@ module _ (e : Environment) (ws : List Word) (st : StateOf) (k : ℕ) (item : Raw
   pub item_says : (b : RawBody) (next : StateOf) (o n : List ℕ) (r : Bool) → item.body ≡ Ok b → GainsBody e ws st k i b next o n r → GainsItem e ws st k item next o n r
   item_says b next o n r h g = record { bytes = g.bytes; answer = item_answered b next g.bytes r h (subst (λ i. BodyAnswer e ws st k i b next g.bytes r) at g.answer); gained = g.gained }
 
-  pub item_fails : (f : TextFault) (o n : List ℕ) → item.body ≡ Err f → n ≡ o ++ fault_answer k ws i f → GainsItem e ws st k item st o n true
-  item_fails f o n h g = record { bytes = _; answer = item_faulty f h; gained = g ∙ ap (λ i. o ++ fault_answer k ws i f) at }
+  pub item_fails : (f : TextFault) (o n : List ℕ) → item.body ≡ Err f → n ≡ o ++ text_fault_line k f → GainsItem e ws st k item st o n true
+  item_fails f o n h g = record { bytes = _; answer = item_faulty f h; gained = g }
 
 -- ---- listings
 

@@ -17,6 +17,9 @@ pub mod Lines
 pub mod Naming
 pub mod Answering
 pub mod Rewritten
+pub mod ProgressSolutions
+pub mod Strategic
+pub mod Searched
 pub mod Evaluated
 pub mod Plain
 pub mod DerivedKinds
@@ -27,6 +30,7 @@ pub mod RunAnswered
 pub mod OneListing
 pub mod Shaped
 pub mod OneWhere
+pub mod Unstrategic
 pub mod OneTranscript
 pub mod Spanned
 pub mod Stored

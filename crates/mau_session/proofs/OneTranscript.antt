@@ -1,5 +1,6 @@
 -- A text has one transcript.
-use Rattle.std.proofs.Common.{◌≡◌, ◌≢◌, ℕ, ◌+◌, List, [], ◌∷◌, ◌++◌, Bool, true, false, ◌||◌, Some, None, Ok, refl, sym, ◌∙◌, ap, ap₂, subst, arith, Option, slice_get, Err}
+use Rattle.std.proofs.Common.{◌≡◌, ◌≢◌, ℕ, ◌+◌, All, List, [], ◌∷◌, ◌++◌, Bool, true, false, ◌||◌, Some, None, Ok, refl, sym, ◌∙◌, ap, ap₂, subst, arith, Option, slice_get, Err}
+use Rattle.std.proofs.lemmas.List.Elements.{All-head, All-tail}
 use Rattle.mau_terms.specs.Tree.{Tree}
 use Rattle.mau_terms.specs.View.{tree_of}
 use Rattle.mau_terms.specs.declared.bare.Bare.{Bare}
@@ -17,8 +18,9 @@ use Rattle.mau_modtext.specs.Items.{item_part}
 use Rattle.mau_modtext.specs.Parts.{parts}
 use Rattle.mau_modtext.specs.declared.raw.RawItem.{RawItem}
 use Rattle.mau_modtext.specs.declared.raw.RawBody.{RawBody}
-use Rattle.mau_modtext.specs.declared.raw.RawBody.TheVariants.{Quit}
+use Rattle.mau_modtext.specs.declared.raw.RawBody.TheVariants.{Command, Quit}
 use Rattle.mau_modtext.specs.declared.raw.RawCommand.{RawCommand}
+use Rattle.mau_modtext.specs.declared.raw.CommandKind.TheVariants.{Dsrewrite}
 use Rattle.mau_modtext.specs.declared.raw.Setting.{Setting}
 use Rattle.mau_declare.specs.Words.{index_at, token_text, token_index}
 use Rattle.mau_declare.proofs.Once.{yes_no}
@@ -37,10 +39,10 @@ use Rattle.mau_evaluation.specs.Run.{Run}
 use Rattle.mau_evaluation.specs.RuleRuns.{PassEnd}
 use Rattle.mau_results.specs.Runs.{run_from, run_by, RunAnswerOf, MayRun}
 use Rattle.mau_results.proofs.RunAnswers.{run_answers_are_one}
-use Rattle.mau_session.specs.Built.{uses_memberships, has_context, fault_answer}
-use Rattle.mau_session.specs.Answers.{refusal_line, faulty_line, shown_parse_fault, fault_line, module_line, match_head, continue_head, reduce_head, listing_lines}
+use Rattle.mau_session.specs.Built.{uses_memberships, has_context}
+use Rattle.mau_session.specs.Answers.{refusal_line, text_fault_line, faulty_line, shown_parse_fault, fault_line, module_line, match_head, continue_head, reduce_head, listing_lines}
 use Rattle.mau_session.specs.Environment.{Environment, meanings_in}
-use Rattle.mau_session.specs.Laws.{ComesTo, stands_there, comes_behind, UsesNoMemberships, TranscriptsAreOne}
+use Rattle.mau_session.specs.Laws.{ComesTo, stands_there, comes_behind, UsesNoMemberships, AsksForNoStrategy, TranscriptsAreOne}
 use Rattle.mau_session.specs.Query.{QueryOf, asked_first, shown_more}
 use Rattle.mau_session.specs.State.{ContinuedOf, a_listing, a_listing_where, a_rule_run, GoingOf, StateOf, at_first, accepted, selected, IsChosen, current_one, named_one, NamesNone, OutcomeOf, is_refused, has_ended, goes_on, left_by, refuses, state_after}
 use Rattle.mau_session.specs.declared.asked_run.AskedRun.{AskedRun}
@@ -48,8 +50,12 @@ use Rattle.mau_session.specs.Bounds.{bound_of, asked_run}
 use Rattle.mau_session.specs.Where.{ShowsWhere, left_where, where_lines, WhereAnswer}
 use Rattle.mau_session.specs.RuleRun.{RuleRunOf, rewriting_condition}
 use Rattle.mau_session.specs.RunLines.{run_head, run_lines, left_by_run}
+use Rattle.mau_session.specs.StrategyRun.{StrategyRunOf, shown_further}
+use Rattle.mau_session.specs.StrategyLines.{left_by_strategy}
+use Rattle.mau_session.specs.StrategyAnswer.{StrategyAnswer, strategy_unplaced, strategy_unknown, strategy_not_built, strategy_unbounded, strategy_answered}
+use Rattle.mau_session.proofs.Unstrategic.{GoesOnAlone, item_alone}
 use Rattle.mau_session.specs.RewriteAnswer.{RunTermAnswer, start_refused, start_answered, RewriteAnswer, rewrites_nothing, rewrite_unknown, rewrite_unbounded, rewrite_conditional, rewrite_answered}
-use Rattle.mau_session.specs.Transcript.{TermAnswer, term_refused, term_answered, ReduceAnswer, reduces_nothing, reduce_unknown, reduce_answered, reduce_is_answered, rewrite_is_answered, PatternReads, SubjectReads, TermsRead, TermsAnswer, pattern_refused, subject_refused, too_deep, overflows, sorts_end, listed, asks_where, MatchAnswer, command_not_built, module_unknown, bound_refused, command_answered, ContinueAnswer, number_refused, nothing_to_continue, continued, continued_where, run_continued, BodyAnswer, module_accepted, module_refused, match_answered, continue_answered, other_unknown, other_not_built, SettingAnswer, trace_not_built, trace_off, changes_nothing, module_selected, selects_none, setting_answered, ItemAnswer, item_faulty, item_answered, ItemsAnswer, items_end, item_quits, item_first, Transcript, text_refused, items_answered}
+use Rattle.mau_session.specs.Transcript.{TermAnswer, term_refused, term_answered, ReduceAnswer, reduces_nothing, reduce_unknown, reduce_answered, reduce_is_answered, rewrite_is_answered, PatternReads, SubjectReads, TermsRead, TermsAnswer, pattern_refused, subject_refused, too_deep, overflows, sorts_end, listed, asks_where, MatchAnswer, command_not_built, module_unknown, bound_refused, command_answered, ContinueAnswer, number_refused, nothing_to_continue, continued, continued_where, run_continued, strategy_continued, BodyAnswer, module_accepted, module_refused, match_answered, continue_answered, strategy_is_answered, SettingAnswer, trace_not_built, trace_off, changes_nothing, module_selected, selects_none, setting_answered, ItemAnswer, item_faulty, item_answered, ItemsAnswer, items_end, item_quits, item_first, Transcript, text_refused, items_answered}
 use Rattle.mau_tokens.proofs.Answer.{answers_are_one as tokens_are_one}
 use Rattle.mau_api.proofs.LawfulMeanings.{meanings_are_lawful}
 use Rattle.mau_module.specs.Lawful.{program_of}
@@ -265,7 +271,7 @@ module _ (ws : List Word) (c : RawCommand) where
   unasked_once : {r s : Refusal} → asked_run ws c ≡ Err r → asked_run ws c ≡ Err s → r ≡ s
   unasked_once e n = let o = sym e ∙ n in cc
 
-module _ (env : Environment) (free : env.remembers ≡ false) (ws : List Word) (st : StateOf) (unused : UsesNoMemberships st) (k i : ℕ) (c : RawCommand) where
+module _ (env : Environment) (free : env.remembers ≡ false) (ws : List Word) (st : StateOf) (unused : UsesNoMemberships st) (alone : GoesOnAlone st) (k i : ℕ) (c : RawCommand) where
   -- what may be answered for one term is one
   one_term : (m : ModuleOf) → uses_memberships m ≡ false → (t u : Tree) (a b : AnswerOf) → t ≡ u → MayAnswer (meanings_in env m) env.remembers t a → MayAnswer (meanings_in env m) env.remembers u b → a ≡ b
   one_term m none t u a b e x y =
@@ -319,11 +325,13 @@ module _ (env : Environment) (free : env.remembers ≡ false) (ws : List Word) (
   continue_once (number_refused r e) (continued most' n' q' m' found' b' e' g' h' l') = absurd (bound_or_refused ws st c e' e)
   continue_once (number_refused r e) (continued_where most' n' q' cond' m' found' b' e' g' h' l') = absurd (bound_or_refused ws st c e' e)
   continue_once (number_refused r e) (run_continued most' n' r' m' a' e' g' h' y') = absurd (bound_or_refused ws st c e' e)
+  continue_once (number_refused r e) (strategy_continued most' n' r' m' found' last' d' e' g' h' l') = absurd (alone n' r' g')
   continue_once (nothing_to_continue most e n) (number_refused r' e') = absurd (bound_or_refused ws st c e e')
   continue_once (nothing_to_continue most e n) (nothing_to_continue most' e' n') = one_item
   continue_once (nothing_to_continue most e n) (continued most' n' q' m' found' b' e' g' h' l') = let o = sym n ∙ g' in absurd cc
   continue_once (nothing_to_continue most e n) (continued_where most' n' q' cond' m' found' b' e' g' h' l') = let o = sym n ∙ g' in absurd cc
   continue_once (nothing_to_continue most e n) (run_continued most' n' r' m' a' e' g' h' y') = let o = sym n ∙ g' in absurd cc
+  continue_once (nothing_to_continue most e n) (strategy_continued most' n' r' m' found' last' d' e' g' h' l') = absurd (alone n' r' g')
   continue_once (continued most n q m found b e g h l) (number_refused r' e') = absurd (bound_or_refused ws st c e e')
   continue_once (continued most n q m found b e g h l) (nothing_to_continue most' e' n') = let o = sym n' ∙ g in absurd cc
   continue_once (continued most n q m found b e g h l) (continued most' n' q' m' found' b' e' g' h' l') =
@@ -346,6 +354,7 @@ module _ (env : Environment) (free : env.remembers ≡ false) (ws : List Word) (
       }
   continue_once (continued most n q m found b e g h l) (continued_where most' n' q' cond' m' found' b' e' g' h' l') = let o : a_listing q ≡ a_listing_where q' cond' = (going_once g g').1 in absurd cc
   continue_once (continued most n q m found b e g h l) (run_continued most' n' r' m' a' e' g' h' y') = let o : a_listing q ≡ a_rule_run r' = (going_once g g').1 in absurd cc
+  continue_once (continued most n q m found b e g h l) (strategy_continued most' n' r' m' found' last' d' e' g' h' l') = absurd (alone n' r' g')
   continue_once (continued_where most n q cond m found b e g h l) (number_refused r' e') = absurd (bound_or_refused ws st c e e')
   continue_once (continued_where most n q cond m found b e g h l) (nothing_to_continue most' e' n') = let o = sym n' ∙ g in absurd cc
   continue_once (continued_where most n q cond m found b e g h l) (continued most' n' q' m' found' b' e' g' h' l') = let o : a_listing_where q cond ≡ a_listing q' = (going_once g g').1 in absurd cc
@@ -371,6 +380,7 @@ module _ (env : Environment) (free : env.remembers ≡ false) (ws : List Word) (
         refused = refl;
       }
   continue_once (continued_where most n q cond m found b e g h l) (run_continued most' n' r' m' a' e' g' h' y') = let o : a_listing_where q cond ≡ a_rule_run r' = (going_once g g').1 in absurd cc
+  continue_once (continued_where most n q cond m found b e g h l) (strategy_continued most' n' r' m' found' last' d' e' g' h' l') = absurd (alone n' r' g')
   continue_once (run_continued most n r m a e g h y) (number_refused r' e') = absurd (bound_or_refused ws st c e e')
   continue_once (run_continued most n r m a e g h y) (nothing_to_continue most' e' n') = let o = sym n' ∙ g in absurd cc
   continue_once (run_continued most n r m a e g h y) (continued most' n' q' m' found' b' e' g' h' l') = let o : a_rule_run r ≡ a_listing q' = (going_once g g').1 in absurd cc
@@ -393,6 +403,13 @@ module _ (env : Environment) (free : env.remembers ≡ false) (ws : List Word) (
             ∙ ap (λ b. continue_head k m' ++ run_lines m' r'.variables env.budget b) one;
         refused = refl;
       }
+  continue_once (run_continued most n r m a e g h y) (strategy_continued most' n' r' m' found' last' d' e' g' h' l') = absurd (alone n' r' g')
+  continue_once (strategy_continued most n r m found last d e g h l) (number_refused r' e') = absurd (alone n r g)
+  continue_once (strategy_continued most n r m found last d e g h l) (nothing_to_continue most' e' n') = absurd (alone n r g)
+  continue_once (strategy_continued most n r m found last d e g h l) (continued most' n' q' m' found' b' e' g' h' l') = absurd (alone n r g)
+  continue_once (strategy_continued most n r m found last d e g h l) (continued_where most' n' q' cond' m' found' b' e' g' h' l') = absurd (alone n r g)
+  continue_once (strategy_continued most n r m found last d e g h l) (run_continued most' n' r' m' a' e' g' h' y') = absurd (alone n r g)
+  continue_once (strategy_continued most n r m found last d e g h l) (strategy_continued most' n' r' m' found' last' d' e' g' h' l') = absurd (alone n r g)
 
   start_once : {m : ModuleOf} {asked : AskedRun} → uses_memberships m ≡ false → {b d : List ℕ} {r q : OutcomeOf} → RunTermAnswer env ws m k c asked r b → RunTermAnswer env ws m k c asked q d → AreOneEnd b d r q
   start_once {m} none (start_refused f u n) (start_refused f' u' n') = record { bytes = ap (faulty_line k) (shown_once f f' (fault_once m.grammar (part_tokens ws c.first) (part_texts ws c.first) AnyKind [] f f' u u' n n')); left = refl }
@@ -441,7 +458,7 @@ module _ (env : Environment) (free : env.remembers ≡ false) (ws : List Word) (
       let o = start_once (unused n m h) y (subst (λ m. RunTermAnswer env ws m k c asked left' b') (sym same) (subst (λ a. RunTermAnswer env ws m' k c a left' b') (sym (asked_once ws c f f')) y')) in
       record { state = ap₂ (state_after st) (chosen_once ws st c x x') o.left; bytes = o.bytes; refused = ap refuses o.left }
 
-module _ (env : Environment) (free : env.remembers ≡ false) (ws : List Word) (st : StateOf) (all : AreShaped st.modules) (unused : UsesNoMemberships st) (k i : ℕ) where
+module _ (env : Environment) (free : env.remembers ≡ false) (ws : List Word) (st : StateOf) (all : AreShaped st.modules) (unused : UsesNoMemberships st) (alone : GoesOnAlone st) (k i : ℕ) where
   setting_once : {x : Setting} {u v : StateOf} {b c : List ℕ} {r s : Bool} → SettingAnswer ws st k i x u b r → SettingAnswer ws st k i x v c s → AreOneItem u v b c r s
   setting_once trace_not_built trace_not_built = one_item
   setting_once trace_off trace_off = one_item
@@ -454,66 +471,54 @@ module _ (env : Environment) (free : env.remembers ≡ false) (ws : List Word) (
   setting_once (selects_none name h) (module_selected name' n' h') = let one = sym h ∙ h' in absurd cc
   setting_once (selects_none name h) (selects_none name' h') = one_item
 
-  body_once : {x : RawBody} {u v : StateOf} {b c : List ℕ} {r s : Bool} → BodyAnswer env ws st k i x u b r → BodyAnswer env ws st k i x v c s → AreOneItem u v b c r s
-  body_once (module_accepted raw m x) (module_accepted raw' m' x') =
+  body_once : {x : RawBody} {u v : StateOf} {b c : List ℕ} {r s : Bool} → ((c : RawCommand) → x ≡ Command c → c.kind ≢ Dsrewrite) → BodyAnswer env ws st k i x u b r → BodyAnswer env ws st k i x v c s → AreOneItem u v b c r s
+  body_once none (module_accepted raw m x) (module_accepted raw' m' x') =
       let o = module_once st.modules ws raw x x' in
       let e : m ≡ m' = cc in
       record { state = ap (accepted st) e; bytes = ap (module_line k) e; refused = refl }
-  body_once (module_accepted raw m x) (module_refused raw' w' x') = let o = module_once st.modules ws raw x x' in absurd cc
-  body_once (module_refused raw w x) (module_accepted raw' m' x') = let o = module_once st.modules ws raw x x' in absurd cc
-  body_once (module_refused raw w x) (module_refused raw' w' x') =
+  body_once none (module_accepted raw m x) (module_refused raw' w' x') = let o = module_once st.modules ws raw x x' in absurd cc
+  body_once none (module_refused raw w x) (module_accepted raw' m' x') = let o = module_once st.modules ws raw x x' in absurd cc
+  body_once none (module_refused raw w x) (module_refused raw' w' x') =
       record { state = refl; bytes = ap (faulty_line k) (module_shown_once w w' (module_once st.modules ws raw x x')); refused = refl }
-  body_once (match_answered c n b r t x) (match_answered c' n' b' r' t' x') = match_once env ws st all unused k c x x'
-  body_once (match_answered c n b r t x) (continue_answered c' n' b' r' f' t' x') = absurd (yes_no _ t f')
-  body_once (match_answered c n b r t x) (reduce_is_answered c' n' b' r' f' g' t' x') = absurd (yes_no _ t f')
-  body_once (match_answered c n b r t x) (rewrite_is_answered c' n' b' r' f' g' j' t' x') = absurd (yes_no _ t f')
-  body_once (match_answered c n b r t x) (other_unknown c' u' f' g' j' l' h') = absurd (yes_no _ t f')
-  body_once (match_answered c n b r t x) (other_not_built c' o' f' g' j' l' h') = absurd (yes_no _ t f')
-  body_once (continue_answered c n b r f t x) (match_answered c' n' b' r' t' x') = absurd (yes_no _ t' f)
-  body_once (continue_answered c n b r f t x) (continue_answered c' n' b' r' f' t' x') = continue_once env free ws st unused k i c x x'
-  body_once (continue_answered c n b r f t x) (reduce_is_answered c' n' b' r' f' g' t' x') = absurd (yes_no _ t g')
-  body_once (continue_answered c n b r f t x) (rewrite_is_answered c' n' b' r' f' g' j' t' x') = absurd (yes_no _ t g')
-  body_once (continue_answered c n b r f t x) (other_unknown c' u' f' g' j' l' h') = absurd (yes_no _ t g')
-  body_once (continue_answered c n b r f t x) (other_not_built c' o' f' g' j' l' h') = absurd (yes_no _ t g')
-  body_once (reduce_is_answered c n b r f g t x) (match_answered c' n' b' r' t' x') = absurd (yes_no _ t' f)
-  body_once (reduce_is_answered c n b r f g t x) (continue_answered c' n' b' r' f' t' x') = absurd (yes_no _ t' g)
-  body_once (reduce_is_answered c n b r f g t x) (reduce_is_answered c' n' b' r' f' g' t' x') = reduce_once env free ws st unused k i c x x'
-  body_once (reduce_is_answered c n b r f g t x) (rewrite_is_answered c' n' b' r' f' g' j' t' x') = absurd (yes_no _ t j')
-  body_once (reduce_is_answered c n b r f g t x) (other_unknown c' u' f' g' j' l' h') = absurd (yes_no _ t j')
-  body_once (reduce_is_answered c n b r f g t x) (other_not_built c' o' f' g' j' l' h') = absurd (yes_no _ t j')
-  body_once (rewrite_is_answered c n b r f g j t x) (match_answered c' n' b' r' t' x') = absurd (yes_no _ t' f)
-  body_once (rewrite_is_answered c n b r f g j t x) (continue_answered c' n' b' r' f' t' x') = absurd (yes_no _ t' g)
-  body_once (rewrite_is_answered c n b r f g j t x) (reduce_is_answered c' n' b' r' f' g' t' x') = absurd (yes_no _ t' j)
-  body_once (rewrite_is_answered c n b r f g j t x) (rewrite_is_answered c' n' b' r' f' g' j' t' x') = rewrite_once env free ws st unused k i c x x'
-  body_once (rewrite_is_answered c n b r f g j t x) (other_unknown c' u' f' g' j' l' h') = absurd (yes_no _ t l')
-  body_once (rewrite_is_answered c n b r f g j t x) (other_not_built c' o' f' g' j' l' h') = absurd (yes_no _ t l')
-  body_once (other_unknown c u f g j l h) (match_answered c' n' b' r' t' x') = absurd (yes_no _ t' f)
-  body_once (other_unknown c u f g j l h) (continue_answered c' n' b' r' f' t' x') = absurd (yes_no _ t' g)
-  body_once (other_unknown c u f g j l h) (reduce_is_answered c' n' b' r' f' g' t' x') = absurd (yes_no _ t' j)
-  body_once (other_unknown c u f g j l h) (rewrite_is_answered c' n' b' r' f' g' j' t' x') = absurd (yes_no _ t' l)
-  body_once (other_unknown c u f g j l h) (other_unknown c' u' f' g' j' l' h') =
-      record { state = refl; bytes = ap (λ t. refusal_line k ws (UnknownModule (token_index ws t))) (unknown_once ws st c h h'); refused = refl }
-  body_once (other_unknown c u f g j l h) (other_not_built c' o' f' g' j' l' h') = absurd (never_chosen ws st c h h')
-  body_once (other_not_built c o f g j l h) (match_answered c' n' b' r' t' x') = absurd (yes_no _ t' f)
-  body_once (other_not_built c o f g j l h) (continue_answered c' n' b' r' f' t' x') = absurd (yes_no _ t' g)
-  body_once (other_not_built c o f g j l h) (reduce_is_answered c' n' b' r' f' g' t' x') = absurd (yes_no _ t' j)
-  body_once (other_not_built c o f g j l h) (rewrite_is_answered c' n' b' r' f' g' j' t' x') = absurd (yes_no _ t' l)
-  body_once (other_not_built c o f g j l h) (other_unknown c' u' f' g' j' l' h') = absurd (never_chosen ws st c h' h)
-  body_once (other_not_built c o f g j l h) (other_not_built c' o' f' g' j' l' h') = one_item
-  body_once (setting_answered x n b r h) (setting_answered x' n' b' r' h') = setting_once h h'
+  body_once none (match_answered c n b r t x) (match_answered c' n' b' r' t' x') = match_once env ws st all unused k c x x'
+  body_once none (match_answered c n b r t x) (continue_answered c' n' b' r' f' t' x') = absurd (yes_no _ t f')
+  body_once none (match_answered c n b r t x) (reduce_is_answered c' n' b' r' f' g' t' x') = absurd (yes_no _ t f')
+  body_once none (match_answered c n b r t x) (rewrite_is_answered c' n' b' r' f' g' j' t' x') = absurd (yes_no _ t f')
+  body_once none (continue_answered c n b r f t x) (match_answered c' n' b' r' t' x') = absurd (yes_no _ t' f)
+  body_once none (continue_answered c n b r f t x) (continue_answered c' n' b' r' f' t' x') = continue_once env free ws st unused alone k i c x x'
+  body_once none (continue_answered c n b r f t x) (reduce_is_answered c' n' b' r' f' g' t' x') = absurd (yes_no _ t g')
+  body_once none (continue_answered c n b r f t x) (rewrite_is_answered c' n' b' r' f' g' j' t' x') = absurd (yes_no _ t g')
+  body_once none (reduce_is_answered c n b r f g t x) (match_answered c' n' b' r' t' x') = absurd (yes_no _ t' f)
+  body_once none (reduce_is_answered c n b r f g t x) (continue_answered c' n' b' r' f' t' x') = absurd (yes_no _ t' g)
+  body_once none (reduce_is_answered c n b r f g t x) (reduce_is_answered c' n' b' r' f' g' t' x') = reduce_once env free ws st unused alone k i c x x'
+  body_once none (reduce_is_answered c n b r f g t x) (rewrite_is_answered c' n' b' r' f' g' j' t' x') = absurd (yes_no _ t j')
+  body_once none (rewrite_is_answered c n b r f g j t x) (match_answered c' n' b' r' t' x') = absurd (yes_no _ t' f)
+  body_once none (rewrite_is_answered c n b r f g j t x) (continue_answered c' n' b' r' f' t' x') = absurd (yes_no _ t' g)
+  body_once none (rewrite_is_answered c n b r f g j t x) (reduce_is_answered c' n' b' r' f' g' t' x') = absurd (yes_no _ t' j)
+  body_once none (rewrite_is_answered c n b r f g j t x) (rewrite_is_answered c' n' b' r' f' g' j' t' x') = rewrite_once env free ws st unused alone k i c x x'
+  body_once none (match_answered c n b r t x) (strategy_is_answered c' n' b' r' d' x') = absurd (none c refl d')
+  body_once none (continue_answered c n b r f t x) (strategy_is_answered c' n' b' r' d' x') = absurd (none c refl d')
+  body_once none (reduce_is_answered c n b r f g t x) (strategy_is_answered c' n' b' r' d' x') = absurd (none c refl d')
+  body_once none (rewrite_is_answered c n b r f g j t x) (strategy_is_answered c' n' b' r' d' x') = absurd (none c refl d')
+  body_once none (strategy_is_answered c n b r d x) (match_answered c' n' b' r' t' x') = absurd (none c refl d)
+  body_once none (strategy_is_answered c n b r d x) (continue_answered c' n' b' r' f' t' x') = absurd (none c refl d)
+  body_once none (strategy_is_answered c n b r d x) (reduce_is_answered c' n' b' r' f' g' t' x') = absurd (none c refl d)
+  body_once none (strategy_is_answered c n b r d x) (rewrite_is_answered c' n' b' r' f' g' j' t' x') = absurd (none c refl d)
+  body_once none (strategy_is_answered c n b r d x) (strategy_is_answered c' n' b' r' d' x') = absurd (none c refl d)
+  body_once none (setting_answered x n b r h) (setting_answered x' n' b' r' h') = setting_once h h'
 
-module _ (env : Environment) (free : env.remembers ≡ false) (ws : List Word) (st : StateOf) (all : AreShaped st.modules) (unused : UsesNoMemberships st) (k : ℕ) (item : RawItem) where
-  item_once : {u v : StateOf} {b c : List ℕ} {r s : Bool} → ItemAnswer env ws st k item u b r → ItemAnswer env ws st k item v c s → AreOneItem u v b c r s
-  item_once (item_faulty f e) (item_faulty f' e') =
+module _ (env : Environment) (free : env.remembers ≡ false) (ws : List Word) (st : StateOf) (all : AreShaped st.modules) (unused : UsesNoMemberships st) (alone : GoesOnAlone st) (k : ℕ) (item : RawItem) where
+  item_once : {u v : StateOf} {b c : List ℕ} {r s : Bool} → AsksForNoStrategy item → ItemAnswer env ws st k item u b r → ItemAnswer env ws st k item v c s → AreOneItem u v b c r s
+  item_once none (item_faulty f e) (item_faulty f' e') =
       let o = sym e ∙ e' in
       let h : f ≡ f' = cc in
-      record { state = refl; bytes = ap (fault_answer k ws (index_at ws item.at)) h; refused = refl }
-  item_once (item_faulty f e) (item_answered b' ns' bs' r' e' x') = let o = sym e ∙ e' in absurd cc
-  item_once (item_answered b ns bs r e x) (item_faulty f' e') = let o = sym e ∙ e' in absurd cc
-  item_once (item_answered b ns bs r e x) (item_answered b' ns' bs' r' e' x') =
+      record { state = refl; bytes = ap (text_fault_line k) h; refused = refl }
+  item_once none (item_faulty f e) (item_answered b' ns' bs' r' e' x') = let o = sym e ∙ e' in absurd cc
+  item_once none (item_answered b ns bs r e x) (item_faulty f' e') = let o = sym e ∙ e' in absurd cc
+  item_once none (item_answered b ns bs r e x) (item_answered b' ns' bs' r' e' x') =
       let o = sym e' ∙ e in
       let h : b' ≡ b = cc in
-      body_once env free ws st all unused k (index_at ws item.at) x (subst (λ b. BodyAnswer env ws st k (index_at ws item.at) b ns' bs' r') h x')
+      body_once env free ws st all unused alone k (index_at ws item.at) (λ d same. none d (e ∙ ap Ok same)) x (subst (λ b. BodyAnswer env ws st k (index_at ws item.at) b ns' bs' r') h x')
 
   never_quits : {next : StateOf} {b : List ℕ} {r : Bool} → ItemAnswer env ws st k item next b r → item.body ≡ Ok Quit → ⊥
   never_quits (item_faulty f e) q = let o = sym e ∙ q in absurd cc
@@ -542,6 +547,7 @@ module _ (env : Environment) (ws : List Word) (st : StateOf) (k i : ℕ) (c : Ra
   continue_keeps (continued most n q m found b e g h l) = after_keeps st n (left_by b (shown_more q found))
   continue_keeps (continued_where most n q cond m found b e g h l) = after_keeps st n (left_where b (shown_more q found) cond)
   continue_keeps (run_continued most n r m a e g h y) = after_keeps st n (left_by_run r.kind r.variables a)
+  continue_keeps (strategy_continued most n r m found last d e g h l) = after_keeps st n (left_by_strategy d (shown_further r found last))
 
   reduce_keeps : {u : StateOf} {b : List ℕ} {r : Bool} → ReduceAnswer env ws st k c u b r → u.modules ≡ st.modules
   reduce_keeps (reduces_nothing e) = refl
@@ -554,6 +560,13 @@ module _ (env : Environment) (ws : List Word) (st : StateOf) (k i : ℕ) (c : Ra
   rewrite_keeps (rewrite_unbounded n m r e x h f) = refl
   rewrite_keeps (rewrite_conditional n m asked q e x h f g) = refl
   rewrite_keeps (rewrite_answered n m asked left b e x h f g y) = after_keeps st n left
+
+  strategy_keeps : {u : StateOf} {b : List ℕ} {r : Bool} → StrategyAnswer env ws st k i c u b r → u.modules ≡ st.modules
+  strategy_keeps (strategy_unplaced l e) = refl
+  strategy_keeps (strategy_unknown t e x) = refl
+  strategy_keeps (strategy_not_built n m q e x h g) = refl
+  strategy_keeps (strategy_unbounded n m r e x h g f) = refl
+  strategy_keeps (strategy_answered n m most left b e x h g f y) = after_keeps st n left
 
 module _ (env : Environment) (ws : List Word) (st : StateOf) (all : AreShaped st.modules) (k i : ℕ) where
   setting_keeps : {x : Setting} {u : StateOf} {b : List ℕ} {r : Bool} → SettingAnswer ws st k i x u b r → u.modules ≡ st.modules
@@ -573,8 +586,7 @@ module _ (env : Environment) (ws : List Word) (st : StateOf) (all : AreShaped st
   body_shaped (continue_answered c n b r f t x) = same_shaped n (continue_keeps env ws st k i c x)
   body_shaped (reduce_is_answered c n b r f g t x) = same_shaped n (reduce_keeps env ws st k i c x)
   body_shaped (rewrite_is_answered c n b r f g j t x) = same_shaped n (rewrite_keeps env ws st k i c x)
-  body_shaped (other_unknown c u f g j l h) = all
-  body_shaped (other_not_built c o f g j l h) = all
+  body_shaped (strategy_is_answered c n b r d x) = same_shaped n (strategy_keeps env ws st k i c x)
   body_shaped (setting_answered x n b r h) = same_shaped n (setting_keeps h)
 
 module _ (env : Environment) (ws : List Word) (st : StateOf) (all : AreShaped st.modules) (k : ℕ) (item : RawItem) where
@@ -587,25 +599,26 @@ module _ (env : Environment) (free : env.remembers ≡ false) (ws : List Word) w
   abbrev LeadsToNone : StateOf → ℕ → List RawItem → Type 0
   LeadsToNone st k items = (last : StateOf) → ComesTo env ws st k items last → UsesNoMemberships last
 
-  items_once : {st : StateOf} {k : ℕ} {items : List RawItem} {b c : List ℕ} {r s : Bool} → AreShaped st.modules → LeadsToNone st k items → ItemsAnswer env ws st k items b r → ItemsAnswer env ws st k items c s → AreOneAnswer b c r s
-  items_once all unused (items_end ms k) (items_end ms' k') = one_answer
-  items_once all unused (item_quits ms k item items q) (item_quits ms' k' item' items' q') = one_answer
-  items_once all unused (item_quits ms k item items q) (item_first ms' ns' k' item' items' b' more' r' later' x' y') = absurd (never_quits env free ws ms all (unused ms (stands_there ms k (item ∷ items))) k item x' q)
-  items_once all unused (item_first ms ns k item items b more r later x y) (item_quits ms' k' item' items' q') = absurd (never_quits env free ws ms all (unused ms (stands_there ms k (item ∷ items))) k item x q')
-  items_once all unused (item_first ms ns k item items b more r later x y) (item_first ms' ns' k' item' items' b' more' r' later' x' y') =
-      let one = item_once env free ws ms all (unused ms (stands_there ms k (item ∷ items))) k item x x' in
-      let rest = items_once (item_shaped env ws ms all k item x) (λ last to. unused last (comes_behind ms ns last k item items b r x to)) y (subst (λ ns. ItemsAnswer env ws ns (k + 1) items more' later') (sym one.state) y') in
+  items_once : {st : StateOf} {k : ℕ} {items : List RawItem} {b c : List ℕ} {r s : Bool} → AreShaped st.modules → LeadsToNone st k items → GoesOnAlone st → All AsksForNoStrategy items → ItemsAnswer env ws st k items b r → ItemsAnswer env ws st k items c s → AreOneAnswer b c r s
+  items_once all unused alone none (items_end ms k) (items_end ms' k') = one_answer
+  items_once all unused alone none (item_quits ms k item items q) (item_quits ms' k' item' items' q') = one_answer
+  items_once all unused alone none (item_quits ms k item items q) (item_first ms' ns' k' item' items' b' more' r' later' x' y') = absurd (never_quits env free ws ms all (unused ms (stands_there ms k (item ∷ items))) alone k item x' q)
+  items_once all unused alone none (item_first ms ns k item items b more r later x y) (item_quits ms' k' item' items' q') = absurd (never_quits env free ws ms all (unused ms (stands_there ms k (item ∷ items))) alone k item x q')
+  items_once all unused alone none (item_first ms ns k item items b more r later x y) (item_first ms' ns' k' item' items' b' more' r' later' x' y') =
+      let asks : AsksForNoStrategy item = All-head AsksForNoStrategy item items none in
+      let one = item_once env free ws ms all (unused ms (stands_there ms k (item ∷ items))) alone k item asks x x' in
+      let rest = items_once (item_shaped env ws ms all k item x) (λ last to. unused last (comes_behind ms ns last k item items b r x to)) (item_alone env ws ms alone k item asks x) (All-tail AsksForNoStrategy item items none) y (subst (λ ns. ItemsAnswer env ws ns (k + 1) items more' later') (sym one.state) y') in
       record { bytes = ap₂ (λ b more. b ++ more) one.bytes rest.bytes; refused = ap₂ (λ r later. r || later) one.refused rest.refused }
 
 pub transcript_once : TranscriptsAreOne
-transcript_once env free text none b c r s (text_refused f x) (text_refused f' x') = let o = tokens_are_one text _ _ x x' in let e : f ≡ f' = cc in (ap fault_line e, refl)
-transcript_once env free text none b c r s (text_refused f x) (items_answered tokens' items' b' r' x' z' y') = let o = tokens_are_one text _ _ x x' in absurd cc
-transcript_once env free text none b c r s (items_answered tokens items b' r' x z y) (text_refused f' x') = let o = tokens_are_one text _ _ x x' in absurd cc
-transcript_once env free text none b c r s (items_answered tokens items b' r' x z y) (items_answered tokens' items' b'' r'' x' z' y') =
+transcript_once env free text none calm b c r s (text_refused f x) (text_refused f' x') = let o = tokens_are_one text _ _ x x' in let e : f ≡ f' = cc in (ap fault_line e, refl)
+transcript_once env free text none calm b c r s (text_refused f x) (items_answered tokens' items' b' r' x' z' y') = let o = tokens_are_one text _ _ x x' in absurd cc
+transcript_once env free text none calm b c r s (items_answered tokens items b' r' x z y) (text_refused f' x') = let o = tokens_are_one text _ _ x x' in absurd cc
+transcript_once env free text none calm b c r s (items_answered tokens items b' r' x z y) (items_answered tokens' items' b'' r'' x' z' y') =
     let o = tokens_are_one text _ _ x x' in
     let e : tokens ≡ tokens' = cc in
     let d = sym z ∙ ap (λ tokens. parts item_part (words_of text tokens)) e ∙ z' in
     let i : items ≡ items' = cc d in
     let y'' = subst (λ tokens. ItemsAnswer env (words_of text tokens) at_first 1 items b'' r'') (sym e) (subst (λ items. ItemsAnswer env (words_of text tokens') at_first 1 items b'' r'') (sym i) y') in
-    let one = items_once env free (words_of text tokens) prelude_shaped (λ last to. none tokens items last x z to) y y'' in
+    let one = items_once env free (words_of text tokens) prelude_shaped (λ last to. none tokens items last x z to) (λ n q e. absurd cc) (calm tokens items x z) y y'' in
     (one.bytes, one.refused)

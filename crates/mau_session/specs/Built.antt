@@ -1,17 +1,10 @@
--- Items that aren't built yet, and the answers of items that say nothing.
-use Rattle.std.specs.Prelude.{ℕ, List, Bool, true, false, ◌||◌, if◌then◌else◌, codes}
-use Rattle.std.specs.Str.{bytes_eq}
+-- Commands by their kinds, and modules with memberships that are used.
+use Rattle.std.specs.Prelude.{Bool, true, false}
 use Rattle.std.specs.List.{list_any}
-use Rattle.mau_modtext.specs.Word.{Word}
 use Rattle.mau_modtext.specs.declared.raw.CommandKind.{CommandKind}
 use Rattle.mau_modtext.specs.declared.raw.CommandKind.TheVariants.{Match, Xmatch, Reduce, Rewrite, Frewrite, Continue}
-use Rattle.mau_modtext.specs.declared.raw.TextFault.{TextFault}
-use Rattle.mau_modtext.specs.declared.raw.TextFault.TheVariants.{Unended}
 use Rattle.mau_program.specs.declared.statements.Membership.{Membership}
-use Rattle.mau_declare.specs.Words.{text_at}
 use Rattle.mau_module.specs.Modules.{ModuleOf}
-use Rattle.mau_session.specs.declared.refusal.Refusal.TheVariants.{NotBuilt}
-use Rattle.mau_session.specs.Answers.{refusal_line, text_fault_line}
 
 -- a membership of the module may be used to evaluate, so that a term may have a lower sort than the declared one
 abbrev pub uses_memberships : ModuleOf → Bool
@@ -45,17 +38,3 @@ is_fair _ = false
 abbrev pub is_continue : CommandKind → Bool
 is_continue Continue = true
 is_continue _ = false
-
--- the words with which items begin that aren't built yet
-abbrev pub begins_unbuilt : List ℕ → Bool
-begins_unbuilt w = bytes_eq w (codes "dsrewrite") || bytes_eq w (codes "dsrew")
-
-abbrev pub is_unended : TextFault → Bool
-is_unended (Unended at) = true
-is_unended _ = false
-
--- the answer of an item with a fault that begins at the word i: where it ends, it isn't built before it is at fault
-abbrev pub fault_answer : ℕ → List Word → ℕ → TextFault → List ℕ
-fault_answer k ws i f =
-    if is_unended f then text_fault_line k f
-    else (if begins_unbuilt (text_at ws i) then refusal_line k ws (NotBuilt i) else text_fault_line k f)

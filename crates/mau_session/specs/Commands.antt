@@ -1,4 +1,4 @@
--- The parts of a match command, and where one isn't built.
+-- The parts of a command, and where one isn't built.
 use Rattle.std.specs.Prelude.{ℕ, ◌+◌, List, length, nat_lt, Bool, true, false, Option, Some, None, if◌then◌else◌}
 use Rattle.std.specs.List.{list_any}
 use Rattle.mau_modtext.specs.Word.{Word}
@@ -25,8 +25,8 @@ is_rewriting _ = false
 abbrev pub has_rewriting : List RawFragment → Bool
 has_rewriting raws = list_any (λ (raw : RawFragment). is_rewriting raw.kind) raws
 
--- the word at which a match command isn't built: the place of a term without tokens, or the word behind the subject, with which a condition begins that has
--- a fragment t => u. No command has any of these.
+-- the word at which a command isn't built: the place of a term or a strategy without tokens, or the word behind the subject, with which a condition begins that
+-- has a fragment t => u. No command has any of these.
 abbrev pub unbuilt : List Word → RawCommand → Option ℕ
 unbuilt ws c =
     if is_empty ws c.first then Some (first_index ws c.first)

@@ -7,18 +7,20 @@ use Rattle.mau_session.specs.Environment.{Environment}
 use Rattle.mau_session.specs.KeptQuery.{query_of, IsReadyKept}
 use Rattle.mau_session.specs.KeptWhere.{IsReadyWhere}
 use Rattle.mau_session.specs.KeptRun.{rule_run_of, IsReadyRun}
+use Rattle.mau_session.specs.KeptStrategy.{search_of, IsReadySearch}
 use Rattle.mau_session.specs.declared.state.State.{State}
 use Rattle.mau_session.specs.declared.state.Continued.{Continued}
-use Rattle.mau_session.specs.declared.state.Continued.TheVariants.{Listing, ListingWhere, Rules}
+use Rattle.mau_session.specs.declared.state.Continued.TheVariants.{Listing, ListingWhere, Rules, Strategies}
 use Rattle.mau_session.specs.declared.state.Going.{Going}
 use Rattle.mau_session.specs.declared.state.Outcome.{Outcome}
 use Rattle.mau_session.specs.declared.state.Outcome.TheVariants.{Refused, Ended, GoesOn}
-use Rattle.mau_session.specs.State.{ContinuedOf, a_listing, a_listing_where, a_rule_run, GoingOf, StateOf, OutcomeOf, is_refused, has_ended, goes_on}
+use Rattle.mau_session.specs.State.{ContinuedOf, a_listing, a_listing_where, a_rule_run, a_strategy_run, GoingOf, StateOf, OutcomeOf, is_refused, has_ended, goes_on}
 
 abbrev pub continued_of : Continued → ContinuedOf
 continued_of (Listing q sorts) = a_listing (query_of q)
 continued_of (ListingWhere k sorts) = a_listing_where (query_of k.query) k.cond
 continued_of (Rules r) = a_rule_run (rule_run_of r)
+continued_of (Strategies s) = a_strategy_run (search_of s)
 
 abbrev pub going_of : Going → GoingOf
 going_of g = record { number = g.number; what = continued_of g.what }
@@ -36,6 +38,7 @@ abbrev pub IsReadyOver : Environment → ModuleOf → Continued → Type 0
 IsReadyOver e m (Listing q sorts) = IsReadyKept e m sorts q
 IsReadyOver e m (ListingWhere k sorts) = IsReadyWhere e m sorts k
 IsReadyOver e m (Rules r) = IsReadyRun m r
+IsReadyOver e m (Strategies s) = IsReadySearch e m s
 
 -- it can go on over the module with a number
 pub record IsReadyAt (e : Environment) (ms : List ModuleOf) (g : Going) : Type 0 where

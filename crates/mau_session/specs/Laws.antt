@@ -1,11 +1,14 @@
 -- Laws of transcripts.
-use Rattle.std.specs.Prelude.{◌≡◌, ℕ, ◌+◌, List, ◌∷◌, Bool, false, Some, Ok, slice_get}
+use Rattle.std.specs.Prelude.{◌≡◌, ◌≢◌, ℕ, ◌+◌, List, ◌∷◌, Bool, false, Some, Ok, All, slice_get}
 use Rattle.mau_tokens.specs.declared.token.Token.{Token}
 use Rattle.mau_tokens.specs.TokensOf.{TokensOf}
 use Rattle.mau_modtext.specs.Word.{Word}
 use Rattle.mau_modtext.specs.Words.{words_of}
 use Rattle.mau_modtext.specs.Items.{AreItems}
 use Rattle.mau_modtext.specs.declared.raw.RawItem.{RawItem}
+use Rattle.mau_modtext.specs.declared.raw.RawBody.TheVariants.{Command}
+use Rattle.mau_modtext.specs.declared.raw.RawCommand.{RawCommand}
+use Rattle.mau_modtext.specs.declared.raw.CommandKind.TheVariants.{Dsrewrite}
 use Rattle.mau_module.specs.Modules.{ModuleOf}
 use Rattle.mau_session.specs.Environment.{Environment}
 use Rattle.mau_session.specs.State.{StateOf, at_first}
@@ -28,8 +31,17 @@ HasNoMemberships e text =
     (tokens : List Token) (items : List RawItem) (st : StateOf) → TokensOf text (Ok tokens) → AreItems (words_of text tokens) items
     → ComesTo e (words_of text tokens) at_first 1 items st → UsesNoMemberships st
 
--- Where no results are remembered, and no module of the text has a membership that may be used, the text has no two transcripts, nor one that is both
--- refused and not. (With such memberships a value or an end may be answered by more levels than those of an item, where sorts were derived before.)
+-- the item does not ask for a strategy run
+abbrev pub AsksForNoStrategy : RawItem → Type 0
+AsksForNoStrategy item = (c : RawCommand) → item.body ≡ Ok (Command c) → c.kind ≢ Dsrewrite
+
+-- nor does one of the text
+abbrev pub HasNoStrategyRuns : List ℕ → Type 0
+HasNoStrategyRuns text = (tokens : List Token) (items : List RawItem) → TokensOf text (Ok tokens) → AreItems (words_of text tokens) items → All AsksForNoStrategy items
+
+-- Where no results are remembered, no module of the text has a membership that may be used, and none of its items asks for a strategy run, the text has no two
+-- transcripts, nor one that is both refused and not. (With such memberships a value or an end may be answered by more levels than those of an item, where sorts
+-- were derived before; and where a listing of a strategy's solutions ends, more than one end may have its cause.)
 abbrev pub TranscriptsAreOne : Type 0
 TranscriptsAreOne =
-    (e : Environment) → e.remembers ≡ false → (text : List ℕ) → HasNoMemberships e text → (b c : List ℕ) (r s : Bool) → Transcript e text b r → Transcript e text c s → (b ≡ c) × (r ≡ s)
+    (e : Environment) → e.remembers ≡ false → (text : List ℕ) → HasNoMemberships e text → HasNoStrategyRuns text → (b c : List ℕ) (r s : Bool) → Transcript e text b r → Transcript e text c s → (b ≡ c) × (r ≡ s)

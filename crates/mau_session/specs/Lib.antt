@@ -17,12 +17,15 @@ pub mod Built
 -- what is kept between items
 pub mod Query
 pub mod RuleRun
+pub mod StrategyRun
 pub mod State
 pub mod RunLines
+pub mod StrategyLines
 pub mod Bounds
 pub mod Where
 -- the bytes of all answers, and the program
 pub mod RewriteAnswer
+pub mod StrategyAnswer
 pub mod Transcript
 pub mod Meanings
 pub mod Run
@@ -38,5 +41,8 @@ pub mod KeptQuery
 pub mod KeptTerms
 pub mod KeptWhere
 pub mod KeptRun
+pub mod KeptStrategy
 pub mod KeptState
 pub mod RunGains
+pub mod StrategyGains
+pub mod StrategyReading

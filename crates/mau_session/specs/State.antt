@@ -10,6 +10,7 @@ use Rattle.mau_module.specs.Library.{last_named, nat}
 use Rattle.mau_module.specs.Prelude.{prelude}
 use Rattle.mau_session.specs.Query.{QueryOf}
 use Rattle.mau_session.specs.RuleRun.{RuleRunOf}
+use Rattle.mau_session.specs.StrategyRun.{StrategyRunOf}
 use Rattle.mau_session.specs.declared.refusal.Refusal.{Refusal}
 use Rattle.mau_session.specs.declared.refusal.Refusal.TheVariants.{UnknownModule}
 
@@ -21,6 +22,8 @@ pub data ContinuedOf : Type 0 where
   a_listing_where : QueryOf → List Fragment → ContinuedOf
   -- a rule run
   a_rule_run : RuleRunOf → ContinuedOf
+  -- a strategy run
+  a_strategy_run : StrategyRunOf → ContinuedOf
 
 -- what `continue` goes on with, over the module with this number
 pub record GoingOf : Type 0 where

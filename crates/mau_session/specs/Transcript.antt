@@ -1,5 +1,6 @@
 -- The transcript of a text: the answers of its items, one after another, each in the state after the items before.
 use Rattle.std.specs.Prelude.{◌≡◌, ◌≢◌, ℕ, ◌+◌, List, [], ◌∷◌, ◌++◌, Bool, true, false, ◌||◌, Option, Some, None, Ok, Err, slice_get}
+use Rattle.mau_terms.specs.Tree.{Tree}
 use Rattle.mau_terms.specs.View.{tree_of}
 use Rattle.mau_terms.specs.declared.bare.Bare.{Bare}
 use Rattle.mau_terms.specs.Norm.{norm}
@@ -17,6 +18,7 @@ use Rattle.mau_modtext.specs.declared.raw.RawBody.{RawBody}
 use Rattle.mau_modtext.specs.declared.raw.RawBody.TheVariants.{Module, Command, Setting as SettingBody, Quit}
 use Rattle.mau_modtext.specs.declared.raw.RawModule.{RawModule}
 use Rattle.mau_modtext.specs.declared.raw.RawCommand.{RawCommand}
+use Rattle.mau_modtext.specs.declared.raw.CommandKind.TheVariants.{Dsrewrite}
 use Rattle.mau_modtext.specs.declared.raw.Setting.{Setting}
 use Rattle.mau_modtext.specs.declared.raw.Setting.TheVariants.{Trace, Select, Ignored}
 use Rattle.mau_modtext.specs.declared.raw.TextFault.{TextFault}
@@ -39,18 +41,22 @@ use Rattle.mau_session.specs.Matching.{Shows}
 use Rattle.mau_session.specs.Settled.{AreSortsKnown, SortsEnd}
 use Rattle.mau_results.specs.Results.{AnswerOf, MayAnswer}
 use Rattle.mau_results.specs.Runs.{run_by, RunAnswerOf, MayRun}
+use Rattle.mau_solutions.specs.Listings.{ReachedOf, StrategyEnd, ListsSolutions}
 use Rattle.mau_session.specs.Lines.{too_deep_line, overflow_line, end_line, answer_lines}
 use Rattle.mau_session.specs.Environment.{Environment, meanings_in}
 use Rattle.mau_session.specs.Query.{QueryOf, asked_first, shown_more}
-use Rattle.mau_session.specs.State.{a_listing, a_listing_where, a_rule_run, StateOf, at_first, accepted, selected, IsChosen, NamesNone, OutcomeOf, is_refused, has_ended, left_by, refuses, state_after}
+use Rattle.mau_session.specs.State.{a_listing, a_listing_where, a_rule_run, a_strategy_run, StateOf, at_first, accepted, selected, IsChosen, NamesNone, OutcomeOf, is_refused, has_ended, left_by, refuses, state_after}
 use Rattle.mau_session.specs.RuleRun.{RuleRunOf}
 use Rattle.mau_session.specs.RunLines.{run_lines, left_by_run}
+use Rattle.mau_session.specs.StrategyRun.{StrategyRunOf, definitions_of, shown_further}
+use Rattle.mau_session.specs.StrategyLines.{strategy_lines, left_by_strategy}
 use Rattle.mau_session.specs.RewriteAnswer.{RewriteAnswer}
+use Rattle.mau_session.specs.StrategyAnswer.{StrategyAnswer}
 use Rattle.mau_session.specs.Bounds.{bound_of}
 use Rattle.mau_session.specs.Commands.{has_condition, unbuilt}
 use Rattle.mau_session.specs.Where.{ShowsWhere, left_where, where_lines, WhereAnswer}
-use Rattle.mau_session.specs.Built.{is_match, has_context, is_reduce, is_rewrite, is_continue, fault_answer}
-use Rattle.mau_session.specs.Answers.{refusal_line, fault_line, parse_fault_line, module_fault_line, ok_line, unknown_module_line, module_line, match_head, continue_head, reduce_head, listing_lines}
+use Rattle.mau_session.specs.Built.{is_match, has_context, is_reduce, is_rewrite, is_continue}
+use Rattle.mau_session.specs.Answers.{refusal_line, text_fault_line, fault_line, parse_fault_line, module_fault_line, ok_line, unknown_module_line, module_line, match_head, continue_head, reduce_head, listing_lines}
 
 -- ---- the answer of a match command
 
@@ -102,8 +108,8 @@ pub data MatchAnswer (e : Environment) (ws : List Word) (st : StateOf) (k : ℕ)
 
 -- ---- the answer of `continue`
 
--- It shows the solutions behind the last one shown, those of a listing with a condition with a new budget, or what may be answered for the rule run from where
--- it stands, over the module of the command that is continued.
+-- It shows the solutions behind the last one shown, those of a listing with a condition with a new budget; what may be answered for the rule run from where it
+-- stands; or the solutions of the strategy run from where it stands, which counts its configurations on: over the module of the command that is continued.
 pub data ContinueAnswer (e : Environment) (ws : List Word) (st : StateOf) (k : ℕ) (c : RawCommand) : StateOf → List ℕ → Bool → Type 0 where
   number_refused : (r : Refusal) → bound_of ws c.bound ≡ Err r → ContinueAnswer e ws st k c st (refusal_line k ws r) true
   nothing_to_continue : (most : Option ℕ) → bound_of ws c.bound ≡ Ok most → st.going ≡ None → ContinueAnswer e ws st k c st (refusal_line k ws NothingToContinue) true
@@ -118,6 +124,10 @@ pub data ContinueAnswer (e : Environment) (ws : List Word) (st : StateOf) (k : �
       → st.going ≡ Some (record { number = n; what = a_rule_run r }) → slice_get st.modules n ≡ Some m
       → MayRun (meanings_in e m) e.remembers (run_by (meanings_in e m) r.kind most r.stand) a
       → ContinueAnswer e ws st k c (state_after st n (left_by_run r.kind r.variables a)) (continue_head k m ++ run_lines m r.variables e.budget a) false
+  strategy_continued : (most : Option ℕ) (n : ℕ) (r : StrategyRunOf) (m : ModuleOf) (found : List (Tree × ℕ)) (last : ReachedOf) (end : StrategyEnd) → bound_of ws c.bound ≡ Ok most
+      → st.going ≡ Some (record { number = n; what = a_strategy_run r }) → slice_get st.modules n ≡ Some m
+      → ListsSolutions (meanings_in e m) (definitions_of m) r.reached most found last end
+      → ContinueAnswer e ws st k c (state_after st n (left_by_strategy end (shown_further r found last))) (continue_head k m ++ strategy_lines m e.budget r found end) false
 
 -- ---- the answer of a reduce command
 
@@ -160,16 +170,14 @@ pub data BodyAnswer (e : Environment) (ws : List Word) (st : StateOf) (k i : ℕ
       → ReduceAnswer e ws st k c next bytes refused → BodyAnswer e ws st k i (Command c) next bytes refused
   rewrite_is_answered : (c : RawCommand) (next : StateOf) (bytes : List ℕ) (refused : Bool) → is_match c.kind ≡ false → is_continue c.kind ≡ false → is_reduce c.kind ≡ false
       → is_rewrite c.kind ≡ true → RewriteAnswer e ws st k c next bytes refused → BodyAnswer e ws st k i (Command c) next bytes refused
-  other_unknown : (c : RawCommand) (t : Token) → is_match c.kind ≡ false → is_continue c.kind ≡ false → is_reduce c.kind ≡ false → is_rewrite c.kind ≡ false → NamesNone ws st c t
-      → BodyAnswer e ws st k i (Command c) st (refusal_line k ws (UnknownModule (token_index ws t))) true
-  other_not_built : (c : RawCommand) (n : ℕ) → is_match c.kind ≡ false → is_continue c.kind ≡ false → is_reduce c.kind ≡ false → is_rewrite c.kind ≡ false → IsChosen ws st c n
-      → BodyAnswer e ws st k i (Command c) st (refusal_line k ws (NotBuilt i)) true
+  strategy_is_answered : (c : RawCommand) (next : StateOf) (bytes : List ℕ) (refused : Bool) → c.kind ≡ Dsrewrite → StrategyAnswer e ws st k i c next bytes refused
+      → BodyAnswer e ws st k i (Command c) next bytes refused
   setting_answered : (s : Setting) (next : StateOf) (bytes : List ℕ) (refused : Bool) → SettingAnswer ws st k i s next bytes refused
       → BodyAnswer e ws st k i (SettingBody s) next bytes refused
 
 -- an item that says nothing is refused by its fault
 pub data ItemAnswer (e : Environment) (ws : List Word) (st : StateOf) (k : ℕ) (item : RawItem) : StateOf → List ℕ → Bool → Type 0 where
-  item_faulty : (f : TextFault) → item.body ≡ Err f → ItemAnswer e ws st k item st (fault_answer k ws (index_at ws item.at) f) true
+  item_faulty : (f : TextFault) → item.body ≡ Err f → ItemAnswer e ws st k item st (text_fault_line k f) true
   item_answered : (b : RawBody) (next : StateOf) (bytes : List ℕ) (refused : Bool) → item.body ≡ Ok b → BodyAnswer e ws st k (index_at ws item.at) b next bytes refused
       → ItemAnswer e ws st k item next bytes refused
 

@@ -17,7 +17,6 @@ ghost use Rattle.mau_session.specs.RunGains.{GainsRunOn};
 ghost use Rattle.mau_session.specs.Answers.{module_line, refusal_line, parse_fault_line, ok_line, unknown_module_line};
 ghost use Rattle.mau_statement.specs.Parts.{is_empty};
 ghost use Rattle.mau_session.specs.Reading.{IsBareOf};
-ghost use Rattle.mau_session.specs.Built.{fault_answer};
 ghost use Rattle.mau_session.specs.Commands.{has_rewriting};
 ghost use Rattle.mau_session.specs.KeptTerms.{AreUsable};
 ghost use Rattle.mau_program.specs.LawfulPrograms.{IsLawfulProgram};
@@ -30,27 +29,25 @@ ghost use Rattle.mau_session.specs.Gains.{GainsListed, GainsTerms, GainsChosen, 
 
 use crate::asking::{list_first, list_further};
 use crate::bounds::bound_of;
-use crate::built::{
-    begins_unbuilt, has_context, is_continue, is_match, is_reduce, is_rewrite, is_unended, quits,
-};
+use crate::built::{has_context, is_continue, is_match, is_reduce, is_rewrite, quits};
 use crate::command::{has_condition, unbuilt};
 use crate::heads::{write_continue_head, write_match_head};
 use crate::query::Query;
 use crate::reading::{kind_of_term, read_term};
 use crate::reduce::answer_reduce;
 use crate::refusal::{
-    Refusal, refuse, refuse_term, write_faulty, write_head, write_module_fault, write_refusal,
-    write_text_fault,
+    Refusal, refuse, refuse_term, write_faulty, write_head, write_module_fault, write_text_fault,
 };
 use crate::rewrite::{answer_rewrite, run_on};
 use crate::running::Running;
 use crate::session::Session;
 use crate::state::{Continued, Going, Outcome, State};
+use crate::strategies::{answer_strategy, search_on};
 use crate::such_that::{answer_where, list_where_on};
 use crate::terms::Terms;
 use mau_canon::BuildFault;
 use mau_declare::{Words, write_text};
-use mau_modtext::{RawBody, RawCommand, RawItem, RawModule, Setting, TextFault};
+use mau_modtext::{RawBody, RawCommand, RawItem, RawModule, Setting};
 use mau_module::Module;
 use mau_parse::Goal;
 use mau_sorts::SortTable;
@@ -346,6 +343,9 @@ fn go_on(
         Continued::Rules(running) => {
             rewrite_on(out, session, state, number, chosen, running, most)
         }
+        Continued::Strategies(searching) => {
+            search_on(out, session, state, number, chosen, searching, most)
+        }
     }
 }
 
@@ -373,29 +373,6 @@ fn answer_continue(
     }
 }
 
-/// Answers a command that isn't built and begins at the word `item`. Says that it was refused.
-fn answer_unbuilt(
-    out: &mut Vec<u8>,
-    words: &Words,
-    state: &State,
-    number: usize,
-    item: usize,
-    command: &RawCommand,
-) -> Result<bool, NoMemory>
-    requires current { state.now.current < length state.now.library }
-    requires no_match { Rattle.mau_session.specs.Built.is_match command.now.kind ≡ false }
-    requires no_continue { Rattle.mau_session.specs.Built.is_continue command.now.kind ≡ false }
-    requires no_reduce { Rattle.mau_session.specs.Built.is_reduce command.now.kind ≡ false }
-    requires no_rewrite { Rattle.mau_session.specs.Built.is_rewrite command.now.kind ≡ false }
-    ensures gained { (e : Environment) → IfOk result (GainsBody e words.now (state_of state.now) number item (RawBody.Command command.now)
-        (state_of state.now) out.old.items out.new.items) }
-{
-    match state.choose(words, command) {
-        Err(refusal) => refuse(out, words, number, refusal),
-        Ok(_) => refuse(out, words, number, Refusal::NotBuilt(item)),
-    }
-}
-
 /// Answers a command that begins at the word `item`. Says whether it was refused.
 fn answer_command(
     out: &mut Vec<u8>,
@@ -412,7 +389,6 @@ fn answer_command(
         (state_of state.old) number item (RawBody.Command command.now) (state_of state.new) out.old.items out.new.items) }
     ensures ready { OnOk result (IsReadyState (environment_of (operators session.now.hooks.now) session.now.limit) state.new) }
 {
-    let words = session.words;
     if is_match(command.kind) {
         answer_match(out, session, state, number, command)
     } else if is_continue(command.kind) {
@@ -422,7 +398,7 @@ fn answer_command(
     } else if is_rewrite(command.kind) {
         answer_rewrite(out, session, state, number, command)
     } else {
-        answer_unbuilt(out, words, state, number, item, command)
+        answer_strategy(out, session, state, number, item, command)
     }
 }
 
@@ -551,23 +527,6 @@ fn answer_body(
     }
 }
 
-/// Writes the answer of an item with a fault that begins at the word `item`.
-fn answer_fault(
-    out: &mut Vec<u8>,
-    words: &Words,
-    number: usize,
-    item: usize,
-    fault: &TextFault,
-) -> Result<(), NoMemory>
-    ensures { OnOk result (out.new.items ≡ out.old.items ++ fault_answer number words.now item fault.now) }
-{
-    if !is_unended(fault) && begins_unbuilt(words.text(item)) {
-        write_refusal(out, words, number, Refusal::NotBuilt(item))
-    } else {
-        write_text_fault(out, number, fault)
-    }
-}
-
 /// Answers an item that doesn't quit. Says whether it was refused.
 fn answer_item(
     out: &mut Vec<u8>,
@@ -588,10 +547,50 @@ fn answer_item(
     match &item.body {
         Ok(body) => answer_body(out, session, state, number, word, body),
         Err(fault) => {
-            answer_fault(out, session.words, number, word, fault)?;
+            write_text_fault(out, number, fault)?;
             Ok(true)
         }
     }
+}
+
+/// Answers items in the first state, up to one that quits, and appends the bytes. Says whether one of the items was refused.
+fn answer_each(
+    out: &mut Vec<u8>,
+    session: &Session,
+    state: &mut State,
+    items: &[RawItem],
+) -> Result<bool, NoMemory>
+    requires few { length session.now.words.now ≤ 16777216 }
+    requires numerals { All GivesNumerals (operators session.now.hooks.now) }
+    requires ready { IsReadyState (environment_of (operators session.now.hooks.now) session.now.limit) state.old }
+    requires first { state_of state.old ≡ at_first }
+    requires empty { out.old.items ≡ [] }
+    ensures { IfOk result (ItemsAnswer (environment_of (operators session.now.hooks.now) session.now.limit) session.now.words.now
+        at_first 1 items.now out.new.items) }
+{
+    let mut refused = false;
+    let mut number = 1;
+    for item in items {
+        if quits(item) {
+            return Ok(refused);
+        }
+        let is_refused = answer_item(out, session, state, number, item)?;
+        refused = refused || is_refused;
+        number += 1;
+    }
+    Ok(refused)
+}
+
+/// Answers items, up to one that quits, and appends the bytes. Says whether one of the items was refused.
+fn answer_all(out: &mut Vec<u8>, session: &Session, items: &[RawItem]) -> Result<bool, NoMemory>
+    requires few { length session.now.words.now ≤ 16777216 }
+    requires numerals { All GivesNumerals (operators session.now.hooks.now) }
+    requires empty { out.old.items ≡ [] }
+    ensures { IfOk result (ItemsAnswer (environment_of (operators session.now.hooks.now) session.now.limit) session.now.words.now
+        at_first 1 items.now out.new.items) }
+{
+    let mut state = State::new(session.alloc)?;
+    answer_each(out, session, &mut state, items)
 }
 
 /// Answers items, up to one that quits. Gives the bytes, and whether one of the items was refused.
@@ -602,16 +601,6 @@ pub fn answer_items(session: &Session, items: &[RawItem]) -> Result<(Vec<u8>, bo
         at_first 1 items.now r.0.items r.1) }
 {
     let mut out = Vec::new(session.alloc);
-    let mut state = State::new(session.alloc)?;
-    let mut refused = false;
-    let mut number = 1;
-    for item in items {
-        if quits(item) {
-            return Ok((out, refused));
-        }
-        let is_refused = answer_item(&mut out, session, &mut state, number, item)?;
-        refused = refused || is_refused;
-        number += 1;
-    }
+    let refused = answer_all(&mut out, session, items)?;
     Ok((out, refused))
 }

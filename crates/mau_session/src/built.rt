@@ -1,9 +1,9 @@
-//! What isn't built yet.
+//! Commands by their kinds.
 ghost use Rattle.std.specs.Prelude.{◌≡◌, ◌↔◌, true, Ok};
 ghost use Rattle.mau_modtext.specs.declared.raw.RawBody.TheVariants as RawBody;
 ghost use Rattle.mau_session.specs.Built;
 
-use mau_modtext::{CommandKind, RawBody, RawItem, TextFault};
+use mau_modtext::{CommandKind, RawBody, RawItem};
 
 /// Whether a command is a match, with contexts or without.
 pub fn is_match(kind: CommandKind) -> bool
@@ -61,23 +61,6 @@ pub fn is_continue(kind: CommandKind) -> bool
 {
     match kind {
         CommandKind::Continue => true,
-        _ => false,
-    }
-}
-
-/// Whether items that begin with this word aren't built yet.
-pub fn begins_unbuilt(word: &str) -> bool
-    ensures { result ≡ Built.begins_unbuilt word.now }
-{
-    matches!(word, "dsrewrite" | "dsrew")
-}
-
-/// Whether an item has no end.
-pub fn is_unended(fault: &TextFault) -> bool
-    ensures { result ≡ Built.is_unended fault.now }
-{
-    match fault {
-        TextFault::Unended(_) => true,
         _ => false,
     }
 }

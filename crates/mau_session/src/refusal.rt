@@ -152,9 +152,10 @@ fn write_statement_fault(
     }
 }
 
-/// Writes why the call or the strategy of a definition is refused.
-fn write_strategy_fault(out: &mut Vec<u8>, fault: &StratFault) -> Result<(), NoMemory>
-    ensures { OnOk result (out.new.items ≡ out.old.items ++ shown_strategy_fault fault.now) }
+/// Writes why a strategy, or the call of a definition, is refused.
+pub fn write_strategy_fault(out: &mut Vec<u8>, fault: &StratFault) -> Result<(), NoMemory>
+    ensures ok { OnOk result (out.new.items ≡ out.old.items ++ shown_strategy_fault fault.now) }
+    ensures named { OnOk result (fault.now ≢ StratFault.NoMemory) }
 {
     match fault {
         StratFault::TooManyTokens(count) => write_count(out, "TooManyTokens ", *count),

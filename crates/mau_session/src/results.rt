@@ -7,6 +7,7 @@ ghost use Rattle.mau_store.specs.Trees.{tree_at};
 ghost use Rattle.mau_api.specs.Answers.{uses_results};
 ghost use Rattle.mau_api.specs.Meanings.{meanings_by};
 ghost use Rattle.mau_results.specs.Kept.{answer_in, IsThere};
+ghost use Rattle.mau_session.specs.Shown.{printer_in};
 ghost use Rattle.mau_session.specs.Terms.{terms_in};
 ghost use Rattle.mau_module.specs.Lawful.{program_of};
 ghost use Rattle.mau_evaluation.specs.Run.{End};
@@ -18,6 +19,7 @@ use crate::show::{printer_of, write_term};
 use mau_api::{EvalEnd, Evaluator, StepWatcher};
 use mau_declare::{write_number, write_text};
 use mau_module::Module;
+use mau_print::Printer;
 use mau_results::{Answer, evaluate_bare};
 use mau_store::Store;
 use mau_terms::{Bare, NoMemory, TermId, Vars};
@@ -46,10 +48,28 @@ pub fn write_result(
     ensures { OnOk result (out.new.items ≡ out.old.items ++ result_line module.now vars.now sort (tree_at store.now value.0)) }
 {
     let printer = printer_of(alloc, module)?;
+    write_result_by(out, alloc, module, &printer, vars, sort, store, value)
+}
+
+/// Writes a value with the sort that is shown for it, by what prints the terms of the module.
+pub fn write_result_by(
+    out: &mut Vec<u8>,
+    alloc: Global,
+    module: &Module,
+    printer: &Printer,
+    vars: &Vars,
+    sort: u32,
+    store: &Store,
+    value: TermId,
+) -> Result<(), NoMemory>
+    requires printer { printer.now ≡ printer_in module.now }
+    requires there { IsOf store.now value.0 }
+    ensures { OnOk result (out.new.items ≡ out.old.items ++ result_line module.now vars.now sort (tree_at store.now value.0)) }
+{
     write_text(out, "result ")?;
     module.write_sort(out, sort)?;
     write_text(out, ": ")?;
-    write_term(out, alloc, &printer, vars, store, value)?;
+    write_term(out, alloc, printer, vars, store, value)?;
     write_text(out, "\n")
 }
 

@@ -11,6 +11,7 @@ use crate::conditional::ConditionalQuery;
 use crate::query::Query;
 use crate::refusal::Refusal;
 use crate::running::Running;
+use crate::searching::Searching;
 use mau_declare::Words;
 use mau_modtext::RawCommand;
 use mau_module::{Library, Module, NAT};
@@ -27,6 +28,8 @@ pub enum Continued {
     ListingWhere(ConditionalQuery, SortTable),
     /// A rule run.
     Rules(Running),
+    /// A strategy run.
+    Strategies(Searching),
 }
 
 /// What `continue` goes on with, over the module with this number.

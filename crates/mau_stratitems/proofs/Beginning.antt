@@ -24,8 +24,8 @@ use Rattle.mau_stratrun.specs.Courses.{state_in, HasBodies}
 use Rattle.mau_stratrun.specs.Runs.{IsRunning}
 use Rattle.mau_leaves.specs.Cursors.{leaf_at, IsReady, world_of}
 use Rattle.mau_solutions.specs.Listings.{reached_first}
-use Rattle.mau_stratitems.specs.declared.kept.KeptRun.{KeptRun}
-use Rattle.mau_stratitems.specs.Kept.{reached_over, reached_by, CanRunOver, CanRun}
+use Rattle.mau_stratitems.specs.declared.kept.RestingRun.{RestingRun}
+use Rattle.mau_stratitems.specs.Kept.{reached_over, reached_at, CanRunOver, CanRunAt}
 use Rattle.mau_stratitems.proofs.Standing.{ready_with}
 
 module _ (definitions : List StratDef) (s : StrategyOf) (forms : List Form) (leaves : List StrategyOf) (bodies : List StrategyId) (n : ℕ)
@@ -59,15 +59,15 @@ made_of ds ds' s forms l l' bodies n a b made =
 
 -- ---- what is kept of a run that has begun
 
-module _ {K : Type 0} (k : KeptRun K) (l : List StrategyOf) (same : l ≡ k.leaves) where
-  pub begins_at : (e e' : Strategy) (t t' : Tree) → reached_over l k ≡ reached_first e t → e ≡ e' → t ≡ t' → reached_by k ≡ reached_first e' t'
+module _ {K : Type 0} (k : RestingRun K) (l : List StrategyOf) (same : l ≡ k.leaves) where
+  pub begins_at : (e e' : Strategy) (t t' : Tree) → reached_over l k ≡ reached_first e t → e ≡ e' → t ≡ t' → reached_at k ≡ reached_first e' t'
   begins_at e e' t t' at a b = ap (λ x. reached_over x k) (sym same) ∙ at ∙ ap₂ reached_first a b
 
   pub can_run : (asked : K → Asked) (given : K → Option Listed.Solution) (is_for : K → SignatureOf → Type 0) (c : Bool) (p p' : Typed.Program) (m : Meanings) (b : ℕ) (table : Table) → p ≡ p' →
       k.run.limit ≡ m.limit → IsReady c p m l b k.store →
       IsRunning (world_of asked given is_for c p m l k.store table) k.run.course.forms k.run.course.bodies.items k.run.course.interner k.run.course.kept.items k.run.walk.listed
-      k.run.walk.trace.parents k.run.walk.stack.items → CanRun asked given is_for c p' m table k
+      k.run.walk.trace.parents k.run.walk.stack.items → CanRunAt asked given is_for c p' m table k
   can_run asked given is_for c p p' m b table e limit ready running =
-      subst (λ q. CanRun asked given is_for c q m table k) e
+      subst (λ q. CanRunAt asked given is_for c q m table k) e
       (subst (λ x. CanRunOver asked given is_for c p m x table k) same
       (record { ready = ready_with c p m l b k.run.limit k.store ready limit; running = running }))

@@ -14,8 +14,8 @@ use Rattle.mau_api.specs.Meanings.{Meanings}
 use Rattle.mau_leaves.specs.Cursors.{IsReady}
 use Rattle.mau_solutions.specs.declared.next.Next.{Next}
 use Rattle.mau_solutions.specs.Standing.{Came}
-use Rattle.mau_stratitems.specs.declared.kept.KeptRun.{KeptRun}
-use Rattle.mau_stratitems.specs.Kept.{reached_over, reached_by, CanRunOver, CanRun}
+use Rattle.mau_stratitems.specs.declared.kept.RestingRun.{RestingRun}
+use Rattle.mau_stratitems.specs.Kept.{reached_over, reached_at, CanRunOver, CanRunAt}
 use Rattle.mau_stratitems.specs.Shown.{definitions_of}
 use Rattle.mau_stratitems.specs.Asked.{IsValue, IsAsked}
 
@@ -27,8 +27,8 @@ IsOver p m l nodes p' m' l' nodes' = (p' ≡ p) × (m' ≡ m) × (l' ≡ l) × E
 pub ready_with : (c : Bool) (p : Typed.Program) (m : Meanings) (l : List StrategyOf) (b b' : ℕ) (nodes : List Node) → IsReady c p m l b nodes → b' ≡ m.limit → IsReady c p m l b' nodes
 ready_with c p m l b b' nodes r e = subst (λ n. IsReady c p m l n nodes) (r.limit ∙ sym e) r
 
-module _ {K : Type 0} (asked : K → Asked) (given : K → Option Listed.Solution) (is_for : K → SignatureOf → Type 0) (c : Bool) (p : Typed.Program) (m : Meanings) (old : KeptRun K)
-    (m' : Meanings) (table' : Table) (new : KeptRun K) (result : Result Next NoMemory) (same : new.leaves ≡ old.leaves)
+module _ {K : Type 0} (asked : K → Asked) (given : K → Option Listed.Solution) (is_for : K → SignatureOf → Type 0) (c : Bool) (p : Typed.Program) (m : Meanings) (old : RestingRun K)
+    (m' : Meanings) (table' : Table) (new : RestingRun K) (result : Result Next NoMemory) (same : new.leaves ≡ old.leaves)
     (a : IsAsked (IsOver p m old.leaves old.store) asked given is_for c p m old m' table' new result) where
   leaves_are : a.leaves ≡ new.leaves
   leaves_are = a.stay.2 ∙ sym same
@@ -39,13 +39,13 @@ module _ {K : Type 0} (asked : K → Asked) (given : K → Option Listed.Solutio
   pub asked_extends : Extends old.store new.store
   asked_extends = a.stay.3
 
-  pub asked_run : CanRun asked given is_for c p m' table' new
+  pub asked_run : CanRunAt asked given is_for c p m' table' new
   asked_run =
       subst (λ l. CanRunOver asked given is_for c p m' l table' new) leaves_are
       (subst (λ q. CanRunOver asked given is_for c q m' a.leaves table' new) a.stay.0 a.run)
 
-  pub asked_came : Came m (definitions_of p) (reached_by old) (reached_by new) (tree_at new.store) result
-  asked_came = subst (λ l. Came m (definitions_of p) (reached_by old) (reached_over l new) (tree_at new.store) result) leaves_are a.came
+  pub asked_came : Came m (definitions_of p) (reached_at old) (reached_at new) (tree_at new.store) result
+  asked_came = subst (λ l. Came m (definitions_of p) (reached_at old) (reached_over l new) (tree_at new.store) result) leaves_are a.came
 
   pub asked_term : IfOk result (IsValue p new.store table')
   asked_term = subst (λ q. IfOk result (IsValue q new.store table')) a.stay.0 a.term

@@ -14,8 +14,8 @@ use Rattle.mau_api.specs.Terms.{IsTerm}
 use Rattle.mau_api.specs.Answers.{AreSettled}
 use Rattle.mau_solutions.specs.declared.next.Next.{Next}
 use Rattle.mau_solutions.specs.Standing.{Came, IsOfTerm}
-use Rattle.mau_stratitems.specs.declared.kept.KeptRun.{KeptRun}
-use Rattle.mau_stratitems.specs.Kept.{reached_over, reached_by, CanRunOver}
+use Rattle.mau_stratitems.specs.declared.kept.RestingRun.{RestingRun}
+use Rattle.mau_stratitems.specs.Kept.{reached_over, reached_at, CanRunOver}
 use Rattle.mau_stratitems.specs.Shown.{definitions_of}
 
 -- a term that is evaluated
@@ -25,10 +25,10 @@ IsValue p nodes table = IsOfTerm (λ n. IsTerm p.sig nodes n × AreSettled p.sig
 -- A run was asked by the program p and the meanings m, and stands then over some program and some table of leaves, of which all holds that stays.
 pub record IsAsked {K : Type 0} (stays : Typed.Program → Meanings → List StrategyOf → List Node → Type 0)
     (asked : K → Asked) (given : K → Option Listed.Solution) (is_for : K → SignatureOf → Type 0) (with_context : Bool)
-    (p : Typed.Program) (m : Meanings) (old : KeptRun K) (m' : Meanings) (table' : Table) (new : KeptRun K) (result : Result Next NoMemory) : Type 0 where
+    (p : Typed.Program) (m : Meanings) (old : RestingRun K) (m' : Meanings) (table' : Table) (new : RestingRun K) (result : Result Next NoMemory) : Type 0 where
   pub program : Typed.Program
   pub leaves : List StrategyOf
   pub stay : stays program m' leaves new.store
   pub run : CanRunOver asked given is_for with_context program m' leaves table' new
-  pub came : Came m (definitions_of p) (reached_by old) (reached_over leaves new) (tree_at new.store) result
+  pub came : Came m (definitions_of p) (reached_at old) (reached_over leaves new) (tree_at new.store) result
   pub term : IfOk result (IsValue program new.store table')

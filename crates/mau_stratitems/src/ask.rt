@@ -1,9 +1,9 @@
-//! A kept run is asked.
+//! A run that rests is asked.
 ghost use Rattle.std.specs.Prelude.{◌≡◌};
-ghost use Rattle.mau_stratitems.specs.Kept.{CanRun};
+ghost use Rattle.mau_stratitems.specs.Kept.{CanRunAt};
 ghost use Rattle.mau_stratitems.specs.Asked.{IsAsked};
 
-use crate::kept::KeptRun;
+use crate::kept::RestingRun;
 use crate::rest::AtRest;
 use crate::watch::Watch;
 use crate::watched::Watched;
@@ -14,13 +14,13 @@ use mau_stratrun::{Course, StratRun};
 use mau_terms::NoMemory;
 use std::marker::PhantomData;
 
-/// A kept run goes on by an evaluator, and rests again; and what stays stays.
+/// A run that rests goes on by an evaluator, and rests again; and what stays stays.
 pub fn ask_watched<E: Evaluator + Drop, L: Lister + Drop, B: Watch>(
     program: &Program,
     evaluator: E,
-    run: KeptRun<L>,
-) -> (KeptRun<L>, E, Result<Next, NoMemory>)
-    requires run { CanRun L.asked L.given L.is_for L.with_context program.now (E.meanings evaluator) (E.table evaluator) run }
+    run: RestingRun<L>,
+) -> (RestingRun<L>, E, Result<Next, NoMemory>)
+    requires run { CanRunAt L.asked L.given L.is_for L.with_context program.now (E.meanings evaluator) (E.table evaluator) run }
     requires fits { E.fits evaluator run.store }
     requires stays { B.stays program.now (E.meanings evaluator) run.leaves run.store }
     ensures asked { IsAsked B.stays L.asked L.given L.is_for L.with_context program.now (E.meanings evaluator) run
@@ -28,7 +28,7 @@ pub fn ask_watched<E: Evaluator + Drop, L: Lister + Drop, B: Watch>(
     ensures fits { E.fits result.1 result.0.store }
     ensures leaves { result.0.leaves ≡ run.leaves }
 {
-    let KeptRun { run, leaves, store } = run;
+    let RestingRun { run, leaves, store } = run;
     let StratRun {
         walk,
         course,
@@ -101,5 +101,5 @@ pub fn ask_watched<E: Evaluator + Drop, L: Lister + Drop, B: Watch>(
         },
         limit,
     };
-    (KeptRun { run, leaves, store }, evaluator, next)
+    (RestingRun { run, leaves, store }, evaluator, next)
 }

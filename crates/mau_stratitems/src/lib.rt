@@ -9,7 +9,7 @@ mod start;
 mod watch;
 mod watched;
 
-pub use kept::KeptRun;
+pub use kept::{KeptRun, RestingRun};
 pub use next::{NextShown, Shown, next_shown};
 pub use rest::AtRest;
 pub use start::begin;

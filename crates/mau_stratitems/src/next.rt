@@ -6,12 +6,12 @@ ghost use Rattle.mau_api.specs.Meanings.{Meanings};
 ghost use Rattle.mau_evaluation.specs.Configs.{Config};
 ghost use Rattle.mau_solutions.specs.Listings.{ReachedOf};
 ghost use Rattle.mau_solutions.specs.Standing.{Came, CameOf};
-ghost use Rattle.mau_stratitems.specs.Kept.{reached_by, CanRun};
+ghost use Rattle.mau_stratitems.specs.Kept.{reached_at, reached_by, store_of, CanRun, CanRunAt};
 ghost use Rattle.mau_stratitems.specs.Shown.{definitions_of, ComesTo};
 ghost use Rattle.mau_stratitems.specs.Asked.{IsValue};
 
 use crate::ask::ask_watched;
-use crate::kept::KeptRun;
+use crate::kept::{KeptRun, RestingRun, keep};
 use mau_api::{Evaluator, Lister, Program};
 use mau_results::shown_sort;
 use mau_solutions::Next;
@@ -41,17 +41,17 @@ pub struct Shown<E, L: Drop> {
     pub evaluator: E,
 }
 
-/// A kept run goes on by an evaluator, and rests again.
+/// A run that rests goes on by an evaluator, and rests again.
 fn ask<E: Evaluator + Drop, L: Lister + Drop>(
     program: &Program,
     evaluator: E,
-    run: KeptRun<L>,
-) -> (KeptRun<L>, E, Result<Next, NoMemory>)
-    requires run { CanRun L.asked L.given L.is_for L.with_context program.now (E.meanings evaluator) (E.table evaluator) run }
+    run: RestingRun<L>,
+) -> (RestingRun<L>, E, Result<Next, NoMemory>)
+    requires run { CanRunAt L.asked L.given L.is_for L.with_context program.now (E.meanings evaluator) (E.table evaluator) run }
     requires fits { E.fits evaluator run.store }
-    ensures came { Came (E.meanings evaluator) (definitions_of program.now) (reached_by run) (reached_by result.0) (tree_at result.0.store) result.2 }
+    ensures came { Came (E.meanings evaluator) (definitions_of program.now) (reached_at run) (reached_at result.0) (tree_at result.0.store) result.2 }
     ensures term { IfOk result.2 (IsValue program.now result.0.store (E.table result.1)) }
-    ensures run { CanRun L.asked L.given L.is_for L.with_context program.now (E.meanings result.1) (E.table result.1) result.0 }
+    ensures run { CanRunAt L.asked L.given L.is_for L.with_context program.now (E.meanings result.1) (E.table result.1) result.0 }
     ensures fits { E.fits result.1 result.0.store }
     ensures meanings { E.meanings result.1 ≡ E.meanings evaluator }
     ensures extends { Extends run.store result.0.store }
@@ -88,17 +88,19 @@ pub fn next_shown<E: Evaluator + Drop, L: Lister + Drop>(
     run: KeptRun<L>,
 ) -> Result<Shown<E, L>, NoMemory>
     requires run { CanRun L.asked L.given L.is_for L.with_context program.now (E.meanings evaluator) (E.table evaluator) run }
-    requires fits { E.fits evaluator run.store }
-    ensures came { IfOk result (λ s. ComesTo program.now (E.meanings evaluator) (reached_by run) (reached_by s.run) s.run.store s.next) }
+    requires fits { E.fits evaluator (store_of run) }
+    ensures came { IfOk result (λ s. ComesTo program.now (E.meanings evaluator) (reached_by run) (reached_by s.run) (store_of s.run) s.next) }
     ensures run { IfOk result (λ s. CanRun L.asked L.given L.is_for L.with_context program.now (E.meanings s.evaluator) (E.table s.evaluator) s.run) }
-    ensures fits { IfOk result (λ s. E.fits s.evaluator s.run.store) }
+    ensures fits { IfOk result (λ s. E.fits s.evaluator (store_of s.run)) }
     ensures meanings { IfOk result (λ s. E.meanings s.evaluator ≡ E.meanings evaluator) }
-    ensures extends { IfOk result (λ s. Extends run.store s.run.store) }
+    ensures extends { IfOk result (λ s. Extends (store_of run) (store_of s.run)) }
 {
-    let (run, evaluator, next) = ask(program, evaluator, run);
+    let rest = Box::into_inner(run.rest);
+    let (rest, evaluator, next) = ask(program, evaluator, rest);
     match next {
         Ok(next) => {
-            let next = with_sort(program, &run.store, &evaluator, next);
+            let next = with_sort(program, &rest.store, &evaluator, next);
+            let run = keep(rest)?;
             Ok(Shown {
                 next,
                 run,

@@ -7,9 +7,9 @@ ghost use Rattle.mau_api.specs.Answers.{AreSettled};
 ghost use Rattle.mau_rules.specs.Runnable.{IsRunnable, GoesBy};
 ghost use Rattle.mau_stratforms.specs.Meanings.{meaning_of};
 ghost use Rattle.mau_solutions.specs.Listings.{reached_first};
-ghost use Rattle.mau_stratitems.specs.Kept.{reached_by, CanRun};
+ghost use Rattle.mau_stratitems.specs.Kept.{reached_by, store_of, CanRun};
 
-use crate::kept::KeptRun;
+use crate::kept::{KeptRun, RestingRun, keep};
 use crate::rest::AtRest;
 use mau_api::{Evaluator, Lister, Program, Strategy};
 use mau_leaves::RunLeaves;
@@ -42,7 +42,7 @@ pub fn begin<E: Evaluator + Drop, L: Lister + Drop>(
     requires settled { AreSettled program.now.sig store (E.table evaluator) (tree_at store term.0) }
     ensures reached { IfOk result (λ r. reached_by r.0 ≡ reached_first (meaning_of strategy.now) (tree_at store term.0)) }
     ensures run { IfOk result (λ r. CanRun L.asked L.given L.is_for L.with_context program.now (E.meanings r.1) (E.table r.1) r.0) }
-    ensures store { IfOk result (λ r. r.0.store ≡ store) }
+    ensures store { IfOk result (λ r. store_of r.0 ≡ store) }
     ensures evaluator { IfOk result (λ r. r.1 ≡ evaluator) }
 {
     let made = forms_of(alloc, program, strategy)?;
@@ -94,7 +94,8 @@ pub fn begin<E: Evaluator + Drop, L: Lister + Drop>(
                 },
                 limit: entries,
             };
-            Ok((KeptRun { run, leaves, store }, evaluator))
+            let run = keep(RestingRun { run, leaves, store })?;
+            Ok((run, evaluator))
         }
         Err(_) => Err(NoMemory),
     }

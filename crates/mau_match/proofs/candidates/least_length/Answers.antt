@@ -7,6 +7,12 @@ use Rattle.mau_trial.specs.Tried.{asked_in}
 use Rattle.mau_match.proofs.NextVariable.{answer_grown}
 use Rattle.mau_match.proofs.candidates.least_length.Goals as goal
 
+pub loop-init : goal.loop-init
+loop-init c = record {
+  extends = c.guessed_length.ensures.extends;
+  least = c.in_ok-low.ensures.least;
+}
+
 pub may_be_short-requires-clause-askable : goal.may_be_short-requires-clause-askable
 may_be_short-requires-clause-askable c = askable_extended c.args.store.now c.loop.store c.loop.invariant.extends c.args.sig.now (asked_in c.args.trial.now) c.requires.askable
 

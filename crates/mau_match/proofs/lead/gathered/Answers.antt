@@ -1,6 +1,13 @@
-use Rattle.std.proofs.Common.{[], sym, subst}
+use Rattle.std.proofs.Common.{◌≡◌, [], All, Contains, sym, subst}
 use Rattle.std.proofs.lemmas.List.{take_all}
+use Rattle.mau_terms.specs.Norm.{norm}
+use Rattle.mau_terms.specs.Finite.{IsIn}
+use Rattle.mau_terms.specs.View.{variable_of}
+use Rattle.mau_signature.specs.Signature.{theory_at}
+use Rattle.mau_store.specs.Trees.{trees_at}
+use Rattle.mau_store.specs.View.{numbers}
 use Rattle.mau_store.proofs.Growth.{extension_is_preorder}
+use Rattle.mau_canon.proofs.Standing.{stand_among}
 use Rattle.mau_match.specs.Led.{GainsValues, GathersValues}
 use Rattle.mau_match.specs.Walked.{IsPartWithin}
 use Rattle.mau_match.proofs.Adding.{part_stays, part_within_stays}
@@ -44,5 +51,17 @@ loop-part-preserved c =
 
 pub returns-clause-few : goal.returns-clause-few
 returns-clause-few c =
+    let s = c.args.sig.now in
     let old = c.args.store.now in
-    subst (λ qs. GathersValues c.args.sig.now c.args.limits.now c.args.variable old c.loop-part.store qs c.loop-part.out.items) (take_all c.loop-part.part-index c.args.parts.now c.loop-part-test.false) c.loop-part.invariant.few
+    let new = c.loop-part.store in
+    let out = c.loop-part.out.items in
+    let few = c.in_ok-few.few.items in
+    let e : c.deref.result.now ≡ out = c.deref.ensures.value in
+    let all : GathersValues s c.args.limits.now c.args.variable old new c.args.parts.now out =
+    subst (λ qs. GathersValues s c.args.limits.now c.args.variable old new qs out) (take_all c.loop-part.part-index c.args.parts.now c.loop-part-test.false) c.loop-part.invariant.few in
+    record {
+      within = stand_among (theory_at s) new few out (subst (λ l. All (Contains l) few) e c.in_ok-few.ensures.among) all.within;
+      values = λ gg limited o.
+          c.in_ok-few.ensures.kept new (norm (theory_at s) (gg (variable_of c.args.variable)))
+          (subst (λ l. IsIn (norm (theory_at s) (gg (variable_of c.args.variable))) (trees_at new (numbers l))) (sym e) (all.values gg limited o));
+    }

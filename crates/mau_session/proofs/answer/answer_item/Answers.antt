@@ -9,6 +9,6 @@ pub returns-in-Ok-clause-gained : goal.returns-in-Ok-clause-gained
 returns-in-Ok-clause-gained g c =
     IfOk-weaker c.answer_body.result _ _ (λ r g. item_says (environment_of (operators c.args.session.now.hooks.now) c.args.session.now.limit) c.args.session.now.words.now (state_of c.args.state.now) c.args.number c.args.item.now c.index_at-word.result c.index_at-word.ensures.index _ _ _ _ r c.in-Ok.is g) c.answer_body.ensures.gained
 
-pub returns-in_ok-answer_fault-in-Err-clause-gained : goal.returns-in_ok-answer_fault-in-Err-clause-gained
-returns-in_ok-answer_fault-in-Err-clause-gained g c =
-    item_fails (environment_of (operators c.args.session.now.hooks.now) c.args.session.now.limit) c.args.session.now.words.now (state_of c.args.state.now) c.args.number c.args.item.now c.index_at-word.result c.index_at-word.ensures.index _ _ _ c.in-Err.is c.in_ok-answer_fault-in-Err.ensures
+pub returns-in_ok-write_text_fault-in-Err-clause-gained : goal.returns-in_ok-write_text_fault-in-Err-clause-gained
+returns-in_ok-write_text_fault-in-Err-clause-gained g c =
+    item_fails (environment_of (operators c.args.session.now.hooks.now) c.args.session.now.limit) c.args.session.now.words.now (state_of c.args.state.now) c.args.number c.args.item.now c.index_at-word.result c.index_at-word.ensures.index _ _ _ c.in-Err.is c.in_ok-write_text_fault-in-Err.ensures

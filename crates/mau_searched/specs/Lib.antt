@@ -1,0 +1,3 @@
+-- Which strategies of a command are searched for so far.
+
+pub mod Searched

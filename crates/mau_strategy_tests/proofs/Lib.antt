@@ -1,0 +1,2 @@
+mod NoReach
+mod Rested

@@ -1,0 +1,4 @@
+-- Tests of strategies.
+
+-- runs that rest while there is no evaluator
+pub mod Rests
