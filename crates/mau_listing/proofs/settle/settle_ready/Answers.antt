@@ -12,6 +12,7 @@ returns-in_err-settle_declared-clause-table c = λ known t. record {
   settled = λ u r among.
       let is = t.settled u r among in
       record { number = is.number; there = is.there; tree = is.tree; settled = settled_kept c.args.sorts.now c.settle_declared.new.self c.settle_declared.ensures.kept is.number is.settled };
+  further = λ u r among. c.settle_declared.ensures.kept.further (t.settled u r among).number (t.further u r among);
 }
 
 pub returns-clause-table : goal.returns-clause-table
