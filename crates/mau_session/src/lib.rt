@@ -41,4 +41,4 @@ mod transcript;
 
 pub use meaning::Meaning;
 pub use top::{Status, run};
-pub use transcript::transcript;
+pub use transcript::transcript_of;

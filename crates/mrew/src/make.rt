@@ -10,7 +10,7 @@ use crate::check::write_answers;
 use mau_bytes::Sink;
 use mau_formula::HookTable;
 use mau_making::{counts_of, made_text, write_summary};
-use mau_session::{Status, transcript};
+use mau_session::{Status, transcript_of};
 use mau_terms::NoMemory;
 use std::alloc::Global;
 
@@ -34,7 +34,7 @@ fn summary(
     if text.len() > MOST {
         return Err(NoMemory);
     }
-    let (bytes, is_refused) = transcript(alloc, hooks, BUDGET, &text)?;
+    let (bytes, is_refused) = transcript_of(alloc, hooks, BUDGET, &text)?;
     let counts = counts_of(alloc, &bytes)?;
     let mut out = Vec::new(alloc);
     write_summary(
