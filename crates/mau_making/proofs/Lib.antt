@@ -7,3 +7,5 @@ pub mod Made
 pub mod Numbered
 -- variables with their values
 pub mod Valued
+-- sums over lines, one line after another
+pub mod Totals
