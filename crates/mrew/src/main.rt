@@ -4,7 +4,6 @@
 mod asked;
 mod check;
 mod hooks;
-mod make;
 #[cfg(test)]
 mod tests;
 

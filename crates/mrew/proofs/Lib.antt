@@ -1,2 +1,0 @@
--- The lemmas, lowest first.
-pub mod Few
