@@ -26,8 +26,9 @@ use Rattle.mau_reduce.proofs.PlainTables.{settled_grown}
 use Rattle.mau_rules.specs.declared.walk.Open.{Open}
 use Rattle.mau_rules.specs.Walk.{Opened, is_frozen_at, opened, around_all, places_behind, places_left, IsPath, IsWalk}
 use Rattle.mau_rules.proofs.Paths.{opened_kept, walk_kept, path_term, path_settled}
+use Rattle.mau_leaves.specs.Chosen.{choice_of}
 use Rattle.mau_leaves.specs.Steps.{Gives, IsOver, Passes, Throughout}
-use Rattle.mau_leaves.specs.Uses.{uses_of_all, is_chosen}
+use Rattle.mau_leaves.specs.Uses.{Choice, uses_of_all}
 use Rattle.mau_leaves.specs.Answers.{IsDueBy}
 use Rattle.mau_leaves.specs.Top.{place_in, left_around, IsTop}
 use Rattle.mau_leaves.specs.Everywhere.{results_at, results_at_all, around_way, places_after, left_then, left_of_places, start_at, IsEverywhere, IsEverywhereOf}
@@ -43,7 +44,7 @@ use Rattle.mau_rules.proofs.Walking.{place_first}
 
 -- ---- a step at the place at hand
 
-module _ (P : Program) (b : ℕ) (chosen : Rule → Bool) (ss zs : List Place) (same : zs ≡ ss) (a c : Engine → Answers Tree → Type 0) (g h : Bool) (live : g ≡ false) (alive : h ≡ false) where
+module _ (P : Program) (b : ℕ) (chosen : Choice) (ss zs : List Place) (same : zs ≡ ss) (a c : Engine → Answers Tree → Type 0) (g h : Bool) (live : g ≡ false) (alive : h ≡ false) where
   abbrev R : Engine → Answers Tree
   R L = results_at_all P L chosen ss
 
@@ -70,7 +71,7 @@ module _ (P : Program) (b : ℕ) (chosen : Rule → Bool) (ss zs : List Place) (
 
 -- ---- nothing is left at the place at hand
 
-module _ (P : Program) (chosen : Rule → Bool) (ss : List Place) (a : Engine → Answers Tree → Type 0) (g : Bool) (live : g ≡ false) (over : Throughout (engine_of P) a (λ L. IsOver (a L))) where
+module _ (P : Program) (chosen : Choice) (ss : List Place) (a : Engine → Answers Tree → Type 0) (g : Bool) (live : g ≡ false) (over : Throughout (engine_of P) a (λ L. IsOver (a L))) where
   abbrev Now : Engine → Answers Tree → Type 0
   Now = left_then P chosen ss false a
 
@@ -96,19 +97,19 @@ module _ (P : Program) (chosen : Rule → Bool) (ss : List Place) (a : Engine �
       (λ L k q n. (results_at P L chosen s, begins L, k q n ∙ ap (λ ws. results_at_all P L chosen ws) e)) (λ L e k. k) all_passed))
 
 -- where the way is gone, all is left that may be
-pub gone_on : (P : Program) (chosen : Rule → Bool) (f : Engine → Answers Tree → Type 0) (zs : List Place) (h : Bool) → h ≡ true → (c : Engine → Answers Tree → Type 0) →
+pub gone_on : (P : Program) (chosen : Choice) (f : Engine → Answers Tree → Type 0) (zs : List Place) (h : Bool) → h ≡ true → (c : Engine → Answers Tree → Type 0) →
     Throughout (engine_of P) f (λ L. Passes (f L) (left_then P chosen zs h c L))
 gone_on P chosen f zs h gone c =
     through_always (engine_of P) f {H = λ L. Passes (f L) (left_then P chosen zs h c L)} (λ L q n. subst (λ (k : Bool). left_then P chosen zs k c L q) (sym gone) tt)
 
 -- ---- the search at a place, before all
 
-module _ {K : Type 0} (asked : K → Asked) (given : K → Option Listed.Solution) (p : Typed.Program) (hooks : List Operator) (chosen : Rule → Bool) (around : Tree → Tree) (nodes : List Node) (at : TopResults K) (term : TermId) (begins : at ≡ start_at term) where
+module _ {K : Type 0} (asked : K → Asked) (given : K → Option Listed.Solution) (p : Typed.Program) (hooks : List Operator) (chosen : Choice) (around : Tree → Tree) (nodes : List Node) (at : TopResults K) (term : TermId) (begins : at ≡ start_at term) where
   pub starts_there : (L : Engine) → left_around asked given p hooks chosen around nodes at L (results_at (program_over p hooks) L chosen (place_in around (tree_at nodes term.0)))
   starts_there L =
       let P : Program = program_over p hooks in
       subst (λ (s : TopResults K). left_around asked given p hooks chosen around nodes s L (results_at P L chosen (place_in around (tree_at nodes term.0)))) (sym begins)
-      (uses_of_all P L chosen (tree_at nodes term.0) P.rules, sym (ap (λ rs. uses_of_all P L chosen (tree_at nodes term.0) (map rule_of rs)) (drop_zero p.rules)), refl)
+      (uses_of_all P L (chosen L) (tree_at nodes term.0) P.rules, sym (ap (λ rs. uses_of_all P L (chosen L) (tree_at nodes term.0) (map rule_of rs)) (drop_zero p.rules)), refl)
 
 pub clash_due : {X : Type 0} → false ≡ true → X
 clash_due e = cc
@@ -148,12 +149,12 @@ module _ (p : Typed.Program) (old new : List Node) (extends : Extends old new) (
 
 module _ (P : Program) (L : Engine) (d : Todo) (t : Tree) where
   -- the results are those at the places, one place after another
-  pub place_results : (o : Option (List ℕ)) → IsEverywhereOf o d.form → results P L d t ≡ results_at_all P L (is_chosen o) (places_of P t)
-  place_results None h = ap (λ e. results_of P L d.values e t) h ∙ each_same (any_place P L) (results_at P L (is_chosen None)) (λ s. sym (uses_lead_to_results P L s).1) (answers_of (places_of P t))
+  pub place_results : (o : Option (List ℕ)) → IsEverywhereOf o d.form → results P L d t ≡ results_at_all P L (choice_of P o [] []) (places_of P t)
+  place_results None h = ap (λ e. results_of P L d.values e t) h ∙ each_same (any_place P L) (results_at P L (choice_of P None [] [])) (λ s. sym (uses_lead_to_results P L s).1) (answers_of (places_of P t))
   place_results (Some n) h =
       ap (λ e. results_of P L d.values e t) h
       ∙ (those_none (for_each (labelled_place P L n [] []) (answers_of (places_of P t)))
-      ∙ each_same (labelled_place P L n [] []) (results_at P L (is_chosen (Some n))) (λ s. sym ((uses_lead_to_results P L s).2 n)) (answers_of (places_of P t)))
+      ∙ each_same (labelled_place P L n [] []) (results_at P L (choice_of P (Some n) [] [])) (λ s. sym ((uses_lead_to_results P L s).2 n [] [])) (answers_of (places_of P t)))
 
 module _ {K : Type 0} (asked : K → Asked) (given : K → Option Listed.Solution) (p : Typed.Program) (hooks : List Operator) (nodes : List Node) (term : TermId) (o : Option (List ℕ)) (d : Todo) (form : IsEverywhereOf o d.form) (search : PlacesResults K) (at : search.at ≡ start_at term)
     (way : search.way.items ≡ []) (gone : search.gone ≡ false) where
@@ -170,21 +171,21 @@ module _ {K : Type 0} (asked : K → Asked) (given : K → Option Listed.Solutio
   all_places = place_first (is_frozen_at p.sig) (λ v. v) t ∙ ap (λ ps. place_in (λ v. v) t ∷ ps) (sym (append-nil behind))
 
   abbrev Here : Engine → Answers Tree → Type 0
-  Here = left_then P (is_chosen o) (places_after p.sig nodes [] term.0) false (left_around asked given p hooks (is_chosen o) (λ v. v) nodes (start_at term))
+  Here = left_then P (choice_of (program_over p hooks) o [] []) (places_after p.sig nodes [] term.0) false (left_around asked given p hooks (choice_of (program_over p hooks) o [] []) (λ v. v) nodes (start_at term))
 
-  here : Here ≡ left_of_places asked given p hooks (is_chosen o) nodes search
+  here : Here ≡ left_of_places asked given p hooks (choice_of (program_over p hooks) o [] []) nodes search
   here = λ i.
-      left_then P (is_chosen o) (places_after p.sig nodes (sym way i) (sym at i).place.term.0) (sym gone i) (left_around asked given p hooks (is_chosen o) (around_way nodes (sym way i)) nodes (sym at i))
+      left_then P (choice_of (program_over p hooks) o [] []) (places_after p.sig nodes (sym way i) (sym at i).place.term.0) (sym gone i) (left_around asked given p hooks (choice_of (program_over p hooks) o [] []) (around_way nodes (sym way i)) nodes (sym at i))
 
-  pub begins_everywhere : HasGiven (program_over p hooks) (engine_of (program_over p hooks)) d (tree_at nodes term.0) [] (left_of_places asked given p hooks (is_chosen o) nodes search)
+  pub begins_everywhere : HasGiven (program_over p hooks) (engine_of (program_over p hooks)) d (tree_at nodes term.0) [] (left_of_places asked given p hooks (choice_of (program_over p hooks) o [] []) nodes search)
   begins_everywhere =
       subst (λ (f : Engine → Answers Tree → Type 0). HasGiven P (engine_of P) d t [] f) here
       (begins (engine_of P) (λ L. results P L d t) Here
       (through_always (engine_of P) (λ L q. q ≡ results P L d t) {H = λ L. Passes (λ q. q ≡ results P L d t) (Here L)}
       (λ L q e. (
-        results_at P L (is_chosen o) (place_in (λ v. v) t),
-        starts_there asked given p hooks (is_chosen o) (λ v. v) nodes (start_at term) term refl L,
-        e ∙ (place_results P L d t o form ∙ ap (results_at_all P L (is_chosen o)) all_places),
+        results_at P L (choice_of P o [] []) (place_in (λ v. v) t),
+        starts_there asked given p hooks (choice_of (program_over p hooks) o [] []) (λ v. v) nodes (start_at term) term refl L,
+        e ∙ (place_results P L d t o form ∙ ap (results_at_all P L (choice_of P o [] [])) all_places),
       ))))
 
 -- ---- such a search in a store that has grown
@@ -200,7 +201,7 @@ module _ {K : Type 0} (asked : K → Asked) (given : K → Option Listed.Solutio
     walk = λ g. let w = is.walk g in walk_on p old new extends w.0 s.way.items s.at.place.term w.1 within_same s.at.place.term refl before after kept w.2;
   }
 
-  module _ (chosen : Rule → Bool) where
+  module _ (chosen : Choice) where
     abbrev Q : Program
     Q = program_over p m.hooks
 

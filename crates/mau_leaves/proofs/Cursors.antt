@@ -31,7 +31,6 @@ use Rattle.mau_stratrun.specs.Settings.{Fixed}
 use Rattle.mau_stratrun.specs.Yields.{Yield, result_of, YieldsFirst, YieldsAll, IsCause}
 use Rattle.mau_stratrun.specs.Worlds.{World, LeavesGrow, IsNextYield}
 use Rattle.mau_stratrun.proofs.Yielding.{leaves_yield}
-use Rattle.mau_leaves.specs.Uses.{is_chosen}
 use Rattle.mau_leaves.specs.Top.{left_of_top, IsTop}
 use Rattle.mau_leaves.specs.Follows.{IsLeafDue, IsNextGiven, IsTopOf}
 use Rattle.mau_evaluation.specs.Strategy.{idle, label as by_label, top_only, call}
@@ -66,8 +65,8 @@ module _ {K : Type 0} (asked : K → Asked) (given : K → Option Listed.Solutio
       form = h.form;
       top = top_grown asked given is_for c p run m old before s h.top (λ v. v) new after extends kept over;
       rest =
-          passes (engine_of (program_over p m.hooks)) (λ L. results (program_over p m.hooks) L d t) h.results (left_of_top asked given p m.hooks (is_chosen (chosen_by leaves label)) old s) (left_of_top asked given p m.hooks (is_chosen (chosen_by leaves label)) new s)
-          h.rest (still_top asked given is_for c p run m old before s h.top (λ v. v) new after extends kept over (is_chosen (chosen_by leaves label)));
+          passes (engine_of (program_over p m.hooks)) (λ L. results (program_over p m.hooks) L d t) h.results (left_of_top asked given p m.hooks (choice_of (program_over p m.hooks) (chosen_by leaves label) [] []) old s) (left_of_top asked given p m.hooks (choice_of (program_over p m.hooks) (chosen_by leaves label) [] []) new s)
+          h.rest (still_top asked given is_for c p run m old before s h.top (λ v. v) new after extends kept over (choice_of (program_over p m.hooks) (chosen_by leaves label) [] []));
     }
 
     everywhere_cursor_grown : (label : Option LeafId) (s : PlacesResults K) (d : Todo) (t : Tree) (ys : List Yield) → IsEverywhereCursor asked given is_for c p m leaves old before label s d t ys → IsEverywhereCursor asked given is_for c p m leaves new after label s d t ys
@@ -77,8 +76,8 @@ module _ {K : Type 0} (asked : K → Asked) (given : K → Option Listed.Solutio
       form = h.form;
       search = everywhere_grown asked given is_for c p run m old before s h.search new after extends kept over;
       rest =
-          passes (engine_of (program_over p m.hooks)) (λ L. results (program_over p m.hooks) L d t) h.results (left_of_places asked given p m.hooks (is_chosen (chosen_by leaves label)) old s) (left_of_places asked given p m.hooks (is_chosen (chosen_by leaves label)) new s)
-          h.rest (still_everywhere asked given is_for c p run m old before s h.search new after extends kept over (is_chosen (chosen_by leaves label)));
+          passes (engine_of (program_over p m.hooks)) (λ L. results (program_over p m.hooks) L d t) h.results (left_of_places asked given p m.hooks (choice_of (program_over p m.hooks) (chosen_by leaves label) [] []) old s) (left_of_places asked given p m.hooks (choice_of (program_over p m.hooks) (chosen_by leaves label) [] []) new s)
+          h.rest (still_everywhere asked given is_for c p run m old before s h.search new after extends kept over (choice_of (program_over p m.hooks) (chosen_by leaves label) [] []));
     }
 
     test_cursor_grown : (s : TestCursor K) (d : Todo) (t : Tree) (ys : List Yield) → IsTestCursor asked given is_for c p m leaves old before s d t ys → IsTestCursor asked given is_for c p m leaves new after s d t ys
@@ -133,7 +132,7 @@ module _ {K : Type 0} (asked : K → Asked) (given : K → Option Listed.Solutio
 
     pub top_yields : (s : TopResults K) → IsTopOf (chosen_by leaves label) d.form → IsTop asked given is_for c p m nodes table s → (r : Result (Option TermId) EvalEnd) →
         IfOk r (λ o. IfSome o (λ id. IsTerm p.sig nodes id.0)) → IfOk r (λ o. IfSome o (λ id. AreSettled p.sig nodes table (tree_at nodes id.0))) →
-        IsNextGiven (program_over p m.hooks) m.limit (fixed_of p m leaves).definitions d t us (left_of_top asked given p m.hooks (is_chosen (chosen_by leaves label)) nodes s) nodes r →
+        IsNextGiven (program_over p m.hooks) m.limit (fixed_of p m leaves).definitions d t us (left_of_top asked given p m.hooks (choice_of (program_over p m.hooks) (chosen_by leaves label) [] []) nodes s) nodes r →
         IsNextYield (world_of asked given is_for c p m leaves nodes table) (Top label s) d t ys (yielded_by r)
     top_yields s form top (Ok (Some id)) term settled n = (
       record { results = us ++ tree_at nodes id.0 ∷ []; yielded = more_yielded (tree_at nodes id.0); form = form; top = top; rest = n.0 },
@@ -146,7 +145,7 @@ module _ {K : Type 0} (asked : K → Asked) (given : K → Option Listed.Solutio
     -- the same of rules at all places
     pub everywhere_yields : (s : PlacesResults K) → IsEverywhereOf (chosen_by leaves label) d.form → IsEverywhere asked given is_for c p m nodes table s → (r : Result (Option TermId) EvalEnd) →
         IfOk r (λ o. IfSome o (λ id. IsTerm p.sig nodes id.0)) → IfOk r (λ o. IfSome o (λ id. AreSettled p.sig nodes table (tree_at nodes id.0))) →
-        IsNextGiven (program_over p m.hooks) m.limit (fixed_of p m leaves).definitions d t us (left_of_places asked given p m.hooks (is_chosen (chosen_by leaves label)) nodes s) nodes r →
+        IsNextGiven (program_over p m.hooks) m.limit (fixed_of p m leaves).definitions d t us (left_of_places asked given p m.hooks (choice_of (program_over p m.hooks) (chosen_by leaves label) [] []) nodes s) nodes r →
         IsNextYield (world_of asked given is_for c p m leaves nodes table) (Everywhere label s) d t ys (yielded_by r)
     everywhere_yields s form search (Ok (Some id)) term settled n = (
       record { results = us ++ tree_at nodes id.0 ∷ []; yielded = more_yielded (tree_at nodes id.0); form = form; search = search; rest = n.0 },

@@ -22,8 +22,9 @@ use Rattle.mau_api.specs.Programs.{rule_of, program_over}
 use Rattle.mau_api.specs.Answers.{levels_of_condition}
 use Rattle.mau_api.specs.declared.results.EvalEnd.{EvalEnd}
 use Rattle.mau_api.specs.declared.results.EvalEnd.TheVariants.{Stopped, TooDeep, Overflow, NoMemory}
+use Rattle.mau_leaves.specs.Chosen.{choice_of}
 use Rattle.mau_leaves.specs.Steps.{Gives, IsOver, Passes, EndsNow, Throughout, IsDue}
-use Rattle.mau_leaves.specs.Uses.{uses_of_all, value_at, is_chosen}
+use Rattle.mau_leaves.specs.Uses.{uses_of_all, value_at}
 use Rattle.mau_leaves.specs.Answers.{IsDueBy}
 use Rattle.mau_leaves.specs.Top.{root_at, left_of_top, IsNextResult}
 use Rattle.mau_leaves.specs.Everywhere.{IsEverywhereOf}
@@ -147,11 +148,11 @@ everywhere_leaf (Some n) e h = subst IsLeaf (sym h) tt
 
 module _ (P : Program) (L : Engine) (d : Todo) (t : Tree) where
   -- the results are the values that the uses of the rules lead to
-  pub root_results : (o : Option (List ℕ)) → IsTopOf o d.form → results P L d t ≡ for_each (value_at P L (root_at t)) (uses_of_all P L (is_chosen o) t P.rules)
+  pub root_results : (o : Option (List ℕ)) → IsTopOf o d.form → results P L d t ≡ for_each (value_at P L (root_at t)) (uses_of_all P L (choice_of P o [] [] L) t P.rules)
   root_results None h = ap (λ e. results_of P L d.values e t) h ∙ (those_none (any_place P L (root_at t)) ∙ sym (uses_lead_to_results P L (root_at t)).1)
   root_results (Some n) h =
       ap (λ e. results_of P L d.values e t) h
-      ∙ (those_none (and_those (labelled_place P L n [] [] (root_at t)) no_more) ∙ (those_none (labelled_place P L n [] [] (root_at t)) ∙ sym ((uses_lead_to_results P L (root_at t)).2 n)))
+      ∙ (those_none (and_those (labelled_place P L n [] [] (root_at t)) no_more) ∙ (those_none (labelled_place P L n [] [] (root_at t)) ∙ sym ((uses_lead_to_results P L (root_at t)).2 n [] [])))
 
 pub drop_zero : {A : Type 0} (xs : List A) → drop 0 xs ≡ xs
 drop_zero [] = refl
@@ -159,11 +160,11 @@ drop_zero (x ∷ xs) = refl
 
 pub begins_at_root : {K : Type 0} (asked : K → Asked) (given : K → Option Listed.Solution) (p : Typed.Program) (hooks : List Operator) (nodes : List Node) (term : TermId) (o : Option (List ℕ)) (d : Todo) → IsTopOf o d.form →
     HasGiven (program_over p hooks) (engine_of (program_over p hooks)) d (tree_at nodes term.0) []
-    (left_of_top asked given p hooks (is_chosen o) nodes (record { place = record { term = term; number = 0; uses = None }; due = false }))
+    (left_of_top asked given p hooks (choice_of (program_over p hooks) o [] []) nodes (record { place = record { term = term; number = 0; uses = None }; due = false }))
 begins_at_root asked given p hooks nodes term o d top =
     let P : Program = program_over p hooks in
     let t : Tree = tree_at nodes term.0 in
-    begins (engine_of P) (λ L. results P L d t) (left_of_top asked given p hooks (is_chosen o) nodes (record { place = record { term = term; number = 0; uses = None }; due = false }))
+    begins (engine_of P) (λ L. results P L d t) (left_of_top asked given p hooks (choice_of (program_over p hooks) o [] []) nodes (record { place = record { term = term; number = 0; uses = None }; due = false }))
     (through_always (engine_of P) (λ L q. q ≡ results P L d t)
-    {H = λ L. Passes (λ q. q ≡ results P L d t) (left_of_top asked given p hooks (is_chosen o) nodes (record { place = record { term = term; number = 0; uses = None }; due = false }) L)}
-    (λ L q e. (uses_of_all P L (is_chosen o) t P.rules, sym (ap (λ rs. uses_of_all P L (is_chosen o) t (map rule_of rs)) (drop_zero p.rules)), e ∙ root_results P L d t o top)))
+    {H = λ L. Passes (λ q. q ≡ results P L d t) (left_of_top asked given p hooks (choice_of (program_over p hooks) o [] []) nodes (record { place = record { term = term; number = 0; uses = None }; due = false }) L)}
+    (λ L q e. (uses_of_all P L (choice_of P o [] [] L) t P.rules, sym (ap (λ rs. uses_of_all P L (choice_of P o [] [] L) t (map rule_of rs)) (drop_zero p.rules)), e ∙ root_results P L d t o top)))

@@ -48,8 +48,6 @@ pub mod TopTurns
 pub mod TopSteps
 -- what was given of the results of a leaf, step by step
 pub mod Follows
--- a variable that no pattern of a rule has is not determined
-pub mod NotDetermined
 -- the solutions of a pattern as the uses of a rule without a condition
 pub mod Matching
 -- the search for the solutions of one argument pattern
@@ -58,6 +56,20 @@ pub mod Patterns
 pub mod Stacks
 -- one turn of such a search
 pub mod StackTurns
+-- the variables that a rule lists
+pub mod Named
+-- which variables of a rule are determined
+pub mod Determining
+-- a term that was evaluated, and the sort of a variable
+pub mod SortedValues
+-- a variable that is given a value, before others
+pub mod PutFirst
+-- what assignments give to the variables of a rule
+pub mod Assigning
+-- what a table gives by assignments
+pub mod GivenValues
+-- under which values a rule is used
+pub mod Choosing
 -- the bodies of a call, definition after definition
 pub mod Definitions
 -- the bodies of a call as a run has them

@@ -10,6 +10,7 @@ use Rattle.mau_evaluation.specs.Program.{Rule}
 use Rattle.mau_evaluation.specs.Engine.{engine_of}
 use Rattle.mau_api.specs.Programs.{program_over}
 use Rattle.mau_api.specs.Meanings.{Meanings}
+use Rattle.mau_leaves.specs.Uses.{Choice}
 use Rattle.mau_leaves.specs.Steps.{Passes, Throughout}
 use Rattle.mau_leaves.specs.Searches.{left_in, use_in, variables_in, IsUsable, IsSearch, IsTurn, IsNextOne}
 use Rattle.mau_leaves.specs.AtPlace.{left_behind, use_behind, left_at, IsOpenAt, IsAtPlace}
@@ -74,7 +75,7 @@ module _ {K : Type 0} (asked : K → Asked) (given : K → Option Listed.Solutio
         signature = signature;
       }
 
-      module _ (chosen : Rule → Bool) (b : ℕ) where
+      module _ (chosen : Choice) (b : ℕ) where
         pub found_now : IsNextOne (program_over p m.hooks) b (left_in p m.hooks rule u.whole u.bound.items old (asked u.listing) (given u.listing) u.standing) (left_in p m.hooks rule w.whole w.bound.items new (asked w.listing) (given w.listing) w.standing)
             (use_in rule new (given w.listing) w.standing) (Ok true) →
             IsTurn (program_over p m.hooks) b (left_at asked given p m.hooks chosen old s) (left_behind asked given p m.hooks chosen (tree_at new s.term.0) new s.number (Some w)) (use_behind asked given p new s.number (Some w)) (Ok Found)

@@ -9,6 +9,8 @@ use Rattle.mau_terms.specs.Subst.{variables}
 use Rattle.mau_terms.specs.View.{tree_of}
 use Rattle.mau_terms.proofs.Variables.{distinct}
 use Rattle.mau_formula.specs.Operator.{Operator}
+use Rattle.mau_terms.specs.declared.ids.TermId.{TermId}
+use Rattle.mau_terms.specs.declared.ids.VarId.{VarId}
 use Rattle.mau_store.specs.Node.{Node}
 use Rattle.mau_store.specs.Trees.{tree_at}
 use Rattle.mau_listing.specs.Asked.{Asked}
@@ -18,6 +20,7 @@ use Rattle.mau_program.specs.declared.program.Program as Typed
 use Rattle.mau_program.specs.declared.statements.Rule as Written
 use Rattle.mau_evaluation.specs.Program.{Rule, Program}
 use Rattle.mau_evaluation.specs.Listing.{compare, solutions_within}
+use Rattle.mau_evaluation.specs.Evaluation.{Binding}
 use Rattle.mau_evaluation.specs.Engine.{Engine, engine_of}
 use Rattle.mau_evaluation.specs.Rules.{has_reach}
 use Rattle.mau_evaluation.specs.Answers.{Answers, no_more, and_those, when}
@@ -30,36 +33,19 @@ use Rattle.mau_reduce.proofs.Numbered.{is_among}
 use Rattle.mau_rules.specs.Runnable.{IsRunnable}
 use Rattle.mau_rules.proofs.Shown.{lawful_rule, fragments_here}
 use Rattle.mau_leaves.specs.Steps.{Gives, IsOver, Passes, Before, Throughout}
-use Rattle.mau_leaves.specs.Uses.{Use, behind, uses_among, uses_by, IsLeft, uses_if_chosen, uses_of_all}
+use Rattle.mau_leaves.specs.Uses.{Choice, Use, behind, uses_among, uses_by, IsLeft, uses_if_chosen, uses_of_all}
 use Rattle.mau_leaves.specs.Answers.{IsDueBy}
 use Rattle.mau_leaves.specs.Searches.{stand_of, left_in, use_in, IsUsable, IsTurn, IsNextOne}
+use Rattle.mau_leaves.specs.InTurn.{just}
+use Rattle.mau_leaves.specs.Chosen.{AreJust, IsUsedUnder}
 use Rattle.mau_leaves.specs.AtPlace.{left_of_one, left_behind, use_of_one, use_behind}
 use Rattle.mau_leaves.specs.declared.turn.Turn.TheVariants.{Found}
 use Rattle.mau_leaves.specs.declared.uses.RuleUses.{RuleUses}
 use Rattle.mau_leaves.specs.declared.uses.Standing.TheVariants.{Behind}
 use Rattle.mau_leaves.proofs.Behind.{all_of_them}
-use Rattle.mau_leaves.proofs.Steps.{through_always, first_gives, first_passes, first_over, first_due}
+use Rattle.mau_leaves.proofs.Steps.{through_always, through_as, first_gives, first_passes, first_over, first_due}
 
--- an executable rule can be used
-pub exec_usable : (p : Typed.Program) → IsRunnable p → (i : ℕ) (rule : Written.Rule) → slice_get p.rules i ≡ Some rule → rule.exec ≡ true → IsUsable p.sig [] rule
-exec_usable p run i rule at exec =
-    let lawful = lawful_rule p run i rule at in
-    record {
-      sides = lawful.parts.sides;
-      condition = record {
-        fragments = fragments_here p run i rule at exec;
-        bound = (and_parts (are_bound (variables (tree_of rule.left)) rule.cond) _ (lawful.bound exec)).0;
-        apart = distinct (tree_of rule.left) [] tt;
-      };
-      apart = tt;
-    }
-
-in_mapped : {A B : Type 0} (f : A → B) (xs : List A) (x : A) → IsIn x xs → IsIn (f x) (map f xs)
-in_mapped f [] x i = absurd i
-in_mapped f (y ∷ ys) x (inl e) = inl (ap f e)
-in_mapped f (y ∷ ys) x (inr i) = inr (in_mapped f ys x i)
-
-drop_from : {A : Type 0} (xs : List A) (n : ℕ) (x : A) → slice_get xs n ≡ Some x → drop n xs ≡ x ∷ drop (suc n) xs
+pub drop_from : {A : Type 0} (xs : List A) (n : ℕ) (x : A) → slice_get xs n ≡ Some x → drop n xs ≡ x ∷ drop (suc n) xs
 drop_from xs n x at = drop-cons xs n x (slice_get_within xs n x at) ∙ ap (λ y. y ∷ drop (suc n) xs) (get_or_from_slice_get xs n x x at)
 
 none_there : {A : Type 0} (ys : List A) → length ys ≤ 0 → ys ≡ []
@@ -69,76 +55,59 @@ none_there (y ∷ ys) h = absurd (omega (arith, h))
 drop_none : {A : Type 0} (xs : List A) (n : ℕ) → length xs ≤ n → drop n xs ≡ []
 drop_none xs n h = none_there (drop n xs) (omega (arith, length-drop n xs))
 
-module _ (p : Typed.Program) (hooks : List Operator) (chosen : Rule → Bool) (t : Tree) where
+module _ (p : Typed.Program) (hooks : List Operator) (chosen : Choice) (t : Tree) where
   abbrev P : Program
   P = program_over p hooks
 
   abbrev All_from : Engine → ℕ → Answers Use
-  All_from L n = uses_of_all P L chosen t (map rule_of (drop n p.rules))
+  All_from L n = uses_of_all P L (chosen L) t (map rule_of (drop n p.rules))
 
   -- ---- what the rules from one on give
 
   from_one : (L : Engine) (n : ℕ) (rule : Written.Rule) → slice_get p.rules n ≡ Some rule →
-      uses_of_all P L chosen t (map rule_of (drop n p.rules)) ≡ and_those (uses_if_chosen P L chosen t (rule_of rule)) (uses_of_all P L chosen t (map rule_of (drop (suc n) p.rules)))
-  from_one L n rule at = ap (λ rs. uses_of_all P L chosen t (map rule_of rs)) (drop_from p.rules n rule at)
+      uses_of_all P L (chosen L) t (map rule_of (drop n p.rules)) ≡ and_those (uses_if_chosen P L (chosen L) t (rule_of rule)) (uses_of_all P L (chosen L) t (map rule_of (drop (suc n) p.rules)))
+  from_one L n rule at = ap (λ rs. uses_of_all P L (chosen L) t (map rule_of rs)) (drop_from p.rules n rule at)
 
-  pub passes_over : (n : ℕ) (rule : Written.Rule) → slice_get p.rules n ≡ Some rule → chosen (rule_of rule) ≡ false →
-      Throughout (engine_of (program_over p hooks)) (λ L q. q ≡ uses_of_all (program_over p hooks) L chosen t (map rule_of (drop n p.rules)))
-      (λ L. Passes (λ q. q ≡ uses_of_all (program_over p hooks) L chosen t (map rule_of (drop n p.rules))) (λ q. q ≡ uses_of_all (program_over p hooks) L chosen t (map rule_of (drop (suc n) p.rules))))
-  passes_over n rule at unchosen =
-      through_always (engine_of P) (λ L q. q ≡ All_from L n) {H = λ L. Passes (λ q. q ≡ All_from L n) (λ q. q ≡ All_from L (suc n))}
-      (λ L q e. e ∙ (from_one L n rule at ∙ ap (λ b. and_those (when b (when (not (has_reach (rule_of rule).cond)) (when (may_use (rule_of rule) []) (uses_by P L false (rule_of rule) [] t)))) (All_from L (suc n))) unchosen))
+  -- a rule that gives nothing is passed over
+  pub passes_none : (n : ℕ) (rule : Written.Rule) → slice_get p.rules n ≡ Some rule → AreJust (engine_of (program_over p hooks)) (λ L. uses_if_chosen (program_over p hooks) L (chosen L) t (rule_of rule)) (λ L. no_more) →
+      Throughout (engine_of (program_over p hooks)) (λ L q. q ≡ uses_of_all (program_over p hooks) L (chosen L) t (map rule_of (drop n p.rules)))
+      (λ L. Passes (λ q. q ≡ uses_of_all (program_over p hooks) L (chosen L) t (map rule_of (drop n p.rules))) (λ q. q ≡ uses_of_all (program_over p hooks) L (chosen L) t (map rule_of (drop (suc n) p.rules))))
+  passes_none n rule at none =
+      through_as (engine_of P) (just (λ L. uses_if_chosen P L (chosen L) t (rule_of rule))) (λ L q. q ≡ All_from L n)
+      {H = λ L. uses_if_chosen P L (chosen L) t (rule_of rule) ≡ no_more} {K = λ L. Passes (λ q. q ≡ All_from L n) (λ q. q ≡ All_from L (suc n))}
+      (λ L h q e. e ∙ (from_one L n rule at ∙ ap (λ z. and_those z (All_from L (suc n))) h))
+      (λ L e k q m. m ∙ (from_one L n rule at ∙ ap (λ z. and_those z (All_from L (suc n))) (k (uses_if_chosen P L (chosen L) t (rule_of rule)) refl))) none
 
-  pub passes_unusable : (n : ℕ) (rule : Written.Rule) → slice_get p.rules n ≡ Some rule → may_use (rule_of rule) [] ≡ false →
-      Throughout (engine_of (program_over p hooks)) (λ L q. q ≡ uses_of_all (program_over p hooks) L chosen t (map rule_of (drop n p.rules)))
-      (λ L. Passes (λ q. q ≡ uses_of_all (program_over p hooks) L chosen t (map rule_of (drop n p.rules))) (λ q. q ≡ uses_of_all (program_over p hooks) L chosen t (map rule_of (drop (suc n) p.rules))))
-  passes_unusable n rule at unusable =
-      through_always (engine_of P) (λ L q. q ≡ All_from L n) {H = λ L. Passes (λ q. q ≡ All_from L n) (λ q. q ≡ All_from L (suc n))}
-      (λ L q e. e ∙ (from_one L n rule at
-      ∙ (ap (λ b. and_those (when (chosen (rule_of rule)) (when (not (has_reach (rule_of rule).cond)) (when b (uses_by P L false (rule_of rule) [] t)))) (All_from L (suc n))) unusable
-      ∙ ap (λ z. and_those z (All_from L (suc n))) (none_when (chosen (rule_of rule)) (not (has_reach (rule_of rule).cond))))))
-    where
-      none_when : (b c : Bool) → when {A = Use} b (when c no_more) ≡ no_more
-      none_when true true = refl
-      none_when true false = refl
-      none_when false c = refl
-
-  pub over_behind : (n : ℕ) → length p.rules ≤ n → Throughout (engine_of (program_over p hooks)) (λ L q. q ≡ uses_of_all (program_over p hooks) L chosen t (map rule_of (drop n p.rules)))
-      (λ L. IsOver (λ q. q ≡ uses_of_all (program_over p hooks) L chosen t (map rule_of (drop n p.rules))))
+  pub over_behind : (n : ℕ) → length p.rules ≤ n → Throughout (engine_of (program_over p hooks)) (λ L q. q ≡ uses_of_all (program_over p hooks) L (chosen L) t (map rule_of (drop n p.rules)))
+      (λ L. IsOver (λ q. q ≡ uses_of_all (program_over p hooks) L (chosen L) t (map rule_of (drop n p.rules))))
   over_behind n h =
-      through_always (engine_of P) (λ L q. q ≡ All_from L n) {H = λ L. IsOver (λ q. q ≡ All_from L n)} (λ L q e. e ∙ ap (λ rs. uses_of_all P L chosen t (map rule_of rs)) (drop_none p.rules n h))
+      through_always (engine_of P) (λ L q. q ≡ All_from L n) {H = λ L. IsOver (λ q. q ≡ All_from L n)} (λ L q e. e ∙ ap (λ rs. uses_of_all P L (chosen L) t (map rule_of rs)) (drop_none p.rules n h))
 
-  -- an executable rule that is chosen is begun
-  pub begins : (run : IsRunnable p) (n : ℕ) (rule : Written.Rule) → slice_get p.rules n ≡ Some rule → chosen (rule_of rule) ≡ true → rule.exec ≡ true →
-      Throughout (engine_of (program_over p hooks)) (λ L q. q ≡ uses_of_all (program_over p hooks) L chosen t (map rule_of (drop n p.rules)))
-      (λ L. Passes (λ q. q ≡ uses_of_all (program_over p hooks) L chosen t (map rule_of (drop n p.rules)))
-      (Before (uses_of_all (program_over p hooks) L chosen t (map rule_of (drop (suc n) p.rules))) (IsLeft (program_over p hooks) L false (rule_of rule) [] t (behind None))))
-  begins run n rule at is_one exec =
-      through_always (engine_of P) (λ L q. q ≡ All_from L n) {H = λ L. Passes (λ q. q ≡ All_from L n) (Before (All_from L (suc n)) (IsLeft P L false (rule_of rule) [] t (behind None)))}
-      (λ L q e. (
-        uses_by P L false (rule_of rule) [] t,
-        sym (ap (uses_among P L (rule_of rule) []) (all_of_them (compare P.sign.theory (tree_of rule.left)) (solutions_within P.sign (tree_of rule.left) t))),
-        e ∙ (from_one L n rule at ∙ ap (λ z. and_those z (All_from L (suc n))) (all L)),
+  -- one that is used under some values is begun
+  pub begins : (n : ℕ) (rule : Written.Rule) → slice_get p.rules n ≡ Some rule → (σ : Binding) →
+      AreJust (engine_of (program_over p hooks)) (λ L. uses_if_chosen (program_over p hooks) L (chosen L) t (rule_of rule)) (λ L. uses_by (program_over p hooks) L false (rule_of rule) σ t) →
+      Throughout (engine_of (program_over p hooks)) (λ L q. q ≡ uses_of_all (program_over p hooks) L (chosen L) t (map rule_of (drop n p.rules)))
+      (λ L. Passes (λ q. q ≡ uses_of_all (program_over p hooks) L (chosen L) t (map rule_of (drop n p.rules)))
+      (Before (uses_of_all (program_over p hooks) L (chosen L) t (map rule_of (drop (suc n) p.rules))) (IsLeft (program_over p hooks) L false (rule_of rule) σ t (behind None))))
+  begins n rule at σ used =
+      through_as (engine_of P) (just (λ L. uses_if_chosen P L (chosen L) t (rule_of rule))) (λ L q. q ≡ All_from L n)
+      {H = λ L. uses_if_chosen P L (chosen L) t (rule_of rule) ≡ uses_by P L false (rule_of rule) σ t} {K = λ L. Passes (λ q. q ≡ All_from L n) (Before (All_from L (suc n)) (IsLeft P L false (rule_of rule) σ t (behind None)))}
+      (λ L h q e. (
+        uses_by P L false (rule_of rule) σ t,
+        sym (ap (uses_among P L (rule_of rule) σ) (all_of_them (compare P.sign.theory (tree_of rule.left)) (solutions_within P.sign (tree_of rule.left) t))),
+        e ∙ (from_one L n rule at ∙ ap (λ z. and_those z (All_from L (suc n))) h),
       ))
-    where
-      no_reach : has_reach (rule_of rule).cond ≡ false
-      no_reach = run.no_reach (rule_of rule) (in_mapped rule_of p.rules rule (is_among p.rules n rule at)) exec
-
-      all : (L : Engine) → uses_if_chosen P L chosen t (rule_of rule) ≡ uses_by P L false (rule_of rule) [] t
-      all L =
-          ap (λ b. when b (when (not (has_reach (rule_of rule).cond)) (when (may_use (rule_of rule) []) (uses_by P L false (rule_of rule) [] t)))) is_one
-          ∙ (ap (λ b. when (not b) (when (may_use (rule_of rule) []) (uses_by P L false (rule_of rule) [] t))) no_reach
-          ∙ ap (λ b. when (b || binds_all (determined (rule_of rule) []) (rule_of rule).vars 0) (uses_by P L false (rule_of rule) [] t)) exec)
+      (λ L e k q m. m ∙ (from_one L n rule at ∙ ap (λ z. and_those z (All_from L (suc n))) (k (uses_if_chosen P L (chosen L) t (rule_of rule)) refl))) used
 
 -- ---- as the rule that is gone through has them
 
-module _ {K : Type 0} (asked : K → Asked) (given : K → Option Listed.Solution) (p : Typed.Program) (hooks : List Operator) (chosen : Rule → Bool) (t v : Tree) (same : v ≡ t) (old new : List Node) (n : ℕ) (rule : Written.Rule)
+module _ {K : Type 0} (asked : K → Asked) (given : K → Option Listed.Solution) (p : Typed.Program) (hooks : List Operator) (chosen : Choice) (t v : Tree) (same : v ≡ t) (old new : List Node) (n : ℕ) (rule : Written.Rule)
     (at : slice_get p.rules n ≡ Some rule) (u w : RuleUses K) (b : ℕ) where
   abbrev Q : Program
   Q = program_over p hooks
 
   abbrev rest : Engine → Answers Use
-  rest L = uses_of_all Q L chosen t (map rule_of (drop (suc n) p.rules))
+  rest L = uses_of_all Q L (chosen L) t (map rule_of (drop (suc n) p.rules))
 
   abbrev own : List Node → RuleUses K → Engine → Answers Use → Type 0
   own nodes x = left_in p hooks rule x.whole x.bound.items nodes (asked x.listing) (given x.listing) x.standing
@@ -147,10 +116,10 @@ module _ {K : Type 0} (asked : K → Asked) (given : K → Option Listed.Solutio
   was = λ i L. Before (rest L) (left_of_one asked given p hooks (sym at i) old u L)
 
   is : (λ (L : Engine). Before (rest L) (own new w L)) ≡ left_behind asked given p hooks chosen v new n (Some w)
-  is = λ i L. Before (uses_of_all Q L chosen (sym same i) (map rule_of (drop (suc n) p.rules))) (left_of_one asked given p hooks (sym at i) new w L)
+  is = λ i L. Before (uses_of_all Q L (chosen L) (sym same i) (map rule_of (drop (suc n) p.rules))) (left_of_one asked given p hooks (sym at i) new w L)
 
   then : (λ (L : Engine) (q : Answers Use). q ≡ rest L) ≡ left_behind asked given p hooks chosen v new (suc n) None
-  then = λ i L q. q ≡ uses_of_all Q L chosen (sym same i) (map rule_of (drop (suc n) p.rules))
+  then = λ i L q. q ≡ uses_of_all Q L (chosen L) (sym same i) (map rule_of (drop (suc n) p.rules))
 
   pub found_there : IsNextOne (program_over p hooks) b (left_in p hooks rule u.whole u.bound.items old (asked u.listing) (given u.listing) u.standing) (left_in p hooks rule w.whole w.bound.items new (asked w.listing) (given w.listing) w.standing)
       (use_in rule new (given w.listing) w.standing) (Ok true) →
@@ -183,17 +152,17 @@ module _ {K : Type 0} (asked : K → Asked) (given : K → Option Listed.Solutio
 
 -- ---- as a rule that is begun has them
 
-pub as_begun : {K : Type 0} (asked : K → Asked) (given : K → Option Listed.Solution) (p : Typed.Program) (hooks : List Operator) (chosen : Rule → Bool) → IsRunnable p → (nodes : List Node) (term n : ℕ) (rule : Written.Rule) →
-    slice_get p.rules n ≡ Some rule → chosen (rule_of rule) ≡ true → rule.exec ≡ true → (u : RuleUses K) → u.bound.items ≡ [] → u.whole ≡ false → given u.listing ≡ None → u.standing ≡ Behind → (asked u.listing).subject.0 ≡ term →
+pub as_begun : {K : Type 0} (asked : K → Asked) (given : K → Option Listed.Solution) (p : Typed.Program) (hooks : List Operator) (chosen : Choice) (nodes : List Node) (term n : ℕ) (rule : Written.Rule) →
+    slice_get p.rules n ≡ Some rule → (bound : List (VarId × TermId)) → IsUsedUnder (program_over p hooks) chosen (rule_of rule) (Some (binding_in nodes bound)) → (u : RuleUses K) → u.bound.items ≡ bound → u.whole ≡ false → given u.listing ≡ None → u.standing ≡ Behind → (asked u.listing).subject.0 ≡ term →
     Throughout (engine_of (program_over p hooks)) (left_behind asked given p hooks chosen (tree_at nodes term) nodes n None) (λ L.
     Passes (left_behind asked given p hooks chosen (tree_at nodes term) nodes n None L) (left_behind asked given p hooks chosen (tree_at nodes term) nodes n (Some u) L))
-as_begun asked given p hooks chosen run nodes term n rule at is_one exec u unbound part none at_start subject =
+as_begun asked given p hooks chosen nodes term n rule at bound used u own part none at_start subject =
     subst (λ (f : Engine → Answers Use → Type 0). Throughout (engine_of (program_over p hooks)) (left_behind asked given p hooks chosen (tree_at nodes term) nodes n None) (λ L.
-    Passes (left_behind asked given p hooks chosen (tree_at nodes term) nodes n None L) (Before (uses_of_all (program_over p hooks) L chosen (tree_at nodes term) (map rule_of (drop (suc n) p.rules))) (f L)))) same
-    (begins p hooks chosen (tree_at nodes term) run n rule at is_one exec)
+    Passes (left_behind asked given p hooks chosen (tree_at nodes term) nodes n None L) (Before (uses_of_all (program_over p hooks) L (chosen L) (tree_at nodes term) (map rule_of (drop (suc n) p.rules))) (f L)))) same
+    (begins p hooks chosen (tree_at nodes term) n rule at (binding_in nodes bound) (used (tree_at nodes term)))
   where
-    same : (λ (L : Engine). IsLeft (program_over p hooks) L false (rule_of rule) [] (tree_at nodes term) (behind None)) ≡ left_of_one asked given p hooks (slice_get p.rules n) nodes u
+    same : (λ (L : Engine). IsLeft (program_over p hooks) L false (rule_of rule) (binding_in nodes bound) (tree_at nodes term) (behind None)) ≡ left_of_one asked given p hooks (slice_get p.rules n) nodes u
     same =
-        (λ i L. IsLeft (program_over p hooks) L (sym part i) (rule_of rule) (binding_in nodes (sym unbound i)) (tree_at nodes (sym subject i)) (behind None))
+        (λ i L. IsLeft (program_over p hooks) L (sym part i) (rule_of rule) (binding_in nodes (sym own i)) (tree_at nodes (sym subject i)) (behind None))
         ∙ ((λ i L. IsLeft (program_over p hooks) L u.whole (rule_of rule) (binding_in nodes u.bound.items) (tree_at nodes (asked u.listing).subject.0) (stand_of nodes (sym none i) u.standing))
         ∙ sym (ap (λ o. left_of_one asked given p hooks o nodes u) at))

@@ -9,8 +9,9 @@ use Rattle.mau_evaluation.specs.Evaluation.{Binding, agree, have_sorts}
 use Rattle.mau_evaluation.specs.Engine.{Engine}
 use Rattle.mau_evaluation.specs.Rules.{Place, bound_by, has_reach}
 use Rattle.mau_evaluation.specs.Answers.{Answers, no_more, ends_by, answer, answers_of, and_those, for_each, asking, from_outcome, when}
-use Rattle.mau_evaluation.specs.OrderedLists.{asked, rewritten_by, rewrites_for, rewrites_at, rewrites_by, may_use, if_used, is_labelled, labelled_rule, any_rule}
-use Rattle.mau_leaves.specs.Uses.{Use, use_by, uses_for, uses_at, uses_by, uses_if_chosen, uses_of_all, is_chosen, value_at}
+use Rattle.mau_evaluation.specs.OrderedLists.{assigned, asked, rewritten_by, rewrites_for, rewrites_at, rewrites_by, may_use, if_used, is_labelled, labelled_rule, any_rule}
+use Rattle.mau_leaves.specs.Uses.{Use, use_by, uses_for, uses_at, uses_by, uses_if_used, uses_if_chosen, uses_of_all, value_at}
+use Rattle.mau_leaves.specs.Chosen.{choice_of}
 use Rattle.mau_leaves.specs.Laws.{UsesLeadToResults}
 
 -- ---- answers of answers
@@ -75,19 +76,28 @@ module _ (P : Program) (L : Engine) (s : Place) where
       each_each V (uses_at P L q σ) (answers_of (solutions_within P.sign q.left s.term))
       ∙ each_same (λ x. for_each V (uses_at P L q σ x)) (rewrites_at P L q σ s) (at_one_use q σ) (answers_of (solutions_within P.sign q.left s.term))
 
-  if_chosen : (chosen : Rule → Bool) (q : Rule) → for_each V (uses_if_chosen P L chosen s.term q) ≡ when (chosen q) (when (not (has_reach q.cond)) (if_used P L q s []))
-  if_chosen chosen q =
-      each_when V (chosen q) (when (not (has_reach q.cond)) (when (may_use q []) (uses_by P L false q [] s.term)))
-      ∙ ap (when (chosen q)) (each_when V (not (has_reach q.cond)) (when (may_use q []) (uses_by P L false q [] s.term))
-      ∙ ap (when (not (has_reach q.cond))) (each_when V (may_use q []) (uses_by P L false q [] s.term) ∙ ap (when (may_use q [])) (by_rule q [])))
+  if_used_so : (q : Rule) (σ : Binding) → for_each V (uses_if_used P L s.term q σ) ≡ if_used P L q s σ
+  if_used_so q σ = each_when V (may_use q σ) (uses_by P L false q σ s.term) ∙ ap (when (may_use q σ)) (by_rule q σ)
 
-  of_all : (chosen : Rule → Bool) (f : Rule → Answers Tree) → ((q : Rule) → for_each V (uses_if_chosen P L chosen s.term q) ≡ f q) → for_each V (uses_of_all P L chosen s.term P.rules) ≡ for_each f (answers_of P.rules)
+  if_chosen : (chosen : Rule → Answers Binding) (q : Rule) → for_each V (uses_if_chosen P L chosen s.term q) ≡ when (not (has_reach q.cond)) (for_each (if_used P L q s) (chosen q))
+  if_chosen chosen q =
+      each_when V (not (has_reach q.cond)) (for_each (uses_if_used P L s.term q) (chosen q))
+      ∙ ap (when (not (has_reach q.cond))) (each_each V (uses_if_used P L s.term q) (chosen q) ∙ each_same (λ σ. for_each V (uses_if_used P L s.term q σ)) (if_used P L q s) (if_used_so q) (chosen q))
+
+  of_all : (chosen : Rule → Answers Binding) (f : Rule → Answers Tree) → ((q : Rule) → for_each V (uses_if_chosen P L chosen s.term q) ≡ f q) → for_each V (uses_of_all P L chosen s.term P.rules) ≡ for_each f (answers_of P.rules)
   of_all chosen f h = each_each V (uses_if_chosen P L chosen s.term) (answers_of P.rules) ∙ each_same (λ q. for_each V (uses_if_chosen P L chosen s.term q)) f h (answers_of P.rules)
+
+when_swap : {A : Type 0} (a b : Bool) (p : Answers A) → when a (when b p) ≡ when b (when a p)
+when_swap true b p = refl
+when_swap false true p = refl
+when_swap false false p = refl
 
 pub uses_lead_to_results : UsesLeadToResults
 uses_lead_to_results P L s = (
   by_rule P L s,
-  of_all P L s (is_chosen None) (any_rule P L s) (if_chosen P L s (is_chosen None)),
-  (λ n. of_all P L s (is_chosen (Some n)) (labelled_rule P L n [] [] s)
-      (λ q. if_chosen P L s (is_chosen (Some n)) q ∙ ap (λ z. when (is_labelled n q.label) (when (not (has_reach q.cond)) z)) (sym (those_none (if_used P L q s []))))),
+  of_all P L s (choice_of P None [] [] L) (any_rule P L s) (λ q. if_chosen P L s (choice_of P None [] [] L) q ∙ ap (when (not (has_reach q.cond))) (those_none (if_used P L q s []))),
+  (λ n gs vs. of_all P L s (choice_of P (Some n) gs vs L) (labelled_rule P L n gs vs s)
+      (λ q. if_chosen P L s (choice_of P (Some n) gs vs L) q
+      ∙ (ap (when (not (has_reach q.cond))) (each_when (if_used P L q s) (is_labelled n q.label) (assigned P L q.vars gs vs))
+      ∙ when_swap (not (has_reach q.cond)) (is_labelled n q.label) (for_each (if_used P L q s) (assigned P L q.vars gs vs))))),
 )

@@ -18,7 +18,7 @@ use Rattle.mau_api.specs.Meanings.{Meanings}
 use Rattle.mau_api.specs.declared.results.EvalEnd.{EvalEnd}
 use Rattle.mau_rules.specs.Runnable.{IsRunnable}
 use Rattle.mau_leaves.specs.Steps.{Gives, IsOver, Passes, Throughout}
-use Rattle.mau_leaves.specs.Uses.{Use, value_at}
+use Rattle.mau_leaves.specs.Uses.{Choice, Use, value_at}
 use Rattle.mau_leaves.specs.Answers.{GivesValue, IsDueBy}
 use Rattle.mau_leaves.specs.Searches.{IsNextOne}
 use Rattle.mau_leaves.specs.AtPlace.{left_at, use_at, IsAtPlace}
@@ -40,7 +40,7 @@ module _ {K : Type 0} (asked : K → Asked) (given : K → Option Listed.Solutio
   abbrev P : Program
   P = program_over p m.hooks
 
-  abbrev Left : (Rule → Bool) → List Node → TopResults K → Engine → Answers Tree → Type 0
+  abbrev Left : Choice → List Node → TopResults K → Engine → Answers Tree → Type 0
   Left chosen nodes s = left_around asked given p m.hooks chosen around nodes s
 
   -- ---- in a store that has grown
@@ -61,7 +61,7 @@ module _ {K : Type 0} (asked : K → Asked) (given : K → Option Listed.Solutio
     pub given_top : IsTop asked given is_for c p m new after (top_with top.place false)
     given_top = record { place = place_then; stands = never_due false refl }
 
-    pub still_top : (chosen : Rule → Bool) → Throughout (engine_of (program_over p m.hooks)) (left_around asked given p m.hooks chosen around old top) (λ L.
+    pub still_top : (chosen : Choice) → Throughout (engine_of (program_over p m.hooks)) (left_around asked given p m.hooks chosen around old top) (λ L.
         Passes (left_around asked given p m.hooks chosen around old top L) (left_around asked given p m.hooks chosen around new top L))
     still_top chosen =
         let left = place_left_same asked given is_for c p m old before top.place is.place new after extends kept over chosen in
@@ -71,7 +71,7 @@ module _ {K : Type 0} (asked : K → Asked) (given : K → Option Listed.Solutio
 
     -- ---- the value that is due
 
-    module _ (due : top.due ≡ true) (u : Use) (used : use_at asked given p old top.place ≡ Some u) (chosen : Rule → Bool) where
+    module _ (due : top.due ≡ true) (u : Use) (used : use_at asked given p old top.place ≡ Some u) (chosen : Choice) where
       abbrev t : Tree
       t = tree_at old top.place.term.0
 
@@ -104,7 +104,7 @@ module _ {K : Type 0} (asked : K → Asked) (given : K → Option Listed.Solutio
 
   -- ---- the next use
 
-  module _ (due : top.due ≡ false) (mid : List Node) (place : PlaceUses K) (root_is : tree_at mid place.term.0 ≡ tree_at old top.place.term.0) (b : ℕ) (chosen : Rule → Bool) where
+  module _ (due : top.due ≡ false) (mid : List Node) (place : PlaceUses K) (root_is : tree_at mid place.term.0 ≡ tree_at old top.place.term.0) (b : ℕ) (chosen : Choice) where
     abbrev V : Engine → Use → Answers Tree
     V L = value_at P L (place_in around (tree_at old top.place.term.0))
 

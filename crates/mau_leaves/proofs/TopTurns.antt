@@ -28,7 +28,7 @@ use Rattle.mau_api.specs.Answers.{binding_in, AreSettled}
 use Rattle.mau_api.specs.declared.results.EvalEnd.{EvalEnd}
 use Rattle.mau_reduce.specs.Trying.{solution_in}
 use Rattle.mau_leaves.specs.Steps.{Passes, Before as InFront, Throughout}
-use Rattle.mau_leaves.specs.Uses.{Use, uses_of_all}
+use Rattle.mau_leaves.specs.Uses.{Choice, Use, uses_of_all}
 use Rattle.mau_leaves.specs.Answers.{GivesValue}
 use Rattle.mau_leaves.specs.Searches.{use_in, IsAtSolution, IsShownFor, StandsAt, IsSearch}
 use Rattle.mau_leaves.specs.AtPlace.{left_of_one, left_behind, left_at, use_of_one, use_behind, use_at, IsOpenAt, IsAtPlace}
@@ -147,15 +147,15 @@ module _ {K : Type 0} (asked : K → Asked) (given : K → Option Listed.Solutio
         ap (λ r. left_of_one asked given p m.hooks r new u) h.at
         ∙ (left_same p old new before after extends kept m h.rule u.bound.items c (asked u.listing) u.whole (given u.listing) u.standing h.search ∙ sym (ap (λ r. left_of_one asked given p m.hooks r old u) h.at))
 
-    pub place_left_same : (chosen : Rule → Bool) → left_at asked given p m.hooks chosen new s ≡ left_at asked given p m.hooks chosen old s
+    pub place_left_same : (chosen : Choice) → left_at asked given p m.hooks chosen new s ≡ left_at asked given p m.hooks chosen old s
     place_left_same chosen = by s.uses is.uses
       where
         by : (z : Option (RuleUses K)) → IfSome z (IsOpenAt asked given is_for c p m old before s.term.0 s.number) →
             left_behind asked given p m.hooks chosen (tree_at new s.term.0) new s.number z ≡ left_behind asked given p m.hooks chosen (tree_at old s.term.0) old s.number z
-        by None h = λ i L q. q ≡ uses_of_all (program_over p m.hooks) L chosen (root_same i) (map rule_of (drop s.number p.rules))
+        by None h = λ i L q. q ≡ uses_of_all (program_over p m.hooks) L (chosen L) (root_same i) (map rule_of (drop s.number p.rules))
         by (Some u) h =
             let one = one_same u h in
-            λ i L. InFront (uses_of_all (program_over p m.hooks) L chosen (root_same i) (map rule_of (drop (suc s.number) p.rules))) (one i L)
+            λ i L. InFront (uses_of_all (program_over p m.hooks) L (chosen L) (root_same i) (map rule_of (drop (suc s.number) p.rules))) (one i L)
 
     in_same : (rule : Written.Rule) (bound : List (VarId × TermId)) (x : Option Listed.Solution) → IfSome x (AreOfStore old) → (k : Standing) → StandsAt m p.sig rule bound old before x k → use_in rule new x k ≡ use_in rule old x k
     in_same rule bound None of Behind h = refl

@@ -10,7 +10,6 @@ use Rattle.mau_listing.specs.Asked.{Asked}
 use Rattle.mau_listing.specs.declared.solution.Solution as Listed
 use Rattle.mau_program.specs.declared.program.Program as Typed
 use Rattle.mau_program.specs.declared.statements.Rule as Written
-use Rattle.mau_evaluation.specs.Program.{Rule}
 use Rattle.mau_evaluation.specs.Engine.{Engine}
 use Rattle.mau_evaluation.specs.Answers.{Answers, no_more}
 use Rattle.mau_api.specs.Programs.{rule_of, program_over}
@@ -18,7 +17,7 @@ use Rattle.mau_api.specs.Terms.{IsTerm}
 use Rattle.mau_api.specs.Meanings.{Meanings}
 use Rattle.mau_api.specs.Answers.{AreSettled}
 use Rattle.mau_leaves.specs.Steps.{Before}
-use Rattle.mau_leaves.specs.Uses.{Use, uses_of_all}
+use Rattle.mau_leaves.specs.Uses.{Use, Choice, uses_of_all}
 use Rattle.mau_leaves.specs.Searches.{left_in, use_in, variables_in, IsUsable, IsSearch}
 use Rattle.mau_leaves.specs.declared.uses.RuleUses.{RuleUses}
 use Rattle.mau_leaves.specs.declared.place.PlaceUses.{PlaceUses}
@@ -31,11 +30,11 @@ module _ {K : Type 0} (asked : K → Asked) (given : K → Option Listed.Solutio
   left_of_one p hooks (Some rule) nodes u = left_in p hooks rule u.whole u.bound.items nodes (asked u.listing) (given u.listing) u.standing
 
   -- what is left where the rules from one on are left, or the uses of a rule and then the rules behind it
-  abbrev pub left_behind : Typed.Program → List Operator → (Rule → Bool) → Tree → List Node → ℕ → Option (RuleUses K) → Engine → Answers Use → Type 0
-  left_behind p hooks chosen t nodes n None = λ L q. q ≡ uses_of_all (program_over p hooks) L chosen t (map rule_of (drop n p.rules))
-  left_behind p hooks chosen t nodes n (Some u) = λ L. Before (uses_of_all (program_over p hooks) L chosen t (map rule_of (drop (suc n) p.rules))) (left_of_one p hooks (slice_get p.rules n) nodes u L)
+  abbrev pub left_behind : Typed.Program → List Operator → Choice → Tree → List Node → ℕ → Option (RuleUses K) → Engine → Answers Use → Type 0
+  left_behind p hooks chosen t nodes n None = λ L q. q ≡ uses_of_all (program_over p hooks) L (chosen L) t (map rule_of (drop n p.rules))
+  left_behind p hooks chosen t nodes n (Some u) = λ L. Before (uses_of_all (program_over p hooks) L (chosen L) t (map rule_of (drop (suc n) p.rules))) (left_of_one p hooks (slice_get p.rules n) nodes u L)
 
-  abbrev pub left_at : Typed.Program → List Operator → (Rule → Bool) → List Node → PlaceUses K → Engine → Answers Use → Type 0
+  abbrev pub left_at : Typed.Program → List Operator → Choice → List Node → PlaceUses K → Engine → Answers Use → Type 0
   left_at p hooks chosen nodes s = left_behind p hooks chosen (tree_at nodes s.term.0) nodes s.number s.uses
 
   -- the use that was found last

@@ -44,7 +44,7 @@ use Rattle.mau_stratrun.specs.Settings.{Fixed}
 use Rattle.mau_stratrun.specs.Yields.{Yield, result_of, body_on, YieldsAll, IsCause}
 use Rattle.mau_stratrun.specs.Worlds.{World}
 use Rattle.mau_stratforms.specs.Meanings.{meaning_of, definition_of}
-use Rattle.mau_leaves.specs.Uses.{is_chosen}
+use Rattle.mau_leaves.specs.Chosen.{choice_of}
 use Rattle.mau_leaves.specs.Top.{left_of_top, IsTop}
 use Rattle.mau_leaves.specs.Everywhere.{left_of_places, IsEverywhere, IsEverywhereOf}
 use Rattle.mau_leaves.specs.declared.everywhere.PlacesResults.{PlacesResults}
@@ -235,7 +235,7 @@ module _ {K : Type 0} (asked : K → Asked) (given : K → Option Listed.Solutio
     pub yielded : ys ≡ map result_of results
     pub form : IsTopOf (chosen_by leaves label) d.form
     pub top : IsTop asked given is_for c p m nodes table s
-    pub rest : HasGiven (program_over p m.hooks) (engine_of (program_over p m.hooks)) d t results (left_of_top asked given p m.hooks (is_chosen (chosen_by leaves label)) nodes s)
+    pub rest : HasGiven (program_over p m.hooks) (engine_of (program_over p m.hooks)) d t results (left_of_top asked given p m.hooks (choice_of (program_over p m.hooks) (chosen_by leaves label) [] []) nodes s)
 
   -- results of rules at all places, of all or of those with a label
   pub record IsEverywhereCursor (label : Option LeafId) (s : PlacesResults K) (d : Todo) (t : Tree) (ys : List Yield) : Type 0 where
@@ -243,7 +243,7 @@ module _ {K : Type 0} (asked : K → Asked) (given : K → Option Listed.Solutio
     pub yielded : ys ≡ map result_of results
     pub form : IsEverywhereOf (chosen_by leaves label) d.form
     pub search : IsEverywhere asked given is_for c p m nodes table s
-    pub rest : HasGiven (program_over p m.hooks) (engine_of (program_over p m.hooks)) d t results (left_of_places asked given p m.hooks (is_chosen (chosen_by leaves label)) nodes s)
+    pub rest : HasGiven (program_over p m.hooks) (engine_of (program_over p m.hooks)) d t results (left_of_places asked given p m.hooks (choice_of (program_over p m.hooks) (chosen_by leaves label) [] []) nodes s)
 
   -- the result of a test
   pub record IsTestCursor (s : TestCursor K) (d : Todo) (t : Tree) (ys : List Yield) : Type 0 where

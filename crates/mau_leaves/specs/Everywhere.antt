@@ -10,7 +10,7 @@ use Rattle.mau_sorts.specs.Table.{Table}
 use Rattle.mau_listing.specs.Asked.{Asked}
 use Rattle.mau_listing.specs.declared.solution.Solution as Listed
 use Rattle.mau_program.specs.declared.program.Program as Typed
-use Rattle.mau_evaluation.specs.Program.{Rule, Program}
+use Rattle.mau_evaluation.specs.Program.{Program}
 use Rattle.mau_evaluation.specs.Engine.{Engine, engine_of}
 use Rattle.mau_evaluation.specs.Rules.{Place}
 use Rattle.mau_evaluation.specs.Answers.{Answers, answers_of, for_each}
@@ -22,16 +22,16 @@ use Rattle.mau_api.specs.declared.results.EvalEnd.{EvalEnd}
 use Rattle.mau_rules.specs.declared.walk.Open.{Open}
 use Rattle.mau_rules.specs.Walk.{is_frozen_at, opened, around_all, places_behind, places_left, IsWalk}
 use Rattle.mau_leaves.specs.Steps.{Passes, Before, Throughout}
-use Rattle.mau_leaves.specs.Uses.{uses_of_all, value_at}
+use Rattle.mau_leaves.specs.Uses.{Choice, uses_of_all, value_at}
 use Rattle.mau_leaves.specs.Top.{place_in, left_around, IsTop, IsNextResult}
 use Rattle.mau_leaves.specs.declared.top.TopResults.{TopResults}
 use Rattle.mau_leaves.specs.declared.everywhere.PlacesResults.{PlacesResults}
 
 -- the results of rules at a place, and at some places, one place after another
-abbrev pub results_at : Program → Engine → (Rule → Bool) → Place → Answers Tree
-results_at P L chosen s = for_each (value_at P L s) (uses_of_all P L chosen s.term P.rules)
+abbrev pub results_at : Program → Engine → Choice → Place → Answers Tree
+results_at P L chosen s = for_each (value_at P L s) (uses_of_all P L (chosen L) s.term P.rules)
 
-abbrev pub results_at_all : Program → Engine → (Rule → Bool) → List Place → Answers Tree
+abbrev pub results_at_all : Program → Engine → Choice → List Place → Answers Tree
 results_at_all P L chosen ss = for_each (results_at P L chosen) (answers_of ss)
 
 -- around the place that was reached through some open terms, and the places behind it
@@ -47,7 +47,7 @@ unless_gone false now = now
 unless_gone true now = λ q. Unit {0}
 
 -- what is left at a place, and then at some others
-abbrev pub left_then : Program → (Rule → Bool) → List Place → Bool → (Engine → Answers Tree → Type 0) → Engine → Answers Tree → Type 0
+abbrev pub left_then : Program → Choice → List Place → Bool → (Engine → Answers Tree → Type 0) → Engine → Answers Tree → Type 0
 left_then P chosen ss gone now = λ L. unless_gone gone (Before (results_at_all P L chosen ss) (now L))
 
 -- the search at a place, before all
@@ -55,7 +55,7 @@ abbrev pub start_at : {K : Type 0} → TermId → TopResults K
 start_at term = record { place = record { term = term; number = 0; uses = None }; due = false }
 
 module _ {K : Type 0} (asked : K → Asked) (given : K → Option Listed.Solution) where
-  abbrev pub left_of_places : Typed.Program → List Operator → (Rule → Bool) → List Node → PlacesResults K → Engine → Answers Tree → Type 0
+  abbrev pub left_of_places : Typed.Program → List Operator → Choice → List Node → PlacesResults K → Engine → Answers Tree → Type 0
   left_of_places p hooks chosen nodes s =
       left_then (program_over p hooks) chosen (places_after p.sig nodes s.way.items s.at.place.term.0) s.gone (left_around asked given p hooks chosen (around_way nodes s.way.items) nodes s.at)
 

@@ -8,22 +8,22 @@ pub mod Uses
 pub mod Answers
 -- searches for the uses of one rule by the numbers of a store
 pub mod Searches
+-- terms that are evaluated in turn
+pub mod InTurn
+-- which rules are used, and under which values of their variables
+pub mod Chosen
 -- searches for the uses of all rules at a term
 pub mod AtPlace
 -- the uses of rules are what the results of leaves are made of
 pub mod Laws
 -- the term that a use of a rule leads to
 pub mod Values
--- terms that are evaluated in turn
-pub mod InTurn
 -- searches for the results of rules at the root of a term
 pub mod Top
 -- searches for the results of rules at all places of a term
 pub mod Everywhere
 -- what was given of the results of a leaf, and what is left
 pub mod Follows
--- the variables that a fragment of a condition matches
-pub mod Matched
 -- searches for the solutions of argument patterns
 pub mod Arguments
 -- searches for the bodies of a call

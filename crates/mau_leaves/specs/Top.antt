@@ -10,7 +10,7 @@ use Rattle.mau_sorts.specs.Table.{Table}
 use Rattle.mau_listing.specs.Asked.{Asked}
 use Rattle.mau_listing.specs.declared.solution.Solution as Listed
 use Rattle.mau_program.specs.declared.program.Program as Typed
-use Rattle.mau_evaluation.specs.Program.{Rule, Program}
+use Rattle.mau_evaluation.specs.Program.{Program}
 use Rattle.mau_evaluation.specs.Engine.{Engine, engine_of}
 use Rattle.mau_evaluation.specs.Rules.{Place}
 use Rattle.mau_evaluation.specs.Answers.{Answers, no_more, and_those, for_each}
@@ -18,7 +18,7 @@ use Rattle.mau_api.specs.Programs.{program_over}
 use Rattle.mau_api.specs.Meanings.{Meanings}
 use Rattle.mau_api.specs.declared.results.EvalEnd.{EvalEnd}
 use Rattle.mau_leaves.specs.Steps.{Gives, IsOver, Passes, Throughout}
-use Rattle.mau_leaves.specs.Uses.{Use, value_at}
+use Rattle.mau_leaves.specs.Uses.{Use, Choice, value_at}
 use Rattle.mau_leaves.specs.Answers.{IsDueBy}
 use Rattle.mau_leaves.specs.AtPlace.{left_at, use_at, IsAtPlace}
 use Rattle.mau_leaves.specs.declared.top.TopResults.{TopResults}
@@ -38,11 +38,11 @@ values_left V now (Some u) true q = (r : Answers Use) × now r × (q ≡ and_tho
 
 module _ {K : Type 0} (asked : K → Asked) (given : K → Option Listed.Solution) where
   -- what is left of the results at a place, by what stands around it
-  abbrev pub left_around : Typed.Program → List Operator → (Rule → Bool) → (Tree → Tree) → List Node → TopResults K → Engine → Answers Tree → Type 0
+  abbrev pub left_around : Typed.Program → List Operator → Choice → (Tree → Tree) → List Node → TopResults K → Engine → Answers Tree → Type 0
   left_around p hooks chosen around nodes s = λ L.
       values_left (value_at (program_over p hooks) L (place_in around (tree_at nodes s.place.term.0))) (left_at asked given p hooks chosen nodes s.place L) (use_at asked given p nodes s.place) s.due
 
-  abbrev pub left_of_top : Typed.Program → List Operator → (Rule → Bool) → List Node → TopResults K → Engine → Answers Tree → Type 0
+  abbrev pub left_of_top : Typed.Program → List Operator → Choice → List Node → TopResults K → Engine → Answers Tree → Type 0
   left_of_top p hooks chosen nodes s = left_around p hooks chosen (λ v. v) nodes s
 
   pub record IsTop (is_for : K → SignatureOf → Type 0) (c : Bool) (p : Typed.Program) (m : Meanings) (nodes : List Node) (table : Table) (s : TopResults K) : Type 0 where

@@ -19,6 +19,10 @@ pub record Use : Type 0 where
   pub solution : Solution
   pub values : Binding
 
+-- the bindings under which a rule is used, and so which rules are
+abbrev pub Choice : Type 0
+Choice = Engine → Rule → Answers Binding
+
 -- where a search for the uses of a rule stands: behind a solution of the left side, or before all; or at one, behind a solution of the condition, or before all
 pub data Stand : Type 0 where
   behind : Option Solution → Stand
@@ -85,12 +89,16 @@ module _ (P : Program) (L : Engine) where
 
   -- ---- several rules
 
-  -- the uses of a rule, where it is chosen and may be used with nothing assigned
-  abbrev pub uses_if_chosen : (Rule → Bool) → Tree → Rule → Answers Use
-  uses_if_chosen chosen t q = when (chosen q) (when (not (has_reach q.cond)) (when (may_use q []) (uses_by false q [] t)))
+  -- the uses of a rule under values of its variables, where it may be used with these
+  abbrev pub uses_if_used : Tree → Rule → Binding → Answers Use
+  uses_if_used t q σ = when (may_use q σ) (uses_by false q σ t)
+
+  -- those under each of the bindings with which it is chosen
+  abbrev pub uses_if_chosen : (Rule → Answers Binding) → Tree → Rule → Answers Use
+  uses_if_chosen chosen t q = when (not (has_reach q.cond)) (for_each (uses_if_used t q) (chosen q))
 
   -- those of each of some rules, one after another
-  abbrev pub uses_of_all : (Rule → Bool) → Tree → List Rule → Answers Use
+  abbrev pub uses_of_all : (Rule → Answers Binding) → Tree → List Rule → Answers Use
   uses_of_all chosen t qs = for_each (uses_if_chosen chosen t) (answers_of qs)
 
   -- the new whole term of a use at a place, evaluated

@@ -37,7 +37,7 @@ pub struct CallBodies<L> {
 }
 
 /// Whether a condition has a rewriting fragment.
-fn has_reach(cond: &[Fragment]) -> bool
+pub(crate) fn has_reach(cond: &[Fragment]) -> bool
     ensures { result ≡ Defined.has_reach (map fragment_of cond.now) }
 {
     match cond {

@@ -178,7 +178,16 @@ fn next_of_top<E: Evaluator, L: Lister + Drop>(
     ensures meanings { E.meanings evaluator.new ≡ E.meanings evaluator.old }
 {
     let label = label_by(leaves, leaf);
-    let found = next_top(program, label, store, evaluator, results, limit);
+    let found = next_top(
+        program,
+        label,
+        &[],
+        &[],
+        store,
+        evaluator,
+        results,
+        limit,
+    );
     yielded(found)
 }
 
@@ -209,7 +218,16 @@ fn next_of_everywhere<E: Evaluator, L: Lister + Drop>(
     ensures meanings { E.meanings evaluator.new ≡ E.meanings evaluator.old }
 {
     let label = label_by(leaves, leaf);
-    let found = next_everywhere(program, label, store, evaluator, results, limit);
+    let found = next_everywhere(
+        program,
+        label,
+        &[],
+        &[],
+        store,
+        evaluator,
+        results,
+        limit,
+    );
     yielded(found)
 }
 

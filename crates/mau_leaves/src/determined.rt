@@ -1,93 +1,109 @@
-//! Whether a rule that is not executable may be used where nothing is assigned to its variables.
-ghost use Rattle.std.specs.Prelude.{◌≡◌, List, [], All, false, IfOk};
-ghost use Rattle.mau_terms.specs.Bare.{IsBare};
-ghost use Rattle.mau_terms.specs.Subst.{variables, has_variable};
+//! Whether a rule may be used where some of its variables have values, and whether its condition may be asked there.
+ghost use Rattle.std.specs.Prelude.{◌≡◌, List, map, true, OnOk, IfOk};
+ghost use Rattle.mau_terms.specs.Subst.{has_variable, add_variables as with_variables};
 ghost use Rattle.mau_terms.specs.View.{tree_of, variable_of};
-ghost use Rattle.mau_signature.specs.Signature.{terms_over};
-ghost use Rattle.mau_program.specs.LawfulStatements.{IsLawfulFragment, HasLawfulSides};
-ghost use Rattle.mau_evaluation.specs.Evaluation.{binds};
-ghost use Rattle.mau_evaluation.specs.Satisfies as Defined;
+ghost use Rattle.mau_store.specs.Node.{Node};
+ghost use Rattle.mau_program.specs.Binding as Defined;
 ghost use Rattle.mau_evaluation.specs.OrderedLists.{may_use};
 ghost use Rattle.mau_api.specs.Programs.{rule_of};
-ghost use Rattle.mau_leaves.specs.Matched.{matched_in};
+ghost use Rattle.mau_api.specs.Answers.{binding_in};
+ghost use Rattle.mau_leaves.specs.Searches.{variables_in};
+ghost use Rattle.mau_leaves.specs.Chosen.{pattern_behind, matched_behind, has_listed};
 
-use mau_api::places_of;
 use mau_program::{Fragment, Rule};
-use mau_signature::Signature;
-use mau_terms::{Bare, NoMemory, VarId};
-use mau_trial::variables_of;
+use mau_statement::{add_variables, are_bound};
+use mau_terms::{NoMemory, TermId, VarId, Vars};
 use std::alloc::Global;
 
-/// Whether a variable is one of a pattern's.
-fn is_in(alloc: Global, sig: &Signature, pattern: &Bare, variable: VarId) -> Result<bool, NoMemory>
-    requires { IsBare (terms_over sig.now) (tree_of pattern.now) }
-    ensures { IfOk result (λ b. b ≡ false → has_variable (variables (tree_of pattern.now)) (variable_of variable) ≡ false) }
+/// Whether a variable is among some.
+fn is_among(variables: &[VarId], variable: VarId) -> bool
+    ensures { result ≡ has_variable (map variable_of variables.now) (variable_of variable) }
 {
-    let places = places_of(alloc, sig, pattern)?;
-    let variables = variables_of(alloc, &places)?;
-    for own in &variables {
-        if *own == variable {
-            return Ok(true);
-        }
+    match variables {
+        [] => false,
+        [first, rest @ ..] => *first == variable || is_among(rest, variable),
     }
-    Ok(false)
 }
 
-/// Whether a fragment matches a variable.
-fn is_matched(
-    alloc: Global,
-    sig: &Signature,
-    fragment: &Fragment,
-    variable: VarId,
-) -> Result<bool, NoMemory>
-    requires { IsLawfulFragment sig.now fragment.now }
-    ensures { IfOk result (λ b. b ≡ false → has_variable (matched_in fragment.now) (variable_of variable) ≡ false) }
+/// The variables that have values.
+fn names_of(alloc: Global, bound: &[(VarId, TermId)]) -> Result<Vec<VarId>, NoMemory>
+    ensures { IfOk result (λ names. map variable_of names.items ≡ variables_in bound.now) }
+{
+    let mut names = Vec::new(alloc);
+    for pair in bound {
+        names.push(pair.0)?;
+    }
+    Ok(names)
+}
+
+/// Adds the variables of the pattern of a matching fragment that are not there.
+fn add_pattern(variables: &mut Vec<VarId>, fragment: &Fragment) -> Result<(), NoMemory>
+    ensures { OnOk result (map variable_of variables.new.items ≡ pattern_behind (map variable_of variables.old.items) fragment.now) }
 {
     match fragment {
-        Fragment::Match(pattern, _) => is_in(alloc, sig, pattern, variable),
-        Fragment::Equal(_, _) => Ok(false),
-        Fragment::Sort(_, _) => Ok(false),
-        Fragment::Reach(_, _) => Ok(false),
+        Fragment::Match(pattern, _) => add_variables(variables, pattern),
+        Fragment::Equal(_, _) => Ok(()),
+        Fragment::Sort(_, _) => Ok(()),
+        Fragment::Reach(_, _) => Ok(()),
     }
 }
 
-/// Whether a variable is determined by the left side of a rule, or by a pattern of its condition.
-fn is_determined(
-    alloc: Global,
-    sig: &Signature,
-    rule: &Rule,
-    variable: VarId,
-) -> Result<bool, NoMemory>
-    requires { HasLawfulSides sig.now rule.now.left rule.now.right rule.now.cond }
-    ensures { IfOk result (λ b. b ≡ false → binds (Defined.determined (rule_of rule.now) []) (variable_of variable) ≡ false) }
+/// Adds the variables of all patterns of a condition that are not there.
+fn add_patterns(variables: &mut Vec<VarId>, cond: &[Fragment]) -> Result<(), NoMemory>
+    ensures { OnOk result (map variable_of variables.new.items ≡ matched_behind (map variable_of variables.old.items) cond.now) }
 {
-    if is_in(alloc, sig, &rule.left, variable)? {
-        return Ok(true);
-    }
-    for fragment in rule.cond.items() {
-        if is_matched(alloc, sig, fragment, variable)? {
-            return Ok(true);
+    match cond {
+        [] => Ok(()),
+        [first, rest @ ..] => {
+            add_pattern(variables, first)?;
+            add_patterns(variables, rest)
         }
     }
-    Ok(false)
 }
 
-/// Whether a rule may be used where nothing is assigned: it is executable, or all its variables are determined.
-pub(crate) fn may_be_used(alloc: Global, sig: &Signature, rule: &Rule) -> Result<bool, NoMemory>
-    requires { HasLawfulSides sig.now rule.now.left rule.now.right rule.now.cond }
-    ensures { IfOk result (λ b. b ≡ false → may_use (rule_of rule.now) [] ≡ false) }
+/// Whether all variables that a rule lists are among some.
+fn are_among(variables: &[VarId], vars: &Vars) -> Result<bool, NoMemory>
+    ensures { IfOk result (λ b. b ≡ has_listed (map variable_of variables.now) vars.now 0) }
+{
+    for index in 0..u32::MAX {
+        let variable = match vars.variable(index) {
+            Some(variable) => variable,
+            None => return Ok(true),
+        };
+        if !is_among(variables, variable) {
+            return Ok(false);
+        }
+    }
+    Err(NoMemory)
+}
+
+/// Whether a rule may be used under values of some variables: it is executable, or all its variables are determined.
+pub(crate) fn may_be_used(
+    alloc: Global,
+    rule: &Rule,
+    bound: &[(VarId, TermId)],
+) -> Result<bool, NoMemory>
+    ensures { (nodes : List Node) → IfOk result (λ b. b ≡ may_use (rule_of rule.now) (binding_in nodes bound.now)) }
 {
     if rule.exec {
         return Ok(true);
     }
-    for index in 0..u32::MAX {
-        let variable = match rule.vars.variable(index) {
-            Some(variable) => variable,
-            None => return Ok(true),
-        };
-        if !is_determined(alloc, sig, rule, variable)? {
-            return Ok(false);
-        }
-    }
-    Ok(true)
+    let mut variables = names_of(alloc, bound)?;
+    add_variables(&mut variables, &rule.left)?;
+    add_patterns(&mut variables, rule.cond.items())?;
+    are_among(&variables, &rule.vars)
+}
+
+/// Whether the condition of a rule names no other variables than those that have values before, those of the left side, and those that its fragments
+/// bind, in order.
+pub(crate) fn is_bound_under(
+    alloc: Global,
+    rule: &Rule,
+    bound: &[(VarId, TermId)],
+) -> Result<bool, NoMemory>
+    ensures { IfOk result (λ b. b ≡ Defined.are_bound (with_variables (variables_in bound.now) (tree_of rule.now.left)) rule.now.cond) }
+{
+    let mut variables = names_of(alloc, bound)?;
+    add_variables(&mut variables, &rule.left)?;
+    are_bound(&mut variables, rule.cond.items())
 }

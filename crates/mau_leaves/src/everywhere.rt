@@ -1,15 +1,14 @@
 //! The results of rules at all places of a term, outside frozen arguments, one place after another in pre-order.
-ghost use Rattle.std.specs.Prelude.{ℕ, ◌≡◌, List, [], map, Bool, true, false, Option, IfOk, OnErr, IfSome, IfNone};
+ghost use Rattle.std.specs.Prelude.{ℕ, ◌≡◌, List, [], map, All, Bool, true, false, Option, IfOk, OnErr, IfSome, IfNone};
 ghost use Rattle.std.specs.Option.{option_map};
 ghost use Rattle.mau_terms.specs.Tree.{Tree};
 ghost use Rattle.mau_terms.specs.Bare.{IsLawful};
 ghost use Rattle.mau_formula.specs.Operator.{Operator};
 ghost use Rattle.mau_signature.specs.Signature.{terms_over};
 ghost use Rattle.mau_store.specs.Node.{Node, Extends};
-ghost use Rattle.mau_store.specs.Trees.{tree_at};
+ghost use Rattle.mau_store.specs.Trees.{tree_at, trees_at};
 ghost use Rattle.mau_sorts.specs.Table.{Table, KeepsEntries};
 ghost use Rattle.mau_program.specs.declared.program.Program as Typed;
-ghost use Rattle.mau_evaluation.specs.Program as Defined;
 ghost use Rattle.mau_evaluation.specs.Strategy.{StratDef};
 ghost use Rattle.mau_evaluation.specs.Configs.{Todo};
 ghost use Rattle.mau_evaluation.specs.OrderedLists.{IsLeaf};
@@ -20,13 +19,17 @@ ghost use Rattle.mau_api.specs.Terms.{IsTerm};
 ghost use Rattle.mau_api.specs.Answers.{AreSettled};
 ghost use Rattle.mau_rules.specs.Runnable.{IsRunnable, GoesBy};
 ghost use Rattle.mau_rules.specs.Walk.{IsWalk, IsPath};
-ghost use Rattle.mau_leaves.specs.Uses.{is_chosen};
+ghost use Rattle.mau_leaves.specs.Chosen.{choice_of};
+ghost use Rattle.mau_leaves.specs.InTurn.{IsEvaluated};
+ghost use Rattle.mau_stratforms.specs.Meanings.{assign_of};
+ghost use Rattle.mau_store.specs.View.{numbers};
 ghost use Rattle.mau_leaves.specs.Follows.{HasGiven, IsNextGiven};
 ghost use Rattle.mau_leaves.specs.Top.{IsNextResult};
 ghost use Rattle.mau_leaves.specs.Everywhere.{places_after, left_of_places, IsEverywhere, IsNextPlace, IsPlaceTurn, IsEverywhereOf};
 
 use crate::top::{TopResults, next_result, start_top};
 use mau_api::{EvalEnd, Evaluator, Lister, Program};
+use mau_program::Assign;
 use mau_rules::{Open, next_place};
 use mau_signature::Signature;
 use mau_store::Store;
@@ -49,7 +52,7 @@ pub fn start_everywhere<L: Lister + Drop>(alloc: Global, term: TermId) -> Places
     ensures begins { (p : Typed.Program) (hooks : List Operator) (nodes : List Node) (chosen : Option (List ℕ)) (d : Todo) →
         IsEverywhereOf chosen d.form →
         HasGiven (program_over p hooks) (engine_of (program_over p hooks)) d (tree_at nodes term.0) []
-        (left_of_places L.asked L.given p hooks (is_chosen chosen) nodes result) }
+        (left_of_places L.asked L.given p hooks (choice_of (program_over p hooks) chosen [] []) nodes result) }
 {
     PlacesResults {
         way: Vec::new(alloc),
@@ -94,6 +97,8 @@ fn go_on<L: Lister + Drop>(
 fn turn_on<E: Evaluator, L: Lister + Drop>(
     program: &Program,
     label: Option<&str>,
+    assigns: &[Assign],
+    values: &[TermId],
     store: &mut Store,
     evaluator: &mut E,
     search: &mut PlacesResults<L>,
@@ -104,14 +109,17 @@ fn turn_on<E: Evaluator, L: Lister + Drop>(
     requires goes_by { GoesBy program.now (E.meanings evaluator.old) }
     requires fits { E.fits evaluator.old store.old }
     requires limit { limit ≡ (E.meanings evaluator.old).limit }
+    requires values { All (IsEvaluated program.now.sig store.old (E.table evaluator.old)) values.now }
     requires everywhere { IsEverywhere L.asked L.given L.is_for L.with_context program.now (E.meanings evaluator.old)
         store.old (E.table evaluator.old) search.old }
     requires there { search.old.gone ≡ false }
-    ensures turn { IsPlaceTurn (program_over program.now (E.meanings evaluator.old).hooks) limit
+    ensures turn { (vs : List Tree) → vs ≡ trees_at store.old (numbers values.now) → IsPlaceTurn (program_over program.now (E.meanings evaluator.old).hooks) limit
         (left_of_places L.asked L.given program.now (E.meanings evaluator.old).hooks
-        (is_chosen (option_map (λ x. x.now) label.entry)) store.old search.old)
+        (choice_of (program_over program.now (E.meanings evaluator.old).hooks) (option_map (λ x. x.now) label.entry)
+        (map assign_of assigns.now) vs) store.old search.old)
         (left_of_places L.asked L.given program.now (E.meanings evaluator.old).hooks
-        (is_chosen (option_map (λ x. x.now) label.entry)) store.new search.new)
+        (choice_of (program_over program.now (E.meanings evaluator.old).hooks) (option_map (λ x. x.now) label.entry)
+        (map assign_of assigns.now) vs) store.new search.new)
         store.new result }
     ensures everywhere { IsEverywhere L.asked L.given L.is_for L.with_context program.now (E.meanings evaluator.old)
         store.new (E.table evaluator.new) search.new }
@@ -127,6 +135,8 @@ fn turn_on<E: Evaluator, L: Lister + Drop>(
     match next_result(
         program,
         label,
+        assigns,
+        values,
         store,
         evaluator,
         &search.way,
@@ -149,6 +159,8 @@ fn turn_on<E: Evaluator, L: Lister + Drop>(
 pub fn next_everywhere<E: Evaluator, L: Lister + Drop>(
     program: &Program,
     label: Option<&str>,
+    assigns: &[Assign],
+    values: &[TermId],
     store: &mut Store,
     evaluator: &mut E,
     search: &mut PlacesResults<L>,
@@ -159,13 +171,16 @@ pub fn next_everywhere<E: Evaluator, L: Lister + Drop>(
     requires goes_by { GoesBy program.now (E.meanings evaluator.old) }
     requires fits { E.fits evaluator.old store.old }
     requires limit { limit ≡ (E.meanings evaluator.old).limit }
+    requires values { All (IsEvaluated program.now.sig store.old (E.table evaluator.old)) values.now }
     requires everywhere { IsEverywhere L.asked L.given L.is_for L.with_context program.now (E.meanings evaluator.old)
         store.old (E.table evaluator.old) search.old }
-    ensures next { IsNextResult (program_over program.now (E.meanings evaluator.old).hooks) limit
+    ensures next { (vs : List Tree) → vs ≡ trees_at store.old (numbers values.now) → IsNextResult (program_over program.now (E.meanings evaluator.old).hooks) limit
         (left_of_places L.asked L.given program.now (E.meanings evaluator.old).hooks
-        (is_chosen (option_map (λ x. x.now) label.entry)) store.old search.old)
+        (choice_of (program_over program.now (E.meanings evaluator.old).hooks) (option_map (λ x. x.now) label.entry)
+        (map assign_of assigns.now) vs) store.old search.old)
         (left_of_places L.asked L.given program.now (E.meanings evaluator.old).hooks
-        (is_chosen (option_map (λ x. x.now) label.entry)) store.new search.new)
+        (choice_of (program_over program.now (E.meanings evaluator.old).hooks) (option_map (λ x. x.now) label.entry)
+        (map assign_of assigns.now) vs) store.new search.new)
         store.new result }
     ensures everywhere { IsEverywhere L.asked L.given L.is_for L.with_context program.now (E.meanings evaluator.old)
         store.new (E.table evaluator.new) search.new }
@@ -181,7 +196,9 @@ pub fn next_everywhere<E: Evaluator, L: Lister + Drop>(
         return Err(EvalEnd::NoMemory);
     }
     for _ in 0..u64::MAX {
-        match turn_on(program, label, store, evaluator, search, limit) {
+        match turn_on(
+            program, label, assigns, values, store, evaluator, search, limit,
+        ) {
             Ok(Some(found)) => return Ok(found),
             Ok(None) => (),
             Err(end) => return Err(end),

@@ -2,6 +2,7 @@
 #![tactic(auto)]
 
 mod arguments;
+mod assigned;
 mod bodies;
 mod cursor;
 mod determined;

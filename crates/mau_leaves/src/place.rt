@@ -1,20 +1,25 @@
-//! The uses of all rules at a term, or of those with a label, rule after rule in module order.
-ghost use Rattle.std.specs.Prelude.{◌≡◌, ℕ, Bool, true, None, IsSome};
+//! The uses of all rules at a term, or of those with a label under what assignments give to their variables, rule after rule in module order.
+ghost use Rattle.std.specs.Prelude.{◌≡◌, ℕ, List, map, All, true, None, IsSome};
 ghost use Rattle.std.specs.Option.{option_map};
+ghost use Rattle.mau_terms.specs.Tree.{Tree};
 ghost use Rattle.mau_store.specs.Node.{Extends};
+ghost use Rattle.mau_store.specs.Trees.{trees_at};
+ghost use Rattle.mau_store.specs.View.{numbers};
 ghost use Rattle.mau_sorts.specs.Table.{KeepsEntries};
-ghost use Rattle.mau_evaluation.specs.Program as Defined;
-ghost use Rattle.mau_api.specs.Programs.{rule_of, program_over};
+ghost use Rattle.mau_api.specs.Programs.{program_over};
 ghost use Rattle.mau_rules.specs.Runnable.{IsRunnable, GoesBy};
-ghost use Rattle.mau_leaves.specs.Uses.{is_chosen};
+ghost use Rattle.mau_stratforms.specs.Meanings.{assign_of};
+ghost use Rattle.mau_leaves.specs.InTurn.{IsEvaluated};
+ghost use Rattle.mau_leaves.specs.Uses.{Choice};
 ghost use Rattle.mau_leaves.specs.Searches.{IsTurn, IsNextOne};
+ghost use Rattle.mau_leaves.specs.Chosen.{choice_of, choice_in};
 ghost use Rattle.mau_leaves.specs.AtPlace.{left_at, use_at, IsAtPlace};
 
-use crate::determined::may_be_used;
+use crate::assigned::bound_for;
 use crate::turn::Turn;
 use crate::uses::{RuleUses, next_use, start_uses};
 use mau_api::{EvalEnd, Evaluator, Lister, Program};
-use mau_program::Rule;
+use mau_program::Assign;
 use mau_store::Store;
 use mau_terms::TermId;
 
@@ -24,19 +29,6 @@ pub struct PlaceUses<L> {
     pub term: TermId,
     pub number: usize,
     pub uses: Option<RuleUses<L>>,
-}
-
-/// Whether a rule has a label, where one is asked for.
-fn is_asked(label: Option<&str>, rule: &Rule) -> bool
-    ensures { result ≡ is_chosen (option_map (λ x. x.now) label.entry) (rule_of rule.now) }
-{
-    match label {
-        None => true,
-        Some(asked) => match &rule.label {
-            Some(own) => own.as_str() == asked,
-            None => false,
-        },
-    }
 }
 
 /// The search for the uses of rules at a term, which stands before all.
@@ -68,7 +60,7 @@ fn go_through<E: Evaluator, L: Lister + Drop>(
     requires place { IsAtPlace L.asked L.given L.is_for L.with_context program.now (E.meanings evaluator.old)
         store.old (E.table evaluator.old) place.old }
     requires begun { IsSome place.old.uses }
-    ensures turn { (chosen : Defined.Rule → Bool) → IsTurn (program_over program.now (E.meanings evaluator.old).hooks) limit
+    ensures turn { (chosen : Choice) → IsTurn (program_over program.now (E.meanings evaluator.old).hooks) limit
         (left_at L.asked L.given program.now (E.meanings evaluator.old).hooks chosen store.old place.old)
         (left_at L.asked L.given program.now (E.meanings evaluator.old).hooks chosen store.new place.new)
         (use_at L.asked L.given program.now store.new place.new) result }
@@ -98,11 +90,12 @@ fn go_through<E: Evaluator, L: Lister + Drop>(
     }
 }
 
-/// Begins the search for the uses of the next rule, where it is one of those that are asked for and may be used; else it is passed over.
-/// One that is not executable, and whose variables are all determined, is not used yet: the search gives up.
+/// Begins the search for the uses of the next rule, where it is one that is used; else it is passed over.
 fn begin_rule<E: Evaluator, L: Lister + Drop>(
     program: &Program,
     label: Option<&str>,
+    assigns: &[Assign],
+    values: &[TermId],
     store: &Store,
     evaluator: &E,
     place: &mut PlaceUses<L>,
@@ -110,14 +103,17 @@ fn begin_rule<E: Evaluator, L: Lister + Drop>(
     requires runnable { IsRunnable program.now }
     requires goes_by { GoesBy program.now (E.meanings evaluator.now) }
     requires fits { E.fits evaluator.now store.now }
+    requires values { All (IsEvaluated program.now.sig store.now (E.table evaluator.now)) values.now }
     requires place { IsAtPlace L.asked L.given L.is_for L.with_context program.now (E.meanings evaluator.now)
         store.now (E.table evaluator.now) place.old }
     requires idle { place.old.uses ≡ None }
     ensures turn { (b : ℕ) → IsTurn (program_over program.now (E.meanings evaluator.now).hooks) b
         (left_at L.asked L.given program.now (E.meanings evaluator.now).hooks
-        (is_chosen (option_map (λ x. x.now) label.entry)) store.now place.old)
+        (choice_in program.now (E.meanings evaluator.now).hooks (option_map (λ x. x.now) label.entry) assigns.now store.now values.now)
+        store.now place.old)
         (left_at L.asked L.given program.now (E.meanings evaluator.now).hooks
-        (is_chosen (option_map (λ x. x.now) label.entry)) store.now place.new)
+        (choice_in program.now (E.meanings evaluator.now).hooks (option_map (λ x. x.now) label.entry) assigns.now store.now values.now)
+        store.now place.new)
         (use_at L.asked L.given program.now store.now place.new) result }
     ensures place { IsAtPlace L.asked L.given L.is_for L.with_context program.now (E.meanings evaluator.now)
         store.now (E.table evaluator.now) place.new }
@@ -129,22 +125,19 @@ fn begin_rule<E: Evaluator, L: Lister + Drop>(
         return Ok(Turn::Over);
     }
     let rule = &rules[number];
-    if !is_asked(label, rule) {
-        place.number = number + 1;
-        return Ok(Turn::Passed);
-    }
-    if !rule.exec {
-        return match may_be_used(store.allocator(), &program.sig, rule) {
-            Ok(false) => {
-                place.number = number + 1;
-                Ok(Turn::Passed)
-            }
-            Ok(true) => Err(EvalEnd::NoMemory),
-            Err(_) => Err(EvalEnd::NoMemory),
-        };
-    }
-    let bound = Vec::new(store.allocator());
-    match start_uses(program, rule, store, evaluator, bound, false, place.term) {
+    let bound = match bound_for(
+        program, label, assigns, values, store, evaluator, rule,
+    ) {
+        Ok(Some(bound)) => bound,
+        Ok(None) => {
+            place.number = number + 1;
+            return Ok(Turn::Passed);
+        }
+        Err(_) => return Err(EvalEnd::NoMemory),
+    };
+    match start_uses(
+        program, rule, store, evaluator, bound, false, place.term,
+    ) {
         Ok(uses) => {
             place.uses = Some(uses);
             Ok(Turn::Passed)
@@ -157,6 +150,8 @@ fn begin_rule<E: Evaluator, L: Lister + Drop>(
 fn turn_at<E: Evaluator, L: Lister + Drop>(
     program: &Program,
     label: Option<&str>,
+    assigns: &[Assign],
+    values: &[TermId],
     store: &mut Store,
     evaluator: &mut E,
     place: &mut PlaceUses<L>,
@@ -167,13 +162,16 @@ fn turn_at<E: Evaluator, L: Lister + Drop>(
     requires goes_by { GoesBy program.now (E.meanings evaluator.old) }
     requires fits { E.fits evaluator.old store.old }
     requires limit { limit ≡ (E.meanings evaluator.old).limit }
+    requires values { All (IsEvaluated program.now.sig store.old (E.table evaluator.old)) values.now }
     requires place { IsAtPlace L.asked L.given L.is_for L.with_context program.now (E.meanings evaluator.old)
         store.old (E.table evaluator.old) place.old }
-    ensures turn { IsTurn (program_over program.now (E.meanings evaluator.old).hooks) limit
+    ensures turn { (vs : List Tree) → vs ≡ trees_at store.old (numbers values.now) → IsTurn (program_over program.now (E.meanings evaluator.old).hooks) limit
         (left_at L.asked L.given program.now (E.meanings evaluator.old).hooks
-        (is_chosen (option_map (λ x. x.now) label.entry)) store.old place.old)
+        (choice_of (program_over program.now (E.meanings evaluator.old).hooks) (option_map (λ x. x.now) label.entry)
+        (map assign_of assigns.now) vs) store.old place.old)
         (left_at L.asked L.given program.now (E.meanings evaluator.old).hooks
-        (is_chosen (option_map (λ x. x.now) label.entry)) store.new place.new)
+        (choice_of (program_over program.now (E.meanings evaluator.old).hooks) (option_map (λ x. x.now) label.entry)
+        (map assign_of assigns.now) vs) store.new place.new)
         (use_at L.asked L.given program.now store.new place.new) result }
     ensures place { IsAtPlace L.asked L.given L.is_for L.with_context program.now (E.meanings evaluator.old)
         store.new (E.table evaluator.new) place.new }
@@ -185,7 +183,9 @@ fn turn_at<E: Evaluator, L: Lister + Drop>(
 {
     match &place.uses {
         Some(_) => go_through(program, store, evaluator, place, limit),
-        None => begin_rule(program, label, store, evaluator, place),
+        None => begin_rule(
+            program, label, assigns, values, store, evaluator, place,
+        ),
     }
 }
 
@@ -193,6 +193,8 @@ fn turn_at<E: Evaluator, L: Lister + Drop>(
 pub fn next_at<E: Evaluator, L: Lister + Drop>(
     program: &Program,
     label: Option<&str>,
+    assigns: &[Assign],
+    values: &[TermId],
     store: &mut Store,
     evaluator: &mut E,
     place: &mut PlaceUses<L>,
@@ -203,13 +205,16 @@ pub fn next_at<E: Evaluator, L: Lister + Drop>(
     requires goes_by { GoesBy program.now (E.meanings evaluator.old) }
     requires fits { E.fits evaluator.old store.old }
     requires limit { limit ≡ (E.meanings evaluator.old).limit }
+    requires values { All (IsEvaluated program.now.sig store.old (E.table evaluator.old)) values.now }
     requires place { IsAtPlace L.asked L.given L.is_for L.with_context program.now (E.meanings evaluator.old)
         store.old (E.table evaluator.old) place.old }
-    ensures next { IsNextOne (program_over program.now (E.meanings evaluator.old).hooks) limit
+    ensures next { (vs : List Tree) → vs ≡ trees_at store.old (numbers values.now) → IsNextOne (program_over program.now (E.meanings evaluator.old).hooks) limit
         (left_at L.asked L.given program.now (E.meanings evaluator.old).hooks
-        (is_chosen (option_map (λ x. x.now) label.entry)) store.old place.old)
+        (choice_of (program_over program.now (E.meanings evaluator.old).hooks) (option_map (λ x. x.now) label.entry)
+        (map assign_of assigns.now) vs) store.old place.old)
         (left_at L.asked L.given program.now (E.meanings evaluator.old).hooks
-        (is_chosen (option_map (λ x. x.now) label.entry)) store.new place.new)
+        (choice_of (program_over program.now (E.meanings evaluator.old).hooks) (option_map (λ x. x.now) label.entry)
+        (map assign_of assigns.now) vs) store.new place.new)
         (use_at L.asked L.given program.now store.new place.new) result }
     ensures place { IsAtPlace L.asked L.given L.is_for L.with_context program.now (E.meanings evaluator.old)
         store.new (E.table evaluator.new) place.new }
@@ -220,7 +225,9 @@ pub fn next_at<E: Evaluator, L: Lister + Drop>(
     ensures meanings { E.meanings evaluator.new ≡ E.meanings evaluator.old }
 {
     for _ in 0..u64::MAX {
-        match turn_at(program, label, store, evaluator, place, limit) {
+        match turn_at(
+            program, label, assigns, values, store, evaluator, place, limit,
+        ) {
             Ok(Turn::Found) => return Ok(true),
             Ok(Turn::Over) => return Ok(false),
             Ok(Turn::Passed) => (),

@@ -1,13 +1,12 @@
 //! The results of rules at the root of a term, one after another.
-ghost use Rattle.std.specs.Prelude.{ℕ, ◌≡◌, List, [], map, Bool, true, false, Option, None, Some, IsSome, IfOk, IfSome};
+ghost use Rattle.std.specs.Prelude.{ℕ, ◌≡◌, List, [], map, All, true, false, Option, None, Some, IsSome, IfOk, IfSome};
 ghost use Rattle.std.specs.Option.{option_map};
 ghost use Rattle.mau_terms.specs.Tree.{Tree};
 ghost use Rattle.mau_formula.specs.Operator.{Operator};
 ghost use Rattle.mau_store.specs.Node.{Node, Extends};
-ghost use Rattle.mau_store.specs.Trees.{tree_at};
+ghost use Rattle.mau_store.specs.Trees.{tree_at, trees_at};
 ghost use Rattle.mau_sorts.specs.Table.{Table, KeepsEntries};
 ghost use Rattle.mau_program.specs.declared.program.Program as Typed;
-ghost use Rattle.mau_evaluation.specs.Program as Defined;
 ghost use Rattle.mau_evaluation.specs.Strategy.{StratDef};
 ghost use Rattle.mau_evaluation.specs.Configs.{Todo};
 ghost use Rattle.mau_evaluation.specs.OrderedLists.{IsLeaf};
@@ -19,7 +18,11 @@ ghost use Rattle.mau_api.specs.Terms.{IsTerm};
 ghost use Rattle.mau_api.specs.Answers.{AreSettled};
 ghost use Rattle.mau_rules.specs.Runnable.{IsRunnable, GoesBy};
 ghost use Rattle.mau_rules.specs.Walk.{opened, around_all, IsWalk};
-ghost use Rattle.mau_leaves.specs.Uses.{Use, is_chosen};
+ghost use Rattle.mau_leaves.specs.Uses.{Use, Choice};
+ghost use Rattle.mau_leaves.specs.Chosen.{choice_of};
+ghost use Rattle.mau_leaves.specs.InTurn.{IsEvaluated};
+ghost use Rattle.mau_stratforms.specs.Meanings.{assign_of};
+ghost use Rattle.mau_store.specs.View.{numbers};
 ghost use Rattle.mau_leaves.specs.Answers.{GivesValue};
 ghost use Rattle.mau_leaves.specs.AtPlace.{use_at, IsAtPlace};
 ghost use Rattle.mau_leaves.specs.Follows.{HasGiven, IsNextGiven, IsTopOf};
@@ -30,6 +33,7 @@ use crate::place::{PlaceUses, next_at};
 use crate::uses::Standing;
 use crate::value::value_of;
 use mau_api::{EvalEnd, Evaluator, Lister, Program};
+use mau_program::Assign;
 use mau_rules::Open;
 use mau_store::Store;
 use mau_terms::TermId;
@@ -50,7 +54,7 @@ pub fn start_top<L: Lister + Drop>(term: TermId) -> TopResults<L>
     ensures begins { (p : Typed.Program) (hooks : List Operator) (nodes : List Node) (chosen : Option (List ℕ)) (d : Todo) →
         IsTopOf chosen d.form →
         HasGiven (program_over p hooks) (engine_of (program_over p hooks)) d (tree_at nodes term.0) []
-        (left_of_top L.asked L.given p hooks (is_chosen chosen) nodes result) }
+        (left_of_top L.asked L.given p hooks (choice_of (program_over p hooks) chosen [] []) nodes result) }
 {
     TopResults {
         place: PlaceUses {
@@ -129,7 +133,7 @@ fn give<E: Evaluator, L: Lister + Drop>(
         store.old (E.table evaluator.old) top.old }
     requires walk { (root : ℕ) × IsWalk program.now.sig store.old root way.now top.old.place.term.0 }
     requires due { top.old.due ≡ true }
-    ensures next { (chosen : Defined.Rule → Bool) → IsNextResult (program_over program.now (E.meanings evaluator.old).hooks) limit
+    ensures next { (chosen : Choice) → IsNextResult (program_over program.now (E.meanings evaluator.old).hooks) limit
         (left_around L.asked L.given program.now (E.meanings evaluator.old).hooks chosen
         (around_all (λ v. v) (map (opened store.old) way.now)) store.old top.old)
         (left_around L.asked L.given program.now (E.meanings evaluator.old).hooks chosen
@@ -158,6 +162,8 @@ fn give<E: Evaluator, L: Lister + Drop>(
 pub(crate) fn next_result<E: Evaluator, L: Lister + Drop>(
     program: &Program,
     label: Option<&str>,
+    assigns: &[Assign],
+    values: &[TermId],
     store: &mut Store,
     evaluator: &mut E,
     way: &[Open],
@@ -169,14 +175,17 @@ pub(crate) fn next_result<E: Evaluator, L: Lister + Drop>(
     requires goes_by { GoesBy program.now (E.meanings evaluator.old) }
     requires fits { E.fits evaluator.old store.old }
     requires limit { limit ≡ (E.meanings evaluator.old).limit }
+    requires values { All (IsEvaluated program.now.sig store.old (E.table evaluator.old)) values.now }
     requires top { IsTop L.asked L.given L.is_for L.with_context program.now (E.meanings evaluator.old)
         store.old (E.table evaluator.old) top.old }
     requires walk { (root : ℕ) × IsWalk program.now.sig store.old root way.now top.old.place.term.0 }
-    ensures next { IsNextResult (program_over program.now (E.meanings evaluator.old).hooks) limit
+    ensures next { (vs : List Tree) → vs ≡ trees_at store.old (numbers values.now) → IsNextResult (program_over program.now (E.meanings evaluator.old).hooks) limit
         (left_around L.asked L.given program.now (E.meanings evaluator.old).hooks
-        (is_chosen (option_map (λ x. x.now) label.entry)) (around_all (λ v. v) (map (opened store.old) way.now)) store.old top.old)
+        (choice_of (program_over program.now (E.meanings evaluator.old).hooks) (option_map (λ x. x.now) label.entry)
+        (map assign_of assigns.now) vs) (around_all (λ v. v) (map (opened store.old) way.now)) store.old top.old)
         (left_around L.asked L.given program.now (E.meanings evaluator.old).hooks
-        (is_chosen (option_map (λ x. x.now) label.entry)) (around_all (λ v. v) (map (opened store.new) way.now)) store.new top.new)
+        (choice_of (program_over program.now (E.meanings evaluator.old).hooks) (option_map (λ x. x.now) label.entry)
+        (map assign_of assigns.now) vs) (around_all (λ v. v) (map (opened store.new) way.now)) store.new top.new)
         store.new result }
     ensures top { IsTop L.asked L.given L.is_for L.with_context program.now (E.meanings evaluator.old)
         store.new (E.table evaluator.new) top.new }
@@ -192,7 +201,16 @@ pub(crate) fn next_result<E: Evaluator, L: Lister + Drop>(
     if top.due {
         return give(program, store, evaluator, way, top, limit);
     }
-    match next_at(program, label, store, evaluator, &mut top.place, limit) {
+    match next_at(
+        program,
+        label,
+        assigns,
+        values,
+        store,
+        evaluator,
+        &mut top.place,
+        limit,
+    ) {
         Ok(true) => (),
         Ok(false) => return Ok(None),
         Err(end) => return Err(end),
@@ -205,6 +223,8 @@ pub(crate) fn next_result<E: Evaluator, L: Lister + Drop>(
 pub fn next_top<E: Evaluator, L: Lister + Drop>(
     program: &Program,
     label: Option<&str>,
+    assigns: &[Assign],
+    values: &[TermId],
     store: &mut Store,
     evaluator: &mut E,
     top: &mut TopResults<L>,
@@ -215,16 +235,19 @@ pub fn next_top<E: Evaluator, L: Lister + Drop>(
     requires goes_by { GoesBy program.now (E.meanings evaluator.old) }
     requires fits { E.fits evaluator.old store.old }
     requires limit { limit ≡ (E.meanings evaluator.old).limit }
+    requires values { All (IsEvaluated program.now.sig store.old (E.table evaluator.old)) values.now }
     requires top { IsTop L.asked L.given L.is_for L.with_context program.now (E.meanings evaluator.old)
         store.old (E.table evaluator.old) top.old }
-    ensures next { (defs : List StratDef) (d : Todo) (t : Tree) (us : List Tree) → IsLeaf d.form →
+    ensures next { (vs : List Tree) → vs ≡ trees_at store.old (numbers values.now) → (defs : List StratDef) (d : Todo) (t : Tree) (us : List Tree) → IsLeaf d.form →
         HasGiven (program_over program.now (E.meanings evaluator.old).hooks)
         (engine_of (program_over program.now (E.meanings evaluator.old).hooks)) d t us
         (left_of_top L.asked L.given program.now (E.meanings evaluator.old).hooks
-        (is_chosen (option_map (λ x. x.now) label.entry)) store.old top.old) →
+        (choice_of (program_over program.now (E.meanings evaluator.old).hooks) (option_map (λ x. x.now) label.entry)
+        (map assign_of assigns.now) vs) store.old top.old) →
         IsNextGiven (program_over program.now (E.meanings evaluator.old).hooks) limit defs d t us
         (left_of_top L.asked L.given program.now (E.meanings evaluator.old).hooks
-        (is_chosen (option_map (λ x. x.now) label.entry)) store.new top.new) store.new result }
+        (choice_of (program_over program.now (E.meanings evaluator.old).hooks) (option_map (λ x. x.now) label.entry)
+        (map assign_of assigns.now) vs) store.new top.new) store.new result }
     ensures top { IsTop L.asked L.given L.is_for L.with_context program.now (E.meanings evaluator.old)
         store.new (E.table evaluator.new) top.new }
     ensures term { IfOk result (λ o. IfSome o (λ id. IsTerm program.now.sig store.new id.0)) }
@@ -236,5 +259,7 @@ pub fn next_top<E: Evaluator, L: Lister + Drop>(
     ensures kept { KeepsEntries (E.table evaluator.old) (E.table evaluator.new) }
     ensures meanings { E.meanings evaluator.new ≡ E.meanings evaluator.old }
 {
-    next_result(program, label, store, evaluator, &[], top, limit)
+    next_result(
+        program, label, assigns, values, store, evaluator, &[], top, limit,
+    )
 }

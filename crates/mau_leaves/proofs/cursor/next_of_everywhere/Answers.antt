@@ -1,11 +1,11 @@
-use Rattle.std.proofs.Common.{List, Option, Result, sym, subst}
+use Rattle.std.proofs.Common.{List, Option, Result, sym, subst, [], refl}
 use Rattle.std.specs.Option.{option_map}
 use Rattle.mau_evaluation.specs.Engine.{engine_of}
 use Rattle.mau_api.specs.Programs.{program_over}
 use Rattle.mau_stratrun.specs.declared.leaves.Yielded.{Yielded}
 use Rattle.mau_stratrun.specs.declared.leaves.LeafEnd.{LeafEnd}
 use Rattle.mau_stratrun.specs.Worlds.{IsNextYield}
-use Rattle.mau_leaves.specs.Uses.{is_chosen}
+use Rattle.mau_leaves.specs.Chosen.{choice_of}
 use Rattle.mau_leaves.specs.Everywhere.{left_of_places}
 use Rattle.mau_leaves.specs.Follows.{HasGiven, IsNextGiven}
 use Rattle.mau_leaves.specs.Cursors.{fixed_of, chosen_by, world_of}
@@ -28,10 +28,10 @@ returns-clause-next g c = λ d t ys h.
     let s = c.next_everywhere-found.new.search in
     let P = program_over p m.hooks in
     let r = c.next_everywhere-found.result in
-    let left = λ (o : Option (List _)). left_of_places g.L.Lister.asked g.L.Lister.given p m.hooks (is_chosen o) in
+    let left = λ (o : Option (List _)). left_of_places g.L.Lister.asked g.L.Lister.given p m.hooks (choice_of (program_over p m.hooks) o [] []) in
     let same = c.label_by-label.ensures in
     let given = subst (λ (o : Option (List _)). HasGiven P (engine_of P) d t h.results (left o old c.args.results.now)) (sym same) h.rest in
-    let next = follow P c.args.limit (fixed_of p m leaves).definitions d (everywhere_leaf (chosen_by leaves c.args.leaf) d.form h.form) t h.results (left (option_map (λ x. x.now) c.label_by-label.result) old c.args.results.now) (left (option_map (λ x. x.now) c.label_by-label.result) new s) given new r c.next_everywhere-found.ensures.next in
+    let next = follow P c.args.limit (fixed_of p m leaves).definitions d (everywhere_leaf (chosen_by leaves c.args.leaf) d.form h.form) t h.results (left (option_map (λ x. x.now) c.label_by-label.result) old c.args.results.now) (left (option_map (λ x. x.now) c.label_by-label.result) new s) given new r (c.next_everywhere-found.ensures.next [] refl) in
     let by_leaf = subst (λ (o : Option (List _)). IsNextGiven P c.args.limit (fixed_of p m leaves).definitions d t h.results (left o new s) new r) same next in
     let own = subst (λ b. IsNextGiven P b (fixed_of p m leaves).definitions d t h.results (left (chosen_by leaves c.args.leaf) new s) new r) c.requires.limit by_leaf in
     subst (λ (y : Result (Option Yielded) LeafEnd). IsNextYield (world_of g.L.Lister.asked g.L.Lister.given g.L.Lister.is_for g.L.Lister.with_context p m leaves new after) (Everywhere c.args.leaf s) d t ys y) (sym c.yielded.ensures)

@@ -1,10 +1,10 @@
-use Rattle.std.proofs.Common.{List, Option, Result, sym, subst}
+use Rattle.std.proofs.Common.{List, Option, Result, sym, subst, [], refl}
 use Rattle.mau_evaluation.specs.Engine.{engine_of}
 use Rattle.mau_api.specs.Programs.{program_over}
 use Rattle.mau_stratrun.specs.declared.leaves.Yielded.{Yielded}
 use Rattle.mau_stratrun.specs.declared.leaves.LeafEnd.{LeafEnd}
 use Rattle.mau_stratrun.specs.Worlds.{IsNextYield}
-use Rattle.mau_leaves.specs.Uses.{is_chosen}
+use Rattle.mau_leaves.specs.Chosen.{choice_of}
 use Rattle.mau_leaves.specs.Top.{left_of_top}
 use Rattle.mau_leaves.specs.Follows.{HasGiven, IsNextGiven}
 use Rattle.mau_leaves.specs.Cursors.{fixed_of, chosen_by, world_of}
@@ -27,10 +27,10 @@ returns-clause-next g c = λ d t ys h.
     let s = c.next_top-found.new.top in
     let P = program_over p m.hooks in
     let r = c.next_top-found.result in
-    let left = λ (o : Option (List _)). left_of_top g.L.Lister.asked g.L.Lister.given p m.hooks (is_chosen o) in
+    let left = λ (o : Option (List _)). left_of_top g.L.Lister.asked g.L.Lister.given p m.hooks (choice_of (program_over p m.hooks) o [] []) in
     let same = c.label_by-label.ensures in
     let given = subst (λ (o : Option (List _)). HasGiven P (engine_of P) d t h.results (left o old c.args.results.now)) (sym same) h.rest in
-    let next = c.next_top-found.ensures.next (fixed_of p m leaves).definitions d t h.results (top_leaf (chosen_by leaves c.args.leaf) d.form h.form) given in
+    let next = c.next_top-found.ensures.next [] refl (fixed_of p m leaves).definitions d t h.results (top_leaf (chosen_by leaves c.args.leaf) d.form h.form) given in
     let by_leaf = subst (λ (o : Option (List _)). IsNextGiven P c.args.limit (fixed_of p m leaves).definitions d t h.results (left o new s) new r) same next in
     let own = subst (λ b. IsNextGiven P b (fixed_of p m leaves).definitions d t h.results (left (chosen_by leaves c.args.leaf) new s) new r) c.requires.limit by_leaf in
     subst (λ (y : Result (Option Yielded) LeafEnd). IsNextYield (world_of g.L.Lister.asked g.L.Lister.given g.L.Lister.is_for g.L.Lister.with_context p m leaves new after) (Top c.args.leaf s) d t ys y) (sym c.yielded.ensures)

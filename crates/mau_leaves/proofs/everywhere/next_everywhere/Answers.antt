@@ -1,4 +1,4 @@
-use Rattle.std.proofs.Common.{◌≡◌, false, Option, Some, None, IfNone, Ok, Err, refl, sym, ap, ◌∙◌, subst}
+use Rattle.std.proofs.Common.{◌≡◌, false, Option, Some, None, IfNone, Ok, Err, refl, sym, ap, ◌∙◌, subst, map}
 use Rattle.std.specs.Option.{option_map}
 use Rattle.mau_terms.specs.declared.ids.TermId.{TermId}
 use Rattle.mau_store.proofs.Growth.{extension_is_preorder}
@@ -7,26 +7,28 @@ use Rattle.mau_evaluation.specs.Engine.{engine_of}
 use Rattle.mau_api.specs.Meanings.{Meanings}
 use Rattle.mau_api.specs.Programs.{program_over}
 use Rattle.mau_rules.specs.Runnable.{GoesBy}
-use Rattle.mau_leaves.specs.Uses.{is_chosen}
+use Rattle.mau_stratforms.specs.Meanings.{assign_of}
+use Rattle.mau_leaves.specs.Chosen.{choice_of}
 use Rattle.mau_leaves.specs.Everywhere.{left_of_places, IsEverywhere, IsPlaceTurn}
+use Rattle.mau_leaves.proofs.InTurns.{values_kept, all_evaluated}
 use Rattle.mau_leaves.proofs.Steps.{then_pass, none_passed}
 use Rattle.mau_leaves.proofs.TopTurns.{then_result}
 use Rattle.mau_leaves.proofs.everywhere.next_everywhere.Goals as goal
 
 pub returns-then-search-clause-next : goal.returns-then-search-clause-next
-returns-then-search-clause-next g c =
+returns-then-search-clause-next g c = λ vs is.
     let m = g.E.Evaluator.meanings c.args.evaluator.now in
     let p = c.args.program.now in
-    let chosen = is_chosen (option_map (λ x. x.now) c.args.label) in
+    let chosen = choice_of (program_over p m.hooks) (option_map (λ x. x.now) c.args.label) (map assign_of c.args.assigns.now) vs in
+    let there = is ∙ sym (values_kept p c.args.store.now c.loop.store (g.E.Evaluator.table c.args.evaluator.now) (g.E.Evaluator.table c.loop.evaluator) i.extends i.kept c.args.values.now c.requires.values) in
     (none_passed (program_over p m.hooks) (left_of_places g.L.Lister.asked g.L.Lister.given p m.hooks chosen c.args.store.now c.args.search.now), tt)
 
 pub loop-init : goal.loop-init
 loop-init g c =
     let m = g.E.Evaluator.meanings c.args.evaluator.now in
     let p = c.args.program.now in
-    let chosen = is_chosen (option_map (λ x. x.now) c.args.label) in
     record {
-      passed = none_passed (program_over p m.hooks) (left_of_places g.L.Lister.asked g.L.Lister.given p m.hooks chosen c.args.store.now c.args.search.now);
+      passed = λ vs is. none_passed (program_over p m.hooks) (left_of_places g.L.Lister.asked g.L.Lister.given p m.hooks (choice_of (program_over p m.hooks) (option_map (λ x. x.now) c.args.label) (map assign_of c.args.assigns.now) vs) c.args.store.now c.args.search.now);
       everywhere = c.requires.everywhere;
       there = c.if-search.false;
       meanings = refl;
@@ -48,7 +50,6 @@ turn_on-requires-clause-everywhere g c =
     let i = c.loop.invariant in
     let m = g.E.Evaluator.meanings c.args.evaluator.now in
     let p = c.args.program.now in
-    let chosen = is_chosen (option_map (λ x. x.now) c.args.label) in
     subst (λ (z : Meanings). IsEverywhere g.L.Lister.asked g.L.Lister.given g.L.Lister.is_for g.L.Lister.with_context p z c.loop.store (g.E.Evaluator.table c.loop.evaluator) c.loop.search) (sym i.meanings) i.everywhere
 
 pub loop-preserved : goal.loop-preserved
@@ -56,12 +57,14 @@ loop-preserved g c =
     let i = c.loop.invariant in
     let m = g.E.Evaluator.meanings c.args.evaluator.now in
     let p = c.args.program.now in
-    let chosen = is_chosen (option_map (λ x. x.now) c.args.label) in
     let n = g.E.Evaluator.meanings c.loop.evaluator in
-    let told = subst (λ (z : Meanings). IsPlaceTurn (program_over p z.hooks) c.args.limit (left_of_places g.L.Lister.asked g.L.Lister.given p z.hooks chosen c.loop.store c.loop.search)
-    (left_of_places g.L.Lister.asked g.L.Lister.given p z.hooks chosen c.turn_on.new.store c.turn_on.new.search) c.turn_on.new.store (Ok None)) i.meanings (subst (λ (o : Option (Option TermId)). IsPlaceTurn (program_over p n.hooks) c.args.limit (left_of_places g.L.Lister.asked g.L.Lister.given p n.hooks chosen c.loop.store c.loop.search) (left_of_places g.L.Lister.asked g.L.Lister.given p n.hooks chosen c.turn_on.new.store c.turn_on.new.search) c.turn_on.new.store (Ok o)) c.in-Ok-None.field-0-is c.in-Ok-None.ensures.turn) in
     record {
-      passed = then_pass (engine_of (program_over p m.hooks)) (left_of_places g.L.Lister.asked g.L.Lister.given p m.hooks chosen c.args.store.now c.args.search.now) (left_of_places g.L.Lister.asked g.L.Lister.given p m.hooks chosen c.loop.store c.loop.search) i.passed (left_of_places g.L.Lister.asked g.L.Lister.given p m.hooks chosen c.turn_on.new.store c.turn_on.new.search) told;
+      passed = λ vs is.
+          let chosen = choice_of (program_over p m.hooks) (option_map (λ x. x.now) c.args.label) (map assign_of c.args.assigns.now) vs in
+          let there = is ∙ sym (values_kept p c.args.store.now c.loop.store (g.E.Evaluator.table c.args.evaluator.now) (g.E.Evaluator.table c.loop.evaluator) i.extends i.kept c.args.values.now c.requires.values) in
+          let told = subst (λ (z : Meanings). IsPlaceTurn (program_over p z.hooks) c.args.limit (left_of_places g.L.Lister.asked g.L.Lister.given p z.hooks chosen c.loop.store c.loop.search)
+          (left_of_places g.L.Lister.asked g.L.Lister.given p z.hooks chosen c.turn_on.new.store c.turn_on.new.search) c.turn_on.new.store (Ok None)) i.meanings (subst (λ (o : Option (Option TermId)). IsPlaceTurn (program_over p n.hooks) c.args.limit (left_of_places g.L.Lister.asked g.L.Lister.given p n.hooks chosen c.loop.store c.loop.search) (left_of_places g.L.Lister.asked g.L.Lister.given p n.hooks chosen c.turn_on.new.store c.turn_on.new.search) c.turn_on.new.store (Ok o)) c.in-Ok-None.field-0-is (c.in-Ok-None.ensures.turn vs there)) in
+          then_pass (engine_of (program_over p m.hooks)) (left_of_places g.L.Lister.asked g.L.Lister.given p m.hooks chosen c.args.store.now c.args.search.now) (left_of_places g.L.Lister.asked g.L.Lister.given p m.hooks chosen c.loop.store c.loop.search) (i.passed vs is) (left_of_places g.L.Lister.asked g.L.Lister.given p m.hooks chosen c.turn_on.new.store c.turn_on.new.search) told;
       everywhere = subst (λ (z : Meanings). IsEverywhere g.L.Lister.asked g.L.Lister.given g.L.Lister.is_for g.L.Lister.with_context p z c.turn_on.new.store (g.E.Evaluator.table c.turn_on.new.evaluator) c.turn_on.new.search) i.meanings c.turn_on.ensures.everywhere;
       there = subst (λ (o : Option (Option TermId)). IfNone o (c.turn_on.new.search.gone ≡ false)) c.in-Ok-None.field-0-is c.in-Ok-None.ensures.there;
       meanings = c.turn_on.ensures.meanings ∙ i.meanings;
@@ -71,36 +74,37 @@ loop-preserved g c =
     }
 
 pub returns-in-Ok-Some-clause-next : goal.returns-in-Ok-Some-clause-next
-returns-in-Ok-Some-clause-next g c =
+returns-in-Ok-Some-clause-next g c = λ vs is.
     let i = c.loop.invariant in
     let m = g.E.Evaluator.meanings c.args.evaluator.now in
     let p = c.args.program.now in
-    let chosen = is_chosen (option_map (λ x. x.now) c.args.label) in
+    let chosen = choice_of (program_over p m.hooks) (option_map (λ x. x.now) c.args.label) (map assign_of c.args.assigns.now) vs in
+    let there = is ∙ sym (values_kept p c.args.store.now c.loop.store (g.E.Evaluator.table c.args.evaluator.now) (g.E.Evaluator.table c.loop.evaluator) i.extends i.kept c.args.values.now c.requires.values) in
     let n = g.E.Evaluator.meanings c.loop.evaluator in
     let told = subst (λ (z : Meanings). IsPlaceTurn (program_over p z.hooks) c.args.limit (left_of_places g.L.Lister.asked g.L.Lister.given p z.hooks chosen c.loop.store c.loop.search)
-    (left_of_places g.L.Lister.asked g.L.Lister.given p z.hooks chosen c.turn_on.new.store c.turn_on.new.search) c.turn_on.new.store (Ok (Some c.in-Ok-Some.found))) i.meanings (subst (λ (o : Option (Option TermId)). IsPlaceTurn (program_over p n.hooks) c.args.limit (left_of_places g.L.Lister.asked g.L.Lister.given p n.hooks chosen c.loop.store c.loop.search) (left_of_places g.L.Lister.asked g.L.Lister.given p n.hooks chosen c.turn_on.new.store c.turn_on.new.search) c.turn_on.new.store (Ok o)) c.in-Ok-Some.field-0-is c.in-Ok-Some.ensures.turn) in
-    then_result (program_over p m.hooks) c.args.limit (left_of_places g.L.Lister.asked g.L.Lister.given p m.hooks chosen c.args.store.now c.args.search.now) (left_of_places g.L.Lister.asked g.L.Lister.given p m.hooks chosen c.loop.store c.loop.search) (left_of_places g.L.Lister.asked g.L.Lister.given p m.hooks chosen c.turn_on.new.store c.turn_on.new.search) i.passed c.turn_on.new.store (Ok c.in-Ok-Some.found) told
+    (left_of_places g.L.Lister.asked g.L.Lister.given p z.hooks chosen c.turn_on.new.store c.turn_on.new.search) c.turn_on.new.store (Ok (Some c.in-Ok-Some.found))) i.meanings (subst (λ (o : Option (Option TermId)). IsPlaceTurn (program_over p n.hooks) c.args.limit (left_of_places g.L.Lister.asked g.L.Lister.given p n.hooks chosen c.loop.store c.loop.search) (left_of_places g.L.Lister.asked g.L.Lister.given p n.hooks chosen c.turn_on.new.store c.turn_on.new.search) c.turn_on.new.store (Ok o)) c.in-Ok-Some.field-0-is (c.in-Ok-Some.ensures.turn vs there)) in
+    then_result (program_over p m.hooks) c.args.limit (left_of_places g.L.Lister.asked g.L.Lister.given p m.hooks chosen c.args.store.now c.args.search.now) (left_of_places g.L.Lister.asked g.L.Lister.given p m.hooks chosen c.loop.store c.loop.search) (left_of_places g.L.Lister.asked g.L.Lister.given p m.hooks chosen c.turn_on.new.store c.turn_on.new.search) (i.passed vs is) c.turn_on.new.store (Ok c.in-Ok-Some.found) told
 
 pub returns-in-Err-clause-next : goal.returns-in-Err-clause-next
-returns-in-Err-clause-next g c =
+returns-in-Err-clause-next g c = λ vs is.
     let i = c.loop.invariant in
     let m = g.E.Evaluator.meanings c.args.evaluator.now in
     let p = c.args.program.now in
-    let chosen = is_chosen (option_map (λ x. x.now) c.args.label) in
+    let chosen = choice_of (program_over p m.hooks) (option_map (λ x. x.now) c.args.label) (map assign_of c.args.assigns.now) vs in
+    let there = is ∙ sym (values_kept p c.args.store.now c.loop.store (g.E.Evaluator.table c.args.evaluator.now) (g.E.Evaluator.table c.loop.evaluator) i.extends i.kept c.args.values.now c.requires.values) in
     let told = subst (λ (z : Meanings). IsPlaceTurn (program_over p z.hooks) c.args.limit (left_of_places g.L.Lister.asked g.L.Lister.given p z.hooks chosen c.loop.store c.loop.search)
-    (left_of_places g.L.Lister.asked g.L.Lister.given p z.hooks chosen c.turn_on.new.store c.turn_on.new.search) c.turn_on.new.store (Err c.in-Err.end)) i.meanings c.in-Err.ensures.turn in
-    then_result (program_over p m.hooks) c.args.limit (left_of_places g.L.Lister.asked g.L.Lister.given p m.hooks chosen c.args.store.now c.args.search.now) (left_of_places g.L.Lister.asked g.L.Lister.given p m.hooks chosen c.loop.store c.loop.search) (left_of_places g.L.Lister.asked g.L.Lister.given p m.hooks chosen c.turn_on.new.store c.turn_on.new.search) i.passed c.turn_on.new.store (Err c.in-Err.end) told
+    (left_of_places g.L.Lister.asked g.L.Lister.given p z.hooks chosen c.turn_on.new.store c.turn_on.new.search) c.turn_on.new.store (Err c.in-Err.end)) i.meanings (c.in-Err.ensures.turn vs there) in
+    then_result (program_over p m.hooks) c.args.limit (left_of_places g.L.Lister.asked g.L.Lister.given p m.hooks chosen c.args.store.now c.args.search.now) (left_of_places g.L.Lister.asked g.L.Lister.given p m.hooks chosen c.loop.store c.loop.search) (left_of_places g.L.Lister.asked g.L.Lister.given p m.hooks chosen c.turn_on.new.store c.turn_on.new.search) (i.passed vs is) c.turn_on.new.store (Err c.in-Err.end) told
 
 pub returns-clause-next : goal.returns-clause-next
-returns-clause-next g c =
-    (c.loop.invariant.passed, tt)
+returns-clause-next g c = λ vs is.
+    (c.loop.invariant.passed vs is, tt)
 
 pub returns-in-Ok-Some-clause-everywhere : goal.returns-in-Ok-Some-clause-everywhere
 returns-in-Ok-Some-clause-everywhere g c =
     let i = c.loop.invariant in
     let m = g.E.Evaluator.meanings c.args.evaluator.now in
     let p = c.args.program.now in
-    let chosen = is_chosen (option_map (λ x. x.now) c.args.label) in
     subst (λ (z : Meanings). IsEverywhere g.L.Lister.asked g.L.Lister.given g.L.Lister.is_for g.L.Lister.with_context p z c.turn_on.new.store (g.E.Evaluator.table c.turn_on.new.evaluator) c.turn_on.new.search) i.meanings c.turn_on.ensures.everywhere
 
 pub returns-in-Ok-Some-clause-kept : goal.returns-in-Ok-Some-clause-kept
@@ -120,7 +124,6 @@ returns-in-Err-clause-everywhere g c =
     let i = c.loop.invariant in
     let m = g.E.Evaluator.meanings c.args.evaluator.now in
     let p = c.args.program.now in
-    let chosen = is_chosen (option_map (λ x. x.now) c.args.label) in
     subst (λ (z : Meanings). IsEverywhere g.L.Lister.asked g.L.Lister.given g.L.Lister.is_for g.L.Lister.with_context p z c.turn_on.new.store (g.E.Evaluator.table c.turn_on.new.evaluator) c.turn_on.new.search) i.meanings c.turn_on.ensures.everywhere
 
 pub returns-in-Err-clause-kept : goal.returns-in-Err-clause-kept
@@ -134,3 +137,8 @@ returns-in-Err-clause-extends g c =
 pub returns-in-Err-clause-meanings : goal.returns-in-Err-clause-meanings
 returns-in-Err-clause-meanings g c =
     c.turn_on.ensures.meanings ∙ c.loop.invariant.meanings
+
+pub turn_on-requires-clause-values : goal.turn_on-requires-clause-values
+turn_on-requires-clause-values g c =
+    let i = c.loop.invariant in
+    all_evaluated c.args.program.now c.args.store.now c.loop.store (g.E.Evaluator.table c.args.evaluator.now) (g.E.Evaluator.table c.loop.evaluator) i.extends i.kept c.args.values.now c.requires.values

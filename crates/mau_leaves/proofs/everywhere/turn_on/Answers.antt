@@ -1,4 +1,4 @@
-use Rattle.std.proofs.Common.{◌≡◌, ◌∷◌, List, Option, true, false, Some, None, Ok, Err, refl, sym, ap, ◌∙◌, subst}
+use Rattle.std.proofs.Common.{◌≡◌, ◌∷◌, List, Option, true, false, Some, None, Ok, Err, refl, sym, ap, ◌∙◌, subst, map}
 use Rattle.std.specs.Option.{option_map}
 use Rattle.mau_terms.specs.declared.ids.TermId.{TermId}
 use Rattle.mau_rules.specs.declared.walk.Open.{Open}
@@ -6,7 +6,8 @@ use Rattle.mau_signature.specs.Signature.{theory_at}
 use Rattle.mau_store.specs.Trees.{tree_at}
 use Rattle.mau_api.specs.Programs.{program_over}
 use Rattle.mau_reduce.proofs.KindsKept.{tree_kept}
-use Rattle.mau_leaves.specs.Uses.{is_chosen}
+use Rattle.mau_stratforms.specs.Meanings.{assign_of}
+use Rattle.mau_leaves.specs.Chosen.{choice_of}
 use Rattle.mau_leaves.specs.Top.{place_in, left_around, IsTop, IsNextResult}
 use Rattle.mau_leaves.specs.Everywhere.{around_way, places_after, left_of_places, IsNextPlace}
 use Rattle.mau_leaves.specs.declared.top.TopResults.{TopResults}
@@ -17,7 +18,7 @@ no : {X : Type 0} → true ≡ false → X
 no e = cc
 
 pub returns-in-Ok-Some-clause-turn : goal.returns-in-Ok-Some-clause-turn
-returns-in-Ok-Some-clause-turn g c =
+returns-in-Ok-Some-clause-turn g c = λ vs is.
     let m = g.E.Evaluator.meanings c.args.evaluator.now in
     let p = c.args.program.now in
     let old = c.args.store.now in
@@ -30,7 +31,7 @@ returns-in-Ok-Some-clause-turn g c =
     let live = c.requires.there in
     let w = c.requires.everywhere.walk live in
     let within : tree_at mid s.at.place.term.0 ≡ tree_at old s.at.place.term.0 = tree_kept (theory_at p.sig) old mid s.at.place.term.0 c.next_result.ensures.extends c.requires.everywhere.at.place.term.within in
-    let chosen = is_chosen (option_map (λ x. x.now) c.args.label) in
+    let chosen = choice_of (program_over p m.hooks) (option_map (λ x. x.now) c.args.label) (map assign_of c.args.assigns.now) vs in
     let P = program_over p m.hooks in
     let was = left_around g.L.Lister.asked g.L.Lister.given p m.hooks chosen (around_way old way) old s.at in
     let ss = places_after p.sig old way s.at.place.term.0 in
@@ -38,7 +39,7 @@ returns-in-Ok-Some-clause-turn g c =
     let is = left_around g.L.Lister.asked g.L.Lister.given p m.hooks chosen (around_way mid way) mid at in
     let zs = places_after p.sig mid way at.place.term.0 in
     let told = subst (λ (z : List Open). IsNextResult P c.args.limit (left_around g.L.Lister.asked g.L.Lister.given p m.hooks chosen (around_way old z) old s.at) (left_around g.L.Lister.asked g.L.Lister.given p m.hooks chosen (around_way mid z) mid at) mid (Ok (Some c.in-Ok-Some.id))) c.deref.ensures.value
-    (subst (λ (o : Option TermId). IsNextResult P c.args.limit (left_around g.L.Lister.asked g.L.Lister.given p m.hooks chosen (around_way old c.deref.result.now) old s.at) (left_around g.L.Lister.asked g.L.Lister.given p m.hooks chosen (around_way mid c.deref.result.now) mid at) mid (Ok o)) c.in-Ok-Some.field-0-is c.in-Ok-Some.ensures.next) in
+    (subst (λ (o : Option TermId). IsNextResult P c.args.limit (left_around g.L.Lister.asked g.L.Lister.given p m.hooks chosen (around_way old c.deref.result.now) old s.at) (left_around g.L.Lister.asked g.L.Lister.given p m.hooks chosen (around_way mid c.deref.result.now) mid at) mid (Ok o)) c.in-Ok-Some.field-0-is (c.in-Ok-Some.ensures.next vs is)) in
     found_on P c.args.limit chosen ss zs same was is s.gone s.gone live live (tree_at mid c.in-Ok-Some.id.0) told
 
 pub returns-in-Ok-Some-clause-everywhere : goal.returns-in-Ok-Some-clause-everywhere
@@ -59,7 +60,7 @@ returns-in-Ok-Some-clause-everywhere g c =
     record { at = c.next_result.ensures.top; walk = λ h. x }
 
 pub returns-in-Err-clause-turn : goal.returns-in-Err-clause-turn
-returns-in-Err-clause-turn g c =
+returns-in-Err-clause-turn g c = λ vs is.
     let m = g.E.Evaluator.meanings c.args.evaluator.now in
     let p = c.args.program.now in
     let old = c.args.store.now in
@@ -72,7 +73,7 @@ returns-in-Err-clause-turn g c =
     let live = c.requires.there in
     let w = c.requires.everywhere.walk live in
     let within : tree_at mid s.at.place.term.0 ≡ tree_at old s.at.place.term.0 = tree_kept (theory_at p.sig) old mid s.at.place.term.0 c.next_result.ensures.extends c.requires.everywhere.at.place.term.within in
-    let chosen = is_chosen (option_map (λ x. x.now) c.args.label) in
+    let chosen = choice_of (program_over p m.hooks) (option_map (λ x. x.now) c.args.label) (map assign_of c.args.assigns.now) vs in
     let P = program_over p m.hooks in
     let was = left_around g.L.Lister.asked g.L.Lister.given p m.hooks chosen (around_way old way) old s.at in
     let ss = places_after p.sig old way s.at.place.term.0 in
@@ -80,7 +81,7 @@ returns-in-Err-clause-turn g c =
     let is = left_around g.L.Lister.asked g.L.Lister.given p m.hooks chosen (around_way mid way) mid at in
     let zs = places_after p.sig mid way at.place.term.0 in
     let told = subst (λ (z : List Open). IsNextResult P c.args.limit (left_around g.L.Lister.asked g.L.Lister.given p m.hooks chosen (around_way old z) old s.at) (left_around g.L.Lister.asked g.L.Lister.given p m.hooks chosen (around_way mid z) mid at) mid (Err c.in-Err.end)) c.deref.ensures.value
-    c.in-Err.ensures.next in
+    (c.in-Err.ensures.next vs is) in
     (passed_on P c.args.limit chosen ss zs same was is s.gone s.gone live live told.0, due_on P c.args.limit chosen ss zs same was is s.gone s.gone live live c.in-Err.end told.1)
 
 pub returns-in-Err-clause-everywhere : goal.returns-in-Err-clause-everywhere
@@ -118,7 +119,7 @@ go_on-requires-clause-walk g c =
     (x.0, x.1)
 
 pub returns-in-Ok-true-clause-turn : goal.returns-in-Ok-true-clause-turn
-returns-in-Ok-true-clause-turn g c =
+returns-in-Ok-true-clause-turn g c = λ vs is.
     let m = g.E.Evaluator.meanings c.args.evaluator.now in
     let p = c.args.program.now in
     let old = c.args.store.now in
@@ -131,7 +132,7 @@ returns-in-Ok-true-clause-turn g c =
     let live = c.requires.there in
     let w = c.requires.everywhere.walk live in
     let within : tree_at mid s.at.place.term.0 ≡ tree_at old s.at.place.term.0 = tree_kept (theory_at p.sig) old mid s.at.place.term.0 c.next_result.ensures.extends c.requires.everywhere.at.place.term.within in
-    let chosen = is_chosen (option_map (λ x. x.now) c.args.label) in
+    let chosen = choice_of (program_over p m.hooks) (option_map (λ x. x.now) c.args.label) (map assign_of c.args.assigns.now) vs in
     let P = program_over p m.hooks in
     let was = left_around g.L.Lister.asked g.L.Lister.given p m.hooks chosen (around_way old way) old s.at in
     let ss = places_after p.sig old way s.at.place.term.0 in
@@ -139,7 +140,7 @@ returns-in-Ok-true-clause-turn g c =
     let n = c.go_on.new.search in
     let nx = c.in-Ok-true.ensures.next c.in-Ok-true.field-0-test in
     let told = subst (λ (z : List Open). IsNextResult P c.args.limit (left_around g.L.Lister.asked g.L.Lister.given p m.hooks chosen (around_way old z) old s.at) (left_around g.L.Lister.asked g.L.Lister.given p m.hooks chosen (around_way mid z) mid at) mid (Ok None)) c.deref.ensures.value
-    (subst (λ (o : Option TermId). IsNextResult P c.args.limit (left_around g.L.Lister.asked g.L.Lister.given p m.hooks chosen (around_way old c.deref.result.now) old s.at) (left_around g.L.Lister.asked g.L.Lister.given p m.hooks chosen (around_way mid c.deref.result.now) mid at) mid (Ok o)) c.in-Ok-None.field-0-is c.in-Ok-None.ensures.next) in
+    (subst (λ (o : Option TermId). IsNextResult P c.args.limit (left_around g.L.Lister.asked g.L.Lister.given p m.hooks chosen (around_way old c.deref.result.now) old s.at) (left_around g.L.Lister.asked g.L.Lister.given p m.hooks chosen (around_way mid c.deref.result.now) mid at) mid (Ok o)) c.in-Ok-None.field-0-is (c.in-Ok-None.ensures.next vs is)) in
     let around = around_way mid n.way.items in
     next_on P chosen ss was s.gone live told (place_in around (tree_at mid n.at.place.term.0)) (places_after p.sig mid n.way.items n.at.place.term.0) (sym same ∙ nx.places)
     (left_around g.L.Lister.asked g.L.Lister.given p m.hooks chosen around mid n.at) (starts_there g.L.Lister.asked g.L.Lister.given p m.hooks chosen around mid n.at n.at.place.term nx.begins) n.gone (nx.gone ∙ live)
@@ -174,7 +175,7 @@ returns-in-Ok-true-clause-there g c =
     nx.gone ∙ c.requires.there
 
 pub returns-in-Ok-false-clause-turn : goal.returns-in-Ok-false-clause-turn
-returns-in-Ok-false-clause-turn g c =
+returns-in-Ok-false-clause-turn g c = λ vs is.
     let m = g.E.Evaluator.meanings c.args.evaluator.now in
     let p = c.args.program.now in
     let old = c.args.store.now in
@@ -187,13 +188,13 @@ returns-in-Ok-false-clause-turn g c =
     let live = c.requires.there in
     let w = c.requires.everywhere.walk live in
     let within : tree_at mid s.at.place.term.0 ≡ tree_at old s.at.place.term.0 = tree_kept (theory_at p.sig) old mid s.at.place.term.0 c.next_result.ensures.extends c.requires.everywhere.at.place.term.within in
-    let chosen = is_chosen (option_map (λ x. x.now) c.args.label) in
+    let chosen = choice_of (program_over p m.hooks) (option_map (λ x. x.now) c.args.label) (map assign_of c.args.assigns.now) vs in
     let P = program_over p m.hooks in
     let was = left_around g.L.Lister.asked g.L.Lister.given p m.hooks chosen (around_way old way) old s.at in
     let ss = places_after p.sig old way s.at.place.term.0 in
     let same = places_same p old mid c.next_result.ensures.extends w.0 way s.at.place.term w.1 within at.place.term c.next_result.ensures.root in
     let told = subst (λ (z : List Open). IsNextResult P c.args.limit (left_around g.L.Lister.asked g.L.Lister.given p m.hooks chosen (around_way old z) old s.at) (left_around g.L.Lister.asked g.L.Lister.given p m.hooks chosen (around_way mid z) mid at) mid (Ok None)) c.deref.ensures.value
-    (subst (λ (o : Option TermId). IsNextResult P c.args.limit (left_around g.L.Lister.asked g.L.Lister.given p m.hooks chosen (around_way old c.deref.result.now) old s.at) (left_around g.L.Lister.asked g.L.Lister.given p m.hooks chosen (around_way mid c.deref.result.now) mid at) mid (Ok o)) c.in-Ok-None.field-0-is c.in-Ok-None.ensures.next) in
+    (subst (λ (o : Option TermId). IsNextResult P c.args.limit (left_around g.L.Lister.asked g.L.Lister.given p m.hooks chosen (around_way old c.deref.result.now) old s.at) (left_around g.L.Lister.asked g.L.Lister.given p m.hooks chosen (around_way mid c.deref.result.now) mid at) mid (Ok o)) c.in-Ok-None.field-0-is (c.in-Ok-None.ensures.next vs is)) in
     over_on P chosen ss was s.gone live told (sym same ∙ c.in-Ok-false.ensures.none c.in-Ok-false.field-0-test)
 
 pub returns-in-Ok-false-clause-everywhere : goal.returns-in-Ok-false-clause-everywhere
@@ -207,11 +208,11 @@ returns-in-Ok-false-clause-everywhere g c =
     }
 
 pub returns-in-Err-go_on-clause-turn : goal.returns-in-Err-go_on-clause-turn
-returns-in-Err-go_on-clause-turn g c =
+returns-in-Err-go_on-clause-turn g c = λ vs is.
     let ov = c.in-Err-go_on.ensures.lost in
     let m = g.E.Evaluator.meanings c.args.evaluator.now in
     let p = c.args.program.now in
-    let chosen = is_chosen (option_map (λ x. x.now) c.args.label) in
+    let chosen = choice_of (program_over p m.hooks) (option_map (λ x. x.now) c.args.label) (map assign_of c.args.assigns.now) vs in
     let n = c.go_on.new.search in
     let mid = c.next_result.new.store in (
       gone_on (program_over p m.hooks) chosen (left_of_places g.L.Lister.asked g.L.Lister.given p m.hooks chosen c.args.store.now c.args.search.now) (places_after p.sig mid n.way.items n.at.place.term.0) n.gone ov.0

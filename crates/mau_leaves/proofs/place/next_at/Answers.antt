@@ -1,14 +1,16 @@
-use Rattle.std.proofs.Common.{Ok, Err, refl, sym, ap, ◌∙◌, subst}
+use Rattle.std.proofs.Common.{Ok, Err, refl, sym, ap, ◌∙◌, subst, map}
 use Rattle.std.specs.Option.{option_map}
 use Rattle.mau_store.proofs.Growth.{extension_is_preorder}
 use Rattle.mau_sorts.proofs.Settling.{kept_on, kept_same}
 use Rattle.mau_api.specs.Meanings.{Meanings}
 use Rattle.mau_api.specs.Programs.{program_over}
 use Rattle.mau_rules.specs.Runnable.{GoesBy}
-use Rattle.mau_leaves.specs.Uses.{is_chosen}
+use Rattle.mau_stratforms.specs.Meanings.{assign_of}
+use Rattle.mau_leaves.specs.Chosen.{choice_of}
 use Rattle.mau_leaves.specs.Searches.{IsTurn}
 use Rattle.mau_leaves.specs.AtPlace.{left_at, use_at, IsAtPlace}
 use Rattle.mau_leaves.specs.declared.turn.Turn.{Turn}
+use Rattle.mau_leaves.proofs.InTurns.{values_kept, all_evaluated}
 use Rattle.mau_leaves.proofs.Steps.{found_then, passed_then, over_then, ends_then, none_passed}
 use Rattle.mau_leaves.proofs.place.next_at.Goals as goal
 
@@ -16,9 +18,8 @@ pub loop-init : goal.loop-init
 loop-init g c =
     let m = g.E.Evaluator.meanings c.args.evaluator.now in
     let p = c.args.program.now in
-    let chosen = is_chosen (option_map (λ x. x.now) c.args.label) in
     record {
-      passed = none_passed (program_over p m.hooks) (left_at g.L.Lister.asked g.L.Lister.given p m.hooks chosen c.args.store.now c.args.place.now);
+      passed = λ vs is. none_passed (program_over p m.hooks) (left_at g.L.Lister.asked g.L.Lister.given p m.hooks (choice_of (program_over p m.hooks) (option_map (λ x. x.now) c.args.label) (map assign_of c.args.assigns.now) vs) c.args.store.now c.args.place.now);
       place = c.requires.place;
       term = refl;
       meanings = refl;
@@ -38,7 +39,6 @@ turn_at-requires-clause-place g c =
     let i = c.loop.invariant in
     let m = g.E.Evaluator.meanings c.args.evaluator.now in
     let p = c.args.program.now in
-    let chosen = is_chosen (option_map (λ x. x.now) c.args.label) in
     subst (λ (z : Meanings). IsAtPlace g.L.Lister.asked g.L.Lister.given g.L.Lister.is_for g.L.Lister.with_context p z c.loop.store (g.E.Evaluator.table c.loop.evaluator) c.loop.place) (sym i.meanings) i.place
 
 pub loop-preserved : goal.loop-preserved
@@ -46,12 +46,14 @@ loop-preserved g c =
     let i = c.loop.invariant in
     let m = g.E.Evaluator.meanings c.args.evaluator.now in
     let p = c.args.program.now in
-    let chosen = is_chosen (option_map (λ x. x.now) c.args.label) in
-    let told = subst (λ (z : Meanings). IsTurn (program_over p z.hooks) c.args.limit (left_at g.L.Lister.asked g.L.Lister.given p z.hooks chosen c.loop.store c.loop.place)
-    (left_at g.L.Lister.asked g.L.Lister.given p z.hooks chosen c.turn_at.new.store c.turn_at.new.place) (use_at g.L.Lister.asked g.L.Lister.given p c.turn_at.new.store c.turn_at.new.place) (Ok c.in-Ok-Passed.field-0)) i.meanings c.in-Ok-Passed.ensures.turn in
     record {
-      passed = passed_then (program_over p m.hooks) c.args.limit (left_at g.L.Lister.asked g.L.Lister.given p m.hooks chosen c.args.store.now c.args.place.now) (left_at g.L.Lister.asked g.L.Lister.given p m.hooks chosen c.loop.store c.loop.place) (left_at g.L.Lister.asked g.L.Lister.given p m.hooks chosen c.turn_at.new.store c.turn_at.new.place)
-          (use_at g.L.Lister.asked g.L.Lister.given p c.turn_at.new.store c.turn_at.new.place) i.passed
+      passed = λ vs is.
+          let chosen = choice_of (program_over p m.hooks) (option_map (λ x. x.now) c.args.label) (map assign_of c.args.assigns.now) vs in
+          let there = is ∙ sym (values_kept p c.args.store.now c.loop.store (g.E.Evaluator.table c.args.evaluator.now) (g.E.Evaluator.table c.loop.evaluator) i.extends i.kept c.args.values.now c.requires.values) in
+          let told = subst (λ (z : Meanings). IsTurn (program_over p z.hooks) c.args.limit (left_at g.L.Lister.asked g.L.Lister.given p z.hooks chosen c.loop.store c.loop.place)
+          (left_at g.L.Lister.asked g.L.Lister.given p z.hooks chosen c.turn_at.new.store c.turn_at.new.place) (use_at g.L.Lister.asked g.L.Lister.given p c.turn_at.new.store c.turn_at.new.place) (Ok c.in-Ok-Passed.field-0)) i.meanings (c.in-Ok-Passed.ensures.turn vs there) in
+          passed_then (program_over p m.hooks) c.args.limit (left_at g.L.Lister.asked g.L.Lister.given p m.hooks chosen c.args.store.now c.args.place.now) (left_at g.L.Lister.asked g.L.Lister.given p m.hooks chosen c.loop.store c.loop.place) (left_at g.L.Lister.asked g.L.Lister.given p m.hooks chosen c.turn_at.new.store c.turn_at.new.place)
+          (use_at g.L.Lister.asked g.L.Lister.given p c.turn_at.new.store c.turn_at.new.place) (i.passed vs is)
           (subst (λ (t : Turn). IsTurn (program_over p m.hooks) c.args.limit (left_at g.L.Lister.asked g.L.Lister.given p m.hooks chosen c.loop.store c.loop.place) (left_at g.L.Lister.asked g.L.Lister.given p m.hooks chosen c.turn_at.new.store c.turn_at.new.place)
           (use_at g.L.Lister.asked g.L.Lister.given p c.turn_at.new.store c.turn_at.new.place) (Ok t)) c.in-Ok-Passed.field-0-is told);
       place = subst (λ (z : Meanings). IsAtPlace g.L.Lister.asked g.L.Lister.given g.L.Lister.is_for g.L.Lister.with_context p z c.turn_at.new.store (g.E.Evaluator.table c.turn_at.new.evaluator) c.turn_at.new.place) i.meanings c.turn_at.ensures.place;
@@ -63,51 +65,53 @@ loop-preserved g c =
     }
 
 pub returns-in-Ok-Found-clause-next : goal.returns-in-Ok-Found-clause-next
-returns-in-Ok-Found-clause-next g c =
+returns-in-Ok-Found-clause-next g c = λ vs is.
     let i = c.loop.invariant in
     let m = g.E.Evaluator.meanings c.args.evaluator.now in
     let p = c.args.program.now in
-    let chosen = is_chosen (option_map (λ x. x.now) c.args.label) in
+    let chosen = choice_of (program_over p m.hooks) (option_map (λ x. x.now) c.args.label) (map assign_of c.args.assigns.now) vs in
+    let there = is ∙ sym (values_kept p c.args.store.now c.loop.store (g.E.Evaluator.table c.args.evaluator.now) (g.E.Evaluator.table c.loop.evaluator) i.extends i.kept c.args.values.now c.requires.values) in
     let told = subst (λ (z : Meanings). IsTurn (program_over p z.hooks) c.args.limit (left_at g.L.Lister.asked g.L.Lister.given p z.hooks chosen c.loop.store c.loop.place)
-    (left_at g.L.Lister.asked g.L.Lister.given p z.hooks chosen c.turn_at.new.store c.turn_at.new.place) (use_at g.L.Lister.asked g.L.Lister.given p c.turn_at.new.store c.turn_at.new.place) (Ok c.in-Ok-Found.field-0)) i.meanings c.in-Ok-Found.ensures.turn in
+    (left_at g.L.Lister.asked g.L.Lister.given p z.hooks chosen c.turn_at.new.store c.turn_at.new.place) (use_at g.L.Lister.asked g.L.Lister.given p c.turn_at.new.store c.turn_at.new.place) (Ok c.in-Ok-Found.field-0)) i.meanings (c.in-Ok-Found.ensures.turn vs there) in
     found_then (program_over p m.hooks) c.args.limit (left_at g.L.Lister.asked g.L.Lister.given p m.hooks chosen c.args.store.now c.args.place.now) (left_at g.L.Lister.asked g.L.Lister.given p m.hooks chosen c.loop.store c.loop.place) (left_at g.L.Lister.asked g.L.Lister.given p m.hooks chosen c.turn_at.new.store c.turn_at.new.place)
-    (use_at g.L.Lister.asked g.L.Lister.given p c.turn_at.new.store c.turn_at.new.place) i.passed
+    (use_at g.L.Lister.asked g.L.Lister.given p c.turn_at.new.store c.turn_at.new.place) (i.passed vs is)
     (subst (λ (t : Turn). IsTurn (program_over p m.hooks) c.args.limit (left_at g.L.Lister.asked g.L.Lister.given p m.hooks chosen c.loop.store c.loop.place) (left_at g.L.Lister.asked g.L.Lister.given p m.hooks chosen c.turn_at.new.store c.turn_at.new.place)
     (use_at g.L.Lister.asked g.L.Lister.given p c.turn_at.new.store c.turn_at.new.place) (Ok t)) c.in-Ok-Found.field-0-is told)
 
 pub returns-in-Ok-Over-clause-next : goal.returns-in-Ok-Over-clause-next
-returns-in-Ok-Over-clause-next g c =
+returns-in-Ok-Over-clause-next g c = λ vs is.
     let i = c.loop.invariant in
     let m = g.E.Evaluator.meanings c.args.evaluator.now in
     let p = c.args.program.now in
-    let chosen = is_chosen (option_map (λ x. x.now) c.args.label) in
+    let chosen = choice_of (program_over p m.hooks) (option_map (λ x. x.now) c.args.label) (map assign_of c.args.assigns.now) vs in
+    let there = is ∙ sym (values_kept p c.args.store.now c.loop.store (g.E.Evaluator.table c.args.evaluator.now) (g.E.Evaluator.table c.loop.evaluator) i.extends i.kept c.args.values.now c.requires.values) in
     let told = subst (λ (z : Meanings). IsTurn (program_over p z.hooks) c.args.limit (left_at g.L.Lister.asked g.L.Lister.given p z.hooks chosen c.loop.store c.loop.place)
-    (left_at g.L.Lister.asked g.L.Lister.given p z.hooks chosen c.turn_at.new.store c.turn_at.new.place) (use_at g.L.Lister.asked g.L.Lister.given p c.turn_at.new.store c.turn_at.new.place) (Ok c.in-Ok-Over.field-0)) i.meanings c.in-Ok-Over.ensures.turn in
+    (left_at g.L.Lister.asked g.L.Lister.given p z.hooks chosen c.turn_at.new.store c.turn_at.new.place) (use_at g.L.Lister.asked g.L.Lister.given p c.turn_at.new.store c.turn_at.new.place) (Ok c.in-Ok-Over.field-0)) i.meanings (c.in-Ok-Over.ensures.turn vs there) in
     over_then (program_over p m.hooks) c.args.limit (left_at g.L.Lister.asked g.L.Lister.given p m.hooks chosen c.args.store.now c.args.place.now) (left_at g.L.Lister.asked g.L.Lister.given p m.hooks chosen c.loop.store c.loop.place) (left_at g.L.Lister.asked g.L.Lister.given p m.hooks chosen c.turn_at.new.store c.turn_at.new.place)
-    (use_at g.L.Lister.asked g.L.Lister.given p c.turn_at.new.store c.turn_at.new.place) i.passed
+    (use_at g.L.Lister.asked g.L.Lister.given p c.turn_at.new.store c.turn_at.new.place) (i.passed vs is)
     (subst (λ (t : Turn). IsTurn (program_over p m.hooks) c.args.limit (left_at g.L.Lister.asked g.L.Lister.given p m.hooks chosen c.loop.store c.loop.place) (left_at g.L.Lister.asked g.L.Lister.given p m.hooks chosen c.turn_at.new.store c.turn_at.new.place)
     (use_at g.L.Lister.asked g.L.Lister.given p c.turn_at.new.store c.turn_at.new.place) (Ok t)) c.in-Ok-Over.field-0-is told)
 
 pub returns-in-Err-clause-next : goal.returns-in-Err-clause-next
-returns-in-Err-clause-next g c =
+returns-in-Err-clause-next g c = λ vs is.
     let i = c.loop.invariant in
     let m = g.E.Evaluator.meanings c.args.evaluator.now in
     let p = c.args.program.now in
-    let chosen = is_chosen (option_map (λ x. x.now) c.args.label) in
+    let chosen = choice_of (program_over p m.hooks) (option_map (λ x. x.now) c.args.label) (map assign_of c.args.assigns.now) vs in
+    let there = is ∙ sym (values_kept p c.args.store.now c.loop.store (g.E.Evaluator.table c.args.evaluator.now) (g.E.Evaluator.table c.loop.evaluator) i.extends i.kept c.args.values.now c.requires.values) in
     let told = subst (λ (z : Meanings). IsTurn (program_over p z.hooks) c.args.limit (left_at g.L.Lister.asked g.L.Lister.given p z.hooks chosen c.loop.store c.loop.place)
-    (left_at g.L.Lister.asked g.L.Lister.given p z.hooks chosen c.turn_at.new.store c.turn_at.new.place) (use_at g.L.Lister.asked g.L.Lister.given p c.turn_at.new.store c.turn_at.new.place) (Err c.in-Err.end)) i.meanings c.in-Err.ensures.turn in
+    (left_at g.L.Lister.asked g.L.Lister.given p z.hooks chosen c.turn_at.new.store c.turn_at.new.place) (use_at g.L.Lister.asked g.L.Lister.given p c.turn_at.new.store c.turn_at.new.place) (Err c.in-Err.end)) i.meanings (c.in-Err.ensures.turn vs there) in
     ends_then (program_over p m.hooks) c.args.limit (left_at g.L.Lister.asked g.L.Lister.given p m.hooks chosen c.args.store.now c.args.place.now) (left_at g.L.Lister.asked g.L.Lister.given p m.hooks chosen c.loop.store c.loop.place) (left_at g.L.Lister.asked g.L.Lister.given p m.hooks chosen c.turn_at.new.store c.turn_at.new.place)
-    (use_at g.L.Lister.asked g.L.Lister.given p c.turn_at.new.store c.turn_at.new.place) i.passed c.in-Err.end told
+    (use_at g.L.Lister.asked g.L.Lister.given p c.turn_at.new.store c.turn_at.new.place) (i.passed vs is) c.in-Err.end told
 
 pub returns-clause-next : goal.returns-clause-next
-returns-clause-next g c = (c.loop.invariant.passed, tt)
+returns-clause-next g c = λ vs is. (c.loop.invariant.passed vs is, tt)
 
 pub returns-in-Ok-Found-clause-place : goal.returns-in-Ok-Found-clause-place
 returns-in-Ok-Found-clause-place g c =
     let i = c.loop.invariant in
     let m = g.E.Evaluator.meanings c.args.evaluator.now in
     let p = c.args.program.now in
-    let chosen = is_chosen (option_map (λ x. x.now) c.args.label) in
     subst (λ (z : Meanings). IsAtPlace g.L.Lister.asked g.L.Lister.given g.L.Lister.is_for g.L.Lister.with_context p z c.turn_at.new.store (g.E.Evaluator.table c.turn_at.new.evaluator) c.turn_at.new.place) i.meanings c.turn_at.ensures.place
 
 pub returns-in-Ok-Found-clause-term : goal.returns-in-Ok-Found-clause-term
@@ -127,7 +131,6 @@ returns-in-Ok-Over-clause-place g c =
     let i = c.loop.invariant in
     let m = g.E.Evaluator.meanings c.args.evaluator.now in
     let p = c.args.program.now in
-    let chosen = is_chosen (option_map (λ x. x.now) c.args.label) in
     subst (λ (z : Meanings). IsAtPlace g.L.Lister.asked g.L.Lister.given g.L.Lister.is_for g.L.Lister.with_context p z c.turn_at.new.store (g.E.Evaluator.table c.turn_at.new.evaluator) c.turn_at.new.place) i.meanings c.turn_at.ensures.place
 
 pub returns-in-Ok-Over-clause-term : goal.returns-in-Ok-Over-clause-term
@@ -147,7 +150,6 @@ returns-in-Err-clause-place g c =
     let i = c.loop.invariant in
     let m = g.E.Evaluator.meanings c.args.evaluator.now in
     let p = c.args.program.now in
-    let chosen = is_chosen (option_map (λ x. x.now) c.args.label) in
     subst (λ (z : Meanings). IsAtPlace g.L.Lister.asked g.L.Lister.given g.L.Lister.is_for g.L.Lister.with_context p z c.turn_at.new.store (g.E.Evaluator.table c.turn_at.new.evaluator) c.turn_at.new.place) i.meanings c.turn_at.ensures.place
 
 pub returns-in-Err-clause-term : goal.returns-in-Err-clause-term
@@ -161,3 +163,8 @@ returns-in-Err-clause-extends g c = extension_is_preorder.transitive c.args.stor
 
 pub returns-in-Err-clause-meanings : goal.returns-in-Err-clause-meanings
 returns-in-Err-clause-meanings g c = c.turn_at.ensures.meanings ∙ c.loop.invariant.meanings
+
+pub turn_at-requires-clause-values : goal.turn_at-requires-clause-values
+turn_at-requires-clause-values g c =
+    let i = c.loop.invariant in
+    all_evaluated c.args.program.now c.args.store.now c.loop.store (g.E.Evaluator.table c.args.evaluator.now) (g.E.Evaluator.table c.loop.evaluator) i.extends i.kept c.args.values.now c.requires.values

@@ -6,7 +6,7 @@ use Rattle.mau_evaluation.specs.Satisfies.{same_name}
 use Rattle.mau_evaluation.specs.OrderedLists.{is_labelled}
 use Rattle.mau_leaves.specs.Uses.{is_chosen}
 use Rattle.mau_api.specs.Programs.{rule_of}
-use Rattle.mau_leaves.proofs.place.is_asked.Goals as goal
+use Rattle.mau_leaves.proofs.assigned.is_asked.Goals as goal
 
 same_texts : (xs ys : List ℕ) → pointwise eqb xs ys ≡ same_name xs ys
 same_texts [] [] = refl
