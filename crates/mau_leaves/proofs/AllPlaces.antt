@@ -156,7 +156,7 @@ module _ (P : Program) (L : Engine) (d : Todo) (t : Tree) where
       ∙ (those_none (for_each (labelled_place P L n [] []) (answers_of (places_of P t)))
       ∙ each_same (labelled_place P L n [] []) (results_at P L (choice_of P (Some n) [] [])) (λ s. sym ((uses_lead_to_results P L s).2 n [] [])) (answers_of (places_of P t)))
 
-module _ {K : Type 0} (asked : K → Asked) (given : K → Option Listed.Solution) (p : Typed.Program) (hooks : List Operator) (nodes : List Node) (term : TermId) (o : Option (List ℕ)) (d : Todo) (form : IsEverywhereOf o d.form) (search : PlacesResults K) (at : search.at ≡ start_at term)
+module _ {K : Type 0} (asked : K → Asked) (given : K → Option Listed.Solution) (p : Typed.Program) (hooks : List Operator) (nodes : List Node) (term : TermId) (chosen : Choice) (search : PlacesResults K) (at : search.at ≡ start_at term)
     (way : search.way.items ≡ []) (gone : search.gone ≡ false) where
   abbrev P : Program
   P = program_over p hooks
@@ -171,22 +171,27 @@ module _ {K : Type 0} (asked : K → Asked) (given : K → Option Listed.Solutio
   all_places = place_first (is_frozen_at p.sig) (λ v. v) t ∙ ap (λ ps. place_in (λ v. v) t ∷ ps) (sym (append-nil behind))
 
   abbrev Here : Engine → Answers Tree → Type 0
-  Here = left_then P (choice_of (program_over p hooks) o [] []) (places_after p.sig nodes [] term.0) false (left_around asked given p hooks (choice_of (program_over p hooks) o [] []) (λ v. v) nodes (start_at term))
+  Here = left_then P chosen (places_after p.sig nodes [] term.0) false (left_around asked given p hooks chosen (λ v. v) nodes (start_at term))
 
-  here : Here ≡ left_of_places asked given p hooks (choice_of (program_over p hooks) o [] []) nodes search
+  here : Here ≡ left_of_places asked given p hooks chosen nodes search
   here = λ i.
-      left_then P (choice_of (program_over p hooks) o [] []) (places_after p.sig nodes (sym way i) (sym at i).place.term.0) (sym gone i) (left_around asked given p hooks (choice_of (program_over p hooks) o [] []) (around_way nodes (sym way i)) nodes (sym at i))
+      left_then P chosen (places_after p.sig nodes (sym way i) (sym at i).place.term.0) (sym gone i) (left_around asked given p hooks chosen (around_way nodes (sym way i)) nodes (sym at i))
 
-  pub begins_everywhere : HasGiven (program_over p hooks) (engine_of (program_over p hooks)) d (tree_at nodes term.0) [] (left_of_places asked given p hooks (choice_of (program_over p hooks) o [] []) nodes search)
-  begins_everywhere =
-      subst (λ (f : Engine → Answers Tree → Type 0). HasGiven P (engine_of P) d t [] f) here
-      (begins (engine_of P) (λ L. results P L d t) Here
-      (through_always (engine_of P) (λ L q. q ≡ results P L d t) {H = λ L. Passes (λ q. q ≡ results P L d t) (Here L)}
-      (λ L q e. (
-        results_at P L (choice_of P o [] []) (place_in (λ v. v) t),
-        starts_there asked given p hooks (choice_of (program_over p hooks) o [] []) (λ v. v) nodes (start_at term) term refl L,
-        e ∙ (place_results P L d t o form ∙ ap (results_at_all P L (choice_of P o [] [])) all_places),
-      ))))
+  -- before all, the results at all places are left
+  pub starts_everywhere : (L : Engine) → left_of_places asked given p hooks chosen nodes search L (results_at_all (program_over p hooks) L chosen (places_of (program_over p hooks) (tree_at nodes term.0)))
+  starts_everywhere L =
+      subst (λ (f : Engine → Answers Tree → Type 0). f L (results_at_all P L chosen (places_of P t))) here (
+        results_at P L chosen (place_in (λ v. v) t),
+        starts_there asked given p hooks chosen (λ v. v) nodes (start_at term) term refl L,
+        ap (results_at_all P L chosen) all_places,
+      )
+
+  pub begins_everywhere : (o : Option (List ℕ)) → chosen ≡ choice_of (program_over p hooks) o [] [] → (d : Todo) → IsEverywhereOf o d.form →
+      HasGiven (program_over p hooks) (engine_of (program_over p hooks)) d (tree_at nodes term.0) [] (left_of_places asked given p hooks chosen nodes search)
+  begins_everywhere o is d form =
+      begins (engine_of P) (λ L. results P L d t) (left_of_places asked given p hooks chosen nodes search)
+      (through_always (engine_of P) (λ L q. q ≡ results P L d t) {H = λ L. Passes (λ q. q ≡ results P L d t) (left_of_places asked given p hooks chosen nodes search L)}
+      (λ L q e. subst (left_of_places asked given p hooks chosen nodes search L) (sym (e ∙ (place_results P L d t o form ∙ ap (λ (z : Choice). results_at_all P L z (places_of P t)) (sym is)))) (starts_everywhere L)))
 
 -- ---- such a search in a store that has grown
 

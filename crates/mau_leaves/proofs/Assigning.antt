@@ -93,16 +93,13 @@ module _ (P : Program) (vars : List (List ℕ × ℕ)) (g : Assign) (gs : List A
 -- the value has not the sort of the variable
 pub not_sorted : (P : Program) (vars : List (List ℕ × ℕ)) (g : Assign) (v : Tree) (x : Variable) → index_of same_name vars 0 g.name g.sort ≡ Some x → ComesToSort P x v false → (gs : List Assign) (vs : List Tree) → IsGivenBy P vars (g ∷ gs) (v ∷ vs) None
 not_sorted P vars g v x named told gs vs = record {
-  always = so (engine_of P) {A = λ L. have_sorts L.level.sorts (x ∷ []) (v ∷ []) L.budget ≡ done false 0 L.budget} {B = λ L. assigned P L vars (g ∷ gs) (v ∷ vs) ≡ no_more} (λ L t. is L ∙ ap (from_outcome (after L)) t) told;
+  always = so (engine_of P) {A = λ L. have_sorts L.level.sorts (x ∷ []) (v ∷ []) L.budget ≡ done false 0 L.budget} {B = λ L. assigned P L vars (g ∷ gs) (v ∷ vs) ≡ no_more} (λ L t. is L ∙ ap (from_outcome (after P vars g gs v vs x named L)) t) told;
   without_one = λ q e.
       so (engine_of P) {A = λ L. have_sorts L.level.sorts (x ∷ []) (v ∷ []) L.budget ≡ done false 0 L.budget}
       {B = λ L. (assigned P (without L q e) vars (g ∷ gs) (v ∷ vs) ≡ no_more) ⊎ EndsNow (just (λ L. assigned P L vars (g ∷ gs) (v ∷ vs)) (without L q e)) e}
       (λ L t. there L q e t (having_or L q e (x ∷ []) (v ∷ []) (without L q e).budget)) told;
 }
   where
-    abbrev after : Engine → Bool → Answers Binding
-    after L ok = when ok (for_each (put_at x v) (assigned P L vars gs vs))
-
     is : (L : Engine) → assigned P L vars (g ∷ gs) (v ∷ vs) ≡ assigned_at P L x v (assigned P L vars gs vs)
     is L = here P vars g gs v vs x named L
 
@@ -111,5 +108,5 @@ not_sorted P vars g v x named told gs vs = record {
         ⊎ (have_sorts (without L q e).level.sorts (x ∷ []) (v ∷ []) (without L q e).budget ≡ ended e) →
         (assigned P (without L q e) vars (g ∷ gs) (v ∷ vs) ≡ no_more) ⊎ EndsNow (just (λ L. assigned P L vars (g ∷ gs) (v ∷ vs)) (without L q e)) e
     there L q e t (inl h) =
-        inl (is (without L q e) ∙ ap (from_outcome (after (without L q e))) (h ∙ (ap (have_sorts L.level.sorts (x ∷ []) (v ∷ [])) (budget_same L q e) ∙ (t ∙ ap (done false 0) (sym (budget_same L q e))))))
-    there L q e t (inr h) = inr (λ z n. n ∙ (is (without L q e) ∙ ap (from_outcome (after (without L q e))) h))
+        inl (is (without L q e) ∙ ap (from_outcome (after P vars g gs v vs x named (without L q e))) (h ∙ (ap (have_sorts L.level.sorts (x ∷ []) (v ∷ [])) (budget_same L q e) ∙ (t ∙ ap (done false 0) (sym (budget_same L q e))))))
+    there L q e t (inr h) = inr (λ z n. n ∙ (is (without L q e) ∙ ap (from_outcome (after P vars g gs v vs x named (without L q e))) h))

@@ -121,7 +121,7 @@ module _ (P : Program) (b : ℕ) (defs : List StratDef) (d : Todo) (leaf : IsLea
   abbrev list : Engine → Answers Tree
   list L = results P L d t
 
-  ends_so : (e : EvalEnd) → IsDueBy P b old e → IsLeafDue P b defs d t us e
+  pub ends_so : (e : EvalEnd) → IsDueBy P b old e → IsLeafDue P b defs d t us e
   ends_so Stopped due = needs (engine_of P) list P defs us old h levels_of_condition b stopped due
   ends_so TooDeep due = needs (engine_of P) list P defs us old h levels_of_condition b too_deep due
   ends_so Overflow due = needs (engine_of P) list P defs us old h levels_of_condition b overflowed due

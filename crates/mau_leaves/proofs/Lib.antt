@@ -82,7 +82,9 @@ pub mod Subtrees
 pub mod SubtermTurns
 -- tests
 pub mod Holding
--- the cursors of who gives the results of leaves, as there are more terms
-pub mod Cursors
 -- searches at all places of a term
 pub mod AllPlaces
+-- the results of a label under assignments as a run has them
+pub mod AssignedCursors
+-- the cursors of who gives the results of leaves, as there are more terms
+pub mod Cursors

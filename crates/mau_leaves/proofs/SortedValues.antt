@@ -64,9 +64,6 @@ module _ (p : Typed.Program) (run : IsRunnable p) (m : Meanings) (goes : GoesBy 
             which false true h t = sym (t.1 ((own.exact x.1).1 h))
             which false false h t = refl
 
-        after : List ℕ → Run Bool
-        after ss = choose (has_number ss x.1) (have_sorts (levels P m.limit own.levels).sorts [] []) (gives false)
-
         chosen : (c : Bool) (l : ℕ) → choose c (have_sorts (levels P m.limit own.levels).sorts [] []) (gives false) l ≡ done c 0 l
         chosen true l = refl
         chosen false l = refl
@@ -75,7 +72,6 @@ module _ (p : Typed.Program) (run : IsRunnable p) (m : Meanings) (goes : GoesBy 
         sorts_known l = ap (λ u. (levels P m.limit own.levels).sorts u l) (sym is.term.within.normal) ∙ own.known l
 
         at_first : (l : ℕ) → have_sorts (levels P m.limit own.levels).sorts (x ∷ []) (tree_at nodes id.0 ∷ []) l ≡ done b 0 l
-        unfolding after
         at_first l =
             ap (go_on (λ ss. choose (has_number ss x.1) (have_sorts (levels P m.limit own.levels).sorts [] []) (gives false))) (sorts_known l)
             ∙ (ap (λ c. go_on (λ ss. choose c (have_sorts (levels P m.limit own.levels).sorts [] []) (gives false)) (done own.sorts 0 l)) same ∙ counted_none b l)

@@ -16,14 +16,15 @@ use Rattle.mau_sorts.specs.Table.{Table}
 use Rattle.mau_listing.specs.Asked.{Asked}
 use Rattle.mau_listing.specs.declared.solution.Solution as Listed
 use Rattle.mau_program.specs.declared.program.Program as Typed
+use Rattle.mau_program.specs.declared.strategies.Assign.{Assign}
 use Rattle.mau_program.specs.Trees as Written
 use Rattle.mau_program.specs.LawfulStrategies.{IsLawfulDefinition}
-use Rattle.mau_evaluation.specs.Strategy.{Strategy, idle, call}
+use Rattle.mau_evaluation.specs.Strategy.{Strategy, idle, label as labelled, call}
 use Rattle.mau_evaluation.specs.Engine.{Engine, engine_of}
 use Rattle.mau_evaluation.specs.Evaluation.{look_up}
 use Rattle.mau_evaluation.specs.Answers.{Answers, no_more, answer, for_each}
 use Rattle.mau_evaluation.specs.Configs.{Todo}
-use Rattle.mau_evaluation.specs.OrderedLists.{IsLeaf as IsLeafForm, bodies_by}
+use Rattle.mau_evaluation.specs.OrderedLists.{IsLeaf as IsLeafForm, by_label, assigned_terms, bodies_by}
 use Rattle.mau_api.specs.Terms.{IsTerm}
 use Rattle.mau_api.specs.Programs.{program_over}
 use Rattle.mau_api.specs.Meanings.{Meanings}
@@ -43,10 +44,10 @@ use Rattle.mau_stratrun.specs.declared.leaves.LeafEnd.TheVariants.{Stopped, TooD
 use Rattle.mau_stratrun.specs.Settings.{Fixed}
 use Rattle.mau_stratrun.specs.Yields.{Yield, result_of, body_on, YieldsAll, IsCause}
 use Rattle.mau_stratrun.specs.Worlds.{World}
-use Rattle.mau_stratforms.specs.Meanings.{meaning_of, definition_of}
+use Rattle.mau_stratforms.specs.Meanings.{assign_of, meaning_of, definition_of}
 use Rattle.mau_leaves.specs.Chosen.{choice_of}
 use Rattle.mau_leaves.specs.Top.{left_of_top, IsTop}
-use Rattle.mau_leaves.specs.Everywhere.{left_of_places, IsEverywhere, IsEverywhereOf}
+use Rattle.mau_leaves.specs.Everywhere.{left_of_places, IsEverywhere, IsEverywhereOf, start_at, placed, places_for, left_where, IsWhere}
 use Rattle.mau_leaves.specs.declared.everywhere.PlacesResults.{PlacesResults}
 use Rattle.mau_leaves.specs.Tests.{left_of_test, IsTest}
 use Rattle.mau_leaves.specs.Searches.{found_in}
@@ -56,8 +57,9 @@ use Rattle.mau_leaves.specs.Calls.{left_of_call, body_found, IsCallSearch}
 use Rattle.mau_leaves.specs.Follows.{HasGiven, HasGivenBodies, IsTopOf}
 use Rattle.mau_leaves.specs.declared.top.TopResults.{TopResults}
 use Rattle.mau_leaves.specs.declared.cursor.LeafCursor.{LeafCursor}
-use Rattle.mau_leaves.specs.declared.cursor.LeafCursor.TheVariants.{Top, Everywhere, Bodies, Test, Unsearched}
+use Rattle.mau_leaves.specs.declared.cursor.LeafCursor.TheVariants.{Top, Everywhere, Assigned, Bodies, Test, Unsearched}
 use Rattle.mau_leaves.specs.declared.testing.TestCursor.{TestCursor}
+use Rattle.mau_leaves.specs.declared.cursor.AssignedCursor.{AssignedCursor}
 use Rattle.mau_leaves.specs.declared.cursor.CallCursor.{CallCursor}
 
 -- ---- leaves by numbers
@@ -77,6 +79,22 @@ label_of_one (Some s) = label_by s
 
 abbrev pub label_in : List Written.StrategyOf → ℕ → Option (List ℕ)
 label_in leaves l = label_of_one (slice_get leaves l)
+
+-- the label of a leaf, and its assignments
+abbrev pub assigning_by : Written.StrategyOf → Option (List ℕ × List Assign)
+assigning_by (Written.label n gs) = Some (n, gs)
+assigning_by _ = None
+
+abbrev pub assigning_of_one : Option Written.StrategyOf → Option (List ℕ × List Assign)
+assigning_of_one None = None
+assigning_of_one (Some s) = assigning_by s
+
+abbrev pub assigning_in : List Written.StrategyOf → ℕ → Option (List ℕ × List Assign)
+assigning_in leaves l = assigning_of_one (slice_get leaves l)
+
+-- the terms that are assigned
+abbrev pub assigned_in : List Assign → List Tree
+assigned_in gs = map (λ g. tree_of g.value) gs
 
 -- the name of a leaf that is a call, and its arguments
 abbrev pub call_by : Written.StrategyOf → Option (List ℕ × List Tree)
@@ -245,6 +263,38 @@ module _ {K : Type 0} (asked : K → Asked) (given : K → Option Listed.Solutio
     pub search : IsEverywhere asked given is_for c p m nodes table s
     pub rest : HasGiven (program_over p m.hooks) (engine_of (program_over p m.hooks)) d t results (left_of_places asked given p m.hooks (choice_of (program_over p m.hooks) (chosen_by leaves label) [] []) nodes s)
 
+  -- what is left of the results of a label under assignments: their terms are evaluated first
+  abbrev pub left_assigning : List ℕ → List Assign → Tree → AssignedCursor K → Bool → Engine → Answers Tree → Type 0
+  left_assigning n gs t s false = just (λ L.
+      for_each (by_label (program_over p m.hooks) L (places_for s.at_root (program_over p m.hooks)) n (map assign_of gs) t)
+      (values_behind (program_over p m.hooks) L (assigned_terms (binding_in nodes s.bound.items) (map assign_of gs)) (trees_at nodes (numbers s.values.items))))
+  left_assigning n gs t s true =
+      left_where asked given p m.hooks s.at_root (choice_of (program_over p m.hooks) (Some n) (map assign_of gs) (trees_at nodes (numbers s.values.items))) nodes s.results
+
+  -- the search for results before all, at the root of t
+  pub record StandsFirst (s : PlacesResults K) (t : Tree) : Type 0 where
+    pub way : s.way.items ≡ []
+    pub gone : s.gone ≡ false
+    pub at : s.at ≡ start_at s.at.place.term
+    pub root : tree_at nodes s.at.place.term.0 ≡ t
+
+  -- results of the rules with a label, under assignments
+  pub record IsAssignedCursor (s : AssignedCursor K) (d : Todo) (t : Tree) (ys : List Yield) : Type 0 where
+    pub name : List ℕ
+    pub assigns : List Assign
+    pub named : assigning_in leaves s.leaf.0 ≡ Some (name, assigns)
+    pub form : d.form ≡ placed s.at_root (labelled name (map assign_of assigns))
+    pub values : d.values ≡ binding_in nodes s.bound.items
+    pub bound : All (IsValueOf p.sig nodes table) s.bound.items
+    pub bare : All (IsBare (terms_over p.sig)) (assigned_in assigns)
+    pub evaluated : All (IsEvaluated p.sig nodes table) s.values.items
+    pub count : length s.values.items ≤ length assigns
+    pub results : List Tree
+    pub yielded : ys ≡ map result_of results
+    pub search : IsWhere asked given is_for c p m nodes table s.at_root s.results
+    pub stands : s.begun ≡ false → StandsFirst s.results t
+    pub rest : HasGiven (program_over p m.hooks) (engine_of (program_over p m.hooks)) d t results (left_assigning name assigns t s s.begun)
+
   -- the result of a test
   pub record IsTestCursor (s : TestCursor K) (d : Todo) (t : Tree) (ys : List Yield) : Type 0 where
     pub results : List Tree
@@ -256,6 +306,7 @@ module _ {K : Type 0} (asked : K → Asked) (given : K → Option Listed.Solutio
   abbrev pub yields_in : LeafCursor K → Todo → Tree → List Yield → Type 0
   yields_in (Top label s) d t ys = IsTopCursor label s d t ys
   yields_in (Everywhere label s) d t ys = IsEverywhereCursor label s d t ys
+  yields_in (Assigned s) d t ys = IsAssignedCursor s d t ys
   yields_in (Bodies s) d t ys = IsCallCursor asked given is_for c p m leaves nodes table s d t ys
   yields_in (Test s) d t ys = IsTestCursor s d t ys
   yields_in Unsearched d t ys = ys ≡ []
@@ -268,3 +319,8 @@ module _ {K : Type 0} (asked : K → Asked) (given : K → Option Listed.Solutio
     is_bound = λ b. IsValueOf p.sig nodes table (b.variable, b.value);
     yields = yields_in;
   }
+
+  -- the assigned terms have their values, or an end has its cause
+  abbrev pub HasAssigned : {A : Type 0} → AssignedCursor K → Todo → Tree → List Yield → Result A EvalEnd → Type 0
+  HasAssigned s d t ys (Ok x) = IsAssignedCursor s d t ys
+  HasAssigned s d t ys (Err e) = IsAssignedCursor s d t ys × IsCause (fixed_of p m leaves) d t ys (leaf_end e)

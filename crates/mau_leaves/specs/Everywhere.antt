@@ -12,9 +12,9 @@ use Rattle.mau_listing.specs.declared.solution.Solution as Listed
 use Rattle.mau_program.specs.declared.program.Program as Typed
 use Rattle.mau_evaluation.specs.Program.{Program}
 use Rattle.mau_evaluation.specs.Engine.{Engine, engine_of}
-use Rattle.mau_evaluation.specs.Rules.{Place}
+use Rattle.mau_evaluation.specs.Rules.{Place, places_of, root_of}
 use Rattle.mau_evaluation.specs.Answers.{Answers, answers_of, for_each}
-use Rattle.mau_evaluation.specs.Strategy.{Strategy, every_rule, label}
+use Rattle.mau_evaluation.specs.Strategy.{Strategy, every_rule, label, top_only}
 use Rattle.mau_api.specs.Programs.{program_over}
 use Rattle.mau_api.specs.Meanings.{Meanings}
 use Rattle.mau_api.specs.Answers.{AreSettled}
@@ -23,7 +23,7 @@ use Rattle.mau_rules.specs.declared.walk.Open.{Open}
 use Rattle.mau_rules.specs.Walk.{is_frozen_at, opened, around_all, places_behind, places_left, IsWalk}
 use Rattle.mau_leaves.specs.Steps.{Passes, Before, Throughout}
 use Rattle.mau_leaves.specs.Uses.{Choice, uses_of_all, value_at}
-use Rattle.mau_leaves.specs.Top.{place_in, left_around, IsTop, IsNextResult}
+use Rattle.mau_leaves.specs.Top.{place_in, left_around, left_of_top, IsTop, IsNextResult}
 use Rattle.mau_leaves.specs.declared.top.TopResults.{TopResults}
 use Rattle.mau_leaves.specs.declared.everywhere.PlacesResults.{PlacesResults}
 
@@ -80,3 +80,24 @@ IsPlaceTurn P b old new nodes (Err e) = IsNextResult P b old new nodes (Err e)
 abbrev pub IsEverywhereOf : Option (List ℕ) → Strategy → Type 0
 IsEverywhereOf None e = e ≡ every_rule
 IsEverywhereOf (Some n) e = e ≡ label n []
+
+-- ---- at the root alone, or at all places
+
+-- a strategy under `top`, or by itself
+abbrev pub placed : Bool → Strategy → Strategy
+placed true e = top_only e
+placed false e = e
+
+-- the places at which it is used
+abbrev pub places_for : Bool → Program → Tree → List Place
+places_for true P = root_of
+places_for false P = places_of P
+
+module _ {K : Type 0} (asked : K → Asked) (given : K → Option Listed.Solution) where
+  abbrev pub left_where : Typed.Program → List Operator → Bool → Choice → List Node → PlacesResults K → Engine → Answers Tree → Type 0
+  left_where p hooks true chosen nodes s = left_of_top asked given p hooks chosen nodes s.at
+  left_where p hooks false chosen nodes s = left_of_places asked given p hooks chosen nodes s
+
+  abbrev pub IsWhere : (is_for : K → SignatureOf → Type 0) (c : Bool) (p : Typed.Program) (m : Meanings) (nodes : List Node) (table : Table) → Bool → PlacesResults K → Type 0
+  IsWhere is_for c p m nodes table true s = IsTop asked given is_for c p m nodes table s.at
+  IsWhere is_for c p m nodes table false s = IsEverywhere asked given is_for c p m nodes table s

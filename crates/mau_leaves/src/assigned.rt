@@ -75,12 +75,7 @@ fn variable_named(vars: &Vars, name: &str, sort: u32) -> Result<Option<VarId>, N
 }
 
 /// Whether a settled term has a sort. Where it is not settled, or what is asked for is the number of no sort or kind, the search gives up.
-fn has_sort(
-    sig: &Signature,
-    sorts: &SortTable,
-    value: TermId,
-    sort: u32,
-) -> Result<bool, NoMemory>
+fn has_sort(sig: &Signature, sorts: &SortTable, value: TermId, sort: u32) -> Result<bool, NoMemory>
     requires over { AreOver sig.now.hierarchy sorts.now }
     ensures { IfOk result (HasSortIn sig.now.hierarchy sorts.now value sort) }
 {

@@ -17,22 +17,24 @@ ghost use Rattle.mau_stratrun.specs.Settings.{IsLeadIn};
 ghost use Rattle.mau_stratrun.specs.Worlds.{LeavesGrow, begun_by, values_of, IsNextYield};
 ghost use Rattle.mau_rules.specs.Runnable.{IsRunnable, GoesBy};
 ghost use Rattle.mau_leaves.specs.Searches.{found_in};
-ghost use Rattle.mau_leaves.specs.Cursors.{leaf_at, label_in, chosen_by, call_in, leaf_end, yielded_by, bound_by, IsTopCursor, IsEverywhereCursor, IsTestCursor, IsOver, found_by, IsCallCursor, HasTaken, HasFound, IsBodyOf, IsGivenBody, IsReady, yields_in, world_of, world_of_calls};
+ghost use Rattle.mau_leaves.specs.Everywhere.{placed};
+ghost use Rattle.mau_leaves.specs.Cursors.{leaf_at, label_in, chosen_by, assigning_in, call_in, leaf_end, yielded_by, bound_by, IsTopCursor, IsEverywhereCursor, IsTestCursor, IsAssignedCursor, HasAssigned, IsOver, found_by, IsCallCursor, HasTaken, HasFound, IsBodyOf, IsGivenBody, IsReady, yields_in, world_of, world_of_calls};
 ghost use Rattle.mau_leaves.specs.declared.cursor.LeafCursor.TheVariants as At;
 
 use crate::bodies::{CallBodies, next_body};
-use crate::everywhere::{PlacesResults, next_everywhere, start_everywhere};
+use crate::everywhere::{PlacesResults, next_everywhere, next_where, start_everywhere};
 use crate::given::pairs_of;
 use crate::testing::{TestCursor, next_test, start_test};
 use crate::top::{TopResults, next_top, start_top};
 use crate::uses::{Standing, last_of};
 use crate::values::next_values;
 use mau_api::{EvalEnd, Evaluator, Lister, Program, Strategy, StrategyForm};
+use mau_program::Assign;
 use mau_signature::{Signature, is_bare};
 use mau_store::Store;
 use mau_strat::{Bound, LeafId};
 use mau_stratrun::{Body, Lead, LeafEnd, Leaves, Yielded};
-use mau_terms::{Args, Bare, NoMemory, TermId, VarId};
+use mau_terms::{Args, Bare, NoMemory, Seq, TermId, VarId};
 use std::alloc::Global;
 use std::marker::PhantomData;
 
@@ -48,6 +50,18 @@ pub struct CallCursor<L> {
     pub due: bool,
 }
 
+/// A label under assignments, by the number of its leaf, at the root alone or at all places, with the values that variables have; the values
+/// of the first of the assigned terms; and the search for results, which begins where all of these have theirs.
+#[derive(Drop)]
+pub struct AssignedCursor<L> {
+    pub leaf: LeafId,
+    pub at_root: bool,
+    pub bound: Vec<(VarId, TermId)>,
+    pub values: Vec<TermId>,
+    pub begun: bool,
+    pub results: PlacesResults<L>,
+}
+
 /// Where the search for what a strategy yields on a term stands.
 #[derive(Drop)]
 pub enum LeafCursor<L> {
@@ -55,6 +69,8 @@ pub enum LeafCursor<L> {
     Top(Option<LeafId>, TopResults<L>),
     /// `all`, or a label by the number of its leaf.
     Everywhere(Option<LeafId>, PlacesResults<L>),
+    /// A label with assignments, or `top` of one.
+    Assigned(AssignedCursor<L>),
     /// A call.
     Bodies(CallCursor<L>),
     /// A test.
@@ -98,6 +114,32 @@ fn label_by(leaves: &[Strategy], leaf: Option<LeafId>) -> Option<&str>
 {
     match leaf {
         Some(leaf) => label_of(leaves, leaf),
+        None => None,
+    }
+}
+
+/// The label of a leaf.
+fn assigning_label(leaves: &[Strategy], leaf: LeafId) -> Option<&str>
+    ensures { option_map (λ x. x.now) result ≡ option_map (λ x. x.0) (assigning_in leaves.now leaf.0) }
+{
+    match leaves.get(leaf.0) {
+        Some(strategy) => match strategy.form() {
+            StrategyForm::Label(name, _) => Some(name.as_str()),
+            _ => None,
+        },
+        None => None,
+    }
+}
+
+/// The assignments of a leaf that is a label.
+fn assigns_of(leaves: &[Strategy], leaf: LeafId) -> Option<&Seq<Assign>>
+    ensures { option_map (λ x. x.now) result ≡ option_map (λ x. x.1) (assigning_in leaves.now leaf.0) }
+{
+    match leaves.get(leaf.0) {
+        Some(strategy) => match strategy.form() {
+            StrategyForm::Label(_, assigns) => Some(assigns),
+            _ => None,
+        },
         None => None,
     }
 }
@@ -178,16 +220,7 @@ fn next_of_top<E: Evaluator, L: Lister + Drop>(
     ensures meanings { E.meanings evaluator.new ≡ E.meanings evaluator.old }
 {
     let label = label_by(leaves, leaf);
-    let found = next_top(
-        program,
-        label,
-        &[],
-        &[],
-        store,
-        evaluator,
-        results,
-        limit,
-    );
+    let found = next_top(program, label, &[], &[], store, evaluator, results, limit);
     yielded(found)
 }
 
@@ -218,16 +251,7 @@ fn next_of_everywhere<E: Evaluator, L: Lister + Drop>(
     ensures meanings { E.meanings evaluator.new ≡ E.meanings evaluator.old }
 {
     let label = label_by(leaves, leaf);
-    let found = next_everywhere(
-        program,
-        label,
-        &[],
-        &[],
-        store,
-        evaluator,
-        results,
-        limit,
-    );
+    let found = next_everywhere(program, label, &[], &[], store, evaluator, results, limit);
     yielded(found)
 }
 
@@ -258,6 +282,162 @@ fn next_of_test<E: Evaluator, L: Lister + Drop>(
 {
     let _ = leaves;
     let found = next_test(program, store, evaluator, test, limit);
+    yielded(found)
+}
+
+/// The values of the assigned terms, behind which the search for results begins.
+fn take_assigned<E: Evaluator, L: Lister + Drop>(
+    program: &Program,
+    leaves: &[Strategy],
+    store: &mut Store,
+    evaluator: &mut E,
+    cursor: &mut AssignedCursor<L>,
+    limit: u64,
+) -> Result<(), EvalEnd>
+    requires runnable { IsRunnable program.now }
+    requires goes_by { GoesBy program.now (E.meanings evaluator.old) }
+    requires fits { E.fits evaluator.old store.old }
+    requires limit { limit ≡ (E.meanings evaluator.old).limit }
+    requires yields { (d : Todo) × (t : Tree) × (ys : List Yield) × IsAssignedCursor L.asked L.given L.is_for L.with_context program.now
+        (E.meanings evaluator.old) leaves.now store.old (E.table evaluator.old) cursor.old d t ys }
+    requires idle { cursor.old.begun ≡ false }
+    ensures taken { (d : Todo) (t : Tree) (ys : List Yield) → IsAssignedCursor L.asked L.given L.is_for L.with_context program.now
+        (E.meanings evaluator.old) leaves.now store.old (E.table evaluator.old) cursor.old d t ys →
+        HasAssigned L.asked L.given L.is_for L.with_context program.now (E.meanings evaluator.old) leaves.now
+        store.new (E.table evaluator.new) cursor.new d t ys result }
+    ensures begun { OnOk result (cursor.new.begun ≡ true) }
+    ensures extends { Extends store.old store.new }
+    ensures fits { E.fits evaluator.new store.new }
+    ensures kept { KeepsEntries (E.table evaluator.old) (E.table evaluator.new) }
+    ensures meanings { E.meanings evaluator.new ≡ E.meanings evaluator.old }
+{
+    let assigns = match assigns_of(leaves, cursor.leaf) {
+        Some(assigns) => assigns,
+        None => unreachable!(),
+    };
+    match next_values(
+        program,
+        store,
+        evaluator,
+        assigns.items(),
+        &cursor.bound,
+        &mut cursor.values,
+        limit,
+    ) {
+        Ok(()) => {
+            cursor.begun = true;
+            Ok(())
+        }
+        Err(end) => Err(end),
+    }
+}
+
+/// The values of the assigned terms, where they are not there yet.
+fn have_assigned<E: Evaluator, L: Lister + Drop>(
+    program: &Program,
+    leaves: &[Strategy],
+    store: &mut Store,
+    evaluator: &mut E,
+    cursor: &mut AssignedCursor<L>,
+    limit: u64,
+) -> Result<(), EvalEnd>
+    requires runnable { IsRunnable program.now }
+    requires goes_by { GoesBy program.now (E.meanings evaluator.old) }
+    requires fits { E.fits evaluator.old store.old }
+    requires limit { limit ≡ (E.meanings evaluator.old).limit }
+    requires yields { (d : Todo) × (t : Tree) × (ys : List Yield) × IsAssignedCursor L.asked L.given L.is_for L.with_context program.now
+        (E.meanings evaluator.old) leaves.now store.old (E.table evaluator.old) cursor.old d t ys }
+    ensures taken { (d : Todo) (t : Tree) (ys : List Yield) → IsAssignedCursor L.asked L.given L.is_for L.with_context program.now
+        (E.meanings evaluator.old) leaves.now store.old (E.table evaluator.old) cursor.old d t ys →
+        HasAssigned L.asked L.given L.is_for L.with_context program.now (E.meanings evaluator.old) leaves.now
+        store.new (E.table evaluator.new) cursor.new d t ys result }
+    ensures begun { OnOk result (cursor.new.begun ≡ true) }
+    ensures extends { Extends store.old store.new }
+    ensures fits { E.fits evaluator.new store.new }
+    ensures kept { KeepsEntries (E.table evaluator.old) (E.table evaluator.new) }
+    ensures meanings { E.meanings evaluator.new ≡ E.meanings evaluator.old }
+{
+    if cursor.begun {
+        let _ = store.len();
+        return Ok(());
+    }
+    take_assigned(program, leaves, store, evaluator, cursor, limit)
+}
+
+/// The next result of the rules with a label, where the assigned terms have their values.
+fn find_assigned<E: Evaluator, L: Lister + Drop>(
+    program: &Program,
+    leaves: &[Strategy],
+    store: &mut Store,
+    evaluator: &mut E,
+    cursor: &mut AssignedCursor<L>,
+    limit: u64,
+) -> Result<Option<TermId>, EvalEnd>
+    requires contexts { L.with_context ≡ true }
+    requires runnable { IsRunnable program.now }
+    requires goes_by { GoesBy program.now (E.meanings evaluator.old) }
+    requires fits { E.fits evaluator.old store.old }
+    requires limit { limit ≡ (E.meanings evaluator.old).limit }
+    requires yields { (d : Todo) × (t : Tree) × (ys : List Yield) × IsAssignedCursor L.asked L.given L.is_for L.with_context program.now
+        (E.meanings evaluator.old) leaves.now store.old (E.table evaluator.old) cursor.old d t ys }
+    requires begun { cursor.old.begun ≡ true }
+    ensures next { (d : Todo) (t : Tree) (ys : List Yield) → IsAssignedCursor L.asked L.given L.is_for L.with_context program.now
+        (E.meanings evaluator.old) leaves.now store.old (E.table evaluator.old) cursor.old d t ys →
+        IsNextYield (world_of L.asked L.given L.is_for L.with_context program.now (E.meanings evaluator.old) leaves.now
+        store.new (E.table evaluator.new)) (At.Assigned cursor.new) d t ys (yielded_by result) }
+    ensures extends { Extends store.old store.new }
+    ensures fits { E.fits evaluator.new store.new }
+    ensures kept { KeepsEntries (E.table evaluator.old) (E.table evaluator.new) }
+    ensures meanings { E.meanings evaluator.new ≡ E.meanings evaluator.old }
+{
+    let label = assigning_label(leaves, cursor.leaf);
+    let assigns = match assigns_of(leaves, cursor.leaf) {
+        Some(assigns) => assigns,
+        None => unreachable!(),
+    };
+    next_where(
+        program,
+        cursor.at_root,
+        label,
+        assigns.items(),
+        &cursor.values,
+        store,
+        evaluator,
+        &mut cursor.results,
+        limit,
+    )
+}
+
+/// The next result of a label under assignments.
+fn next_of_assigned<E: Evaluator, L: Lister + Drop>(
+    program: &Program,
+    leaves: &[Strategy],
+    store: &mut Store,
+    evaluator: &mut E,
+    cursor: &mut AssignedCursor<L>,
+    limit: u64,
+) -> Result<Option<Yielded>, LeafEnd>
+    requires contexts { L.with_context ≡ true }
+    requires runnable { IsRunnable program.now }
+    requires goes_by { GoesBy program.now (E.meanings evaluator.old) }
+    requires fits { E.fits evaluator.old store.old }
+    requires limit { limit ≡ (E.meanings evaluator.old).limit }
+    requires yields { (d : Todo) × (t : Tree) × (ys : List Yield) × IsAssignedCursor L.asked L.given L.is_for L.with_context program.now
+        (E.meanings evaluator.old) leaves.now store.old (E.table evaluator.old) cursor.old d t ys }
+    ensures next { (d : Todo) (t : Tree) (ys : List Yield) → IsAssignedCursor L.asked L.given L.is_for L.with_context program.now
+        (E.meanings evaluator.old) leaves.now store.old (E.table evaluator.old) cursor.old d t ys →
+        IsNextYield (world_of L.asked L.given L.is_for L.with_context program.now (E.meanings evaluator.old) leaves.now
+        store.new (E.table evaluator.new)) (At.Assigned cursor.new) d t ys result }
+    ensures extends { Extends store.old store.new }
+    ensures fits { E.fits evaluator.new store.new }
+    ensures kept { KeepsEntries (E.table evaluator.old) (E.table evaluator.new) }
+    ensures meanings { E.meanings evaluator.new ≡ E.meanings evaluator.old }
+{
+    match have_assigned(program, leaves, store, evaluator, cursor, limit) {
+        Ok(()) => (),
+        Err(end) => return Err(end_of(end)),
+    }
+    let found = find_assigned(program, leaves, store, evaluator, cursor, limit);
     yielded(found)
 }
 
@@ -576,6 +756,57 @@ fn start_call<E: Evaluator, L: Lister + Drop>(
     Ok(LeafCursor::Bodies(call_cursor(store.allocator(), leaf, calls, bound)))
 }
 
+/// Whether the terms of all assignments are over a signature.
+fn are_assigned_bare(sig: &Signature, assigns: &[Assign]) -> bool
+    ensures { result ≡ true → All (λ g. IsOver sig.now g.value) assigns.now }
+{
+    match assigns {
+        [] => true,
+        [first, rest @ ..] => is_over(sig, &first.value) && are_assigned_bare(sig, rest),
+    }
+}
+
+/// The cursor of a label under assignments, which has yielded nothing. Labels whose assigned terms are not over the signature are not searched
+/// for.
+fn start_assigned<E: Evaluator, L: Lister + Drop>(
+    program: &Program,
+    leaves: &[Strategy],
+    store: &Store,
+    evaluator: &E,
+    leaf: LeafId,
+    at_root: bool,
+    calls: usize,
+    values: &[Bound],
+    term: TermId,
+) -> Result<LeafCursor<L>, NoMemory>
+    requires values { All (λ (b : GivenValue). IsValueOf program.now.sig store.now (E.table evaluator.now) (b.variable, b.value)) values.now }
+    requires term { IsTerm program.now.sig store.now term.0 }
+    requires settled { AreSettled program.now.sig store.now (E.table evaluator.now) (tree_at store.now term.0) }
+    ensures yields { IfOk result (λ k. yields_in L.asked L.given L.is_for L.with_context program.now (E.meanings evaluator.now)
+        leaves.now store.now (E.table evaluator.now) k
+        (record { form = placed at_root (leaf_at leaves.now leaf.0); calls = calls; values = values_of (tree_at store.now) values.now })
+        (tree_at store.now term.0) []) }
+{
+    let _ = evaluator.sorts();
+    let _ = calls;
+    let assigns = match assigns_of(leaves, leaf) {
+        Some(assigns) => assigns,
+        None => return Ok(LeafCursor::Unsearched),
+    };
+    if !are_assigned_bare(&program.sig, assigns.items()) {
+        return Ok(LeafCursor::Unsearched);
+    }
+    let bound = pairs_of(store.allocator(), values)?;
+    Ok(LeafCursor::Assigned(AssignedCursor {
+        leaf,
+        at_root,
+        bound,
+        values: Vec::new(store.allocator()),
+        begun: false,
+        results: start_everywhere(store.allocator(), term),
+    }))
+}
+
 /// The leaf with a number.
 fn leaf_by(leaves: &[Strategy], leaf: LeafId) -> Option<&Strategy>
     ensures { option_map (λ x. x.now) result ≡ slice_get leaves.now leaf.0 }
@@ -624,6 +855,9 @@ fn start_leaf<E: Evaluator, L: Lister + Drop>(
                 None => Ok(LeafCursor::Unsearched),
             }
         }
+        StrategyForm::Label(_, _) => start_assigned(
+            program, leaves, store, evaluator, leaf, false, calls, values, term,
+        ),
         _ => Ok(LeafCursor::Unsearched),
     }
 }
@@ -691,6 +925,9 @@ fn next_of<E: Evaluator, L: Lister + Drop>(
         ),
         LeafCursor::Everywhere(leaf, results) => next_of_everywhere(
             program, leaves, store, evaluator, *leaf, results, limit,
+        ),
+        LeafCursor::Assigned(assigned) => next_of_assigned(
+            program, leaves, store, evaluator, assigned, limit,
         ),
         LeafCursor::Bodies(bodies) => next_of_call(
             program, leaves, store, evaluator, bodies, limit,
@@ -776,7 +1013,17 @@ impl<'a, E: Evaluator + Drop, L: Lister + Drop> Leaves for RunLeaves<'a, E, L> {
             Lead::TopOfAll => Ok(LeafCursor::Top(None, start_top(term))),
             Lead::TopOf(leaf) => match label_of(self.leaves, leaf) {
                 Some(_) => Ok(LeafCursor::Top(Some(leaf), start_top(term))),
-                None => Ok(LeafCursor::Unsearched),
+                None => start_assigned(
+                    self.program,
+                    self.leaves,
+                    &self.store,
+                    &self.evaluator,
+                    leaf,
+                    true,
+                    calls,
+                    values,
+                    term,
+                ),
             },
             Lead::Leaf(leaf) => start_labelled(
                 self.program,

@@ -25,9 +25,9 @@ ghost use Rattle.mau_stratforms.specs.Meanings.{assign_of};
 ghost use Rattle.mau_store.specs.View.{numbers};
 ghost use Rattle.mau_leaves.specs.Follows.{HasGiven, IsNextGiven};
 ghost use Rattle.mau_leaves.specs.Top.{IsNextResult};
-ghost use Rattle.mau_leaves.specs.Everywhere.{places_after, left_of_places, IsEverywhere, IsNextPlace, IsPlaceTurn, IsEverywhereOf};
+ghost use Rattle.mau_leaves.specs.Everywhere.{places_after, left_of_places, IsEverywhere, IsNextPlace, IsPlaceTurn, IsEverywhereOf, start_at, left_where, IsWhere};
 
-use crate::top::{TopResults, next_result, start_top};
+use crate::top::{TopResults, next_result, next_top, start_top};
 use mau_api::{EvalEnd, Evaluator, Lister, Program};
 use mau_program::Assign;
 use mau_rules::{Open, next_place};
@@ -53,6 +53,7 @@ pub fn start_everywhere<L: Lister + Drop>(alloc: Global, term: TermId) -> Places
         IsEverywhereOf chosen d.form →
         HasGiven (program_over p hooks) (engine_of (program_over p hooks)) d (tree_at nodes term.0) []
         (left_of_places L.asked L.given p hooks (choice_of (program_over p hooks) chosen [] []) nodes result) }
+    ensures stands { (result.way.items ≡ []) × (result.at ≡ start_at term) × (result.gone ≡ false) }
 {
     PlacesResults {
         way: Vec::new(alloc),
@@ -205,4 +206,61 @@ pub fn next_everywhere<E: Evaluator, L: Lister + Drop>(
         }
     }
     Err(EvalEnd::NoMemory)
+}
+
+/// The next result of `all`, or of a label where one is given, at the root alone, or at all places.
+pub(crate) fn next_where<E: Evaluator, L: Lister + Drop>(
+    program: &Program,
+    at_root: bool,
+    label: Option<&str>,
+    assigns: &[Assign],
+    values: &[TermId],
+    store: &mut Store,
+    evaluator: &mut E,
+    search: &mut PlacesResults<L>,
+    limit: u64,
+) -> Result<Option<TermId>, EvalEnd>
+    requires contexts { L.with_context ≡ true }
+    requires runnable { IsRunnable program.now }
+    requires goes_by { GoesBy program.now (E.meanings evaluator.old) }
+    requires fits { E.fits evaluator.old store.old }
+    requires limit { limit ≡ (E.meanings evaluator.old).limit }
+    requires values { All (IsEvaluated program.now.sig store.old (E.table evaluator.old)) values.now }
+    requires search { IsWhere L.asked L.given L.is_for L.with_context program.now (E.meanings evaluator.old)
+        store.old (E.table evaluator.old) at_root search.old }
+    ensures next { (vs : List Tree) → vs ≡ trees_at store.old (numbers values.now) → (defs : List StratDef) (d : Todo) (t : Tree) (us : List Tree) → IsLeaf d.form →
+        HasGiven (program_over program.now (E.meanings evaluator.old).hooks)
+        (engine_of (program_over program.now (E.meanings evaluator.old).hooks)) d t us
+        (left_where L.asked L.given program.now (E.meanings evaluator.old).hooks at_root
+        (choice_of (program_over program.now (E.meanings evaluator.old).hooks) (option_map (λ x. x.now) label.entry)
+        (map assign_of assigns.now) vs) store.old search.old) →
+        IsNextGiven (program_over program.now (E.meanings evaluator.old).hooks) limit defs d t us
+        (left_where L.asked L.given program.now (E.meanings evaluator.old).hooks at_root
+        (choice_of (program_over program.now (E.meanings evaluator.old).hooks) (option_map (λ x. x.now) label.entry)
+        (map assign_of assigns.now) vs) store.new search.new) store.new result }
+    ensures search { IsWhere L.asked L.given L.is_for L.with_context program.now (E.meanings evaluator.old)
+        store.new (E.table evaluator.new) at_root search.new }
+    ensures term { IfOk result (λ o. IfSome o (λ id. IsTerm program.now.sig store.new id.0)) }
+    ensures settled { IfOk result (λ o. IfSome o (λ id.
+        AreSettled program.now.sig store.new (E.table evaluator.new) (tree_at store.new id.0))) }
+    ensures extends { Extends store.old store.new }
+    ensures fits { E.fits evaluator.new store.new }
+    ensures kept { KeepsEntries (E.table evaluator.old) (E.table evaluator.new) }
+    ensures meanings { E.meanings evaluator.new ≡ E.meanings evaluator.old }
+{
+    if at_root {
+        return next_top(
+            program,
+            label,
+            assigns,
+            values,
+            store,
+            evaluator,
+            &mut search.at,
+            limit,
+        );
+    }
+    next_everywhere(
+        program, label, assigns, values, store, evaluator, search, limit,
+    )
 }

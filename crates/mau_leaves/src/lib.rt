@@ -20,7 +20,7 @@ mod values;
 
 pub use arguments::{ArgumentSearch, PatternSearch};
 pub use bodies::CallBodies;
-pub use cursor::{CallCursor, LeafCursor, RunLeaves};
+pub use cursor::{AssignedCursor, CallCursor, LeafCursor, RunLeaves};
 pub use everywhere::{PlacesResults, next_everywhere, start_everywhere};
 pub use place::{PlaceUses, next_at, start_place};
 pub use subterms::{Spot, SubtermUses};

@@ -125,9 +125,7 @@ fn begin_rule<E: Evaluator, L: Lister + Drop>(
         return Ok(Turn::Over);
     }
     let rule = &rules[number];
-    let bound = match bound_for(
-        program, label, assigns, values, store, evaluator, rule,
-    ) {
+    let bound = match bound_for(program, label, assigns, values, store, evaluator, rule) {
         Ok(Some(bound)) => bound,
         Ok(None) => {
             place.number = number + 1;
@@ -135,9 +133,7 @@ fn begin_rule<E: Evaluator, L: Lister + Drop>(
         }
         Err(_) => return Err(EvalEnd::NoMemory),
     };
-    match start_uses(
-        program, rule, store, evaluator, bound, false, place.term,
-    ) {
+    match start_uses(program, rule, store, evaluator, bound, false, place.term) {
         Ok(uses) => {
             place.uses = Some(uses);
             Ok(Turn::Passed)
@@ -183,9 +179,7 @@ fn turn_at<E: Evaluator, L: Lister + Drop>(
 {
     match &place.uses {
         Some(_) => go_through(program, store, evaluator, place, limit),
-        None => begin_rule(
-            program, label, assigns, values, store, evaluator, place,
-        ),
+        None => begin_rule(program, label, assigns, values, store, evaluator, place),
     }
 }
 

@@ -260,6 +260,14 @@ pub fn next_top<E: Evaluator, L: Lister + Drop>(
     ensures meanings { E.meanings evaluator.new ≡ E.meanings evaluator.old }
 {
     next_result(
-        program, label, assigns, values, store, evaluator, &[], top, limit,
+        program,
+        label,
+        assigns,
+        values,
+        store,
+        evaluator,
+        &[],
+        top,
+        limit,
     )
 }

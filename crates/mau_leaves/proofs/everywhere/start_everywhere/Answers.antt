@@ -2,6 +2,8 @@ use Rattle.std.proofs.Common.{◌≡◌, [], List, false, refl, sym, subst}
 use Rattle.mau_rules.specs.declared.walk.Open.{Open}
 use Rattle.mau_rules.specs.Walk.{IsWalk}
 use Rattle.mau_leaves.specs.declared.top.TopResults.{TopResults}
+use Rattle.mau_api.specs.Programs.{program_over}
+use Rattle.mau_leaves.specs.Chosen.{choice_of}
 use Rattle.mau_leaves.proofs.AllPlaces.{begins_everywhere}
 use Rattle.mau_leaves.proofs.everywhere.start_everywhere.Goals as goal
 
@@ -13,4 +15,7 @@ returns-clause-everywhere g c = λ w p m nodes table term settled. record {
 
 pub returns-clause-begins : goal.returns-clause-begins
 returns-clause-begins g c = λ p hooks nodes chosen d form.
-    begins_everywhere g.L.Lister.asked g.L.Lister.given p hooks nodes c.args.term chosen d form (record { way = c.new.result; at = c.start_top.result; gone = false }) c.start_top.ensures.stands c.new.ensures.items refl
+    begins_everywhere g.L.Lister.asked g.L.Lister.given p hooks nodes c.args.term (choice_of (program_over p hooks) chosen [] []) (record { way = c.new.result; at = c.start_top.result; gone = false }) c.start_top.ensures.stands c.new.ensures.items refl chosen refl d form
+
+pub returns-clause-stands : goal.returns-clause-stands
+returns-clause-stands g c = (c.new.ensures.items, c.start_top.ensures.stands, refl)
