@@ -180,7 +180,7 @@ module _ (p : Typed.Program) (hooks : List Operator) (limit : ℕ) (remembers : 
             ((λ h. subst (λ u. IsKnown s.hierarchy known u r) e (z.1 (k.0 h))), (λ h. k.1 (z.0 (subst (λ u. IsKnown s.hierarchy known u r) (sym e) h)))));
       }
 
-  module _ (new : Table) (kept : KeepsEntries old new) (settles : Settles old new i) (are_over : AreOver p.sig.hierarchy new)
+  module _ (new : Table) (kept : KeepsEntries old new) (settles : Settles old new i more) (are_over : AreOver p.sig.hierarchy new)
       (value : (k : Known) → AreEntries p.sig k nodes old → IsKnownOf k (tree_at nodes i) more → AreEntries p.sig k nodes new)
       (given : GiveJust (program_over p hooks) limit p.sig.hierarchy (tree_at nodes i) more) where
     entries : AreEntries s known nodes new
@@ -203,7 +203,7 @@ module _ (p : Typed.Program) (hooks : List Operator) (limit : ℕ) (remembers : 
     derived_more = record {
       entries = λ j e at bare. by j e at bare (cases_eq j i);
       known = known;
-      declared = table_after p.sig nodes are derived.known old derived.declared derived.closed i ready.there unsettled more new kept settles.settled entries;
+      declared = table_after p.sig nodes are derived.known old derived.declared derived.closed i ready.there unsettled more new kept settles entries;
       over = are_over;
       closed = closed_more s nodes old new i ready kept settles.others derived.closed;
     }

@@ -133,8 +133,12 @@ module _ (s : SignatureOf) (nodes : List Node) (are : AreNodes nodes) (known : K
         },
       )
 
-  pub table_after : (new : Table) → KeepsEntries old new → IsSettled new i → AreEntries s known_more nodes new → IsTableOf s known_more nodes new
-  table_after new kept settled entries = record { entries = entries; settled = λ v r c. by v r (Contains-append_cases known (map with_it more) (v, r) c) }
+  pub table_after : (new : Table) → KeepsEntries old new → Settles old new i more → AreEntries s known_more nodes new → IsTableOf s known_more nodes new
+  table_after new kept settles entries = record {
+    entries = entries;
+    settled = λ v r c. by v r (Contains-append_cases known (map with_it more) (v, r) c);
+    further = λ v r c. among v r (Contains-append_cases known (map with_it more) (v, r) c);
+  }
     where
       by : (v : Tree) (r : ℕ) → Contains known (v, r) ⊎ Contains (map with_it more) (v, r) → IsTreeSettled nodes new v
       by v r (inl d) =
@@ -142,4 +146,8 @@ module _ (s : SignatureOf) (nodes : List Node) (are : AreNodes nodes) (known : K
           record { number = z.number; there = z.there; tree = z.tree; settled = settled_kept old new kept z.number z.settled }
       by v r (inr d) =
           let z = from_map with_it more (v, r) (from_list (v, r) (map with_it more) d) in
-          record { number = i; there = there; tree = sym (ap (λ (w : Tree × ℕ). w.0) z.2); settled = settled }
+          record { number = i; there = there; tree = sym (ap (λ (w : Tree × ℕ). w.0) z.2); settled = settles.settled }
+
+      among : (v : Tree) (r : ℕ) (c : Contains known (v, r) ⊎ Contains (map with_it more) (v, r)) → Contains new.further (by v r c).number
+      among v r (inl d) = kept.further (is.settled v r d).number (is.further v r d)
+      among v r (inr d) = let z = from_map with_it more (v, r) (from_list (v, r) (map with_it more) d) in settles.further z.0 (in_list z.0 more z.1)

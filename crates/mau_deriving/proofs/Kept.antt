@@ -1,5 +1,5 @@
 -- A derivation as it is kept: in a state that has grown, and through its steps.
-use Rattle.std.proofs.Common.{◌≡◌, ◌⊎◌, inl, inr, ℕ, zero, suc, ◌+◌, ◌<◌, ◌≤◌, List, [], ◌∷◌, ◌++◌, map, length, Bool, true, false, ◌||◌, Some, is_some, get_or, refl, sym, ap, ◌∙◌, subst, arith}
+use Rattle.std.proofs.Common.{◌≡◌, ◌⊎◌, inl, inr, ℕ, zero, suc, ◌+◌, ◌<◌, ◌≤◌, List, [], ◌∷◌, ◌++◌, map, length, Bool, true, false, ◌||◌, Some, is_some, get_or, Contains, refl, sym, ap, ◌∙◌, subst, arith}
 use Rattle.std.specs.Prelude.{slice_get}
 use Rattle.std.proofs.lemmas.List.Elements.{All-nil, All-cons, All-head, All-tail}
 use Rattle.mau_terms.specs.Tree.{Tree, variable, numeral, apply, Trees, no_trees, tree, list_of, trees_of}
@@ -255,6 +255,7 @@ derived_same p hooks limit nodes old new same over d = record {
   declared = record {
     entries = entries_same p.sig d.known nodes old new same d.declared.entries;
     settled = λ t r c. let z = d.declared.settled t r c in record { number = z.number; there = z.there; tree = z.tree; settled = ap is_some (same.entries z.number) ∙ z.settled };
+    further = λ t r c. subst (λ xs. Contains xs (d.declared.settled t r c).number) (sym same.further) (d.declared.further t r c);
   };
   over = over;
   closed = closed_same nodes old new same d.closed;
@@ -262,7 +263,7 @@ derived_same p hooks limit nodes old new same over d = record {
 
 -- the entry
 pub entered_in : (p : Typed.Program) (is : IsLawfulProgram p) (lawful : IsLawful (terms_over p.sig)) (nodes : List Node) → AreNodes nodes → (old new : Table) (d : Deriving) → Stands p nodes old d →
-    ¬ IsSettled old d.term.0 → length p.memberships ≤ d.at → (more : List ℕ) → more ≡ d.found.items → KeepsEntries old new → Settles old new d.term.0 → AreOver p.sig.hierarchy new →
+    ¬ IsSettled old d.term.0 → length p.memberships ≤ d.at → (more : List ℕ) → more ≡ d.found.items → KeepsEntries old new → Settles old new d.term.0 more → AreOver p.sig.hierarchy new →
     ((k : Known) → AreEntries p.sig k nodes old → IsKnownOf k (tree_at nodes d.term.0) more → AreEntries p.sig k nodes new) →
     (hooks : List Operator) (limit : ℕ) → Derives p hooks limit nodes d → IsDerivedTable (meanings_by p hooks limit false) nodes old → IsDerivedTable (meanings_by p hooks limit false) nodes new
 entered_in p is lawful nodes are old new d stands unsettled done more e kept settles over value hooks limit k derived =

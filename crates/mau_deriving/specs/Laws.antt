@@ -82,7 +82,7 @@ EntriesAreDerived =
     (p : Typed.Program) (hooks : List Operator) (limit : ℕ) (remembers : Bool) → HasHeads (program_over p hooks) → IsBuiltAndAccepted p.sig →
     (nodes : List Node) → AreNodes nodes → (old : Table) → IsDerivedTable (meanings_by p hooks limit remembers) nodes old →
     (i : ℕ) → IsReady p.sig nodes old i → ¬ IsSettled old i → IsNormalBare p.sig (tree_at nodes i) → (more : List ℕ) →
-    (new : Table) → KeepsEntries old new → Settles old new i → AreOver p.sig.hierarchy new →
+    (new : Table) → KeepsEntries old new → Settles old new i more → AreOver p.sig.hierarchy new →
     ((k : Known) → AreEntries p.sig k nodes old → IsKnownOf k (tree_at nodes i) more → AreEntries p.sig k nodes new) →
     GiveJust (program_over p hooks) limit p.sig.hierarchy (tree_at nodes i) more →
     IsDerivedTable (meanings_by p hooks limit remembers) nodes new

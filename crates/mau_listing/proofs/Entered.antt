@@ -29,6 +29,7 @@ module _ (nodes : List Node) (are : AreNodes nodes) where
     settled = λ u r among.
         let is = t.settled u r among in
         record { number = is.number; there = is.there; tree = is.tree; settled = settled_kept old new kept is.number is.settled };
+    further = λ u r among. kept.further (t.settled u r among).number (t.further u r among);
   }
 
   -- only the term itself is settled

@@ -179,6 +179,7 @@ module _ (s : SignatureOf) (known : Known) (old new : List Node) (extends : Exte
           subst (λ u. IsKeptOf s.hierarchy (HasSort s known u) e) (sym (tree_at-extends old new i extends kept.0)) kept.1,
         );
     settled = λ u r among. tree_settled_kept old new extends table table (kept_same table) u (t.settled u r among);
+    further = λ u r among. t.further u r among;
   }
 
 -- ---- several solutions

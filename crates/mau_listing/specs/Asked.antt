@@ -85,10 +85,12 @@ pub record HasEntry (s : SignatureOf) (nodes : List Node) (table : Table) (r : �
   pub at : entry_at table number ≡ Some entry
   pub has : IsIn s.hierarchy entry r
 
--- the entries of the table say what sorts the terms have, where just of settled terms more is known than declarations tell
+-- the entries of the table say what sorts the terms have, where just of settled terms more is known than declarations tell, and they
+-- were settled with further sorts
 pub record IsTableOf (s : SignatureOf) (known : Known) (nodes : List Node) (table : Table) : Type 0 where
   pub entries : AreEntries s known nodes table
   pub settled : (t : Tree) (r : ℕ) → Contains known (t, r) → IsTreeSettled nodes table t
+  pub further : (t : Tree) (r : ℕ) (c : Contains known (t, r)) → Contains table.further (settled t r c).number
 
 -- each settled number is that of a term of the store, and its arguments are settled
 abbrev pub IsClosedTable : List Node → Table → Type 0

@@ -50,7 +50,7 @@ use Rattle.mau_sorts.specs.Derived.{set_or_none}
 
 -- lists of an operator have no sort at or below which no result of it stands, but for what is known of settled terms
 pub single : (s : SignatureOf) (f r : ℕ) → IsListOperator s f → (declarations_at s f ≡ [] → ⊥) → ((d : Decl) → Contains (declarations_at s f) d → IsAtOrBelow s.hierarchy d.result r → ⊥)
-    → (nodes : List Node) (table : Table) → ((i : ℕ) (e : SortsOf) → entry_at table i ≡ Some e → IsOf nodes i → headed f (tree_at nodes i) ≡ true → IsInSet s.hierarchy e r → ⊥)
+    → (nodes : List Node) (table : Table) → ((i : ℕ) (e : SortsOf) → Contains table.further i → entry_at table i ≡ Some e → IsOf nodes i → headed f (tree_at nodes i) ≡ true → IsInSet s.hierarchy e r → ⊥)
     → (known : Known) → IsTableOf s known nodes table → IsSingle s known f r
 single s f r op some declared nodes table settled known is_table [] l h = cc
 single s f r op some declared nodes table settled known is_table (t ∷ []) l h = cc
@@ -78,7 +78,7 @@ single s f r op some declared nodes table settled known is_table (t ∷ u ∷ ts
         let at = settled_entry (entry_at table there.number) there.settled in
         let e = set_or_none (entry_at table there.number) in
         let has : HasSort s known (tree_at nodes there.number) r = subst (λ w. HasSort s known w r) (sym there.tree) h in
-        settled there.number e at there.there (ap (headed f) there.tree ∙ eq-eqb f f refl) (((is_table.entries there.number e at).1.exact r).1 has)
+        settled there.number e (is_table.further v k.0 k.1) at there.there (ap (headed f) there.tree ∙ eq-eqb f f refl) (((is_table.entries there.number e at).1.exact r).1 has)
 
 -- ---- values of parts
 

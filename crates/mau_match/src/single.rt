@@ -77,14 +77,14 @@ fn is_settled_list(
     is_headed(store, op, id)
 }
 
-/// Whether no settled term that has an operator for its top has a sort.
+/// Whether no term that was settled with further sorts, and has an operator for its top, has a sort.
 fn is_never_settled(store: &Store, sig: &Signature, sorts: &SortTable, op: OpId, sort: u32) -> bool
     requires sort { IsSort sig.now.hierarchy sort }
     requires over { AreOver sig.now.hierarchy sorts.now }
-    ensures { result ≡ true → (i : ℕ) (e : SortsOf) → entry_at sorts.now i ≡ Some e → IsOf store.now i → headed op.0 (tree_at store.now i) ≡ true → IsIn sig.now.hierarchy e sort → ⊥ }
+    ensures { result ≡ true → (i : ℕ) (e : SortsOf) → Contains sorts.now.further i → entry_at sorts.now i ≡ Some e → IsOf store.now i → headed op.0 (tree_at store.now i) ≡ true → IsIn sig.now.hierarchy e sort → ⊥ }
 {
-    let settled = sorts.settled();
-    for id in settled {
+    let further = sorts.further();
+    for id in further {
         if is_settled_list(store, sig, sorts, op, sort, *id) {
             return false;
         }

@@ -53,6 +53,7 @@ derived_extended m old new table x h = record {
         let k = extension_keeps_terms old new x i p.0 in
         (k.number, subst (λ t. IsKeptOf m.program.sig.hierarchy (HasSort m.program.sig h.known t) e) (sym k.tree) p.1);
     settled = λ t r c. tree_settled_grown old new table table t x (kept_same table) (h.declared.settled t r c);
+    further = λ t r c. h.declared.further t r c;
   };
   over = h.over;
   closed = closed_stay old new table x h.closed;

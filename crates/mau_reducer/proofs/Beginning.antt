@@ -21,7 +21,7 @@ derived_empty : (b : Basis) (nodes : List Node) (table : Table) → table ≡ em
 derived_empty b nodes table e over = record {
   entries = λ i entry at normal. absurd (nothing i entry (ap (λ (t : Table). entry_at t i) (sym e) ∙ at));
   known = [];
-  declared = record { entries = subst (AreEntries b.program.sig [] nodes) (sym e) (λ i entry at. absurd (cc at)); settled = λ t r c. absurd (omega (arith, c.1)) };
+  declared = record { entries = subst (AreEntries b.program.sig [] nodes) (sym e) (λ i entry at. absurd (cc at)); settled = λ t r c. absurd (omega (arith, c.1)); further = λ t r c. absurd (omega (arith, c.1)) };
   over = over;
   closed = subst (IsClosedTable nodes) (sym e) (λ i settled. absurd (cc settled));
 }

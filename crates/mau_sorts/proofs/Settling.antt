@@ -63,27 +63,29 @@ nothing_known t r = (λ among. absurd (let below : among.0 < 0 = among.1 in omeg
 -- ---- tables that grow
 
 pub kept_same : (t : Table) → KeepsEntries t t
-kept_same t = record { entries = λ i e at_i. at_i; order = ([], sym (append-nil t.order)) }
+kept_same t = record { entries = λ i e at_i. at_i; order = ([], sym (append-nil t.order)); further = λ i among. among }
 
 pub kept_on : (a b c : Table) → KeepsEntries a b → KeepsEntries b c → KeepsEntries a c
 kept_on a b c first second = record {
   entries = λ i e at_i. second.entries i e (first.entries i e at_i);
   order = (first.order.0 ++ second.order.0, second.order.1 ∙ ap (λ xs. xs ++ second.order.0) first.order.1 ∙ append_assoc a.order first.order.0 second.order.0);
+  further = λ i among. second.further i (first.further i among);
 }
 
 -- one more is settled
-pub kept_settled : (old new : Table) (i : ℕ) → ¬ IsSettled old i → Settles old new i → KeepsEntries old new
-kept_settled old new i un more = record {
+pub kept_settled : (old new : Table) (i : ℕ) (qs : List ℕ) → ¬ IsSettled old i → Settles old new i qs → KeepsEntries old new
+kept_settled old new i qs un more = record {
   entries = λ j e at_j. more.others j (λ same. un (subst (IsSettled old) same (ap is_some at_j))) ∙ at_j;
   order = (i ∷ [], more.order);
+  further = more.kept;
 }
 
 pub kept_unchanged : (old new : Table) → AreSame old new → KeepsEntries old new
-kept_unchanged old new same = record { entries = λ i e at_i. same.entries i ∙ at_i; order = ([], same.order ∙ sym (append-nil old.order)) }
+kept_unchanged old new same = record { entries = λ i e at_i. same.entries i ∙ at_i; order = ([], same.order ∙ sym (append-nil old.order)); further = λ i among. subst (λ xs. Contains xs i) (sym same.further) among }
 
 -- an order with one more
-pub ordered_more : (old new : Table) (i : ℕ) → ¬ IsSettled old i → Settles old new i → IsOrdered old → IsOrdered new
-ordered_more old new i un more was = record {
+pub ordered_more : (old new : Table) (i : ℕ) (qs : List ℕ) → ¬ IsSettled old i → Settles old new i qs → IsOrdered old → IsOrdered new
+ordered_more old new i qs un more was = record {
   settled = λ j. (forth j (cases_eq j i), back j);
   once = subst (AllPairs (λ j k. j ≢ k)) (sym more.order) (all_pairs_push (λ j k. j ≢ k) old.order i was.once apart);
 }
@@ -105,12 +107,14 @@ ordered_more old new i un more was = record {
     apart k d h same = un ((was.settled i).1 (k, h, get_or_default old.order k i d h ∙ same))
 
 -- the table after one more entry
-pub one_settled : (xs ys : List (Option SortsOf)) (before after : List ℕ) (i : ℕ) (e : SortsOf) → i < length ys → ((j : ℕ) → get_or ys j None ≡ get_or xs j None) → after ≡ before ++ i ∷ []
-    → Settles (kept_in xs before) (kept_in (set ys i (Some e)) after) i
-one_settled xs ys before after i e h same order = record {
+pub one_settled : (xs ys : List (Option SortsOf)) (before after was now : List ℕ) (i : ℕ) (e : SortsOf) → i < length ys → ((j : ℕ) → get_or ys j None ≡ get_or xs j None) → after ≡ before ++ i ∷ []
+    → ((j : ℕ) → Contains was j → Contains now j) → Settles (kept_in xs before was) (kept_in (set ys i (Some e)) after now) i []
+one_settled xs ys before after was now i e h same order kept = record {
   settled = ap is_some (get_or-set_same ys i (Some e) None h);
   others = λ j n. get_or-set_other ys i j (Some e) None n ∙ same j;
   order = order;
+  further = λ q among. absurd (omega (arith, among.1));
+  kept = kept;
 }
 
 pub entries_same : (s : SignatureOf) (known : Known) (nodes : List Node) (old new : Table) → AreSame old new → AreEntries s known nodes old → AreEntries s known nodes new

@@ -10,18 +10,19 @@ use Rattle.mau_store.specs.Trees.{tree_at}
 use Rattle.mau_sorts.specs.SortSets.{SortsOf, IsOver, IsKeptOf}
 use Rattle.mau_sorts.specs.HasSort.{Known, HasSort}
 
--- for each number of a store what is kept of the sorts of its term, as far as they are settled, and the numbers in the order in which
--- they were settled
+-- for each number of a store what is kept of the sorts of its term, as far as they are settled, the numbers in the order in which they
+-- were settled, and those of them with sorts besides what declarations tell
 pub record Table : Type 0 where
   pub entries : List (Option SortsOf)
   pub order : List ℕ
+  pub further : List ℕ
 
-abbrev pub kept_in : List (Option SortsOf) → List ℕ → Table
-kept_in entries order = record { entries = entries; order = order }
+abbrev pub kept_in : List (Option SortsOf) → List ℕ → List ℕ → Table
+kept_in entries order further = record { entries = entries; order = order; further = further }
 
 -- the table in which nothing is settled
 abbrev pub empty_table : Table
-empty_table = record { entries = []; order = [] }
+empty_table = record { entries = []; order = []; further = [] }
 
 -- what stands at a number; nothing stands past the end
 abbrev pub entry_at : Table → ℕ → Option SortsOf
@@ -62,17 +63,21 @@ pub record IsReady (s : SignatureOf) (nodes : List Node) (table : Table) (i : �
 pub record AreSame (old new : Table) : Type 0 where
   pub entries : (i : ℕ) → entry_at new i ≡ entry_at old i
   pub order : new.order ≡ old.order
+  pub further : new.further ≡ old.further
 
 -- the entries that were there stay as they were, and in their order; others may have come behind them
 pub record KeepsEntries (old new : Table) : Type 0 where
   pub entries : (i : ℕ) (e : SortsOf) → entry_at old i ≡ Some e → entry_at new i ≡ Some e
   pub order : (more : List ℕ) × (new.order ≡ old.order ++ more)
+  pub further : (i : ℕ) → Contains old.further i → Contains new.further i
 
--- the number i gets an entry, behind the others, which keep what they had
-pub record Settles (old new : Table) (i : ℕ) : Type 0 where
+-- the number i gets an entry, with the sorts `more`, behind the others, which keep what they had
+pub record Settles (old new : Table) (i : ℕ) (more : List ℕ) : Type 0 where
   pub settled : IsSettled new i
   pub others : (j : ℕ) → j ≢ i → entry_at new j ≡ entry_at old j
   pub order : new.order ≡ old.order ++ i ∷ []
+  pub further : (q : ℕ) → Contains more q → Contains new.further i
+  pub kept : (j : ℕ) → Contains old.further j → Contains new.further j
 
 -- the order has each number that is settled, and no other, once
 pub record IsOrdered (table : Table) : Type 0 where

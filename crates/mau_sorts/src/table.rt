@@ -1,5 +1,5 @@
 //! The sorts of a store's terms.
-ghost use Rattle.std.specs.Prelude.{◌≡◌, ◌↔◌, ◌≢◌, ◌≤◌, ◌∷◌, ◌++◌, ℕ, [], length, slice_index_or, None, true, is_some, All, IfOk, IfSome, IfNone, OnOk, OnErr, IsTrue, Some};
+ghost use Rattle.std.specs.Prelude.{◌≡◌, ◌↔◌, ◌≢◌, ◌≤◌, ◌∷◌, ◌++◌, ℕ, [], length, take, slice_index_or, None, true, is_some, All, Contains, IfOk, IfSome, IfNone, OnOk, OnErr, IsTrue, Some};
 ghost use Rattle.std.specs.Option.{option_map};
 ghost use Rattle.std.specs.List.Sorted.{IsStrictlyIncreasing};
 ghost use Rattle.mau_poset.specs.Order.{Hierarchy};
@@ -28,6 +28,7 @@ pub struct SortTable {
     alloc: Global,
     entries: Vec<Option<SortSet>>,
     order: Vec<TermId>,
+    further: Vec<TermId>,
 }
 
 impl Model for SortTable {
@@ -36,9 +37,9 @@ impl Model for SortTable {
 
     ghost Value = { Table };
 
-    ghost view = { λ t. kept_in t.entries.items (numbers t.order.items) };
+    ghost view = { λ t. kept_in t.entries.items (numbers t.order.items) (numbers t.further.items) };
 
-    ghost invariant = { λ t. IsOrdered (kept_in t.entries.items (numbers t.order.items)) };
+    ghost invariant = { λ t. IsOrdered (kept_in t.entries.items (numbers t.order.items) (numbers t.further.items)) };
 }
 
 impl SortTable {
@@ -51,6 +52,7 @@ impl SortTable {
             alloc,
             entries: Vec::new(alloc),
             order: Vec::new(alloc),
+            further: Vec::new(alloc),
         }
     }
 
@@ -60,6 +62,13 @@ impl SortTable {
         ensures ordered { IsOrdered self.now }
     {
         &self.order
+    }
+
+    /// The numbers of those terms that were settled with further sorts, besides what declarations tell, in the same order.
+    pub fn further(&self) -> &[TermId]
+        ensures { numbers result.now ≡ self.now.further }
+    {
+        &self.further
     }
 
     /// Enters the minimal sorts of a term: those that declarations give it by the sorts of its arguments, and the sorts `more`. A
@@ -75,7 +84,7 @@ impl SortTable {
         requires unsettled { ¬ IsSettled self.old id.0 }
         requires over { AreOver sig.now.hierarchy self.old }
         requires more { AreSorts sig.now.hierarchy more.now }
-        ensures ok { OnOk result (Settles self.old self.new id.0) }
+        ensures ok { OnOk result (Settles self.old self.new id.0 more.now) }
         ensures value { OnOk result ((known : Known) → AreEntries sig.now known store.now self.old → IsKnownOf known (tree_at store.now id.0) more.now
             → AreEntries sig.now known store.now self.new) }
         ensures over { AreOver sig.now.hierarchy self.new }
@@ -83,7 +92,7 @@ impl SortTable {
         ensures unchanged { OnErr result (AreSame self.old self.new) }
     {
         let set = self.derive(sig, store.view(id), more)?;
-        self.enter(store, id, set)?;
+        self.enter(store, id, set, !more.is_empty())?;
         Ok(())
     }
 
@@ -209,20 +218,50 @@ impl SortTable {
         Ok(set)
     }
 
-    /// Keeps the set of a term.
-    fn enter(&mut self, store: &Store, id: TermId, set: SortSet) -> Result<(), NoMemory>
+    /// Keeps the set of a term, and whether it has further sorts.
+    fn enter(
+        &mut self,
+        store: &Store,
+        id: TermId,
+        set: SortSet,
+        further: bool,
+    ) -> Result<(), NoMemory>
         requires there { IsOf store.now id.0 }
         requires unsettled { ¬ IsSettled self.old id.0 }
         ensures ok { OnOk result (entry_at self.new id.0 ≡ Some set) }
         ensures others { OnOk result ((j : ℕ) → j ≢ id.0 → entry_at self.new j ≡ entry_at self.old j) }
         ensures order { OnOk result (self.new.order ≡ self.old.order ++ id.0 ∷ []) }
+        ensures further { OnOk result (further ≡ true → Contains self.new.further id.0) }
+        ensures kept { OnOk result ((j : ℕ) → Contains self.old.further j → Contains self.new.further j) }
         ensures unchanged { OnErr result (AreSame self.old self.new) }
     {
         make_room(&mut self.entries, store.len())?;
-        self.order.push(id)?;
-        self.entries[id.0] = Some(set);
-        Ok(())
+        let count = self.further.len();
+        add_if(&mut self.further, id, further)?;
+        match self.order.push(id) {
+            Ok(()) => {
+                self.entries[id.0] = Some(set);
+                Ok(())
+            }
+            Err(error) => {
+                self.further.truncate(count);
+                Err(error.into())
+            }
+        }
     }
+}
+
+/// Adds a number behind others, if it belongs to them.
+fn add_if(ids: &mut Vec<TermId>, id: TermId, belongs: bool) -> Result<(), NoMemory>
+    ensures added { OnOk result (belongs ≡ true → Contains (numbers ids.new.items) id.0) }
+    ensures kept { OnOk result ((j : ℕ) → Contains (numbers ids.old.items) j → Contains (numbers ids.new.items) j) }
+    ensures front { OnOk result (take (length ids.old.items) ids.new.items ≡ ids.old.items) }
+    ensures unchanged { OnErr result (ids.new.items ≡ ids.old.items) }
+{
+    if belongs {
+        ids.push(id)?;
+    }
+    Ok(())
 }
 
 /// Makes room for so many entries.

@@ -1,4 +1,4 @@
-use Rattle.std.proofs.Common.{◌≡◌, ◌<◌, length, get_or, is_some, Some, true, Contains, sym, ◌∙◌, ap, subst, arith}
+use Rattle.std.proofs.Common.{◌≡◌, ◌<◌, length, get_or, Some, true, Contains, sym, ◌∙◌, ap, subst, arith}
 use Rattle.std.proofs.lemmas.List.{get_or-map, length-map}
 use Rattle.mau_terms.specs.declared.ids.TermId.{TermId}
 use Rattle.mau_store.specs.Node.{IsOf}
@@ -12,9 +12,9 @@ abbrev no_term : TermId
 no_term = record { 0 = 0 }
 
 pub returns : goal.returns
-returns c = λ r i e at there top inside.
-    let ids = c.settled-settled.result.now in
-    let among : Contains (numbers ids) i = subst (λ l. Contains l i) (sym c.settled-settled.ensures.value) ((c.settled-settled.ensures.ordered.settled i).0 (ap is_some at)) in
+returns c = λ r i e further at there top inside.
+    let ids = c.further-further.result.now in
+    let among : Contains (numbers ids) i = subst (λ l. Contains l i) (sym c.further-further.ensures) further in
     let k = among.0 in
     let room : k < length ids = omega (arith, among.1, length-map ids (λ (id : TermId). id.0)) in
     let same : (get_or ids k no_term).0 ≡ i = sym (get_or-map (λ (id : TermId). id.0) ids k no_term i room) ∙ among.2 in

@@ -9,4 +9,4 @@ use Rattle.mau_match.proofs.single.is_never_settled.Given as goal
 
 -- none of the terms so far is such a list
 abbrev pub invariant-loop-id : goal.invariant-loop-id
-invariant-loop-id l = (k : ℕ) (d : TermId) → k < l.id-index → (e : SortsOf) → entry_at l.sorts (get_or l.settled k d).0 ≡ Some e → IsOf l.store (get_or l.settled k d).0 → headed l.op.0 (tree_at l.store (get_or l.settled k d).0) ≡ true → IsIn l.sig.hierarchy e l.sort → ⊥
+invariant-loop-id l = (k : ℕ) (d : TermId) → k < l.id-index → (e : SortsOf) → entry_at l.sorts (get_or l.further k d).0 ≡ Some e → IsOf l.store (get_or l.further k d).0 → headed l.op.0 (tree_at l.store (get_or l.further k d).0) ≡ true → IsIn l.sig.hierarchy e l.sort → ⊥
