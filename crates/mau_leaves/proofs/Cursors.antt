@@ -1,16 +1,19 @@
 -- Who gives the results of leaves is as runs need it, and cursors have yielded the same as there are more terms.
 use Rattle.std.proofs.Common.{◌≡◌, ℕ, ◌≤◌, List, [], ◌∷◌, ◌++◌, map, length, slice_get, zero, suc, Bool, Option, Some, None, IfSome, Result, Ok, Err, IfOk, inl, refl, sym, ap, ◌∙◌, subst, arith, length-append}
+use Rattle.std.specs.Option.{option_map}
 use Rattle.std.proofs.lemmas.List.{map-append}
 use Rattle.mau_terms.specs.Tree.{Tree}
 use Rattle.mau_terms.specs.declared.ids.TermId.{TermId}
 use Rattle.mau_signature.specs.Signature.{SignatureOf}
 use Rattle.mau_store.specs.Node.{Node, Extends}
-use Rattle.mau_store.specs.Trees.{tree_at}
+use Rattle.mau_store.specs.Trees.{tree_at, trees_at}
+use Rattle.mau_store.specs.View.{numbers}
 use Rattle.mau_store.proofs.Growth.{extension_keeps_terms, extension_is_preorder}
 use Rattle.mau_sorts.specs.Table.{Table, KeepsEntries, AreOver}
 use Rattle.mau_listing.specs.Asked.{Asked}
 use Rattle.mau_listing.specs.declared.solution.Solution as Listed
 use Rattle.mau_program.specs.declared.program.Program as Typed
+use Rattle.mau_program.specs.declared.strategies.Assign.{Assign}
 use Rattle.mau_program.specs.Trees as Written
 use Rattle.mau_evaluation.specs.Engine.{engine_of}
 use Rattle.mau_evaluation.specs.Configs.{Todo}
@@ -34,22 +37,25 @@ use Rattle.mau_stratrun.proofs.Yielding.{leaves_yield}
 use Rattle.mau_leaves.specs.Top.{left_of_top, IsTop}
 use Rattle.mau_leaves.specs.Follows.{IsLeafDue, IsNextGiven, IsTopOf}
 use Rattle.mau_evaluation.specs.Strategy.{idle, label as by_label, top_only, call}
-use Rattle.mau_stratforms.specs.Meanings.{meaning_of}
-use Rattle.mau_leaves.specs.Cursors.{leaf_at, label_by, label_of_one, label_in, call_by, call_of_one, call_in, fixed_of, leaf_end, yielded_by, chosen_by, IsTopCursor, IsEverywhereCursor, IsTestCursor, yields_in, world_of, world_of_calls}
+use Rattle.mau_stratforms.specs.Meanings.{assign_of, meaning_of}
+use Rattle.mau_leaves.specs.Chosen.{choice_of}
+use Rattle.mau_leaves.specs.Cursors.{leaf_at, label_by, label_of_one, label_in, assigning_by, assigning_of_one, assigning_in, call_by, call_of_one, call_in, fixed_of, leaf_end, yielded_by, chosen_by, IsTopCursor, IsEverywhereCursor, IsTestCursor, IsAssignedCursor, yields_in, world_of, world_of_calls}
+use Rattle.mau_leaves.specs.declared.cursor.AssignedCursor.{AssignedCursor}
 use Rattle.mau_leaves.specs.declared.cursor.CallCursor.{CallCursor}
 use Rattle.mau_leaves.specs.declared.top.TopResults.{TopResults}
 use Rattle.mau_leaves.specs.declared.cursor.LeafCursor.{LeafCursor}
-use Rattle.mau_leaves.specs.declared.cursor.LeafCursor.TheVariants.{Top, Everywhere, Bodies, Test, Unsearched}
+use Rattle.mau_leaves.specs.declared.cursor.LeafCursor.TheVariants.{Top, Everywhere, Assigned, Bodies, Test, Unsearched}
 use Rattle.mau_leaves.specs.declared.testing.TestCursor.{TestCursor}
 use Rattle.mau_leaves.specs.Tests.{left_of_test, IsTest}
 use Rattle.mau_leaves.proofs.Searching.{term_grown, settled_later}
 use Rattle.mau_leaves.proofs.TopSteps.{top_grown, still_top}
 use Rattle.mau_leaves.proofs.AllPlaces.{everywhere_grown, still_everywhere}
-use Rattle.mau_leaves.specs.Everywhere.{left_of_places, IsEverywhere, IsEverywhereOf}
+use Rattle.mau_leaves.specs.Everywhere.{left_of_places, IsEverywhere, IsEverywhereOf, left_where, IsWhere}
 use Rattle.mau_leaves.specs.declared.everywhere.PlacesResults.{PlacesResults}
 use Rattle.mau_leaves.proofs.Holding.{test_grown, still_test}
 use Rattle.mau_leaves.proofs.Follows.{passes}
 use Rattle.mau_leaves.proofs.Calling.{call_cursor_grown}
+use Rattle.mau_leaves.proofs.AssignedCursors.{assigned_with, assigned_cursor_grown, found_with}
 
 longer : (old new : List Node) → Extends old new → length old ≤ length new
 longer old new (more, e) = omega (arith, ap length e, length-append old more)
@@ -94,6 +100,7 @@ module _ {K : Type 0} (asked : K → Asked) (given : K → Option Listed.Solutio
     cursor_grown : (k : LeafCursor K) (d : Todo) (t : Tree) (ys : List Yield) → yields_in asked given is_for c p m leaves old before k d t ys → yields_in asked given is_for c p m leaves new after k d t ys
     cursor_grown (Top label s) d t ys h = top_cursor_grown label s d t ys h
     cursor_grown (Everywhere label s) d t ys h = everywhere_cursor_grown label s d t ys h
+    cursor_grown (Assigned s) d t ys h = assigned_cursor_grown asked given is_for c p m leaves run old new before after extends kept over s d t ys h
     cursor_grown (Bodies s) d t ys h = call_cursor_grown asked given is_for c p m leaves goes old new before after extends kept over s d t ys h
     cursor_grown (Test s) d t ys h = test_cursor_grown s d t ys h
     cursor_grown Unsearched d t ys h = h
@@ -167,6 +174,26 @@ module _ {K : Type 0} (asked : K → Asked) (given : K → Option Listed.Solutio
     test_yields s form test (Ok None) itself n = subst (YieldsAll f d t) (sym yielded) ((leaves_yield f d t us).1 n)
     test_yields s form test (Err e) itself n = (record { results = us; yielded = yielded; form = form; test = test; rest = n.0 }, cause e n.1)
 
+  -- ---- the next result of a label under assignments
+
+  module _ (run : IsRunnable p) (old new : List Node) (before after : Table) (extends : Extends old new) (kept : KeepsEntries before after) (over : AreOver p.sig.hierarchy after) (s : AssignedCursor K) (d : Todo) (t : Tree) (ys : List Yield)
+      (h : IsAssignedCursor asked given is_for c p m leaves old before s d t ys) (begun : s.begun ≡ true) (search : PlacesResults K) (found : IsWhere asked given is_for c p m new after s.at_root search) where
+    pub assigned_yields : (r : Result (Option TermId) EvalEnd) → IfOk r (λ o. IfSome o (λ id. IsTerm p.sig new id.0)) → IfOk r (λ o. IfSome o (λ id. AreSettled p.sig new after (tree_at new id.0))) →
+        IsNextGiven (program_over p m.hooks) m.limit (fixed_of p m leaves).definitions d t h.results
+        (left_where asked given p m.hooks s.at_root (choice_of (program_over p m.hooks) (Some h.name) (map assign_of h.assigns) (trees_at old (numbers s.values.items))) new search) new r →
+        IsNextYield (world_of asked given is_for c p m leaves new after) (Assigned (assigned_with s s.values s.begun search)) d t ys (yielded_by r)
+    assigned_yields (Ok (Some id)) term settled n =
+        let more = more_yielded new after None d t h.results ys h.yielded (tree_at new id.0) in (
+          found_with asked given is_for c p m leaves run old new before after extends kept over s d t ys h begun search found (h.results ++ tree_at new id.0 ∷ []) (ys ++ result_of (tree_at new id.0) ∷ []) more n.0,
+          subst (YieldsFirst (fixed_of p m leaves) d t) (sym more) ((leaves_yield (fixed_of p m leaves) d t (h.results ++ tree_at new id.0 ∷ [])).0 n.1),
+          (term, settled),
+        )
+    assigned_yields (Ok None) term settled n = subst (YieldsAll (fixed_of p m leaves) d t) (sym h.yielded) ((leaves_yield (fixed_of p m leaves) d t h.results).1 n)
+    assigned_yields (Err e) term settled n = (
+      found_with asked given is_for c p m leaves run old new before after extends kept over s d t ys h begun search found h.results ys h.yielded n.0,
+      cause new after None d t h.results ys h.yielded e n.1,
+    )
+
   -- ---- the next body of a call
 
   pub call_yields : (nodes : List Node) (table : Table) (s : CallCursor K) (d : Todo) (t : Tree) (ys : List Yield) (r : Result (Option Yielded) LeafEnd) →
@@ -196,6 +223,30 @@ module _ (leaves : List Written.StrategyOf) (i : ℕ) (n : List ℕ) where
       by : (o : Option Written.StrategyOf) → slice_get leaves i ≡ o → label_of_one o ≡ Some n → leaf_at leaves i ≡ by_label n []
       by None h e = cc
       by (Some s) h e = leaf_there leaves i s h ∙ labelled_form s e
+
+-- one that is a label under assignments
+module _ (leaves : List Written.StrategyOf) (i : ℕ) (n : List ℕ) (gs : List Assign) where
+  assigning_form : (s : Written.StrategyOf) → assigning_by s ≡ Some (n, gs) → meaning_of s ≡ by_label n (map assign_of gs)
+  assigning_form (Written.label k xs) e = ap (λ (o : Option (List ℕ × List Assign)). elim o [ None ↦ idle | Some j ↦ by_label j.0 (map assign_of j.1) ]) e
+  assigning_form _ e = cc
+
+  pub assigning_leaf : assigning_in leaves i ≡ Some (n, gs) → leaf_at leaves i ≡ by_label n (map assign_of gs)
+  assigning_leaf e = by (slice_get leaves i) refl e
+    where
+      by : (o : Option Written.StrategyOf) → slice_get leaves i ≡ o → assigning_of_one o ≡ Some (n, gs) → leaf_at leaves i ≡ by_label n (map assign_of gs)
+      by None h e = cc
+      by (Some s) h e = leaf_there leaves i s h ∙ assigning_form s e
+
+-- the label that has these assignments
+pub assigned_there : (leaves : List Written.StrategyOf) (l : ℕ) (gs : List Assign) → option_map (λ (z : List ℕ × List Assign). z.1) (assigning_in leaves l) ≡ Some gs → (n : List ℕ) × (assigning_in leaves l ≡ Some (n, gs))
+assigned_there leaves l gs e = by (assigning_in leaves l) e
+  where
+    by : (o : Option (List ℕ × List Assign)) → option_map (λ (z : List ℕ × List Assign). z.1) o ≡ Some gs → (n : List ℕ) × (o ≡ Some (n, gs))
+    by None k = cc
+    by (Some z) k = (z.0, ap (λ us. Some (z.0, us)) (one k))
+      where
+        one : Some z.1 ≡ Some gs → z.1 ≡ gs
+        one k = cc
 
 -- one that is a call
 module _ (leaves : List Written.StrategyOf) (i : ℕ) (n : List ℕ) (ts : List Tree) where

@@ -1,6 +1,6 @@
 -- Which strategies of a command are searched for so far, where its program has these rules and definitions of strategies. All others are not searched for, and neither
 -- is one with such a strategy in it, whether or not it is reached.
-use Rattle.std.specs.Prelude.{ℕ, List, [], ◌∷◌, Bool, true, false, ◌&&◌, ◌||◌, not, bytes_eq, fold, Option, None, Some}
+use Rattle.std.specs.Prelude.{ℕ, suc, List, [], ◌∷◌, ◌++◌, Bool, true, false, ◌&&◌, ◌||◌, ◌==◌, not, bytes_eq, fold, Option, None, Some, if◌then◌else◌}
 use Rattle.std.specs.List.{list_any, list_all}
 use Rattle.mau_terms.specs.Subst.{Variable, has_variable, add_variables, variables}
 use Rattle.mau_terms.specs.View.{tree_of}
@@ -29,29 +29,46 @@ determined_behind xs (Match p u) = add_variables xs (tree_of p)
 determined_behind xs (Sort t s) = xs
 determined_behind xs (Reach t u) = xs
 
--- the variables that a rule determines: by its left side, and by what its condition matches
-abbrev pub determined : Rule → List Variable
-determined q = fold determined_behind (variables (tree_of q.left)) q.cond
+-- the variables that a rule determines where xs have values before: these, those of its left side, and those that its condition matches
+abbrev pub determined : List Variable → Rule → List Variable
+determined xs q = fold determined_behind (add_variables xs (tree_of q.left)) q.cond
 
--- a rule with `nonexec` that a strategy may use all the same, since it determines all its variables
-abbrev pub is_determined : Rule → Bool
-is_determined q = not q.exec && list_all (has_variable (determined q)) (listed q.vars)
+-- A rule with `nonexec` that a strategy may use all the same where xs have values before, since it determines all its variables, though its condition names one
+-- before it is matched.
+abbrev pub is_out_of_order : List Variable → Rule → Bool
+is_out_of_order xs q =
+    not q.exec && (not (list_any is_rewriting q.cond) && (list_all (has_variable (determined xs q)) (listed q.vars) && not (are_bound (add_variables xs (tree_of q.left)) q.cond)))
 
 -- a label is l
 abbrev pub is_label : List ℕ → Option (List ℕ) → Bool
 is_label l None = false
 is_label l (Some own) = bytes_eq own l
 
--- a rule with the label l that is one of these
-abbrev pub is_determined_by : List ℕ → Rule → Bool
-is_determined_by l q = is_label l q.label && is_determined q
+-- an assignment is of the name and the sort of a variable
+abbrev pub is_of : List ℕ → ℕ → Assign → Bool
+is_of name sort a = bytes_eq name a.name && (sort == a.sort)
+
+abbrev pub one_assigned : Variable → List ℕ → List Assign → List Variable
+one_assigned x name as_ = if list_any (is_of name x.1) as_ then x ∷ [] else []
+
+-- the variables of a rule, from the number i on, of which an assignment has the name and the sort
+abbrev pub assigned_from : ℕ → List (List ℕ × ℕ) → List Assign → List Variable
+assigned_from i [] as_ = []
+assigned_from i (p ∷ pairs) as_ = one_assigned (i, p.1) p.0 as_ ++ assigned_from (suc i) pairs as_
+
+abbrev pub assigned : List (List ℕ × ℕ) → List Assign → List Variable
+assigned pairs as_ = assigned_from 0 pairs as_
+
+-- a rule with the label l that is one of these, under assignments
+abbrev pub is_out_of_order_by : List ℕ → List Assign → Rule → Bool
+is_out_of_order_by l as_ q = is_label l q.label && is_out_of_order (assigned q.vars as_) q
 
 -- ---- leaves of strategies
 
--- there are assignments
-abbrev pub assigns : List Assign → Bool
-assigns [] = false
-assigns (a ∷ more) = true
+-- two assignments are of one name and one sort
+abbrev pub repeats : List Assign → Bool
+repeats [] = false
+repeats (a ∷ more) = list_any (is_of a.name a.sort) more || repeats more
 
 -- the strategies whose results `top` takes: no text has another one there
 abbrev pub is_of_rules : StrategyOf → Bool
@@ -65,12 +82,12 @@ is_unsearched_test own p c = list_any is_rewriting c || (own && not (are_bound (
 
 -- ---- strategies, where the program has the rules qs; own: they stand in the command itself, and not in a definition
 
--- `all`, or a label without assignments, where it chooses a rule as above; a label with assignments; such a test; a strategy in parts or fragments
+-- `all`, or a label, where it chooses a rule as above; a label with two assignments to one variable; such a test; a strategy in parts or fragments
 abbrev pub is_unsearched : Bool → List Rule → StrategyOf → Bool
 is_unsearched own qs idle = false
 is_unsearched own qs fail = false
-is_unsearched own qs every_rule = list_any is_determined qs
-is_unsearched own qs (label l as_) = assigns as_ || list_any (is_determined_by l) qs
+is_unsearched own qs every_rule = list_any (is_out_of_order []) qs
+is_unsearched own qs (label l as_) = repeats as_ || list_any (is_out_of_order_by l as_) qs
 is_unsearched own qs (top_only s) = not (is_of_rules s) || is_unsearched own qs s
 is_unsearched own qs (call f ts) = false
 is_unsearched own qs (test k p c) = is_unsearched_test own p c

@@ -7,28 +7,11 @@ ghost use Rattle.mau_program.specs.Binding;
 ghost use Rattle.mau_program.specs.Strategies.{strategy_of};
 ghost use Rattle.mau_searched.specs.Searched;
 
-use crate::rules::{are_determined, chooses_determined};
+use crate::rules::{are_out_of_order, are_rewriting, chooses_out_of_order, is_assigned};
 use mau_program::{Assign, Fragment, Rule, StratDef, Strategy, StrategyForm};
 use mau_statement::{add_variables, are_bound};
 use mau_terms::{Bare, NoMemory};
 use std::alloc::Global;
-
-/// Whether a fragment rewrites.
-fn is_rewriting(fragment: &Fragment) -> bool
-    ensures { result ≡ Searched.is_rewriting fragment.now }
-{
-    match fragment {
-        Fragment::Equal(..) | Fragment::Match(..) | Fragment::Sort(..) => false,
-        Fragment::Reach(..) => true,
-    }
-}
-
-/// Whether a condition rewrites.
-fn are_rewriting(cond: &[Fragment]) -> bool
-    ensures { result ≡ list_any Searched.is_rewriting cond.now }
-{
-    cond.iter().any(is_rewriting)
-}
 
 /// Whether the condition of a test names no other variables than its pattern and it bind.
 fn is_test_bound(alloc: Global, pattern: &Bare, cond: &[Fragment]) -> Result<bool, NoMemory>
@@ -58,13 +41,15 @@ fn is_unsearched_test(
     Ok(!bound)
 }
 
-/// Whether there are assignments.
-fn assigns(assigns: &[Assign]) -> bool
-    ensures { result ≡ Searched.assigns assigns.now }
+/// Whether two assignments are of one name and one sort.
+fn repeats(uses: &[Assign]) -> bool
+    ensures { result ≡ Searched.repeats uses.now }
 {
-    match assigns {
+    match uses {
         [] => false,
-        [_, ..] => true,
+        [first, rest @ ..] => {
+            is_assigned(first.name.as_str(), first.sort, rest) || repeats(rest)
+        }
     }
 }
 
@@ -75,12 +60,12 @@ fn is_unsearched_label(
     label: &str,
     uses: &[Assign],
 ) -> Result<bool, NoMemory>
-    ensures { IfOk result (λ un. un ≡ (Searched.assigns uses.now || list_any (Searched.is_determined_by label.now) rules.now)) }
+    ensures { IfOk result (λ un. un ≡ (Searched.repeats uses.now || list_any (Searched.is_out_of_order_by label.now uses.now) rules.now)) }
 {
-    if assigns(uses) {
+    if repeats(uses) {
         return Ok(true);
     }
-    chooses_determined(alloc, rules, label)
+    chooses_out_of_order(alloc, rules, label, uses)
 }
 
 /// Whether a strategy is one whose results `top` takes.
@@ -135,7 +120,7 @@ fn is_form_unsearched(
 {
     match form {
         StrategyForm::Idle | StrategyForm::Fail | StrategyForm::Call(..) => Ok(false),
-        StrategyForm::All => are_determined(alloc, rules),
+        StrategyForm::All => are_out_of_order(alloc, rules),
         StrategyForm::Label(label, uses) => {
             is_unsearched_label(alloc, rules, label.as_str(), uses.items())
         }
