@@ -42,7 +42,8 @@ use Rattle.mau_leaves.specs.Answers.{IsDueBy}
 use Rattle.mau_leaves.specs.Uses.{Choice, uses_of_all, value_at}
 use Rattle.mau_leaves.specs.Chosen.{choice_of}
 use Rattle.mau_leaves.specs.Top.{root_at, IsTop}
-use Rattle.mau_leaves.specs.Everywhere.{results_at, results_at_all, IsEverywhere, placed, places_for, left_where, IsWhere}
+use Rattle.mau_leaves.specs.Everywhere.{results_at, results_at_all, IsEverywhere, start_at, placed, places_for, left_where, IsWhere}
+use Rattle.mau_leaves.specs.declared.top.TopResults.{TopResults}
 use Rattle.mau_leaves.specs.Follows.{HasGiven, IsLeafDue}
 use Rattle.mau_leaves.specs.InTurn.{just, IsEvaluated, values_behind, left_of_values, only_one}
 use Rattle.mau_leaves.specs.Cursors.{fixed_of, leaf_end, assigning_in, assigned_in, left_assigning, StandsFirst, IsAssignedCursor}
@@ -323,3 +324,13 @@ module _ {K : Type 0} (asked : K → Asked) (given : K → Option Listed.Solutio
           where
             clash : (b : Bool) → b ≡ true → b ≡ false → {X : Type 0} → X
             clash b i j = cc
+
+-- a search at all places of a term that has just begun
+pub first_stands : {K : Type 0} (asked : K → Asked) (given : K → Option Listed.Solution) (is_for : K → SignatureOf → Type 0) (c : Bool) (p : Typed.Program) (m : Meanings) (leaves : List WrittenForm.StrategyOf) (nodes : List Node) (table : Table) (s : PlacesResults K) (term : TermId) →
+    s.way.items ≡ [] → s.at ≡ start_at term → s.gone ≡ false → StandsFirst asked given is_for c p m leaves nodes table s (tree_at nodes term.0)
+first_stands asked given is_for c p m leaves nodes table s term way at gone = record {
+  way = way;
+  gone = gone;
+  at = at ∙ ap start_at (sym (ap (λ (z : TopResults _). z.place.term) at));
+  root = ap (λ (z : TopResults _). tree_at nodes z.place.term.0) at;
+}

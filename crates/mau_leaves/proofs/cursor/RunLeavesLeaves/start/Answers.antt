@@ -1,11 +1,11 @@
-use Rattle.std.proofs.Common.{◌≡◌, [], Some, None, refl, sym, ap, ◌∙◌, subst}
+use Rattle.std.proofs.Common.{◌≡◌, [], Some, None, IfOk, refl, sym, ap, ◌∙◌, subst}
 use Rattle.std.specs.Option.{option_map}
 use Rattle.mau_stratrun.specs.declared.leaves.Lead.{Lead}
 use Rattle.mau_stratrun.specs.Settings.{strategy_of}
 use Rattle.mau_stratrun.specs.Worlds.{begun_by}
 use Rattle.mau_leaves.specs.Everywhere.{IsEverywhereOf}
 use Rattle.mau_leaves.specs.Follows.{IsTopOf}
-use Rattle.mau_leaves.specs.Cursors.{leaf_at, label_in, fixed_of}
+use Rattle.mau_leaves.specs.Cursors.{leaf_at, label_in, fixed_of, yields_in}
 use Rattle.mau_store.specs.Trees.{tree_at}
 use Rattle.std.proofs.Common.{length}
 use Rattle.mau_leaves.proofs.Cursors.{top_of_label}
@@ -60,3 +60,13 @@ returns-in-All-clause-yields g c =
       search = c.start_everywhere.ensures.everywhere g.L.Lister.with_context p m nodes (g.E.Evaluator.table r.evaluator) c.requires.term.0 c.requires.term.1;
       rest = c.start_everywhere.ensures.begins p m.hooks nodes None (begun_by (record { fixed = fixed_of p m leaves; terms = length nodes; tree = tree_at nodes }) c.args.lead c.args.calls c.args.values.now) form;
     }
+
+pub returns-in-None-clause-yields : goal.returns-in-None-clause-yields
+returns-in-None-clause-yields g c =
+    let r = c.args.self.now in
+    let p = r.program.now in
+    let m = g.E.Evaluator.meanings r.evaluator in
+    let leaves = r.leaves.now in
+    let nodes = r.store in
+    subst (λ (l : Lead). IfOk c.start_assigned.result (λ k. yields_in g.L.Lister.asked g.L.Lister.given g.L.Lister.is_for g.L.Lister.with_context p m leaves nodes (g.E.Evaluator.table r.evaluator) k
+    (begun_by (record { fixed = fixed_of p m leaves; terms = length nodes; tree = tree_at nodes }) l c.args.calls c.args.values.now) (tree_at nodes c.args.term.0) [])) (sym c.in-TopOf.is) c.start_assigned.ensures
