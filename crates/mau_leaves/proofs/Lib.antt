@@ -68,6 +68,8 @@ pub mod PutFirst
 pub mod Assigning
 -- what a table gives by assignments
 pub mod GivenValues
+-- the same, case by case
+pub mod GivenCases
 -- under which values a rule is used
 pub mod Choosing
 -- the bodies of a call, definition after definition
