@@ -34,6 +34,6 @@ module _ {A C S D : Type 0} (w w' : Words A C S D) (keeps : Keeps w w') where
         let one = keeps.attempts t a.attempts k.0 in
         ((one.0, (keeps.values t k.1).0, λ u. untried_kept t a.attempts k.1 k.0 (k.2 u)), one.1);
     candidates = λ t e a k. keeps.candidates t e a.attempts k;
-    choices = keeps.choices;
-    chosen = keeps.chosen;
+    choices = λ e i x. keeps.choices e i x.left.value;
+    chosen = λ e i x. keeps.chosen e i x.left.value;
   }

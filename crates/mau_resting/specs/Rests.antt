@@ -3,6 +3,7 @@ use Rattle.std.specs.Prelude.{◌≡◌, ◌+◌, ◌≤◌, ℕ, suc, List, [],
 use Rattle.mau_terms.specs.declared.ids.TermId.{TermId}
 use Rattle.mau_machine.specs.Words.{Words, IsKnownBy, eval_on, IsUntried}
 use Rattle.mau_resting.specs.declared.resting.Trying.{Trying}
+use Rattle.mau_resting.specs.declared.resting.Solutions.{Solutions}
 
 -- by n levels and more the term t is its own value, and no application leads to it; where sorts were derived it may be too deep by fewer levels than some number
 abbrev pub RestsBy : {A C S D : Type 0} → Words A C S D → ℕ → ℕ → Type 0
@@ -17,8 +18,8 @@ abbrev pub AreKnownBy : List ℕ → ℕ → List TermId → Type 0
 AreKnownBy levels n [] = Unit {0}
 AreKnownBy levels n (t ∷ ts) = ((m : ℕ) × (slice_get levels t.0 ≡ Some (suc m)) × (suc m ≤ n)) × AreKnownBy levels n ts
 
--- what the handles of a world stand for, where candidates come with the word whether none was tried
-abbrev pub words_over : {A C S D : Type 0} → Words A C S D → Words (Trying A) C S D
+-- what the handles of a world stand for, where candidates come with the word whether none was tried, and solutions of fragments are boxed
+abbrev pub words_over : {A C S D : Type 0} → Words A C S D → Words (Trying A) (Solutions C) S D
 words_over w = record {
   rules = w.rules;
   tree = w.tree;
@@ -34,8 +35,8 @@ words_over w = record {
   knows_attempts = λ t a. w.knows_attempts t a.attempts × w.knows_value t × (a.untried ≡ true → IsUntried w (w.tree t) a.attempts);
   makes = λ a. w.makes a.attempts;
   knows_candidate = λ t e a. w.knows_candidate t e a.attempts;
-  unchosen = w.unchosen;
-  knows_choices = w.knows_choices;
-  chosen_from = w.chosen_from;
-  chosen_value = w.chosen_value;
+  unchosen = λ x. w.unchosen x.left.value;
+  knows_choices = λ e i x. w.knows_choices e i x.left.value;
+  chosen_from = λ x. w.chosen_from x.left.value;
+  chosen_value = λ x. w.chosen_value x.left.value;
 }

@@ -6,4 +6,4 @@ mod levels;
 mod resting;
 
 pub use evaluating::{evaluate, settle, solve};
-pub use resting::{Resting, Trying};
+pub use resting::{Resting, Solutions, Trying};

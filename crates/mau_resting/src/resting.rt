@@ -13,6 +13,12 @@ pub struct Trying<A> {
     pub(crate) untried: bool,
 }
 
+/// The solutions of a fragment that are not yet tried. They are boxed, so that the frames of the loop are small.
+#[derive(Drop)]
+pub struct Solutions<C> {
+    pub(crate) left: Box<C>,
+}
+
 /// A world, and for each term by its number how many levels it takes to find that it is its own value; 0 where that is not known.
 #[derive(Drop)]
 pub struct Resting<W> {
@@ -43,7 +49,7 @@ impl<W: World + Drop> World for Resting<W> {
 
     type Attempts = Trying<W::Attempts>;
 
-    type Choices = W::Choices;
+    type Choices = Solutions<W::Choices>;
 
     type Binding = W::Binding;
 
@@ -206,8 +212,14 @@ impl<W: World + Drop> World for Resting<W> {
         at: usize,
         binding: W::Binding,
         value: TermId,
-    ) -> Result<W::Choices, NoMemory> {
-        self.world.choices(store, condition, at, binding, value)
+    ) -> Result<Solutions<W::Choices>, NoMemory> {
+        match self.world.choices(store, condition, at, binding, value) {
+            Ok(choices) => {
+                let left = Box::new(store.allocator(), choices)?;
+                Ok(Solutions { left })
+            }
+            Err(_) => Err(NoMemory),
+        }
     }
 
     fn choose(
@@ -215,9 +227,9 @@ impl<W: World + Drop> World for Resting<W> {
         store: &mut Store,
         condition: usize,
         at: usize,
-        choices: &mut W::Choices,
+        choices: &mut Solutions<W::Choices>,
     ) -> Result<Option<W::Binding>, NoMemory> {
-        self.world.choose(store, condition, at, choices)
+        self.world.choose(store, condition, at, &mut *choices.left)
     }
 
     fn own(
@@ -225,10 +237,11 @@ impl<W: World + Drop> World for Resting<W> {
         store: &mut Store,
         condition: usize,
         at: usize,
-        choices: &mut W::Choices,
+        choices: &mut Solutions<W::Choices>,
         last: &W::Binding,
     ) -> Result<W::Binding, NoMemory> {
-        self.world.own(store, condition, at, choices, last)
+        self.world
+            .own(store, condition, at, &mut *choices.left, last)
     }
 
     // ---- laws
