@@ -9,7 +9,7 @@ use Rattle.mau_store.specs.Node.{Node, AreNodes, IsOf}
 use Rattle.mau_store.specs.Trees.{tree_at}
 use Rattle.mau_sorts.specs.SortSets.{IsAbove}
 use Rattle.mau_sorts.specs.HasSort.{Known, HasSort, AllHave, ListHas, Gives, OfTwo, IsKnown}
-use Rattle.mau_sorts.specs.Table.{Table, IsSettled, AreEntries, KeepsEntries, IsKnownOf}
+use Rattle.mau_sorts.specs.Table.{Table, IsSettled, AreEntries, KeepsEntries, Settles, IsKnownOf}
 use Rattle.mau_sorts.proofs.Derivations.{Gives-same}
 use Rattle.mau_listing.specs.Asked.{IsTreeSettled, IsTableOf, IsClosedTable, IsBelow, IsBelowOne}
 use Rattle.mau_listing.proofs.Closed.{closed_below}
@@ -136,18 +136,14 @@ module _ (s : SignatureOf) (nodes : List Node) (are : AreNodes nodes) (known : K
   pub table_after : (new : Table) → KeepsEntries old new → Settles old new i more → AreEntries s known_more nodes new → IsTableOf s known_more nodes new
   table_after new kept settles entries = record {
     entries = entries;
-    settled = λ v r c. by v r (Contains-append_cases known (map with_it more) (v, r) c);
-    further = λ v r c. among v r (Contains-append_cases known (map with_it more) (v, r) c);
+    settled = λ v r c. (by v r (Contains-append_cases known (map with_it more) (v, r) c)).0;
+    further = λ v r c. (by v r (Contains-append_cases known (map with_it more) (v, r) c)).1;
   }
     where
-      by : (v : Tree) (r : ℕ) → Contains known (v, r) ⊎ Contains (map with_it more) (v, r) → IsTreeSettled nodes new v
+      by : (v : Tree) (r : ℕ) → Contains known (v, r) ⊎ Contains (map with_it more) (v, r) → (h : IsTreeSettled nodes new v) × Contains new.further h.number
       by v r (inl d) =
           let z = is.settled v r d in
-          record { number = z.number; there = z.there; tree = z.tree; settled = settled_kept old new kept z.number z.settled }
+          (record { number = z.number; there = z.there; tree = z.tree; settled = settled_kept old new kept z.number z.settled }, settles.kept z.number (is.further v r d))
       by v r (inr d) =
           let z = from_map with_it more (v, r) (from_list (v, r) (map with_it more) d) in
-          record { number = i; there = there; tree = sym (ap (λ (w : Tree × ℕ). w.0) z.2); settled = settles.settled }
-
-      among : (v : Tree) (r : ℕ) (c : Contains known (v, r) ⊎ Contains (map with_it more) (v, r)) → Contains new.further (by v r c).number
-      among v r (inl d) = kept.further (is.settled v r d).number (is.further v r d)
-      among v r (inr d) = let z = from_map with_it more (v, r) (from_list (v, r) (map with_it more) d) in settles.further z.0 (in_list z.0 more z.1)
+          (record { number = i; there = there; tree = sym (ap (λ (w : Tree × ℕ). w.0) z.2); settled = settles.settled }, settles.further z.0 (in_list z.0 more z.1))

@@ -172,6 +172,7 @@ may_settle_grown s old new table t i extends (inr may) =
 -- a table of a store is one of a store that extends it
 module _ (s : SignatureOf) (known : Known) (old new : List Node) (extends : Extends old new) (table : Table) where
   pub table_grown : IsTableOf s known old table → IsTableOf s known new table
+  unfolding tree_settled_kept
   table_grown t = record {
     entries = λ i e at.
         let kept = t.entries i e at in (

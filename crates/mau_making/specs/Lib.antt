@@ -4,6 +4,8 @@
 
 -- a session by its number, and the summary of its transcript
 pub mod MadeSession
+-- what is counted in its transcript
+pub mod Counted
 -- the lines of steps
 pub mod Trace
 -- ---- what only inner contracts and proofs cite

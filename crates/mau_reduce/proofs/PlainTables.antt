@@ -42,6 +42,7 @@ settled_grown s old new before after t x kept h = record {
 
 -- an evaluator's table, where the store alone has grown
 pub derived_extended : (m : Meanings) (old new : List Node) (table : Table) → Extends old new → IsDerivedTable m old table → IsDerivedTable m new table
+unfolding tree_settled_grown
 derived_extended m old new table x h = record {
   entries = λ i e at normal.
       let same = (extension_keeps_terms old new x i (h.declared.entries i e at).0).tree in

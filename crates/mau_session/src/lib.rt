@@ -41,3 +41,4 @@ mod transcript;
 
 pub use meaning::Meaning;
 pub use top::{Status, run};
+pub use transcript::transcript_of;

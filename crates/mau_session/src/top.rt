@@ -7,7 +7,7 @@ ghost use Rattle.mau_built_ins.specs.NativeNumerals.{GivesNumerals};
 ghost use Rattle.mau_session.specs.Run.{IsRead, IsRun};
 
 use crate::meaning::Meaning;
-use crate::transcript::transcript;
+use crate::transcript::transcript_of;
 use mau_bytes::{ReadEnd, Sink, Source, read_all, write_all};
 use mau_formula::HookTable;
 use mau_terms::Text;
@@ -72,7 +72,7 @@ pub fn run<S: Source, K: Sink>(
     match Meaning::of(words) {
         Some(Meaning::Run(limit)) => match read_text(alloc, source) {
             Err(status) => status,
-            Ok(text) => match transcript(alloc, hooks, limit, &text) {
+            Ok(text) => match transcript_of(alloc, hooks, limit, &text) {
                 Err(_) => Status::NoMemory,
                 Ok((bytes, is_refused)) => write_answers(sink, &bytes, is_refused),
             },

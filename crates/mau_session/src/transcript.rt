@@ -57,7 +57,7 @@ fn answers(
 }
 
 /// The transcript of a text, with native operators and a budget for each item, and whether the text or one of its items was refused.
-pub fn transcript(
+pub fn transcript_of(
     alloc: Global,
     hooks: &HookTable,
     limit: u64,

@@ -238,12 +238,16 @@ impl SortTable {
         make_room(&mut self.entries, store.len())?;
         let count = self.further.len();
         add_if(&mut self.further, id, further)?;
-        if let Err(error) = self.order.push(id) {
-            self.further.truncate(count);
-            return Err(error.into());
+        match self.order.push(id) {
+            Ok(()) => {
+                self.entries[id.0] = Some(set);
+                Ok(())
+            }
+            Err(error) => {
+                self.further.truncate(count);
+                Err(error.into())
+            }
         }
-        self.entries[id.0] = Some(set);
-        Ok(())
     }
 }
 

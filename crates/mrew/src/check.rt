@@ -30,7 +30,7 @@ fn read_document<S: Source>(alloc: Global, source: &mut S) -> Result<Vec<u8>, St
 }
 
 /// Writes all answers.
-fn write_answers<K: Sink>(sink: &mut K, bytes: &[u8], is_refused: bool) -> Status
+pub fn write_answers<K: Sink>(sink: &mut K, bytes: &[u8], is_refused: bool) -> Status
     ensures causes { (result ≡ Status.Done) ⊎ (result ≡ Status.Refused) ⊎ (result ≡ Status.WriteFault) }
     ensures done { result ≡ Status.Done → (is_refused ≡ false) × (K.written sink.new ≡ append_known (K.written sink.old) bytes.now) }
     ensures refused { result ≡ Status.Refused → (is_refused ≡ true) × (K.written sink.new ≡ append_known (K.written sink.old) bytes.now) }

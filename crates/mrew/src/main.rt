@@ -4,6 +4,7 @@
 mod asked;
 mod check;
 mod hooks;
+mod make;
 #[cfg(test)]
 mod tests;
 

@@ -6,11 +6,11 @@ use Rattle.mau_sorts.specs.Table.{IsSettled, IsOrdered, kept_in}
 use Rattle.mau_sorts.proofs.Settling.{one_settled, ordered_more}
 use Rattle.mau_sorts.proofs.table.SortTable.enter.Goals as goal
 
-pub invariant_of-self-2 : goal.invariant_of-self-2
-invariant_of-self-2 c =
+pub invariant_of-self-in-Ok : goal.invariant_of-self-in-Ok
+invariant_of-self-in-Ok c =
     let old = kept_in c.self.inside.entries.items (numbers c.self.inside.order.items) (numbers c.self.inside.further.items) in
     ordered_more old _ c.args.id.0 [] (subst (λ t. ¬ IsSettled t c.args.id.0) (sym c.self.view_is) c.requires.unsettled)
     (one_settled c.self.inside.entries.items c.make_room.new.entries.items (numbers c.self.inside.order.items) (numbers c.push.new.self.items) (numbers c.self.inside.further.items) (numbers c.add_if.new.ids.items) c.args.id.0 c.args.set
     (omega (arith, c.requires.there, c.in_ok-make_room.ensures.room, c.len.ensures.counted)) c.in_ok-make_room.ensures.same
-    (ap numbers c.in_ok-push.ensures.items ∙ map-append (λ (x : TermId). x.0) c.self.inside.order.items (c.args.id ∷ [])) c.in_ok-add_if.ensures.kept)
+    (ap numbers c.in-Ok.ensures.items ∙ map-append (λ (x : TermId). x.0) c.self.inside.order.items (c.args.id ∷ [])) c.in_ok-add_if.ensures.kept)
     c.self.invariant

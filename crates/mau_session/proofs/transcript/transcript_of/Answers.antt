@@ -9,7 +9,7 @@ use Rattle.mau_session.specs.Environment.{environment_of}
 use Rattle.mau_session.specs.State.{at_first}
 use Rattle.mau_session.specs.Transcript.{Transcript, ItemsAnswer, text_refused, items_answered}
 use Rattle.mau_session.proofs.Spanned.{few_tokens}
-use Rattle.mau_session.proofs.transcript.transcript.Goals as goal
+use Rattle.mau_session.proofs.transcript.transcript_of.Goals as goal
 
 pub answers-requires-clause-spans : goal.answers-requires-clause-spans
 answers-requires-clause-spans g c =
