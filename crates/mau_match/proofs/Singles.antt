@@ -3,11 +3,13 @@ use Rattle.std.proofs.Common.{◌≡◌, ℕ, List, [], ◌∷◌, ◌++◌, Boo
 use Rattle.std.proofs.lemmas.List.{map-append}
 use Rattle.std.proofs.lemmas.List.Elements.{All-append, All-nil, All-cons, All-head, All-tail, All-take, All-weaker, All-contains_itself}
 use Rattle.std.specs.Bool.{MatchBool}
-use Rattle.mau_terms.specs.Tree.{Tree, node, trees_of}
+use Rattle.mau_terms.specs.Tree.{Tree, node, numeral, apply, no_trees, trees_of}
 use Rattle.mau_terms.specs.Finite.{IsIn, units_of}
-use Rattle.mau_terms.specs.Norm.{arrange, finish, norm}
+use Rattle.mau_terms.specs.Norm.{arrange, finish, norm, unit_tree}
+use Rattle.mau_terms.specs.Bare.{IsLawful}
 use Rattle.mau_terms.specs.Solution.{list_under, over_list}
 use Rattle.mau_terms.specs.declared.theory.Identity.{Identity}
+use Rattle.mau_terms.specs.declared.theory.Identity.TheVariants.{Const, Num}
 use Rattle.mau_terms.proofs.Normal.{IsNormal, whole_pieces, finish_long}
 use Rattle.mau_terms.proofs.Solutions.{list_of_made}
 use Rattle.mau_terms.proofs.Finite.{over_its_list}
@@ -17,7 +19,8 @@ use Rattle.mau_terms.specs.declared.ids.OpId.{OpId}
 use Rattle.mau_terms.specs.declared.theory.Theory.{Theory}
 use Rattle.mau_poset.specs.Order.{kind_of, IsAtOrBelow}
 use Rattle.mau_signature.specs.declared.decl.Decl.{Decl}
-use Rattle.mau_signature.specs.Signature.{SignatureOf, declarations_at, theory_at, result_of}
+use Rattle.mau_signature.specs.Signature.{SignatureOf, IsOperator, declarations_at, theory_at, terms_over, result_of}
+use Rattle.mau_signature.proofs.Operators.{is_operator}
 use Rattle.mau_store.specs.Node.{Node, Extends, IsOf}
 use Rattle.mau_store.specs.Trees.{tree_at, trees_at}
 use Rattle.mau_store.specs.View.{numbers}
@@ -26,7 +29,7 @@ use Rattle.mau_canon.specs.Standing.{StandsWithin, StandWithin}
 use Rattle.mau_canon.proofs.Standing.{stand_among, stand_there, stand_within_extended}
 use Rattle.mau_canon.proofs.Elements.{trees_at-append}
 use Rattle.mau_sorts.specs.SortSets.{SortsOf, IsIn as IsInSet}
-use Rattle.mau_sorts.specs.HasSort.{Known, HasSort, Gives, ListHas, AllHave}
+use Rattle.mau_sorts.specs.HasSort.{Known, HasSort, IsKnown, Gives, ListHas, AllHave}
 use Rattle.mau_sorts.specs.Table.{Table, entry_at}
 use Rattle.mau_listing.specs.Asked.{IsTableOf}
 use Rattle.mau_listing.proofs.Answered.{normal_is}
@@ -38,6 +41,7 @@ use Rattle.mau_domains.specs.declared.part.Part.{Part as PartOfCode}
 use Rattle.mau_domains.specs.declared.part.Part.TheVariants.{One, ListOf}
 use Rattle.mau_domains.proofs.StoredValues.{part_stays, part_same, trees_alone}
 use Rattle.mau_match.specs.Parts.{headed}
+use Rattle.mau_match.specs.Limited.{IsUndeclared}
 use Rattle.mau_match.specs.Single.{IsNoList, IsSingle, HasListOf, Covers}
 use Rattle.mau_match.specs.Values.{IsValueOfAny}
 use Rattle.mau_match.specs.Walked.{parts_in}
@@ -45,6 +49,54 @@ use Rattle.mau_match.proofs.Adding.{parts_ones}
 use Rattle.mau_match.proofs.Sound.{one_reaches}
 use Rattle.mau_sorts.proofs.Entries.{settled_entry}
 use Rattle.mau_sorts.specs.Derived.{set_or_none}
+
+-- ---- sorts by declarations, and what else is known
+
+-- an operator whose declarations all have other results gives no such sort
+not_given : (s : SignatureOf) (f r : ℕ) → (declarations_at s f ≡ [] → ⊥) → ((d : Decl) → Contains (declarations_at s f) d → IsAtOrBelow s.hierarchy d.result r → ⊥) → (P : List ℕ → Type 0) → Gives s f P r → ⊥
+not_given s f r some declared P g = by g
+  where
+    kind : (ds : List Decl) → (ds ≡ [] → ⊥) → ((d : Decl) → Contains ds d → IsAtOrBelow s.hierarchy d.result r → ⊥) → kind_of s.hierarchy (result_of ds) ≡ r → ⊥
+    kind [] n d e = n refl
+    kind (d ∷ ds) n h e = h d (0, omega arith, refl) (inr e)
+
+    by : Gives s f P r → ⊥
+    by (inl d) = declared d.declaration d.declared d.below
+    by (inr e) = kind (declarations_at s f) some declared e
+
+-- of a term that was never settled with further sorts and this one no more is known
+not_known : (s : SignatureOf) (r : ℕ) (nodes : List Node) (table : Table) (v : Tree)
+    → ((i : ℕ) (e : SortsOf) → Contains table.further i → entry_at table i ≡ Some e → IsOf nodes i → tree_at nodes i ≡ v → IsInSet s.hierarchy e r → ⊥)
+    → (known : Known) → IsTableOf s known nodes table → HasSort s known v r → IsKnown s.hierarchy known v r → ⊥
+not_known s r nodes table v settled known is_table h k =
+    let there = is_table.settled v k.0 k.1 in
+    let at = settled_entry (entry_at table there.number) there.settled in
+    let e = set_or_none (entry_at table there.number) in
+    let has : HasSort s known (tree_at nodes there.number) r = subst (λ w. HasSort s known w r) (sym there.tree) h in
+    settled there.number e (is_table.further v k.0 k.1) at there.there there.tree (((is_table.entries there.number e at).1.exact r).1 has)
+
+-- an identity has no sort that neither declarations give it nor what is known of settled terms
+pub no_unit : (s : SignatureOf) (i : Identity) (r : ℕ) → IsUndeclared s i r → (nodes : List Node) (table : Table)
+    → ((j : ℕ) (e : SortsOf) → Contains table.further j → entry_at table j ≡ Some e → IsOf nodes j → tree_at nodes j ≡ unit_tree i → IsInSet s.hierarchy e r → ⊥)
+    → (known : Known) → IsTableOf s known nodes table → HasSort s known (unit_tree i) r → ⊥
+no_unit s (Const c) r none nodes table settled known is_table h = by h
+  where
+    list : (a : Bool) → MatchBool a (ListHas s known c.0 no_trees r) (Gives s c.0 (λ rs. AllHave s known no_trees rs) r) → ⊥
+    list true k = k
+    list false k = not_given s c.0 r none.0 none.1 (λ rs. AllHave s known no_trees rs) k
+
+    by : HasSort s known (apply c.0 no_trees) r → ⊥
+    by (inl k) = list (theory_at s c.0).assoc k
+    by (inr k) = not_known s r nodes table (apply c.0 no_trees) settled known is_table h k
+no_unit s (Num n) r none nodes table settled known is_table h = by h
+  where
+    by : HasSort s known (numeral n) r → ⊥
+    by (inl k) = none k
+    by (inr k) = not_known s r nodes table (numeral n) settled known is_table h k
+
+-- a constant that is an identity is an operator
+pub unit_operator : (s : SignatureOf) → IsLawful (terms_over s) → (f : ℕ) (c : OpId) → (theory_at s f).id ≡ Some (Const c) → IsOperator s c.0
+unit_operator s lawful f c e = is_operator s c.0 (lawful.unit_kinds f (Const c) e).1.0
 
 -- ---- sorts of lists
 
@@ -59,26 +111,13 @@ single s f r op some declared nodes table settled known is_table (t ∷ u ∷ ts
     v : Tree
     v = node f (t ∷ u ∷ ts)
 
-    kind : (ds : List Decl) → (ds ≡ [] → ⊥) → ((d : Decl) → Contains ds d → IsAtOrBelow s.hierarchy d.result r → ⊥) → kind_of s.hierarchy (result_of ds) ≡ r → ⊥
-    kind [] n d e = n refl
-    kind (d ∷ ds) n h e = h d (0, omega arith, refl) (inr e)
-
-    gives : (P : List ℕ → Type 0) → Gives s f P r → ⊥
-    gives P (inl d) = declared d.declaration d.declared d.below
-    gives P (inr e) = kind (declarations_at s f) some declared e
-
     list : (a : Bool) → a ≡ true → MatchBool a (ListHas s known f (trees_of (t ∷ u ∷ ts)) r) (Gives s f (λ rs. AllHave s known (trees_of (t ∷ u ∷ ts)) rs) r) → ⊥
-    list true e k = gives _ k
+    list true e k = not_given s f r some declared _ k
     list false e k = cc
 
     by : HasSort s known v r → ⊥
     by (inl k) = list (theory_at s f).assoc op.assoc k
-    by (inr k) =
-        let there = is_table.settled v k.0 k.1 in
-        let at = settled_entry (entry_at table there.number) there.settled in
-        let e = set_or_none (entry_at table there.number) in
-        let has : HasSort s known (tree_at nodes there.number) r = subst (λ w. HasSort s known w r) (sym there.tree) h in
-        settled there.number e (is_table.further v k.0 k.1) at there.there (ap (headed f) there.tree ∙ eq-eqb f f refl) (((is_table.entries there.number e at).1.exact r).1 has)
+    by (inr k) = not_known s r nodes table v (λ i e further at there tree. settled i e further at there (ap (headed f) tree ∙ eq-eqb f f refl)) known is_table h k
 
 -- ---- values of parts
 

@@ -1,29 +1,32 @@
 //! How long the values of the variables of a pattern are as lists of its associative operators, by their sorts.
 ghost use Rattle.std.specs.Prelude.{◌≡◌, ◌⊎◌, ℕ, ◌≤◌, List, Some, None, All, Contains, true, false, IfOk, IfSome, OnOk};
-ghost use Rattle.mau_terms.specs.Tree.{Tree, trees_of};
+ghost use Rattle.mau_terms.specs.Tree.{Tree, numeral, trees_of};
 ghost use Rattle.mau_terms.specs.Norm.{unit_tree};
 ghost use Rattle.mau_terms.specs.Subst.{Variable};
 ghost use Rattle.mau_terms.specs.Bare.{IsBare};
 ghost use Rattle.mau_terms.specs.View.{tree_of, variable_of};
+ghost use Rattle.mau_terms.specs.declared.ids.OpId.{OpId as OpIdOf};
 ghost use Rattle.mau_terms.specs.declared.theory.Identity.{Identity as IdentityOf};
+ghost use Rattle.mau_terms.specs.declared.theory.Identity.TheVariants.{Const};
 ghost use Rattle.mau_terms.specs.declared.theory.Theory.{Theory as TheoryOf};
 ghost use Rattle.mau_terms.specs.declared.ids.VarId.{VarId as VarIdOf};
 ghost use Rattle.mau_signature.specs.Faults.{IsSort};
 ghost use Rattle.mau_signature.specs.Signature.{IsOperator, theory_at, terms_over};
 ghost use Rattle.mau_store.specs.Node.{IsOf};
 ghost use Rattle.mau_store.specs.Trees.{tree_at};
-ghost use Rattle.mau_sorts.specs.HasSort.{Known, HasSort};
+ghost use Rattle.mau_sorts.specs.HasSort.{Known, HasSort, NumeralHas};
 ghost use Rattle.mau_sorts.specs.SortSets.{SortsOf, IsIn};
 ghost use Rattle.mau_sorts.specs.Table.{AreOver, entry_at};
 ghost use Rattle.mau_listing.specs.Asked.{IsTableOf};
 ghost use Rattle.mau_listing.specs.Places.{variables_in};
 ghost use Rattle.mau_domains.specs.Stored.{IsListOperator};
 ghost use Rattle.mau_match.specs.Single.{IsSingle};
-ghost use Rattle.mau_match.specs.Limited.{AreLimited, long_at, IsNoUnit, IsLimitOf, IsLike};
+ghost use Rattle.mau_match.specs.Limited.{AreLimited, long_at, IsNoUnit, IsUndeclared, IsLimitOf, IsLike};
 
 use crate::Limit;
-use crate::single::is_single;
-use mau_listing::Place;
+use crate::choices::is_headed;
+use crate::single::{is_never_declared, is_single};
+use mau_listing::{Place, is_lawful};
 use mau_signature::Signature;
 use mau_sorts::SortTable;
 use mau_store::{NodeView, Store};
@@ -70,51 +73,55 @@ pub fn is_plain(theory: &Theory) -> bool
 
 // ---- limits by sorts
 
-/// Whether a term is an identity.
-fn is_unit(store: &Store, id: TermId, identity: &Identity) -> bool
+/// Whether a term is a numeral.
+fn is_numeral(store: &Store, id: TermId, value: u128) -> bool
     requires { IsOf store.now id.0 }
-    ensures { result ≡ true → tree_at store.now id.0 ≡ unit_tree identity.now }
+    ensures { tree_at store.now id.0 ≡ numeral value → result ≡ true }
 {
     match store.view(id) {
-        NodeView::App(top, args) => match identity {
-            Identity::Const(constant) => top == *constant && args.is_empty(),
-            Identity::Num(_) => false,
-        },
-        NodeView::Num(n) => match identity {
-            Identity::Const(_) => false,
-            Identity::Num(value) => n == *value,
-        },
-        NodeView::Var(_) => false,
+        NodeView::Num(n) => n == value,
+        _ => false,
     }
 }
 
-/// Where a term is an identity that is settled: whether it is without a sort.
-fn lacks_sort(
+/// Whether a term may be an identity.
+fn may_be_unit(store: &Store, identity: &Identity, id: TermId) -> bool
+    requires { IsOf store.now id.0 }
+    ensures { tree_at store.now id.0 ≡ unit_tree identity.now → result ≡ true }
+{
+    match identity {
+        Identity::Const(constant) => is_headed(store, *constant, id),
+        Identity::Num(value) => is_numeral(store, id, *value),
+    }
+}
+
+/// Whether a term may be an identity, and is settled with a sort.
+fn is_settled_unit(
     store: &Store,
     sig: &Signature,
     sorts: &SortTable,
     identity: &Identity,
     sort: u32,
     id: TermId,
-) -> Option<bool>
+) -> bool
     requires sort { IsSort sig.now.hierarchy sort }
     requires over { AreOver sig.now.hierarchy sorts.now }
-    ensures { IfSome result (λ lacks. lacks ≡ true → (known : Known) → IsTableOf sig.now known store.now sorts.now → HasSort sig.now known (unit_tree identity.now) sort → ⊥) }
+    ensures { result ≡ false → (e : SortsOf) → entry_at sorts.now id.0 ≡ Some e → IsOf store.now id.0 → tree_at store.now id.0 ≡ unit_tree identity.now → IsIn sig.now.hierarchy e sort → ⊥ }
 {
     if id.0 >= store.len() {
-        return None;
+        return false;
     }
-    if !is_unit(store, id, identity) {
-        return None;
+    let Some(has) = sorts.has(sig, id, sort) else {
+        return false;
+    };
+    if !has {
+        return false;
     }
-    match sorts.has(sig, id, sort) {
-        Some(has) => Some(!has),
-        None => None,
-    }
+    may_be_unit(store, identity, id)
 }
 
-/// Whether it is known that an identity has not a sort.
-fn is_other_sort(
+/// Whether no term that was settled with further sorts, and is an identity, has a sort.
+fn is_never_settled_unit(
     store: &Store,
     sig: &Signature,
     sorts: &SortTable,
@@ -123,15 +130,60 @@ fn is_other_sort(
 ) -> bool
     requires sort { IsSort sig.now.hierarchy sort }
     requires over { AreOver sig.now.hierarchy sorts.now }
-    ensures { result ≡ true → (known : Known) → IsTableOf sig.now known store.now sorts.now → HasSort sig.now known (unit_tree identity.now) sort → ⊥ }
+    ensures { result ≡ true → (i : ℕ) (e : SortsOf) → Contains sorts.now.further i → entry_at sorts.now i ≡ Some e → IsOf store.now i → tree_at store.now i ≡ unit_tree identity.now → IsIn sig.now.hierarchy e sort → ⊥ }
 {
-    let settled = sorts.settled();
-    for id in settled {
-        if let Some(lacks) = lacks_sort(store, sig, sorts, identity, sort, *id) {
-            return lacks;
+    let further = sorts.further();
+    for id in further {
+        if is_settled_unit(store, sig, sorts, identity, sort, *id) {
+            return false;
         }
     }
-    false
+    true
+}
+
+/// Whether numerals of a value have not a sort by what is declared.
+fn is_other_numeral(sig: &Signature, value: u128, sort: u32) -> bool
+    requires sort { IsSort sig.now.hierarchy sort }
+    ensures { result ≡ true → NumeralHas sig.now value sort → ⊥ }
+{
+    match sig.numerals() {
+        Some((zero, others)) => {
+            let own = if value == 0 { zero } else { others };
+            !sig.poset().leq(own, sort)
+        }
+        None => true,
+    }
+}
+
+/// Whether an identity has not a sort by what is declared.
+fn is_undeclared(sig: &Signature, identity: &Identity, sort: u32) -> bool
+    requires unit { (c : OpIdOf) → identity.now ≡ Const c → IsOperator sig.now c.0 }
+    requires sort { IsSort sig.now.hierarchy sort }
+    ensures { result ≡ true → IsUndeclared sig.now identity.now sort }
+{
+    match identity {
+        Identity::Const(constant) => is_never_declared(sig, *constant, sort),
+        Identity::Num(value) => is_other_numeral(sig, *value, sort),
+    }
+}
+
+/// Whether an identity has not a sort, whatever more is known of the sorts of settled terms.
+fn is_other_sort(
+    store: &Store,
+    sig: &Signature,
+    sorts: &SortTable,
+    identity: &Identity,
+    sort: u32,
+) -> bool
+    requires unit { (c : OpIdOf) → identity.now ≡ Const c → IsOperator sig.now c.0 }
+    requires sort { IsSort sig.now.hierarchy sort }
+    requires over { AreOver sig.now.hierarchy sorts.now }
+    ensures { result ≡ true → (known : Known) → IsTableOf sig.now known store.now sorts.now → HasSort sig.now known (unit_tree identity.now) sort → ⊥ }
+{
+    if !is_undeclared(sig, identity, sort) {
+        return false;
+    }
+    is_never_settled_unit(store, sig, sorts, identity, sort)
 }
 
 /// How many elements the values of a sort have at least: one, where the identity of the operator has not the sort.
@@ -143,6 +195,7 @@ fn least_by_sort(store: &Store, sig: &Signature, sorts: &SortTable, op: OpId, so
 {
     match &sig.theory(op).id {
         Some(identity) => {
+            is_lawful(sig);
             if is_other_sort(store, sig, sorts, identity, sort) {
                 return 1;
             }

@@ -36,7 +36,7 @@ use std::alloc::Global;
 // ---- sorts of lists
 
 /// Whether no declaration of an operator has a result at or below a sort.
-fn is_never_declared(sig: &Signature, op: OpId, sort: u32) -> bool
+pub fn is_never_declared(sig: &Signature, op: OpId, sort: u32) -> bool
     requires operator { IsOperator sig.now op.0 }
     requires sort { IsSort sig.now.hierarchy sort }
     ensures never { result ≡ true → (d : Decl) → Contains (declarations_at sig.now op.0) d → IsAtOrBelow sig.now.hierarchy d.result sort → ⊥ }
