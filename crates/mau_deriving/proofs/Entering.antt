@@ -143,7 +143,7 @@ module _ (s : SignatureOf) (nodes : List Node) (are : AreNodes nodes) (known : K
       by : (v : Tree) (r : ℕ) → Contains known (v, r) ⊎ Contains (map with_it more) (v, r) → (h : IsTreeSettled nodes new v) × Contains new.further h.number
       by v r (inl d) =
           let z = is.settled v r d in
-          (record { number = z.number; there = z.there; tree = z.tree; settled = settled_kept old new kept z.number z.settled }, kept.further z.number (is.further v r d))
+          (record { number = z.number; there = z.there; tree = z.tree; settled = settled_kept old new kept z.number z.settled }, settles.kept z.number (is.further v r d))
       by v r (inr d) =
           let z = from_map with_it more (v, r) (from_list (v, r) (map with_it more) d) in
           (record { number = i; there = there; tree = sym (ap (λ (w : Tree × ℕ). w.0) z.2); settled = settles.settled }, settles.further z.0 (in_list z.0 more z.1))

@@ -1,5 +1,5 @@
 -- One more entry of a table.
-use Rattle.std.proofs.Common.{◌≡◌, ◌≢◌, ℕ, List, [], is_some, ⊎_elim, inl, inr, ap, sym, ◌∙◌, subst, arith}
+use Rattle.std.proofs.Common.{◌≡◌, ◌≢◌, ℕ, List, [], Contains, is_some, ⊎_elim, inl, inr, ap, sym, ◌∙◌, subst, arith}
 use Rattle.std.proofs.lemmas.Bool.{cases_eq}
 use Rattle.mau_signature.specs.Signature.{SignatureOf, theory_at}
 use Rattle.mau_store.specs.Node.{Node, AreNodes, IsOf}
@@ -22,14 +22,14 @@ module _ (nodes : List Node) (are : AreNodes nodes) where
     λ among. let below = among.1 in absurd (omega arith),
   )
 
-  pub table_more : (s : SignatureOf) (known : Known) (old new : Table) (i : ℕ) → IsOf nodes i → ¬ IsSettled old i → KeepsEntries old new
+  pub table_more : (s : SignatureOf) (known : Known) (old new : Table) (i : ℕ) → IsOf nodes i → ¬ IsSettled old i → KeepsEntries old new → ((j : ℕ) → Contains old.further j → Contains new.further j)
       → (AreEntries s known nodes old → IsKnownOf known (tree_at nodes i) [] → AreEntries s known nodes new) → IsTableOf s known nodes old → IsTableOf s known nodes new
-  table_more s known old new i there unsettled kept entries t = record {
+  table_more s known old new i there unsettled kept further entries t = record {
     entries = entries t.entries (nothing_known s known old i there unsettled t);
     settled = λ u r among.
         let is = t.settled u r among in
         record { number = is.number; there = is.there; tree = is.tree; settled = settled_kept old new kept is.number is.settled };
-    further = λ u r among. kept.further (t.settled u r among).number (t.further u r among);
+    further = λ u r among. further (t.settled u r among).number (t.further u r among);
   }
 
   -- only the term itself is settled

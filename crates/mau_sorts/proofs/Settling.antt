@@ -63,13 +63,12 @@ nothing_known t r = (λ among. absurd (let below : among.0 < 0 = among.1 in omeg
 -- ---- tables that grow
 
 pub kept_same : (t : Table) → KeepsEntries t t
-kept_same t = record { entries = λ i e at_i. at_i; order = ([], sym (append-nil t.order)); further = λ i among. among }
+kept_same t = record { entries = λ i e at_i. at_i; order = ([], sym (append-nil t.order)) }
 
 pub kept_on : (a b c : Table) → KeepsEntries a b → KeepsEntries b c → KeepsEntries a c
 kept_on a b c first second = record {
   entries = λ i e at_i. second.entries i e (first.entries i e at_i);
   order = (first.order.0 ++ second.order.0, second.order.1 ∙ ap (λ xs. xs ++ second.order.0) first.order.1 ∙ append_assoc a.order first.order.0 second.order.0);
-  further = λ i among. second.further i (first.further i among);
 }
 
 -- one more is settled
@@ -77,11 +76,10 @@ pub kept_settled : (old new : Table) (i : ℕ) (qs : List ℕ) → ¬ IsSettled 
 kept_settled old new i qs un more = record {
   entries = λ j e at_j. more.others j (λ same. un (subst (IsSettled old) same (ap is_some at_j))) ∙ at_j;
   order = (i ∷ [], more.order);
-  further = more.kept;
 }
 
 pub kept_unchanged : (old new : Table) → AreSame old new → KeepsEntries old new
-kept_unchanged old new same = record { entries = λ i e at_i. same.entries i ∙ at_i; order = ([], same.order ∙ sym (append-nil old.order)); further = λ i among. subst (λ xs. Contains xs i) (sym same.further) among }
+kept_unchanged old new same = record { entries = λ i e at_i. same.entries i ∙ at_i; order = ([], same.order ∙ sym (append-nil old.order)) }
 
 -- an order with one more
 pub ordered_more : (old new : Table) (i : ℕ) (qs : List ℕ) → ¬ IsSettled old i → Settles old new i qs → IsOrdered old → IsOrdered new

@@ -69,7 +69,6 @@ pub record AreSame (old new : Table) : Type 0 where
 pub record KeepsEntries (old new : Table) : Type 0 where
   pub entries : (i : ℕ) (e : SortsOf) → entry_at old i ≡ Some e → entry_at new i ≡ Some e
   pub order : (more : List ℕ) × (new.order ≡ old.order ++ more)
-  pub further : (i : ℕ) → Contains old.further i → Contains new.further i
 
 -- the number i gets an entry, with the sorts `more`, behind the others, which keep what they had
 pub record Settles (old new : Table) (i : ℕ) (more : List ℕ) : Type 0 where

@@ -1,4 +1,4 @@
-use Rattle.std.proofs.Common.{rules, tests}
+use Rattle.std.proofs.Common.{Contains, rules, tests, sym, subst}
 use Rattle.mau_sorts.specs.Table.{IsSettled}
 use Rattle.mau_sorts.proofs.Settling.{entries_same}
 use Rattle.mau_listing.proofs.Growth.{settled_kept}
@@ -12,14 +12,14 @@ returns-in_err-settle_declared-clause-table c = λ known t. record {
   settled = λ u r among.
       let is = t.settled u r among in
       record { number = is.number; there = is.there; tree = is.tree; settled = settled_kept c.args.sorts.now c.settle_declared.new.self c.settle_declared.ensures.kept is.number is.settled };
-  further = λ u r among. c.settle_declared.ensures.kept.further (t.settled u r among).number (t.further u r among);
+  further = λ u r among. subst (λ is. Contains is (t.settled u r among).number) (sym c.in_err-settle_declared.ensures.unchanged.further) (t.further u r among);
 }
 
 pub returns-clause-table : goal.returns-clause-table
 returns-clause-table c = λ known t.
     let unsettled : ¬ IsSettled c.args.sorts.now c.args.id.0 = search (rules, tests) in
     table_more c.args.store.now c.requires.nodes c.args.sig.now known c.args.sorts.now c.settle_declared.new.self c.args.id.0
-    c.requires.ready.there unsettled c.settle_declared.ensures.kept (c.in_ok-settle_declared.ensures.value known) t
+    c.requires.ready.there unsettled c.settle_declared.ensures.kept c.in_ok-settle_declared.ensures.ok.kept (c.in_ok-settle_declared.ensures.value known) t
 
 pub returns-in_err-settle_declared-clause-closed : goal.returns-in_err-settle_declared-clause-closed
 returns-in_err-settle_declared-clause-closed c = closed_same c.args.store.now c.args.sorts.now c.settle_declared.new.self c.in_err-settle_declared.ensures.unchanged

@@ -1,0 +1,2 @@
+-- The lemmas, lowest first.
+pub mod Few
