@@ -42,7 +42,7 @@ use Rattle.mau_domains.specs.declared.part.Part.TheVariants.{One, ListOf}
 use Rattle.mau_domains.proofs.StoredValues.{part_stays, part_same, trees_alone}
 use Rattle.mau_match.specs.Parts.{headed}
 use Rattle.mau_match.specs.Limited.{IsUndeclared}
-use Rattle.mau_match.specs.Single.{IsNoList, IsSingle, HasListOf, Covers}
+use Rattle.mau_match.specs.Single.{IsNoList, IsLeft, IsSingle, HasListOf, Covers}
 use Rattle.mau_match.specs.Values.{IsValueOfAny}
 use Rattle.mau_match.specs.Walked.{parts_in}
 use Rattle.mau_match.proofs.Adding.{parts_ones}
@@ -226,9 +226,9 @@ covers_less s old new before after P Q h k = record {
 }
 
 -- one part more
-pub covers_one : (s : SignatureOf) (old : List Node) (before after : List PartOfCode) (q : PartOfCode) (f : ℕ) → All (IsPartOver s old) before → IsPartOver s old q → after ≡ before ++ q ∷ [] → Covers s old old before after (λ v. IsValueOf (theory_at s) (part_in old q) v × IsNoList f v)
-covers_one s old before after q f wb wq k =
-    covers_more s old old before after (q ∷ []) (λ v. IsValueOf (theory_at s) (part_in old q) v × IsNoList f v) (extension_is_preorder.reflexive old) wb (All-cons (IsPartOver s old) q [] wq (All-nil (IsPartOver s old))) k (λ v p. inl p.0)
+pub covers_one : (s : SignatureOf) (old : List Node) (before after : List PartOfCode) (q : PartOfCode) (f : ℕ) (filled : Bool) → All (IsPartOver s old) before → IsPartOver s old q → after ≡ before ++ q ∷ [] → Covers s old old before after (λ v. IsValueOf (theory_at s) (part_in old q) v × IsLeft s f filled v)
+covers_one s old before after q f filled wb wq k =
+    covers_more s old old before after (q ∷ []) (λ v. IsValueOf (theory_at s) (part_in old q) v × IsLeft s f filled v) (extension_is_preorder.reflexive old) wb (All-cons (IsPartOver s old) q [] wq (All-nil (IsPartOver s old))) k (λ v p. inl p.0)
 
 alone_among : (c : Bool) (r : Reach) (ids : List TermId) → All (Contains ids) (alone_of c r ids)
 alone_among true r ids = All-contains_itself ids
@@ -245,15 +245,24 @@ in_right : (v : Tree) (xs ys : List Tree) → IsIn v ys → IsIn v (xs ++ ys)
 in_right v [] ys h = h
 in_right v (x ∷ xs) ys h = inr (in_right v xs ys h)
 
--- the identity and single items
-pub covers_singles : (s : SignatureOf) (lawful : AreLawful (theory_at s)) (old new : List Node) → Extends old new → (f : ℕ) → IsListOperator s f → (r : Reach) (items : List TermId) → AreItems s old f items → (before after : List PartOfCode) → All (IsPartOver s old) before
-    → (units ids : List TermId) → StandWithin (theory_at s) new (numbers units) → trees_at new (numbers units) ≡ units_of (theory_at s f).id → ids ≡ units ++ alone_of (theory_at s f).comm r items → after ≡ before ++ map One ids
-    → Covers s old new before after (λ v. IsValueOf (theory_at s) (some_of r f (trees_at old (numbers items))) v × IsNoList f v)
-covers_singles s lawful old new e f op r items own before after wb units ids wu tu k a =
-    covers_more s old new before after (map One ids) (λ v. IsValueOf th (some_of r f (trees_at old (numbers items))) v × IsNoList f v) e wb (ones_over s new ids stand) a value
+-- the identity, unless it is left out, and single items
+pub covers_singles : (s : SignatureOf) (lawful : AreLawful (theory_at s)) (old new : List Node) → Extends old new → (f : ℕ) → IsListOperator s f → (filled : Bool) (r : Reach) (items : List TermId) → AreItems s old f items → (before after : List PartOfCode) → All (IsPartOver s old) before
+    → (units ids : List TermId) → StandWithin (theory_at s) new (numbers units) → trees_at new (numbers units) ≡ (if filled then [] else units_of (theory_at s f).id) → ids ≡ units ++ alone_of (theory_at s f).comm r items → after ≡ before ++ map One ids
+    → Covers s old new before after (λ v. IsValueOf (theory_at s) (some_of r f (trees_at old (numbers items))) v × IsLeft s f filled v)
+covers_singles s lawful old new e f op filled r items own before after wb units ids wu tu k a =
+    covers_more s old new before after (map One ids) (λ v. IsValueOf th (some_of r f (trees_at old (numbers items))) v × IsLeft s f filled v) e wb (ones_over s new ids stand) a value
   where
     th : ℕ → Theory
     th = theory_at s
+
+    left : List Tree
+    left = if filled then [] else units_of (theory_at s f).id
+
+    unit_left : (b : Bool) (o : Option Identity) (v : Tree) → IsIn v (units_of o) → (b ≡ true → (i : Identity) → o ≡ Some i → v ≡ unit_tree i → ⊥) → IsIn v (if b then [] else units_of o)
+    unit_left false o v i h = i
+    unit_left true None v i h = absurd i
+    unit_left true (Some d) v (inl e) h = absurd (h refl d refl e)
+    unit_left true (Some d) v (inr k) h = absurd k
 
     alones : List TermId
     alones = alone_of (theory_at s f).comm r items
@@ -267,18 +276,18 @@ covers_singles s lawful old new e f op r items own before after wb units ids wu 
         (subst (StandWithin (theory_at s) new) (sym (map-append (λ id. id.0) units (alone_of (theory_at s f).comm r items)))
         (All-append (StandsWithin (theory_at s) new) (numbers units) (numbers (alone_of (theory_at s f).comm r items)) wu apart))
 
-    terms : trees_at new (numbers ids) ≡ units_of (theory_at s f).id ++ alone_of (theory_at s f).comm r (trees_at old (numbers items))
+    terms : trees_at new (numbers ids) ≡ (if filled then [] else units_of (theory_at s f).id) ++ alone_of (theory_at s f).comm r (trees_at old (numbers items))
     terms =
         ap (λ l. trees_at new (numbers l)) k ∙ trees_at-append new units (alone_of (theory_at s f).comm r items)
         ∙ ap₂ (λ x y. x ++ y) tu (trees_alone new (theory_at s f).comm r items ∙ ap (alone_of (theory_at s f).comm r) (trees_at-extends old new (numbers items) e (stand_there (theory_at s) old (numbers items) own.stand)))
 
-    value : (v : Tree) → IsValueOf (theory_at s) (some_of r f (trees_at old (numbers items))) v × IsNoList f v → IsValueOfAny (theory_at s) (parts_in new (map One ids)) v
+    value : (v : Tree) → IsValueOf (theory_at s) (some_of r f (trees_at old (numbers items))) v × IsLeft s f filled v → IsValueOfAny (theory_at s) (parts_in new (map One ids)) v
     value v p =
         subst (λ qs. IsValueOfAny (theory_at s) qs v) (sym (parts_ones new ids ∙ ap (map just) terms))
-        (value_just (theory_at s) (units_of (theory_at s f).id ++ alone_of (theory_at s f).comm r (trees_at old (numbers items))) v p.0.normal
-        (elim (no_list (theory_at s) lawful f op.assoc r (trees_at old (numbers items)) v p.0 p.1) [
-          | inl i ↦ in_left v (units_of (theory_at s f).id) (alone_of (theory_at s f).comm r (trees_at old (numbers items))) i
-          | inr i ↦ in_right v (units_of (theory_at s f).id) (alone_of (theory_at s f).comm r (trees_at old (numbers items))) i
+        (value_just (theory_at s) (left ++ alone_of (theory_at s f).comm r (trees_at old (numbers items))) v p.0.normal
+        (elim (no_list (theory_at s) lawful f op.assoc r (trees_at old (numbers items)) v p.0 p.1.0) [
+          | inl i ↦ in_left v left (alone_of (theory_at s f).comm r (trees_at old (numbers items))) (unit_left filled (theory_at s f).id v i (λ b. p.1.1 b))
+          | inr i ↦ in_right v left (alone_of (theory_at s f).comm r (trees_at old (numbers items))) i
         ]))
 
 -- the operator of a list part

@@ -1,6 +1,7 @@
 //! Variables whose values are no lists of an operator, since no list of it has their sort.
 ghost use Rattle.std.specs.Prelude.{◌≡◌, ◌≢◌, ℕ, List, [], Some, None, Contains, All, true, false, IfOk, IfSome, OnOk};
 ghost use Rattle.mau_terms.specs.Tree.{Tree};
+ghost use Rattle.mau_terms.specs.Finite.{units_of};
 ghost use Rattle.mau_terms.specs.declared.ids.VarId.{VarId as VarIdOf};
 ghost use Rattle.mau_poset.specs.Order.{IsAtOrBelow};
 ghost use Rattle.mau_signature.specs.Faults.{IsSort};
@@ -13,13 +14,14 @@ ghost use Rattle.mau_sorts.specs.SortSets.{SortsOf, IsIn};
 ghost use Rattle.mau_sorts.specs.HasSort.{Known, HasSort};
 ghost use Rattle.mau_sorts.specs.Table.{entry_at, AreOver};
 ghost use Rattle.mau_listing.specs.Asked.{IsTableOf};
+ghost use Rattle.mau_canon.specs.Standing.{StandWithin};
 ghost use Rattle.mau_domains.specs.Lists.{alone_of};
 ghost use Rattle.mau_domains.specs.Parts.{some_of};
 ghost use Rattle.mau_domains.specs.Stored.{part_in, reach_of, IsListOperator, AreItems, IsPartOver};
 ghost use Rattle.mau_domains.specs.Values.{IsValueOf};
-ghost use Rattle.mau_match.specs.Limited.{IsLimitOf};
+ghost use Rattle.mau_match.specs.Limited.{IsLimitOf, IsNoUnit};
 ghost use Rattle.mau_match.specs.Parts.{headed};
-ghost use Rattle.mau_match.specs.Single.{IsNoList, IsSingle, HasListOf, Covers};
+ghost use Rattle.mau_match.specs.Single.{IsLeft, IsSingle, HasListOf, Covers};
 ghost use Rattle.mau_match.specs.Values.{IsValueOfAny};
 ghost use Rattle.mau_match.specs.Walked.{parts_in};
 
@@ -117,6 +119,18 @@ fn is_one(limits: &[Limit], op: OpId, sort: u32) -> bool
     false
 }
 
+/// Whether a limit says that the identity of an operator, if it has one, has not a sort.
+fn is_filled(limits: &[Limit], op: OpId, sort: u32) -> bool
+    ensures { (s : SignatureOf) (known : Known) (xs : List VarIdOf) → All (IsLimitOf s known xs) limits.now → result ≡ true → IsNoUnit s known op.0 sort }
+{
+    for limit in limits {
+        if limit.op == op && limit.variable.sort == sort && limit.least > 0 {
+            return true;
+        }
+    }
+    false
+}
+
 // ---- parts without lists
 
 /// The operator of the first list of which not the whole is meant.
@@ -147,47 +161,68 @@ fn alone(comm: bool, reach: Reach, items: &[TermId]) -> &[TermId]
     }
 }
 
-/// Adds the values of a list that are no lists: the identity, if there is one, and single items.
+/// The identity of an operator, if there is one and it is not left out.
+fn unit_ids(
+    store: &mut Store,
+    sig: &Signature,
+    op: OpId,
+    filled: bool,
+) -> Result<Vec<TermId>, NoMemory>
+    requires operator { IsOperator sig.now op.0 }
+    ensures units { IfOk result (λ ids. StandWithin (theory_at sig.now) store.new (numbers ids.items)) }
+    ensures terms { IfOk result (λ ids. trees_at store.new (numbers ids.items) ≡ (if filled then [] else units_of (theory_at sig.now op.0).id)) }
+    ensures extends { Extends store.old store.new }
+{
+    let mut ids = Vec::new(store.allocator());
+    if filled {
+        return Ok(ids);
+    }
+    push_unit(store, sig, op, &mut ids)?;
+    Ok(ids)
+}
+
+/// Adds the values of a list that are no lists: the identity, if there is one and it is not left out, and single items.
 fn push_singles(
     store: &mut Store,
     sig: &Signature,
     reach: Reach,
     op: OpId,
+    filled: bool,
     items: &[TermId],
     out: &mut Vec<Part>,
 ) -> Result<(), NoMemory>
     requires operator { IsListOperator sig.now op.0 }
     requires items { AreItems sig.now store.old op.0 items.now }
     requires out { All (IsPartOver sig.now store.old) out.old.items }
-    ensures ok { OnOk result (Covers sig.now store.old store.new out.old.items out.new.items (λ v. IsValueOf (theory_at sig.now) (some_of (reach_of reach) op.0 (trees_at store.old (numbers items.now))) v × IsNoList op.0 v)) }
+    ensures ok { OnOk result (Covers sig.now store.old store.new out.old.items out.new.items (λ v. IsValueOf (theory_at sig.now) (some_of (reach_of reach) op.0 (trees_at store.old (numbers items.now))) v × IsLeft sig.now op.0 filled v)) }
     ensures extends { Extends store.old store.new }
 {
     is_lawful(sig);
-    let mut ids = Vec::new(store.allocator());
-    push_unit(store, sig, op, &mut ids)?;
+    let mut ids = unit_ids(store, sig, op, filled)?;
     ids.extend_from_slice(alone(sig.theory(op).comm, reach, items))?;
     push_terms(out, &ids)
 }
 
-/// Adds a part, or where it is a list of an operator, its values that are no lists.
+/// Adds a part, or where it is a list of an operator, its values that are no lists, the identity among them unless it is left out.
 fn push_split(
     store: &mut Store,
     sig: &Signature,
     op: OpId,
+    filled: bool,
     part: &Part,
     out: &mut Vec<Part>,
 ) -> Result<(), NoMemory>
     requires operator { IsListOperator sig.now op.0 }
     requires part { IsPartOver sig.now store.old part.now }
     requires out { All (IsPartOver sig.now store.old) out.old.items }
-    ensures ok { OnOk result (Covers sig.now store.old store.new out.old.items out.new.items (λ v. IsValueOf (theory_at sig.now) (part_in store.old part.now) v × IsNoList op.0 v)) }
+    ensures ok { OnOk result (Covers sig.now store.old store.new out.old.items out.new.items (λ v. IsValueOf (theory_at sig.now) (part_in store.old part.now) v × IsLeft sig.now op.0 filled v)) }
     ensures extends { Extends store.old store.new }
 {
     match part {
         Part::One(id) => push(out, Part::One(*id)),
         Part::ListOf(reach, top, items) => {
             if *top == op && *reach != Reach::Whole {
-                return push_singles(store, sig, *reach, *top, items.items(), out);
+                return push_singles(store, sig, *reach, *top, filled, items.items(), out);
             }
             push(out, part.copy(store.allocator())?)
         }
@@ -199,21 +234,22 @@ fn split(
     store: &mut Store,
     sig: &Signature,
     op: OpId,
+    filled: bool,
     parts: &[Part],
 ) -> Result<Vec<Part>, NoMemory>
     requires operator { IsListOperator sig.now op.0 }
     requires parts { All (IsPartOver sig.now store.old) parts.now }
-    ensures ok { IfOk result (λ out. Covers sig.now store.old store.new [] out.items (λ v. IsValueOfAny (theory_at sig.now) (parts_in store.old parts.now) v × IsNoList op.0 v)) }
+    ensures ok { IfOk result (λ out. Covers sig.now store.old store.new [] out.items (λ v. IsValueOfAny (theory_at sig.now) (parts_in store.old parts.now) v × IsLeft sig.now op.0 filled v)) }
     ensures extends { Extends store.old store.new }
 {
     let mut out = Vec::new(store.allocator());
     for part in parts {
-        push_split(store, sig, op, part, &mut out)?;
+        push_split(store, sig, op, filled, part, &mut out)?;
     }
     Ok(out)
 }
 
-/// Parts that have all values of a sort that some parts have, with no list of which only single items and the identity have the sort.
+/// Parts that have all values of a sort that some parts have, with no list of which only single items and the identity have the sort, and without that identity where it has not the sort.
 pub fn by_sort(
     store: &mut Store,
     sig: &Signature,
@@ -233,5 +269,6 @@ pub fn by_sort(
     if !is_one(limits, op, sort) {
         return Ok(parts);
     }
-    split(store, sig, op, &parts)
+    let filled = is_filled(limits, op, sort);
+    split(store, sig, op, filled, &parts)
 }

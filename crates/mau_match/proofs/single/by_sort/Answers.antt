@@ -19,4 +19,7 @@ pub returns-clause-values : goal.returns-clause-values
 returns-clause-values c = λ known xs v each any has.
     let s = c.args.sig.now in
     let here = subst (λ (ps : List Part). IsValueOfAny (theory_at s) (parts_in c.args.store.now ps) v) (sym c.deref-2.ensures.value) any in
-    IfOk-weaker c.split.result _ _ (λ out h. h.values v (inr (here, λ ts l e. c.is_one.ensures s known xs each c.if-not-is_one.false ts l (subst (λ w. HasSort s known w c.args.sort) e has)))) c.split.ensures.ok
+    IfOk-weaker c.split.result _ _ (λ out h. h.values v (inr (here, (
+      λ ts l e. c.is_one.ensures s known xs each c.if-not-is_one.false ts l (subst (λ w. HasSort s known w c.args.sort) e has),
+      λ b i k e. c.is_filled-filled.ensures s known xs each b i k (subst (λ w. HasSort s known w c.args.sort) e has),
+    )))) c.split.ensures.ok

@@ -6,7 +6,7 @@ use Rattle.mau_store.proofs.Growth.{extension_is_preorder}
 use Rattle.mau_domains.specs.Stored.{part_in, IsPartOver}
 use Rattle.mau_domains.specs.Values.{IsValueOf}
 use Rattle.mau_domains.proofs.StoredValues.{part_stays, part_same}
-use Rattle.mau_match.specs.Single.{IsNoList, Covers}
+use Rattle.mau_match.specs.Single.{IsLeft, Covers}
 use Rattle.mau_match.specs.Values.{IsValueOfAny}
 use Rattle.mau_match.specs.Walked.{parts_in}
 use Rattle.mau_match.proofs.LeastValues.{any_split}
@@ -34,8 +34,8 @@ loop-part-preserved c =
     let own : IsPartOver s old x = subst (IsPartOver s old) (sym c.part-item.is) (c.requires.parts i x c.loop-part-test.true) in
     let same : part_in mid x ≡ part_in old x = part_same s old mid c.loop-part.invariant.extends x own in
     let more : parts_in old (take (i + 1) parts) ≡ parts_in old (take i parts) ++ part_in old x ∷ [] = parts_more old parts i x c.loop-part-test.true ∙ ap (λ y. parts_in old (take i parts) ++ part_in old y ∷ []) (sym c.part-item.is) in
-    covers_both s old mid c.push_split.new.store [] c.loop-part.out.items c.push_split.new.out.items (λ v. IsValueOfAny th (parts_in old (take i parts)) v × IsNoList f v) (λ v. IsValueOf th (part_in mid x) v × IsNoList f v)
-    (λ v. IsValueOfAny th (parts_in old (take (i + 1) parts)) v × IsNoList f v) c.loop-part.invariant c.in_ok-push_split.ensures.ok
+    covers_both s old mid c.push_split.new.store [] c.loop-part.out.items c.push_split.new.out.items (λ v. IsValueOfAny th (parts_in old (take i parts)) v × IsLeft s f c.args.filled v) (λ v. IsValueOf th (part_in mid x) v × IsLeft s f c.args.filled v)
+    (λ v. IsValueOfAny th (parts_in old (take (i + 1) parts)) v × IsLeft s f c.args.filled v) c.loop-part.invariant c.in_ok-push_split.ensures.ok
     (λ v p. elim (any_split th (parts_in old (take i parts)) (part_in old x) v (subst (λ qs. IsValueOfAny th qs v) more p.0)) [
       | inl k ↦ inl (k, p.1)
       | inr k ↦ inr (subst (λ q. IsValueOf th q v) (sym same) k, p.1)
@@ -55,4 +55,4 @@ pub returns-clause-ok : goal.returns-clause-ok
 returns-clause-ok c =
     let s = c.args.sig.now in
     let old = c.args.store.now in
-    subst (λ ps. Covers s old c.loop-part.store [] c.loop-part.out.items (λ v. IsValueOfAny (theory_at s) (parts_in old ps) v × IsNoList c.args.op.0 v)) (take_all c.loop-part.part-index c.args.parts.now c.loop-part-test.false) c.loop-part.invariant
+    subst (λ ps. Covers s old c.loop-part.store [] c.loop-part.out.items (λ v. IsValueOfAny (theory_at s) (parts_in old ps) v × IsLeft s c.args.op.0 c.args.filled v)) (take_all c.loop-part.part-index c.args.parts.now c.loop-part-test.false) c.loop-part.invariant
