@@ -245,12 +245,13 @@ in_right : (v : Tree) (xs ys : List Tree) → IsIn v ys → IsIn v (xs ++ ys)
 in_right v [] ys h = h
 in_right v (x ∷ xs) ys h = inr (in_right v xs ys h)
 
--- the identity, unless it is left out, and single items
+-- the identity, unless it is left out, and single items, of equal ones one or more
 pub covers_singles : (s : SignatureOf) (lawful : AreLawful (theory_at s)) (old new : List Node) → Extends old new → (f : ℕ) → IsListOperator s f → (filled : Bool) (r : Reach) (items : List TermId) → AreItems s old f items → (before after : List PartOfCode) → All (IsPartOver s old) before
-    → (units ids : List TermId) → StandWithin (theory_at s) new (numbers units) → trees_at new (numbers units) ≡ (if filled then [] else units_of (theory_at s f).id) → ids ≡ units ++ alone_of (theory_at s f).comm r items → after ≡ before ++ map One ids
+    → (units ids : List TermId) → StandWithin (theory_at s) new (numbers units) → trees_at new (numbers units) ≡ (if filled then [] else units_of (theory_at s f).id) → ids ≡ units ++ alone_of (theory_at s f).comm r items
+    → (few : List TermId) → ((nodes : List Node) (v : Tree) → IsIn v (trees_at nodes (numbers ids)) → IsIn v (trees_at nodes (numbers few))) → All (Contains ids) few → after ≡ before ++ map One few
     → Covers s old new before after (λ v. IsValueOf (theory_at s) (some_of r f (trees_at old (numbers items))) v × IsLeft s f filled v)
-covers_singles s lawful old new e f op filled r items own before after wb units ids wu tu k a =
-    covers_more s old new before after (map One ids) (λ v. IsValueOf th (some_of r f (trees_at old (numbers items))) v × IsLeft s f filled v) e wb (ones_over s new ids stand) a value
+covers_singles s lawful old new e f op filled r items own before after wb units ids wu tu k few kept among a =
+    covers_more s old new before after (map One few) (λ v. IsValueOf th (some_of r f (trees_at old (numbers items))) v × IsLeft s f filled v) e wb (ones_over s new few (stand_among (theory_at s) new few ids among stand)) a value
   where
     th : ℕ → Theory
     th = theory_at s
@@ -281,14 +282,14 @@ covers_singles s lawful old new e f op filled r items own before after wb units 
         ap (λ l. trees_at new (numbers l)) k ∙ trees_at-append new units (alone_of (theory_at s f).comm r items)
         ∙ ap₂ (λ x y. x ++ y) tu (trees_alone new (theory_at s f).comm r items ∙ ap (alone_of (theory_at s f).comm r) (trees_at-extends old new (numbers items) e (stand_there (theory_at s) old (numbers items) own.stand)))
 
-    value : (v : Tree) → IsValueOf (theory_at s) (some_of r f (trees_at old (numbers items))) v × IsLeft s f filled v → IsValueOfAny (theory_at s) (parts_in new (map One ids)) v
+    value : (v : Tree) → IsValueOf (theory_at s) (some_of r f (trees_at old (numbers items))) v × IsLeft s f filled v → IsValueOfAny (theory_at s) (parts_in new (map One few)) v
     value v p =
-        subst (λ qs. IsValueOfAny (theory_at s) qs v) (sym (parts_ones new ids ∙ ap (map just) terms))
-        (value_just (theory_at s) (left ++ alone_of (theory_at s f).comm r (trees_at old (numbers items))) v p.0.normal
-        (elim (no_list (theory_at s) lawful f op.assoc r (trees_at old (numbers items)) v p.0 p.1.0) [
+        subst (λ qs. IsValueOfAny (theory_at s) qs v) (sym (parts_ones new few))
+        (value_just (theory_at s) (trees_at new (numbers few)) v p.0.normal
+        (kept new v (subst (IsIn v) (sym terms) (elim (no_list (theory_at s) lawful f op.assoc r (trees_at old (numbers items)) v p.0 p.1.0) [
           | inl i ↦ in_left v left (alone_of (theory_at s f).comm r (trees_at old (numbers items))) (unit_left filled (theory_at s f).id v i (λ b. p.1.1 b))
           | inr i ↦ in_right v left (alone_of (theory_at s f).comm r (trees_at old (numbers items))) i
-        ]))
+        ]))))
 
 -- the operator of a list part
 pub list_operator_of : (s : SignatureOf) (nodes : List Node) (parts : List PartOfCode) (op : OpId) → HasListOf parts op → All (IsPartOver s nodes) parts → IsListOperator s op.0

@@ -154,7 +154,7 @@ fn push_new(before: Option<TermId>, id: TermId, out: &mut Vec<TermId>) -> Result
 }
 
 /// Some terms, of those that stand side by side and are the same one only the first.
-fn distinct(alloc: Global, ids: &[TermId]) -> Result<Vec<TermId>, NoMemory>
+pub fn distinct(alloc: Global, ids: &[TermId]) -> Result<Vec<TermId>, NoMemory>
     ensures kept { IfOk result (λ out. (nodes : List Node) (v : Tree) → IsIn v (trees_at nodes (numbers ids.now)) → IsIn v (trees_at nodes (numbers out.items))) }
     ensures among { IfOk result (λ out. All (Contains ids.now) out.items) }
 {

@@ -27,6 +27,7 @@ ghost use Rattle.mau_match.specs.Walked.{parts_in};
 
 use crate::Limit;
 use crate::choices::{is_headed, push, push_terms, push_unit};
+use crate::lead::distinct;
 use mau_domains::{Part, Reach};
 use mau_listing::is_lawful;
 use mau_signature::Signature;
@@ -181,7 +182,8 @@ fn unit_ids(
     Ok(ids)
 }
 
-/// Adds the values of a list that are no lists: the identity, if there is one and it is not left out, and single items.
+/// Adds the values of a list that are no lists: the identity, if there is one and it is not left out, and single items, of equal
+/// ones side by side the first.
 fn push_singles(
     store: &mut Store,
     sig: &Signature,
@@ -200,7 +202,8 @@ fn push_singles(
     is_lawful(sig);
     let mut ids = unit_ids(store, sig, op, filled)?;
     ids.extend_from_slice(alone(sig.theory(op).comm, reach, items))?;
-    push_terms(out, &ids)
+    let few = distinct(store.allocator(), &ids)?;
+    push_terms(out, &few)
 }
 
 /// Adds a part, or where it is a list of an operator, its values that are no lists, the identity among them unless it is left out.

@@ -16,7 +16,7 @@ returns-clause-ok c =
     let r = reach_of c.args.reach in
     let items = c.args.items.now in
     OnOk-then _ _
-    (λ e. covers_singles s c.is_lawful.ensures.lawful.theories old new c.unit_ids.ensures.extends f c.requires.operator c.args.filled r items c.requires.items c.args.out.now.items c.push_terms.new.out.items c.requires.out units c.deref.result.now
+    (λ e. covers_singles s c.is_lawful.ensures.lawful.theories old new c.unit_ids.ensures.extends f c.requires.operator c.args.filled r items c.requires.items c.args.out.now.items c.push_terms.new.out.items c.requires.out units c.in_ok-extend_from_slice.ids.items
     c.in_ok-ids.ensures.units c.in_ok-ids.ensures.terms
     (c.deref.ensures.value ∙ c.in_ok-extend_from_slice.ensures.items ∙ ap (λ l. units ++ l) (c.alone.ensures ∙ ap (λ w. alone_of w.comm r items) c.theory.ensures.value)) e)
     c.push_terms.result c.push_terms.ensures
