@@ -9,7 +9,7 @@ use Rattle.mau_store.specs.Node.{Node, AreNodes, IsOf}
 use Rattle.mau_store.specs.Trees.{tree_at}
 use Rattle.mau_sorts.specs.SortSets.{IsAbove}
 use Rattle.mau_sorts.specs.HasSort.{Known, HasSort, AllHave, ListHas, Gives, OfTwo, IsKnown}
-use Rattle.mau_sorts.specs.Table.{Table, IsSettled, AreEntries, KeepsEntries, IsKnownOf}
+use Rattle.mau_sorts.specs.Table.{Table, IsSettled, AreEntries, KeepsEntries, Settles, IsKnownOf}
 use Rattle.mau_sorts.proofs.Derivations.{Gives-same}
 use Rattle.mau_listing.specs.Asked.{IsTreeSettled, IsTableOf, IsClosedTable, IsBelow, IsBelowOne}
 use Rattle.mau_listing.proofs.Closed.{closed_below}
