@@ -1,0 +1,3 @@
+-- Lemmas.
+-- programs whose rules may be run
+pub mod Runnable

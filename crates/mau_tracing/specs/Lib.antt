@@ -1,0 +1,2 @@
+-- The steps of a run as they are shown while trace is on.
+pub mod TraceLines
