@@ -1,3 +1,4 @@
 -- Lemmas.
--- programs whose rules may be run
-pub mod Runnable
+
+-- sections that are given can be written
+pub mod Written
