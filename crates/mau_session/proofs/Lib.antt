@@ -26,7 +26,6 @@ pub mod DerivedKinds
 pub mod Begun
 pub mod AskedBy
 pub mod Runnable
-pub mod RunAnswered
 pub mod OneListing
 pub mod Shaped
 pub mod OneWhere

@@ -48,7 +48,8 @@ use Rattle.mau_session.specs.State.{ContinuedOf, a_listing, a_listing_where, a_r
 use Rattle.mau_session.specs.declared.asked_run.AskedRun.{AskedRun}
 use Rattle.mau_session.specs.Bounds.{bound_of, asked_run}
 use Rattle.mau_session.specs.Where.{ShowsWhere, left_where, where_lines, WhereAnswer}
-use Rattle.mau_session.specs.RuleRun.{RuleRunOf, rewriting_condition}
+use Rattle.mau_ruleitems.specs.RuleItems.{RuleRunOf}
+use Rattle.mau_session.specs.RuleRun.{rewriting_condition}
 use Rattle.mau_session.specs.RunLines.{run_head, run_lines, left_by_run}
 use Rattle.mau_session.specs.StrategyRun.{StrategyRunOf, shown_further}
 use Rattle.mau_session.specs.StrategyLines.{left_by_strategy}

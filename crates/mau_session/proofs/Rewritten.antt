@@ -22,7 +22,7 @@ use Rattle.mau_session.specs.State.{a_rule_run, GoingOf, StateOf, OutcomeOf, ref
 use Rattle.mau_session.specs.declared.asked_run.AskedRun.{AskedRun}
 use Rattle.mau_session.specs.Bounds.{bound_of}
 use Rattle.mau_session.specs.Answers.{continue_head}
-use Rattle.mau_session.specs.RuleRun.{RuleRunOf}
+use Rattle.mau_ruleitems.specs.RuleItems.{RuleRunOf}
 use Rattle.mau_session.specs.RunLines.{run_head, run_lines, left_by_run}
 use Rattle.mau_session.specs.RewriteAnswer.{RunTermAnswer, start_answered}
 use Rattle.mau_session.specs.RunGains.{begun, GainsRun, GainsRunTerm, GainsRunOn}

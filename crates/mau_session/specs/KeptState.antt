@@ -6,7 +6,8 @@ use Rattle.mau_module.specs.Library.{HasPrelude}
 use Rattle.mau_session.specs.Environment.{Environment}
 use Rattle.mau_session.specs.KeptQuery.{query_of, IsReadyKept}
 use Rattle.mau_session.specs.KeptWhere.{IsReadyWhere}
-use Rattle.mau_session.specs.KeptRun.{rule_run_of, IsReadyRun}
+use Rattle.mau_ruleitems.specs.RuleItems.{rule_run_of}
+use Rattle.mau_session.specs.KeptRun.{IsReadyRun}
 use Rattle.mau_session.specs.KeptStrategy.{search_of, IsReadySearch}
 use Rattle.mau_session.specs.declared.state.State.{State}
 use Rattle.mau_session.specs.declared.state.Continued.{Continued}

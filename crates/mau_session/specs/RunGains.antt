@@ -12,7 +12,7 @@ use Rattle.mau_session.specs.Environment.{Environment, meanings_in}
 use Rattle.mau_session.specs.declared.asked_run.AskedRun.{AskedRun}
 use Rattle.mau_session.specs.State.{StateOf, OutcomeOf, state_after}
 use Rattle.mau_session.specs.Answers.{continue_head}
-use Rattle.mau_session.specs.RuleRun.{RuleRunOf}
+use Rattle.mau_ruleitems.specs.RuleItems.{RuleRunOf}
 use Rattle.mau_session.specs.RunLines.{run_lines, left_by_run}
 use Rattle.mau_session.specs.RewriteAnswer.{RunTermAnswer, RewriteAnswer}
 

@@ -8,7 +8,7 @@ use Rattle.mau_module.specs.Modules.{ModuleOf}
 use Rattle.mau_session.specs.Terms.{Pairs}
 use Rattle.mau_session.specs.Answers.{item_head}
 use Rattle.mau_session.specs.Lines.{count_line, result_line, end_line}
-use Rattle.mau_session.specs.RuleRun.{RuleRunOf}
+use Rattle.mau_ruleitems.specs.RuleItems.{RuleRunOf}
 use Rattle.mau_session.specs.State.{a_rule_run, OutcomeOf, has_ended, goes_on}
 
 -- the long name of a run's command

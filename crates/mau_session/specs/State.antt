@@ -9,7 +9,7 @@ use Rattle.mau_module.specs.Modules.{ModuleOf}
 use Rattle.mau_module.specs.Library.{last_named, nat}
 use Rattle.mau_module.specs.Prelude.{prelude}
 use Rattle.mau_session.specs.Query.{QueryOf}
-use Rattle.mau_session.specs.RuleRun.{RuleRunOf}
+use Rattle.mau_ruleitems.specs.RuleItems.{RuleRunOf}
 use Rattle.mau_session.specs.StrategyRun.{StrategyRunOf}
 use Rattle.mau_session.specs.declared.refusal.Refusal.{Refusal}
 use Rattle.mau_session.specs.declared.refusal.Refusal.TheVariants.{UnknownModule}

@@ -46,7 +46,7 @@ use Rattle.mau_session.specs.Lines.{too_deep_line, overflow_line, end_line, answ
 use Rattle.mau_session.specs.Environment.{Environment, meanings_in}
 use Rattle.mau_session.specs.Query.{QueryOf, asked_first, shown_more}
 use Rattle.mau_session.specs.State.{a_listing, a_listing_where, a_rule_run, a_strategy_run, StateOf, at_first, accepted, selected, IsChosen, NamesNone, OutcomeOf, is_refused, has_ended, left_by, refuses, state_after}
-use Rattle.mau_session.specs.RuleRun.{RuleRunOf}
+use Rattle.mau_ruleitems.specs.RuleItems.{RuleRunOf}
 use Rattle.mau_session.specs.RunLines.{run_lines, left_by_run}
 use Rattle.mau_session.specs.StrategyRun.{StrategyRunOf, definitions_of, shown_further}
 use Rattle.mau_session.specs.StrategyLines.{strategy_lines, left_by_strategy}

@@ -12,7 +12,8 @@ ghost use Rattle.mau_module.specs.Library.{HasPrelude};
 ghost use Rattle.mau_session.specs.Bounds;
 ghost use Rattle.mau_session.specs.Query.{asked_first};
 ghost use Rattle.mau_session.specs.KeptQuery.{query_of, IsReadyKept};
-ghost use Rattle.mau_session.specs.KeptRun.{rule_run_of, IsReadyRun};
+ghost use Rattle.mau_ruleitems.specs.RuleItems.{rule_run_of};
+ghost use Rattle.mau_session.specs.KeptRun.{IsReadyRun};
 ghost use Rattle.mau_session.specs.RunGains.{GainsRunOn};
 ghost use Rattle.mau_session.specs.Answers.{module_line, refusal_line, parse_fault_line, ok_line, unknown_module_line};
 ghost use Rattle.mau_statement.specs.Parts.{is_empty};
@@ -39,7 +40,6 @@ use crate::refusal::{
     Refusal, refuse, refuse_term, write_faulty, write_head, write_module_fault, write_text_fault,
 };
 use crate::rewrite::{answer_rewrite, run_on};
-use crate::running::Running;
 use crate::session::Session;
 use crate::state::{Continued, Going, Outcome, State};
 use crate::strategies::{answer_strategy, search_on};
@@ -50,6 +50,7 @@ use mau_declare::{Words, write_text};
 use mau_modtext::{RawBody, RawCommand, RawItem, RawModule, Setting};
 use mau_module::Module;
 use mau_parse::Goal;
+use mau_ruleitems::Running;
 use mau_sorts::SortTable;
 use mau_terms::{Bare, NoMemory, Vars};
 use std::alloc::Global;

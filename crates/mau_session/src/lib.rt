@@ -24,7 +24,6 @@ mod refusal;
 mod results;
 mod rewrite;
 mod rewriting;
-mod running;
 mod searching;
 mod session;
 mod settled;

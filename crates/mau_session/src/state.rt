@@ -10,11 +10,11 @@ ghost use Rattle.mau_session.specs.KeptState.{state_of, outcome_of, IsReadyState
 use crate::conditional::ConditionalQuery;
 use crate::query::Query;
 use crate::refusal::Refusal;
-use crate::running::Running;
 use crate::searching::Searching;
 use mau_declare::Words;
 use mau_modtext::RawCommand;
 use mau_module::{Library, Module, NAT};
+use mau_ruleitems::Running;
 use mau_sorts::SortTable;
 use mau_terms::NoMemory;
 use std::alloc::Global;

@@ -3,7 +3,7 @@ use Rattle.std.proofs.lemmas.Result.{IfOk-weaker}
 use Rattle.mau_formula.specs.Operators.{operators}
 use Rattle.mau_session.specs.Environment.{environment_of}
 use Rattle.mau_session.specs.KeptQuery.{query_of}
-use Rattle.mau_session.specs.KeptRun.{rule_run_of}
+use Rattle.mau_ruleitems.specs.RuleItems.{rule_run_of}
 use Rattle.mau_session.specs.KeptStrategy.{search_of}
 use Rattle.mau_session.specs.KeptState.{continued_of, state_of}
 use Rattle.mau_session.specs.declared.state.Continued.TheVariants.{Listing, ListingWhere, Rules, Strategies}

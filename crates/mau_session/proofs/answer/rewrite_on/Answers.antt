@@ -2,7 +2,8 @@ use Rattle.std.proofs.Common.{◌≡◌, Some, sym, ◌∙◌, ap, subst}
 use Rattle.mau_formula.specs.Operators.{operators}
 use Rattle.mau_module.specs.Modules.{ModuleOf}
 use Rattle.mau_session.specs.Environment.{environment_of}
-use Rattle.mau_session.specs.KeptRun.{rule_run_of, IsReadyRun}
+use Rattle.mau_ruleitems.specs.RuleItems.{rule_run_of}
+use Rattle.mau_session.specs.KeptRun.{IsReadyRun}
 use Rattle.mau_session.specs.KeptState.{state_of, outcome_of}
 use Rattle.mau_session.proofs.Rewritten.{gains_run_on}
 use Rattle.mau_session.proofs.answer.rewrite_on.Goals as goal

@@ -10,8 +10,9 @@ use Rattle.mau_rules.specs.Runnable.{IsRunnable}
 use Rattle.mau_rules.specs.Runs.{stand_of, IsRunOf}
 use Rattle.mau_module.specs.Lawful.{program_of}
 use Rattle.mau_session.specs.Environment.{environment_of}
-use Rattle.mau_session.specs.KeptRun.{run_answer_in}
-use Rattle.mau_session.proofs.Runnable.{runnable, goes_by}
+use Rattle.mau_ruleitems.specs.RuleItems.{run_answer_in}
+use Rattle.mau_ruleitems.proofs.NoReach.{goes_by}
+use Rattle.mau_session.proofs.Runnable.{runnable}
 use Rattle.mau_session.proofs.Rewritten.{may_run_plainly}
 use Rattle.mau_session.proofs.rewrite.run_on.Goals as goal
 

@@ -18,7 +18,8 @@ use Rattle.mau_session.specs.KeptStrategy.{ending_of}
 use Rattle.mau_session.specs.StrategyRun.{begun_strategy}
 use Rattle.mau_session.specs.StrategyGains.{begins_not, begins_at}
 use Rattle.mau_session.proofs.AskedBy.{meant_in}
-use Rattle.mau_session.proofs.Runnable.{runnable, goes_by}
+use Rattle.mau_ruleitems.proofs.NoReach.{goes_by}
+use Rattle.mau_session.proofs.Runnable.{runnable}
 use Rattle.mau_session.proofs.Searched.{by_definition, signature_is, limit_is, may_plainly, may_end_plainly, term_as, settled_as, gains_ended, goes_on_kept}
 use Rattle.mau_session.proofs.strategies.begin.Goals as goal
 
